@@ -1,0 +1,9 @@
+pub mod BitsLemmas
+pub mod DigitsLemmas
+pub mod ByteBits
+pub mod FieldLemmas
+pub mod Polynomials
+pub mod Registers
+pub mod Checks
+pub mod BitWrites
+pub mod SinkLemmas

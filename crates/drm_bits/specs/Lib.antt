@@ -1,0 +1,5 @@
+pub mod Bits
+pub mod Crc
+pub mod Fields
+pub mod Sink
+pub mod Description

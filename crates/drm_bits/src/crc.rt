@@ -1,0 +1,97 @@
+//! Check values, by a register that is shifted bit by bit.
+
+ghost use Rattle.std.specs.Prelude.{◌≡◌, ℕ, ◌<◌, ◌^◌, ◌++◌, List, Bool};
+ghost use Rattle.drm_bits.specs.Bits.{digits, bits_of};
+ghost use Rattle.drm_bits.specs.Crc.{IsCheck, crc8_polynomial, crc16_polynomial};
+
+use crate::CrcRun;
+
+// The polynomials' coefficients below the greatest power.
+const CRC8_LOW: u8 = 0x1d;
+
+const CRC16_LOW: u16 = 0x1021;
+
+/// The check value of the Fast Access Channel (ES 201 980): a register of ones takes the bytes, the greatest bit
+/// first, and is complemented.
+pub fn crc8(bytes: &[u8]) -> u8
+    ensures check { IsCheck crc8_polynomial (bits_of bytes.now) (digits 8 result) }
+    // There is no other.
+    ensures only { (n : ℕ) → n < 2 ^ 8
+        → IsCheck crc8_polynomial (bits_of bytes.now) (digits 8 n) → n ≡ result }
+{
+    let mut check = 0;
+    for byte in bytes {
+        check = crc8_after(check, *byte);
+    }
+    check
+}
+
+/// The check value of AF packets, PFT headers (TS 102 821) and the Service Description Channel (ES 201 980), by the
+/// same rules.
+pub fn crc16(bytes: &[u8]) -> u16
+    ensures check { IsCheck crc16_polynomial (bits_of bytes.now) (digits 16 result) }
+    // There is no other.
+    ensures only { (n : ℕ) → n < 2 ^ 16
+        → IsCheck crc16_polynomial (bits_of bytes.now) (digits 16 n) → n ≡ result }
+{
+    let mut run = CrcRun::start();
+    for byte in bytes {
+        run = run.byte(*byte);
+    }
+    run.value()
+}
+
+// The check value after one byte more. The register is its complement.
+fn crc8_after(check: u8, byte: u8) -> u8
+    ensures { (bits : List Bool) → IsCheck crc8_polynomial bits (digits 8 check)
+        → IsCheck crc8_polynomial (bits ++ digits 8 byte) (digits 8 result) }
+{
+    let mut register = !check ^ byte;
+    for _ in 0..u8::BITS {
+        register = if register & 0x80 == 0 {
+            register << 1
+        } else {
+            register << 1 ^ CRC8_LOW
+        };
+    }
+    !register
+}
+
+// The same for the wider register.
+pub(crate) fn crc16_after(check: u16, byte: u8) -> u16
+    ensures { (bits : List Bool) → IsCheck crc16_polynomial bits (digits 16 check)
+        → IsCheck crc16_polynomial (bits ++ digits 8 byte) (digits 16 result) }
+{
+    let mut register = !check ^ u16::from(byte) << 8;
+    for _ in 0..u8::BITS {
+        register = if register & 0x8000 == 0 {
+            register << 1
+        } else {
+            register << 1 ^ CRC16_LOW
+        };
+    }
+    !register
+}
+
+#[cfg(test)]
+mod tests {
+    use super::*;
+
+    // Computed by a long division of bit lists in Python. The second case is the first eight bytes of a FAC, and the
+    // third the head of an AF packet without payload, which ends with the bytes 04 52.
+    #[test]
+    fn gives_known_check_values(rt: HostRuntime) {
+        let fac = [0x66, 0x08, 0x01, 0x23, 0x45, 0x60, 0xa1, 0x80];
+        let cases = [
+            (b"123456789".as_slice(), 0x4b, 0xd64e),
+            (&fac, 0x6d, 0x05ac),
+            (b"AF\0\0\0\0\0\0\x90T", 0x5e, 0x0452),
+            (&[0], 0x3b, 0x1e0f),
+            (&[], 0x00, 0x0000),
+        ];
+        for (bytes, narrow, wide) in cases {
+            assert_eq!(rt; crc8(bytes), narrow, "{bytes:?}");
+            assert_eq!(rt; crc16(bytes), wide, "{bytes:?}");
+        }
+    }
+}

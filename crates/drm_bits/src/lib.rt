@@ -1,0 +1,16 @@
+//! Numbers of up to 64 bits in byte lists, check values, and bytes with an owner.
+#![tactic(auto)]
+
+mod bit_sink;
+mod bits;
+mod crc;
+mod crc_run;
+mod description;
+mod octets;
+
+pub use bit_sink::BitSink;
+pub use bits::{Bits, Short};
+pub use crc::{crc8, crc16};
+pub use crc_run::CrcRun;
+pub use description::{MuxDesc, Part};
+pub use octets::{NoMemory, Octets};
