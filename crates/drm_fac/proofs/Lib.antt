@@ -1,0 +1,3 @@
+pub mod FacLemmas
+pub mod WriteLemmas
+pub mod WrittenFac

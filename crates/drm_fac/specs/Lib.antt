@@ -1,0 +1,3 @@
+pub mod Fac
+pub mod Fault
+pub mod Services

@@ -1,0 +1,14 @@
+//! The Fast Access Channel (FAC) of Digital Radio Mondiale: what a receiver reads first in each logical frame, as the
+//! parameters of the channel and of one service.
+#![tactic(auto)]
+
+mod channel;
+mod fac;
+mod fields;
+mod service;
+mod services;
+
+pub use channel::Channel;
+pub use fac::{Fac, FacFault, decode, encode};
+pub use service::Service;
+pub use services::counts;
