@@ -1,0 +1,53 @@
+-- What the forms in memory tell before and after a call.
+use Rattle.std.proofs.Common.{◌≡◌, ℕ, ◌+◌, ◌^◌, ◌≤◌, inr, Bool, true, false, List, ◌++◌, length, take, drop, nat_le, Option, None, Some, if◌then◌else◌, refl, sym, ap, arith, is_some}
+use Rattle.std.proofs.lemmas.Bool.{leb-true}
+use Rattle.std.proofs.lemmas.List.{take-append-drop, take_at, length-take-le}
+use Rattle.std.specs.Ordering.{nat_cmp}
+use Rattle.std.specs.Cmp.Lexicographic.{slice_cmp}
+use Rattle.std.specs.FinMap as map
+use Rattle.drm_links.specs.Told.{WhileTold, told_for, one_more}
+use Rattle.drm_links.specs.Source.{Takes}
+use Rattle.drm_links.specs.Shelf.{Loads}
+use Rattle.drm_links.specs.Link.{Traffic}
+use Rattle.drm_links.specs.Dock.{Opens, LinkStart, address_key}
+use Rattle.drm_links.specs.declared.source.ReadOut.TheVariants as read
+use Rattle.drm_links.specs.declared.shelf.Loaded.TheVariants as load
+use Rattle.drm_links.specs.declared.dock.Address.{Address}
+use Rattle.drm_links.specs.declared.dock.Opened.TheVariants as opened
+use Rattle.drm_links.specs.MemoryShelf.{ShelfState, files_of}
+use Rattle.drm_links.specs.MemoryDock.{DockState, contents_of, after_failed_opening}
+
+-- what is told before and after, by the tests of the two numbers of calls
+while_told_if : {T : Type 0} (before_told after_told : Bool) (before after : T) (P : T → T → Type 0) → (before_told ≡ true → P before after) → WhileTold (if before_told then Some before else None) (if after_told then Some after else None) P
+while_told_if true true before after P holds = holds refl
+while_told_if true false before after P holds = tt
+while_told_if false after_told before after P holds = tt
+
+pub while_told_for : {T : Type 0} (calls more : ℕ) (before after : T) (P : T → T → Type 0) → (calls ≤ 2 ^ 62 → P before after) → WhileTold (told_for calls before) (told_for more after) P
+while_told_for calls more before after P holds =
+    while_told_if (nat_le calls (2 ^ 62)) (nat_le more (2 ^ 62)) before after P (λ told. holds (leb-true calls (2 ^ 62) told))
+
+-- what was put at the front of the buffer is the front of what was left
+front-taken : (left rest : List ℕ) (n : ℕ) → n ≤ length left → left ≡ take n (take n left ++ rest) ++ drop n left
+front-taken left rest n within =
+    rw (take_at (take n left) rest n (length-take-le n left within)) (sym (take-append-drop n left))
+
+pub Takes-from_front : (left after rest buf : List ℕ) (calls more n : ℕ) → n ≤ length left → buf ≡ take n left ++ rest → after ≡ drop n left → WhileTold (told_for calls (record { left = left; calls = calls })) (told_for more (record { left = after; calls = more })) (Takes (read.Got n) buf)
+Takes-from_front left after rest buf calls more n within is_buf is_after =
+    while_told_for calls more _ _ (Takes (read.Got n) buf)
+    (λ _. rw (is_buf, is_after) (front-taken left rest n within))
+
+-- each load of a shelf that holds nothing fails
+pub Loads-nothing : (shelf after : ShelfState) (name : List ℕ) (limit : ℕ) → WhileTold (files_of shelf) (files_of after) (λ before _. Loads load.Failed name limit before)
+Loads-nothing shelf after name limit =
+    while_told_for shelf.loads after.loads _ _ (λ before _. Loads load.Failed name limit before)
+    (λ _. inr (ap is_some (map.get-empty {X = List ℕ} (slice_cmp nat_cmp) name)))
+
+-- each opening at a dock where no link stands fails
+pub Opens-nothing : {L : Type 0} (tells : L → Option Traffic) (at : Address) (dock after : DockState) → dock.openings ≤ dock.calls → after ≡ after_failed_opening dock → WhileTold (contents_of dock) (contents_of after) (Opens tells at opened.Failed)
+Opens-nothing {L} tells at dock after fewer is_after =
+    rw is_after
+    (while_told_for dock.calls (one_more dock.calls) _ _ (Opens tells at opened.Failed)
+    (λ few. let calls : one_more dock.calls ≡ dock.calls + 1 = omega arith in
+    let openings : one_more dock.openings ≡ dock.openings + 1 = omega arith in
+    (inr (ap is_some (map.get-empty {X = LinkStart} (slice_cmp nat_cmp) (address_key at))), cc)))

@@ -1,0 +1,11 @@
+pub mod Told
+pub mod Source
+pub mod Sink
+pub mod Shelf
+pub mod Link
+pub mod Dock
+pub mod MemorySource
+pub mod MemorySink
+pub mod MemoryShelf
+pub mod MemoryLink
+pub mod MemoryDock

@@ -1,0 +1,88 @@
+-- What a link tells.
+use Rattle.std.specs.Prelude.{ℕ, ◌≡◌, ◌-◌, ◌≤◌, List, [], ◌∷◌, ◌++◌, length, take, drop, Option, None, Some}
+use Rattle.std.specs.List.{filter_map}
+use Rattle.drm_links.specs.declared.link.Came.{Came}
+use Rattle.drm_links.specs.declared.link.Came.TheVariants as recv
+use Rattle.drm_links.specs.declared.link.Sent.{Sent}
+use Rattle.drm_links.specs.declared.link.Sent.TheVariants as send
+
+-- what a link answers to a recv
+pub data Answer : Type 0 where
+  Datagram : List ℕ → Answer
+  Idle : Answer
+  Failed : Answer
+
+-- the answers so far and those still ahead, the datagrams gone, how many sends are taken before one fails (or
+-- none fails), and the number of calls so far
+pub record Traffic : Type 0 where
+  pub answers : List Answer
+  pub ahead : List Answer
+  pub gone : List (List ℕ)
+  pub sends : Option ℕ
+  pub calls : ℕ
+
+abbrev pub datagram_of : Answer → Option (List ℕ)
+datagram_of (Datagram bytes) = Some bytes
+datagram_of Idle = None
+datagram_of Failed = None
+
+-- the datagrams among the answers so far
+abbrev pub came : Traffic → List (List ℕ)
+came traffic = filter_map datagram_of traffic.answers
+
+-- the first answer ahead, or `Idle` where none is left
+abbrev pub next_answer : List Answer → Answer
+next_answer [] = Idle
+next_answer (answer ∷ ahead) = answer
+
+-- the answer that a recv gave, with what it put into the buffer
+abbrev pub answer_of : Came → List ℕ → Answer
+answer_of (recv.Datagram n) buf = Datagram (take n buf)
+answer_of recv.Idle buf = Idle
+answer_of recv.Failed buf = Failed
+
+-- A recv gives the first answer ahead, which then stands among those given.
+pub record Receives (result : Came) (buf : List ℕ) (before after : Traffic) : Type 0 where
+  pub next : answer_of result buf ≡ next_answer before.ahead
+  pub answers : after.answers ≡ before.answers ++ next_answer before.ahead ∷ []
+  pub ahead : after.ahead ≡ drop 1 before.ahead
+  pub gone : after.gone ≡ before.gone
+  pub sends : after.sends ≡ before.sends
+
+-- how many sends are left after one that was taken
+abbrev pub one_less : Option ℕ → Option ℕ
+one_less None = None
+one_less (Some n) = Some (n - 1)
+
+-- What is told of sends is told of datagrams of at most this many bytes. No datagram of a server is longer.
+abbrev pub longest_told : ℕ
+longest_told = 32780
+
+-- A send of such a datagram fails exactly where no send is taken any more; a longer one may also fail elsewhere. One
+-- that is taken is appended to those gone, a failed one isn't. How many are taken after a failed one is told anew.
+abbrev pub Sends : Sent → List ℕ → Traffic → Traffic → Type 0
+Sends send.Sent bytes before after =
+    (before.sends ≡ Some 0 → ⊥)
+    × (after.gone ≡ before.gone ++ bytes ∷ [])
+    × (after.sends ≡ one_less before.sends)
+Sends send.Failed bytes before after =
+    (length bytes ≤ longest_told → before.sends ≡ Some 0)
+    × (after.gone ≡ before.gone)
+
+-- what came, and what is ahead, is as before
+pub record KeepsAnswers (before after : Traffic) : Type 0 where
+  pub answers : after.answers ≡ before.answers
+  pub ahead : after.ahead ≡ before.ahead
+
+-- all is as before, but the number of calls
+pub record KeepsTraffic (before after : Traffic) : Type 0 where
+  pub answers : after.answers ≡ before.answers
+  pub ahead : after.ahead ≡ before.ahead
+  pub gone : after.gone ≡ before.gone
+  pub sends : after.sends ≡ before.sends
+
+-- a datagram lies in the front of the buffer
+abbrev pub FitsBuffer : Came → List ℕ → Type 0
+FitsBuffer (recv.Datagram n) buf = n ≤ length buf
+FitsBuffer recv.Idle buf = Unit {0}
+FitsBuffer recv.Failed buf = Unit {0}

@@ -1,0 +1,27 @@
+-- What a source tells.
+use Rattle.std.specs.Prelude.{ℕ, ◌≡◌, ◌<◌, ◌≤◌, List, [], ◌++◌, length, take, Option, None, Some}
+use Rattle.drm_links.specs.declared.source.ReadOut.{ReadOut}
+use Rattle.drm_links.specs.declared.source.ReadOut.TheVariants.{Got, End, Failed}
+
+-- the bytes that are still to be read, and the number of calls so far
+pub record Input : Type 0 where
+  pub left : List ℕ
+  pub calls : ℕ
+
+-- At least one byte was read, and no more than the buffer holds.
+abbrev pub ReadsSome : ReadOut → List ℕ → Type 0
+ReadsSome (Got n) buf = (0 < n) × (n ≤ length buf)
+ReadsSome End buf = Unit {0}
+ReadsSome Failed buf = Unit {0}
+
+-- The bytes read are the next ones left; `End` comes exactly where none is left; a failed call takes nothing.
+abbrev pub Takes : ReadOut → List ℕ → Input → Input → Type 0
+Takes (Got n) buf before after = before.left ≡ take n buf ++ after.left
+Takes End buf before after = (before.left ≡ []) × (after.left ≡ [])
+Takes Failed buf before after = after.left ≡ before.left
+
+-- Where a source tells at the end, it told before, and P holds of the bytes that were left and that are left.
+abbrev pub Inputs : Option Input → Option Input → (List ℕ → List ℕ → Type 0) → Type 0
+Inputs before None P = Unit {0}
+Inputs None (Some after) P = ⊥
+Inputs (Some before) (Some after) P = P before.left after.left

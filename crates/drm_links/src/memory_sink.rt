@@ -1,0 +1,106 @@
+//! A sink in memory.
+
+ghost use Rattle.std.specs.Prelude.{◌≡◌, ◌<◌, [], Some, length, IfOk};
+ghost use Rattle.drm_links.specs.Told.{HasCause, CountsCall, WhileTold};
+ghost use Rattle.drm_links.specs.Sink.{WritesSome, Appends};
+ghost use Rattle.drm_links.specs.MemorySink.{output_of, Writes};
+
+use crate::failing::is_listed;
+use crate::{Sink, WriteOut};
+use drm_bits::NoMemory;
+use std::alloc::Global;
+use std::marker::Model;
+
+/// A sink that takes `room` bytes, at most `piece` of them in a call, and fails the calls whose numbers are listed.
+#[derive(Drop)]
+pub struct MemSink {
+    written: Vec<u8>,
+    room: usize,
+    failing: Vec<u64>,
+    piece: usize,
+    calls: u64,
+    faults: u64,
+}
+
+impl Model for MemSink {
+    ghost use Rattle.std.specs.Prelude.{◌<◌, ◌≤◌, vec_len, vec_capacity};
+    ghost use Rattle.drm_links.specs.MemorySink.{SinkState};
+
+    ghost Value = { SinkState };
+
+    ghost view = { λ sink. record {
+      written = sink.written.items;
+      room = sink.room;
+      failing = sink.failing.items;
+      piece = sink.piece;
+      calls = sink.calls;
+      faults = sink.faults;
+    } };
+
+    ghost invariant = { λ sink. (vec_len sink.written ≤ sink.room)
+        × (sink.room ≤ vec_capacity sink.written)
+        × (0 < sink.piece) };
+}
+
+impl MemSink {
+    /// The numbers in `fail` count the calls from 0. `room` and `piece` are numbers of bytes. The room is reserved
+    /// here, so that a write takes no memory.
+    pub fn make(alloc: Global, room: usize, fail: &[u64], piece: usize) -> Result<MemSink, NoMemory>
+        requires { 0 < piece }
+        ensures made { IfOk result (λ sink. sink ≡ record {
+          written = [];
+          room = room;
+          failing = fail.now;
+          piece = piece;
+          calls = 0;
+          faults = 0;
+        }) }
+        ensures tells { IfOk result (λ sink. ⟦<MemSink as Sink>⟧.tells sink
+            ≡ Some (record { written = []; calls = 0 })) }
+        ensures faults { IfOk result (λ sink. ⟦<MemSink as Sink>⟧.faults sink ≡ 0) }
+    {
+        Ok(MemSink {
+            written: Vec::with_capacity(alloc, room)?,
+            room,
+            failing: fail.to_vec(alloc)?,
+            piece,
+            calls: 0,
+            faults: 0,
+        })
+    }
+
+    /// What was written.
+    pub fn bytes(&self) -> &[u8]
+        ensures { result.now ≡ self.now.written }
+    {
+        &self.written
+    }
+}
+
+impl Sink for MemSink {
+    ghost faults = { λ sink. sink.faults };
+
+    ghost tells = { output_of };
+
+    fn write(&mut self, bytes: &[u8]) -> WriteOut
+        requires { 0 < length bytes.now }
+        ensures exact { Writes result bytes.now self.old self.new }
+        ensures some { WritesSome result bytes.now }
+        ensures appended { WhileTold (output_of self.old) (output_of self.new) (Appends result bytes.now) }
+        ensures told { CountsCall (λ output. output.calls) (output_of self.old) (output_of self.new) }
+        ensures cause { HasCause self.old.faults self.new.faults (result ≡ WriteOut.Failed) }
+    {
+        let call = self.calls;
+        self.calls = call.saturating_add(1);
+        let left = self.room - self.written.len();
+        if left == 0 || is_listed(&self.failing, call) {
+            self.faults = self.faults.saturating_add(1);
+            return WriteOut::Failed;
+        }
+        let n = bytes.len().min(self.piece).min(left);
+        let Ok(()) = self.written.extend_from_slice(&bytes[..n]) else {
+            unreachable!()
+        };
+        WriteOut::Wrote(n)
+    }
+}

@@ -1,0 +1,109 @@
+//! A source in memory.
+
+ghost use Rattle.std.specs.Prelude.{◌≡◌, ◌<◌, ◌≤◌, ◌++◌, Some, drop, length, IfOk};
+ghost use Rattle.drm_links.specs.Told.{HasCause, CountsCall, WhileTold};
+ghost use Rattle.drm_links.specs.Source.{ReadsSome, Takes};
+ghost use Rattle.drm_links.specs.MemorySource.{input_of, Reads};
+
+use crate::failing::is_listed;
+use crate::{ReadOut, Source};
+use drm_bits::NoMemory;
+use std::alloc::Global;
+use std::marker::Model;
+
+/// A source that gives these bytes, at most `piece` of them in a call, and fails the calls whose numbers are listed.
+#[derive(Drop)]
+pub struct MemSource {
+    bytes: Vec<u8>,
+    at: usize,
+    failing: Vec<u64>,
+    piece: usize,
+    calls: u64,
+    faults: u64,
+}
+
+impl Model for MemSource {
+    ghost use Rattle.std.specs.Prelude.{◌<◌, ◌≤◌, drop, length};
+    ghost use Rattle.drm_links.specs.MemorySource.{SourceState};
+
+    ghost Value = { SourceState };
+
+    ghost view = { λ source. record {
+      left = drop source.at source.bytes.items;
+      failing = source.failing.items;
+      piece = source.piece;
+      calls = source.calls;
+      faults = source.faults;
+    } };
+
+    ghost invariant = { λ source. (source.at ≤ length source.bytes.items) × (0 < source.piece) };
+}
+
+impl MemSource {
+    /// The numbers in `fail` count the calls from 0. `piece` is a number of bytes.
+    pub fn make(
+        alloc: Global,
+        bytes: &[u8],
+        fail: &[u64],
+        piece: usize,
+    ) -> Result<MemSource, NoMemory>
+        requires { 0 < piece }
+        ensures made { IfOk result (λ source. source ≡ record {
+          left = bytes.now;
+          failing = fail.now;
+          piece = piece;
+          calls = 0;
+          faults = 0;
+        }) }
+        ensures tells { IfOk result (λ source. ⟦<MemSource as Source>⟧.tells source
+            ≡ Some (record { left = bytes.now; calls = 0 })) }
+        ensures faults { IfOk result (λ source. ⟦<MemSource as Source>⟧.faults source ≡ 0) }
+    {
+        Ok(MemSource {
+            bytes: bytes.to_vec(alloc)?,
+            at: 0,
+            failing: fail.to_vec(alloc)?,
+            piece,
+            calls: 0,
+            faults: 0,
+        })
+    }
+}
+
+impl Source for MemSource {
+    ghost faults = { λ source. source.faults };
+
+    ghost tells = { input_of };
+
+    fn read(&mut self, buf: &mut [u8]) -> ReadOut
+        requires { 0 < length buf.old }
+        ensures exact { Reads result buf.old buf.new self.old self.new }
+        ensures some { ReadsSome result buf.old }
+        ensures bytes { WhileTold (input_of self.old) (input_of self.new) (Takes result buf.new) }
+        ensures told { CountsCall (λ input. input.calls) (input_of self.old) (input_of self.new) }
+        ensures cause { HasCause self.old.faults self.new.faults (result ≡ ReadOut.Failed) }
+    {
+        let call = self.calls;
+        self.calls = call.saturating_add(1);
+        if is_listed(&self.failing, call) {
+            self.faults = self.faults.saturating_add(1);
+            return ReadOut::Failed;
+        }
+        let left = &self.bytes[self.at..];
+        if left.is_empty() {
+            return ReadOut::End;
+        }
+        let n = buf.len().min(self.piece).min(left.len());
+        fill_front(buf, &left[..n]);
+        self.at += n;
+        ReadOut::Got(n)
+    }
+}
+
+// Puts the bytes at the front of the buffer, whose further bytes stay.
+fn fill_front(buf: &mut [u8], bytes: &[u8])
+    requires { length bytes.now ≤ length buf.old }
+    ensures { buf.new ≡ bytes.now ++ drop (length bytes.now) buf.old }
+{
+    buf[..bytes.len()].copy_from_slice(bytes);
+}

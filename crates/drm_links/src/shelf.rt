@@ -1,0 +1,35 @@
+//! Named files.
+
+ghost use Rattle.std.specs.Prelude.{ℕ, ◌≡◌, Option};
+ghost use Rattle.drm_links.specs.Told.{HasCause, CountsCall, WhileTold};
+ghost use Rattle.drm_links.specs.Shelf.{Files, Loads, KeepsFiles, IsWithin};
+
+use drm_bits::Octets;
+use std::alloc::Global;
+
+#[derive(Drop)]
+pub enum Loaded {
+    Bytes(Octets),
+    /// The file is longer than the limit.
+    TooLong,
+    /// There is no such file, or it couldn't be read.
+    Failed,
+    NoMemory,
+}
+
+pub trait Shelf {
+    /// How often a load has failed, up to the last value of a u64.
+    ghost faults: { Self → ℕ };
+
+    /// The files, where the shelf tells them.
+    ghost tells: { Self → Option Files };
+
+    /// The file of this name, if it has at most `limit` bytes.
+    fn load(&mut self, alloc: Global, name: &str, limit: usize) -> Loaded
+        ensures within { IsWithin result limit }
+        ensures file { WhileTold (tells self.old) (tells self.new)
+            (λ before _. Loads result name.now limit before) }
+        ensures kept { WhileTold (tells self.old) (tells self.new) KeepsFiles }
+        ensures told { CountsCall (λ files. files.loads) (tells self.old) (tells self.new) }
+        ensures cause { HasCause (faults self.old) (faults self.new) (result ≡ Loaded.Failed) };
+}
