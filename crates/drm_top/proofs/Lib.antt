@@ -1,0 +1,4 @@
+pub mod TextLemmas
+pub mod HeadLemmas
+pub mod FacLemmas
+pub mod StatusLemmas

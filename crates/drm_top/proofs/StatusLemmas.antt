@@ -1,0 +1,35 @@
+-- The status of a fault, and the fault of a status.
+use Rattle.std.proofs.Common.{◌≡◌, Result, Err, refl, arith}
+use Rattle.drm_top.specs.declared.fault.Fault.{Fault}
+use Rattle.drm_top.specs.declared.fault.Fault.TheVariants.{NoMemory, Words, FacLength, FacOver, FacCrc, Read, Write}
+use Rattle.drm_top.specs.Fault.{fault_status}
+
+pub two_is_words : (fault : Fault) → fault_status fault ≡ 2 → fault ≡ Words
+two_is_words NoMemory is = absurd (omega (arith, is))
+two_is_words Words is = refl
+two_is_words (FacLength n) is = absurd (omega (arith, is))
+two_is_words FacOver is = absurd (omega (arith, is))
+two_is_words (FacCrc s c) is = absurd (omega (arith, is))
+two_is_words Read is = absurd (omega (arith, is))
+two_is_words Write is = absurd (omega (arith, is))
+
+pub words_is_two : (fault : Fault) → (let ended : Result (Unit {0}) Fault = Err fault in ended ≡ Err Words) → fault_status fault ≡ 2
+words_is_two fault is = let same : fault ≡ Words = cc in rw same refl
+
+pub four_is_read : (fault : Fault) → fault_status fault ≡ 4 → fault ≡ Read
+four_is_read NoMemory is = absurd (omega (arith, is))
+four_is_read Words is = absurd (omega (arith, is))
+four_is_read (FacLength n) is = absurd (omega (arith, is))
+four_is_read FacOver is = absurd (omega (arith, is))
+four_is_read (FacCrc s c) is = absurd (omega (arith, is))
+four_is_read Read is = refl
+four_is_read Write is = absurd (omega (arith, is))
+
+pub five_is_write : (fault : Fault) → fault_status fault ≡ 5 → fault ≡ Write
+five_is_write NoMemory is = absurd (omega (arith, is))
+five_is_write Words is = absurd (omega (arith, is))
+five_is_write (FacLength n) is = absurd (omega (arith, is))
+five_is_write FacOver is = absurd (omega (arith, is))
+five_is_write (FacCrc s c) is = absurd (omega (arith, is))
+five_is_write Read is = absurd (omega (arith, is))
+five_is_write Write is = refl

@@ -1,0 +1,7 @@
+pub mod CrcLine
+pub mod Text
+pub mod Lines
+pub mod Faults
+pub mod Input
+pub mod Fault
+pub mod Fac

@@ -1,0 +1,71 @@
+//! Sources and sinks over std's streams. They tell no contents.
+
+ghost use Rattle.std.specs.Prelude.{None};
+
+use drm_links::{ReadOut, Sink, Source, WriteOut};
+use std::io::{ErrorKind, Read, Write};
+
+/// A source over a stream, which ends where a read gives no byte.
+#[derive(Drop)]
+pub struct StreamSource<R> {
+    stream: R,
+    faults: u64,
+}
+
+impl<R: Read> StreamSource<R> {
+    pub fn new(stream: R) -> Self {
+        StreamSource { stream, faults: 0 }
+    }
+}
+
+impl<R: Read> Source for StreamSource<R> {
+    ghost faults = { λ source. source.faults };
+
+    ghost tells = { λ _. None };
+
+    fn read(&mut self, buf: &mut [u8]) -> ReadOut {
+        for _ in 0..u64::MAX {
+            match self.stream.read(buf) {
+                Ok(0) => return ReadOut::End,
+                Ok(n) => return ReadOut::Got(n),
+                // A signal came before any byte.
+                Err(fault) if fault.kind() == ErrorKind::Interrupted => {}
+                Err(_) => break,
+            }
+        }
+        self.faults = self.faults.saturating_add(1);
+        ReadOut::Failed
+    }
+}
+
+/// A sink over a stream, which fails where a write takes no byte.
+#[derive(Drop)]
+pub struct StreamSink<W> {
+    stream: W,
+    faults: u64,
+}
+
+impl<W: Write> StreamSink<W> {
+    pub fn new(stream: W) -> Self {
+        StreamSink { stream, faults: 0 }
+    }
+}
+
+impl<W: Write> Sink for StreamSink<W> {
+    ghost faults = { λ sink. sink.faults };
+
+    ghost tells = { λ _. None };
+
+    fn write(&mut self, bytes: &[u8]) -> WriteOut {
+        for _ in 0..u64::MAX {
+            match self.stream.write(bytes) {
+                Ok(n) if n > 0 => return WriteOut::Wrote(n),
+                // A signal came before any byte.
+                Err(fault) if fault.kind() == ErrorKind::Interrupted => {}
+                Ok(_) | Err(_) => break,
+            }
+        }
+        self.faults = self.faults.saturating_add(1);
+        WriteOut::Failed
+    }
+}
