@@ -1,0 +1,4 @@
+pub mod PartLemmas
+pub mod SdciLemmas
+pub mod RangeLemmas
+pub mod StreamLemmas
