@@ -1,0 +1,3 @@
+pub mod Packet
+pub mod Faults
+pub mod Reading

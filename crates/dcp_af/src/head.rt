@@ -1,0 +1,41 @@
+//! The ten bytes before the payload, and where each field of them stands.
+
+ghost use Rattle.std.specs.Prelude.{◌≡◌, ◌≤◌, length};
+ghost use Rattle.dcp_af.specs.Reading.{IsHeadOf};
+
+pub(crate) const HEAD_BYTES: usize = 10;
+
+pub(crate) const CHECK_BYTES: usize = 2;
+
+/// The major revision that is read.
+pub(crate) const MAJOR: u8 = 1;
+
+/// The type of a payload of TAG items.
+pub(crate) const TAG_KIND: u8 = b'T';
+
+#[derive(Drop)]
+pub(crate) struct Head {
+    /// The length of the payload in bytes.
+    pub len: u32,
+    pub seq: u16,
+    /// Whether the check value counts.
+    pub checked: bool,
+    pub major: u8,
+    pub minor: u8,
+    pub kind: u8,
+}
+
+pub(crate) fn head_of(packet: &[u8]) -> Head
+    requires { 10 ≤ length packet.now }
+    ensures { IsHeadOf result packet.now }
+{
+    let revision = packet[8];
+    Head {
+        len: u32::from_be_bytes([packet[2], packet[3], packet[4], packet[5]]),
+        seq: u16::from_be_bytes([packet[6], packet[7]]),
+        checked: revision >= 0x80,
+        major: revision / 0x10 % 8,
+        minor: revision % 0x10,
+        kind: packet[9],
+    }
+}

@@ -1,0 +1,14 @@
+//! AF packets (TS 102 821): a payload with a sequence number and a check value. Read, the payload is lent out of the
+//! packet; written, the packet is made around the payload in its place.
+#![tactic(auto)]
+
+mod fault;
+mod head;
+mod read;
+#[cfg(test)]
+mod tests;
+mod write;
+
+pub use fault::AfFault;
+pub use read::{Af, read_af};
+pub use write::write_af;

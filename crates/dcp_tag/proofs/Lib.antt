@@ -1,0 +1,4 @@
+pub mod TagLemmas
+pub mod PlaceLemmas
+pub mod WriteLemmas
+pub mod WrittenLemmas

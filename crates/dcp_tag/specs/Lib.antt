@@ -1,0 +1,4 @@
+pub mod Tag
+pub mod Place
+pub mod Reading
+pub mod Laws

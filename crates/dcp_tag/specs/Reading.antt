@@ -1,0 +1,45 @@
+-- What is answered at a place in a payload.
+use Rattle.std.specs.Prelude.{◌∷◌, ◌↔◌, ℕ, ◌≡◌, ◌+◌, ◌<◌, List, ◌++◌, length, take, drop, Option, Some, None, Result, Ok, Err}
+use Rattle.drm_bits.specs.Bits.{bits_of}
+use Rattle.dcp_tag.specs.declared.items.Item.{Item}
+use Rattle.dcp_tag.specs.declared.items.ValueCut.{ValueCut}
+use Rattle.dcp_tag.specs.Tag.{TagItem, bytes_for, head, HasHead, IsSpelling, IsPayload, IsCut}
+use Rattle.dcp_tag.specs.Place.{Place, left}
+
+-- the TAG item of a name, the number of its value's bits, and the bytes that have these bits and then the padding
+abbrev pub item_of : List ℕ → ℕ → List ℕ → TagItem
+item_of name bits value = record { name = name; value = take bits (bits_of value) }
+
+-- the TAG item that is given
+abbrev pub tag_of : Item → TagItem
+tag_of item = item_of item.name item.bits item.value.now
+
+-- The item stands at the old place, and the new place is the byte behind it.
+pub record Gives (item : Item) (old new : Place) : Type 0 where
+  -- where the value begins
+  pub at : item.at ≡ old.at + 8
+  -- the bytes that are lent are those of the payload from there on
+  pub value : item.value.now ≡ take (bytes_for item.bits) (drop item.at old.payload)
+  pub size : length item.value.now ≡ bytes_for item.bits
+  -- the item's head stands here, then these bytes, then what is left
+  pub begins : HasHead (left old) item.name item.bits (item.value.now ++ left new)
+  pub shorter : length (left old) ≡ 8 + bytes_for item.bits + length (left new)
+  -- the head and these bytes are a spelling of the item
+  pub spelling : IsSpelling (tag_of item) (head item.name item.bits ++ item.value.now)
+  -- the items from the old place on are this one, and then those of what is left
+  pub items : (others : List TagItem) → IsPayload (tag_of item ∷ others) (left old) ↔ IsPayload others (left new)
+  pub next : new.at ≡ item.at + bytes_for item.bits
+  pub payload : new.payload ≡ old.payload
+
+-- An item that stands here, or none since fewer than eight bytes are left, or the place of an item that goes past the
+-- end. Without an item the place stays.
+abbrev pub Answers : Result (Option Item) ValueCut → Place → Place → Type 0
+Answers (Ok (Some item)) old new = Gives item old new
+Answers (Ok None) old new = (length (left old) < 8) × (new ≡ old)
+Answers (Err cut) old new = (cut.at ≡ old.at) × IsCut (left old) × (new ≡ old)
+
+-- an item is given, and it is this one
+abbrev pub IsGiven : TagItem → Result (Option Item) ValueCut → Type 0
+IsGiven tag (Ok (Some item)) = tag_of item ≡ tag
+IsGiven tag (Ok None) = ⊥
+IsGiven tag (Err cut) = ⊥
