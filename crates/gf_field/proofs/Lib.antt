@@ -1,0 +1,9 @@
+pub mod EachBelow
+pub mod Polynomial
+pub mod Horner
+pub mod Remainder
+pub mod Product
+pub mod Times
+pub mod Inverse
+pub mod Powers
+pub mod Steps

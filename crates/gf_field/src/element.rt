@@ -1,0 +1,58 @@
+//! An element and what is computed with it.
+
+ghost use Rattle.std.specs.Prelude.{◌≡◌, ◌≢◌, ℕ, ◌^◌, ◌<◌, bit_xor};
+ghost use Rattle.gf_field.specs.Field.{power, times, IsProduct};
+
+use crate::shifts::{doubled, inverse_of, product_of};
+use std::marker::Model;
+
+/// An element of the field: a polynomial over bits of degree below 8, bit i the coefficient of x to the i.
+#[derive(Clone, Copy, PartialEq, Eq, Debug)]
+pub struct Gf(pub u8);
+
+impl Model for Gf {
+    ghost Value = { ℕ };
+
+    ghost view = { λ element. element.0 };
+
+    ghost inverse = { λ n. record { 0 = n } };
+}
+
+impl Gf {
+    /// The sum, which is the difference too.
+    pub fn add(self, other: Gf) -> Gf
+        ensures { result ≡ bit_xor self other }
+    {
+        Gf(self.0 ^ other.0)
+    }
+
+    /// The product.
+    pub fn mul(self, other: Gf) -> Gf
+        ensures product { IsProduct self other result }
+        ensures value { result ≡ times self other }
+    {
+        Gf(product_of(self.0, other.0))
+    }
+
+    /// The element whose product with this one is 1.
+    pub fn inverse(self) -> Gf
+        requires { self ≢ 0 }
+        ensures product { IsProduct self result 1 }
+        ensures value { times self result ≡ 1 }
+        ensures element { result < 2 ^ 8 }
+    {
+        Gf(inverse_of(self.0))
+    }
+
+    /// 2 to the n.
+    pub fn power(n: u32) -> Gf
+        ensures { result ≡ power n }
+    {
+        // 2 to the 255 is 1.
+        let mut element = 1;
+        for _i in 0..n % 255 {
+            element = doubled(element);
+        }
+        Gf(element)
+    }
+}

@@ -1,0 +1,91 @@
+//! The field's own values. Those of the tables are from a program in Python that multiplies polynomials over bits term by
+//! term, divides by the modulus, and looks for an inverse among all elements.
+
+use super::Gf;
+
+/// An element, another, and their product.
+const PRODUCTS: [(u8, u8, u8); 14] = [
+    (0x02, 0x80, 0x1d),
+    (0x00, 0xff, 0x00),
+    (0x01, 0xff, 0xff),
+    (0x80, 0x80, 0x13),
+    (0xff, 0xff, 0xe2),
+    (0x53, 0xca, 0x8f),
+    (0xb6, 0x53, 0xee),
+    (0x8e, 0x02, 0x01),
+    (0x03, 0x07, 0x09),
+    (0x1d, 0x1d, 0x4c),
+    (0x55, 0xaa, 0x9f),
+    (0xe1, 0x4c, 0x1a),
+    (0x7f, 0x81, 0x0e),
+    (0x10, 0x10, 0x1d),
+];
+
+/// An element and its inverse.
+const INVERSES: [(u8, u8); 10] = [
+    (0x01, 0x01),
+    (0x02, 0x8e),
+    (0x03, 0xf4),
+    (0x1d, 0x83),
+    (0x53, 0x8c),
+    (0x80, 0x1b),
+    (0x8e, 0x02),
+    (0xb6, 0xbf),
+    (0xca, 0x62),
+    (0xff, 0xfd),
+];
+
+/// A number n and 2 to the n.
+const POWERS: [(u32, u8); 17] = [
+    (0, 0x01),
+    (1, 0x02),
+    (7, 0x80),
+    (8, 0x1d),
+    (9, 0x3a),
+    (25, 0x03),
+    (48, 0x46),
+    (100, 0x11),
+    (127, 0xcc),
+    (128, 0x85),
+    (254, 0x8e),
+    (255, 0x01),
+    (256, 0x02),
+    (257, 0x04),
+    (510, 0x01),
+    (65_536, 0x02),
+    (u32::MAX, 0x01),
+];
+
+#[test]
+fn products(rt: HostRuntime) {
+    for (a, b, product) in PRODUCTS {
+        assert_eq!(rt; Gf(a).mul(Gf(b)), Gf(product), "{a} times {b}");
+        assert_eq!(rt; Gf(b).mul(Gf(a)), Gf(product), "{b} times {a}");
+    }
+}
+
+#[test]
+fn inverses(rt: HostRuntime) {
+    for (element, inverse) in INVERSES {
+        if element != 0 {
+            assert_eq!(rt;
+                Gf(element).inverse(),
+                Gf(inverse),
+                "the inverse of {element}"
+            );
+        }
+    }
+}
+
+#[test]
+fn powers(rt: HostRuntime) {
+    for (n, power) in POWERS {
+        assert_eq!(rt; Gf::power(n), Gf(power), "2 to the {n}");
+    }
+}
+
+#[test]
+fn sums(rt: HostRuntime) {
+    assert_eq!(rt; Gf(0x53).add(Gf(0xca)), Gf(0x99));
+    assert_eq!(rt; Gf(0xff).add(Gf(0xff)), Gf(0));
+}

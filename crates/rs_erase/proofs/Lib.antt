@@ -1,0 +1,11 @@
+pub mod Elements
+pub mod PolynomialLaws
+pub mod Division
+pub mod CodeWords
+pub mod OnePlaceLess
+pub mod EquationLoops
+pub mod WordValues
+pub mod ErasedPlaces
+pub mod Solutions
+pub mod ShiftRegister
+pub mod OneWord

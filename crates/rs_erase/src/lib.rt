@@ -1,0 +1,18 @@
+//! The Reed-Solomon code of DCP (TS 102 821): code words of 255 bytes, of which the last 48 are parity, and the bytes of a
+//! code word from those that are not erased.
+#![tactic(auto)]
+
+mod equations;
+mod fault;
+mod laws;
+mod parity;
+mod places;
+mod roots;
+#[cfg(test)]
+mod tests;
+
+pub use fault::SolveFault;
+pub use laws::{code_words_have_the_roots, one_code_word, one_parity};
+pub use parity::encode;
+pub use places::solve;
+pub use roots::syndromes;

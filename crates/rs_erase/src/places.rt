@@ -1,0 +1,67 @@
+//! The erased places of a word.
+
+ghost use Rattle.std.specs.Prelude.{◌≡◌, ◌<◌, ◌≤◌, ◌↔◌, length, IsOk, OnOk, OnErr, IsErrOf};
+ghost use Rattle.rs_erase.specs.Code.{AgreesOutside, ArePlaces, HasCodeWord, IsCodeWord, IsOnlyCodeWord};
+ghost use Rattle.rs_erase.specs.Equations.{locators_of, word_with};
+
+use crate::equations::find_values;
+use crate::fault::SolveFault;
+use crate::roots::syndromes;
+use gf_field::Gf;
+
+/// How many bytes of a word are parity, and so how many places can be erased.
+const PARITY: usize = 48;
+
+/// Fills the erased places, so that the word is the one code word that agrees with it at all others. What stood at the
+/// erased places does not matter. After an error the word is as it was.
+pub fn solve(word: &mut [u8; 255], erased: &[u8]) -> Result<(), SolveFault>
+    requires { ArePlaces erased.now }
+
+    ensures solved { IsOk result ↔ ((length erased.now ≤ 48) × HasCodeWord erased.now word.old) }
+    ensures code_word { OnOk result (IsCodeWord word.new) }
+    ensures agrees { OnOk result (AgreesOutside erased.now word.old word.new) }
+    ensures only { OnOk result (IsOnlyCodeWord erased.now word.old word.new) }
+
+    ensures too_many { IsErrOf result (SolveFault.TooMany (length erased.now)) ↔ (48 < length erased.now) }
+    ensures no_code_word { IsErrOf result SolveFault.NoCodeWord
+        ↔ ((length erased.now ≤ 48) × ¬ (HasCodeWord erased.now word.old)) }
+    ensures unchanged { OnErr result (word.new ≡ word.old) }
+{
+    let count = erased.len();
+    if count > PARITY {
+        return Err(SolveFault::TooMany { count });
+    }
+    let mut at_roots = syndromes(word);
+    let mut locators = [Gf(0); PARITY];
+    let mut values = [Gf(0); PARITY];
+    write_locators(&mut locators[..count], erased);
+    if !find_values(&locators[..count], &mut at_roots, &mut values[..count]) {
+        return Err(SolveFault::NoCodeWord);
+    }
+    add_values(word, erased, &values[..count]);
+    Ok(())
+}
+
+/// Writes the locator of each place: 2 to the power that the place stands for.
+fn write_locators(locators: &mut [Gf], places: &[u8])
+    requires one_each { length locators.old ≡ length places.now }
+    requires places { ArePlaces places.now }
+    ensures { locators.new ≡ locators_of places.now }
+{
+    for (i, locator) in locators.iter_mut().enumerate() {
+        *locator = Gf::power(254 - u32::from(places[i]));
+    }
+}
+
+/// Adds each value at its place.
+fn add_values(word: &mut [u8], places: &[u8], values: &[Gf])
+    requires long { length word.old ≡ 255 }
+    requires one_each { length values.now ≡ length places.now }
+    requires places { ArePlaces places.now }
+    ensures { word.new ≡ word_with places.now values.now word.old }
+{
+    for (i, place) in places.iter().enumerate() {
+        let place = usize::from(*place);
+        word[place] = Gf(word[place]).add(values[i]).0;
+    }
+}
