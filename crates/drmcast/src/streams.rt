@@ -1,6 +1,10 @@
 //! Sources and sinks over std's streams. They tell no contents.
 
-ghost use Rattle.std.specs.Prelude.{None};
+ghost use Rattle.std.specs.Prelude.{◌≡◌, ◌<◌, None, length};
+ghost use Rattle.drm_links.specs.Told.{HasCause};
+ghost use Rattle.drm_links.specs.Source.{ReadsSome};
+ghost use Rattle.drm_links.specs.Sink.{WritesSome};
+ghost use Rattle.drmcast.specs.Streams.{StreamReads, StreamWrites};
 
 use drm_links::{ReadOut, Sink, Source, WriteOut};
 use std::io::{ErrorKind, Read, Write};
@@ -13,7 +17,9 @@ pub struct StreamSource<R> {
 }
 
 impl<R: Read> StreamSource<R> {
-    pub fn new(stream: R) -> Self {
+    pub fn new(stream: R) -> Self
+        ensures { result ≡ record { stream = stream; faults = 0 } }
+    {
         StreamSource { stream, faults: 0 }
     }
 }
@@ -23,7 +29,14 @@ impl<R: Read> Source for StreamSource<R> {
 
     ghost tells = { λ _. None };
 
-    fn read(&mut self, buf: &mut [u8]) -> ReadOut {
+    // Where the stream's bytes are known, the answer is about them.
+    fn read(&mut self, buf: &mut [u8]) -> ReadOut
+        requires { 0 < length buf.old }
+        ensures some { ReadsSome result buf.old }
+        ensures stream { StreamReads result buf.new
+            (R.remaining self.old.stream) (R.remaining self.new.stream) }
+        ensures cause { HasCause self.old.faults self.new.faults (result ≡ ReadOut.Failed) }
+    {
         for _ in 0..u64::MAX {
             match self.stream.read(buf) {
                 Ok(0) => return ReadOut::End,
@@ -46,7 +59,9 @@ pub struct StreamSink<W> {
 }
 
 impl<W: Write> StreamSink<W> {
-    pub fn new(stream: W) -> Self {
+    pub fn new(stream: W) -> Self
+        ensures { result ≡ record { stream = stream; faults = 0 } }
+    {
         StreamSink { stream, faults: 0 }
     }
 }
@@ -56,7 +71,14 @@ impl<W: Write> Sink for StreamSink<W> {
 
     ghost tells = { λ _. None };
 
-    fn write(&mut self, bytes: &[u8]) -> WriteOut {
+    // Where the stream's bytes are known, the answer is about them.
+    fn write(&mut self, bytes: &[u8]) -> WriteOut
+        requires { 0 < length bytes.now }
+        ensures some { WritesSome result bytes.now }
+        ensures stream { StreamWrites result bytes.now
+            (W.contents self.old.stream) (W.contents self.new.stream) }
+        ensures cause { HasCause self.old.faults self.new.faults (result ≡ WriteOut.Failed) }
+    {
         for _ in 0..u64::MAX {
             match self.stream.write(bytes) {
                 Ok(n) if n > 0 => return WriteOut::Wrote(n),
