@@ -1,0 +1,172 @@
+-- The request that is read is the one of the table.
+use Rattle.std.proofs.Common.{◌≡◌, ℕ, Bool, true, false, cond, List, [], ◌∷◌, length, arith, Option, Some, refl, sym, ◌∙◌, subst}
+use Rattle.std.specs.Prelude.{codes}
+use Rattle.std.specs.Str.{bytes_eq}
+use Rattle.std.proofs.lemmas.Option.{same_Some, cond_some}
+use Rattle.std.proofs.lemmas.List.{nil_from_length}
+use Rattle.std.proofs.lemmas.Bool.Decides.{nat_tests}
+use Rattle.std.proofs.lemmas.Slice.Eq.{bytes_eq-Decides}
+use Rattle.drm_links.specs.declared.dock.Address.{Address}
+use Rattle.drm_plan.specs.declared.carry.Carry.{Carry}
+use Rattle.drm_words.specs.declared.request.Request.{Request}
+use Rattle.drm_words.specs.declared.request.Request.TheVariants.{Fac, Check, Serve, Receive, Air, Show, Convert, Exercise}
+use Rattle.drm_words.specs.Reading.{within}
+use Rattle.drm_words.specs.Addressing.{carry_of}
+use Rattle.drm_words.specs.Table.{Options, AreOf, IsRequest}
+use Rattle.drm_words.specs.Asking.{addresses_or_none, window_of, first_of, frames_of, idle_of, limit_of, pace_of, to_of, is_bare, bare_of, check_of, serve_with, serve_of, receive_with, receive_of, air_with, air_of, convert_with, convert_of, exercise_with, exercise_of, request_of}
+use Rattle.drm_words.proofs.OptionLemmas.{stepped}
+use Rattle.drm_words.proofs.NumberLemmas.{within_fits, within_is}
+use Rattle.drm_words.proofs.CarryLemmas.{carry_fits, carry_is}
+use Rattle.drm_words.proofs.OptionsLemmas.{addresses_or_none_fit, addresses_or_none_are, with_fits, with_is, none_of, window_fits, window_is, first_fits, first_is, frames_fit, frames_are, idle_fits, idle_is, limit_fits, limit_is, pace_fits, pace_is, to_fits, to_is}
+
+bare_fits : (asked : Request) (texts : List (List ℕ)) (options : Options) (r : Request) → bare_of asked texts options ≡ Some r → (texts ≡ []) × (options ≡ []) × (asked ≡ r)
+bare_fits asked texts options r e =
+    let p = cond_some (is_bare texts options) asked r e in
+    let t = p.0 in
+    let no_texts : length texts ≡ 0 = grind (arith, nat_tests) in
+    let no_options : length options ≡ 0 = grind (arith, nat_tests) in
+    (nil_from_length texts no_texts, nil_from_length options no_options, p.1)
+
+fac_fits : (texts : List (List ℕ)) (options : Options) (r : Request) → bare_of Fac texts options ≡ Some r → IsRequest r (codes "fac") texts options
+fac_fits texts options r e =
+    let p = bare_fits Fac texts options r e in
+    subst (λ (x : Request). IsRequest x (codes "fac") texts options) p.2 (refl, p.0, subst (λ (o : Options). AreOf [] o) (sym p.1) tt)
+
+show_fits : (texts : List (List ℕ)) (options : Options) (r : Request) → bare_of Show texts options ≡ Some r → IsRequest r (codes "show") texts options
+show_fits texts options r e =
+    let p = bare_fits Show texts options r e in
+    subst (λ (x : Request). IsRequest x (codes "show") texts options) p.2 (refl, p.0, subst (λ (o : Options). AreOf [] o) (sym p.1) tt)
+
+check_fits : (texts : List (List ℕ)) (options : Options) (r : Request) → check_of texts options ≡ Some r → IsRequest r (codes "check") texts options
+unfolding check_of
+check_fits [] options r e = absurd cc
+check_fits (name ∷ []) options r e =
+    let w = with_fits [] options (Some (Check name)) r e in
+    subst (λ (x : Request). IsRequest x (codes "check") (name ∷ []) options) (same_Some (Check name) r w.1) (refl, refl, w.0)
+check_fits (name ∷ other ∷ more) options r e = absurd cc
+
+serve_fits : (texts : List (List ℕ)) (options : Options) (r : Request) → serve_of texts options ≡ Some r → IsRequest r (codes "serve") texts options
+unfolding serve_of
+serve_fits [] options r e = absurd cc
+serve_fits (name ∷ []) options r e =
+    let w = with_fits (codes "to" ∷ codes "pace" ∷ []) options (serve_with name options) r e in
+    let to = stepped (to_of options) _ r w.1 in
+    let pace = stepped (pace_of options) _ r to.rest in
+    subst (λ (x : Request). IsRequest x (codes "serve") (name ∷ []) options) (same_Some (Serve name to.value pace.value) r pace.rest)
+    (refl, refl, w.0, to_fits options to.value to.is, pace_fits options pace.value pace.is)
+serve_fits (name ∷ other ∷ more) options r e = absurd cc
+
+receive_fits : (texts : List (List ℕ)) (options : Options) (r : Request) → receive_of texts options ≡ Some r → IsRequest r (codes "receive") texts options
+unfolding receive_of
+receive_fits texts options r e =
+    let w = with_fits (codes "window" ∷ codes "first" ∷ codes "frames" ∷ codes "idle" ∷ codes "limit" ∷ []) options _ r e in
+    let addresses = stepped (addresses_or_none texts) (receive_with options) r w.1 in
+    let window = stepped (window_of options) _ r addresses.rest in
+    let first = stepped (first_of options) _ r window.rest in
+    let frames = stepped (frames_of options) _ r first.rest in
+    let idle = stepped (idle_of options) _ r frames.rest in
+    let limit = stepped (limit_of options) _ r idle.rest in
+    subst (λ (x : Request). IsRequest x (codes "receive") texts options)
+    (same_Some (Receive addresses.value window.value first.value frames.value idle.value limit.value) r limit.rest)
+    (refl, addresses_or_none_fit texts addresses.value addresses.is, w.0, window_fits options window.value window.is, first_fits options first.value first.is, frames_fit options frames.value frames.is, idle_fits options idle.value idle.is, limit_fits options limit.value limit.is)
+
+air_fits : (texts : List (List ℕ)) (options : Options) (r : Request) → air_of texts options ≡ Some r → IsRequest r (codes "air") texts options
+unfolding air_of
+air_fits [] options r e = absurd cc
+air_fits (name ∷ []) options r e = absurd cc
+air_fits (name ∷ script ∷ []) options r e =
+    let w = with_fits (codes "window" ∷ []) options (air_with name script options) r e in
+    let window = stepped (window_of options) _ r w.1 in
+    subst (λ (x : Request). IsRequest x (codes "air") (name ∷ script ∷ []) options) (same_Some (Air name script window.value) r window.rest)
+    (refl, refl, w.0, window_fits options window.value window.is)
+air_fits (name ∷ script ∷ other ∷ more) options r e = absurd cc
+
+convert_fits : (texts : List (List ℕ)) (options : Options) (r : Request) → convert_of texts options ≡ Some r → IsRequest r (codes "convert") texts options
+unfolding convert_of
+convert_fits [] options r e = absurd cc
+convert_fits (text ∷ []) options r e =
+    let w = with_fits (codes "window" ∷ codes "first" ∷ codes "frames" ∷ []) options (convert_with text options) r e in
+    let carry = stepped (carry_of text) _ r w.1 in
+    let window = stepped (window_of options) _ r carry.rest in
+    let first = stepped (first_of options) _ r window.rest in
+    let frames = stepped (frames_of options) _ r first.rest in
+    subst (λ (x : Request). IsRequest x (codes "convert") (text ∷ []) options) (same_Some (Convert carry.value window.value first.value frames.value) r frames.rest)
+    (refl, text, refl, carry_fits text carry.value carry.is, w.0, window_fits options window.value window.is, first_fits options first.value first.is, frames_fit options frames.value frames.is)
+convert_fits (text ∷ other ∷ more) options r e = absurd cc
+
+exercise_fits : (texts : List (List ℕ)) (options : Options) (r : Request) → exercise_of texts options ≡ Some r → IsRequest r (codes "exercise") texts options
+unfolding exercise_of
+exercise_fits [] options r e = absurd cc
+exercise_fits (text ∷ []) options r e =
+    let w = with_fits [] options (exercise_with text) r e in
+    let n = stepped (within 1 1000 text) _ r w.1 in
+    subst (λ (x : Request). IsRequest x (codes "exercise") (text ∷ []) options) (same_Some (Exercise n.value) r n.rest)
+    (refl, text, refl, within_fits 1 1000 text n.value n.is, w.0)
+exercise_fits (text ∷ other ∷ more) options r e = absurd cc
+
+-- a command, or another one
+chosen : (command name : List ℕ) (t : Bool) (taken other : Option Request) (r : Request) (P : Type 0) → t ≡ bytes_eq command name → (name ≡ command → taken ≡ Some r → P) → (other ≡ Some r → P) → cond t taken other ≡ Some r → P
+chosen command name true taken other r P is f g e = f (sym ((bytes_eq-Decides command name).0 (sym is))) e
+chosen command name false taken other r P is f g e = g e
+
+pub request_fits : (command : List ℕ) (texts : List (List ℕ)) (options : Options) (r : Request) → request_of command texts options ≡ Some r → IsRequest r command texts options
+unfolding request_of
+request_fits command texts options r e =
+    let P : Type 0 = IsRequest r command texts options in
+    let at : (name : List ℕ) → name ≡ command → IsRequest r name texts options → P = λ name same row. subst (λ (x : List ℕ). IsRequest r x texts options) same row in
+    chosen command (codes "fac") _ _ _ r P refl (λ same f. at (codes "fac") same (fac_fits texts options r f)) (λ e.
+    chosen command (codes "check") _ _ _ r P refl (λ same f. at (codes "check") same (check_fits texts options r f)) (λ e.
+    chosen command (codes "serve") _ _ _ r P refl (λ same f. at (codes "serve") same (serve_fits texts options r f)) (λ e.
+    chosen command (codes "receive") _ _ _ r P refl (λ same f. at (codes "receive") same (receive_fits texts options r f)) (λ e.
+    chosen command (codes "air") _ _ _ r P refl (λ same f. at (codes "air") same (air_fits texts options r f)) (λ e.
+    chosen command (codes "show") _ _ _ r P refl (λ same f. at (codes "show") same (show_fits texts options r f)) (λ e.
+    chosen command (codes "convert") _ _ _ r P refl (λ same f. at (codes "convert") same (convert_fits texts options r f)) (λ e.
+    chosen command (codes "exercise") _ _ _ r P refl (λ same f. at (codes "exercise") same (exercise_fits texts options r f)) (λ e. absurd cc) e) e) e) e) e) e) e) e
+
+bare_is : (r : Request) (texts : List (List ℕ)) (options : Options) → texts ≡ [] → options ≡ [] → bare_of r texts options ≡ Some r
+bare_is r texts options e f = rw (e, f) refl
+
+check_is : (name : List ℕ) (texts : List (List ℕ)) (options : Options) → IsRequest (Check name) (codes "check") texts options → check_of texts options ≡ Some (Check name)
+unfolding check_of
+check_is name texts options h = rw h.1 (with_is [] options (Some (Check name)) h.2)
+
+serve_is : (name : List ℕ) (to : Option Address) (pace : ℕ) (texts : List (List ℕ)) (options : Options) → IsRequest (Serve name to pace) (codes "serve") texts options → serve_of texts options ≡ Some (Serve name to pace)
+unfolding serve_of
+serve_is name to pace texts options h =
+    rw h.1 (with_is (codes "to" ∷ codes "pace" ∷ []) options (serve_with name options) h.2 ∙ rw (to_is options to h.3, pace_is options pace h.4) refl)
+
+receive_is : (addresses : Option (List Address)) (window : ℕ) (first frames : Option ℕ) (idle limit : ℕ) (texts : List (List ℕ)) (options : Options)
+    → IsRequest (Receive addresses window first frames idle limit) (codes "receive") texts options → receive_of texts options ≡ Some (Receive addresses window first frames idle limit)
+unfolding receive_of
+receive_is addresses window first frames idle limit texts options h =
+    with_is (codes "window" ∷ codes "first" ∷ codes "frames" ∷ codes "idle" ∷ codes "limit" ∷ []) options _ h.2
+    ∙ rw (addresses_or_none_are texts addresses h.1, window_is options window h.3, first_is options first h.4) (rw (frames_are options frames h.5, idle_is options idle h.6, limit_is options limit h.7) refl)
+
+air_is : (name script : List ℕ) (window : ℕ) (texts : List (List ℕ)) (options : Options) → IsRequest (Air name script window) (codes "air") texts options → air_of texts options ≡ Some (Air name script window)
+unfolding air_of
+air_is name script window texts options h =
+    rw h.1 (with_is (codes "window" ∷ []) options (air_with name script options) h.2 ∙ rw (window_is options window h.3) refl)
+
+convert_is : (carry : Carry) (window : ℕ) (first frames : Option ℕ) (texts : List (List ℕ)) (options : Options)
+    → IsRequest (Convert carry window first frames) (codes "convert") texts options → convert_of texts options ≡ Some (Convert carry window first frames)
+unfolding convert_of
+convert_is carry window first frames texts options h =
+    rw h.2 (with_is (codes "window" ∷ codes "first" ∷ codes "frames" ∷ []) options (convert_with h.1 options) h.4
+    ∙ rw (carry_is h.1 carry h.3, window_is options window h.5) (rw (first_is options first h.6, frames_are options frames h.7) refl))
+
+exercise_is : (n : ℕ) (texts : List (List ℕ)) (options : Options) → IsRequest (Exercise n) (codes "exercise") texts options → exercise_of texts options ≡ Some (Exercise n)
+unfolding exercise_of
+exercise_is n texts options h = rw h.2 (with_is [] options (exercise_with h.1) h.4 ∙ rw (within_is 1 1000 h.1 n h.3) refl)
+
+pub request_is : (r : Request) (command : List ℕ) (texts : List (List ℕ)) (options : Options) → IsRequest r command texts options → request_of command texts options ≡ Some r
+unfolding request_of
+request_is Fac command texts options h = rw h.0 (bare_is Fac texts options h.1 (none_of options h.2))
+request_is (Check name) command texts options h = rw h.0 (check_is name texts options (refl, h.1, h.2))
+request_is (Serve name to pace) command texts options h = rw h.0 (serve_is name to pace texts options (refl, h.1, h.2, h.3, h.4))
+request_is (Receive addresses window first frames idle limit) command texts options h =
+    rw h.0 (receive_is addresses window first frames idle limit texts options (refl, h.1, h.2, h.3, h.4, h.5, h.6, h.7))
+request_is (Air name script window) command texts options h = rw h.0 (air_is name script window texts options (refl, h.1, h.2, h.3))
+request_is Show command texts options h = rw h.0 (bare_is Show texts options h.1 (none_of options h.2))
+request_is (Convert carry window first frames) command texts options h =
+    rw h.0 (convert_is carry window first frames texts options (refl, h.1, h.2, h.3, h.4, h.5, h.6, h.7))
+request_is (Exercise n) command texts options h = rw h.0 (exercise_is n texts options (refl, h.1, h.2, h.3, h.4))

@@ -1,0 +1,131 @@
+-- The request of a command with its plain words and options, as a function.
+use Rattle.std.specs.Prelude.{ℕ, ◌==◌, ◌&&◌, Bool, true, false, ◌||◌, is_none, List, [], ◌∷◌, length, codes, Option, Some, None, option_and_then, option_map, if◌then◌else◌}
+use Rattle.std.specs.Str.{bytes_eq}
+use Rattle.drm_links.specs.declared.dock.Address.{Address}
+use Rattle.drm_words.specs.declared.request.Request.{Request}
+use Rattle.drm_words.specs.declared.request.Request.TheVariants.{Fac, Check, Serve, Receive, Air, Show, Convert, Exercise}
+use Rattle.drm_words.specs.Reading.{within}
+use Rattle.drm_words.specs.Addressing.{◌>>=◌, address_of, addresses_of, carry_of}
+use Rattle.drm_words.specs.Table.{Options, told}
+
+abbrev pub is_one_of : List (List ℕ) → List ℕ → Bool
+is_one_of [] name = false
+is_one_of (known ∷ others) name = bytes_eq name known || is_one_of others name
+
+unfoldable pub are_of : List (List ℕ) → Options → Bool
+are_of names [] = true
+are_of names (option ∷ others) = is_one_of names option.0 && is_none (told option.0 others) && are_of names others
+
+abbrev pub number_or : ℕ → ℕ → ℕ → Option (List ℕ) → Option ℕ
+number_or default least greatest None = Some default
+number_or default least greatest (Some text) = within least greatest text
+
+abbrev pub number_or_none : ℕ → ℕ → Option (List ℕ) → Option (Option ℕ)
+number_or_none least greatest None = Some None
+number_or_none least greatest (Some text) = option_map Some (within least greatest text)
+
+abbrev pub address_or_none : Option (List ℕ) → Option (Option Address)
+address_or_none None = Some None
+address_or_none (Some text) = option_map Some (address_of text)
+
+-- what each option tells
+unfoldable pub window_of : Options → Option ℕ
+window_of options = number_or 8 1 64 (told (codes "window") options)
+
+unfoldable pub first_of : Options → Option (Option ℕ)
+first_of options = number_or_none 0 65535 (told (codes "first") options)
+
+unfoldable pub frames_of : Options → Option (Option ℕ)
+frames_of options = number_or_none 1 3000000 (told (codes "frames") options)
+
+unfoldable pub idle_of : Options → Option ℕ
+idle_of options = number_or 50 1 1000000 (told (codes "idle") options)
+
+unfoldable pub limit_of : Options → Option ℕ
+limit_of options = number_or 4294967295 1 4294967295 (told (codes "limit") options)
+
+unfoldable pub pace_of : Options → Option ℕ
+pace_of options = number_or 0 0 10000 (told (codes "pace") options)
+
+unfoldable pub to_of : Options → Option (Option Address)
+to_of options = address_or_none (told (codes "to") options)
+
+abbrev pub addresses_or_none : List (List ℕ) → Option (Option (List Address))
+addresses_or_none [] = Some None
+addresses_or_none (text ∷ []) = option_map Some (addresses_of text)
+addresses_or_none _ = None
+
+-- the value where the options are some of these, each at most once
+abbrev pub with_options : List (List ℕ) → Options → Option Request → Option Request
+with_options names options request = if are_of names options then request else None
+
+abbrev pub is_bare : List (List ℕ) → Options → Bool
+is_bare texts options = (length texts == 0) && (length options == 0)
+
+abbrev pub bare_of : Request → List (List ℕ) → Options → Option Request
+bare_of request texts options = if is_bare texts options then Some request else None
+
+unfoldable pub check_of : List (List ℕ) → Options → Option Request
+check_of (name ∷ []) options = with_options [] options (Some (Check name))
+check_of _ options = None
+
+abbrev pub serve_with : List ℕ → Options → Option Request
+serve_with name options = do
+  to ← to_of options
+  pace ← pace_of options
+  Some (Serve name to pace)
+
+unfoldable pub serve_of : List (List ℕ) → Options → Option Request
+serve_of (name ∷ []) options = with_options (codes "to" ∷ codes "pace" ∷ []) options (serve_with name options)
+serve_of _ options = None
+
+abbrev pub receive_with : Options → Option (List Address) → Option Request
+receive_with options addresses = do
+  window ← window_of options
+  first ← first_of options
+  frames ← frames_of options
+  idle ← idle_of options
+  limit ← limit_of options
+  Some (Receive addresses window first frames idle limit)
+
+unfoldable pub receive_of : List (List ℕ) → Options → Option Request
+receive_of texts options = with_options (codes "window" ∷ codes "first" ∷ codes "frames" ∷ codes "idle" ∷ codes "limit" ∷ []) options
+    (option_and_then (receive_with options) (addresses_or_none texts))
+
+abbrev pub air_with : List ℕ → List ℕ → Options → Option Request
+air_with name script options = option_and_then (λ window. Some (Air name script window)) (window_of options)
+
+unfoldable pub air_of : List (List ℕ) → Options → Option Request
+air_of (name ∷ script ∷ []) options = with_options (codes "window" ∷ []) options (air_with name script options)
+air_of _ options = None
+
+abbrev pub convert_with : List ℕ → Options → Option Request
+convert_with text options = do
+  carry ← carry_of text
+  window ← window_of options
+  first ← first_of options
+  frames ← frames_of options
+  Some (Convert carry window first frames)
+
+unfoldable pub convert_of : List (List ℕ) → Options → Option Request
+convert_of (text ∷ []) options = with_options (codes "window" ∷ codes "first" ∷ codes "frames" ∷ []) options (convert_with text options)
+convert_of _ options = None
+
+abbrev pub exercise_with : List ℕ → Option Request
+exercise_with text = option_and_then (λ n. Some (Exercise n)) (within 1 1000 text)
+
+unfoldable pub exercise_of : List (List ℕ) → Options → Option Request
+exercise_of (text ∷ []) options = with_options [] options (exercise_with text)
+exercise_of _ options = None
+
+unfoldable pub request_of : List ℕ → List (List ℕ) → Options → Option Request
+request_of command texts options =
+    if bytes_eq command (codes "fac") then bare_of Fac texts options
+    else if bytes_eq command (codes "check") then check_of texts options
+    else if bytes_eq command (codes "serve") then serve_of texts options
+    else if bytes_eq command (codes "receive") then receive_of texts options
+    else if bytes_eq command (codes "air") then air_of texts options
+    else if bytes_eq command (codes "show") then bare_of Show texts options
+    else if bytes_eq command (codes "convert") then convert_of texts options
+    else if bytes_eq command (codes "exercise") then exercise_of texts options
+    else None

@@ -1,0 +1,93 @@
+-- The table of the commands.
+use Rattle.std.specs.Prelude.{ℕ, ◌≡◌, ◌⊎◌, List, [], ◌∷◌, Option, Some, None, MatchOption, IsUtf8, codes, if◌then◌else◌}
+use Rattle.std.specs.Str.{bytes_eq}
+use Rattle.drm_links.specs.declared.dock.Address.{Address}
+use Rattle.drm_words.specs.declared.request.Request.{Request}
+use Rattle.drm_words.specs.declared.request.Request.TheVariants.{Fac, Check, Serve, Receive, Air, Show, Convert, Exercise}
+use Rattle.drm_words.specs.Numbers.{IsWithin}
+use Rattle.drm_words.specs.Addresses.{IsAddress, AreAddresses}
+use Rattle.drm_words.specs.Carries.{IsCarry}
+
+-- the options that stand behind a command: names and values
+abbrev pub Options : Type 0
+Options = List (List ℕ × List ℕ)
+
+-- the value of an option, if it is told
+abbrev pub told : List ℕ → Options → Option (List ℕ)
+told name [] = None
+told name (option ∷ others) = if bytes_eq option.0 name then Some option.1 else told name others
+
+-- it is one of these
+abbrev pub IsOneOf : List (List ℕ) → List ℕ → Type 0
+IsOneOf [] name = ⊥
+IsOneOf (known ∷ others) name = (name ≡ known) ⊎ IsOneOf others name
+
+-- each option has one of these names, and no name comes twice
+abbrev pub AreOf : List (List ℕ) → Options → Type 0
+AreOf names [] = Unit {0}
+AreOf names (option ∷ others) = IsOneOf names option.0 × (told option.0 others ≡ None) × AreOf names others
+
+-- the number of an option in its range, or the default where the option isn't told
+abbrev pub IsNumberOr : ℕ → ℕ → ℕ → Option (List ℕ) → ℕ → Type 0
+IsNumberOr default least greatest value n = MatchOption value (n ≡ default) (λ text. IsWithin least greatest text n)
+
+-- the number of an option in its range, or none where the option isn't told
+abbrev pub IsNumberOrNone : ℕ → ℕ → Option (List ℕ) → Option ℕ → Type 0
+IsNumberOrNone least greatest None n = n ≡ None
+IsNumberOrNone least greatest (Some text) n = (number : ℕ) × (n ≡ Some number) × IsWithin least greatest text number
+
+-- the address of an option, or none where the option isn't told
+abbrev pub IsAddressOrNone : Option (List ℕ) → Option Address → Type 0
+IsAddressOrNone None address = address ≡ None
+IsAddressOrNone (Some text) address = (at : Address) × (address ≡ Some at) × IsAddress text at
+
+-- no plain word and no addresses, or one plain word that is a list of addresses
+abbrev pub AreAddressesOrNone : List (List ℕ) → Option (List Address) → Type 0
+AreAddressesOrNone [] addresses = addresses ≡ None
+AreAddressesOrNone (text ∷ []) addresses = (list : List Address) × (addresses ≡ Some list) × AreAddresses text list
+AreAddressesOrNone _ addresses = ⊥
+
+-- The request of a command with these plain words and these options, a row for each command. Where an option has a
+-- default it stands before the option's range.
+abbrev pub IsRequest : Request → List ℕ → List (List ℕ) → Options → Type 0
+-- fac
+IsRequest Fac command texts options = (command ≡ codes "fac") × (texts ≡ []) × AreOf [] options
+-- check NAME
+IsRequest (Check name) command texts options = (command ≡ codes "check") × (texts ≡ name ∷ []) × AreOf [] options
+-- serve NAME [--to ADDR] [--pace MS]
+IsRequest (Serve name to pace) command texts options =
+    (command ≡ codes "serve") × (texts ≡ name ∷ []) × AreOf (codes "to" ∷ codes "pace" ∷ []) options
+    × IsAddressOrNone (told (codes "to") options) to
+    × IsNumberOr 0 0 10000 (told (codes "pace") options) pace
+-- receive [ADDRS] [--window W] [--first N] [--frames N] [--idle K] [--limit L]
+IsRequest (Receive addresses window first frames idle limit) command texts options =
+    (command ≡ codes "receive") × AreAddressesOrNone texts addresses
+    × AreOf (codes "window" ∷ codes "first" ∷ codes "frames" ∷ codes "idle" ∷ codes "limit" ∷ []) options
+    × IsNumberOr 8 1 64 (told (codes "window") options) window
+    × IsNumberOrNone 0 65535 (told (codes "first") options) first
+    × IsNumberOrNone 1 3000000 (told (codes "frames") options) frames
+    × IsNumberOr 50 1 1000000 (told (codes "idle") options) idle
+    × IsNumberOr 4294967295 1 4294967295 (told (codes "limit") options) limit
+-- air NAME SCRIPT [--window W]
+IsRequest (Air name script window) command texts options =
+    (command ≡ codes "air") × (texts ≡ name ∷ script ∷ []) × AreOf (codes "window" ∷ []) options
+    × IsNumberOr 8 1 64 (told (codes "window") options) window
+-- show
+IsRequest Show command texts options = (command ≡ codes "show") × (texts ≡ []) × AreOf [] options
+-- convert CARRY [--window W] [--first N] [--frames N]
+IsRequest (Convert carry window first frames) command texts options =
+    (command ≡ codes "convert") × (text : List ℕ) × (texts ≡ text ∷ []) × IsCarry text carry
+    × AreOf (codes "window" ∷ codes "first" ∷ codes "frames" ∷ []) options
+    × IsNumberOr 8 1 64 (told (codes "window") options) window
+    × IsNumberOrNone 0 65535 (told (codes "first") options) first
+    × IsNumberOrNone 1 3000000 (told (codes "frames") options) frames
+-- exercise N
+IsRequest (Exercise n) command texts options =
+    (command ≡ codes "exercise") × (text : List ℕ) × (texts ≡ text ∷ []) × IsWithin 1 1000 text n × AreOf [] options
+
+-- each name is text
+abbrev pub HasTextNames : Request → Type 0
+HasTextNames (Check name) = IsUtf8 name
+HasTextNames (Serve name to pace) = IsUtf8 name
+HasTextNames (Air name script window) = IsUtf8 name × IsUtf8 script
+HasTextNames _ = Unit {0}

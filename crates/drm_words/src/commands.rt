@@ -1,0 +1,264 @@
+//! The commands: the plain words and options of each.
+
+ghost use Rattle.std.specs.Prelude.{◌≡◌, IfOk, IfErr, IfSome, IsUtf8, map};
+ghost use Rattle.drm_words.specs.Arguing.{option_said};
+ghost use Rattle.drm_words.specs.Asking.{is_bare, bare_of, check_of, serve_with, serve_of, addresses_or_none, receive_with, receive_of, air_with, air_of, convert_with, convert_of, exercise_with, exercise_of, request_of};
+ghost use Rattle.drm_words.specs.Gives.{Gives};
+ghost use Rattle.drm_words.specs.Table.{HasTextNames};
+ghost use Rattle.drm_words.specs.declared.fault.WordsFault.TheVariants as faults;
+
+use crate::addresses::{Addresses, read_addresses};
+use crate::carry::carry;
+use crate::fault::WordsFault;
+use crate::numbers::within;
+use crate::options::{are_of, first, frames, idle, limit, pace, to, window};
+use crate::request::Request;
+use crate::word::Named;
+use drm_bits::Octets;
+use std::alloc::Global;
+
+fn octets(alloc: Global, text: &str) -> Result<Octets, WordsFault>
+    ensures ok { IfOk result (λ octets. octets ≡ text.now) }
+    ensures text { IfOk result IsUtf8 }
+    ensures err { IfErr result (λ fault. fault ≡ faults.NoMemory) }
+{
+    let octets = Octets::from_slice(alloc, text.as_bytes())?;
+    Ok(octets)
+}
+
+// A request that no option or number refuses.
+fn asked(request: Option<Request>) -> Result<Request, WordsFault>
+    requires { IfSome request HasTextNames }
+    ensures gives { Gives result request }
+    ensures text { IfOk result HasTextNames }
+{
+    match request {
+        Some(request) => Ok(request),
+        None => Err(WordsFault::Words),
+    }
+}
+
+// Nothing stands behind the command.
+fn is_bare(texts: &[&str], options: &[Named<'_>]) -> bool
+    ensures { result ≡ is_bare (map (λ text. text.now) texts.now) (map option_said options.now) }
+{
+    texts.is_empty() && options.is_empty()
+}
+
+fn bare(request: Request, texts: &[&str], options: &[Named<'_>]) -> Result<Request, WordsFault>
+    requires { HasTextNames request }
+    ensures gives { Gives result (bare_of request (map (λ text. text.now) texts.now) (map option_said options.now)) }
+    ensures text { IfOk result HasTextNames }
+{
+    if is_bare(texts, options) {
+        Ok(request)
+    } else {
+        Err(WordsFault::Words)
+    }
+}
+
+// check NAME
+#[tactic(auto, unfolding(crate::specs::Asking::check_of))]
+fn check(alloc: Global, texts: &[&str], options: &[Named<'_>]) -> Result<Request, WordsFault>
+    ensures gives { Gives result (check_of (map (λ text. text.now) texts.now) (map option_said options.now)) }
+    ensures text { IfOk result HasTextNames }
+{
+    let [name] = texts else {
+        return Err(WordsFault::Words);
+    };
+    if !are_of(&[], options) {
+        return Err(WordsFault::Words);
+    }
+    let name = octets(alloc, name)?;
+    Ok(Request::Check { name })
+}
+
+fn serve_with(name: Octets, options: &[Named<'_>]) -> Option<Request>
+    requires { IsUtf8 name }
+    ensures value { result ≡ serve_with name (map option_said options.now) }
+    ensures text { IfSome result HasTextNames }
+{
+    let to = to(options)?;
+    let pace = pace(options)?;
+    Some(Request::Serve { name, to, pace })
+}
+
+// serve NAME [--to ADDR] [--pace MS]
+#[tactic(auto, unfolding(crate::specs::Asking::serve_of))]
+fn serve(alloc: Global, texts: &[&str], options: &[Named<'_>]) -> Result<Request, WordsFault>
+    ensures gives { Gives result (serve_of (map (λ text. text.now) texts.now) (map option_said options.now)) }
+    ensures text { IfOk result HasTextNames }
+{
+    let [name] = texts else {
+        return Err(WordsFault::Words);
+    };
+    if !are_of(&["to", "pace"], options) {
+        return Err(WordsFault::Words);
+    }
+    let name = octets(alloc, name)?;
+    asked(serve_with(name, options))
+}
+
+// No addresses, or those of the one plain word.
+fn addresses_or_none(alloc: Global, texts: &[&str]) -> Result<Option<Addresses>, WordsFault>
+    ensures { Gives result (addresses_or_none (map (λ text. text.now) texts.now)) }
+{
+    if texts.is_empty() {
+        return Ok(None);
+    }
+    let [text] = texts else {
+        return Err(WordsFault::Words);
+    };
+    let addresses = read_addresses(alloc, text)?;
+    Ok(Some(addresses))
+}
+
+fn receive_with(options: &[Named<'_>], addresses: Option<Addresses>) -> Option<Request>
+    ensures value { result ≡ receive_with (map option_said options.now) addresses }
+    ensures text { IfSome result HasTextNames }
+{
+    let window = window(options)?;
+    let first = first(options)?;
+    let frames = frames(options)?;
+    let idle = idle(options)?;
+    let limit = limit(options)?;
+    Some(Request::Receive {
+        addresses,
+        window,
+        first,
+        frames,
+        idle,
+        limit,
+    })
+}
+
+// receive [ADDRS] [--window W] [--first N] [--frames N] [--idle K] [--limit L]
+#[tactic(auto, unfolding(crate::specs::Asking::receive_of))]
+fn receive(alloc: Global, texts: &[&str], options: &[Named<'_>]) -> Result<Request, WordsFault>
+    ensures gives { Gives result (receive_of (map (λ text. text.now) texts.now) (map option_said options.now)) }
+    ensures text { IfOk result HasTextNames }
+{
+    if !are_of(&["window", "first", "frames", "idle", "limit"], options) {
+        return Err(WordsFault::Words);
+    }
+    let addresses = addresses_or_none(alloc, texts)?;
+    asked(receive_with(options, addresses))
+}
+
+fn air_with(name: Octets, script: Octets, options: &[Named<'_>]) -> Option<Request>
+    requires name { IsUtf8 name }
+    requires script { IsUtf8 script }
+    ensures value { result ≡ air_with name script (map option_said options.now) }
+    ensures text { IfSome result HasTextNames }
+{
+    let window = window(options)?;
+    Some(Request::Air {
+        name,
+        script,
+        window,
+    })
+}
+
+// air NAME SCRIPT [--window W]
+#[tactic(auto, unfolding(crate::specs::Asking::air_of))]
+fn air(alloc: Global, texts: &[&str], options: &[Named<'_>]) -> Result<Request, WordsFault>
+    ensures gives { Gives result (air_of (map (λ text. text.now) texts.now) (map option_said options.now)) }
+    ensures text { IfOk result HasTextNames }
+{
+    let [name, script] = texts else {
+        return Err(WordsFault::Words);
+    };
+    if !are_of(&["window"], options) {
+        return Err(WordsFault::Words);
+    }
+    let name = octets(alloc, name)?;
+    let script = octets(alloc, script)?;
+    asked(air_with(name, script, options))
+}
+
+fn convert_with(text: &str, options: &[Named<'_>]) -> Option<Request>
+    ensures value { result ≡ convert_with text.now (map option_said options.now) }
+    ensures text { IfSome result HasTextNames }
+{
+    let carry = carry(text)?;
+    let window = window(options)?;
+    let first = first(options)?;
+    let frames = frames(options)?;
+    Some(Request::Convert {
+        carry,
+        window,
+        first,
+        frames,
+    })
+}
+
+// convert CARRY [--window W] [--first N] [--frames N]
+#[tactic(auto, unfolding(crate::specs::Asking::convert_of))]
+fn convert(texts: &[&str], options: &[Named<'_>]) -> Result<Request, WordsFault>
+    ensures gives { Gives result (convert_of (map (λ text. text.now) texts.now) (map option_said options.now)) }
+    ensures text { IfOk result HasTextNames }
+{
+    let [text] = texts else {
+        return Err(WordsFault::Words);
+    };
+    if !are_of(&["window", "first", "frames"], options) {
+        return Err(WordsFault::Words);
+    }
+    asked(convert_with(text, options))
+}
+
+fn exercise_with(text: &str) -> Option<Request>
+    ensures value { result ≡ exercise_with text.now }
+    ensures text { IfSome result HasTextNames }
+{
+    let n = within(text, 1, 1000)?;
+    Some(Request::Exercise { n: n as u32 })
+}
+
+// exercise N
+#[tactic(auto, unfolding(crate::specs::Asking::exercise_of))]
+fn exercise(texts: &[&str], options: &[Named<'_>]) -> Result<Request, WordsFault>
+    ensures gives { Gives result (exercise_of (map (λ text. text.now) texts.now) (map option_said options.now)) }
+    ensures text { IfOk result HasTextNames }
+{
+    let [text] = texts else {
+        return Err(WordsFault::Words);
+    };
+    if !are_of(&[], options) {
+        return Err(WordsFault::Words);
+    }
+    asked(exercise_with(text))
+}
+
+/// The request of a command with these plain words and options.
+#[tactic(auto, unfolding(crate::specs::Asking::request_of))]
+pub(crate) fn request(
+    alloc: Global,
+    command: &str,
+    texts: &[&str],
+    options: &[Named<'_>],
+) -> Result<Request, WordsFault>
+    ensures gives { Gives result (request_of command.now (map (λ text. text.now) texts.now)
+        (map option_said options.now)) }
+    ensures text { IfOk result HasTextNames }
+{
+    if command == "fac" {
+        bare(Request::Fac, texts, options)
+    } else if command == "check" {
+        check(alloc, texts, options)
+    } else if command == "serve" {
+        serve(alloc, texts, options)
+    } else if command == "receive" {
+        receive(alloc, texts, options)
+    } else if command == "air" {
+        air(alloc, texts, options)
+    } else if command == "show" {
+        bare(Request::Show, texts, options)
+    } else if command == "convert" {
+        convert(texts, options)
+    } else if command == "exercise" {
+        exercise(texts, options)
+    } else {
+        Err(WordsFault::Words)
+    }
+}

@@ -1,0 +1,128 @@
+//! Options and what they tell: each with its range, and its default where it has one.
+
+ghost use Rattle.std.specs.Prelude.{◌≡◌, ◌≤◌, IfSome, map, option_map, codes};
+ghost use Rattle.drm_words.specs.Arguing.{option_said};
+ghost use Rattle.drm_words.specs.Table.{told};
+ghost use Rattle.drm_words.specs.Asking.{is_one_of, are_of, number_or, number_or_none, window_of, first_of, frames_of, idle_of, limit_of, pace_of, to_of};
+
+use crate::addresses::address;
+use crate::numbers::within;
+use crate::word::Named;
+use drm_links::Address;
+
+// The value of an option, where it is told.
+fn told<'a>(options: &[Named<'a>], name: &str) -> Option<&'a str>
+    ensures { option_map (λ value. value.now) result ≡ told name.now (map option_said options.now) }
+{
+    for option in options {
+        if option.name == name {
+            return Some(option.value);
+        }
+    }
+    None
+}
+
+fn is_one_of(names: &[&str], name: &str) -> bool
+    ensures { result ≡ is_one_of (map (λ known. known.now) names.now) name.now }
+{
+    for known in names {
+        if name == *known {
+            return true;
+        }
+    }
+    false
+}
+
+/// Whether each option has one of these names, and no name comes twice.
+#[tactic(auto, unfolding(crate::specs::Asking::are_of))]
+pub(crate) fn are_of(names: &[&str], options: &[Named<'_>]) -> bool
+    ensures { result ≡ are_of (map (λ known. known.now) names.now) (map option_said options.now) }
+{
+    let Some((option, others)) = options.split_first() else {
+        return true;
+    };
+    is_one_of(names, option.name) && told(others, option.name).is_none() && are_of(names, others)
+}
+
+fn number_or(default: u64, least: u64, greatest: u64, value: Option<&str>) -> Option<u64>
+    requires { default ≤ greatest }
+    ensures value { result ≡ number_or default least greatest (option_map (λ text. text.now) value.entry) }
+    ensures bound { IfSome result (λ n. n ≤ greatest) }
+{
+    match value {
+        Some(text) => within(text, least, greatest),
+        None => Some(default),
+    }
+}
+
+/// The packets of a window.
+#[tactic(auto, unfolding(crate::specs::Asking::window_of))]
+pub(crate) fn window(options: &[Named<'_>]) -> Option<u8>
+    ensures { result ≡ window_of (map option_said options.now) }
+{
+    let number = number_or(8, 1, 64, told(options, "window"))?;
+    Some(number as u8)
+}
+
+/// The first sequence number.
+#[tactic(auto, unfolding(crate::specs::Asking::first_of))]
+pub(crate) fn first(options: &[Named<'_>]) -> Option<Option<u16>>
+    ensures { result ≡ first_of (map option_said options.now) }
+{
+    let Some(text) = told(options, "first") else {
+        return Some(None);
+    };
+    let number = within(text, 0, 65_535)?;
+    Some(Some(number as u16))
+}
+
+/// The number of frames.
+#[tactic(auto, unfolding(crate::specs::Asking::frames_of))]
+pub(crate) fn frames(options: &[Named<'_>]) -> Option<Option<u64>>
+    ensures { result ≡ frames_of (map option_said options.now) }
+{
+    let Some(text) = told(options, "frames") else {
+        return Some(None);
+    };
+    let number = within(text, 1, 3_000_000)?;
+    Some(Some(number))
+}
+
+/// How many idle answers in a row end a report.
+#[tactic(auto, unfolding(crate::specs::Asking::idle_of))]
+pub(crate) fn idle(options: &[Named<'_>]) -> Option<u32>
+    ensures { result ≡ idle_of (map option_said options.now) }
+{
+    let number = number_or(50, 1, 1_000_000, told(options, "idle"))?;
+    Some(number as u32)
+}
+
+/// The most datagrams.
+#[tactic(auto, unfolding(crate::specs::Asking::limit_of))]
+pub(crate) fn limit(options: &[Named<'_>]) -> Option<u32>
+    ensures { result ≡ limit_of (map option_said options.now) }
+{
+    let number = number_or(4_294_967_295, 1, 4_294_967_295, told(options, "limit"))?;
+    Some(number as u32)
+}
+
+/// The milliseconds between packets.
+#[tactic(auto, unfolding(crate::specs::Asking::pace_of))]
+pub(crate) fn pace(options: &[Named<'_>]) -> Option<u32>
+    ensures { result ≡ pace_of (map option_said options.now) }
+{
+    let number = number_or(0, 0, 10_000, told(options, "pace"))?;
+    Some(number as u32)
+}
+
+/// Where datagrams are sent.
+#[tactic(auto, unfolding(crate::specs::Asking::to_of))]
+pub(crate) fn to(options: &[Named<'_>]) -> Option<Option<Address>>
+    ensures { result ≡ to_of (map option_said options.now) }
+{
+    let Some(text) = told(options, "to") else {
+        return Some(None);
+    };
+    let address = address(text)?;
+    Some(Some(address))
+}
