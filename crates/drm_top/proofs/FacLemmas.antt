@@ -187,6 +187,30 @@ run_done fac input_faults input_tells input input' out_faults out_tells out out'
   write_cause = record { later = later'; rose = λ e. cc };
 }
 
+-- a run of the command ends with none of the faults that come before it
+pub run_ends : {I O : Type 0} (ending : Result (Unit {0}) Fault) (input_faults : I → ℕ) (input_tells : I → Option Input) (input input' : I) (out_faults : O → ℕ) (out_tells : O → Option Output) (out out' : O)
+    → FacRun ending input_faults input_tells input input' out_faults out_tells out out' → (ending ≡ Err Words → ⊥) × (ending ≡ Err NoMemory → ⊥)
+run_ends ending input_faults input_tells input input' out_faults out_tells out out' run = (
+  λ is. ended run.came Words out_tells out out' (along_ending Words is) run.reads (λ e. cc) (λ r. r.2),
+  λ is. ended run.came NoMemory out_tells out out' (along_ending NoMemory is) run.reads (λ e. cc) (λ r. r.2),
+)
+  where
+    along_ending : (fault : Fault) → ending ≡ Err fault → Writes run.came (Err fault) out_tells out out'
+    along_ending fault is = let P : Result (Unit {0}) Fault → Type 0 = λ e. Writes run.came e out_tells out out' in subst P is run.writes
+
+    ended : {O : Type 0} (came : Result Fac Fault) (fault : Fault) (tells : O → Option Output) (out out' : O) → Writes came (Err fault) tells out out' → Reads came (input_tells input) (input_tells input') → (fault ≡ Write → ⊥) → (Reads (Err fault) (input_tells input) (input_tells input') → ⊥) → ⊥
+    ended (Ok fac) Words tells out out' writes reads no_write none = writes
+    ended (Ok fac) NoMemory tells out out' writes reads no_write none = writes
+    ended (Ok fac) (FacLength n) tells out out' writes reads no_write none = writes
+    ended (Ok fac) FacOver tells out out' writes reads no_write none = writes
+    ended (Ok fac) (FacCrc s c) tells out out' writes reads no_write none = writes
+    ended (Ok fac) Read tells out out' writes reads no_write none = writes
+    ended (Ok fac) Write tells out out' writes reads no_write none = no_write refl
+    ended (Err other) fault tells out out' writes reads no_write none =
+        let same : other ≡ fault = cc in
+        let P : Fault → Type 0 = λ f. Reads (Err f) (input_tells input) (input_tells input') in
+        none (subst P same reads)
+
 -- ---- what a run says of its status
 
 -- with status 0 or 5 a FAC was read, with status 3 none

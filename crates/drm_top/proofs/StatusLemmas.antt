@@ -33,3 +33,15 @@ five_is_write FacOver is = absurd (omega (arith, is))
 five_is_write (FacCrc s c) is = absurd (omega (arith, is))
 five_is_write Read is = absurd (omega (arith, is))
 five_is_write Write is = refl
+
+pub one_is_memory : (fault : Fault) → fault_status fault ≡ 1 → fault ≡ NoMemory
+one_is_memory NoMemory is = refl
+one_is_memory Words is = absurd (omega (arith, is))
+one_is_memory (FacLength n) is = absurd (omega (arith, is))
+one_is_memory FacOver is = absurd (omega (arith, is))
+one_is_memory (FacCrc s c) is = absurd (omega (arith, is))
+one_is_memory Read is = absurd (omega (arith, is))
+one_is_memory Write is = absurd (omega (arith, is))
+
+pub memory_is_one : (fault : Fault) → (let ended : Result (Unit {0}) Fault = Err fault in ended ≡ Err NoMemory) → fault_status fault ≡ 1
+memory_is_one fault is = let same : fault ≡ NoMemory = cc in rw same refl

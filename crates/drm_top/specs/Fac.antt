@@ -1,5 +1,5 @@
 -- The command `fac`: the nine bytes of a FAC become one line.
-use Rattle.std.specs.Prelude.{ℕ, ◌≡◌, ◌<◌, ◌⊎◌, List, [], ◌∷◌, length, codes, Option, Result, Ok, Err}
+use Rattle.std.specs.Prelude.{ℕ, ◌≡◌, ◌<◌, ◌⊎◌, List, [], length, Option, Result, Ok, Err}
 use Rattle.drm_fac.specs.declared.fac.Fac.{Fac}
 use Rattle.drm_fac.specs.Fac.{IsFac}
 use Rattle.drm_fac.specs.Fault.{IsCrcFault}
@@ -10,10 +10,6 @@ use Rattle.drm_top.specs.Input.{ReadsHead, FailsWithin}
 use Rattle.drm_top.specs.Lines.{fac_line}
 use Rattle.drm_top.specs.declared.fault.Fault.{Fault}
 use Rattle.drm_top.specs.declared.fault.Fault.TheVariants.{FacLength, FacOver, FacCrc, Read, Write}
-
--- the words of the command
-abbrev pub IsFacLine : List (List ℕ) → Type 0
-IsFacLine words = words ≡ codes "fac" ∷ []
 
 -- What the bytes of an input come to: the FAC that they are, or the fault that refuses them.
 abbrev pub ComesTo : List ℕ → Result Fac Fault → Type 0

@@ -5,3 +5,4 @@ pub mod Faults
 pub mod Input
 pub mod Fault
 pub mod Fac
+pub mod Words

@@ -1,6 +1,6 @@
 //! The command `fac`.
 
-ghost use Rattle.std.specs.Prelude.{◌≡◌, IfOk};
+ghost use Rattle.std.specs.Prelude.{◌≡◌, IfOk, IsErrOf};
 ghost use Rattle.drm_links.specs.Told.{HasCause};
 ghost use Rattle.drm_fac.specs.Fac.{FacFits};
 ghost use Rattle.drm_top.specs.Fac.{Reads, FacRun};
@@ -13,7 +13,10 @@ use drm_links::{Sink, Source};
 
 /// Reads a FAC and writes its line.
 pub fn fac<I: Source, O: Sink>(input: &mut I, out: &mut O) -> Result<(), Fault>
-    ensures { FacRun result I.faults I.tells input.old input.new O.faults O.tells out.old out.new }
+    ensures run { FacRun result I.faults I.tells input.old input.new O.faults O.tells out.old out.new }
+    // The words were judged before, and nothing here takes memory.
+    ensures words { IsErrOf result Fault.Words → ⊥ }
+    ensures memory { IsErrOf result Fault.NoMemory → ⊥ }
 {
     let fac = read_fac(input)?;
     write_fac(out, &fac)?;

@@ -137,16 +137,34 @@ fn names_what_is_no_fac(rt: HostRuntime) -> Result<(), Fail> {
 }
 
 #[test]
+fn takes_the_end_of_options(rt: HostRuntime) -> Result<(), Fail> {
+    comes_out(&rt, &["fac", "--"], PRINTED)
+}
+
+// Words that are no command line, and command lines of commands that aren't built yet.
+#[test]
 fn refuses_other_words(rt: HostRuntime) -> Result<(), Fail> {
-    let cases: [&[&str]; 8] = [
+    let cases: [&[&str]; 20] = [
         &[],
         &["fac", "x"],
         &["fac", "fac"],
+        &["fac", "-"],
+        &["fac", "--window", "4"],
+        &["--", "fac"],
         &["FAC"],
         &["fa"],
         &["facs"],
         &[""],
         &["--help"],
+        &["receive", "--window", "65", "127.0.0.1:5000"],
+        &["receive", "127.0.0.1"],
+        &["serve", "a", "--pace", "1", "--pace", "2"],
+        &["air", "a"],
+        &["--window", "4", "receive"],
+        &["check", "schedule.txt"],
+        &["serve", "schedule.txt", "--to", "127.0.0.1:5000"],
+        &["show"],
+        &["exercise", "4"],
     ];
     for line in cases {
         comes_out(

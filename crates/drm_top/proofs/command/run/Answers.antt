@@ -1,28 +1,48 @@
-use Rattle.std.proofs.Common.{◌∙◌, sym, ap, Err}
+use Rattle.std.proofs.Common.{◌≡◌, ◌∙◌, ℕ, inl, inr, sym, ap, Result, Err}
+use Rattle.drm_top.specs.declared.fault.Fault.{Fault}
+use Rattle.drm_top.specs.declared.fault.Fault.TheVariants.{NoMemory}
+use Rattle.drm_top.specs.Fault.{fault_status}
 use Rattle.drm_top.proofs.FacLemmas.{run_refused, run_complete}
-use Rattle.drm_top.proofs.StatusLemmas.{two_is_words, words_is_two, four_is_read, five_is_write}
+use Rattle.drm_top.proofs.StatusLemmas.{two_is_words, words_is_two, one_is_memory, memory_is_one, four_is_read, five_is_write}
 use Rattle.drm_top.proofs.command.run.Goals as goal
 
 pub returns-in-Ok-clause-refused : goal.returns-in-Ok-clause-refused
-returns-in-Ok-clause-refused g c = λ words other. run_refused _ _ _ _ _ _ _ _ _ (c.in-Ok.ensures.fac words) other
+returns-in-Ok-clause-refused g c = λ words other free. run_refused _ _ _ _ _ _ _ _ _ (c.in-Ok.ensures.fac words (λ e. cc)) other
 
 pub returns-in-Ok-clause-complete : goal.returns-in-Ok-clause-complete
-returns-in-Ok-clause-complete g c = λ words no_read no_write. run_complete _ _ _ _ _ _ _ _ _ (c.in-Ok.ensures.fac words) no_read no_write
+returns-in-Ok-clause-complete g c = λ words free no_read no_write. run_complete _ _ _ _ _ _ _ _ _ (c.in-Ok.ensures.fac words (λ e. cc)) no_read no_write
+
+-- a fault that is want of memory has status 1
+free_of_memory : (fault : Fault) (code : ℕ) → code ≡ fault_status fault → (code ≡ 1 → ⊥) → (let ended : Result (Unit {0}) Fault = Err fault in ended ≡ Err NoMemory) → ⊥
+free_of_memory fault code status free is = let same : fault ≡ NoMemory = cc in free (status ∙ ap fault_status same)
 
 pub returns-in-Err-clause-words : goal.returns-in-Err-clause-words
-returns-in-Err-clause-words g c = (
-  λ two. c.in-Err.ensures.words.0 (ap Err (two_is_words c.in-Err.fault (sym c.report.ensures.status ∙ two))),
-  λ none. c.report.ensures.status ∙ words_is_two c.in-Err.fault (c.in-Err.ensures.words.1 none),
-)
+returns-in-Err-clause-words g c = λ two. c.in-Err.ensures.words (ap Err (two_is_words c.in-Err.fault (sym c.report.ensures.status ∙ two)))
+
+pub returns-in-Err-clause-others : goal.returns-in-Err-clause-others
+returns-in-Err-clause-others g c = λ none. elim (c.in-Err.ensures.others none) [
+  | inl words ↦ inl (c.report.ensures.status ∙ words_is_two c.in-Err.fault words)
+  | inr memory ↦ inr (c.report.ensures.status ∙ memory_is_one c.in-Err.fault memory)
+]
 
 pub returns-in-Err-clause-refused : goal.returns-in-Err-clause-refused
-returns-in-Err-clause-refused g c = λ words other. rw c.report.ensures.status (run_refused _ _ _ _ _ _ _ _ _ (c.in-Err.ensures.fac words) (λ four. other (c.report.ensures.status ∙ four)))
+returns-in-Err-clause-refused g c = λ words other free.
+    rw c.report.ensures.status (run_refused _ _ _ _ _ _ _ _ _ (c.in-Err.ensures.fac words (free_of_memory c.in-Err.fault c.report.result.code c.report.ensures.status free)) (λ four. other (c.report.ensures.status ∙ four)))
 
 pub returns-in-Err-clause-complete : goal.returns-in-Err-clause-complete
-returns-in-Err-clause-complete g c = λ words no_read no_write. rw c.report.ensures.status (run_complete _ _ _ _ _ _ _ _ _ (c.in-Err.ensures.fac words) no_read no_write)
+returns-in-Err-clause-complete g c = λ words free no_read no_write.
+    rw c.report.ensures.status (run_complete _ _ _ _ _ _ _ _ _ (c.in-Err.ensures.fac words (free_of_memory c.in-Err.fault c.report.result.code c.report.ensures.status free)) no_read no_write)
 
 pub returns-in-Err-clause-read : goal.returns-in-Err-clause-read
 returns-in-Err-clause-read g c = λ four. c.in-Err.ensures.read.rose (ap Err (four_is_read c.in-Err.fault (sym c.report.ensures.status ∙ four)))
 
 pub returns-in-Err-clause-write : goal.returns-in-Err-clause-write
 returns-in-Err-clause-write g c = λ five. c.in-Err.ensures.write.rose (ap Err (five_is_write c.in-Err.fault (sym c.report.ensures.status ∙ five)))
+
+pub returns-in-Err-clause-fac : goal.returns-in-Err-clause-fac
+returns-in-Err-clause-fac g c = λ words free. (
+  Err c.in-Err.fault,
+  c.report.ensures.status,
+  c.in-Err.ensures.fac words (free_of_memory c.in-Err.fault c.report.result.code c.report.ensures.status free),
+  c.report.ensures.line,
+)
