@@ -1,0 +1,11 @@
+pub mod FieldLaws
+pub mod Again
+pub mod Made
+pub mod EntityLaws
+pub mod Determined
+pub mod Walk
+pub mod BlockLaws
+pub mod Frames
+pub mod Fitting
+pub mod Written
+pub mod WrittenField

@@ -1,0 +1,38 @@
+use Rattle.std.proofs.Common.{◌≡◌, ◌+◌, ◌*◌, List, Bool, length, take, sym, arith, ap, subst, length-append}
+use Rattle.drm_bits.specs.Bits.{digits, bits_of}
+use Rattle.drm_bits.proofs.BitsLemmas.{length-bits_of}
+use Rattle.drm_sdc.specs.Block.{IsFramed, IsChecked}
+use Rattle.drm_sdc.proofs.Frames.{framed, open_length, length-value}
+use Rattle.drm_sdc.proofs.unpack.unpack_block.Goals as goal
+
+pub wide-stands-requires-clause-enough : goal.wide-stands-requires-clause-enough
+wide-stands-requires-clause-enough c =
+    let all : List Bool = take c.args.bits (bits_of c.args.value.now) in
+    let rest : length c.behind_front-rest.result ≡ 8 * length c.args.field.now + 20 =
+    open_length all c.behind_front-rest.result c.args.bits (length c.args.field.now) (sym (length-value c.args.value.now c.args.bits c.requires.length)) c.requires.open c.behind_front-rest.ensures.second c.behind_front-rest.ensures.first in
+    omega (arith, rest, c.number-afs.ensures.left, ap length c.unpack.ensures.bytes, length-append (bits_of c.unpack.new.bytes) c.unpack.new.bits, length-bits_of c.unpack.new.bytes, c.unpack.auto.bytes)
+
+pub returns-then-stands-computed-clause-fault : goal.returns-then-stands-computed-clause-fault
+returns-then-stands-computed-clause-fault c =
+    let all : List Bool = take c.args.bits (bits_of c.args.value.now) in
+    record {
+      afs = c.number-afs.result;
+      field = c.unpack.new.bytes;
+      framed =
+          framed all c.behind_front-rest.result c.number-afs.new.bits c.unpack.new.bits c.args.bits (length c.args.field.now) c.number-afs.result c.wide-stands.result c.unpack.new.bytes
+          (sym (length-value c.args.value.now c.args.bits c.requires.length)) c.requires.open c.behind_front-rest.ensures.second c.behind_front-rest.ensures.first c.unpack.auto.bytes c.unpack.ensures.octets
+          c.number-afs.ensures.number c.number-afs.ensures.rest c.unpack.ensures.bytes c.wide-stands.ensures.number;
+      stands_fits = omega arith;
+      computed_fits = omega arith;
+      checked = c.check_value-computed.ensures.check;
+      differ = c.if-stands-computed.true;
+    }
+
+pub returns-clause-parts : goal.returns-clause-parts
+returns-clause-parts c =
+    let all : List Bool = take c.args.bits (bits_of c.args.value.now) in
+    let frame : IsFramed c.number-afs.result c.unpack.new.bytes (digits 16 c.wide-stands.result) all =
+    framed all c.behind_front-rest.result c.number-afs.new.bits c.unpack.new.bits c.args.bits (length c.args.field.now) c.number-afs.result c.wide-stands.result c.unpack.new.bytes
+    (sym (length-value c.args.value.now c.args.bits c.requires.length)) c.requires.open c.behind_front-rest.ensures.second c.behind_front-rest.ensures.first c.unpack.auto.bytes c.unpack.ensures.octets
+    c.number-afs.ensures.number c.number-afs.ensures.rest c.unpack.ensures.bytes c.wide-stands.ensures.number in
+    (digits 16 c.wide-stands.result, frame, subst (λ n. IsChecked c.number-afs.result c.unpack.new.bytes (digits 16 n)) (sym c.if-stands-computed.false) c.check_value-computed.ensures.check)

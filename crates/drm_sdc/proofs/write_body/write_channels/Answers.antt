@@ -1,0 +1,33 @@
+use Rattle.std.proofs.Common.{◌≡◌, List, Bool, take, ◌∙◌, ap, arith, subst, false}
+use Rattle.std.proofs.lemmas.List.{take_all}
+use Rattle.drm_bits.specs.Fields.{spelled}
+use Rattle.drm_sdc.specs.Bodies.{channel_fields}
+use Rattle.drm_sdc.specs.Writing.{Wrote}
+use Rattle.drm_sdc.proofs.Fitting.{channel_fits}
+use Rattle.drm_sdc.proofs.Written.{each, channel_bits, then, wrote_none, wrote_more, channels_each}
+use Rattle.drm_sdc.proofs.write_body.write_channels.Goals as goal
+
+pub put_flag-requires : goal.put_flag-requires
+put_flag-requires c = omega (arith, c.loop-channel.invariant.left, c.loop-channel-test.true, c.requires.room)
+
+pub put_wide-requires-clause-fits : goal.put_wide-requires-clause-fits
+put_wide-requires-clause-fits c = channel_fits c.args.channels.now c.loop-channel.channel-index (record { first = false; number = 0 }) c.loop-channel-test.true c.requires.fits
+
+pub put_wide-requires-clause-room : goal.put_wide-requires-clause-room
+put_wide-requires-clause-room c = omega (arith, c.loop-channel.invariant.left, c.loop-channel-test.true, c.requires.room, c.put_flag.ensures.left)
+
+pub loop-channel-init : goal.loop-channel-init
+loop-channel-init c = record { wrote = wrote_none c.args.sink.now; left = omega arith }
+
+pub loop-channel-preserved : goal.loop-channel-preserved
+loop-channel-preserved c =
+    record {
+      wrote = wrote_more channel_bits c.args.channels.now c.loop-channel.channel-index (record { first = false; number = 0 }) c.loop-channel-test.true c.loop-channel.invariant.wrote (then c.put_flag.ensures.wrote c.put_wide.ensures.wrote);
+      left = omega (arith, c.loop-channel.invariant.left, c.put_flag.ensures.left, c.put_wide.ensures.left);
+    }
+
+pub returns-clause-wrote : goal.returns-clause-wrote
+returns-clause-wrote c =
+    let all : each channel_bits (take c.loop-channel.channel-index c.args.channels.now) ≡ spelled (channel_fields c.args.channels.now) =
+    ap (each channel_bits) (take_all c.loop-channel.channel-index c.args.channels.now c.loop-channel-test.false) ∙ channels_each c.args.channels.now in
+    subst (λ (l : List Bool). Wrote l c.args.sink.now c.loop-channel.sink) all c.loop-channel.invariant.wrote

@@ -1,0 +1,13 @@
+use Rattle.std.proofs.Common.{◌≡◌, ◌+◌, ◌*◌, length, take}
+use Rattle.drm_bits.specs.Sink.{unwritten}
+use Rattle.drm_sdc.specs.Writing.{Wrote}
+use Rattle.drm_sdc.proofs.Written.{each, part_bits}
+use Rattle.drm_sdc.proofs.write_body.write_parts.Given as goal
+
+-- the parts before this one are written
+abbrev pub invariant-loop-part : goal.invariant-loop-part
+invariant-loop-part l =
+    record {
+      wrote : Wrote (each part_bits (take l.part-index l.parts)) l.fn.sink l.sink;
+      left : length (unwritten l.sink) + 24 * l.part-index ≡ length (unwritten l.fn.sink);
+    }

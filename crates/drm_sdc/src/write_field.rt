@@ -1,0 +1,82 @@
+//! The data field of a block, written.
+
+ghost use Rattle.std.specs.Prelude.{◌≡◌, ◌+◌, ◌-◌, ◌*◌, ◌≤◌, ◌<◌, ◌^◌, ℕ, length, take, replicate, slice_index, All};
+ghost use Rattle.drm_bits.specs.Fields.{spelled};
+ghost use Rattle.drm_bits.specs.Sink.{unwritten};
+ghost use Rattle.drm_sdc.specs.Bodies.{kind_of};
+ghost use Rattle.drm_sdc.specs.Entity.{EntityFits, entity_fields, entity_size};
+ghost use Rattle.drm_sdc.specs.Field.{IsField};
+ghost use Rattle.drm_sdc.specs.Writing.{Wrote, entity_bits, total_size};
+
+use crate::put::{put_flag, put_number, put_zeros};
+use crate::size::body_size;
+use crate::write_body::write_body;
+use crate::{Body, Entity};
+use drm_bits::BitSink;
+
+/// How many bytes the entities have.
+pub fn total_size(entities: &[Entity]) -> usize
+    requires fit { All EntityFits entities.now }
+    requires small { total_size entities.now ≤ usize.MAX }
+    ensures { result ≡ total_size entities.now }
+{
+    let mut total = 0;
+    for entity in entities {
+        total += entity.size();
+    }
+    total
+}
+
+/// Writes the entities at the front of the field, and zeros behind them.
+pub fn write_field(entities: &[Entity], needed: usize, room: usize, field: &mut [u8; 1023])
+    requires fit { All EntityFits entities.now }
+    requires needed { needed ≡ total_size entities.now }
+    requires room { (needed ≤ room) × (room ≤ 1023) }
+    ensures field { IsField entities.now (replicate (room - needed) 0) (take room field.new) }
+    ensures octets { (i : ℕ) → slice_index field.new i < 2 ^ 8 }
+{
+    let mut sink = BitSink::new(field);
+    write_entities(&mut sink, entities);
+    put_zeros(&mut sink, room - needed);
+}
+
+fn write_entities(sink: &mut BitSink<'_>, entities: &[Entity])
+    requires fit { All EntityFits entities.now }
+    requires room { 8 * total_size entities.now ≤ length (unwritten sink.old) }
+    ensures wrote { Wrote (entity_bits entities.now) sink.old sink.new }
+    ensures left { length (unwritten sink.new) + 8 * total_size entities.now ≡ length (unwritten sink.old) }
+{
+    for entity in entities {
+        write_entity(sink, entity);
+    }
+}
+
+fn write_entity(sink: &mut BitSink<'_>, entity: &Entity)
+    requires fits { EntityFits entity.now }
+    requires room { 8 * entity_size entity.now ≤ length (unwritten sink.old) }
+    ensures wrote { Wrote (spelled (entity_fields entity.now)) sink.old sink.new }
+    ensures left { length (unwritten sink.new) + 8 * entity_size entity.now ≡ length (unwritten sink.old) }
+{
+    let len = body_size(&entity.body) as u8;
+    put_number(sink, len, 7);
+    put_flag(sink, entity.version);
+    put_number(sink, type_of(&entity.body), 4);
+    write_body(sink, &entity.body);
+}
+
+fn type_of(body: &Body) -> u8
+    ensures { result ≡ kind_of body.now }
+{
+    match body {
+        Body::Mux { .. } => 0,
+        Body::Label { .. } => 1,
+        Body::Freq { .. } => 3,
+        Body::When { .. } => 4,
+        Body::App { .. } => 5,
+        Body::Time { .. } => 8,
+        Body::Audio { .. } => 9,
+        Body::Next { .. } => 10,
+        Body::Language { .. } => 12,
+        Body::Raw { kind, .. } => *kind,
+    }
+}

@@ -1,0 +1,113 @@
+//! Labels, languages, applications and the coding of audio services, written into bits.
+
+ghost use Rattle.std.specs.Prelude.{◌≡◌, ◌+◌, ◌*◌, ◌≤◌, ◌<◌, ◌^◌, ◌++◌, ◌∷◌, length};
+ghost use Rattle.drm_bits.specs.Fields.{Fit, field, flag, spelled};
+ghost use Rattle.drm_bits.specs.Sink.{unwritten};
+ghost use Rattle.drm_sdc.specs.Bodies.{body_fields, mode_fields, mode_length, mode_size};
+ghost use Rattle.drm_sdc.specs.Writing.{Wrote};
+ghost use Rattle.drm_sdc.specs.declared.body.Body.TheVariants.{Label, App, Audio, Language};
+
+use crate::AppMode;
+use crate::put::{put_flag, put_long, put_number, put_octets, put_wide};
+use drm_bits::{BitSink, Octets};
+
+pub fn write_label(sink: &mut BitSink<'_>, short: u8, spare: u8, text: &Octets)
+    requires fits { Fit (body_fields (Label short spare text.now)) }
+    requires room { 4 + 8 * length text.now ≤ length (unwritten sink.old) }
+    ensures wrote { Wrote (spelled (body_fields (Label short spare text.now))) sink.old sink.new }
+    ensures left { length (unwritten sink.new) + (4 + 8 * length text.now) ≡ length (unwritten sink.old) }
+{
+    put_number(sink, short, 2);
+    put_number(sink, spare, 2);
+    put_octets(sink, text);
+}
+
+pub fn write_language(sink: &mut BitSink<'_>, short: u8, spare: u8, language: u32, country: u16)
+    requires fits { Fit (body_fields (Language short spare language country)) }
+    requires room { 44 ≤ length (unwritten sink.old) }
+    ensures wrote { Wrote (spelled (body_fields (Language short spare language country))) sink.old sink.new }
+    ensures left { length (unwritten sink.new) + 44 ≡ length (unwritten sink.old) }
+{
+    put_number(sink, short, 2);
+    put_number(sink, spare, 2);
+    put_long(sink, language, 24);
+    put_wide(sink, country, 16);
+}
+
+pub fn write_application(
+    sink: &mut BitSink<'_>,
+    short: u8,
+    stream: u8,
+    packet: AppMode,
+    enhancement: bool,
+    domain: u8,
+    bytes: &Octets,
+)
+    requires numbers { (short < 2 ^ 2) × (stream < 2 ^ 2) × (domain < 2 ^ 3) }
+    requires mode { Fit (mode_fields packet) }
+    requires room { 4 + 8 * (mode_size packet + length bytes.now) ≤ length (unwritten sink.old) }
+    ensures wrote { Wrote (spelled (body_fields (App short stream packet enhancement domain bytes.now))) sink.old sink.new }
+    ensures left { length (unwritten sink.new) + (4 + 8 * (mode_size packet + length bytes.now)) ≡ length (unwritten sink.old) }
+{
+    put_number(sink, short, 2);
+    put_number(sink, stream, 2);
+    write_mode(sink, packet, enhancement, domain);
+    put_octets(sink, bytes);
+}
+
+fn write_mode(sink: &mut BitSink<'_>, packet: AppMode, enhancement: bool, domain: u8)
+    requires fits { Fit (mode_fields packet) }
+    requires domain { domain < 2 ^ 3 }
+    requires room { 8 * mode_size packet ≤ length (unwritten sink.old) }
+    ensures wrote { Wrote (spelled (mode_fields packet ++ (flag enhancement ∷ field 3 domain ∷ mode_length packet))) sink.old sink.new }
+    ensures left { length (unwritten sink.new) + 8 * mode_size packet ≡ length (unwritten sink.old) }
+{
+    match packet {
+        AppMode::Sync { spare } => {
+            put_flag(sink, false);
+            put_number(sink, spare, 3);
+            put_flag(sink, enhancement);
+            put_number(sink, domain, 3);
+        }
+        AppMode::Packet { unit, pid, length } => {
+            put_flag(sink, true);
+            put_flag(sink, unit);
+            put_number(sink, pid, 2);
+            put_flag(sink, enhancement);
+            put_number(sink, domain, 3);
+            put_number(sink, length, 8);
+        }
+    }
+}
+
+pub fn write_audio(
+    sink: &mut BitSink<'_>,
+    short: u8,
+    stream: u8,
+    coding: u8,
+    sbr: bool,
+    mode: u8,
+    rate: u8,
+    text: bool,
+    enhancement: bool,
+    coder: u8,
+    spare: bool,
+    config: &Octets,
+)
+    requires fits { Fit (body_fields (Audio short stream coding sbr mode rate text enhancement coder spare config.now)) }
+    requires room { 20 + 8 * length config.now ≤ length (unwritten sink.old) }
+    ensures wrote { Wrote (spelled (body_fields (Audio short stream coding sbr mode rate text enhancement coder spare config.now))) sink.old sink.new }
+    ensures left { length (unwritten sink.new) + (20 + 8 * length config.now) ≡ length (unwritten sink.old) }
+{
+    put_number(sink, short, 2);
+    put_number(sink, stream, 2);
+    put_number(sink, coding, 2);
+    put_flag(sink, sbr);
+    put_number(sink, mode, 2);
+    put_number(sink, rate, 3);
+    put_flag(sink, text);
+    put_flag(sink, enhancement);
+    put_number(sink, coder, 5);
+    put_flag(sink, spare);
+    put_octets(sink, config);
+}

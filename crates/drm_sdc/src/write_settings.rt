@@ -1,0 +1,61 @@
+//! Times, schedules and the channel parameters of the next configuration, written into bits.
+
+ghost use Rattle.std.specs.Prelude.{◌≡◌, ◌+◌, ◌*◌, ◌≤◌, length};
+ghost use Rattle.drm_bits.specs.Fields.{Fit, spelled};
+ghost use Rattle.drm_bits.specs.Sink.{unwritten};
+ghost use Rattle.drm_sdc.specs.Bodies.{body_fields, count};
+ghost use Rattle.drm_sdc.specs.Writing.{Wrote};
+ghost use Rattle.drm_sdc.specs.declared.body.Body.TheVariants.{When, Time, Next};
+
+use crate::put::{put_flag, put_long, put_number, put_optional, put_wide};
+use drm_bits::BitSink;
+
+pub fn write_when(sink: &mut BitSink<'_>, id: u8, day: u8, start: u16, duration: u16)
+    requires fits { Fit (body_fields (When id day start duration)) }
+    requires room { 36 ≤ length (unwritten sink.old) }
+    ensures wrote { Wrote (spelled (body_fields (When id day start duration))) sink.old sink.new }
+    ensures left { length (unwritten sink.new) + 36 ≡ length (unwritten sink.old) }
+{
+    put_number(sink, id, 4);
+    put_number(sink, day, 7);
+    put_wide(sink, start, 11);
+    put_wide(sink, duration, 14);
+}
+
+pub fn write_time(sink: &mut BitSink<'_>, mjd: u32, hours: u8, minutes: u8, extra: Option<u8>)
+    requires fits { Fit (body_fields (Time mjd hours minutes extra)) }
+    requires room { 28 + 8 * count extra ≤ length (unwritten sink.old) }
+    ensures wrote { Wrote (spelled (body_fields (Time mjd hours minutes extra))) sink.old sink.new }
+    ensures left { length (unwritten sink.new) + (28 + 8 * count extra) ≡ length (unwritten sink.old) }
+{
+    put_long(sink, mjd, 17);
+    put_number(sink, hours, 5);
+    put_number(sink, minutes, 6);
+    put_optional(sink, extra);
+}
+
+pub fn write_next(
+    sink: &mut BitSink<'_>,
+    enhancement: bool,
+    mode: u8,
+    occupancy: u8,
+    short_depth: bool,
+    msc: u8,
+    qam4: bool,
+    services: u8,
+    last: u8,
+)
+    requires fits { Fit (body_fields (Next enhancement mode occupancy short_depth msc qam4 services last)) }
+    requires room { 20 ≤ length (unwritten sink.old) }
+    ensures wrote { Wrote (spelled (body_fields (Next enhancement mode occupancy short_depth msc qam4 services last))) sink.old sink.new }
+    ensures left { length (unwritten sink.new) + 20 ≡ length (unwritten sink.old) }
+{
+    put_flag(sink, enhancement);
+    put_number(sink, mode, 2);
+    put_number(sink, occupancy, 4);
+    put_flag(sink, short_depth);
+    put_number(sink, msc, 2);
+    put_flag(sink, qam4);
+    put_number(sink, services, 4);
+    put_number(sink, last, 5);
+}

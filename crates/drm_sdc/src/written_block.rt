@@ -1,0 +1,62 @@
+//! A block of the Service Description Channel, written.
+
+ghost use Rattle.std.specs.Prelude.{◌≡◌, ◌+◌, ◌-◌, ◌*◌, ◌≤◌, ◌<◌, ◌^◌, ◌++◌, ℕ, List, Bool, length, take, drop, replicate, slice_index, All, IfOk, OnOk, OnErr};
+ghost use Rattle.drm_bits.specs.Bits.{bits_of};
+ghost use Rattle.drm_bits.specs.Crc.{zeros};
+ghost use Rattle.drm_sdc.specs.Entity.{EntityFits};
+ghost use Rattle.drm_sdc.specs.Block.{IsBlock, IsChecked, first_form};
+ghost use Rattle.drm_sdc.specs.Writing.{total_size};
+
+use crate::put::{put_bytes, put_number, put_wide};
+use crate::unpack::check_value;
+use crate::write_field::{total_size, write_field};
+use crate::{Block, NoRoom};
+use drm_bits::BitSink;
+
+/// Writes the block, whose data field gets `room` bytes, without four zero bits in front, and gives its bits. The tail
+/// isn't written: zeros stand behind the entities, and in the four bits behind the block. The bytes of `into` behind
+/// these keep what they were.
+pub fn write_block(block: &Block, room: usize, into: &mut [u8]) -> Result<u32, NoRoom>
+    requires fit { All EntityFits block.now.entities }
+    requires small { total_size block.now.entities ≤ usize.MAX }
+    requires index { block.now.afs < 2 ^ 4 }
+    requires room { room ≤ 1023 }
+    requires into { room + 3 ≤ length into.old }
+    ensures bits { IfOk result (λ n. n ≡ 8 * room + 20) }
+    ensures block { IfOk result (λ n. IsBlock (record { afs = block.now.afs; entities = block.now.entities; tail = replicate (room - total_size block.now.entities) 0 }) (take n (bits_of into.new))) }
+    ensures last { IfOk result (λ n. take 4 (drop n (bits_of into.new)) ≡ zeros 4) }
+    ensures rest { OnOk result (drop (room + 3) into.new ≡ drop (room + 3) into.old) }
+    ensures octets { (i : ℕ) → slice_index into.new i < 2 ^ 8 }
+
+    // It is refused exactly where the entities have more bytes than the field, and then nothing is written.
+    ensures no_room { OnErr result (room < total_size block.now.entities) }
+    ensures refused { room < total_size block.now.entities → result ≡ Err (record { needed = total_size block.now.entities; room = room }) }
+    ensures unchanged { OnErr result (into.new ≡ into.old) }
+{
+    let entities = block.entities.as_slice();
+    let needed = total_size(entities);
+    if needed > room {
+        return Err(NoRoom { needed, room });
+    }
+    let mut field = [0; 1023];
+    write_field(entities, needed, room, &mut field);
+    let mut bytes = [0; 1026];
+    write_frame(block.afs, &field[..room], &mut bytes);
+    into[..room + 3].copy_from_slice(&bytes[..room + 3]);
+    Ok(8 * room as u32 + 20)
+}
+
+// Writes the index, the field, its check value and four zeros at the front.
+fn write_frame(afs: u8, field: &[u8], into: &mut [u8; 1026])
+    requires index { afs < 2 ^ 4 }
+    requires room { length field.now ≤ 1023 }
+    ensures frame { (check : List Bool) × IsChecked afs field.now check × (length check ≡ 16) × (bits_of (take (length field.now + 3) into.new) ≡ first_form afs field.now check ++ zeros 4) }
+    ensures octets { (i : ℕ) → slice_index into.new i < 2 ^ 8 }
+{
+    let check = check_value(afs, field);
+    let mut sink = BitSink::new(into);
+    put_number(&mut sink, afs, 4);
+    put_bytes(&mut sink, field);
+    put_wide(&mut sink, check, 16);
+    put_number(&mut sink, 0, 4);
+}
