@@ -1,2 +1,4 @@
 pub mod ToldLemmas
 pub mod MemoryLemmas
+pub mod FilesLemmas
+pub mod LoadLemmas

@@ -7,14 +7,11 @@ use Rattle.std.specs.Cmp.Lexicographic.{slice_cmp}
 use Rattle.std.specs.FinMap as map
 use Rattle.drm_links.specs.Told.{WhileTold, told_for, one_more}
 use Rattle.drm_links.specs.Source.{Takes}
-use Rattle.drm_links.specs.Shelf.{Loads}
 use Rattle.drm_links.specs.Link.{Traffic}
 use Rattle.drm_links.specs.Dock.{Opens, LinkStart, address_key}
 use Rattle.drm_links.specs.declared.source.ReadOut.TheVariants as read
-use Rattle.drm_links.specs.declared.shelf.Loaded.TheVariants as load
 use Rattle.drm_links.specs.declared.dock.Address.{Address}
 use Rattle.drm_links.specs.declared.dock.Opened.TheVariants as opened
-use Rattle.drm_links.specs.MemoryShelf.{ShelfState, files_of}
 use Rattle.drm_links.specs.MemoryDock.{DockState, contents_of, after_failed_opening}
 
 -- what is told before and after, by the tests of the two numbers of calls
@@ -36,12 +33,6 @@ pub Takes-from_front : (left after rest buf : List ℕ) (calls more n : ℕ) →
 Takes-from_front left after rest buf calls more n within is_buf is_after =
     while_told_for calls more _ _ (Takes (read.Got n) buf)
     (λ _. rw (is_buf, is_after) (front-taken left rest n within))
-
--- each load of a shelf that holds nothing fails
-pub Loads-nothing : (shelf after : ShelfState) (name : List ℕ) (limit : ℕ) → WhileTold (files_of shelf) (files_of after) (λ before _. Loads load.Failed name limit before)
-Loads-nothing shelf after name limit =
-    while_told_for shelf.loads after.loads _ _ (λ before _. Loads load.Failed name limit before)
-    (λ _. inr (ap is_some (map.get-empty {X = List ℕ} (slice_cmp nat_cmp) name)))
 
 -- each opening at a dock where no link stands fails
 pub Opens-nothing : {L : Type 0} (tells : L → Option Traffic) (at : Address) (dock after : DockState) → dock.openings ≤ dock.calls → after ≡ after_failed_opening dock → WhileTold (contents_of dock) (contents_of after) (Opens tells at opened.Failed)

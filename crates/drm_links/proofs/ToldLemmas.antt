@@ -1,11 +1,13 @@
 -- What is told, over one call and over several.
-use Rattle.std.proofs.Common.{◌≡◌, ℕ, ◌≤◌, inl, inr, List, [], ◌++◌, take, Option, None, Some, IsSome, MatchOption, refl, sym, ◌∙◌, ap, arith, append_assoc}
+use Rattle.std.proofs.Common.{◌≡◌, ℕ, ◌+◌, ◌≤◌, inl, inr, List, [], ◌++◌, take, Option, None, Some, IsSome, MatchOption, refl, sym, ◌∙◌, ap, arith, append_assoc}
 use Rattle.std.proofs.lemmas.List.{append-nil}
 use Rattle.drm_links.specs.declared.sink.WriteOut.TheVariants.{Wrote, Failed}
 use Rattle.drm_links.specs.declared.source.ReadOut.TheVariants as read
 use Rattle.drm_links.specs.Told.{WhileTold, CountsCall, Rose}
 use Rattle.drm_links.specs.Sink.{Output, Outputs, Appends}
 use Rattle.drm_links.specs.Source.{Input, Inputs, Takes}
+use Rattle.drm_links.specs.Shelf.{Files, Supplies, Loads, KeepsFiles, after_one}
+use Rattle.drm_links.specs.declared.shelf.Loaded.{Loaded}
 use Rattle.drm_links.specs.Link.{Traffic}
 use Rattle.drm_links.specs.Dock.{DockContents, LinkStart, Opens, Closes, address_key, start_at, first_traffic}
 use Rattle.drm_links.specs.declared.dock.Address.{Address}
@@ -100,6 +102,32 @@ pub Inputs-end : (buf : List ℕ) (a b : Option Input) → WhileTold a b (Takes 
 Inputs-end buf a None told counts = tt
 Inputs-end buf None (Some y) told counts = cc
 Inputs-end buf (Some x) (Some y) told counts = told
+
+-- ---- what is loaded
+
+pub Supplies-nothing : (P : Files → Files → Type 0) (a : Option Files) → ((told : Files) → P told told) → Supplies a a P
+Supplies-nothing P None same = tt
+Supplies-nothing P (Some before) same = same before
+
+pub Supplies-then : (P Q R : Files → Files → Type 0) (a b c : Option Files) → Supplies a b P → Supplies b c Q → ((x y z : Files) → P x y → Q y z → R x z) → Supplies a c R
+Supplies-then P Q R a b None first second both = tt
+Supplies-then P Q R a None (Some z) first second both = absurd second
+Supplies-then P Q R None (Some y) (Some z) first second both = absurd first
+Supplies-then P Q R (Some x) (Some y) (Some z) first second both = both x y z first second
+
+pub Supplies-weaker : (P Q : Files → Files → Type 0) (a b : Option Files) → Supplies a b P → ((x y : Files) → P x y → Q x y) → Supplies a b Q
+Supplies-weaker P Q a None first weaker = tt
+Supplies-weaker P Q None (Some y) first weaker = first
+Supplies-weaker P Q (Some x) (Some y) first weaker = weaker x y first
+
+same_files : (x y : Files) → KeepsFiles x y → y.loads ≡ x.loads + 1 → y ≡ after_one x
+same_files x y kept counts = λ i. record { files = kept.files i; loads = counts i; failing = kept.failing i }
+
+-- one load
+pub Supplies-load : (loaded : Loaded) (name : List ℕ) (limit : ℕ) (a b : Option Files) → WhileTold a b (λ x _. Loads loaded name limit x) → WhileTold a b KeepsFiles → CountsCall (λ (f : Files). f.loads) a b → Supplies a b (λ x y. Loads loaded name limit x × (y ≡ after_one x))
+Supplies-load loaded name limit a None loads kept counts = tt
+Supplies-load loaded name limit None (Some y) loads kept counts = cc
+Supplies-load loaded name limit (Some x) (Some y) loads kept counts = (loads, same_files x y kept counts.0)
 
 -- ---- links that were opened, and closed
 

@@ -1,18 +1,51 @@
--- A shelf in memory that holds nothing.
-use Rattle.std.specs.Prelude.{ℕ, List, Option}
+-- A shelf in memory.
+use Rattle.std.specs.Prelude.{ℕ, List, Option, String, string_bytes}
+use Rattle.std.specs.Prelude as list
+use Rattle.std.specs.Ordering.{nat_cmp}
+use Rattle.std.specs.Cmp.Lexicographic.{slice_cmp}
+use Rattle.std.specs.BTreeMap.{BTreeMap}
 use Rattle.std.specs.FinMap as map
+use Rattle.std.specs.Coded.{Coded, code_by, coded×, coded_ℕ, coded_list}
 use Rattle.drm_links.specs.Told.{one_more, told_for}
 use Rattle.drm_links.specs.Shelf.{Files}
+use Rattle.drm_links.specs.declared.shelf.Loaded.{Loaded}
+use Rattle.drm_links.specs.declared.shelf.Loaded.TheVariants.{Bytes, TooLong, Failed, NoMemory}
 
--- the numbers of the loads, from 0, that are to fail, the number of loads so far, and how many of them failed
+-- the files by the bytes of their names
+abbrev pub by_name : {A : Type 0} → BTreeMap (String A) (List ℕ) → map.FinMap (slice_cmp nat_cmp) (List ℕ)
+by_name named = map.from_entries (list.map (λ entry. (string_bytes entry.0, entry.1)) named.entries)
+
+-- the files by their names, the numbers of the loads, from 0, that are to fail, the number of loads so far, and how
+-- many of them failed
 pub record ShelfState : Type 0 where
+  pub files : map.FinMap (slice_cmp nat_cmp) (List ℕ)
   pub failing : List ℕ
   pub loads : ℕ
   pub faults : ℕ
 
-abbrev pub files_of : ShelfState → Option Files
-files_of shelf = told_for shelf.loads (record { files = map.empty; loads = shelf.loads; failing = shelf.failing })
+-- a shelf is stored as its fields
+abbrev pub shelf_code : Coded ShelfState
+shelf_code =
+    code_by (map.FinMap (slice_cmp nat_cmp) (List ℕ) × (List ℕ × (ℕ × ℕ)))
+    (coded× (map.code (coded_list coded_ℕ) (coded_list coded_ℕ)) (coded× (coded_list coded_ℕ) (coded× coded_ℕ coded_ℕ)))
+    (λ shelf. (shelf.files, (shelf.failing, (shelf.loads, shelf.faults))))
+    (λ parts. record { files = parts.0; failing = parts.1.0; loads = parts.1.1.0; faults = parts.1.1.1 })
+    (λ _. list.refl)
 
--- the shelf after a load that failed
-abbrev pub after_failed_load : ShelfState → ShelfState
-after_failed_load shelf = record shelf { loads = one_more shelf.loads; faults = one_more shelf.faults }
+-- what is on the shelf
+abbrev pub contents_of : ShelfState → Files
+contents_of shelf = record { files = shelf.files; loads = shelf.loads; failing = shelf.failing }
+
+abbrev pub files_of : ShelfState → Option Files
+files_of shelf = told_for shelf.loads (contents_of shelf)
+
+-- these files, and one of this name in place of any other
+abbrev pub with_file : List ℕ → List ℕ → Files → Files
+with_file name bytes told = record told { files = map.insert told.files name bytes }
+
+-- the shelf after a load with this answer: only a failed one is a fault
+abbrev pub after_load : Loaded → ShelfState → ShelfState
+after_load Failed shelf = record shelf { loads = one_more shelf.loads; faults = one_more shelf.faults }
+after_load TooLong shelf = record shelf { loads = one_more shelf.loads }
+after_load NoMemory shelf = record shelf { loads = one_more shelf.loads }
+after_load (Bytes octets) shelf = record shelf { loads = one_more shelf.loads }

@@ -1,5 +1,6 @@
 -- What a shelf tells.
-use Rattle.std.specs.Prelude.{ℕ, ◌≡◌, ◌<◌, ◌≤◌, ◌⊎◌, List, length, Contains, Option, Some, IsNone, MatchOption}
+use Rattle.std.specs.Prelude.{ℕ, ◌≡◌, ◌<◌, ◌≤◌, ◌⊎◌, ◌+◌, List, length, Contains, nat_eq, nat_lt, Option, None, Some, IsNone, MatchOption, if◌then◌else◌}
+use Rattle.std.specs.List.{list_any}
 use Rattle.std.specs.Ordering.{nat_cmp}
 use Rattle.std.specs.Cmp.Lexicographic.{slice_cmp}
 use Rattle.std.specs.FinMap as map
@@ -16,13 +17,29 @@ pub record Files : Type 0 where
 abbrev pub file_at : Files → List ℕ → Option (List ℕ)
 file_at told name = map.get told.files name
 
--- The load fails exactly where its number is to fail or there is no such file; it is too long exactly where the
--- file is longer than the limit; else it gives the file. Memory may run out instead.
+-- What a load gives of the file, if there is one: it is too long exactly where the file is longer than the limit, and
+-- else it gives the file. Memory may run out instead.
+abbrev pub Gives : Loaded → ℕ → Option (List ℕ) → Type 0
+Gives (Bytes octets) limit file = (file ≡ Some octets) × (length octets ≤ limit)
+Gives TooLong limit file = MatchOption file ⊥ (λ bytes. limit < length bytes)
+Gives Failed limit file = IsNone file
+Gives NoMemory limit file = Unit {0}
+
+-- The load fails exactly where its number is to fail or there is no such file; else it gives the file within the limit.
 abbrev pub Loads : Loaded → List ℕ → ℕ → Files → Type 0
-Loads (Bytes octets) name limit told = (Contains told.failing told.loads → ⊥) × (file_at told name ≡ Some octets) × (length octets ≤ limit)
-Loads TooLong name limit told = (Contains told.failing told.loads → ⊥) × MatchOption (file_at told name) ⊥ (λ file. limit < length file)
-Loads Failed name limit told = Contains told.failing told.loads ⊎ IsNone (file_at told name)
+Loads (Bytes octets) name limit told = (Contains told.failing told.loads → ⊥) × Gives (Bytes octets) limit (file_at told name)
+Loads TooLong name limit told = (Contains told.failing told.loads → ⊥) × Gives TooLong limit (file_at told name)
+Loads Failed name limit told = Contains told.failing told.loads ⊎ Gives Failed limit (file_at told name)
 Loads NoMemory name limit told = Unit {0}
+
+-- a file that is there, within a limit
+abbrev pub within : ℕ → Option (List ℕ) → Loaded
+within limit None = Failed
+within limit (Some file) = if nat_lt limit (length file) then TooLong else Bytes file
+
+-- what the next load gives, unless memory runs out
+abbrev pub load_of : Files → List ℕ → ℕ → Loaded
+load_of told name limit = if list_any (nat_eq told.loads) told.failing then Failed else within limit (file_at told name)
 
 -- a file that is given has at most limit bytes
 abbrev pub IsWithin : Loaded → ℕ → Type 0
@@ -35,3 +52,13 @@ IsWithin NoMemory limit = Unit {0}
 pub record KeepsFiles (before after : Files) : Type 0 where
   pub files : after.files ≡ before.files
   pub failing : after.failing ≡ before.failing
+
+-- the shelf after one more load
+abbrev pub after_one : Files → Files
+after_one told = record told { loads = told.loads + 1 }
+
+-- Where a shelf tells at the end, it told before, and P holds of what was told before and is told then.
+abbrev pub Supplies : Option Files → Option Files → (Files → Files → Type 0) → Type 0
+Supplies before None P = Unit {0}
+Supplies None (Some after) P = ⊥
+Supplies (Some before) (Some after) P = P before after

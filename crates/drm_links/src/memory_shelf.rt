@@ -1,46 +1,85 @@
-//! A shelf in memory that holds nothing.
+//! A shelf in memory.
 
-ghost use Rattle.std.specs.Prelude.{◌≡◌, Some, IfOk};
+ghost use Rattle.std.specs.Prelude.{◌≡◌, Some, IfOk, OnOk, OnErr};
+ghost use Rattle.std.specs.Option.{option_map, option_copied};
 ghost use Rattle.std.specs.FinMap as map;
 ghost use Rattle.drm_links.specs.Told.{HasCause, CountsCall, WhileTold};
-ghost use Rattle.drm_links.specs.Shelf.{Loads, KeepsFiles, IsWithin};
-ghost use Rattle.drm_links.specs.MemoryShelf.{files_of, after_failed_load};
+ghost use Rattle.drm_links.specs.Shelf.{Gives, Loads, KeepsFiles, IsWithin};
+ghost use Rattle.drm_links.specs.MemoryShelf.{contents_of, files_of, with_file, after_load};
 
+use crate::failing::is_listed;
 use crate::{Loaded, Shelf};
-use drm_bits::NoMemory;
+use drm_bits::{NoMemory, Octets};
 use std::alloc::Global;
+use std::collections::BTreeMap;
 use std::marker::Model;
 
-/// A shelf without files: each load fails.
+/// A shelf with the files that were added, which fails the loads whose numbers are listed.
 #[derive(Drop)]
 pub struct MemShelf {
+    files: BTreeMap<String, Octets>,
     failing: Vec<u64>,
     loads: u64,
     faults: u64,
 }
 
 impl Model for MemShelf {
-    ghost use Rattle.drm_links.specs.MemoryShelf.{ShelfState};
+    ghost use Rattle.drm_links.specs.MemoryShelf.{ShelfState, by_name, shelf_code};
 
     ghost Value = { ShelfState };
 
-    ghost view = { λ shelf. record { failing = shelf.failing.items; loads = shelf.loads; faults = shelf.faults } };
+    ghost coded = { shelf_code };
+
+    ghost view = { λ shelf. record {
+      files = by_name shelf.files;
+      failing = shelf.failing.items;
+      loads = shelf.loads;
+      faults = shelf.faults;
+    } };
 }
 
 impl MemShelf {
-    /// The numbers in `fail` count the loads from 0.
+    /// A shelf without files. The numbers in `fail` count the loads from 0.
     pub fn make(alloc: Global, fail: &[u64]) -> Result<MemShelf, NoMemory>
         ensures made { IfOk result (λ shelf. shelf
-            ≡ record { failing = fail.now; loads = 0; faults = 0 }) }
+            ≡ record { files = map.empty; failing = fail.now; loads = 0; faults = 0 }) }
         ensures tells { IfOk result (λ shelf. ⟦<MemShelf as Shelf>⟧.tells shelf
             ≡ Some (record { files = map.empty; loads = 0; failing = fail.now })) }
         ensures faults { IfOk result (λ shelf. ⟦<MemShelf as Shelf>⟧.faults shelf ≡ 0) }
     {
         Ok(MemShelf {
+            files: BTreeMap::new(alloc),
             failing: fail.to_vec(alloc)?,
             loads: 0,
             faults: 0,
         })
+    }
+
+    /// Puts a file on the shelf, in place of one of that name.
+    pub fn add(&mut self, alloc: Global, name: &str, bytes: &[u8]) -> Result<(), NoMemory>
+        ensures added { OnOk result (self.new
+            ≡ record self.old { files = map.insert self.old.files name.now bytes.now }) }
+        ensures tells { OnOk result (⟦<MemShelf as Shelf>⟧.tells self.new
+            ≡ option_map (with_file name.now bytes.now) (⟦<MemShelf as Shelf>⟧.tells self.old)) }
+        ensures unchanged { OnErr result (self.new ≡ self.old) }
+    {
+        let name = String::from_str(alloc, name)?;
+        let file = Octets::from_slice(alloc, bytes)?;
+        match self.files.insert(name, file) {
+            Ok(_) => Ok(()),
+            Err(_) => Err(NoMemory),
+        }
+    }
+
+    // What the next load gives.
+    fn next_load(&self, alloc: Global, name: &str, limit: usize) -> Loaded
+        ensures { Loads result name.now limit (contents_of self.now) }
+    {
+        if is_listed(&self.failing, self.loads) {
+            Loaded::Failed
+        } else {
+            copy_within(alloc, self.files.get(name), limit)
+        }
     }
 }
 
@@ -49,9 +88,9 @@ impl Shelf for MemShelf {
 
     ghost tells = { files_of };
 
-    fn load(&mut self, _alloc: Global, name: &str, limit: usize) -> Loaded
-        ensures fails { result ≡ Loaded.Failed }
-        ensures exact { self.new ≡ after_failed_load self.old }
+    fn load(&mut self, alloc: Global, name: &str, limit: usize) -> Loaded
+        ensures loads { Loads result name.now limit (contents_of self.old) }
+        ensures exact { self.new ≡ after_load result self.old }
         ensures within { IsWithin result limit }
         ensures file { WhileTold (files_of self.old) (files_of self.new)
             (λ before _. Loads result name.now limit before) }
@@ -59,8 +98,25 @@ impl Shelf for MemShelf {
         ensures told { CountsCall (λ files. files.loads) (files_of self.old) (files_of self.new) }
         ensures cause { HasCause self.old.faults self.new.faults (result ≡ Loaded.Failed) }
     {
+        let loaded = self.next_load(alloc, name, limit);
         self.loads = self.loads.saturating_add(1);
-        self.faults = self.faults.saturating_add(1);
-        Loaded::Failed
+        if matches!(&loaded, Loaded::Failed) {
+            self.faults = self.faults.saturating_add(1);
+        }
+        loaded
+    }
+}
+
+// A copy of the file, if there is one and it has at most `limit` bytes.
+fn copy_within(alloc: Global, file: Option<&Octets>, limit: usize) -> Loaded
+    ensures { Gives result limit (option_copied file.entry) }
+{
+    match file {
+        None => Loaded::Failed,
+        Some(file) if file.as_slice().len() > limit => Loaded::TooLong,
+        Some(file) => match Octets::from_slice(alloc, file.as_slice()) {
+            Ok(copy) => Loaded::Bytes(copy),
+            Err(NoMemory) => Loaded::NoMemory,
+        },
     }
 }

@@ -21,8 +21,26 @@ fn write<O: Sink>(sink: &mut O, bytes: &[u8]) -> WriteOut
     sink.write(bytes)
 }
 
-fn load<S: Shelf>(alloc: Global, shelf: &mut S) -> Loaded {
-    shelf.load(alloc, "audio.bin", 100)
+fn load<S: Shelf>(alloc: Global, shelf: &mut S, name: &str, limit: usize) -> Loaded {
+    shelf.load(alloc, name, limit)
+}
+
+// What a load gave: a file, or why it gave none.
+#[derive(Clone, Copy, Debug, PartialEq, Eq)]
+enum Gave<'a> {
+    File(&'a [u8]),
+    TooLong,
+    Failed,
+    NoMemory,
+}
+
+fn what_it_gave(loaded: &Loaded) -> Gave<'_> {
+    match loaded {
+        Loaded::Bytes(bytes) => Gave::File(bytes.as_slice()),
+        Loaded::TooLong => Gave::TooLong,
+        Loaded::Failed => Gave::Failed,
+        Loaded::NoMemory => Gave::NoMemory,
+    }
 }
 
 fn binds_and_reaches<D: Dock>(dock: &mut D, at: Address) -> (bool, bool) {
@@ -73,10 +91,35 @@ fn a_sink_takes_pieces_and_fails_where_told(rt: HostRuntime) -> Result<(), Fail>
 }
 
 #[test]
-fn a_shelf_and_a_dock_hold_nothing(rt: HostRuntime) -> Result<(), Fail> {
+fn a_shelf_gives_the_files_that_were_added(rt: HostRuntime) -> Result<(), Fail> {
     let alloc = rt.alloc();
     let mut shelf = MemShelf::make(alloc, &[3])?;
-    assert!(rt; matches!(&load(alloc, &mut shelf), Loaded::Failed));
+    shelf.add(alloc, "audio.bin", b"abc")?;
+    shelf.add(alloc, "plan.txt", b"drmplan 1")?;
+    shelf.add(alloc, "audio.bin", b"defgh")?;
+    let cases: [(&str, usize, Gave<'_>); 8] = [
+        ("audio.bin", 100, Gave::File(b"defgh")),
+        ("plan.txt", 9, Gave::File(b"drmplan 1")),
+        ("plan.txt", 8, Gave::TooLong),
+        ("plan.txt", 100, Gave::Failed),
+        ("plan.txt", 100, Gave::File(b"drmplan 1")),
+        ("audio", 100, Gave::Failed),
+        ("", 100, Gave::Failed),
+        ("audio.bin", 5, Gave::File(b"defgh")),
+    ];
+    for (name, limit, expected) in cases {
+        let loaded = load(alloc, &mut shelf, name, limit);
+        assert_eq!(rt; what_it_gave(&loaded), expected);
+    }
+    shelf.add(alloc, "", b"")?;
+    let loaded = load(alloc, &mut shelf, "", 0);
+    assert_eq!(rt; what_it_gave(&loaded), Gave::File(b""));
+    Ok(())
+}
+
+#[test]
+fn a_dock_holds_nothing(rt: HostRuntime) -> Result<(), Fail> {
+    let alloc = rt.alloc();
     let mut dock = MemDock::make(alloc, &[3])?;
     let at = Address {
         ip: [127, 0, 0, 1],

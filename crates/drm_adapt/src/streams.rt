@@ -1,0 +1,121 @@
+//! Sources and sinks over std's streams. They tell no contents.
+
+ghost use Rattle.std.specs.Prelude.{◌≡◌, ◌<◌, None, length};
+ghost use Rattle.drm_links.specs.Told.{HasCause};
+ghost use Rattle.drm_links.specs.Source.{ReadsSome};
+ghost use Rattle.drm_links.specs.Sink.{WritesSome};
+ghost use Rattle.drm_adapt.specs.Streams.{StreamReads, StreamWrites};
+
+use drm_links::{ReadOut, Sink, Source, WriteOut};
+use std::io::{ErrorKind, Read, Write};
+
+/// A source over a stream, which ends where a read gives no byte.
+#[derive(Drop)]
+pub struct StreamSource<R> {
+    stream: R,
+    faults: u64,
+}
+
+impl<R: Read> StreamSource<R> {
+    pub fn new(stream: R) -> Self
+        ensures { result ≡ record { stream = stream; faults = 0 } }
+    {
+        StreamSource { stream, faults: 0 }
+    }
+}
+
+impl<R: Read> Source for StreamSource<R> {
+    ghost faults = { λ source. source.faults };
+
+    ghost tells = { λ _. None };
+
+    // Where the stream's bytes are known, the answer is about them.
+    fn read(&mut self, buf: &mut [u8]) -> ReadOut
+        requires { 0 < length buf.old }
+        ensures some { ReadsSome result buf.old }
+        ensures stream { StreamReads result buf.new
+            (R.remaining self.old.stream) (R.remaining self.new.stream) }
+        ensures cause { HasCause self.old.faults self.new.faults (result ≡ ReadOut.Failed) }
+    {
+        for _ in 0..u64::MAX {
+            match self.stream.read(buf) {
+                Ok(0) => return ReadOut::End,
+                Ok(n) => return ReadOut::Got(n),
+                // A signal came before any byte.
+                Err(fault) if fault.kind() == ErrorKind::Interrupted => {}
+                Err(_) => break,
+            }
+        }
+        self.faults = self.faults.saturating_add(1);
+        ReadOut::Failed
+    }
+}
+
+/// A sink over a stream, which fails where a write takes no byte.
+#[derive(Drop)]
+pub struct StreamSink<W> {
+    stream: W,
+    faults: u64,
+}
+
+impl<W: Write> StreamSink<W> {
+    pub fn new(stream: W) -> Self
+        ensures { result ≡ record { stream = stream; faults = 0 } }
+    {
+        StreamSink { stream, faults: 0 }
+    }
+}
+
+impl<W: Write> Sink for StreamSink<W> {
+    ghost faults = { λ sink. sink.faults };
+
+    ghost tells = { λ _. None };
+
+    // Where the stream's bytes are known, the answer is about them.
+    fn write(&mut self, bytes: &[u8]) -> WriteOut
+        requires { 0 < length bytes.now }
+        ensures some { WritesSome result bytes.now }
+        ensures stream { StreamWrites result bytes.now
+            (W.contents self.old.stream) (W.contents self.new.stream) }
+        ensures cause { HasCause self.old.faults self.new.faults (result ≡ WriteOut.Failed) }
+    {
+        for _ in 0..u64::MAX {
+            match self.stream.write(bytes) {
+                Ok(n) if n > 0 => return WriteOut::Wrote(n),
+                // A signal came before any byte.
+                Err(fault) if fault.kind() == ErrorKind::Interrupted => {}
+                Ok(_) | Err(_) => break,
+            }
+        }
+        self.faults = self.faults.saturating_add(1);
+        WriteOut::Failed
+    }
+}
+
+#[cfg(test)]
+mod tests {
+    use super::*;
+    use std::test::Fail;
+
+    #[test]
+    fn a_source_passes_on_what_a_stream_gives(rt: HostRuntime) -> Result<(), Fail> {
+        let mut source = StreamSource::new(b"abcde".as_slice());
+        let mut buf = [0u8; 3];
+        assert_eq!(rt; source.read(&mut buf), ReadOut::Got(3));
+        assert_eq!(rt; buf, *b"abc");
+        assert_eq!(rt; source.read(&mut buf), ReadOut::Got(2));
+        assert_eq!(rt; buf, *b"dec");
+        assert_eq!(rt; source.read(&mut buf), ReadOut::End);
+        Ok(())
+    }
+
+    #[test]
+    fn a_sink_passes_on_what_is_written(rt: HostRuntime) -> Result<(), Fail> {
+        let mut written = Vec::new(rt.alloc());
+        let mut sink = StreamSink::new(&mut written);
+        assert_eq!(rt; sink.write(b"abc"), WriteOut::Wrote(3));
+        assert_eq!(rt; sink.write(b"de"), WriteOut::Wrote(2));
+        assert_eq!(rt; written.as_slice(), b"abcde".as_slice());
+        Ok(())
+    }
+}
