@@ -66,7 +66,8 @@ impl Channels {
         }
     }
 
-    pub(crate) fn as_slice(&self) -> &[Channel15]
+    /// The frequencies.
+    pub fn as_slice(&self) -> &[Channel15]
         ensures { result.now ≡ self.now }
     {
         &self.items

@@ -58,7 +58,8 @@ impl Entities {
         }
     }
 
-    pub(crate) fn as_slice(&self) -> &[Entity]
+    /// The entities.
+    pub fn as_slice(&self) -> &[Entity]
         ensures { result.now ≡ self.now }
     {
         &self.items

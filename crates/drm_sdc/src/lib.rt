@@ -36,6 +36,7 @@ pub use entities::Entities;
 pub use entity::Entity;
 pub use fault::{NoRoom, SdcFault};
 pub use field::read_entities;
+pub use write_field::total_size;
 pub use written_block::write_block;
 
 #[cfg(test)]

@@ -3,8 +3,8 @@ use Rattle.std.specs.Prelude.{ℕ, ◌==◌, ◌&&◌, nat_le, not, Bool, true, 
 use Rattle.std.specs.List.{slice_split, list_any}
 use Rattle.std.specs.Str.{bytes_eq}
 use Rattle.drm_links.specs.declared.dock.Address.{Address}
-use Rattle.drm_plan.specs.declared.carry.Carry.{Carry}
-use Rattle.drm_plan.specs.declared.carry.Carry.TheVariants.{Plain, Pft}
+use Rattle.drm_schedule.specs.declared.carry.Carry.{Carry}
+use Rattle.drm_schedule.specs.declared.carry.Carry.TheVariants.{Plain, Pft}
 use Rattle.drm_words.specs.Reading.{within}
 
 infixl 10 ◌>>=◌

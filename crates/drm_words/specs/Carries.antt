@@ -1,7 +1,7 @@
 -- How packets are to be carried, in one word.
 use Rattle.std.specs.Prelude.{ℕ, ◌≡◌, List, ◌∷◌, ◌++◌, codes}
-use Rattle.drm_plan.specs.declared.carry.Carry.{Carry}
-use Rattle.drm_plan.specs.declared.carry.Carry.TheVariants.{Plain, Pft}
+use Rattle.drm_schedule.specs.declared.carry.Carry.{Carry}
+use Rattle.drm_schedule.specs.declared.carry.Carry.TheVariants.{Plain, Pft}
 use Rattle.drm_words.specs.Numbers.{IsWithin}
 
 -- pft:M:MTU, with M from 0 to 5 and MTU from 128 to 1500. A colon is 58.

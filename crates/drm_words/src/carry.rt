@@ -5,7 +5,7 @@ ghost use Rattle.drm_words.specs.Addressing.{pft_of, carry_of};
 
 use crate::cuts::cut;
 use crate::numbers::within;
-use drm_plan::Carry;
+use drm_schedule::Carry;
 
 // M:MTU.
 #[tactic(auto, unfolding(crate::specs::Addressing::pft_of))]

@@ -1,7 +1,7 @@
 use super::*;
 use drm_bits::Octets;
 use drm_links::Address;
-use drm_plan::Carry;
+use drm_schedule::Carry;
 use std::alloc::{AllocError, Global};
 use std::test::Fail;
 

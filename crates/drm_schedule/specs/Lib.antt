@@ -1,0 +1,7 @@
+pub mod Items
+pub mod Ranges
+pub mod Sizes
+pub mod Packing
+pub mod Announcement
+pub mod Services
+pub mod Valid

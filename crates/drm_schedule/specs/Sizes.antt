@@ -1,0 +1,43 @@
+-- How many bytes the blocks and the packets of a configuration take.
+use Rattle.std.specs.Prelude.{ℕ, ◌+◌, ◌-◌, ◌*◌, ◌%◌, ◌==◌, ◌&&◌, Bool, nat_lt, if◌then◌else◌, length, is_some, sum_by}
+use Rattle.drm_sdc.specs.Writing.{total_size}
+use Rattle.drm_schedule.specs.declared.stream.Stream.{Stream}
+use Rattle.drm_schedule.specs.declared.config.Config.{Config}
+
+-- the entity that describes n streams, and that of the clock
+abbrev pub description_size : ℕ → ℕ
+description_size n = 2 + 3 * n
+
+abbrev pub clock_size : ℕ
+clock_size = 5
+
+-- what each block tells: the streams, and the entities of the lines
+abbrev pub told_size : Config → ℕ
+told_size c = description_size (length c.streams) + total_size c.entities
+
+-- the clock is told where there is one
+abbrev pub size_if : Bool → ℕ
+size_if is_told = if is_told then clock_size else 0
+
+-- the first block of a configuration tells the clock, and then each fiftieth
+abbrev pub tells_clock : Config → ℕ → Bool
+tells_clock c frame = is_some c.clock && (frame - c.start) % 50 == 0
+
+-- the bytes that the block of a super frame has left for an announcement
+abbrev pub free_bytes : Config → ℕ → ℕ
+free_bytes c frame = c.room - (told_size c + size_if (tells_clock c frame))
+
+-- type 0, the entities of the lines and a clock don't fit in a block
+abbrev pub has_no_room : Config → Bool
+has_no_room c = nat_lt c.room (told_size c + size_if (is_some c.clock))
+
+-- the bytes of a stream in each frame
+abbrev pub stream_size : Stream → ℕ
+stream_size s = s.a + s.b
+
+-- an AF packet has a head and a check value of 12 bytes, the items with the front of the description in 62 + 1, three
+-- bytes of each stream's description, the item of the block in the first frame of a super frame, and the item of each
+-- stream
+abbrev pub packet_len : Config → Bool → ℕ
+packet_len c is_first =
+    12 + 62 + 1 + 3 * length c.streams + (if is_first then c.room + 11 else 0) + sum_by (λ s. 8 + stream_size s) c.streams

@@ -1,0 +1,116 @@
+-- Which plans are schedules, and the first fault of one that isn't.
+use Rattle.std.specs.Prelude.{ℕ, ◌≡◌, ◌+◌, ◌-◌, ◌*◌, ◌==◌, ◌&&◌, ◌||◌, ◌≤◌, nat_le, nat_lt, not, min, All, Bool, true, false, if◌then◌else◌, List, [], ◌∷◌, length, Option, Some, None}
+use Rattle.drm_schedule.specs.declared.invalid.Invalid.{Invalid}
+use Rattle.drm_schedule.specs.declared.invalid.Place.{Place}
+use Rattle.drm_schedule.specs.declared.invalid.Place.TheVariants as place
+use Rattle.drm_schedule.specs.declared.invalid.Reason.{Reason}
+use Rattle.drm_schedule.specs.declared.invalid.Reason.TheVariants as reason
+use Rattle.drm_schedule.specs.declared.stream.Content.{Content}
+use Rattle.drm_schedule.specs.declared.stream.Content.TheVariants.{Fill, File}
+use Rattle.drm_schedule.specs.declared.stream.Stream.{Stream}
+use Rattle.drm_schedule.specs.declared.config.Mode.{Mode}
+use Rattle.drm_schedule.specs.declared.config.Mode.TheVariants.{A, B, C, D}
+use Rattle.drm_schedule.specs.declared.config.Config.{Config}
+use Rattle.drm_schedule.specs.declared.plan.Plan.{Plan}
+use Rattle.drm_schedule.specs.Ranges.{InLines}
+use Rattle.drm_schedule.specs.Sizes.{has_no_room, packet_len, stream_size}
+use Rattle.drm_schedule.specs.Announcement.{lacks_announcement}
+use Rattle.drm_schedule.specs.Services.{services_disagree}
+
+-- the first start isn't 0; a later one isn't above the one before, or is at least the length
+abbrev pub starts_wrongly : ℕ → Option Config → Config → Bool
+starts_wrongly len None c = not (c.start == 0)
+starts_wrongly len (Some before) c = nat_le c.start before.start || nat_le len c.start
+
+-- the first countdown isn't 0; a later one is 0, or begins below the start before
+abbrev pub counts_wrongly : Option Config → Config → Bool
+counts_wrongly None c = not (c.countdown == 0)
+counts_wrongly (Some before) c = c.countdown == 0 || nat_lt c.start (before.start + c.countdown)
+
+-- modes C and D have the occupancies 3 and 5 alone
+abbrev pub is_narrow : Mode → Bool
+is_narrow A = false
+is_narrow B = false
+is_narrow C = true
+is_narrow D = true
+
+abbrev pub has_no_such_occupancy : Config → Bool
+has_no_such_occupancy c = is_narrow c.mode && not (c.occupancy == 3) && not (c.occupancy == 5)
+
+abbrev pub is_hierarchical : Config → Bool
+is_hierarchical c = c.msc == 1 || c.msc == 2
+
+-- a file has fewer bytes than so many frames take
+abbrev pub is_short : ℕ → Stream → Bool
+is_short frames s = of s.content
+  where
+    of : Content → Bool
+    of (Fill byte) = false
+    of (File name bytes) = nat_lt (length bytes) (stream_size s * frames)
+
+-- a row of a table: whether there is this fault
+abbrev pub row : Bool → ℕ → Place → Reason → Bool × Invalid
+row holds k at why = (holds, record { config = k; place = at; reason = why })
+
+-- each stream from the j-th on whose file is too short
+abbrev pub content_rows : ℕ → ℕ → ℕ → List Stream → List (Bool × Invalid)
+content_rows k j frames [] = []
+content_rows k j frames (s ∷ streams) = row (is_short frames s) k (place.Stream j) reason.ContentShort ∷ content_rows k (j + 1) frames streams
+
+-- what can be wrong with the k-th configuration, behind the one before it and up to `end`
+abbrev pub rows : ℕ → ℕ → Option Config → Config → ℕ → List (Bool × Invalid)
+rows len k before c end =
+    row (starts_wrongly len before c) k place.Config reason.Order
+    ∷ row (counts_wrongly before c) k place.Config reason.Countdown
+    ∷ row (has_no_such_occupancy c) k place.Occupancy reason.Occupancy
+    ∷ row (is_hierarchical c) k place.Msc reason.Hierarchical
+    ∷ row (services_disagree c) k place.Config reason.Services
+    ∷ row (has_no_room c) k place.Config reason.Fit
+    ∷ row (lacks_announcement before c) k place.Config reason.Fit
+    ∷ row (nat_lt 8192 (packet_len c true)) k place.Config reason.PacketSize
+    ∷ content_rows k 0 (3 * (end - c.start)) c.streams
+
+-- the fault of the first row that holds
+abbrev pub first_fault : List (Bool × Invalid) → Option Invalid
+first_fault [] = None
+first_fault (r ∷ more) = if r.0 then Some r.1 else first_fault more
+
+-- where a configuration ends: at the next start, or else with the schedule
+abbrev pub end_before : ℕ → List Config → ℕ
+end_before len [] = len
+end_before len (next ∷ more) = min next.start len
+
+abbrev pub first_of : Option Invalid → Option Invalid → Option Invalid
+first_of None other = other
+first_of (Some fault) other = Some fault
+
+-- configuration by configuration, from the k-th on
+unfoldable pub first_invalid_from : ℕ → ℕ → Option Config → List Config → Option Invalid
+first_invalid_from len k before [] = None
+first_invalid_from len k before (c ∷ more) =
+    first_of (first_fault (rows len k before c (end_before len more))) (first_invalid_from len (k + 1) (Some c) more)
+
+abbrev pub first_invalid : Plan → Option Invalid
+first_invalid plan = first_invalid_from plan.length 0 None plan.configs
+
+-- A plan that is valid, of what the lines of a text can give.
+pub record IsSchedule (plan : Plan) : Type 0 where
+  pub in_lines : InLines plan
+  pub valid : first_invalid plan ≡ None
+
+-- A configuration, behind the one before it and up to `end`, to which no row of the table applies.
+pub record IsFaultless (len : ℕ) (before : Option Config) (end : ℕ) (c : Config) : Type 0 where
+  pub order : starts_wrongly len before c ≡ false
+  pub countdown_fits : counts_wrongly before c ≡ false
+  pub occupancy_fits : has_no_such_occupancy c ≡ false
+  pub not_hierarchical : is_hierarchical c ≡ false
+  pub services_agree : services_disagree c ≡ false
+  pub has_room : has_no_room c ≡ false
+  pub announced : lacks_announcement before c ≡ false
+  pub packet : packet_len c true ≤ 8192
+  pub files : All (λ (s : Stream). is_short (3 * (end - c.start)) s ≡ false) c.streams
+
+-- each configuration is without fault in its place
+abbrev pub AreFaultless : ℕ → Option Config → List Config → Type 0
+AreFaultless len before [] = Unit {0}
+AreFaultless len before (c ∷ more) = IsFaultless len before (end_before len more) c × AreFaultless len (Some c) more

@@ -1,0 +1,62 @@
+//! The configurations of a schedule.
+
+use crate::{Items, Stream};
+use drm_fac::Service;
+use drm_sdc::Entities;
+
+/// The services of a configuration, in the order of their lines.
+pub type Services = Items<Service>;
+
+/// The streams of a configuration, in the order of their lines.
+pub type Streams = Items<Stream>;
+
+/// The configurations of a schedule, in the order of their lines.
+pub type Configs = Items<Config>;
+
+/// The robustness mode (ES 201 980).
+#[derive(Clone, Copy, Debug, PartialEq, Eq)]
+pub enum Mode {
+    A,
+    B,
+    C,
+    D,
+}
+
+/// What the clock shows in the first super frame of a configuration.
+#[derive(Clone, Copy, Debug, PartialEq, Eq)]
+pub struct Clock {
+    /// The Modified Julian Date.
+    pub mjd: u32,
+    pub hours: u8,
+    pub minutes: u8,
+}
+
+/// A configuration of the multiplex, which holds from one super frame on.
+#[derive(Drop)]
+pub struct Config {
+    /// The super frame with which it starts.
+    pub start: u32,
+    /// The number of super frames before the start that announce it.
+    pub countdown: u8,
+    pub mode: Mode,
+    /// The code of the spectrum occupancy.
+    pub occupancy: u8,
+    /// Whether the interleaver is the short one.
+    pub short_depth: bool,
+    /// The code of the constellation of the Main Service Channel.
+    pub msc: u8,
+    /// Whether the Service Description Channel is in 4-QAM.
+    pub qam4: bool,
+    /// The protection level of the parts A.
+    pub prot_a: u8,
+    /// The protection level of the parts B.
+    pub prot_b: u8,
+    /// The bytes of the data field of each block of the Service Description Channel.
+    pub room: u16,
+    /// The services, whose last six bits are 0.
+    pub services: Services,
+    pub streams: Streams,
+    pub clock: Option<Clock>,
+    /// What the blocks tell beside the multiplex and the clock, in the order of the lines.
+    pub entities: Entities,
+}

@@ -1,0 +1,35 @@
+//! The schedule of a multiplex: its values, what the lines of a text can give of them, and which schedules are valid.
+#![tactic(auto)]
+
+mod announcement;
+mod carry;
+mod config;
+mod invalid;
+mod items;
+#[cfg(test)]
+mod later_tests;
+mod laws;
+mod packing;
+mod plan;
+mod schedule;
+mod service_rules;
+mod sizes;
+mod stream;
+#[cfg(test)]
+mod tests;
+#[cfg(test)]
+mod trial;
+mod valid;
+
+pub use carry::Carry;
+pub use config::{Clock, Config, Configs, Mode, Services, Streams};
+pub use drm_fac::Service;
+pub use drm_sdc::{AppMode, Body, Channel15, Channels, Entities, Entity, MuxDesc, Octets, Part};
+pub use invalid::{Invalid, Place, Reason};
+pub use items::Items;
+pub use laws::entities_can_be_written;
+pub use packing::{Spot, can_be_packed};
+pub use plan::Plan;
+pub use schedule::Schedule;
+pub use sizes::{free_len, packet_len};
+pub use stream::{Content, Stream};

@@ -1,0 +1,173 @@
+//! What is wrong with a plan.
+
+ghost use Rattle.std.specs.Prelude.{◌≡◌, ◌+◌, ◌-◌, ◌*◌, ◌<◌, ◌≤◌, ◌^◌, length, All, IfSome, Option, None, Some};
+ghost use Rattle.std.specs.Option.{option_copied};
+ghost use Rattle.drm_schedule.specs.Ranges.{InLines, ConfigInLines, StreamInLines};
+ghost use Rattle.drm_schedule.specs.Announcement as announcement;
+ghost use Rattle.drm_schedule.specs.Valid as valid;
+ghost use Rattle.drm_schedule.specs.Valid.{first_fault, rows, content_rows, end_before, first_invalid_from};
+
+use crate::announcement::can_be_announced;
+use crate::service_rules::disagree;
+use crate::sizes::{is_too_small, packet_len, stream_len};
+use crate::{Config, Content, Invalid, Mode, Place, Plan, Reason, Stream};
+
+fn starts_wrongly(length: u32, before: Option<&Config>, config: &Config) -> bool
+    ensures { result ≡ valid.starts_wrongly length (option_copied before.entry) config.now }
+{
+    match before {
+        None => config.start != 0,
+        Some(before) => config.start <= before.start || length <= config.start,
+    }
+}
+
+fn counts_wrongly(before: Option<&Config>, config: &Config) -> bool
+    requires { IfSome (option_copied before) ConfigInLines }
+    ensures { result ≡ valid.counts_wrongly (option_copied before.entry) config.now }
+{
+    match before {
+        None => config.countdown != 0,
+        Some(before) => {
+            config.countdown == 0 || config.start < before.start + u32::from(config.countdown)
+        }
+    }
+}
+
+fn has_no_such_occupancy(config: &Config) -> bool
+    ensures { result ≡ valid.has_no_such_occupancy config.now }
+{
+    match config.mode {
+        Mode::A | Mode::B => false,
+        Mode::C | Mode::D => config.occupancy != 3 && config.occupancy != 5,
+    }
+}
+
+fn is_hierarchical(config: &Config) -> bool
+    ensures { result ≡ valid.is_hierarchical config.now }
+{
+    config.msc == 1 || config.msc == 2
+}
+
+fn lacks_announcement(before: Option<&Config>, config: &Config) -> bool
+    requires before { IfSome (option_copied before) ConfigInLines }
+    requires config { ConfigInLines config.now }
+    ensures { result ≡ announcement.lacks_announcement (option_copied before.entry) config.now }
+{
+    match before {
+        None => false,
+        Some(before) => !can_be_announced(before, config),
+    }
+}
+
+fn is_short(frames: u64, stream: &Stream) -> bool
+    requires { frames < 2 ^ 34 }
+    ensures { result ≡ valid.is_short frames stream.now }
+{
+    match &stream.content {
+        Content::Fill(_) => false,
+        Content::File { bytes, .. } => {
+            (bytes.as_slice().len() as u64) < u64::from(stream_len(stream)) * frames
+        }
+    }
+}
+
+// The first stream whose file is too short.
+fn content_fault(config: usize, frames: u64, streams: &[Stream]) -> Option<Invalid>
+    requires { frames < 2 ^ 34 }
+    ensures { result ≡ first_fault (content_rows config 0 frames streams.now) }
+{
+    let mut j = 0;
+    let mut left = streams;
+    while let [stream, more @ ..] = left {
+        if is_short(frames, stream) {
+            let place = Place::Stream(j);
+            let reason = Reason::ContentShort;
+            return Some(Invalid {
+                config,
+                place,
+                reason,
+            });
+        }
+        j += 1;
+        left = more;
+    }
+    None
+}
+
+fn fault(config: usize, place: Place, reason: Reason) -> Option<Invalid>
+    ensures { result ≡ Some (record { config = config; place = place; reason = reason }) }
+{
+    Some(Invalid {
+        config,
+        place,
+        reason,
+    })
+}
+
+// What is wrong with the configuration of this number, behind another and up to `end`.
+fn config_fault(
+    length: u32,
+    k: usize,
+    before: Option<&Config>,
+    config: &Config,
+    end: u32,
+) -> Option<Invalid>
+    requires before { IfSome (option_copied before) ConfigInLines }
+    requires config { ConfigInLines config.now }
+    ensures { result ≡ first_fault (rows length k (option_copied before.entry) config.now end) }
+{
+    if starts_wrongly(length, before, config) {
+        return fault(k, Place::Config, Reason::Order);
+    }
+    if counts_wrongly(before, config) {
+        return fault(k, Place::Config, Reason::Countdown);
+    }
+    if has_no_such_occupancy(config) {
+        return fault(k, Place::Occupancy, Reason::Occupancy);
+    }
+    if is_hierarchical(config) {
+        return fault(k, Place::Msc, Reason::Hierarchical);
+    }
+    if disagree(config) {
+        return fault(k, Place::Config, Reason::Services);
+    }
+    if is_too_small(config) || lacks_announcement(before, config) {
+        return fault(k, Place::Config, Reason::Fit);
+    }
+    if packet_len(config, true) > 8192 {
+        return fault(k, Place::Config, Reason::PacketSize);
+    }
+    let frames = 3 * u64::from(end.saturating_sub(config.start));
+    content_fault(k, frames, config.streams.as_slice())
+}
+
+fn end_before(length: u32, more: &[Config]) -> u32
+    ensures { result ≡ valid.end_before length more.now }
+{
+    match more {
+        [] => length,
+        [next, ..] => next.start.min(length),
+    }
+}
+
+/// The first fault of a plan, configuration by configuration; `None` where it is valid.
+#[tactic(auto, unfolding(crate::specs::Valid::first_invalid_from))]
+pub fn first_invalid(plan: &Plan) -> Option<Invalid>
+    requires { InLines plan.now }
+    ensures { result ≡ valid.first_invalid plan.now }
+{
+    let mut before = None;
+    let mut left = plan.configs.as_slice();
+    let mut k = 0;
+    while let [config, more @ ..] = left {
+        let end = end_before(plan.length, more);
+        let found = config_fault(plan.length, k, before, config, end);
+        if found.is_some() {
+            return found;
+        }
+        before = Some(config);
+        left = more;
+        k += 1;
+    }
+    None
+}
