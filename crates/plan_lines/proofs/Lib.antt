@@ -1,0 +1,15 @@
+pub mod Forms
+pub mod Elements
+pub mod KeywordLemmas
+pub mod RangeLemmas
+pub mod KindLemmas
+pub mod CleanLemmas
+pub mod Joining
+pub mod Parts
+pub mod FrequencyLaws
+pub mod LabelLaws
+pub mod SettingsAgain
+pub mod EntitiesAgain
+pub mod Tokens
+pub mod SaidAgain
+pub mod LineAgain

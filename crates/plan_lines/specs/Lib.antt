@@ -1,0 +1,11 @@
+pub mod Gives
+pub mod Shape
+pub mod Keywords
+pub mod Same
+pub mod Clean
+pub mod Frequencies
+pub mod Settings
+pub mod Entities
+pub mod Lines
+pub mod Said
+pub mod Laws

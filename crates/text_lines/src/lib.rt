@@ -1,0 +1,16 @@
+//! A text as lines, a line as words, and words as numbers and bytes. Only the space cuts words.
+#![tactic(auto)]
+
+mod behind;
+mod hex_digits;
+mod line;
+mod numerals;
+#[cfg(test)]
+mod tests;
+mod text;
+
+pub use behind::behind_two_words;
+pub use hex_digits::{bytes, hex};
+pub use line::words;
+pub use numerals::number;
+pub use text::{bad_line, lines};

@@ -1,0 +1,23 @@
+//! The words of a line.
+
+ghost use Rattle.std.specs.Prelude.{◌≡◌, map, IfOk};
+ghost use Rattle.text_lines.specs.Lines.{words_of};
+
+use drm_bits::NoMemory;
+use std::alloc::{AllocError, Global};
+
+// The words of a line, as the collection of them fails.
+fn collected(alloc: Global, line: &str) -> Result<Vec<&str>, AllocError>
+    ensures { IfOk result (λ words. map (λ word. word.now) words.items ≡ words_of line.now) }
+{
+    line.split(' ')
+        .filter(|word| !word.is_empty())
+        .collect(alloc)
+}
+
+/// The words of a line, at runs of spaces.
+pub fn words(alloc: Global, line: &str) -> Result<Vec<&str>, NoMemory>
+    ensures { IfOk result (λ words. map (λ word. word.now) words.items ≡ words_of line.now) }
+{
+    Ok(collected(alloc, line)?)
+}
