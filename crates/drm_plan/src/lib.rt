@@ -1,6 +1,31 @@
-//! The schedule of a multiplex: so far the way in which its packets are carried.
+//! The schedule of a multiplex as a text: read with its first fault, and written in its canonical form.
 #![tactic(auto)]
 
-mod carry;
+mod canonical;
+mod configs;
+mod counts;
+mod draft;
+mod fault;
+mod files;
+mod keywords;
+mod laws;
+mod lists;
+mod places;
+mod projection;
+mod reading;
+mod rules;
+mod said;
+mod settings;
 
-pub use carry::Carry;
+pub use canonical::write_plan;
+pub use draft::Draft;
+pub use drm_schedule::{
+    Carry, Clock, Config, Configs, Content, Invalid, Items, Mode, Place, Plan, Reason, Schedule,
+    Services, Stream, Streams,
+};
+pub use fault::PlanFault;
+pub use laws::canonical_texts_are_read_again;
+pub use reading::read_plan;
+
+#[cfg(test)]
+mod tests;

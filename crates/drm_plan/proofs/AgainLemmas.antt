@@ -1,0 +1,138 @@
+-- Lines that are written are read again, one after another.
+use Rattle.std.proofs.Common.{◌≡◌, ℕ, ◌+◌, suc, Bool, true, false, List, [], ◌∷◌, ◌++◌, Some, Ok, length, map, refl, sym, ap, subst, ◌∙◌, append_assoc, arith}
+use Rattle.std.specs.Prelude.{◌==◌, slice_index}
+use Rattle.std.specs.List.{AllByRecursion}
+use Rattle.text_lines.specs.Lines.{words_of}
+use Rattle.plan_lines.specs.declared.first_word.Keyword.{Keyword}
+use Rattle.plan_lines.specs.declared.first_word.Keyword.TheVariants as keywords
+use Rattle.plan_lines.specs.declared.line.Line.{Line}
+use Rattle.plan_lines.specs.declared.line.Line.TheVariants as lines
+use Rattle.plan_lines.specs.Keywords.{keyword_of, keyword_text}
+use Rattle.plan_lines.specs.Lines.{shape_of}
+use Rattle.plan_lines.specs.Same.{same}
+use Rattle.plan_lines.specs.Said.{keyword_said, words_said, canonical}
+use Rattle.plan_lines.specs.Shape.{reading}
+use Rattle.drm_plan.specs.declared.said.Said.{Said}
+use Rattle.drm_plan.specs.declared.said.Block.{Block}
+use Rattle.drm_plan.specs.declared.said.Read.{Read}
+use Rattle.drm_plan.specs.Said.{add}
+use Rattle.drm_plan.specs.Rules.{ends_incomplete, is_front, is_second, is_too_many, said_line, said_from}
+use Rattle.drm_plan.specs.Steps.{check_of}
+use Rattle.drm_plan.proofs.StepLemmas.{goes_on}
+
+-- A canonical line is cut into its words, and reads as what it says.
+pub record LineAgain (l : Line) : Type 0 where
+  pub cut : words_of (canonical l) ≡ keyword_text (keyword_said l) ∷ words_said l
+  pub reads : reading (shape_of (keyword_said l) (canonical l) (words_said l)) ≡ Ok l
+
+keyword_again : (k : Keyword) → keyword_of (keyword_text k) ≡ Some k
+keyword_again keywords.Drmplan = refl
+keyword_again _ = refl
+
+no_comment : (k : Keyword) → (slice_index (keyword_text k) 0 == 35) ≡ false
+no_comment keywords.Drmplan = refl
+no_comment _ = refl
+
+pub line_said : (read : Read) (n : ℕ) (l : Line) → LineAgain l → ends_incomplete read (keyword_said l) ≡ false → check_of read n (keyword_said l) ≡ Ok tt → said_line read n (canonical l) ≡ Ok (add n l read)
+unfolding said_line
+line_said read n l again whole found =
+    rw (again.cut, no_comment (keyword_said l), keyword_again (keyword_said l))
+    (goes_on read (add n l read) n (keyword_said l) (shape_of (keyword_said l) (canonical l) (words_said l)) l (Ok tt) whole again.reads (sym found) refl refl)
+
+-- lines put one behind another
+abbrev pub adds : ℕ → List Line → Read → Read
+adds n [] read = read
+adds n (l ∷ ls) read = adds (n + 1) ls (add n l read)
+
+-- no row holds for any of these lines
+abbrev pub Fine : Read → ℕ → List Line → Type 0
+Fine read n [] = Unit {0}
+Fine read n (l ∷ ls) = (ends_incomplete read (keyword_said l) ≡ false) × (check_of read n (keyword_said l) ≡ Ok tt) × Fine (add n l read) (n + 1) ls
+
+pub lines_said : (read : Read) (n : ℕ) (ls : List Line) → AllByRecursion LineAgain ls → Fine read n ls → said_from read n (map canonical ls) ≡ Ok (adds n ls read)
+unfolding said_from
+lines_said read n [] again fine = refl
+lines_said read n (l ∷ ls) again fine = rw (line_said read n l again.0 fine.0 fine.1) (lines_said (add n l read) (n + 1) ls again.1 fine.2)
+
+pub adds_append : (n : ℕ) (a b : List Line) (read : Read) → adds n (a ++ b) read ≡ adds (n + length a) b (adds n a read)
+adds_append n [] b read =
+    let same : n + 0 ≡ n = omega arith in
+    rw same refl
+adds_append n (l ∷ a) b read =
+    let next : n + suc (length a) ≡ n + 1 + length a = omega arith in
+    adds_append (n + 1) a b (add n l read) ∙ ap (λ k. adds k b (adds (n + 1) a (add n l read))) (sym next)
+
+pub fine_append : (read : Read) (n : ℕ) (a b : List Line) → Fine read n a → Fine (adds n a read) (n + length a) b → Fine read n (a ++ b)
+fine_append read n [] b first behind =
+    let same : n + 0 ≡ n = omega arith in
+    subst (λ k. Fine read k b) same behind
+fine_append read n (l ∷ a) b first behind =
+    let next : n + suc (length a) ≡ n + 1 + length a = omega arith in
+    (first.0, first.1, fine_append (add n l read) (n + 1) a b first.2 (subst (λ k. Fine (adds (n + 1) a (add n l read)) k b) next behind))
+
+-- these lines, numbered
+abbrev pub numbered : ℕ → List Line → List Said
+numbered n [] = []
+numbered n (l ∷ ls) = record { line = n; says = l } ∷ numbered (n + 1) ls
+
+-- a keyword of a line within a configuration
+abbrev pub is_inner : Keyword → Bool
+is_inner keywords.Drmplan = false
+is_inner keywords.Carry = false
+is_inner keywords.First = false
+is_inner keywords.Length = false
+is_inner keywords.Config = false
+is_inner _ = true
+
+-- the lines of a configuration behind these
+abbrev pub InnerFine : List Said → ℕ → List Line → Type 0
+InnerFine said n [] = Unit {0}
+InnerFine said n (l ∷ ls) = (is_inner (keyword_said l) ≡ true) × (is_second (keyword_said l) said ≡ false) × (is_too_many (keyword_said l) said ≡ false) × InnerFine (said ++ record { line = n; says = l } ∷ []) (n + 1) ls
+
+-- a read text whose last configuration has these lines
+abbrev pub with_lines : Read → Block → List Said → Read
+with_lines read block said = record { front = read.front; closed = read.closed; current = Some (record block { lines = said }) }
+
+not_config : (k : Keyword) → is_inner k ≡ true → same k keywords.Config ≡ false
+not_config keywords.Config inner = absurd cc
+not_config keywords.Drmplan inner = refl
+not_config _ inner = refl
+
+not_front : (k : Keyword) → is_inner k ≡ true → is_front k ≡ false
+not_front keywords.Drmplan inner = absurd cc
+not_front keywords.Carry inner = absurd cc
+not_front keywords.First inner = absurd cc
+not_front keywords.Length inner = absurd cc
+not_front _ inner = refl
+
+inner_add : (read : Read) (block : Block) (said : List Said) (n : ℕ) (l : Line) → is_inner (keyword_said l) ≡ true → add n l (with_lines read block said) ≡ with_lines read block (said ++ record { line = n; says = l } ∷ [])
+inner_add read block said n (lines.Config start countdown) inner = absurd cc
+inner_add read block said n lines.Version inner = refl
+inner_add read block said n _ inner = refl
+
+inner_check : (read : Read) (block : Block) (said : List Said) (n : ℕ) (k : Keyword) → is_inner k ≡ true → is_second k said ≡ false → is_too_many k said ≡ false → check_of (with_lines read block said) n k ≡ Ok tt
+unfolding check_of
+inner_check read block said n k inner second many = rw (not_front k inner, second, many, not_config k inner) refl
+
+inner_whole : (read : Read) (block : Block) (said : List Said) (k : Keyword) → is_inner k ≡ true → ends_incomplete (with_lines read block said) k ≡ false
+inner_whole read block said k inner = rw (not_config k inner) refl
+
+pub inner_fine : (read : Read) (block : Block) (said : List Said) (n : ℕ) (ls : List Line) → InnerFine said n ls → Fine (with_lines read block said) n ls
+inner_fine read block said n [] fine = tt
+inner_fine read block said n (l ∷ ls) fine = (
+  inner_whole read block said (keyword_said l) fine.0,
+  inner_check read block said n (keyword_said l) fine.0 fine.1 fine.2,
+  rw (inner_add read block said n l fine.0) (inner_fine read block (said ++ record { line = n; says = l } ∷ []) (n + 1) ls fine.3),
+)
+
+pub inner_adds : (read : Read) (block : Block) (said : List Said) (n : ℕ) (ls : List Line) → InnerFine said n ls → adds n ls (with_lines read block said) ≡ with_lines read block (said ++ numbered n ls)
+inner_adds read block [] n [] fine = refl
+inner_adds read block (s ∷ said) n [] fine = ap (λ l. with_lines read block l) (sym (append_nil (s ∷ said)))
+  where
+    append_nil : (xs : List Said) → xs ++ [] ≡ xs
+    append_nil [] = refl
+    append_nil (x ∷ xs) = ap (λ (l : List Said). x ∷ l) (append_nil xs)
+inner_adds read block said n (l ∷ ls) fine =
+    ap (adds (n + 1) ls) (inner_add read block said n l fine.0)
+    ∙ inner_adds read block (said ++ record { line = n; says = l } ∷ []) (n + 1) ls fine.3
+    ∙ ap (λ s. with_lines read block s) (append_assoc said (record { line = n; says = l } ∷ []) (numbered (n + 1) ls))

@@ -1,0 +1,73 @@
+-- The end of a text.
+use Rattle.std.proofs.Common.{◌≡◌, ℕ, List, Bool, true, false, Option, Some, None, Result, Ok, Err, length, subst, sym, refl}
+use Rattle.std.specs.Prelude.{if◌then◌else◌, [], ◌∷◌}
+use Rattle.drm_schedule.specs.declared.invalid.Reason.TheVariants.{Missing}
+use Rattle.drm_plan.specs.declared.fault.PlanFault.{PlanFault}
+use Rattle.drm_plan.specs.declared.fault.PlanFault.TheVariants as plan
+use Rattle.drm_plan.specs.declared.said.Block.{Block}
+use Rattle.drm_plan.specs.declared.said.Read.{Read}
+use Rattle.drm_plan.specs.Said.{nothing}
+use Rattle.drm_plan.specs.Rules.{fault, first_fault, ok_unless, is_incomplete, end_rows, ended, said_from, said}
+use Rattle.drm_plan.specs.Steps.{FailsAs, end_check}
+use Rattle.drm_plan.specs.InLines.{EndsComplete}
+use Rattle.drm_plan.specs.Projection.{drafted}
+use Rattle.drm_plan.specs.Text.{lines_give}
+use Rattle.drm_plan.proofs.StepLemmas.{Matches}
+
+-- a fault before the end
+pub fails_early : (p : PlanFault) (lines : List (List ℕ)) → FailsAs p (said_from nothing 1 lines) → FailsAs p (said lines)
+unfolding said
+fails_early plan.NoMemory lines e = tt
+fails_early (plan.Line l r) lines e = rw e refl
+
+end_matches : (block : Option Block) (n : ℕ) (read : Read) → Matches (end_check block n) (ok_unless (first_fault (end_rows block n)) read) read
+unfolding end_check
+end_matches None n read = refl
+end_matches (Some b) n read = by (is_incomplete b.lines)
+  where
+    by : (x : Bool) → Matches (if x then Err (plan.Line b.line Missing) else Ok tt) (ok_unless (first_fault ((x, fault b.line Missing) ∷ [])) read) read
+    by true = refl
+    by false = refl
+
+whole : (lines : List (List ℕ)) (read : Read) → said_from nothing 1 lines ≡ Ok read → said lines ≡ ok_unless (first_fault (end_rows read.current (length lines))) read
+unfolding said ended
+whole lines read e = rw e refl
+
+-- what the check at the end answers
+end_is : (lines : List (List ℕ)) (read : Read) (n : ℕ) (r : Result (Unit {0}) PlanFault) → said_from nothing 1 lines ≡ Ok read → n ≡ length lines → r ≡ end_check read.current n → Matches r (said lines) read
+end_is lines read n r e count checked = rw (checked, count, whole lines read e) (end_matches read.current (length lines) read)
+
+pub end_fails : (p : PlanFault) (lines : List (List ℕ)) (read : Read) (n : ℕ) (r : Result (Unit {0}) PlanFault) → said_from nothing 1 lines ≡ Ok read → n ≡ length lines → r ≡ end_check read.current n → r ≡ Err p → FailsAs p (said lines)
+end_fails p lines read n r e count checked found = subst (λ (x : Result (Unit {0}) PlanFault). Matches x (said lines) read) found (end_is lines read n r e count checked)
+
+pub end_done : (lines : List (List ℕ)) (read : Read) (n : ℕ) (r : Result (Unit {0}) PlanFault) → said_from nothing 1 lines ≡ Ok read → n ≡ length lines → r ≡ end_check read.current n → r ≡ Ok tt → said lines ≡ Ok read
+end_done lines read n r e count checked found = subst (λ (x : Result (Unit {0}) PlanFault). Matches x (said lines) read) found (end_is lines read n r e count checked)
+
+abbrev fine : Result (Unit {0}) PlanFault
+fine = Ok tt
+
+abbrev lacking : Bool → ℕ → Result (Unit {0}) PlanFault
+lacking x line = if x then Err (plan.Line line Missing) else fine
+
+not_lacking : (read : Read) (b : Block) → read.current ≡ Some b → (x : Bool) → x ≡ is_incomplete b.lines → lacking x b.line ≡ fine → EndsComplete read
+not_lacking read b is true e found = absurd cc
+not_lacking read b is false e found = record { block = b; last = is; complete = sym e }
+
+complete_by : (read : Read) (current : Option Block) (n : ℕ) → read.current ≡ current → end_check current n ≡ fine → EndsComplete read
+unfolding end_check
+complete_by read None n is found = absurd cc
+complete_by read (Some b) n is found = not_lacking read b is (is_incomplete b.lines) refl found
+
+-- a check at the end that finds no fault
+pub end_complete : (read : Read) (n : ℕ) → end_check read.current n ≡ fine → EndsComplete read
+end_complete read n found = complete_by read read.current n refl found
+
+-- a fault of the lines
+pub text_fails : (p : PlanFault) (lines : List (List ℕ)) → FailsAs p (said lines) → FailsAs p (lines_give lines)
+unfolding lines_give
+text_fails plan.NoMemory lines e = tt
+text_fails (plan.Line l r) lines e = rw e refl
+
+pub text_gives : (lines : List (List ℕ)) (read : Read) → said lines ≡ Ok read → lines_give lines ≡ Ok (drafted read)
+unfolding lines_give
+text_gives lines read e = rw e refl

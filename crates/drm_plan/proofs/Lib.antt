@@ -1,0 +1,15 @@
+pub mod StepLemmas
+pub mod LoopLemmas
+pub mod EndLemmas
+pub mod ListLemmas
+pub mod PlanLemmas
+pub mod KeptLemmas
+pub mod LookupLemmas
+pub mod FileLemmas
+pub mod CountLemmas
+pub mod TextLemmas
+pub mod AgainLemmas
+pub mod ConfigLemmas
+pub mod ProjectionLemmas
+pub mod CanonicalLaw
+pub mod PlanLaw

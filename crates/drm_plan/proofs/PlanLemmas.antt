@@ -1,0 +1,265 @@
+-- Lines that a text can have give a plan that a text can give.
+use Rattle.std.proofs.Common.{◌≡◌, ℕ, ◌+◌, ◌≤◌, ◌<◌, ◌^◌, zero, suc, Bool, true, false, eqb, List, [], ◌∷◌, ◌++◌, Option, Some, None, length, map, filter, refl, sym, ap, subst, ◌∙◌, arith}
+use Rattle.std.specs.Prelude.{All, IfSome, ◌==◌, ◌||◌, if◌then◌else◌}
+use Rattle.std.specs.List.{filter_map, cons_option}
+use Rattle.std.specs.Option.{option_to_list}
+use Rattle.std.proofs.lemmas.List.{length-append, length-map}
+use Rattle.std.proofs.lemmas.List.Elements.{All-nil, All-cons, All-head, All-tail, All-append}
+use Rattle.drm_sdc.specs.declared.body.Body.{Body}
+use Rattle.drm_sdc.specs.declared.body.Body.TheVariants as bodies
+use Rattle.drm_schedule.specs.Ranges.{CarryInLines, StreamInLines, ServiceInLines, ClockInLines, EntityInLines, ConfigInLines, InLines}
+use Rattle.plan_lines.specs.declared.line.Line.{Line}
+use Rattle.plan_lines.specs.declared.line.Line.TheVariants as lines
+use Rattle.plan_lines.specs.declared.first_word.Keyword.{Keyword}
+use Rattle.plan_lines.specs.declared.first_word.Keyword.TheVariants as keywords
+use Rattle.plan_lines.specs.Said.{keyword_of_body, keyword_said, LineInLines}
+use Rattle.plan_lines.specs.Same.{same}
+use Rattle.drm_plan.specs.declared.said.Said.{Said}
+use Rattle.drm_plan.specs.declared.said.Block.{Block}
+use Rattle.drm_plan.specs.declared.said.Read.{Read}
+use Rattle.drm_plan.specs.Said.{count}
+use Rattle.drm_plan.specs.Rules.{is_entity, count_entities, is_incomplete}
+use Rattle.drm_plan.specs.Projection.{first_said, occupancy_in, msc_in, prot_a_in, prot_b_in, room_in, clock_in, carry_in, seq_in, dlfc_in, length_in, service_said, stream_said, entity_said, services_in, streams_in, entities_in, config_of, blocks_of, plan_of}
+use Rattle.drm_plan.specs.InLines.{AllInLines, BlockInLines, EndedInLines, ReadInLines}
+
+-- what the first line of a keyword says is one that a text can have
+first_fits : (k : Keyword) (said : List Said) → AllInLines said → IfSome (first_said k said) (λ s. LineInLines s.says)
+first_fits k [] fits = tt
+first_fits k (s ∷ said) fits = by (same (keyword_said s.says) k) (All-head (λ x. LineInLines x.says) s said fits) (first_fits k said (All-tail (λ x. LineInLines x.says) s said fits))
+  where
+    by : (b : Bool) → LineInLines s.says → IfSome (first_said k said) (λ x. LineInLines x.says) → IfSome (if b then Some s else first_said k said) (λ x. LineInLines x.says)
+    by true here more = here
+    by false here more = more
+
+-- a setting in its range, by what its line says
+occupancy_fits : (o : Option Said) → IfSome o (λ s. LineInLines s.says) → occupancy_in o < 6
+occupancy_fits None fits = omega arith
+occupancy_fits (Some s) fits = by s.line s.says fits
+  where
+    by : (n : ℕ) (l : Line) → LineInLines l → occupancy_in (Some (record { line = n; says = l })) < 6
+    by n (lines.Occupancy x) fits = fits
+    by n _ fits = omega arith
+
+msc_fits : (o : Option Said) → IfSome o (λ s. LineInLines s.says) → msc_in o < 2 ^ 2
+msc_fits None fits = omega arith
+msc_fits (Some s) fits = by s.line s.says fits
+  where
+    by : (n : ℕ) (l : Line) → LineInLines l → msc_in (Some (record { line = n; says = l })) < 2 ^ 2
+    by n (lines.Msc x) fits = fits
+    by n _ fits = omega arith
+
+prot_a_fits : (o : Option Said) → IfSome o (λ s. LineInLines s.says) → prot_a_in o < 2 ^ 2
+prot_a_fits None fits = omega arith
+prot_a_fits (Some s) fits = by s.line s.says fits
+  where
+    by : (n : ℕ) (l : Line) → LineInLines l → prot_a_in (Some (record { line = n; says = l })) < 2 ^ 2
+    by n (lines.Protection a b) fits = fits.0
+    by n _ fits = omega arith
+
+prot_b_fits : (o : Option Said) → IfSome o (λ s. LineInLines s.says) → prot_b_in o < 2 ^ 2
+prot_b_fits None fits = omega arith
+prot_b_fits (Some s) fits = by s.line s.says fits
+  where
+    by : (n : ℕ) (l : Line) → LineInLines l → prot_b_in (Some (record { line = n; says = l })) < 2 ^ 2
+    by n (lines.Protection a b) fits = fits.1
+    by n _ fits = omega arith
+
+room_fits : (o : Option Said) → IfSome o (λ s. LineInLines s.says) → room_in o < 2 ^ 10
+room_fits None fits = omega arith
+room_fits (Some s) fits = by s.line s.says fits
+  where
+    by : (n : ℕ) (l : Line) → LineInLines l → room_in (Some (record { line = n; says = l })) < 2 ^ 10
+    by n (lines.Room x) fits = fits
+    by n _ fits = omega arith
+
+clock_fits : (o : Option Said) → IfSome o (λ s. LineInLines s.says) → IfSome (clock_in o) ClockInLines
+clock_fits None fits = tt
+clock_fits (Some s) fits = by s.line s.says fits
+  where
+    by : (n : ℕ) (l : Line) → LineInLines l → IfSome (clock_in (Some (record { line = n; says = l }))) ClockInLines
+    by n (lines.Clock clock) fits = fits
+    by n _ fits = tt
+
+carry_fits : (o : Option Said) → IfSome o (λ s. LineInLines s.says) → CarryInLines (carry_in o)
+carry_fits None fits = tt
+carry_fits (Some s) fits = by s.line s.says fits
+  where
+    by : (n : ℕ) (l : Line) → LineInLines l → CarryInLines (carry_in (Some (record { line = n; says = l })))
+    by n (lines.Carry carry) fits = fits
+    by n _ fits = tt
+
+seq_fits : (o : Option Said) → IfSome o (λ s. LineInLines s.says) → seq_in o < 2 ^ 16
+seq_fits None fits = omega arith
+seq_fits (Some s) fits = by s.line s.says fits
+  where
+    by : (n : ℕ) (l : Line) → LineInLines l → seq_in (Some (record { line = n; says = l })) < 2 ^ 16
+    by n (lines.First seq dlfc) fits = fits.0
+    by n _ fits = omega arith
+
+dlfc_fits : (o : Option Said) → IfSome o (λ s. LineInLines s.says) → dlfc_in o < 2 ^ 32
+dlfc_fits None fits = omega arith
+dlfc_fits (Some s) fits = by s.line s.says fits
+  where
+    by : (n : ℕ) (l : Line) → LineInLines l → dlfc_in (Some (record { line = n; says = l })) < 2 ^ 32
+    by n (lines.First seq dlfc) fits = fits.1
+    by n _ fits = omega arith
+
+length_fits : (o : Option Said) → IfSome o (λ s. LineInLines s.says) → (1 ≤ length_in o) × (length_in o ≤ 1000000)
+length_fits None fits = (omega arith, omega arith)
+length_fits (Some s) fits = by s.line s.says fits
+  where
+    by : (n : ℕ) (l : Line) → LineInLines l → (1 ≤ length_in (Some (record { line = n; says = l }))) × (length_in (Some (record { line = n; says = l })) ≤ 1000000)
+    by n (lines.Length x) fits = fits
+    by n _ fits = (omega arith, omega arith)
+
+-- what lines list, each by what its line says
+listed : {X : Type 0} (h : Line → Option X) (P : X → Type 0) → ((l : Line) → LineInLines l → IfSome (h l) P) → (said : List Said) → AllInLines said → All P (filter_map (λ s. h s.says) said)
+listed {X = X} h P each [] fits = All-nil P
+listed {X = X} h P each (s ∷ said) fits = by (h s.says) (each s.says (All-head (λ x. LineInLines x.says) s said fits)) (listed h P each said (All-tail (λ x. LineInLines x.says) s said fits))
+  where
+    by : (o : Option X) → IfSome o P → All P (filter_map (λ x. h x.says) said) → All P (cons_option o (filter_map (λ x. h x.says) said))
+    by None here more = more
+    by (Some y) here more = All-cons P y (filter_map (λ x. h x.says) said) here more
+
+service_listed : (l : Line) → LineInLines l → IfSome (service_said l) ServiceInLines
+service_listed (lines.Service service) fits = fits
+service_listed _ fits = tt
+
+stream_listed : (l : Line) → LineInLines l → IfSome (stream_said l) StreamInLines
+stream_listed (lines.Stream stream) fits = fits
+stream_listed _ fits = tt
+
+entity_listed : (l : Line) → LineInLines l → IfSome (entity_said l) EntityInLines
+entity_listed (lines.Entity entity) fits = fits
+entity_listed _ fits = tt
+
+-- how many there are of what lines list
+abbrev pub one : Bool → ℕ
+one true = 1
+one false = 0
+
+counted : {X : Type 0} (h : Line → Option X) (test : Line → Bool) → ((l : Line) → length (option_to_list (h l)) ≡ one (test l)) → (said : List Said) → length (filter_map (λ s. h s.says) said) ≡ length (filter (λ s. test s.says) said)
+counted {X = X} h test each [] = refl
+counted {X = X} h test each (s ∷ said) = by (h s.says) (test s.says) (each s.says) (counted h test each said)
+  where
+    by : (o : Option X) (b : Bool) → length (option_to_list o) ≡ one b → length (filter_map (λ x. h x.says) said) ≡ length (filter (λ x. test x.says) said)
+        → length (cons_option o (filter_map (λ x. h x.says) said)) ≡ length (if b then s ∷ filter (λ x. test x.says) said else filter (λ x. test x.says) said)
+    by None true e more = absurd cc
+    by None false e more = more
+    by (Some y) true e more = ap suc more
+    by (Some y) false e more = absurd cc
+
+entity_is_no_service : (b : Body) → same (keyword_of_body b) keywords.Service ≡ false
+entity_is_no_service (bodies.Mux desc) = refl
+entity_is_no_service _ = refl
+
+pub entity_is_no_stream : (b : Body) → same (keyword_of_body b) keywords.Stream ≡ false
+entity_is_no_stream (bodies.Mux desc) = refl
+entity_is_no_stream _ = refl
+
+pub entity_is_one : (b : Body) → is_entity (keyword_of_body b) ≡ true
+entity_is_one (bodies.Mux desc) = refl
+entity_is_one _ = refl
+
+service_one : (l : Line) → length (option_to_list (service_said l)) ≡ one (same (keyword_said l) keywords.Service)
+service_one (lines.Service service) = refl
+service_one (lines.Entity entity) = sym (ap one (entity_is_no_service entity.body))
+service_one _ = refl
+
+stream_one : (l : Line) → length (option_to_list (stream_said l)) ≡ one (same (keyword_said l) keywords.Stream)
+stream_one (lines.Stream stream) = refl
+stream_one (lines.Entity entity) = sym (ap one (entity_is_no_stream entity.body))
+stream_one _ = refl
+
+entity_one : (l : Line) → length (option_to_list (entity_said l)) ≡ one (is_entity (keyword_said l))
+entity_one (lines.Entity entity) = sym (ap one (entity_is_one entity.body))
+entity_one _ = refl
+
+services_counted : (said : List Said) → length (services_in said) ≡ count keywords.Service said
+services_counted said = counted service_said (λ l. same (keyword_said l) keywords.Service) service_one said
+
+streams_counted : (said : List Said) → length (streams_in said) ≡ count keywords.Stream said
+streams_counted said = counted stream_said (λ l. same (keyword_said l) keywords.Stream) stream_one said
+
+entities_counted : (said : List Said) → length (entities_in said) ≡ count_entities said
+entities_counted said = counted entity_said (λ l. is_entity (keyword_said l)) entity_one said
+
+-- the last two of nine
+last_two : (a b c d e f g h i : Bool) → (a || (b || (c || (d || (e || (f || (g || (h || (i || false))))))))) ≡ false → (h ≡ false) × (i ≡ false)
+last_two false false false false false false false false false none = (refl, refl)
+last_two false false false false false false false false true none = absurd cc
+last_two false false false false false false false true i none = absurd cc
+last_two false false false false false false true h i none = absurd cc
+last_two false false false false false true g h i none = absurd cc
+last_two false false false false true f g h i none = absurd cc
+last_two false false false true e f g h i none = absurd cc
+last_two false false true d e f g h i none = absurd cc
+last_two false true c d e f g h i none = absurd cc
+last_two true b c d e f g h i none = absurd cc
+
+some_of : (keyword : Keyword) (said : List Said) → eqb (count keyword said) 0 ≡ false → 1 ≤ count keyword said
+some_of keyword said e = by (count keyword said) e
+  where
+    by : (n : ℕ) → eqb n 0 ≡ false → 1 ≤ n
+    by zero e = absurd cc
+    by (suc n) e = omega arith
+
+record HasBoth (said : List Said) : Type 0 where
+  service : 1 ≤ count keywords.Service said
+  stream : 1 ≤ count keywords.Stream said
+
+has_both : (said : List Said) → is_incomplete said ≡ false → HasBoth said
+unfolding is_incomplete
+has_both said e =
+    let lacks = λ (k : Keyword). count k said == 0 in
+    let both = last_two (lacks keywords.Mode) (lacks keywords.Occupancy) (lacks keywords.Depth) (lacks keywords.Msc) (lacks keywords.Sdc) (lacks keywords.Protection) (lacks keywords.Room) (lacks keywords.Service) (lacks keywords.Stream) e in
+    record { service = some_of keywords.Service said both.0; stream = some_of keywords.Stream said both.1 }
+
+config_fits : (b : Block) → BlockInLines b → is_incomplete b.lines ≡ false → ConfigInLines (config_of b)
+config_fits b fits whole =
+    let both = has_both b.lines whole in
+    let found = λ (k : Keyword). first_fits k b.lines fits.each_line in
+    record {
+      start_fits = fits.start_fits;
+      countdown_fits = fits.countdown_fits;
+      occupancy_fits = occupancy_fits (first_said keywords.Occupancy b.lines) (found keywords.Occupancy);
+      msc_fits = msc_fits (first_said keywords.Msc b.lines) (found keywords.Msc);
+      prot_a_fits = prot_a_fits (first_said keywords.Protection b.lines) (found keywords.Protection);
+      prot_b_fits = prot_b_fits (first_said keywords.Protection b.lines) (found keywords.Protection);
+      room_fits = room_fits (first_said keywords.Room b.lines) (found keywords.Room);
+      some_service = rw (services_counted b.lines) both.service;
+      each_service = listed service_said ServiceInLines service_listed b.lines fits.each_line;
+      some_stream = rw (streams_counted b.lines) both.stream;
+      few_streams = rw (streams_counted b.lines) fits.few_streams;
+      each_stream = listed stream_said StreamInLines stream_listed b.lines fits.each_line;
+      clock_fits = clock_fits (first_said keywords.Clock b.lines) (found keywords.Clock);
+      few_entities = rw (entities_counted b.lines) fits.few_entities;
+      each_entity = listed entity_said EntityInLines entity_listed b.lines fits.each_line;
+    }
+
+configs_fit : (blocks : List Block) → All EndedInLines blocks → All ConfigInLines (map config_of blocks)
+configs_fit [] fit = All-nil ConfigInLines
+configs_fit (b ∷ blocks) fit =
+    let here = All-head EndedInLines b blocks fit in
+    All-cons ConfigInLines (config_of b) (map config_of blocks) (config_fits b here.in_lines here.complete) (configs_fit blocks (All-tail EndedInLines b blocks fit))
+
+-- with the last configuration complete
+pub plan_fits : (read : Read) (b : Block) → ReadInLines read → read.current ≡ Some b → is_incomplete b.lines ≡ false → InLines (plan_of read)
+plan_fits read b fits current whole =
+    let found = λ (k : Keyword). first_fits k read.front fits.front in
+    let last : BlockInLines b = subst (λ (o : Option Block). IfSome o BlockInLines) current fits.current in
+    let blocks : blocks_of read ≡ read.closed ++ b ∷ [] = ap (λ (o : Option Block). read.closed ++ option_to_list o) current in
+    let ended : EndedInLines b = record { in_lines = last; complete = whole } in
+    let all : All EndedInLines (blocks_of read) = rw blocks (All-append EndedInLines read.closed (b ∷ []) fits.closed (All-cons EndedInLines b [] ended (All-nil EndedInLines))) in
+    let count : length (map config_of (blocks_of read)) ≡ length read.closed + 1 = length-map (blocks_of read) config_of ∙ ap (λ (l : List Block). length l) blocks ∙ length-append read.closed (b ∷ []) in
+    let length_is = length_fits (first_said keywords.Length read.front) (found keywords.Length) in
+    record {
+      carry_fits = carry_fits (first_said keywords.Carry read.front) (found keywords.Carry);
+      seq_fits = seq_fits (first_said keywords.First read.front) (found keywords.First);
+      dlfc_fits = dlfc_fits (first_said keywords.First read.front) (found keywords.First);
+      some_frames = length_is.0;
+      few_frames = length_is.1;
+      some_config = omega (arith, count);
+      few_configs = omega (arith, count, fits.few_closed);
+      each_config = configs_fit (blocks_of read) all;
+    }

@@ -1,0 +1,40 @@
+-- What holds of the lines that are read: each is one that a text can give, and there are no more than there may be.
+use Rattle.std.specs.Prelude.{ℕ, ◌≡◌, ◌≢◌, ◌≤◌, ◌<◌, ◌^◌, false, List, length, All, IfSome, Some}
+use Rattle.plan_lines.specs.declared.first_word.Keyword.TheVariants as keywords
+use Rattle.plan_lines.specs.Said.{LineInLines}
+use Rattle.drm_plan.specs.declared.said.Said.{Said}
+use Rattle.drm_plan.specs.declared.said.Block.{Block}
+use Rattle.drm_plan.specs.declared.said.Read.{Read}
+use Rattle.drm_plan.specs.Said.{count}
+use Rattle.drm_plan.specs.Rules.{count_entities, is_incomplete}
+
+-- a line has no line feed in it
+abbrev pub IsSingle : List ℕ → Type 0
+IsSingle line = All (λ byte. byte ≢ 10) line
+
+abbrev pub AllInLines : List Said → Type 0
+AllInLines said = All (λ s. LineInLines s.says) said
+
+pub record BlockInLines (block : Block) : Type 0 where
+  pub start_fits : block.start < 1000000
+  pub countdown_fits : block.countdown < 2 ^ 3
+  pub each_line : AllInLines block.lines
+  pub few_streams : count keywords.Stream block.lines ≤ 4
+  pub few_entities : count_entities block.lines ≤ 64
+
+-- a configuration that a later one ended
+pub record EndedInLines (block : Block) : Type 0 where
+  pub in_lines : BlockInLines block
+  pub complete : is_incomplete block.lines ≡ false
+
+pub record ReadInLines (read : Read) : Type 0 where
+  pub front : AllInLines read.front
+  pub few_closed : length read.closed ≤ 15
+  pub closed : All EndedInLines read.closed
+  pub current : IfSome read.current BlockInLines
+
+-- the last configuration lacks nothing
+pub record EndsComplete (read : Read) : Type 0 where
+  pub block : Block
+  pub last : read.current ≡ Some block
+  pub complete : is_incomplete block.lines ≡ false

@@ -1,0 +1,31 @@
+-- What the lines of a configuration list, one line after another.
+use Rattle.std.specs.Prelude.{ℕ, ◌≡◌, List, [], ◌∷◌, ◌++◌}
+use Rattle.drm_schedule.specs.declared.config.Config.{Config}
+use Rattle.plan_lines.specs.declared.line.Line.{Line}
+use Rattle.plan_lines.specs.declared.line.Line.TheVariants as lines
+use Rattle.drm_plan.specs.declared.said.Said.{Said}
+use Rattle.drm_plan.specs.declared.said.Block.{Block}
+use Rattle.drm_plan.specs.declared.places.Places.{Places}
+use Rattle.drm_plan.specs.declared.configs.Parts.{Parts}
+use Rattle.drm_plan.specs.Projection.{services_in, streams_in, stream_lines_in, entities_in, config_of, places_of}
+
+abbrev pub no_parts : Parts
+no_parts = record { services = []; streams = []; stream_lines = []; entities = [] }
+
+abbrev pub parts_of : List Said → Parts
+parts_of said = record { services = services_in said; streams = streams_in said; stream_lines = stream_lines_in said; entities = entities_in said }
+
+abbrev pub more_by : Parts → ℕ → Line → Parts
+more_by parts n (lines.Service service) = record parts { services = parts.services ++ service ∷ [] }
+more_by parts n (lines.Stream stream) = record parts { streams = parts.streams ++ stream ∷ []; stream_lines = parts.stream_lines ++ n ∷ [] }
+more_by parts n (lines.Entity entity) = record parts { entities = parts.entities ++ entity ∷ [] }
+more_by parts n _ = parts
+
+-- with one more line
+abbrev pub more : Parts → Said → Parts
+more parts said = more_by parts said.line said.says
+
+-- the configuration of these lines, and those that a fault of it can name
+pub record Made (config : Config) (places : Places) (block : Block) : Type 0 where
+  pub config_is : config ≡ config_of block
+  pub places_are : places ≡ places_of block

@@ -1,0 +1,229 @@
+-- The plan that lines give: a setting is what the first line of its keyword says, the rest are lists in line order.
+use Rattle.std.specs.Prelude.{ℕ, Bool, false, List, [], ◌∷◌, ◌++◌, map, Option, Some, None, if◌then◌else◌}
+use Rattle.std.specs.List.{filter_map}
+use Rattle.std.specs.Option.{option_to_list}
+use Rattle.drm_fac.specs.declared.service.Service.{Service}
+use Rattle.drm_sdc.specs.declared.entity.Entity.{Entity}
+use Rattle.drm_schedule.specs.declared.carry.Carry.{Carry}
+use Rattle.drm_schedule.specs.declared.carry.Carry.TheVariants as carries
+use Rattle.drm_schedule.specs.declared.config.Mode.{Mode}
+use Rattle.drm_schedule.specs.declared.config.Mode.TheVariants as modes
+use Rattle.drm_schedule.specs.declared.config.Clock.{Clock}
+use Rattle.drm_schedule.specs.declared.config.Config.{Config}
+use Rattle.drm_schedule.specs.declared.stream.Stream.{Stream}
+use Rattle.drm_schedule.specs.declared.plan.Plan.{Plan}
+use Rattle.plan_lines.specs.declared.line.Line.{Line}
+use Rattle.plan_lines.specs.declared.line.Line.TheVariants as lines
+use Rattle.plan_lines.specs.declared.first_word.Keyword.{Keyword}
+use Rattle.plan_lines.specs.declared.first_word.Keyword.TheVariants as keywords
+use Rattle.plan_lines.specs.Same.{same}
+use Rattle.plan_lines.specs.Said.{keyword_said}
+use Rattle.drm_plan.specs.declared.said.Said.{Said}
+use Rattle.drm_plan.specs.declared.said.Block.{Block}
+use Rattle.drm_plan.specs.declared.said.Read.{Read}
+use Rattle.drm_plan.specs.declared.places.Places.{Places}
+use Rattle.drm_plan.specs.declared.files.Filed.{Filed}
+use Rattle.drm_plan.specs.Files.{config_files}
+
+-- the first line of this keyword
+abbrev pub first_said : Keyword → List Said → Option Said
+first_said keyword [] = None
+first_said keyword (s ∷ said) = if same (keyword_said s.says) keyword then Some s else first_said keyword said
+
+-- the number of the first line of this keyword, 0 where there is none
+abbrev pub line_of : Keyword → List Said → ℕ
+line_of keyword said = of (first_said keyword said)
+  where
+    of : Option Said → ℕ
+    of None = 0
+    of (Some s) = s.line
+
+-- What the line of a setting says. Where there is none, which a configuration that lacks nothing never shows, it is the
+-- first value of its kind.
+abbrev pub mode_in : Option Said → Mode
+mode_in None = modes.A
+mode_in (Some s) = of s.says
+  where
+    of : Line → Mode
+    of (lines.Mode mode) = mode
+    of _ = modes.A
+
+abbrev pub occupancy_in : Option Said → ℕ
+occupancy_in None = 0
+occupancy_in (Some s) = of s.says
+  where
+    of : Line → ℕ
+    of (lines.Occupancy n) = n
+    of _ = 0
+
+abbrev pub short_depth_in : Option Said → Bool
+short_depth_in None = false
+short_depth_in (Some s) = of s.says
+  where
+    of : Line → Bool
+    of (lines.Depth short) = short
+    of _ = false
+
+abbrev pub msc_in : Option Said → ℕ
+msc_in None = 0
+msc_in (Some s) = of s.says
+  where
+    of : Line → ℕ
+    of (lines.Msc n) = n
+    of _ = 0
+
+abbrev pub qam4_in : Option Said → Bool
+qam4_in None = false
+qam4_in (Some s) = of s.says
+  where
+    of : Line → Bool
+    of (lines.Sdc qam4) = qam4
+    of _ = false
+
+abbrev pub prot_a_in : Option Said → ℕ
+prot_a_in None = 0
+prot_a_in (Some s) = of s.says
+  where
+    of : Line → ℕ
+    of (lines.Protection a b) = a
+    of _ = 0
+
+abbrev pub prot_b_in : Option Said → ℕ
+prot_b_in None = 0
+prot_b_in (Some s) = of s.says
+  where
+    of : Line → ℕ
+    of (lines.Protection a b) = b
+    of _ = 0
+
+abbrev pub room_in : Option Said → ℕ
+room_in None = 0
+room_in (Some s) = of s.says
+  where
+    of : Line → ℕ
+    of (lines.Room n) = n
+    of _ = 0
+
+-- a configuration may have no clock
+abbrev pub clock_in : Option Said → Option Clock
+clock_in None = None
+clock_in (Some s) = of s.says
+  where
+    of : Line → Option Clock
+    of (lines.Clock clock) = Some clock
+    of _ = None
+
+-- what is a list: each line says one more
+abbrev pub service_said : Line → Option Service
+service_said (lines.Service service) = Some service
+service_said _ = None
+
+abbrev pub stream_said : Line → Option Stream
+stream_said (lines.Stream stream) = Some stream
+stream_said _ = None
+
+abbrev pub entity_said : Line → Option Entity
+entity_said (lines.Entity entity) = Some entity
+entity_said _ = None
+
+abbrev pub services_in : List Said → List Service
+services_in said = filter_map (λ s. service_said s.says) said
+
+abbrev pub streams_in : List Said → List Stream
+streams_in said = filter_map (λ s. stream_said s.says) said
+
+abbrev pub entities_in : List Said → List Entity
+entities_in said = filter_map (λ s. entity_said s.says) said
+
+-- the numbers of the stream lines
+abbrev pub stream_line : Said → Option ℕ
+stream_line s = of s.says
+  where
+    of : Line → Option ℕ
+    of (lines.Stream stream) = Some s.line
+    of _ = None
+
+abbrev pub stream_lines_in : List Said → List ℕ
+stream_lines_in said = filter_map stream_line said
+
+abbrev pub config_of : Block → Config
+config_of block = record {
+  start = block.start;
+  countdown = block.countdown;
+  mode = mode_in (first_said keywords.Mode block.lines);
+  occupancy = occupancy_in (first_said keywords.Occupancy block.lines);
+  short_depth = short_depth_in (first_said keywords.Depth block.lines);
+  msc = msc_in (first_said keywords.Msc block.lines);
+  qam4 = qam4_in (first_said keywords.Sdc block.lines);
+  prot_a = prot_a_in (first_said keywords.Protection block.lines);
+  prot_b = prot_b_in (first_said keywords.Protection block.lines);
+  room = room_in (first_said keywords.Room block.lines);
+  services = services_in block.lines;
+  streams = streams_in block.lines;
+  clock = clock_in (first_said keywords.Clock block.lines);
+  entities = entities_in block.lines;
+}
+
+-- the lines of a configuration that a fault can name
+abbrev pub places_of : Block → Places
+places_of block = record {
+  config = block.line;
+  occupancy = line_of keywords.Occupancy block.lines;
+  msc = line_of keywords.Msc block.lines;
+  streams = stream_lines_in block.lines;
+}
+
+-- all configurations, in the order of their lines
+abbrev pub blocks_of : Read → List Block
+blocks_of read = read.closed ++ option_to_list read.current
+
+abbrev pub carry_in : Option Said → Carry
+carry_in None = carries.Plain
+carry_in (Some s) = of s.says
+  where
+    of : Line → Carry
+    of (lines.Carry carry) = carry
+    of _ = carries.Plain
+
+abbrev pub seq_in : Option Said → ℕ
+seq_in None = 0
+seq_in (Some s) = of s.says
+  where
+    of : Line → ℕ
+    of (lines.First seq dlfc) = seq
+    of _ = 0
+
+abbrev pub dlfc_in : Option Said → ℕ
+dlfc_in None = 0
+dlfc_in (Some s) = of s.says
+  where
+    of : Line → ℕ
+    of (lines.First seq dlfc) = dlfc
+    of _ = 0
+
+abbrev pub length_in : Option Said → ℕ
+length_in None = 1
+length_in (Some s) = of s.says
+  where
+    of : Line → ℕ
+    of (lines.Length n) = n
+    of _ = 1
+
+-- the plan that lines give, its files without their bytes
+abbrev pub plan_of : Read → Plan
+plan_of read = record {
+  carry = carry_in (first_said keywords.Carry read.front);
+  seq = seq_in (first_said keywords.First read.front);
+  dlfc = dlfc_in (first_said keywords.First read.front);
+  length = length_in (first_said keywords.Length read.front);
+  configs = map config_of (blocks_of read);
+}
+
+-- a plan, the lines of each of its configurations that a fault can name, and its files in the order of their lines
+pub record Drafted : Type 0 where
+  pub plan : Plan
+  pub places : List Places
+  pub files : List Filed
+
+abbrev pub drafted : Read → Drafted
+drafted read = record { plan = plan_of read; places = map places_of (blocks_of read); files = config_files 0 (map config_of (blocks_of read)) }

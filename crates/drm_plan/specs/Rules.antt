@@ -1,0 +1,189 @@
+-- What the lines of a text say, or the first fault of the text.
+use Rattle.std.specs.Prelude.{ℕ, zero, suc, ◌+◌, ◌==◌, ◌&&◌, ◌||◌, not, nat_le, nat_lt, Bool, true, false, is_none, slice_index, length, List, [], ◌∷◌, filter, Option, Some, None, Result, Ok, Err, if◌then◌else◌}
+use Rattle.std.specs.List.{list_all, list_any}
+use Rattle.text_lines.specs.Lines.{words_of}
+use Rattle.drm_schedule.specs.declared.invalid.Reason.{Reason}
+use Rattle.drm_schedule.specs.declared.invalid.Reason.TheVariants.{Word, Order, Number, Range, Twice, TooLong, Missing}
+use Rattle.plan_lines.specs.declared.first_word.Keyword.{Keyword}
+use Rattle.plan_lines.specs.declared.first_word.Keyword.TheVariants as keywords
+use Rattle.plan_lines.specs.Shape.{Shape}
+use Rattle.plan_lines.specs.Keywords.{keyword_of}
+use Rattle.plan_lines.specs.Lines.{shape_of}
+use Rattle.plan_lines.specs.Same.{same}
+use Rattle.plan_lines.specs.Said.{keyword_said}
+use Rattle.drm_plan.specs.declared.said.Said.{Said}
+use Rattle.drm_plan.specs.declared.said.Block.{Block}
+use Rattle.drm_plan.specs.declared.said.Read.{Read}
+use Rattle.drm_plan.specs.Said.{nothing, add, count}
+
+-- a fault of a text: its line, from 1, and what is wrong with it
+pub record Fault : Type 0 where
+  pub line : ℕ
+  pub reason : Reason
+
+abbrev pub fault : ℕ → Reason → Fault
+fault line reason = record { line = line; reason = reason }
+
+-- the fault of the first row that holds
+abbrev pub first_fault : List (Bool × Fault) → Option Fault
+first_fault [] = None
+first_fault (row ∷ rows) = if row.0 then Some row.1 else first_fault rows
+
+-- the four first lines come in this order, and then a configuration begins
+abbrev pub keyword_at : ℕ → Keyword
+keyword_at zero = keywords.Drmplan
+keyword_at (suc zero) = keywords.Carry
+keyword_at (suc (suc zero)) = keywords.First
+keyword_at (suc (suc (suc zero))) = keywords.Length
+keyword_at (suc (suc (suc (suc n)))) = keywords.Config
+
+abbrev pub is_front : Keyword → Bool
+is_front keywords.Drmplan = true
+is_front keywords.Carry = true
+is_front keywords.First = true
+is_front keywords.Length = true
+is_front _ = false
+
+-- what a configuration has at most once
+abbrev pub is_single : Keyword → Bool
+is_single keywords.Mode = true
+is_single keywords.Occupancy = true
+is_single keywords.Depth = true
+is_single keywords.Msc = true
+is_single keywords.Sdc = true
+is_single keywords.Protection = true
+is_single keywords.Room = true
+is_single keywords.Clock = true
+is_single _ = false
+
+-- what a configuration must have
+abbrev pub needed : List Keyword
+needed =
+    keywords.Mode ∷ keywords.Occupancy ∷ keywords.Depth ∷ keywords.Msc ∷ keywords.Sdc ∷ keywords.Protection ∷ keywords.Room
+    ∷ keywords.Service ∷ keywords.Stream ∷ []
+
+abbrev pub is_entity : Keyword → Bool
+is_entity keywords.Label = true
+is_entity keywords.Freq = true
+is_entity keywords.When = true
+is_entity keywords.App = true
+is_entity keywords.Audio = true
+is_entity keywords.Language = true
+is_entity keywords.Raw = true
+is_entity _ = false
+
+-- the entity lines among these
+abbrev pub count_entities : List Said → ℕ
+count_entities said = length (filter (λ s. is_entity (keyword_said s.says)) said)
+
+-- a line of this keyword is out of its place
+abbrev pub is_misplaced : Read → Keyword → Bool
+is_misplaced read keyword = of read.current
+  where
+    of : Option Block → Bool
+    of None = not (same keyword (keyword_at (length read.front)))
+    of (Some block) = is_front keyword
+
+-- what holds of the lines of the last configuration, if there is one
+abbrev pub in_current : (List Said → Bool) → Option Block → Bool
+in_current test None = false
+in_current test (Some block) = test block.lines
+
+-- a configuration without one of its settings, a service or a stream
+unfoldable pub is_incomplete : List Said → Bool
+is_incomplete part = list_any (λ keyword. count keyword part == 0) needed
+
+-- a line of which its configuration has one, and may have no second
+unfoldable pub is_second : Keyword → List Said → Bool
+is_second keyword part = is_single keyword && nat_lt 0 (count keyword part)
+
+-- one more than a configuration may have: a fifth stream, a 65th entity line
+unfoldable pub is_too_many : Keyword → List Said → Bool
+is_too_many keywords.Stream part = nat_le 4 (count keywords.Stream part)
+is_too_many keyword part = is_entity keyword && nat_le 64 (count_entities part)
+
+-- a 17th configuration
+abbrev pub is_17th : Read → Keyword → Bool
+is_17th read keyword = same keyword keywords.Config && nat_le 15 (length read.closed)
+
+abbrev pub current_line : Option Block → ℕ
+current_line None = 0
+current_line (Some block) = block.line
+
+-- the parts of a line that are words, and their ranges
+abbrev pub is_spelled : Option Shape → Bool
+is_spelled None = true
+is_spelled (Some s) = list_all (λ p. p.is_spelled) s.parts
+
+abbrev pub is_in_range : Option Shape → Bool
+is_in_range None = true
+is_in_range (Some s) = list_all (λ p. p.in_range) s.parts
+
+-- a config line ends the configuration before it, which then lacks something
+abbrev pub ends_incomplete : Read → Keyword → Bool
+ends_incomplete read keyword = same keyword keywords.Config && in_current is_incomplete read.current
+
+-- The rows for line n, a line of this keyword after these lines: the first that holds is the fault. A line that isn't of
+-- the right words has no shape.
+abbrev pub rows_of : Read → ℕ → Keyword → Option Shape → List (Bool × Fault)
+rows_of read n keyword shape =
+    (ends_incomplete read keyword, fault (current_line read.current) Missing)
+    ∷ (is_none shape, fault n Word)
+    ∷ (is_misplaced read keyword, fault n Order)
+    ∷ (not (is_spelled shape), fault n Number)
+    ∷ (not (is_in_range shape), fault n Range)
+    ∷ (in_current (is_second keyword) read.current, fault n Twice)
+    ∷ (in_current (is_too_many keyword) read.current || is_17th read keyword, fault n TooLong)
+    ∷ []
+
+abbrev pub add_shape : ℕ → Option Shape → Read → Read
+add_shape n None read = read
+add_shape n (Some s) read = add n s.says read
+
+abbrev pub ok_unless : {X : Type 0} → Option Fault → X → Result X Fault
+ok_unless None x = Ok x
+ok_unless (Some f) x = Err f
+
+-- a line of this shape after these lines
+unfoldable pub said_shape : Read → ℕ → Keyword → Option Shape → Result Read Fault
+said_shape read n keyword shape = ok_unless (first_fault (rows_of read n keyword shape)) (add_shape n shape read)
+
+abbrev pub said_keyword : Read → ℕ → Option Keyword → List ℕ → List (List ℕ) → Result Read Fault
+said_keyword read n None line words = Err (fault n Word)
+said_keyword read n (Some keyword) line words = said_shape read n keyword (shape_of keyword line words)
+
+-- a line of these words: none, or a comment, says nothing
+abbrev pub said_words : Read → ℕ → List ℕ → List (List ℕ) → Result Read Fault
+said_words read n line [] = Ok read
+said_words read n line (first ∷ words) = if slice_index first 0 == 35 then Ok read else said_keyword read n (keyword_of first) line words
+
+-- line n after these lines
+unfoldable pub said_line : Read → ℕ → List ℕ → Result Read Fault
+said_line read n line = said_words read n line (words_of line)
+
+infixl 10 ◌>>=◌
+abbrev pub ◌>>=◌ : {A B : Type 0} → Result A Fault → (A → Result B Fault) → Result B Fault
+Ok x >>= f = f x
+Err e >>= f = Err e
+
+-- lines from line n on, after these lines
+unfoldable pub said_from : Read → ℕ → List (List ℕ) → Result Read Fault
+said_from read n [] = Ok read
+said_from read n (line ∷ lines) = do
+  more ← said_line read n line
+  said_from more (n + 1) lines
+
+-- what a text of n lines lacks at its end: a configuration, or a part of the last one
+abbrev pub end_rows : Option Block → ℕ → List (Bool × Fault)
+end_rows None n = (true, fault (n + 1) Missing) ∷ []
+end_rows (Some block) n = (is_incomplete block.lines, fault block.line Missing) ∷ []
+
+-- the end of a text of n lines
+unfoldable pub ended : ℕ → Read → Result Read Fault
+ended n read = ok_unless (first_fault (end_rows read.current n)) read
+
+-- what all lines of a text say
+unfoldable pub said : List (List ℕ) → Result Read Fault
+said lines = do
+  read ← said_from nothing 1 lines
+  ended (length lines) read

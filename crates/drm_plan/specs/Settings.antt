@@ -1,0 +1,8 @@
+-- A line that was found, as its value.
+use Rattle.std.specs.Prelude.{Option, Some, None}
+use Rattle.std.specs.Borrow.{Bor}
+use Rattle.drm_plan.specs.declared.said.Said.{Said}
+
+abbrev pub said_by : Option (Bor Said) → Option Said
+said_by None = None
+said_by (Some said) = Some said.now

@@ -1,0 +1,17 @@
+//! Laws of the canonical text.
+
+ghost use Rattle.std.specs.Prelude.{◌≡◌, ◌↔◌};
+ghost use Rattle.drm_plan.specs.Canonical.{canonical};
+ghost use Rattle.drm_plan.specs.Law.{IsReadAgain, without_files};
+
+use drm_schedule::Schedule;
+
+/// The canonical text of a schedule is read as the schedule again, but for the bytes of its files; and two schedules have
+/// one canonical text exactly where they are equal but for these.
+pub fn canonical_texts_are_read_again(a: &Schedule, b: &Schedule)
+    ensures again { IsReadAgain a.now }
+    ensures one_text { canonical a.now ≡ canonical b.now ↔ without_files a.now ≡ without_files b.now }
+{
+    a.always_valid();
+    b.always_valid();
+}

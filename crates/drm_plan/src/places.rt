@@ -1,0 +1,47 @@
+//! The lines that a fault can name.
+
+ghost use Rattle.std.specs.Prelude.{◌≡◌};
+ghost use Rattle.drm_plan.specs.Draft.{line_in, line_of_place, or_zero};
+ghost use Rattle.drm_plan.specs.Lookup.{at};
+
+use drm_schedule::{Items, Place};
+
+/// The lines of a configuration that a fault can name, from 1.
+#[derive(Drop)]
+pub struct Places {
+    pub config: u32,
+    pub occupancy: u32,
+    pub msc: u32,
+    /// Those of its streams, in their order.
+    pub streams: Items<u32>,
+}
+
+fn line_in(lines: &Places, place: Place) -> u32
+    ensures { result ≡ line_in lines.now place }
+{
+    match place {
+        Place::Config => lines.config,
+        Place::Occupancy => lines.occupancy,
+        Place::Msc => lines.msc,
+        Place::Stream(stream) => stream_line(lines.streams.as_slice(), stream),
+    }
+}
+
+fn stream_line(lines: &[u32], stream: usize) -> u32
+    ensures { result ≡ or_zero (at stream lines.now) }
+{
+    match lines.get(stream) {
+        Some(line) => *line,
+        None => 0,
+    }
+}
+
+/// The line of this place of the configuration with this number, from 0.
+pub fn place_line(all: &[Places], config: usize, place: Place) -> u32
+    ensures { result ≡ line_of_place all.now config place }
+{
+    match all.get(config) {
+        Some(lines) => line_in(lines, place),
+        None => 0,
+    }
+}

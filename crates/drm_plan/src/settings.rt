@@ -1,0 +1,190 @@
+//! What the lines of a configuration say of its settings.
+
+ghost use Rattle.std.specs.Prelude.{◌≡◌, Option, Some, None};
+ghost use Rattle.drm_plan.specs.Projection.{first_said, line_of, mode_in, occupancy_in, short_depth_in, msc_in, qam4_in, prot_a_in, prot_b_in, room_in, clock_in, carry_in, seq_in, dlfc_in, length_in};
+ghost use Rattle.plan_lines.specs.declared.first_word.Keyword.TheVariants as keywords;
+ghost use Rattle.drm_plan.specs.Settings.{said_by};
+
+use crate::said::Said;
+use drm_schedule::{Carry, Clock, Mode};
+use plan_lines::{Keyword, Line};
+
+/// The first line of this keyword.
+fn find(keyword: Keyword, lines: &[Said]) -> Option<&Said>
+    ensures { said_by result ≡ first_said keyword lines.now }
+{
+    let mut left = lines;
+    while let [said, rest @ ..] = left {
+        if said.says.keyword().is(keyword) {
+            return Some(said);
+        }
+        left = rest;
+    }
+    None
+}
+
+/// The number of the first line of this keyword, 0 where there is none.
+pub fn line_of(keyword: Keyword, lines: &[Said]) -> u32
+    ensures { result ≡ line_of keyword lines.now }
+{
+    match find(keyword, lines) {
+        Some(said) => said.line,
+        None => 0,
+    }
+}
+
+pub fn mode(lines: &[Said]) -> Mode
+    ensures { result ≡ mode_in (first_said keywords.Mode lines.now) }
+{
+    let Some(said) = find(Keyword::Mode, lines) else {
+        return Mode::A;
+    };
+    match &said.says {
+        Line::Mode(mode) => *mode,
+        _ => Mode::A,
+    }
+}
+
+pub fn occupancy(lines: &[Said]) -> u8
+    ensures { result ≡ occupancy_in (first_said keywords.Occupancy lines.now) }
+{
+    let Some(said) = find(Keyword::Occupancy, lines) else {
+        return 0;
+    };
+    match &said.says {
+        Line::Occupancy(occupancy) => *occupancy,
+        _ => 0,
+    }
+}
+
+pub fn short_depth(lines: &[Said]) -> bool
+    ensures { result ≡ short_depth_in (first_said keywords.Depth lines.now) }
+{
+    let Some(said) = find(Keyword::Depth, lines) else {
+        return false;
+    };
+    match &said.says {
+        Line::Depth { short } => *short,
+        _ => false,
+    }
+}
+
+pub fn msc(lines: &[Said]) -> u8
+    ensures { result ≡ msc_in (first_said keywords.Msc lines.now) }
+{
+    let Some(said) = find(Keyword::Msc, lines) else {
+        return 0;
+    };
+    match &said.says {
+        Line::Msc(msc) => *msc,
+        _ => 0,
+    }
+}
+
+pub fn qam4(lines: &[Said]) -> bool
+    ensures { result ≡ qam4_in (first_said keywords.Sdc lines.now) }
+{
+    let Some(said) = find(Keyword::Sdc, lines) else {
+        return false;
+    };
+    match &said.says {
+        Line::Sdc { qam4 } => *qam4,
+        _ => false,
+    }
+}
+
+pub fn prot_a(lines: &[Said]) -> u8
+    ensures { result ≡ prot_a_in (first_said keywords.Protection lines.now) }
+{
+    let Some(said) = find(Keyword::Protection, lines) else {
+        return 0;
+    };
+    match &said.says {
+        Line::Protection { a, .. } => *a,
+        _ => 0,
+    }
+}
+
+pub fn prot_b(lines: &[Said]) -> u8
+    ensures { result ≡ prot_b_in (first_said keywords.Protection lines.now) }
+{
+    let Some(said) = find(Keyword::Protection, lines) else {
+        return 0;
+    };
+    match &said.says {
+        Line::Protection { b, .. } => *b,
+        _ => 0,
+    }
+}
+
+pub fn room(lines: &[Said]) -> u16
+    ensures { result ≡ room_in (first_said keywords.Room lines.now) }
+{
+    let Some(said) = find(Keyword::Room, lines) else {
+        return 0;
+    };
+    match &said.says {
+        Line::Room(room) => *room,
+        _ => 0,
+    }
+}
+
+pub fn clock(lines: &[Said]) -> Option<Clock>
+    ensures { result ≡ clock_in (first_said keywords.Clock lines.now) }
+{
+    let Some(said) = find(Keyword::Clock, lines) else {
+        return None;
+    };
+    match &said.says {
+        Line::Clock(clock) => Some(*clock),
+        _ => None,
+    }
+}
+
+pub fn carry(lines: &[Said]) -> Carry
+    ensures { result ≡ carry_in (first_said keywords.Carry lines.now) }
+{
+    let Some(said) = find(Keyword::Carry, lines) else {
+        return Carry::Plain;
+    };
+    match &said.says {
+        Line::Carry(carry) => *carry,
+        _ => Carry::Plain,
+    }
+}
+
+pub fn seq(lines: &[Said]) -> u16
+    ensures { result ≡ seq_in (first_said keywords.First lines.now) }
+{
+    let Some(said) = find(Keyword::First, lines) else {
+        return 0;
+    };
+    match &said.says {
+        Line::First { seq, .. } => *seq,
+        _ => 0,
+    }
+}
+
+pub fn dlfc(lines: &[Said]) -> u32
+    ensures { result ≡ dlfc_in (first_said keywords.First lines.now) }
+{
+    let Some(said) = find(Keyword::First, lines) else {
+        return 0;
+    };
+    match &said.says {
+        Line::First { dlfc, .. } => *dlfc,
+        _ => 0,
+    }
+}
+
+pub fn length(lines: &[Said]) -> u32
+    ensures { result ≡ length_in (first_said keywords.Length lines.now) }
+{
+    let Some(said) = find(Keyword::Length, lines) else {
+        return 1;
+    };
+    match &said.says {
+        Line::Length(length) => *length,
+        _ => 1,
+    }
+}
