@@ -1,7 +1,7 @@
 -- The status of a fault, and the fault of a status.
 use Rattle.std.proofs.Common.{◌≡◌, Result, Err, refl, arith}
 use Rattle.drm_top.specs.declared.fault.Fault.{Fault}
-use Rattle.drm_top.specs.declared.fault.Fault.TheVariants.{NoMemory, Words, FacLength, FacOver, FacCrc, Read, Write}
+use Rattle.drm_top.specs.declared.fault.Fault.TheVariants.{NoMemory, Words, FacLength, FacOver, FacCrc, Schedule, Read, Write}
 use Rattle.drm_top.specs.Fault.{fault_status}
 
 pub two_is_words : (fault : Fault) → fault_status fault ≡ 2 → fault ≡ Words
@@ -10,6 +10,7 @@ two_is_words Words is = refl
 two_is_words (FacLength n) is = absurd (omega (arith, is))
 two_is_words FacOver is = absurd (omega (arith, is))
 two_is_words (FacCrc s c) is = absurd (omega (arith, is))
+two_is_words (Schedule l r) is = absurd (omega (arith, is))
 two_is_words Read is = absurd (omega (arith, is))
 two_is_words Write is = absurd (omega (arith, is))
 
@@ -22,6 +23,7 @@ four_is_read Words is = absurd (omega (arith, is))
 four_is_read (FacLength n) is = absurd (omega (arith, is))
 four_is_read FacOver is = absurd (omega (arith, is))
 four_is_read (FacCrc s c) is = absurd (omega (arith, is))
+four_is_read (Schedule l r) is = absurd (omega (arith, is))
 four_is_read Read is = refl
 four_is_read Write is = absurd (omega (arith, is))
 
@@ -31,6 +33,7 @@ five_is_write Words is = absurd (omega (arith, is))
 five_is_write (FacLength n) is = absurd (omega (arith, is))
 five_is_write FacOver is = absurd (omega (arith, is))
 five_is_write (FacCrc s c) is = absurd (omega (arith, is))
+five_is_write (Schedule l r) is = absurd (omega (arith, is))
 five_is_write Read is = absurd (omega (arith, is))
 five_is_write Write is = refl
 
@@ -40,6 +43,7 @@ one_is_memory Words is = absurd (omega (arith, is))
 one_is_memory (FacLength n) is = absurd (omega (arith, is))
 one_is_memory FacOver is = absurd (omega (arith, is))
 one_is_memory (FacCrc s c) is = absurd (omega (arith, is))
+one_is_memory (Schedule l r) is = absurd (omega (arith, is))
 one_is_memory Read is = absurd (omega (arith, is))
 one_is_memory Write is = absurd (omega (arith, is))
 

@@ -1,8 +1,14 @@
 pub mod CrcLine
+pub mod Reasons
 pub mod Text
 pub mod Lines
 pub mod Faults
 pub mod Input
 pub mod Fault
 pub mod Fac
+pub mod Loading
+pub mod PlanFaults
+pub mod Schedule
+pub mod Check
+pub mod Command
 pub mod Words

@@ -6,8 +6,9 @@ use Rattle.hex.specs.Hex.{encode_lower}
 use Rattle.drm_fac.specs.declared.fac.Fac.{Fac}
 use Rattle.drm_fac.specs.Services.{counts_of}
 use Rattle.drm_top.specs.CrcLine.{crc_line}
+use Rattle.drm_top.specs.Reasons.{reason_word, schedule_line}
 use Rattle.drm_top.specs.declared.fault.Fault.{Fault}
-use Rattle.drm_top.specs.declared.fault.Fault.TheVariants.{NoMemory, Words, FacLength, FacOver, FacCrc, Read, Write}
+use Rattle.drm_top.specs.declared.fault.Fault.TheVariants.{NoMemory, Words, FacLength, FacOver, FacCrc, Schedule, Read, Write}
 
 abbrev pub flag : Bool → List ℕ
 flag b = decimal (from_bool b)
@@ -44,5 +45,6 @@ fault_line Words = codes "drmcast: words\n"
 fault_line (FacLength bytes) = concat (codes "drmcast: fac length " ∷ decimal bytes ∷ codes "\n" ∷ [])
 fault_line FacOver = codes "drmcast: fac length over 9\n"
 fault_line (FacCrc stands computed) = crc_line (stands ∷ []) (computed ∷ [])
+fault_line (Schedule line reason) = schedule_line line (reason_word reason)
 fault_line Read = codes "drmcast: read fault\n"
 fault_line Write = codes "drmcast: write fault\n"

@@ -1,8 +1,32 @@
 -- The command lines whose command is built.
-use Rattle.std.specs.Prelude.{ℕ, List}
+use Rattle.std.specs.Prelude.{ℕ, ◌≡◌, List, Result, Ok, Err, IsUtf8}
 use Rattle.drm_words.specs.Line.{IsLine}
+use Rattle.drm_words.specs.declared.request.Request.{Request}
 use Rattle.drm_words.specs.declared.request.Request.TheVariants as requests
+use Rattle.drm_words.specs.declared.fault.WordsFault.{WordsFault}
+use Rattle.drm_words.specs.declared.fault.WordsFault.TheVariants as faults
+use Rattle.drm_top.specs.declared.words.Command.{Command}
+use Rattle.drm_top.specs.declared.words.Command.TheVariants.{Fac, Check}
 
--- the words ask for a FAC to be printed
-abbrev pub IsFacLine : List (List ℕ) → Type 0
-IsFacLine words = IsLine words requests.Fac
+-- what a command is asked for with
+abbrev pub request_of : Command → Request
+request_of Fac = requests.Fac
+request_of (Check name) = requests.Check name
+
+-- the words are a command line of this command
+abbrev pub AsksFor : Command → List (List ℕ) → Type 0
+AsksFor command words = IsLine words (request_of command)
+
+-- the words are no command line of a command that is built
+abbrev pub AsksForNothing : List (List ℕ) → Type 0
+AsksForNothing words = (command : Command) → AsksFor command words → ⊥
+
+-- what a request comes to: its command, or none where it isn't built
+abbrev pub Asks : Result Command WordsFault → Request → Type 0
+Asks (Ok command) request = request ≡ request_of command
+Asks (Err fault) request = (fault ≡ faults.Words) × ((command : Command) → request ≡ request_of command → ⊥)
+
+-- the name is text
+abbrev pub HasTextName : Command → Type 0
+HasTextName Fac = Unit {0}
+HasTextName (Check name) = IsUtf8 name

@@ -7,10 +7,14 @@ ghost use Rattle.drm_top.specs.Text.{text_of};
 ghost use Rattle.drm_top.specs.CrcLine.{crc_line};
 
 use crate::head::ReadFault;
+use crate::loading::ScheduleFault;
 use crate::output::{write_all, write_pieces};
+use crate::reason::schedule_pieces;
 use crate::text::Piece;
+use drm_bits::NoMemory;
 use drm_fac::FacFault;
 use drm_links::{Sink, Status, WriteFault};
+use drm_schedule::Reason;
 
 /// A fault of a run. Each has a status and a line.
 #[derive(Clone, Copy, Debug, PartialEq, Eq)]
@@ -20,6 +24,7 @@ pub enum Fault {
     FacLength(usize),
     FacOver,
     FacCrc { stands: u8, computed: u8 },
+    Schedule { line: u32, reason: Reason },
     Read,
     Write,
 }
@@ -58,6 +63,32 @@ impl From<FacFault> for Fault {
     }
 }
 
+impl From<ScheduleFault> for Fault {
+    ghost use Rattle.std.specs.Prelude.{◌≡◌};
+    ghost use Rattle.drm_top.specs.Faults.{fault_of_schedule};
+
+    ghost from_gives = { λ refused fault. fault ≡ fault_of_schedule refused };
+
+    fn from(refused: ScheduleFault) -> Self {
+        match refused {
+            ScheduleFault::NoMemory => Fault::NoMemory,
+            ScheduleFault::Line { line, reason } => Fault::Schedule { line, reason },
+            ScheduleFault::Read => Fault::Read,
+        }
+    }
+}
+
+impl From<NoMemory> for Fault {
+    ghost use Rattle.std.specs.Prelude.{◌≡◌};
+    ghost use Rattle.drm_top.specs.declared.fault.Fault.TheVariants as faults;
+
+    ghost from_gives = { λ _ fault. fault ≡ faults.NoMemory };
+
+    fn from(_: NoMemory) -> Self {
+        Fault::NoMemory
+    }
+}
+
 impl Fault {
     ghost use Rattle.drm_top.specs.Lines.{fault_line};
     ghost use Rattle.drm_top.specs.Fault.{fault_status, WritesLine};
@@ -78,6 +109,7 @@ impl Fault {
             Fault::NoMemory => 1,
             Fault::Words => 2,
             Fault::FacLength(_) | Fault::FacOver | Fault::FacCrc { .. } => 3,
+            Fault::Schedule { .. } => 3,
             Fault::Read => 4,
             Fault::Write => 5,
         };
@@ -107,6 +139,7 @@ impl Fault {
                 let values = [stands, computed];
                 write_pieces(err, &crc_pieces(&values[..1], &values[1..]))
             }
+            Fault::Schedule { line, reason } => write_pieces(err, &schedule_pieces(line, reason)),
             Fault::Read => write_words(err, "drmcast: read fault\n"),
             Fault::Write => write_words(err, "drmcast: write fault\n"),
         }

@@ -1,15 +1,22 @@
 //! The commands of `drmcast`: one call that takes the words of a command line and the outside, and answers a status.
 #![tactic(auto)]
 
+mod check;
+#[cfg(test)]
+mod check_tests;
 mod command;
 mod fac;
 mod fac_line;
 mod fault;
 mod head;
+mod loading;
 mod output;
+mod reason;
+mod schedule;
 #[cfg(test)]
 mod tests;
 mod text;
+mod words;
 
 pub use command::{no_memory, run};
 pub use drm_links::Status;

@@ -144,7 +144,7 @@ fn takes_the_end_of_options(rt: HostRuntime) -> Result<(), Fail> {
 // Words that are no command line, and command lines of commands that aren't built yet.
 #[test]
 fn refuses_other_words(rt: HostRuntime) -> Result<(), Fail> {
-    let cases: [&[&str]; 20] = [
+    let cases: [&[&str]; 21] = [
         &[],
         &["fac", "x"],
         &["fac", "fac"],
@@ -161,7 +161,8 @@ fn refuses_other_words(rt: HostRuntime) -> Result<(), Fail> {
         &["serve", "a", "--pace", "1", "--pace", "2"],
         &["air", "a"],
         &["--window", "4", "receive"],
-        &["check", "schedule.txt"],
+        &["check"],
+        &["check", "a", "b"],
         &["serve", "schedule.txt", "--to", "127.0.0.1:5000"],
         &["show"],
         &["exercise", "4"],

@@ -2,14 +2,13 @@
 
 #![tactic(auto)]
 
-mod streams;
 mod words;
 
-use drm_links::{MemDock, MemShelf};
+use drm_adapt::{FileShelf, StreamSink, StreamSource};
+use drm_links::MemDock;
 use drm_top::{no_memory, run};
 use std::env;
 use std::process::ExitCode;
-use streams::{StreamSink, StreamSource};
 use words::given_words;
 
 fn main(rt: HostRuntime) -> ExitCode {
@@ -18,10 +17,10 @@ fn main(rt: HostRuntime) -> ExitCode {
     let mut out = StreamSink::new(rt.stdout());
     let mut err = StreamSink::new(rt.stderr());
     let words = given_words(alloc, env::args(&rt));
-    let shelf = MemShelf::make(alloc, &[]);
+    let mut shelf = FileShelf::new(&rt);
     let dock = MemDock::make(alloc, &[]);
-    let status = match (words, shelf, dock) {
-        (Ok(words), Ok(mut shelf), Ok(mut dock)) => run(
+    let status = match (words, dock) {
+        (Ok(words), Ok(mut dock)) => run(
             &rt, alloc, &words, &mut shelf, &mut input, &mut out, &mut err, &mut dock,
         ),
         _ => no_memory(&mut err),

@@ -1,16 +1,37 @@
-use Rattle.std.proofs.Common.{◌≡◌, ◌∙◌, ℕ, inl, inr, sym, ap, Result, Err}
+use Rattle.std.proofs.Common.{◌≡◌, ◌∙◌, ℕ, inl, inr, sym, ap, refl, Result, Ok, Err}
 use Rattle.drm_top.specs.declared.fault.Fault.{Fault}
 use Rattle.drm_top.specs.declared.fault.Fault.TheVariants.{NoMemory}
+use Rattle.drm_top.specs.declared.words.Command.TheVariants as commands
 use Rattle.drm_top.specs.Fault.{fault_status}
 use Rattle.drm_top.proofs.FacLemmas.{run_refused, run_complete}
-use Rattle.drm_top.proofs.StatusLemmas.{two_is_words, words_is_two, one_is_memory, memory_is_one, four_is_read, five_is_write}
+use Rattle.drm_top.proofs.CheckLemmas.{check_refused, check_unread, check_complete}
+use Rattle.drm_top.proofs.StatusLemmas.{two_is_words, words_is_two, memory_is_one, four_is_read, five_is_write}
 use Rattle.drm_top.proofs.command.run.Goals as goal
 
 pub returns-in-Ok-clause-refused : goal.returns-in-Ok-clause-refused
-returns-in-Ok-clause-refused g c = λ words other free. run_refused _ _ _ _ _ _ _ _ _ (c.in-Ok.ensures.fac words (λ e. cc)) other
+returns-in-Ok-clause-refused g c = λ words other free. run_refused _ _ _ _ _ _ _ _ _ (c.in-Ok.ensures.runs commands.Fac words (λ e. cc)).0 other
 
 pub returns-in-Ok-clause-complete : goal.returns-in-Ok-clause-complete
-returns-in-Ok-clause-complete g c = λ words free no_read no_write. run_complete _ _ _ _ _ _ _ _ _ (c.in-Ok.ensures.fac words (λ e. cc)) no_read no_write
+returns-in-Ok-clause-complete g c = λ words free no_read no_write. run_complete _ _ _ _ _ _ _ _ _ (c.in-Ok.ensures.runs commands.Fac words (λ e. cc)).0 no_read no_write
+
+pub returns-in-Ok-clause-check_refused : goal.returns-in-Ok-clause-check_refused
+returns-in-Ok-clause-check_refused g c = λ name words free. check_refused name _ _ _ _ _ _ _ _ _ (c.in-Ok.ensures.runs (commands.Check name) words (λ e. cc)).0 free
+
+pub returns-in-Ok-clause-check_unread : goal.returns-in-Ok-clause-check_unread
+returns-in-Ok-clause-check_unread g c = λ name words free. check_unread name _ _ _ _ _ _ _ _ _ (c.in-Ok.ensures.runs (commands.Check name) words (λ e. cc)).0 free
+
+pub returns-in-Ok-clause-check_complete : goal.returns-in-Ok-clause-check_complete
+returns-in-Ok-clause-check_complete g c = λ name words free no_write. check_complete name _ _ _ _ _ _ _ _ _ (c.in-Ok.ensures.runs (commands.Check name) words (λ e. cc)).0 free no_write
+
+pub returns-in-Ok-clause-fac : goal.returns-in-Ok-clause-fac
+returns-in-Ok-clause-fac g c = λ words free.
+    let run = c.in-Ok.ensures.runs commands.Fac words (λ e. cc) in
+    (Ok tt, refl, run.0, run.1, refl)
+
+pub returns-in-Ok-clause-check : goal.returns-in-Ok-clause-check
+returns-in-Ok-clause-check g c = λ name words free.
+    let run = c.in-Ok.ensures.runs (commands.Check name) words (λ e. cc) in
+    (Ok tt, refl, run.0, run.1, refl)
 
 -- a fault that is want of memory has status 1
 free_of_memory : (fault : Fault) (code : ℕ) → code ≡ fault_status fault → (code ≡ 1 → ⊥) → (let ended : Result (Unit {0}) Fault = Err fault in ended ≡ Err NoMemory) → ⊥
@@ -27,22 +48,36 @@ returns-in-Err-clause-others g c = λ none. elim (c.in-Err.ensures.others none) 
 
 pub returns-in-Err-clause-refused : goal.returns-in-Err-clause-refused
 returns-in-Err-clause-refused g c = λ words other free.
-    rw c.report.ensures.status (run_refused _ _ _ _ _ _ _ _ _ (c.in-Err.ensures.fac words (free_of_memory c.in-Err.fault c.report.result.code c.report.ensures.status free)) (λ four. other (c.report.ensures.status ∙ four)))
+    rw c.report.ensures.status (run_refused _ _ _ _ _ _ _ _ _ (c.in-Err.ensures.runs commands.Fac words (free_of_memory c.in-Err.fault c.report.result.code c.report.ensures.status free)).0 (λ four. other (c.report.ensures.status ∙ four)))
 
 pub returns-in-Err-clause-complete : goal.returns-in-Err-clause-complete
 returns-in-Err-clause-complete g c = λ words free no_read no_write.
-    rw c.report.ensures.status (run_complete _ _ _ _ _ _ _ _ _ (c.in-Err.ensures.fac words (free_of_memory c.in-Err.fault c.report.result.code c.report.ensures.status free)) no_read no_write)
+    rw c.report.ensures.status (run_complete _ _ _ _ _ _ _ _ _ (c.in-Err.ensures.runs commands.Fac words (free_of_memory c.in-Err.fault c.report.result.code c.report.ensures.status free)).0 no_read no_write)
+
+pub returns-in-Err-clause-check_refused : goal.returns-in-Err-clause-check_refused
+returns-in-Err-clause-check_refused g c = λ name words free.
+    rw c.report.ensures.status (check_refused name _ _ _ _ _ _ _ _ _ (c.in-Err.ensures.runs (commands.Check name) words (free_of_memory c.in-Err.fault c.report.result.code c.report.ensures.status free)).0 (λ one. free (c.report.ensures.status ∙ one)))
+
+pub returns-in-Err-clause-check_unread : goal.returns-in-Err-clause-check_unread
+returns-in-Err-clause-check_unread g c = λ name words free.
+    rw c.report.ensures.status (check_unread name _ _ _ _ _ _ _ _ _ (c.in-Err.ensures.runs (commands.Check name) words (free_of_memory c.in-Err.fault c.report.result.code c.report.ensures.status free)).0 (λ one. free (c.report.ensures.status ∙ one)))
+
+pub returns-in-Err-clause-check_complete : goal.returns-in-Err-clause-check_complete
+returns-in-Err-clause-check_complete g c = λ name words free no_write.
+    rw c.report.ensures.status (check_complete name _ _ _ _ _ _ _ _ _ (c.in-Err.ensures.runs (commands.Check name) words (free_of_memory c.in-Err.fault c.report.result.code c.report.ensures.status free)).0 (λ one. free (c.report.ensures.status ∙ one)) no_write)
 
 pub returns-in-Err-clause-read : goal.returns-in-Err-clause-read
-returns-in-Err-clause-read g c = λ four. c.in-Err.ensures.read.rose (ap Err (four_is_read c.in-Err.fault (sym c.report.ensures.status ∙ four)))
+returns-in-Err-clause-read g c = λ four. c.in-Err.ensures.read (ap Err (four_is_read c.in-Err.fault (sym c.report.ensures.status ∙ four)))
 
 pub returns-in-Err-clause-write : goal.returns-in-Err-clause-write
 returns-in-Err-clause-write g c = λ five. c.in-Err.ensures.write.rose (ap Err (five_is_write c.in-Err.fault (sym c.report.ensures.status ∙ five)))
 
 pub returns-in-Err-clause-fac : goal.returns-in-Err-clause-fac
-returns-in-Err-clause-fac g c = λ words free. (
-  Err c.in-Err.fault,
-  c.report.ensures.status,
-  c.in-Err.ensures.fac words (free_of_memory c.in-Err.fault c.report.result.code c.report.ensures.status free),
-  c.report.ensures.line,
-)
+returns-in-Err-clause-fac g c = λ words free.
+    let run = c.in-Err.ensures.runs commands.Fac words (free_of_memory c.in-Err.fault c.report.result.code c.report.ensures.status free) in
+    (Err c.in-Err.fault, c.report.ensures.status, run.0, run.1, c.report.ensures.line)
+
+pub returns-in-Err-clause-check : goal.returns-in-Err-clause-check
+returns-in-Err-clause-check g c = λ name words free.
+    let run = c.in-Err.ensures.runs (commands.Check name) words (free_of_memory c.in-Err.fault c.report.result.code c.report.ensures.status free) in
+    (Err c.in-Err.fault, c.report.ensures.status, run.0, run.1, c.report.ensures.line)

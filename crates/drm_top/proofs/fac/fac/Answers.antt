@@ -1,4 +1,4 @@
-use Rattle.std.proofs.Common.{◌≡◌, ◌∙◌, ap, Err, refl}
+use Rattle.std.proofs.Common.{◌∙◌, ap, Err, refl}
 use Rattle.std.proofs.lemmas.Result.{err_from_is_err_and}
 use Rattle.drm_top.proofs.FacLemmas.{run_stopped, run_cut, run_done, run_ends}
 use Rattle.drm_top.proofs.fac.fac.Goals as goal

@@ -12,6 +12,9 @@ returns-in-FacLength-clause-whole g c = rw c.in-FacLength.is c.write_pieces.ensu
 pub returns-in-FacOver-clause-whole : goal.returns-in-FacOver-clause-whole
 returns-in-FacOver-clause-whole g c = rw c.in-FacOver.is c.write_words-in-FacOver.ensures.whole
 
+pub returns-in-Schedule-clause-whole : goal.returns-in-Schedule-clause-whole
+returns-in-Schedule-clause-whole g c = rw (c.in-Schedule.is, ← c.schedule_pieces.ensures) c.write_pieces-in-Schedule.ensures.whole
+
 pub returns-in-Read-clause-whole : goal.returns-in-Read-clause-whole
 returns-in-Read-clause-whole g c = rw c.in-Read.is c.write_words-in-Read.ensures.whole
 

@@ -1,0 +1,43 @@
+//! The words for what is wrong with a text.
+
+ghost use Rattle.std.specs.Prelude.{◌≡◌};
+ghost use Rattle.drm_top.specs.Reasons.{reason_word, schedule_line};
+ghost use Rattle.drm_top.specs.Text.{text_of};
+
+use crate::text::Piece;
+use drm_schedule::Reason;
+
+/// The line of a fault in a line of a schedule's text.
+pub fn schedule_pieces(line: u32, reason: Reason) -> [Piece<'static>; 5]
+    ensures { text_of result ≡ schedule_line line (reason_word reason) }
+{
+    [
+        Piece::Words("drmcast: schedule line "),
+        Piece::Number(u64::from(line)),
+        Piece::Words(": "),
+        Piece::Words(word(reason)),
+        Piece::Words("\n"),
+    ]
+}
+
+fn word(reason: Reason) -> &'static str
+    ensures { result.now ≡ reason_word reason }
+{
+    match reason {
+        Reason::Utf8 => "utf8",
+        Reason::Word => "word",
+        Reason::Number => "number",
+        Reason::Range => "range",
+        Reason::Missing => "missing",
+        Reason::Twice => "twice",
+        Reason::Order => "order",
+        Reason::Countdown => "countdown",
+        Reason::Services => "services",
+        Reason::Occupancy => "occupancy",
+        Reason::Hierarchical => "hierarchical",
+        Reason::Fit => "fit",
+        Reason::ContentShort => "content-short",
+        Reason::PacketSize => "packet-size",
+        Reason::TooLong => "too-long",
+    }
+}

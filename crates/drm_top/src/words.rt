@@ -1,0 +1,53 @@
+//! The commands that are built.
+
+ghost use Rattle.std.specs.Prelude.{◌≡◌, ◌⊎◌, IfOk, IsUtf8, map, string_bytes};
+ghost use Rattle.drm_top.specs.Words.{AsksFor, AsksForNothing, Asks, HasTextName};
+ghost use Rattle.drm_words.specs.Table.{HasTextNames};
+ghost use Rattle.drm_top.specs.declared.words.Command.{Command};
+
+use drm_bits::Octets;
+use drm_words::{Request, WordsFault, read_words};
+use std::alloc::Global;
+
+/// A command that is built.
+#[derive(Drop)]
+pub enum Command {
+    Fac,
+    Check { name: Octets },
+}
+
+/// The command of a command line.
+pub fn read_command(alloc: Global, words: &[String]) -> Result<Command, WordsFault>
+    ensures found { IfOk result (λ command. AsksFor command (map string_bytes words.now)) }
+    ensures only { (command : Command) → AsksFor command (map string_bytes words.now)
+        → (result ≡ Ok command) ⊎ (result ≡ Err WordsFault.NoMemory) }
+    ensures refused { result ≡ Err WordsFault.Words → AsksForNothing (map string_bytes words.now) }
+    ensures exact { AsksForNothing (map string_bytes words.now)
+        → (result ≡ Err WordsFault.Words) ⊎ (result ≡ Err WordsFault.NoMemory) }
+    ensures text { IfOk result HasTextName }
+{
+    match read_words(alloc, words) {
+        Ok(request) => command_of(request),
+        Err(fault) => Err(fault),
+    }
+}
+
+// No other command is built yet.
+fn command_of(request: Request) -> Result<Command, WordsFault>
+    ensures asks { Asks result request }
+    ensures text { HasTextNames request → IfOk result HasTextName }
+{
+    match request {
+        Request::Fac => Ok(Command::Fac),
+        Request::Check { name } => Ok(Command::Check { name }),
+        _ => Err(WordsFault::Words),
+    }
+}
+
+/// The name as text.
+pub fn text(name: &Octets) -> &str
+    requires { IsUtf8 name.now }
+    ensures { result.now ≡ name.now }
+{
+    name.as_text().unwrap()
+}
