@@ -1,9 +1,9 @@
 -- Nine bytes are at most one FAC, and have at most one fault.
-use Rattle.std.proofs.Common.{◌≡◌, ◌≢◌, ◌<◌, ◌^◌, ℕ, Bool, true, false, List, [], ◌∷◌, ◌++◌, take, refl, sym, ◌∙◌, ap, nat_eq, get_or, map, slice_index}
+use Rattle.std.proofs.Common.{◌≡◌, ℕ, Bool, true, false, List, take, refl, sym, ◌∙◌, ap, nat_eq, get_or, map, slice_index}
 use Rattle.std.specs.Int.{from_bool}
-use Rattle.drm_bits.specs.Bits.{digits, bits_of}
-use Rattle.drm_bits.specs.Crc.{IsCheck, crc8_polynomial}
-use Rattle.drm_bits.specs.Fields.{Field, Fit}
+use Rattle.drm_bits.specs.Bits.{bits_of}
+use Rattle.drm_bits.specs.Crc.{crc8_polynomial}
+use Rattle.drm_bits.specs.Fields.{Field}
 use Rattle.drm_bits.proofs.Checks.{IsCheck-unique, crc8_low}
 use Rattle.drm_bits.proofs.FieldLemmas.{same_fields, fields_fit}
 use Rattle.drm_fac.specs.declared.fac.Fac.{Fac}

@@ -1,3 +1,4 @@
 pub mod FacLemmas
 pub mod WriteLemmas
 pub mod WrittenFac
+pub mod OrderLemmas

@@ -1,9 +1,8 @@
 -- Nine bytes that are written for a FAC are one, and the only ones.
-use Rattle.std.proofs.Common.{◌≡◌, ◌<◌, ◌^◌, ◌+◌, ℕ, nat_eq, List, [], ◌∷◌, ◌++◌, length, take, get_or, inl, inr, refl, sym, ◌∙◌, ap, subst, arith, Bool}
+use Rattle.std.proofs.Common.{◌≡◌, ◌<◌, ◌^◌, ℕ, List, [], ◌∷◌, ◌++◌, length, take, get_or, sym, ◌∙◌, ap, subst, arith, Bool}
 use Rattle.std.proofs.Math.ListN.{set, length-set}
-use Rattle.std.proofs.lemmas.Bool.{cases_lt}
 use Rattle.std.proofs.lemmas.Grind.{common_steps}
-use Rattle.std.proofs.lemmas.List.{take-set-le, get_or-set_same, get_or-set_other, get_or-take, take_more, take_all, length-take-le}
+use Rattle.std.proofs.lemmas.List.{take-set-le, get_or-set_same, take_more, take_all}
 use Rattle.drm_bits.specs.Bits.{digits, bits_of, IsBytes}
 use Rattle.drm_bits.specs.Crc.{IsCheck, crc8_polynomial}
 use Rattle.drm_bits.specs.Fields.{AreFields, spelled}

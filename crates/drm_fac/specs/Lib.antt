@@ -1,3 +1,4 @@
 pub mod Fac
 pub mod Fault
 pub mod Services
+pub mod Pattern

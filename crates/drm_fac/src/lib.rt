@@ -5,10 +5,12 @@
 mod channel;
 mod fac;
 mod fields;
+mod order;
 mod service;
 mod services;
 
 pub use channel::Channel;
 pub use fac::{Fac, FacFault, decode, encode};
+pub use order::{Slot, pattern};
 pub use service::Service;
-pub use services::counts;
+pub use services::{counts, services_code};

@@ -1,7 +1,7 @@
 //! The numbers of services of a channel.
 
-ghost use Rattle.std.specs.Prelude.{◌≡◌, ◌<◌};
-ghost use Rattle.drm_fac.specs.Services.{counts_of};
+ghost use Rattle.std.specs.Prelude.{◌≡◌, ◌<◌, IfSome, Some};
+ghost use Rattle.drm_fac.specs.Services.{counts_of, code_of};
 
 /// The numbers of audio and of data services that a code stands for; `None` where the code is reserved.
 pub fn counts(code: u8) -> Option<(u8, u8)>
@@ -13,6 +13,19 @@ pub fn counts(code: u8) -> Option<(u8, u8)>
         15 => Some((0, 4)),
         11 | 14 => None,
         _ => Some((code / 4, code % 4)),
+    }
+}
+
+/// The code of so many audio and data services; `None` where there is none of them, or more than four.
+pub fn services_code(audio: u8, data_count: u8) -> Option<u8>
+    ensures code { result ≡ code_of audio data_count }
+    ensures read_again { IfSome result (λ code. counts_of code ≡ Some (audio, data_count)) }
+{
+    match (audio, data_count) {
+        (4, 0) => Some(0),
+        (0, 4) => Some(15),
+        (0, 1..=3) | (1, 0..=3) | (2, 0..=2) | (3, 0..=1) => Some(4 * audio + data_count),
+        _ => None,
     }
 }
 
@@ -43,6 +56,29 @@ mod tests {
         ];
         for code in 0..16u8 {
             assert_eq!(rt; counts(code), table[code as usize], "code {code}");
+        }
+    }
+
+    #[test]
+    fn codes_services(rt: HostRuntime) {
+        let cases = [
+            ((4, 0), Some(0)),
+            ((0, 4), Some(15)),
+            ((2, 1), Some(9)),
+            ((1, 3), Some(7)),
+            ((3, 1), Some(13)),
+            ((0, 0), None),
+            ((0, 5), None),
+            ((2, 3), None),
+            ((4, 1), None),
+            ((255, 255), None),
+        ];
+        for ((audio, data_count), code) in cases {
+            assert_eq!(rt;
+                services_code(audio, data_count),
+                code,
+                "{audio}+{data_count}"
+            );
         }
     }
 }

@@ -1,4 +1,3 @@
-use Rattle.std.proofs.Common.{◌≡◌}
 use Rattle.std.proofs.Math.ListN.{set}
 use Rattle.drm_fac.specs.Fac.{IsFac}
 use Rattle.drm_fac.proofs.WrittenFac.{fac_written, fac_once}

@@ -1,4 +1,4 @@
-use Rattle.std.proofs.Common.{◌≡◌, ◌*◌, ◌++◌, List, Bool, length, sym, ◌∙◌, ap, arith}
+use Rattle.std.proofs.Common.{◌≡◌, ◌++◌, List, Bool, length, sym, ◌∙◌, ap, arith}
 use Rattle.drm_bits.specs.Fields.{spelled}
 use Rattle.drm_bits.specs.Sink.{written}
 use Rattle.drm_bits.proofs.BitsLemmas.{length-bits_of}

@@ -1,0 +1,104 @@
+//! The order in which the services stand in the FAC.
+
+ghost use Rattle.std.specs.Prelude.{◌≡◌, ◌<◌, ◌%◌, length, IsSome, Some, slice_get};
+ghost use Rattle.drm_fac.specs.Services.{code_of};
+ghost use Rattle.drm_fac.specs.Pattern.{before_data, order_of, service_at};
+
+/// A service of a multiplex: which of the audio services, or of the data services, from 0.
+#[derive(Clone, Copy, Debug, PartialEq, Eq)]
+pub enum Slot {
+    Audio(u8),
+    Data(u8),
+}
+
+/// The service whose parameters stand in a frame, of so many audio and data services (ES 201 980, "Fast Access
+/// Channel"). The phase counts frames from the first one of the configuration.
+pub fn pattern(audio: u8, data_count: u8, phase: u64) -> Slot
+    requires { IsSome (code_of audio data_count) }
+    ensures { Some result ≡ service_at audio data_count phase }
+{
+    let place = (phase % u64::from(order_len(audio, data_count))) as u8;
+    at_place(audio, data_count, place)
+}
+
+// In how many frames audio services stand before each data service.
+fn audio_frames(audio: u8) -> u8
+    requires { audio < 4 }
+    ensures { result ≡ length (before_data audio) }
+{
+    if audio == 1 { 4 } else { 2 * audio }
+}
+
+// After how many frames the order is repeated.
+fn order_len(audio: u8, data_count: u8) -> u8
+    requires { IsSome (code_of audio data_count) }
+    ensures { result ≡ length (order_of audio data_count) }
+{
+    match (audio, data_count) {
+        (_, 0) => audio,
+        (0, _) => data_count,
+        _ => (audio_frames(audio) + 1) * data_count,
+    }
+}
+
+// The service at a place of the order.
+fn at_place(audio: u8, data_count: u8, place: u8) -> Slot
+    requires code { IsSome (code_of audio data_count) }
+    requires place { place < length (order_of audio data_count) }
+    ensures { Some result ≡ slice_get (order_of audio data_count) place }
+{
+    match (audio, data_count) {
+        (_, 0) => Slot::Audio(place),
+        (0, _) => Slot::Data(place),
+        _ => {
+            let audio_frames = audio_frames(audio);
+            let (group, in_group) = (place / (audio_frames + 1), place % (audio_frames + 1));
+            if in_group < audio_frames {
+                Slot::Audio(in_group % audio)
+            } else {
+                Slot::Data(group)
+            }
+        }
+    }
+}
+
+#[cfg(test)]
+mod tests {
+    use super::*;
+    use crate::services_code;
+
+    const A: Slot = Slot::Audio(0);
+
+    const B: Slot = Slot::Audio(1);
+
+    const C: Slot = Slot::Audio(2);
+
+    const D: Slot = Slot::Data(0);
+
+    const E: Slot = Slot::Data(1);
+
+    // Each order written out by hand, and what comes after it.
+    #[test]
+    fn services_take_turns(rt: HostRuntime) {
+        let cases = [
+            (1, 0, [A, A].as_slice()),
+            (3, 0, &[A, B, C, A, B]),
+            (0, 2, &[D, E, D]),
+            (1, 1, &[A, A, A, A, D, A]),
+            (1, 2, &[A, A, A, A, D, A, A, A, A, E, A]),
+            (2, 1, &[A, B, A, B, D, A, B]),
+            (2, 2, &[A, B, A, B, D, A, B, A, B, E, A, B]),
+            (3, 1, &[A, B, C, A, B, C, D, A]),
+        ];
+        for (audio, data_count, order) in cases {
+            assert!(rt; services_code(audio, data_count).is_some());
+            for (phase, slot) in order.iter().enumerate() {
+                assert_eq!(rt;
+                    pattern(audio, data_count, phase as u64),
+                    *slot,
+                    "{order:?} {phase}"
+                );
+            }
+        }
+    }
+}
