@@ -8,7 +8,7 @@ ghost use Rattle.drm_schedule.specs.Sizes.{description_size, free_bytes};
 ghost use Rattle.drm_schedule.specs.Packing as packing;
 ghost use Rattle.drm_schedule.specs.Packing.{last_spot};
 ghost use Rattle.drm_schedule.specs.Announcement as announcement;
-ghost use Rattle.drm_schedule.specs.Announcement.{is_of, repeated_of, all_repeated, parameters_size};
+ghost use Rattle.drm_schedule.specs.Announcement.{repeated_of, all_repeated, parameters_size};
 
 use crate::packing::Spot;
 use crate::sizes::{entity_len, free_len};
@@ -21,12 +21,17 @@ pub enum Repeated {
     App,
 }
 
-fn is_of(repeated: Repeated, body: &Body) -> bool
-    ensures { result ≡ is_of repeated body.now }
-{
-    match repeated {
-        Repeated::Audio => matches!(body, Body::Audio { .. }),
-        Repeated::App => matches!(body, Body::App { .. }),
+impl Repeated {
+    ghost use Rattle.drm_schedule.specs.Announcement.{is_of};
+
+    /// Whether an entity with this body is one of them.
+    pub fn is_of(self, body: &Body) -> bool
+        ensures { result ≡ is_of self body.now }
+    {
+        match self {
+            Repeated::Audio => matches!(body, Body::Audio { .. }),
+            Repeated::App => matches!(body, Body::App { .. }),
+        }
     }
 }
 
@@ -38,7 +43,7 @@ fn place_all(free: &[u16], from: Spot, repeated: Repeated, config: &Config) -> O
     let mut spot = from;
     let mut left = config.entities.as_slice();
     while let [entity, more @ ..] = left {
-        if is_of(repeated, &entity.body) {
+        if repeated.is_of(&entity.body) {
             spot = spot.place(free, entity_len(entity))?;
         }
         left = more;
@@ -64,7 +69,7 @@ fn place_head(free: &[u16], config: &Config) -> Option<Spot>
     Spot::front().place(free, described)?.place(free, 4)
 }
 
-// The bytes that each super frame of a countdown has free.
+// The bytes that so many super frames have free, from one on.
 fn free_lens(before: &Config, first: u32, count: usize) -> [u16; 7]
     requires before { ConfigInLines before.now }
     requires first { first + count < 2 ^ 32 }
@@ -78,6 +83,18 @@ fn free_lens(before: &Config, first: u32, count: usize) -> [u16; 7]
     free
 }
 
+/// The bytes that each super frame of the countdown to a configuration has free, in the blocks of the one before it; and
+/// behind these zeros.
+pub fn free_in_countdown(before: &Config, config: &Config) -> [u16; 7]
+    requires before { ConfigInLines before.now }
+    requires config { ConfigInLines config.now }
+    ensures { take config.now.countdown result ≡ announcement.free_in_countdown before.now config.now }
+{
+    let countdown = u32::from(config.countdown);
+    let first = config.start.saturating_sub(countdown);
+    free_lens(before, first, countdown as usize)
+}
+
 /// Whether the announcement of a configuration can be packed whole into the blocks of the one before it.
 pub fn can_be_announced(before: &Config, config: &Config) -> bool
     requires before { ConfigInLines before.now }
@@ -85,12 +102,8 @@ pub fn can_be_announced(before: &Config, config: &Config) -> bool
     ensures { result ≡ announcement.can_be_announced before.now config.now }
 {
     let count = usize::from(config.countdown);
-    let all = free_lens(
-        before,
-        config.start.saturating_sub(u32::from(config.countdown)),
-        count,
-    );
-    pack(&all[..count], config).is_some()
+    let free = free_in_countdown(before, config);
+    pack(&free[..count], config).is_some()
 }
 
 // Packs the whole announcement.

@@ -21,6 +21,7 @@ mod tests;
 mod trial;
 mod valid;
 
+pub use announcement::{Repeated, free_in_countdown};
 pub use carry::Carry;
 pub use config::{Clock, Config, Configs, Mode, Services, Streams};
 pub use drm_fac::Service;
@@ -31,5 +32,5 @@ pub use laws::entities_can_be_written;
 pub use packing::{Spot, can_be_packed};
 pub use plan::Plan;
 pub use schedule::Schedule;
-pub use sizes::{free_len, packet_len};
+pub use sizes::{entity_len, free_len, packet_len};
 pub use stream::{Content, Stream};

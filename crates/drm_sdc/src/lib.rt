@@ -36,8 +36,9 @@ pub use entities::Entities;
 pub use entity::Entity;
 pub use fault::{NoRoom, SdcFault};
 pub use field::read_entities;
-pub use write_field::total_size;
-pub use written_block::write_block;
+pub use put::put_zeros;
+pub use write_field::{total_size, write_entities, write_entity};
+pub use written_block::{frame_field, write_block};
 
 #[cfg(test)]
 mod tests;

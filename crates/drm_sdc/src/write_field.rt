@@ -40,28 +40,30 @@ pub fn write_field(entities: &[Entity], needed: usize, room: usize, field: &mut 
     put_zeros(&mut sink, room - needed);
 }
 
-fn write_entities(sink: &mut BitSink<'_>, entities: &[Entity])
+/// Writes the entities, one behind another.
+pub fn write_entities(sink: &mut BitSink<'_>, entities: &[Entity])
     requires fit { All EntityFits entities.now }
     requires room { 8 * total_size entities.now ≤ length (unwritten sink.old) }
     ensures wrote { Wrote (entity_bits entities.now) sink.old sink.new }
     ensures left { length (unwritten sink.new) + 8 * total_size entities.now ≡ length (unwritten sink.old) }
 {
     for entity in entities {
-        write_entity(sink, entity);
+        write_entity(sink, entity.version, &entity.body);
     }
 }
 
-fn write_entity(sink: &mut BitSink<'_>, entity: &Entity)
-    requires fits { EntityFits entity.now }
-    requires room { 8 * entity_size entity.now ≤ length (unwritten sink.old) }
-    ensures wrote { Wrote (spelled (entity_fields entity.now)) sink.old sink.new }
-    ensures left { length (unwritten sink.new) + 8 * entity_size entity.now ≡ length (unwritten sink.old) }
+/// Writes the entity of this version and body.
+pub fn write_entity(sink: &mut BitSink<'_>, version: bool, body: &Body)
+    requires fits { EntityFits (record { version = version; body = body.now }) }
+    requires room { 8 * entity_size (record { version = version; body = body.now }) ≤ length (unwritten sink.old) }
+    ensures wrote { Wrote (spelled (entity_fields (record { version = version; body = body.now }))) sink.old sink.new }
+    ensures left { length (unwritten sink.new) + 8 * entity_size (record { version = version; body = body.now }) ≡ length (unwritten sink.old) }
 {
-    let len = body_size(&entity.body) as u8;
+    let len = body_size(body) as u8;
     put_number(sink, len, 7);
-    put_flag(sink, entity.version);
-    put_number(sink, type_of(&entity.body), 4);
-    write_body(sink, &entity.body);
+    put_flag(sink, version);
+    put_number(sink, type_of(body), 4);
+    write_body(sink, body);
 }
 
 fn type_of(body: &Body) -> u8

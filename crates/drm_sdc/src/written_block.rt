@@ -4,7 +4,9 @@ ghost use Rattle.std.specs.Prelude.{◌≡◌, ◌+◌, ◌-◌, ◌*◌, ◌≤
 ghost use Rattle.drm_bits.specs.Bits.{bits_of};
 ghost use Rattle.drm_bits.specs.Crc.{zeros};
 ghost use Rattle.drm_sdc.specs.Entity.{EntityFits};
+ghost use Rattle.drm_sdc.specs.declared.entity.Entity.{Entity};
 ghost use Rattle.drm_sdc.specs.Block.{IsBlock, IsChecked, first_form};
+ghost use Rattle.drm_sdc.specs.Field.{IsField};
 ghost use Rattle.drm_sdc.specs.Writing.{total_size};
 
 use crate::put::{put_bytes, put_number, put_wide};
@@ -40,10 +42,26 @@ pub fn write_block(block: &Block, room: usize, into: &mut [u8]) -> Result<u32, N
     }
     let mut field = [0; 1023];
     write_field(entities, needed, room, &mut field);
+    Ok(frame_field(block.afs, &field[..room], into))
+}
+
+/// Writes the block of this data field, without four zero bits in front, and gives its bits. Zeros stand in the four
+/// bits behind the block; the bytes of `into` behind these keep what they were.
+pub fn frame_field(afs: u8, field: &[u8], into: &mut [u8]) -> u32
+    requires index { afs < 2 ^ 4 }
+    requires room { length field.now ≤ 1023 }
+    requires into { length field.now + 3 ≤ length into.old }
+    ensures bits { result ≡ 8 * length field.now + 20 }
+    ensures block { (entities : List Entity) (tail : List ℕ) → IsField entities tail field.now → IsBlock (record { afs = afs; entities = entities; tail = tail }) (take result (bits_of into.new)) }
+    ensures last { take 4 (drop result (bits_of into.new)) ≡ zeros 4 }
+    ensures rest { drop (length field.now + 3) into.new ≡ drop (length field.now + 3) into.old }
+    ensures octets { (i : ℕ) → slice_index into.new i < 2 ^ 8 }
+{
     let mut bytes = [0; 1026];
-    write_frame(block.afs, &field[..room], &mut bytes);
-    into[..room + 3].copy_from_slice(&bytes[..room + 3]);
-    Ok(8 * room as u32 + 20)
+    write_frame(afs, field, &mut bytes);
+    let framed = field.len() + 3;
+    into[..framed].copy_from_slice(&bytes[..framed]);
+    8 * field.len() as u32 + 20
 }
 
 // Writes the index, the field, its check value and four zeros at the front.
