@@ -1,0 +1,5 @@
+pub mod StandingLemmas
+pub mod ScheduleLemmas
+pub mod FastAccessLemmas
+pub mod ToldLemmas
+pub mod PackedLemmas

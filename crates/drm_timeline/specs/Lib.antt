@@ -1,0 +1,6 @@
+pub mod Standing
+pub mod FastAccess
+pub mod Description
+pub mod Announcing
+pub mod Blocks
+pub mod Telling
