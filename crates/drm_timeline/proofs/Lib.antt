@@ -1,0 +1,3 @@
+pub mod SignatureLemmas
+pub mod SwitchesLemmas
+pub mod TrackerLemmas
