@@ -2,6 +2,8 @@
 #![tactic(auto)]
 
 mod seen;
+#[cfg(test)]
+mod switch_tests;
 mod tracker;
 
 pub use seen::{Seen, Signature};

@@ -85,17 +85,18 @@ impl Tracker {
         requires calls { self.now.calls < 2 ^ 62 }
         ensures { result ≡ stepped self.now seen }
     {
+        let calls = self.calls + 1;
         let is_named = self.is_named();
         let left = if is_named { None } else { self.named };
         match seen {
             Some(seen) => Tracker {
-                calls: self.calls + 1,
+                calls,
                 named: seen.names(self.calls).or(left),
                 signature: Some(seen.signature),
                 switched: false,
             },
             None => Tracker {
-                calls: self.calls + 1,
+                calls,
                 named: left,
                 signature: self.signature,
                 switched: self.switched || is_named,
