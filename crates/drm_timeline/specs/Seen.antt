@@ -16,7 +16,7 @@ signature_of mode channel mux =
 abbrev pub is_same : Signature → Signature → Bool
 is_same = ghosts.eq
 
--- three places of a super frame, and three bits of an index
+-- one of the three places of a super frame, and an index of three bits
 abbrev pub IsInRange : Seen → Type 0
 IsInRange seen = (seen.position < 3) × (seen.index < 8)
 

@@ -7,8 +7,8 @@ use Rattle.drm_timeline.specs.declared.seen.Signature.{Signature}
 use Rattle.drm_timeline.specs.declared.tracker.Before.{Before}
 use Rattle.drm_timeline.specs.declared.tracker.Before.TheVariants.{Switch, Resumed}
 
--- the number of calls, the frame named last unless it came, the signature of the last frame, and whether a switch was
--- answered since that frame
+-- the number of calls, the frame named last while it is ahead, the signature of the last frame, and whether a switch
+-- was answered since that frame
 pub record TrackerState : Type 0 where
   pub calls : ℕ
   pub named : Option ℕ
@@ -42,10 +42,18 @@ name_after tracker None = if is_named tracker then None else tracker.named
 
 -- the tracker after the next call
 abbrev pub stepped : TrackerState → Option Seen → TrackerState
-stepped tracker None =
-    record tracker { calls = tracker.calls + 1; named = name_after tracker None; switched = tracker.switched || is_named tracker }
-stepped tracker (Some seen) =
-    record { calls = tracker.calls + 1; named = name_after tracker (named_by tracker.calls seen); signature = Some seen.signature; switched = false }
+stepped tracker None = record {
+  calls = tracker.calls + 1;
+  named = name_after tracker None;
+  signature = tracker.signature;
+  switched = tracker.switched || is_named tracker;
+}
+stepped tracker (Some seen) = record {
+  calls = tracker.calls + 1;
+  named = name_after tracker (named_by tracker.calls seen);
+  signature = Some seen.signature;
+  switched = false;
+}
 
 -- the answers of one call after another
 abbrev pub answers : TrackerState → List (Option Seen) → List (Option Before)

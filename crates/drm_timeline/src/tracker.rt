@@ -9,21 +9,25 @@ ghost use Rattle.drm_timeline.specs.Tracker.{new_tracker, answered, stepped, is_
 use crate::{Seen, Signature};
 use std::marker::Model;
 
-/// What stands before an item.
+/// What stands before an item. Items are numbered from 0, and a frame has the number of its item.
 #[derive(Clone, Copy, Debug, PartialEq, Eq)]
 pub enum Before {
-    /// The item is the frame with this number, which was announced as the first one of a new configuration.
+    /// This item, seen or missing, was named as the first frame of a new configuration.
     Switch(u64),
-    /// The frame with this number has another signature than the last one before it, with no switch between them.
+    /// This frame has another signature than the last one before it, and no switch stands between them.
     Resumed(u64),
 }
 
-/// Follows the logical frames of one receiver, one call for each item: a frame that was seen, or none.
+/// Follows the logical frames of one receiver, one call for each item: a frame that was seen, or a missing one.
 #[derive(Debug, Drop)]
 pub struct Tracker {
+    // How many calls there were: the number of the next item.
     calls: u64,
+    // The frame that was named last, while it is ahead.
     named: Option<u64>,
+    // The signature of the last frame.
     signature: Option<Signature>,
+    // Whether a switch was answered since that frame.
     switched: bool,
 }
 
@@ -36,7 +40,7 @@ impl Model for Tracker {
 }
 
 impl Tracker {
-    /// No call was made yet.
+    /// A tracker of no item yet.
     pub fn new() -> Tracker
         ensures { result ≡ new_tracker }
     {
@@ -48,7 +52,7 @@ impl Tracker {
         }
     }
 
-    /// Takes the next item, whose number is that of the calls before, and answers what stands before it.
+    /// Takes the next item, `None` where its frame is missing, and answers what stands before it.
     pub fn step(&mut self, seen: Option<Seen>) -> Option<Before>
         requires range { ForSome seen IsInRange }
         requires calls { self.old.calls < 2 ^ 62 }
@@ -60,12 +64,14 @@ impl Tracker {
         answer
     }
 
+    /// Whether the next item is the frame that was named last.
     fn is_named(&self) -> bool
         ensures { result ≡ is_named self.now }
     {
         self.named == Some(self.calls)
     }
 
+    /// What stands before the next item.
     fn answer(&self, seen: Option<Seen>) -> Option<Before>
         ensures { result ≡ answered self.now seen }
     {
@@ -80,6 +86,7 @@ impl Tracker {
         }
     }
 
+    /// The tracker behind the next item.
     fn after(&self, seen: Option<Seen>) -> Tracker
         requires range { ForSome seen IsInRange }
         requires calls { self.now.calls < 2 ^ 62 }
