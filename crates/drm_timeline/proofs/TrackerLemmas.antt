@@ -2,8 +2,8 @@
 use Rattle.std.proofs.Common.{◌≡◌, ◌≢◌, ℕ, zero, suc, add-zero, zero-add, ◌+◌, ◌-◌, ◌*◌, ◌<◌, ◌≤◌, ◌⊎◌, inl, inr, Bool, true, false, cond, not, ◌&&◌, ◌||◌, List, [], ◌∷◌, length, slice_get, Option, Some, None, refl, sym, ◌∙◌, ap, subst, arith, eqb, eqb-true, eq-eqb}
 use Rattle.std.specs.Option.{option_map_or}
 use Rattle.drm_timeline.specs.Seen.{is_same, named_by}
-use Rattle.drm_timeline.specs.Switches.{IsFrame, Names, IsNamedLast, SwitchesAt, IsLastFrame, ResumesAt, StandsBefore, TellsTheSwitches}
-use Rattle.drm_timeline.specs.Tracker.{TrackerState, new_tracker, is_named, resumption, answered, name_after, stepped, answers}
+use Rattle.drm_timeline.specs.Switches.{IsFrame, Names, IsNamedLast, SwitchesAt, IsLastFrame, ResumesAt, StandsBefore}
+use Rattle.drm_timeline.specs.Tracker.{TrackerState, new_tracker, is_named, resumption, answered, name_after, stepped, answers, TellsTheSwitches}
 use Rattle.drm_timeline.specs.declared.seen.Seen.{Seen}
 use Rattle.drm_timeline.specs.declared.seen.Signature.{Signature}
 use Rattle.drm_timeline.specs.declared.tracker.Before.{Before}

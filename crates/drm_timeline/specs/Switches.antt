@@ -1,6 +1,5 @@
 -- Where switches and resumptions stand, over the whole list of what was seen: an item is a frame, or none.
-use Rattle.std.specs.Prelude.{ℕ, ◌≡◌, ◌≢◌, ◌+◌, ◌-◌, ◌*◌, ◌<◌, ◌≤◌, ◌↔◌, List, length, slice_get, Option, Some, None}
-use Rattle.drm_timeline.specs.Tracker.{new_tracker, answers}
+use Rattle.std.specs.Prelude.{ℕ, ◌≡◌, ◌≢◌, ◌+◌, ◌-◌, ◌*◌, ◌<◌, ◌≤◌, List, slice_get, Option, Some, None}
 use Rattle.drm_timeline.specs.declared.seen.Seen.{Seen}
 use Rattle.drm_timeline.specs.declared.tracker.Before.{Before}
 use Rattle.drm_timeline.specs.declared.tracker.Before.TheVariants.{Switch, Resumed}
@@ -47,9 +46,3 @@ abbrev pub StandsBefore : List (Option Seen) → ℕ → Option Before → Type 
 StandsBefore items k None = (¬ SwitchesAt items k) × (¬ ResumesAt items k)
 StandsBefore items k (Some (Switch f)) = (f ≡ k) × SwitchesAt items k
 StandsBefore items k (Some (Resumed p)) = (p ≡ k) × ResumesAt items k
-
--- for every list of calls, a new tracker answers call k by what stands before item k in the list, and by nothing else
-abbrev pub TellsTheSwitches : Type 0
-TellsTheSwitches =
-    (items : List (Option Seen)) (k : ℕ) (answer : Option Before)
-    → (slice_get (answers new_tracker items) k ≡ Some answer) ↔ ((k < length items) × StandsBefore items k answer)

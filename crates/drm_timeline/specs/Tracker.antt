@@ -1,7 +1,8 @@
 -- A tracker as data, and its next call as a function of this data and of what was seen.
-use Rattle.std.specs.Prelude.{ℕ, ◌+◌, ◌==◌, Bool, false, not, ◌&&◌, ◌||◌, if◌then◌else◌, Option, Some, None, List, [], ◌∷◌}
+use Rattle.std.specs.Prelude.{ℕ, ◌≡◌, ◌+◌, ◌<◌, ◌↔◌, ◌==◌, Bool, false, not, ◌&&◌, ◌||◌, if◌then◌else◌, Option, Some, None, List, [], ◌∷◌, length, slice_get}
 use Rattle.std.specs.Option.{option_map_or}
 use Rattle.drm_timeline.specs.Seen.{is_same, named_by}
+use Rattle.drm_timeline.specs.Switches.{StandsBefore}
 use Rattle.drm_timeline.specs.declared.seen.Seen.{Seen}
 use Rattle.drm_timeline.specs.declared.seen.Signature.{Signature}
 use Rattle.drm_timeline.specs.declared.tracker.Before.{Before}
@@ -59,3 +60,9 @@ stepped tracker (Some seen) = record {
 abbrev pub answers : TrackerState → List (Option Seen) → List (Option Before)
 answers tracker [] = []
 answers tracker (seen ∷ rest) = answered tracker seen ∷ answers (stepped tracker seen) rest
+
+-- for every list of calls, a new tracker answers call k by what stands before item k in the list, and by nothing else
+abbrev pub TellsTheSwitches : Type 0
+TellsTheSwitches =
+    (items : List (Option Seen)) (k : ℕ) (answer : Option Before)
+    → (slice_get (answers new_tracker items) k ≡ Some answer) ↔ ((k < length items) × StandsBefore items k answer)

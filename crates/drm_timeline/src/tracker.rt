@@ -3,8 +3,7 @@
 ghost use Rattle.std.specs.Prelude.{◌≡◌, ◌<◌, ◌^◌};
 ghost use Rattle.std.specs.Option.{ForSome};
 ghost use Rattle.drm_timeline.specs.Seen.{IsInRange};
-ghost use Rattle.drm_timeline.specs.Switches.{TellsTheSwitches};
-ghost use Rattle.drm_timeline.specs.Tracker.{new_tracker, answered, stepped, is_named};
+ghost use Rattle.drm_timeline.specs.Tracker.{new_tracker, answered, stepped, is_named, TellsTheSwitches};
 
 use crate::{Seen, Signature};
 use std::marker::Model;
