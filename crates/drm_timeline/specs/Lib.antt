@@ -4,3 +4,6 @@ pub mod Description
 pub mod Announcing
 pub mod Blocks
 pub mod Telling
+pub mod Seen
+pub mod Switches
+pub mod Tracker

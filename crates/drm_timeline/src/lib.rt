@@ -1,14 +1,20 @@
 //! The frames of a schedule: which configuration holds in each super frame, and which FAC and which block of the Service
-//! Description Channel are sent.
+//! Description Channel are sent; and on the other side, from the frames that came, when the configuration switched.
 #![tactic(auto)]
 
 mod announcing;
 mod block;
 mod fast_access;
+mod seen;
 mod standing;
+#[cfg(test)]
+mod switch_tests;
 mod told;
+mod tracker;
 
 pub use block::block_into;
 pub use fast_access::{fac_at, packet_len};
+pub use seen::{Seen, Signature};
 pub use standing::{config_at, index_at};
 pub use told::description;
+pub use tracker::{Before, Tracker, the_tracker_tells_the_switches};
