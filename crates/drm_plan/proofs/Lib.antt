@@ -15,3 +15,4 @@ pub mod CanonicalLaw
 pub mod Utf8Lines
 pub mod PlanLaw
 pub mod AttachLaw
+pub mod GivenLaw

@@ -28,7 +28,7 @@ use Rattle.plan_lines.specs.declared.first_word.Keyword.TheVariants as keywords
 use Rattle.plan_lines.specs.declared.line.Line.{Line}
 use Rattle.plan_lines.specs.declared.line.Line.TheVariants as lines
 use Rattle.plan_lines.specs.Keywords.{keyword_text}
-use Rattle.plan_lines.specs.Said.{keyword_said, carry_words, mode_word, depth_word, kind_word, content_words, app_words, config_words, bit_word, hex6, hex4, optional_byte_word, bytes_word, channel_word, channels_word, parts_said, canonical, LineInLines}
+use Rattle.plan_lines.specs.Said.{keyword_said, carry_words, mode_word, depth_word, kind_word, content_words, app_words, config_words, bit_word, optional_byte_word, bytes_word, channel_word, channels_word, parts_said, canonical, LineInLines}
 use Rattle.plan_lines.proofs.SaidAgain.{raw_small}
 
 abbrev is_low : List ℕ → Bool
