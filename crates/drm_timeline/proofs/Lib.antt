@@ -3,6 +3,8 @@ pub mod ScheduleLemmas
 pub mod FastAccessLemmas
 pub mod ToldLemmas
 pub mod PackedLemmas
+pub mod AnnouncingLemmas
 pub mod SignatureLemmas
 pub mod SwitchesLemmas
 pub mod TrackerLemmas
+pub mod BlockLemmas
