@@ -5,12 +5,16 @@
 mod announcing;
 mod block;
 mod fast_access;
+#[cfg(test)]
+mod frame_tests;
 mod seen;
 mod standing;
 #[cfg(test)]
 mod switch_tests;
 mod told;
 mod tracker;
+#[cfg(test)]
+mod trial;
 
 pub use block::block_into;
 pub use fast_access::{fac_at, packet_len};

@@ -27,10 +27,9 @@ pub loop-left-preserved : goal.loop-left-preserved
 loop-left-preserved c =
     let left : List Entity = c.loop-left.left.now in
     subst (λ (more : List Entity). Packs c.args.frame c.args.free.now c.args.from (map as_next (repeated_of c.args.repeated c.args.config.now)) c.write_repeated-spot.result (map as_next (filter (λ (e : Entity). is_of c.args.repeated e.body) more)) c.args.sink.now c.write_repeated-spot.new.sink × All EntityInLines more)
-    (sym (take_all (length left - 1) (drop 1 left) (omega (arith, length-drop 1 left))))
-    (
+    (sym (take_all (length left - 1) (drop 1 left) (omega (arith, length-drop 1 left)))) (
       packs_step c.args.frame c.args.free.now c.args.from c.loop-left.spot c.write_repeated-spot.result (map as_next (repeated_of c.args.repeated c.args.config.now)) c.args.repeated left c.entity-item.result c.args.sink.now c.loop-left.sink c.write_repeated-spot.new.sink
-      c.in-len1-up.len_at_least c.entity-item.is c.loop-left.invariant.0 c.write_repeated-spot.ensures.spot c.write_repeated-spot.ensures.wrote,
+          c.in-len1-up.len_at_least c.entity-item.is c.loop-left.invariant.0 c.write_repeated-spot.ensures.spot c.write_repeated-spot.ensures.wrote,
       All-drop EntityInLines 1 left c.loop-left.invariant.1,
     )
 

@@ -30,8 +30,8 @@ returns-clause-wrote c = (
   c.parameters.result,
   c.parameters.ensures.parameters,
   wrote_two c.args.frame c.args.free.now front c.write_next-spot.result c.write_next.result (next (Mux (description_of c.args.config.now))) (next c.parameters.result) c.args.sink.now c.write_next-spot.new.sink c.write_next.new.sink
-  (head_here c.args.free.now c.front.result c.write_next-spot.result c.len.result (length c.args.config.now.streams) c.front.ensures c.len.ensures c.write_next-spot.ensures.spot)
-  (ap (placed c.args.free.now c.write_next-spot.result) c.parameters.ensures.size ∙ c.write_next.ensures.spot)
-  (head_wrote c.args.frame c.args.free.now c.front.result c.description-desc.result (description_of c.args.config.now) c.args.sink.now c.write_next-spot.new.sink c.front.ensures c.description-desc.ensures c.write_next-spot.ensures.wrote)
-  c.write_next.ensures.wrote,
+      (head_here c.args.free.now c.front.result c.write_next-spot.result c.len.result (length c.args.config.now.streams) c.front.ensures c.len.ensures c.write_next-spot.ensures.spot)
+      (ap (placed c.args.free.now c.write_next-spot.result) c.parameters.ensures.size ∙ c.write_next.ensures.spot)
+      (head_wrote c.args.frame c.args.free.now c.front.result c.description-desc.result (description_of c.args.config.now) c.args.sink.now c.write_next-spot.new.sink c.front.ensures c.description-desc.ensures c.write_next-spot.ensures.wrote)
+      c.write_next.ensures.wrote,
 )

@@ -29,8 +29,7 @@ pub loop-left-preserved : goal.loop-left-preserved
 loop-left-preserved c =
     let left : List Config = c.loop-left.left.now in
     subst (λ (more : List Config). (find (is_counting c.args.sf) more ≡ announced_in c.args.plan.now c.args.sf) × All ConfigInLines more × All IsSound more)
-    (sym (take_all (length left - 1) (drop 1 left) (omega (arith, length-drop 1 left))))
-    (
+    (sym (take_all (length left - 1) (drop 1 left) (omega (arith, length-drop 1 left)))) (
       not_first c.args.sf left c.config-item.result _ c.in-len1-up.len_at_least c.config-item.is (sym c.is_counting.ensures ∙ c.if-is_counting.false) c.loop-left.invariant.0,
       All-drop ConfigInLines 1 left c.loop-left.invariant.1,
       All-drop IsSound 1 left c.loop-left.invariant.2,
