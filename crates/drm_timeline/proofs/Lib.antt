@@ -6,3 +6,4 @@ pub mod PackedLemmas
 pub mod SignatureLemmas
 pub mod SwitchesLemmas
 pub mod TrackerLemmas
+pub mod AnnouncedLemmas

@@ -2,6 +2,7 @@
 //! Description Channel are sent; and on the other side, from the frames that came, when the configuration switched.
 #![tactic(auto)]
 
+mod announced;
 mod announcing;
 mod block;
 mod fast_access;
@@ -12,6 +13,7 @@ mod switch_tests;
 mod told;
 mod tracker;
 
+pub use announced::{none_is_resumed, switches_at_all_starts, switches_only_at_starts};
 pub use block::block_into;
 pub use fast_access::{fac_at, packet_len};
 pub use seen::{Seen, Signature};
