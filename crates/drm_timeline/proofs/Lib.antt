@@ -7,3 +7,6 @@ pub mod SignatureLemmas
 pub mod SwitchesLemmas
 pub mod TrackerLemmas
 pub mod AnnouncedLemmas
+pub mod StartsLemmas
+pub mod SignatureAtLemmas
+pub mod ScheduleLaws

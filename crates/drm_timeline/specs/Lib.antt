@@ -8,3 +8,4 @@ pub mod Seen
 pub mod Switches
 pub mod Tracker
 pub mod Announced
+pub mod Starts

@@ -6,6 +6,7 @@ mod announced;
 mod announcing;
 mod block;
 mod fast_access;
+mod schedule_laws;
 mod seen;
 mod standing;
 #[cfg(test)]
@@ -16,6 +17,7 @@ mod tracker;
 pub use announced::{none_is_resumed, switches_at_all_starts, switches_only_at_starts};
 pub use block::block_into;
 pub use fast_access::{fac_at, packet_len};
+pub use schedule_laws::{starts_are_announced, switches_are_at_starts};
 pub use seen::{Seen, Signature};
 pub use standing::{config_at, index_at};
 pub use told::description;
