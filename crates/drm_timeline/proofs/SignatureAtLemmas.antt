@@ -17,11 +17,11 @@ use Rattle.drm_timeline.specs.Standing.{has_started, config_of, index_of}
 use Rattle.drm_timeline.specs.FastAccess.{audio_services, data_services, services_of, service_of, service_in, channel_of, fac_of}
 use Rattle.drm_timeline.specs.Description.{description_of}
 use Rattle.drm_timeline.specs.Seen.{signature_of}
-use Rattle.drm_timeline.specs.Starts.{starts_of, signature_at}
+use Rattle.drm_timeline.specs.Starts.{later_starts, signature_at}
 use Rattle.drm_timeline.proofs.FastAccessLemmas.{service_there}
 use Rattle.drm_timeline.proofs.ScheduleLemmas.{IsSound, all_sound, some_config, sound_services}
 use Rattle.drm_timeline.proofs.StandingLemmas.{last_passing_has}
-use Rattle.drm_timeline.proofs.StartsLemmas.{same_or_start}
+use Rattle.drm_timeline.proofs.StartsLemmas.{same_or_start, is_later}
 
 -- in each frame a service is told
 service_told : (c : Config) (phase : ℕ) → IsSome (services_of c) → (service : Service) × (service_of c phase ≡ Some service)
@@ -86,14 +86,14 @@ same_signature plan t u is same =
 next_frame : (t : ℕ) → ((t + 1) / 3 ≡ t / 3) ⊎ (((t + 1) / 3 ≡ t / 3 + 1) × (t + 1 ≡ 3 * (t / 3 + 1)))
 next_frame t = grind arith
 
--- so signatures change only with the first frame of a start
-pub changes_in : (plan : Plan) (t : ℕ) → IsThere plan (t / 3) → signature_at plan t ≢ signature_at plan (t + 1) → (start : ℕ) × Contains (starts_of plan) start × (t + 1 ≡ 3 * start)
-changes_in plan t is differ =
+-- so signatures change only with the first frame of a later start
+pub changes_in : (plan : Plan) (t : ℕ) → AreFaultless plan.length None plan.configs → IsThere plan (t / 3) → signature_at plan t ≢ signature_at plan (t + 1) → (start : ℕ) × Contains (later_starts plan) start × (t + 1 ≡ 3 * start)
+changes_in plan t are is differ =
     elim (next_frame t) [
       | inl same ↦ absurd (differ (same_signature plan t (t + 1) is (ap (config_of plan) (sym same))))
       | inr next ↦
         elim (same_or_start (t / 3) None plan.configs) [
           | inl same ↦ absurd (differ (same_signature plan t (t + 1) is (same ∙ ap (config_of plan) (sym next.0))))
-          | inr start ↦ (t / 3 + 1, start, next.1)
+          | inr start ↦ (t / 3 + 1, is_later plan.length plan.configs (t / 3 + 1) are (omega arith) start, next.1)
         ]
     ]

@@ -1,8 +1,8 @@
 -- How a schedule announces its starts.
-use Rattle.std.proofs.Common.{◌≡◌, ◌<◌, ◌≤◌, ◌+◌, ◌-◌, ◌==◌, ◌&&◌, ◌⊎◌, inl, inr, ℕ, zero, suc, not, nat_le, nat_lt, Bool, true, false, List, [], ◌∷◌, length, map, filter, cond, get_or, All, Contains, Option, Some, None, refl, sym, ap, subst, ◌∙◌, arith}
+use Rattle.std.proofs.Common.{◌≡◌, ◌<◌, ◌≤◌, ◌+◌, ◌-◌, ◌==◌, ◌&&◌, ◌⊎◌, inl, inr, ℕ, zero, suc, not, nat_le, nat_lt, Bool, true, false, List, [], ◌∷◌, length, map, filter, cond, get_or, drop, All, Contains, Option, Some, None, refl, sym, ap, subst, ◌∙◌, arith}
 use Rattle.std.specs.List.{last_or, find}
-use Rattle.std.proofs.lemmas.Bool.{true≢false, cond-true, cond-false, and_parts, leb-true, leb-false, ltb-true, le-leb, lt-leb, lt-ltb, le-ltb, eqb-true}
-use Rattle.std.proofs.lemmas.List.Elements.{All-nil, All-cons, All-head, All-tail, All-weaker}
+use Rattle.std.proofs.lemmas.Bool.{true≢false, cond-true, cond-false, and_parts, or_parts, leb-true, leb-false, ltb-true, le-leb, lt-leb, lt-ltb, le-ltb, eqb-true}
+use Rattle.std.proofs.lemmas.List.Elements.{All-nil, All-cons, All-head, All-tail, All-weaker, All-map}
 use Rattle.drm_schedule.specs.declared.config.Config.{Config}
 use Rattle.drm_schedule.specs.Ranges.{ConfigInLines}
 use Rattle.drm_schedule.specs.Announcement.{countdown_start}
@@ -18,6 +18,36 @@ pub from_map : {X Y : Type 0} (f : X → Y) (xs : List X) (k : ℕ) (y : Y) → 
 from_map f [] k y within is = absurd (omega (arith, within))
 from_map f (x ∷ xs) zero y within is = (x, (zero, omega arith, refl), is)
 from_map f (x ∷ xs) (suc k) y within is = let rest = from_map f xs k y (omega (arith, within)) is in (rest.0, contains_later xs x rest.0 rest.1, rest.2)
+
+pub not_the_first : {X : Type 0} (xs : List X) (x : X) → Contains (drop 1 xs) x → Contains xs x
+not_the_first [] x is = is
+not_the_first (y ∷ xs) x is = contains_later xs y x is
+
+-- a start above 0 is a later one
+pub is_later : (len : ℕ) (cs : List Config) (start : ℕ) → AreFaultless len None cs → 0 < start → Contains (map (λ (c : Config). c.start) cs) start → Contains (map (λ (c : Config). c.start) (drop 1 cs)) start
+is_later len [] start are above is = is
+is_later len (c ∷ more) start are above is = by is.0 is.1 is.2
+  where
+    starts : List ℕ
+    starts = map (λ (c : Config). c.start) more
+
+    by : (k : ℕ) → k < length (c.start ∷ starts) → get_or (c.start ∷ starts) k start ≡ start → Contains starts start
+    by zero within is = absurd (omega (arith, above, is, first_start len (end_before len more) c are.0))
+    by (suc k) within is = (k, omega (arith, within), is)
+
+-- later starts are in the schedule
+abbrev IsWithin : ℕ → Config → Type 0
+IsWithin len c = (0 < c.start) × (c.start < len)
+
+all_behind : (len : ℕ) (before : Config) (cs : List Config) → AreFaultless len (Some before) cs → All (IsWithin len) cs
+all_behind len before [] are = All-nil (IsWithin len)
+all_behind len before (c ∷ more) are =
+    let order = or_parts (nat_le c.start before.start) (nat_le len c.start) are.0.order in
+    All-cons (IsWithin len) c more (omega (arith, leb-false c.start before.start order.0), leb-false len c.start order.1) (all_behind len c more are.1)
+
+pub all_within : (len : ℕ) (cs : List Config) → AreFaultless len None cs → All (λ start. (0 < start) × (start < len)) (map (λ (c : Config). c.start) (drop 1 cs))
+all_within len [] are = All-nil (λ start. (0 < start) × (start < len))
+all_within len (c ∷ more) are = All-map (λ start. (0 < start) × (start < len)) (λ (c : Config). c.start) more (all_behind len c more are.1)
 
 -- the first configuration has no countdown
 no_countdown : (len end : ℕ) (c : Config) → IsFaultless len None end c → c.countdown ≡ 0
