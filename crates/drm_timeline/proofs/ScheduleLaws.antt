@@ -1,5 +1,5 @@
 -- The laws of each schedule.
-use Rattle.std.proofs.Common.{◌≡◌, ◌<◌, ◌≤◌, ◌+◌, ◌-◌, ◌*◌, ◌/◌, ℕ, List, drop, Contains, map, Option, Some, None, sym, ap, subst, ◌∙◌, arith}
+use Rattle.std.proofs.Common.{◌≡◌, ◌<◌, ◌≤◌, ◌+◌, ◌-◌, ◌/◌, ℕ, List, drop, Contains, Option, Some, None, sym, ap, subst, ◌∙◌, arith}
 use Rattle.std.specs.Option.{unwrap_or}
 use Rattle.std.proofs.lemmas.List.Elements.{All-contains}
 use Rattle.std.proofs.lemmas.Option.{slice_get_within}
@@ -48,12 +48,15 @@ announces_starts plan is are =
       changes = λ t differ. changes_in plan t are (here (t / 3)) differ;
     }
 
--- as signatures of all numbers, with another one in the place of none
-announces_or : (plan : Plan) (other : Signature) → AnnouncesStarts plan → Announces (index_of plan) (λ t. unwrap_or (signature_at plan t) other) (later_starts plan)
+-- the signature of a frame, with another one in the place of none
+abbrev signature_or : Plan → Signature → ℕ → Signature
+signature_or plan other t = unwrap_or (signature_at plan t) other
+
+announces_or : (plan : Plan) (other : Signature) → AnnouncesStarts plan → Announces (index_of plan) (signature_or plan other) (later_starts plan)
 announces_or plan other a =
     record { named = a.named; before = λ start is above. a.before start is; changes = λ t differ. a.changes t (λ same. differ (ap (λ o. unwrap_or o other) same)) }
 
-sent : (plan : Plan) (other : Signature) (base : ℕ) (items : List (Option Seen)) → AreSeenOf plan base items → AreSent (index_of plan) (λ t. unwrap_or (signature_at plan t) other) base items
+sent : (plan : Plan) (other : Signature) (base : ℕ) (items : List (Option Seen)) → AreSeenOf plan base items → AreSent (index_of plan) (signature_or plan other) base items
 sent plan other base items are q seen frame =
     let is = are q seen frame in
     (is.position, is.index, sym (ap (λ o. unwrap_or o other) is.signature))
@@ -61,15 +64,15 @@ sent plan other base items are q seen frame =
 pub only_at_its_starts : (plan : Plan) → AnnouncesStarts plan → SwitchesOnlyAtStarts plan
 only_at_its_starts plan a base items f are switches =
     let other : Signature = switches.names.0.signature in
-    only_at_starts (index_of plan) (λ t. unwrap_or (signature_at plan t) other) (later_starts plan) base items f (announces_or plan other a) (sent plan other base items are) switches
+    only_at_starts (index_of plan) (signature_or plan other) (later_starts plan) base items f (announces_or plan other a) (sent plan other base items are) switches
 
 pub at_all_its_starts : (plan : Plan) → AnnouncesStarts plan → SwitchesAtAllStarts plan
 at_all_its_starts plan a base items start are none is low high =
     let other : Signature = (none 0 (omega (arith, low, high))).0.signature in
-    at_all_starts (index_of plan) (λ t. unwrap_or (signature_at plan t) other) (later_starts plan) base items start (announces_or plan other a) (sent plan other base items are) none is low high
+    at_all_starts (index_of plan) (signature_or plan other) (later_starts plan) base items start (announces_or plan other a) (sent plan other base items are) none is low high
 
 pub resumes_nowhere : (plan : Plan) → AnnouncesStarts plan → ResumesNowhere plan
 resumes_nowhere plan a base items p are none resumes =
     let other : Signature = resumes.old.signature in
-    none_resumed (index_of plan) (λ t. unwrap_or (signature_at plan t) other) (later_starts plan) base items p (announces_or plan other a) (sent plan other base items are) none
+    none_resumed (index_of plan) (signature_or plan other) (later_starts plan) base items p (announces_or plan other a) (sent plan other base items are) none
     (slice_get_within items p (Some resumes.new) resumes.frame) resumes

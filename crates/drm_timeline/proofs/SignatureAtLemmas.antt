@@ -1,6 +1,5 @@
 -- The signatures of the frames of a schedule.
-use Rattle.std.proofs.Common.{◌≡◌, ◌≢◌, ◌<◌, ◌≤◌, ◌+◌, ◌-◌, ◌*◌, ◌/◌, ◌%◌, ◌⊎◌, inl, inr, ℕ, List, length, filter, get_or, slice_get, All, Contains, IfSome, IsSome, Option, Some, None, refl, sym, ap, subst, ◌∙◌, arith}
-use Rattle.std.specs.List.{last_or}
+use Rattle.std.proofs.Common.{◌≡◌, ◌≢◌, ◌≤◌, ◌+◌, ◌-◌, ◌*◌, ◌/◌, ◌%◌, ◌⊎◌, inl, inr, ℕ, length, get_or, All, Contains, IfSome, IsSome, Option, Some, None, refl, sym, ap, subst, ◌∙◌, arith}
 use Rattle.std.proofs.lemmas.Nat.{mod_below}
 use Rattle.std.proofs.lemmas.Option.{slice_get_cases}
 use Rattle.drm_fac.specs.declared.order.Slot.{Slot}
@@ -13,15 +12,15 @@ use Rattle.drm_schedule.specs.Packing.{chain}
 use Rattle.drm_schedule.specs.Ranges.{ConfigInLines}
 use Rattle.drm_schedule.specs.Valid.{AreFaultless}
 use Rattle.drm_timeline.specs.declared.seen.Signature.{Signature}
-use Rattle.drm_timeline.specs.Standing.{has_started, config_of, index_of}
-use Rattle.drm_timeline.specs.FastAccess.{audio_services, data_services, services_of, service_of, service_in, channel_of, fac_of}
+use Rattle.drm_timeline.specs.Standing.{has_started, config_of}
+use Rattle.drm_timeline.specs.FastAccess.{audio_services, data_services, services_of, service_of, service_in, channel_of}
 use Rattle.drm_timeline.specs.Description.{description_of}
 use Rattle.drm_timeline.specs.Seen.{signature_of}
 use Rattle.drm_timeline.specs.Starts.{later_starts, signature_at}
 use Rattle.drm_timeline.proofs.FastAccessLemmas.{service_there}
-use Rattle.drm_timeline.proofs.ScheduleLemmas.{IsSound, all_sound, some_config, sound_services}
+use Rattle.drm_timeline.proofs.ScheduleLemmas.{all_sound, some_config, sound_services}
 use Rattle.drm_timeline.proofs.StandingLemmas.{last_passing_has}
-use Rattle.drm_timeline.proofs.StartsLemmas.{same_or_start, is_later}
+use Rattle.drm_timeline.proofs.StartsLemmas.{stays_or_starts, is_later}
 
 -- in each frame a service is told
 service_told : (c : Config) (phase : ℕ) → IsSome (services_of c) → (service : Service) × (service_of c phase ≡ Some service)
@@ -92,8 +91,8 @@ changes_in plan t are is differ =
     elim (next_frame t) [
       | inl same ↦ absurd (differ (same_signature plan t (t + 1) is (ap (config_of plan) (sym same))))
       | inr next ↦
-        elim (same_or_start (t / 3) None plan.configs) [
-          | inl same ↦ absurd (differ (same_signature plan t (t + 1) is (same ∙ ap (config_of plan) (sym next.0))))
-          | inr start ↦ (t / 3 + 1, is_later plan.length plan.configs (t / 3 + 1) are (omega arith) start, next.1)
-        ]
+          elim (stays_or_starts (t / 3) None plan.configs) [
+            | inl same ↦ absurd (differ (same_signature plan t (t + 1) is (same ∙ ap (config_of plan) (sym next.0))))
+            | inr start ↦ (t / 3 + 1, is_later plan.length plan.configs (t / 3 + 1) are (omega arith) start, next.1)
+          ]
     ]

@@ -1,7 +1,7 @@
 -- How a schedule announces its starts.
-use Rattle.std.proofs.Common.{◌≡◌, ◌<◌, ◌≤◌, ◌+◌, ◌-◌, ◌==◌, ◌&&◌, ◌⊎◌, inl, inr, ℕ, zero, suc, not, nat_le, nat_lt, Bool, true, false, List, [], ◌∷◌, length, map, filter, cond, get_or, drop, All, Contains, Option, Some, None, refl, sym, ap, subst, ◌∙◌, arith}
+use Rattle.std.proofs.Common.{◌≡◌, ◌<◌, ◌≤◌, ◌+◌, ◌==◌, ◌&&◌, ◌⊎◌, inl, inr, ℕ, zero, suc, not, nat_le, nat_lt, Bool, true, false, List, [], ◌∷◌, length, map, filter, cond, get_or, drop, All, Contains, Option, Some, None, refl, ap, ◌∙◌, arith}
 use Rattle.std.specs.List.{last_or, find}
-use Rattle.std.proofs.lemmas.Bool.{true≢false, cond-true, cond-false, and_parts, or_parts, leb-true, leb-false, ltb-true, le-leb, lt-leb, lt-ltb, le-ltb, eqb-true}
+use Rattle.std.proofs.lemmas.Bool.{true≢false, cond-true, cond-false, and_parts, or_parts, leb-true, leb-false, le-leb, lt-ltb, le-ltb, eqb-true}
 use Rattle.std.proofs.lemmas.List.Elements.{All-nil, All-cons, All-head, All-tail, All-weaker, All-map}
 use Rattle.drm_schedule.specs.declared.config.Config.{Config}
 use Rattle.drm_schedule.specs.Ranges.{ConfigInLines}
@@ -9,6 +9,10 @@ use Rattle.drm_schedule.specs.Announcement.{countdown_start}
 use Rattle.drm_schedule.specs.Valid.{end_before, IsFaultless, AreFaultless}
 use Rattle.drm_timeline.specs.Standing.{has_started, is_counting, frames_before}
 use Rattle.drm_timeline.proofs.ScheduleLemmas.{follows, first_start}
+
+-- the starts of some configurations
+abbrev pub starts : List Config → List ℕ
+starts cs = map (λ (c : Config). c.start) cs
 
 contains_later : {X : Type 0} (xs : List X) (x y : X) → Contains xs y → Contains (x ∷ xs) y
 contains_later xs x y is = (suc is.0, omega (arith, is.1), is.2)
@@ -24,14 +28,11 @@ not_the_first [] x is = is
 not_the_first (y ∷ xs) x is = contains_later xs y x is
 
 -- a start above 0 is a later one
-pub is_later : (len : ℕ) (cs : List Config) (start : ℕ) → AreFaultless len None cs → 0 < start → Contains (map (λ (c : Config). c.start) cs) start → Contains (map (λ (c : Config). c.start) (drop 1 cs)) start
+pub is_later : (len : ℕ) (cs : List Config) (start : ℕ) → AreFaultless len None cs → 0 < start → Contains (starts cs) start → Contains (starts (drop 1 cs)) start
 is_later len [] start are above is = is
 is_later len (c ∷ more) start are above is = by is.0 is.1 is.2
   where
-    starts : List ℕ
-    starts = map (λ (c : Config). c.start) more
-
-    by : (k : ℕ) → k < length (c.start ∷ starts) → get_or (c.start ∷ starts) k start ≡ start → Contains starts start
+    by : (k : ℕ) → k < length (c.start ∷ starts more) → get_or (c.start ∷ starts more) k start ≡ start → Contains (starts more) start
     by zero within is = absurd (omega (arith, above, is, first_start len (end_before len more) c are.0))
     by (suc k) within is = (k, omega (arith, within), is)
 
@@ -45,7 +46,7 @@ all_behind len before (c ∷ more) are =
     let order = or_parts (nat_le c.start before.start) (nat_le len c.start) are.0.order in
     All-cons (IsWithin len) c more (omega (arith, leb-false c.start before.start order.0), leb-false len c.start order.1) (all_behind len c more are.1)
 
-pub all_within : (len : ℕ) (cs : List Config) → AreFaultless len None cs → All (λ start. (0 < start) × (start < len)) (map (λ (c : Config). c.start) (drop 1 cs))
+pub all_within : (len : ℕ) (cs : List Config) → AreFaultless len None cs → All (λ start. (0 < start) × (start < len)) (starts (drop 1 cs))
 all_within len [] are = All-nil (λ start. (0 < start) × (start < len))
 all_within len (c ∷ more) are = All-map (λ start. (0 < start) × (start < len)) (λ (c : Config). c.start) more (all_behind len c more are.1)
 
@@ -104,16 +105,16 @@ all_announced len before (x ∷ more) are =
         cond-false (is_counting sf x) (Some x) (find (is_counting sf) more) (not_counting sf x (omega (arith, apart.1, low))) ∙ announced sf low high
 
 -- an index above 0 counts down to a start
-pub named_in : (sf : ℕ) (cs : List Config) → 0 < frames_before sf (find (is_counting sf) cs) → Contains (map (λ (c : Config). c.start) cs) (sf + frames_before sf (find (is_counting sf) cs))
-named_in sf [] above = absurd (omega (arith, above))
-named_in sf (x ∷ more) above = by (named_in sf more) (is_counting sf x) above
-  where
-    starts : List ℕ
-    starts = map (λ (c : Config). c.start) more
+abbrev pub IsNamed : ℕ → List ℕ → Option Config → Type 0
+IsNamed sf all o = 0 < frames_before sf o → Contains all (sf + frames_before sf o)
 
-    by : (0 < frames_before sf (find (is_counting sf) more) → Contains starts (sf + frames_before sf (find (is_counting sf) more))) → (b : Bool) → 0 < frames_before sf (cond b (Some x) (find (is_counting sf) more)) → Contains (x.start ∷ starts) (sf + frames_before sf (cond b (Some x) (find (is_counting sf) more)))
+pub named_in : (sf : ℕ) (cs : List Config) → IsNamed sf (starts cs) (find (is_counting sf) cs)
+named_in sf [] = λ above. absurd (omega (arith, above))
+named_in sf (x ∷ more) = by (named_in sf more) (is_counting sf x)
+  where
+    by : IsNamed sf (starts more) (find (is_counting sf) more) → (b : Bool) → IsNamed sf (x.start ∷ starts more) (cond b (Some x) (find (is_counting sf) more))
     by rest true above = (zero, omega arith, omega (arith, above))
-    by rest false above = contains_later starts x.start (sf + frames_before sf (find (is_counting sf) more)) (rest above)
+    by rest false above = contains_later (starts more) x.start (sf + frames_before sf (find (is_counting sf) more)) (rest above)
 
 -- an index has three bits
 pub small_in : (sf : ℕ) (cs : List Config) → All ConfigInLines cs → frames_before sf (find (is_counting sf) cs) < 8
@@ -124,19 +125,25 @@ small_in sf (x ∷ more) fit = by (small_in sf more (All-tail ConfigInLines x mo
     by rest true is = omega (arith, leb-true (countdown_start x) sf (and_parts (nat_le (countdown_start x) sf) (nat_lt sf x.start) is).0, (All-head ConfigInLines x more fit).countdown_fits)
     by rest false is = rest
 
--- the configuration that holds is the same in the next super frame, or one starts there
-pub same_or_start : (sf : ℕ) (o : Option Config) (cs : List Config) → (last_or o (filter (has_started sf) cs) ≡ last_or o (filter (has_started (sf + 1)) cs)) ⊎ Contains (map (λ (c : Config). c.start) cs) (sf + 1)
-same_or_start sf o [] = inl refl
-same_or_start sf o (x ∷ more) = by (λ p. same_or_start sf p more) (has_started sf x) refl (has_started (sf + 1) x) refl
+-- the last of some configurations that has started in a super frame is the same in the next one, or one starts there
+abbrev pub StaysOrStarts : ℕ → Option Config → List Config → Type 0
+StaysOrStarts sf o cs = (last_or o (filter (has_started sf) cs) ≡ last_or o (filter (has_started (sf + 1)) cs)) ⊎ Contains (starts cs) (sf + 1)
+
+pub stays_or_starts : (sf : ℕ) (o : Option Config) (cs : List Config) → StaysOrStarts sf o cs
+stays_or_starts sf o [] = inl refl
+stays_or_starts sf o (x ∷ more) = by (λ p. stays_or_starts sf p more) (has_started sf x) refl (has_started (sf + 1) x) refl
   where
-    starts : List ℕ
-    starts = map (λ (c : Config). c.start) more
+    now : List Config
+    now = filter (has_started sf) more
 
-    on : (p : Option Config) → (last_or p (filter (has_started sf) more) ≡ last_or p (filter (has_started (sf + 1)) more)) ⊎ Contains starts (sf + 1) → (last_or p (filter (has_started sf) more) ≡ last_or p (filter (has_started (sf + 1)) more)) ⊎ Contains (x.start ∷ starts) (sf + 1)
+    next : List Config
+    next = filter (has_started (sf + 1)) more
+
+    on : (p : Option Config) → StaysOrStarts sf p more → (last_or p now ≡ last_or p next) ⊎ Contains (x.start ∷ starts more) (sf + 1)
     on p (inl same) = inl same
-    on p (inr there) = inr (contains_later starts x.start (sf + 1) there)
+    on p (inr there) = inr (contains_later (starts more) x.start (sf + 1) there)
 
-    by : ((p : Option Config) → (last_or p (filter (has_started sf) more) ≡ last_or p (filter (has_started (sf + 1)) more)) ⊎ Contains starts (sf + 1)) → (a : Bool) → has_started sf x ≡ a → (b : Bool) → has_started (sf + 1) x ≡ b → (last_or o (cond a (x ∷ filter (has_started sf) more) (filter (has_started sf) more)) ≡ last_or o (cond b (x ∷ filter (has_started (sf + 1)) more) (filter (has_started (sf + 1)) more))) ⊎ Contains (x.start ∷ starts) (sf + 1)
+    by : ((p : Option Config) → StaysOrStarts sf p more) → (a : Bool) → has_started sf x ≡ a → (b : Bool) → has_started (sf + 1) x ≡ b → (last_or o (cond a (x ∷ now) now) ≡ last_or o (cond b (x ∷ next) next)) ⊎ Contains (x.start ∷ starts more) (sf + 1)
     by rest true a true b = on (Some x) (rest (Some x))
     by rest false a false b = on o (rest o)
     by rest true a false b = absurd (omega (arith, leb-true x.start sf a, leb-false x.start (sf + 1) b))
