@@ -12,4 +12,7 @@ pub mod AgainLemmas
 pub mod ConfigLemmas
 pub mod ProjectionLemmas
 pub mod CanonicalLaw
+pub mod Utf8Lines
 pub mod PlanLaw
+pub mod AttachLaw
+pub mod GivenLaw

@@ -1,10 +1,12 @@
 -- Reading the canonical text of a plan gives the plan again, but for the bytes of its files.
 use Rattle.std.proofs.Common.{◌≡◌, ℕ, false, List, [], ◌∷◌, ◌++◌, Option, Some, None, Result, Ok, map, refl, sym, ap, subst, ◌∙◌, arith}
-use Rattle.std.specs.Prelude.{All, IfSome}
+use Rattle.std.specs.Prelude.{All, IfSome, IsUtf8}
 use Rattle.std.specs.List.{flat_map, AllByRecursion}
 use Rattle.std.proofs.lemmas.List.{length-map}
 use Rattle.std.proofs.lemmas.List.Concat.{flat_map-cons}
 use Rattle.std.proofs.lemmas.List.Elements.{All-nil, All-cons, All-head, All-tail}
+use Rattle.std.proofs.lemmas.Str.{IsUtf8-nil, IsUtf8-append, IsUtf8-from_ascii}
+use Rattle.std.proofs.lemmas.Str.Ascii.{IsAscii-nil, IsAscii-cons}
 use Rattle.drm_schedule.specs.declared.config.Clock.{Clock}
 use Rattle.drm_schedule.specs.declared.config.Config.{Config}
 use Rattle.drm_schedule.specs.declared.stream.Content.{Content}
@@ -30,17 +32,19 @@ use Rattle.drm_plan.specs.Text.{lines_give}
 use Rattle.drm_plan.proofs.AgainLemmas.{LineAgain, lines_said}
 use Rattle.drm_plan.proofs.CanonicalLaw.{plan_read}
 use Rattle.drm_plan.proofs.EndLemmas.{text_gives}
-use Rattle.drm_plan.proofs.TextLemmas.{text_append}
+use Rattle.drm_plan.proofs.TextLemmas.{text_append, no_text}
+use Rattle.drm_plan.proofs.Utf8Lines.{line_utf8}
 
--- A line that has no bytes of a file, is written as one line, and reads as itself.
+-- A line that has no bytes of a file, is written as one line of UTF-8, and reads as itself.
 record Clean (l : Line) : Type 0 where
   again : LineAgain l
   line : IsLine (line_of l)
+  utf8 : IsUtf8 (line_of l)
 
 clean : (l : Line) → LineInLines l → detached l ≡ l → Clean l
 clean l fits same =
     let cut = line_again l fits in
-    record { again = record { cut = cut.words; reads = said_again l fits ∙ ap (λ (x : Line). Ok x) same }; line = cut.one_line }
+    record { again = record { cut = cut.words; reads = said_again l fits ∙ ap (λ (x : Line). Ok x) same }; line = cut.one_line; utf8 = line_utf8 l fits }
 
 both : (a b : List Line) → AllByRecursion Clean a → AllByRecursion Clean b → AllByRecursion Clean (a ++ b)
 both [] b first behind = behind
@@ -253,3 +257,13 @@ one_text a b fits_a fits_b same =
 
 pub one_plan : (a b : Plan) → without_files a ≡ without_files b → canonical a ≡ canonical b
 one_plan a b same = sym (same_text a) ∙ ap canonical same ∙ same_text b
+
+text_utf8 : (ls : List Line) → AllByRecursion Clean ls → IsUtf8 (text_of ls)
+text_utf8 [] are = subst IsUtf8 (sym no_text) IsUtf8-nil
+text_utf8 (l ∷ ls) are =
+    let fed : IsUtf8 (10 ∷ []) = IsUtf8-from_ascii (10 ∷ []) (IsAscii-cons 10 [] (omega arith) IsAscii-nil) in
+    subst IsUtf8 (sym (text_cons l ls)) (IsUtf8-append (line_text l) (text_of ls) (IsUtf8-append (line_of l) (10 ∷ []) are.0.utf8 fed) (text_utf8 ls are.1))
+
+-- the canonical text of a plan is UTF-8
+pub canonical_utf8 : (plan : Plan) → InLines plan → IsUtf8 (canonical plan)
+canonical_utf8 plan fits = subst IsUtf8 (same_text plan) (text_utf8 (plan_lines (without_files plan)) (plan_clean plan fits))

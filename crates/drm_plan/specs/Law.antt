@@ -1,5 +1,5 @@
 -- What the canonical text says: the schedule, but for the bytes of its files.
-use Rattle.std.specs.Prelude.{◌≡◌, [], map, Ok}
+use Rattle.std.specs.Prelude.{ℕ, ◌≡◌, List, [], map, Ok, All}
 use Rattle.drm_schedule.specs.declared.config.Config.{Config}
 use Rattle.drm_schedule.specs.declared.stream.Content.{Content}
 use Rattle.drm_schedule.specs.declared.stream.Content.TheVariants.{Fill, File}
@@ -29,3 +29,12 @@ pub record IsReadAgain (plan : Plan) : Type 0 where
   pub draft : Drafted
   pub lines : lines_give (lines_of (canonical plan)) ≡ Ok draft
   pub same : draft.plan ≡ without_files plan
+
+-- what holds of the name and the bytes of a file
+abbrev pub OfFile : (List ℕ → List ℕ → Type 0) → Content → Type 0
+OfFile P (Fill byte) = Unit {0}
+OfFile P (File name bytes) = P name bytes
+
+-- it holds of each file of the plan
+abbrev pub EachFile : (List ℕ → List ℕ → Type 0) → Plan → Type 0
+EachFile P plan = All (λ config. All (λ stream. OfFile P stream.content) config.streams) plan.configs

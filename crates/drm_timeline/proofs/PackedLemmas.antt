@@ -2,21 +2,20 @@
 use Rattle.std.proofs.Common.{◌≡◌, ◌<◌, ◌≤◌, ◌+◌, ◌-◌, ◌*◌, ◌==◌, ◌⊎◌, inl, inr, ℕ, zero, suc, nat_le, nat_lt, Bool, true, false, List, [], ◌∷◌, ◌++◌, length, map, filter, drop, get_or, slice_index, cond, is_some, IsSome, Option, Some, None, option_map, if◌then◌else◌, refl, sym, ap, subst, ◌∙◌, arith, append_assoc}
 use Rattle.std.proofs.lemmas.Bool.{leb-true, leb-false, eqb-true, eqb-false, ltb-true, ltb-false, lt-ltb, false≢true}
 use Rattle.std.proofs.lemmas.List.{append-nil, map-append, get_or-drop}
+use Rattle.std.proofs.lemmas.List.Elements.{All-nil, All-append}
 use Rattle.drm_bits.specs.declared.bit_sink.BitSink.{BitSink}
 use Rattle.drm_bits.specs.Fields.{spelled}
 use Rattle.drm_bits.specs.Sink.{unwritten}
-use Rattle.drm_bits.specs.declared.description.MuxDesc.{MuxDesc}
-use Rattle.drm_sdc.specs.declared.body.Body.TheVariants.{Mux}
 use Rattle.drm_sdc.specs.declared.entity.Entity.{Entity}
-use Rattle.drm_sdc.specs.Entity.{entity_fields, entity_size}
+use Rattle.drm_sdc.specs.Entity.{EntityFits, entity_fields, entity_size}
 use Rattle.drm_sdc.specs.Writing.{Wrote, entity_bits, total_size}
 use Rattle.drm_sdc.proofs.Written.{then as behind, wrote_none}
 use Rattle.drm_schedule.specs.declared.packing.Spot.{Spot}
 use Rattle.drm_schedule.specs.declared.announcement.Repeated.{Repeated}
 use Rattle.drm_schedule.specs.Announcement.{is_of}
-use Rattle.drm_schedule.specs.Packing.{chain, first_that_holds, placed, packed, last_spot, front}
+use Rattle.drm_schedule.specs.Packing.{chain, first_that_holds, placed, packed, last_spot}
 use Rattle.drm_schedule.proofs.PackingLemmas.{last_is_packed, last_spot-append}
-use Rattle.drm_timeline.specs.Announcing.{next, as_next, those_in, by_frames, packed_in, left_in}
+use Rattle.drm_timeline.specs.Announcing.{as_next, those_in, by_frames, packed_in, left_in}
 use Rattle.drm_timeline.specs.Telling.{WroteEntities}
 
 -- Where a size goes: into the super frame of the spot, behind what is taken there, or into a later one.
@@ -151,10 +150,11 @@ size_append [] ys = omega arith
 size_append (x ∷ xs) ys = omega (arith, size_append xs ys)
 
 pub wrote_none_of : (s : BitSink) → WroteEntities [] s s
-wrote_none_of s = record { wrote = wrote_none s; left = omega arith }
+wrote_none_of s = record { each = All-nil EntityFits; wrote = wrote_none s; left = omega arith }
 
 pub wrote_both : {xs ys : List Entity} {s t u : BitSink} → WroteEntities xs s t → WroteEntities ys t u → WroteEntities (xs ++ ys) s u
 wrote_both {xs} {ys} {s} {t} {u} a b = record {
+  each = All-append EntityFits xs ys a.each b.each;
   wrote = subst (λ (l : List Bool). Wrote l s u) (sym (bits_append xs ys)) (behind a.wrote b.wrote);
   left = omega (arith, a.left, b.left, size_append xs ys);
 }
@@ -210,7 +210,7 @@ first_of_kind kind e es = by (is_of kind e.body) (filter (λ (x : Entity). is_of
     by true rest = refl
     by false rest = refl
 
-abbrev of_kind : Repeated → List Entity → List Entity
+abbrev pub of_kind : Repeated → List Entity → List Entity
 of_kind kind es = filter (λ (x : Entity). is_of kind x.body) es
 
 -- one entity more of those that are left
@@ -270,51 +270,3 @@ pub room_one : (k : ℕ) (free : List ℕ) (from mid : Spot) (e : Entity) (s t :
     → 8 * left_in k free mid ≤ length (unwritten t)
 room_one k free from mid e s t here room wrote =
     omega (arith, room, wrote.left, room_all k free from mid (e ∷ []) (one_spot free from mid (entity_size e) here))
-
--- the description of the streams, as the code asks for it
-pub head_here : (free : List ℕ) (f mid : Spot) (n m : ℕ) → f ≡ front → n ≡ m → placed free f (2 + 3 * n) ≡ Some mid → placed free front (2 + 3 * m) ≡ Some mid
-head_here free f mid n m at same here = sym (ap (λ s. placed free s (2 + 3 * n)) at ∙ ap (λ k. placed free front (2 + 3 * k)) same) ∙ here
-
-pub head_wrote : (k : ℕ) (free : List ℕ) (f : Spot) (d e : MuxDesc) (s t : BitSink) → f ≡ front → d ≡ e → WroteEntities (packed_in k free f (next (Mux d) ∷ [])) s t → WroteEntities (packed_in k free front (next (Mux e) ∷ [])) s t
-head_wrote k free f d e s t at same wrote =
-    subst (λ (l : List Entity). WroteEntities l s t) (ap (λ p. packed_in k free p (next (Mux d) ∷ [])) at ∙ ap (λ (x : MuxDesc). packed_in k free front (next (Mux x) ∷ [])) same) wrote
-
--- The whole announcement: what stands at its head, and the entities of both kinds.
-abbrev whole_of : List Entity → List Entity → List Entity → List Entity
-whole_of head audio apps = head ++ (map as_next audio ++ map as_next apps)
-
-pub behind_head : (k : ℕ) (free : List ℕ) (mid : Spot) (head audio apps : List Entity) (s t : BitSink) → IsSome (last_spot free front (map entity_size (whole_of head audio apps))) → last_spot free front (map entity_size head) ≡ Some mid → WroteEntities (packed_in k free front head) s t
-    → Packs k free front (whole_of head audio apps) mid (map as_next audio ++ map as_next apps) s t
-behind_head k free mid head audio apps s t some here wrote =
-    packs_first head (map as_next audio ++ map as_next apps) (packs_none k free front (whole_of head audio apps) s some) here wrote
-
-pub behind_audio : {k : ℕ} {free : List ℕ} {mid last : Spot} {all : List Entity} (audio apps : List Entity) {s t u : BitSink} → Packs k free front all mid (map as_next audio ++ map as_next apps) s t → last_spot free mid (map entity_size audio) ≡ Some last
-    → WroteEntities (packed_in k free mid (map as_next audio)) t u → Packs k free front all last (map as_next apps) s u
-behind_audio {k} {free} {mid} audio apps p here wrote = packs_first (map as_next audio) (map as_next apps) p (ap (last_spot free mid) (sizes_as_next audio) ∙ here) wrote
-
-pub behind_apps : {k : ℕ} {free : List ℕ} {mid last : Spot} {all : List Entity} (apps : List Entity) {s t u : BitSink} → Packs k free front all mid (map as_next apps) s t → last_spot free mid (map entity_size apps) ≡ Some last
-    → WroteEntities (packed_in k free mid (map as_next apps)) t u → WroteEntities (packed_in k free front all) s u × (total_size (packed_in k free front all) ≤ left_in k free front)
-behind_apps {k} {free} {mid} {last} {all} apps {s} {t} {u} p here wrote =
-    let q = packs_first (map as_next apps) [] (subst (λ (l : List Entity). Packs k free front all mid l s t) (sym (append-nil (map as_next apps))) p) (ap (last_spot free mid) (sizes_as_next apps) ∙ here) wrote in
-    let done = packs_all q in
-    (done.1, omega (arith, room_all k free front last all done.0))
-
--- what is asked of the parts
-pub some_audio : {k : ℕ} {free : List ℕ} {mid : Spot} {all : List Entity} (audio apps : List Entity) {s t : BitSink} → Packs k free front all mid (map as_next audio ++ map as_next apps) s t → IsSome (last_spot free mid (map entity_size audio))
-some_audio {k} {free} {mid} audio apps p =
-    let split : last_spot free mid (map entity_size (map as_next audio ++ map as_next apps)) ≡ chain (last_spot free mid (map entity_size audio)) (λ s. last_spot free s (map entity_size (map as_next apps))) =
-    ap (last_spot free mid) (map-append entity_size (map as_next audio) (map as_next apps))
-    ∙ last_spot-append free mid (map entity_size (map as_next audio)) (map entity_size (map as_next apps))
-    ∙ ap (λ l. chain (last_spot free mid l) (λ s. last_spot free s (map entity_size (map as_next apps)))) (sizes_as_next audio) in
-    let next = some_next (last_spot free mid (map entity_size audio)) (λ s. last_spot free s (map entity_size (map as_next apps))) (subst IsSome split p.some) in
-    subst IsSome (sym next.1) refl
-
-pub some_apps : {k : ℕ} {free : List ℕ} {mid : Spot} {all : List Entity} (apps : List Entity) {s t : BitSink} → Packs k free front all mid (map as_next apps) s t → IsSome (last_spot free mid (map entity_size apps))
-some_apps {k} {free} {mid} apps p = subst IsSome (ap (last_spot free mid) (sizes_as_next apps)) p.some
-
--- the sizes of the whole announcement
-pub sizes_whole : (head audio apps : List Entity) → map entity_size (whole_of head audio apps) ≡ map entity_size head ++ map entity_size (audio ++ apps)
-sizes_whole head audio apps =
-    map-append entity_size head (map as_next audio ++ map as_next apps)
-    ∙ ap (λ l. map entity_size head ++ l)
-    (map-append entity_size (map as_next audio) (map as_next apps) ∙ ap (λ l. l ++ map entity_size (map as_next apps)) (sizes_as_next audio) ∙ ap (λ l. map entity_size audio ++ l) (sizes_as_next apps) ∙ sym (map-append entity_size audio apps))

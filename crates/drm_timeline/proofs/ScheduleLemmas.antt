@@ -1,5 +1,5 @@
 -- What holds of the configurations of a schedule, and of those that hold and are announced in a super frame.
-use Rattle.std.proofs.Common.{◌≡◌, ◌<◌, ◌≤◌, ◌+◌, ◌-◌, ◌==◌, ◌&&◌, ◌||◌, ℕ, zero, suc, not, nat_le, nat_lt, Bool, true, false, List, [], ◌∷◌, length, filter, cond, All, IfSome, IsSome, get_or, slice_get, Option, Some, None, refl, sym, ap, subst, ◌∙◌, arith}
+use Rattle.std.proofs.Common.{◌≡◌, ◌<◌, ◌≤◌, ◌+◌, ◌-◌, ◌==◌, ◌&&◌, ◌||◌, ℕ, zero, suc, not, nat_le, nat_lt, Bool, true, false, List, [], ◌∷◌, length, filter, drop, cond, All, IfSome, IsSome, get_or, slice_get, Option, Some, None, refl, sym, ap, subst, ◌∙◌, arith}
 use Rattle.std.specs.List.{last_or, find}
 use Rattle.std.proofs.lemmas.Bool.{true≢false, cond-true, cond-false, or_parts, eqb-true, leb-true, leb-false, ltb-true, ltb-false, le-leb, lt-leb, and_parts}
 use Rattle.std.proofs.lemmas.List.Elements.{All-nil, All-cons}
@@ -7,7 +7,7 @@ use Rattle.drm_schedule.specs.declared.config.Config.{Config}
 use Rattle.drm_schedule.specs.declared.plan.Plan.{Plan}
 use Rattle.std.proofs.lemmas.Option.{slice_get-get_or}
 use Rattle.drm_schedule.specs.Ranges.{ConfigInLines}
-use Rattle.drm_schedule.specs.Announcement.{countdown_start, lacks_announcement}
+use Rattle.drm_schedule.specs.Announcement.{countdown_start, lacks_announcement, can_be_announced}
 use Rattle.drm_schedule.specs.Sizes.{has_no_room, packet_len}
 use Rattle.drm_schedule.specs.Services.{are_too_many, services_disagree}
 use Rattle.drm_schedule.specs.Valid.{starts_wrongly, counts_wrongly, end_before, IsFaultless, AreFaultless}
@@ -144,3 +144,26 @@ pub sound_services : (c : Config) → ConfigInLines c → IsSound c → IsSome (
 sound_services c fits sound =
     let few : length c.services ≤ 4 = ltb-false 4 (length c.services) (or_parts _ _ (or_parts _ _ (or_parts _ _ (or_parts _ _ (or_parts _ _ (or_parts _ _ (or_parts _ _ sound.services).0).0).0).0).0).0).0 in
     has_code (length (audio_services c)) (length (data_services c)) (omega (arith, both_kinds c.services, fits.some_service)) (omega (arith, both_kinds c.services, few))
+
+-- The search for what is announced.
+pub found_first : (sf : ℕ) (left : List Config) (c : Config) → 1 ≤ length left → c ≡ get_or left 0 c → is_counting sf c ≡ true → find (is_counting sf) left ≡ Some c
+found_first sf [] c some is counts = absurd (omega (arith, some))
+found_first sf (x ∷ left) c some is counts =
+    cond-true (is_counting sf x) (Some x) (find (is_counting sf) left) (ap (is_counting sf) (sym is) ∙ counts) ∙ ap (λ (y : Config). Some y) (sym is)
+
+pub not_first : (sf : ℕ) (left : List Config) (c : Config) (found : Option Config) → 1 ≤ length left → c ≡ get_or left 0 c → is_counting sf c ≡ false → find (is_counting sf) left ≡ found → find (is_counting sf) (drop 1 left) ≡ found
+not_first sf [] c found some is counts whole = absurd (omega (arith, some))
+not_first sf (x ∷ left) c found some is counts whole = sym (cond-false (is_counting sf x) (Some x) (find (is_counting sf) left) (ap (is_counting sf) (sym is) ∙ counts)) ∙ whole
+
+pub can_announce : (len sf : ℕ) (cs : List Config) (c before : Config) → AreFaultless len None cs → find (is_counting sf) cs ≡ Some c → last_or None (filter (has_started sf) cs) ≡ Some before → can_be_announced before c ≡ true
+can_announce len sf cs c before are found stands =
+    let a = announces len sf None cs c are found in
+    let same : a.before ≡ before = some_is a.before before (sym a.holds ∙ stands) in
+    by (can_be_announced before c) (subst (λ (b : Config). lacks_announcement (Some b) c ≡ false) same a.can)
+  where
+    by : (b : Bool) → not b ≡ false → b ≡ true
+    by true is = refl
+    by false is = absurd (true≢false is)
+
+pub first_has : (P : Config → Type 0) (left : List Config) (c : Config) → All P left → 1 ≤ length left → c ≡ get_or left 0 c → P c
+first_has P left c all some is = subst P (sym is) (all 0 c some)

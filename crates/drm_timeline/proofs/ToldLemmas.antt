@@ -1,19 +1,32 @@
 -- What blocks tell can be written.
-use Rattle.std.proofs.Common.{◌≡◌, ◌<◌, ◌≤◌, ◌+◌, ◌*◌, ◌^◌, ℕ, zero, suc, Bool, true, false, List, [], ◌∷◌, length, map, take, slice_get, get_or, All, Option, Some, None, refl, sym, ap, subst, ◌∙◌, arith}
+use Rattle.std.proofs.Common.{◌≡◌, ◌<◌, ◌≤◌, ◌+◌, ◌-◌, ◌*◌, ◌/◌, ◌%◌, ◌^◌, ◌==◌, ◌&&◌, if◌then◌else◌, ℕ, suc, Bool, true, false, List, [], ◌∷◌, ◌++◌, length, take, get_or, All, Option, Some, None, is_some, refl, sym, ap, subst, ◌∙◌, arith, length-append}
+use Rattle.std.proofs.lemmas.Bool.{ltb-false}
+use Rattle.std.proofs.lemmas.List.{append-nil}
+use Rattle.std.proofs.lemmas.List.Elements.{All-nil, All-cons}
 use Rattle.std.specs.Int.{from_bool}
 use Rattle.drm_bits.specs.declared.description.MuxDesc.{MuxDesc}
-use Rattle.drm_bits.specs.Fields.{Fit}
+use Rattle.drm_bits.specs.declared.bit_sink.BitSink.{BitSink}
+use Rattle.drm_bits.specs.Sink.{unwritten}
+use Rattle.drm_bits.specs.Fields.{Fit, spelled}
 use Rattle.drm_bits.specs.Description.{IsDescription, part_fields, description_fields}
 use Rattle.drm_sdc.specs.declared.body.Body.{Body}
 use Rattle.drm_sdc.specs.declared.body.Body.TheVariants.{Mux}
 use Rattle.drm_sdc.specs.declared.entity.Entity.{Entity}
-use Rattle.drm_sdc.specs.Entity.{EntityFits, empty_entity}
+use Rattle.drm_sdc.specs.Entity.{EntityFits, entity_fields, entity_size}
+use Rattle.drm_sdc.specs.Writing.{Wrote, entity_bits, total_size}
+use Rattle.drm_sdc.proofs.FieldLaws.{length-spelled}
+use Rattle.drm_sdc.proofs.EntityLaws.{widths-entity}
+use Rattle.drm_schedule.specs.declared.config.Clock.{Clock}
 use Rattle.drm_schedule.specs.declared.config.Config.{Config}
 use Rattle.drm_schedule.specs.declared.stream.Stream.{Stream}
 use Rattle.drm_schedule.specs.Ranges.{EntityInLines, ConfigInLines, StreamInLines, BodyInLines}
-use Rattle.drm_schedule.proofs.Fitting.{body_fits}
+use Rattle.drm_schedule.specs.Sizes.{told_size, size_if, tells_clock, has_no_room}
+use Rattle.drm_schedule.proofs.Fitting.{body_fits, entity_fits}
 use Rattle.drm_timeline.specs.Announcing.{next, as_next}
-use Rattle.drm_timeline.specs.Description.{description_of, parts_of, part_of}
+use Rattle.drm_timeline.specs.Description.{description_of, parts_of}
+use Rattle.drm_timeline.specs.Blocks.{current, clock_from, clock_in, told_in}
+use Rattle.drm_timeline.specs.Telling.{WroteEntities}
+use Rattle.drm_timeline.proofs.PackedLemmas.{size_append, wrote_both}
 
 flag_fits : (b : Bool) → from_bool b < 2 ^ 1
 flag_fits true = omega arith
@@ -63,3 +76,58 @@ description_fits c version fits = record {
         by : Body → ℕ
         by (Mux desc) = desc.count
         by _ = 0
+
+-- The entities of a block's own configuration.
+pub told_sizes : (c : Config) (sf : ℕ) → total_size (told_in c sf) ≡ told_size c + total_size (clock_in c sf)
+told_sizes c sf = omega (arith, size_append c.entities (clock_in c sf))
+
+clock_sizes : (c : Config) (sf : ℕ) → total_size (clock_in c sf) ≡ size_if (tells_clock c sf)
+clock_sizes c sf = by c.clock
+  where
+    by : (o : Option Clock) → total_size (if is_some o && (sf - c.start) % 50 == 0 then clock_from ((sf - c.start) / 50) o else []) ≡ size_if (is_some o && (sf - c.start) % 50 == 0)
+    by None = refl
+    by (Some clock) = at ((sf - c.start) % 50 == 0)
+      where
+        at : (b : Bool) → total_size (if b then clock_from ((sf - c.start) / 50) (Some clock) else []) ≡ size_if b
+        at true = refl
+        at false = refl
+
+-- at most what is reserved for a clock
+clock_most : (c : Config) (sf : ℕ) → size_if (tells_clock c sf) ≤ size_if (is_some c.clock)
+clock_most c sf = by (is_some c.clock) ((sf - c.start) % 50 == 0)
+  where
+    by : (a b : Bool) → size_if (a && b) ≤ size_if a
+    by true true = omega arith
+    by true false = omega arith
+    by false b = omega arith
+
+pub own_size : (c : Config) (sf : ℕ) → total_size (told_in c sf) ≡ told_size c + size_if (tells_clock c sf)
+own_size c sf = told_sizes c sf ∙ ap (λ n. told_size c + n) (clock_sizes c sf)
+
+-- they have room
+pub own_room : (c : Config) (sf : ℕ) → has_no_room c ≡ false → told_size c + size_if (tells_clock c sf) ≤ c.room
+own_room c sf room = omega (arith, ltb-false c.room (told_size c + size_if (is_some c.clock)) room, clock_most c sf)
+
+pub lines_fit : (es : List Entity) → All EntityInLines es → All EntityFits es
+lines_fit es all k d within = entity_fits (get_or es k d) (all k d within)
+
+-- the description, the entities of the lines and the clock, one behind another
+pub wrote_told : (c : Config) (sf : ℕ) (d : MuxDesc) (es : List Entity) (s t u v : BitSink) → ConfigInLines c → d ≡ description_of c → es ≡ c.entities
+    → Wrote (spelled (entity_fields (current (Mux d)))) s t → length (unwritten t) + 8 * entity_size (current (Mux d)) ≡ length (unwritten s)
+    → Wrote (entity_bits es) t u → length (unwritten u) + 8 * total_size es ≡ length (unwritten t) → WroteEntities (clock_in c sf) u v → WroteEntities (told_in c sf) s v
+wrote_told c sf d es s t u v fits is same first first_left rest rest_left clock =
+    let one : WroteEntities (current (Mux d) ∷ []) s t = record {
+      each = All-cons EntityFits (current (Mux d)) [] (subst (λ (x : MuxDesc). EntityFits (current (Mux x))) (sym is) (description_fits c false fits)) (All-nil EntityFits);
+      wrote = subst (λ (l : List Bool). Wrote l s t) (sym (append-nil (spelled (entity_fields (current (Mux d)))))) first;
+      left = omega (arith, first_left);
+    } in
+    let lines : WroteEntities es t u = record { each = subst (All EntityFits) (sym same) (lines_fit c.entities fits.each_entity); wrote = rest; left = rest_left } in
+    subst (λ (x : MuxDesc). WroteEntities (current (Mux x) ∷ (c.entities ++ clock_in c sf)) s v) is
+    (subst (λ (l : List Entity). WroteEntities (current (Mux d) ∷ (l ++ clock_in c sf)) s v) same (wrote_both one (wrote_both lines clock)))
+
+-- entities have eight bits a byte
+pub bits_length : (es : List Entity) → All EntityFits es → length (entity_bits es) ≡ 8 * total_size es
+bits_length [] all = omega arith
+bits_length (e ∷ es) all =
+    let fits : EntityFits e = all 0 e (omega arith) in
+    omega (arith, length-append (spelled (entity_fields e)) (entity_bits es), length-spelled (entity_fields e), widths-entity e fits.body, bits_length es (λ k d within. all (suc k) d (omega (arith, within))))

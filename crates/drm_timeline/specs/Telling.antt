@@ -1,8 +1,9 @@
 -- What a bit sink gets of an announcement.
-use Rattle.std.specs.Prelude.{ℕ, ◌≡◌, ◌+◌, ◌*◌, ◌≤◌, List, length, Option, Some}
+use Rattle.std.specs.Prelude.{ℕ, ◌≡◌, ◌+◌, ◌*◌, ◌≤◌, List, length, All, Option, Some}
 use Rattle.drm_bits.specs.Sink.{unwritten}
 use Rattle.drm_bits.specs.declared.bit_sink.BitSink.{BitSink}
 use Rattle.drm_sdc.specs.declared.entity.Entity.{Entity}
+use Rattle.drm_sdc.specs.Entity.{EntityFits}
 use Rattle.drm_sdc.specs.Writing.{Wrote, entity_bits, total_size}
 use Rattle.drm_schedule.specs.declared.config.Config.{Config}
 use Rattle.drm_schedule.specs.Sizes.{free_bytes}
@@ -10,6 +11,7 @@ use Rattle.drm_timeline.specs.Announcing.{announced_by}
 
 -- These entities, behind what was written.
 pub record WroteEntities (entities : List Entity) (old new : BitSink) : Type 0 where
+  pub each : All EntityFits entities
   pub wrote : Wrote (entity_bits entities) old new
   pub left : length (unwritten new) + 8 * total_size entities ≡ length (unwritten old)
 

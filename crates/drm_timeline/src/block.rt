@@ -6,15 +6,14 @@ ghost use Rattle.drm_bits.specs.Crc.{zeros};
 ghost use Rattle.drm_bits.specs.Sink.{unwritten};
 ghost use Rattle.drm_sdc.specs.Block.{IsBlock};
 ghost use Rattle.drm_sdc.specs.Field.{IsField};
-ghost use Rattle.drm_sdc.specs.Writing.{Wrote, entity_bits, total_size};
+ghost use Rattle.drm_sdc.specs.Writing.{total_size};
 ghost use Rattle.drm_sdc.specs.declared.block.Block.{Block};
 ghost use Rattle.drm_sdc.specs.declared.entity.Entity.{Entity};
 ghost use Rattle.drm_schedule.specs.Ranges.{ConfigInLines};
 ghost use Rattle.drm_schedule.specs.Sizes.{has_no_room, free_bytes, told_size, size_if, tells_clock};
 ghost use Rattle.drm_timeline.specs.Standing.{config_of, announced_in};
 ghost use Rattle.drm_timeline.specs.Blocks.{block_of, entities_of, told_in, clock_in};
-ghost use Rattle.drm_timeline.specs.Announcing.{announced_by};
-ghost use Rattle.drm_timeline.specs.Telling.{Tells};
+ghost use Rattle.drm_timeline.specs.Telling.{WroteEntities, Tells};
 
 use crate::announcing::write_announcement;
 use crate::standing::{announced, standing};
@@ -33,6 +32,7 @@ pub fn block_into(plan: &Schedule, sf: u32, into: &mut [u8; 1026]) -> u32
     ensures rest { drop ((result + 4) / 8) into.new ≡ drop ((result + 4) / 8) into.old }
     ensures octets { (i : ℕ) → slice_index into.new i < 2 ^ 8 }
 {
+    plan.always_valid();
     let config = standing(plan, sf);
     let mut field = [0; 1023];
     write_field(plan, sf, config, &mut field);
@@ -44,7 +44,7 @@ fn write_field(plan: &Schedule, sf: u32, config: &Config, field: &mut [u8; 1023]
     requires config { config_of plan.now sf ≡ Some config.now }
     requires fits { ConfigInLines config.now }
     requires room { has_no_room config.now ≡ false }
-    requires started { (config.now.start ≤ sf) × (sf < plan.now.length) }
+    requires started { (config.now.start ≤ sf) × (sf < 1000000) }
     ensures field { (entities : List Entity) × (entities_of config.now plan.now sf ≡ Some entities) × IsField entities (replicate (config.now.room - total_size entities) 0) (take config.now.room field.new) }
     ensures octets { (i : ℕ) → slice_index field.new i < 2 ^ 8 }
 {
@@ -72,8 +72,7 @@ fn write_told(sink: &mut BitSink<'_>, config: &Config, sf: u32)
     requires fits { ConfigInLines config.now }
     requires started { (config.now.start ≤ sf) × (sf < 1000000) }
     requires room { 8 * (told_size config.now + size_if (tells_clock config.now sf)) ≤ length (unwritten sink.old) }
-    ensures wrote { Wrote (entity_bits (told_in config.now sf)) sink.old sink.new }
-    ensures left { length (unwritten sink.new) + 8 * (told_size config.now + size_if (tells_clock config.now sf)) ≡ length (unwritten sink.old) }
+    ensures { WroteEntities (told_in config.now sf) sink.old sink.new }
 {
     let desc = description(config);
     write_entity(sink, false, &Body::Mux { desc });
@@ -86,8 +85,7 @@ fn write_clock(sink: &mut BitSink<'_>, config: &Config, sf: u32)
     requires fits { ConfigInLines config.now }
     requires started { (config.now.start ≤ sf) × (sf < 1000000) }
     requires room { 8 * size_if (tells_clock config.now sf) ≤ length (unwritten sink.old) }
-    ensures wrote { Wrote (entity_bits (clock_in config.now sf)) sink.old sink.new }
-    ensures left { length (unwritten sink.new) + 8 * size_if (tells_clock config.now sf) ≡ length (unwritten sink.old) }
+    ensures { WroteEntities (clock_in config.now sf) sink.old sink.new }
 {
     if let Some(clock) = config.clock {
         let later = sf - config.start;

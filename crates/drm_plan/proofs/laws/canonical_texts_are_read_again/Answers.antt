@@ -1,5 +1,8 @@
-use Rattle.drm_plan.proofs.PlanLaw.{read_again, one_text, one_plan}
+use Rattle.drm_plan.proofs.PlanLaw.{canonical_utf8, read_again, one_text, one_plan}
 use Rattle.drm_plan.proofs.laws.canonical_texts_are_read_again.Goals as goal
+
+pub returns-clause-utf8 : goal.returns-clause-utf8
+returns-clause-utf8 c = canonical_utf8 c.args.a.now c.always_valid.ensures.schedule.in_lines
 
 pub returns-clause-again : goal.returns-clause-again
 returns-clause-again c = read_again c.args.a.now c.always_valid.ensures.schedule.in_lines

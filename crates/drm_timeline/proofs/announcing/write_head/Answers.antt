@@ -9,7 +9,8 @@ use Rattle.drm_schedule.specs.Packing.{placed, front}
 use Rattle.drm_timeline.specs.Announcing.{next, packed_in}
 use Rattle.drm_timeline.specs.Description.{description_of}
 use Rattle.drm_timeline.specs.Telling.{WroteEntities}
-use Rattle.drm_timeline.proofs.PackedLemmas.{wrote_two, room_one, head_here, head_wrote}
+use Rattle.drm_timeline.proofs.PackedLemmas.{wrote_two, room_one}
+use Rattle.drm_timeline.proofs.AnnouncingLemmas.{head_here, head_wrote}
 use Rattle.drm_timeline.proofs.ToldLemmas.{description_fits}
 use Rattle.drm_timeline.proofs.announcing.write_head.Goals as goal
 

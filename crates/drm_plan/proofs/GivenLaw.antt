@@ -1,0 +1,205 @@
+-- What the lines of a text in UTF-8 give is what a text can give.
+use Rattle.std.proofs.Common.{◌≡◌, ℕ, suc, ◌+◌, ◌-◌, ◌<◌, Bool, true, false, List, [], ◌∷◌, ◌++◌, length, take, drop, get_or, Option, Some, None, Result, Ok, Err, refl, sym, ap, subst, ◌∙◌, arith}
+use Rattle.std.specs.Prelude.{All, IsUtf8, not, ◌==◌, ◌||◌, slice_index, if◌then◌else◌}
+use Rattle.std.specs.List.{list_all, slice_split, join_with_byte}
+use Rattle.std.proofs.lemmas.List.{length-append}
+use Rattle.std.proofs.lemmas.List.Elements.{All-nil, All-cons, All-head, All-tail}
+use Rattle.std.proofs.lemmas.List.Splits.{join_with_byte-slice_split}
+use Rattle.std.proofs.lemmas.Str.{IsUtf8-drop, IsUtf8-between, IsCharBoundary-start, IsCharBoundary-before_ascii, IsCharBoundary-after_ascii}
+use Rattle.drm_schedule.specs.declared.invalid.Reason.TheVariants.{Word, Missing}
+use Rattle.drm_schedule.specs.Ranges.{InLines}
+use Rattle.text_lines.specs.Lines.{words_of, lines_of, without_last_empty}
+use Rattle.plan_lines.specs.declared.first_word.Keyword.{Keyword}
+use Rattle.plan_lines.specs.declared.line.Line.{Line}
+use Rattle.plan_lines.specs.Keywords.{keyword_of}
+use Rattle.plan_lines.specs.Lines.{shape_of}
+use Rattle.plan_lines.specs.Said.{SaysKeyword, LineInLines}
+use Rattle.plan_lines.specs.Shape.{Shape, reading}
+use Rattle.plan_lines.proofs.CleanLemmas.{clean, lines_are_single}
+use Rattle.plan_lines.proofs.KeywordLemmas.{says_keyword}
+use Rattle.plan_lines.proofs.KindLemmas.{line_fits}
+use Rattle.drm_plan.specs.declared.said.Block.{Block}
+use Rattle.drm_plan.specs.declared.said.Read.{Read}
+use Rattle.drm_plan.specs.Said.{nothing, add}
+use Rattle.drm_plan.specs.Files.{config_files}
+use Rattle.drm_plan.specs.InLines.{IsSingle, EndedInLines, ReadInLines, EndsComplete}
+use Rattle.drm_plan.specs.Projection.{Drafted, drafted}
+use Rattle.drm_plan.specs.Rules.{Fault, fault, first_fault, ok_unless, is_misplaced, is_second, is_too_many, is_17th, in_current, is_incomplete, current_line, end_rows, ended, ends_incomplete, said_shape, said_keyword, said_words, said_line, said_from, said, ◌>>=◌}
+use Rattle.drm_plan.specs.Steps.{check_of}
+use Rattle.drm_plan.specs.Text.{lines_give}
+use Rattle.drm_plan.proofs.KeptLemmas.{add_fits}
+use Rattle.drm_plan.proofs.PlanLemmas.{plan_fits}
+
+-- ---- the lines of a text in UTF-8
+
+take_front : (a b : List ℕ) → take (length a) (a ++ b) ≡ a
+take_front [] b = refl
+take_front (x ∷ a) b = ap (λ l. x ∷ l) (take_front a b)
+
+drop_front : (a : List ℕ) (x : ℕ) (b : List ℕ) → drop (length a + 1) (a ++ x ∷ b) ≡ b
+drop_front [] x b = refl
+drop_front (y ∷ a) x b =
+    let n : length (y ∷ a) + 1 ≡ suc (length a + 1) = omega arith in
+    rw n (drop_front a x b)
+
+at_seam : (a : List ℕ) (x : ℕ) (b : List ℕ) → get_or (a ++ x ∷ b) (length a) 0 ≡ x
+at_seam [] x b = refl
+at_seam (y ∷ a) x b = at_seam a x b
+
+utf8_cut : (c : ℕ) → c < 128 → (a b : List ℕ) → IsUtf8 (a ++ c ∷ b) → IsUtf8 a × IsUtf8 b
+utf8_cut c small a b is =
+    let whole : length (a ++ c ∷ b) ≡ length a + length (c ∷ b) = length-append a (c ∷ b) in
+    let inside : length a < length (a ++ c ∷ b) = omega (arith, whole) in
+    let ascii : get_or (a ++ c ∷ b) (length a) 0 < 128 = rw (at_seam a c b) small in
+    let front = IsUtf8-between (a ++ c ∷ b) 0 (length a) is (omega arith) (IsCharBoundary-start (a ++ c ∷ b) is) (IsCharBoundary-before_ascii (a ++ c ∷ b) (length a) inside ascii) in
+    let back = IsUtf8-drop (a ++ c ∷ b) (length a + 1) is (IsCharBoundary-after_ascii (a ++ c ∷ b) (length a) is inside ascii) in
+    let all : length a - 0 ≡ length a = omega arith in
+    (rw (all, take_front a (c ∷ b)) at front, rw (drop_front a c b) at back)
+
+parts_utf8 : (parts : List (List ℕ)) → IsUtf8 (join_with_byte 10 parts) → All IsUtf8 parts
+parts_utf8 [] is = All-nil IsUtf8
+parts_utf8 (a ∷ []) is = All-cons IsUtf8 a [] is (All-nil IsUtf8)
+parts_utf8 (a ∷ b ∷ parts) is =
+    let both = utf8_cut 10 (omega arith) a (join_with_byte 10 (b ∷ parts)) is in
+    All-cons IsUtf8 a (b ∷ parts) both.0 (parts_utf8 (b ∷ parts) both.1)
+
+without_empty : (parts : List (List ℕ)) → All IsUtf8 parts → All IsUtf8 (without_last_empty parts)
+without_empty [] all = All-nil IsUtf8
+without_empty ([] ∷ []) all = All-nil IsUtf8
+without_empty ((b ∷ line) ∷ []) all = all
+without_empty (line ∷ next ∷ more) all = All-cons IsUtf8 line (without_last_empty (next ∷ more)) (All-head IsUtf8 line (next ∷ more) all) (without_empty (next ∷ more) (All-tail IsUtf8 line (next ∷ more) all))
+
+lines_utf8 : (text : List ℕ) → IsUtf8 text → All IsUtf8 (lines_of text)
+lines_utf8 text is =
+    let parts : List (List ℕ) = slice_split (λ b. b == 10) text in
+    without_empty parts (parts_utf8 parts (subst IsUtf8 (sym (join_with_byte-slice_split 10 text)) is))
+
+-- ---- one line more
+
+-- what rows of which none holds leave
+record Clear (ends misplaced unspelled far second full : Bool) (x new : Read) : Type 0 where
+  no_end : ends ≡ false
+  placed : misplaced ≡ false
+  spelled : unspelled ≡ false
+  near : far ≡ false
+  single : second ≡ false
+  room : full ≡ false
+  same : x ≡ new
+
+clear : (ends misplaced unspelled far second full : Bool) (f0 f1 f2 f3 f4 f5 : Fault) (x new : Read)
+    → ok_unless (first_fault ((ends, f0) ∷ (misplaced, f1) ∷ (unspelled, f2) ∷ (far, f3) ∷ (second, f4) ∷ (full, f5) ∷ [])) x ≡ Ok new → Clear ends misplaced unspelled far second full x new
+clear true b c d e f f0 f1 f2 f3 f4 f5 x new is = absurd cc
+clear false true c d e f f0 f1 f2 f3 f4 f5 x new is = absurd cc
+clear false false true d e f f0 f1 f2 f3 f4 f5 x new is = absurd cc
+clear false false false true e f f0 f1 f2 f3 f4 f5 x new is = absurd cc
+clear false false false false true f f0 f1 f2 f3 f4 f5 x new is = absurd cc
+clear false false false false false true f0 f1 f2 f3 f4 f5 x new is = absurd cc
+clear false false false false false false f0 f1 f2 f3 f4 f5 x new is = record { no_end = refl; placed = refl; spelled = refl; near = refl; single = refl; room = refl; same = cc }
+
+-- a line that isn't of the right words
+wordless : (ends : Bool) (f0 f1 : Fault) (x new : Read) → ok_unless (if ends then Some f0 else Some f1) x ≡ Ok new → ⊥
+wordless true f0 f1 x new is = cc
+wordless false f0 f1 x new is = cc
+
+shape_kept : (read new : Read) (n : ℕ) (k : Keyword) (s : Option Shape) → ((l : Line) → reading s ≡ Ok l → LineInLines l) → SaysKeyword k s → ReadInLines read → said_shape read n k s ≡ Ok new → ReadInLines new
+unfolding said_shape check_of
+shape_kept read new n k None fits says kept is = absurd (wordless (ends_incomplete read k) (fault (current_line read.current) Missing) (fault n Word) read new is)
+shape_kept read new n k (Some s) fits says kept is =
+    let c = clear (ends_incomplete read k) (is_misplaced read k) (not (list_all (λ p. p.is_spelled) s.parts)) (not (list_all (λ p. p.in_range) s.parts)) (in_current (is_second k) read.current) (in_current (is_too_many k) read.current || is_17th read k) _ _ _ _ _ _ (add n s.says read) new is in
+    let reads : reading (Some s) ≡ Ok s.says = rw (c.spelled, c.near) refl in
+    let found : check_of read n k ≡ Ok tt = rw (c.placed, c.single, c.room) refl in
+    subst ReadInLines c.same
+    (add_fits read n s.says (fits s.says reads) kept (subst (λ (x : Keyword). ends_incomplete read x ≡ false) (sym says) c.no_end) (subst (λ (x : Keyword). check_of read n x ≡ Ok tt) (sym says) found))
+
+abbrev read_ok : Read → Result Read Fault
+read_ok read = Ok read
+
+read_is : (a b : Read) → read_ok a ≡ read_ok b → a ≡ b
+read_is a b e = cc
+
+words_kept : (read new : Read) (n : ℕ) (line : List ℕ) (words : List (List ℕ)) → IsUtf8 line → IsSingle line → words_of line ≡ words → ReadInLines read → said_words read n line words ≡ Ok new → ReadInLines new
+words_kept read new n line [] utf8 single cut kept is = subst ReadInLines (read_is read new is) kept
+words_kept read new n line (first ∷ words) utf8 single cut kept is = by (slice_index first 0 == 35) is
+  where
+    known : (k : Option Keyword) → said_keyword read n k line words ≡ Ok new → ReadInLines new
+    known None is = absurd cc
+    known (Some k) is = shape_kept read new n k (shape_of k line words) (λ l reads. line_fits k line words l (clean line first words utf8 single cut) reads) (says_keyword k line words) kept is
+
+    by : (comment : Bool) → (if comment then Ok read else said_keyword read n (keyword_of first) line words) ≡ Ok new → ReadInLines new
+    by true is = subst ReadInLines (read_is read new is) kept
+    by false is = known (keyword_of first) is
+
+line_kept : (read new : Read) (n : ℕ) (line : List ℕ) → IsUtf8 line → IsSingle line → ReadInLines read → said_line read n line ≡ Ok new → ReadInLines new
+unfolding said_line
+line_kept read new n line utf8 single kept is = words_kept read new n line (words_of line) utf8 single refl kept is
+
+-- ---- all lines
+
+lines_kept : (read new : Read) (n : ℕ) (lines : List (List ℕ)) → All IsUtf8 lines → All IsSingle lines → ReadInLines read → said_from read n lines ≡ Ok new → ReadInLines new
+unfolding said_from
+lines_kept read new n [] utf8 single kept is = subst ReadInLines (read_is read new is) kept
+lines_kept read new n (line ∷ lines) utf8 single kept is =
+    by (said_line read n line) refl is (λ more. lines_kept more new (n + 1) lines (All-tail IsUtf8 line lines utf8) (All-tail IsSingle line lines single))
+  where
+    by : (step : Result Read Fault) → said_line read n line ≡ step → (step >>= λ more. said_from more (n + 1) lines) ≡ Ok new → ((more : Read) → ReadInLines more → said_from more (n + 1) lines ≡ Ok new → ReadInLines new) → ReadInLines new
+    by (Ok more) now is rest = rest more (line_kept read more n line (All-head IsUtf8 line lines utf8) (All-head IsSingle line lines single) kept now) is
+    by (Err e) now is rest = absurd cc
+
+none_kept : ReadInLines nothing
+none_kept = record { front = All-nil _; few_closed = omega arith; closed = All-nil EndedInLines; current = tt }
+
+-- what the end of a text leaves
+record Ended (read new : Read) : Type 0 where
+  whole : EndsComplete new
+  same : read ≡ new
+
+ended_by : (n : ℕ) (read new : Read) (current : Option Block) → read.current ≡ current → ok_unless (first_fault (end_rows current n)) read ≡ Ok new → Ended read new
+ended_by n read new None last is = absurd cc
+ended_by n read new (Some b) last is = by (is_incomplete b.lines) refl is
+  where
+    by : (lacking : Bool) → is_incomplete b.lines ≡ lacking → ok_unless (first_fault ((lacking, fault b.line Missing) ∷ [])) read ≡ Ok new → Ended read new
+    by true found is = absurd cc
+    by false found is =
+        let same = read_is read new is in
+        record { whole = record { block = b; last = sym (ap (λ (r : Read). r.current) same) ∙ last; complete = found }; same = same }
+
+end_kept : (n : ℕ) (read new : Read) → ended n read ≡ Ok new → Ended read new
+unfolding ended
+end_kept n read new is = ended_by n read new read.current refl is
+
+-- all that a text says
+record Kept (read : Read) : Type 0 where
+  in_lines : ReadInLines read
+  whole : EndsComplete read
+
+said_kept : (lines : List (List ℕ)) (read : Read) → All IsUtf8 lines → All IsSingle lines → said lines ≡ Ok read → Kept read
+unfolding said
+said_kept lines read utf8 single is = by (said_from nothing 1 lines) refl is
+  where
+    by : (all : Result Read Fault) → said_from nothing 1 lines ≡ all → (all >>= λ r. ended (length lines) r) ≡ Ok read → Kept read
+    by (Ok r) from is =
+        let end = end_kept (length lines) r read is in
+        record { in_lines = subst ReadInLines end.same (lines_kept nothing r 1 lines utf8 single none_kept from); whole = end.whole }
+    by (Err e) from is = absurd cc
+
+-- What lines gave: a plan that a text can give, and its files.
+pub record IsGiven (draft : Drafted) : Type 0 where
+  pub in_lines : InLines draft.plan
+  pub files : draft.files ≡ config_files 0 draft.plan.configs
+
+abbrev draft_ok : Drafted → Result Drafted Fault
+draft_ok draft = Ok draft
+
+draft_is : (a b : Drafted) → draft_ok a ≡ draft_ok b → a ≡ b
+draft_is a b e = cc
+
+pub lines_given : (text : List ℕ) (draft : Drafted) → IsUtf8 text → lines_give (lines_of text) ≡ Ok draft → IsGiven draft
+unfolding lines_give
+lines_given text draft utf8 is = by (said (lines_of text)) refl is
+  where
+    by : (all : Result Read Fault) → said (lines_of text) ≡ all → (all >>= λ read. Ok (drafted read)) ≡ Ok draft → IsGiven draft
+    by (Ok read) said_is is =
+        let kept = said_kept (lines_of text) read (lines_utf8 text utf8) (lines_are_single text) said_is in
+        let fits = plan_fits read kept.whole.block kept.in_lines kept.whole.last kept.whole.complete in
+        subst IsGiven (draft_is (drafted read) draft is) (record { in_lines = fits; files = refl })
+    by (Err e) said_is is = absurd cc
