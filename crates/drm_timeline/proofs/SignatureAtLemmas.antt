@@ -1,5 +1,5 @@
 -- The signatures of the frames of a schedule.
-use Rattle.std.proofs.Common.{◌≡◌, ◌≢◌, ◌≤◌, ◌+◌, ◌-◌, ◌*◌, ◌/◌, ◌%◌, ◌⊎◌, inl, inr, ℕ, length, get_or, All, Contains, IfSome, IsSome, Option, Some, None, refl, sym, ap, subst, ◌∙◌, arith}
+use Rattle.std.proofs.Common.{◌≡◌, ◌≢◌, ◌≤◌, ◌+◌, ◌-◌, ◌*◌, ◌/◌, ◌%◌, ◌⊎◌, inl, inr, ℕ, length, get_or, All, IfSome, IsSome, Option, Some, None, refl, sym, ap, subst, ◌∙◌, arith}
 use Rattle.std.proofs.lemmas.Nat.{mod_below}
 use Rattle.std.proofs.lemmas.Option.{slice_get_cases}
 use Rattle.drm_fac.specs.declared.order.Slot.{Slot}
@@ -16,7 +16,7 @@ use Rattle.drm_timeline.specs.Standing.{has_started, config_of}
 use Rattle.drm_timeline.specs.FastAccess.{audio_services, data_services, services_of, service_of, service_in, channel_of}
 use Rattle.drm_timeline.specs.Description.{description_of}
 use Rattle.drm_timeline.specs.Seen.{signature_of}
-use Rattle.drm_timeline.specs.Starts.{later_starts, signature_at}
+use Rattle.drm_timeline.specs.Starts.{IsFirstFrame, signature_at}
 use Rattle.drm_timeline.proofs.FastAccessLemmas.{service_there}
 use Rattle.drm_timeline.proofs.ScheduleLemmas.{all_sound, some_config, sound_services}
 use Rattle.drm_timeline.proofs.StandingLemmas.{last_passing_has}
@@ -85,8 +85,8 @@ same_signature plan t u is same =
 next_frame : (t : ℕ) → ((t + 1) / 3 ≡ t / 3) ⊎ (((t + 1) / 3 ≡ t / 3 + 1) × (t + 1 ≡ 3 * (t / 3 + 1)))
 next_frame t = grind arith
 
--- so signatures change only with the first frame of a later start
-pub changes_in : (plan : Plan) (t : ℕ) → AreFaultless plan.length None plan.configs → IsThere plan (t / 3) → signature_at plan t ≢ signature_at plan (t + 1) → (start : ℕ) × Contains (later_starts plan) start × (t + 1 ≡ 3 * start)
+-- so signatures change only with the first frame of a later configuration
+pub changes_in : (plan : Plan) (t : ℕ) → AreFaultless plan.length None plan.configs → IsThere plan (t / 3) → signature_at plan t ≢ signature_at plan (t + 1) → IsFirstFrame plan (t + 1)
 changes_in plan t are is differ =
     elim (next_frame t) [
       | inl same ↦ absurd (differ (same_signature plan t (t + 1) is (ap (config_of plan) (sym same))))

@@ -4,15 +4,15 @@ ghost use Rattle.drm_timeline.specs.Starts.{AnnouncesStarts, SwitchesOnlyAtStart
 
 use drm_schedule::Schedule;
 
-/// The reconfiguration index counts down to each start and to nothing else, and signatures change only at starts.
+/// A law: the reconfiguration index counts down to each later start and to nothing else, and signatures change only there.
 pub fn starts_are_announced(plan: &Schedule)
     ensures { AnnouncesStarts plan.now }
 {
     plan.always_valid();
 }
 
-/// From any frame of a schedule on: whatever is missing, switches stand only at starts, and where nothing is missing, each
-/// start behind the first frame has its switch and no frame is resumed.
+/// A law: from any frame of a schedule on, switches stand only at later starts, whatever is missing. Where no frame is
+/// missing, each later start behind the first frame has its switch, and none is resumed.
 pub fn switches_are_at_starts(plan: &Schedule)
     ensures only { SwitchesOnlyAtStarts plan.now }
     ensures all { SwitchesAtAllStarts plan.now }
