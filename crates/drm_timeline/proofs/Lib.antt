@@ -8,3 +8,7 @@ pub mod SignatureLemmas
 pub mod SwitchesLemmas
 pub mod TrackerLemmas
 pub mod BlockLemmas
+pub mod AnnouncedLemmas
+pub mod StartsLemmas
+pub mod SignatureAtLemmas
+pub mod ScheduleLaws

@@ -7,3 +7,5 @@ pub mod Telling
 pub mod Seen
 pub mod Switches
 pub mod Tracker
+pub mod Announced
+pub mod Starts

@@ -2,11 +2,13 @@
 //! Description Channel are sent; and on the other side, from the frames that came, when the configuration switched.
 #![tactic(auto)]
 
+mod announced;
 mod announcing;
 mod block;
 mod fast_access;
 #[cfg(test)]
 mod frame_tests;
+mod schedule_laws;
 mod seen;
 mod standing;
 #[cfg(test)]
@@ -16,8 +18,10 @@ mod tracker;
 #[cfg(test)]
 mod trial;
 
+pub use announced::{none_is_resumed, switches_at_all_starts, switches_only_at_starts};
 pub use block::block_into;
 pub use fast_access::{fac_at, packet_len};
+pub use schedule_laws::{starts_are_announced, switches_are_at_starts};
 pub use seen::{Seen, Signature};
 pub use standing::{config_at, index_at};
 pub use told::description;
