@@ -1,17 +1,17 @@
 -- Services by kind, and their order in the FAC.
-use Rattle.std.proofs.Common.{mul_comm, ◌≡◌, ◌<◌, ◌≤◌, ◌+◌, ◌-◌, ◌*◌, ◌/◌, ◌%◌, ◌==◌, ℕ, zero, suc, not, nat_lt, Bool, true, false, List, [], ◌∷◌, length, filter, cond, slice_get, All, IfSome, IsSome, get_or, inl, inr, Option, Some, None, refl, sym, ap, subst, ◌∙◌, arith}
+use Rattle.std.proofs.Common.{mul_comm, ◌≡◌, ◌<◌, ◌≤◌, ◌+◌, ◌/◌, ◌%◌, ℕ, zero, suc, not, nat_lt, Bool, true, false, List, [], ◌∷◌, length, filter, cond, slice_get, All, IfSome, IsSome, inl, inr, Option, Some, None, refl, sym, subst, ◌∙◌, arith}
 use Rattle.drm_fac.specs.declared.service.Service.{Service}
 use Rattle.drm_fac.specs.declared.order.Slot.{Slot}
 use Rattle.drm_fac.specs.declared.order.Slot.TheVariants.{Audio, Data}
 use Rattle.drm_fac.specs.Services.{code_of}
 use Rattle.drm_fac.specs.Pattern.{before_data, order_of, service_at}
-use Rattle.drm_fac.proofs.OrderLemmas.{few, round, slot_of, at_mixed, all_audio, all_data, len_audio, len_data, len_mixed}
+use Rattle.drm_fac.proofs.OrderLemmas.{few, round, at_mixed, all_audio, all_data, len_audio, len_data, len_mixed}
 use Rattle.std.proofs.lemmas.Option.{slice_get_cases, get_or_from_slice_get}
 use Rattle.std.proofs.lemmas.List.Elements.{All-filter}
 use Rattle.std.proofs.lemmas.Nat.{mod_below, div_below}
 use Rattle.drm_schedule.specs.declared.config.Config.{Config}
 use Rattle.drm_schedule.specs.Ranges.{ServiceInLines}
-use Rattle.drm_timeline.specs.FastAccess.{is_of_kind, audio_services, data_services, services_of, service_in, service_of}
+use Rattle.drm_timeline.specs.FastAccess.{is_of_kind, audio_services, data_services, services_of, service_in}
 
 -- each service is of one kind
 pub both_kinds : (services : List Service) → length (filter (is_of_kind false) services) + length (filter (is_of_kind true) services) ≡ length services

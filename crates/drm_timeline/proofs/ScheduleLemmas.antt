@@ -1,16 +1,15 @@
 -- What holds of the configurations of a schedule, and of those that hold and are announced in a super frame.
-use Rattle.std.proofs.Common.{◌≡◌, ◌<◌, ◌≤◌, ◌+◌, ◌-◌, ◌==◌, ◌&&◌, ◌||◌, ℕ, zero, suc, not, nat_le, nat_lt, Bool, true, false, List, [], ◌∷◌, length, filter, drop, cond, All, IfSome, IsSome, get_or, slice_get, Option, Some, None, refl, sym, ap, subst, ◌∙◌, arith}
+use Rattle.std.proofs.Common.{◌≡◌, ◌<◌, ◌≤◌, ◌+◌, ◌==◌, ◌&&◌, ℕ, zero, suc, not, nat_le, nat_lt, Bool, true, false, List, [], ◌∷◌, length, filter, drop, cond, All, IfSome, IsSome, get_or, slice_get, Option, Some, None, refl, sym, ap, subst, ◌∙◌, arith}
 use Rattle.std.specs.List.{last_or, find}
 use Rattle.std.proofs.lemmas.Bool.{true≢false, cond-true, cond-false, or_parts, eqb-true, leb-true, leb-false, ltb-true, ltb-false, le-leb, lt-leb, and_parts}
 use Rattle.std.proofs.lemmas.List.Elements.{All-nil, All-cons}
 use Rattle.drm_schedule.specs.declared.config.Config.{Config}
-use Rattle.drm_schedule.specs.declared.plan.Plan.{Plan}
 use Rattle.std.proofs.lemmas.Option.{slice_get-get_or}
 use Rattle.drm_schedule.specs.Ranges.{ConfigInLines}
 use Rattle.drm_schedule.specs.Announcement.{countdown_start, lacks_announcement, can_be_announced}
 use Rattle.drm_schedule.specs.Sizes.{has_no_room, packet_len}
-use Rattle.drm_schedule.specs.Services.{are_too_many, services_disagree}
-use Rattle.drm_schedule.specs.Valid.{starts_wrongly, counts_wrongly, end_before, IsFaultless, AreFaultless}
+use Rattle.drm_schedule.specs.Services.{services_disagree}
+use Rattle.drm_schedule.specs.Valid.{end_before, IsFaultless, AreFaultless}
 use Rattle.drm_timeline.specs.Standing.{has_started, is_counting}
 use Rattle.drm_timeline.specs.FastAccess.{audio_services, data_services, services_of}
 use Rattle.drm_timeline.proofs.FastAccessLemmas.{both_kinds, has_code}

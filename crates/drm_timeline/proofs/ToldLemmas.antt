@@ -8,7 +8,7 @@ use Rattle.drm_bits.specs.declared.description.MuxDesc.{MuxDesc}
 use Rattle.drm_bits.specs.declared.bit_sink.BitSink.{BitSink}
 use Rattle.drm_bits.specs.Sink.{unwritten}
 use Rattle.drm_bits.specs.Fields.{Fit, spelled}
-use Rattle.drm_bits.specs.Description.{IsDescription, part_fields, description_fields}
+use Rattle.drm_bits.specs.Description.{IsDescription, part_fields}
 use Rattle.drm_sdc.specs.declared.body.Body.{Body}
 use Rattle.drm_sdc.specs.declared.body.Body.TheVariants.{Mux}
 use Rattle.drm_sdc.specs.declared.entity.Entity.{Entity}
@@ -22,7 +22,7 @@ use Rattle.drm_schedule.specs.declared.stream.Stream.{Stream}
 use Rattle.drm_schedule.specs.Ranges.{EntityInLines, ConfigInLines, StreamInLines, BodyInLines}
 use Rattle.drm_schedule.specs.Sizes.{told_size, size_if, tells_clock, has_no_room}
 use Rattle.drm_schedule.proofs.Fitting.{body_fits, entity_fits}
-use Rattle.drm_timeline.specs.Announcing.{next, as_next}
+use Rattle.drm_timeline.specs.Announcing.{next}
 use Rattle.drm_timeline.specs.Description.{description_of, parts_of}
 use Rattle.drm_timeline.specs.Blocks.{current, clock_from, clock_in, told_in}
 use Rattle.drm_timeline.specs.Telling.{WroteEntities}

@@ -3,7 +3,7 @@ use Rattle.std.specs.Prelude.{ℕ, ◌+◌, ◌*◌, ◌/◌, ◌%◌, false, Li
 use Rattle.drm_bits.specs.declared.description.MuxDesc.{MuxDesc}
 use Rattle.drm_bits.specs.declared.description.Part.{Part}
 use Rattle.drm_sdc.specs.declared.body.Body.{Body}
-use Rattle.drm_sdc.specs.declared.body.Body.TheVariants.{Mux, Time, Next}
+use Rattle.drm_sdc.specs.declared.body.Body.TheVariants.{Time, Next}
 use Rattle.drm_schedule.specs.declared.config.Clock.{Clock}
 use Rattle.drm_schedule.specs.declared.config.Config.{Config}
 use Rattle.drm_schedule.specs.declared.config.Mode.{Mode}

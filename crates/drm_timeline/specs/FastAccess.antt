@@ -1,5 +1,5 @@
 -- The FAC of each frame of a schedule (ES 201 980, "Fast Access Channel").
-use Rattle.std.specs.Prelude.{ℕ, ◌-◌, ◌*◌, ◌/◌, ◌%◌, ◌==◌, not, Bool, true, false, if◌then◌else◌, List, length, filter, slice_get, option_map, Option, Some, None}
+use Rattle.std.specs.Prelude.{ℕ, ◌-◌, ◌*◌, ◌/◌, ◌%◌, ◌==◌, not, Bool, true, false, if◌then◌else◌, List, length, filter, slice_get, option_map, Option}
 use Rattle.drm_fac.specs.declared.channel.Channel.{Channel}
 use Rattle.drm_fac.specs.declared.service.Service.{Service}
 use Rattle.drm_fac.specs.declared.fac.Fac.{Fac}

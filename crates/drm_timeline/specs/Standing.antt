@@ -1,5 +1,5 @@
 -- Which configuration holds in a super frame, and which one is announced in it (ES 201 980, "Reconfiguration").
-use Rattle.std.specs.Prelude.{ℕ, ◌-◌, ◌&&◌, nat_le, nat_lt, Bool, List, filter, Option, Some, None}
+use Rattle.std.specs.Prelude.{ℕ, ◌-◌, ◌&&◌, nat_le, nat_lt, Bool, filter, Option, Some, None}
 use Rattle.std.specs.List.{find, last_or}
 use Rattle.drm_schedule.specs.declared.config.Config.{Config}
 use Rattle.drm_schedule.specs.declared.plan.Plan.{Plan}

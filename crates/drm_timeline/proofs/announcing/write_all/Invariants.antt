@@ -1,5 +1,4 @@
-use Rattle.std.proofs.Common.{◌≡◌, ◌++◌, List, length, map, filter, All}
-use Rattle.drm_sdc.specs.Entity.{entity_size}
+use Rattle.std.proofs.Common.{length, map, filter, All}
 use Rattle.drm_schedule.specs.Ranges.{EntityInLines}
 use Rattle.drm_schedule.specs.Announcement.{is_of, repeated_of}
 use Rattle.drm_timeline.specs.Announcing.{as_next}

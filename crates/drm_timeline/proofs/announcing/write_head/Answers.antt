@@ -1,14 +1,10 @@
-use Rattle.std.proofs.Common.{◌≡◌, ◌∙◌, ◌+◌, ◌*◌, sym, ap, subst, List, [], ◌∷◌, length, true, Some}
+use Rattle.std.proofs.Common.{◌∙◌, sym, ap, subst, length, true}
 use Rattle.drm_bits.specs.declared.description.MuxDesc.{MuxDesc}
-use Rattle.drm_sdc.specs.declared.body.Body.{Body}
 use Rattle.drm_sdc.specs.declared.body.Body.TheVariants.{Mux}
-use Rattle.drm_sdc.specs.declared.entity.Entity.{Entity}
-use Rattle.drm_sdc.specs.Entity.{EntityFits, entity_size}
-use Rattle.drm_schedule.specs.declared.packing.Spot.{Spot}
+use Rattle.drm_sdc.specs.Entity.{EntityFits}
 use Rattle.drm_schedule.specs.Packing.{placed, front}
-use Rattle.drm_timeline.specs.Announcing.{next, packed_in}
+use Rattle.drm_timeline.specs.Announcing.{next}
 use Rattle.drm_timeline.specs.Description.{description_of}
-use Rattle.drm_timeline.specs.Telling.{WroteEntities}
 use Rattle.drm_timeline.proofs.PackedLemmas.{wrote_two, room_one}
 use Rattle.drm_timeline.proofs.AnnouncingLemmas.{head_here, head_wrote}
 use Rattle.drm_timeline.proofs.ToldLemmas.{description_fits}

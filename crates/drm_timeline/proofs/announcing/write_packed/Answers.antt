@@ -1,7 +1,5 @@
-use Rattle.std.proofs.Common.{map}
 use Rattle.drm_schedule.specs.declared.announcement.Repeated.TheVariants.{Audio, App}
 use Rattle.drm_schedule.specs.Announcement.{repeated_of}
-use Rattle.drm_timeline.specs.Announcing.{as_next}
 use Rattle.drm_timeline.proofs.PackedLemmas.{packs_room}
 use Rattle.drm_timeline.proofs.AnnouncingLemmas.{announcement_with, after_head, behind_audio, behind_apps, some_audio, some_apps, is_announcement}
 use Rattle.drm_timeline.proofs.announcing.write_packed.Goals as goal

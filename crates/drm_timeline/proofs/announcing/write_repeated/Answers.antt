@@ -1,6 +1,4 @@
-use Rattle.std.proofs.Common.{◌≡◌, sym, ap, subst, List, [], ◌∷◌, map, cond}
-use Rattle.std.proofs.lemmas.Bool.{cond-false}
-use Rattle.drm_sdc.specs.declared.entity.Entity.{Entity}
+use Rattle.std.proofs.Common.{subst, [], ◌∷◌, map, cond}
 use Rattle.drm_timeline.specs.Announcing.{as_next, packed_in}
 use Rattle.drm_timeline.specs.Telling.{WroteEntities}
 use Rattle.drm_timeline.proofs.PackedLemmas.{wrote_none_of}

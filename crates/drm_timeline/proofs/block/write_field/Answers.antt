@@ -1,4 +1,4 @@
-use Rattle.std.proofs.Common.{◌≡◌, ◌*◌, length, arith, ap}
+use Rattle.std.proofs.Common.{length, arith, ap}
 use Rattle.drm_bits.specs.Sink.{unwritten}
 use Rattle.drm_bits.proofs.BitsLemmas.{length-bits_of}
 use Rattle.drm_timeline.proofs.BlockLemmas.{filled, own_fits, free_fits, used_is, field_done}

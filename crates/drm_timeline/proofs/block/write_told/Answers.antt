@@ -1,7 +1,6 @@
-use Rattle.std.proofs.Common.{◌≡◌, sym, subst, List, All, false}
+use Rattle.std.proofs.Common.{sym, subst, All, false}
 use Rattle.drm_bits.specs.declared.description.MuxDesc.{MuxDesc}
 use Rattle.drm_sdc.specs.declared.body.Body.TheVariants.{Mux}
-use Rattle.drm_sdc.specs.declared.entity.Entity.{Entity}
 use Rattle.drm_sdc.specs.Entity.{EntityFits}
 use Rattle.drm_timeline.specs.Blocks.{current}
 use Rattle.drm_timeline.proofs.ToldLemmas.{description_fits, lines_fit, wrote_told}

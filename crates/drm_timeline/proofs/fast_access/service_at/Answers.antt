@@ -1,4 +1,4 @@
-use Rattle.std.proofs.Common.{◌≡◌, ◌∙◌, sym, rules, Some, length}
+use Rattle.std.proofs.Common.{◌≡◌, ◌∙◌, sym, Some, length}
 use Rattle.drm_fac.specs.Pattern as pattern
 use Rattle.drm_timeline.specs.FastAccess.{audio_services, data_services}
 use Rattle.drm_timeline.proofs.FastAccessLemmas.{service_there, service_fits}

@@ -1,4 +1,4 @@
-use Rattle.std.proofs.Common.{◌≡◌, sym, ap, ◌∙◌, filter, List, None}
+use Rattle.std.proofs.Common.{sym, ap, ◌∙◌, filter, List, None}
 use Rattle.std.specs.List.{last_or}
 use Rattle.drm_schedule.specs.declared.config.Config.{Config}
 use Rattle.drm_timeline.specs.Standing.{has_started}

@@ -1,4 +1,3 @@
-use Rattle.std.proofs.Common.{arith}
 use Rattle.std.proofs.lemmas.Bool.{le-leb}
 use Rattle.drm_timeline.specs.Standing.{has_started}
 use Rattle.drm_timeline.proofs.StandingLemmas.{is_last}

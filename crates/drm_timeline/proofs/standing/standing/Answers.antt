@@ -1,4 +1,4 @@
-use Rattle.std.proofs.Common.{◌≡◌, ◌∙◌, sym, subst, List, slice_get, get_or}
+use Rattle.std.proofs.Common.{◌≡◌, subst, List, get_or}
 use Rattle.drm_schedule.specs.declared.config.Config.{Config}
 use Rattle.drm_timeline.proofs.ScheduleLemmas.{Holds, holds, sound_services}
 use Rattle.drm_timeline.proofs.standing.standing.Goals as goal
