@@ -1,5 +1,5 @@
 -- What `check` printed is checked again as itself.
-use Rattle.std.proofs.Common.{◌≡◌, ℕ, ◌+◌, ◌<◌, ◌≤◌, suc, Bool, true, false, List, [], ◌∷◌, ◌++◌, length, nat_lt, nat_eq, Option, None, Some, Result, Ok, Err, if◌then◌else◌, refl, sym, ap, subst, ◌∙◌, append_assoc, arith}
+use Rattle.std.proofs.Common.{◌≡◌, ℕ, ◌+◌, ◌≤◌, Bool, true, false, List, [], ◌∷◌, ◌++◌, length, nat_lt, nat_eq, Option, None, Some, Result, Ok, Err, if◌then◌else◌, refl, sym, ap, subst, ◌∙◌, append_assoc, arith}
 use Rattle.std.specs.Str.{is_utf8}
 use Rattle.std.specs.List.{list_any}
 use Rattle.std.proofs.lemmas.Bool.Decides.{nat_tests}
@@ -18,7 +18,6 @@ use Rattle.drm_plan.specs.declared.files.Filed.{Filed}
 use Rattle.drm_plan.specs.Canonical.{canonical}
 use Rattle.drm_plan.specs.Draft.{line_of_file, name_of_file, with_bytes, valid_of, valid_unless}
 use Rattle.drm_plan.specs.Files.{config_files, name_of, with_file}
-use Rattle.drm_plan.specs.Law.{without_files, EachFile}
 use Rattle.drm_plan.specs.Lookup.{at}
 use Rattle.drm_plan.specs.Projection.{Drafted}
 use Rattle.drm_plan.specs.Rules.{Fault}
@@ -131,11 +130,11 @@ in_turn before (file ∷ files) draft is told =
     let longer : length before + 1 ≡ length (before ++ file ∷ []) = sym (length-append before (file ∷ [])) in
     ap (λ (o : Option Filed). next_file (length files) (length before) draft o told) found
     ∙ after_same (load_for (line_of_file draft.places (Some file)) (name_of file draft.plan) longest_file told).came
-      (λ bytes. with_files (length files) (length before + 1) (with_plan draft (with_file file bytes draft.plan)))
-      (λ bytes. from_files files (with_plan draft (with_file file bytes draft.plan)))
-      (after_one told)
-      (λ bytes. ap (λ k. with_files (length files) k (with_plan draft (with_file file bytes draft.plan)) (after_one told)) longer
-      ∙ in_turn (before ++ file ∷ []) files (with_plan draft (with_file file bytes draft.plan)) (is ∙ sym (append_assoc before (file ∷ []) files)) (after_one told))
+    (λ bytes. with_files (length files) (length before + 1) (with_plan draft (with_file file bytes draft.plan)))
+    (λ bytes. from_files files (with_plan draft (with_file file bytes draft.plan)))
+    (after_one told)
+    (λ bytes. ap (λ k. with_files (length files) k (with_plan draft (with_file file bytes draft.plan)) (after_one told)) longer
+    ∙ in_turn (before ++ file ∷ []) files (with_plan draft (with_file file bytes draft.plan)) (is ∙ sym (append_assoc before (file ∷ []) files)) (after_one told))
 
 all_in_turn : (draft : Drafted) (told : Files) → with_files (length draft.files) 0 draft told ≡ from_files draft.files draft told
 all_in_turn draft told = in_turn [] draft.files draft refl told
@@ -158,8 +157,7 @@ files_load (file ∷ files) draft whole told none fills =
 files_loaded : (files : List Filed) (draft whole : Drafted) (told : Files) → (from_files files draft told).came ≡ Ok whole → Fills (Has longest_file told) files draft.plan whole.plan
 files_loaded [] draft whole told is = ap (λ (d : Drafted). d.plan) (draft_is draft whole is)
 files_loaded (file ∷ files) draft whole told is =
-    let came = then_came (load_for (line_of_file draft.places (Some file)) (name_of file draft.plan) longest_file) (λ bytes. from_files files (with_plan draft (with_file file bytes draft.plan))) told whole is in
-    (
+    let came = then_came (load_for (line_of_file draft.places (Some file)) (name_of file draft.plan) longest_file) (λ bytes. from_files files (with_plan draft (with_file file bytes draft.plan))) told whole is in (
       came.x,
       load_came told (line_of_file draft.places (Some file)) (name_of file draft.plan) came.x longest_file came.first,
       files_loaded files (with_plan draft (with_file file came.x draft.plan)) whole (after_one told) came.second,
