@@ -6,3 +6,4 @@ pub mod LoadingLemmas
 pub mod WordsLemmas
 pub mod CheckLemmas
 pub mod ScheduleLemmas
+pub mod AgainLaw

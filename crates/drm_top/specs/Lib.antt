@@ -12,3 +12,4 @@ pub mod Schedule
 pub mod Check
 pub mod Command
 pub mod Words
+pub mod Again

@@ -9,6 +9,7 @@ mod fac;
 mod fac_line;
 mod fault;
 mod head;
+mod laws;
 mod loading;
 mod output;
 mod reason;
@@ -20,3 +21,4 @@ mod words;
 
 pub use command::{no_memory, run};
 pub use drm_links::Status;
+pub use laws::what_check_prints_is_checked_again;
