@@ -1,0 +1,5 @@
+pub mod Names
+pub mod Items
+pub mod Frame
+pub mod Table
+pub mod Mdi

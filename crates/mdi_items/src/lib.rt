@@ -1,0 +1,11 @@
+//! The MDI frame (TS 102 820): one logical frame as TAG items. It is read in any order of its items, with its first
+//! fault, and written in one order. Neither takes memory.
+#![tactic(auto)]
+
+mod fault;
+mod known;
+mod names;
+mod view;
+
+pub use fault::MdiFault;
+pub use view::{MdiView, SdcSpan};
