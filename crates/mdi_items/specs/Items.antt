@@ -23,7 +23,7 @@ find_from from name (item ∷ items) =
     if pointwise nat_eq item.name name then Some (record { at = from + 8; bits = length item.value }) else find_from (from + size item) name items
 
 -- the known items of a payload, by the order of their names
-abbrev pub known_of : List TagItem → List (Option Found)
+unfoldable pub known_of : List TagItem → List (Option Found)
 known_of items = map (λ name. find_from 0 name items) names
 
 -- The name is one of those that are read.

@@ -3,3 +3,4 @@ pub mod Items
 pub mod Frame
 pub mod Table
 pub mod Mdi
+pub mod Noting

@@ -32,5 +32,10 @@ pub(crate) fn place_of(name: [u8; 4]) -> Option<usize>
     ensures known { IfSome result (λ k. (k < 10) × (name_at k ≡ name)) }
     ensures unknown { IfNone result (¬ IsKnown name) }
 {
-    NAMES.iter().position(|known| *known == name)
+    for (place, known) in NAMES.iter().enumerate() {
+        if *known == name {
+            return Some(place);
+        }
+    }
+    None
 }
