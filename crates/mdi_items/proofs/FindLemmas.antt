@@ -76,3 +76,11 @@ get_or-map f (n ∷ ns) (suc k) lt = get_or-map f ns k (omega arith)
 pub known_at : (items : List TagItem) (k : ℕ) → k < 10 → get_or (known_of items) k None ≡ find_from 0 (name_at k) items
 unfolding known_of
 known_at items k lt = get_or-map (λ name. find_from 0 name items) names k lt
+
+length-map : (f : List ℕ → Option Found) (ns : List (List ℕ)) → length (map f ns) ≡ length ns
+length-map f [] = refl
+length-map f (n ∷ ns) = ap suc (length-map f ns)
+
+pub length-known : (items : List TagItem) → length (known_of items) ≡ 10
+unfolding known_of
+length-known items = length-map (λ name. find_from 0 name items) names

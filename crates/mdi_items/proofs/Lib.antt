@@ -1,3 +1,4 @@
 pub mod NameLemmas
 pub mod FindLemmas
 pub mod WalkLemmas
+pub mod PayloadLemmas

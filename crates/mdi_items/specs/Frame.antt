@@ -1,5 +1,5 @@
 -- A logical frame (TS 102 820): what its items say.
-use Rattle.std.specs.Prelude.{ℕ, ◌≡◌, ◌≢◌, ◌/◌, ◌⊎◌, Bool, List, [], ◌∷◌, ◌++◌, length, take, drop, map, codes, slice_range, slice_index_or, Option, None, Some}
+use Rattle.std.specs.Prelude.{ℕ, ◌≡◌, ◌≢◌, ◌+◌, ◌≤◌, ◌/◌, ◌⊎◌, Bool, List, [], ◌∷◌, ◌++◌, length, take, drop, map, codes, slice_range, slice_index_or, Option, None, Some}
 use Rattle.std.specs.Int.{w16, w32, from_be_bytes}
 use Rattle.drm_bits.specs.Bits.{bits_of}
 use Rattle.drm_bits.specs.declared.description.MuxDesc.{MuxDesc}
@@ -45,6 +45,10 @@ IsAt known k found = slice_index_or known k None ≡ Some found
 abbrev pub HasBytes : List ℕ → List (Option Found) → ℕ → List ℕ → Type 0
 HasBytes payload known k bytes = (found : Found) × IsAt known k found × (bytes_at payload found ≡ bytes)
 
+-- Each of the items ends in the payload of so many bytes.
+abbrev pub AreInside : ℕ → List (Option Found) → Type 0
+AreInside end known = (k : ℕ) (found : Found) → IsAt known k found → found.at + bytes_for found.bits ≤ end
+
 -- the bits of an item, 0 where it isn't there
 abbrev pub bits_there : Option Found → ℕ
 bits_there None = 0
@@ -54,9 +58,14 @@ abbrev pub place_there : Option Found → ℕ
 place_there None = 0
 place_there (Some found) = found.at
 
+-- what there is of each stream's item
+abbrev pub of_streams : (Option Found → ℕ) → List (Option Found) → List ℕ
+of_streams what known =
+    what (slice_index_or known (str 0) None) ∷ what (slice_index_or known (str 1) None) ∷ what (slice_index_or known (str 2) None) ∷ what (slice_index_or known (str 3) None) ∷ []
+
 -- where the streams stand; one that isn't there has no bytes, at the front
 abbrev pub spans_of : List (Option Found) → Spans
-spans_of known = record { at = map place_there (drop (str 0) known); len = map (λ there. bits_there there / 8) (drop (str 0) known) }
+spans_of known = record { at = of_streams place_there known; len = of_streams (λ there. bits_there there / 8) known }
 
 -- the value of `robm`
 abbrev pub mode_code : Mode → ℕ

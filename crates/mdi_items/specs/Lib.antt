@@ -4,3 +4,4 @@ pub mod Frame
 pub mod Table
 pub mod Mdi
 pub mod Noting
+pub mod Streams

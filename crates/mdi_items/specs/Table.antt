@@ -34,21 +34,25 @@ pub data Row : Type 0 where
   StreamBits : ℕ → Row
   StreamOtherLength : ℕ → Row
 
+-- an item that each frame has, always with so many bits
+abbrev pub due_rows : ℕ → ℕ → List Row
+due_rows k bits = Absent k ∷ OtherLength k bits ∷ []
+
 -- the rows of each item
 abbrev pub ptr_rows : List Row
-ptr_rows = Absent ptr ∷ OtherLength ptr 64 ∷ OtherProtocol ∷ []
+ptr_rows = due_rows ptr 64 ++ OtherProtocol ∷ []
 
 abbrev pub dlfc_rows : List Row
-dlfc_rows = Absent dlfc ∷ OtherLength dlfc 32 ∷ []
+dlfc_rows = due_rows dlfc 32
 
 abbrev pub fac_rows : List Row
-fac_rows = Absent fac_ ∷ OtherLength fac_ 72 ∷ NoFac ∷ Hierarchical ∷ []
+fac_rows = due_rows fac_ 72 ++ NoFac ∷ Hierarchical ∷ []
 
 abbrev pub sdci_rows : List Row
 sdci_rows = Absent sdci ∷ NoDescription ∷ []
 
 abbrev pub robm_rows : List Row
-robm_rows = Absent robm ∷ OtherLength robm 8 ∷ NoMode ∷ []
+robm_rows = due_rows robm 8 ++ NoMode ∷ []
 
 abbrev pub sdc_rows : List Row
 sdc_rows = BlockAbsent ∷ BlockOutOfPlace ∷ NoBlock ∷ []
@@ -73,6 +77,18 @@ HasDescription payload known d = (bytes : List ℕ) × HasBytes payload known sd
 abbrev pub AreNoStream : MuxDesc → ℕ → ℕ → Type 0
 AreNoStream d k bits = ((k < d.count) × (bits % 8 ≢ 0)) ⊎ ((d.count ≤ k) × (bits ≢ 0))
 
+-- what is wrong with stream k by the description
+abbrev pub LacksStream : List (Option Found) → MuxDesc → ℕ → MdiFault → Type 0
+LacksStream known d k f = (k < d.count) × (stream_length d k ≢ 0) × (slice_index_or known (str k) None ≡ None) × (f ≡ fault.Absent (name_at (str k)))
+
+abbrev pub HasOtherBits : List (Option Found) → MuxDesc → ℕ → MdiFault → Type 0
+HasOtherBits known d k f = (found : Found) × IsAt known (str k) found × AreNoStream d k found.bits × (f ≡ fault.ItemLength (name_at (str k)) found.bits)
+
+abbrev pub HasOtherLength : List (Option Found) → MuxDesc → ℕ → MdiFault → Type 0
+HasOtherLength known d k f =
+    (found : Found) × IsAt known (str k) found × (k < d.count) × (found.bits / 8 ≢ stream_length d k)
+    × (f ≡ fault.Mux (StreamLength k (found.bits / 8) (stream_length d k)))
+
 -- The row applies, with this fault.
 abbrev pub Applies : List ℕ → List (Option Found) → Row → MdiFault → Type 0
 Applies payload known (Absent k) f = (slice_index_or known k None ≡ None) × (f ≡ fault.Absent (name_at k))
@@ -91,15 +107,9 @@ Applies payload known BlockOutOfPlace f =
     × (f ≡ fault.ItemLength (name_at sdc_) found.bits)
 Applies payload known NoBlock f =
     (found : Found) × (cause : SdcFault) × IsAt known sdc_ found × (found.bits ≢ 0) × IsBlockFault (block_bits payload found) cause × (f ≡ fault.Sdc cause)
-Applies payload known (StreamAbsent k) f =
-    (d : MuxDesc) × HasDescription payload known d × (k < d.count) × (stream_length d k ≢ 0) × (slice_index_or known (str k) None ≡ None)
-    × (f ≡ fault.Absent (name_at (str k)))
-Applies payload known (StreamBits k) f =
-    (d : MuxDesc) × (found : Found) × HasDescription payload known d × IsAt known (str k) found × AreNoStream d k found.bits
-    × (f ≡ fault.ItemLength (name_at (str k)) found.bits)
-Applies payload known (StreamOtherLength k) f =
-    (d : MuxDesc) × (found : Found) × HasDescription payload known d × IsAt known (str k) found × (k < d.count) × (found.bits / 8 ≢ stream_length d k)
-    × (f ≡ fault.Mux (StreamLength k (found.bits / 8) (stream_length d k)))
+Applies payload known (StreamAbsent k) f = (d : MuxDesc) × HasDescription payload known d × LacksStream known d k f
+Applies payload known (StreamBits k) f = (d : MuxDesc) × HasDescription payload known d × HasOtherBits known d k f
+Applies payload known (StreamOtherLength k) f = (d : MuxDesc) × HasDescription payload known d × HasOtherLength known d k f
 
 -- no row of the list applies
 abbrev pub NoneApplies : List ℕ → List (Option Found) → List Row → Type 0

@@ -1,8 +1,9 @@
 //! The known items of a payload.
 
-ghost use Rattle.std.specs.Prelude.{◌≡◌, [], List, OnOk, OnErr, IfOk, IfErr};
+ghost use Rattle.std.specs.Prelude.{◌≡◌, [], List, length, OnOk, OnErr, IfOk, IfErr};
 ghost use Rattle.dcp_tag.specs.Tag.{TagItem};
 ghost use Rattle.mdi_items.specs.Items.{AreThenFault, known_of};
+ghost use Rattle.mdi_items.specs.Frame.{AreInside};
 ghost use Rattle.mdi_items.specs.Mdi.{AreItems};
 ghost use Rattle.mdi_items.specs.Noting.{Notes, IsNoted};
 
@@ -25,6 +26,7 @@ pub(crate) type Known = [Option<Found>; 10];
 /// Finds the known items, or the first fault of the items in their order.
 pub(crate) fn gather(payload: &[u8]) -> Result<Known, MdiFault>
     ensures known { IfOk result (λ known. (items : List TagItem) × AreItems items payload.now × (known ≡ known_of items)) }
+    ensures inside { IfOk result (AreInside (length payload.now)) }
     ensures fault { IfErr result (λ f. (items : List TagItem) × AreThenFault [] items payload.now f) }
 {
     let mut items = Items::new(payload);

@@ -2,9 +2,13 @@
 //! fault, and written in one order. Neither takes memory.
 #![tactic(auto)]
 
+mod block;
 mod fault;
 mod known;
 mod names;
+mod needed;
+mod streams;
+mod value;
 mod view;
 
 pub use fault::MdiFault;

@@ -12,11 +12,17 @@ pub(crate) const NAMES: [[u8; 4]; 10] = [
 
 // The places of the names in that order; that of stream k is k places behind the first one's.
 pub(crate) const PTR: usize = 0;
+
 pub(crate) const DLFC: usize = 1;
+
 pub(crate) const FAC: usize = 2;
+
 pub(crate) const SDCI: usize = 3;
+
 pub(crate) const ROBM: usize = 4;
+
 pub(crate) const SDC: usize = 5;
+
 pub(crate) const STREAMS: usize = 6;
 
 /// The name at a place of the order.

@@ -2,6 +2,7 @@ use Rattle.std.proofs.Common.{refl}
 use Rattle.std.proofs.lemmas.Result.{err_from_is_err_and}
 use Rattle.dcp_tag.specs.Reading.{Gives}
 use Rattle.mdi_items.specs.Items.{known_of}
+use Rattle.mdi_items.proofs.PayloadLemmas.{known_inside}
 use Rattle.mdi_items.proofs.WalkLemmas.{walk_start, walk_step, walk_end, walk_cut, walk_twice}
 use Rattle.mdi_items.proofs.known.gather.Goals as goal
 
@@ -26,3 +27,8 @@ returns-in-Ok-None-clause-known c =
 
 pub returns-in-Err-clause-fault : goal.returns-in-Err-clause-fault
 returns-in-Err-clause-fault c = walk_cut c.args.payload.now c.loop-item.items c.loop-item.known c.in-Err.cut.at c.loop-item.invariant c.in-Err.ensures.answer.1 c.in-Err.ensures.answer.0
+
+pub returns-in-Ok-None-clause-inside : goal.returns-in-Ok-None-clause-inside
+returns-in-Ok-None-clause-inside c =
+    let parts = walk_end c.args.payload.now c.loop-item.items c.loop-item.known c.loop-item.invariant (rw c.in-Ok-None.field-0-is at c.in-Ok-None.ensures.answer).0 in
+    rw parts.2 (known_inside parts.0 c.args.payload.now parts.1.stand)
