@@ -2,3 +2,4 @@ pub mod NameLemmas
 pub mod FindLemmas
 pub mod WalkLemmas
 pub mod PayloadLemmas
+pub mod TableLemmas

@@ -54,5 +54,5 @@ pub known_inside : (items : List TagItem) (payload : List ℕ) → IsPayload ite
 known_inside items payload stand k found is =
     elim (cases_lt k 10) [
       | inl lt ↦ find_stands items (name_at k) payload 0 found (omega arith) stand (sym (known_at items k lt) ∙ is)
-      | inr ge ↦ let none : get_or (known_of items) k None ≡ None = get_or_past (known_of items) k (omega (arith, length-known items)) in cc
+      | inr ge ↦ let none : get_or (known_of items) k None ≡ None = get_or_past (known_of items) k None (omega (arith, length-known items)) in cc
     ]

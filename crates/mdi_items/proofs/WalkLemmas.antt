@@ -70,12 +70,13 @@ pub walk_step : (payload : List ℕ) (old new : Place) (known then : List (Optio
 walk_step payload old new known then item w g notes =
     let t : TagItem = tag_of item in
     let bits : length t.value ≡ item.bits = bits_are item old new g in
-    let fresh : IsRepeat w.given t → ⊥ = not_repeat w.given t _ known then w.known_is notes in
+    let fresh : IsRepeat w.given t → ⊥ = not_repeat w.given t (record { at = item.at; bits = item.bits }) known then w.known_is notes in
     let place : item.at ≡ 0 + total w.given + 8 = omega (arith, g.at, w.at) in
-    let found : record { at = item.at; bits = item.bits } ≡ record { at = 0 + total w.given + 8; bits = length t.value } = ap (λ (n : ℕ). record { at = n; bits = item.bits }) place ∙ ap (λ (n : ℕ). record { at = 0 + total w.given + 8; bits = n }) (sym bits) in record {
+    let found : Found = record { at = item.at; bits = item.bits } in
+    let is_found : found ≡ record { at = 0 + total w.given + 8; bits = length t.value } = ap (λ (n : ℕ). record { at = n; bits = item.bits }) place ∙ ap (λ (n : ℕ). record { at = 0 + total w.given + 8; bits = n }) (sym bits) in record {
       given = w.given ++ t ∷ [];
       at = omega (arith, total-push w.given t, ap bytes_for bits, g.next, g.at, w.at);
-      known_is = known_then w.given t _ known then w.known_is found notes;
+      known_is = known_then w.given t found known then w.known_is is_found notes;
       whole = λ others stand once. rw append_assoc (w.whole (t ∷ others) ((g.items others).1 stand) (fresh, once));
       faulty = λ others f h. w.faulty (t ∷ others) f (left new, begins item old new g, fresh, h);
     }

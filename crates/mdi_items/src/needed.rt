@@ -1,6 +1,6 @@
 //! The five items that each frame has.
 
-ghost use Rattle.std.specs.Prelude.{◌≡◌, ◌∷◌, [], List, ℕ, length, slice_range, OnOk, IfOk, IfErr};
+ghost use Rattle.std.specs.Prelude.{◌≡◌, ◌≤◌, ◌∷◌, ◌↔◌, [], List, ℕ, length, take, codes, slice_range, IsTrue, OnOk, IfOk, IfErr};
 ghost use Rattle.std.specs.Int.{w16, w32, from_be_bytes};
 ghost use Rattle.drm_bits.specs.Description.{FitsWidths};
 ghost use Rattle.drm_fac.specs.Fac.{IsFac, FacFits};
@@ -16,9 +16,6 @@ use drm_fac::{Fac, decode};
 use drm_mux::{MuxDesc, read_sdci};
 use drm_schedule::Mode;
 
-/// The protocol that a frame must point to.
-const PROTOCOL: &[u8; 4] = b"DMDI";
-
 /// The major and the minor revision of the protocol, out of `*ptr`.
 pub(crate) fn read_revision(payload: &[u8], known: &Known) -> Result<(u16, u16), MdiFault>
     requires { AreInside (length payload.now) known.now }
@@ -28,12 +25,28 @@ pub(crate) fn read_revision(payload: &[u8], known: &Known) -> Result<(u16, u16),
     ensures fault { IfErr result (IsFirstFault payload.now known.now ptr_rows) }
 {
     let bytes = bytes_of(payload, known, PTR, 64)?;
-    if !bytes.starts_with(PROTOCOL) {
+    if !is_protocol(bytes) {
         return Err(MdiFault::Protocol);
     }
+    Ok(revision(bytes))
+}
+
+fn is_protocol(bytes: &[u8]) -> bool
+    requires { 4 ≤ length bytes.now }
+    ensures { IsTrue result ↔ (take 4 bytes.now ≡ codes "DMDI") }
+{
+    bytes.starts_with(b"DMDI")
+}
+
+// The two numbers behind the protocol.
+fn revision(bytes: &[u8]) -> (u16, u16)
+    requires { length bytes.now ≡ 8 }
+    ensures major { result.0 ≡ from_be_bytes w16 (slice_range bytes.now 4 6) }
+    ensures minor { result.1 ≡ from_be_bytes w16 (slice_range bytes.now 6 8) }
+{
     let major = u16::from_be_bytes([bytes[4], bytes[5]]);
     let minor = u16::from_be_bytes([bytes[6], bytes[7]]);
-    Ok((major, minor))
+    (major, minor)
 }
 
 /// The count of the logical frame, out of `dlfc`.

@@ -2,13 +2,14 @@
 
 ghost use Rattle.std.specs.Prelude.{◌≡◌, ◌<◌, ◌/◌, ◌%◌, ◌⊎◌, ◌↔◌, false, IsTrue, OnOk, IfErr};
 ghost use Rattle.drm_bits.specs.Description.{IsDescription};
+ghost use Rattle.drm_mux.specs.Frame.{part_length};
 ghost use Rattle.mdi_items.specs.Frame.{spans_of, place_there, bits_there};
 ghost use Rattle.mdi_items.specs.Streams.{IsRight, IsStreamFault, AreRight, IsStreamsFault};
 
 use crate::MdiFault;
 use crate::known::{Found, Known};
 use crate::names::{STREAMS, name_at};
-use drm_mux::{MuxDesc, MuxFault, Spans};
+use drm_mux::{MuxDesc, MuxFault, Part, Spans};
 
 /// Whether each stream has what is described, and none has more.
 pub(crate) fn check_streams(known: &Known, mux: &MuxDesc) -> Result<(), MdiFault>
@@ -29,8 +30,7 @@ fn check_stream(known: &Known, mux: &MuxDesc, stream: u8) -> Result<(), MdiFault
     ensures fault { IfErr result (IsStreamFault known.now mux.now stream) }
 {
     let k = usize::from(stream);
-    let part = mux.parts[k];
-    let described = usize::from(part.a) + usize::from(part.b);
+    let described = part_length(mux.parts[k]);
     let Some(found) = known[STREAMS + k] else {
         if stream < mux.count && described > 0 {
             let name = name_at(STREAMS + k);
@@ -43,7 +43,7 @@ fn check_stream(known: &Known, mux: &MuxDesc, stream: u8) -> Result<(), MdiFault
         let name = name_at(STREAMS + k);
         return Err(MdiFault::ItemLength { name, bits });
     }
-    let stands = (bits / u8::BITS) as usize;
+    let stands = whole_bytes(bits);
     if stream < mux.count && stands != described {
         return Err(MdiFault::Mux(MuxFault::StreamLength {
             stream,
@@ -52,6 +52,12 @@ fn check_stream(known: &Known, mux: &MuxDesc, stream: u8) -> Result<(), MdiFault
         }));
     }
     Ok(())
+}
+
+fn part_length(part: Part) -> usize
+    ensures { result ≡ part_length part }
+{
+    usize::from(part.a) + usize::from(part.b)
 }
 
 // Where the streams stand.
@@ -98,7 +104,13 @@ fn bytes_there(there: Option<Found>) -> usize
     ensures { result ≡ bits_there there / 8 }
 {
     match there {
-        Some(found) => (found.bits / u8::BITS) as usize,
+        Some(found) => whole_bytes(found.bits),
         None => 0,
     }
+}
+
+fn whole_bytes(bits: u32) -> usize
+    ensures { result ≡ bits / 8 }
+{
+    (bits / u8::BITS) as usize
 }

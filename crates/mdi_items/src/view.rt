@@ -1,5 +1,14 @@
 //! A frame that is read, and where its pieces stand.
 
+ghost use Rattle.std.specs.Prelude.{◌≡◌, length, IfOk, IfErr};
+ghost use Rattle.mdi_items.specs.Frame.{frame_of};
+ghost use Rattle.mdi_items.specs.Mdi.{IsMdi, IsMdiFault};
+
+use crate::MdiFault;
+use crate::block::read_block_span;
+use crate::known::gather;
+use crate::needed::{read_count, read_description, read_fac, read_mode, read_revision};
+use crate::streams::{check_streams, spans};
 use drm_fac::Fac;
 use drm_mux::{MuxDesc, Spans};
 use drm_schedule::Mode;
@@ -32,4 +41,31 @@ pub struct SdcSpan {
     /// Its length in bits; the last byte may end in padding.
     pub bits: u32,
     pub info: BlockInfo,
+}
+
+fn read_whole(payload: &[u8]) -> Result<MdiView<'_>, MdiFault>
+    ensures read { IfOk result (λ v. IsMdi (frame_of v) payload.now) }
+    ensures payload { IfOk result (λ v. v.payload.now ≡ payload.now) }
+    ensures fault { IfErr result (IsMdiFault payload.now) }
+{
+    let known = gather(payload)?;
+    let (major, minor) = read_revision(payload, &known)?;
+    let dlfc = read_count(payload, &known)?;
+    let (fac_bytes, fac) = read_fac(payload, &known)?;
+    let mux = read_description(payload, &known)?;
+    let mode = read_mode(payload, &known)?;
+    let sdc = read_block_span(payload, &known, &fac)?;
+    check_streams(&known, &mux)?;
+    Ok(MdiView {
+        major,
+        minor,
+        dlfc,
+        fac_bytes,
+        fac,
+        mux,
+        mode,
+        sdc,
+        streams: spans(&known),
+        payload,
+    })
 }
