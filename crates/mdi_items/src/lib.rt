@@ -12,4 +12,4 @@ mod value;
 mod view;
 
 pub use fault::MdiFault;
-pub use view::{MdiView, SdcSpan};
+pub use view::{MdiView, SdcSpan, read_mdi};

@@ -1,7 +1,7 @@
 //! A frame that is read, and where its pieces stand.
 
-ghost use Rattle.std.specs.Prelude.{◌≡◌, length, IfOk, IfErr};
-ghost use Rattle.mdi_items.specs.Frame.{frame_of};
+ghost use Rattle.std.specs.Prelude.{◌≡◌, length, IfOk, IfErr, IsOkAnd};
+ghost use Rattle.mdi_items.specs.Frame.{Frame, frame_of};
 ghost use Rattle.mdi_items.specs.Mdi.{IsMdi, IsMdiFault};
 
 use crate::MdiFault;
@@ -41,6 +41,20 @@ pub struct SdcSpan {
     /// Its length in bits; the last byte may end in padding.
     pub bits: u32,
     pub info: BlockInfo,
+}
+
+/// Reads the frame of a payload, or names its first fault.
+pub fn read_mdi(payload: &[u8]) -> Result<MdiView<'_>, MdiFault>
+    // What is read is the frame that the payload is, with the places in it, and there is no other.
+    ensures read { IfOk result (λ v. IsMdi (frame_of v) payload.now) }
+    ensures only { (frame : Frame) → IsMdi frame payload.now → IsOkAnd result (λ v. frame_of v ≡ frame) }
+    ensures payload { IfOk result (λ v. v.payload.now ≡ payload.now) }
+
+    // Else the fault is the first one, and each first fault is named.
+    ensures fault { IfErr result (IsMdiFault payload.now) }
+    ensures named { (fault : MdiFault) → IsMdiFault payload.now fault → result ≡ Err fault }
+{
+    read_whole(payload)
 }
 
 fn read_whole(payload: &[u8]) -> Result<MdiView<'_>, MdiFault>
