@@ -63,7 +63,7 @@ one_applies payload known NoBlock f g (a, cause, at, some, is_fault, is) (b, cau
     let moved : IsBlockFault (block_bits payload a) cause' = subst (λ (x : Found). IsBlockFault (block_bits payload x) cause') same is_fault' in
     is ∙ (ap (λ (x : SdcFault). fault.Sdc x) (one_block_fault cause cause' (block_bits payload a) is_fault moved) ∙ sym is')
 one_applies payload known (StreamAbsent k) f g (d, has, lacks) (d', has', lacks') = lacks.3 ∙ sym lacks'.3
-one_applies payload known (StreamBits k) f g (d, has, (a, at, no, is)) (d', has', (b, at', no', is')) =
+one_applies payload known (StreamBits k) f g (d, has, (a, at, bad, is)) (d', has', (b, at', bad', is')) =
     is ∙ (ap (λ (x : Found). fault.ItemLength (name_at (str k)) x.bits) (one_place known (str k) a b at at') ∙ sym is')
 one_applies payload known (StreamOtherLength k) f g (d, has, (a, at, below, other, is)) (d', has', (b, at', below', other', is')) =
     is
