@@ -6,3 +6,4 @@ pub mod TableLemmas
 pub mod OnceLemmas
 pub mod RowLemmas
 pub mod MdiLemmas
+pub mod ViewLemmas

@@ -9,15 +9,9 @@ use Rattle.dcp_tag.specs.Reading.{item_of}
 use Rattle.dcp_tag.proofs.TagLemmas.{length-head, behind_size, item_is}
 use Rattle.mdi_items.specs.declared.known.Found.{Found}
 use Rattle.mdi_items.specs.Names.{name_at}
-use Rattle.mdi_items.specs.Items.{size, find_from, known_of}
+use Rattle.mdi_items.specs.Items.{size, total, find_from, known_of, Stands}
 use Rattle.mdi_items.specs.Frame.{AreInside, block_bits, bytes_at}
 use Rattle.mdi_items.proofs.FindLemmas.{known_at, length-known}
-
--- An item of this name has its value here.
-pub record StandsAt (items : List TagItem) (name payload : List ℕ) (found : Found) : Type 0 where
-  pub inside : found.at + bytes_for found.bits ≤ length payload
-  pub value : List Bool
-  pub bits : block_bits payload found ≡ value
 
 spelling_length : (item : TagItem) (spelling : List ℕ) → IsSpelling item spelling → length spelling ≡ size item
 spelling_length item spelling (padding, p) =
@@ -35,24 +29,46 @@ value_stands item spelling rest payload from (padding, p) stands =
     ap (take (bytes_for (length item.value))) behind ∙ take_at p.behind rest (bytes_for (length item.value)) (behind_size item padding spelling p) in
     ap (λ (l : List ℕ). take (length item.value) (bits_of l)) bytes ∙ ap (λ (t : TagItem). t.value) (item_is item padding spelling p)
 
-found_or : (b : Bool) (x : Found) (y : Option Found) (found : Found) (P : Found → Type 0) → cond b (Some x) y ≡ Some found → P x → (y ≡ Some found → P found) → P found
-found_or true x y found P is here there = let same : x ≡ found = cc in subst P same here
+stands_behind : (first : TagItem) (items : List TagItem) (name payload : List ℕ) (from : ℕ) (found : Found) → Stands items name payload (from + size first) found → Stands (first ∷ items) name payload from found
+stands_behind first items name payload from found s = record {
+  before = first ∷ s.before;
+  item = s.item;
+  after = s.after;
+  are = ap (λ (l : List TagItem). first ∷ l) s.are;
+  named = s.named;
+  at = omega (arith, s.at);
+  inside = s.inside;
+  value = s.value;
+}
+
+-- the item that was found, or one of those behind it
+found_or : (b : Bool) (x : Found) (y : Option Found) (found : Found) (P : Found → Type 0) → cond b (Some x) y ≡ Some found → (b ≡ true → P x) → (y ≡ Some found → P found) → P found
+found_or true x y found P is here there = let same : x ≡ found = cc in subst P same (here refl)
 found_or false x y found P is here there = there is
 
--- the item that is found
 pub find_stands : (items : List TagItem) (name payload : List ℕ) (from : ℕ) (found : Found) → from ≤ length payload → IsPayload items (drop from payload) → find_from from name items ≡ Some found
-    → (found.at + bytes_for found.bits ≤ length payload)
+    → Stands items name payload from found
 find_stands [] name payload from found within stand is = cc
 find_stands (item ∷ items) name payload from found within (spelling, rest, stands, spelled, more) is =
     let long : length spelling ≡ size item = spelling_length item spelling spelled in
     let counted : length payload ≡ from + (size item + length rest) = omega (arith, length-drop from payload, ap length stands, length-append spelling rest, long) in
     let after : drop (from + size item) payload ≡ rest = sym (drop-drop (size item) from payload) ∙ (ap (drop (size item)) stands ∙ drop_at spelling rest (size item) long) in
-    found_or (pointwise nat_eq item.name name) (record { at = from + 8; bits = length item.value }) (find_from (from + size item) name items) found (λ (f : Found). f.at + bytes_for f.bits ≤ length payload) is (omega arith) (λ there.
-    find_stands items name payload (from + size item) found (omega arith) (subst (λ (l : List ℕ). IsPayload items l) (sym after) more) there)
+    found_or (pointwise nat_eq item.name name) (record { at = from + 8; bits = length item.value }) (find_from (from + size item) name items) found (Stands (item ∷ items) name payload from) is (λ same.
+    record {
+      before = [];
+      item = item;
+      after = items;
+      are = refl;
+      named = same_text item.name name (sym same);
+      at = omega arith;
+      inside = omega arith;
+      value = value_stands item spelling rest payload from spelled stands;
+    })
+    (λ there. stands_behind item items name payload from found (find_stands items name payload (from + size item) found (omega arith) (subst (λ (l : List ℕ). IsPayload items l) (sym after) more) there))
 
 pub known_inside : (items : List TagItem) (payload : List ℕ) → IsPayload items payload → AreInside (length payload) (known_of items)
 known_inside items payload stand k found is =
     elim (cases_lt k 10) [
-      | inl lt ↦ find_stands items (name_at k) payload 0 found (omega arith) stand (sym (known_at items k lt) ∙ is)
+      | inl lt ↦ (find_stands items (name_at k) payload 0 found (omega arith) stand (sym (known_at items k lt) ∙ is)).inside
       | inr ge ↦ let none : get_or (known_of items) k None ≡ None = get_or_past (known_of items) k None (omega (arith, length-known items)) in cc
     ]

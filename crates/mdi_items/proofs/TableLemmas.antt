@@ -52,8 +52,10 @@ stream_fault payload known d k f has (inl lacks) = inl (d, has, lacks)
 stream_fault payload known d k f has (inr (there, inl bits)) =
     inr (λ g h. there g (subst (λ (x : MuxDesc). LacksStream known x k g) (one_mux payload known h.0 d h.1 has) h.2), inl (d, has, bits))
 stream_fault payload known d k f has (inr (there, inr (whole, long))) =
-    inr (λ g h. there g (subst (λ (x : MuxDesc). LacksStream known x k g) (one_mux payload known h.0 d h.1 has) h.2),
-    inr (λ g h. whole g (subst (λ (x : MuxDesc). HasOtherBits known x k g) (one_mux payload known h.0 d h.1 has) h.2), inl (d, has, long)))
+    inr (
+      λ g h. there g (subst (λ (x : MuxDesc). LacksStream known x k g) (one_mux payload known h.0 d h.1 has) h.2),
+      inr (λ g h. whole g (subst (λ (x : MuxDesc). HasOtherBits known x k g) (one_mux payload known h.0 d h.1 has) h.2), inl (d, has, long)),
+    )
 
 streams_none : (payload : List ℕ) (known : List (Option Found)) (d : MuxDesc) → HasDescription payload known d → AreRight known d → NoneApplies payload known streams_rows
 streams_none payload known d has right =

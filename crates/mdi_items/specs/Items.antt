@@ -1,6 +1,7 @@
 -- The items of a payload by their names.
 use Rattle.std.specs.Prelude.{ℕ, ◌≡◌, ◌+◌, ◌<◌, ◌≤◌, Bool, nat_eq, List, [], ◌∷◌, ◌++◌, length, take, drop, map, slice_index_or, Option, None, Some, IsSome, if◌then◌else◌}
 use Rattle.std.specs.Cmp.Lexicographic.{pointwise}
+use Rattle.drm_bits.specs.Bits.{bits_of}
 use Rattle.dcp_tag.specs.Tag.{TagItem, bytes_for, IsSpelling, IsPayload, IsCut}
 use Rattle.mdi_items.specs.declared.known.Found.{Found}
 use Rattle.mdi_items.specs.declared.fault.MdiFault.{MdiFault}
@@ -21,6 +22,17 @@ abbrev pub find_from : ℕ → List ℕ → List TagItem → Option Found
 find_from from name [] = None
 find_from from name (item ∷ items) =
     if pointwise nat_eq item.name name then Some (record { at = from + 8; bits = length item.value }) else find_from (from + size item) name items
+
+-- One of the items has the name, and its value stands where it is found: these are its bits in the payload.
+pub record Stands (items : List TagItem) (name payload : List ℕ) (from : ℕ) (found : Found) : Type 0 where
+  pub before : List TagItem
+  pub item : TagItem
+  pub after : List TagItem
+  pub are : items ≡ before ++ item ∷ after
+  pub named : item.name ≡ name
+  pub at : found.at ≡ from + total before + 8
+  pub inside : found.at + bytes_for found.bits ≤ length payload
+  pub value : take found.bits (bits_of (take (bytes_for found.bits) (drop found.at payload))) ≡ item.value
 
 -- the known items of a payload, by the order of their names
 unfoldable pub known_of : List TagItem → List (Option Found)

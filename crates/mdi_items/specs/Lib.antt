@@ -5,3 +5,4 @@ pub mod Table
 pub mod Mdi
 pub mod Noting
 pub mod Streams
+pub mod Laws

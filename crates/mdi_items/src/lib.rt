@@ -5,6 +5,7 @@
 mod block;
 mod fault;
 mod known;
+mod laws;
 mod names;
 mod needed;
 mod streams;
@@ -12,4 +13,5 @@ mod value;
 mod view;
 
 pub use fault::MdiFault;
+pub use laws::{found_values_stand_in_the_payload, frame_or_fault, one_frame};
 pub use view::{MdiView, SdcSpan, read_mdi};

@@ -65,6 +65,7 @@ pub(crate) fn read_fac(payload: &[u8], known: &Known) -> Result<([u8; 9], Fac), 
     requires { AreInside (length payload.now) known.now }
     ensures bytes { IfOk result (λ r. HasBytes payload.now known.now fac_ r.0) }
     ensures fac { IfOk result (λ r. IsFac r.1 r.0) }
+    ensures fits { IfOk result (λ r. FacFits r.1) }
     ensures right { OnOk result (NoneApplies payload.now known.now fac_rows) }
     ensures fault { IfErr result (IsFirstFault payload.now known.now fac_rows) }
 {

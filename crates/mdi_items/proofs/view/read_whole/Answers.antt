@@ -1,6 +1,7 @@
 use Rattle.std.proofs.Common.{refl}
 use Rattle.std.proofs.lemmas.Result.{err_from_is_err_and}
 use Rattle.mdi_items.proofs.TableLemmas.{ThreeRight, in_table, is_mdi, ptr_fault, dlfc_fault, fac_fault, sdci_fault, robm_fault, sdc_fault, str_fault, none_in_table}
+use Rattle.mdi_items.proofs.ViewLemmas.{spans_inside, span_inside, right_lengths}
 use Rattle.mdi_items.proofs.view.read_whole.Goals as goal
 
 pub returns-in_err-major-clause-fault : goal.returns-in_err-major-clause-fault
@@ -67,3 +68,12 @@ returns-clause-read c =
       sdc = c.in_ok-sdc.ensures.value;
       streams = c.spans.ensures;
     })
+
+pub returns-clause-inside : goal.returns-clause-inside
+returns-clause-inside c = rw c.spans.ensures (spans_inside _ c.in_ok-known.known c.in_ok-known.ensures.inside)
+
+pub returns-clause-block_inside : goal.returns-clause-block_inside
+returns-clause-block_inside c = span_inside c.args.payload.now c.in_ok-known.known _ c.in_ok-sdc.sdc c.in_ok-known.ensures.inside c.in_ok-sdc.ensures.value
+
+pub returns-clause-lengths : goal.returns-clause-lengths
+returns-clause-lengths c = rw c.spans.ensures (right_lengths c.in_ok-known.known c.in_ok-mux.mux c.in_ok-mux.ensures.value.2.description c.in_ok-check_streams.ensures.right)
