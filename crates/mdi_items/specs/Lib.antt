@@ -6,3 +6,4 @@ pub mod Mdi
 pub mod Noting
 pub mod Streams
 pub mod Laws
+pub mod Written

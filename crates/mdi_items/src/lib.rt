@@ -11,7 +11,9 @@ mod needed;
 mod streams;
 mod value;
 mod view;
+mod writer;
 
 pub use fault::MdiFault;
 pub use laws::{found_values_stand_in_the_payload, frame_or_fault, one_frame};
 pub use view::{MdiView, SdcSpan, read_mdi};
+pub use writer::MdiWriter;
