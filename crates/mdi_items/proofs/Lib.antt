@@ -7,3 +7,4 @@ pub mod OnceLemmas
 pub mod RowLemmas
 pub mod MdiLemmas
 pub mod ViewLemmas
+pub mod WriterLemmas
