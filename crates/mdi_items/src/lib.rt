@@ -9,6 +9,8 @@ mod laws;
 mod names;
 mod needed;
 mod streams;
+#[cfg(test)]
+mod tests;
 mod value;
 mod view;
 mod writer;
