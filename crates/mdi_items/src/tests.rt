@@ -1,5 +1,9 @@
 //! Payloads that were packed by a program in Python after TS 102 820.
 
+ghost use Rattle.std.specs.Prelude.{◌≡◌, ◌<◌};
+ghost use Rattle.drm_bits.specs.Description.{IsDescription, FitsWidths};
+ghost use Rattle.drm_fac.specs.Fac.{FacFits};
+
 use super::*;
 use dcp_tag::ValueCut;
 use drm_fac::{Channel, Fac, FacFault, Service};
@@ -40,7 +44,10 @@ const ANOTHER: [u8; 164] = [
     5,
 ];
 
-fn fac(identity: u8) -> Fac {
+fn fac(identity: u8) -> Fac
+    requires { identity < 4 }
+    ensures { FacFits result }
+{
     Fac {
         channel: Channel {
             enhancement: false,
@@ -66,7 +73,11 @@ fn fac(identity: u8) -> Fac {
     }
 }
 
-fn mux() -> MuxDesc {
+fn mux() -> MuxDesc
+    ensures description { IsDescription result }
+    ensures widths { FitsWidths result }
+    ensures count { result.count ≡ 1 }
+{
     let mut parts = [Part { a: 0, b: 0 }; 4];
     parts[0].b = 4;
     MuxDesc {
@@ -268,18 +279,23 @@ fn names_what_stands_first(rt: HostRuntime) {
 }
 
 #[test]
-fn writes_frames(rt: HostRuntime) {
-    let mut into = [0xee; 99];
+fn writes_the_first_frame(rt: HostRuntime) {
+    let mut into = [0xee; 98];
     let mut writer = MdiWriter::new(&mut into);
     writer.head(0, &fac(3), &mux(), Mode::B);
     writer.block(&FIRST[74..86], 92);
+    assert_eq!(rt; writer.room(), 12);
     writer.stream(0, b"UUUU");
-    assert_eq!(rt; writer.room(), 1);
     assert_eq!(rt; writer.end(), 98);
-    assert_eq!(rt; &into[..98], FIRST.as_slice());
+    assert_eq!(rt; into, FIRST);
+}
+
+#[test]
+fn writes_the_second_frame(rt: HostRuntime) {
+    let mut into = [0xee; 78];
     let mut writer = MdiWriter::new(&mut into);
     writer.head(1, &fac(1), &mux(), Mode::B);
     writer.stream(0, b"UUUU");
     assert_eq!(rt; writer.end(), 78);
-    assert_eq!(rt; &into[..78], FRAME.as_slice());
+    assert_eq!(rt; into, FRAME);
 }
