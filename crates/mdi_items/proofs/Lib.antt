@@ -8,3 +8,5 @@ pub mod RowLemmas
 pub mod MdiLemmas
 pub mod ViewLemmas
 pub mod WriterLemmas
+pub mod PieceLemmas
+pub mod RoundTripLemmas

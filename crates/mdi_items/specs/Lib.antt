@@ -7,3 +7,4 @@ pub mod Noting
 pub mod Streams
 pub mod Laws
 pub mod Written
+pub mod RoundTrip
