@@ -1,5 +1,5 @@
 -- A payload is one frame, or has one first fault, and never both.
-use Rattle.std.proofs.Common.{◌≡◌, ◌≢◌, ◌⊎◌, inl, inr, ℕ, zero, suc, List, Bool, [], ◌∷◌, get_or, Option, None, Some, Result, Ok, Err, IfOk, IfErr, refl, sym, subst, ap, ◌∙◌}
+use Rattle.std.proofs.Common.{◌≡◌, ◌≢◌, inl, inr, ℕ, zero, suc, List, [], ◌∷◌, get_or, Option, None, Some, Result, Ok, Err, IfOk, IfErr, refl, sym, subst, ap, ◌∙◌}
 use Rattle.std.specs.Prelude.{IsOkAnd}
 use Rattle.drm_fac.specs.declared.fac.Fac.{Fac}
 use Rattle.drm_fac.specs.Fac.{IsFac}
@@ -17,11 +17,11 @@ use Rattle.mdi_items.specs.declared.known.Found.{Found}
 use Rattle.mdi_items.specs.declared.fault.MdiFault.{MdiFault}
 use Rattle.mdi_items.specs.declared.view.SdcSpan.{SdcSpan}
 use Rattle.mdi_items.specs.declared.view.MdiView.{MdiView}
-use Rattle.mdi_items.specs.Names.{ptr, dlfc, fac_, sdci, robm, sdc_}
+use Rattle.mdi_items.specs.Names.{ptr, dlfc, fac_, robm, sdc_}
 use Rattle.mdi_items.specs.Items.{known_of}
 use Rattle.mdi_items.specs.Frame.{Frame, Says, IsAt, IsBlockSpan, bits_there, block_bits, mode_code, frame_of}
-use Rattle.mdi_items.specs.Mdi.{AreItems, IsMdi, IsMdiFault}
-use Rattle.mdi_items.specs.Table.{table, IsFirstFault, HasDescription}
+use Rattle.mdi_items.specs.Mdi.{IsMdi, IsMdiFault}
+use Rattle.mdi_items.specs.Table.{table, IsFirstFault}
 use Rattle.mdi_items.proofs.OnceLemmas.{one_items_fault, items_or_fault}
 use Rattle.mdi_items.proofs.RowLemmas.{one_first, none_or_first}
 use Rattle.mdi_items.proofs.TableLemmas.{one_place, one_value, one_mux}

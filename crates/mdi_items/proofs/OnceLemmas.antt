@@ -1,11 +1,10 @@
 -- A payload's items have one order, and one first fault at most.
-use Rattle.std.proofs.Common.{◌≡◌, ◌<◌, ◌≤◌, ℕ, List, [], ◌∷◌, ◌++◌, length, refl, sym, subst, ap, ◌∙◌, append_assoc, arith, length-append}
-use Rattle.dcp_tag.specs.declared.items.ValueCut.{ValueCut}
-use Rattle.dcp_tag.specs.Tag.{TagItem, bytes_for, head, IsPayload, IsCut}
+use Rattle.std.proofs.Common.{◌≡◌, ◌<◌, ℕ, List, [], ◌∷◌, ◌++◌, length, sym, subst, ap, ◌∙◌, append_assoc, arith, length-append}
+use Rattle.dcp_tag.specs.Tag.{TagItem, head, IsPayload, IsCut}
 use Rattle.dcp_tag.proofs.TagLemmas.{one_front, spelling_size, cut_front, behind_size, cut_is_no_payload}
 use Rattle.mdi_items.specs.declared.fault.MdiFault.{MdiFault}
 use Rattle.mdi_items.specs.declared.fault.MdiFault.TheVariants.{Tag, Twice}
-use Rattle.mdi_items.specs.Items.{total, IsRepeat, AreOnce, Begins, IsNextFault, AreThenFault}
+use Rattle.mdi_items.specs.Items.{IsRepeat, AreOnce, Begins, IsNextFault, AreThenFault}
 
 -- one item stands at the front, with one rest
 one_begin : (i o : TagItem) (bytes rest more : List ℕ) → Begins i bytes rest → Begins o bytes more → (i ≡ o) × (rest ≡ more)

@@ -1,15 +1,14 @@
 -- What is found stands in the payload.
-use Rattle.std.proofs.Common.{◌≡◌, ℕ, ◌+◌, ◌<◌, ◌≤◌, Bool, true, false, cond, nat_eq, List, [], ◌∷◌, ◌++◌, length, take, drop, get_or, inl, inr, Option, None, Some, refl, sym, ap, subst, ◌∙◌, arith, append_assoc, length-append, length-drop}
+use Rattle.std.proofs.Common.{◌≡◌, ℕ, ◌+◌, ◌≤◌, Bool, true, false, cond, nat_eq, List, [], ◌∷◌, ◌++◌, length, take, drop, get_or, inl, inr, Option, None, Some, refl, sym, ap, subst, ◌∙◌, arith, append_assoc, length-append, length-drop}
 use Rattle.std.proofs.lemmas.Bool.{cases_lt}
 use Rattle.std.proofs.lemmas.List.{take_at, drop_at, drop-drop, get_or_past}
 use Rattle.std.specs.Cmp.Lexicographic.{pointwise, same_text}
 use Rattle.drm_bits.specs.Bits.{bits_of}
 use Rattle.dcp_tag.specs.Tag.{TagItem, bytes_for, head, IsSpelling, IsPayload}
-use Rattle.dcp_tag.specs.Reading.{item_of}
 use Rattle.dcp_tag.proofs.TagLemmas.{length-head, behind_size, item_is}
 use Rattle.mdi_items.specs.declared.known.Found.{Found}
 use Rattle.mdi_items.specs.Names.{name_at}
-use Rattle.mdi_items.specs.Items.{size, total, find_from, known_of, Stands}
+use Rattle.mdi_items.specs.Items.{size, find_from, known_of, Stands}
 use Rattle.mdi_items.specs.Frame.{AreInside, block_bits, bytes_at}
 use Rattle.mdi_items.proofs.FindLemmas.{known_at, length-known}
 

@@ -1,6 +1,6 @@
 -- Pieces that are written, as the items that are found of them.
-use Rattle.std.proofs.Common.{◌≡◌, ◌≢◌, ◌⊎◌, inl, inr, ℕ, zero, suc, ◌+◌, ◌*◌, ◌^◌, ◌<◌, ◌≤◌, Bool, true, false, cond, nat_eq, List, [], ◌∷◌, ◌++◌, length, take, drop, get_or, Option, None, Some, IsSome, refl, sym, subst, ap, ◌∙◌, append_assoc, arith, length-append}
-use Rattle.std.proofs.lemmas.List.{take_at, drop_at, drop-drop, length-take-le, append-nil}
+use Rattle.std.proofs.Common.{◌≡◌, ◌≢◌, ◌⊎◌, inl, inr, ℕ, zero, suc, ◌+◌, ◌^◌, ◌<◌, ◌≤◌, true, false, nat_eq, List, [], ◌∷◌, ◌++◌, length, take, drop, get_or, Option, None, Some, IsSome, refl, sym, subst, ap, ◌∙◌, append_assoc, arith, length-append}
+use Rattle.std.proofs.lemmas.List.{take_at, drop_at, drop-drop, length-take-le}
 use Rattle.std.proofs.lemmas.Cmp.{nat_list_eq_equiv}
 use Rattle.std.specs.Cmp.Lexicographic.{pointwise}
 use Rattle.drm_bits.specs.Bits.{bits_of}
@@ -10,8 +10,8 @@ use Rattle.dcp_tag.specs.Reading.{item_of}
 use Rattle.dcp_tag.proofs.TagLemmas.{length-head, padded}
 use Rattle.mdi_items.specs.declared.known.Found.{Found}
 use Rattle.mdi_items.specs.Names.{name_at, str}
-use Rattle.mdi_items.specs.Items.{size, total, find_from, known_of, IsKnown, IsRepeat, AreOnce}
-use Rattle.mdi_items.specs.Frame.{IsAt, bytes_at}
+use Rattle.mdi_items.specs.Items.{size, find_from, known_of, AreOnce}
+use Rattle.mdi_items.specs.Frame.{bytes_at}
 use Rattle.mdi_items.specs.Written.{Piece, whole, spelled, spelling, items_of, stream_pieces}
 use Rattle.mdi_items.proofs.NameLemmas.{one_place, other_name}
 use Rattle.mdi_items.proofs.FindLemmas.{known_at}

@@ -1,7 +1,7 @@
 -- What is written of parts that suit is a frame of them.
-use Rattle.std.proofs.Common.{◌≡◌, ◌≢◌, ◌⊎◌, inl, inr, ℕ, zero, suc, ◌+◌, ◌*◌, ◌/◌, ◌%◌, ◌^◌, ◌<◌, ◌≤◌, List, Bool, [], ◌∷◌, ◌++◌, length, take, drop, get_or, replicate, Option, None, Some, refl, sym, subst, ap, ◌∙◌, append_assoc, arith, length-append}
+use Rattle.std.proofs.Common.{◌≡◌, ◌≢◌, ◌⊎◌, inl, inr, ℕ, zero, suc, ◌+◌, ◌*◌, ◌/◌, ◌^◌, ◌<◌, ◌≤◌, List, Bool, [], ◌∷◌, ◌++◌, length, take, drop, get_or, replicate, Option, None, Some, refl, sym, subst, ap, ◌∙◌, append_assoc, arith}
 use Rattle.std.specs.Prelude.{codes}
-use Rattle.std.specs.Int.{w16, w32, to_be_bytes, from_be_bytes}
+use Rattle.std.specs.Int.{w32, to_be_bytes}
 use Rattle.std.proofs.lemmas.Bool.{cases_lt}
 use Rattle.std.proofs.lemmas.List.{length-take-le}
 use Rattle.std.proofs.lemmas.Nat.{from_be_bytes-to_be_bytes_4}
@@ -26,17 +26,16 @@ use Rattle.drm_sdc.proofs.BlockLaws.{framed_length, block_or_fault}
 use Rattle.dcp_tag.specs.Tag.{TagItem, bytes_for, IsPayload}
 use Rattle.mdi_items.specs.declared.known.Found.{Found}
 use Rattle.mdi_items.specs.declared.view.SdcSpan.{SdcSpan}
-use Rattle.mdi_items.specs.Names.{names, name_at, ptr, dlfc, fac_, sdci, robm, sdc_, str}
+use Rattle.mdi_items.specs.Names.{names, ptr, dlfc, fac_, sdci, robm, sdc_, str}
 use Rattle.mdi_items.specs.Items.{known_of, AreOnce}
-use Rattle.mdi_items.specs.Frame.{Says, IsFirst, IsAt, HasBytes, IsBlockSpan, bytes_at, block_bits, bits_there, place_there, of_streams, spans_of, mode_code}
-use Rattle.mdi_items.specs.Mdi.{IsMdi}
+use Rattle.mdi_items.specs.Frame.{IsFirst, HasBytes, IsBlockSpan, bytes_at, block_bits, bits_there, place_there, of_streams, spans_of, mode_code}
 use Rattle.mdi_items.specs.Streams.{IsRight, AreRight}
 use Rattle.mdi_items.specs.Table.{NoneApplies, HasFac, HasDescription, due_rows, ptr_rows, fac_rows, sdci_rows, robm_rows, sdc_rows}
 use Rattle.mdi_items.specs.Written.{Piece, whole, spelled, spelling, items_of, head_pieces, block_piece, stream_pieces}
 use Rattle.mdi_items.specs.RoundTrip.{Parts, BlockBytes, Suit, SuitsBlock, IsWrittenOf, IsFrameOf, IsBlockOf, block_pieces}
 use Rattle.mdi_items.proofs.TableLemmas.{ThreeRight, one_place, one_value, none_in_table}
 use Rattle.mdi_items.proofs.RowLemmas.{one_fac_there}
-use Rattle.mdi_items.proofs.PieceLemmas.{IsFine, Rise, Lacks, Has, IsFound, has_behind, lacks_both, pieces_payload, known_piece, known_none, pieces_once, streams_have, streams_lack}
+use Rattle.mdi_items.proofs.PieceLemmas.{IsFine, Rise, Lacks, IsFound, has_behind, lacks_both, pieces_payload, known_piece, known_none, pieces_once, streams_have, streams_lack}
 
 AreFour : List (List ℕ) → Type 0
 AreFour [] = Unit {0}

@@ -1,6 +1,5 @@
 -- Each row has one fault, and so has the table.
-use Rattle.std.proofs.Common.{◌≡◌, ◌≢◌, ◌⊎◌, inl, inr, ℕ, ◌/◌, List, [], ◌∷◌, get_or, take, Option, None, Some, refl, sym, subst, ap, ◌∙◌}
-use Rattle.drm_bits.specs.Bits.{bits_of}
+use Rattle.std.proofs.Common.{◌≡◌, inl, inr, ℕ, ◌/◌, List, [], ◌∷◌, get_or, Option, refl, sym, subst, ap, ◌∙◌}
 use Rattle.drm_bits.specs.declared.description.MuxDesc.{MuxDesc}
 use Rattle.drm_fac.specs.declared.fac.Fac.{Fac}
 use Rattle.drm_fac.specs.declared.fac.FacFault.{FacFault}
@@ -17,8 +16,8 @@ use Rattle.drm_sdc.proofs.BlockLaws.{one_block_fault}
 use Rattle.mdi_items.specs.declared.known.Found.{Found}
 use Rattle.mdi_items.specs.declared.fault.MdiFault.{MdiFault}
 use Rattle.mdi_items.specs.declared.fault.MdiFault.TheVariants as fault
-use Rattle.mdi_items.specs.Names.{name_at, ptr, fac_, sdci, robm, sdc_, str}
-use Rattle.mdi_items.specs.Frame.{IsAt, HasBytes, bytes_at, block_bits}
+use Rattle.mdi_items.specs.Names.{name_at, fac_, sdci, robm, sdc_, str}
+use Rattle.mdi_items.specs.Frame.{bytes_at, block_bits}
 use Rattle.mdi_items.specs.Table.{Row, Absent, OtherLength, OtherProtocol, NoFac, Hierarchical, NoDescription, NoMode, BlockAbsent, BlockOutOfPlace, NoBlock, StreamAbsent, StreamBits, StreamOtherLength, Applies, NoneApplies, IsFirstFault, HasFac}
 use Rattle.mdi_items.proofs.TableLemmas.{one_place, one_value, one_mux}
 

@@ -1,5 +1,5 @@
 -- The first row of the table that applies.
-use Rattle.std.proofs.Common.{◌≡◌, ◌⊎◌, inl, inr, ℕ, List, [], ◌∷◌, ◌++◌, Option, None, Some, sym, subst, ap, ◌∙◌}
+use Rattle.std.proofs.Common.{◌≡◌, inl, inr, ℕ, List, [], ◌∷◌, ◌++◌, Option, Some, sym, subst, ap, ◌∙◌}
 use Rattle.drm_bits.specs.declared.description.MuxDesc.{MuxDesc}
 use Rattle.drm_mux.proofs.SdciLemmas.{one_description}
 use Rattle.dcp_tag.specs.Tag.{TagItem}

@@ -1,5 +1,5 @@
 -- What a frame points to.
-use Rattle.std.proofs.Common.{◌≡◌, ◌≢◌, ℕ, zero, suc, ◌+◌, ◌/◌, ◌<◌, ◌≤◌, inl, inr, List, [], ◌∷◌, length, get_or, Option, None, Some, IfSome, refl, sym, subst, ap, ◌∙◌, arith}
+use Rattle.std.proofs.Common.{◌≡◌, ℕ, zero, suc, ◌+◌, ◌/◌, ◌<◌, ◌≤◌, inl, inr, List, get_or, Option, None, Some, IfSome, refl, sym, subst, arith}
 use Rattle.std.proofs.lemmas.Bool.Decides.{eqb_tells}
 use Rattle.drm_bits.specs.declared.description.MuxDesc.{MuxDesc}
 use Rattle.drm_bits.specs.Description.{IsDescription}
@@ -9,7 +9,7 @@ use Rattle.mdi_items.specs.declared.known.Found.{Found}
 use Rattle.mdi_items.specs.declared.fault.MdiFault.TheVariants as fault
 use Rattle.mdi_items.specs.declared.view.SdcSpan.{SdcSpan}
 use Rattle.mdi_items.specs.Names.{name_at, str, sdc_}
-use Rattle.mdi_items.specs.Frame.{AreInside, IsAt, IsBlockSpan, bits_there, place_there, spans_of}
+use Rattle.mdi_items.specs.Frame.{AreInside, IsBlockSpan, bits_there, place_there, spans_of}
 use Rattle.mdi_items.specs.Streams.{IsRight, AreRight}
 
 there_inside : (end : ℕ) (o : Option Found) → ((found : Found) → o ≡ Some found → found.at + bytes_for found.bits ≤ end) → place_there o + bits_there o / 8 ≤ end

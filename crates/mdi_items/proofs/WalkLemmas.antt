@@ -1,5 +1,5 @@
 -- The walk over the items of a payload.
-use Rattle.std.proofs.Common.{◌≡◌, ◌≢◌, ◌⊎◌, inl, inr, ℕ, ◌+◌, ◌<◌, List, [], ◌∷◌, ◌++◌, length, take, drop, get_or, Option, None, Some, IsSome, refl, sym, subst, ap, ◌∙◌, arith, append_assoc}
+use Rattle.std.proofs.Common.{◌≡◌, inl, inr, ℕ, ◌+◌, ◌<◌, List, [], ◌∷◌, ◌++◌, length, get_or, Option, None, Some, IsSome, refl, sym, subst, ap, ◌∙◌, arith, append_assoc}
 use Rattle.std.proofs.Math.ListN.{set}
 use Rattle.std.proofs.lemmas.List.{length-take-le, append-nil}
 use Rattle.drm_bits.specs.Bits.{bits_of}
@@ -12,7 +12,7 @@ use Rattle.mdi_items.specs.declared.known.Found.{Found}
 use Rattle.mdi_items.specs.declared.fault.MdiFault.{MdiFault}
 use Rattle.mdi_items.specs.declared.fault.MdiFault.TheVariants as fault
 use Rattle.mdi_items.specs.Names.{name_at}
-use Rattle.mdi_items.specs.Items.{size, total, find_from, known_of, IsKnown, IsRepeat, AreOnce, Begins, IsNextFault, AreThenFault}
+use Rattle.mdi_items.specs.Items.{total, find_from, known_of, IsRepeat, AreOnce, Begins, AreThenFault}
 use Rattle.mdi_items.specs.Noting.{Notes, IsNoted}
 use Rattle.mdi_items.specs.Mdi.{AreItems}
 use Rattle.mdi_items.proofs.FindLemmas.{total-push, known-other, known-push, known_at}

@@ -1,5 +1,5 @@
 -- A logical frame (TS 102 820): what its items say.
-use Rattle.std.specs.Prelude.{ℕ, ◌≡◌, ◌≢◌, ◌+◌, ◌≤◌, ◌/◌, ◌⊎◌, Bool, List, [], ◌∷◌, ◌++◌, length, take, drop, map, codes, slice_range, slice_index_or, Option, None, Some}
+use Rattle.std.specs.Prelude.{ℕ, ◌≡◌, ◌≢◌, ◌+◌, ◌≤◌, ◌/◌, ◌⊎◌, Bool, List, [], ◌∷◌, take, drop, slice_range, slice_index_or, Option, None, Some}
 use Rattle.std.specs.Int.{w16, w32, from_be_bytes}
 use Rattle.drm_bits.specs.Bits.{bits_of}
 use Rattle.drm_bits.specs.declared.description.MuxDesc.{MuxDesc}

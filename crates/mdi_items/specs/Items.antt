@@ -1,8 +1,8 @@
 -- The items of a payload by their names.
-use Rattle.std.specs.Prelude.{ℕ, ◌≡◌, ◌+◌, ◌<◌, ◌≤◌, Bool, nat_eq, List, [], ◌∷◌, ◌++◌, length, take, drop, map, slice_index_or, Option, None, Some, IsSome, if◌then◌else◌}
+use Rattle.std.specs.Prelude.{ℕ, ◌≡◌, ◌+◌, ◌<◌, ◌≤◌, nat_eq, List, [], ◌∷◌, ◌++◌, length, take, drop, map, Option, None, Some, IsSome, if◌then◌else◌}
 use Rattle.std.specs.Cmp.Lexicographic.{pointwise}
 use Rattle.drm_bits.specs.Bits.{bits_of}
-use Rattle.dcp_tag.specs.Tag.{TagItem, bytes_for, IsSpelling, IsPayload, IsCut}
+use Rattle.dcp_tag.specs.Tag.{TagItem, bytes_for, IsSpelling, IsCut}
 use Rattle.mdi_items.specs.declared.known.Found.{Found}
 use Rattle.mdi_items.specs.declared.fault.MdiFault.{MdiFault}
 use Rattle.mdi_items.specs.declared.fault.MdiFault.TheVariants as fault

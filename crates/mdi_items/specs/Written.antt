@@ -1,5 +1,5 @@
 -- The one spelling of a frame that is written (TS 102 820).
-use Rattle.std.specs.Prelude.{ℕ, ◌≡◌, ◌+◌, ◌*◌, ◌-◌, List, [], ◌∷◌, ◌++◌, length, take, drop, codes, replicate}
+use Rattle.std.specs.Prelude.{ℕ, ◌≡◌, ◌+◌, ◌*◌, List, [], ◌∷◌, ◌++◌, length, take, drop, codes, replicate}
 use Rattle.std.specs.Int.{w32, to_be_bytes}
 use Rattle.std.specs.Borrow.{GName}
 use Rattle.drm_bits.specs.declared.description.MuxDesc.{MuxDesc}

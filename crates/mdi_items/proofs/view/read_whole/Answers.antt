@@ -1,4 +1,3 @@
-use Rattle.std.proofs.Common.{refl}
 use Rattle.std.proofs.lemmas.Result.{err_from_is_err_and}
 use Rattle.mdi_items.proofs.TableLemmas.{ThreeRight, in_table, is_mdi, ptr_fault, dlfc_fault, fac_fault, sdci_fault, robm_fault, sdc_fault, str_fault, none_in_table}
 use Rattle.mdi_items.proofs.ViewLemmas.{spans_inside, span_inside, right_lengths}
