@@ -10,3 +10,4 @@ pub mod ViewLemmas
 pub mod WriterLemmas
 pub mod PieceLemmas
 pub mod RoundTripLemmas
+pub mod SpellingLemmas

@@ -1,6 +1,6 @@
 -- What is written is read again.
 use Rattle.std.specs.Prelude.{ℕ, ◌≡◌, ◌<◌, ◌^◌, ◌⊎◌, List, [], ◌∷◌, ◌++◌, length, take, drop, slice_index, slice_index_or, Option, None, Some}
-use Rattle.drm_bits.specs.Bits.{bits_of}
+use Rattle.drm_bits.specs.Bits.{bits_of, IsBytes}
 use Rattle.drm_bits.specs.Description.{IsDescription}
 use Rattle.drm_bits.specs.declared.description.MuxDesc.{MuxDesc}
 use Rattle.drm_fac.specs.declared.fac.Fac.{Fac}
@@ -73,3 +73,7 @@ pub record IsFrameOf (p : Parts) (payload : List ℕ) : Type 0 where
 -- what is written of parts that suit is read again as these
 abbrev pub WrittenIsRead : Type 0
 WrittenIsRead = (p : Parts) (payload : List ℕ) → Suit p → IsWrittenOf p payload → IsFrameOf p payload
+
+-- bytes that are written of parts are determined: no others are
+abbrev pub HasOneSpelling : Type 0
+HasOneSpelling = (p : Parts) (payload other : List ℕ) → IsWrittenOf p payload → IsWrittenOf p other → IsBytes payload → IsBytes other → payload ≡ other

@@ -18,21 +18,21 @@ use Rattle.mdi_items.specs.declared.fault.MdiFault.TheVariants as fault
 use Rattle.mdi_items.specs.Names.{name_at, ptr, dlfc, fac_, sdci, robm, sdc_, str}
 use Rattle.mdi_items.specs.Frame.{IsAt, HasBytes, bytes_at, bits_there, block_bits, IsFirst}
 
--- A row: what is wrong. The numbers are an item's place in the order of the names, and that of a stream.
+-- A row: what is wrong. A first number is an item's place in the order of the names, that of a stream its own.
 pub data Row : Type 0 where
-  Absent : ℕ → Row
-  OtherLength : ℕ → ℕ → Row
-  OtherProtocol : Row
-  NoFac : Row
-  Hierarchical : Row
-  NoDescription : Row
-  NoMode : Row
-  BlockAbsent : Row
-  BlockOutOfPlace : Row
-  NoBlock : Row
-  StreamAbsent : ℕ → Row
-  StreamBits : ℕ → Row
-  StreamOtherLength : ℕ → Row
+  Absent : ℕ → Row  -- there is no such item
+  OtherLength : ℕ → ℕ → Row  -- it has another number of bits than this one
+  OtherProtocol : Row  -- `*ptr` doesn't begin with DMDI
+  NoFac : Row  -- `fac_` is no FAC
+  Hierarchical : Row  -- the FAC says so
+  NoDescription : Row  -- `sdci` is no description
+  NoMode : Row  -- `robm` is above 3
+  BlockAbsent : Row  -- the first frame has no `sdc_`, or none of any bits
+  BlockOutOfPlace : Row  -- another frame has one of some bits
+  NoBlock : Row  -- `sdc_` is no block
+  StreamAbsent : ℕ → Row  -- a described stream that isn't empty isn't there
+  StreamBits : ℕ → Row  -- it has no whole bytes, or some bits where it isn't described
+  StreamOtherLength : ℕ → Row  -- it hasn't the length that is described
 
 -- an item that each frame has, always with so many bits
 abbrev pub due_rows : ℕ → ℕ → List Row

@@ -16,6 +16,8 @@ mod view;
 mod writer;
 
 pub use fault::MdiFault;
-pub use laws::{found_values_stand_in_the_payload, frame_or_fault, one_frame, written_is_read};
+pub use laws::{
+    found_values_stand_in_the_payload, frame_or_fault, one_frame, one_spelling, written_is_read,
+};
 pub use view::{MdiView, SdcSpan, read_mdi};
 pub use writer::MdiWriter;
