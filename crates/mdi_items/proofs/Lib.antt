@@ -1,0 +1,13 @@
+pub mod NameLemmas
+pub mod FindLemmas
+pub mod WalkLemmas
+pub mod PayloadLemmas
+pub mod TableLemmas
+pub mod OnceLemmas
+pub mod RowLemmas
+pub mod MdiLemmas
+pub mod ViewLemmas
+pub mod WriterLemmas
+pub mod PieceLemmas
+pub mod RoundTripLemmas
+pub mod SpellingLemmas

@@ -1,0 +1,63 @@
+-- What is written of a frame's parts is determined.
+use Rattle.std.proofs.Common.{◌≡◌, ℕ, zero, suc, ◌^◌, ◌<◌, List, [], ◌∷◌, ◌++◌, get_or, replicate, sym, subst, ap, ◌∙◌, arith}
+use Rattle.std.specs.Prelude.{codes}
+use Rattle.std.specs.Int.{w32, to_be_bytes}
+use Rattle.drm_bits.specs.Bits.{bits_of, IsBytes}
+use Rattle.drm_bits.specs.declared.description.MuxDesc.{MuxDesc}
+use Rattle.drm_bits.proofs.ByteBits.{same_bytes}
+use Rattle.drm_bits.proofs.FieldLemmas.{spelled_fields}
+use Rattle.drm_fac.specs.declared.fac.Fac.{Fac}
+use Rattle.drm_fac.proofs.WrittenFac.{fac_once}
+use Rattle.drm_mux.specs.Sdci.{IsSdci, sdci_fields}
+use Rattle.drm_schedule.specs.declared.config.Mode.{Mode}
+use Rattle.dcp_tag.specs.Tag.{head}
+use Rattle.mdi_items.specs.Names.{name_at, ptr, dlfc, fac_, sdci, robm}
+use Rattle.mdi_items.specs.Frame.{mode_code}
+use Rattle.mdi_items.specs.Written.{Piece, whole, spelled, spelling, head_pieces, stream_pieces, IsHead}
+use Rattle.mdi_items.specs.RoundTrip.{Parts, IsWrittenOf, block_pieces}
+
+bytes_front : (front back : List ℕ) → IsBytes (front ++ back) → (k : ℕ) → get_or front k 0 < 2 ^ 8
+bytes_front [] back small k = omega arith
+bytes_front (x ∷ front) back small zero = small 0
+bytes_front (x ∷ front) back small (suc k) = bytes_front front back (λ i. small (suc i)) k
+
+bytes_behind : (front back : List ℕ) → IsBytes (front ++ back) → IsBytes back
+bytes_behind [] back small = small
+bytes_behind (x ∷ front) back small = bytes_behind front back (λ i. small (suc i))
+
+-- a description has one value
+one_value_of : (d : MuxDesc) (a b : List ℕ) → IsSdci d a → IsSdci d b → IsBytes a → IsBytes b → a ≡ b
+one_value_of d a b is is_too small small_too =
+    same_bytes a b small small_too (spelled_fields (sdci_fields d) (bits_of a) is.fields ∙ sym (spelled_fields (sdci_fields d) (bits_of b) is_too.fields))
+
+description_small : (count : ℕ) (fac description : List ℕ) (mode : Mode) (bytes : List ℕ) → bytes ≡ spelling (head_pieces count fac description mode) → IsBytes bytes → IsBytes description
+description_small count fac description mode bytes is small =
+    let first : Piece = whole ptr (codes "DMDI" ++ replicate 4 0) in
+    let second : Piece = whole dlfc (to_be_bytes w32 count) in
+    let third : Piece = whole fac_ fac in
+    let fourth : Piece = whole sdci description in
+    let fifth : Piece = whole robm (mode_code mode ∷ []) in
+    let rest : List ℕ = spelled fourth ++ (spelled fifth ++ []) in
+    let in_rest : IsBytes rest =
+    bytes_behind (spelled third) rest
+    (bytes_behind (spelled second) (spelled third ++ rest)
+    (bytes_behind (spelled first) (spelled second ++ (spelled third ++ rest)) (subst (λ (l : List ℕ). IsBytes l) is small))) in
+    bytes_behind (head (name_at sdci) fourth.bits) description (bytes_front (spelled fourth) (spelled fifth ++ []) in_rest)
+
+one_head_of : (count : ℕ) (fac : Fac) (mux : MuxDesc) (mode : Mode) (a b : List ℕ) → IsHead count fac mux mode a → IsHead count fac mux mode b → IsBytes a → IsBytes b → a ≡ b
+one_head_of count fac mux mode a b is is_too small small_too =
+    let same_fac : is.fac_bytes ≡ is_too.fac_bytes = fac_once fac is.fac_bytes is_too.fac_bytes is.is_fac is_too.is_fac in
+    let same_description : is.description ≡ is_too.description =
+    one_value_of mux is.description is_too.description is.is_description is_too.is_description (description_small count is.fac_bytes is.description mode a is.are small)
+    (description_small count is_too.fac_bytes is_too.description mode b is_too.are small_too) in
+    is.are
+    ∙ (ap (λ (l : List ℕ). spelling (head_pieces count l is.description mode)) same_fac
+    ∙ (ap (λ (l : List ℕ). spelling (head_pieces count is_too.fac_bytes l mode)) same_description ∙ sym is_too.are))
+
+pub one_spelling : (p : Parts) (a b : List ℕ) → IsWrittenOf p a → IsWrittenOf p b → IsBytes a → IsBytes b → a ≡ b
+one_spelling p a b (front, is_head, is) (front', is_head', is') small small' =
+    let rest : List ℕ = spelling (block_pieces p.block ++ stream_pieces 0 p.streams) in
+    let heads : front ≡ front' =
+    one_head_of p.count p.fac p.mux p.mode front front' is_head is_head' (bytes_front front rest (subst (λ (l : List ℕ). IsBytes l) is small))
+    (bytes_front front' rest (subst (λ (l : List ℕ). IsBytes l) is' small')) in
+    is ∙ (ap (λ (l : List ℕ). l ++ rest) heads ∙ sym is')
