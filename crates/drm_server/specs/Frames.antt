@@ -1,0 +1,59 @@
+-- The frames and packets of a schedule, each read off the schedule for itself (ES 201 980, TS 102 820).
+use Rattle.std.specs.Prelude.{ℕ, ◌≡◌, ◌+◌, ◌-◌, ◌*◌, ◌/◌, ◌%◌, ◌^◌, ◌==◌, true, Bool, if◌then◌else◌, List, map, take, drop, replicate, length, Option, Some, None}
+use Rattle.drm_bits.specs.Bits.{bits_of}
+use Rattle.drm_bits.specs.Crc.{zeros}
+use Rattle.drm_sdc.specs.declared.block.Block.{Block}
+use Rattle.drm_sdc.specs.Block.{IsBlock}
+use Rattle.dcp_af.specs.Packet.{IsAf}
+use Rattle.mdi_items.specs.RoundTrip.{Parts, BlockBytes, IsWrittenOf}
+use Rattle.drm_schedule.specs.declared.config.Config.{Config}
+use Rattle.drm_schedule.specs.declared.plan.Plan.{Plan}
+use Rattle.drm_schedule.specs.declared.stream.Content.{Content}
+use Rattle.drm_schedule.specs.declared.stream.Content.TheVariants.{Fill, File}
+use Rattle.drm_schedule.specs.declared.stream.Stream.{Stream}
+use Rattle.drm_schedule.specs.Sizes.{stream_size}
+use Rattle.drm_timeline.specs.Standing.{config_of}
+use Rattle.drm_timeline.specs.FastAccess.{fac_of}
+use Rattle.drm_timeline.specs.Description.{description_of}
+use Rattle.drm_timeline.specs.Blocks.{block_of}
+
+-- the bytes of a stream in the frame with this number of its configuration
+abbrev pub stream_bytes : ℕ → Stream → List ℕ
+stream_bytes frame s = of s.content
+  where
+    of : Content → List ℕ
+    of (Fill byte) = replicate (stream_size s) byte
+    of (File name bytes) = take (stream_size s) (drop (frame * stream_size s) bytes)
+
+-- The bits and the bytes are those of the block of super frame sf, and four zero bits behind it.
+pub record IsBlockAt (plan : Plan) (sf : ℕ) (room : ℕ) (b : BlockBytes) : Type 0 where
+  pub block : Block
+  pub is : block_of plan sf ≡ Some block
+  pub bits : b.bits ≡ 8 * room + 20
+  pub size : length b.value ≡ room + 3
+  pub spelled : IsBlock block (take b.bits (bits_of b.value))
+  pub padding : drop b.bits (bits_of b.value) ≡ zeros 4
+
+-- the first frame of a super frame has the block, the others have none
+abbrev pub HasBlockWhere : Bool → Plan → ℕ → ℕ → Option BlockBytes → Type 0
+HasBlockWhere true plan sf room block = (b : BlockBytes) × (block ≡ Some b) × IsBlockAt plan sf room b
+HasBlockWhere false plan sf room block = block ≡ None
+
+-- What frame t of a schedule is made of.
+pub record IsFrameAt (plan : Plan) (t : ℕ) (parts : Parts) : Type 0 where
+  pub config : Config
+  pub holds : config_of plan (t / 3) ≡ Some config
+  pub count : parts.count ≡ (plan.dlfc + t) % 2 ^ 32
+  pub fac : fac_of plan t ≡ Some parts.fac
+  pub mux : parts.mux ≡ description_of config
+  pub mode : parts.mode ≡ config.mode
+  pub block : HasBlockWhere (t % 3 == 0) plan (t / 3) config.room parts.block
+  pub streams : parts.streams ≡ map (stream_bytes (t - 3 * config.start)) config.streams
+
+-- The bytes are the AF packet of frame t: its number, and the one spelling of the frame as its payload.
+pub record IsPacketAt (plan : Plan) (t : ℕ) (packet : List ℕ) : Type 0 where
+  pub parts : Parts
+  pub frame : IsFrameAt plan t parts
+  pub payload : List ℕ
+  pub written : IsWrittenOf parts payload
+  pub is : IsAf (record { seq = (plan.seq + t) % 2 ^ 16; checked = true; minor = 0; payload = payload }) packet

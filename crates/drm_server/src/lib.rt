@@ -1,0 +1,2 @@
+//! The packets of a schedule, one frame at a time.
+#![tactic(auto)]
