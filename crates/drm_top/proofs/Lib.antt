@@ -4,6 +4,6 @@ pub mod FacLemmas
 pub mod StatusLemmas
 pub mod LoadingLemmas
 pub mod WordsLemmas
-pub mod CheckLemmas
+pub mod ScheduleRunLemmas
 pub mod ScheduleLemmas
 pub mod AgainLaw

@@ -5,9 +5,10 @@ use Rattle.drm_links.specs.Source.{Input}
 use Rattle.drm_links.specs.Sink.{Output}
 use Rattle.drm_top.specs.Fac.{FacRun}
 use Rattle.drm_top.specs.Check.{CheckRun}
+use Rattle.drm_top.specs.Serve.{ServeRun}
 use Rattle.drm_top.specs.declared.fault.Fault.{Fault}
 use Rattle.drm_top.specs.declared.words.Command.{Command}
-use Rattle.drm_top.specs.declared.words.Command.TheVariants.{Fac, Check}
+use Rattle.drm_top.specs.declared.words.Command.TheVariants.{Fac, Check, Serve}
 
 -- A run of this command with this ending: what it doesn't use stays as it is.
 abbrev pub CommandRun : {S I O : Type 0} → Command → Result (Unit {0}) Fault
@@ -18,3 +19,5 @@ CommandRun Fac ending shelf_faults shelf_tells shelf shelf' input_faults input_t
     FacRun ending input_faults input_tells input input' out_faults out_tells out out' × (shelf' ≡ shelf)
 CommandRun (Check name) ending shelf_faults shelf_tells shelf shelf' input_faults input_tells input input' out_faults out_tells out out' =
     CheckRun name ending shelf_faults shelf_tells shelf shelf' out_faults out_tells out out' × (input' ≡ input)
+CommandRun (Serve name pace) ending shelf_faults shelf_tells shelf shelf' input_faults input_tells input input' out_faults out_tells out out' =
+    ServeRun name ending shelf_faults shelf_tells shelf shelf' out_faults out_tells out out' × (input' ≡ input)

@@ -9,7 +9,9 @@ pub mod Fac
 pub mod Loading
 pub mod PlanFaults
 pub mod Schedule
+pub mod ScheduleRun
 pub mod Check
+pub mod Serve
 pub mod Command
 pub mod Words
 pub mod Again

@@ -9,7 +9,11 @@ ghost use Rattle.drm_fac.specs.Fac.{IsFac};
 ghost use Rattle.drm_top.specs.Lines.{fac_line, fault_line};
 ghost use Rattle.drm_top.specs.Fault.{status_of, WritesLine, Reports};
 ghost use Rattle.drm_top.specs.Fac.{FacRun};
-ghost use Rattle.drm_top.specs.Check.{CheckRun, IsRefused};
+ghost use Rattle.drm_schedule.specs.declared.plan.Plan.{Plan};
+ghost use Rattle.drm_server.specs.Capture.{IsCapture};
+ghost use Rattle.drm_top.specs.ScheduleRun.{IsRefused};
+ghost use Rattle.drm_top.specs.Check.{CheckRun};
+ghost use Rattle.drm_top.specs.Serve.{ServeRun, served};
 ghost use Rattle.drm_top.specs.Schedule.{checked};
 ghost use Rattle.drm_top.specs.Command.{CommandRun};
 ghost use Rattle.drm_top.specs.Words.{AsksFor, AsksForNothing, HasTextName};
@@ -19,6 +23,7 @@ use crate::check::check;
 use crate::fac::fac;
 use crate::fault::Fault;
 use crate::loading::ScheduleFault;
+use crate::serve::serve;
 use crate::words::{Command, read_command, text};
 use drm_fac::Fac;
 use drm_links::{Dock, Link, Shelf, Sink, Source, Status};
@@ -29,7 +34,8 @@ use std::thread::Threads;
 /// Runs one command line: the words that stand behind the program's name.
 ///
 /// `fac` reads the nine bytes of a FAC from `input` and writes its line to `out`. `check` reads a schedule and its files
-/// from `shelf` and writes its canonical text to `out`. The statuses are 0 done, 1 no memory, 2 no command line, 3 no FAC
+/// from `shelf` and writes its canonical text to `out`; `serve` reads them too and writes the packets of the schedule to
+/// `out` as a capture. The statuses are 0 done, 1 no memory, 2 no command line, 3 no FAC
 /// or no schedule, 4 a read of `input` or a load from `shelf` failed, 5 a write to `out` failed; each but 0 writes a line
 /// to `err`.
 pub fn run<R: Threads + Sync, S: Shelf, I: Source, O: Sink, E: Sink, D: Dock>(
@@ -96,6 +102,31 @@ where
         → Supplies (S.tells shelf.old) (S.tells shelf.new)
         (λ before _. (text : List ℕ) → (checked name before).came ≡ Ok text → (result.code ≡ 0)
         × Outputs (O.tells out.old) (O.tells out.new) (λ written. written ≡ text)) }
+
+    // The command `serve` without an address, which leaves the input alone.
+    ensures serve { (name : List ℕ) → (pace : ℕ)
+        → AsksFor (Command.Serve name pace) (map string_bytes words.now) → result.code ≢ 1
+        → (ending : Result (Unit {0}) Fault) × (result.code ≡ status_of ending)
+        × ServeRun name ending S.faults S.tells shelf.old shelf.new O.faults O.tells out.old out.new
+        × (input.new ≡ input.old) × Reports ending E.faults E.tells err.old err.new }
+
+    // Its status 3 comes exactly where a line of the schedule is wrong, or its packets are to be carried
+    // in fragments; 4 exactly where a load fails. Where the files are a schedule that is served and no
+    // write failed, a capture of it is written.
+    ensures serve_refused { (name : List ℕ) → (pace : ℕ)
+        → AsksFor (Command.Serve name pace) (map string_bytes words.now) → result.code ≢ 1
+        → Supplies (S.tells shelf.old) (S.tells shelf.new)
+        (λ before _. (result.code ≡ 3) ↔ IsRefused (served name before).came) }
+    ensures serve_unread { (name : List ℕ) → (pace : ℕ)
+        → AsksFor (Command.Serve name pace) (map string_bytes words.now) → result.code ≢ 1
+        → Supplies (S.tells shelf.old) (S.tells shelf.new)
+        (λ before _. (result.code ≡ 4) ↔ ((served name before).came ≡ Err ScheduleFault.Read)) }
+    ensures serve_complete { (name : List ℕ) → (pace : ℕ)
+        → AsksFor (Command.Serve name pace) (map string_bytes words.now) → result.code ≢ 1
+        → (Rose (O.faults out.old) (O.faults out.new) → ⊥)
+        → Supplies (S.tells shelf.old) (S.tells shelf.new)
+        (λ before _. (schedule : Plan) → (served name before).came ≡ Ok schedule → (result.code ≡ 0)
+        × Outputs (O.tells out.old) (O.tells out.new) (IsCapture schedule)) }
 
     // The statuses 4 and 5 come only where the count of faults of input or shelf, or of out rose, and
     // there are no others.
@@ -169,5 +200,6 @@ fn run_command<S: Shelf, I: Source, O: Sink>(
     match command {
         Command::Fac => fac(input, out),
         Command::Check { name } => check(alloc, text(name), shelf, out),
+        Command::Serve { name, .. } => serve(alloc, text(name), shelf, out),
     }
 }

@@ -14,6 +14,7 @@ mod loading;
 mod output;
 mod reason;
 mod schedule;
+mod serve;
 #[cfg(test)]
 mod tests;
 mod text;

@@ -14,6 +14,8 @@ use std::alloc::Global;
 pub enum Command {
     Fac,
     Check { name: Octets },
+    /// Without an address; the pace, in milliseconds, has no effect then.
+    Serve { name: Octets, pace: u32 },
 }
 
 /// The command of a command line.
@@ -40,6 +42,11 @@ fn command_of(request: Request) -> Result<Command, WordsFault>
     match request {
         Request::Fac => Ok(Command::Fac),
         Request::Check { name } => Ok(Command::Check { name }),
+        Request::Serve {
+            name,
+            to: None,
+            pace,
+        } => Ok(Command::Serve { name, pace }),
         _ => Err(WordsFault::Words),
     }
 }

@@ -4,7 +4,7 @@ use Rattle.drm_top.specs.declared.fault.Fault.TheVariants.{NoMemory}
 use Rattle.drm_top.specs.declared.words.Command.TheVariants as commands
 use Rattle.drm_top.specs.Fault.{fault_status}
 use Rattle.drm_top.proofs.FacLemmas.{run_refused, run_complete}
-use Rattle.drm_top.proofs.CheckLemmas.{check_refused, check_unread, check_complete}
+use Rattle.drm_top.proofs.ScheduleRunLemmas.{refused_exactly, unread_exactly, complete}
 use Rattle.drm_top.proofs.StatusLemmas.{two_is_words, words_is_two, memory_is_one, four_is_read, five_is_write}
 use Rattle.drm_top.proofs.command.run.Goals as goal
 
@@ -15,13 +15,22 @@ pub returns-in-Ok-clause-complete : goal.returns-in-Ok-clause-complete
 returns-in-Ok-clause-complete g c = λ words free no_read no_write. run_complete _ _ _ _ _ _ _ _ _ (c.in-Ok.ensures.runs commands.Fac words (λ e. cc)).0 no_read no_write
 
 pub returns-in-Ok-clause-check_refused : goal.returns-in-Ok-clause-check_refused
-returns-in-Ok-clause-check_refused g c = λ name words free. check_refused name _ _ _ _ _ _ _ _ _ (c.in-Ok.ensures.runs (commands.Check name) words (λ e. cc)).0 free
+returns-in-Ok-clause-check_refused g c = λ name words free. refused_exactly _ _ _ _ _ _ _ _ _ _ _ _ _ (c.in-Ok.ensures.runs (commands.Check name) words (λ e. cc)).0 free
+
+pub returns-in-Ok-clause-serve_refused : goal.returns-in-Ok-clause-serve_refused
+returns-in-Ok-clause-serve_refused g c = λ name pace words free. refused_exactly _ _ _ _ _ _ _ _ _ _ _ _ _ (c.in-Ok.ensures.runs (commands.Serve name pace) words (λ e. cc)).0 free
 
 pub returns-in-Ok-clause-check_unread : goal.returns-in-Ok-clause-check_unread
-returns-in-Ok-clause-check_unread g c = λ name words free. check_unread name _ _ _ _ _ _ _ _ _ (c.in-Ok.ensures.runs (commands.Check name) words (λ e. cc)).0 free
+returns-in-Ok-clause-check_unread g c = λ name words free. unread_exactly _ _ _ _ _ _ _ _ _ _ _ _ _ (c.in-Ok.ensures.runs (commands.Check name) words (λ e. cc)).0 free
+
+pub returns-in-Ok-clause-serve_unread : goal.returns-in-Ok-clause-serve_unread
+returns-in-Ok-clause-serve_unread g c = λ name pace words free. unread_exactly _ _ _ _ _ _ _ _ _ _ _ _ _ (c.in-Ok.ensures.runs (commands.Serve name pace) words (λ e. cc)).0 free
 
 pub returns-in-Ok-clause-check_complete : goal.returns-in-Ok-clause-check_complete
-returns-in-Ok-clause-check_complete g c = λ name words free no_write. check_complete name _ _ _ _ _ _ _ _ _ (c.in-Ok.ensures.runs (commands.Check name) words (λ e. cc)).0 free no_write
+returns-in-Ok-clause-check_complete g c = λ name words free no_write. complete _ _ _ _ _ _ _ _ _ _ _ _ _ (c.in-Ok.ensures.runs (commands.Check name) words (λ e. cc)).0 free no_write
+
+pub returns-in-Ok-clause-serve_complete : goal.returns-in-Ok-clause-serve_complete
+returns-in-Ok-clause-serve_complete g c = λ name pace words free no_write. complete _ _ _ _ _ _ _ _ _ _ _ _ _ (c.in-Ok.ensures.runs (commands.Serve name pace) words (λ e. cc)).0 free no_write
 
 pub returns-in-Ok-clause-fac : goal.returns-in-Ok-clause-fac
 returns-in-Ok-clause-fac g c = λ words free.
@@ -31,6 +40,11 @@ returns-in-Ok-clause-fac g c = λ words free.
 pub returns-in-Ok-clause-check : goal.returns-in-Ok-clause-check
 returns-in-Ok-clause-check g c = λ name words free.
     let run = c.in-Ok.ensures.runs (commands.Check name) words (λ e. cc) in
+    (Ok tt, refl, run.0, run.1, refl)
+
+pub returns-in-Ok-clause-serve : goal.returns-in-Ok-clause-serve
+returns-in-Ok-clause-serve g c = λ name pace words free.
+    let run = c.in-Ok.ensures.runs (commands.Serve name pace) words (λ e. cc) in
     (Ok tt, refl, run.0, run.1, refl)
 
 -- a fault that is want of memory has status 1
@@ -56,15 +70,27 @@ returns-in-Err-clause-complete g c = λ words free no_read no_write.
 
 pub returns-in-Err-clause-check_refused : goal.returns-in-Err-clause-check_refused
 returns-in-Err-clause-check_refused g c = λ name words free.
-    rw c.report.ensures.status (check_refused name _ _ _ _ _ _ _ _ _ (c.in-Err.ensures.runs (commands.Check name) words (free_of_memory c.in-Err.fault c.report.result.code c.report.ensures.status free)).0 (λ one. free (c.report.ensures.status ∙ one)))
+    rw c.report.ensures.status (refused_exactly _ _ _ _ _ _ _ _ _ _ _ _ _ (c.in-Err.ensures.runs (commands.Check name) words (free_of_memory c.in-Err.fault c.report.result.code c.report.ensures.status free)).0 (λ one. free (c.report.ensures.status ∙ one)))
+
+pub returns-in-Err-clause-serve_refused : goal.returns-in-Err-clause-serve_refused
+returns-in-Err-clause-serve_refused g c = λ name pace words free.
+    rw c.report.ensures.status (refused_exactly _ _ _ _ _ _ _ _ _ _ _ _ _ (c.in-Err.ensures.runs (commands.Serve name pace) words (free_of_memory c.in-Err.fault c.report.result.code c.report.ensures.status free)).0 (λ one. free (c.report.ensures.status ∙ one)))
 
 pub returns-in-Err-clause-check_unread : goal.returns-in-Err-clause-check_unread
 returns-in-Err-clause-check_unread g c = λ name words free.
-    rw c.report.ensures.status (check_unread name _ _ _ _ _ _ _ _ _ (c.in-Err.ensures.runs (commands.Check name) words (free_of_memory c.in-Err.fault c.report.result.code c.report.ensures.status free)).0 (λ one. free (c.report.ensures.status ∙ one)))
+    rw c.report.ensures.status (unread_exactly _ _ _ _ _ _ _ _ _ _ _ _ _ (c.in-Err.ensures.runs (commands.Check name) words (free_of_memory c.in-Err.fault c.report.result.code c.report.ensures.status free)).0 (λ one. free (c.report.ensures.status ∙ one)))
+
+pub returns-in-Err-clause-serve_unread : goal.returns-in-Err-clause-serve_unread
+returns-in-Err-clause-serve_unread g c = λ name pace words free.
+    rw c.report.ensures.status (unread_exactly _ _ _ _ _ _ _ _ _ _ _ _ _ (c.in-Err.ensures.runs (commands.Serve name pace) words (free_of_memory c.in-Err.fault c.report.result.code c.report.ensures.status free)).0 (λ one. free (c.report.ensures.status ∙ one)))
 
 pub returns-in-Err-clause-check_complete : goal.returns-in-Err-clause-check_complete
 returns-in-Err-clause-check_complete g c = λ name words free no_write.
-    rw c.report.ensures.status (check_complete name _ _ _ _ _ _ _ _ _ (c.in-Err.ensures.runs (commands.Check name) words (free_of_memory c.in-Err.fault c.report.result.code c.report.ensures.status free)).0 (λ one. free (c.report.ensures.status ∙ one)) no_write)
+    rw c.report.ensures.status (complete _ _ _ _ _ _ _ _ _ _ _ _ _ (c.in-Err.ensures.runs (commands.Check name) words (free_of_memory c.in-Err.fault c.report.result.code c.report.ensures.status free)).0 (λ one. free (c.report.ensures.status ∙ one)) no_write)
+
+pub returns-in-Err-clause-serve_complete : goal.returns-in-Err-clause-serve_complete
+returns-in-Err-clause-serve_complete g c = λ name pace words free no_write.
+    rw c.report.ensures.status (complete _ _ _ _ _ _ _ _ _ _ _ _ _ (c.in-Err.ensures.runs (commands.Serve name pace) words (free_of_memory c.in-Err.fault c.report.result.code c.report.ensures.status free)).0 (λ one. free (c.report.ensures.status ∙ one)) no_write)
 
 pub returns-in-Err-clause-read : goal.returns-in-Err-clause-read
 returns-in-Err-clause-read g c = λ four. c.in-Err.ensures.read (ap Err (four_is_read c.in-Err.fault (sym c.report.ensures.status ∙ four)))
@@ -80,4 +106,9 @@ returns-in-Err-clause-fac g c = λ words free.
 pub returns-in-Err-clause-check : goal.returns-in-Err-clause-check
 returns-in-Err-clause-check g c = λ name words free.
     let run = c.in-Err.ensures.runs (commands.Check name) words (free_of_memory c.in-Err.fault c.report.result.code c.report.ensures.status free) in
+    (Err c.in-Err.fault, c.report.ensures.status, run.0, run.1, c.report.ensures.line)
+
+pub returns-in-Err-clause-serve : goal.returns-in-Err-clause-serve
+returns-in-Err-clause-serve g c = λ name pace words free.
+    let run = c.in-Err.ensures.runs (commands.Serve name pace) words (free_of_memory c.in-Err.fault c.report.result.code c.report.ensures.status free) in
     (Err c.in-Err.fault, c.report.ensures.status, run.0, run.1, c.report.ensures.line)
