@@ -1,5 +1,5 @@
 -- The frames and packets of a schedule, each read off the schedule for itself (ES 201 980, TS 102 820).
-use Rattle.std.specs.Prelude.{ℕ, ◌≡◌, ◌+◌, ◌-◌, ◌*◌, ◌/◌, ◌%◌, ◌^◌, ◌==◌, true, Bool, if◌then◌else◌, List, map, take, drop, replicate, length, Option, Some, None}
+use Rattle.std.specs.Prelude.{ℕ, ◌≡◌, ◌+◌, ◌-◌, ◌*◌, ◌/◌, ◌%◌, ◌^◌, ◌==◌, true, false, Bool, if◌then◌else◌, List, map, take, drop, replicate, length, Option, Some, None}
 use Rattle.drm_bits.specs.Bits.{bits_of}
 use Rattle.drm_bits.specs.Crc.{zeros}
 use Rattle.drm_sdc.specs.declared.block.Block.{Block}
