@@ -1,0 +1,4 @@
+pub mod ConfigurationLemmas
+pub mod StreamLemmas
+pub mod BlockLemmas
+pub mod PayloadLemmas

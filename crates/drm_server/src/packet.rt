@@ -23,7 +23,8 @@ pub fn write_packet(plan: &Schedule, t: u32, into: &mut [u8]) -> usize
     let mut payload = [0; 8180];
     let len = write_payload(plan, t, &mut payload);
     put(into, HEAD, &payload[..len]);
-    write_af(plan.seq().wrapping_add(t as u16), into, len)
+    let seq = plan.seq().wrapping_add((t % (1 << 16)) as u16);
+    write_af(seq, into, len)
 }
 
 // Writes bytes over those from a place on.

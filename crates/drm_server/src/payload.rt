@@ -31,7 +31,16 @@ pub fn write_payload(plan: &Schedule, t: u32, into: &mut [u8; 8180]) -> usize
     write_head(&mut writer, plan, t, config);
     write_block_where(&mut writer, plan, t, config);
     write_streams(&mut writer, config.streams.as_slice(), t - 3 * config.start);
-    writer.end()
+    let room = writer.room();
+    total(into) - room
+}
+
+// How many bytes there are. What the writer leaves is known to be an array only here.
+fn total(bytes: &[u8; 8180]) -> usize
+    ensures all { result ≡ length bytes.now }
+    ensures known { result ≡ 8180 }
+{
+    bytes.len()
 }
 
 // Writes what stands at the front of each frame.

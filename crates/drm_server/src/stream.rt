@@ -24,6 +24,7 @@ pub fn write_streams(writer: &mut MdiWriter<'_>, streams: &[Stream], frame: u32)
     requires enough { All (λ (s : Stream). is_short (frame + 1) s ≡ false) streams.now }
     requires room { sum_by (λ s. 8 + stream_size s) streams.now ≤ length (behind writer.old) }
     ensures written { written writer.new ≡ written writer.old ++ spelling (stream_pieces 0 (map (stream_bytes frame) streams.now)) }
+    ensures left { length (behind writer.new) + sum_by (λ s. 8 + stream_size s) streams.now ≡ length (behind writer.old) }
     ensures same_reference { lender writer.new ≡ lender writer.old }
 {
     for (k, stream) in streams.iter().enumerate() {
