@@ -41,10 +41,9 @@ payload_is plan t c streams head after block fac payload holds same is_fac is_he
     let all : payload ≡ head ++ spelling (block_pieces block ++ stream_pieces 0 bytes) =
     is
     ∙ (ap (λ (l : List Stream). after ++ spelling (stream_pieces 0 (map (stream_bytes (t - 3 * c.start)) l))) same
-      ∙ (ap (λ l. l ++ spelling (stream_pieces 0 bytes)) after_is
-        ∙ (append_assoc head (spelling (block_pieces block)) (spelling (stream_pieces 0 bytes))
-          ∙ ap (λ l. head ++ l) (sym (spelling-append (block_pieces block) (stream_pieces 0 bytes)))))) in
-    (
+    ∙ (ap (λ l. l ++ spelling (stream_pieces 0 bytes)) after_is
+    ∙ (append_assoc head (spelling (block_pieces block)) (spelling (stream_pieces 0 bytes))
+    ∙ ap (λ l. head ++ l) (sym (spelling-append (block_pieces block) (stream_pieces 0 bytes)))))) in (
       parts,
       record { config = c; holds = holds; count = refl; fac = is_fac; mux = refl; mode = refl; block = has; streams = refl },
       (head, is_head, all),

@@ -2,6 +2,13 @@
 #![tactic(auto)]
 
 mod configuration;
+mod output;
 mod packet;
 mod payload;
+mod serve;
+mod server;
 mod stream;
+
+pub use output::write_all;
+pub use serve::serve_sink;
+pub use server::Server;
