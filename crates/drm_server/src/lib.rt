@@ -8,6 +8,10 @@ mod payload;
 mod serve;
 mod server;
 mod stream;
+#[cfg(test)]
+mod tests;
+#[cfg(test)]
+mod trial;
 
 pub use output::write_all;
 pub use serve::serve_sink;
