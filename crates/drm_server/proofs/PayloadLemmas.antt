@@ -1,0 +1,50 @@
+-- A payload, put together.
+use Rattle.std.proofs.Common.{◌≡◌, ◌<◌, ◌≤◌, ◌+◌, ◌-◌, ◌*◌, ◌/◌, ◌%◌, ◌^◌, ◌==◌, if◌then◌else◌, ℕ, List, [], ◌∷◌, ◌++◌, length, take, drop, map, sum_by, Bool, Option, Some, option_map, refl, sym, ap, subst, ◌∙◌, arith, append_assoc, length-drop}
+use Rattle.std.proofs.lemmas.List.{length-take-le}
+use Rattle.drm_fac.specs.declared.fac.Fac.{Fac}
+use Rattle.drm_schedule.specs.declared.config.Config.{Config}
+use Rattle.drm_schedule.specs.declared.plan.Plan.{Plan}
+use Rattle.drm_schedule.specs.declared.stream.Stream.{Stream}
+use Rattle.drm_schedule.specs.Sizes.{packet_len, stream_size}
+use Rattle.drm_timeline.specs.Standing.{config_of}
+use Rattle.drm_timeline.specs.FastAccess.{fac_of}
+use Rattle.drm_timeline.specs.Description.{description_of}
+use Rattle.mdi_items.specs.declared.writer.MdiWriter.{MdiWriter}
+use Rattle.mdi_items.specs.Written.{written, behind, IsHead, spelling, stream_pieces}
+use Rattle.mdi_items.specs.RoundTrip.{Parts, BlockBytes, block_pieces, IsWrittenOf}
+use Rattle.mdi_items.proofs.RoundTripLemmas.{spelling-append}
+use Rattle.drm_server.specs.Frames.{HasBlockWhere, IsFrameAt, stream_bytes}
+
+-- the length of a frame's packet, by its configuration
+pub packet_of : (n : ℕ) (first : Bool) (o : Option Config) (c : Config) → Some n ≡ option_map (λ (x : Config). packet_len x first) o → o ≡ Some c → n ≡ packet_len c first
+packet_of n first o c is same = some_is (is ∙ ap (λ (x : Option Config). option_map (λ (y : Config). packet_len y first) x) same)
+  where
+    some_is : Some n ≡ Some (packet_len c first) → n ≡ packet_len c first
+    some_is eq = cc
+
+pub of_packet : (n : ℕ) (first : Bool) (o : Option Config) (c : Config) → n ≡ packet_len c first → o ≡ Some c → Some n ≡ option_map (λ (x : Config). packet_len x first) o
+of_packet n first o c is same = ap (λ k. Some k) is ∙ sym (ap (λ (x : Option Config). option_map (λ (y : Config). packet_len y first) x) same)
+
+-- all that was written
+pub front : (w : MdiWriter) (all room : ℕ) → all ≡ length w.into.now → room ≡ length (behind w) → take (all - room) w.into.now ≡ written w
+front w all room is left = ap (λ n. take n w.into.now) (omega (arith, is, left, length-drop w.at w.into.now, w.within))
+
+-- the parts of a frame, and what is written of them
+pub payload_is : (plan : Plan) (t : ℕ) (c : Config) (streams : List Stream) (head after : List ℕ) (block : Option BlockBytes) (fac : Fac) (payload : List ℕ)
+    → config_of plan (t / 3) ≡ Some c → streams ≡ c.streams → fac_of plan t ≡ Some fac → IsHead ((plan.dlfc + t) % 2 ^ 32) fac (description_of c) c.mode head
+    → HasBlockWhere (t % 3 == 0) plan (t / 3) c.room block → after ≡ head ++ spelling (block_pieces block)
+    → payload ≡ after ++ spelling (stream_pieces 0 (map (stream_bytes (t - 3 * c.start)) streams))
+    → (parts : Parts) × IsFrameAt plan t parts × IsWrittenOf parts payload
+payload_is plan t c streams head after block fac payload holds same is_fac is_head has after_is is =
+    let bytes : List (List ℕ) = map (stream_bytes (t - 3 * c.start)) c.streams in
+    let parts : Parts = record { count = (plan.dlfc + t) % 2 ^ 32; fac = fac; mux = description_of c; mode = c.mode; block = block; streams = bytes } in
+    let all : payload ≡ head ++ spelling (block_pieces block ++ stream_pieces 0 bytes) =
+    is
+    ∙ (ap (λ (l : List Stream). after ++ spelling (stream_pieces 0 (map (stream_bytes (t - 3 * c.start)) l))) same
+    ∙ (ap (λ l. l ++ spelling (stream_pieces 0 bytes)) after_is
+    ∙ (append_assoc head (spelling (block_pieces block)) (spelling (stream_pieces 0 bytes))
+    ∙ ap (λ l. head ++ l) (sym (spelling-append (block_pieces block) (stream_pieces 0 bytes)))))) in (
+      parts,
+      record { config = c; holds = holds; count = refl; fac = is_fac; mux = refl; mode = refl; block = has; streams = refl },
+      (head, is_head, all),
+    )

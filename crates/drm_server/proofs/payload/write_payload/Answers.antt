@@ -1,0 +1,24 @@
+use Rattle.std.proofs.Common.{◌≡◌, ◌+◌, ◌-◌, ◌*◌, ◌/◌, ◌%◌, ◌==◌, if◌then◌else◌, ℕ, List, length, sum_by, sym, ap, ◌∙◌, arith}
+use Rattle.drm_schedule.specs.declared.stream.Stream.{Stream}
+use Rattle.drm_schedule.specs.Sizes.{packet_len, stream_size}
+use Rattle.drm_timeline.specs.Standing.{config_of}
+use Rattle.mdi_items.specs.Written.{behind}
+use Rattle.drm_server.proofs.PayloadLemmas.{packet_of, of_packet, front, payload_is}
+use Rattle.drm_server.proofs.payload.write_payload.Goals as goal
+
+pub returns-clause-written : goal.returns-clause-written
+returns-clause-written c =
+    let config = c.config_of_frame-config in
+    let h = c.write_head.ensures.written in
+    let b = c.write_block_where.ensures.written in
+    payload_is c.args.plan.now c.args.t config.result.now c.as_slice.result.now _ _ b.0 h.0 _ config.ensures.config c.as_slice.ensures h.1 h.2 b.1 b.2
+    (front c.write_streams.new.writer c.total.result c.room-room.result c.total.ensures.all c.room-room.ensures ∙ c.write_streams.ensures.written)
+
+pub returns-clause-len : goal.returns-clause-len
+returns-clause-len c =
+    let config = c.config_of_frame-config in
+    let o = config_of c.args.plan.now (c.args.t / 3) in
+    let len : c.packet_len.result ≡ packet_len config.result.now (c.args.t % 3 == 0) = packet_of c.packet_len.result (c.args.t % 3 == 0) o config.result.now c.packet_len.ensures.len config.ensures.config in
+    let streams : sum_by (λ (s : Stream). 8 + stream_size s) c.as_slice.result.now ≡ sum_by (λ (s : Stream). 8 + stream_size s) config.result.now.streams = ap (sum_by (λ (s : Stream). 8 + stream_size s)) c.as_slice.ensures in
+    of_packet _ (c.args.t % 3 == 0) o config.result.now
+    (omega (arith, len, streams, c.packet_len.ensures.small, ap length c.new-writer.ensures.behind, c.told-into, c.write_head.ensures.left, c.write_block_where.ensures.left, c.write_streams.ensures.left, c.room-room.ensures, c.total.ensures.known)) config.ensures.config

@@ -1,0 +1,72 @@
+//! A small schedule, served. The bytes were packed by hand after TS 102 820 and TS 102 821.
+
+use crate::trial::schedule;
+use crate::{Server, serve_sink};
+use drm_bits::NoMemory;
+use drm_links::{MemSink, WriteFault};
+use drm_schedule::Carry;
+
+// The payload of the second frame.
+const PAYLOAD: [u8; 78] = [
+    0x2a, 0x70, 0x74, 0x72, 0, 0, 0, 0x40, 0x44, 0x4d, 0x44, 0x49, 0, 0, 0, 0, 0x64, 0x6c, 0x66,
+    0x63, 0, 0, 0, 0x20, 0, 0, 0, 1, 0x66, 0x61, 0x63, 0x5f, 0, 0, 0, 0x48, 0x26, 0x08, 0x01, 0x23,
+    0x45, 0x60, 0xa1, 0x80, 0x33, 0x73, 0x64, 0x63, 0x69, 0, 0, 0, 0x20, 1, 0, 0, 4, 0x72, 0x6f,
+    0x62, 0x6d, 0, 0, 0, 8, 1, 0x73, 0x74, 0x72, 0x30, 0, 0, 0, 0x20, 0x55, 0x55, 0x55, 0x55,
+];
+
+#[test]
+fn loads_each_frame(rt: HostRuntime) -> Result<(), NoMemory> {
+    let Some(plan) = schedule(rt.alloc(), 0, 0, 1)? else {
+        panic!(rt; "the schedule is valid");
+    };
+    let mut server = Server::make(rt.alloc(), &plan)?;
+    assert_eq!(rt; server.frames(), 3);
+    assert_eq!(rt; server.packet().len(), 110);
+    server.load(2);
+    assert_eq!(rt; server.packet().len(), 90);
+    server.load(1);
+    let packet = server.packet();
+    assert_eq!(rt; packet.len(), 90);
+    assert_eq!(rt; &packet[..10], b"AF\0\0\0\x4e\0\x01\x90T".as_slice());
+    assert_eq!(rt; &packet[10..88], PAYLOAD.as_slice());
+    Ok(())
+}
+
+// The sequence number goes to 0 behind 65,535, the counter behind 2^32 - 1.
+#[test]
+fn numbers_go_round(rt: HostRuntime) -> Result<(), NoMemory> {
+    let Some(plan) = schedule(rt.alloc(), 65_535, 4_294_967_294, 1)? else {
+        panic!(rt; "the schedule is valid");
+    };
+    let mut server = Server::make(rt.alloc(), &plan)?;
+    let cases = [
+        (0, [0xffu8, 0xff], [0xffu8, 0xff, 0xff, 0xfe]),
+        (1, [0, 0], [0xff, 0xff, 0xff, 0xff]),
+        (2, [0, 1], [0, 0, 0, 0]),
+    ];
+    for (t, seq, count) in cases {
+        server.load(t);
+        let packet = server.packet();
+        assert!(rt; packet.len() > 38);
+        assert_eq!(rt; &packet[6..8], seq.as_slice(), "frame {t}");
+        assert_eq!(rt; &packet[34..38], count.as_slice(), "frame {t}");
+    }
+    Ok(())
+}
+
+#[test]
+fn serves_all_frames(rt: HostRuntime) -> Result<(), NoMemory> {
+    let Some(plan) = schedule(rt.alloc(), 0, 0, 1)? else {
+        panic!(rt; "the schedule is valid");
+    };
+    assert_eq!(rt; plan.carry(), Carry::Plain);
+    let mut server = Server::make(rt.alloc(), &plan)?;
+    let mut out = MemSink::make(rt.alloc(), 300, &[], 7)?;
+    assert_eq!(rt; serve_sink(&mut server, &mut out), Ok(3));
+    assert_eq!(rt; out.bytes().len(), 290);
+    assert_eq!(rt; &out.bytes()[120..198], PAYLOAD.as_slice());
+    let mut short = MemSink::make(rt.alloc(), 150, &[], 7)?;
+    assert_eq!(rt; serve_sink(&mut server, &mut short), Err(WriteFault));
+    assert_eq!(rt; short.bytes().len(), 150);
+    Ok(())
+}
