@@ -1,5 +1,6 @@
 -- What is written of a frame's parts is determined.
-use Rattle.std.proofs.Common.{◌≡◌, ℕ, zero, suc, ◌^◌, ◌<◌, List, [], ◌∷◌, ◌++◌, get_or, replicate, sym, subst, ap, ◌∙◌, arith}
+use Rattle.std.proofs.Common.{◌≡◌, ℕ, zero, suc, ◌+◌, ◌^◌, ◌<◌, List, [], ◌∷◌, ◌++◌, length, get_or, replicate, sym, subst, ap, ◌∙◌, arith}
+use Rattle.std.proofs.lemmas.List.{append-nil}
 use Rattle.std.specs.Prelude.{codes}
 use Rattle.std.specs.Int.{w32, to_be_bytes}
 use Rattle.drm_bits.specs.Bits.{bits_of, IsBytes}
@@ -11,10 +12,21 @@ use Rattle.drm_fac.proofs.WrittenFac.{fac_once}
 use Rattle.drm_mux.specs.Sdci.{IsSdci, sdci_fields}
 use Rattle.drm_schedule.specs.declared.config.Mode.{Mode}
 use Rattle.dcp_tag.specs.Tag.{head}
-use Rattle.mdi_items.specs.Names.{name_at, ptr, dlfc, fac_, sdci, robm}
+use Rattle.mdi_items.specs.Names.{name_at, ptr, dlfc, fac_, sdci, robm, str}
 use Rattle.mdi_items.specs.Frame.{mode_code}
 use Rattle.mdi_items.specs.Written.{Piece, whole, spelled, spelling, head_pieces, stream_pieces, IsHead}
 use Rattle.mdi_items.specs.RoundTrip.{Parts, IsWrittenOf, block_pieces}
+use Rattle.mdi_items.proofs.RoundTripLemmas.{spelling-append}
+
+-- one piece more, and one stream more
+pub spelling-push : (pieces : List Piece) (p : Piece) → spelling (pieces ++ p ∷ []) ≡ spelling pieces ++ spelled p
+spelling-push pieces p = spelling-append pieces (p ∷ []) ∙ ap (λ (l : List ℕ). spelling pieces ++ l) (append-nil (spelled p))
+
+pub stream_pieces-push : (k : ℕ) (streams : List (List ℕ)) (stream : List ℕ) → stream_pieces k (streams ++ stream ∷ []) ≡ stream_pieces k streams ++ whole (str (k + length streams)) stream ∷ []
+stream_pieces-push k [] stream = let same : k ≡ k + 0 = omega arith in ap (λ (n : ℕ). whole (str n) stream ∷ []) same
+stream_pieces-push k (s ∷ streams) stream =
+    let same : k + 1 + length streams ≡ k + length (s ∷ streams) = omega arith in
+    ap (λ (l : List Piece). whole (str k) s ∷ l) (stream_pieces-push (k + 1) streams stream ∙ ap (λ (n : ℕ). stream_pieces (k + 1) streams ++ whole (str n) stream ∷ []) same)
 
 bytes_front : (front back : List ℕ) → IsBytes (front ++ back) → (k : ℕ) → get_or front k 0 < 2 ^ 8
 bytes_front [] back small k = omega arith

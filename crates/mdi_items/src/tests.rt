@@ -215,6 +215,18 @@ fn names_what_is_wrong_with_a_stream(rt: HostRuntime) {
     }
 }
 
+// No bits of a block are as good as none.
+#[test]
+fn reads_a_block_of_no_bits(rt: HostRuntime) {
+    let mut more = [0; 86];
+    more[..78].copy_from_slice(&FRAME);
+    more[78..].copy_from_slice(b"sdc_\0\0\0\0");
+    assert_eq!(rt; read_mdi(&more), Ok(second_frame(&more, Mode::B)));
+    more[36] = 0x66;
+    more[44] = 0x6d;
+    assert_eq!(rt; read_mdi(&more), Err(absent(*b"sdc_")));
+}
+
 // A stream that isn't described must have no bits, and one that is described with no bytes may be absent.
 #[test]
 fn reads_streams_by_the_description(rt: HostRuntime) {
