@@ -4,10 +4,10 @@ ghost use Rattle.std.specs.Prelude.{◌≡◌, IsErrOf};
 ghost use Rattle.drm_top.specs.Check.{CheckRun};
 
 use crate::fault::Fault;
-use crate::output::write_all;
 use crate::schedule::read_schedule;
 use drm_links::{Shelf, Sink};
 use drm_plan::write_plan;
+use drm_server::write_all;
 use std::alloc::Global;
 
 /// Reads a schedule, and writes its canonical text.

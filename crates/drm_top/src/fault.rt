@@ -8,13 +8,14 @@ ghost use Rattle.drm_top.specs.CrcLine.{crc_line};
 
 use crate::head::ReadFault;
 use crate::loading::ScheduleFault;
-use crate::output::{write_all, write_pieces};
+use crate::output::write_pieces;
 use crate::reason::schedule_pieces;
 use crate::text::Piece;
 use drm_bits::NoMemory;
 use drm_fac::FacFault;
 use drm_links::{Sink, Status, WriteFault};
 use drm_schedule::Reason;
+use drm_server::write_all;
 
 /// A fault of a run. Each has a status and a line.
 #[derive(Clone, Copy, Debug, PartialEq, Eq)]

@@ -2,8 +2,6 @@
 #![tactic(auto)]
 
 mod check;
-#[cfg(test)]
-mod check_tests;
 mod command;
 mod fac;
 mod fac_line;
@@ -14,6 +12,8 @@ mod loading;
 mod output;
 mod reason;
 mod schedule;
+#[cfg(test)]
+mod schedule_tests;
 mod serve;
 #[cfg(test)]
 mod tests;

@@ -1,4 +1,4 @@
-//! Whole texts to a sink, which may take them in parts.
+//! Texts in pieces to a sink.
 
 ghost use Rattle.std.specs.Prelude.{◌≡◌, OnOk, OnErr, IsErr};
 ghost use Rattle.hex.specs.Hex.{encode_lower};
@@ -7,25 +7,9 @@ ghost use Rattle.drm_links.specs.Sink.{Outputs, IsFront};
 ghost use Rattle.drm_top.specs.Text.{piece_text, text_of};
 
 use crate::text::Piece;
-use drm_links::{Sink, WriteFault, WriteOut};
+use drm_links::{Sink, WriteFault};
+use drm_server::write_all;
 use itoa::Buffer;
-
-/// Writes all of the bytes.
-pub fn write_all<O: Sink>(out: &mut O, bytes: &[u8]) -> Result<(), WriteFault>
-    ensures whole { OnOk result (Outputs (O.tells out.old) (O.tells out.new)
-        (λ text. text ≡ bytes.now)) }
-    ensures front { OnErr result (Outputs (O.tells out.old) (O.tells out.new) (IsFront bytes.now)) }
-    ensures cause { HasCause (O.faults out.old) (O.faults out.new) (IsErr result) }
-{
-    let mut rest = bytes;
-    while !rest.is_empty() {
-        match out.write(rest) {
-            WriteOut::Wrote(n) => rest = &rest[n..],
-            WriteOut::Failed => return Err(WriteFault),
-        }
-    }
-    Ok(())
-}
 
 /// Writes the texts of the pieces, one after another.
 pub fn write_pieces<O: Sink>(out: &mut O, pieces: &[Piece<'_>]) -> Result<(), WriteFault>

@@ -1,6 +1,6 @@
 //! The command `serve`.
 
-ghost use Rattle.std.specs.Prelude.{◌≡◌, IsErrOf};
+ghost use Rattle.std.specs.Prelude.{◌≡◌, IfOk, IsErrOf};
 ghost use Rattle.drm_links.specs.Told.{HasCause};
 ghost use Rattle.drm_top.specs.Loading.{ReadBy};
 ghost use Rattle.drm_top.specs.Serve.{ServeRun, by_carry, served};
@@ -39,6 +39,7 @@ fn read_served<S: Shelf>(
     name: &str,
 ) -> Result<Schedule, ScheduleFault>
     ensures reads { ReadBy (served name.now) result (S.tells shelf.old) (S.tells shelf.new) }
+    ensures plain { IfOk result (λ schedule. schedule.carry ≡ Carry.Plain) }
     ensures cause { HasCause (S.faults shelf.old) (S.faults shelf.new)
         (result ≡ Err ScheduleFault.Read) }
 {
@@ -48,7 +49,8 @@ fn read_served<S: Shelf>(
 
 // Fragments aren't served yet.
 fn carried_whole(schedule: Schedule) -> Result<Schedule, ScheduleFault>
-    ensures { result ≡ by_carry schedule schedule.carry }
+    ensures gives { result ≡ by_carry schedule schedule.carry }
+    ensures plain { IfOk result (λ s. s.carry ≡ Carry.Plain) }
 {
     match schedule.carry() {
         Carry::Plain => Ok(schedule),

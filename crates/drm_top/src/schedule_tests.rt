@@ -1,4 +1,4 @@
-//! Runs of `check` over files in memory. The texts, lines and reasons were worked out by hand and by a program in Python.
+//! Runs of `check` and `serve` over files in memory. The texts, lines and reasons were worked out by hand and by a program in Python.
 
 use crate::run;
 use drm_links::{MemDock, MemShelf, MemSink, MemSource};
@@ -60,9 +60,10 @@ fn repeated(alloc: Global, byte: u8, n: usize) -> Result<Vec<u8>, AllocError> {
     vec![in alloc; byte; n]
 }
 
-// Checks the schedule on the shelf.
+// Runs a command over the schedule on the shelf.
 fn comes_out<R: Abort + Threads + Sync + AllocGlobal>(
     rt: &R,
+    command: &str,
     shelf: &mut MemShelf,
     status: u8,
     written: &[u8],
@@ -70,7 +71,7 @@ fn comes_out<R: Abort + Threads + Sync + AllocGlobal>(
 ) -> Result<(), Fail> {
     let alloc = rt.alloc();
     let mut words = Vec::new(alloc);
-    words.push(String::from_str(alloc, "check")?)?;
+    words.push(String::from_str(alloc, command)?)?;
     words.push(String::from_str(alloc, "schedule.txt")?)?;
     let mut input = MemSource::make(alloc, &[], &[], 1)?;
     let mut out = MemSink::make(alloc, 10_000, &[], 100)?;
@@ -96,9 +97,9 @@ fn gives<R: Abort + Threads + Sync + AllocGlobal>(
     let mut shelf = MemShelf::make(alloc, &[])?;
     shelf.add(alloc, "schedule.txt", &text)?;
     if line.is_empty() {
-        comes_out(rt, &mut shelf, 0, &text, "")
+        comes_out(rt, "check", &mut shelf, 0, &text, "")
     } else {
-        comes_out(rt, &mut shelf, 3, b"", line)
+        comes_out(rt, "check", &mut shelf, 3, b"", line)
     }
 }
 
@@ -170,7 +171,7 @@ fn prints_the_canonical_text(rt: HostRuntime) -> Result<(), Fail> {
         b"drmplan  1\ncarry pft 2 1400\n# the first packet\nfirst 00 0\nlength 1\nconfig 0 0\n\nroom 9\nprotection 0  1\nsdc 0\nmsc 0\ndepth long\noccupancy 3\nmode B\nservice 123456 0 0 5 audio 3 0\nstream 0 4 fill AB\naudio 0 0 0 1 0 3 0 0 0";
     shelf.add(alloc, "schedule.txt", loose)?;
     let strict = text(alloc, &[(14, b"stream 0 4 fill ab")])?;
-    comes_out(&rt, &mut shelf, 0, &strict, "")
+    comes_out(&rt, "check", &mut shelf, 0, &strict, "")
 }
 
 // Of a text that is empty, or that is too long.
@@ -181,6 +182,7 @@ fn names_a_text_of_no_lines_or_too_many(rt: HostRuntime) -> Result<(), Fail> {
     shelf.add(alloc, "schedule.txt", b"")?;
     comes_out(
         &rt,
+        "check",
         &mut shelf,
         3,
         b"",
@@ -190,6 +192,7 @@ fn names_a_text_of_no_lines_or_too_many(rt: HostRuntime) -> Result<(), Fail> {
     shelf.add(alloc, "schedule.txt", &lines)?;
     comes_out(
         &rt,
+        "check",
         &mut shelf,
         3,
         b"",
@@ -199,6 +202,7 @@ fn names_a_text_of_no_lines_or_too_many(rt: HostRuntime) -> Result<(), Fail> {
     shelf.add(alloc, "schedule.txt", &lines)?;
     comes_out(
         &rt,
+        "check",
         &mut shelf,
         3,
         b"",
@@ -220,14 +224,15 @@ fn loads_the_files_of_streams(rt: HostRuntime) -> Result<(), Fail> {
     let mut shelf = MemShelf::make(alloc, &[])?;
     let text = text(alloc, &FILED)?;
     shelf.add(alloc, "schedule.txt", &text)?;
-    comes_out(&rt, &mut shelf, 4, b"", "drmcast: read fault\n")?;
+    comes_out(&rt, "check", &mut shelf, 4, b"", "drmcast: read fault\n")?;
     let file = repeated(alloc, b'a', 9000)?;
     shelf.add(alloc, "audio.bin", &file)?;
-    comes_out(&rt, &mut shelf, 0, &text, "")?;
+    comes_out(&rt, "check", &mut shelf, 0, &text, "")?;
     let file = repeated(alloc, b'a', 8999)?;
     shelf.add(alloc, "audio.bin", &file)?;
     comes_out(
         &rt,
+        "check",
         &mut shelf,
         3,
         b"",
@@ -237,6 +242,7 @@ fn loads_the_files_of_streams(rt: HostRuntime) -> Result<(), Fail> {
     shelf.add(alloc, "audio.bin", &file)?;
     comes_out(
         &rt,
+        "check",
         &mut shelf,
         3,
         b"",
@@ -249,12 +255,66 @@ fn loads_the_files_of_streams(rt: HostRuntime) -> Result<(), Fail> {
 fn names_a_load_that_fails(rt: HostRuntime) -> Result<(), Fail> {
     let alloc = rt.alloc();
     let mut none = MemShelf::make(alloc, &[])?;
-    comes_out(&rt, &mut none, 4, b"", "drmcast: read fault\n")?;
+    comes_out(&rt, "check", &mut none, 4, b"", "drmcast: read fault\n")?;
     let mut shelf = MemShelf::make(alloc, &[0, 2])?;
     let text = text(alloc, &FILED)?;
     shelf.add(alloc, "schedule.txt", &text)?;
     shelf.add(alloc, "audio.bin", &repeated(alloc, b'a', 9000)?)?;
-    comes_out(&rt, &mut shelf, 4, b"", "drmcast: read fault\n")?;
-    comes_out(&rt, &mut shelf, 4, b"", "drmcast: read fault\n")?;
-    comes_out(&rt, &mut shelf, 0, &text, "")
+    comes_out(&rt, "check", &mut shelf, 4, b"", "drmcast: read fault\n")?;
+    comes_out(&rt, "check", &mut shelf, 4, b"", "drmcast: read fault\n")?;
+    comes_out(&rt, "check", &mut shelf, 0, &text, "")
+}
+
+// The three packets of the plain text carried plain, packed and checked by a program in Python.
+const CAPTURE: [u8; 290] = [
+    0x41, 0x46, 0x00, 0x00, 0x00, 0x62, 0x00, 0x00, 0x90, 0x54, 0x2a, 0x70, 0x74, 0x72, 0x00, 0x00,
+    0x00, 0x40, 0x44, 0x4d, 0x44, 0x49, 0x00, 0x00, 0x00, 0x00, 0x64, 0x6c, 0x66, 0x63, 0x00, 0x00,
+    0x00, 0x20, 0x00, 0x00, 0x00, 0x00, 0x66, 0x61, 0x63, 0x5f, 0x00, 0x00, 0x00, 0x48, 0x66, 0x08,
+    0x01, 0x23, 0x45, 0x60, 0xa1, 0x80, 0x6d, 0x73, 0x64, 0x63, 0x69, 0x00, 0x00, 0x00, 0x20, 0x01,
+    0x00, 0x00, 0x04, 0x72, 0x6f, 0x62, 0x6d, 0x00, 0x00, 0x00, 0x08, 0x01, 0x73, 0x64, 0x63, 0x5f,
+    0x00, 0x00, 0x00, 0x5c, 0x00, 0x60, 0x10, 0x00, 0x00, 0x40, 0x49, 0x02, 0x30, 0x06, 0xbe, 0x60,
+    0x73, 0x74, 0x72, 0x30, 0x00, 0x00, 0x00, 0x20, 0x55, 0x55, 0x55, 0x55, 0xf9, 0x59, 0x41, 0x46,
+    0x00, 0x00, 0x00, 0x4e, 0x00, 0x01, 0x90, 0x54, 0x2a, 0x70, 0x74, 0x72, 0x00, 0x00, 0x00, 0x40,
+    0x44, 0x4d, 0x44, 0x49, 0x00, 0x00, 0x00, 0x00, 0x64, 0x6c, 0x66, 0x63, 0x00, 0x00, 0x00, 0x20,
+    0x00, 0x00, 0x00, 0x01, 0x66, 0x61, 0x63, 0x5f, 0x00, 0x00, 0x00, 0x48, 0x26, 0x08, 0x01, 0x23,
+    0x45, 0x60, 0xa1, 0x80, 0x33, 0x73, 0x64, 0x63, 0x69, 0x00, 0x00, 0x00, 0x20, 0x01, 0x00, 0x00,
+    0x04, 0x72, 0x6f, 0x62, 0x6d, 0x00, 0x00, 0x00, 0x08, 0x01, 0x73, 0x74, 0x72, 0x30, 0x00, 0x00,
+    0x00, 0x20, 0x55, 0x55, 0x55, 0x55, 0x87, 0x85, 0x41, 0x46, 0x00, 0x00, 0x00, 0x4e, 0x00, 0x02,
+    0x90, 0x54, 0x2a, 0x70, 0x74, 0x72, 0x00, 0x00, 0x00, 0x40, 0x44, 0x4d, 0x44, 0x49, 0x00, 0x00,
+    0x00, 0x00, 0x64, 0x6c, 0x66, 0x63, 0x00, 0x00, 0x00, 0x20, 0x00, 0x00, 0x00, 0x02, 0x66, 0x61,
+    0x63, 0x5f, 0x00, 0x00, 0x00, 0x48, 0x46, 0x08, 0x01, 0x23, 0x45, 0x60, 0xa1, 0x80, 0x42, 0x73,
+    0x64, 0x63, 0x69, 0x00, 0x00, 0x00, 0x20, 0x01, 0x00, 0x00, 0x04, 0x72, 0x6f, 0x62, 0x6d, 0x00,
+    0x00, 0x00, 0x08, 0x01, 0x73, 0x74, 0x72, 0x30, 0x00, 0x00, 0x00, 0x20, 0x55, 0x55, 0x55, 0x55,
+    0x10, 0x9f,
+];
+
+#[test]
+fn serves_the_packets_of_a_schedule(rt: HostRuntime) -> Result<(), Fail> {
+    let alloc = rt.alloc();
+    let mut shelf = MemShelf::make(alloc, &[])?;
+    comes_out(&rt, "serve", &mut shelf, 4, b"", "drmcast: read fault\n")?;
+    let carried_plain = text(alloc, &[(2, b"carry plain")])?;
+    shelf.add(alloc, "schedule.txt", &carried_plain)?;
+    comes_out(&rt, "serve", &mut shelf, 0, &CAPTURE, "")?;
+    // Fragments aren't served yet.
+    let in_fragments = text(alloc, &[])?;
+    shelf.add(alloc, "schedule.txt", &in_fragments)?;
+    comes_out(
+        &rt,
+        "serve",
+        &mut shelf,
+        3,
+        b"",
+        "drmcast: schedule line 0: word\n",
+    )?;
+    let wrong = text(alloc, &[(2, b"carry plain"), (9, b"msc 1")])?;
+    shelf.add(alloc, "schedule.txt", &wrong)?;
+    comes_out(
+        &rt,
+        "serve",
+        &mut shelf,
+        3,
+        b"",
+        "drmcast: schedule line 9: hierarchical\n",
+    )
 }
