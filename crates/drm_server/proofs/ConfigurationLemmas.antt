@@ -1,5 +1,5 @@
 -- The files of the configuration of a super frame reach as far as its frames.
-use Rattle.std.proofs.Common.{◌≡◌, ◌<◌, ◌≤◌, ◌+◌, ◌-◌, ◌*◌, ◌/◌, ◌%◌, ℕ, Bool, true, false, cond, List, [], ◌∷◌, length, filter, nat_lt, min, All, IfSome, Option, Some, None, refl, sym, ap, subst, ◌∙◌, arith, mul-le-mul_left}
+use Rattle.std.proofs.Common.{◌≡◌, ◌<◌, ◌≤◌, ◌+◌, ◌-◌, ◌*◌, ◌/◌, ℕ, Bool, true, false, cond, List, [], ◌∷◌, length, filter, All, IfSome, Option, Some, None, refl, subst, arith, mul-le-mul_left}
 use Rattle.std.specs.List.{last_or}
 use Rattle.std.proofs.lemmas.Bool.{ltb-false, le-ltb, leb-false}
 use Rattle.drm_schedule.specs.declared.config.Config.{Config}

@@ -1,6 +1,9 @@
+pub mod ByteLemmas
 pub mod ConfigurationLemmas
 pub mod StreamLemmas
 pub mod BlockLemmas
 pub mod PayloadLemmas
 pub mod PacketLemmas
 pub mod CaptureLemmas
+pub mod OneBlock
+pub mod OnePacket

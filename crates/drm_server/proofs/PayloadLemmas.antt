@@ -1,11 +1,10 @@
 -- A payload, put together.
-use Rattle.std.proofs.Common.{◌≡◌, ◌<◌, ◌≤◌, ◌+◌, ◌-◌, ◌*◌, ◌/◌, ◌%◌, ◌^◌, ◌==◌, if◌then◌else◌, ℕ, List, [], ◌∷◌, ◌++◌, length, take, drop, map, sum_by, Bool, Option, Some, option_map, refl, sym, ap, subst, ◌∙◌, arith, append_assoc, length-drop}
-use Rattle.std.proofs.lemmas.List.{length-take-le}
+use Rattle.std.proofs.Common.{◌≡◌, ◌+◌, ◌-◌, ◌*◌, ◌/◌, ◌%◌, ◌^◌, ◌==◌, ℕ, List, ◌++◌, length, take, map, Bool, Option, Some, option_map, refl, sym, ap, ◌∙◌, arith, append_assoc, length-drop}
 use Rattle.drm_fac.specs.declared.fac.Fac.{Fac}
 use Rattle.drm_schedule.specs.declared.config.Config.{Config}
 use Rattle.drm_schedule.specs.declared.plan.Plan.{Plan}
 use Rattle.drm_schedule.specs.declared.stream.Stream.{Stream}
-use Rattle.drm_schedule.specs.Sizes.{packet_len, stream_size}
+use Rattle.drm_schedule.specs.Sizes.{packet_len}
 use Rattle.drm_timeline.specs.Standing.{config_of}
 use Rattle.drm_timeline.specs.FastAccess.{fac_of}
 use Rattle.drm_timeline.specs.Description.{description_of}

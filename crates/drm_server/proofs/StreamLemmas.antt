@@ -1,12 +1,12 @@
 -- The description of the streams.
-use Rattle.std.proofs.Common.{◌≡◌, ◌<◌, ◌≤◌, ◌^◌, ℕ, zero, suc, List, [], ◌∷◌, length, slice_get, All, IfSome, Option, Some, None, refl, arith}
+use Rattle.std.proofs.Common.{◌<◌, ◌^◌, ℕ, zero, suc, List, [], ◌∷◌, slice_get, All, IfSome, Option, Some, None, arith}
 use Rattle.std.proofs.lemmas.List.Elements.{All-nil, All-cons, All-head, All-tail}
 use Rattle.drm_bits.specs.Description.{IsDescription, FitsWidths}
 use Rattle.drm_bits.specs.declared.description.Part.{Part}
 use Rattle.drm_schedule.specs.declared.config.Config.{Config}
 use Rattle.drm_schedule.specs.declared.stream.Stream.{Stream}
 use Rattle.drm_schedule.specs.Ranges.{StreamInLines, ConfigInLines}
-use Rattle.drm_timeline.specs.Description.{description_of, part_of, parts_of}
+use Rattle.drm_timeline.specs.Description.{description_of, part_of}
 use Rattle.drm_timeline.proofs.ToldLemmas.{description_fits}
 use Rattle.std.specs.Prelude.{false}
 

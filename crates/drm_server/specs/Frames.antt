@@ -1,6 +1,6 @@
 -- The frames and packets of a schedule, each read off the schedule for itself (ES 201 980, TS 102 820).
-use Rattle.std.specs.Prelude.{ℕ, ◌≡◌, ◌+◌, ◌-◌, ◌*◌, ◌/◌, ◌%◌, ◌^◌, ◌==◌, true, false, Bool, if◌then◌else◌, List, map, take, drop, replicate, length, Option, Some, None}
-use Rattle.drm_bits.specs.Bits.{bits_of}
+use Rattle.std.specs.Prelude.{ℕ, ◌≡◌, ◌+◌, ◌-◌, ◌*◌, ◌/◌, ◌%◌, ◌^◌, ◌==◌, true, false, Bool, List, map, take, drop, replicate, length, Option, Some, None}
+use Rattle.drm_bits.specs.Bits.{bits_of, IsBytes}
 use Rattle.drm_bits.specs.Crc.{zeros}
 use Rattle.drm_sdc.specs.declared.block.Block.{Block}
 use Rattle.drm_sdc.specs.Block.{IsBlock}
@@ -57,3 +57,4 @@ pub record IsPacketAt (plan : Plan) (t : ℕ) (packet : List ℕ) : Type 0 where
   pub payload : List ℕ
   pub written : IsWrittenOf parts payload
   pub is : IsAf (record { seq = (plan.seq + t) % 2 ^ 16; checked = true; minor = 0; payload = payload }) packet
+  pub octets : IsBytes packet

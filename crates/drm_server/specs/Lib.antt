@@ -1,3 +1,4 @@
 pub mod Frames
 pub mod Serving
 pub mod Capture
+pub mod Laws

@@ -1,5 +1,5 @@
 -- A server, as contracts see it.
-use Rattle.std.specs.Prelude.{ℕ, ◌≡◌, ◌/◌, ◌%◌, ◌==◌, option_map, Option, Some}
+use Rattle.std.specs.Prelude.{ℕ, ◌≡◌, ◌/◌, ◌%◌, ◌==◌, option_map, Some}
 use Rattle.drm_schedule.specs.declared.plan.Plan.{Plan}
 use Rattle.drm_schedule.specs.Sizes.{packet_len}
 use Rattle.drm_timeline.specs.Standing.{config_of}

@@ -2,6 +2,7 @@
 #![tactic(auto)]
 
 mod configuration;
+mod laws;
 mod output;
 mod packet;
 mod payload;
@@ -13,6 +14,7 @@ mod tests;
 #[cfg(test)]
 mod trial;
 
+pub use laws::{one_capture, one_packet};
 pub use output::write_all;
 pub use serve::serve_sink;
 pub use server::Server;

@@ -45,6 +45,7 @@ fn numbers_go_round(rt: HostRuntime) -> Result<(), NoMemory> {
         (2, [0, 1], [0, 0, 0, 0]),
     ];
     for (t, seq, count) in cases {
+        assert!(rt; t < server.frames());
         server.load(t);
         let packet = server.packet();
         assert!(rt; packet.len() > 38);

@@ -1,6 +1,5 @@
-use Rattle.std.proofs.Common.{◌≡◌, ◌==◌, ◌%◌, ◌/◌, ◌++◌, ℕ, Bool, true, Option, Some, List, refl, sym, subst, ap, ◌∙◌, eq-eqb}
+use Rattle.std.proofs.Common.{◌%◌, ◌/◌, ◌++◌, ℕ, Bool, Some, List, refl, sym, subst, ap, ◌∙◌, eq-eqb}
 use Rattle.std.proofs.lemmas.List.{append-nil}
-use Rattle.mdi_items.specs.RoundTrip.{BlockBytes}
 use Rattle.mdi_items.specs.Written.{written, spelled, block_piece}
 use Rattle.drm_server.specs.Frames.{HasBlockWhere}
 use Rattle.drm_server.proofs.payload.write_block_where.Goals as goal

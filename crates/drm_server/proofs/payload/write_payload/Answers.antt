@@ -1,8 +1,7 @@
-use Rattle.std.proofs.Common.{◌≡◌, ◌+◌, ◌-◌, ◌*◌, ◌/◌, ◌%◌, ◌==◌, if◌then◌else◌, ℕ, List, length, sum_by, sym, ap, ◌∙◌, arith}
+use Rattle.std.proofs.Common.{◌≡◌, ◌+◌, ◌/◌, ◌%◌, ◌==◌, length, sum_by, ap, ◌∙◌, arith}
 use Rattle.drm_schedule.specs.declared.stream.Stream.{Stream}
 use Rattle.drm_schedule.specs.Sizes.{packet_len, stream_size}
 use Rattle.drm_timeline.specs.Standing.{config_of}
-use Rattle.mdi_items.specs.Written.{behind}
 use Rattle.drm_server.proofs.PayloadLemmas.{packet_of, of_packet, front, payload_is}
 use Rattle.drm_server.proofs.payload.write_payload.Goals as goal
 
