@@ -1,6 +1,6 @@
 -- The bytes of a block, cut out of the bytes that it was written into.
-use Rattle.std.proofs.Common.{◌≡◌, ◌<◌, ◌≤◌, ◌+◌, ◌-◌, ◌*◌, ◌^◌, ℕ, zero, suc, List, [], ◌∷◌, length, take, drop, Bool, Option, Some, option_map, refl, sym, ap, subst, ◌∙◌, arith}
-use Rattle.std.proofs.lemmas.List.{length-take-le, drop-take}
+use Rattle.std.proofs.Common.{◌≡◌, ◌<◌, ◌+◌, ◌-◌, ◌*◌, ◌^◌, ℕ, List, length, take, drop, Bool, Option, Some, option_map, sym, ap, subst, ◌∙◌, arith}
+use Rattle.std.proofs.lemmas.List.{length-take-le, drop-take, take-take}
 use Rattle.drm_bits.specs.Bits.{bits_of}
 use Rattle.drm_bits.specs.Crc.{zeros}
 use Rattle.drm_bits.proofs.ByteBits.{bits_of-take}
@@ -10,12 +10,6 @@ use Rattle.drm_schedule.specs.declared.config.Config.{Config}
 use Rattle.drm_schedule.specs.declared.plan.Plan.{Plan}
 use Rattle.drm_timeline.specs.Blocks.{block_of}
 use Rattle.drm_server.specs.Frames.{IsBlockAt}
-
-take_front : {X : Type 0} (n k : ℕ) (xs : List X) → n ≤ k → take n (take k xs) ≡ take n xs
-take_front zero k xs le = refl
-take_front (suc n) zero xs le = absurd (omega (arith, le))
-take_front (suc n) (suc k) [] le = refl
-take_front (suc n) (suc k) (x ∷ xs) le = ap (λ l. x ∷ l) (take_front n k xs (omega (arith, le)))
 
 pub block_bits : (n : ℕ) (o : Option Config) (c : Config) → Some n ≡ option_map (λ (x : Config). 8 * x.room + 20) o → o ≡ Some c → n ≡ 8 * c.room + 20
 block_bits n o c is same = some_is (is ∙ ap (λ (x : Option Config). option_map (λ (y : Config). 8 * y.room + 20) x) same)
@@ -39,6 +33,6 @@ block_at plan sf room n bits bytes long few is count (block, same, spelled) last
   is = same;
   bits = count;
   size = omega (arith, length-take-le (n + 3) bytes (omega (arith, long, few, is)), is);
-  spelled = subst (λ (l : List Bool). IsBlock block l) (sym (ap (take bits) (bits_of-take (n + 3) bytes) ∙ take_front bits (8 * (n + 3)) (bits_of bytes) (omega (arith, is, count)))) spelled;
+  spelled = subst (λ (l : List Bool). IsBlock block l) (sym (ap (take bits) (bits_of-take (n + 3) bytes) ∙ take-take bits (8 * (n + 3)) (bits_of bytes) (omega (arith, is, count)))) spelled;
   padding = padded bytes room n bits is count last;
 }

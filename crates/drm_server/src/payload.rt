@@ -26,6 +26,7 @@ pub fn write_payload(plan: &Schedule, t: u32, into: &mut [u8; 8180]) -> usize
     ensures small { result ≤ 8180 }
 {
     let config = config_of_frame(plan, t);
+    // For its clauses alone: they say that all fits.
     let _ = packet_len(plan, t);
     let mut writer = MdiWriter::new(into);
     write_head(&mut writer, plan, t, config);
@@ -35,7 +36,7 @@ pub fn write_payload(plan: &Schedule, t: u32, into: &mut [u8; 8180]) -> usize
     total(into) - room
 }
 
-// How many bytes there are. What the writer leaves is known to be an array only here.
+// How many bytes there are. A function of its own, since behind the writer their number is known only in a call.
 fn total(bytes: &[u8; 8180]) -> usize
     ensures all { result ≡ length bytes.now }
     ensures known { result ≡ 8180 }
