@@ -1,0 +1,9 @@
+//! Fragments of packets (TS 102 821, PFT): how a packet is cut so that some of its fragments may be lost, the fragments
+//! written, and fragments read.
+#![tactic(auto)]
+
+mod fragment;
+mod shape;
+
+pub use fragment::Addr;
+pub use shape::{Rs, Shape};
