@@ -1,18 +1,20 @@
--- What is written of a schedule: the packets of its frames, one after another.
-use Rattle.std.specs.Prelude.{ℕ, zero, suc, ◌≡◌, ◌*◌, ◌≤◌, List, [], ◌++◌}
+-- What is written of a schedule: its datagrams, one after another.
+use Rattle.std.specs.Prelude.{ℕ, ◌≡◌, List, ◌++◌, length}
+use Rattle.std.specs.List.{concat}
 use Rattle.drm_schedule.specs.declared.plan.Plan.{Plan}
 use Rattle.drm_links.specs.Sink.{IsFront}
-use Rattle.drm_server.specs.Frames.{IsPacketAt}
+use Rattle.drm_server.specs.Datagrams.{AreDatagrams, AreBefore}
 
--- the packets of the first n frames
-abbrev pub ArePackets : Plan → ℕ → List ℕ → Type 0
-ArePackets plan zero bytes = bytes ≡ []
-ArePackets plan (suc n) bytes = (before : List ℕ) × (packet : List ℕ) × ArePackets plan n before × IsPacketAt plan n packet × (bytes ≡ before ++ packet)
-
--- the packets of all frames
+-- the datagrams of all frames
 abbrev pub IsCapture : Plan → List ℕ → Type 0
-IsCapture plan bytes = ArePackets plan (3 * plan.length) bytes
+IsCapture plan bytes = (datagrams : List (List ℕ)) × AreDatagrams plan datagrams × (bytes ≡ concat datagrams)
 
--- a front of the packets of some first frames
+-- some first datagrams, and a front of the next one
 abbrev pub IsFrontOfCapture : Plan → List ℕ → Type 0
-IsFrontOfCapture plan text = (n : ℕ) × (n ≤ 3 * plan.length) × (bytes : List ℕ) × ArePackets plan n bytes × IsFront bytes text
+IsFrontOfCapture plan text =
+    (next : List ℕ) × (datagrams : List (List ℕ)) × AreBefore plan next datagrams
+    × (front : List ℕ) × IsFront next front × (text ≡ concat datagrams ++ front)
+
+-- the number of the datagrams of a schedule
+abbrev pub IsCount : Plan → ℕ → Type 0
+IsCount plan n = (datagrams : List (List ℕ)) × AreDatagrams plan datagrams × (n ≡ length datagrams)

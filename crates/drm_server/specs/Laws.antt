@@ -1,12 +1,23 @@
--- A schedule has one capture.
-use Rattle.std.specs.Prelude.{ℕ, ◌≡◌, List}
+-- What is sent and written of a schedule is determined by it.
+use Rattle.std.specs.Prelude.{ℕ, ◌≡◌, List, ◌∷◌, ◌++◌}
 use Rattle.drm_schedule.specs.declared.plan.Plan.{Plan}
 use Rattle.drm_server.specs.Frames.{IsPacketAt}
+use Rattle.drm_server.specs.Datagrams.{AreDatagrams, AreBefore}
 use Rattle.drm_server.specs.Capture.{IsCapture}
 
 -- the packet of a frame is determined
 abbrev pub HasOnePacket : Type 0
 HasOnePacket = (plan : Plan) (t : ℕ) (packet other : List ℕ) → IsPacketAt plan t packet → IsPacketAt plan t other → packet ≡ other
+
+-- the datagrams of a schedule are determined
+abbrev pub HasOneDelivery : Type 0
+HasOneDelivery = (plan : Plan) (datagrams others : List (List ℕ)) → AreDatagrams plan datagrams → AreDatagrams plan others → datagrams ≡ others
+
+-- those before one of them are their front, and it is the next
+abbrev pub FirstOnesAreFront : Type 0
+FirstOnesAreFront =
+    (plan : Plan) (datagrams first : List (List ℕ)) (next : List ℕ) → AreDatagrams plan datagrams → AreBefore plan next first
+    → (behind : List (List ℕ)) × (datagrams ≡ first ++ next ∷ behind)
 
 -- and so is the capture
 abbrev pub HasOneCapture : Type 0

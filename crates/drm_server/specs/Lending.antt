@@ -1,0 +1,10 @@
+-- What a call that lends a datagram leaves.
+use Rattle.std.specs.Prelude.{◌≡◌, []}
+use Rattle.std.specs.Borrow.{MutBor, Fml, named}
+use Rattle.std.specs.Io.BufRead.{Rests}
+use Rattle.drm_server.specs.Serving.{Serving}
+use Rattle.drm_server.specs.contracts.server.Server.{the_row}
+
+-- the server is as it was
+abbrev pub Stays : MutBor Serving → Fml
+Stays server = Rests (the_row (record { mir = named 1; lft = [] })) server (λ after. after ≡ server.now)
