@@ -1,4 +1,5 @@
 pub mod ToldLemmas
+pub mod TransmissionLemmas
 pub mod MemoryLemmas
 pub mod FilesLemmas
 pub mod LoadLemmas

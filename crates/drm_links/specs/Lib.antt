@@ -3,6 +3,7 @@ pub mod Source
 pub mod Sink
 pub mod Shelf
 pub mod Link
+pub mod Transmission
 pub mod Dock
 pub mod MemorySource
 pub mod MemorySink

@@ -1,0 +1,124 @@
+-- What was sent over a link, in one call and in several.
+use Rattle.std.proofs.Common.{◌≡◌, ℕ, ◌+◌, ◌-◌, ◌≤◌, List, [], ◌∷◌, ◌++◌, length, Option, None, Some, refl, sym, ◌∙◌, ap, arith, append_assoc, length-append}
+use Rattle.std.proofs.lemmas.List.{append-nil}
+use Rattle.drm_links.specs.Told.{WhileTold, CountsCall}
+use Rattle.drm_links.specs.Link.{Traffic, Sends, KeepsAnswers, KeepsTraffic, one_less, longest_told}
+use Rattle.drm_links.specs.Transmission.{Transmits, SendsAll, SendsNoMore, TakesSends, fewer}
+use Rattle.drm_links.specs.declared.link.Sent.TheVariants as send
+
+-- ---- over many calls
+
+pub Transmits-then : (P Q R : Traffic → Traffic → Type 0) (a b c : Option Traffic) → Transmits a b P → Transmits b c Q → ((x y z : Traffic) → P x y → Q y z → R x z) → Transmits a c R
+Transmits-then P Q R a b None first second both = tt
+Transmits-then P Q R a None (Some z) first second both = absurd second
+Transmits-then P Q R None (Some y) (Some z) first second both = absurd first
+Transmits-then P Q R (Some x) (Some y) (Some z) first second both = both x y z first second
+
+pub Transmits-weaker : (P Q : Traffic → Traffic → Type 0) (a b : Option Traffic) → Transmits a b P → ((x y : Traffic) → P x y → Q x y) → Transmits a b Q
+Transmits-weaker P Q a None first weaker = tt
+Transmits-weaker P Q None (Some y) first weaker = first
+Transmits-weaker P Q (Some x) (Some y) first weaker = weaker x y first
+
+-- ---- how many sends are left
+
+takes_none : (sends : Option ℕ) → TakesSends sends 0
+takes_none None = tt
+takes_none (Some k) = omega arith
+
+fewer_none : (sends : Option ℕ) → sends ≡ fewer sends 0
+fewer_none None = refl
+fewer_none (Some k) = ap Some (omega arith)
+
+takes_one : (sends : Option ℕ) → (sends ≡ Some 0 → ⊥) → TakesSends sends 1
+takes_one None some = tt
+takes_one (Some k) some = let is_some : k ≡ 0 → ⊥ = λ none. some (ap Some none) in omega arith
+
+fewer_one : (sends : Option ℕ) → one_less sends ≡ fewer sends 1
+fewer_one None = refl
+fewer_one (Some k) = refl
+
+takes_more : (sends : Option ℕ) (m n : ℕ) → TakesSends sends m → TakesSends (fewer sends m) n → TakesSends sends (m + n)
+takes_more None m n first second = tt
+takes_more (Some k) m n first second = omega arith
+
+fewer_more : (sends : Option ℕ) (m n : ℕ) → fewer (fewer sends m) n ≡ fewer sends (m + n)
+fewer_more None m n = refl
+fewer_more (Some k) m n = ap Some (omega arith)
+
+no_more_before : (sends : Option ℕ) (m n : ℕ) → TakesSends sends m → fewer sends m ≡ Some n → sends ≡ Some (m + n)
+no_more_before None m n takes is = cc
+no_more_before (Some k) m n takes is =
+    let left : k - m ≡ n = cc in
+    ap Some (omega arith)
+
+-- ---- what was sent
+
+then_kept : (x y z : Traffic) → KeepsAnswers x y → KeepsAnswers y z → KeepsAnswers x z
+then_kept x y z first second =
+    record { answers = second.answers ∙ first.answers; ahead = second.ahead ∙ first.ahead }
+
+then_gone : (x y z : Traffic) (xs ys : List (List ℕ)) → y.gone ≡ x.gone ++ xs → z.gone ≡ y.gone ++ ys → z.gone ≡ x.gone ++ (xs ++ ys)
+then_gone x y z xs ys first second = second ∙ (ap (λ l. l ++ ys) first ∙ append_assoc x.gone xs ys)
+
+-- some datagrams, and then others
+pub SendsAll-then : (xs ys : List (List ℕ)) (x y z : Traffic) → SendsAll xs x y → SendsAll ys y z → SendsAll (xs ++ ys) x z
+SendsAll-then xs ys x y z first second =
+    let takes : TakesSends (fewer x.sends (length xs)) (length ys) = rw (← first.sends) second.taken in
+    record {
+      taken = rw (length-append xs ys) (takes_more x.sends (length xs) (length ys) first.taken takes);
+      gone = then_gone x y z xs ys first.gone second.gone;
+      sends =
+          rw (length-append xs ys)
+          (second.sends ∙ (ap (λ sends. fewer sends (length ys)) first.sends ∙ fewer_more x.sends (length xs) (length ys)));
+      kept = then_kept x y z first.kept second.kept;
+    }
+
+-- some datagrams, and then others after which no more were taken
+pub SendsAll-no_more : (xs ys : List (List ℕ)) (x y z : Traffic) → SendsAll xs x y → SendsNoMore ys y z → SendsNoMore (xs ++ ys) x z
+SendsAll-no_more xs ys x y z first second =
+    record {
+      no_more =
+          rw (length-append xs ys)
+          (no_more_before x.sends (length xs) (length ys) first.taken (sym first.sends ∙ second.no_more));
+      gone = then_gone x y z xs ys first.gone second.gone;
+      kept = then_kept x y z first.kept second.kept;
+    }
+
+-- no datagram
+sends_nothing : (x y : Traffic) → KeepsTraffic x y → SendsAll [] x y
+sends_nothing x y kept =
+    record {
+      taken = takes_none x.sends;
+      gone = kept.gone ∙ sym (append-nil x.gone);
+      sends = kept.sends ∙ fewer_none x.sends;
+      kept = record { answers = kept.answers; ahead = kept.ahead };
+    }
+
+pub Transmits-nothing : (a : Option Traffic) → Transmits a a (SendsAll [])
+Transmits-nothing None = tt
+Transmits-nothing (Some x) =
+    sends_nothing x x (record { answers = refl; ahead = refl; gone = refl; sends = refl })
+
+-- ---- one call
+
+pub Transmits-rest : (a b : Option Traffic) → WhileTold a b KeepsTraffic → CountsCall (λ (t : Traffic). t.calls) a b → Transmits a b (SendsAll [])
+Transmits-rest a None kept counts = tt
+Transmits-rest None (Some y) kept counts = cc
+Transmits-rest (Some x) (Some y) kept counts = sends_nothing x y kept
+
+pub Transmits-sent : (bytes : List ℕ) (a b : Option Traffic) → WhileTold a b (Sends send.Sent bytes) → WhileTold a b KeepsAnswers → CountsCall (λ (t : Traffic). t.calls) a b → Transmits a b (SendsAll (bytes ∷ []))
+Transmits-sent bytes a None sent kept counts = tt
+Transmits-sent bytes None (Some y) sent kept counts = cc
+Transmits-sent bytes (Some x) (Some y) sent kept counts =
+    record {
+      taken = takes_one x.sends sent.0;
+      gone = sent.1;
+      sends = sent.2 ∙ fewer_one x.sends;
+      kept = kept;
+    }
+
+pub Transmits-failed : (bytes : List ℕ) (a b : Option Traffic) → length bytes ≤ longest_told → WhileTold a b (Sends send.Failed bytes) → WhileTold a b KeepsAnswers → CountsCall (λ (t : Traffic). t.calls) a b → Transmits a b (SendsNoMore [])
+Transmits-failed bytes a None short failed kept counts = tt
+Transmits-failed bytes None (Some y) short failed kept counts = cc
+Transmits-failed bytes (Some x) (Some y) short failed kept counts =
+    record { no_more = failed.0 short; gone = failed.1 ∙ sym (append-nil x.gone); kept = kept }
