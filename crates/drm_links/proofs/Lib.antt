@@ -3,3 +3,4 @@ pub mod TransmissionLemmas
 pub mod MemoryLemmas
 pub mod FilesLemmas
 pub mod LoadLemmas
+pub mod ManyCallsLemmas

@@ -10,3 +10,4 @@ pub mod MemorySink
 pub mod MemoryShelf
 pub mod MemoryLink
 pub mod MemoryDock
+pub mod ManyCalls

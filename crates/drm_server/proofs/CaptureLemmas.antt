@@ -1,38 +1,47 @@
--- The packets of one frame more.
-use Rattle.std.proofs.Common.{◌≡◌, ◌<◌, ◌+◌, ◌*◌, ℕ, suc, List, ◌++◌, refl, sym, ap, subst, ◌∙◌, arith, append_assoc}
+-- What is written of a schedule, datagram by datagram and frame by frame.
+use Rattle.std.proofs.Common.{◌≡◌, ◌<◌, ◌*◌, ℕ, List, [], ◌∷◌, ◌++◌, Option, refl, sym, ap, ◌∙◌, append_assoc}
+use Rattle.std.proofs.lemmas.List.{append-nil}
+use Rattle.std.specs.List.{concat}
 use Rattle.drm_schedule.specs.declared.plan.Plan.{Plan}
 use Rattle.drm_links.specs.Sink.{Output, Outputs, IsFront}
 use Rattle.drm_links.proofs.ToldLemmas.{Outputs-then}
-use Rattle.drm_server.specs.Frames.{IsPacketAt}
-use Rattle.drm_server.specs.Serving.{Serving}
-use Rattle.drm_server.specs.Capture.{ArePackets, IsFrontOfCapture}
-use Rattle.std.specs.Prelude.{Option}
+use Rattle.drm_server.specs.Datagrams.{IsDatagramAt, AreFirst, AreOfFrames}
+use Rattle.drm_server.specs.Capture.{IsFrontOfCapture}
+use Rattle.drm_server.specs.OneFrame.{WritesPartOfFrame}
 
-pub next_packet : (plan : Plan) (n : ℕ) (before packet : List ℕ) → ArePackets plan n before → IsPacketAt plan n packet → ArePackets plan (n + 1) (before ++ packet)
-next_packet plan n before packet are is =
-    let one : suc n ≡ n + 1 = omega arith in
-    subst (λ k. ArePackets plan k (before ++ packet)) one (more are is)
-  where
-    more : ArePackets plan n before → IsPacketAt plan n packet → ArePackets plan (suc n) (before ++ packet)
-    more are is = (before, packet, are, is, refl)
+concat_append : (xs ys : List (List ℕ)) → concat (xs ++ ys) ≡ concat xs ++ concat ys
+concat_append [] ys = refl
+concat_append (x ∷ xs) ys = ap (λ l. x ++ l) (concat_append xs ys) ∙ sym (append_assoc x (concat xs) (concat ys))
 
--- a packet was written whole
-pub wrote_next : (plan : Plan) (n : ℕ) (packet : List ℕ) (a b c : Option Output) → Outputs a b (ArePackets plan n) → IsPacketAt plan n packet → Outputs b c (λ text. text ≡ packet)
-    → Outputs a c (ArePackets plan (n + 1))
-wrote_next plan n packet a b c first is second =
-    Outputs-then (ArePackets plan n) (λ text. text ≡ packet) (ArePackets plan (n + 1)) a b c first second
-    (λ s t are same. subst (λ l. ArePackets plan (n + 1) (s ++ l)) (sym same) (next_packet plan n s packet are is))
+-- these datagrams were written
+abbrev pub IsAllOf : List (List ℕ) → List ℕ → Type 0
+IsAllOf datagrams bytes = bytes ≡ concat datagrams
 
--- a front of it was written
-pub wrote_front : (plan : Plan) (n : ℕ) (packet : List ℕ) (a b c : Option Output) → n < 3 * plan.length → Outputs a b (ArePackets plan n) → IsPacketAt plan n packet → Outputs b c (IsFront packet)
+-- some, and then others
+pub then_written : (xs ys : List (List ℕ)) (a b c : Option Output) → Outputs a b (IsAllOf xs) → Outputs b c (IsAllOf ys) → Outputs a c (IsAllOf (xs ++ ys))
+then_written xs ys a b c first second =
+    Outputs-then (IsAllOf xs) (IsAllOf ys) (IsAllOf (xs ++ ys)) a b c first second
+    (λ s t is_s is_t. ap (λ l. l ++ t) is_s ∙ (ap (λ l. concat xs ++ l) is_t ∙ sym (concat_append xs ys)))
+
+-- one more
+pub one_written : (xs : List (List ℕ)) (datagram : List ℕ) (a b c : Option Output) → Outputs a b (IsAllOf xs) → Outputs b c (λ text. text ≡ datagram) → Outputs a c (IsAllOf (xs ++ datagram ∷ []))
+one_written xs datagram a b c first second =
+    Outputs-then (IsAllOf xs) (λ text. text ≡ datagram) (IsAllOf (xs ++ datagram ∷ [])) a b c first second
+    (λ s t is_s is_t. ap (λ l. l ++ t) is_s ∙ (ap (λ l. concat xs ++ l) (is_t ∙ sym (append-nil datagram)) ∙ sym (concat_append xs (datagram ∷ []))))
+
+-- a front of the next one
+pub front_written : (plan : Plan) (t i : ℕ) (next : List ℕ) (datagrams : List (List ℕ)) (a b c : Option Output) → IsDatagramAt plan t i next → AreFirst plan t i datagrams → Outputs a b (IsAllOf datagrams) → Outputs b c (IsFront next)
+    → Outputs a c (WritesPartOfFrame plan t)
+front_written plan t i next datagrams a b c is are first second =
+    Outputs-then (IsAllOf datagrams) (IsFront next) (WritesPartOfFrame plan t) a b c first second
+    (λ s u is_s front. (i, next, datagrams, (is, are), u, front, ap (λ l. l ++ u) is_s))
+
+-- a part of the next frame
+pub part_written : (plan : Plan) (t : ℕ) (datagrams : List (List ℕ)) (a b c : Option Output) → t < 3 * plan.length → AreOfFrames plan t datagrams → Outputs a b (IsAllOf datagrams) → Outputs b c (WritesPartOfFrame plan t)
     → Outputs a c (IsFrontOfCapture plan)
-wrote_front plan n packet a b c within first is second =
-    Outputs-then (ArePackets plan n) (IsFront packet) (IsFrontOfCapture plan) a b c first second
-    (λ s t are front. (n + 1, omega (arith, within), s ++ packet, next_packet plan n s packet are is, (front.0, ap (λ l. s ++ l) front.1 ∙ sym (append_assoc s t front.0))))
-
--- the packet of the frame that was loaded
-pub loaded : (old new : Serving) (plan : Plan) (t : ℕ) (packet : List ℕ) → new ≡ record old { frame = t } → old.plan ≡ plan → IsPacketAt new.plan new.frame packet → IsPacketAt plan t packet
-loaded old new plan t packet is same at =
-    let plan_is : new.plan ≡ plan = ap (λ (s : Serving). s.plan) is ∙ same in
-    let frame_is : new.frame ≡ t = ap (λ (s : Serving). s.frame) is in
-    subst (λ (p : Plan). IsPacketAt p t packet) plan_is (subst (λ (k : ℕ). IsPacketAt new.plan k packet) frame_is at)
+part_written plan t datagrams a b c within are first second =
+    Outputs-then (IsAllOf datagrams) (WritesPartOfFrame plan t) (IsFrontOfCapture plan) a b c first second
+    (λ s u is_s part. (part.1, datagrams ++ part.2,
+    record { t = t; within = within; i = part.0; is_next = part.3.0; of_frames = datagrams; are_of_frames = are; of_frame = part.2; are_first = part.3.1; are = refl },
+    part.4, part.5,
+    ap (λ l. l ++ u) is_s ∙ (ap (λ l. concat datagrams ++ l) part.6 ∙ (sym (append_assoc (concat datagrams) (concat part.2) part.4) ∙ ap (λ l. l ++ part.4) (sym (concat_append datagrams part.2))))))

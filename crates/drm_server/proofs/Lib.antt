@@ -1,9 +1,13 @@
 pub mod ByteLemmas
-pub mod ConfigurationLemmas
-pub mod StreamLemmas
 pub mod BlockLemmas
-pub mod PayloadLemmas
+pub mod ConfigurationLemmas
 pub mod PacketLemmas
-pub mod CaptureLemmas
+pub mod PayloadLemmas
+pub mod StreamLemmas
 pub mod OneBlock
 pub mod OnePacket
+pub mod OneDelivery
+pub mod DatagramLemmas
+pub mod CutLemmas
+pub mod CaptureLemmas
+pub mod SendingLemmas

@@ -16,7 +16,6 @@ use Rattle.mdi_items.specs.Written.{spelling, stream_pieces}
 use Rattle.mdi_items.specs.RoundTrip.{Parts, BlockBytes, IsWrittenOf}
 use Rattle.mdi_items.proofs.SpellingLemmas as spellings
 use Rattle.drm_server.specs.Frames.{stream_bytes, HasBlockWhere, IsFrameAt, IsPacketAt}
-use Rattle.drm_server.specs.Capture.{ArePackets}
 use Rattle.drm_server.proofs.ByteLemmas.{bytes_before, bytes_behind}
 use Rattle.drm_server.proofs.OneBlock.{one_block}
 
@@ -83,8 +82,3 @@ one_packet plan t packet other x y =
     one_frame plan t x.parts y.parts x.frame y.frame (block_bytes x.parts.block x.parts x.payload refl x.written small_x) (block_bytes y.parts.block y.parts y.payload refl y.written small_y) in
     let payload : x.payload ≡ y.payload = spellings.one_spelling y.parts x.payload y.payload (subst (λ (p : Parts). IsWrittenOf p x.payload) parts x.written) y.written small_x small_y in
     one_af (af y.payload) packet other refl (subst (λ (l : List ℕ). IsAf (af l) packet) payload x.is) y.is
-
-pub one_capture : (plan : Plan) (n : ℕ) (bytes others : List ℕ) → ArePackets plan n bytes → ArePackets plan n others → bytes ≡ others
-one_capture plan zero bytes others a b = a ∙ sym b
-one_capture plan (suc n) bytes others (before, packet, are, is, same) (before', packet', are', is', same') =
-    same ∙ (ap (λ l. l ++ packet) (one_capture plan n before before' are are') ∙ (ap (λ l. before' ++ l) (one_packet plan n packet packet' is is') ∙ sym same'))

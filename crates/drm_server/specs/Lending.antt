@@ -1,6 +1,7 @@
 -- What a call that lends a datagram leaves.
 use Rattle.std.specs.Prelude.{◌≡◌, []}
-use Rattle.std.specs.Borrow.{MutBor, Fml, named}
+use Rattle.std.specs.Borrow.{MutBor, Fml}
+use mir.Syntax.{named}
 use Rattle.std.specs.Io.BufRead.{Rests}
 use Rattle.drm_server.specs.Serving.{Serving}
 use Rattle.drm_server.specs.contracts.server.Server.{the_row}

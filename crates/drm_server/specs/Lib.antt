@@ -4,4 +4,5 @@ pub mod Lending
 pub mod Datagrams
 pub mod Capture
 pub mod Sending
+pub mod OneFrame
 pub mod Laws

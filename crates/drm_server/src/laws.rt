@@ -1,13 +1,31 @@
-//! Laws of packets.
+//! Laws of packets and datagrams, each on a function that does nothing.
 
-ghost use Rattle.drm_server.specs.Laws.{HasOnePacket, HasOneCapture};
+ghost use Rattle.drm_server.specs.Laws.{HasOnePacket, HasOneDelivery, FirstOnesAreFront, HasOneCapture};
+
+use dcp_pft::one_fragment;
 
 /// The packet of a frame is determined by the schedule.
 pub fn one_packet()
     ensures { HasOnePacket }
 {}
 
+/// The datagrams of a schedule are determined by it.
+pub fn one_delivery()
+    ensures { HasOneDelivery }
+{
+    one_fragment();
+}
+
+/// The datagrams that stand before one of a schedule are the front of all of them, and it is the next one.
+pub fn first_ones_are_front()
+    ensures { FirstOnesAreFront }
+{
+    one_fragment();
+}
+
 /// What is written of a schedule is determined by it.
 pub fn one_capture()
     ensures { HasOneCapture }
-{}
+{
+    one_fragment();
+}

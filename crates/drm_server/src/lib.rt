@@ -1,11 +1,13 @@
-//! The packets of a schedule, one frame at a time.
+//! The packets of a schedule and the datagrams that carry them, one frame at a time: to a sink, or over a link.
 #![tactic(auto)]
 
 mod configuration;
+mod cut;
 mod laws;
 mod output;
 mod packet;
 mod payload;
+mod send;
 mod serve;
 mod server;
 mod stream;
@@ -14,7 +16,8 @@ mod tests;
 #[cfg(test)]
 mod trial;
 
-pub use laws::{one_capture, one_packet};
+pub use laws::{first_ones_are_front, one_capture, one_delivery, one_packet};
 pub use output::write_all;
+pub use send::serve_link;
 pub use serve::serve_sink;
 pub use server::Server;

@@ -1,19 +1,31 @@
 //! The server of a schedule.
 
-ghost use Rattle.std.specs.Prelude.{◌≡◌, ◌*◌, ◌<◌, ◌≤◌, length, IfOk};
+ghost use Rattle.std.specs.Prelude.{ℕ, ◌≡◌, ◌*◌, ◌<◌, ◌≤◌, length, IfOk};
+ghost use Rattle.std.specs.Borrow.{sem};
 ghost use Rattle.drm_server.specs.Frames.{IsPacketAt};
+ghost use Rattle.drm_server.specs.Datagrams.{HasDatagrams, IsDatagramAt};
+ghost use Rattle.drm_server.specs.Lending.{Stays};
 ghost use Rattle.drm_server.specs.Serving.{IsPacketLength};
 
-use crate::packet::write_packet;
+use crate::cut::{cut_for, write_cut, write_parity};
+use crate::packet::{sequence_number, write_packet};
+use dcp_pft::{Shape, all_taken};
 use drm_bits::NoMemory;
-use drm_schedule::{Carry, Schedule};
+use drm_schedule::Schedule;
 use std::alloc::Global;
 use std::marker::Model;
 
 // The most bytes that a packet of a valid schedule has.
 const MOST: usize = 8192;
 
-/// Gives the packets of a schedule, one frame at a time. Frames are counted from 0 at the schedule's start.
+// The parity of the 40 chunks of such a packet.
+const MOST_PARITY: usize = 40 * 48;
+
+// The most bytes of a fragment.
+const MOST_FRAGMENT: usize = 1500;
+
+/// Gives the packets of a schedule and the datagrams that carry them, one frame at a time. Frames are counted from 0 at the
+/// schedule's start.
 #[derive(Drop)]
 pub struct Server<'a> {
     plan: &'a Schedule,
@@ -21,12 +33,17 @@ pub struct Server<'a> {
     // The packet stands at the front.
     buffer: Vec<u8>,
     len: usize,
+    // How it is cut, where it isn't carried whole, and the parity of its chunks, at the front.
+    cut: Option<Shape>,
+    parity: Vec<u8>,
+    // The fragment that was asked for last stands at the front.
+    fragment: Vec<u8>,
 }
 
 impl<'a> Model for Server<'a> {
     ghost use Rattle.std.specs.Prelude.{◌≡◌, ◌*◌, ◌<◌, ◌≤◌, length, take};
     ghost use Rattle.drm_server.specs.Frames.{IsPacketAt};
-    ghost use Rattle.drm_server.specs.Serving.{Serving, IsPacketLength};
+    ghost use Rattle.drm_server.specs.Serving.{Serving, IsPacketLength, IsCutOf, HoldsParity};
 
     ghost Value = { Serving };
 
@@ -35,8 +52,13 @@ impl<'a> Model for Server<'a> {
     ghost invariant = { λ s. (s.frame < 3 * s.plan.now.length)
         × (length s.buffer.items ≡ 8192)
         × (s.len ≤ 8192)
+        × (1 ≤ s.len)
         × IsPacketAt s.plan.now s.frame (take s.len s.buffer.items)
-        × IsPacketLength s.plan.now s.frame s.len };
+        × IsPacketLength s.plan.now s.frame s.len
+        × IsCutOf s.plan.now.carry s.len s.cut
+        × (length s.parity.items ≡ 1920)
+        × HoldsParity s.cut (take s.len s.buffer.items) s.parity.items
+        × (length s.fragment.items ≡ 1500) };
 }
 
 impl<'a> Server<'a> {
@@ -46,12 +68,19 @@ impl<'a> Server<'a> {
     {
         plan.always_valid();
         let mut buffer = zeros(alloc, MOST)?;
+        let mut parity = zeros(alloc, MOST_PARITY)?;
+        let fragment = zeros(alloc, MOST_FRAGMENT)?;
         let len = write_packet(plan, 0, &mut buffer);
+        let cut = cut_for(plan.carry(), len);
+        write_parity(&buffer[..len], cut, &mut parity);
         Ok(Server {
             plan,
             frame: 0,
             buffer,
             len,
+            cut,
+            parity,
+            fragment,
         })
     }
 
@@ -69,7 +98,10 @@ impl<'a> Server<'a> {
         requires { t < 3 * self.old.plan.length }
         ensures { self.new ≡ record self.old { frame = t } }
     {
+        self.plan.always_valid();
         self.len = write_packet(self.plan, t, &mut self.buffer);
+        self.cut = cut_for(self.plan.carry(), self.len);
+        write_parity(&self.buffer[..self.len], self.cut, &mut self.parity);
         self.frame = t;
     }
 
@@ -82,24 +114,36 @@ impl<'a> Server<'a> {
         &self.buffer[..self.len]
     }
 
-    /// How many datagrams carry the packet: one, where it is carried plain.
+    /// How many datagrams carry the packet: one, where it is carried whole, else its fragments.
     pub fn fragments(&self) -> u32
-        requires { self.now.plan.carry ≡ Carry.Plain }
-        ensures { result ≡ 1 }
+        ensures datagrams { HasDatagrams self.now.plan self.now.frame result }
+        ensures some { 1 ≤ result }
+        ensures few { result ≤ 1024 }
     {
-        1
+        self.plan.always_valid();
+        all_taken();
+        match self.cut {
+            None => 1,
+            Some(shape) => shape.count,
+        }
     }
 
-    /// The datagram with this number, from 0: the packet, where it is carried plain.
-    pub fn datagram(&self, i: u32) -> &[u8]
-        requires plain { self.now.plan.carry ≡ Carry.Plain }
-        requires within { i < 1 }
-        ensures packet { IsPacketAt self.now.plan self.now.frame result.now }
-        ensures len { IsPacketLength self.now.plan self.now.frame (length result.now) }
+    /// The datagram with this number, from 0, of the frame that is loaded.
+    pub fn datagram(&mut self, i: u32) -> &[u8]
+        requires within { (count : ℕ) × HasDatagrams self.old.plan self.old.frame count × (i < count) }
+        ensures* after { sem 𝓛 (Stays self.entry) }
+        ensures datagram { IsDatagramAt self.old.plan self.old.frame i result.now }
         ensures small { length result.now ≤ 8192 }
     {
-        let _ = i;
-        self.packet()
+        match self.cut {
+            None => &self.buffer[..self.len],
+            Some(shape) => {
+                let seq = sequence_number(self.plan, self.frame);
+                let packet = &self.buffer[..self.len];
+                let len = write_cut(packet, &shape, &self.parity, seq, i, &mut self.fragment);
+                &self.fragment[..len]
+            }
+        }
     }
 }
 

@@ -14,9 +14,16 @@ const PAYLOAD: [u8; 78] = [
     0x62, 0x6d, 0, 0, 0, 8, 1, 0x73, 0x74, 0x72, 0x30, 0, 0, 0, 0x20, 0x55, 0x55, 0x55, 0x55,
 ];
 
+// With code for the loss of two fragments.
+const CUT: Carry = Carry::Pft { m: 2, mtu: 1400 };
+
+const HEADER: [u8; 16] = [
+    0x50, 0x46, 0, 0, 0, 0, 0, 0, 0, 0x0a, 0x80, 0x10, 0x6e, 0, 0x9e, 0xb6,
+];
+
 #[test]
 fn loads_each_frame(rt: HostRuntime) -> Result<(), NoMemory> {
-    let Some(plan) = schedule(rt.alloc(), 0, 0, 1)? else {
+    let Some(plan) = schedule(rt.alloc(), Carry::Plain, 0, 0, 1)? else {
         panic!(rt; "the schedule is valid");
     };
     let mut server = Server::make(rt.alloc(), &plan)?;
@@ -35,7 +42,7 @@ fn loads_each_frame(rt: HostRuntime) -> Result<(), NoMemory> {
 // The sequence number goes to 0 behind 65,535, the counter behind 2^32 - 1.
 #[test]
 fn numbers_go_round(rt: HostRuntime) -> Result<(), NoMemory> {
-    let Some(plan) = schedule(rt.alloc(), 65_535, 4_294_967_294, 1)? else {
+    let Some(plan) = schedule(rt.alloc(), Carry::Plain, 65_535, 4_294_967_294, 1)? else {
         panic!(rt; "the schedule is valid");
     };
     let mut server = Server::make(rt.alloc(), &plan)?;
@@ -55,12 +62,47 @@ fn numbers_go_round(rt: HostRuntime) -> Result<(), NoMemory> {
     Ok(())
 }
 
+// The header is that of a fragment with code in a packet of 110 bytes; its check value was computed in Python.
 #[test]
-fn serves_all_frames(rt: HostRuntime) -> Result<(), NoMemory> {
-    let Some(plan) = schedule(rt.alloc(), 0, 0, 1)? else {
+fn cuts_packets_into_fragments(rt: HostRuntime) -> Result<(), NoMemory> {
+    let Some(plan) = schedule(rt.alloc(), CUT, 0, 0, 1)? else {
         panic!(rt; "the schedule is valid");
     };
-    assert_eq!(rt; plan.carry(), Carry::Plain);
+    let mut server = Server::make(rt.alloc(), &plan)?;
+    assert_eq!(rt; server.fragments(), 10);
+    let datagram = server.datagram(0);
+    assert_eq!(rt; datagram.len(), 32);
+    assert_eq!(rt; &datagram[..16], HEADER.as_slice());
+    for t in [1, 2] {
+        server.load(t);
+        let count = server.fragments();
+        assert_eq!(rt; count, 9);
+        assert_eq!(rt; server.datagram(count - 1).len(), 32);
+    }
+    Ok(())
+}
+
+#[test]
+fn serves_fragments(rt: HostRuntime) -> Result<(), NoMemory> {
+    let Some(plan) = schedule(rt.alloc(), CUT, 0, 0, 1)? else {
+        panic!(rt; "the schedule is valid");
+    };
+    let mut server = Server::make(rt.alloc(), &plan)?;
+    let mut out = MemSink::make(rt.alloc(), 900, &[], 100)?;
+    assert_eq!(rt; serve_sink(&mut server, &mut out), Ok(28));
+    assert_eq!(rt; out.bytes().len(), 896);
+    assert_eq!(rt; &out.bytes()[..16], HEADER.as_slice());
+    let mut short = MemSink::make(rt.alloc(), 450, &[], 100)?;
+    assert_eq!(rt; serve_sink(&mut server, &mut short), Err(WriteFault));
+    assert_eq!(rt; short.bytes(), &out.bytes()[..450]);
+    Ok(())
+}
+
+#[test]
+fn serves_all_frames(rt: HostRuntime) -> Result<(), NoMemory> {
+    let Some(plan) = schedule(rt.alloc(), Carry::Plain, 0, 0, 1)? else {
+        panic!(rt; "the schedule is valid");
+    };
     let mut server = Server::make(rt.alloc(), &plan)?;
     let mut out = MemSink::make(rt.alloc(), 300, &[], 7)?;
     assert_eq!(rt; serve_sink(&mut server, &mut out), Ok(3));

@@ -1,7 +1,7 @@
 //! A schedule for tests: one audio service in one stream of four bytes, which are filled with 55.
 
 ghost use Rattle.std.specs.Prelude.{◌≡◌, ◌≤◌, length, All, IfOk};
-ghost use Rattle.drm_schedule.specs.Ranges.{ServiceInLines, StreamInLines, EntityInLines, ConfigInLines, InLines};
+ghost use Rattle.drm_schedule.specs.Ranges.{ServiceInLines, StreamInLines, EntityInLines, ConfigInLines, CarryInLines, InLines};
 
 use drm_bits::NoMemory;
 use drm_schedule::{
@@ -105,11 +105,18 @@ fn configs(alloc: Global) -> Result<Configs, NoMemory>
     Ok(items)
 }
 
-fn plan(alloc: Global, seq: u16, dlfc: u32, length: u32) -> Result<Plan, NoMemory>
+fn plan(
+    alloc: Global,
+    carry: Carry,
+    seq: u16,
+    dlfc: u32,
+    length: u32,
+) -> Result<Plan, NoMemory>
+    requires { CarryInLines carry }
     ensures { IfOk result InLines }
 {
     Ok(Plan {
-        carry: Carry::Plain,
+        carry,
         seq,
         dlfc,
         length: length.clamp(1, 1_000_000),
@@ -117,12 +124,15 @@ fn plan(alloc: Global, seq: u16, dlfc: u32, length: u32) -> Result<Plan, NoMemor
     })
 }
 
-/// So many super frames, with these first numbers; `None` where the schedule isn't valid.
+/// So many super frames, carried so, with these first numbers; `None` where the schedule isn't valid.
 pub fn schedule(
     alloc: Global,
+    carry: Carry,
     seq: u16,
     dlfc: u32,
     length: u32,
-) -> Result<Option<Schedule>, NoMemory> {
-    Ok(Schedule::checked(plan(alloc, seq, dlfc, length)?).ok())
+) -> Result<Option<Schedule>, NoMemory>
+    requires { CarryInLines carry }
+{
+    Ok(Schedule::checked(plan(alloc, carry, seq, dlfc, length)?).ok())
 }

@@ -11,7 +11,7 @@ use Rattle.drm_links.specs.Source.{Input, Inputs}
 use Rattle.drm_links.specs.Sink.{Output, Outputs, IsFront}
 use Rattle.drm_links.proofs.ToldLemmas.{Inputs-weaker}
 use Rattle.drm_top.specs.declared.fault.Fault.{Fault}
-use Rattle.drm_top.specs.declared.fault.Fault.TheVariants.{NoMemory, Words, FacLength, FacOver, FacCrc, Schedule, Read, Write}
+use Rattle.drm_top.specs.declared.fault.Fault.TheVariants.{NoMemory, Words, FacLength, FacOver, FacCrc, Schedule, Read, Write, Link}
 use Rattle.drm_top.specs.Input.{ReadsHead, FailsWithin}
 use Rattle.drm_top.specs.Lines.{fac_line}
 use Rattle.drm_top.specs.Fault.{status_of}
@@ -36,26 +36,31 @@ comes_once bytes (Err (FacCrc s c)) (Err (FacLength m)) is_v is_w = absurd (omeg
 comes_once bytes (Err (FacCrc s c)) (Err FacOver) is_v is_w = absurd (omega (arith, is_v.nine, is_w))
 comes_once bytes (Err (FacCrc s c)) (Err (FacCrc t d)) is_v is_w = let same = same_fault s c t d bytes is_v is_w in cc
 comes_once bytes (Ok f) (Err NoMemory) is_v is_w = absurd is_w
+comes_once bytes (Ok f) (Err Link) is_v is_w = absurd is_w
 comes_once bytes (Ok f) (Err Words) is_v is_w = absurd is_w
 comes_once bytes (Ok f) (Err Read) is_v is_w = absurd is_w
 comes_once bytes (Ok f) (Err Write) is_v is_w = absurd is_w
 comes_once bytes (Ok f) (Err (Schedule l r)) is_v is_w = absurd is_w
 comes_once bytes (Err (FacLength n)) (Err NoMemory) is_v is_w = absurd is_w
+comes_once bytes (Err (FacLength n)) (Err Link) is_v is_w = absurd is_w
 comes_once bytes (Err (FacLength n)) (Err Words) is_v is_w = absurd is_w
 comes_once bytes (Err (FacLength n)) (Err Read) is_v is_w = absurd is_w
 comes_once bytes (Err (FacLength n)) (Err Write) is_v is_w = absurd is_w
 comes_once bytes (Err (FacLength n)) (Err (Schedule l r)) is_v is_w = absurd is_w
 comes_once bytes (Err FacOver) (Err NoMemory) is_v is_w = absurd is_w
+comes_once bytes (Err FacOver) (Err Link) is_v is_w = absurd is_w
 comes_once bytes (Err FacOver) (Err Words) is_v is_w = absurd is_w
 comes_once bytes (Err FacOver) (Err Read) is_v is_w = absurd is_w
 comes_once bytes (Err FacOver) (Err Write) is_v is_w = absurd is_w
 comes_once bytes (Err FacOver) (Err (Schedule l r)) is_v is_w = absurd is_w
 comes_once bytes (Err (FacCrc s c)) (Err NoMemory) is_v is_w = absurd is_w
+comes_once bytes (Err (FacCrc s c)) (Err Link) is_v is_w = absurd is_w
 comes_once bytes (Err (FacCrc s c)) (Err Words) is_v is_w = absurd is_w
 comes_once bytes (Err (FacCrc s c)) (Err Read) is_v is_w = absurd is_w
 comes_once bytes (Err (FacCrc s c)) (Err Write) is_v is_w = absurd is_w
 comes_once bytes (Err (FacCrc s c)) (Err (Schedule l r)) is_v is_w = absurd is_w
 comes_once bytes (Err NoMemory) w is_v is_w = absurd is_v
+comes_once bytes (Err Link) w is_v is_w = absurd is_v
 comes_once bytes (Err Words) w is_v is_w = absurd is_v
 comes_once bytes (Err Read) w is_v is_w = absurd is_v
 comes_once bytes (Err Write) w is_v is_w = absurd is_v
@@ -83,6 +88,7 @@ comes_front left (Err (FacLength n)) is = along (Err (FacLength n)) left (take 1
 comes_front left (Err FacOver) is = over_front left is
 comes_front left (Err (FacCrc s c)) is = along (Err (FacCrc s c)) left (take 10 left) (sym (whole left (omega (arith, is.nine)))) is
 comes_front left (Err NoMemory) is = is
+comes_front left (Err Link) is = is
 comes_front left (Err Words) is = is
 comes_front left (Err Read) is = is
 comes_front left (Err Write) is = is
@@ -94,6 +100,7 @@ comes_whole left (Err (FacLength n)) is = along (Err (FacLength n)) (take 10 lef
 comes_whole left (Err FacOver) is = over_whole left is
 comes_whole left (Err (FacCrc s c)) is = along (Err (FacCrc s c)) (take 10 left) left (whole_of_front left (omega (arith, is.nine))) is
 comes_whole left (Err NoMemory) is = is
+comes_whole left (Err Link) is = is
 comes_whole left (Err Words) is = is
 comes_whole left (Err Read) is = is
 comes_whole left (Err Write) is = is
@@ -110,6 +117,7 @@ pub comes : (came : Result Fac Fault) (a b : Option Input) → (came ≡ Err Rea
 comes (Err Read) a b no_fault reads = absurd (no_fault refl)
 comes (Ok f) a b no_fault (head, reads, is) = judged (Ok f) a b head reads is
 comes (Err NoMemory) a b no_fault (head, reads, is) = judged (Err NoMemory) a b head reads is
+comes (Err Link) a b no_fault (head, reads, is) = judged (Err Link) a b head reads is
 comes (Err Words) a b no_fault (head, reads, is) = judged (Err Words) a b head reads is
 comes (Err (FacLength n)) a b no_fault (head, reads, is) = judged (Err (FacLength n)) a b head reads is
 comes (Err FacOver) a b no_fault (head, reads, is) = judged (Err FacOver) a b head reads is
@@ -120,6 +128,7 @@ comes (Err (Schedule l r)) a b no_fault (head, reads, is) = judged (Err (Schedul
 is_read : (came : Result Fac Fault) → (came ≡ Err Read) ⊎ (came ≡ Err Read → ⊥)
 is_read (Ok f) = inr (λ e. cc)
 is_read (Err NoMemory) = inr (λ e. cc)
+is_read (Err Link) = inr (λ e. cc)
 is_read (Err Words) = inr (λ e. cc)
 is_read (Err (FacLength n)) = inr (λ e. cc)
 is_read (Err FacOver) = inr (λ e. cc)
@@ -210,6 +219,7 @@ run_ends ending input_faults input_tells input input' out_faults out_tells out o
     ended : {O : Type 0} (came : Result Fac Fault) (fault : Fault) (tells : O → Option Output) (out out' : O) → Writes came (Err fault) tells out out' → Reads came (input_tells input) (input_tells input') → (fault ≡ Write → ⊥) → (Reads (Err fault) (input_tells input) (input_tells input') → ⊥) → ⊥
     ended (Ok fac) Words tells out out' writes reads no_write none = writes
     ended (Ok fac) NoMemory tells out out' writes reads no_write none = writes
+    ended (Ok fac) Link tells out out' writes reads no_write none = writes
     ended (Ok fac) (FacLength n) tells out out' writes reads no_write none = writes
     ended (Ok fac) FacOver tells out out' writes reads no_write none = writes
     ended (Ok fac) (FacCrc s c) tells out out' writes reads no_write none = writes
@@ -232,6 +242,7 @@ three_exactly : {O : Type 0} (came : Result Fac Fault) (ending : Result (Unit {0
 three_exactly (Ok fac) (Ok done) tells out out' left writes comes = (λ e. absurd (omega (arith, e)), λ none. absurd (none fac comes))
 three_exactly (Ok fac) (Err Write) tells out out' left writes comes = (λ e. absurd (omega (arith, e)), λ none. absurd (none fac comes))
 three_exactly (Ok fac) (Err NoMemory) tells out out' left writes comes = absurd writes
+three_exactly (Ok fac) (Err Link) tells out out' left writes comes = absurd writes
 three_exactly (Ok fac) (Err Words) tells out out' left writes comes = absurd writes
 three_exactly (Ok fac) (Err (FacLength n)) tells out out' left writes comes = absurd writes
 three_exactly (Ok fac) (Err FacOver) tells out out' left writes comes = absurd writes
@@ -242,6 +253,7 @@ three_exactly (Err (FacLength n)) ending tells out out' left writes comes = (λ 
 three_exactly (Err FacOver) ending tells out out' left writes comes = (λ e fac is. let wrong : Err FacOver ≡ Ok fac = comes_once left (Err FacOver) (Ok fac) comes is in cc, λ none. ap status_of writes.0)
 three_exactly (Err (FacCrc s c)) ending tells out out' left writes comes = (λ e fac is. let wrong : Err (FacCrc s c) ≡ Ok fac = comes_once left (Err (FacCrc s c)) (Ok fac) comes is in cc, λ none. ap status_of writes.0)
 three_exactly (Err NoMemory) ending tells out out' left writes comes = absurd comes
+three_exactly (Err Link) ending tells out out' left writes comes = absurd comes
 three_exactly (Err Words) ending tells out out' left writes comes = absurd comes
 three_exactly (Err Read) ending tells out out' left writes comes = absurd comes
 three_exactly (Err Write) ending tells out out' left writes comes = absurd comes
@@ -260,6 +272,7 @@ printed : {O : Type 0} (fac : Fac) (ending : Result (Unit {0}) Fault) (tells : O
 printed fac (Ok done) tells out out' writes none = (refl, writes)
 printed fac (Err Write) tells out out' writes none = absurd (none refl)
 printed fac (Err NoMemory) tells out out' writes none = absurd writes
+printed fac (Err Link) tells out out' writes none = absurd writes
 printed fac (Err Words) tells out out' writes none = absurd writes
 printed fac (Err (FacLength n)) tells out out' writes none = absurd writes
 printed fac (Err FacOver) tells out out' writes none = absurd writes

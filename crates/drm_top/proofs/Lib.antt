@@ -7,3 +7,4 @@ pub mod WordsLemmas
 pub mod ScheduleRunLemmas
 pub mod ScheduleLemmas
 pub mod AgainLaw
+pub mod SendLemmas

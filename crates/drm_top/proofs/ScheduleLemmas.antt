@@ -20,7 +20,6 @@ use Rattle.drm_top.specs.declared.loading.ScheduleFault.TheVariants.{NoMemory, L
 use Rattle.drm_top.specs.Loading.{Reading, given, ◌>>=◌, load_for, ReadBy, GivesUnlessMemory}
 use Rattle.drm_top.specs.PlanFaults.{schedule_fault_of}
 use Rattle.drm_top.specs.Schedule.{longest_text, longest_file, by_lines, draft_of, by_validity, with_files, schedule_named, checked}
-use Rattle.drm_top.specs.Serve.{by_carry, served}
 use Rattle.drm_top.proofs.LoadingLemmas.{ReadBy-then, ReadBy-stops, ReadBy-rest, rest_after, ReadBy-gives, ReadBy-given}
 
 -- ---- a text by its lines alone
@@ -128,15 +127,6 @@ checked_unwritten name schedule a b comes = Supplies-weaker _ _ a b comes (λ x 
 pub checked_comes : (name : List ℕ) (schedule : Plan) (a b : Option Files) → ReadBy (schedule_named name) (Ok schedule) a b → ReadBy (checked name) (Ok (canonical schedule)) a b
 checked_comes name schedule a b comes =
     ReadBy-then (schedule_named name) (λ s. given (Ok (canonical s))) schedule (Ok (canonical schedule)) a b b comes (ReadBy-given (Ok (canonical schedule)) b)
-
--- ---- what is served of it
-
-pub unserved : (name : List ℕ) (fault : ScheduleFault) (a b : Option Files) → ReadBy (schedule_named name) (Err fault) a b → ReadBy (served name) (Err fault) a b
-unserved name fault a b comes = ReadBy-stops (schedule_named name) (λ schedule. given (by_carry schedule schedule.carry)) fault a b comes
-
-pub served_comes : (name : List ℕ) (schedule : Plan) (came : Result Plan ScheduleFault) (a b : Option Files) → ReadBy (schedule_named name) (Ok schedule) a b → came ≡ by_carry schedule schedule.carry → ReadBy (served name) came a b
-served_comes name schedule came a b comes is =
-    ReadBy-then (schedule_named name) (λ s. given (by_carry s s.carry)) schedule came a b b comes (ReadBy-gives came (by_carry schedule schedule.carry) b (inr is))
 
 -- where memory runs out behind a reading
 pub ran_out : {T : Type 0} (reading : Reading T) (x : T) (a b : Option Files) → ReadBy reading (Ok x) a b → ReadBy reading (Err NoMemory) a b

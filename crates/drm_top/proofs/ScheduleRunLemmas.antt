@@ -5,7 +5,7 @@ use Rattle.drm_links.specs.Shelf.{Files, Supplies}
 use Rattle.drm_links.specs.Sink.{Output, Outputs}
 use Rattle.drm_links.proofs.ToldLemmas.{Supplies-weaker}
 use Rattle.drm_top.specs.declared.fault.Fault.{Fault}
-use Rattle.drm_top.specs.declared.fault.Fault.TheVariants.{NoMemory, Words, FacLength, FacOver, FacCrc, Schedule, Read, Write}
+use Rattle.drm_top.specs.declared.fault.Fault.TheVariants.{NoMemory, Words, FacLength, FacOver, FacCrc, Schedule, Read, Write, Link}
 use Rattle.drm_top.specs.declared.loading.ScheduleFault.{ScheduleFault}
 use Rattle.drm_top.specs.declared.loading.ScheduleFault.TheVariants as schedule
 use Rattle.drm_top.specs.Fault.{status_of}
@@ -18,6 +18,7 @@ module _ {T O : Type 0} (whole front : T → List ℕ → Type 0) where
   three_exactly (Ok x) (Ok done) tells out out' writes = (λ e. absurd (omega (arith, e)), λ refused. absurd refused)
   three_exactly (Ok x) (Err Write) tells out out' writes = (λ e. absurd (omega (arith, e)), λ refused. absurd refused)
   three_exactly (Ok x) (Err NoMemory) tells out out' writes = absurd writes
+  three_exactly (Ok x) (Err Link) tells out out' writes = absurd writes
   three_exactly (Ok x) (Err Words) tells out out' writes = absurd writes
   three_exactly (Ok x) (Err (FacLength n)) tells out out' writes = absurd writes
   three_exactly (Ok x) (Err FacOver) tells out out' writes = absurd writes
@@ -32,6 +33,7 @@ module _ {T O : Type 0} (whole front : T → List ℕ → Type 0) where
   four_exactly (Ok x) (Ok done) tells out out' writes = (λ e. absurd (omega (arith, e)), λ read. cc)
   four_exactly (Ok x) (Err Write) tells out out' writes = (λ e. absurd (omega (arith, e)), λ read. cc)
   four_exactly (Ok x) (Err NoMemory) tells out out' writes = absurd writes
+  four_exactly (Ok x) (Err Link) tells out out' writes = absurd writes
   four_exactly (Ok x) (Err Words) tells out out' writes = absurd writes
   four_exactly (Ok x) (Err (FacLength n)) tells out out' writes = absurd writes
   four_exactly (Ok x) (Err FacOver) tells out out' writes = absurd writes
@@ -46,6 +48,7 @@ module _ {T O : Type 0} (whole front : T → List ℕ → Type 0) where
   all_written x (Ok done) tells out out' writes none = (refl, writes)
   all_written x (Err Write) tells out out' writes none = absurd (none refl)
   all_written x (Err NoMemory) tells out out' writes none = absurd writes
+  all_written x (Err Link) tells out out' writes none = absurd writes
   all_written x (Err Words) tells out out' writes none = absurd writes
   all_written x (Err (FacLength n)) tells out out' writes none = absurd writes
   all_written x (Err FacOver) tells out out' writes none = absurd writes

@@ -5,19 +5,30 @@ use Rattle.drm_words.specs.declared.fault.WordsFault.TheVariants as faults
 use Rattle.drm_words.specs.declared.request.Request.{Request}
 use Rattle.drm_words.specs.Line.{IsLine}
 use Rattle.drm_top.specs.declared.words.Command.{Command}
-use Rattle.drm_top.specs.declared.words.Command.TheVariants.{Fac, Check, Serve}
+use Rattle.drm_top.specs.declared.words.Command.TheVariants.{Fac, Check, Serve, Send}
 use Rattle.drm_top.specs.Words.{request_of, AsksFor, AsksForNothing, Asks}
 
 one_command : (a b : Command) → request_of a ≡ request_of b → a ≡ b
 one_command Fac Fac is = refl
 one_command Fac (Check n) is = cc
 one_command Fac (Serve n p) is = cc
+one_command Fac (Send n a p) is = cc
 one_command (Check m) Fac is = cc
 one_command (Check m) (Check n) is = let same : m ≡ n = cc in ap Check same
 one_command (Check m) (Serve n p) is = cc
+one_command (Check m) (Send n a p) is = cc
 one_command (Serve m q) Fac is = cc
 one_command (Serve m q) (Check n) is = cc
 one_command (Serve m q) (Serve n p) is = let same : m ≡ n = cc in let pace : q ≡ p = cc in ap (λ k. Serve k q) same ∙ ap (λ k. Serve n k) pace
+one_command (Serve m q) (Send n a p) is = cc
+one_command (Send m b q) Fac is = cc
+one_command (Send m b q) (Check n) is = cc
+one_command (Send m b q) (Serve n p) is = cc
+one_command (Send m b q) (Send n a p) is =
+    let same : m ≡ n = cc in
+    let address : b ≡ a = cc in
+    let pace : q ≡ p = cc in
+    ap (λ k. Send k b q) same ∙ (ap (λ k. Send n k q) address ∙ ap (λ k. Send n a k) pace)
 
 -- a request that is a command's comes to that command
 the_command : (came : Result Command WordsFault) (request : Request) (command : Command) → Asks came request → request ≡ request_of command → came ≡ Ok command

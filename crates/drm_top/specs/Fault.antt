@@ -4,7 +4,7 @@ use Rattle.drm_links.specs.Told.{Rose}
 use Rattle.drm_links.specs.Sink.{Output, Outputs, IsFront}
 use Rattle.drm_top.specs.Lines.{fault_line}
 use Rattle.drm_top.specs.declared.fault.Fault.{Fault}
-use Rattle.drm_top.specs.declared.fault.Fault.TheVariants.{NoMemory, Words, FacLength, FacOver, FacCrc, Schedule, Read, Write}
+use Rattle.drm_top.specs.declared.fault.Fault.TheVariants.{NoMemory, Words, FacLength, FacOver, FacCrc, Schedule, Read, Write, Link}
 
 abbrev pub fault_status : Fault → ℕ
 fault_status NoMemory = 1
@@ -15,6 +15,7 @@ fault_status (FacCrc stands computed) = 3
 fault_status (Schedule line reason) = 3
 fault_status Read = 4
 fault_status Write = 5
+fault_status Link = 6
 
 abbrev pub status_of : Result (Unit {0}) Fault → ℕ
 status_of (Ok done) = 0

@@ -12,6 +12,8 @@ pub mod Schedule
 pub mod ScheduleRun
 pub mod Check
 pub mod Serve
+pub mod Send
+pub mod OverLink
 pub mod Command
 pub mod Words
 pub mod Again

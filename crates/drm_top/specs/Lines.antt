@@ -8,7 +8,7 @@ use Rattle.drm_fac.specs.Services.{counts_of}
 use Rattle.drm_top.specs.CrcLine.{crc_line}
 use Rattle.drm_top.specs.Reasons.{reason_word, schedule_line}
 use Rattle.drm_top.specs.declared.fault.Fault.{Fault}
-use Rattle.drm_top.specs.declared.fault.Fault.TheVariants.{NoMemory, Words, FacLength, FacOver, FacCrc, Schedule, Read, Write}
+use Rattle.drm_top.specs.declared.fault.Fault.TheVariants.{NoMemory, Words, FacLength, FacOver, FacCrc, Schedule, Read, Write, Link}
 
 abbrev pub flag : Bool → List ℕ
 flag b = decimal (from_bool b)
@@ -48,3 +48,4 @@ fault_line (FacCrc stands computed) = crc_line (stands ∷ []) (computed ∷ [])
 fault_line (Schedule line reason) = schedule_line line (reason_word reason)
 fault_line Read = codes "drmcast: read fault\n"
 fault_line Write = codes "drmcast: write fault\n"
+fault_line Link = codes "drmcast: link fault\n"

@@ -1,18 +1,19 @@
 -- The command lines whose command is built.
-use Rattle.std.specs.Prelude.{ℕ, ◌≡◌, List, None, Result, Ok, Err, IsUtf8}
+use Rattle.std.specs.Prelude.{ℕ, ◌≡◌, List, None, Some, Result, Ok, Err, IsUtf8}
 use Rattle.drm_words.specs.Line.{IsLine}
 use Rattle.drm_words.specs.declared.request.Request.{Request}
 use Rattle.drm_words.specs.declared.request.Request.TheVariants as requests
 use Rattle.drm_words.specs.declared.fault.WordsFault.{WordsFault}
 use Rattle.drm_words.specs.declared.fault.WordsFault.TheVariants as faults
 use Rattle.drm_top.specs.declared.words.Command.{Command}
-use Rattle.drm_top.specs.declared.words.Command.TheVariants.{Fac, Check, Serve}
+use Rattle.drm_top.specs.declared.words.Command.TheVariants.{Fac, Check, Serve, Send}
 
 -- what a command is asked for with
 abbrev pub request_of : Command → Request
 request_of Fac = requests.Fac
 request_of (Check name) = requests.Check name
 request_of (Serve name pace) = requests.Serve name None pace
+request_of (Send name to pace) = requests.Serve name (Some to) pace
 
 -- the words are a command line of this command
 abbrev pub AsksFor : Command → List (List ℕ) → Type 0
@@ -32,3 +33,4 @@ abbrev pub HasTextName : Command → Type 0
 HasTextName Fac = Unit {0}
 HasTextName (Check name) = IsUtf8 name
 HasTextName (Serve name pace) = IsUtf8 name
+HasTextName (Send name to pace) = IsUtf8 name

@@ -1,7 +1,12 @@
 //! The top call.
 
-ghost use Rattle.std.specs.Prelude.{◌≡◌, ◌≢◌, ◌≤◌, ◌↔◌, ◌⊎◌, ℕ, List, Result, IsErrOf, map, string_bytes};
-ghost use Rattle.drm_links.specs.Told.{HasCause, Rose};
+ghost use Rattle.std.specs.Prelude.{◌≡◌, ◌≢◌, ◌≤◌, ◌↔◌, ◌⊎◌, ℕ, List, length, Some, Result, IsErrOf, map, string_bytes};
+ghost use Rattle.drm_links.specs.Told.{HasCause, Rose, WhileTold};
+ghost use Rattle.drm_links.specs.Dock.{LinkStart, address_key};
+ghost use Rattle.drm_links.specs.Transmission.{TakesSends};
+ghost use Rattle.drm_server.specs.Datagrams.{AreDatagrams};
+ghost use Rattle.std.specs.FinMap as finmap;
+ghost use Rattle.drm_links.specs.declared.dock.Address.{Address};
 ghost use Rattle.drm_links.specs.Shelf.{Supplies};
 ghost use Rattle.drm_links.specs.Source.{Inputs};
 ghost use Rattle.drm_links.specs.Sink.{Outputs};
@@ -13,9 +18,10 @@ ghost use Rattle.drm_schedule.specs.declared.plan.Plan.{Plan};
 ghost use Rattle.drm_server.specs.Capture.{IsCapture};
 ghost use Rattle.drm_top.specs.ScheduleRun.{IsRefused};
 ghost use Rattle.drm_top.specs.Check.{CheckRun};
-ghost use Rattle.drm_top.specs.Serve.{ServeRun, served};
-ghost use Rattle.drm_top.specs.Schedule.{checked};
-ghost use Rattle.drm_top.specs.Command.{CommandRun};
+ghost use Rattle.drm_top.specs.Serve.{ServeRun};
+ghost use Rattle.drm_top.specs.Send.{SendRun, OpeningFails, OpensLink, LacksSends, SendsNothing};
+ghost use Rattle.drm_top.specs.Schedule.{checked, schedule_named};
+ghost use Rattle.drm_top.specs.Command.{CommandRun, OpensALink};
 ghost use Rattle.drm_top.specs.Words.{AsksFor, AsksForNothing, HasTextName};
 ghost use Rattle.drm_top.specs.declared.words.Command.{Command};
 
@@ -23,6 +29,7 @@ use crate::check::check;
 use crate::fac::fac;
 use crate::fault::Fault;
 use crate::loading::ScheduleFault;
+use crate::send::send;
 use crate::serve::serve;
 use crate::words::{Command, read_command, text};
 use drm_fac::Fac;
@@ -34,10 +41,10 @@ use std::thread::Threads;
 /// Runs one command line: the words that stand behind the program's name.
 ///
 /// `fac` reads the nine bytes of a FAC from `input` and writes its line to `out`. `check` reads a schedule and its files
-/// from `shelf` and writes its canonical text to `out`; `serve` reads them too and writes the packets of the schedule to
-/// `out` as a capture. The statuses are 0 done, 1 no memory, 2 no command line, 3 no FAC
-/// or no schedule, 4 a read of `input` or a load from `shelf` failed, 5 a write to `out` failed; each but 0 writes a line
-/// to `err`.
+/// from `shelf` and writes its canonical text to `out`; `serve` reads them too and writes the datagrams of the schedule to
+/// `out` as a capture, or sends them over a link that it opens in `dock`. The statuses are 0 done, 1 no memory, 2 no
+/// command line, 3 no FAC or no schedule, 4 a read of `input` or a load from `shelf` failed, 5 a write to `out` failed, 6 a
+/// link couldn't be opened or failed; each but 0 writes a line to `err`.
 pub fn run<R: Threads + Sync, S: Shelf, I: Source, O: Sink, E: Sink, D: Dock>(
     rt: &R,
     alloc: Global,
@@ -110,35 +117,81 @@ where
         × ServeRun name ending S.faults S.tells shelf.old shelf.new O.faults O.tells out.old out.new
         × (input.new ≡ input.old) × Reports ending E.faults E.tells err.old err.new }
 
-    // Its status 3 comes exactly where a line of the schedule is wrong, or its packets are to be carried
-    // in fragments; 4 exactly where a load fails. Where the files are a schedule that is served and no
-    // write failed, a capture of it is written.
+    // Its status 3 comes exactly where a line of the schedule is wrong, 4 exactly where a load fails.
+    // Where the files are a schedule and no write failed, a capture of it is written.
     ensures serve_refused { (name : List ℕ) → (pace : ℕ)
         → AsksFor (Command.Serve name pace) (map string_bytes words.now) → result.code ≢ 1
         → Supplies (S.tells shelf.old) (S.tells shelf.new)
-        (λ before _. (result.code ≡ 3) ↔ IsRefused (served name before).came) }
+        (λ before _. (result.code ≡ 3) ↔ IsRefused (schedule_named name before).came) }
     ensures serve_unread { (name : List ℕ) → (pace : ℕ)
         → AsksFor (Command.Serve name pace) (map string_bytes words.now) → result.code ≢ 1
         → Supplies (S.tells shelf.old) (S.tells shelf.new)
-        (λ before _. (result.code ≡ 4) ↔ ((served name before).came ≡ Err ScheduleFault.Read)) }
+        (λ before _. (result.code ≡ 4) ↔ ((schedule_named name before).came ≡ Err ScheduleFault.Read)) }
     ensures serve_complete { (name : List ℕ) → (pace : ℕ)
         → AsksFor (Command.Serve name pace) (map string_bytes words.now) → result.code ≢ 1
         → (Rose (O.faults out.old) (O.faults out.new) → ⊥)
         → Supplies (S.tells shelf.old) (S.tells shelf.new)
-        (λ before _. (schedule : Plan) → (served name before).came ≡ Ok schedule → (result.code ≡ 0)
+        (λ before _. (schedule : Plan) → (schedule_named name before).came ≡ Ok schedule → (result.code ≡ 0)
         × Outputs (O.tells out.old) (O.tells out.new) (IsCapture schedule)) }
 
-    // The statuses 4 and 5 come only where the count of faults of input or shelf, or of out rose, and
-    // there are no others.
+    // The command `serve` to an address, which leaves input and out alone.
+    ensures send { (name : List ℕ) → (to : Address) → (pace : ℕ)
+        → AsksFor (Command.Send name to pace) (map string_bytes words.now) → result.code ≢ 1
+        → (ending : Result (Unit {0}) Fault) × (result.code ≡ status_of ending)
+        × SendRun name to ending S.faults S.tells shelf.old shelf.new
+        D.faults D.tells dock.old dock.new D.L.faults
+        × (input.new ≡ input.old) × (out.new ≡ out.old) × Reports ending E.faults E.tells err.old err.new }
+
+    // Its status 6 comes where the opening fails, and where the link takes fewer sends than the
+    // schedule has datagrams; nowhere else.
+    ensures send_unopened { (name : List ℕ) → (to : Address) → (pace : ℕ)
+        → AsksFor (Command.Send name to pace) (map string_bytes words.now) → result.code ≢ 1
+        → WhileTold (D.tells dock.old) (D.tells dock.new)
+        (λ before _. OpeningFails to before → result.code ≡ 6) }
+    ensures send_cut { (name : List ℕ) → (to : Address) → (pace : ℕ)
+        → AsksFor (Command.Send name to pace) (map string_bytes words.now) → result.code ≢ 1
+        → WhileTold (D.tells dock.old) (D.tells dock.new) (λ before _. (start : LinkStart)
+        → OpensLink to before start → Supplies (S.tells shelf.old) (S.tells shelf.new) (λ files _.
+        (result.code ≡ 6) ↔ LacksSends (schedule_named name files).came start.sends)) }
+
+    // Where the link takes them all, they have gone at its address.
+    ensures send_complete { (name : List ℕ) → (to : Address) → (pace : ℕ)
+        → AsksFor (Command.Send name to pace) (map string_bytes words.now) → result.code ≢ 1
+        → WhileTold (D.tells dock.old) (D.tells dock.new) (λ before after. (start : LinkStart)
+        → OpensLink to before start → Supplies (S.tells shelf.old) (S.tells shelf.new) (λ files _.
+        (schedule : Plan) → (datagrams : List (List ℕ))
+        → (schedule_named name files).came ≡ Ok schedule → AreDatagrams schedule datagrams
+        → TakesSends start.sends (length datagrams)
+        → (result.code ≡ 0) × (finmap.get after.gone (address_key to) ≡ Some datagrams))) }
+
+    // Its status 3 comes exactly where a line of the schedule is wrong, 4 exactly where a load fails,
+    // unless the link failed.
+    ensures send_refused { (name : List ℕ) → (to : Address) → (pace : ℕ)
+        → AsksFor (Command.Send name to pace) (map string_bytes words.now) → result.code ≢ 1
+        → result.code ≢ 6 → Supplies (S.tells shelf.old) (S.tells shelf.new)
+        (λ before _. (result.code ≡ 3) ↔ IsRefused (schedule_named name before).came) }
+    ensures send_unread { (name : List ℕ) → (to : Address) → (pace : ℕ)
+        → AsksFor (Command.Send name to pace) (map string_bytes words.now) → result.code ≢ 1
+        → result.code ≢ 6 → Supplies (S.tells shelf.old) (S.tells shelf.new)
+        (λ before _. (result.code ≡ 4)
+        ↔ ((schedule_named name before).came ≡ Err ScheduleFault.Read)) }
+
+    // The statuses 4 and 5 come only where the count of faults of input or shelf, or of out rose; 6 only
+    // where a link was to be opened. There are no others.
     ensures read { result.code ≡ 4 → Rose (I.faults input.old) (I.faults input.new)
         ⊎ Rose (S.faults shelf.old) (S.faults shelf.new) }
     ensures write { result.code ≡ 5 → Rose (O.faults out.old) (O.faults out.new) }
-    ensures known { result.code ≤ 5 }
+    ensures link { result.code ≡ 6 → (command : Command) × OpensALink command
+        × AsksFor command (map string_bytes words.now) }
+    ensures known { result.code ≤ 6 }
 
-    // Links are left alone.
-    ensures dock { dock.new ≡ dock.old }
+    // After want of memory nothing was sent. Where no link is to be opened, the dock is left alone.
+    ensures unsent { result.code ≡ 1
+        → WhileTold (D.tells dock.old) (D.tells dock.new) SendsNothing }
+    ensures dock { ((command : Command) → OpensALink command
+        → AsksFor command (map string_bytes words.now) → ⊥) → dock.new ≡ dock.old }
 {
-    match execute(alloc, words, shelf, input, out) {
+    match execute(alloc, words, shelf, input, out, dock) {
         Ok(()) => Status { code: 0 },
         Err(fault) => fault.report(err),
     }
@@ -153,12 +206,13 @@ pub fn no_memory<E: Sink>(err: &mut E) -> Status
     Fault::NoMemory.report(err)
 }
 
-fn execute<S: Shelf, I: Source, O: Sink>(
+fn execute<S: Shelf, I: Source, O: Sink, D: Dock>(
     alloc: Global,
     words: &[String],
     shelf: &mut S,
     input: &mut I,
     out: &mut O,
+    dock: &mut D,
 ) -> Result<(), Fault>
     ensures words { IsErrOf result Fault.Words → AsksForNothing (map string_bytes words.now) }
     ensures others { AsksForNothing (map string_bytes words.now)
@@ -169,37 +223,51 @@ fn execute<S: Shelf, I: Source, O: Sink>(
     ensures runs { (command : Command) → AsksFor command (map string_bytes words.now)
         → ¬ (IsErrOf result Fault.NoMemory)
         → CommandRun command result S.faults S.tells shelf.old shelf.new
-        I.faults I.tells input.old input.new O.faults O.tells out.old out.new }
+        I.faults I.tells input.old input.new O.faults O.tells out.old out.new
+        D.faults D.tells dock.old dock.new D.L.faults }
     ensures read { IsErrOf result Fault.Read → Rose (I.faults input.old) (I.faults input.new)
         ⊎ Rose (S.faults shelf.old) (S.faults shelf.new) }
     ensures write { HasCause (O.faults out.old) (O.faults out.new) (IsErrOf result Fault.Write) }
+    ensures link { IsErrOf result Fault.Link → (command : Command) × OpensALink command
+        × AsksFor command (map string_bytes words.now) }
+    ensures unsent { IsErrOf result Fault.NoMemory
+        → WhileTold (D.tells dock.old) (D.tells dock.new) SendsNothing }
+    ensures dock { ((command : Command) → OpensALink command
+        → AsksFor command (map string_bytes words.now) → ⊥) → dock.new ≡ dock.old }
 {
     match read_command(alloc, words) {
-        Ok(command) => run_command(alloc, &command, shelf, input, out),
+        Ok(command) => run_command(alloc, &command, shelf, input, out, dock),
         Err(WordsFault::Words) => Err(Fault::Words),
         Err(WordsFault::NoMemory) => Err(Fault::NoMemory),
     }
 }
 
-fn run_command<S: Shelf, I: Source, O: Sink>(
+fn run_command<S: Shelf, I: Source, O: Sink, D: Dock>(
     alloc: Global,
     command: &Command,
     shelf: &mut S,
     input: &mut I,
     out: &mut O,
+    dock: &mut D,
 ) -> Result<(), Fault>
     requires { HasTextName command.now }
     ensures words { IsErrOf result Fault.Words → ⊥ }
     ensures memory { IsErrOf result Fault.NoMemory → (input.new ≡ input.old) × (out.new ≡ out.old) }
     ensures run { CommandRun command.now result S.faults S.tells shelf.old shelf.new
-        I.faults I.tells input.old input.new O.faults O.tells out.old out.new }
+        I.faults I.tells input.old input.new O.faults O.tells out.old out.new
+        D.faults D.tells dock.old dock.new D.L.faults }
     ensures read { IsErrOf result Fault.Read → Rose (I.faults input.old) (I.faults input.new)
         ⊎ Rose (S.faults shelf.old) (S.faults shelf.new) }
     ensures write { HasCause (O.faults out.old) (O.faults out.new) (IsErrOf result Fault.Write) }
+    ensures link { IsErrOf result Fault.Link → OpensALink command.now }
+    ensures unsent { IsErrOf result Fault.NoMemory
+        → WhileTold (D.tells dock.old) (D.tells dock.new) SendsNothing }
+    ensures dock { (OpensALink command.now → ⊥) → dock.new ≡ dock.old }
 {
     match command {
         Command::Fac => fac(input, out),
         Command::Check { name } => check(alloc, text(name), shelf, out),
         Command::Serve { name, .. } => serve(alloc, text(name), shelf, out),
+        Command::Send { name, to, pace } => send(alloc, text(name), *to, *pace, shelf, dock),
     }
 }

@@ -13,7 +13,7 @@ use crate::reason::schedule_pieces;
 use crate::text::Piece;
 use drm_bits::NoMemory;
 use drm_fac::FacFault;
-use drm_links::{Sink, Status, WriteFault};
+use drm_links::{LinkFault, Sink, Status, WriteFault};
 use drm_schedule::Reason;
 use drm_server::write_all;
 
@@ -28,6 +28,7 @@ pub enum Fault {
     Schedule { line: u32, reason: Reason },
     Read,
     Write,
+    Link,
 }
 
 impl From<ReadFault> for Fault {
@@ -49,6 +50,17 @@ impl From<WriteFault> for Fault {
 
     fn from(_: WriteFault) -> Self {
         Fault::Write
+    }
+}
+
+impl From<LinkFault> for Fault {
+    ghost use Rattle.std.specs.Prelude.{◌≡◌};
+    ghost use Rattle.drm_top.specs.declared.fault.Fault.TheVariants.{Link};
+
+    ghost from_gives = { λ _ fault. fault ≡ Link };
+
+    fn from(_: LinkFault) -> Self {
+        Fault::Link
     }
 }
 
@@ -113,6 +125,7 @@ impl Fault {
             Fault::Schedule { .. } => 3,
             Fault::Read => 4,
             Fault::Write => 5,
+            Fault::Link => 6,
         };
         Status { code }
     }
@@ -143,6 +156,7 @@ impl Fault {
             Fault::Schedule { line, reason } => write_pieces(err, &schedule_pieces(line, reason)),
             Fault::Read => write_words(err, "drmcast: read fault\n"),
             Fault::Write => write_words(err, "drmcast: write fault\n"),
+            Fault::Link => write_words(err, "drmcast: link fault\n"),
         }
     }
 }

@@ -14,6 +14,7 @@ mod reason;
 mod schedule;
 #[cfg(test)]
 mod schedule_tests;
+mod send;
 mod serve;
 #[cfg(test)]
 mod tests;

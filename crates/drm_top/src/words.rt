@@ -6,6 +6,7 @@ ghost use Rattle.drm_words.specs.Table.{HasTextNames};
 ghost use Rattle.drm_top.specs.declared.words.Command.{Command};
 
 use drm_bits::Octets;
+use drm_links::Address;
 use drm_words::{Request, WordsFault, read_words};
 use std::alloc::Global;
 
@@ -14,8 +15,14 @@ use std::alloc::Global;
 pub enum Command {
     Fac,
     Check { name: Octets },
-    /// Without an address; the pace, in milliseconds, has no effect then.
+    /// `serve` without an address; the pace, in milliseconds, has no effect then.
     Serve { name: Octets, pace: u32 },
+    /// `serve` to an address; the pace is the rest between frames in milliseconds.
+    Send {
+        name: Octets,
+        to: Address,
+        pace: u32,
+    },
 }
 
 /// The command of a command line.
@@ -47,6 +54,11 @@ fn command_of(request: Request) -> Result<Command, WordsFault>
             to: None,
             pace,
         } => Ok(Command::Serve { name, pace }),
+        Request::Serve {
+            name,
+            to: Some(to),
+            pace,
+        } => Ok(Command::Send { name, to, pace }),
         _ => Err(WordsFault::Words),
     }
 }

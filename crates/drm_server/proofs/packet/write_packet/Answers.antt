@@ -9,4 +9,4 @@ returns-clause-packet c =
     let w = c.write_payload-len in
     packet_is c.args.plan.now c.args.t _ _ _ _ w.ensures.written
     (put_stands c.args.into.now (take w.result w.new.into) _ c.put.new.into w.result c.put.ensures (omega (arith, c.requires.room)) (length-take-le w.result w.new.into (omega (arith, w.ensures.small, w.array_long))))
-    (omega (arith, c.seq.ensures)) c.write_af.ensures.packet (bytes_take c.write_af.result c.write_af.new.into (λ i. (c.type_inv.into i).fits))
+    c.sequence_number.ensures c.write_af.ensures.packet (bytes_take c.write_af.result c.write_af.new.into (λ i. (c.type_inv.into i).fits))

@@ -20,3 +20,6 @@ returns-in-Read-clause-whole g c = rw c.in-Read.is c.write_words-in-Read.ensures
 
 pub returns-in-Write-clause-whole : goal.returns-in-Write-clause-whole
 returns-in-Write-clause-whole g c = rw c.in-Write.is c.write_words-in-Write.ensures.whole
+
+pub returns-in-Link-clause-whole : goal.returns-in-Link-clause-whole
+returns-in-Link-clause-whole g c = rw c.in-Link.is c.write_words-in-Link.ensures.whole

@@ -1,0 +1,8 @@
+-- How long an object tells that counts its calls.
+use Rattle.std.specs.Prelude.{ℕ, ◌+◌, ◌^◌, ◌<◌, ◌≤◌, Option, None, Some, IsNone, MatchOption}
+
+-- At most so many calls, each of them counted: what told before still tells, unless its calls went past the first 2 ^ 62.
+abbrev pub MakesCalls : {T : Type 0} → (T → ℕ) → ℕ → Option T → Option T → Type 0
+MakesCalls calls most None after = IsNone after
+MakesCalls calls most (Some before) after =
+    MatchOption after (2 ^ 62 < calls before + most) (λ told. calls told ≤ calls before + most)

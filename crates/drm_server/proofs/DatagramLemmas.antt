@@ -1,0 +1,27 @@
+-- The datagrams of one frame, and of one frame more.
+use Rattle.std.proofs.Common.{◌≡◌, ◌+◌, ℕ, zero, suc, List, [], ◌∷◌, ◌++◌, length, refl, ap, subst, ◌∙◌, arith, length-append}
+use Rattle.drm_schedule.specs.declared.plan.Plan.{Plan}
+use Rattle.drm_server.specs.Datagrams.{IsDatagramAt, AreFirst, AreOfFrame, AreOfFrames}
+
+pub next_datagram : (plan : Plan) (t i : ℕ) (before : List (List ℕ)) (datagram : List ℕ) → AreFirst plan t i before → IsDatagramAt plan t i datagram → AreFirst plan t (i + 1) (before ++ datagram ∷ [])
+next_datagram plan t i before datagram are is =
+    let one : suc i ≡ i + 1 = omega arith in
+    subst (λ k. AreFirst plan t k (before ++ datagram ∷ [])) one (more are is)
+  where
+    more : AreFirst plan t i before → IsDatagramAt plan t i datagram → AreFirst plan t (suc i) (before ++ datagram ∷ [])
+    more are is = (before, datagram, are, is, refl)
+
+pub next_frame : (plan : Plan) (t : ℕ) (before of_frame : List (List ℕ)) → AreOfFrames plan t before → AreOfFrame plan t of_frame → AreOfFrames plan (t + 1) (before ++ of_frame)
+next_frame plan t before of_frame are is =
+    let one : suc t ≡ t + 1 = omega arith in
+    subst (λ k. AreOfFrames plan k (before ++ of_frame)) one (more are is)
+  where
+    more : AreOfFrames plan t before → AreOfFrame plan t of_frame → AreOfFrames plan (suc t) (before ++ of_frame)
+    more are is = (before, of_frame, are, is, refl)
+
+-- the first i are i
+pub first_length : (plan : Plan) (t i : ℕ) (datagrams : List (List ℕ)) → AreFirst plan t i datagrams → length datagrams ≡ i
+first_length plan t zero datagrams are = ap length are
+first_length plan t (suc i) datagrams (before, datagram, are, is, same) =
+    let whole : length datagrams ≡ length before + 1 = ap length same ∙ length-append before (datagram ∷ []) in
+    omega (arith, whole, first_length plan t i before are)

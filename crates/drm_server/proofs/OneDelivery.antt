@@ -1,0 +1,104 @@
+-- A schedule has one list of datagrams, of which those before a certain one are the front.
+use Rattle.std.proofs.Common.{◌≡◌, ◌<◌, ◌≤◌, ◌+◌, ◌*◌, ◌%◌, ◌^◌, ◌⊎◌, inl, inr, ℕ, zero, suc, List, [], ◌∷◌, ◌++◌, length, refl, sym, ap, subst, ◌∙◌, ⊎_elim, arith, append_assoc}
+use Rattle.std.proofs.lemmas.Bool.{cases_lt}
+use Rattle.std.proofs.lemmas.List.{append-nil}
+use Rattle.std.specs.List.{concat}
+use Rattle.drm_schedule.specs.declared.carry.Carry.{Carry}
+use Rattle.drm_schedule.specs.declared.carry.Carry.TheVariants.{Plain, Pft}
+use Rattle.drm_schedule.specs.declared.plan.Plan.{Plan}
+use Rattle.dcp_pft.specs.Cutting.{shape_of}
+use Rattle.dcp_pft.specs.Laws.{HasOneFragment}
+use Rattle.drm_server.specs.Datagrams.{Carries, datagram_count, HasDatagrams, IsDatagramAt, AreFirst, AreOfFrame, AreOfFrames, AreDatagrams, AreBefore}
+use Rattle.drm_server.specs.Capture.{IsCapture}
+use Rattle.drm_server.proofs.OnePacket.{one_packet}
+
+-- a frame has one number of datagrams
+pub one_count : (plan : Plan) (t m n : ℕ) → HasDatagrams plan t m → HasDatagrams plan t n → m ≡ n
+one_count plan t m n x y =
+    let same : x.packet ≡ y.packet = one_packet plan t x.packet y.packet x.is_packet y.is_packet in
+    x.is ∙ (ap (λ (p : List ℕ). datagram_count plan.carry (length p)) same ∙ sym y.is)
+
+-- the number of a datagram is below it
+pub below_count : (plan : Plan) (t i count : ℕ) (datagram : List ℕ) → IsDatagramAt plan t i datagram → HasDatagrams plan t count → i < count
+below_count plan t i count datagram x y =
+    let mine : HasDatagrams plan t (datagram_count plan.carry (length x.packet)) = record { packet = x.packet; is_packet = x.is_packet; is = refl } in
+    let same : datagram_count plan.carry (length x.packet) ≡ count = one_count plan t (datagram_count plan.carry (length x.packet)) count mine y in
+    omega (arith, x.within, same)
+
+-- the i-th of some first datagrams, and those before it
+first_split : (plan : Plan) (t i k : ℕ) (datagrams : List (List ℕ)) → i < k → AreFirst plan t k datagrams
+    → (first : List (List ℕ)) × (next : List ℕ) × (behind : List (List ℕ)) × AreFirst plan t i first × IsDatagramAt plan t i next × (datagrams ≡ first ++ next ∷ behind)
+first_split plan t i zero datagrams l are = absurd (omega arith)
+first_split plan t i (suc k) datagrams l (before, datagram, are, is, same) =
+    ⊎_elim
+    (λ (less : i < k).
+    let found = first_split plan t i k before less are in
+    (found.0, found.1, found.2 ++ datagram ∷ [], found.3, found.4, same ∙ (ap (λ l. l ++ datagram ∷ []) found.5 ∙ append_assoc found.0 (found.1 ∷ found.2) (datagram ∷ []))))
+    (λ (not : k ≤ i).
+    let last : k ≡ i = omega arith in
+    (before, datagram, [], subst (λ n. AreFirst plan t n before) last are, subst (λ n. IsDatagramAt plan t n datagram) last is, same))
+    (cases_lt i k)
+
+-- the datagrams of frame t, and those before them
+frames_split : (plan : Plan) (t n : ℕ) (datagrams : List (List ℕ)) → t < n → AreOfFrames plan n datagrams
+    → (before : List (List ℕ)) × (of_frame : List (List ℕ)) × (behind : List (List ℕ)) × AreOfFrames plan t before × AreOfFrame plan t of_frame × (datagrams ≡ before ++ (of_frame ++ behind))
+frames_split plan t zero datagrams l are = absurd (omega arith)
+frames_split plan t (suc n) datagrams l (before, of_frame, are, is, same) =
+    ⊎_elim
+    (λ (less : t < n).
+    let found = frames_split plan t n before less are in
+    (found.0, found.1, found.2 ++ of_frame, found.3, found.4, same ∙ (ap (λ l. l ++ of_frame) found.5 ∙ (append_assoc found.0 (found.1 ++ found.2) of_frame ∙ ap (λ l. found.0 ++ l) (append_assoc found.1 found.2 of_frame)))))
+    (λ (not : n ≤ t).
+    let last : n ≡ t = omega arith in
+    (before, of_frame, [], subst (λ k. AreOfFrames plan k before) last are, subst (λ k. AreOfFrame plan k of_frame) last is, same ∙ ap (λ l. before ++ l) (sym (append-nil of_frame))))
+    (cases_lt t n)
+
+module _ (one_fragment : HasOneFragment) where
+  one_carried : (carry : Carry) (seq i : ℕ) (packet datagram other : List ℕ) → Carries carry seq packet i datagram → Carries carry seq packet i other → datagram ≡ other
+  one_carried Plain seq i packet datagram other x y = x ∙ sym y
+  one_carried (Pft m mtu) seq i packet datagram other x y = one_fragment (shape_of (length packet) m mtu) seq i packet datagram other x y
+
+  one_datagram : (plan : Plan) (t i : ℕ) (datagram other : List ℕ) → IsDatagramAt plan t i datagram → IsDatagramAt plan t i other → datagram ≡ other
+  one_datagram plan t i datagram other x y =
+      let seq : ℕ = (plan.seq + t) % 2 ^ 16 in
+      let same : x.packet ≡ y.packet = one_packet plan t x.packet y.packet x.is_packet y.is_packet in
+      one_carried plan.carry seq i y.packet datagram other (subst (λ (p : List ℕ). Carries plan.carry seq p i datagram) same x.is) y.is
+
+  one_first : (plan : Plan) (t i : ℕ) (datagrams others : List (List ℕ)) → AreFirst plan t i datagrams → AreFirst plan t i others → datagrams ≡ others
+  one_first plan t zero datagrams others x y = x ∙ sym y
+  one_first plan t (suc i) datagrams others (before, datagram, are, is, same) (before', datagram', are', is', same') =
+      same ∙ (ap (λ l. l ++ datagram ∷ []) (one_first plan t i before before' are are') ∙ (ap (λ d. before' ++ d ∷ []) (one_datagram plan t i datagram datagram' is is') ∙ sym same'))
+
+  one_of_frame : (plan : Plan) (t : ℕ) (datagrams others : List (List ℕ)) → AreOfFrame plan t datagrams → AreOfFrame plan t others → datagrams ≡ others
+  one_of_frame plan t datagrams others (count, has, are) (count', has', are') =
+      let same : count ≡ count' = one_count plan t count count' has has' in
+      one_first plan t count' datagrams others (subst (λ k. AreFirst plan t k datagrams) same are) are'
+
+  one_of_frames : (plan : Plan) (n : ℕ) (datagrams others : List (List ℕ)) → AreOfFrames plan n datagrams → AreOfFrames plan n others → datagrams ≡ others
+  one_of_frames plan zero datagrams others x y = x ∙ sym y
+  one_of_frames plan (suc n) datagrams others (before, of_frame, are, is, same) (before', of_frame', are', is', same') =
+      same ∙ (ap (λ l. l ++ of_frame) (one_of_frames plan n before before' are are') ∙ (ap (λ l. before' ++ l) (one_of_frame plan n of_frame of_frame' is is') ∙ sym same'))
+
+  pub one_delivery : (plan : Plan) (datagrams others : List (List ℕ)) → AreDatagrams plan datagrams → AreDatagrams plan others → datagrams ≡ others
+  one_delivery plan datagrams others x y = one_of_frames plan (3 * plan.length) datagrams others x y
+
+  pub one_capture : (plan : Plan) (bytes others : List ℕ) → IsCapture plan bytes → IsCapture plan others → bytes ≡ others
+  one_capture plan bytes others (datagrams, are, same) (datagrams', are', same') =
+      same ∙ (ap concat (one_delivery plan datagrams datagrams' are are') ∙ sym same')
+
+  pub first_ones_are_front : (plan : Plan) (datagrams first : List (List ℕ)) (next : List ℕ) → AreDatagrams plan datagrams → AreBefore plan next first
+      → (behind : List (List ℕ)) × (datagrams ≡ first ++ next ∷ behind)
+  first_ones_are_front plan datagrams first next are x =
+      let f = frames_split plan x.t (3 * plan.length) datagrams x.within are in
+      let g = first_split plan x.t x.i f.4.0 f.1 (below_count plan x.t x.i f.4.0 next x.is_next f.4.1) f.4.2 in
+      let same_frames : f.0 ≡ x.of_frames = one_of_frames plan x.t f.0 x.of_frames f.3 x.are_of_frames in
+      let same_first : g.0 ≡ x.of_frame = one_first plan x.t x.i g.0 x.of_frame g.3 x.are_first in
+      let same_next : g.1 ≡ next = one_datagram plan x.t x.i g.1 next g.4 x.is_next in
+      let behind : List (List ℕ) = g.2 ++ f.2 in
+      (behind, f.5 ∙ (ap (λ l. f.0 ++ (l ++ f.2)) g.5
+      ∙ (ap (λ l. f.0 ++ l) (append_assoc g.0 (g.1 ∷ g.2) f.2)
+      ∙ (ap (λ l. l ++ (g.0 ++ g.1 ∷ behind)) same_frames
+      ∙ (ap (λ l. x.of_frames ++ (l ++ g.1 ∷ behind)) same_first
+      ∙ (ap (λ d. x.of_frames ++ (x.of_frame ++ d ∷ behind)) same_next
+      ∙ (sym (append_assoc x.of_frames x.of_frame (next ∷ behind))
+      ∙ ap (λ l. l ++ next ∷ behind) (sym x.are))))))))

@@ -1,0 +1,72 @@
+//! A schedule over a link.
+
+ghost use Rattle.std.specs.Prelude.{[], ◌≡◌, ◌*◌, ◌≤◌, IfOk, OnOk, OnErr, IsErr};
+ghost use Rattle.drm_links.specs.Told.{HasCause};
+ghost use Rattle.drm_links.specs.ManyCalls.{MakesCalls};
+ghost use Rattle.drm_links.specs.Transmission.{Transmits, SendsAll};
+ghost use Rattle.drm_server.specs.Capture.{IsCount};
+ghost use Rattle.drm_server.specs.Sending.{SendsSchedule, SendsPart};
+ghost use Rattle.drm_server.specs.OneFrame.{SendsFrame, SendsPartOfFrame, IsCountOfFrame};
+
+use crate::Server;
+use drm_links::{Link, LinkFault, Sent};
+
+/// Sends the datagrams of all frames, in order from the first one on, and gives their number. Between the frames it rests
+/// for so many milliseconds.
+pub fn serve_link<L: Link>(
+    server: &mut Server<'_>,
+    link: &mut L,
+    pace: u32,
+) -> Result<u64, LinkFault>
+    ensures whole { OnOk result (Transmits (L.tells link.old) (L.tells link.new) (SendsSchedule server.old.plan)) }
+    ensures count { IfOk result (IsCount server.old.plan) }
+    ensures part { OnErr result (Transmits (L.tells link.old) (L.tells link.new) (SendsPart server.old.plan)) }
+    ensures cause { HasCause (L.faults link.old) (L.faults link.new) (IsErr result) }
+    ensures idle { L.idles link.new ≡ L.idles link.old }
+    // At most 1,025 calls a frame, so a link that tells will tell at the end.
+    ensures calls { MakesCalls (λ traffic. traffic.calls) (1025 * (3 * server.old.plan.length))
+        (L.tells link.old) (L.tells link.new) }
+    ensures schedule { server.new.plan ≡ server.old.plan }
+{
+    let mut sent = 0;
+    for t in 0..server.frames() {
+        rest_between(link, t, pace);
+        server.load(t);
+        sent += send_frame(server, link)?;
+    }
+    Ok(sent)
+}
+
+// Rests before each frame but the first one.
+fn rest_between<L: Link>(link: &mut L, t: u32, pace: u32)
+    ensures none { Transmits (L.tells link.old) (L.tells link.new) (SendsAll []) }
+    ensures calls { MakesCalls (λ traffic. traffic.calls) 1 (L.tells link.old) (L.tells link.new) }
+    ensures cause { L.faults link.new ≡ L.faults link.old }
+    ensures idle { L.idles link.new ≡ L.idles link.old }
+{
+    if t > 0 && pace > 0 {
+        link.rest(pace);
+    }
+}
+
+// Sends the datagrams of the frame that is loaded.
+fn send_frame<L: Link>(server: &mut Server<'_>, link: &mut L) -> Result<u64, LinkFault>
+    ensures whole { OnOk result (Transmits (L.tells link.old) (L.tells link.new)
+        (SendsFrame server.old.plan server.old.frame)) }
+    ensures count { IfOk result (IsCountOfFrame server.old.plan server.old.frame) }
+    ensures few { IfOk result (λ n. n ≤ 1024) }
+    ensures part { OnErr result (Transmits (L.tells link.old) (L.tells link.new)
+        (SendsPartOfFrame server.old.plan server.old.frame)) }
+    ensures cause { HasCause (L.faults link.old) (L.faults link.new) (IsErr result) }
+    ensures idle { L.idles link.new ≡ L.idles link.old }
+    ensures calls { MakesCalls (λ traffic. traffic.calls) 1024 (L.tells link.old) (L.tells link.new) }
+    ensures server { server.new ≡ server.old }
+{
+    let count = server.fragments();
+    for i in 0..count {
+        if link.send(server.datagram(i)) == Sent::Failed {
+            return Err(LinkFault);
+        }
+    }
+    Ok(u64::from(count))
+}
