@@ -6,4 +6,4 @@ mod fragment;
 mod shape;
 
 pub use fragment::Addr;
-pub use shape::{Rs, Shape};
+pub use shape::{Rs, Shape, chunks, shape_for};

@@ -1,0 +1,45 @@
+use Rattle.std.proofs.Common.{◌≡◌, ℕ, ◌≤◌, sym, subst, ◌∙◌, arith}
+use Rattle.dcp_pft.specs.declared.shape.Shape.{Shape}
+use Rattle.dcp_pft.specs.Cutting.{IsShapeOf, shape_of, coded_shape, plain_shape}
+use Rattle.dcp_pft.proofs.Sizes.{coded_is, plain_is, no_code, with_code}
+use Rattle.dcp_pft.proofs.shape.shape_for.Goals as goal
+
+pub returns-then-m-eq0-clause-shape : goal.returns-then-m-eq0-clause-shape
+returns-then-m-eq0-clause-shape c = c.plain.ensures ∙ no_code c.args.len c.args.m c.args.mtu c.if-m-eq0.true
+
+pub returns-then-m-eq0-clause-is : goal.returns-then-m-eq0-clause-is
+returns-then-m-eq0-clause-is c = record {
+  some = c.requires.some;
+  small = c.requires.small;
+  m = c.args.m;
+  few = c.requires.few;
+  mtu = c.args.mtu;
+  least = c.requires.least;
+  most = c.requires.most;
+  is = c.plain.ensures ∙ no_code c.args.len c.args.m c.args.mtu c.if-m-eq0.true;
+}
+
+pub returns-else-m-eq0-clause-shape : goal.returns-else-m-eq0-clause-shape
+returns-else-m-eq0-clause-shape c = c.coded.ensures ∙ with_code c.args.len c.args.m c.args.mtu (omega arith)
+
+pub returns-else-m-eq0-clause-is : goal.returns-else-m-eq0-clause-is
+returns-else-m-eq0-clause-is c = record {
+  some = c.requires.some;
+  small = c.requires.small;
+  m = c.args.m;
+  few = c.requires.few;
+  mtu = c.args.mtu;
+  least = c.requires.least;
+  most = c.requires.most;
+  is = c.coded.ensures ∙ with_code c.args.len c.args.m c.args.mtu (omega arith);
+}
+
+pub returns-else-m-eq0-clause-some : goal.returns-else-m-eq0-clause-some
+returns-else-m-eq0-clause-some c =
+    let is = coded_is c.args.len c.args.m c.args.mtu c.requires.some c.requires.small (omega arith) c.requires.few c.requires.least in
+    subst (λ (s : Shape). 1 ≤ s.count) (sym c.coded.ensures) is.some
+
+pub returns-else-m-eq0-clause-few : goal.returns-else-m-eq0-clause-few
+returns-else-m-eq0-clause-few c =
+    let is = coded_is c.args.len c.args.m c.args.mtu c.requires.some c.requires.small (omega arith) c.requires.few c.requires.least in
+    subst (λ (s : Shape). s.count ≤ 91) (sym c.coded.ensures) is.few
