@@ -193,6 +193,13 @@ plain_is len mtu some small least =
       piece = omega (arith, s_few);
     }
 
+-- what the fragments carry is no more than a receiver takes
+pub coded_bytes : (len m mtu : ℕ) → 1 ≤ len → len ≤ 8192 → Coded len m mtu → (coded_shape len m mtu).count * (coded_shape len m mtu).piece ≤ 12288
+coded_bytes len m mtu some small is = omega (arith, is.few, is.little, coded_small len some small)
+
+pub plain_bytes : (len mtu : ℕ) → len ≤ 8192 → Plain len mtu → (plain_shape len mtu).count * (plain_shape len mtu).piece ≤ 12288
+plain_bytes len mtu small is = omega (arith, is.few, is.little)
+
 -- each of the two ways is the shape where it is meant
 pub no_code : (len m mtu : ℕ) → m ≡ 0 → plain_shape len mtu ≡ shape_of len m mtu
 unfolding shape_of

@@ -1,3 +1,4 @@
 pub mod Cutting
 pub mod Coding
 pub mod Head
+pub mod Laws

@@ -3,7 +3,9 @@
 #![tactic(auto)]
 
 mod fragment;
+mod laws;
 mod shape;
 
 pub use fragment::Addr;
+pub use laws::{all_taken, chunks_agree};
 pub use shape::{Rs, Shape, chunks, shape_for};

@@ -43,8 +43,9 @@ pub fn shape_for(len: usize, m: u8, mtu: u16) -> Shape
     ensures shape { result ≡ shape_of len m mtu }
     ensures is { IsShapeOf len result }
     ensures some { 0 < result.count }
-    // The longest packet in the smallest datagrams has so many.
-    ensures few { result.count ≤ 91 }
+    // No limit of a receiver is passed.
+    ensures few { result.count ≤ 1024 }
+    ensures bytes { result.count * result.piece ≤ 12288 }
 {
     if m == 0 {
         plain(len as u32, mtu)

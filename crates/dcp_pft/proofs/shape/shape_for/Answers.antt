@@ -1,7 +1,7 @@
-use Rattle.std.proofs.Common.{◌≡◌, ℕ, ◌≤◌, sym, subst, ◌∙◌, arith}
+use Rattle.std.proofs.Common.{◌*◌, ◌≤◌, sym, subst, ◌∙◌, arith}
 use Rattle.dcp_pft.specs.declared.shape.Shape.{Shape}
-use Rattle.dcp_pft.specs.Cutting.{IsShapeOf, shape_of, coded_shape, plain_shape}
-use Rattle.dcp_pft.proofs.Sizes.{coded_is, plain_is, no_code, with_code}
+use Rattle.dcp_pft.specs.Cutting.{coded_shape}
+use Rattle.dcp_pft.proofs.Sizes.{Coded, coded_is, coded_bytes, plain_is, plain_bytes, no_code, with_code}
 use Rattle.dcp_pft.proofs.shape.shape_for.Goals as goal
 
 pub returns-then-m-eq0-clause-shape : goal.returns-then-m-eq0-clause-shape
@@ -34,12 +34,23 @@ returns-else-m-eq0-clause-is c = record {
   is = c.coded.ensures ∙ with_code c.args.len c.args.m c.args.mtu (omega arith);
 }
 
+is_coded : (c : goal.After-coded) → Coded c.args.len c.args.m c.args.mtu
+is_coded c = coded_is c.args.len c.args.m c.args.mtu c.requires.some c.requires.small (omega arith) c.requires.few c.requires.least
+
 pub returns-else-m-eq0-clause-some : goal.returns-else-m-eq0-clause-some
-returns-else-m-eq0-clause-some c =
-    let is = coded_is c.args.len c.args.m c.args.mtu c.requires.some c.requires.small (omega arith) c.requires.few c.requires.least in
-    subst (λ (s : Shape). 1 ≤ s.count) (sym c.coded.ensures) is.some
+returns-else-m-eq0-clause-some c = subst (λ (s : Shape). 1 ≤ s.count) (sym c.coded.ensures) (is_coded c).some
 
 pub returns-else-m-eq0-clause-few : goal.returns-else-m-eq0-clause-few
 returns-else-m-eq0-clause-few c =
-    let is = coded_is c.args.len c.args.m c.args.mtu c.requires.some c.requires.small (omega arith) c.requires.few c.requires.least in
-    subst (λ (s : Shape). s.count ≤ 91) (sym c.coded.ensures) is.few
+    let few : (coded_shape c.args.len c.args.m c.args.mtu).count ≤ 1024 = omega (arith, (is_coded c).few) in
+    subst (λ (s : Shape). s.count ≤ 1024) (sym c.coded.ensures) few
+
+pub returns-else-m-eq0-clause-bytes : goal.returns-else-m-eq0-clause-bytes
+returns-else-m-eq0-clause-bytes c =
+    subst (λ (s : Shape). s.count * s.piece ≤ 12288) (sym c.coded.ensures)
+    (coded_bytes c.args.len c.args.m c.args.mtu c.requires.some c.requires.small (is_coded c))
+
+pub returns-then-m-eq0-clause-bytes : goal.returns-then-m-eq0-clause-bytes
+returns-then-m-eq0-clause-bytes c =
+    subst (λ (s : Shape). s.count * s.piece ≤ 12288) (sym c.plain.ensures)
+    (plain_bytes c.args.len c.args.mtu c.requires.small (plain_is c.args.len c.args.mtu c.requires.some c.requires.small c.requires.least))

@@ -1,0 +1,13 @@
+//! The laws of cutting, each on a function that does nothing.
+
+ghost use Rattle.dcp_pft.specs.Laws.{ChunksAgree, AllTaken};
+
+/// A receiver counts the chunks that the sender made.
+pub fn chunks_agree()
+    ensures { ChunksAgree }
+{}
+
+/// What is written passes no limit of a reader.
+pub fn all_taken()
+    ensures { AllTaken }
+{}
