@@ -2,3 +2,4 @@ pub mod Cutting
 pub mod Coding
 pub mod Head
 pub mod Laws
+pub mod Writing

@@ -5,7 +5,9 @@
 mod fragment;
 mod laws;
 mod shape;
+mod write;
 
 pub use fragment::Addr;
 pub use laws::{all_taken, chunks_agree};
 pub use shape::{Rs, Shape, chunks, shape_for};
+pub use write::write_fragment;

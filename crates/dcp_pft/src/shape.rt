@@ -29,9 +29,9 @@ const CHUNK_BYTES: u32 = 207;
 pub(crate) const PARITY_BYTES: u32 = 48;
 
 /// The bytes of a fragment's header with a code, and without one.
-const CODED_HEAD: u16 = 16;
+pub(crate) const CODED_HEAD: u32 = 16;
 
-const PLAIN_HEAD: u16 = 14;
+pub(crate) const PLAIN_HEAD: u32 = 14;
 
 /// How a packet of so many bytes is cut so that m fragments may be lost and no datagram is longer than `mtu` bytes.
 pub fn shape_for(len: usize, m: u8, mtu: u16) -> Shape
@@ -61,7 +61,7 @@ fn plain(len: u32, mtu: u16) -> Shape
     requires least { 128 ≤ mtu }
     ensures { result ≡ plain_shape len mtu }
 {
-    equal_pieces(len, u32::from(mtu - PLAIN_HEAD), None)
+    equal_pieces(len, u32::from(mtu) - PLAIN_HEAD, None)
 }
 
 // With a code, in equal chunks.
@@ -76,7 +76,7 @@ fn coded(len: u32, m: u8, mtu: u16) -> Shape
 {
     let chunks = len.div_ceil(CHUNK_BYTES);
     let k = len.div_ceil(chunks);
-    let most = (PARITY_BYTES * chunks / (u32::from(m) + 1)).min(u32::from(mtu - CODED_HEAD));
+    let most = (PARITY_BYTES * chunks / (u32::from(m) + 1)).min(u32::from(mtu) - CODED_HEAD);
     let rs = Rs {
         k: k as u8,
         z: (chunks * k - len) as u8,
