@@ -2,11 +2,14 @@
 //! written, and fragments read.
 #![tactic(auto)]
 
+mod coding;
 mod fragment;
 mod laws;
+mod parts;
 mod shape;
 mod write;
 
+pub use coding::code;
 pub use fragment::Addr;
 pub use laws::{all_taken, chunks_agree};
 pub use shape::{Rs, Shape, chunks, shape_for};

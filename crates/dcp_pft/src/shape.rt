@@ -46,6 +46,7 @@ pub fn shape_for(len: usize, m: u8, mtu: u16) -> Shape
     // No limit of a receiver is passed.
     ensures few { result.count ≤ 1024 }
     ensures bytes { result.count * result.piece ≤ 12288 }
+    ensures chunks { chunks_of result ≤ 40 }
 {
     if m == 0 {
         plain(len as u32, mtu)

@@ -8,6 +8,7 @@ ghost use Rattle.dcp_pft.specs.Coding.{IsParityOf, byte_or_zero, coded, every};
 ghost use Rattle.dcp_pft.specs.Head.{Spells, IsFragmentOf, fragment_of, sync, three_bytes};
 ghost use Rattle.dcp_pft.specs.Writing.{PutsHead, Writes};
 
+use crate::parts::{part, put};
 use crate::shape::{CODED_HEAD, PARITY_BYTES, PLAIN_HEAD, Rs, Shape};
 use drm_bits::crc16;
 
@@ -121,25 +122,6 @@ fn put_head(head: &[u8], into: &mut [u8])
 {
     put(into, 0, head);
     put(into, head.len(), &crc16(head).to_be_bytes());
-}
-
-// Writes bytes over those from a place on.
-fn put(into: &mut [u8], at: usize, bytes: &[u8])
-    requires { at + length bytes.now ≤ length into.old }
-    ensures put { into.new ≡ take at into.old ++ bytes.now ++ drop (at + length bytes.now) into.old }
-    ensures bytes { IsBytes bytes.now }
-{
-    into[at..at + bytes.len()].copy_from_slice(bytes);
-}
-
-// So many bytes from a place on, or as many as there are.
-pub(crate) fn part(bytes: &[u8], at: usize, size: usize) -> &[u8]
-    requires { at + size < 2 ^ 64 }
-    ensures { result.now ≡ take size (drop at bytes.now) }
-{
-    let start = at.min(bytes.len());
-    let end = (at + size).min(bytes.len());
-    &bytes[start..end]
 }
 
 // Writes every count-th byte of the coded chunks of k bytes, from the first one on.

@@ -1,7 +1,7 @@
 use Rattle.std.proofs.Common.{◌*◌, ◌≤◌, sym, subst, ◌∙◌, arith}
 use Rattle.dcp_pft.specs.declared.shape.Shape.{Shape}
-use Rattle.dcp_pft.specs.Cutting.{coded_shape}
-use Rattle.dcp_pft.proofs.Sizes.{Coded, coded_is, coded_bytes, plain_is, plain_bytes, no_code, with_code}
+use Rattle.dcp_pft.specs.Cutting.{coded_shape, plain_shape, chunks_of}
+use Rattle.dcp_pft.proofs.Sizes.{chunks_are, Coded, coded_is, coded_bytes, plain_is, plain_bytes, no_code, with_code}
 use Rattle.dcp_pft.proofs.shape.shape_for.Goals as goal
 
 pub returns-then-m-eq0-clause-shape : goal.returns-then-m-eq0-clause-shape
@@ -54,3 +54,14 @@ pub returns-then-m-eq0-clause-bytes : goal.returns-then-m-eq0-clause-bytes
 returns-then-m-eq0-clause-bytes c =
     subst (λ (s : Shape). s.count * s.piece ≤ 12288) (sym c.plain.ensures)
     (plain_bytes c.args.len c.args.mtu c.requires.small (plain_is c.args.len c.args.mtu c.requires.some c.requires.small c.requires.least))
+
+pub returns-then-m-eq0-clause-chunks : goal.returns-then-m-eq0-clause-chunks
+returns-then-m-eq0-clause-chunks c =
+    let none : chunks_of (plain_shape c.args.len c.args.mtu) ≤ 40 = omega arith in
+    subst (λ (s : Shape). chunks_of s ≤ 40) (sym c.plain.ensures) none
+
+pub returns-else-m-eq0-clause-chunks : goal.returns-else-m-eq0-clause-chunks
+returns-else-m-eq0-clause-chunks c =
+    let few : chunks_of (coded_shape c.args.len c.args.m c.args.mtu) ≤ 40 =
+    omega (arith, (is_coded c).chunks, (chunks_are c.args.len c.requires.some c.requires.small).few) in
+    subst (λ (s : Shape). chunks_of s ≤ 40) (sym c.coded.ensures) few
