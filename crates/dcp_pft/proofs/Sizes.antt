@@ -86,6 +86,7 @@ pub record Most (len m mtu : ℕ) : Type 0 where
   pub each : chunk_count len * 8 ≤ 48 * chunk_count len / (m + 1)
   pub chunk : most_bytes len m mtu * (m + 1) ≤ 48 * chunk_count len
   pub datagram : most_bytes len m mtu + 16 ≤ mtu
+  pub some : 0 < chunk_count len → 0 < most_bytes len m mtu
 
 pub most_is : (len m mtu : ℕ) → 1 ≤ m → m ≤ 5 → 128 ≤ mtu → Most len m mtu
 unfolding most_bytes
@@ -96,10 +97,12 @@ most_is len m mtu kept few least =
     let least_each : chunk_count len * 8 * (m + 1) ≤ chunk_count len * 8 * 6 = mul-le-mul_left (chunk_count len * 8) (omega arith) in
     let below : min (48 * chunk_count len / (m + 1)) (mtu - 16) ≤ 48 * chunk_count len / (m + 1) = omega arith in
     let times : (m + 1) * min (48 * chunk_count len / (m + 1)) (mtu - 16) ≤ (m + 1) * (48 * chunk_count len / (m + 1)) = mul-le-mul_left (m + 1) below in
+    let each : chunk_count len * 8 ≤ 48 * chunk_count len / (m + 1) = (le-div_iff_mul-le p).1 (omega arith) in
     record {
-      each = (le-div_iff_mul-le p).1 (omega arith);
+      each = each;
       chunk = omega arith;
       datagram = omega arith;
+      some = λ chunk. omega arith;
     }
 
 -- the fragments of a packet with a code

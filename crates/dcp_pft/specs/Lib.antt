@@ -3,3 +3,4 @@ pub mod Coding
 pub mod Head
 pub mod Laws
 pub mod Writing
+pub mod Loss

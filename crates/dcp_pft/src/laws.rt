@@ -1,6 +1,7 @@
 //! The laws of cutting, each on a function that does nothing.
 
 ghost use Rattle.dcp_pft.specs.Laws.{ChunksAgree, AllTaken};
+ghost use Rattle.dcp_pft.specs.Loss.{AnyMayBeLost};
 
 /// A receiver counts the chunks that the sender made.
 pub fn chunks_agree()
@@ -10,4 +11,9 @@ pub fn chunks_agree()
 /// What is written passes no limit of a reader.
 pub fn all_taken()
     ensures { AllTaken }
+{}
+
+/// As many fragments as a packet was cut for may be lost, whichever they are.
+pub fn any_may_be_lost()
+    ensures { AnyMayBeLost }
 {}
