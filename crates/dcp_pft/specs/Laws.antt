@@ -1,8 +1,9 @@
 -- The laws of cutting.
-use Rattle.std.specs.Prelude.{ℕ, ◌≡◌, ◌*◌, ◌<◌, ◌≤◌, Some}
+use Rattle.std.specs.Prelude.{ℕ, ◌≡◌, ◌*◌, ◌<◌, ◌≤◌, List, length, Some}
 use Rattle.dcp_pft.specs.declared.shape.Rs.{Rs}
 use Rattle.dcp_pft.specs.declared.shape.Shape.{Shape}
-use Rattle.dcp_pft.specs.Cutting.{chunk_count, chunks_of, shape_of}
+use Rattle.dcp_pft.specs.Cutting.{chunk_count, chunks_of, shape_of, IsShapeOf}
+use Rattle.dcp_pft.specs.Head.{IsFragmentOf}
 
 -- the fragments make as many chunks as the packet was cut into
 abbrev pub ChunksAgree : Type 0
@@ -29,3 +30,9 @@ abbrev pub AllTaken : Type 0
 AllTaken =
     (len m mtu : ℕ) → 1 ≤ len → len ≤ 8192 → m ≤ 5 → 128 ≤ mtu → mtu ≤ 1500
     → IsTaken (shape_of len m mtu)
+
+-- a packet's fragment is one datagram
+abbrev pub OneFragment : Type 0
+OneFragment =
+    (shape : Shape) (seq i : ℕ) (packet first second : List ℕ) → IsShapeOf (length packet) shape
+    → IsFragmentOf shape seq packet i first → IsFragmentOf shape seq packet i second → second ≡ first

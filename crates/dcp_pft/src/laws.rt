@@ -1,6 +1,6 @@
 //! The laws of cutting, each on a function that does nothing.
 
-ghost use Rattle.dcp_pft.specs.Laws.{ChunksAgree, AllTaken};
+ghost use Rattle.dcp_pft.specs.Laws.{ChunksAgree, AllTaken, OneFragment};
 ghost use Rattle.dcp_pft.specs.Loss.{AnyMayBeLost};
 
 /// A receiver counts the chunks that the sender made.
@@ -16,4 +16,9 @@ pub fn all_taken()
 /// As many fragments as a packet was cut for may be lost, whichever they are.
 pub fn any_may_be_lost()
     ensures { AnyMayBeLost }
+{}
+
+/// A packet's fragment is one datagram.
+pub fn one_fragment()
+    ensures { OneFragment }
 {}

@@ -11,6 +11,6 @@ mod write;
 
 pub use coding::code;
 pub use fragment::Addr;
-pub use laws::{all_taken, any_may_be_lost, chunks_agree};
+pub use laws::{all_taken, any_may_be_lost, chunks_agree, one_fragment};
 pub use shape::{Rs, Shape, chunks, shape_for};
 pub use write::write_fragment;
