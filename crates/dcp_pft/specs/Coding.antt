@@ -1,5 +1,5 @@
 -- The chunks of a packet with their parity, and the bytes of each fragment (TS 102 821).
-use Rattle.std.specs.Prelude.{ℕ, zero, suc, ◌≡◌, ◌+◌, ◌-◌, ◌*◌, List, [], ◌++◌, take, drop, length, map, replicate, slice_index_or, Option, None, Some}
+use Rattle.std.specs.Prelude.{ℕ, zero, suc, ◌≡◌, ◌+◌, ◌*◌, List, [], ◌++◌, take, drop, map, replicate, slice_index_or, Option, None, Some}
 use Rattle.std.specs.List.{range_with_len}
 use Rattle.rs_erase.specs.Code.{IsCodeWord, word_of}
 use Rattle.dcp_pft.specs.declared.shape.Rs.{Rs}

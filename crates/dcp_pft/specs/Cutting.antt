@@ -5,20 +5,20 @@ use Rattle.dcp_pft.specs.declared.shape.Rs.{Rs}
 use Rattle.dcp_pft.specs.declared.shape.Shape.{Shape}
 
 -- the chunks of a packet of so many bytes: as few as hold 207 bytes each
-abbrev pub chunk_count : ℕ → ℕ
+unfoldable pub chunk_count : ℕ → ℕ
 chunk_count len = div_ceil len 207
 
 -- the bytes of each chunk, as few as make so many chunks
-abbrev pub chunk_size : ℕ → ℕ
+unfoldable pub chunk_size : ℕ → ℕ
 chunk_size len = div_ceil len (chunk_count len)
 
 -- the bytes of all chunks, each with its 48 bytes of parity
-abbrev pub coded_size : ℕ → ℕ
+unfoldable pub coded_size : ℕ → ℕ
 coded_size len = chunk_count len * (chunk_size len + 48)
 
 -- The most bytes that a fragment carries: m of them have at most 48 of each chunk, and the fragment with its 16 bytes of
 -- header fits the datagram.
-abbrev pub most_bytes : ℕ → ℕ → ℕ → ℕ
+unfoldable pub most_bytes : ℕ → ℕ → ℕ → ℕ
 most_bytes len m mtu = min (48 * chunk_count len / (m + 1)) (mtu - 16)
 
 -- as few fragments as carry this, of equal size

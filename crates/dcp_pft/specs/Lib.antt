@@ -1,3 +1,6 @@
 pub mod Cutting
 pub mod Coding
 pub mod Head
+pub mod Laws
+pub mod Writing
+pub mod Loss

@@ -2,8 +2,15 @@
 //! written, and fragments read.
 #![tactic(auto)]
 
+mod coding;
 mod fragment;
+mod laws;
+mod parts;
 mod shape;
+mod write;
 
+pub use coding::code;
 pub use fragment::Addr;
-pub use shape::{Rs, Shape};
+pub use laws::{all_taken, any_may_be_lost, chunks_agree, one_fragment};
+pub use shape::{Rs, Shape, chunks, shape_for};
+pub use write::write_fragment;

@@ -1,5 +1,8 @@
 //! Into how many fragments a packet is cut, and of how many bytes.
 
+ghost use Rattle.std.specs.Prelude.{◌≡◌, ◌+◌, ◌*◌, ◌^◌, ◌<◌, ◌≤◌, Option};
+ghost use Rattle.dcp_pft.specs.Cutting.{IsShapeOf, shape_of, coded_shape, plain_shape, cut, chunks_of};
+
 /// How a packet is coded (TS 102 821).
 #[derive(Clone, Copy, Debug, PartialEq, Eq)]
 pub struct Rs {
@@ -17,4 +20,93 @@ pub struct Shape {
     /// The bytes of a fragment's payload; without a code the last one may have fewer.
     pub piece: u16,
     pub rs: Option<Rs>,
+}
+
+/// The most bytes of a chunk.
+const CHUNK_BYTES: u32 = 207;
+
+/// The bytes of parity behind each chunk, and so many of its bytes may be lost.
+pub(crate) const PARITY_BYTES: u32 = 48;
+
+/// The bytes of a fragment's header with a code, and without one.
+pub(crate) const CODED_HEAD: u32 = 16;
+
+pub(crate) const PLAIN_HEAD: u32 = 14;
+
+/// How a packet of so many bytes is cut so that m fragments may be lost and no datagram is longer than `mtu` bytes.
+pub fn shape_for(len: usize, m: u8, mtu: u16) -> Shape
+    requires some { 1 ≤ len }
+    requires small { len ≤ 8192 }
+    requires few { m ≤ 5 }
+    requires least { 128 ≤ mtu }
+    requires most { mtu ≤ 1500 }
+    ensures shape { result ≡ shape_of len m mtu }
+    ensures is { IsShapeOf len result }
+    ensures some { 0 < result.count }
+    // No limit of a receiver is passed.
+    ensures few { result.count ≤ 1024 }
+    ensures bytes { result.count * result.piece ≤ 12288 }
+    ensures chunks { chunks_of result ≤ 40 }
+{
+    if m == 0 {
+        plain(len as u32, mtu)
+    } else {
+        coded(len as u32, m, mtu)
+    }
+}
+
+// Without a code.
+fn plain(len: u32, mtu: u16) -> Shape
+    requires some { 1 ≤ len }
+    requires small { len ≤ 8192 }
+    requires least { 128 ≤ mtu }
+    ensures { result ≡ plain_shape len mtu }
+{
+    equal_pieces(len, u32::from(mtu) - PLAIN_HEAD, None)
+}
+
+// With a code, in equal chunks.
+#[tactic(auto, unfolding(crate::specs::Cutting::chunk_count, crate::specs::Cutting::chunk_size, crate::specs::Cutting::coded_size, crate::specs::Cutting::most_bytes))]
+fn coded(len: u32, m: u8, mtu: u16) -> Shape
+    requires some { 1 ≤ len }
+    requires small { len ≤ 8192 }
+    requires kept { 1 ≤ m }
+    requires few { m ≤ 5 }
+    requires least { 128 ≤ mtu }
+    ensures { result ≡ coded_shape len m mtu }
+{
+    let chunks = len.div_ceil(CHUNK_BYTES);
+    let k = len.div_ceil(chunks);
+    let most = (PARITY_BYTES * chunks / (u32::from(m) + 1)).min(u32::from(mtu) - CODED_HEAD);
+    let rs = Rs {
+        k: k as u8,
+        z: (chunks * k - len) as u8,
+    };
+    equal_pieces(chunks * (k + PARITY_BYTES), most, Some(rs))
+}
+
+// As few pieces of at most so many bytes as this takes, of equal size.
+fn equal_pieces(size: u32, most: u32, rs: Option<Rs>) -> Shape
+    requires some { 0 < size }
+    requires small { size < 2 ^ 16 }
+    requires room { 0 < most }
+    ensures { result ≡ cut size most rs }
+{
+    let count = size.div_ceil(most);
+    Shape {
+        count,
+        piece: size.div_ceil(count) as u16,
+        rs,
+    }
+}
+
+/// The chunks that the fragments of this shape make: none without a code.
+pub fn chunks(shape: &Shape) -> u32
+    requires { shape.now.count * shape.now.piece < 2 ^ 32 }
+    ensures { result ≡ chunks_of shape.now }
+{
+    match shape.rs {
+        None => 0,
+        Some(rs) => shape.count * u32::from(shape.piece) / (u32::from(rs.k) + PARITY_BYTES),
+    }
 }

@@ -1,0 +1,67 @@
+use Rattle.std.proofs.Common.{◌*◌, ◌≤◌, sym, subst, ◌∙◌, arith}
+use Rattle.dcp_pft.specs.declared.shape.Shape.{Shape}
+use Rattle.dcp_pft.specs.Cutting.{coded_shape, plain_shape, chunks_of}
+use Rattle.dcp_pft.proofs.Sizes.{chunks_are, Coded, coded_is, coded_bytes, plain_is, plain_bytes, no_code, with_code}
+use Rattle.dcp_pft.proofs.shape.shape_for.Goals as goal
+
+pub returns-then-m-eq0-clause-shape : goal.returns-then-m-eq0-clause-shape
+returns-then-m-eq0-clause-shape c = c.plain.ensures ∙ no_code c.args.len c.args.m c.args.mtu c.if-m-eq0.true
+
+pub returns-then-m-eq0-clause-is : goal.returns-then-m-eq0-clause-is
+returns-then-m-eq0-clause-is c = record {
+  some = c.requires.some;
+  small = c.requires.small;
+  m = c.args.m;
+  few = c.requires.few;
+  mtu = c.args.mtu;
+  least = c.requires.least;
+  most = c.requires.most;
+  is = c.plain.ensures ∙ no_code c.args.len c.args.m c.args.mtu c.if-m-eq0.true;
+}
+
+pub returns-else-m-eq0-clause-shape : goal.returns-else-m-eq0-clause-shape
+returns-else-m-eq0-clause-shape c = c.coded.ensures ∙ with_code c.args.len c.args.m c.args.mtu (omega arith)
+
+pub returns-else-m-eq0-clause-is : goal.returns-else-m-eq0-clause-is
+returns-else-m-eq0-clause-is c = record {
+  some = c.requires.some;
+  small = c.requires.small;
+  m = c.args.m;
+  few = c.requires.few;
+  mtu = c.args.mtu;
+  least = c.requires.least;
+  most = c.requires.most;
+  is = c.coded.ensures ∙ with_code c.args.len c.args.m c.args.mtu (omega arith);
+}
+
+is_coded : (c : goal.After-coded) → Coded c.args.len c.args.m c.args.mtu
+is_coded c = coded_is c.args.len c.args.m c.args.mtu c.requires.some c.requires.small (omega arith) c.requires.few c.requires.least
+
+pub returns-else-m-eq0-clause-some : goal.returns-else-m-eq0-clause-some
+returns-else-m-eq0-clause-some c = subst (λ (s : Shape). 1 ≤ s.count) (sym c.coded.ensures) (is_coded c).some
+
+pub returns-else-m-eq0-clause-few : goal.returns-else-m-eq0-clause-few
+returns-else-m-eq0-clause-few c =
+    let few : (coded_shape c.args.len c.args.m c.args.mtu).count ≤ 1024 = omega (arith, (is_coded c).few) in
+    subst (λ (s : Shape). s.count ≤ 1024) (sym c.coded.ensures) few
+
+pub returns-else-m-eq0-clause-bytes : goal.returns-else-m-eq0-clause-bytes
+returns-else-m-eq0-clause-bytes c =
+    subst (λ (s : Shape). s.count * s.piece ≤ 12288) (sym c.coded.ensures)
+    (coded_bytes c.args.len c.args.m c.args.mtu c.requires.some c.requires.small (is_coded c))
+
+pub returns-then-m-eq0-clause-bytes : goal.returns-then-m-eq0-clause-bytes
+returns-then-m-eq0-clause-bytes c =
+    subst (λ (s : Shape). s.count * s.piece ≤ 12288) (sym c.plain.ensures)
+    (plain_bytes c.args.len c.args.mtu c.requires.small (plain_is c.args.len c.args.mtu c.requires.some c.requires.small c.requires.least))
+
+pub returns-then-m-eq0-clause-chunks : goal.returns-then-m-eq0-clause-chunks
+returns-then-m-eq0-clause-chunks c =
+    let none : chunks_of (plain_shape c.args.len c.args.mtu) ≤ 40 = omega arith in
+    subst (λ (s : Shape). chunks_of s ≤ 40) (sym c.plain.ensures) none
+
+pub returns-else-m-eq0-clause-chunks : goal.returns-else-m-eq0-clause-chunks
+returns-else-m-eq0-clause-chunks c =
+    let few : chunks_of (coded_shape c.args.len c.args.m c.args.mtu) ≤ 40 =
+    omega (arith, (is_coded c).chunks, (chunks_are c.args.len c.requires.some c.requires.small).few) in
+    subst (λ (s : Shape). chunks_of s ≤ 40) (sym c.coded.ensures) few

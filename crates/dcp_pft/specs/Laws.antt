@@ -1,0 +1,38 @@
+-- The laws of cutting.
+use Rattle.std.specs.Prelude.{ℕ, ◌≡◌, ◌*◌, ◌<◌, ◌≤◌, List, length, Some}
+use Rattle.dcp_pft.specs.declared.shape.Rs.{Rs}
+use Rattle.dcp_pft.specs.declared.shape.Shape.{Shape}
+use Rattle.dcp_pft.specs.Cutting.{chunk_count, chunks_of, shape_of, IsShapeOf}
+use Rattle.dcp_pft.specs.Head.{IsFragmentOf}
+
+-- the fragments make as many chunks as the packet was cut into
+abbrev pub ChunksAgree : Type 0
+ChunksAgree =
+    (len m mtu : ℕ) → 1 ≤ len → len ≤ 8192 → 1 ≤ m → m ≤ 5 → 128 ≤ mtu → mtu ≤ 1500
+    → chunks_of (shape_of len m mtu) ≡ chunk_count len
+
+-- a code that a reader takes, where the fragments make so many chunks
+pub record IsCodeTaken (rs : Rs) (chunks : ℕ) : Type 0 where
+  pub some : 1 ≤ rs.k
+  pub few : rs.k ≤ 207
+  pub fill : rs.z < rs.k
+  pub chunk : 0 < chunks
+
+-- a shape that a reader takes
+pub record IsTaken (shape : Shape) : Type 0 where
+  pub some : 0 < shape.count
+  pub few : shape.count ≤ 1024
+  pub bytes : shape.count * shape.piece ≤ 12288
+  pub code : (rs : Rs) → shape.rs ≡ Some rs → IsCodeTaken rs (chunks_of shape)
+
+-- a reader takes every shape
+abbrev pub AllTaken : Type 0
+AllTaken =
+    (len m mtu : ℕ) → 1 ≤ len → len ≤ 8192 → m ≤ 5 → 128 ≤ mtu → mtu ≤ 1500
+    → IsTaken (shape_of len m mtu)
+
+-- a packet's fragment is one datagram
+abbrev pub OneFragment : Type 0
+OneFragment =
+    (shape : Shape) (seq i : ℕ) (packet first second : List ℕ) → IsShapeOf (length packet) shape
+    → IsFragmentOf shape seq packet i first → IsFragmentOf shape seq packet i second → second ≡ first

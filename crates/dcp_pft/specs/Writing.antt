@@ -1,0 +1,19 @@
+-- What a written fragment does to the bytes that it is written over.
+use Rattle.std.specs.Prelude.{ℕ, ◌≡◌, ◌+◌, ◌≤◌, List, ◌++◌, take, drop, length}
+use Rattle.std.specs.Int.{w16, to_be_bytes}
+use Rattle.drm_bits.specs.Bits.{IsBytes}
+use Rattle.dcp_pft.specs.Head.{PftFragment, IsCheckOf, Spells}
+
+-- these bytes with their check value are written to the front
+pub record PutsHead (head old new : List ℕ) : Type 0 where
+  pub check : ℕ
+  pub checks : IsCheckOf head check
+  pub bytes : IsBytes (head ++ to_be_bytes w16 check)
+  pub put : new ≡ head ++ to_be_bytes w16 check ++ drop (length head + 2) old
+
+-- a fragment of so many bytes is written to the front
+pub record Writes (f : PftFragment) (size : ℕ) (old new : List ℕ) : Type 0 where
+  pub small : size ≤ 1500
+  pub spells : Spells f (take size new)
+  pub bytes : IsBytes (take size new)
+  pub behind : drop size new ≡ drop size old

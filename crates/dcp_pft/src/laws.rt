@@ -1,0 +1,24 @@
+//! The laws of cutting, each on a function that does nothing.
+
+ghost use Rattle.dcp_pft.specs.Laws.{ChunksAgree, AllTaken, OneFragment};
+ghost use Rattle.dcp_pft.specs.Loss.{AnyMayBeLost};
+
+/// A receiver counts the chunks that the sender made.
+pub fn chunks_agree()
+    ensures { ChunksAgree }
+{}
+
+/// What is written passes no limit of a reader.
+pub fn all_taken()
+    ensures { AllTaken }
+{}
+
+/// As many fragments as a packet was cut for may be lost, whichever they are.
+pub fn any_may_be_lost()
+    ensures { AnyMayBeLost }
+{}
+
+/// A packet's fragment is one datagram.
+pub fn one_fragment()
+    ensures { OneFragment }
+{}

@@ -1,0 +1,169 @@
+//! Fragments, written.
+
+ghost use Rattle.std.specs.Prelude.{◌≡◌, ◌+◌, ◌*◌, ◌-◌, ◌^◌, ◌<◌, ◌≤◌, ◌++◌, ◌∷◌, [], ℕ, List, length, take, drop, Some, None, replicate};
+ghost use Rattle.std.specs.Int.{w16, to_be_bytes};
+ghost use Rattle.drm_bits.specs.Bits.{IsBytes};
+ghost use Rattle.dcp_pft.specs.Cutting.{IsShapeOf, chunks_of};
+ghost use Rattle.dcp_pft.specs.Coding.{IsParityOf, byte_or_zero, coded, every};
+ghost use Rattle.dcp_pft.specs.Head.{Spells, IsFragmentOf, fragment_of, sync, three_bytes};
+ghost use Rattle.dcp_pft.specs.Writing.{PutsHead, Writes};
+
+use crate::parts::{part, put};
+use crate::shape::{CODED_HEAD, PARITY_BYTES, PLAIN_HEAD, Rs, Shape};
+use drm_bits::crc16;
+
+/// The first of the two flags before the length of the payload: there is a code. The second, for addresses, is not set.
+const CODED: u16 = 0x8000;
+
+/// Writes fragment `index` of the packet with this sequence number to the front, and answers how many bytes it has.
+pub fn write_fragment(
+    shape: &Shape,
+    seq: u16,
+    index: u32,
+    packet: &[u8],
+    parity: &[u8],
+    into: &mut [u8; 1500],
+) -> usize
+    requires shape { IsShapeOf (length packet.now) shape.now }
+    requires parity { IsParityOf shape.now packet.now parity.now }
+    requires index { index < shape.now.count }
+    ensures fragment { Spells (fragment_of shape.now seq packet.now parity.now index) (take result into.new) }
+    ensures is { IsFragmentOf shape.now seq packet.now index (take result into.new) }
+    ensures small { result ≤ 1500 }
+    ensures bytes { IsBytes (take result into.new) }
+    ensures behind { drop result into.new ≡ drop result into.old }
+{
+    match shape.rs {
+        Some(rs) => write_coded(shape, rs, seq, index, packet, parity, into),
+        None => write_plain(shape, seq, index, packet, into),
+    }
+}
+
+// A fragment with a code.
+fn write_coded(
+    shape: &Shape,
+    rs: Rs,
+    seq: u16,
+    index: u32,
+    packet: &[u8],
+    parity: &[u8],
+    into: &mut [u8; 1500],
+) -> usize
+    requires shape { IsShapeOf (length packet.now) shape.now }
+    requires code { shape.now.rs ≡ Some rs }
+    requires parity { IsParityOf shape.now packet.now parity.now }
+    requires index { index < shape.now.count }
+    ensures { Writes (fragment_of shape.now seq packet.now parity.now index) result into.old into.new }
+{
+    put_head(&coded_head(seq, index, shape.count, shape.piece, rs), into);
+    let end = CODED_HEAD as usize + usize::from(shape.piece);
+    interleave(
+        packet,
+        parity,
+        rs.k,
+        shape.count,
+        index,
+        &mut into[CODED_HEAD as usize..end],
+    );
+    end
+}
+
+// A fragment without a code.
+fn write_plain(shape: &Shape, seq: u16, index: u32, packet: &[u8], into: &mut [u8; 1500]) -> usize
+    requires shape { IsShapeOf (length packet.now) shape.now }
+    requires code { shape.now.rs ≡ None }
+    requires index { index < shape.now.count }
+    ensures { (parity : List ℕ) → Writes (fragment_of shape.now seq packet.now parity index) result into.old into.new }
+{
+    let size = usize::from(shape.piece);
+    let payload = part(packet, index as usize * size, size);
+    put_head(
+        &plain_head(seq, index, shape.count, payload.len() as u16),
+        into,
+    );
+    put(into, PLAIN_HEAD as usize, payload);
+    PLAIN_HEAD as usize + payload.len()
+}
+
+// The header with a code, before its check value.
+fn coded_head(seq: u16, index: u32, count: u32, payload: u16, rs: Rs) -> [u8; 14]
+    requires { payload < 2 ^ 14 }
+    ensures { result ≡ sync ++ to_be_bytes w16 seq ++ three_bytes index ++ three_bytes count
+        ++ to_be_bytes w16 (32768 + payload) ++ rs.k ∷ rs.z ∷ [] }
+{
+    let seq = seq.to_be_bytes();
+    let index = index.to_be_bytes();
+    let count = count.to_be_bytes();
+    let length = (CODED + payload).to_be_bytes();
+    [
+        b'P', b'F', seq[0], seq[1], index[1], index[2], index[3], count[1], count[2], count[3],
+        length[0], length[1], rs.k, rs.z,
+    ]
+}
+
+// The header without a code, before its check value.
+fn plain_head(seq: u16, index: u32, count: u32, payload: u16) -> [u8; 12]
+    ensures { result ≡ sync ++ to_be_bytes w16 seq ++ three_bytes index ++ three_bytes count ++ to_be_bytes w16 payload }
+{
+    let seq = seq.to_be_bytes();
+    let index = index.to_be_bytes();
+    let count = count.to_be_bytes();
+    let length = payload.to_be_bytes();
+    [
+        b'P', b'F', seq[0], seq[1], index[1], index[2], index[3], count[1], count[2], count[3],
+        length[0], length[1],
+    ]
+}
+
+// Writes a header and its check value to the front.
+fn put_head(head: &[u8], into: &mut [u8])
+    requires { length head.now + 2 ≤ length into.old }
+    ensures { PutsHead head.now into.old into.new }
+{
+    put(into, 0, head);
+    put(into, head.len(), &crc16(head).to_be_bytes());
+}
+
+// Writes every count-th byte of the coded chunks of k bytes, from the first one on.
+fn interleave(packet: &[u8], parity: &[u8], k: u8, count: u32, first: u32, into: &mut [u8])
+    requires count { count ≤ 1024 }
+    requires first { first < count }
+    requires room { length into.old ≤ 1500 }
+    requires some { 0 < k }
+    ensures bytes { IsBytes into.new }
+    ensures every { (c z : ℕ) → c * k ≡ length packet.now + z → length parity.now ≡ 48 * c
+        → into.new ≡ every count first (length into.old) (coded c k (packet.now ++ replicate z 0) parity.now) }
+{
+    for (j, byte) in into.iter_mut().enumerate() {
+        *byte = coded_byte(
+            packet,
+            parity,
+            usize::from(k),
+            j * count as usize + first as usize,
+        );
+    }
+}
+
+// The byte at a place of the coded chunks of k bytes: each chunk with its parity behind it.
+fn coded_byte(packet: &[u8], parity: &[u8], k: usize, place: usize) -> u8
+    requires some { 0 < k }
+    requires few { k ≤ 255 }
+    requires place { place < 2 ^ 32 }
+    ensures { (c z : ℕ) → c * k ≡ length packet.now + z → length parity.now ≡ 48 * c
+        → result ≡ byte_or_zero (coded c k (packet.now ++ replicate z 0) parity.now) place }
+{
+    let size = k + PARITY_BYTES as usize;
+    let (chunk, within) = (place / size, place % size);
+    if within < k {
+        byte_at(packet, chunk * k + within)
+    } else {
+        byte_at(parity, chunk * PARITY_BYTES as usize + (within - k))
+    }
+}
+
+// The byte at a place, or 0 past the end.
+fn byte_at(bytes: &[u8], place: usize) -> u8
+    ensures { result ≡ byte_or_zero bytes.now place }
+{
+    bytes.get(place).copied().unwrap_or(0)
+}
