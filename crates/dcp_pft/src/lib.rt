@@ -2,8 +2,13 @@
 //! written, and fragments read.
 #![tactic(auto)]
 
+mod fault;
 mod fragment;
+mod head;
+mod read;
 mod shape;
 
-pub use fragment::Addr;
+pub use fault::PftFault;
+pub use fragment::{Addr, Fragment};
+pub use read::read_fragment;
 pub use shape::{Rs, Shape};
