@@ -4,3 +4,5 @@ pub mod Head
 pub mod Laws
 pub mod Writing
 pub mod Loss
+pub mod Faults
+pub mod Reading

@@ -3,14 +3,19 @@
 #![tactic(auto)]
 
 mod coding;
+mod fault;
 mod fragment;
+mod head;
 mod laws;
 mod parts;
+mod read;
 mod shape;
 mod write;
 
 pub use coding::code;
-pub use fragment::Addr;
+pub use fault::PftFault;
+pub use fragment::{Addr, Fragment};
 pub use laws::{all_taken, any_may_be_lost, chunks_agree, one_fragment};
+pub use read::read_fragment;
 pub use shape::{Rs, Shape, chunks, shape_for};
 pub use write::write_fragment;

@@ -1,0 +1,148 @@
+//! A fragment, read.
+
+ghost use Rattle.std.specs.Prelude.{◌≡◌, ◌≤◌, ◌+◌, ◌/◌, List, ℕ, length, IfOk, IfErr, IsOkAnd, OnOk, MatchBool, IsSomeAnd, IfSome};
+ghost use Rattle.dcp_pft.specs.Head.{PftFragment, IsCheckOf};
+ghost use Rattle.dcp_pft.specs.Faults.{IsFault, IsFirst, NoneOf, table, payload, head_size, checked_bytes, check_value};
+ghost use Rattle.dcp_pft.specs.Reading.{pft_of, IsPft, IsHeadOf, size_rows, check_rows, number_rows, JudgesCode};
+
+use crate::head::{CHECK_BYTES, Head, LEAST_HEAD, head_of, size_of_head};
+use crate::{Fragment, PftFault, Rs};
+use drm_bits::crc16;
+
+const MOST_FRAGMENTS: u32 = 1024;
+
+/// Of all fragments of a packet.
+const MOST_BYTES: u32 = 12288;
+
+/// Of a chunk without its parity.
+const MOST_CHUNK: u8 = 207;
+
+const PARITY_BYTES: u32 = 48;
+
+/// The fragment that this datagram is, all of it, or the first fault.
+pub fn read_fragment(datagram: &[u8]) -> Result<Fragment<'_>, PftFault>
+    // What is read is the fragment, and what is a fragment is read.
+    ensures found { IfOk result (λ f. IsPft (pft_of f) datagram.now) }
+    ensures only { (f : PftFragment) → IsPft f datagram.now → IsOkAnd result (λ given. pft_of given ≡ f) }
+    // A fault is the first one, and where there is a fault it is answered.
+    ensures fault { IfErr result (λ fault. IsFault fault datagram.now) }
+    ensures faults { (fault : PftFault) → IsFault fault datagram.now → result ≡ Err fault }
+    // The bytes that are lent.
+    ensures lent { IfOk result (λ f. f.payload.now ≡ payload datagram.now) }
+{
+    let head = read_head(datagram)?;
+    Ok(Fragment {
+        seq: head.seq,
+        index: head.index,
+        count: head.count,
+        rs: head.rs,
+        addr: head.addr,
+        payload: &datagram[size_of_head(datagram)..],
+    })
+}
+
+// The header, where nothing is refused.
+fn read_head(datagram: &[u8]) -> Result<Head, PftFault>
+    ensures fault { IfErr result (λ fault. IsFault fault datagram.now) }
+    ensures right { OnOk result (NoneOf table datagram.now) }
+    ensures check { OnOk result (IsCheckOf (checked_bytes datagram.now) (check_value datagram.now)) }
+    ensures head { IfOk result (λ head. IsHeadOf head datagram.now) }
+{
+    let size = whole_head(datagram)?;
+    compare(datagram, size)?;
+    let head = head_of(datagram);
+    judge(&head, datagram)?;
+    Ok(head)
+}
+
+// The size of the header, where all of it stands there.
+fn whole_head(datagram: &[u8]) -> Result<usize, PftFault>
+    ensures fault { IfErr result (λ fault. IsFirst size_rows fault datagram.now) }
+    ensures right { OnOk result (NoneOf size_rows datagram.now) }
+    ensures size { IfOk result (λ size. size ≡ head_size datagram.now) }
+{
+    if !datagram.starts_with(b"PF") {
+        return Err(PftFault::Sync);
+    }
+    if datagram.len() < LEAST_HEAD {
+        return Err(PftFault::HeadCut);
+    }
+    let size = size_of_head(datagram);
+    if datagram.len() < size {
+        Err(PftFault::HeadCut)
+    } else {
+        Ok(size)
+    }
+}
+
+// Whether the check value is that of the header before it.
+fn compare(datagram: &[u8], size: usize) -> Result<(), PftFault>
+    requires whole { head_size datagram.now ≤ length datagram.now }
+    requires size { size ≡ head_size datagram.now }
+    ensures fault { IfErr result (λ fault. IsFirst check_rows fault datagram.now) }
+    ensures right { OnOk result (NoneOf check_rows datagram.now) }
+    ensures check { OnOk result (IsCheckOf (checked_bytes datagram.now) (check_value datagram.now)) }
+{
+    let (front, check) = datagram[..size].split_at(size - CHECK_BYTES);
+    if u16::from_be_bytes([check[0], check[1]]) == crc16(front) {
+        Ok(())
+    } else {
+        Err(PftFault::HeadCrc)
+    }
+}
+
+// Whether the numbers of the header go together with each other and with the bytes behind it.
+fn judge(head: &Head, datagram: &[u8]) -> Result<(), PftFault>
+    requires least { 14 ≤ length datagram.now }
+    requires whole { head_size datagram.now ≤ length datagram.now }
+    requires head { IsHeadOf head.now datagram.now }
+    ensures fault { IfErr result (λ fault. IsFirst number_rows fault datagram.now) }
+    ensures right { OnOk result (NoneOf number_rows datagram.now) }
+{
+    if head.count == 0 {
+        return Err(PftFault::Count);
+    }
+    if head.index >= head.count {
+        return Err(PftFault::Index);
+    }
+    if usize::from(head.len) != datagram.len() - size_of_head(datagram) {
+        return Err(PftFault::PlenMismatch);
+    }
+    if let Some(rs) = head.rs {
+        judge_code(rs)?;
+    }
+    if head.count > MOST_FRAGMENTS {
+        return Err(PftFault::TooMany);
+    }
+    let size = head.count * u32::from(head.len);
+    if size > MOST_BYTES {
+        return Err(PftFault::TooLarge);
+    }
+    if has_no_chunk(size, head.rs) {
+        return Err(PftFault::Chunks);
+    }
+    Ok(())
+}
+
+// Whether the chunks of this code have a length that is read, and the last one a fill.
+fn judge_code(rs: Rs) -> Result<(), PftFault>
+    ensures { JudgesCode result rs }
+{
+    if rs.k == 0 || rs.k > MOST_CHUNK {
+        return Err(PftFault::RsK);
+    }
+    if rs.z >= rs.k {
+        return Err(PftFault::RsZ);
+    }
+    Ok(())
+}
+
+// Whether there is a code, and so many bytes have no chunk of it with its parity.
+fn has_no_chunk(size: u32, rs: Option<Rs>) -> bool
+    ensures { MatchBool result (IsSomeAnd rs (λ rs. size / (rs.k + 48) ≡ 0)) (IfSome rs (λ rs. rs.k + 48 ≤ size)) }
+{
+    match rs {
+        Some(rs) => size / (u32::from(rs.k) + PARITY_BYTES) == 0,
+        None => false,
+    }
+}
