@@ -8,11 +8,12 @@ use Rattle.drm_bits.proofs.Checks.{IsCheck-unique, crc16_low}
 use Rattle.rs_erase.proofs.OneWord.{one_parity}
 use Rattle.dcp_pft.specs.declared.shape.Rs.{Rs}
 use Rattle.dcp_pft.specs.declared.shape.Shape.{Shape}
-use Rattle.dcp_pft.specs.Cutting.{IsShapeOf}
+use Rattle.dcp_pft.specs.Cutting.{chunk_size, coded_shape, plain_shape, shape_of}
 use Rattle.dcp_pft.specs.Coding.{AreParities, IsParityOf, filled}
 use Rattle.dcp_pft.specs.Head.{PftFragment, IsCheckOf, Spells, head, fragment_of}
 use Rattle.dcp_pft.specs.Laws.{OneFragment}
-use Rattle.dcp_pft.proofs.Shapes.{has_code}
+use Rattle.dcp_pft.proofs.Sizes.{short_chunks}
+use Rattle.dcp_pft.proofs.Shapes.{code_of}
 use Rattle.dcp_pft.proofs.Fragments.{with_rs, chunks_by, parities_with}
 
 -- the parities of the same chunks
@@ -24,18 +25,33 @@ same_parities (suc c) k chunks first second small is other =
     sym (take-append-drop 48 second)
     ∙ (ap (λ (l : List ℕ). l ++ drop 48 second) front ∙ (ap (λ (l : List ℕ). take 48 first ++ l) rest ∙ take-append-drop 48 first))
 
+-- no chunk is longer than the code takes
+abbrev pub HasShortChunks : Shape → Type 0
+HasShortChunks shape = (rs : Rs) → shape.rs ≡ Some rs → rs.k ≤ 207
+
+none_coded : (len mtu : ℕ) (rs : Rs) → (plain_shape len mtu).rs ≡ Some rs → ⊥
+none_coded len mtu rs is = cc
+
+coded_size_is : (len m mtu : ℕ) (rs : Rs) → (coded_shape len m mtu).rs ≡ Some rs → chunk_size len ≡ rs.k
+coded_size_is len m mtu rs is = let same : code_of len ≡ rs = cc in ap (λ (r : Rs). r.k) same
+
+short : (len m mtu : ℕ) → 1 ≤ len → HasShortChunks (shape_of len m mtu)
+unfolding shape_of
+short len zero mtu some rs has = absurd (none_coded len mtu rs has)
+short len (suc m) mtu some rs has = omega (arith, short_chunks len some, coded_size_is len (suc m) mtu rs has)
+
 -- by whether there is a code
-same_by : (shape : Shape) (packet first second : List ℕ) → IsShapeOf (length packet) shape → IsParityOf shape packet first → IsParityOf shape packet second
+same_by : (shape : Shape) (packet first second : List ℕ) → HasShortChunks shape → IsParityOf shape packet first → IsParityOf shape packet second
     → (o : Option Rs) → shape.rs ≡ o → second ≡ first
 same_by shape packet first second is here there None none =
     let empty : (parity : List ℕ) → IsParityOf shape packet parity → IsParityOf (with_rs shape None) packet parity = λ parity h.
     subst (λ (o : Option Rs). IsParityOf (with_rs shape o) packet parity) none h in
     empty second there ∙ sym (empty first here)
 same_by shape packet first second is here there (Some rs) has =
-    same_parities (chunks_by shape rs) rs.k (filled rs packet) first second (has_code (length packet) shape rs is has).size
+    same_parities (chunks_by shape rs) rs.k (filled rs packet) first second (is rs has)
     (parities_with shape rs packet first has here) (parities_with shape rs packet second has there)
 
-pub one_parity_of : (shape : Shape) (packet first second : List ℕ) → IsShapeOf (length packet) shape → IsParityOf shape packet first → IsParityOf shape packet second → second ≡ first
+pub one_parity_of : (shape : Shape) (packet first second : List ℕ) → HasShortChunks shape → IsParityOf shape packet first → IsParityOf shape packet second → second ≡ first
 one_parity_of shape packet first second is here there = same_by shape packet first second is here there shape.rs refl
 
 -- a header has one check value
@@ -48,8 +64,9 @@ one_spelling f first second is other =
     ∙ (ap (λ (n : ℕ). head f ++ to_be_bytes w16 n ++ f.payload) (one_check (head f) other.check is.check other.checks is.checks) ∙ sym is.spelled)
 
 pub one_datagram : OneFragment
-one_datagram shape seq i packet first second is here there =
-    let same = one_parity_of shape packet here.parity there.parity is here.is_parity there.is_parity in
+one_datagram m mtu seq i packet first second some here there =
+    let shape : Shape = shape_of (length packet) m mtu in
+    let same = one_parity_of shape packet here.parity there.parity (short (length packet) m mtu some) here.is_parity there.is_parity in
     let moved : Spells (fragment_of shape seq packet here.parity i) second =
     subst (λ (l : List ℕ). Spells (fragment_of shape seq packet l i) second) same there.spells in
     one_spelling (fragment_of shape seq packet here.parity i) first second here.spells moved

@@ -87,6 +87,7 @@ taken_by_m len zero mtu some small few least most =
       some = is.some;
       few = omega (arith, is.few);
       bytes = plain_bytes len mtu small is;
+      chunks = omega arith;
       code = λ rs none. absurd (none_coded len mtu rs none);
     }
 taken_by_m len (suc m) mtu some small few least most =
@@ -95,6 +96,7 @@ taken_by_m len (suc m) mtu some small few least most =
       some = is.some;
       few = omega (arith, is.few);
       bytes = coded_bytes len (suc m) mtu some small is;
+      chunks = omega (arith, is.chunks, (chunks_are len some small).few);
       code = λ rs coded.
           let here = by_m len (suc m) mtu rs some small few least most coded in
           record { some = here.size_some; few = here.size; fill = here.fill; chunk = here.some };

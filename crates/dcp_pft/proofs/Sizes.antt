@@ -47,6 +47,14 @@ fill_is len c k some few size_some full holds little =
       | inr le ↦ omega arith
     ]
 
+-- whatever its length
+pub short_chunks : (len : ℕ) → 1 ≤ len → chunk_size len ≤ 207
+unfolding chunk_count chunk_size
+short_chunks len some =
+    let counted = div_ceil_times len 207 (omega arith) in
+    let c_some : 0 < div_ceil len 207 = up_some len 207 some (omega arith) in
+    up_at_most len (div_ceil len 207) 207 c_some (omega arith)
+
 pub chunks_are : (len : ℕ) → 1 ≤ len → len ≤ 8192 → Chunks len
 unfolding chunk_count chunk_size
 chunks_are len some small =

@@ -2,7 +2,7 @@
 use Rattle.std.specs.Prelude.{ℕ, ◌≡◌, ◌*◌, ◌<◌, ◌≤◌, List, length, Some}
 use Rattle.dcp_pft.specs.declared.shape.Rs.{Rs}
 use Rattle.dcp_pft.specs.declared.shape.Shape.{Shape}
-use Rattle.dcp_pft.specs.Cutting.{chunk_count, chunks_of, shape_of, IsShapeOf}
+use Rattle.dcp_pft.specs.Cutting.{chunk_count, chunks_of, shape_of}
 use Rattle.dcp_pft.specs.Head.{IsFragmentOf}
 
 -- the fragments make as many chunks as the packet was cut into
@@ -23,6 +23,7 @@ pub record IsTaken (shape : Shape) : Type 0 where
   pub some : 0 < shape.count
   pub few : shape.count ≤ 1024
   pub bytes : shape.count * shape.piece ≤ 12288
+  pub chunks : chunks_of shape ≤ 40
   pub code : (rs : Rs) → shape.rs ≡ Some rs → IsCodeTaken rs (chunks_of shape)
 
 -- a reader takes every shape
@@ -31,8 +32,9 @@ AllTaken =
     (len m mtu : ℕ) → 1 ≤ len → len ≤ 8192 → m ≤ 5 → 128 ≤ mtu → mtu ≤ 1500
     → IsTaken (shape_of len m mtu)
 
--- a packet's fragment is one datagram
+-- a packet's fragment is one datagram, however it is cut
 abbrev pub OneFragment : Type 0
 OneFragment =
-    (shape : Shape) (seq i : ℕ) (packet first second : List ℕ) → IsShapeOf (length packet) shape
-    → IsFragmentOf shape seq packet i first → IsFragmentOf shape seq packet i second → second ≡ first
+    (m mtu seq i : ℕ) (packet first second : List ℕ) → 1 ≤ length packet
+    → IsFragmentOf (shape_of (length packet) m mtu) seq packet i first → IsFragmentOf (shape_of (length packet) m mtu) seq packet i second
+    → second ≡ first
