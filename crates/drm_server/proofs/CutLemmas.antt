@@ -1,5 +1,6 @@
 -- How a packet is cut, and its datagrams.
-use Rattle.std.proofs.Common.{◌≡◌, ◌<◌, ◌≤◌, ◌+◌, ◌*◌, ◌%◌, ◌^◌, ℕ, List, length, take, Option, None, Some, refl, sym, ap, subst, ◌∙◌, arith}
+use Rattle.std.proofs.Common.{◌≡◌, ◌<◌, ◌≤◌, ◌+◌, ◌*◌, ◌%◌, ◌^◌, ℕ, List, ◌++◌, length, take, None, Some, refl, sym, ap, subst, ◌∙◌, arith}
+use Rattle.std.proofs.Math.Seq.{take-append_seam}
 use Rattle.drm_schedule.specs.declared.carry.Carry.{Carry}
 use Rattle.drm_schedule.specs.declared.carry.Carry.TheVariants.{Plain, Pft}
 use Rattle.drm_schedule.specs.declared.plan.Plan.{Plan}
@@ -61,3 +62,7 @@ cut_datagram plan t i packet datagram shape is cut within fragment =
 
 pub below_cut : (plan : Plan) (t i : ℕ) (packet : List ℕ) (shape : Shape) → IsPacketAt plan t packet → IsCutOf plan.carry (length packet) (Some shape) → (count : ℕ) × HasDatagrams plan t count × (i < count) → i < shape.count
 below_cut plan t i packet shape is cut within = omega (arith, below plan t i packet is within, count_cut plan.carry (length packet) shape cut)
+
+-- the front of bytes that were written over
+pub front_of : (n f : ℕ) (written rest bytes : List ℕ) → bytes ≡ take f (written ++ rest) → f ≡ length written → take n bytes ≡ take n written
+front_of n f written rest bytes is same = ap (take n) (is ∙ (ap (λ k. take k (written ++ rest)) same ∙ take-append_seam written rest))

@@ -6,11 +6,10 @@ use Rattle.std.specs.List.{concat}
 use Rattle.drm_schedule.specs.declared.carry.Carry.{Carry}
 use Rattle.drm_schedule.specs.declared.carry.Carry.TheVariants.{Plain, Pft}
 use Rattle.drm_schedule.specs.declared.plan.Plan.{Plan}
-use Rattle.dcp_pft.specs.Cutting.{shape_of}
-use Rattle.dcp_pft.specs.Laws.{HasOneFragment}
+use Rattle.dcp_pft.specs.Laws.{OneFragment}
 use Rattle.drm_server.specs.Datagrams.{Carries, datagram_count, HasDatagrams, IsDatagramAt, AreFirst, AreOfFrame, AreOfFrames, AreDatagrams, AreBefore}
 use Rattle.drm_server.specs.Capture.{IsCapture}
-use Rattle.drm_server.proofs.OnePacket.{one_packet}
+use Rattle.drm_server.proofs.OnePacket.{one_packet, some_bytes}
 
 -- a frame has one number of datagrams
 pub one_count : (plan : Plan) (t m n : ℕ) → HasDatagrams plan t m → HasDatagrams plan t n → m ≡ n
@@ -53,16 +52,16 @@ frames_split plan t (suc n) datagrams l (before, of_frame, are, is, same) =
     (before, of_frame, [], subst (λ k. AreOfFrames plan k before) last are, subst (λ k. AreOfFrame plan k of_frame) last is, same ∙ ap (λ l. before ++ l) (sym (append-nil of_frame))))
     (cases_lt t n)
 
-module _ (one_fragment : HasOneFragment) where
-  one_carried : (carry : Carry) (seq i : ℕ) (packet datagram other : List ℕ) → Carries carry seq packet i datagram → Carries carry seq packet i other → datagram ≡ other
-  one_carried Plain seq i packet datagram other x y = x ∙ sym y
-  one_carried (Pft m mtu) seq i packet datagram other x y = one_fragment (shape_of (length packet) m mtu) seq i packet datagram other x y
+module _ (one_fragment : OneFragment) where
+  one_carried : (carry : Carry) (seq i : ℕ) (packet datagram other : List ℕ) → 1 ≤ length packet → Carries carry seq packet i datagram → Carries carry seq packet i other → datagram ≡ other
+  one_carried Plain seq i packet datagram other some x y = x ∙ sym y
+  one_carried (Pft m mtu) seq i packet datagram other some x y = one_fragment m mtu seq i packet other datagram some y x
 
   one_datagram : (plan : Plan) (t i : ℕ) (datagram other : List ℕ) → IsDatagramAt plan t i datagram → IsDatagramAt plan t i other → datagram ≡ other
   one_datagram plan t i datagram other x y =
       let seq : ℕ = (plan.seq + t) % 2 ^ 16 in
       let same : x.packet ≡ y.packet = one_packet plan t x.packet y.packet x.is_packet y.is_packet in
-      one_carried plan.carry seq i y.packet datagram other (subst (λ (p : List ℕ). Carries plan.carry seq p i datagram) same x.is) y.is
+      one_carried plan.carry seq i y.packet datagram other (some_bytes plan t y.packet y.is_packet) (subst (λ (p : List ℕ). Carries plan.carry seq p i datagram) same x.is) y.is
 
   one_first : (plan : Plan) (t i : ℕ) (datagrams others : List (List ℕ)) → AreFirst plan t i datagrams → AreFirst plan t i others → datagrams ≡ others
   one_first plan t zero datagrams others x y = x ∙ sym y

@@ -1,5 +1,5 @@
 -- A frame has one packet.
-use Rattle.std.proofs.Common.{◌≡◌, ◌+◌, ◌-◌, ◌*◌, ◌/◌, ◌%◌, ◌^◌, ◌==◌, ℕ, zero, suc, Bool, true, false, List, ◌++◌, map, Option, Some, None, refl, sym, ap, subst, ◌∙◌}
+use Rattle.std.proofs.Common.{◌≡◌, ◌+◌, ◌-◌, ◌*◌, ◌/◌, ◌%◌, ◌^◌, ◌==◌, ◌≤◌, ℕ, Bool, true, false, List, ◌++◌, map, length, arith, Option, Some, None, refl, sym, ap, subst, ◌∙◌}
 use Rattle.std.specs.Int.{w16, to_be_bytes}
 use Rattle.drm_bits.specs.Bits.{IsBytes}
 use Rattle.drm_bits.specs.declared.description.MuxDesc.{MuxDesc}
@@ -82,3 +82,14 @@ one_packet plan t packet other x y =
     one_frame plan t x.parts y.parts x.frame y.frame (block_bytes x.parts.block x.parts x.payload refl x.written small_x) (block_bytes y.parts.block y.parts y.payload refl y.written small_y) in
     let payload : x.payload ≡ y.payload = spellings.one_spelling y.parts x.payload y.payload (subst (λ (p : Parts). IsWrittenOf p x.payload) parts x.written) y.written small_x small_y in
     one_af (af y.payload) packet other refl (subst (λ (l : List ℕ). IsAf (af l) packet) payload x.is) y.is
+
+-- it has a head
+pub some_bytes : (plan : Plan) (t : ℕ) (packet : List ℕ) → IsPacketAt plan t packet → 1 ≤ length packet
+some_bytes plan t packet x =
+    let af : AfPacket = record { seq = (plan.seq + t) % 2 ^ 16; checked = true; minor = 0; payload = x.payload } in
+    some_of af packet x.is
+  where
+    some_of : (p : AfPacket) (packet : List ℕ) → IsAf p packet → 1 ≤ length packet
+    some_of p packet (check, ends, checks) =
+        let long : length packet ≡ length (head p ++ p.payload ++ to_be_bytes w16 check) = ap length ends.spelled in
+        omega (arith, long)

@@ -41,7 +41,8 @@ pub struct Server<'a> {
 }
 
 impl<'a> Model for Server<'a> {
-    ghost use Rattle.std.specs.Prelude.{◌≡◌, ◌*◌, ◌<◌, ◌≤◌, length, take};
+    ghost use Rattle.std.specs.Prelude.{◌≡◌, ◌*◌, ◌<◌, ◌≤◌, length, take, IfSome};
+    ghost use Rattle.dcp_pft.specs.Cutting.{IsShapeOf};
     ghost use Rattle.drm_server.specs.Frames.{IsPacketAt};
     ghost use Rattle.drm_server.specs.Serving.{Serving, IsPacketLength, IsCutOf, HoldsParity};
 
@@ -56,6 +57,7 @@ impl<'a> Model for Server<'a> {
         × IsPacketAt s.plan.now s.frame (take s.len s.buffer.items)
         × IsPacketLength s.plan.now s.frame s.len
         × IsCutOf s.plan.now.carry s.len s.cut
+        × IfSome s.cut (IsShapeOf s.len)
         × (length s.parity.items ≡ 1920)
         × HoldsParity s.cut (take s.len s.buffer.items) s.parity.items
         × (length s.fragment.items ≡ 1500) };
@@ -120,7 +122,6 @@ impl<'a> Server<'a> {
         ensures some { 1 ≤ result }
         ensures few { result ≤ 1024 }
     {
-        self.plan.always_valid();
         all_taken();
         match self.cut {
             None => 1,
