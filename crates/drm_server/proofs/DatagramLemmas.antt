@@ -1,6 +1,7 @@
 -- The datagrams of one frame, and of one frame more.
 use Rattle.std.proofs.Common.{◌≡◌, ◌+◌, ℕ, zero, suc, List, [], ◌∷◌, ◌++◌, length, refl, ap, subst, ◌∙◌, arith, length-append}
 use Rattle.drm_schedule.specs.declared.plan.Plan.{Plan}
+use Rattle.drm_server.specs.Serving.{Serving}
 use Rattle.drm_server.specs.Datagrams.{IsDatagramAt, AreFirst, AreOfFrame, AreOfFrames}
 
 pub next_datagram : (plan : Plan) (t i : ℕ) (before : List (List ℕ)) (datagram : List ℕ) → AreFirst plan t i before → IsDatagramAt plan t i datagram → AreFirst plan t (i + 1) (before ++ datagram ∷ [])
@@ -25,3 +26,7 @@ first_length plan t zero datagrams are = ap length are
 first_length plan t (suc i) datagrams (before, datagram, are, is, same) =
     let whole : length datagrams ≡ length before + 1 = ap length same ∙ length-append before (datagram ∷ []) in
     omega (arith, whole, first_length plan t i before are)
+
+-- the server that loaded frame t
+pub at_frame : (old new : Serving) (plan : Plan) (t : ℕ) → new ≡ record old { frame = t } → old.plan ≡ plan → new ≡ record { plan = plan; frame = t }
+at_frame old new plan t is same = is ∙ ap (λ (p : Plan). record { plan = p; frame = t }) same

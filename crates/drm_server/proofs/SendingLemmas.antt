@@ -4,9 +4,9 @@ use Rattle.std.proofs.lemmas.List.{append-nil}
 use Rattle.drm_schedule.specs.declared.plan.Plan.{Plan}
 use Rattle.drm_links.specs.Link.{Traffic}
 use Rattle.drm_links.specs.Transmission.{Transmits, SendsAll, SendsNoMore}
-use Rattle.drm_links.proofs.TransmissionLemmas.{Transmits-then, SendsAll-then, SendsAll-no_more}
-use Rattle.drm_server.specs.Datagrams.{IsDatagramAt, AreFirst, AreOfFrames}
-use Rattle.drm_server.specs.Sending.{SendsPart}
+use Rattle.drm_links.proofs.TransmissionLemmas.{Transmits-then, Transmits-weaker, SendsAll-then, SendsAll-no_more}
+use Rattle.drm_server.specs.Datagrams.{IsDatagramAt, AreFirst, AreOfFrames, AreDatagrams}
+use Rattle.drm_server.specs.Sending.{SendsSchedule, SendsPart}
 use Rattle.drm_server.specs.OneFrame.{SendsPartOfFrame}
 
 -- some, and then others
@@ -32,3 +32,7 @@ part_sent plan t datagrams a b c within are first second =
     (λ x y z all part. (part.1, datagrams ++ part.2,
     record { t = t; within = within; i = part.0; is_next = part.3.0; of_frames = datagrams; are_of_frames = are; of_frame = part.2; are_first = part.3.1; are = refl },
     SendsAll-no_more datagrams part.2 x y z all part.4))
+
+-- all
+pub all_sent : (plan : Plan) (datagrams : List (List ℕ)) (a b : Option Traffic) → AreDatagrams plan datagrams → Transmits a b (SendsAll datagrams) → Transmits a b (SendsSchedule plan)
+all_sent plan datagrams a b are sent = Transmits-weaker (SendsAll datagrams) (SendsSchedule plan) a b sent (λ x y all. (datagrams, are, all))

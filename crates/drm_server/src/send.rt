@@ -1,12 +1,13 @@
 //! A schedule over a link.
 
-ghost use Rattle.std.specs.Prelude.{[], ◌≡◌, ◌*◌, ◌≤◌, IfOk, OnOk, OnErr, IsErr};
+ghost use Rattle.std.specs.Prelude.{[], ◌∷◌, ◌≡◌, ◌*◌, ◌≤◌, length, IfOk, OnOk, OnErr, IsErr};
 ghost use Rattle.drm_links.specs.Told.{HasCause};
+ghost use Rattle.drm_links.specs.Link.{longest_told};
 ghost use Rattle.drm_links.specs.ManyCalls.{MakesCalls};
-ghost use Rattle.drm_links.specs.Transmission.{Transmits, SendsAll};
+ghost use Rattle.drm_links.specs.Transmission.{Transmits, SendsAll, SendsNoMore};
 ghost use Rattle.drm_server.specs.Capture.{IsCount};
 ghost use Rattle.drm_server.specs.Sending.{SendsSchedule, SendsPart};
-ghost use Rattle.drm_server.specs.OneFrame.{SendsFrame, SendsPartOfFrame, IsCountOfFrame};
+ghost use Rattle.drm_server.specs.OneFrame.{SentFrame, SendsPartOfFrame};
 
 use crate::Server;
 use drm_links::{Link, LinkFault, Sent};
@@ -51,9 +52,8 @@ fn rest_between<L: Link>(link: &mut L, t: u32, pace: u32)
 
 // Sends the datagrams of the frame that is loaded.
 fn send_frame<L: Link>(server: &mut Server<'_>, link: &mut L) -> Result<u64, LinkFault>
-    ensures whole { OnOk result (Transmits (L.tells link.old) (L.tells link.new)
-        (SendsFrame server.old.plan server.old.frame)) }
-    ensures count { IfOk result (IsCountOfFrame server.old.plan server.old.frame) }
+    ensures whole { IfOk result (λ n. SentFrame server.old.plan server.old.frame n
+        (L.tells link.old) (L.tells link.new)) }
     ensures few { IfOk result (λ n. n ≤ 1024) }
     ensures part { OnErr result (Transmits (L.tells link.old) (L.tells link.new)
         (SendsPartOfFrame server.old.plan server.old.frame)) }
@@ -64,9 +64,22 @@ fn send_frame<L: Link>(server: &mut Server<'_>, link: &mut L) -> Result<u64, Lin
 {
     let count = server.fragments();
     for i in 0..count {
-        if link.send(server.datagram(i)) == Sent::Failed {
-            return Err(LinkFault);
-        }
+        send_datagram(link, server.datagram(i))?;
     }
     Ok(u64::from(count))
+}
+
+fn send_datagram<L: Link>(link: &mut L, datagram: &[u8]) -> Result<(), LinkFault>
+    requires { length datagram.now ≤ longest_told }
+    ensures sent { OnOk result (Transmits (L.tells link.old) (L.tells link.new)
+        (SendsAll (datagram.now ∷ []))) }
+    ensures none { OnErr result (Transmits (L.tells link.old) (L.tells link.new) (SendsNoMore [])) }
+    ensures cause { HasCause (L.faults link.old) (L.faults link.new) (IsErr result) }
+    ensures idle { L.idles link.new ≡ L.idles link.old }
+    ensures calls { MakesCalls (λ traffic. traffic.calls) 1 (L.tells link.old) (L.tells link.new) }
+{
+    match link.send(datagram) {
+        Sent::Sent => Ok(()),
+        Sent::Failed => Err(LinkFault),
+    }
 }

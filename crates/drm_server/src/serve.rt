@@ -4,7 +4,7 @@ ghost use Rattle.std.specs.Prelude.{◌≡◌, ◌≤◌, IfOk, OnOk, OnErr, IsE
 ghost use Rattle.drm_links.specs.Told.{HasCause};
 ghost use Rattle.drm_links.specs.Sink.{Outputs};
 ghost use Rattle.drm_server.specs.Capture.{IsCapture, IsFrontOfCapture, IsCount};
-ghost use Rattle.drm_server.specs.OneFrame.{WritesFrame, WritesPartOfFrame, IsCountOfFrame};
+ghost use Rattle.drm_server.specs.OneFrame.{WroteFrame, IsPartOfFrame};
 
 use crate::Server;
 use crate::output::write_all;
@@ -28,12 +28,11 @@ pub fn serve_sink<O: Sink>(server: &mut Server<'_>, out: &mut O) -> Result<u64, 
 
 // Writes the datagrams of the frame that is loaded.
 fn write_frame<O: Sink>(server: &mut Server<'_>, out: &mut O) -> Result<u64, WriteFault>
-    ensures whole { OnOk result (Outputs (O.tells out.old) (O.tells out.new)
-        (WritesFrame server.old.plan server.old.frame)) }
-    ensures count { IfOk result (IsCountOfFrame server.old.plan server.old.frame) }
+    ensures whole { IfOk result (λ n. WroteFrame server.old.plan server.old.frame n
+        (O.tells out.old) (O.tells out.new)) }
     ensures few { IfOk result (λ n. n ≤ 1024) }
-    ensures front { OnErr result (Outputs (O.tells out.old) (O.tells out.new)
-        (WritesPartOfFrame server.old.plan server.old.frame)) }
+    ensures part { OnErr result (Outputs (O.tells out.old) (O.tells out.new)
+        (IsPartOfFrame server.old.plan server.old.frame)) }
     ensures cause { HasCause (O.faults out.old) (O.faults out.new) (IsErr result) }
     ensures server { server.new ≡ server.old }
 {

@@ -1,0 +1,16 @@
+use Rattle.std.proofs.Common.{◌≡◌, ◌≤◌, ℕ, List}
+use Rattle.drm_links.specs.Link.{Traffic}
+use Rattle.drm_links.specs.ManyCalls.{MakesCalls}
+use Rattle.drm_links.specs.Transmission.{Transmits, SendsAll}
+use Rattle.drm_server.specs.Datagrams.{AreFirst}
+use Rattle.drm_server.proofs.send.send_frame.Given as goal
+
+-- the datagrams before this one were sent
+abbrev pub invariant-loop-i : goal.invariant-loop-i
+invariant-loop-i g l =
+    (datagrams : List (List ℕ)) × AreFirst l.fn.server.plan l.fn.server.frame l.i datagrams
+    × Transmits (g.L.Link.tells l.fn.link) (g.L.Link.tells l.link) (SendsAll datagrams)
+    × (g.L.Link.faults l.fn.link ≤ g.L.Link.faults l.link)
+    × (g.L.Link.idles l.link ≡ g.L.Link.idles l.fn.link)
+    × MakesCalls (λ (t : Traffic). t.calls) l.i (g.L.Link.tells l.fn.link) (g.L.Link.tells l.link)
+    × (l.server ≡ l.fn.server)

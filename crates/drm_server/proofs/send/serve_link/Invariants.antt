@@ -1,0 +1,18 @@
+use Rattle.std.proofs.Common.{◌≡◌, ◌*◌, ◌≤◌, ℕ, List, length}
+use Rattle.drm_links.specs.Link.{Traffic}
+use Rattle.drm_links.specs.ManyCalls.{MakesCalls}
+use Rattle.drm_links.specs.Transmission.{Transmits, SendsAll}
+use Rattle.drm_server.specs.Datagrams.{AreOfFrames}
+use Rattle.drm_server.proofs.send.serve_link.Given as goal
+
+-- the datagrams of the frames before this one were sent
+abbrev pub invariant-loop-t : goal.invariant-loop-t
+invariant-loop-t g l =
+    (datagrams : List (List ℕ)) × AreOfFrames l.fn.server.plan l.t datagrams
+    × Transmits (g.L.Link.tells l.fn.link) (g.L.Link.tells l.link) (SendsAll datagrams)
+    × (g.L.Link.faults l.fn.link ≤ g.L.Link.faults l.link)
+    × (g.L.Link.idles l.link ≡ g.L.Link.idles l.fn.link)
+    × MakesCalls (λ (t : Traffic). t.calls) (1025 * l.t) (g.L.Link.tells l.fn.link) (g.L.Link.tells l.link)
+    × (l.server.plan ≡ l.fn.server.plan)
+    × (l.sent ≡ length datagrams)
+    × (l.sent ≤ 1024 * l.t)
