@@ -3,11 +3,15 @@
 #![tactic(auto)]
 
 mod coding;
+#[cfg(test)]
+mod cutting_tests;
 mod fragment;
 mod laws;
 mod parts;
 mod shape;
 mod write;
+#[cfg(test)]
+mod writing_tests;
 
 pub use coding::code;
 pub use fragment::Addr;
