@@ -1,9 +1,9 @@
 -- The parity of a packet, chunk by chunk.
-use Rattle.std.proofs.Common.{ℕ, zero, suc, ◌≡◌, ◌+◌, ◌-◌, ◌*◌, ◌<◌, ◌≤◌, inl, inr, Option, None, Some, List, ◌++◌, length, take, drop, replicate, sym, subst, ap, ◌∙◌, append_assoc, arith, length-drop}
+use Rattle.std.proofs.Common.{length-append, length-take, ℕ, zero, suc, ◌≡◌, ◌+◌, ◌-◌, ◌*◌, ◌<◌, ◌≤◌, inl, inr, Option, None, Some, List, ◌++◌, length, take, drop, replicate, sym, subst, ap, ◌∙◌, append_assoc, arith, length-drop}
 use Rattle.std.proofs.Math.Nat.{mul-le-mul_left}
 use Rattle.std.proofs.Math.Seq.{take-append-add}
 use Rattle.std.proofs.lemmas.Bool.{cases_lt}
-use Rattle.std.proofs.lemmas.List.{take_at, drop_at, drop-drop, take-append-le, drop-append-le, take_all, take-replicate, drop-replicate, take-take, drop-take, append-nil, length-take-le, nil_from_length}
+use Rattle.std.proofs.lemmas.List.{take_at, drop_at, drop-drop, take-append-le, drop-append-le, take_all, take-replicate, length-replicate, replicate-append-replicate, take-take, drop-take, append-nil, length-take-le, nil_from_length}
 use Rattle.rs_erase.specs.Code.{IsCodeWord, word_of}
 use Rattle.dcp_pft.specs.declared.shape.Rs.{Rs}
 use Rattle.dcp_pft.specs.declared.shape.Shape.{Shape}
@@ -18,16 +18,21 @@ take_more_than xs ys n le =
     let e : n ≡ length xs + (n - length xs) = omega arith in
     ap (λ (m : ℕ). take m (xs ++ ys)) e ∙ take-append-add xs ys (n - length xs)
 
--- bytes at the front of zeros
-pub chunk_put : (n k : ℕ) (bytes new : List ℕ) → k ≤ n → length bytes ≤ k → new ≡ bytes ++ drop (0 + length bytes) (replicate n 0)
-    → take k new ≡ bytes ++ replicate (k - length bytes) 0
-chunk_put n k bytes new within fits is =
-    let none : n - (0 + length bytes) ≡ n - length bytes = omega arith in
-    let whole : new ≡ bytes ++ replicate (n - length bytes) 0 =
-    is ∙ ap (λ (l : List ℕ). bytes ++ l) (drop-replicate (0 + length bytes) n 0 ∙ ap (λ (m : ℕ). replicate m 0) none) in
-    ap (take k) whole
-    ∙ (take_more_than bytes (replicate (n - length bytes) 0) k fits
-    ∙ ap (λ (l : List ℕ). bytes ++ l) (take-replicate (k - length bytes) (n - length bytes) 0 (omega arith)))
+-- zeros behind a chunk are among those that the code puts there
+two_parts : (chunk some rest parity : List ℕ) → chunk ++ (some ++ rest) ++ parity ≡ chunk ++ some ++ rest ++ parity
+two_parts chunk some rest parity = let e : chunk ++ some ++ rest ≡ chunk ++ (some ++ rest) = append_assoc chunk some rest in ap (λ (l : List ℕ). l ++ parity) (sym e)
+
+zeros_are : (all some rest : ℕ) → all ≡ some + rest → replicate {A = ℕ} all 0 ≡ replicate some 0 ++ replicate rest 0
+zeros_are all some rest is = ap (λ (n : ℕ). replicate {A = ℕ} n 0) is ∙ sym (replicate-append-replicate some rest 0)
+
+more_zeros : (chunk parity : List ℕ) (k : ℕ) → length chunk ≤ k → k ≤ 207 → word_of chunk parity ≡ word_of (chunk ++ replicate (k - length chunk) 0) parity
+more_zeros chunk parity k within small =
+    let size = length-append chunk (replicate (k - length chunk) 0) in
+    let all : 207 - length chunk ≡ k - length chunk + (207 - length (chunk ++ replicate (k - length chunk) 0)) =
+    omega (arith, size, length-replicate {A = ℕ} (k - length chunk) 0) in
+    let zeros = zeros_are (207 - length chunk) (k - length chunk) (207 - length (chunk ++ replicate (k - length chunk) 0)) all in
+    ap (λ (l : List ℕ). chunk ++ l ++ parity) zeros
+    ∙ two_parts chunk (replicate (k - length chunk) 0) (replicate (207 - length (chunk ++ replicate (k - length chunk) 0)) 0) parity
 
 -- what was put in its place stands there
 pub put_there : (old last new : List ℕ) (at n : ℕ) → at + n ≤ length old → length last ≡ n → new ≡ take at old ++ last ++ drop (at + length last) old
@@ -67,22 +72,24 @@ chunk_filled c k z packet whole small j lt =
     ]
 
 -- the parity of one more chunk is written
-pub one_more : (c k z i : ℕ) (packet bytes old new : List ℕ) → c * k ≡ length packet + z → z < k → i < c
+pub one_more : (c k z i : ℕ) (packet bytes old new : List ℕ) → c * k ≡ length packet + z → z < k → k ≤ 207 → i < c
     → bytes ≡ take k (drop (i * k) packet) → take (i * 48) new ≡ take (i * 48) old
-    → IsCodeWord (word_of (bytes ++ replicate (k - length bytes) 0) (take 48 (drop (i * 48) new)))
+    → IsCodeWord (word_of bytes (take 48 (drop (i * 48) new)))
     → ((j : ℕ) → j < i → IsCodeWord (word_of (take k (drop (j * k) (packet ++ replicate z 0))) (take 48 (drop (j * 48) old))))
     → (j : ℕ) → j < i + 1 → IsCodeWord (word_of (take k (drop (j * k) (packet ++ replicate z 0))) (take 48 (drop (j * 48) new)))
-one_more c k z i packet bytes old new whole small lt is same made before j below =
+one_more c k z i packet bytes old new whole small size lt is same made before j below =
     let chunk : ℕ → List ℕ = λ n. take k (drop (n * k) (packet ++ replicate z 0)) in
     elim (cases_lt j i) [
       | inl earlier ↦
           subst (λ (l : List ℕ). IsCodeWord (word_of (chunk j) l)) (sym (same_before old new (i * 48) (j * 48) 48 same (omega arith))) (before j earlier)
       | inr last ↦
           let here : i ≡ j = omega arith in
+          let within : length bytes ≤ k = omega (arith, ap length is, length-take k (drop (i * k) packet)) in
           let all : bytes ++ replicate (k - length bytes) 0 ≡ chunk i =
           ap (λ (l : List ℕ). l ++ replicate (k - length l) 0) is ∙ chunk_filled c k z packet whole small i lt in
           subst (λ (n : ℕ). IsCodeWord (word_of (chunk n) (take 48 (drop (n * 48) new)))) here
-          (subst (λ (l : List ℕ). IsCodeWord (word_of l (take 48 (drop (i * 48) new)))) all made)
+          (subst (λ (l : List ℕ). IsCodeWord (word_of l (take 48 (drop (i * 48) new)))) all
+          (subst IsCodeWord (more_zeros bytes (take 48 (drop (i * 48) new)) k within size) made))
     ]
 
 -- the parity of each chunk at its place is the parity of all

@@ -20,7 +20,8 @@ pub fn code(packet: &[u8], shape: &Shape, parity: &mut [u8])
     }
 }
 
-// Writes the parity of each chunk of k bytes. The last one is filled with zeros.
+// Writes the parity of each chunk of k bytes. The zeros that fill the last one need no place: the code has zeros behind
+// each chunk.
 fn code_chunks(packet: &[u8], k: usize, parity: &mut [u8])
     requires size { k ≤ 207 }
     requires few { length parity.old < 2 ^ 32 }
@@ -29,21 +30,18 @@ fn code_chunks(packet: &[u8], k: usize, parity: &mut [u8])
 {
     let parity_bytes = PARITY_BYTES as usize;
     for i in 0..parity.len() / parity_bytes {
-        code_chunk(part(packet, i * k, k), k, parity, i * parity_bytes);
+        code_chunk(part(packet, i * k, k), parity, i * parity_bytes);
     }
 }
 
-// Writes the parity of one chunk of k bytes to its place. Where fewer are there, zeros fill it.
-fn code_chunk(bytes: &[u8], k: usize, parity: &mut [u8], at: usize)
-    requires size { k ≤ 207 }
-    requires within { length bytes.now ≤ k }
+// Writes the parity of one chunk of at most 207 bytes to its place.
+fn code_chunk(chunk: &[u8], parity: &mut [u8], at: usize)
+    requires size { length chunk.now ≤ 207 }
     requires room { at + 48 ≤ length parity.old }
     ensures before { take at parity.new ≡ take at parity.old }
-    ensures code_word { IsCodeWord (word_of (bytes.now ++ replicate (k - length bytes.now) 0) (take 48 (drop at parity.new))) }
+    ensures code_word { IsCodeWord (word_of chunk.now (take 48 (drop at parity.new))) }
 {
-    let mut chunk = [0; 207];
-    put(&mut chunk, 0, bytes);
     let mut last = [0; 48];
-    encode(&chunk[..k], &mut last);
+    encode(chunk, &mut last);
     put(parity, at, &last);
 }

@@ -3,6 +3,8 @@
 #![tactic(auto)]
 
 mod coding;
+#[cfg(test)]
+mod cutting_tests;
 mod fault;
 mod fragment;
 mod head;
@@ -11,6 +13,8 @@ mod parts;
 mod read;
 mod shape;
 mod write;
+#[cfg(test)]
+mod writing_tests;
 
 pub use coding::code;
 pub use fault::PftFault;

@@ -52,7 +52,6 @@ fn write_coded(
     requires shape { IsShapeOf (length packet.now) shape.now }
     requires code { shape.now.rs ≡ Some rs }
     requires parity { IsParityOf shape.now packet.now parity.now }
-    requires index { index < shape.now.count }
     ensures { Writes (fragment_of shape.now seq packet.now parity.now index) result into.old into.new }
 {
     put_head(&coded_head(seq, index, shape.count, shape.piece, rs), into);
@@ -72,7 +71,6 @@ fn write_coded(
 fn write_plain(shape: &Shape, seq: u16, index: u32, packet: &[u8], into: &mut [u8; 1500]) -> usize
     requires shape { IsShapeOf (length packet.now) shape.now }
     requires code { shape.now.rs ≡ None }
-    requires index { index < shape.now.count }
     ensures { (parity : List ℕ) → Writes (fragment_of shape.now seq packet.now parity index) result into.old into.new }
 {
     let size = usize::from(shape.piece);
@@ -127,7 +125,6 @@ fn put_head(head: &[u8], into: &mut [u8])
 // Writes every count-th byte of the coded chunks of k bytes, from the first one on.
 fn interleave(packet: &[u8], parity: &[u8], k: u8, count: u32, first: u32, into: &mut [u8])
     requires count { count ≤ 1024 }
-    requires first { first < count }
     requires room { length into.old ≤ 1500 }
     requires some { 0 < k }
     ensures bytes { IsBytes into.new }
@@ -148,7 +145,7 @@ fn interleave(packet: &[u8], parity: &[u8], k: u8, count: u32, first: u32, into:
 fn coded_byte(packet: &[u8], parity: &[u8], k: usize, place: usize) -> u8
     requires some { 0 < k }
     requires few { k ≤ 255 }
-    requires place { place < 2 ^ 32 }
+    requires place { place < 2 ^ 40 }
     ensures { (c z : ℕ) → c * k ≡ length packet.now + z → length parity.now ≡ 48 * c
         → result ≡ byte_or_zero (coded c k (packet.now ++ replicate z 0) parity.now) place }
 {

@@ -5,7 +5,7 @@ use Rattle.dcp_pft.proofs.coding.code_chunks.Goals as goal
 pub loop-i-preserved : goal.loop-i-preserved
 loop-i-preserved c = λ n z whole small long.
     let below : c.loop-i.i < n = omega (arith, c.loop-i-test.true, c.loop-i.auto.parity) in
-    one_more n c.args.k z c.loop-i.i c.args.packet.now c.part.result.now c.loop-i.parity c.code_chunk.new.parity whole small below c.part.ensures
+    one_more n c.args.k z c.loop-i.i c.args.packet.now c.part.result.now c.loop-i.parity c.code_chunk.new.parity whole small c.requires.size below c.part.ensures
     c.code_chunk.ensures.before c.code_chunk.ensures.code_word (c.loop-i.invariant n z whole small (omega arith))
 
 pub returns : goal.returns

@@ -1,0 +1,56 @@
+//! Shapes of packets, from the formulas in Python.
+
+use super::{Rs, Shape, chunks, shape_for};
+
+/// The length of the packet, the fragments that may be lost, the longest datagram; the shape, and the number of chunks.
+type Case = (usize, u8, u16, u32, u16, Option<Rs>, u32);
+
+const CASES: [Case; 14] = [
+    (12, 5, 1400, 8, 8, Some(Rs { k: 12, z: 0 }), 1),
+    (207, 1, 1400, 11, 24, Some(Rs { k: 207, z: 0 }), 1),
+    (208, 5, 1400, 19, 16, Some(Rs { k: 104, z: 0 }), 2),
+    (209, 5, 1400, 20, 16, Some(Rs { k: 105, z: 1 }), 2),
+    (400, 2, 1400, 16, 31, Some(Rs { k: 200, z: 0 }), 2),
+    (8192, 5, 128, 91, 112, Some(Rs { k: 205, z: 8 }), 40),
+    (110, 2, 1400, 10, 16, Some(Rs { k: 110, z: 0 }), 1),
+    (90, 2, 1400, 9, 16, Some(Rs { k: 90, z: 0 }), 1),
+    (1, 5, 128, 7, 7, Some(Rs { k: 1, z: 0 }), 1),
+    (8192, 1, 1500, 11, 920, Some(Rs { k: 205, z: 8 }), 40),
+    (400, 0, 1400, 1, 400, None, 0),
+    (1387, 0, 1400, 2, 694, None, 0),
+    (1, 0, 128, 1, 1, None, 0),
+    (8192, 0, 128, 72, 114, None, 0),
+];
+
+#[test]
+fn cuts_packets(rt: HostRuntime) {
+    for (len, m, mtu, count, piece, rs, made) in CASES {
+        assert!(rt; 1 <= len && len <= 8192 && m <= 5 && 128 <= mtu && mtu <= 1500);
+        let shape = shape_for(len, m, mtu);
+        assert_eq!(rt;
+            shape,
+            Shape { count, piece, rs },
+            "{len} bytes, {m} lost, {mtu}"
+        );
+        assert_eq!(rt; chunks(&shape), made, "{len} bytes, {m} lost, {mtu}");
+    }
+}
+
+// Of shapes that are no packet's, as a receiver may see them.
+#[test]
+fn counts_chunks(rt: HostRuntime) {
+    let cases: [(u32, u16, Option<Rs>, u32); 4] = [
+        (1, 254, Some(Rs { k: 207, z: 0 }), 0),
+        (1, 255, Some(Rs { k: 207, z: 0 }), 1),
+        (3, 255, Some(Rs { k: 207, z: 206 }), 3),
+        (1024, 12, None, 0),
+    ];
+    for (count, piece, rs, made) in cases {
+        assert!(rt; count <= 1024);
+        assert_eq!(rt;
+            chunks(&Shape { count, piece, rs }),
+            made,
+            "{count} of {piece}"
+        );
+    }
+}
