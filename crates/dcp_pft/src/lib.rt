@@ -6,6 +6,8 @@ mod fault;
 mod fragment;
 mod head;
 mod read;
+#[cfg(test)]
+mod read_tests;
 mod shape;
 
 pub use fault::PftFault;
