@@ -11,6 +11,8 @@ mod head;
 mod laws;
 mod parts;
 mod read;
+#[cfg(test)]
+mod read_tests;
 mod shape;
 mod write;
 #[cfg(test)]
