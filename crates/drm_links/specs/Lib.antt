@@ -9,4 +9,5 @@ pub mod MemorySource
 pub mod MemorySink
 pub mod MemoryShelf
 pub mod MemoryLink
+pub mod ClosedLinks
 pub mod MemoryDock
