@@ -1,18 +1,10 @@
 -- What the forms in memory tell before and after a call.
-use Rattle.std.proofs.Common.{◌≡◌, ℕ, ◌+◌, ◌^◌, ◌≤◌, inr, Bool, true, false, List, ◌++◌, length, take, drop, nat_le, Option, None, Some, if◌then◌else◌, refl, sym, ap, arith, is_some}
+use Rattle.std.proofs.Common.{◌≡◌, ℕ, ◌^◌, ◌≤◌, Bool, true, false, List, ◌++◌, length, take, drop, nat_le, None, Some, if◌then◌else◌, refl, sym}
 use Rattle.std.proofs.lemmas.Bool.{leb-true}
 use Rattle.std.proofs.lemmas.List.{take-append-drop, take_at, length-take-le}
-use Rattle.std.specs.Ordering.{nat_cmp}
-use Rattle.std.specs.Cmp.Lexicographic.{slice_cmp}
-use Rattle.std.specs.FinMap as map
-use Rattle.drm_links.specs.Told.{WhileTold, told_for, one_more}
+use Rattle.drm_links.specs.Told.{WhileTold, told_for}
 use Rattle.drm_links.specs.Source.{Takes}
-use Rattle.drm_links.specs.Link.{Traffic}
-use Rattle.drm_links.specs.Dock.{Opens, LinkStart, address_key}
 use Rattle.drm_links.specs.declared.source.ReadOut.TheVariants as read
-use Rattle.drm_links.specs.declared.dock.Address.{Address}
-use Rattle.drm_links.specs.declared.dock.Opened.TheVariants as opened
-use Rattle.drm_links.specs.MemoryDock.{DockState, contents_of, after_failed_opening}
 
 -- what is told before and after, by the tests of the two numbers of calls
 while_told_if : {T : Type 0} (before_told after_told : Bool) (before after : T) (P : T → T → Type 0) → (before_told ≡ true → P before after) → WhileTold (if before_told then Some before else None) (if after_told then Some after else None) P
@@ -33,12 +25,3 @@ pub Takes-from_front : (left after rest buf : List ℕ) (calls more n : ℕ) →
 Takes-from_front left after rest buf calls more n within is_buf is_after =
     while_told_for calls more _ _ (Takes (read.Got n) buf)
     (λ _. rw (is_buf, is_after) (front-taken left rest n within))
-
--- each opening at a dock where no link stands fails
-pub Opens-nothing : {L : Type 0} (tells : L → Option Traffic) (at : Address) (dock after : DockState) → dock.openings ≤ dock.calls → after ≡ after_failed_opening dock → WhileTold (contents_of dock) (contents_of after) (Opens tells at opened.Failed)
-Opens-nothing {L} tells at dock after fewer is_after =
-    rw is_after
-    (while_told_for dock.calls (one_more dock.calls) _ _ (Opens tells at opened.Failed)
-    (λ few. let calls : one_more dock.calls ≡ dock.calls + 1 = omega arith in
-    let openings : one_more dock.openings ≡ dock.openings + 1 = omega arith in
-    (inr (ap is_some (map.get-empty {X = LinkStart} (slice_cmp nat_cmp) (address_key at))), cc)))

@@ -9,5 +9,6 @@ pub mod MemorySource
 pub mod MemorySink
 pub mod MemoryShelf
 pub mod MemoryLink
+pub mod ClosedLinks
 pub mod MemoryDock
 pub mod ManyCalls

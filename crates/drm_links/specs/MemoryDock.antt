@@ -1,26 +1,130 @@
--- A dock in memory at which no link stands.
-use Rattle.std.specs.Prelude.{ℕ, List, Option}
+-- A dock in memory.
+use Rattle.std.specs.Prelude.{ℕ, ◌≡◌, ◌⊎◌, List, [], ◌∷◌, Contains, Option, None, Some, IsNone, refl}
+use Rattle.std.specs.Prelude as list
+use Rattle.std.specs.Ordering.{nat_cmp}
+use Rattle.std.specs.Cmp.Lexicographic.{slice_cmp}
 use Rattle.std.specs.FinMap as map
+use Rattle.std.specs.Coded.{Coded, code_by, coded×, coded_ℕ, coded_list}
 use Rattle.drm_links.specs.Told.{one_more, told_for}
-use Rattle.drm_links.specs.Dock.{DockContents}
+use Rattle.drm_links.specs.Link.{Traffic}
+use Rattle.drm_links.specs.Dock.{DockContents, LinkStart, address_key}
+use Rattle.drm_links.specs.MemoryLink.{LinkState, IsUntouched, traffic_of, link_tells}
+use Rattle.drm_links.specs.declared.dock.Address.{Address}
+use Rattle.drm_links.specs.declared.dock.Opened.{Opened}
+use Rattle.drm_links.specs.declared.dock.Opened.TheVariants.{Link, Failed}
 
--- the numbers of the openings, from 0, that are to fail, the number of openings and of calls so far, and how many
--- openings failed
+-- The links that stand at addresses, and those that were closed at addresses, the last one first; the numbers of the
+-- openings, from 0, that are to fail, the number of openings and of calls so far, and how many openings failed.
 pub record DockState : Type 0 where
+  pub links : map.FinMap (slice_cmp nat_cmp) LinkState
+  pub closed : List (List ℕ × LinkState)
   pub failing : List ℕ
   pub openings : ℕ
   pub calls : ℕ
   pub faults : ℕ
 
-abbrev pub contents_of : DockState → Option DockContents
+-- ---- how they are stored
+
+abbrev pub numbers_code : Coded (List ℕ)
+numbers_code = coded_list coded_ℕ
+
+abbrev pub link_code : Coded LinkState
+link_code =
+    code_by
+    (List (ℕ × List ℕ) × (List (List ℕ) × (List ℕ × (List ℕ × (List (List ℕ) × (ℕ × (ℕ × (ℕ × (ℕ × (ℕ × ℕ))))))))))
+    (coded× (coded_list (coded× coded_ℕ numbers_code))
+    (coded× (coded_list numbers_code)
+    (coded× numbers_code
+    (coded× numbers_code
+    (coded× (coded_list numbers_code) (coded× coded_ℕ (coded× coded_ℕ (coded× coded_ℕ (coded× coded_ℕ (coded× coded_ℕ coded_ℕ))))))))))
+    (λ link. (link.came, (link.coming, (link.failing, (link.idling, (link.gone, (link.room, (link.recvs, (link.sends, (link.calls, (link.faults, link.idles)))))))))))
+    (λ parts. record {
+      came = parts.0;
+      coming = parts.1.0;
+      failing = parts.1.1.0;
+      idling = parts.1.1.1.0;
+      gone = parts.1.1.1.1.0;
+      room = parts.1.1.1.1.1.0;
+      recvs = parts.1.1.1.1.1.1.0;
+      sends = parts.1.1.1.1.1.1.1.0;
+      calls = parts.1.1.1.1.1.1.1.1.0;
+      faults = parts.1.1.1.1.1.1.1.1.1.0;
+      idles = parts.1.1.1.1.1.1.1.1.1.1;
+    })
+    (λ _. refl)
+
+abbrev pub dock_code : Coded DockState
+dock_code =
+    code_by
+    (map.FinMap (slice_cmp nat_cmp) LinkState × (List (List ℕ × LinkState) × (List ℕ × (ℕ × (ℕ × ℕ)))))
+    (coded× (map.code numbers_code link_code)
+    (coded× (coded_list (coded× numbers_code link_code)) (coded× numbers_code (coded× coded_ℕ (coded× coded_ℕ coded_ℕ)))))
+    (λ dock. (dock.links, (dock.closed, (dock.failing, (dock.openings, (dock.calls, dock.faults))))))
+    (λ parts. record {
+      links = parts.0;
+      closed = parts.1.0;
+      failing = parts.1.1.0;
+      openings = parts.1.1.1.0;
+      calls = parts.1.1.1.1.0;
+      faults = parts.1.1.1.1.1;
+    })
+    (λ _. refl)
+
+-- ---- what it tells
+
+-- the answers and the sends with which this link starts
+abbrev pub start_of : LinkState → LinkStart
+start_of link = record { ahead = (traffic_of link).ahead; sends = (traffic_of link).sends }
+
+-- how these links start, at their addresses
+abbrev pub starts_of : map.FinMap (slice_cmp nat_cmp) LinkState → map.FinMap (slice_cmp nat_cmp) LinkStart
+starts_of links = map.from_entries (list.map (λ entry. (entry.0, start_of entry.1)) (map.entries links))
+
+-- what had gone over a link that was closed at this address, if it still told, beside what had gone over others
+abbrev pub with_gone : Option Traffic → List ℕ → map.FinMap (slice_cmp nat_cmp) (List (List ℕ)) → map.FinMap (slice_cmp nat_cmp) (List (List ℕ))
+with_gone None key gone = gone
+with_gone (Some traffic) key gone = map.insert gone key traffic.gone
+
+-- what had gone over the links that were closed and still told, the last one at an address
+abbrev pub gone_over : List (List ℕ × LinkState) → map.FinMap (slice_cmp nat_cmp) (List (List ℕ))
+gone_over [] = map.empty
+gone_over (entry ∷ closed) = with_gone (link_tells entry.1) entry.0 (gone_over closed)
+
+abbrev pub contents_of : DockState → DockContents
 contents_of dock =
-    told_for dock.calls (record { openings = dock.openings; failing = dock.failing; links = map.empty; gone = map.empty; calls = dock.calls })
+    record { openings = dock.openings; failing = dock.failing; links = starts_of dock.links; gone = gone_over dock.closed; calls = dock.calls }
 
--- the dock after an opening that failed
-abbrev pub after_failed_opening : DockState → DockState
-after_failed_opening dock =
-    record dock { openings = one_more dock.openings; calls = one_more dock.calls; faults = one_more dock.faults }
+abbrev pub dock_tells : DockState → Option DockContents
+dock_tells dock = told_for dock.calls (contents_of dock)
 
--- the dock after a close
-abbrev pub after_close : DockState → DockState
-after_close dock = record dock { calls = one_more dock.calls }
+-- ---- its links
+
+-- the link that stands at this address
+abbrev pub link_at : DockState → Address → Option LinkState
+link_at dock at = map.get dock.links (address_key at)
+
+-- the link that was closed last at this address
+abbrev pub closed_at : DockState → Address → Option LinkState
+closed_at dock at = map.find (slice_cmp nat_cmp) (address_key at) dock.closed
+
+-- one more link stands at this address
+abbrev pub with_start : Address → LinkStart → DockContents → DockContents
+with_start at start contents = record contents { links = map.insert contents.links (address_key at) start }
+
+-- ---- its calls
+
+-- An opening fails exactly where its number is to fail or no link stands at its address. Else the link that stood
+-- there, on which no call was made, leaves the dock.
+abbrev pub Leaves : Opened LinkState → Address → DockState → DockState → Type 0
+Leaves (Link link) at before after =
+    (Contains before.failing before.openings → ⊥)
+    × (link_at before at ≡ Some link)
+    × IsUntouched link
+    × (after ≡ record before { openings = one_more before.openings; links = map.remove before.links (address_key at); calls = one_more before.calls })
+Leaves Failed at before after =
+    (Contains before.failing before.openings ⊎ IsNone (link_at before at))
+    × (after ≡ record before { openings = one_more before.openings; calls = one_more before.calls; faults = one_more before.faults })
+
+-- the dock after this link was closed at this address
+abbrev pub after_close : Address → LinkState → DockState → DockState
+after_close at link dock = record dock { closed = (address_key at, link) ∷ dock.closed; calls = one_more dock.calls }

@@ -4,13 +4,16 @@
 #![tactic(auto)]
 
 mod dock;
+mod docked_link;
 mod failing;
+mod front;
 mod link;
 mod memory_dock;
 mod memory_link;
 mod memory_shelf;
 mod memory_sink;
 mod memory_source;
+mod room;
 mod shelf;
 mod sink;
 mod source;
@@ -19,8 +22,9 @@ mod status;
 mod tests;
 
 pub use dock::{Address, Dock, Opened};
+pub use docked_link::DockedLink;
 pub use link::{Came, Link, LinkFault, Sent};
-pub use memory_dock::MemDock;
+pub use memory_dock::{MemDock, PutFault};
 pub use memory_link::MemLink;
 pub use memory_shelf::MemShelf;
 pub use memory_sink::MemSink;

@@ -1,19 +1,32 @@
-//! A dock in memory at which no link stands.
+//! A dock in memory.
 
-ghost use Rattle.std.specs.Prelude.{◌≡◌, Some, IfOk};
+ghost use Rattle.std.specs.Prelude.{◌≡◌, ◌+◌, ◌^◌, ◌<◌, ◌≤◌, [], ◌∷◌, Some, IsNone, is_some, length, IfOk, IfErr, OnOk, OnErr};
+ghost use Rattle.std.specs.Option.{option_map, option_copied};
 ghost use Rattle.std.specs.FinMap as map;
 ghost use Rattle.drm_links.specs.Told.{HasCause, CountsCall, WhileTold};
-ghost use Rattle.drm_links.specs.Dock.{Opens, Closes, IsFresh, IsFailed};
-ghost use Rattle.drm_links.specs.MemoryDock.{contents_of, after_failed_opening, after_close};
+ghost use Rattle.drm_links.specs.Dock.{Opens, Closes, IsFresh, IsFailed, address_key};
+ghost use Rattle.drm_links.specs.MemoryLink.{IsUntouched, link_tells};
+ghost use Rattle.drm_links.specs.MemoryDock.{Leaves, after_close, link_at, closed_at, dock_tells, start_of, with_start};
 
+use crate::docked_link::{Closed, DockedLink, Standing};
+use crate::failing::is_listed;
 use crate::{Address, Dock, Link, MemLink, Opened};
 use drm_bits::NoMemory;
 use std::alloc::Global;
+use std::collections::{BTreeMap, LinkedList};
 use std::marker::Model;
 
-/// A dock without links: each opening fails.
+/// Why a link wasn't put. It comes back.
+#[derive(Drop)]
+pub enum PutFault {
+    NoMemory(MemLink),
+}
+
+/// A dock that gives the links that were put, keeps those that are closed, and fails where told.
 #[derive(Drop)]
 pub struct MemDock {
+    links: BTreeMap<[u16; 5], Standing>,
+    closed: LinkedList<Option<Closed>>,
     failing: Vec<u64>,
     openings: u64,
     calls: u64,
@@ -21,21 +34,58 @@ pub struct MemDock {
 }
 
 impl Model for MemDock {
-    ghost use Rattle.std.specs.Prelude.{◌≤◌};
-    ghost use Rattle.drm_links.specs.MemoryDock.{DockState};
+    ghost use Rattle.std.specs.Prelude.{◌≡◌, ◌≤◌, length};
+    ghost use Rattle.std.specs.FinMap as map;
+    ghost use Rattle.drm_links.specs.MemoryDock.{DockState, dock_code};
 
     ghost Value = { DockState };
 
-    ghost view = { λ dock. record { failing = dock.failing.items; openings = dock.openings; calls = dock.calls; faults = dock.faults } };
+    ghost coded = { dock_code };
 
-    ghost invariant = { λ dock. dock.openings ≤ dock.calls };
+    ghost use Rattle.drm_links.specs.ClosedLinks.{entries_of};
+
+    ghost view = { λ dock. record {
+      links = map.from_entries dock.links.entries;
+      closed = entries_of dock.closed;
+      failing = dock.failing.items;
+      openings = dock.openings;
+      calls = dock.calls;
+      faults = dock.faults;
+    } };
+
+    ghost invariant = { λ dock. (dock.openings ≤ dock.calls)
+        × (length dock.closed ≤ dock.calls)
+        × (length (entries_of dock.closed) ≡ length dock.closed) };
+}
+
+// The most nodes of a list.
+const MOST_CLOSED: usize = 0x7fff_ffff_ffff_ffff;
+
+// The key of an address: its four bytes and its port.
+fn key_of(at: Address) -> [u16; 5]
+    ensures { result ≡ address_key at }
+{
+    let [a, b, c, d] = at.ip;
+    [
+        u16::from(a),
+        u16::from(b),
+        u16::from(c),
+        u16::from(d),
+        at.port,
+    ]
 }
 
 impl MemDock {
-    /// The numbers in `fail` count the openings from 0, those of `bind` and `reach` together.
+    /// A dock without links. The numbers in `fail` count the openings from 0, those of `bind` and `reach` together.
     pub fn make(alloc: Global, fail: &[u64]) -> Result<MemDock, NoMemory>
-        ensures made { IfOk result (λ dock. dock
-            ≡ record { failing = fail.now; openings = 0; calls = 0; faults = 0 }) }
+        ensures made { IfOk result (λ dock. dock ≡ record {
+          links = map.empty;
+          closed = [];
+          failing = fail.now;
+          openings = 0;
+          calls = 0;
+          faults = 0;
+        }) }
         ensures tells { IfOk result (λ dock. ⟦<MemDock as Dock>⟧.tells dock
             ≡ Some (record {
               openings = 0;
@@ -47,6 +97,8 @@ impl MemDock {
         ensures faults { IfOk result (λ dock. ⟦<MemDock as Dock>⟧.faults dock ≡ 0) }
     {
         Ok(MemDock {
+            links: BTreeMap::new(alloc),
+            closed: LinkedList::new(alloc),
             failing: fail.to_vec(alloc)?,
             openings: 0,
             calls: 0,
@@ -54,59 +106,126 @@ impl MemDock {
         })
     }
 
-    // Counts an opening, which fails since no link stands at any address.
-    fn refuse(&mut self, at: Address) -> Opened<MemLink>
-        ensures fails { IsFailed result }
-        ensures exact { self.new ≡ after_failed_opening self.old }
-        ensures opened { WhileTold (contents_of self.old) (contents_of self.new)
-            (Opens ⟦<MemLink as Link>⟧.tells at result) }
+    /// Puts a link, on which no call was made, at an address where none stands.
+    pub fn put(&mut self, alloc: Global, at: Address, link: MemLink) -> Result<(), PutFault>
+        requires untouched { IsUntouched link }
+        requires vacant { IsNone (link_at self.old at) }
+        ensures put { OnOk result (self.new
+            ≡ record self.old { links = map.insert self.old.links (address_key at) link }) }
+        ensures tells { OnOk result (dock_tells self.new
+            ≡ option_map (with_start at (start_of link)) (dock_tells self.old)) }
+        ensures returned { IfErr result (λ fault. fault ≡ PutFault.NoMemory link) }
+        ensures unchanged { OnErr result (self.new ≡ self.old) }
+    {
+        let docked = match DockedLink::make(alloc, link) {
+            Ok(docked) => docked,
+            Err(link) => return Err(PutFault::NoMemory(link)),
+        };
+        match self.links.insert(key_of(at), Standing::make(docked)) {
+            Ok(_) => Ok(()),
+            Err(refused) => {
+                let (_, standing) = refused.value;
+                Err(PutFault::NoMemory(standing.into_docked().into_link()))
+            }
+        }
+    }
+
+    /// Whether a link stands at this address.
+    pub fn has(&self, at: Address) -> bool
+        ensures { result ≡ is_some (link_at self.now at) }
+    {
+        self.links.contains_key(&key_of(at))
+    }
+
+    /// The link that was closed last at this address.
+    pub fn closed(&self, at: Address) -> Option<&MemLink>
+        ensures { option_copied result ≡ closed_at self.now at }
+    {
+        let key = key_of(at);
+        let mut nodes = self.closed.iter();
+        while let Some(node) = nodes.next() {
+            if let Some(closed) = node
+                && key == key_of(closed.at)
+            {
+                return Some(&closed.link);
+            }
+        }
+        None
+    }
+
+    // What is known of the dock between its calls.
+    fn counted(&self)
+        ensures { self.now.openings ≤ self.now.calls }
+    {
+        let _ = &self.calls;
+    }
+
+    // Gives the link that stands at this address.
+    fn take_out(&mut self, at: Address) -> Opened<DockedLink>
+        ensures exact { Leaves result at self.old self.new }
+        ensures fresh { IsFresh ⟦<DockedLink as Link>⟧.faults ⟦<DockedLink as Link>⟧.idles result }
         ensures cause { HasCause self.old.faults self.new.faults (IsFailed result) }
     {
-        self.openings = self.openings.saturating_add(1);
+        let opening = self.openings;
+        self.openings = opening.saturating_add(1);
         self.calls = self.calls.saturating_add(1);
-        self.faults = self.faults.saturating_add(1);
-        Opened::Failed
+        if is_listed(&self.failing, opening) {
+            self.faults = self.faults.saturating_add(1);
+            return Opened::Failed;
+        }
+        let Some(standing) = self.links.remove(&key_of(at)) else {
+            self.faults = self.faults.saturating_add(1);
+            return Opened::Failed;
+        };
+        Opened::Link(standing.into_docked())
     }
 }
 
 impl Dock for MemDock {
-    type L = MemLink;
+    type L = DockedLink;
 
     ghost faults = { λ dock. dock.faults };
 
-    ghost tells = { contents_of };
+    ghost tells = { dock_tells };
 
-    fn bind(&mut self, at: Address) -> Opened<MemLink>
-        ensures fails { IsFailed result }
-        ensures exact { self.new ≡ after_failed_opening self.old }
-        ensures fresh { IsFresh ⟦<MemLink as Link>⟧.faults ⟦<MemLink as Link>⟧.idles result }
-        ensures opened { WhileTold (contents_of self.old) (contents_of self.new)
-            (Opens ⟦<MemLink as Link>⟧.tells at result) }
-        ensures told { CountsCall (λ contents. contents.calls) (contents_of self.old) (contents_of self.new) }
+    fn bind(&mut self, at: Address) -> Opened<DockedLink>
+        ensures exact { Leaves result at self.old self.new }
+        ensures fresh { IsFresh ⟦<DockedLink as Link>⟧.faults ⟦<DockedLink as Link>⟧.idles result }
+        ensures opened { WhileTold (dock_tells self.old) (dock_tells self.new)
+            (Opens ⟦<DockedLink as Link>⟧.tells at result) }
+        ensures told { CountsCall (λ contents. contents.calls) (dock_tells self.old) (dock_tells self.new) }
         ensures cause { HasCause self.old.faults self.new.faults (IsFailed result) }
     {
-        self.refuse(at)
+        self.counted();
+        self.take_out(at)
     }
 
-    fn reach(&mut self, at: Address) -> Opened<MemLink>
-        ensures fails { IsFailed result }
-        ensures exact { self.new ≡ after_failed_opening self.old }
-        ensures fresh { IsFresh ⟦<MemLink as Link>⟧.faults ⟦<MemLink as Link>⟧.idles result }
-        ensures opened { WhileTold (contents_of self.old) (contents_of self.new)
-            (Opens ⟦<MemLink as Link>⟧.tells at result) }
-        ensures told { CountsCall (λ contents. contents.calls) (contents_of self.old) (contents_of self.new) }
+    fn reach(&mut self, at: Address) -> Opened<DockedLink>
+        ensures exact { Leaves result at self.old self.new }
+        ensures fresh { IsFresh ⟦<DockedLink as Link>⟧.faults ⟦<DockedLink as Link>⟧.idles result }
+        ensures opened { WhileTold (dock_tells self.old) (dock_tells self.new)
+            (Opens ⟦<DockedLink as Link>⟧.tells at result) }
+        ensures told { CountsCall (λ contents. contents.calls) (dock_tells self.old) (dock_tells self.new) }
         ensures cause { HasCause self.old.faults self.new.faults (IsFailed result) }
     {
-        self.refuse(at)
+        self.counted();
+        self.take_out(at)
     }
 
-    fn close(&mut self, at: Address, link: MemLink)
-        ensures exact { self.new ≡ after_close self.old }
-        ensures gone { WhileTold (contents_of self.old) (contents_of self.new)
-            (Closes (⟦<MemLink as Link>⟧.tells link) at) }
-        ensures told { CountsCall (λ contents. contents.calls) (contents_of self.old) (contents_of self.new) }
+    fn close(&mut self, at: Address, link: DockedLink)
+        ensures exact { length self.old.closed + 1 < 2 ^ 63 → self.new ≡ after_close at link self.old }
+        ensures gone { WhileTold (dock_tells self.old) (dock_tells self.new)
+            (Closes (⟦<DockedLink as Link>⟧.tells link) at) }
+        ensures told { CountsCall (λ contents. contents.calls) (dock_tells self.old) (dock_tells self.new) }
         ensures cause { self.new.faults ≡ self.old.faults }
     {
         self.calls = self.calls.saturating_add(1);
+        if self.closed.len() < MOST_CLOSED {
+            let mut node = link.into_closed(at);
+            let Ok(()) = node.append(&mut self.closed) else {
+                unreachable!()
+            };
+            self.closed = node;
+        }
     }
 }

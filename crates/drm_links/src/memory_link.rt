@@ -1,92 +1,259 @@
-//! A link on which each call fails.
+//! A link in memory.
 
-ghost use Rattle.std.specs.Prelude.{◌≡◌, ◌≤◌, None, length};
-ghost use Rattle.drm_links.specs.Told.{HasCause};
-ghost use Rattle.drm_links.specs.MemoryLink.{after_failed_call};
+ghost use Rattle.std.specs.Prelude.{◌≡◌, ◌<◌, ◌≤◌, ◌++◌, [], ◌∷◌, Some, length, slice_index_or, vec_len, IfOk, OnOk, OnErr, MatchOption};
+ghost use Rattle.drm_links.specs.Told.{HasCause, CountsCall, WhileTold};
+ghost use Rattle.drm_links.specs.Link.{Receives, Sends, KeepsAnswers, KeepsTraffic, FitsBuffer};
+ghost use Rattle.drm_links.specs.MemoryLink.{LinkState, Hears, Carries, Brings, IsCounted, longest_brought, answers_ahead, taken_from, after_rest, link_tells};
 
+use crate::failing::is_listed;
+use crate::front::fill_front;
+use crate::room::{LONGEST_KEPT, Room};
 use crate::{Came, Link, Sent};
+use drm_bits::{NoMemory, Octets};
+use std::alloc::Global;
+use std::collections::VecDeque;
 use std::marker::Model;
 
-/// A link that tells nothing, and on which each recv and each send fails.
+// A datagram that came, and the number of the recv at which it came.
+#[derive(Drop)]
+struct Heard {
+    recv: u64,
+    bytes: Octets,
+}
+
+/// A link that gives the datagrams that were brought, keeps those that are sent, and fails or is idle where told.
 #[derive(Drop)]
 pub struct MemLink {
+    came: Vec<Heard>,
+    coming: VecDeque<Octets>,
+    failing: Vec<u64>,
+    idling: Vec<u64>,
+    gone: Vec<Room>,
+    rooms: Vec<Room>,
+    recvs: u64,
+    sends: u64,
+    calls: u64,
     faults: u64,
+    idles: u64,
 }
 
 impl Model for MemLink {
-    ghost use Rattle.drm_links.specs.MemoryLink.{LinkState};
+    ghost use Rattle.std.specs.Prelude.{◌+◌, ◌≤◌, map, length, vec_len, vec_capacity, All};
+    ghost use Rattle.std.specs.VecDeque.{deque_len};
+    ghost use Rattle.drm_links.specs.MemoryLink.{LinkState, CameBefore, longest_brought};
 
     ghost Value = { LinkState };
 
-    ghost view = { λ link. record { faults = link.faults } };
+    ghost view = { λ link. record {
+      came = map (λ heard. (heard.recv, heard.bytes)) link.came.items;
+      coming = link.coming.items;
+      failing = link.failing.items;
+      idling = link.idling.items;
+      gone = link.gone.items;
+      room = vec_len link.rooms;
+      recvs = link.recvs;
+      sends = link.sends;
+      calls = link.calls;
+      faults = link.faults;
+      idles = link.idles;
+    } };
+
+    ghost invariant = { λ link. (vec_len link.came + deque_len link.coming ≤ vec_capacity link.came)
+        × (vec_len link.gone + vec_len link.rooms ≤ vec_capacity link.gone)
+        × All (λ bytes. length bytes ≤ longest_brought) link.coming.items
+        × (link.recvs ≤ link.calls)
+        × (link.sends ≤ link.calls)
+        × CameBefore (map (λ heard. (heard.recv, heard.bytes)) link.came.items) link.recvs link.calls };
+}
+
+impl MemLink {
+    /// A link to which no datagram was brought yet. The numbers in `fail` count the calls of `recv` and those of
+    /// `send` apart, from 0, and those in `idle` count the calls of `recv`. A `recv` whose number stands in both lists
+    /// fails. Room for `sends` datagrams is reserved here, so that a call takes no memory.
+    pub fn make(
+        alloc: Global,
+        fail: &[u64],
+        idle: &[u64],
+        sends: usize,
+    ) -> Result<MemLink, NoMemory>
+        ensures made { IfOk result (λ link. link ≡ record {
+          came = [];
+          coming = [];
+          failing = fail.now;
+          idling = idle.now;
+          gone = [];
+          room = sends;
+          recvs = 0;
+          sends = 0;
+          calls = 0;
+          faults = 0;
+          idles = 0;
+        }) }
+        ensures tells { IfOk result (λ link. ⟦<MemLink as Link>⟧.tells link ≡ Some (record {
+          answers = [];
+          ahead = answers_ahead fail.now idle.now 0 [];
+          gone = [];
+          sends = Some (taken_from fail.now 0 sends);
+          calls = 0;
+        })) }
+        ensures faults { IfOk result (λ link. ⟦<MemLink as Link>⟧.faults link ≡ 0) }
+        ensures idles { IfOk result (λ link. ⟦<MemLink as Link>⟧.idles link ≡ 0) }
+    {
+        Ok(MemLink {
+            came: Vec::new(alloc),
+            coming: VecDeque::new(alloc),
+            failing: fail.to_vec(alloc)?,
+            idling: idle.to_vec(alloc)?,
+            gone: Vec::with_capacity(alloc, sends)?,
+            rooms: make_rooms(alloc, sends)?,
+            recvs: 0,
+            sends: 0,
+            calls: 0,
+            faults: 0,
+            idles: 0,
+        })
+    }
+
+    /// Puts a datagram behind all others that are still to come.
+    pub fn bring(&mut self, alloc: Global, datagram: &[u8]) -> Result<(), NoMemory>
+        requires { length datagram.now ≤ longest_brought }
+        ensures brought { OnOk result (self.new
+            ≡ record self.old { coming = self.old.coming ++ datagram.now ∷ [] }) }
+        ensures tells { OnOk result (WhileTold (link_tells self.old) (link_tells self.new) (Brings datagram.now)) }
+        ensures unchanged { OnErr result (self.new ≡ self.old) }
+    {
+        let bytes = Octets::from_slice(alloc, datagram)?;
+        self.came.reserve(self.coming.len() + 1)?;
+        let Ok(()) = self.coming.push_back(bytes) else {
+            return Err(NoMemory);
+        };
+        Ok(())
+    }
+
+    /// The datagram that was sent as the k-th, from 0.
+    pub fn sent(&self, k: usize) -> Option<&[u8]>
+        ensures { MatchOption result (length self.now.gone ≤ k) (λ datagram.
+            (k < length self.now.gone) × (datagram.now ≡ slice_index_or self.now.gone k [])) }
+    {
+        match self.gone.get(k) {
+            Some(room) => Some(room.bytes()),
+            None => None,
+        }
+    }
+
+    // What is known of the link between its calls.
+    fn counted(&self)
+        ensures { IsCounted self.now }
+    {
+        let _ = &self.calls;
+    }
+
+    // Takes one recv from what is ahead.
+    fn hear(&mut self, buf: &mut [u8]) -> Came
+        requires { 65536 ≤ length buf.old }
+        ensures exact { Hears result buf.old buf.new self.old self.new }
+        ensures front { FitsBuffer result buf.new }
+        ensures cause { HasCause self.old.faults self.new.faults (result ≡ Came.Failed) }
+        ensures idle { HasCause self.old.idles self.new.idles (result ≡ Came.Idle) }
+    {
+        let call = self.recvs;
+        self.recvs = call.saturating_add(1);
+        self.calls = self.calls.saturating_add(1);
+        if is_listed(&self.failing, call) {
+            self.faults = self.faults.saturating_add(1);
+            return Came::Failed;
+        }
+        if self.coming.is_empty() || is_listed(&self.idling, call) {
+            self.idles = self.idles.saturating_add(1);
+            return Came::Idle;
+        }
+        let Some(bytes) = self.coming.pop_front() else {
+            unreachable!()
+        };
+        let length = bytes.as_slice().len();
+        fill_front(buf, bytes.as_slice());
+        let Ok(()) = self.came.push(Heard { recv: call, bytes }) else {
+            unreachable!()
+        };
+        Came::Datagram(length)
+    }
+
+    // Takes one send, where there is room.
+    fn carry(&mut self, bytes: &[u8]) -> Sent
+        ensures exact { Carries result bytes.now self.old self.new }
+        ensures cause { HasCause self.old.faults self.new.faults (result ≡ Sent.Failed) }
+    {
+        let call = self.sends;
+        self.sends = call.saturating_add(1);
+        self.calls = self.calls.saturating_add(1);
+        if bytes.len() > LONGEST_KEPT || self.rooms.is_empty() || is_listed(&self.failing, call) {
+            self.faults = self.faults.saturating_add(1);
+            return Sent::Failed;
+        }
+        let Some(mut room) = self.rooms.pop() else {
+            unreachable!()
+        };
+        room.fill(bytes);
+        let Ok(()) = self.gone.push(room) else {
+            unreachable!()
+        };
+        Sent::Sent
+    }
+}
+
+// Room for so many datagrams.
+fn make_rooms(alloc: Global, count: usize) -> Result<Vec<Room>, NoMemory>
+    ensures { IfOk result (λ rooms. vec_len rooms ≡ count) }
+{
+    let mut rooms = Vec::with_capacity(alloc, count)?;
+    for _ in 0..count {
+        let room = Room::make(alloc)?;
+        let Ok(()) = rooms.push(room) else {
+            return Err(NoMemory);
+        };
+    }
+    Ok(rooms)
 }
 
 impl Link for MemLink {
     ghost faults = { λ link. link.faults };
 
-    ghost idles = { λ _. 0 };
+    ghost idles = { λ link. link.idles };
 
-    ghost tells = { λ _. None };
+    ghost tells = { link_tells };
 
     fn recv(&mut self, buf: &mut [u8]) -> Came
         requires { 65536 ≤ length buf.old }
-        ensures fails { result ≡ Came.Failed }
-        ensures buffer { buf.new ≡ buf.old }
-        ensures exact { self.new ≡ after_failed_call self.old }
+        ensures exact { Hears result buf.old buf.new self.old self.new }
+        ensures front { FitsBuffer result buf.new }
+        ensures answer { WhileTold (link_tells self.old) (link_tells self.new) (Receives result buf.new) }
+        ensures told { CountsCall (λ traffic. traffic.calls) (link_tells self.old) (link_tells self.new) }
         ensures cause { HasCause self.old.faults self.new.faults (result ≡ Came.Failed) }
+        ensures idle { HasCause self.old.idles self.new.idles (result ≡ Came.Idle) }
     {
-        self.faults = self.faults.saturating_add(1);
-        Came::Failed
+        self.counted();
+        self.hear(buf)
     }
 
     fn send(&mut self, bytes: &[u8]) -> Sent
-        ensures fails { result ≡ Sent.Failed }
-        ensures exact { self.new ≡ after_failed_call self.old }
+        ensures exact { Carries result bytes.now self.old self.new }
+        ensures gone { WhileTold (link_tells self.old) (link_tells self.new) (Sends result bytes.now) }
+        ensures kept { WhileTold (link_tells self.old) (link_tells self.new) KeepsAnswers }
+        ensures told { CountsCall (λ traffic. traffic.calls) (link_tells self.old) (link_tells self.new) }
         ensures cause { HasCause self.old.faults self.new.faults (result ≡ Sent.Failed) }
+        ensures idle { self.new.idles ≡ self.old.idles }
     {
-        self.faults = self.faults.saturating_add(1);
-        Sent::Failed
+        self.counted();
+        self.carry(bytes)
     }
 
     fn rest(&mut self, millis: u32)
-        ensures { self.new ≡ self.old }
-    {}
-}
-
-#[cfg(test)]
-mod tests {
-    use super::*;
-    use crate::{Address, Dock, MemDock};
-    use std::test::Fail;
-
-    fn recv<L: Link>(link: &mut L, buf: &mut [u8]) -> Came
-        requires { 65536 ≤ length buf.old }
+        ensures exact { self.new ≡ after_rest self.old }
+        ensures kept { WhileTold (link_tells self.old) (link_tells self.new) KeepsTraffic }
+        ensures told { CountsCall (λ traffic. traffic.calls) (link_tells self.old) (link_tells self.new) }
+        ensures cause { self.new.faults ≡ self.old.faults }
+        ensures idle { self.new.idles ≡ self.old.idles }
     {
-        link.recv(buf)
-    }
-
-    fn send<L: Link>(link: &mut L, bytes: &[u8]) -> Sent {
-        link.rest(1);
-        link.send(bytes)
-    }
-
-    fn close<D: Dock>(dock: &mut D, at: Address, link: D::L) {
-        dock.close(at, link)
-    }
-
-    #[test]
-    fn each_call_of_a_link_fails(rt: HostRuntime) -> Result<(), Fail> {
-        let alloc = rt.alloc();
-        let mut link = MemLink { faults: 0 };
-        let mut buf = vec![in alloc; 0u8; 65536]?;
-        assert_eq!(rt; recv(&mut link, &mut buf), Came::Failed);
-        assert_eq!(rt; send(&mut link, b"AF"), Sent::Failed);
-        let mut dock = MemDock::make(alloc, &[])?;
-        let at = Address {
-            ip: [127, 0, 0, 1],
-            port: 5000,
-        };
-        close(&mut dock, at, link);
-        Ok(())
+        self.calls = self.calls.saturating_add(1);
     }
 }

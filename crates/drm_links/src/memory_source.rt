@@ -1,11 +1,12 @@
 //! A source in memory.
 
-ghost use Rattle.std.specs.Prelude.{◌≡◌, ◌<◌, ◌≤◌, ◌++◌, Some, drop, length, IfOk};
+ghost use Rattle.std.specs.Prelude.{◌≡◌, ◌<◌, Some, length, IfOk};
 ghost use Rattle.drm_links.specs.Told.{HasCause, CountsCall, WhileTold};
 ghost use Rattle.drm_links.specs.Source.{ReadsSome, Takes};
 ghost use Rattle.drm_links.specs.MemorySource.{input_of, Reads};
 
 use crate::failing::is_listed;
+use crate::front::fill_front;
 use crate::{ReadOut, Source};
 use drm_bits::NoMemory;
 use std::alloc::Global;
@@ -98,12 +99,4 @@ impl Source for MemSource {
         self.at += n;
         ReadOut::Got(n)
     }
-}
-
-// Puts the bytes at the front of the buffer, whose further bytes stay.
-fn fill_front(buf: &mut [u8], bytes: &[u8])
-    requires { length bytes.now ≤ length buf.old }
-    ensures { buf.new ≡ bytes.now ++ drop (length bytes.now) buf.old }
-{
-    buf[..bytes.len()].copy_from_slice(bytes);
 }

@@ -1,0 +1,145 @@
+//! The links of a dock in memory.
+
+ghost use Rattle.std.specs.Prelude.{◌≡◌, [], ◌∷◌, ◌≤◌, Some, length, IfOk, IfErr};
+ghost use Rattle.drm_links.specs.Told.{HasCause, CountsCall, WhileTold};
+ghost use Rattle.drm_links.specs.Link.{Receives, Sends, KeepsAnswers, KeepsTraffic, FitsBuffer};
+ghost use Rattle.drm_links.specs.MemoryLink.{Hears, Carries, IsUntouched, after_rest, link_tells};
+
+use crate::{Address, Came, Link, MemLink, Sent};
+use std::alloc::Global;
+use std::collections::LinkedList;
+use std::marker::Model;
+
+/// A link that was closed, and its address.
+#[derive(Drop)]
+pub struct Closed {
+    pub at: Address,
+    pub link: MemLink,
+}
+
+/// A link that a dock in memory gave. It brings the node with which the dock keeps it once it is closed, so that a
+/// close takes no memory.
+#[derive(Drop)]
+pub struct DockedLink {
+    link: MemLink,
+    node: LinkedList<Option<Closed>>,
+}
+
+impl Model for DockedLink {
+    ghost use Rattle.std.specs.Prelude.{◌≡◌, length};
+    ghost use Rattle.drm_links.specs.MemoryLink.{LinkState};
+
+    ghost Value = { LinkState };
+
+    ghost view = { λ docked. docked.link };
+
+    ghost invariant = { λ docked. length docked.node ≡ 1 };
+}
+
+impl DockedLink {
+    /// This link with a node, or the link alone where memory ran out.
+    pub fn make(alloc: Global, link: MemLink) -> Result<DockedLink, MemLink>
+        ensures made { IfOk result (λ docked. docked ≡ link) }
+        ensures returned { IfErr result (λ returned. returned ≡ link) }
+    {
+        let mut node = LinkedList::new(alloc);
+        match node.push_back(None) {
+            Ok(()) => Ok(DockedLink { link, node }),
+            Err(_) => Err(link),
+        }
+    }
+
+    /// The link alone.
+    pub fn into_link(self) -> MemLink
+        ensures { result ≡ self }
+    {
+        let DockedLink { link, node: _ } = self;
+        link
+    }
+
+    /// The node, which holds the link as one that was closed at this address.
+    pub fn into_closed(self, at: Address) -> LinkedList<Option<Closed>>
+        ensures { result ≡ Some (record { at = at; link = self }) ∷ [] }
+    {
+        let DockedLink { link, mut node } = self;
+        let Some(place) = node.front_mut() else {
+            unreachable!()
+        };
+        *place = Some(Closed { at, link });
+        node
+    }
+}
+
+impl Link for DockedLink {
+    ghost faults = { λ link. link.faults };
+
+    ghost idles = { λ link. link.idles };
+
+    ghost tells = { link_tells };
+
+    fn recv(&mut self, buf: &mut [u8]) -> Came
+        requires { 65536 ≤ length buf.old }
+        ensures exact { Hears result buf.old buf.new self.old self.new }
+        ensures front { FitsBuffer result buf.new }
+        ensures answer { WhileTold (link_tells self.old) (link_tells self.new) (Receives result buf.new) }
+        ensures told { CountsCall (λ traffic. traffic.calls) (link_tells self.old) (link_tells self.new) }
+        ensures cause { HasCause self.old.faults self.new.faults (result ≡ Came.Failed) }
+        ensures idle { HasCause self.old.idles self.new.idles (result ≡ Came.Idle) }
+    {
+        self.link.recv(buf)
+    }
+
+    fn send(&mut self, bytes: &[u8]) -> Sent
+        ensures exact { Carries result bytes.now self.old self.new }
+        ensures gone { WhileTold (link_tells self.old) (link_tells self.new) (Sends result bytes.now) }
+        ensures kept { WhileTold (link_tells self.old) (link_tells self.new) KeepsAnswers }
+        ensures told { CountsCall (λ traffic. traffic.calls) (link_tells self.old) (link_tells self.new) }
+        ensures cause { HasCause self.old.faults self.new.faults (result ≡ Sent.Failed) }
+        ensures idle { self.new.idles ≡ self.old.idles }
+    {
+        self.link.send(bytes)
+    }
+
+    fn rest(&mut self, millis: u32)
+        ensures exact { self.new ≡ after_rest self.old }
+        ensures kept { WhileTold (link_tells self.old) (link_tells self.new) KeepsTraffic }
+        ensures told { CountsCall (λ traffic. traffic.calls) (link_tells self.old) (link_tells self.new) }
+        ensures cause { self.new.faults ≡ self.old.faults }
+        ensures idle { self.new.idles ≡ self.old.idles }
+    {
+        self.link.rest(millis)
+    }
+}
+
+/// A link that stands ready: no call was made on it yet.
+#[derive(Drop)]
+pub struct Standing {
+    link: DockedLink,
+}
+
+impl Model for Standing {
+    ghost use Rattle.drm_links.specs.MemoryLink.{LinkState, IsUntouched};
+
+    ghost Value = { LinkState };
+
+    ghost view = { λ standing. standing.link };
+
+    ghost invariant = { λ standing. IsUntouched standing.link };
+}
+
+impl Standing {
+    pub fn make(link: DockedLink) -> Standing
+        requires { IsUntouched link }
+        ensures { result ≡ link }
+    {
+        Standing { link }
+    }
+
+    pub fn into_docked(self) -> DockedLink
+        ensures same { result ≡ self }
+        ensures untouched { IsUntouched result }
+    {
+        let Standing { link } = self;
+        link
+    }
+}

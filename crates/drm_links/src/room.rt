@@ -1,0 +1,55 @@
+//! Room for one datagram.
+
+ghost use Rattle.std.specs.Prelude.{◌≡◌, ◌≤◌, [], length, IfOk};
+
+use drm_bits::NoMemory;
+use std::alloc::Global;
+use std::marker::Model;
+
+/// The most bytes of a datagram that is kept.
+pub const LONGEST_KEPT: usize = 32_780;
+
+/// Room for a datagram of at most `LONGEST_KEPT` bytes, and the bytes that lie in it.
+#[derive(Drop)]
+pub struct Room {
+    bytes: Vec<u8>,
+}
+
+impl Model for Room {
+    ghost use Rattle.std.specs.Prelude.{ℕ, ◌≤◌, List, vec_capacity};
+
+    ghost Value = { List ℕ };
+
+    ghost view = { λ room. room.bytes.items };
+
+    ghost invariant = { λ room. 32780 ≤ vec_capacity room.bytes };
+}
+
+impl Room {
+    /// Room in which nothing lies yet.
+    pub fn make(alloc: Global) -> Result<Room, NoMemory>
+        ensures { IfOk result (λ room. room ≡ []) }
+    {
+        Ok(Room {
+            bytes: Vec::with_capacity(alloc, LONGEST_KEPT)?,
+        })
+    }
+
+    /// Puts a datagram in, in place of what lies there.
+    pub fn fill(&mut self, datagram: &[u8])
+        requires { length datagram.now ≤ 32780 }
+        ensures { self.new ≡ datagram.now }
+    {
+        self.bytes.clear();
+        let Ok(()) = self.bytes.extend_from_slice(datagram) else {
+            unreachable!()
+        };
+    }
+
+    /// The datagram.
+    pub fn bytes(&self) -> &[u8]
+        ensures { result.now ≡ self.now }
+    {
+        &self.bytes
+    }
+}
