@@ -8,3 +8,4 @@ pub mod ScheduleRunLemmas
 pub mod ScheduleLemmas
 pub mod AgainLaw
 pub mod SendLemmas
+pub mod OverLinkLemmas

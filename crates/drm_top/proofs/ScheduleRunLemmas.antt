@@ -87,7 +87,7 @@ module _ {T S O : Type 0} (reading : Reading T) (is_sound : T → Type 0) (whole
 
 -- ---- the run, by how it ends
 
-is_read : (fault : ScheduleFault) → (let ended : Result (Unit {0}) Fault = Err (fault_of_schedule fault) in ended ≡ Err Read) → fault ≡ schedule.Read
+pub is_read : (fault : ScheduleFault) → (let ended : Result (Unit {0}) Fault = Err (fault_of_schedule fault) in ended ≡ Err Read) → fault ≡ schedule.Read
 is_read schedule.NoMemory is = cc
 is_read (schedule.Line l r) is = cc
 is_read schedule.Read is = refl

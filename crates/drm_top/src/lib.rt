@@ -17,8 +17,12 @@ mod schedule_tests;
 mod send;
 mod serve;
 #[cfg(test)]
+mod serve_tests;
+#[cfg(test)]
 mod tests;
 mod text;
+#[cfg(test)]
+mod trial;
 mod words;
 
 pub use command::{no_memory, run};

@@ -163,7 +163,7 @@ fn refuses_other_words(rt: HostRuntime) -> Result<(), Fail> {
         &["--window", "4", "receive"],
         &["check"],
         &["check", "a", "b"],
-        &["serve", "schedule.txt", "--to", "127.0.0.1:5000"],
+        &["serve", "schedule.txt", "--to", "127.0.0.1"],
         &["show"],
         &["exercise", "4"],
     ];

@@ -49,16 +49,10 @@ fn command_of(request: Request) -> Result<Command, WordsFault>
     match request {
         Request::Fac => Ok(Command::Fac),
         Request::Check { name } => Ok(Command::Check { name }),
-        Request::Serve {
-            name,
-            to: None,
-            pace,
-        } => Ok(Command::Serve { name, pace }),
-        Request::Serve {
-            name,
-            to: Some(to),
-            pace,
-        } => Ok(Command::Send { name, to, pace }),
+        Request::Serve { name, to, pace } => Ok(match to {
+            None => Command::Serve { name, pace },
+            Some(to) => Command::Send { name, to, pace },
+        }),
         _ => Err(WordsFault::Words),
     }
 }
