@@ -1,8 +1,15 @@
-//! The edge of the program: files and streams of the system as shelves, sources and sinks. They tell no contents.
+//! The edge of the program: files, streams and sockets of the system as shelves, sources, sinks and links. They tell no
+//! contents.
 #![tactic(auto)]
 
 mod file_shelf;
 mod streams;
+mod udp_dock;
+mod udp_link;
+#[cfg(test)]
+mod udp_tests;
 
 pub use file_shelf::FileShelf;
 pub use streams::{StreamSink, StreamSource};
+pub use udp_dock::UdpDock;
+pub use udp_link::UdpLink;
