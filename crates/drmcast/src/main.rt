@@ -1,11 +1,10 @@
-//! Runs the command of its words over the standard streams.
+//! Runs the command of its words over the standard streams, the files of the system, and UDP.
 
 #![tactic(auto)]
 
 mod words;
 
-use drm_adapt::{FileShelf, StreamSink, StreamSource};
-use drm_links::MemDock;
+use drm_adapt::{FileShelf, StreamSink, StreamSource, UdpDock};
 use drm_top::{no_memory, run};
 use std::env;
 use std::process::ExitCode;
@@ -18,12 +17,12 @@ fn main(rt: HostRuntime) -> ExitCode {
     let mut err = StreamSink::new(rt.stderr());
     let words = given_words(alloc, env::args(&rt));
     let mut shelf = FileShelf::new(&rt);
-    let dock = MemDock::make(alloc, &[]);
-    let status = match (words, dock) {
-        (Ok(words), Ok(mut dock)) => run(
+    let mut dock = UdpDock::new(&rt);
+    let status = match words {
+        Ok(words) => run(
             &rt, alloc, &words, &mut shelf, &mut input, &mut out, &mut err, &mut dock,
         ),
-        _ => no_memory(&mut err),
+        Err(_) => no_memory(&mut err),
     };
     ExitCode::from(status.code)
 }
