@@ -207,10 +207,11 @@ run_done fac input_faults input_tells input input' out_faults out_tells out out'
 
 -- a run of the command ends with none of the faults that come before it
 pub run_ends : {I O : Type 0} (ending : Result (Unit {0}) Fault) (input_faults : I → ℕ) (input_tells : I → Option Input) (input input' : I) (out_faults : O → ℕ) (out_tells : O → Option Output) (out out' : O)
-    → FacRun ending input_faults input_tells input input' out_faults out_tells out out' → (ending ≡ Err Words → ⊥) × (ending ≡ Err NoMemory → ⊥)
+    → FacRun ending input_faults input_tells input input' out_faults out_tells out out' → (ending ≡ Err Words → ⊥) × (ending ≡ Err NoMemory → ⊥) × (ending ≡ Err Link → ⊥)
 run_ends ending input_faults input_tells input input' out_faults out_tells out out' run = (
   λ is. ended run.came Words out_tells out out' (along_ending Words is) run.reads (λ e. cc) (λ r. r.2),
   λ is. ended run.came NoMemory out_tells out out' (along_ending NoMemory is) run.reads (λ e. cc) (λ r. r.2),
+  λ is. ended run.came Link out_tells out out' (along_ending Link is) run.reads (λ e. cc) (λ r. r.2),
 )
   where
     along_ending : (fault : Fault) → ending ≡ Err fault → Writes run.came (Err fault) out_tells out out'

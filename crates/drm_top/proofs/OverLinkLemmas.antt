@@ -94,9 +94,9 @@ module _ (came : Result Plan ScheduleFault) (ending : Result (Unit {0}) Fault) (
       → WhileTold a c (λ before after. (start : LinkStart) × OpensLink at before start × (gone : List (List ℕ)) × Go came ending start.sends gone × (after ≡ after_link at gone before))
   link_told tells first last a b c opens counts closes sent calls =
       WhileTold-then (λ (d : DockContents). d.calls) (Opens tells at (opened.Link first)) (Closes (tells last) at) _ a b c counts opens closes
-      (λ x y z open close.
-      let s = Opens-started tells at first x y open in
+      (λ x y z opening closing.
+      let s = Opens-started tells at first x y opening in
       let P : Option Traffic → Type 0 = λ t. Transmits t (tells last) (λ before after. (gone : List (List ℕ)) × Go came ending before.sends gone × (after.gone ≡ before.gone ++ gone)) in
       let Q : Option Traffic → Type 0 = λ t. MakesCalls (λ (t : Traffic). t.calls) most_calls t (tells last) in
-      let done = closed_after s.0 x y z (tells last) open.2 close (subst P s.2 sent) (subst Q s.2 calls) in
-      (s.0, (open.0, s.1), done.0, done.1, done.2))
+      let done = closed_after s.0 x y z (tells last) opening.2 closing (subst P s.2 sent) (subst Q s.2 calls) in
+      (s.0, (opening.0, s.1), done.0, done.1, done.2))

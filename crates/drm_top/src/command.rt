@@ -34,6 +34,7 @@ use crate::serve::serve;
 use crate::words::{Command, read_command, text};
 use drm_fac::Fac;
 use drm_links::{Dock, Link, Shelf, Sink, Source, Status};
+use drm_server::{first_ones_are_front, one_delivery};
 use drm_words::WordsFault;
 use std::alloc::Global;
 use std::thread::Threads;
@@ -191,6 +192,9 @@ where
     ensures dock { ((command : Command) → OpensALink command
         → AsksFor command (map string_bytes words.now) → ⊥) → dock.new ≡ dock.old }
 {
+    // Laws that the clauses of `serve` to an address rest on.
+    one_delivery();
+    first_ones_are_front();
     match execute(alloc, words, shelf, input, out, dock) {
         Ok(()) => Status { code: 0 },
         Err(fault) => fault.report(err),

@@ -14,7 +14,8 @@ use drm_links::{Sink, Source};
 /// Reads a FAC and writes its line.
 pub fn fac<I: Source, O: Sink>(input: &mut I, out: &mut O) -> Result<(), Fault>
     ensures run { FacRun result I.faults I.tells input.old input.new O.faults O.tells out.old out.new }
-    // The words were judged before, and nothing here takes memory.
+    // The words were judged before, and nothing here takes memory or opens a link.
+    ensures link { IsErrOf result Fault.Link → ⊥ }
     ensures words { IsErrOf result Fault.Words → ⊥ }
     ensures memory { IsErrOf result Fault.NoMemory → ⊥ }
 {

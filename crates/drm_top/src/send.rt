@@ -1,7 +1,8 @@
 //! The command `serve` to an address.
 
 ghost use Rattle.std.specs.Prelude.{◌≡◌, IsErrOf};
-ghost use Rattle.drm_top.specs.Send.{SendRun};
+ghost use Rattle.drm_links.specs.Told.{Rose, WhileTold};
+ghost use Rattle.drm_top.specs.Send.{SendRun, SendsNothing};
 ghost use Rattle.drm_top.specs.OverLink.{OverLink};
 
 use crate::fault::Fault;
@@ -22,8 +23,12 @@ pub fn send<S: Shelf, D: Dock>(
 ) -> Result<(), Fault>
     ensures run { SendRun name.now to result S.faults S.tells shelf.old shelf.new
         D.faults D.tells dock.old dock.new D.L.faults }
-    // The words were judged before.
+    // After want of memory nothing was sent. The words were judged before, and nothing is written.
+    ensures unsent { IsErrOf result Fault.NoMemory
+        → WhileTold (D.tells dock.old) (D.tells dock.new) SendsNothing }
+    ensures read { IsErrOf result Fault.Read → Rose (S.faults shelf.old) (S.faults shelf.new) }
     ensures words { IsErrOf result Fault.Words → ⊥ }
+    ensures write { IsErrOf result Fault.Write → ⊥ }
 {
     match dock.reach(to) {
         Opened::Link(mut link) => {
@@ -45,6 +50,8 @@ fn send_over<S: Shelf, L: Link>(
 ) -> Result<(), Fault>
     ensures run { OverLink name.now result S.faults S.tells shelf.old shelf.new
         L.faults L.tells link.old link.new }
+    ensures words { IsErrOf result Fault.Words → ⊥ }
+    ensures write { IsErrOf result Fault.Write → ⊥ }
 {
     let schedule = read_schedule(alloc, shelf, name)?;
     let mut server = Server::make(alloc, &schedule)?;

@@ -19,6 +19,7 @@ pub fn serve<S: Shelf, O: Sink>(
     ensures run { ServeRun name.now result S.faults S.tells shelf.old shelf.new
         O.faults O.tells out.old out.new }
     // The words were judged before, and memory is taken before the first write.
+    ensures link { IsErrOf result Fault.Link → ⊥ }
     ensures words { IsErrOf result Fault.Words → ⊥ }
     ensures memory { IsErrOf result Fault.NoMemory → out.new ≡ out.old }
 {

@@ -5,7 +5,8 @@ use Rattle.drm_top.specs.declared.words.Command.TheVariants as commands
 use Rattle.drm_top.specs.Fault.{fault_status}
 use Rattle.drm_top.proofs.FacLemmas.{run_refused, run_complete}
 use Rattle.drm_top.proofs.ScheduleRunLemmas.{refused_exactly, unread_exactly, complete}
-use Rattle.drm_top.proofs.StatusLemmas.{two_is_words, words_is_two, memory_is_one, four_is_read, five_is_write}
+use Rattle.drm_top.proofs.SendLemmas.{unopened, cut_where, all_where, refused_where, unread_where}
+use Rattle.drm_top.proofs.StatusLemmas.{two_is_words, words_is_two, memory_is_one, four_is_read, five_is_write, six_is_link, one_is_memory}
 use Rattle.drm_top.proofs.command.run.Goals as goal
 
 pub returns-in-Ok-clause-refused : goal.returns-in-Ok-clause-refused
@@ -46,6 +47,26 @@ pub returns-in-Ok-clause-serve : goal.returns-in-Ok-clause-serve
 returns-in-Ok-clause-serve g c = λ name pace words free.
     let run = c.in-Ok.ensures.runs (commands.Serve name pace) words (λ e. cc) in
     (Ok tt, refl, run.0, run.1, refl)
+
+pub returns-in-Ok-clause-send : goal.returns-in-Ok-clause-send
+returns-in-Ok-clause-send g c = λ name to pace words free.
+    let run = c.in-Ok.ensures.runs (commands.Send name to pace) words (λ e. cc) in
+    (Ok tt, refl, run.0, run.1, run.2, refl)
+
+pub returns-in-Ok-clause-send_unopened : goal.returns-in-Ok-clause-send_unopened
+returns-in-Ok-clause-send_unopened g c = λ name to pace words free. unopened _ _ _ _ _ _ _ _ _ _ _ _ (c.in-Ok.ensures.runs (commands.Send name to pace) words (λ e. cc)).0
+
+pub returns-in-Ok-clause-send_cut : goal.returns-in-Ok-clause-send_cut
+returns-in-Ok-clause-send_cut g c = λ name to pace words free. cut_where _ _ _ _ _ _ _ _ _ _ _ _ c.first_ones_are_front.ensures (c.in-Ok.ensures.runs (commands.Send name to pace) words (λ e. cc)).0 free
+
+pub returns-in-Ok-clause-send_complete : goal.returns-in-Ok-clause-send_complete
+returns-in-Ok-clause-send_complete g c = λ name to pace words free. all_where _ _ _ _ _ _ _ _ _ _ _ _ c.one_delivery.ensures c.first_ones_are_front.ensures (c.in-Ok.ensures.runs (commands.Send name to pace) words (λ e. cc)).0 free
+
+pub returns-in-Ok-clause-send_refused : goal.returns-in-Ok-clause-send_refused
+returns-in-Ok-clause-send_refused g c = λ name to pace words free link. refused_where _ _ _ _ _ _ _ _ _ _ _ _ (c.in-Ok.ensures.runs (commands.Send name to pace) words (λ e. cc)).0 free link
+
+pub returns-in-Ok-clause-send_unread : goal.returns-in-Ok-clause-send_unread
+returns-in-Ok-clause-send_unread g c = λ name to pace words free link. unread_where _ _ _ _ _ _ _ _ _ _ _ _ (c.in-Ok.ensures.runs (commands.Send name to pace) words (λ e. cc)).0 free link
 
 -- a fault that is want of memory has status 1
 free_of_memory : (fault : Fault) (code : ℕ) → code ≡ fault_status fault → (code ≡ 1 → ⊥) → (let ended : Result (Unit {0}) Fault = Err fault in ended ≡ Err NoMemory) → ⊥
@@ -112,3 +133,34 @@ pub returns-in-Err-clause-serve : goal.returns-in-Err-clause-serve
 returns-in-Err-clause-serve g c = λ name pace words free.
     let run = c.in-Err.ensures.runs (commands.Serve name pace) words (free_of_memory c.in-Err.fault c.report.result.code c.report.ensures.status free) in
     (Err c.in-Err.fault, c.report.ensures.status, run.0, run.1, c.report.ensures.line)
+
+pub returns-in-Err-clause-send : goal.returns-in-Err-clause-send
+returns-in-Err-clause-send g c = λ name to pace words free.
+    let run = c.in-Err.ensures.runs (commands.Send name to pace) words (free_of_memory c.in-Err.fault c.report.result.code c.report.ensures.status free) in
+    (Err c.in-Err.fault, c.report.ensures.status, run.0, run.1, run.2, c.report.ensures.line)
+
+pub returns-in-Err-clause-send_unopened : goal.returns-in-Err-clause-send_unopened
+returns-in-Err-clause-send_unopened g c = λ name to pace words free.
+    rw c.report.ensures.status (unopened _ _ _ _ _ _ _ _ _ _ _ _ (c.in-Err.ensures.runs (commands.Send name to pace) words (free_of_memory c.in-Err.fault c.report.result.code c.report.ensures.status free)).0)
+
+pub returns-in-Err-clause-send_cut : goal.returns-in-Err-clause-send_cut
+returns-in-Err-clause-send_cut g c = λ name to pace words free.
+    rw c.report.ensures.status (cut_where _ _ _ _ _ _ _ _ _ _ _ _ c.first_ones_are_front.ensures (c.in-Err.ensures.runs (commands.Send name to pace) words (free_of_memory c.in-Err.fault c.report.result.code c.report.ensures.status free)).0 (λ one. free (c.report.ensures.status ∙ one)))
+
+pub returns-in-Err-clause-send_complete : goal.returns-in-Err-clause-send_complete
+returns-in-Err-clause-send_complete g c = λ name to pace words free.
+    rw c.report.ensures.status (all_where _ _ _ _ _ _ _ _ _ _ _ _ c.one_delivery.ensures c.first_ones_are_front.ensures (c.in-Err.ensures.runs (commands.Send name to pace) words (free_of_memory c.in-Err.fault c.report.result.code c.report.ensures.status free)).0 (λ one. free (c.report.ensures.status ∙ one)))
+
+pub returns-in-Err-clause-send_refused : goal.returns-in-Err-clause-send_refused
+returns-in-Err-clause-send_refused g c = λ name to pace words free link.
+    rw c.report.ensures.status (refused_where _ _ _ _ _ _ _ _ _ _ _ _ (c.in-Err.ensures.runs (commands.Send name to pace) words (free_of_memory c.in-Err.fault c.report.result.code c.report.ensures.status free)).0 (λ one. free (c.report.ensures.status ∙ one)) (λ six. link (c.report.ensures.status ∙ six)))
+
+pub returns-in-Err-clause-send_unread : goal.returns-in-Err-clause-send_unread
+returns-in-Err-clause-send_unread g c = λ name to pace words free link.
+    rw c.report.ensures.status (unread_where _ _ _ _ _ _ _ _ _ _ _ _ (c.in-Err.ensures.runs (commands.Send name to pace) words (free_of_memory c.in-Err.fault c.report.result.code c.report.ensures.status free)).0 (λ one. free (c.report.ensures.status ∙ one)) (λ six. link (c.report.ensures.status ∙ six)))
+
+pub returns-in-Err-clause-link : goal.returns-in-Err-clause-link
+returns-in-Err-clause-link g c = λ six. c.in-Err.ensures.link (ap Err (six_is_link c.in-Err.fault (sym c.report.ensures.status ∙ six)))
+
+pub returns-in-Err-clause-unsent : goal.returns-in-Err-clause-unsent
+returns-in-Err-clause-unsent g c = λ one. c.in-Err.ensures.unsent (ap Err (one_is_memory c.in-Err.fault (sym c.report.ensures.status ∙ one)))

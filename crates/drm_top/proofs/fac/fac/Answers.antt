@@ -10,7 +10,7 @@ returns-in_err-fac g c =
     let run = run_stopped c.in_err-fac.field-0.0 c.from_residual.result g.I.Source.faults g.I.Source.tells c.args.input.now c.read_fac.new.input g.O.Sink.faults g.O.Sink.tells c.args.out.now
     (p.1 ∙ ap Err p.2) c.in_err-fac.ensures.reads (cause.later, λ e. cause.rose (ap Err e)) in
     let ends = run_ends c.from_residual.result g.I.Source.faults g.I.Source.tells c.args.input.now c.read_fac.new.input g.O.Sink.faults g.O.Sink.tells c.args.out.now c.args.out.now run in
-    record { run = run; words = ends.0; memory = ends.1 }
+    record { run = run; link = ends.2; words = ends.0; memory = ends.1 }
 
 pub returns-in_err-write_fac : goal.returns-in_err-write_fac
 returns-in_err-write_fac g c =
@@ -19,7 +19,7 @@ returns-in_err-write_fac g c =
     let run = run_cut c.in_ok-fac.fac c.from_residual-in_err-write_fac.result g.I.Source.faults g.I.Source.tells c.args.input.now c.read_fac.new.input g.O.Sink.faults g.O.Sink.tells c.args.out.now c.write_fac.new.out
     (p.1 ∙ ap Err p.2) c.in_ok-fac.ensures.reads c.in_ok-fac.ensures.cause.later c.in_err-write_fac.ensures.front (cause.later, cause.rose refl) in
     let ends = run_ends c.from_residual-in_err-write_fac.result g.I.Source.faults g.I.Source.tells c.args.input.now c.read_fac.new.input g.O.Sink.faults g.O.Sink.tells c.args.out.now c.write_fac.new.out run in
-    record { run = run; words = ends.0; memory = ends.1 }
+    record { run = run; link = ends.2; words = ends.0; memory = ends.1 }
 
 pub returns-clause-run : goal.returns-clause-run
 returns-clause-run g c =

@@ -1,4 +1,4 @@
-use Rattle.std.proofs.Common.{◌≡◌, ◌*◌, ◌∙◌, ap, subst, Err}
+use Rattle.std.proofs.Common.{◌≡◌, ◌*◌, ◌∙◌, ap, refl, Err}
 use Rattle.std.proofs.lemmas.Result.{err_from_is_err_and}
 use Rattle.drm_links.specs.Link.{Traffic}
 use Rattle.drm_links.specs.ManyCalls.{MakesCalls}
