@@ -41,10 +41,14 @@ pub part_written : (plan : Plan) (t : ℕ) (datagrams : List (List ℕ)) (a b c 
     → Outputs a c (IsFrontOfCapture plan)
 part_written plan t datagrams a b c within are first second =
     Outputs-then (IsAllOf datagrams) (IsPartOfFrame plan t) (IsFrontOfCapture plan) a b c first second
-    (λ s u is_s part. (part.1, datagrams ++ part.2,
-    record { t = t; within = within; i = part.0; is_next = part.3.0; of_frames = datagrams; are_of_frames = are; of_frame = part.2; are_first = part.3.1; are = refl },
-    part.4, part.5,
-    ap (λ l. l ++ u) is_s ∙ (ap (λ l. concat datagrams ++ l) part.6 ∙ (sym (append_assoc (concat datagrams) (concat part.2) part.4) ∙ ap (λ l. l ++ part.4) (sym (concat_append datagrams part.2))))))
+    (λ s u is_s part. (
+      part.1,
+      datagrams ++ part.2,
+      record { t = t; within = within; i = part.0; is_next = part.3.0; of_frames = datagrams; are_of_frames = are; of_frame = part.2; are_first = part.3.1; are = refl },
+      part.4,
+      part.5,
+      ap (λ l. l ++ u) is_s ∙ (ap (λ l. concat datagrams ++ l) part.6 ∙ (sym (append_assoc (concat datagrams) (concat part.2) part.4) ∙ ap (λ l. l ++ part.4) (sym (concat_append datagrams part.2)))),
+    ))
 
 -- all
 pub all_written : (plan : Plan) (datagrams : List (List ℕ)) (a b : Option Output) → AreDatagrams plan datagrams → Outputs a b (IsAllOf datagrams) → Outputs a b (IsCapture plan)

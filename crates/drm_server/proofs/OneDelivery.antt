@@ -93,11 +93,13 @@ module _ (one_fragment : OneFragment) where
       let same_frames : f.0 ≡ x.of_frames = one_of_frames plan x.t f.0 x.of_frames f.3 x.are_of_frames in
       let same_first : g.0 ≡ x.of_frame = one_first plan x.t x.i g.0 x.of_frame g.3 x.are_first in
       let same_next : g.1 ≡ next = one_datagram plan x.t x.i g.1 next g.4 x.is_next in
-      let behind : List (List ℕ) = g.2 ++ f.2 in
-      (behind, f.5 ∙ (ap (λ l. f.0 ++ (l ++ f.2)) g.5
-      ∙ (ap (λ l. f.0 ++ l) (append_assoc g.0 (g.1 ∷ g.2) f.2)
-      ∙ (ap (λ l. l ++ (g.0 ++ g.1 ∷ behind)) same_frames
-      ∙ (ap (λ l. x.of_frames ++ (l ++ g.1 ∷ behind)) same_first
-      ∙ (ap (λ d. x.of_frames ++ (x.of_frame ++ d ∷ behind)) same_next
-      ∙ (sym (append_assoc x.of_frames x.of_frame (next ∷ behind))
-      ∙ ap (λ l. l ++ next ∷ behind) (sym x.are))))))))
+      let behind : List (List ℕ) = g.2 ++ f.2 in (
+        behind,
+        f.5 ∙ (ap (λ l. f.0 ++ (l ++ f.2)) g.5
+            ∙ (ap (λ l. f.0 ++ l) (append_assoc g.0 (g.1 ∷ g.2) f.2)
+            ∙ (ap (λ l. l ++ (g.0 ++ g.1 ∷ behind)) same_frames
+            ∙ (ap (λ l. x.of_frames ++ (l ++ g.1 ∷ behind)) same_first
+            ∙ (ap (λ d. x.of_frames ++ (x.of_frame ++ d ∷ behind)) same_next
+            ∙ (sym (append_assoc x.of_frames x.of_frame (next ∷ behind))
+            ∙ ap (λ l. l ++ next ∷ behind) (sym x.are))))))),
+      )

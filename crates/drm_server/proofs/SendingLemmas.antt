@@ -29,9 +29,12 @@ pub part_sent : (plan : Plan) (t : ℕ) (datagrams : List (List ℕ)) (a b c : O
     → Transmits a c (SendsPart plan)
 part_sent plan t datagrams a b c within are first second =
     Transmits-then (SendsAll datagrams) (SendsPartOfFrame plan t) (SendsPart plan) a b c first second
-    (λ x y z all part. (part.1, datagrams ++ part.2,
-    record { t = t; within = within; i = part.0; is_next = part.3.0; of_frames = datagrams; are_of_frames = are; of_frame = part.2; are_first = part.3.1; are = refl },
-    SendsAll-no_more datagrams part.2 x y z all part.4))
+    (λ x y z all part. (
+      part.1,
+      datagrams ++ part.2,
+      record { t = t; within = within; i = part.0; is_next = part.3.0; of_frames = datagrams; are_of_frames = are; of_frame = part.2; are_first = part.3.1; are = refl },
+      SendsAll-no_more datagrams part.2 x y z all part.4,
+    ))
 
 -- all
 pub all_sent : (plan : Plan) (datagrams : List (List ℕ)) (a b : Option Traffic) → AreDatagrams plan datagrams → Transmits a b (SendsAll datagrams) → Transmits a b (SendsSchedule plan)

@@ -8,6 +8,8 @@ mod output;
 mod packet;
 mod payload;
 mod send;
+#[cfg(test)]
+mod sending_tests;
 mod serve;
 mod server;
 mod stream;

@@ -105,13 +105,7 @@ fn configs(alloc: Global) -> Result<Configs, NoMemory>
     Ok(items)
 }
 
-fn plan(
-    alloc: Global,
-    carry: Carry,
-    seq: u16,
-    dlfc: u32,
-    length: u32,
-) -> Result<Plan, NoMemory>
+fn plan(alloc: Global, carry: Carry, seq: u16, dlfc: u32, length: u32) -> Result<Plan, NoMemory>
     requires { CarryInLines carry }
     ensures { IfOk result InLines }
 {

@@ -46,9 +46,12 @@ pub returns-clause-whole : goal.returns-clause-whole
 returns-clause-whole g c =
     let i = c.loop-i.invariant in
     let old : Serving = c.args.server.now in
-    let all : c.loop-i.i ≡ c.fragments-count.result = omega (arith, c.loop-i-test.false, c.loop-i.auto.i-end) in
-    (i.0, (c.fragments-count.result, c.fragments-count.ensures.datagrams, subst (λ k. AreFirst old.plan old.frame k i.0) all i.1),
-    omega (arith, all, first_length old.plan old.frame c.loop-i.i i.0 i.1, c.from.ensures), i.2)
+    let all : c.loop-i.i ≡ c.fragments-count.result = omega (arith, c.loop-i-test.false, c.loop-i.auto.i-end) in (
+      i.0,
+      (c.fragments-count.result, c.fragments-count.ensures.datagrams, subst (λ k. AreFirst old.plan old.frame k i.0) all i.1),
+      omega (arith, all, first_length old.plan old.frame c.loop-i.i i.0 i.1, c.from.ensures),
+      i.2,
+    )
 
 pub returns-clause-calls : goal.returns-clause-calls
 returns-clause-calls g c =

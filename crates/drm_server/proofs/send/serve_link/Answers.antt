@@ -47,8 +47,8 @@ loop-t-preserved g c =
       omega (arith, i.3, c.rest_between.ensures.cause, c.send_frame.ensures.cause.later),
       c.send_frame.ensures.idle ∙ (c.rest_between.ensures.idle ∙ i.4),
       at_most calls (1025 * c.loop-t.t + 1 + 1024) (1025 * (c.loop-t.t + 1)) (g.L.Link.tells c.args.link.now) (g.L.Link.tells c.send_frame.new.link) few
-      (more_calls calls (1025 * c.loop-t.t + 1) 1024 (g.L.Link.tells c.args.link.now) (g.L.Link.tells c.rest_between.new.link) (g.L.Link.tells c.send_frame.new.link)
-      (more_calls calls (1025 * c.loop-t.t) 1 (g.L.Link.tells c.args.link.now) (g.L.Link.tells c.loop-t.link) (g.L.Link.tells c.rest_between.new.link) i.5 c.rest_between.ensures.calls) c.send_frame.ensures.calls),
+          (more_calls calls (1025 * c.loop-t.t + 1) 1024 (g.L.Link.tells c.args.link.now) (g.L.Link.tells c.rest_between.new.link) (g.L.Link.tells c.send_frame.new.link)
+          (more_calls calls (1025 * c.loop-t.t) 1 (g.L.Link.tells c.args.link.now) (g.L.Link.tells c.loop-t.link) (g.L.Link.tells c.rest_between.new.link) i.5 c.rest_between.ensures.calls) c.send_frame.ensures.calls),
       ap (λ (s : Serving). s.plan) (c.send_frame.ensures.server ∙ c.load.ensures) ∙ i.6,
       omega (arith, i.7, w.2, long),
       omega (arith, i.8, c.in_ok-sent.ensures.few),

@@ -36,9 +36,11 @@ returns-in-Some c =
     let seq : ℕ = (plan.seq + s.frame) % 2 ^ 16 in
     let fragment : IsFragmentOf c.in-Some.shape seq packet c.args.i datagram = rw (front, ← packet_is, ← c.sequence_number-seq.ensures) w.ensures.fragment in
     let within : Within c.args.i (record { plan = plan; frame = s.frame }) = subst (Within c.args.i) (sym c.self.view_is) c.requires.within in
-    let small : length datagram ≤ w.result = omega (arith, length-take w.result c.deref-in-Some-3.result.now) in
-    ((refl, (λ x. tt), c.self.view_is), record {
-      after = tt;
-      datagram = rw (← c.self.view_is) (cut_datagram plan s.frame c.args.i packet datagram c.in-Some.shape i.4 cut within fragment);
-      small = omega (arith, small, w.ensures.small);
-    })
+    let small : length datagram ≤ w.result = omega (arith, length-take w.result c.deref-in-Some-3.result.now) in (
+      (refl, (λ x. tt), c.self.view_is),
+      record {
+        after = tt;
+        datagram = rw (← c.self.view_is) (cut_datagram plan s.frame c.args.i packet datagram c.in-Some.shape i.4 cut within fragment);
+        small = omega (arith, small, w.ensures.small);
+      },
+    )
