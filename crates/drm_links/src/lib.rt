@@ -4,10 +4,14 @@
 #![tactic(auto)]
 
 mod dock;
+#[cfg(test)]
+mod dock_tests;
 mod docked_link;
 mod failing;
 mod front;
 mod link;
+#[cfg(test)]
+mod link_tests;
 mod memory_dock;
 mod memory_link;
 mod memory_shelf;

@@ -1,6 +1,7 @@
 //! Room for one datagram.
 
 ghost use Rattle.std.specs.Prelude.{◌≡◌, ◌≤◌, [], length, IfOk};
+ghost use Rattle.drm_links.specs.Link.{longest_told};
 
 use drm_bits::NoMemory;
 use std::alloc::Global;
@@ -17,12 +18,13 @@ pub struct Room {
 
 impl Model for Room {
     ghost use Rattle.std.specs.Prelude.{ℕ, ◌≤◌, List, vec_capacity};
+    ghost use Rattle.drm_links.specs.Link.{longest_told};
 
     ghost Value = { List ℕ };
 
     ghost view = { λ room. room.bytes.items };
 
-    ghost invariant = { λ room. 32780 ≤ vec_capacity room.bytes };
+    ghost invariant = { λ room. longest_told ≤ vec_capacity room.bytes };
 }
 
 impl Room {
@@ -37,7 +39,7 @@ impl Room {
 
     /// Puts a datagram in, in place of what lies there.
     pub fn fill(&mut self, datagram: &[u8])
-        requires { length datagram.now ≤ 32780 }
+        requires { length datagram.now ≤ longest_told }
         ensures { self.new ≡ datagram.now }
     {
         self.bytes.clear();

@@ -23,7 +23,7 @@ returns-clause-tells c =
     let heard : Heard → ℕ × List ℕ = λ h. (h.recv, h.bytes) in
     let after : LinkState = with_fields (map heard c.reserve.new.self.items) c.push_back.new.self.items in
     let coming_is : c.push_back.new.self.items ≡ c.self.inside.coming.items ++ c.args.datagram.now ∷ [] =
-    c.in-Ok.ensures.items ∙ ap (λ bytes. c.self.inside.coming.items ++ bytes ∷ []) c.in_ok-bytes.ensures in
+    ◌∙◌ {A = List (List ℕ)} c.in-Ok.ensures.items (ap (λ bytes. c.self.inside.coming.items ++ bytes ∷ []) c.in_ok-bytes.ensures) in
     rw (← c.self.view_is)
     (bring_told (with_fields (map heard c.self.inside.came.items) c.self.inside.coming.items) after c.args.datagram.now
     (λ i. with_fields (map heard (c.reserve.ensures.items i)) (coming_is i)))
