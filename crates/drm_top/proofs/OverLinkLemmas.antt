@@ -1,5 +1,5 @@
 -- A run over a link, by how it ends.
-use Rattle.std.proofs.Common.{◌≡◌, ℕ, ◌+◌, ◌*◌, ◌≤◌, List, [], ◌++◌, length, Option, None, Some, Result, Ok, Err, refl, ◌∙◌, ap, subst, arith}
+use Rattle.std.proofs.Common.{◌≡◌, ℕ, ◌+◌, ◌*◌, ◌≤◌, List, [], ◌++◌, Option, None, Some, Result, Ok, Err, refl, ◌∙◌, ap, subst, arith}
 use Rattle.std.specs.FinMap as map
 use Rattle.drm_links.specs.Told.{Rose, WhileTold, CountsCall}
 use Rattle.drm_links.specs.Dock.{DockContents, LinkStart, Opens, Closes, address_key, first_traffic}
@@ -16,7 +16,7 @@ use Rattle.drm_schedule.specs.declared.plan.Plan.{Plan}
 use Rattle.drm_schedule.specs.Valid.{IsSchedule}
 use Rattle.drm_server.specs.Sending.{SendsSchedule, SendsPart}
 use Rattle.drm_top.specs.declared.fault.Fault.{Fault}
-use Rattle.drm_top.specs.declared.fault.Fault.TheVariants.{Read, Link}
+use Rattle.drm_top.specs.declared.fault.Fault.TheVariants.{Link}
 use Rattle.drm_top.specs.declared.loading.ScheduleFault.{ScheduleFault}
 use Rattle.drm_top.specs.declared.loading.ScheduleFault.TheVariants as schedule
 use Rattle.drm_top.specs.Faults.{fault_of_schedule}

@@ -1,9 +1,9 @@
 -- What a run over a link says of its status and of what has gone.
-use Rattle.std.proofs.Common.{◌≡◌, ℕ, ◌+◌, ◌<◌, ◌≤◌, ◌⊎◌, ◌↔◌, inl, inr, List, [], ◌∷◌, ◌++◌, length, Contains, Option, None, Some, IsNone, Result, Ok, Err, refl, sym, ◌∙◌, ap, subst, arith, length-append}
+use Rattle.std.proofs.Common.{◌≡◌, ℕ, ◌+◌, ◌<◌, ◌⊎◌, ◌↔◌, inl, inr, List, [], ◌∷◌, length, Option, None, Some, IsNone, Result, Ok, Err, refl, sym, ◌∙◌, ap, subst, arith, length-append}
 use Rattle.std.specs.FinMap as map
 use Rattle.std.specs.FinMap.{gets}
 use Rattle.std.proofs.lemmas.Grind.{common_steps}
-use Rattle.drm_links.specs.Told.{Rose, WhileTold}
+use Rattle.drm_links.specs.Told.{WhileTold}
 use Rattle.drm_links.specs.Shelf.{Files, Supplies}
 use Rattle.drm_links.specs.Dock.{DockContents, LinkStart, address_key, start_at}
 use Rattle.drm_links.specs.Transmission.{TakesSends, TakesFewer}
@@ -13,13 +13,11 @@ use Rattle.drm_schedule.specs.declared.plan.Plan.{Plan}
 use Rattle.drm_server.specs.Datagrams.{AreDatagrams, AreBefore}
 use Rattle.drm_server.specs.Laws.{HasOneDelivery, FirstOnesAreFront}
 use Rattle.drm_top.specs.Fault.{status_of}
-use Rattle.drm_top.specs.Faults.{fault_of_schedule}
-use Rattle.drm_top.specs.Loading.{Reading, Step, ReadBy}
+use Rattle.drm_top.specs.Loading.{Reading, Step}
 use Rattle.drm_top.specs.Schedule.{schedule_named}
 use Rattle.drm_top.specs.ScheduleRun.{IsRefused}
-use Rattle.drm_top.specs.Send.{OpeningFails, OpensLink, EndsBy, Go, LacksSends, SendsNothing, ClosedRun, LinkRun, SendRun, after_link}
+use Rattle.drm_top.specs.Send.{OpeningFails, OpensLink, EndsBy, Go, LacksSends, SendsNothing, SendRun, after_link}
 use Rattle.drm_top.specs.declared.fault.Fault.{Fault}
-use Rattle.drm_top.specs.declared.fault.Fault.TheVariants as faults
 use Rattle.drm_top.specs.declared.loading.ScheduleFault.{ScheduleFault}
 use Rattle.drm_top.specs.declared.loading.ScheduleFault.TheVariants as schedule
 
@@ -64,9 +62,10 @@ not_both (Some k) n few takes = omega (arith, few, takes)
 
 six_by : FirstOnesAreFront → (came : Result Plan ScheduleFault) (ending : Result (Unit {0}) Fault) (sends : Option ℕ) (gone : List (List ℕ)) → EndsBy came ending → Go came ending sends gone → (status_of ending ≡ 6) ↔ LacksSends came sends
 six_by front (Ok x) (Ok done) sends gone ends go = (λ e. absurd (omega (arith, e)), λ lacks. absurd (not_both sends (length gone) (lacks gone go.0) go.1))
-six_by front (Ok x) (Err fault) sends gone ends go =
-    (λ e datagrams are. fewer_by sends (length gone) (length datagrams) go.2 (shorter front x datagrams gone go.0 are go.1),
-    λ lacks. ap (λ f. status_of (Err f)) ends)
+six_by front (Ok x) (Err fault) sends gone ends go = (
+  λ e datagrams are. fewer_by sends (length gone) (length datagrams) go.2 (shorter front x datagrams gone go.0 are go.1),
+  λ lacks. ap (λ f. status_of (Err f)) ends,
+)
 six_by front (Err schedule.NoMemory) ending sends gone ends go = (λ e. let is = ap status_of ends in absurd (omega (arith, e, is)), λ lacks. absurd lacks)
 six_by front (Err (schedule.Line l r)) ending sends gone ends go = (λ e. let is = ap status_of ends in absurd (omega (arith, e, is)), λ lacks. absurd lacks)
 six_by front (Err schedule.Read) ending sends gone ends go = (λ e. let is = ap status_of ends in absurd (omega (arith, e, is)), λ lacks. absurd lacks)

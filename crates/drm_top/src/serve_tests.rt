@@ -190,11 +190,7 @@ const LINK_FAULT: Case<'static> = Case {
     ..SENT
 };
 
-fn dock_with(
-    alloc: Global,
-    fails: &[u64],
-    sends: Option<usize>,
-) -> Result<MemDock, NoMemory> {
+fn dock_with(alloc: Global, fails: &[u64], sends: Option<usize>) -> Result<MemDock, NoMemory> {
     let mut dock = MemDock::make(alloc, fails)?;
     if let Some(sends) = sends {
         let link = MemLink::make(alloc, &[], &[], sends)?;
@@ -227,7 +223,14 @@ fn sends_out<R: Abort + Threads + Sync + AllocGlobal>(
 ) -> Result<(), Fail> {
     let alloc = rt.alloc();
     let mut words = Vec::new(alloc);
-    for word in ["serve", "--to", "127.0.0.1:5000", "schedule.txt", "--pace", case.pace] {
+    for word in [
+        "serve",
+        "--to",
+        "127.0.0.1:5000",
+        "schedule.txt",
+        "--pace",
+        case.pace,
+    ] {
         words.push(String::from_str(alloc, word)?)?;
     }
     let mut input = MemSource::make(alloc, &[], &[], 1)?;
@@ -251,14 +254,40 @@ fn sends_the_datagrams_of_a_schedule(rt: HostRuntime) -> Result<(), Fail> {
     shelf.add(alloc, "schedule.txt", &text(alloc, &[])?)?;
     let cases = [
         SENT,
-        Case { sends: Some(40), ..SENT },
+        Case {
+            sends: Some(40),
+            ..SENT
+        },
         Case { pace: "1", ..SENT },
-        Case { sends: Some(27), gone: 27, ..LINK_FAULT },
-        Case { sends: Some(10), gone: 10, ..LINK_FAULT },
-        Case { sends: Some(0), gone: 0, ..LINK_FAULT },
-        Case { sends: None, gone: 0, ..LINK_FAULT },
-        Case { fails: &[0], gone: 0, ..LINK_FAULT },
-        Case { fails: &[1], ..SENT },
+        Case {
+            sends: Some(27),
+            gone: 27,
+            ..LINK_FAULT
+        },
+        Case {
+            sends: Some(10),
+            gone: 10,
+            ..LINK_FAULT
+        },
+        Case {
+            sends: Some(0),
+            gone: 0,
+            ..LINK_FAULT
+        },
+        Case {
+            sends: None,
+            gone: 0,
+            ..LINK_FAULT
+        },
+        Case {
+            fails: &[0],
+            gone: 0,
+            ..LINK_FAULT
+        },
+        Case {
+            fails: &[1],
+            ..SENT
+        },
     ];
     for case in cases {
         sends_out(&rt, &mut shelf, case)?;
@@ -271,7 +300,15 @@ fn sends_the_datagrams_of_a_schedule(rt: HostRuntime) -> Result<(), Fail> {
 fn sends_nothing_without_a_schedule(rt: HostRuntime) -> Result<(), Fail> {
     let alloc = rt.alloc();
     let mut shelf = MemShelf::make(alloc, &[])?;
-    sends_out(&rt, &mut shelf, Case { sends: None, gone: 0, ..LINK_FAULT })?;
+    sends_out(
+        &rt,
+        &mut shelf,
+        Case {
+            sends: None,
+            gone: 0,
+            ..LINK_FAULT
+        },
+    )?;
     let unread = Case {
         status: 4,
         err: "drmcast: read fault\n",

@@ -14,9 +14,14 @@ use std::alloc::Global;
 #[derive(Drop)]
 pub enum Command {
     Fac,
-    Check { name: Octets },
+    Check {
+        name: Octets,
+    },
     /// `serve` without an address; the pace, in milliseconds, has no effect then.
-    Serve { name: Octets, pace: u32 },
+    Serve {
+        name: Octets,
+        pace: u32,
+    },
     /// `serve` to an address; the pace is the rest between frames in milliseconds.
     Send {
         name: Octets,

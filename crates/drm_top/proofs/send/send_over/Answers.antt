@@ -3,7 +3,6 @@ use Rattle.std.proofs.lemmas.Result.{err_from_is_err_and}
 use Rattle.drm_links.specs.Link.{Traffic}
 use Rattle.drm_links.specs.ManyCalls.{MakesCalls}
 use Rattle.drm_links.specs.Transmission.{Transmits}
-use Rattle.drm_schedule.specs.declared.plan.Plan.{Plan}
 use Rattle.drm_schedule.specs.Valid.{IsSchedule}
 use Rattle.drm_server.specs.Serving.{Serving}
 use Rattle.drm_server.specs.Sending.{SendsSchedule, SendsPart}
