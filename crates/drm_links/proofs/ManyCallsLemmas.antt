@@ -1,5 +1,5 @@
 -- Some calls after others.
-use Rattle.std.proofs.Common.{◌≡◌, ℕ, ◌+◌, ◌≤◌, Option, None, Some, refl, arith}
+use Rattle.std.proofs.Common.{ℕ, ◌+◌, ◌≤◌, Option, None, Some, refl, arith}
 use Rattle.drm_links.specs.Told.{CountsCall}
 use Rattle.drm_links.specs.ManyCalls.{MakesCalls}
 

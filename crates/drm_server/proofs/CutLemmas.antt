@@ -1,5 +1,5 @@
 -- How a packet is cut, and its datagrams.
-use Rattle.std.proofs.Common.{◌≡◌, ◌<◌, ◌≤◌, ◌+◌, ◌*◌, ◌%◌, ◌^◌, ℕ, List, ◌++◌, length, take, None, Some, refl, sym, ap, subst, ◌∙◌, arith}
+use Rattle.std.proofs.Common.{◌≡◌, ◌<◌, ◌≤◌, ◌+◌, ◌%◌, ◌^◌, ℕ, List, ◌++◌, length, take, None, Some, refl, sym, ap, subst, ◌∙◌, arith}
 use Rattle.std.proofs.Math.Seq.{take-append_seam}
 use Rattle.drm_schedule.specs.declared.carry.Carry.{Carry}
 use Rattle.drm_schedule.specs.declared.carry.Carry.TheVariants.{Plain, Pft}

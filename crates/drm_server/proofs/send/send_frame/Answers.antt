@@ -1,8 +1,7 @@
-use Rattle.std.proofs.Common.{◌≡◌, ◌∙◌, ◌+◌, ℕ, List, ◌∷◌, [], ◌++◌, ◌≤◌, subst, arith}
+use Rattle.std.proofs.Common.{◌≡◌, ◌∙◌, ◌+◌, ℕ, ◌∷◌, [], ◌++◌, ◌≤◌, subst, arith}
 use Rattle.std.proofs.lemmas.Result.{err_from_is_err_and}
 use Rattle.drm_links.specs.Link.{Traffic}
-use Rattle.drm_links.specs.ManyCalls.{MakesCalls}
-use Rattle.drm_links.proofs.ManyCallsLemmas.{more_calls, at_most, no_calls}
+use Rattle.drm_links.proofs.ManyCallsLemmas.{more_calls, at_most}
 use Rattle.drm_server.specs.Serving.{Serving}
 use Rattle.drm_server.specs.Datagrams.{IsDatagramAt, AreFirst}
 use Rattle.drm_server.proofs.DatagramLemmas.{next_datagram, first_length}

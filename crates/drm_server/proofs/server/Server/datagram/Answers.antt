@@ -1,4 +1,4 @@
-use Rattle.std.proofs.Common.{ℕ, List, ◌≡◌, ◌+◌, ◌%◌, ◌^◌, ◌<◌, ◌≤◌, ◌∙◌, ap, refl, sym, subst, take, length, arith, Some}
+use Rattle.std.proofs.Common.{ℕ, List, ◌≡◌, ◌+◌, ◌%◌, ◌^◌, ◌<◌, ◌≤◌, ap, refl, sym, subst, take, length, arith, Some}
 use Rattle.std.proofs.lemmas.List.{length-take, length-take-le}
 use Rattle.drm_schedule.specs.declared.plan.Plan.{Plan}
 use Rattle.dcp_pft.specs.Head.{IsFragmentOf}

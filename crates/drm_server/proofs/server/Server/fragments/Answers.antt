@@ -1,7 +1,7 @@
-use Rattle.std.proofs.Common.{◌≡◌, ◌∙◌, ap, sym, subst, take, length, arith, Some}
+use Rattle.std.proofs.Common.{◌≡◌, ◌∙◌, ap, sym, take, length, arith, Some}
 use Rattle.std.proofs.lemmas.List.{length-take-le}
 use Rattle.drm_schedule.specs.declared.plan.Plan.{Plan}
-use Rattle.drm_server.specs.Datagrams.{HasDatagrams, datagram_count}
+use Rattle.drm_server.specs.Datagrams.{datagram_count}
 use Rattle.drm_server.specs.Serving.{IsCutOf}
 use Rattle.drm_server.proofs.CutLemmas.{count_cut}
 use Rattle.drm_server.proofs.server.Server.fragments.Goals as goal
