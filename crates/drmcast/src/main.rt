@@ -2,6 +2,8 @@
 
 #![tactic(auto)]
 
+#[cfg(test)]
+mod tests;
 mod words;
 
 use drm_adapt::{FileShelf, StreamSink, StreamSource, UdpDock};
