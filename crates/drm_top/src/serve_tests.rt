@@ -1,10 +1,14 @@
 //! Runs of `serve` over files, sinks and docks in memory. The packets were packed and checked, and the fragments cut, by
 //! programs in Python.
 
+ghost use Rattle.std.specs.Prelude.{IsNone};
+ghost use Rattle.drm_links.specs.MemoryLink.{IsUntouched};
+ghost use Rattle.drm_links.specs.MemoryDock.{link_at};
+
 use crate::run;
 use crate::trial::{Edit, comes_out, text};
 use drm_bits::NoMemory;
-use drm_links::{Address, MemDock, MemLink, MemShelf, MemSink, MemSource};
+use drm_links::{Address, MemDock, MemLink, MemShelf, MemSink, MemSource, PutFault};
 use std::alloc::Global;
 use std::process::Abort;
 use std::test::Fail;
@@ -190,13 +194,26 @@ const LINK_FAULT: Case<'static> = Case {
     ..SENT
 };
 
-fn dock_with(alloc: Global, fails: &[u64], sends: Option<usize>) -> Result<MemDock, NoMemory> {
+fn put(dock: &mut MemDock, alloc: Global, at: Address, link: MemLink) -> Result<(), NoMemory>
+    requires untouched { IsUntouched link }
+    requires vacant { IsNone (link_at dock.old at) }
+{
+    match dock.put(alloc, at, link) {
+        Ok(()) => Ok(()),
+        Err(PutFault::NoMemory(_)) => Err(NoMemory),
+    }
+}
+
+fn dock_with<R: Abort + AllocGlobal>(
+    rt: &R,
+    fails: &[u64],
+    sends: Option<usize>,
+) -> Result<MemDock, NoMemory> {
+    let alloc = rt.alloc();
     let mut dock = MemDock::make(alloc, fails)?;
+    assert!(rt; !dock.has(TO));
     if let Some(sends) = sends {
-        let link = MemLink::make(alloc, &[], &[], sends)?;
-        if dock.put(alloc, TO, link).is_err() {
-            return Err(NoMemory);
-        }
+        put(&mut dock, alloc, TO, MemLink::make(alloc, &[], &[], sends)?)?;
     }
     Ok(dock)
 }
@@ -236,7 +253,7 @@ fn sends_out<R: Abort + Threads + Sync + AllocGlobal>(
     let mut input = MemSource::make(alloc, &[], &[], 1)?;
     let mut out = MemSink::make(alloc, 1000, &[], 100)?;
     let mut err = MemSink::make(alloc, 1000, &[], 100)?;
-    let mut dock = dock_with(alloc, case.fails, case.sends)?;
+    let mut dock = dock_with(rt, case.fails, case.sends)?;
     let ended = run(
         rt, alloc, &words, shelf, &mut input, &mut out, &mut err, &mut dock,
     );
