@@ -6,9 +6,11 @@ use Rattle.dcp_pft.specs.Reading.{IsCodeFor}
 use Rattle.dcp_collect.specs.declared.head.Head.{Head}
 use Rattle.dcp_collect.specs.declared.item.Out.{Out}
 use Rattle.dcp_collect.specs.declared.item.Out.TheVariants.{Packet, Lost, Damaged}
+use Rattle.dcp_collect.specs.declared.read.Incoming.{Incoming as CodeIncoming}
 use Rattle.dcp_collect.specs.declared.packet.KeptFragment.{KeptFragment}
 use Rattle.dcp_collect.specs.declared.packet.KeptPacket.{KeptPacket}
 use Rattle.dcp_collect.specs.Fragments.{Fragment}
+use Rattle.dcp_collect.specs.Reading.{Incoming}
 use Rattle.dcp_collect.specs.State.{State, ready}
 use Rattle.dcp_collect.specs.Runs.{Item, IsItem, Packet as PacketItem, Lost as LostItem, Damaged as DamagedItem}
 
@@ -23,6 +25,10 @@ fragments n fs = map (fragment n) fs
 abbrev pub all_fragments : List (ℕ × KeptPacket) → List Fragment
 all_fragments [] = []
 all_fragments (e ∷ es) = fragments e.0 e.1.fragments.items ++ all_fragments es
+
+-- what was read
+abbrev pub incoming : CodeIncoming → Incoming
+incoming read = record { sequence = read.sequence; head = read.head; payload = read.payload.now }
 
 -- the numbers of a head that was read
 pub record IsHead (head : Head) : Type 0 where

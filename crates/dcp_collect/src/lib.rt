@@ -6,6 +6,7 @@ mod item;
 mod laws;
 mod number;
 mod packet;
+mod read;
 mod taken;
 
 pub use head::Head;
