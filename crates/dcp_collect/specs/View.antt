@@ -1,6 +1,6 @@
 -- What a collector's fields stand for.
-use Rattle.std.specs.Prelude.{ℕ, ◌≡◌, ◌+◌, ◌*◌, ◌^◌, ◌<◌, ◌≤◌, ◌⊎◌, true, false, List, [], ◌∷◌, ◌++◌, map, length, Option, Some, None, IfSome}
-use Rattle.std.specs.List.{All, AllByRecursion}
+use Rattle.std.specs.Prelude.{ℕ, ◌≡◌, ◌+◌, ◌*◌, ◌^◌, ◌<◌, ◌≤◌, ◌⊎◌, ◌==◌, Bool, true, false, slice_index_or, List, [], ◌∷◌, ◌++◌, map, length, Option, Some, None, IfSome}
+use Rattle.std.specs.List.{All, AllByRecursion, list_any}
 use Rattle.drm_bits.specs.Bits.{IsBytes}
 use Rattle.dcp_pft.specs.Reading.{IsCodeFor}
 use Rattle.dcp_collect.specs.declared.head.Head.{Head}
@@ -42,6 +42,14 @@ pub record IsKept (f : KeptFragment) : Type 0 where
   pub head : IsHead f.head
   pub len : length f.payload.items ≡ f.head.len
   pub bytes : IsBytes f.payload.items
+
+-- the fragment with this index is among them
+abbrev pub index_is_kept : List KeptFragment → ℕ → Bool
+index_is_kept fs i = list_any (λ f. f.head.index == i) fs
+
+-- the mark at this index is set
+abbrev pub is_marked : List Bool → ℕ → Bool
+is_marked marks i = slice_index_or marks i false
 
 -- what is given
 abbrev pub item_of : Out → Item

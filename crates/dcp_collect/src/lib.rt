@@ -7,6 +7,7 @@ mod laws;
 mod number;
 mod packet;
 mod read;
+mod recoverable;
 mod taken;
 
 pub use head::Head;
