@@ -5,3 +5,7 @@ pub mod Numbers
 pub mod Got
 pub mod Sent
 pub mod Packets
+pub mod Reached
+pub mod Stays
+pub mod After
+pub mod Take
