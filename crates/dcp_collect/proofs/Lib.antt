@@ -1,0 +1,11 @@
+pub mod Lists
+pub mod Sets
+pub mod Ordered
+pub mod Numbers
+pub mod Got
+pub mod Sent
+pub mod Packets
+pub mod Reached
+pub mod Stays
+pub mod After
+pub mod Take
