@@ -9,3 +9,5 @@ pub mod Reached
 pub mod Stays
 pub mod After
 pub mod Take
+pub mod KeptIndices
+pub mod KeptLemmas

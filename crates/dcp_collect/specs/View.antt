@@ -1,5 +1,5 @@
 -- What a collector's fields stand for.
-use Rattle.std.specs.Prelude.{ℕ, ◌≡◌, ◌+◌, ◌*◌, ◌^◌, ◌<◌, ◌≤◌, ◌⊎◌, ◌==◌, Bool, true, false, slice_index_or, List, [], ◌∷◌, ◌++◌, map, length, Option, Some, None, IfSome}
+use Rattle.std.specs.Prelude.{ℕ, ◌≡◌, ◌+◌, ◌*◌, ◌^◌, ◌<◌, ◌≤◌, ◌⊎◌, ◌==◌, Bool, true, false, slice_index_or, nat_lt, if◌then◌else◌, List, [], ◌∷◌, ◌++◌, map, length, Option, Some, None, IfSome}
 use Rattle.std.specs.List.{All, AllByRecursion, list_any}
 use Rattle.drm_bits.specs.Bits.{IsBytes}
 use Rattle.dcp_pft.specs.Reading.{IsCodeFor}
@@ -9,7 +9,7 @@ use Rattle.dcp_collect.specs.declared.item.Out.TheVariants.{Packet, Lost, Damage
 use Rattle.dcp_collect.specs.declared.read.Incoming.{Incoming as CodeIncoming}
 use Rattle.dcp_collect.specs.declared.packet.KeptFragment.{KeptFragment}
 use Rattle.dcp_collect.specs.declared.packet.KeptPacket.{KeptPacket}
-use Rattle.dcp_collect.specs.Fragments.{Fragment}
+use Rattle.dcp_collect.specs.Fragments.{Fragment, agree, IsAscending}
 use Rattle.dcp_collect.specs.Reading.{Incoming}
 use Rattle.dcp_collect.specs.State.{State, ready}
 use Rattle.dcp_collect.specs.Runs.{Item, IsItem, Packet as PacketItem, Lost as LostItem, Damaged as DamagedItem}
@@ -43,6 +43,11 @@ pub record IsKept (f : KeptFragment) : Type 0 where
   pub len : length f.payload.items ≡ f.head.len
   pub bytes : IsBytes f.payload.items
 
+-- each of the others may be of one packet with the first
+abbrev pub AgreeWithFirst : List KeptFragment → Type 0
+AgreeWithFirst [] = Unit {0}
+AgreeWithFirst (f ∷ fs) = All (λ g. agree f.head g.head ≡ true) fs
+
 -- the fragment with this index is among them
 abbrev pub index_is_kept : List KeptFragment → ℕ → Bool
 index_is_kept fs i = list_any (λ f. f.head.index == i) fs
@@ -50,6 +55,21 @@ index_is_kept fs i = list_any (λ f. f.head.index == i) fs
 -- the mark at this index is set
 abbrev pub is_marked : List Bool → ℕ → Bool
 is_marked marks i = slice_index_or marks i false
+
+-- the head of the first one that disagrees with this one
+abbrev pub first_odd : List KeptFragment → Head → Option Head
+first_odd [] head = None
+first_odd (f ∷ fs) head = if agree f.head head then first_odd fs head else Some f.head
+
+-- a fragment with this index goes before that one
+abbrev pub goes_before : ℕ → KeptFragment → Bool
+goes_before index f = nat_lt index f.head.index
+
+-- the fragments of one packet that are kept
+pub record AreKept (fs : List KeptFragment) : Type 0 where
+  pub each : All IsKept fs
+  pub ascending : IsAscending (fragments 0 fs)
+  pub alike : AgreeWithFirst fs
 
 -- what is given
 abbrev pub item_of : Out → Item

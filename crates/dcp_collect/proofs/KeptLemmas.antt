@@ -1,0 +1,211 @@
+-- The fragments of one packet that are kept: one more of them, and how many bytes they have.
+use Rattle.std.proofs.Common.{ℕ, zero, suc, ◌≡◌, ◌+◌, ◌-◌, ◌*◌, ◌<◌, ◌≤◌, max, Bool, true, false, cond, not, ◌&&◌, ◌||◌, ltb, leb, eqb, List, [], ◌∷◌, ◌++◌, length, take, drop, get_or, Option, Some, None, refl, sym, ap, ◌∙◌, subst, arith}
+use Rattle.std.specs.List.{All, AllByRecursion, find, insert}
+use Rattle.std.proofs.Math.Nat.{mul-le-mul_left}
+use Rattle.std.proofs.lemmas.Bool.{or_parts}
+use Rattle.std.proofs.lemmas.Bool.Decides.{nat_tests}
+use Rattle.std.proofs.lemmas.List.Elements.{All-append, All-cons, All-take, All-drop, All-head, All-tail, All-nil, All-weaker}
+use Rattle.dcp_collect.specs.declared.head.Head.{Head}
+use Rattle.dcp_collect.specs.declared.taken.Taken.{Taken}
+use Rattle.dcp_collect.specs.declared.taken.Taken.TheVariants.{Kept, Repeated, Late, Inconsistent}
+use Rattle.dcp_collect.specs.declared.packet.KeptFragment.{KeptFragment}
+use Rattle.dcp_collect.specs.Fragments.{Fragment, agree, same_bool, same_code, has_index, suffice, IsAscending}
+use Rattle.dcp_collect.specs.State.{answer_among, answer_by, is_before, insert_kept, held}
+use Rattle.dcp_collect.specs.View.{fragment, fragments, goes_before, first_odd, IsHead, IsKept, AreKept, AgreeWithFirst, index_is_kept}
+use Rattle.std.specs.Option.{option_map}
+use Rattle.dcp_collect.proofs.KeptIndices.{has_index_is}
+use Rattle.dcp_collect.proofs.Lists.{all_insert, all_weaker}
+
+-- ---- where a fragment goes
+
+before_is : (n i j : ℕ) → (ltb n n || (eqb n n && ltb i j)) ≡ ltb i j
+before_is n i j = grind (arith, nat_tests)
+
+place_at : (b : Bool) (f g : Fragment) (gs : List Fragment) → b ≡ true → cond b (f ∷ g ∷ gs) (g ∷ insert_kept f gs) ≡ f ∷ g ∷ gs
+place_at b f g gs e = rw e refl
+
+place_behind : (b : Bool) (f g : Fragment) (gs : List Fragment) → b ≡ false → cond b (f ∷ g ∷ gs) (g ∷ insert_kept f gs) ≡ g ∷ insert_kept f gs
+place_behind b f g gs e = rw e refl
+
+-- it goes in at the first place before which it belongs
+pub insert_place : (n : ℕ) (kept : List KeptFragment) (p : ℕ) (k : KeptFragment) → p ≤ length kept
+    → ((i : ℕ) (d : KeptFragment) → i < p → goes_before k.head.index (get_or kept i d) ≡ false)
+    → ((d : KeptFragment) → p < length kept → goes_before k.head.index (get_or kept p d) ≡ true)
+    → fragments n (insert kept p k) ≡ insert_kept (fragment n k) (fragments n kept)
+insert_place n [] zero k l before at = refl
+insert_place n [] (suc p) k l before at = absurd (omega arith)
+insert_place n (g ∷ gs) zero k l before at =
+    sym (place_at (is_before (fragment n k) (fragment n g)) (fragment n k) (fragment n g) (fragments n gs) (before_is n k.head.index g.head.index ∙ at k (omega arith)))
+insert_place n (g ∷ gs) (suc p) k l before at =
+    ap (λ x. fragment n g ∷ x) (insert_place n gs p k (omega arith) (λ i d u. before (suc i) d (omega arith)) (λ d u. at d (omega arith)))
+    ∙ sym (place_behind (is_before (fragment n k) (fragment n g)) (fragment n k) (fragment n g) (fragments n gs) (before_is n k.head.index g.head.index ∙ before 0 k (omega arith)))
+
+-- ---- the indices rise
+
+after_by : (i j : ℕ) → ltb i j ≡ false → eqb j i ≡ false → j < i
+after_by i j p q = grind (arith, nat_tests)
+
+before_with : (n a b i j : ℕ) → a ≡ n → b ≡ n → (ltb a b || (eqb a b && ltb i j)) ≡ ltb i j
+before_with n a b i j p q = grind (arith, nat_tests)
+
+before_by : (i j : ℕ) → ltb i j ≡ true → i < j
+before_by i j p = grind (arith, nat_tests)
+
+ascending_at : (n : ℕ) (b : Bool) (f g : Fragment) (gs : List Fragment) → b ≡ is_before f g → f.number ≡ n → g.number ≡ n
+    → (eqb g.head.index f.head.index || has_index gs f.head.index) ≡ false → IsAscending (g ∷ gs) → IsAscending (insert_kept f gs)
+    → IsAscending (cond b (f ∷ g ∷ gs) (g ∷ insert_kept f gs))
+ascending_at n true f g gs e a b other asc rest =
+    let l : f.head.index < g.head.index = before_by f.head.index g.head.index (sym (before_with n f.number g.number f.head.index g.head.index a b) ∙ sym e) in
+    ((l, all_weaker (λ h. g.head.index < h.head.index) (λ h. f.head.index < h.head.index) (λ h t. omega arith) gs asc.0), asc)
+ascending_at n false f g gs e a b other asc rest =
+    let p = or_parts (eqb g.head.index f.head.index) (has_index gs f.head.index) other in
+    let l : g.head.index < f.head.index = after_by f.head.index g.head.index (sym (before_with n f.number g.number f.head.index g.head.index a b) ∙ sym e) p.0 in
+    (all_insert (λ h. g.head.index < h.head.index) f gs l asc.0, rest)
+
+ascending_insert : (n : ℕ) (f : Fragment) (gs : List Fragment) → f.number ≡ n → AllByRecursion (λ g. g.number ≡ n) gs
+    → has_index gs f.head.index ≡ false → IsAscending gs → IsAscending (insert_kept f gs)
+ascending_insert n f [] a same other asc = (tt, tt)
+ascending_insert n f (g ∷ gs) a same other asc =
+    ascending_at n (is_before f g) f g gs refl a same.0 other asc
+    (ascending_insert n f gs a same.1 (or_parts (eqb g.head.index f.head.index) (has_index gs f.head.index) other).1 asc.1)
+
+all_numbered : (n : ℕ) (kept : List KeptFragment) → AllByRecursion (λ g. g.number ≡ n) (fragments n kept)
+all_numbered n [] = tt
+all_numbered n (g ∷ gs) = (refl, all_numbered n gs)
+
+-- what holds of each of them, in the data
+pub each_fragment : (n : ℕ) (P : Fragment → Type 0) (Q : KeptFragment → Type 0) → ((k : KeptFragment) → Q k → P (fragment n k))
+    → (kept : List KeptFragment) → All Q kept → AllByRecursion P (fragments n kept)
+each_fragment n P Q w [] all = tt
+each_fragment n P Q w (k ∷ ks) all = (w k (All-head Q k ks all), each_fragment n P Q w ks (All-tail Q k ks all))
+
+-- ---- what is answered
+
+odd_at : (b : Bool) (f : Fragment) (o : Option Fragment) (h : Option Head) → option_map (λ (g : Fragment). g.head) o ≡ h
+    → option_map (λ (g : Fragment). g.head) (cond (not b) (Some f) o) ≡ cond b h (Some f.head)
+odd_at true f o h e = e
+odd_at false f o h e = refl
+
+odd_is : (n : ℕ) (kept : List KeptFragment) (head : Head)
+    → option_map (λ (g : Fragment). g.head) (find (λ g. not (agree g.head head)) (fragments n kept)) ≡ first_odd kept head
+odd_is n [] head = refl
+odd_is n (k ∷ ks) head =
+    odd_at (agree k.head head) (fragment n k) (find (λ g. not (agree g.head head)) (fragments n ks)) (first_odd ks head) (odd_is n ks head)
+
+answer_some : (o : Option Fragment) (b : Bool) (kept head : Head) → option_map (λ (g : Fragment). g.head) o ≡ Some kept → answer_by o b head ≡ Inconsistent kept head
+answer_some None b kept head e = absurd (let x : None ≡ Some kept = e in cc)
+answer_some (Some f) b kept head e = let x : Some f.head ≡ Some kept = e in (let y : f.head ≡ kept = cc in ap (λ h. Inconsistent h head) y)
+
+none_from : (o : Option Fragment) → option_map (λ (g : Fragment). g.head) o ≡ None → o ≡ None
+none_from None e = refl
+none_from (Some f) e = absurd (let x : Some f.head ≡ None = e in cc)
+
+unlike_by : (those : List Fragment) (head : Head) → suffice those ≡ false
+    → answer_among those head ≡ answer_by (find (λ g. not (agree g.head head)) those) (has_index those head.index) head
+unlike_by those head e = rw e refl
+
+pub answer_odd : (n : ℕ) (kept : List KeptFragment) (head odd : Head) → suffice (fragments n kept) ≡ false → first_odd kept head ≡ Some odd
+    → answer_among (fragments n kept) head ≡ Inconsistent odd head
+answer_odd n kept head odd s o =
+    unlike_by (fragments n kept) head s
+    ∙ answer_some (find (λ g. not (agree g.head head)) (fragments n kept)) (has_index (fragments n kept) head.index) odd head (odd_is n kept head ∙ o)
+
+pub answer_even : (n : ℕ) (kept : List KeptFragment) (head : Head) → suffice (fragments n kept) ≡ false → first_odd kept head ≡ None
+    → answer_among (fragments n kept) head ≡ answer_by None (index_is_kept kept head.index) head
+answer_even n kept head s o =
+    unlike_by (fragments n kept) head s
+    ∙ ap (λ x. answer_by x (has_index (fragments n kept) head.index) head) (none_from (find (λ g. not (agree g.head head)) (fragments n kept)) (odd_is n kept head ∙ o))
+    ∙ ap (λ b. answer_by None b head) (has_index_is n head.index kept)
+
+-- ---- one more of them
+
+by_answer : (s : Bool) (o : Option Fragment) (b : Bool) (head : Head) → cond s Repeated (answer_by o b head) ≡ Kept → (o ≡ None) × (b ≡ false)
+by_answer true o b head e = absurd (let x : Repeated ≡ Kept = e in cc)
+by_answer false (Some f) b head e = absurd (let x : Inconsistent f.head head ≡ Kept = e in cc)
+by_answer false None true head e = absurd (let x : Repeated ≡ Kept = e in cc)
+by_answer false None false head e = (refl, refl)
+
+agree_at : (b : Bool) (k : KeptFragment) (ks : List KeptFragment) (head : Head) → b ≡ agree k.head head
+    → (first_odd ks head ≡ None → All (λ (g : KeptFragment). agree g.head head ≡ true) ks)
+    → cond b (first_odd ks head) (Some k.head) ≡ None → All (λ (g : KeptFragment). agree g.head head ≡ true) (k ∷ ks)
+agree_at true k ks head is rest e = All-cons (λ (g : KeptFragment). agree g.head head ≡ true) k ks (sym is) (rest e)
+agree_at false k ks head is rest e = absurd (let x : Some k.head ≡ None = e in cc)
+
+all_agree : (kept : List KeptFragment) (head : Head) → first_odd kept head ≡ None → All (λ (g : KeptFragment). agree g.head head ≡ true) kept
+all_agree [] head e = All-nil (λ (g : KeptFragment). agree g.head head ≡ true)
+all_agree (k ∷ ks) head e = agree_at (agree k.head head) k ks head refl (all_agree ks head) e
+
+same_len : (a b : ℕ) → eqb a b ≡ eqb b a
+same_len a b = grind (arith, nat_tests)
+
+-- agreeing goes both ways
+suit_sym : (i c j d m n : ℕ) → cond (eqb i j || same_bool (eqb (i + 1) c) (eqb (j + 1) d)) (eqb m n) (cond (eqb (i + 1) c) (leb m n) (leb n m)) ≡ true
+    → cond (eqb j i || same_bool (eqb (j + 1) d) (eqb (i + 1) c)) (eqb n m) (cond (eqb (j + 1) d) (leb n m) (leb m n)) ≡ true
+suit_sym i c j d m n e = grind (arith, nat_tests)
+
+same_bool_sym : (a b : Bool) → same_bool a b ≡ true → same_bool b a ≡ true
+same_bool_sym true true e = refl
+same_bool_sym false false e = refl
+same_bool_sym true false e = absurd (let x : false ≡ true = e in cc)
+same_bool_sym false true e = absurd (let x : false ≡ true = e in cc)
+
+same_code_sym : (a b : Option Rs) → same_code a b ≡ true → (same_code b a ≡ true) × (is_some b ≡ is_some a)
+same_code_sym None None e = (refl, refl)
+same_code_sym None (Some b) e = absurd (let x : false ≡ true = e in cc)
+same_code_sym (Some a) None e = absurd (let x : false ≡ true = e in cc)
+same_code_sym (Some a) (Some b) e = (ap (λ x. x && eqb b.z a.z) (same_len b.k a.k) ∙ ap (λ x. eqb a.k b.k && x) (same_len b.z a.z) ∙ e, refl)
+
+lengths_sym : (c : Bool) (i count j count' m n : ℕ)
+    → cond c (eqb m n) (cond (eqb i j || same_bool (eqb (i + 1) count) (eqb (j + 1) count')) (eqb m n) (cond (eqb (i + 1) count) (leb m n) (leb n m))) ≡ true
+    → cond c (eqb n m) (cond (eqb j i || same_bool (eqb (j + 1) count') (eqb (i + 1) count)) (eqb n m) (cond (eqb (j + 1) count') (leb n m) (leb m n))) ≡ true
+lengths_sym true i count j count' m n e = same_len n m ∙ e
+lengths_sym false i count j count' m n e = suit_sym i count j count' m n e
+
+pub agree_sym : (a b : Head) → agree a b ≡ true → agree b a ≡ true
+unfolding agree
+agree_sym a b e =
+    let w = and_parts (same_bool a.whole b.whole) _ e in
+    let c = and_parts (eqb a.count b.count) _ w.1 in
+    let r = and_parts (same_code a.rs b.rs) _ c.1 in
+    let code = same_code_sym a.rs b.rs r.0 in
+    and_from (same_bool b.whole a.whole) _ (same_bool_sym a.whole b.whole w.0)
+    (and_from (eqb b.count a.count) _ (same_len b.count a.count ∙ c.0)
+    (and_from (same_code b.rs a.rs) _ code.0
+    (subst (λ x. cond x (eqb b.len a.len) (lengths_suit b a) ≡ true) (sym code.1) (lengths_sym (is_some a.rs) a.index a.count b.index b.count a.len b.len r.1))))
+
+-- what agreeing says of both
+pub agree_count : (a b : Head) → agree a b ≡ true → a.count ≡ b.count
+unfolding agree
+agree_count a b e =
+    let w = and_parts (same_bool a.whole b.whole) _ e in
+    let c = and_parts (eqb a.count b.count) _ w.1 in
+    eqb-true a.count b.count c.0
+
+all_flip : (head : Head) (ks : List KeptFragment) → All (λ (g : KeptFragment). agree g.head head ≡ true) ks → All (λ (g : KeptFragment). agree head g.head ≡ true) ks
+all_flip head ks all = All-weaker (λ (g : KeptFragment). agree g.head head ≡ true) (λ (g : KeptFragment). agree head g.head ≡ true) (λ g e. agree_sym g.head head e) ks all
+
+agree_insert : (kept : List KeptFragment) (p : ℕ) (k : KeptFragment) → AgreeWithFirst kept → All (λ (g : KeptFragment). agree g.head k.head ≡ true) kept
+    → AgreeWithFirst (insert kept p k)
+agree_insert [] zero k first all = All-nil (λ (g : KeptFragment). agree k.head g.head ≡ true)
+agree_insert [] (suc p) k first all = All-nil (λ (g : KeptFragment). agree k.head g.head ≡ true)
+agree_insert (g ∷ gs) zero k first all = all_flip k.head (g ∷ gs) all
+agree_insert (g ∷ gs) (suc p) k first all =
+    let P : KeptFragment → Type 0 = λ h. agree g.head h.head ≡ true in
+    All-append P (take p gs) (k ∷ drop p gs) (All-take P p gs first)
+    (All-cons P k (drop p gs) (All-head (λ (h : KeptFragment). agree h.head k.head ≡ true) g gs all) (All-drop P p gs first))
+
+-- one more that was answered with Kept, at its place
+pub are_kept : (kept new : List KeptFragment) (p : ℕ) (k : KeptFragment) → new ≡ insert kept p k
+    → fragments 0 new ≡ insert_kept (fragment 0 k) (fragments 0 kept) → AreKept kept → IsKept k
+    → answer_among (fragments 0 kept) k.head ≡ Kept → AreKept new
+are_kept kept new p k is put are kept_is e =
+    let parts = by_answer (suffice (fragments 0 kept)) (find (λ g. not (agree g.head k.head)) (fragments 0 kept)) (has_index (fragments 0 kept) k.head.index) k.head e in
+    let odd : first_odd kept k.head ≡ None = sym (odd_is 0 kept k.head) ∙ ap (option_map (λ (g : Fragment). g.head)) parts.0 in
+    record {
+      each = subst (All IsKept) (sym is)
+          (All-append IsKept (take p kept) (k ∷ drop p kept) (All-take IsKept p kept are.each)
+          (All-cons IsKept k (drop p kept) kept_is (All-drop IsKept p kept are.each)));
+      ascending = subst IsAscending (sym put)
+          (ascending_insert 0 (fragment 0 k) (fragments 0 kept) refl (all_numbered 0 kept) parts.1 are.ascending);
+      alike = subst AgreeWithFirst (sym is) (agree_insert kept p k are.alike (all_agree kept k.head odd));
+    }
