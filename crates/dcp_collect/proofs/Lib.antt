@@ -9,3 +9,4 @@ pub mod Reached
 pub mod Stays
 pub mod After
 pub mod Take
+pub mod Next
