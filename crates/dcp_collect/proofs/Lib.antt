@@ -10,3 +10,4 @@ pub mod Stays
 pub mod After
 pub mod Take
 pub mod Next
+pub mod Going
