@@ -11,3 +11,5 @@ pub mod After
 pub mod Take
 pub mod Next
 pub mod Going
+pub mod Based
+pub mod Whole
