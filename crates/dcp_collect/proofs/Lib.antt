@@ -13,3 +13,6 @@ pub mod Next
 pub mod Going
 pub mod Based
 pub mod Whole
+pub mod Runs
+pub mod Unique
+pub mod Ending
