@@ -11,3 +11,10 @@ pub mod After
 pub mod Take
 pub mod KeptIndices
 pub mod KeptLemmas
+pub mod Next
+pub mod Going
+pub mod Based
+pub mod Whole
+pub mod Runs
+pub mod Unique
+pub mod Ending

@@ -1,5 +1,5 @@
 -- What an answer leaves as it was.
-use Rattle.std.proofs.Common.{ℕ, ◌≡◌, ◌≤◌, Option, Some, None, refl, ap, arith}
+use Rattle.std.proofs.Common.{ℕ, ◌≡◌, ◌≤◌, Some, None, refl, ap, arith}
 use Rattle.std.specs.Prelude.{ℤ, pos, negsuc, unwrap_or}
 use Rattle.dcp_collect.specs.declared.taken.Taken.{Taken}
 use Rattle.dcp_collect.specs.declared.taken.Taken.TheVariants.{Kept, Repeated, Late, Refused, Inconsistent, NoMemory}
