@@ -1,9 +1,10 @@
--- The laws of cutting.
-use Rattle.std.specs.Prelude.{ℕ, ◌≡◌, ◌*◌, ◌<◌, ◌≤◌, List, length, Some}
+-- The laws of cutting and reading.
+use Rattle.std.specs.Prelude.{ℕ, ◌≡◌, ◌*◌, ◌^◌, ◌<◌, ◌≤◌, List, length, Some}
 use Rattle.dcp_pft.specs.declared.shape.Rs.{Rs}
 use Rattle.dcp_pft.specs.declared.shape.Shape.{Shape}
-use Rattle.dcp_pft.specs.Cutting.{chunk_count, chunks_of, shape_of}
-use Rattle.dcp_pft.specs.Head.{IsFragmentOf}
+use Rattle.dcp_pft.specs.Cutting.{IsShapeOf, chunk_count, chunks_of, shape_of}
+use Rattle.dcp_pft.specs.Head.{IsFragmentOf, Spells, fragment_of}
+use Rattle.dcp_pft.specs.Reading.{IsPft}
 
 -- the fragments make as many chunks as the packet was cut into
 abbrev pub ChunksAgree : Type 0
@@ -38,3 +39,10 @@ OneFragment =
     (m mtu seq i : ℕ) (packet first second : List ℕ) → 1 ≤ length packet
     → IsFragmentOf (shape_of (length packet) m mtu) seq packet i first → IsFragmentOf (shape_of (length packet) m mtu) seq packet i second
     → second ≡ first
+
+-- a fragment that was written is read, as it was written
+abbrev pub ReadAsWritten : Type 0
+ReadAsWritten =
+    (shape : Shape) (seq i : ℕ) (packet parity datagram : List ℕ)
+    → IsShapeOf (length packet) shape → seq < 2 ^ 16 → i < shape.count
+    → Spells (fragment_of shape seq packet parity i) datagram → IsPft (fragment_of shape seq packet parity i) datagram

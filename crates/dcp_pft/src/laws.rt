@@ -1,6 +1,6 @@
-//! The laws of cutting, each on a function that does nothing.
+//! The laws of cutting and reading, each on a function that does nothing.
 
-ghost use Rattle.dcp_pft.specs.Laws.{ChunksAgree, AllTaken, OneFragment};
+ghost use Rattle.dcp_pft.specs.Laws.{ChunksAgree, AllTaken, OneFragment, ReadAsWritten};
 ghost use Rattle.dcp_pft.specs.Loss.{AnyMayBeLost};
 
 /// A receiver counts the chunks that the sender made.
@@ -21,4 +21,9 @@ pub fn any_may_be_lost()
 /// A packet's fragment is one datagram.
 pub fn one_fragment()
     ensures { OneFragment }
+{}
+
+/// A fragment that was written is read, as it was written.
+pub fn read_as_written()
+    ensures { ReadAsWritten }
 {}

@@ -9,3 +9,4 @@ pub mod ErasedPlaces
 pub mod Solutions
 pub mod ShiftRegister
 pub mod OneWord
+pub mod Decided

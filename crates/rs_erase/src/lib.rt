@@ -12,7 +12,7 @@ mod roots;
 mod tests;
 
 pub use fault::SolveFault;
-pub use laws::{code_words_have_the_roots, one_code_word, one_parity};
+pub use laws::{code_word_or_none, code_words_have_the_roots, one_code_word, one_parity};
 pub use parity::encode;
 pub use places::solve;
 pub use roots::syndromes;
