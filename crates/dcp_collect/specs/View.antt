@@ -8,7 +8,7 @@ use Rattle.dcp_collect.specs.declared.item.Out.{Out}
 use Rattle.dcp_collect.specs.declared.item.Out.TheVariants.{Packet, Lost, Damaged}
 use Rattle.dcp_collect.specs.declared.packet.KeptFragment.{KeptFragment}
 use Rattle.dcp_collect.specs.declared.packet.KeptPacket.{KeptPacket}
-use Rattle.dcp_collect.specs.Fragments.{Fragment}
+use Rattle.dcp_collect.specs.Fragments.{Fragment, agree}
 use Rattle.dcp_collect.specs.State.{State, ready}
 use Rattle.dcp_collect.specs.Runs.{Item, IsItem, Packet as PacketItem, Lost as LostItem, Damaged as DamagedItem}
 
@@ -36,6 +36,11 @@ pub record IsKept (f : KeptFragment) : Type 0 where
   pub head : IsHead f.head
   pub len : length f.payload.items ≡ f.head.len
   pub bytes : IsBytes f.payload.items
+
+-- each of the others may be of one packet with the first
+abbrev pub AgreeWithFirst : List KeptFragment → Type 0
+AgreeWithFirst [] = Unit {0}
+AgreeWithFirst (f ∷ fs) = All (λ g. agree f.head g.head ≡ true) fs
 
 -- what is given
 abbrev pub item_of : Out → Item
