@@ -1,3 +1,5 @@
 pub mod Positions
 pub mod Received
 pub mod Chunks
+pub mod Words
+pub mod Solved
