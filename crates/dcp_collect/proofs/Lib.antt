@@ -3,3 +3,5 @@ pub mod Received
 pub mod Chunks
 pub mod Words
 pub mod Solved
+pub mod Decided
+pub mod Decoded

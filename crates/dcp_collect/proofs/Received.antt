@@ -1,7 +1,7 @@
 -- The bytes of the coded chunks, as the fragments give them.
 use Rattle.std.proofs.Common.{ℕ, ◌≡◌, ◌≢◌, ◌+◌, ◌-◌, ◌*◌, ◌/◌, ◌%◌, ◌<◌, ◌≤◌, ◌^◌, ◌==◌, ◌||◌, inl, inr, Bool, true, false, cond, eqb, List, [], ◌∷◌, length, drop, get_or, nat_lt, refl, sym, subst, ap, ◌∙◌, arith}
 use Rattle.std.proofs.lemmas.Bool.{cases_lt, cases_eq, cond-true, cond-false, lt-ltb, le-ltb, eq-eqb, ne_eqb, or_parts, false≢true}
-use Rattle.std.proofs.lemmas.List.{drop_more}
+use Rattle.std.proofs.lemmas.List.{drop_more, get_or_past}
 use Rattle.std.proofs.lemmas.List.FromFn.{length-map-range_with_len, get_or-map-range_with_len}
 use Rattle.std.specs.List.{AllByRecursion, list_any}
 use Rattle.drm_bits.specs.Bits.{IsBytes}
@@ -112,3 +112,16 @@ module _ (count : ℕ) (fs : List Fragment) (start k : ℕ) where
   pub word_length : length (received_word count fs start k) ≡ 255
   unfolding received_word
   word_length = length-map-range_with_len (received_at count fs start k) 0 255
+
+  pub word_small : AllByRecursion (λ f. IsBytes f.payload) fs → IsBytes (received_word count fs start k)
+  word_small bytes p =
+      elim (cases_lt p 255) [
+        | inr past ↦ omega (arith, get_or_past (received_word count fs start k) p 0 (omega (arith, word_length)))
+        | inl within ↦ elim (cases_lt p k) [
+          | inl inside ↦ omega (arith, word_at p within, at_chunk p inside, received_small count (start + p) fs bytes)
+          | inr beyond ↦ elim (cases_lt p 207) [
+            | inl gap ↦ omega (arith, word_at p within, at_fill p beyond gap)
+            | inr behind ↦ omega (arith, word_at p within, at_parity p beyond behind, received_small count (start + k + (p - 207)) fs bytes)
+          ]
+        ]
+      ]
