@@ -18,3 +18,10 @@ pub mod Whole
 pub mod Runs
 pub mod Unique
 pub mod Ending
+pub mod Positions
+pub mod Received
+pub mod Chunks
+pub mod Words
+pub mod Solved
+pub mod Decided
+pub mod Decoded

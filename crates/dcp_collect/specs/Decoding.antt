@@ -1,5 +1,5 @@
 -- The bytes of a packet from fragments that suffice (TS 102 821).
-use Rattle.std.specs.Prelude.{ℕ, ◌≡◌, ◌+◌, ◌-◌, ◌*◌, ◌/◌, ◌%◌, ◌<◌, List, [], ◌∷◌, ◌++◌, length, take, Option, Some, None}
+use Rattle.std.specs.Prelude.{ℕ, ◌≡◌, ◌+◌, ◌-◌, ◌*◌, ◌/◌, ◌%◌, ◌<◌, ◌≤◌, List, [], ◌∷◌, ◌++◌, length, take, Option, Some, None}
 use Rattle.std.specs.List.{AllByRecursion}
 use Rattle.dcp_pft.specs.declared.shape.Rs.{Rs}
 use Rattle.dcp_pft.specs.Cutting.{chunks_of}
@@ -17,8 +17,9 @@ HasItsBytes count chunks f =
     (place : ℕ) → place < length chunks → place % count ≡ f.head.index → byte_or_zero chunks place ≡ byte_or_zero f.payload (place / count)
 
 -- So many chunks of k bytes with their parity, code words all of them, that agree with each of the fragments; the bytes are
--- the chunks without the zeros that fill the last one.
+-- the chunks without the zeros that fill the last one. A code word has place for 207 bytes of a chunk.
 pub record AreSolved (count c : ℕ) (rs : Rs) (fragments : List Fragment) (bytes : List ℕ) : Type 0 where
+  pub few : rs.k ≤ 207
   pub chunks : List ℕ
   pub parities : List ℕ
   pub long : length chunks ≡ c * rs.k

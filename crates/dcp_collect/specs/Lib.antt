@@ -6,3 +6,6 @@ pub mod Runs
 pub mod Delivery
 pub mod Laws
 pub mod View
+pub mod Erasure
+pub mod Sound
+pub mod Lending

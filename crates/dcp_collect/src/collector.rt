@@ -1,18 +1,18 @@
 //! The collector.
 
-ghost use Rattle.std.specs.Prelude.{◌≡◌, ◌+◌, ◌*◌, ◌^◌, ◌<◌, ◌≤◌, ℕ, IfOk, IfSome, None, false, length, unwrap_or};
+ghost use Rattle.std.specs.Prelude.{◌≡◌, ◌+◌, ◌*◌, ◌^◌, ◌<◌, ◌≤◌, ℕ, IfOk, IfSome, None, true, false, Some, length, unwrap_or};
 ghost use Rattle.std.specs.Borrow.{sem};
 ghost use Rattle.dcp_collect.specs.Reading.{IsRead, Unread, Brings};
-ghost use Rattle.dcp_collect.specs.State.{made, ready as is_ready, is_late as number_is_late, newer, after_finish, held as bytes_held};
+ghost use Rattle.dcp_collect.specs.State.{made, ready as is_ready, is_late as number_is_late, reached, newer, after_finish, held as bytes_held};
 ghost use Rattle.dcp_collect.specs.Runs.{TakesOrStays};
 ghost use Rattle.dcp_collect.specs.View.{IsNext};
 ghost use Rattle.dcp_collect.specs.Lending.{Ends};
 
-use crate::decode::decode;
+use crate::found::{Found, find};
 use crate::kept_packets::{Packets, drop_packet, fragments_of, held, keep};
 use crate::number::nearest_number;
-use crate::packet::{KeptFragment, answer_for};
-use crate::read::{Incoming, read_datagram};
+use crate::packet::answer_for;
+use crate::read::read_datagram;
 use crate::recoverable::suffices;
 use crate::{Out, Taken};
 use drm_bits::NoMemory;
@@ -100,7 +100,8 @@ impl Collector {
 
     /// Whether `next` gives an item.
     pub fn ready(&self) -> bool
-        ensures { result ≡ is_ready self.now }
+        ensures ready { result ≡ is_ready self.now }
+        ensures small { result ≡ true → self.now.next < 2 ^ 62 }
     {
         match self.end {
             Some(end) => self.next < end,
@@ -131,10 +132,16 @@ impl Collector {
             return Taken::Late;
         }
         let number = number as u64;
-        match answer_for(fragments_of(&self.packets, number), read.head) {
-            Taken::Kept => self.keep(number, first, read),
-            other => other,
+        let answer = answer_for(fragments_of(&self.packets, number), read.head);
+        if answer != Taken::Kept {
+            return answer;
         }
+        if keep(self.alloc, &mut self.packets, number, read.head, read.payload).is_err() {
+            return Taken::NoMemory;
+        }
+        self.first = Some(first);
+        self.newest = Some(newer_of(self.newest, number));
+        Taken::Kept
     }
 
     /// Gives the next packet, or says what is to be said in its place: none exactly where none is ready.
@@ -147,16 +154,16 @@ impl Collector {
             return None;
         }
         let index = self.next;
-        let found = self.find(index);
+        let found = find(&self.packets, index, &mut self.buffer);
         drop_packet(&mut self.packets, index);
         self.next = index + 1;
         Some(match found {
-            Found::Packet { len } => Out::Packet {
+            Found::Whole { len } => Out::Packet {
                 index,
                 bytes: &self.buffer[..len],
             },
-            Found::Damaged => Out::Damaged { index },
-            Found::Lost { had, of } => Out::Lost { index, had, of },
+            Found::Broken => Out::Damaged { index },
+            Found::Short { had, of } => Out::Lost { index, had, of },
         })
     }
 
@@ -174,7 +181,9 @@ impl Collector {
     }
 
     // Whether the newest number is at least this.
-    fn has_reached(&self, number: u64) -> bool {
+    fn has_reached(&self, number: u64) -> bool
+        ensures { result ≡ reached self.now.newest number }
+    {
         self.newest.is_some_and(|newest| number <= newest)
     }
 
@@ -193,5 +202,12 @@ impl Collector {
 fn room(alloc: Global) -> Result<Vec<u8>, NoMemory>
     ensures { IfOk result (λ bytes. length bytes.items ≡ 12288) }
 {
-    Ok(zeros(alloc, MOST_BYTES)?)
+    Ok(vec![in alloc; 0u8; MOST_BYTES]?)
+}
+
+// The newer of the two numbers.
+fn newer_of(newest: Option<u64>, number: u64) -> u64
+    ensures { Some result ≡ newer newest number }
+{
+    newest.map_or(number, |newest| newest.max(number))
 }

@@ -3,11 +3,13 @@
 ghost use Rattle.std.specs.Prelude.{◌≡◌, ◌≢◌, ◌+◌, ◌*◌, ◌^◌, ◌<◌, ◌≤◌, ◌⊎◌, ◌==◌, not, ℕ, OnOk, OnErr, Contains, length};
 ghost use Rattle.std.specs.List.{filter};
 ghost use Rattle.std.specs.BTreeMap.{keys};
+ghost use Rattle.drm_bits.specs.Bits.{IsBytes};
 ghost use Rattle.dcp_collect.specs.declared.taken.Taken.TheVariants.{Kept as ToKeep};
 ghost use Rattle.dcp_collect.specs.Fragments.{of_packet};
 ghost use Rattle.dcp_collect.specs.State.{answer_among, insert_kept, held as bytes_held};
-ghost use Rattle.dcp_collect.specs.View.{IsKept, AreKept, ArePackets, all_fragments, fragment as fragment_of, fragments};
+ghost use Rattle.dcp_collect.specs.View.{IsHead, IsKept, AreKept, ArePackets, all_fragments, fragment as fragment_of, fragments};
 
+use crate::Head;
 use crate::packet::{KeptFragment, KeptPacket, bytes_of};
 use drm_bits::NoMemory;
 use std::alloc::Global;
@@ -33,6 +35,31 @@ pub(crate) fn keep(
     alloc: Global,
     packets: &mut Packets,
     number: u64,
+    head: Head,
+    payload: &[u8],
+) -> Result<(), NoMemory>
+    requires packets { ArePackets packets.old }
+    requires number { number < 2 ^ 62 }
+    requires head { IsHead head }
+    requires len { length payload.now ≡ head.len }
+    requires bytes { IsBytes payload.now }
+    requires answer { answer_among (of_packet number (all_fragments packets.old.entries)) head ≡ ToKeep }
+    ensures kept { OnOk result (all_fragments packets.new.entries
+        ≡ insert_kept (record { number = number; head = head; payload = payload.now }) (all_fragments packets.old.entries)) }
+    ensures unchanged { OnErr result (all_fragments packets.new.entries ≡ all_fragments packets.old.entries) }
+    ensures packets { ArePackets packets.new }
+    ensures numbers { (n : ℕ) → Contains (keys packets.new) n → (n ≡ number) ⊎ Contains (keys packets.old) n }
+    ensures same_numbers { OnErr result (keys packets.new ≡ keys packets.old) }
+{
+    let payload = payload.to_vec(alloc)?;
+    put(alloc, packets, number, KeptFragment { head, payload })
+}
+
+// Puts a fragment to those of its packet.
+fn put(
+    alloc: Global,
+    packets: &mut Packets,
+    number: u64,
     fragment: KeptFragment,
 ) -> Result<(), NoMemory>
     requires packets { ArePackets packets.old }
@@ -48,12 +75,12 @@ pub(crate) fn keep(
 {
     match packets.get_mut(&number) {
         Some(packet) => packet.insert(fragment),
-        None => keep_first(alloc, packets, number, fragment),
+        None => put_first(alloc, packets, number, fragment),
     }
 }
 
-// Keeps the first fragment of a packet.
-fn keep_first(
+// Puts the first fragment of a packet.
+fn put_first(
     alloc: Global,
     packets: &mut Packets,
     number: u64,

@@ -3,6 +3,10 @@
 #![tactic(auto)]
 
 mod collector;
+mod decode;
+#[cfg(test)]
+mod decode_tests;
+mod found;
 mod head;
 mod item;
 mod kept_packets;
