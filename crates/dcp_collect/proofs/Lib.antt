@@ -5,3 +5,4 @@ pub mod Words
 pub mod Solved
 pub mod Decided
 pub mod Decoded
+pub mod Kept
