@@ -1,5 +1,5 @@
 -- The fragments of one packet that are kept.
-use Rattle.std.proofs.Common.{ℕ, ◌≡◌, ◌+◌, ◌-◌, ◌*◌, ◌/◌, ◌<◌, ◌≤◌, ◌==◌, ◌&&◌, ◌||◌, inl, inr, Bool, true, false, cond, nat_le, Option, None, Some, List, [], ◌∷◌, ◌++◌, length, take, drop, slice_get, refl, sym, subst, ap, ◌∙◌, arith, length-append}
+use Rattle.std.proofs.Common.{ℕ, ◌≡◌, ◌+◌, ◌-◌, ◌*◌, ◌/◌, ◌<◌, ◌≤◌, ◌==◌, ◌&&◌, ◌||◌, true, false, cond, nat_le, Option, None, Some, List, [], ◌∷◌, length, take, drop, slice_get, refl, sym, subst, ap, ◌∙◌, arith, length-append}
 use Rattle.std.proofs.Math.Nat.{mul-le-mul_left}
 use Rattle.std.proofs.lemmas.Bool.{and_parts, cond_both, cond-false, eqb-true, leb-true, ne_eqb}
 use Rattle.std.proofs.lemmas.List.{length-take-le, take-take}
@@ -12,12 +12,12 @@ use Rattle.dcp_pft.specs.Loss.{chunks_stand}
 use Rattle.dcp_pft.specs.Reading.{IsCodeFor}
 use Rattle.dcp_collect.specs.declared.head.Head.{Head}
 use Rattle.dcp_collect.specs.declared.packet.KeptFragment.{KeptFragment}
-use Rattle.dcp_collect.specs.Fragments.{Fragment, agree, has_index, is_last, lengths_suit, same_bool, same_code, suffice, IsAscending}
+use Rattle.dcp_collect.specs.Fragments.{agree, has_index, is_last, lengths_suit, same_bool, same_code, suffice, IsAscending}
 use Rattle.dcp_collect.specs.Decoding.{IsDecoded, joined}
 use Rattle.dcp_collect.specs.Erasure.{AreFound, IsFound, OneLacks}
 use Rattle.dcp_collect.specs.View.{AgreeWithFirst, IsHead, IsKept, fragment, fragments as view}
 use Rattle.dcp_collect.proofs.Chunks.{same_before}
-use Rattle.dcp_collect.proofs.Decoded.{chunks_by, chunks_stand_by, decoded_in_view, decoded_joined, decoded_solved, none_solved, solved_decoded, solved_from}
+use Rattle.dcp_collect.proofs.Decoded.{chunks_stand_by, decoded_in_view, decoded_joined, decoded_solved, none_solved, solved_decoded, solved_from}
 
 -- Without a code no later fragment is longer than one that isn't the last.
 same_count : (a b : Head) → agree a b ≡ true → a.count ≡ b.count
@@ -115,8 +115,8 @@ pub few_erased : (fs : List KeptFragment) (f : KeptFragment) (rs : Rs) (k len : 
     → suffice (view 0 fs) ≡ true → chunks_stand f.head.count (has_index (view 0 fs)) (k + 48) (f.head.count * len / (k + 48)) ≡ true
 few_erased fs f rs k len first has is_k is_len =
     at_numbers
-      (λ l n _ m. suffice (view 0 l) ≡ true → chunks_stand f.head.count (has_index (view 0 l)) (n + 48) (f.head.count * m / (n + 48)) ≡ true)
-      fs f rs k rs.z len first is_k refl is_len (chunks_stand_by (fragment 0 f) (view 0 (drop 1 fs)) rs has)
+    (λ l n _ m. suffice (view 0 l) ≡ true → chunks_stand f.head.count (has_index (view 0 l)) (n + 48) (f.head.count * m / (n + 48)) ≡ true)
+    fs f rs k rs.z len first is_k refl is_len (chunks_stand_by (fragment 0 f) (view 0 (drop 1 fs)) rs has)
 
 -- The numbers of such a head
 pub record HasChunks (count k z len : ℕ) : Type 0 where
@@ -143,7 +143,7 @@ pub has_chunks : (fs : List KeptFragment) (f : KeptFragment) (rs : Rs) (k z len 
     → len ≡ f.head.len → All IsKept fs → HasChunks f.head.count k z len
 has_chunks fs f rs k z len first has is_k is_z is_len =
     at_numbers (λ l n o m. All IsKept l → HasChunks f.head.count n o m) fs f rs k z len first is_k is_z is_len
-      (λ kept. head_chunks f.head rs (All-head IsKept f (drop 1 fs) kept).head has)
+    (λ kept. head_chunks f.head rs (All-head IsKept f (drop 1 fs) kept).head has)
 
 -- The chunks that are found are the packet.
 found_solved : (f : KeptFragment) (gs : List KeptFragment) (rs : Rs) (into : List ℕ) → f.head.rs ≡ Some rs → length into ≡ 12288 → All IsKept (f ∷ gs)
@@ -173,15 +173,15 @@ pub chunks_are : (fs : List KeptFragment) (f : KeptFragment) (rs : Rs) (k z len 
     → (number : ℕ) → IsDecoded (view number fs) (take (f.head.count * len / (k + 48) * k - z) into)
 chunks_are fs f rs k z len into first has is_k is_z is_len room =
     at_numbers
-      (λ l n o m. All IsKept l → IsAscending (view 0 l) → AreFound f.head.count (view 0 l) n (f.head.count * m / (n + 48)) into
-        → (number : ℕ) → IsDecoded (view number l) (take (f.head.count * m / (n + 48) * n - o) into))
-      fs f rs k z len first is_k is_z is_len (found_solved f (drop 1 fs) rs into has room)
+    (λ l n o m. All IsKept l → IsAscending (view 0 l) → AreFound f.head.count (view 0 l) n (f.head.count * m / (n + 48)) into
+    → (number : ℕ) → IsDecoded (view number l) (take (f.head.count * m / (n + 48) * n - o) into))
+    fs f rs k z len first is_k is_z is_len (found_solved f (drop 1 fs) rs into has room)
 
 -- Where a chunk has no code word there is no packet.
 pub none_are : (fs : List KeptFragment) (f : KeptFragment) (rs : Rs) (k len : ℕ) → Some f ≡ slice_get fs 0 → f.head.rs ≡ Some rs → k ≡ rs.k → len ≡ f.head.len
     → OneLacks f.head.count (view 0 fs) k (f.head.count * len / (k + 48)) → (number : ℕ) (bytes : List ℕ) → IsDecoded (view number fs) bytes → ⊥
 none_are fs f rs k len first has is_k is_len =
     at_numbers (λ l n _ m. OneLacks f.head.count (view 0 l) n (f.head.count * m / (n + 48)) → (number : ℕ) (bytes : List ℕ) → IsDecoded (view number l) bytes → ⊥)
-      fs f rs k rs.z len first is_k refl is_len (λ lacks number bytes decoded.
-        none_solved f.head.count (f.head.count * f.head.len / (rs.k + 48)) rs (view 0 (f ∷ drop 1 fs)) lacks bytes
-          (solved_decoded (fragment 0 f) (view 0 (drop 1 fs)) rs bytes has (decoded_in_view number 0 (f ∷ drop 1 fs) bytes decoded)))
+    fs f rs k rs.z len first is_k refl is_len (λ lacks number bytes decoded.
+    none_solved f.head.count (f.head.count * f.head.len / (rs.k + 48)) rs (view 0 (f ∷ drop 1 fs)) lacks bytes
+    (solved_decoded (fragment 0 f) (view 0 (drop 1 fs)) rs bytes has (decoded_in_view number 0 (f ∷ drop 1 fs) bytes decoded)))

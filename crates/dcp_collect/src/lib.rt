@@ -2,8 +2,6 @@
 #![tactic(auto)]
 
 mod decode;
-#[cfg(test)]
-mod decode_tests;
 mod head;
 mod item;
 mod laws;
