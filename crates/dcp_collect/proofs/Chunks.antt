@@ -1,5 +1,5 @@
 -- Chunks that are found and written one after another.
-use Rattle.std.proofs.Common.{ℕ, suc, ◌≡◌, ◌+◌, ◌-◌, ◌*◌, ◌<◌, ◌≤◌, inl, inr, Bool, true, false, List, ◌++◌, Result, Ok, Err, length, take, drop, nat_le, zero, refl, sym, subst, ap, ap₂, ◌∙◌, append_assoc, arith}
+use Rattle.std.proofs.Common.{ℕ, suc, ◌≡◌, ◌+◌, ◌*◌, ◌<◌, ◌≤◌, inl, inr, Bool, true, false, List, ◌++◌, Result, Ok, Err, length, take, drop, nat_le, zero, sym, subst, ap, ◌∙◌, append_assoc, arith}
 use Rattle.std.proofs.Math.Nat.{mul-le-mul_left}
 use Rattle.std.proofs.lemmas.Bool.{cases_lt, and_parts, leb-true, false≢true}
 use Rattle.std.proofs.lemmas.List.{length-take-le, take_at, drop_at, take-take, drop-take}
@@ -7,7 +7,7 @@ use Rattle.std.specs.Result.{OnOk, is_ok}
 use Rattle.rs_erase.specs.Code.{AgreesOutside, HasCodeWord, IsCodeWord}
 use Rattle.dcp_pft.specs.Loss.{erased, chunks_stand}
 use Rattle.dcp_collect.specs.Fragments.{Fragment, has_index}
-use Rattle.dcp_collect.specs.Erasure.{AreFound, HasWord, IsFound, OneLacks, erased_positions, received_word}
+use Rattle.dcp_collect.specs.Erasure.{AreFound, HasWord, IsFound, erased_positions, received_word}
 
 pub at_ok : {T E : Type 0} (r : Result T E) (P : Type 0) → is_ok r ≡ true → OnOk r P → P
 at_ok (Ok x) P is p = p

@@ -1,5 +1,5 @@
 -- What fragments decode to.
-use Rattle.std.proofs.Common.{ℕ, ◌≡◌, ◌+◌, ◌-◌, ◌*◌, ◌/◌, ◌<◌, ◌≤◌, ◌⊎◌, inl, inr, Bool, true, false, Option, None, Some, List, [], ◌∷◌, ◌++◌, length, take, refl, sym, subst, ap, ◌∙◌, arith}
+use Rattle.std.proofs.Common.{ℕ, ◌≡◌, ◌+◌, ◌-◌, ◌*◌, ◌/◌, ◌≤◌, ◌⊎◌, inl, inr, true, false, Option, None, Some, List, [], ◌∷◌, ◌++◌, length, take, refl, sym, subst, ap, ◌∙◌, arith}
 use Rattle.std.proofs.lemmas.Bool.{cases_lt, false≢true}
 use Rattle.std.specs.List.{AllByRecursion}
 use Rattle.drm_bits.specs.Bits.{IsBytes}
@@ -10,7 +10,7 @@ use Rattle.dcp_pft.proofs.Fragments.{parities_long}
 use Rattle.dcp_collect.specs.declared.packet.KeptFragment.{KeptFragment}
 use Rattle.dcp_collect.specs.Fragments.{Fragment, has_index, suffice, IsAscending}
 use Rattle.dcp_collect.specs.Decoding.{AreSolved, HasItsBytes, IsDecoded, joined}
-use Rattle.dcp_collect.specs.Erasure.{AreFound, HasWord, OneLacks}
+use Rattle.dcp_collect.specs.Erasure.{AreFound, OneLacks}
 use Rattle.dcp_collect.specs.View.{fragment, fragments as view}
 use Rattle.dcp_collect.proofs.Positions.{erased_length}
 use Rattle.dcp_collect.proofs.Received.{all_give}
@@ -38,7 +38,7 @@ module _ (count c : ℕ) (rs : Rs) (fs : List Fragment) where
   one_solution : (a b : List ℕ) → chunks_stand count (has_index fs) (rs.k + 48) c ≡ true → AreSolved count c rs fs a → AreSolved count c rs fs b → b ≡ a
   one_solution a b stand is other =
       let same = same_chunks count fs rs.k is.few c is.chunks is.parities other.chunks other.parities is.long (solved_long a is) other.long (solved_long b other) stand
-        (solved_words a is) (have_words count fs rs.k is.few c other.chunks other.parities other.long (solved_long b other) other.code_words other.agrees) in
+      (solved_words a is) (have_words count fs rs.k is.few c other.chunks other.parities other.long (solved_long b other) other.code_words other.agrees) in
       other.are ∙ (ap (take (c * rs.k - rs.z)) same.0 ∙ sym is.are)
 
   -- chunks that are found are solved where the indices rise
@@ -69,9 +69,9 @@ module _ (count c : ℕ) (rs : Rs) (fs : List Fragment) where
         | inr few ↦ elim (words_or_one_lacks count fs rs.k c (λ q lt.
             word_or_none count fs rs.k (q * (rs.k + 48)) few small
             (omega (arith, erased_length count (has_index fs) (q * (rs.k + 48)) rs.k (rs.k + 48), stands_at count (has_index fs) (rs.k + 48) c q stand lt)))) [
-          | inr lacks ↦ inr (none_solved lacks)
-          | inl all ↦ by_found few (found_from_words count fs rs.k few c all)
-        ]
+              | inr lacks ↦ inr (none_solved lacks)
+              | inl all ↦ by_found few (found_from_words count fs rs.k few c all)
+            ]
       ]
     where
       by_found : rs.k ≤ 207 → ((chunks : List ℕ) × (length chunks ≡ c * rs.k) × AreFound count fs rs.k c chunks)
@@ -84,9 +84,9 @@ module _ (count c : ℕ) (rs : Rs) (fs : List Fragment) where
                 inl (take (c * rs.k - rs.z) found.0, record { few = few; chunks = found.0; parities = words.0; long = found.1; code_words = make; agrees = agrees; are = refl })
             | inr not ↦ inr (λ bytes s.
                 let same = same_chunks count fs rs.k few c found.0 words.0 s.chunks s.parities found.1 words.1 s.long (solved_long bytes s) stand words.2
-                  (have_words count fs rs.k few c s.chunks s.parities s.long (solved_long bytes s) s.code_words s.agrees) in
+                (have_words count fs rs.k few c s.chunks s.parities s.long (solved_long bytes s) s.code_words s.agrees) in
                 not (subst (λ (l : List ℕ). AllByRecursion (HasItsBytes count (coded c rs.k found.0 l)) fs) same.1
-                  (subst (λ (l : List ℕ). AllByRecursion (HasItsBytes count (coded c rs.k l s.parities)) fs) same.0 s.agrees)))
+                (subst (λ (l : List ℕ). AllByRecursion (HasItsBytes count (coded c rs.k l s.parities)) fs) same.0 s.agrees)))
           ]
 
 -- By whether the first fragment has a code

@@ -26,3 +26,4 @@ pub mod Solved
 pub mod Decided
 pub mod Decoded
 pub mod MapLemmas
+pub mod Kept

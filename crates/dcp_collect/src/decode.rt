@@ -2,7 +2,6 @@
 
 ghost use Rattle.std.specs.Prelude.{ℕ, List, ◌≡◌, ◌+◌, ◌*◌, ◌<◌, ◌≤◌, ◌++◌, length, take, drop, true, false, IfSome, None, ◌==◌};
 ghost use Rattle.std.specs.List.{All, list_any};
-ghost use Rattle.drm_bits.specs.Bits.{IsBytes};
 ghost use Rattle.dcp_pft.specs.Loss.{chunks_stand, erased};
 ghost use Rattle.dcp_collect.specs.Fragments.{has_index, suffice, IsAscending};
 ghost use Rattle.dcp_collect.specs.Decoding.{IsDecoded, joined};
@@ -142,8 +141,7 @@ fn receive_word(
     requires some { 0 < count }
     requires few { k ≤ 207 }
     requires start { start ≤ 12288 }
-    ensures word { word.new ≡ received_word count (view 0 fragments.now) start k }
-    ensures bytes { IsBytes word.new }
+    ensures { word.new ≡ received_word count (view 0 fragments.now) start k }
 {
     for (at, byte) in word.iter_mut().enumerate() {
         *byte = word_byte(fragments, count, k, start, at);
@@ -226,7 +224,3 @@ fn is_kept(fragments: &[KeptFragment], index: usize) -> bool
         .iter()
         .any(|fragment| fragment.head.index as usize == index)
 }
-
-fn decoding_try()
-    ensures { (n : ℕ) → n ≡ n }
-{}

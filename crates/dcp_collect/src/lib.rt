@@ -4,8 +4,6 @@
 
 mod collector;
 mod decode;
-#[cfg(test)]
-mod decode_tests;
 mod found;
 mod head;
 mod item;

@@ -1,4 +1,3 @@
-use Rattle.std.proofs.Common.{◌≡◌, length}
 use Rattle.dcp_collect.specs.Erasure.{AreFound}
 use Rattle.dcp_collect.specs.View.{fragments as view}
 use Rattle.dcp_collect.proofs.decode.decode_chunks.Given as goal

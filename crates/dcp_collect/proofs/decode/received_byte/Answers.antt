@@ -1,4 +1,4 @@
-use Rattle.std.proofs.Common.{◌≡◌, ◌/◌, ◌%◌, ◌+◌, drop, length, get_or, ap, sym, ◌∙◌, arith, rules, List}
+use Rattle.std.proofs.Common.{◌≡◌, ◌/◌, ◌+◌, drop, ap, sym, ◌∙◌, rules, List}
 use Rattle.std.proofs.lemmas.List.{drop_all}
 use Rattle.dcp_pft.specs.Coding.{byte_or_zero}
 use Rattle.dcp_collect.specs.Fragments.{Fragment}
