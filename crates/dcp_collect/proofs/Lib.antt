@@ -27,3 +27,4 @@ pub mod Decided
 pub mod Decoded
 pub mod MapLemmas
 pub mod Kept
+pub mod SoundLemmas

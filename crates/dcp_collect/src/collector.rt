@@ -7,6 +7,7 @@ ghost use Rattle.dcp_collect.specs.State.{made, ready as is_ready, is_late as nu
 ghost use Rattle.dcp_collect.specs.Runs.{TakesOrStays};
 ghost use Rattle.dcp_collect.specs.View.{IsNext};
 ghost use Rattle.dcp_collect.specs.Lending.{Ends};
+ghost use Rattle.dcp_collect.specs.Sound.{IsInTime};
 
 use crate::found::{Found, find};
 use crate::kept_packets::{Packets, drop_packet, fragments_of, held, keep};
@@ -126,12 +127,9 @@ impl Collector {
             Ok(read) => read,
             Err(field) => return Taken::Refused(field),
         };
-        let first = self.first.unwrap_or(read.sequence);
-        let number = nearest_number(first, self.newest.unwrap_or(0), read.sequence);
-        if number < 0 || self.is_late(number as u64) {
+        let Some(number) = self.number_in_time(read.sequence) else {
             return Taken::Late;
-        }
-        let number = number as u64;
+        };
         let answer = answer_for(fragments_of(&self.packets, number), read.head);
         if answer != Taken::Kept {
             return answer;
@@ -139,7 +137,7 @@ impl Collector {
         if keep(self.alloc, &mut self.packets, number, read.head, read.payload).is_err() {
             return Taken::NoMemory;
         }
-        self.first = Some(first);
+        self.first = Some(self.first.unwrap_or(read.sequence));
         self.newest = Some(newer_of(self.newest, number));
         Taken::Kept
     }
@@ -178,6 +176,19 @@ impl Collector {
             Some(end) => end,
             None => self.newest.map_or(0, |newest| newest + 1),
         });
+    }
+
+    // The number of a fragment with this sequence number: none where it is late.
+    fn number_in_time(&self, sequence: u16) -> Option<u64>
+        ensures { IsInTime self.now sequence result }
+    {
+        let first = self.first.unwrap_or(sequence);
+        let number = nearest_number(first, self.newest.unwrap_or(0), sequence);
+        if number < 0 || self.is_late(number as u64) {
+            None
+        } else {
+            Some(number as u64)
+        }
     }
 
     // Whether the newest number is at least this.
