@@ -18,3 +18,4 @@ pub mod Whole
 pub mod Runs
 pub mod Unique
 pub mod Ending
+pub mod OneReading
