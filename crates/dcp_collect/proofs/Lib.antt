@@ -19,3 +19,4 @@ pub mod Runs
 pub mod Unique
 pub mod Ending
 pub mod OneReading
+pub mod Heads
