@@ -20,3 +20,5 @@ pub mod Unique
 pub mod Ending
 pub mod OneReading
 pub mod Heads
+pub mod PlainPieces
+pub mod CodedChunks
