@@ -22,3 +22,6 @@ pub mod OneReading
 pub mod Heads
 pub mod PlainPieces
 pub mod CodedChunks
+pub mod SentDecoded
+pub mod SentCuts
+pub mod Brought

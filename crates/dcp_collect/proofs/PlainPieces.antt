@@ -59,8 +59,8 @@ module _ (count piece : ℕ) (packet : List ℕ) (holds : length packet ≤ coun
       let next : AreFrom (n + 1) fs = from_next n f fs from.0 rise.0 in
       let here : f.head.index ≡ n = first_is n f fs from.0 next (there n (omega arith) (omega (arith, are.0.0, from.0))) in
       let others : (i : ℕ) → n + 1 ≤ i → i < count → has_index fs i ≡ true = λ i low below.
-          let other : eqb f.head.index i ≡ false = ne_eqb f.head.index i (λ e. absurd (omega arith)) in
-          ap (λ b. b || has_index fs i) (sym other) ∙ there i (omega arith) below in
+      let other : eqb f.head.index i ≡ false = ne_eqb f.head.index i (λ e. absurd (omega arith)) in
+      ap (λ b. b || has_index fs i) (sym other) ∙ there i (omega arith) below in
       let rest : joined fs ≡ drop ((n + 1) * piece) packet = pieces_from (n + 1) fs are.1 rise.1 next others in
       let place : (n + 1) * piece ≡ n * piece + piece = omega arith in
       let payload : f.payload ≡ take piece (drop (n * piece) packet) = are.0.1 ∙ ap (λ i. take piece (drop (i * piece) packet)) here in
