@@ -25,3 +25,5 @@ pub mod CodedChunks
 pub mod SentDecoded
 pub mod SentCuts
 pub mod Brought
+pub mod SentInTime
+pub mod SentCollected

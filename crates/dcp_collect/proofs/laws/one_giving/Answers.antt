@@ -1,0 +1,5 @@
+use Rattle.dcp_collect.proofs.Unique.{one_giving}
+use Rattle.dcp_collect.proofs.laws.one_giving.Goals as goal
+
+pub returns : goal.returns
+returns c = one_giving ?
