@@ -18,6 +18,14 @@ pub mod Whole
 pub mod Runs
 pub mod Unique
 pub mod Ending
+pub mod Positions
+pub mod Received
+pub mod Chunks
+pub mod Words
+pub mod Solved
+pub mod Decided
+pub mod Decoded
+pub mod Kept
 pub mod OneReading
 pub mod Heads
 pub mod PlainPieces

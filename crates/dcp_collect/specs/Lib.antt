@@ -6,3 +6,4 @@ pub mod Runs
 pub mod Delivery
 pub mod Laws
 pub mod View
+pub mod Erasure

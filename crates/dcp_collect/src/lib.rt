@@ -1,6 +1,9 @@
 //! Reassembly.
 #![tactic(auto)]
 
+mod decode;
+#[cfg(test)]
+mod decode_tests;
 mod head;
 mod item;
 mod laws;
