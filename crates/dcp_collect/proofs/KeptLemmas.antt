@@ -2,17 +2,19 @@
 use Rattle.std.proofs.Common.{ℕ, zero, suc, ◌≡◌, ◌+◌, ◌-◌, ◌*◌, ◌<◌, ◌≤◌, max, Bool, true, false, cond, not, ◌&&◌, ◌||◌, ltb, leb, eqb, List, [], ◌∷◌, ◌++◌, length, take, drop, get_or, Option, Some, None, refl, sym, ap, ◌∙◌, subst, arith}
 use Rattle.std.specs.List.{All, AllByRecursion, find, insert}
 use Rattle.std.proofs.Math.Nat.{mul-le-mul_left}
-use Rattle.std.proofs.lemmas.Bool.{or_parts}
+use Rattle.std.proofs.lemmas.Bool.{or_parts, and_parts, and_from, eqb-true, leb-true, leb-false}
 use Rattle.std.proofs.lemmas.Bool.Decides.{nat_tests}
 use Rattle.std.proofs.lemmas.List.Elements.{All-append, All-cons, All-take, All-drop, All-head, All-tail, All-nil, All-weaker}
+use Rattle.dcp_pft.specs.declared.shape.Rs.{Rs}
 use Rattle.dcp_collect.specs.declared.head.Head.{Head}
 use Rattle.dcp_collect.specs.declared.taken.Taken.{Taken}
 use Rattle.dcp_collect.specs.declared.taken.Taken.TheVariants.{Kept, Repeated, Late, Inconsistent}
 use Rattle.dcp_collect.specs.declared.packet.KeptFragment.{KeptFragment}
-use Rattle.dcp_collect.specs.Fragments.{Fragment, agree, same_bool, same_code, has_index, suffice, IsAscending}
+use Rattle.dcp_collect.specs.Fragments.{Fragment, agree, same_bool, same_code, lengths_suit, has_index, suffice, IsAscending}
 use Rattle.dcp_collect.specs.State.{answer_among, answer_by, is_before, insert_kept, held}
 use Rattle.dcp_collect.specs.View.{fragment, fragments, goes_before, first_odd, IsHead, IsKept, AreKept, AgreeWithFirst, index_is_kept}
-use Rattle.std.specs.Option.{option_map}
+use Rattle.std.specs.Option.{option_map, is_some}
+use Rattle.std.proofs.lemmas.List.{drop_more}
 use Rattle.dcp_collect.proofs.KeptIndices.{has_index_is}
 use Rattle.dcp_collect.proofs.Lists.{all_insert, all_weaker}
 
@@ -161,25 +163,29 @@ lengths_sym : (c : Bool) (i count j count' m n : ℕ)
 lengths_sym true i count j count' m n e = same_len n m ∙ e
 lengths_sym false i count j count' m n e = suit_sym i count j count' m n e
 
+abbrev lengths : Head → Head → Bool
+lengths a b = cond (is_some a.rs) (eqb a.len b.len) (lengths_suit a b)
+
 pub agree_sym : (a b : Head) → agree a b ≡ true → agree b a ≡ true
 unfolding agree
 agree_sym a b e =
-    let w = and_parts (same_bool a.whole b.whole) _ e in
-    let c = and_parts (eqb a.count b.count) _ w.1 in
-    let r = and_parts (same_code a.rs b.rs) _ c.1 in
-    let code = same_code_sym a.rs b.rs r.0 in
-    and_from (same_bool b.whole a.whole) _ (same_bool_sym a.whole b.whole w.0)
-    (and_from (eqb b.count a.count) _ (same_len b.count a.count ∙ c.0)
-    (and_from (same_code b.rs a.rs) _ code.0
-    (subst (λ x. cond x (eqb b.len a.len) (lengths_suit b a) ≡ true) (sym code.1) (lengths_sym (is_some a.rs) a.index a.count b.index b.count a.len b.len r.1))))
+    let l = and_parts (same_bool a.whole b.whole && eqb a.count b.count && same_code a.rs b.rs) (lengths a b) e in
+    let r = and_parts (same_bool a.whole b.whole && eqb a.count b.count) (same_code a.rs b.rs) l.0 in
+    let w = and_parts (same_bool a.whole b.whole) (eqb a.count b.count) r.0 in
+    let code = same_code_sym a.rs b.rs r.1 in
+    and_from (same_bool b.whole a.whole && eqb b.count a.count && same_code b.rs a.rs) (lengths b a)
+    (and_from (same_bool b.whole a.whole && eqb b.count a.count) (same_code b.rs a.rs)
+    (and_from (same_bool b.whole a.whole) (eqb b.count a.count) (same_bool_sym a.whole b.whole w.0) (same_len b.count a.count ∙ w.1)) code.0)
+    (subst (λ x. cond x (eqb b.len a.len) (lengths_suit b a) ≡ true) (sym code.1) (lengths_sym (is_some a.rs) a.index a.count b.index b.count a.len b.len l.1))
 
 -- what agreeing says of both
 pub agree_count : (a b : Head) → agree a b ≡ true → a.count ≡ b.count
 unfolding agree
 agree_count a b e =
-    let w = and_parts (same_bool a.whole b.whole) _ e in
-    let c = and_parts (eqb a.count b.count) _ w.1 in
-    eqb-true a.count b.count c.0
+    let l = and_parts (same_bool a.whole b.whole && eqb a.count b.count && same_code a.rs b.rs) (lengths a b) e in
+    let r = and_parts (same_bool a.whole b.whole && eqb a.count b.count) (same_code a.rs b.rs) l.0 in
+    let w = and_parts (same_bool a.whole b.whole) (eqb a.count b.count) r.0 in
+    eqb-true a.count b.count w.1
 
 all_flip : (head : Head) (ks : List KeptFragment) → All (λ (g : KeptFragment). agree g.head head ≡ true) ks → All (λ (g : KeptFragment). agree head g.head ≡ true) ks
 all_flip head ks all = All-weaker (λ (g : KeptFragment). agree g.head head ≡ true) (λ (g : KeptFragment). agree head g.head ≡ true) (λ g e. agree_sym g.head head e) ks all
@@ -209,3 +215,69 @@ are_kept kept new p k is put are kept_is e =
           (ascending_insert 0 (fragment 0 k) (fragments 0 kept) refl (all_numbered 0 kept) parts.1 are.ascending);
       alike = subst AgreeWithFirst (sym is) (agree_insert kept p k are.alike (all_agree kept k.head odd));
     }
+
+-- ---- how many bytes they have
+
+length_fragments : (n : ℕ) (kept : List KeptFragment) → length (fragments n kept) ≡ length kept
+length_fragments n [] = refl
+length_fragments n (k ∷ ks) = ap suc (length_fragments n ks)
+
+scaled : (c : ℕ) (fs : List Fragment) → AllByRecursion (λ f. (c * length f.payload) ≤ 12288) fs → c * held fs ≤ 12288 * length fs
+scaled c [] all = omega arith
+scaled c (f ∷ fs) all =
+    let rest = scaled c fs all.1 in
+    let e : c * (length f.payload + held fs) ≡ c * length f.payload + c * held fs = omega arith in
+    omega (arith, rest, e, all.0)
+
+few_from : (c from : ℕ) (f : Fragment) (fs : List Fragment) → AllByRecursion (λ g. g.head.index < c) (f ∷ fs) → IsAscending (f ∷ fs)
+    → from ≤ f.head.index → from + length (f ∷ fs) ≤ c
+few_from c from f [] all asc l = omega (arith, all.0)
+few_from c from f (g ∷ gs) all asc l =
+    let rest = few_from c (f.head.index + 1) g gs all.1 asc.1 (omega (arith, asc.0.0)) in omega (arith, rest)
+
+cancelled_by : (b : Bool) (c sum n : ℕ) → b ≡ leb sum 12288 → 0 < c → n ≤ c → c * sum ≤ 12288 * n → sum ≤ 12288
+cancelled_by true c sum n e p l h = leb-true sum 12288 (sym e)
+cancelled_by false c sum n e p l h =
+    let more : 12289 ≤ sum = (let x = leb-false sum 12288 (sym e) in omega (arith, x)) in
+    let m : c * 12289 ≤ c * sum = mul-le-mul_left c more in
+    absurd (omega (arith, m, h))
+
+cancelled : (c sum n : ℕ) → 0 < c → n ≤ c → c * sum ≤ 12288 * n → sum ≤ 12288
+cancelled c sum n p l h = cancelled_by (leb sum 12288) c sum n refl p l h
+
+count_like : (f g : KeptFragment) → (agree f.head g.head ≡ true) × IsKept g
+    → (f.head.count * length g.payload.items ≤ 12288) × (g.head.index < f.head.count)
+count_like f g h =
+    let e : f.head.count ≡ g.head.count = agree_count f.head g.head h.0 in
+    (rw (e, h.1.len) h.1.head.size, rw e h.1.head.index)
+
+both : (P Q : KeptFragment → Type 0) (xs : List KeptFragment) → All P xs → All Q xs → All (λ x. P x × Q x) xs
+both P Q [] p q = All-nil (λ x. P x × Q x)
+both P Q (x ∷ xs) p q =
+    All-cons (λ y. P y × Q y) x xs (All-head P x xs p, All-head Q x xs q) (both P Q xs (All-tail P x xs p) (All-tail Q x xs q))
+
+-- the fragments of a packet have at most 12,288 bytes
+pub few_bytes : (n : ℕ) (kept : List KeptFragment) → AreKept kept → held (fragments n kept) ≤ 12288
+few_bytes n [] are = omega arith
+few_bytes n (f ∷ fs) are =
+    let first = All-head IsKept f fs are.each in
+    let those = both (λ (g : KeptFragment). agree f.head g.head ≡ true) IsKept fs are.alike (All-tail IsKept f fs are.each) in
+    let like = All-weaker (λ g. (agree f.head g.head ≡ true) × IsKept g) (λ g. (f.head.count * length g.payload.items ≤ 12288) × (g.head.index < f.head.count)) (count_like f) fs those in
+    let Like : KeptFragment → Type 0 = λ g. (f.head.count * length g.payload.items ≤ 12288) × (g.head.index < f.head.count) in
+    let sizes : AllByRecursion (λ (g : Fragment). f.head.count * length g.payload ≤ 12288) (fragments n (f ∷ fs))
+    = (rw first.len first.head.size, each_fragment n (λ (g : Fragment). f.head.count * length g.payload ≤ 12288) Like (λ g h. h.0) fs like) in
+    let indices : AllByRecursion (λ (g : Fragment). g.head.index < f.head.count) (fragments 0 (f ∷ fs))
+    = (first.head.index, each_fragment 0 (λ (g : Fragment). g.head.index < f.head.count) Like (λ g h. h.1) fs like) in
+    let few = few_from f.head.count 0 (fragment 0 f) (fragments 0 fs) indices are.ascending (omega arith) in
+    cancelled f.head.count (held (fragments n (f ∷ fs))) (length (fragments n (f ∷ fs))) (omega (arith, first.head.index))
+    (omega (arith, few, length_fragments 0 (f ∷ fs), length_fragments n (f ∷ fs)))
+    (scaled f.head.count (fragments n (f ∷ fs)) sizes)
+
+-- the sum so far and one more are no more than all
+pub one_more_fits : (kept : List KeptFragment) (i sum len : ℕ) (f : KeptFragment) → AreKept kept → i < length kept → f ≡ get_or kept i f
+    → len ≡ length f.payload.items → sum + held (fragments 0 (drop i kept)) ≡ held (fragments 0 kept) → sum + len ≤ 12288
+one_more_fits kept i sum len f are l is e all =
+    let few = few_bytes 0 kept are in
+    let d : held (fragments 0 (drop i kept)) ≡ length f.payload.items + held (fragments 0 (drop (i + 1) kept))
+    = ap (λ xs. held (fragments 0 xs)) (drop_more kept i f l ∙ ap (λ x. x ∷ drop (i + 1) kept) (sym is)) in
+    omega (arith, few, d, e, all)

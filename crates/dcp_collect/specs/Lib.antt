@@ -7,3 +7,5 @@ pub mod Delivery
 pub mod Laws
 pub mod View
 pub mod Erasure
+pub mod Sound
+pub mod Lending

@@ -1,6 +1,8 @@
 -- What a collector's fields stand for.
 use Rattle.std.specs.Prelude.{ℕ, ◌≡◌, ◌+◌, ◌*◌, ◌^◌, ◌<◌, ◌≤◌, ◌⊎◌, ◌==◌, Bool, true, false, slice_index_or, nat_lt, if◌then◌else◌, List, [], ◌∷◌, ◌++◌, map, length, Option, Some, None, IfSome}
 use Rattle.std.specs.List.{All, AllByRecursion, list_any}
+use Rattle.std.specs.Ordering.{nat_cmp}
+use Rattle.std.specs.BTreeMap.{BTreeMap, IsOrdered}
 use Rattle.drm_bits.specs.Bits.{IsBytes}
 use Rattle.dcp_pft.specs.Reading.{IsCodeFor}
 use Rattle.dcp_collect.specs.declared.head.Head.{Head}
@@ -70,6 +72,16 @@ pub record AreKept (fs : List KeptFragment) : Type 0 where
   pub each : All IsKept fs
   pub ascending : IsAscending (fragments 0 fs)
   pub alike : AgreeWithFirst fs
+
+-- packets of which fragments are kept, by rising number
+pub record ArePackets (packets : BTreeMap ℕ KeptPacket) : Type 0 where
+  pub ordered : IsOrdered nat_cmp packets
+  pub each : All (λ e. (e.0 < 2 ^ 62) × AreKept e.1.fragments.items) packets.entries
+
+-- The number is one that is kept between two calls: within the window from the next one on, or the newest, which closed
+-- packets that are to be given first.
+abbrev pub IsNear : ℕ → ℕ → Option ℕ → ℕ → Type 0
+IsNear next window newest n = (next ≤ n) × ((n < next + window) ⊎ (newest ≡ Some n))
 
 -- what is given
 abbrev pub item_of : Out → Item

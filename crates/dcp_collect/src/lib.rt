@@ -1,11 +1,15 @@
-//! Reassembly.
+//! Reassembly: datagrams come in any order, some never, some twice, some hostile; out of them come the packets, each once and
+//! in order, or named as lost (TS 102 821; the window and the numbering are this project's own).
 #![tactic(auto)]
 
+mod collector;
 mod decode;
 #[cfg(test)]
 mod decode_tests;
+mod found;
 mod head;
 mod item;
+mod kept_packets;
 mod laws;
 mod number;
 mod packet;
@@ -13,6 +17,11 @@ mod read;
 mod recoverable;
 mod taken;
 
+pub use collector::Collector;
 pub use head::Head;
 pub use item::Out;
+pub use laws::{
+    collecting, giving_ends, in_time, one_giving, one_reading, one_run, steps_count, steps_join,
+    steps_part,
+};
 pub use taken::{Field, Taken};

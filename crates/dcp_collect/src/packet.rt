@@ -36,15 +36,6 @@ impl KeptPacket {
         }
     }
 
-    // What a fragment with this head is to those that are kept.
-    pub(crate) fn answer(&self, head: Head) -> Taken
-        requires kept { All IsKept self.now.fragments.items }
-        requires head { IsHead head }
-        ensures { (n : ℕ) → result ≡ answer_among (fragments n self.now.fragments.items) head }
-    {
-        answer_for(&self.fragments, head)
-    }
-
     // Puts a fragment to its place.
     pub(crate) fn insert(&mut self, fragment: KeptFragment) -> Result<(), NoMemory>
         ensures put { OnOk result ((n : ℕ) → fragments n self.new.fragments.items
@@ -60,29 +51,10 @@ impl KeptPacket {
         }
         Ok(())
     }
-
-    // The bytes that are kept.
-    pub(crate) fn held(&self) -> usize
-        requires { AreKept self.now.fragments.items }
-        ensures small { result ≤ 12288 }
-        ensures held { (n : ℕ) → result ≡ held (fragments n self.now.fragments.items) }
-    {
-        bytes_of(&self.fragments)
-    }
-
-    // The number of the packet's fragments, where one is kept.
-    pub(crate) fn count(&self) -> u32
-        ensures { (n : ℕ) → result ≡ count_of (fragments n self.now.fragments.items) }
-    {
-        match self.fragments.first() {
-            Some(fragment) => fragment.head.count,
-            None => 0,
-        }
-    }
 }
 
 // What a fragment with this head is to these.
-fn answer_for(kept: &[KeptFragment], head: Head) -> Taken
+pub(crate) fn answer_for(kept: &[KeptFragment], head: Head) -> Taken
     requires kept { All IsKept kept.now }
     requires head { IsHead head }
     ensures { (n : ℕ) → result ≡ answer_among (fragments n kept.now) head }
@@ -136,14 +108,14 @@ fn place_for(kept: &[KeptFragment], index: u32) -> usize
 }
 
 // The bytes of these fragments.
-fn bytes_of(kept: &[KeptFragment]) -> usize
+pub(crate) fn bytes_of(kept: &[KeptFragment]) -> usize
     requires { AreKept kept.now }
     ensures small { result ≤ 12288 }
     ensures sum { (n : ℕ) → result ≡ held (fragments n kept.now) }
 {
     let mut sum = 0;
     for fragment in kept {
-        sum += fragment.payload.len();
+        sum += fragment.payload.as_slice().len();
     }
     sum
 }

@@ -11,3 +11,4 @@ pub mod DatagramLemmas
 pub mod CutLemmas
 pub mod CaptureLemmas
 pub mod SendingLemmas
+pub mod RestLemmas

@@ -4,5 +4,6 @@ pub mod Lending
 pub mod Datagrams
 pub mod Capture
 pub mod Sending
+pub mod Rests
 pub mod OneFrame
 pub mod Laws

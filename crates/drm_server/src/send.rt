@@ -1,12 +1,13 @@
 //! A schedule over a link.
 
-ghost use Rattle.std.specs.Prelude.{[], ◌∷◌, ◌≡◌, ◌*◌, ◌≤◌, length, IfOk, OnOk, OnErr, IsErr};
+ghost use Rattle.std.specs.Prelude.{[], ◌∷◌, ◌≡◌, ◌+◌, ◌*◌, ◌≤◌, length, IfOk, OnOk, OnErr, IsErr};
 ghost use Rattle.drm_links.specs.Told.{HasCause};
 ghost use Rattle.drm_links.specs.Link.{longest_told};
 ghost use Rattle.drm_links.specs.ManyCalls.{MakesCalls};
 ghost use Rattle.drm_links.specs.Transmission.{Transmits, SendsAll, SendsNoMore};
 ghost use Rattle.drm_server.specs.Capture.{IsCount};
 ghost use Rattle.drm_server.specs.Sending.{SendsSchedule, SendsPart};
+ghost use Rattle.drm_server.specs.Rests.{MadeCalls, rests_before, rests_between};
 ghost use Rattle.drm_server.specs.OneFrame.{SentFrame, SendsPartOfFrame};
 
 use crate::Server;
@@ -24,6 +25,9 @@ pub fn serve_link<L: Link>(
     ensures part { OnErr result (Transmits (L.tells link.old) (L.tells link.new) (SendsPart server.old.plan)) }
     ensures cause { HasCause (L.faults link.old) (L.faults link.new) (IsErr result) }
     ensures idle { L.idles link.new ≡ L.idles link.old }
+    // One call for each datagram and, where there is a pace, for each rest between two frames.
+    ensures rests { IfOk result (λ n. Transmits (L.tells link.old) (L.tells link.new)
+        (MadeCalls (n + rests_between pace (3 * server.old.plan.length)))) }
     // At most 1,025 calls a frame, so a link that tells will tell at the end.
     ensures calls { MakesCalls (λ traffic. traffic.calls) (1025 * (3 * server.old.plan.length))
         (L.tells link.old) (L.tells link.new) }
@@ -41,6 +45,7 @@ pub fn serve_link<L: Link>(
 // Rests before each frame but the first one.
 fn rest_between<L: Link>(link: &mut L, t: u32, pace: u32)
     ensures none { Transmits (L.tells link.old) (L.tells link.new) (SendsAll []) }
+    ensures rests { Transmits (L.tells link.old) (L.tells link.new) (MadeCalls (rests_before pace t)) }
     ensures calls { MakesCalls (λ traffic. traffic.calls) 1 (L.tells link.old) (L.tells link.new) }
     ensures cause { L.faults link.new ≡ L.faults link.old }
     ensures idle { L.idles link.new ≡ L.idles link.old }
@@ -55,6 +60,7 @@ fn send_frame<L: Link>(server: &mut Server<'_>, link: &mut L) -> Result<u64, Lin
     ensures whole { IfOk result (λ n. SentFrame server.old.plan server.old.frame n
         (L.tells link.old) (L.tells link.new)) }
     ensures few { IfOk result (λ n. n ≤ 1024) }
+    ensures counted { IfOk result (λ n. Transmits (L.tells link.old) (L.tells link.new) (MadeCalls n)) }
     ensures part { OnErr result (Transmits (L.tells link.old) (L.tells link.new)
         (SendsPartOfFrame server.old.plan server.old.frame)) }
     ensures cause { HasCause (L.faults link.old) (L.faults link.new) (IsErr result) }
@@ -74,6 +80,7 @@ fn send_datagram<L: Link>(link: &mut L, datagram: &[u8]) -> Result<(), LinkFault
     ensures sent { OnOk result (Transmits (L.tells link.old) (L.tells link.new)
         (SendsAll (datagram.now ∷ []))) }
     ensures none { OnErr result (Transmits (L.tells link.old) (L.tells link.new) (SendsNoMore [])) }
+    ensures counted { Transmits (L.tells link.old) (L.tells link.new) (MadeCalls 1) }
     ensures cause { HasCause (L.faults link.old) (L.faults link.new) (IsErr result) }
     ensures idle { L.idles link.new ≡ L.idles link.old }
     ensures calls { MakesCalls (λ traffic. traffic.calls) 1 (L.tells link.old) (L.tells link.new) }

@@ -1,10 +1,13 @@
-use Rattle.std.proofs.Common.{◌≡◌, ◌∙◌, ◌+◌, ℕ, ◌∷◌, [], ◌++◌, ◌≤◌, subst, arith}
+use Rattle.std.proofs.Common.{◌≡◌, ◌∙◌, ◌+◌, ℕ, ◌∷◌, [], ◌++◌, ◌≤◌, refl, subst, arith}
 use Rattle.std.proofs.lemmas.Result.{err_from_is_err_and}
 use Rattle.drm_links.specs.Link.{Traffic}
+use Rattle.drm_links.specs.Transmission.{Transmits}
 use Rattle.drm_links.proofs.ManyCallsLemmas.{more_calls, at_most}
 use Rattle.drm_server.specs.Serving.{Serving}
 use Rattle.drm_server.specs.Datagrams.{IsDatagramAt, AreFirst}
 use Rattle.drm_server.proofs.DatagramLemmas.{next_datagram, first_length}
+use Rattle.drm_server.specs.Rests.{MadeCalls}
+use Rattle.drm_server.proofs.RestLemmas.{made_then}
 use Rattle.drm_server.proofs.SendingLemmas.{then_sent, no_more_sent}
 use Rattle.drm_server.proofs.send.send_frame.Goals as goal
 
@@ -39,6 +42,7 @@ loop-i-preserved g c =
       c.send_datagram.ensures.idle ∙ i.4,
       more_calls calls c.loop-i.i 1 (g.L.Link.tells c.args.link.now) (g.L.Link.tells c.loop-i.link) (g.L.Link.tells c.send_datagram.new.link) i.5 c.send_datagram.ensures.calls,
       c.datagram.follows.holds-at-none ∙ i.6,
+      made_then c.loop-i.i 1 (c.loop-i.i + 1) (g.L.Link.tells c.args.link.now) (g.L.Link.tells c.loop-i.link) (g.L.Link.tells c.send_datagram.new.link) refl i.7 c.send_datagram.ensures.counted,
     )
 
 pub returns-clause-whole : goal.returns-clause-whole
@@ -57,3 +61,8 @@ returns-clause-calls g c =
     let calls : Traffic → ℕ = λ t. t.calls in
     let some : c.loop-i.i ≤ 1024 = omega (arith, c.loop-i.auto.i-end, c.fragments-count.ensures.few) in
     at_most calls c.loop-i.i 1024 (g.L.Link.tells c.args.link.now) (g.L.Link.tells c.loop-i.link) some c.loop-i.invariant.5
+
+pub returns-clause-counted : goal.returns-clause-counted
+returns-clause-counted g c =
+    let all : c.loop-i.i ≡ c.from.result = omega (arith, c.loop-i-test.false, c.loop-i.auto.i-end, c.from.ensures) in
+    subst (λ k. Transmits (g.L.Link.tells c.args.link.now) (g.L.Link.tells c.loop-i.link) (MadeCalls k)) all c.loop-i.invariant.7

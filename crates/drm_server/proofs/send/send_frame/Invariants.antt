@@ -3,6 +3,7 @@ use Rattle.drm_links.specs.Link.{Traffic}
 use Rattle.drm_links.specs.ManyCalls.{MakesCalls}
 use Rattle.drm_links.specs.Transmission.{Transmits, SendsAll}
 use Rattle.drm_server.specs.Datagrams.{AreFirst}
+use Rattle.drm_server.specs.Rests.{MadeCalls}
 use Rattle.drm_server.proofs.send.send_frame.Given as goal
 
 -- the datagrams before this one were sent
@@ -14,3 +15,4 @@ invariant-loop-i g l =
     × (g.L.Link.idles l.link ≡ g.L.Link.idles l.fn.link)
     × MakesCalls (λ (t : Traffic). t.calls) l.i (g.L.Link.tells l.fn.link) (g.L.Link.tells l.link)
     × (l.server ≡ l.fn.server)
+    × Transmits (g.L.Link.tells l.fn.link) (g.L.Link.tells l.link) (MadeCalls l.i)

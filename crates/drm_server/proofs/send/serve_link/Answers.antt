@@ -1,4 +1,4 @@
-use Rattle.std.proofs.Common.{◌≡◌, ◌∙◌, ◌+◌, ◌*◌, ◌≤◌, ℕ, ◌++◌, length, ap, subst, arith, length-append}
+use Rattle.std.proofs.Common.{◌≡◌, ◌∙◌, ◌+◌, ◌*◌, ◌≤◌, ℕ, ◌++◌, length, ap, refl, subst, arith, length-append}
 use Rattle.std.proofs.lemmas.Result.{err_from_is_err_and}
 use Rattle.drm_schedule.specs.declared.plan.Plan.{Plan}
 use Rattle.drm_links.specs.Link.{Traffic}
@@ -8,6 +8,8 @@ use Rattle.drm_server.specs.Serving.{Serving}
 use Rattle.drm_server.specs.OneFrame.{SentFrame, SendsPartOfFrame}
 use Rattle.drm_server.specs.Datagrams.{AreOfFrames}
 use Rattle.drm_server.proofs.DatagramLemmas.{next_frame, at_frame}
+use Rattle.drm_server.specs.Rests.{MadeCalls, rests_before, rests_between}
+use Rattle.drm_server.proofs.RestLemmas.{made_then, one_more_rest}
 use Rattle.drm_server.proofs.SendingLemmas.{then_sent, then_rested, part_sent, all_sent}
 use Rattle.drm_server.proofs.send.serve_link.Goals as goal
 
@@ -39,6 +41,10 @@ loop-t-preserved g c =
     let w = subst P (at_frame c.loop-t.server c.load.new.self plan c.loop-t.t c.load.ensures i.6) c.in_ok-sent.ensures.whole in
     let long : length (i.0 ++ w.0) ≡ length i.0 + length w.0 = length-append i.0 w.0 in
     let rested : Transmits (g.L.Link.tells c.args.link.now) (g.L.Link.tells c.rest_between.new.link) (SendsAll i.0) = then_rested i.0 (g.L.Link.tells c.args.link.now) (g.L.Link.tells c.loop-t.link) (g.L.Link.tells c.rest_between.new.link) i.2 c.rest_between.ensures.none in
+    let pace = c.args.pace in
+    let t = c.loop-t.t in
+    let n = c.in_ok-sent.field-0 in
+    let rested_calls = made_then (c.loop-t.sent + rests_between pace t) (rests_before pace t) (c.loop-t.sent + rests_between pace t + rests_before pace t) (g.L.Link.tells c.args.link.now) (g.L.Link.tells c.loop-t.link) (g.L.Link.tells c.rest_between.new.link) refl i.9 c.rest_between.ensures.rests in
     let few : 1025 * c.loop-t.t + 1 + 1024 ≤ 1025 * (c.loop-t.t + 1) = omega arith in (
       i.0 ++ w.0,
       next_frame plan c.loop-t.t i.0 w.0 i.1 w.1,
@@ -51,6 +57,8 @@ loop-t-preserved g c =
       ap (λ (s : Serving). s.plan) (c.send_frame.ensures.server ∙ c.load.ensures) ∙ i.6,
       omega (arith, i.7, w.2, long),
       omega (arith, i.8, c.in_ok-sent.ensures.few),
+      made_then (c.loop-t.sent + rests_between pace t + rests_before pace t) n (c.loop-t.sent + n + rests_between pace (t + 1)) (g.L.Link.tells c.args.link.now) (g.L.Link.tells c.rest_between.new.link) (g.L.Link.tells c.send_frame.new.link)
+          (omega (arith, one_more_rest pace t)) rested_calls c.in_ok-sent.ensures.counted,
     )
 
 pub returns-clause-whole : goal.returns-clause-whole
@@ -73,3 +81,9 @@ returns-clause-calls g c =
     let plan : Plan = c.args.server.now.plan in
     let few : 1025 * c.loop-t.t ≤ 1025 * (3 * plan.length) = omega (arith, c.loop-t.auto.t-end, c.frames-t-end.ensures.frames) in
     at_most calls (1025 * c.loop-t.t) (1025 * (3 * plan.length)) (g.L.Link.tells c.args.link.now) (g.L.Link.tells c.loop-t.link) few c.loop-t.invariant.5
+
+pub returns-clause-rests : goal.returns-clause-rests
+returns-clause-rests g c =
+    let plan : Plan = c.args.server.now.plan in
+    let all : c.loop-t.t ≡ 3 * plan.length = omega (arith, c.loop-t-test.false, c.loop-t.auto.t-end, c.frames-t-end.ensures.frames) in
+    subst (λ k. Transmits (g.L.Link.tells c.args.link.now) (g.L.Link.tells c.loop-t.link) (MadeCalls (c.loop-t.sent + rests_between c.args.pace k))) all c.loop-t.invariant.9
