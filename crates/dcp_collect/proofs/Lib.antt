@@ -28,3 +28,12 @@ pub mod Decoded
 pub mod MapLemmas
 pub mod Kept
 pub mod SoundLemmas
+pub mod OneReading
+pub mod Heads
+pub mod PlainPieces
+pub mod CodedChunks
+pub mod SentDecoded
+pub mod SentCuts
+pub mod Brought
+pub mod SentInTime
+pub mod SentCollected
