@@ -1,8 +1,10 @@
 -- What a call leaves of a collector.
-use Rattle.std.proofs.Common.{ℕ, ◌≡◌, ◌≢◌, ◌+◌, ◌^◌, ◌<◌, ◌≤◌, ◌⊎◌, inl, inr, ⊎_elim, max, Bool, true, false, cond, ◌||◌, ltb, leb, eqb, List, length, Contains, Option, Some, None, refl, sym, ap, ◌∙◌, subst, arith}
+use Rattle.std.proofs.Common.{ℕ, ◌≡◌, ◌≢◌, ◌+◌, ◌^◌, ◌<◌, ◌≤◌, ◌⊎◌, inl, inr, ⊎_elim, max, Bool, true, false, cond, ◌||◌, ltb, leb, eqb, List, length, take, drop, ◌++◌, Contains, Option, Some, None, refl, sym, ap, ◌∙◌, subst, arith}
+use Rattle.std.proofs.lemmas.List.{length-take-le, length-append}
 use Rattle.std.specs.Prelude.{ℤ, pos, negsuc, ◌+ℤ◌, ◌-ℤ◌, ◌≤ℤ◌, unwrap_or, IfSome}
 use Rattle.std.specs.BTreeMap.{BTreeMap, keys}
-use Rattle.std.proofs.lemmas.Bool.{or_parts, or_cases, ltb-true, ltb-false, leb-true, leb-false}
+use Rattle.std.proofs.lemmas.Bool.{or_parts, or_cases, ltb-true, ltb-false, leb-true, leb-false, eqb-true}
+use Rattle.std.proofs.lemmas.Bool.Decides.{nat_tests}
 use Rattle.std.specs.Vec.{with_items}
 use Rattle.dcp_collect.specs.declared.collector.Collector.TheInside.{Inside}
 use Rattle.dcp_collect.specs.declared.head.Head.{Head}
@@ -157,12 +159,19 @@ sound_same c packets s are same = record {
   near = λ k h. s.near k (subst (λ ks. Contains ks k) same h);
 }
 
+above_by : (b : Bool) (next k : ℕ) → b ≡ eqb k next → next ≤ k → k ≢ next → next + 1 ≤ k
+above_by true next k e l other = absurd (other (eqb-true k next (sym e)))
+above_by false next k e l other = grind (arith, nat_tests, e, l)
+
+above : (next k : ℕ) → next ≤ k → k ≢ next → next + 1 ≤ k
+above next k l other = above_by (eqb k next) next k refl l other
+
 near_next : (next window k : ℕ) (m : Option ℕ) → IsNear next window m k → k ≢ next → IsNear (next + 1) window m k
-near_next next window k m (a, inl h) other = (omega (arith, a, λ e. other e), inl (omega (arith, h)))
-near_next next window k m (a, inr h) other = (omega (arith, a, λ e. other e), inr h)
+near_next next window k m (a, inl h) other = (above next k a other, inl (omega (arith, h)))
+near_next next window k m (a, inr h) other = (above next k a other, inr h)
 
 -- an item was given
-pub sound_next : (c : Inside) (packets : BTreeMap ℕ KeptPacket) (buffer : List ℕ) → IsSound c → c.next < 2 ^ 62 → ArePackets packets → length buffer ≡ 12288
+pub sound_next : (c : Inside) (packets : BTreeMap ℕ KeptPacket) (buffer : List ℕ) → IsSound c → c.next < 2 ^ 62 → ArePackets packets → length (with_items c.buffer buffer).items ≡ 12288
     → ((k : ℕ) → Contains (keys packets) k → Contains (keys c.packets) k × (k ≢ c.next))
     → IsSound (record c { next = c.next + 1; packets = packets; buffer = with_items c.buffer buffer })
 sound_next c packets buffer s l are room from = record {
@@ -176,3 +185,7 @@ sound_next c packets buffer s l are room from = record {
   packets = are;
   near = λ k h. let was = from k h in near_next c.next c.window k c.newest (s.near k was.0) was.1;
 }
+
+-- a vector that was written over whole keeps its length
+pub whole_length : (n : ℕ) (bytes items : List ℕ) → length bytes ≡ n → length (take n (bytes ++ drop (length bytes) items)) ≡ n
+whole_length n bytes items e = length-take-le n (bytes ++ drop (length bytes) items) (omega (arith, e, length-append bytes (drop (length bytes) items)))
