@@ -26,3 +26,7 @@ pub mod Solved
 pub mod Decided
 pub mod Decoded
 pub mod MapLemmas
+pub mod MapChanges
+pub mod MapFacts
+pub mod Near
+pub mod MapHeld

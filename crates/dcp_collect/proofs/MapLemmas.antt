@@ -46,7 +46,7 @@ above_less : (m n : ℕ) (es : List (ℕ × KeptPacket)) → m ≤ n → RiseAbo
 above_less m n [] l h = tt
 above_less m n (e ∷ es) l h = (omega (arith, l, h.0), h.1)
 
-tail_rise : (e : ℕ × KeptPacket) (es : List (ℕ × KeptPacket)) → RiseAbove e.0 es → Rise es
+pub tail_rise : (e : ℕ × KeptPacket) (es : List (ℕ × KeptPacket)) → RiseAbove e.0 es → Rise es
 tail_rise e [] h = tt
 tail_rise e (f ∷ es) h = h.1
 
@@ -65,7 +65,7 @@ append_at : (b : Bool) (x : Fragment) (all xs ys : List Fragment) → all ≡ xs
 append_at true x all xs ys e = ap (λ zs. x ∷ zs) e
 append_at false x all xs ys e = e
 
-filter_append : (p : Fragment → Bool) (xs ys : List Fragment) → filter p (xs ++ ys) ≡ filter p xs ++ filter p ys
+pub filter_append : (p : Fragment → Bool) (xs ys : List Fragment) → filter p (xs ++ ys) ≡ filter p xs ++ filter p ys
 filter_append p [] ys = refl
 filter_append p (x ∷ xs) ys = append_at (p x) x (filter p (xs ++ ys)) (filter p xs) (filter p ys) (filter_append p xs ys)
 
@@ -73,14 +73,14 @@ append_none : (xs : List Fragment) → xs ++ [] ≡ xs
 append_none [] = refl
 append_none (x ∷ xs) = ap (λ ys. x ∷ ys) (append_none xs)
 
-flip_false : (m n : ℕ) → eqb m n ≡ false → eqb n m ≡ false
+pub flip_false : (m n : ℕ) → eqb m n ≡ false → eqb n m ≡ false
 flip_false m n e = grind (arith, nat_tests)
 
-keep_all : (p : Fragment → Bool) (n : ℕ) (fs : List KeptFragment) → ((k : KeptFragment) → p (fragment n k) ≡ true) → filter p (fragments n fs) ≡ fragments n fs
+pub keep_all : (p : Fragment → Bool) (n : ℕ) (fs : List KeptFragment) → ((k : KeptFragment) → p (fragment n k) ≡ true) → filter p (fragments n fs) ≡ fragments n fs
 keep_all p n [] h = refl
 keep_all p n (k ∷ ks) h = rw (h k) (ap (λ zs. fragment n k ∷ zs) (keep_all p n ks h))
 
-keep_none : (p : Fragment → Bool) (n : ℕ) (fs : List KeptFragment) → ((k : KeptFragment) → p (fragment n k) ≡ false) → filter p (fragments n fs) ≡ []
+pub keep_none : (p : Fragment → Bool) (n : ℕ) (fs : List KeptFragment) → ((k : KeptFragment) → p (fragment n k) ≡ false) → filter p (fragments n fs) ≡ []
 keep_none p n [] h = refl
 keep_none p n (k ∷ ks) h = rw (h k) (keep_none p n ks h)
 
