@@ -1,5 +1,5 @@
 -- The fragments of one packet that are kept: one more of them, and how many bytes they have.
-use Rattle.std.proofs.Common.{ℕ, zero, suc, ◌≡◌, ◌+◌, ◌-◌, ◌*◌, ◌<◌, ◌≤◌, max, Bool, true, false, cond, not, ◌&&◌, ◌||◌, ltb, leb, eqb, List, [], ◌∷◌, ◌++◌, length, take, drop, get_or, Option, Some, None, refl, sym, ap, ◌∙◌, subst, arith}
+use Rattle.std.proofs.Common.{ℕ, zero, suc, ◌≡◌, ◌+◌, ◌*◌, ◌<◌, ◌≤◌, Bool, true, false, cond, not, ◌&&◌, ◌||◌, ltb, leb, eqb, List, [], ◌∷◌, length, take, drop, get_or, Option, Some, None, refl, sym, ap, ◌∙◌, subst, arith}
 use Rattle.std.specs.List.{All, AllByRecursion, find, insert}
 use Rattle.std.proofs.Math.Nat.{mul-le-mul_left}
 use Rattle.std.proofs.lemmas.Bool.{or_parts, and_parts, and_from, eqb-true, leb-true, leb-false}
@@ -7,12 +7,11 @@ use Rattle.std.proofs.lemmas.Bool.Decides.{nat_tests}
 use Rattle.std.proofs.lemmas.List.Elements.{All-append, All-cons, All-take, All-drop, All-head, All-tail, All-nil, All-weaker}
 use Rattle.dcp_pft.specs.declared.shape.Rs.{Rs}
 use Rattle.dcp_collect.specs.declared.head.Head.{Head}
-use Rattle.dcp_collect.specs.declared.taken.Taken.{Taken}
-use Rattle.dcp_collect.specs.declared.taken.Taken.TheVariants.{Kept, Repeated, Late, Inconsistent}
+use Rattle.dcp_collect.specs.declared.taken.Taken.TheVariants.{Kept, Repeated, Inconsistent}
 use Rattle.dcp_collect.specs.declared.packet.KeptFragment.{KeptFragment}
 use Rattle.dcp_collect.specs.Fragments.{Fragment, agree, same_bool, same_code, lengths_suit, has_index, suffice, IsAscending}
 use Rattle.dcp_collect.specs.State.{answer_among, answer_by, is_before, insert_kept, held}
-use Rattle.dcp_collect.specs.View.{fragment, fragments, goes_before, first_odd, IsHead, IsKept, AreKept, AgreeWithFirst, index_is_kept}
+use Rattle.dcp_collect.specs.View.{fragment, fragments, goes_before, first_odd, IsKept, AreKept, AgreeWithFirst, index_is_kept}
 use Rattle.std.specs.Option.{option_map, is_some}
 use Rattle.std.proofs.lemmas.List.{drop_more}
 use Rattle.dcp_collect.proofs.KeptIndices.{has_index_is, suffice_is}

@@ -1,12 +1,12 @@
 -- What a change of one packet in a map does to the fragments of all packets.
-use Rattle.std.proofs.Common.{ℕ, ◌≡◌, ◌<◌, ◌≤◌, Bool, true, false, cond, not, ◌&&◌, ◌||◌, ltb, eqb, List, [], ◌∷◌, ◌++◌, Option, Some, None, refl, sym, ap, ◌∙◌, append_assoc, arith}
+use Rattle.std.proofs.Common.{ℕ, ◌≡◌, ◌<◌, ◌≤◌, Bool, true, false, cond, not, ◌&&◌, ◌||◌, ltb, eqb, List, [], ◌∷◌, ◌++◌, Some, None, refl, sym, ap, ◌∙◌, arith}
 use Rattle.std.specs.List.{filter}
-use Rattle.std.specs.Ordering.{nat_cmp, is_eq, match_ordering, MatchOrdering}
+use Rattle.std.specs.Ordering.{nat_cmp, is_eq, match_ordering}
 use Rattle.std.specs.declared.cmp.Ordering.{Ordering}
 use Rattle.std.specs.declared.cmp.Ordering.TheVariants.{Less, Equal, Greater}
 use Rattle.std.specs.Map.{lookup, set_value, remove_entry}
 use Rattle.std.specs.BTreeMap.{is_at, insert_entry}
-use Rattle.std.proofs.lemmas.Bool.{eqb-true, eq-eqb, ne_eqb}
+use Rattle.std.proofs.lemmas.Bool.{eqb-true}
 use Rattle.std.proofs.lemmas.Bool.Decides.{nat_tests}
 use Rattle.std.proofs.lemmas.Cmp.{ranked}
 use Rattle.dcp_collect.specs.declared.packet.KeptFragment.{KeptFragment}
@@ -14,7 +14,7 @@ use Rattle.dcp_collect.specs.declared.packet.KeptPacket.{KeptPacket}
 use Rattle.dcp_collect.specs.Fragments.{Fragment}
 use Rattle.dcp_collect.specs.State.{is_before, insert_kept}
 use Rattle.dcp_collect.specs.View.{fragment, fragments, all_fragments}
-use Rattle.dcp_collect.proofs.MapLemmas.{RiseAbove, Rise, tail_rise, at_is, flip_false, filter_append, keep_all, keep_none}
+use Rattle.dcp_collect.proofs.MapLemmas.{RiseAbove, Rise, tail_rise, at_is, filter_append, keep_all, keep_none}
 
 -- ---- where a fragment goes among those of all packets
 

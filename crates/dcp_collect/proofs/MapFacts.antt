@@ -1,12 +1,11 @@
 -- What stands of each packet and of the keys after a change of one packet in a map.
-use Rattle.std.proofs.Common.{ℕ, ◌≡◌, ◌≢◌, ◌<◌, ◌≤◌, ◌^◌, ◌⊎◌, inl, inr, Bool, true, false, cond, eqb, List, [], ◌∷◌, length, All, Contains, Option, Some, None, OnOk, OnErr, Result, Ok, Err, refl, sym, ap, ◌∙◌, subst, arith}
+use Rattle.std.proofs.Common.{ℕ, ◌≡◌, ◌≢◌, ◌<◌, ◌≤◌, ◌^◌, ◌⊎◌, inl, inr, Bool, true, false, cond, eqb, List, [], ◌∷◌, All, Contains, Some, None, OnOk, OnErr, Result, Ok, Err, refl, sym, ◌∙◌, subst, arith}
 use Rattle.std.specs.List.{AllByRecursion}
-use Rattle.std.specs.List.Sorted.{IsStrictlySortedBy}
-use Rattle.std.specs.Ordering.{nat_cmp, is_eq, match_ordering}
+use Rattle.std.specs.Ordering.{nat_cmp, match_ordering}
 use Rattle.std.specs.declared.cmp.Ordering.{Ordering}
 use Rattle.std.specs.declared.cmp.Ordering.TheVariants.{Less, Equal, Greater}
-use Rattle.std.specs.Map.{lookup, set_value, remove_entry, keys_of, values_of}
-use Rattle.std.specs.BTreeMap.{BTreeMap, is_at, insert_entry, keys, IsOrdered}
+use Rattle.std.specs.Map.{lookup, set_value, remove_entry, keys_of}
+use Rattle.std.specs.BTreeMap.{BTreeMap, is_at, insert_entry, IsOrdered}
 use Rattle.std.proofs.lemmas.Bool.{eqb-true, eq-eqb}
 use Rattle.std.proofs.lemmas.List.Elements.{All-from_recursion, recursion_from_All, All-weaker, All-contains, All-contains_itself, All-nil, All-cons}
 use Rattle.std.proofs.lemmas.Map.Views.{All-keys-insert_entry, All-map-remove_entry}
@@ -14,7 +13,7 @@ use Rattle.dcp_collect.specs.declared.packet.KeptFragment.{KeptFragment}
 use Rattle.dcp_collect.specs.declared.packet.KeptPacket.{KeptPacket}
 use Rattle.dcp_collect.specs.Fragments.{agree}
 use Rattle.dcp_collect.specs.View.{IsKept, AreKept, ArePackets}
-use Rattle.dcp_collect.proofs.MapLemmas.{RiseAbove, Rise, rise_of, tail_rise, at_is}
+use Rattle.dcp_collect.proofs.MapLemmas.{RiseAbove, Rise, tail_rise, at_is}
 
 -- what is known of a packet with its number
 abbrev pub IsEntry : (ℕ × KeptPacket) → Type 0
@@ -142,7 +141,8 @@ others n (e ∷ es) rise = others_at (is_at (nat_cmp n) e.0) n e es refl rise (o
 pub keys_drop : (n : ℕ) (es : List (ℕ × KeptPacket)) → Rise es → (k : ℕ) → Contains (keys_of (remove_entry (is_at (nat_cmp n)) es)) k
     → Contains (keys_of es) k × (k ≢ n)
 keys_drop n es rise k there =
-    let left = keys_of (remove_entry (is_at (nat_cmp n)) es) in
-    (All-contains (Contains (keys_of es)) left k
-    (All-map-remove_entry (is_at (nat_cmp n)) (λ (e : ℕ × KeptPacket). e.0) (Contains (keys_of es)) es (All-contains_itself (keys_of es))) there,
-    All-contains (λ j. j ≢ n) left k (All-from_recursion (λ j. j ≢ n) left (others n es rise)) there)
+    let left = keys_of (remove_entry (is_at (nat_cmp n)) es) in (
+      All-contains (Contains (keys_of es)) left k
+          (All-map-remove_entry (is_at (nat_cmp n)) (λ (e : ℕ × KeptPacket). e.0) (Contains (keys_of es)) es (All-contains_itself (keys_of es))) there,
+      All-contains (λ j. j ≢ n) left k (All-from_recursion (λ j. j ≢ n) left (others n es rise)) there,
+    )

@@ -1,19 +1,17 @@
 -- The fragments of all packets, and those of one of them, in a map from numbers to packets.
-use Rattle.std.proofs.Common.{ℕ, zero, suc, ◌≡◌, ◌≢◌, ◌+◌, ◌<◌, ◌≤◌, ◌⊎◌, inl, inr, Bool, true, false, cond, not, ◌&&◌, ◌||◌, ltb, eqb, List, [], ◌∷◌, ◌++◌, length, Contains, Option, Some, None, refl, sym, ap, ◌∙◌, subst, append_assoc, arith}
+use Rattle.std.proofs.Common.{ℕ, ◌≡◌, ◌<◌, ◌≤◌, Bool, true, false, cond, ltb, eqb, List, [], ◌∷◌, ◌++◌, Option, Some, None, refl, sym, ap, ◌∙◌, arith}
 use Rattle.std.specs.List.{AllByRecursion, filter}
 use Rattle.std.specs.List.Sorted.{IsStrictlySortedBy}
-use Rattle.std.specs.Ordering.{nat_cmp, is_eq, match_ordering}
-use Rattle.std.specs.declared.cmp.Ordering.{Ordering}
+use Rattle.std.specs.Ordering.{nat_cmp, is_eq}
 use Rattle.std.specs.declared.cmp.Ordering.TheVariants.{Less, Equal, Greater}
-use Rattle.std.specs.Map.{lookup, set_value, remove_entry, keys_of}
-use Rattle.std.specs.BTreeMap.{is_at, insert_entry}
-use Rattle.std.proofs.lemmas.Bool.{eqb-true, eq-eqb, ne_eqb, ltb-true, ltb-false, lt-ltb}
+use Rattle.std.specs.Map.{lookup, keys_of}
+use Rattle.std.specs.BTreeMap.{is_at}
+use Rattle.std.proofs.lemmas.Bool.{eqb-true, eq-eqb, ne_eqb, ltb-true}
 use Rattle.std.proofs.lemmas.Bool.Decides.{nat_tests}
 use Rattle.dcp_collect.specs.declared.packet.KeptFragment.{KeptFragment}
 use Rattle.dcp_collect.specs.declared.packet.KeptPacket.{KeptPacket}
 use Rattle.dcp_collect.specs.Fragments.{Fragment, of_packet}
-use Rattle.dcp_collect.specs.State.{is_before, insert_kept}
-use Rattle.dcp_collect.specs.View.{fragment, fragments, all_fragments, AreKept}
+use Rattle.dcp_collect.specs.View.{fragment, fragments, all_fragments}
 
 -- ---- keys in order
 
@@ -73,7 +71,7 @@ append_none : (xs : List Fragment) → xs ++ [] ≡ xs
 append_none [] = refl
 append_none (x ∷ xs) = ap (λ ys. x ∷ ys) (append_none xs)
 
-pub flip_false : (m n : ℕ) → eqb m n ≡ false → eqb n m ≡ false
+flip_false : (m n : ℕ) → eqb m n ≡ false → eqb n m ≡ false
 flip_false m n e = grind (arith, nat_tests)
 
 pub keep_all : (p : Fragment → Bool) (n : ℕ) (fs : List KeptFragment) → ((k : KeptFragment) → p (fragment n k) ≡ true) → filter p (fragments n fs) ≡ fragments n fs

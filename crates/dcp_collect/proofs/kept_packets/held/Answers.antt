@@ -1,4 +1,4 @@
-use Rattle.std.proofs.Common.{ℕ, ◌≡◌, ◌+◌, ◌∷◌, length, All, sym, ap, subst, arith, ◌∙◌, rules}
+use Rattle.std.proofs.Common.{◌≡◌, ◌+◌, ◌∷◌, length, All, sym, ap, subst, arith, ◌∙◌, rules}
 use Rattle.std.specs.BTreeMap.{values}
 use Rattle.std.proofs.lemmas.List.Elements.{All-head, All-tail}
 use Rattle.std.proofs.lemmas.Map.Entries.{length-values_of}

@@ -1,6 +1,5 @@
-use Rattle.std.proofs.Common.{ℕ, ◌≡◌, ◌∙◌, ◌∷◌, [], inr, Contains, refl, sym, ap, subst, rules}
+use Rattle.std.proofs.Common.{◌≡◌, ◌∙◌, inr, refl, sym, ap, subst, rules}
 use Rattle.std.specs.Ordering.{nat_cmp}
-use Rattle.std.specs.Map.{keys_of}
 use Rattle.std.specs.BTreeMap.{insert_entry}
 use Rattle.dcp_collect.specs.View.{AreKept, all_fragments, fragment, fragments}
 use Rattle.dcp_collect.proofs.MapLemmas.{rise_of}
