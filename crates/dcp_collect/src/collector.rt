@@ -123,6 +123,7 @@ impl Collector {
         ensures rises { unwrap_or self.new.newest 0 ≤ unwrap_or self.old.newest 0 + 32767 }
         ensures small { IfSome self.new.newest (λ n. n < 2 ^ 62) }
     {
+        let newest = self.newest();
         let read = match read_datagram(datagram) {
             Ok(read) => read,
             Err(field) => return Taken::Refused(field),
@@ -130,15 +131,23 @@ impl Collector {
         let Some(number) = self.number_in_time(read.sequence) else {
             return Taken::Late;
         };
-        let answer = answer_for(fragments_of(&self.packets, number), read.head);
-        if answer != Taken::Kept {
-            return answer;
+        match answer_for(fragments_of(&self.packets, number), read.head) {
+            Taken::Kept => {}
+            other => return other,
         }
-        if keep(self.alloc, &mut self.packets, number, read.head, read.payload).is_err() {
+        if keep(
+            self.alloc,
+            &mut self.packets,
+            number,
+            read.head,
+            read.payload,
+        )
+        .is_err()
+        {
             return Taken::NoMemory;
         }
         self.first = Some(self.first.unwrap_or(read.sequence));
-        self.newest = Some(newer_of(self.newest, number));
+        self.newest = Some(newer_of(newest, number));
         Taken::Kept
     }
 
