@@ -2,6 +2,7 @@
 
 ghost use Rattle.std.specs.Prelude.{◌≡◌, ◌+◌, ◌*◌, ◌^◌, ◌<◌, ◌≤◌, ℕ, IfOk, IfSome, None, true, false, Some, length, unwrap_or};
 ghost use Rattle.std.specs.Borrow.{sem};
+ghost use Rattle.dcp_collect.specs.declared.taken.Taken.TheVariants.{Kept as ToKeep};
 ghost use Rattle.dcp_collect.specs.Reading.{IsRead, Unread, Brings};
 ghost use Rattle.dcp_collect.specs.State.{made, ready as is_ready, is_late as number_is_late, reached, newer, after_finish, held as bytes_held};
 ghost use Rattle.dcp_collect.specs.Runs.{TakesOrStays};
@@ -119,6 +120,7 @@ impl Collector {
         requires none_ready { is_ready self.old ≡ false }
         requires unfinished { self.old.end ≡ None }
         ensures takes { TakesOrStays self.old datagram.now result self.new }
+        ensures unchanged { (result ≡ ToKeep → ⊥) → self.new ≡ self.old }
         // How far a datagram can raise the newest number.
         ensures rises { unwrap_or self.new.newest 0 ≤ unwrap_or self.old.newest 0 + 32767 }
         ensures small { IfSome self.new.newest (λ n. n < 2 ^ 62) }

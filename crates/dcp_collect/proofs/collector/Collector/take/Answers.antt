@@ -28,6 +28,7 @@ returns-in_default-answer_for c =
           c.in-Some.ensures.0 c.in-Some.ensures.1
           (c.answer_for.ensures c.in-Some.number ∙ ap (λ xs. answer_among xs c.in-Ok.read.head) (c.fragments_of.ensures.those ∙ sym those))
           c.in_default-answer_for.not-Kept;
+      unchanged = λ other. refl;
       rises = omega arith;
       small = subst (λ m. IfSome m (λ n. n < 2 ^ 62)) c.newest-newest.ensures.newest c.newest-newest.ensures.small;
     }
