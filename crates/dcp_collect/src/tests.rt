@@ -1,5 +1,7 @@
 //! Runs of a collector, call by call.
 
+ghost use Rattle.std.specs.Prelude.{◌≡◌, ◌≤◌, ◌^◌, None, length, IfOk, IfSome};
+
 use crate::{Collector, Out, Taken};
 use dcp_af::write_af;
 use dcp_pft::{chunks, code, shape_for, write_fragment};
@@ -45,7 +47,11 @@ pub(crate) enum Step<'a> {
 }
 
 /// An AF packet of so many bytes.
-pub(crate) fn packet(alloc: Global, seq: u16, len: usize) -> Result<Vec<u8>, NoMemory> {
+pub(crate) fn packet(alloc: Global, seq: u16, len: usize) -> Result<Vec<u8>, NoMemory>
+    requires least { 12 ≤ len }
+    requires most { len ≤ 16384 }
+    ensures { IfOk result (λ bytes. length bytes.items ≡ len) }
+{
     let mut bytes = vec![in alloc; 0u8; len]?;
     let mut next: u8 = 3;
     for byte in &mut bytes {
@@ -63,7 +69,11 @@ pub(crate) fn fragment(
     m: u8,
     seq: u16,
     index: u32,
-) -> Result<Vec<u8>, NoMemory> {
+) -> Result<Vec<u8>, NoMemory>
+    requires least { 1 ≤ length packet.now }
+    requires most { length packet.now ≤ 8192 }
+    requires few { m ≤ 5 }
+{
     let shape = shape_for(packet.len(), m, MTU);
     let mut room = [0; 1920];
     let parity = &mut room[..48 * chunks(&shape) as usize];
@@ -85,13 +95,18 @@ fn fragment_of(alloc: Global, seq: u16, index: u32) -> Result<Vec<u8>, NoMemory>
 }
 
 /// Takes a datagram where nothing is ready.
-pub(crate) fn take(rt: &impl Abort, collector: &mut Collector, datagram: &[u8]) -> Taken {
+pub(crate) fn taken(rt: &impl Abort, collector: &mut Collector, datagram: &[u8]) -> Taken
+    requires { collector.old.end ≡ None }
+    ensures { collector.new.end ≡ None }
+{
     assert!(rt; !collector.ready());
     collector.take(datagram)
 }
 
 /// Gives this next, or nothing.
-pub(crate) fn give(rt: &impl Abort, collector: &mut Collector, out: Option<Out<'_>>) {
+pub(crate) fn expect_next(rt: &impl Abort, collector: &mut Collector, out: Option<Out<'_>>)
+    ensures { collector.new.end ≡ collector.old.end }
+{
     assert_eq!(rt; collector.ready(), out.is_some(), "{out:?}");
     assert_eq!(rt; collector.next(), out);
 }
@@ -101,29 +116,34 @@ fn take_sent(
     alloc: Global,
     collector: &mut Collector,
     sent: Sent<'_>,
-) -> Result<Taken, NoMemory> {
+) -> Result<Taken, NoMemory>
+    requires { collector.old.end ≡ None }
+    ensures { collector.new.end ≡ None }
+{
     match sent {
         Sent::Cut(seq, index) => {
             let datagram = fragment_of(alloc, seq, index)?;
-            Ok(take(rt, collector, &datagram))
+            Ok(taken(rt, collector, &datagram))
         }
         Sent::Whole(seq, len) => {
             assert!(rt; 12 <= len && len <= 16384, "{sent:?}");
             let datagram = packet(alloc, seq, len)?;
-            Ok(take(rt, collector, &datagram))
+            Ok(taken(rt, collector, &datagram))
         }
-        Sent::Bytes(datagram) => Ok(take(rt, collector, datagram)),
+        Sent::Bytes(datagram) => Ok(taken(rt, collector, datagram)),
     }
 }
 
-fn give_nothing(rt: &impl Abort, collector: &mut Collector, from: u64, upto: u64) {
+fn give_nothing(rt: &impl Abort, collector: &mut Collector, from: u64, upto: u64)
+    ensures { collector.new.end ≡ collector.old.end }
+{
     for index in from..upto {
         let lost = Out::Lost {
             index,
             had: 0,
             of: 0,
         };
-        give(rt, collector, Some(lost));
+        expect_next(rt, collector, Some(lost));
     }
 }
 
@@ -132,17 +152,19 @@ fn give_item(
     alloc: Global,
     collector: &mut Collector,
     item: Item<'_>,
-) -> Result<(), NoMemory> {
+) -> Result<(), NoMemory>
+    ensures { collector.new.end ≡ collector.old.end }
+{
     match item {
         Item::Packet(index, seq, len) => {
             assert!(rt; 12 <= len && len <= 16384, "{item:?}");
             let bytes = &packet(alloc, seq, len)?;
-            give(rt, collector, Some(Out::Packet { index, bytes }));
+            expect_next(rt, collector, Some(Out::Packet { index, bytes }));
         }
-        Item::Bytes(index, bytes) => give(rt, collector, Some(Out::Packet { index, bytes })),
-        Item::Lost(index, had, of) => give(rt, collector, Some(Out::Lost { index, had, of })),
+        Item::Bytes(index, bytes) => expect_next(rt, collector, Some(Out::Packet { index, bytes })),
+        Item::Lost(index, had, of) => expect_next(rt, collector, Some(Out::Lost { index, had, of })),
         Item::Nothing(from, upto) => give_nothing(rt, collector, from, upto),
-        Item::Damaged(index) => give(rt, collector, Some(Out::Damaged { index })),
+        Item::Damaged(index) => expect_next(rt, collector, Some(Out::Damaged { index })),
     }
     Ok(())
 }
@@ -153,13 +175,16 @@ fn call(
     alloc: Global,
     collector: &mut Collector,
     step: Step<'_>,
-) -> Result<(), NoMemory> {
+) -> Result<(), NoMemory>
+    requires { collector.old.end ≡ None }
+    ensures { collector.new.end ≡ None }
+{
     match step {
         Step::Takes(sent, taken) => {
             assert_eq!(rt; take_sent(rt, alloc, collector, sent)?, taken, "{sent:?}");
         }
         Step::Gives(item) => give_item(rt, alloc, collector, item)?,
-        Step::GivesNone => give(rt, collector, None),
+        Step::GivesNone => expect_next(rt, collector, None),
         Step::Holds(held, first, newest) => {
             assert_eq!(rt; collector.held(), held, "{step:?}");
             assert_eq!(rt; collector.first(), first, "{step:?}");
@@ -177,7 +202,11 @@ pub(crate) fn run(
     steps: &[Step<'_>],
     upto: Option<u64>,
     rest: &[Item<'_>],
-) -> Result<(), NoMemory> {
+) -> Result<(), NoMemory>
+    requires some { 1 ≤ of.0 }
+    requires few { of.0 ≤ 64 }
+    requires small { IfSome upto (λ n. n ≤ 2 ^ 62) }
+{
     let mut collector = Collector::make(alloc, of.0, of.1)?;
     for step in steps {
         call(rt, alloc, &mut collector, *step)?;
@@ -186,6 +215,6 @@ pub(crate) fn run(
     for item in rest {
         give_item(rt, alloc, &mut collector, *item)?;
     }
-    give(rt, &mut collector, None);
+    expect_next(rt, &mut collector, None);
     Ok(())
 }
