@@ -1,5 +1,5 @@
 -- The indices of fragments, as the code has them and as the definitions have them.
-use Rattle.std.proofs.Common.{◌≡◌, ℕ, zero, suc, replicate, Option, Some, None, Bool, true, false, eqb, List, [], ◌∷◌, ◌||◌, refl, sym, ap, ◌∙◌}
+use Rattle.std.proofs.Common.{◌≡◌, ℕ, zero, suc, replicate, Some, None, false, eqb, List, [], ◌∷◌, ◌||◌, refl, sym, ap, ◌∙◌}
 use Rattle.dcp_pft.specs.Loss.{is_recoverable}
 use Rattle.dcp_collect.specs.declared.packet.KeptFragment.{KeptFragment}
 use Rattle.dcp_collect.specs.Fragments.{has_index, suffice, shape_by}

@@ -1,5 +1,5 @@
 -- The fragments of one packet that are kept: one more of them, and how many bytes they have.
-use Rattle.std.proofs.Common.{ℕ, zero, suc, ◌≡◌, ◌+◌, ◌-◌, ◌*◌, ◌<◌, ◌≤◌, max, Bool, true, false, cond, not, ◌&&◌, ◌||◌, ltb, leb, eqb, List, [], ◌∷◌, ◌++◌, length, take, drop, get_or, Option, Some, None, refl, sym, ap, ◌∙◌, subst, arith}
+use Rattle.std.proofs.Common.{ℕ, zero, suc, ◌≡◌, ◌+◌, ◌*◌, ◌<◌, ◌≤◌, Bool, true, false, cond, not, ◌&&◌, ◌||◌, ltb, leb, eqb, List, [], ◌∷◌, length, take, drop, get_or, Option, Some, None, refl, sym, ap, ◌∙◌, subst, arith}
 use Rattle.std.specs.List.{All, AllByRecursion, find, insert}
 use Rattle.std.proofs.Math.Nat.{mul-le-mul_left}
 use Rattle.std.proofs.lemmas.Bool.{or_parts, and_parts, and_from, eqb-true, leb-true, leb-false}
@@ -7,15 +7,14 @@ use Rattle.std.proofs.lemmas.Bool.Decides.{nat_tests}
 use Rattle.std.proofs.lemmas.List.Elements.{All-append, All-cons, All-take, All-drop, All-head, All-tail, All-nil, All-weaker}
 use Rattle.dcp_pft.specs.declared.shape.Rs.{Rs}
 use Rattle.dcp_collect.specs.declared.head.Head.{Head}
-use Rattle.dcp_collect.specs.declared.taken.Taken.{Taken}
-use Rattle.dcp_collect.specs.declared.taken.Taken.TheVariants.{Kept, Repeated, Late, Inconsistent}
+use Rattle.dcp_collect.specs.declared.taken.Taken.TheVariants.{Kept, Repeated, Inconsistent}
 use Rattle.dcp_collect.specs.declared.packet.KeptFragment.{KeptFragment}
 use Rattle.dcp_collect.specs.Fragments.{Fragment, agree, same_bool, same_code, lengths_suit, has_index, suffice, IsAscending}
 use Rattle.dcp_collect.specs.State.{answer_among, answer_by, is_before, insert_kept, held}
-use Rattle.dcp_collect.specs.View.{fragment, fragments, goes_before, first_odd, IsHead, IsKept, AreKept, AgreeWithFirst, index_is_kept}
+use Rattle.dcp_collect.specs.View.{fragment, fragments, goes_before, first_odd, IsKept, AreKept, AgreeWithFirst, index_is_kept}
 use Rattle.std.specs.Option.{option_map, is_some}
 use Rattle.std.proofs.lemmas.List.{drop_more}
-use Rattle.dcp_collect.proofs.KeptIndices.{has_index_is}
+use Rattle.dcp_collect.proofs.KeptIndices.{has_index_is, suffice_is}
 use Rattle.dcp_collect.proofs.Lists.{all_insert, all_weaker}
 
 -- ---- where a fragment goes
@@ -118,6 +117,28 @@ answer_even n kept head s o =
     unlike_by (fragments n kept) head s
     ∙ ap (λ x. answer_by x (has_index (fragments n kept) head.index) head) (none_from (find (λ g. not (agree g.head head)) (fragments n kept)) (odd_is n kept head ∙ o))
     ∙ ap (λ b. answer_by None b head) (has_index_is n head.index kept)
+
+suffice_any : (n m : ℕ) (kept : List KeptFragment) → suffice (fragments n kept) ≡ suffice (fragments m kept)
+suffice_any n m [] = refl
+suffice_any n m (k ∷ ks) = suffice_is n k ks ∙ sym (suffice_is m k ks)
+
+heads_only : (o q : Option Fragment) (b : Bool) (head : Head) → option_map (λ (g : Fragment). g.head) o ≡ option_map (λ (g : Fragment). g.head) q
+    → answer_by o b head ≡ answer_by q b head
+heads_only None None b head e = refl
+heads_only None (Some g) b head e = absurd (let x : None ≡ Some g.head = e in cc)
+heads_only (Some f) None b head e = absurd (let x : Some f.head ≡ None = e in cc)
+heads_only (Some f) (Some g) b head e = let x : Some f.head ≡ Some g.head = e in (let y : f.head ≡ g.head = cc in ap (λ h. Inconsistent h head) y)
+
+-- the answer doesn't depend on the packet's number
+pub answer_any : (n m : ℕ) (kept : List KeptFragment) (head : Head) → answer_among (fragments n kept) head ≡ answer_among (fragments m kept) head
+answer_any n m kept head =
+    ap (λ b. cond b Repeated (answer_by (find (λ g. not (agree g.head head)) (fragments n kept)) (has_index (fragments n kept) head.index) head))
+    (suffice_any n m kept)
+    ∙ ap (λ a. cond (suffice (fragments m kept)) Repeated a)
+    (ap (λ b. answer_by (find (λ g. not (agree g.head head)) (fragments n kept)) b head)
+    (has_index_is n head.index kept ∙ sym (has_index_is m head.index kept))
+    ∙ heads_only (find (λ g. not (agree g.head head)) (fragments n kept)) (find (λ g. not (agree g.head head)) (fragments m kept))
+    (has_index (fragments m kept) head.index) head (odd_is n kept head ∙ sym (odd_is m kept head)))
 
 -- ---- one more of them
 
@@ -256,21 +277,42 @@ both P Q [] p q = All-nil (λ x. P x × Q x)
 both P Q (x ∷ xs) p q =
     All-cons (λ y. P y × Q y) x xs (All-head P x xs p, All-head Q x xs q) (both P Q xs (All-tail P x xs p) (All-tail Q x xs q))
 
+-- what is known of a fragment beside the first one
+abbrev IsLike : KeptFragment → KeptFragment → Type 0
+IsLike f g = (f.head.count * length g.payload.items ≤ 12288) × (g.head.index < f.head.count)
+
+all_like : (f : KeptFragment) (fs : List KeptFragment) → AreKept (f ∷ fs) → All (IsLike f) fs
+all_like f fs are =
+    let those = both (λ (g : KeptFragment). agree f.head g.head ≡ true) IsKept fs are.alike (All-tail IsKept f fs are.each) in
+    All-weaker (λ g. (agree f.head g.head ≡ true) × IsKept g) (IsLike f) (count_like f) fs those
+
+-- no more of them than the first one counts
+few_by_count : (f : KeptFragment) (fs : List KeptFragment) → AreKept (f ∷ fs) → length (f ∷ fs) ≤ f.head.count
+few_by_count f fs are =
+    let first = All-head IsKept f fs are.each in
+    let indices : AllByRecursion (λ (g : Fragment). g.head.index < f.head.count) (fragments 0 (f ∷ fs))
+    = (first.head.index, each_fragment 0 (λ (g : Fragment). g.head.index < f.head.count) (IsLike f) (λ g h. h.1) fs (all_like f fs are)) in
+    let few = few_from f.head.count 0 (fragment 0 f) (fragments 0 fs) indices are.ascending (omega arith) in
+    omega (arith, few, length_fragments 0 (f ∷ fs))
+
+-- at most 1,024 fragments of a packet are kept
+pub few_fragments : (kept : List KeptFragment) → AreKept kept → length kept ≤ 1024
+few_fragments [] are = omega arith
+few_fragments (f ∷ fs) are =
+    let first = All-head IsKept f fs are.each in
+    let most = first.head.few in
+    let few = few_by_count f fs are in omega (arith, few, most)
+
 -- the fragments of a packet have at most 12,288 bytes
 pub few_bytes : (n : ℕ) (kept : List KeptFragment) → AreKept kept → held (fragments n kept) ≤ 12288
 few_bytes n [] are = omega arith
 few_bytes n (f ∷ fs) are =
     let first = All-head IsKept f fs are.each in
-    let those = both (λ (g : KeptFragment). agree f.head g.head ≡ true) IsKept fs are.alike (All-tail IsKept f fs are.each) in
-    let like = All-weaker (λ g. (agree f.head g.head ≡ true) × IsKept g) (λ g. (f.head.count * length g.payload.items ≤ 12288) × (g.head.index < f.head.count)) (count_like f) fs those in
-    let Like : KeptFragment → Type 0 = λ g. (f.head.count * length g.payload.items ≤ 12288) × (g.head.index < f.head.count) in
     let sizes : AllByRecursion (λ (g : Fragment). f.head.count * length g.payload ≤ 12288) (fragments n (f ∷ fs))
-    = (rw first.len first.head.size, each_fragment n (λ (g : Fragment). f.head.count * length g.payload ≤ 12288) Like (λ g h. h.0) fs like) in
-    let indices : AllByRecursion (λ (g : Fragment). g.head.index < f.head.count) (fragments 0 (f ∷ fs))
-    = (first.head.index, each_fragment 0 (λ (g : Fragment). g.head.index < f.head.count) Like (λ g h. h.1) fs like) in
-    let few = few_from f.head.count 0 (fragment 0 f) (fragments 0 fs) indices are.ascending (omega arith) in
+    = (rw first.len first.head.size, each_fragment n (λ (g : Fragment). f.head.count * length g.payload ≤ 12288) (IsLike f) (λ g h. h.0) fs (all_like f fs are)) in
+    let few = few_by_count f fs are in
     cancelled f.head.count (held (fragments n (f ∷ fs))) (length (fragments n (f ∷ fs))) (omega (arith, first.head.index))
-    (omega (arith, few, length_fragments 0 (f ∷ fs), length_fragments n (f ∷ fs)))
+    (omega (arith, few, length_fragments n (f ∷ fs)))
     (scaled f.head.count (fragments n (f ∷ fs)) sizes)
 
 -- the sum so far and one more are no more than all

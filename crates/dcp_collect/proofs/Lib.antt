@@ -37,3 +37,7 @@ pub mod SentCuts
 pub mod Brought
 pub mod SentInTime
 pub mod SentCollected
+pub mod MapChanges
+pub mod MapFacts
+pub mod Near
+pub mod MapHeld

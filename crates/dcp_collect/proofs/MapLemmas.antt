@@ -1,19 +1,17 @@
 -- The fragments of all packets, and those of one of them, in a map from numbers to packets.
-use Rattle.std.proofs.Common.{ℕ, zero, suc, ◌≡◌, ◌≢◌, ◌+◌, ◌<◌, ◌≤◌, ◌⊎◌, inl, inr, Bool, true, false, cond, not, ◌&&◌, ◌||◌, ltb, eqb, List, [], ◌∷◌, ◌++◌, length, Contains, Option, Some, None, refl, sym, ap, ◌∙◌, subst, append_assoc, arith}
+use Rattle.std.proofs.Common.{ℕ, ◌≡◌, ◌<◌, ◌≤◌, Bool, true, false, cond, ltb, eqb, List, [], ◌∷◌, ◌++◌, Option, Some, None, refl, sym, ap, ◌∙◌, arith}
 use Rattle.std.specs.List.{AllByRecursion, filter}
 use Rattle.std.specs.List.Sorted.{IsStrictlySortedBy}
-use Rattle.std.specs.Ordering.{nat_cmp, is_eq, match_ordering}
-use Rattle.std.specs.declared.cmp.Ordering.{Ordering}
+use Rattle.std.specs.Ordering.{nat_cmp, is_eq}
 use Rattle.std.specs.declared.cmp.Ordering.TheVariants.{Less, Equal, Greater}
-use Rattle.std.specs.Map.{lookup, set_value, remove_entry, keys_of}
-use Rattle.std.specs.BTreeMap.{is_at, insert_entry}
-use Rattle.std.proofs.lemmas.Bool.{eqb-true, eq-eqb, ne_eqb, ltb-true, ltb-false, lt-ltb}
+use Rattle.std.specs.Map.{lookup, keys_of}
+use Rattle.std.specs.BTreeMap.{is_at}
+use Rattle.std.proofs.lemmas.Bool.{eqb-true, eq-eqb, ne_eqb, ltb-true}
 use Rattle.std.proofs.lemmas.Bool.Decides.{nat_tests}
 use Rattle.dcp_collect.specs.declared.packet.KeptFragment.{KeptFragment}
 use Rattle.dcp_collect.specs.declared.packet.KeptPacket.{KeptPacket}
 use Rattle.dcp_collect.specs.Fragments.{Fragment, of_packet}
-use Rattle.dcp_collect.specs.State.{is_before, insert_kept}
-use Rattle.dcp_collect.specs.View.{fragment, fragments, all_fragments, AreKept}
+use Rattle.dcp_collect.specs.View.{fragment, fragments, all_fragments}
 
 -- ---- keys in order
 
@@ -46,7 +44,7 @@ above_less : (m n : ℕ) (es : List (ℕ × KeptPacket)) → m ≤ n → RiseAbo
 above_less m n [] l h = tt
 above_less m n (e ∷ es) l h = (omega (arith, l, h.0), h.1)
 
-tail_rise : (e : ℕ × KeptPacket) (es : List (ℕ × KeptPacket)) → RiseAbove e.0 es → Rise es
+pub tail_rise : (e : ℕ × KeptPacket) (es : List (ℕ × KeptPacket)) → RiseAbove e.0 es → Rise es
 tail_rise e [] h = tt
 tail_rise e (f ∷ es) h = h.1
 
@@ -65,7 +63,7 @@ append_at : (b : Bool) (x : Fragment) (all xs ys : List Fragment) → all ≡ xs
 append_at true x all xs ys e = ap (λ zs. x ∷ zs) e
 append_at false x all xs ys e = e
 
-filter_append : (p : Fragment → Bool) (xs ys : List Fragment) → filter p (xs ++ ys) ≡ filter p xs ++ filter p ys
+pub filter_append : (p : Fragment → Bool) (xs ys : List Fragment) → filter p (xs ++ ys) ≡ filter p xs ++ filter p ys
 filter_append p [] ys = refl
 filter_append p (x ∷ xs) ys = append_at (p x) x (filter p (xs ++ ys)) (filter p xs) (filter p ys) (filter_append p xs ys)
 
@@ -76,11 +74,11 @@ append_none (x ∷ xs) = ap (λ ys. x ∷ ys) (append_none xs)
 flip_false : (m n : ℕ) → eqb m n ≡ false → eqb n m ≡ false
 flip_false m n e = grind (arith, nat_tests)
 
-keep_all : (p : Fragment → Bool) (n : ℕ) (fs : List KeptFragment) → ((k : KeptFragment) → p (fragment n k) ≡ true) → filter p (fragments n fs) ≡ fragments n fs
+pub keep_all : (p : Fragment → Bool) (n : ℕ) (fs : List KeptFragment) → ((k : KeptFragment) → p (fragment n k) ≡ true) → filter p (fragments n fs) ≡ fragments n fs
 keep_all p n [] h = refl
 keep_all p n (k ∷ ks) h = rw (h k) (ap (λ zs. fragment n k ∷ zs) (keep_all p n ks h))
 
-keep_none : (p : Fragment → Bool) (n : ℕ) (fs : List KeptFragment) → ((k : KeptFragment) → p (fragment n k) ≡ false) → filter p (fragments n fs) ≡ []
+pub keep_none : (p : Fragment → Bool) (n : ℕ) (fs : List KeptFragment) → ((k : KeptFragment) → p (fragment n k) ≡ false) → filter p (fragments n fs) ≡ []
 keep_none p n [] h = refl
 keep_none p n (k ∷ ks) h = rw (h k) (keep_none p n ks h)
 

@@ -1,16 +1,21 @@
 -- What a call leaves of a collector.
-use Rattle.std.proofs.Common.{ℕ, ◌≡◌, ◌≢◌, ◌+◌, ◌^◌, ◌<◌, ◌≤◌, ◌⊎◌, inl, inr, ⊎_elim, max, Bool, true, false, cond, ◌||◌, ltb, leb, eqb, List, length, Contains, Option, Some, None, refl, sym, ap, ◌∙◌, subst, arith}
-use Rattle.std.specs.Prelude.{ℤ, pos, negsuc, ◌+ℤ◌, ◌-ℤ◌, ◌≤ℤ◌, unwrap_or, IfSome}
+use Rattle.std.proofs.Common.{ℕ, ◌≡◌, ◌≢◌, ◌+◌, ◌*◌, ◌%◌, ◌^◌, ◌<◌, ◌≤◌, ◌⊎◌, inl, inr, ⊎_elim, max, Bool, true, false, ◌||◌, ltb, leb, eqb, List, length, take, drop, ◌++◌, Contains, Option, Some, None, refl, sym, ap, ◌∙◌, subst, arith}
+use Rattle.std.proofs.lemmas.List.{length-take-le, length-append}
+use Rattle.std.specs.Prelude.{ℤ, pos, ◌+ℤ◌, ◌-ℤ◌, unwrap_or, IfSome}
 use Rattle.std.specs.BTreeMap.{BTreeMap, keys}
-use Rattle.std.proofs.lemmas.Bool.{or_parts, or_cases, ltb-true, ltb-false, leb-true, leb-false}
+use Rattle.std.proofs.lemmas.Bool.{or_parts, ltb-true, ltb-false, leb-false, eqb-true}
+use Rattle.std.proofs.lemmas.Bool.Decides.{nat_tests}
 use Rattle.std.specs.Vec.{with_items}
+use Rattle.std.specs.Prelude.{Result, Ok, Err, OnOk, OnErr}
+use Rattle.std.specs.Result.{is_err}
+use Rattle.std.proofs.lemmas.Int.{ints, int_rem_euclid_is}
 use Rattle.dcp_collect.specs.declared.collector.Collector.TheInside.{Inside}
 use Rattle.dcp_collect.specs.declared.head.Head.{Head}
 use Rattle.dcp_collect.specs.declared.taken.Taken.{Taken}
 use Rattle.dcp_collect.specs.declared.taken.Taken.TheVariants.{Kept, Repeated, Late, Refused, Inconsistent, NoMemory}
 use Rattle.dcp_collect.specs.declared.packet.KeptPacket.{KeptPacket}
 use Rattle.dcp_collect.specs.Fragments.{Fragment, suffice, of_packet}
-use Rattle.dcp_collect.specs.Reading.{Incoming, IsRead, Brings, Unread}
+use Rattle.dcp_collect.specs.Reading.{Incoming, IsRead, Brings}
 use Rattle.dcp_collect.specs.State.{State, nearest, number_of, reached, is_late, answer, answer_at, answer_among, insert_kept, newer, after_answer, ready, ready_by}
 use Rattle.dcp_collect.specs.Runs.{Takes, TakesOrStays}
 use Rattle.dcp_collect.specs.View.{ArePackets, IsNear}
@@ -157,12 +162,19 @@ sound_same c packets s are same = record {
   near = λ k h. s.near k (subst (λ ks. Contains ks k) same h);
 }
 
+above_by : (b : Bool) (next k : ℕ) → b ≡ eqb k next → next ≤ k → k ≢ next → next + 1 ≤ k
+above_by true next k e l other = absurd (other (eqb-true k next (sym e)))
+above_by false next k e l other = grind (arith, nat_tests, e, l)
+
+above : (next k : ℕ) → next ≤ k → k ≢ next → next + 1 ≤ k
+above next k l other = above_by (eqb k next) next k refl l other
+
 near_next : (next window k : ℕ) (m : Option ℕ) → IsNear next window m k → k ≢ next → IsNear (next + 1) window m k
-near_next next window k m (a, inl h) other = (omega (arith, a, λ e. other e), inl (omega (arith, h)))
-near_next next window k m (a, inr h) other = (omega (arith, a, λ e. other e), inr h)
+near_next next window k m (a, inl h) other = (above next k a other, inl (omega (arith, h)))
+near_next next window k m (a, inr h) other = (above next k a other, inr h)
 
 -- an item was given
-pub sound_next : (c : Inside) (packets : BTreeMap ℕ KeptPacket) (buffer : List ℕ) → IsSound c → c.next < 2 ^ 62 → ArePackets packets → length buffer ≡ 12288
+pub sound_next : (c : Inside) (packets : BTreeMap ℕ KeptPacket) (buffer : List ℕ) → IsSound c → c.next < 2 ^ 62 → ArePackets packets → length (with_items c.buffer buffer).items ≡ 12288
     → ((k : ℕ) → Contains (keys packets) k → Contains (keys c.packets) k × (k ≢ c.next))
     → IsSound (record c { next = c.next + 1; packets = packets; buffer = with_items c.buffer buffer })
 sound_next c packets buffer s l are room from = record {
@@ -176,3 +188,40 @@ sound_next c packets buffer s l are room from = record {
   packets = are;
   near = λ k h. let was = from k h in near_next c.next c.window k c.newest (s.near k was.0) was.1;
 }
+
+-- a vector that was written over whole keeps its length
+pub whole_length : (n : ℕ) (bytes items : List ℕ) → length bytes ≡ n → length (take n (bytes ++ drop (length bytes) items)) ≡ n
+whole_length n bytes items e = length-take-le n (bytes ++ drop (length bytes) items) (omega (arith, e, length-append bytes (drop (length bytes) items)))
+
+-- ---- how far the newest number rises
+
+remainder_is : (first reference sequence : ℕ)
+    → nearest first reference sequence ≡ (pos reference -ℤ pos 32768 +ℤ pos ((sequence + 32768 + (first + reference) * 65535) % 65536))
+unfolding nearest
+remainder_is first reference sequence =
+    ap (λ x. pos reference -ℤ pos 32768 +ℤ x)
+    (int_rem_euclid_is (pos sequence -ℤ pos first -ℤ pos reference +ℤ pos 32768) (pos 65536) 65536 (first + reference)
+    (sequence + 32768 + (first + reference) * 65535) (omega arith) refl (omega (arith, ints)))
+
+at_most : (reference m n : ℕ) → pos n ≡ (pos reference -ℤ pos 32768 +ℤ pos (m % 65536)) → n ≤ reference + 32767
+at_most reference m n e = omega (arith, ints, e)
+
+newer_most : (m : Option ℕ) (newest n : ℕ) → Some newest ≡ newer m n → n ≤ unwrap_or m 0 + 32767 → newest ≤ unwrap_or m 0 + 32767
+newer_most None newest n e l = let x : newest ≡ n = cc in omega (arith, x, l)
+newer_most (Some m) newest n e l = let x : newest ≡ max m n = cc in omega (arith, x, l)
+
+pub rises : (first : ℕ) (m : Option ℕ) (sequence n newest : ℕ) → nearest first (unwrap_or m 0) sequence ≡ pos n → Some newest ≡ newer m n
+    → newest ≤ unwrap_or m 0 + 32767
+rises first m sequence n newest e is =
+    newer_most m newest n is
+    (at_most (unwrap_or m 0) (sequence + 32768 + (first + unwrap_or m 0) * 65535) n (sym e ∙ remainder_is first (unwrap_or m 0) sequence))
+
+-- ---- by whether a result is an Err
+
+pub on_ok : {T E : Type 0} (r : Result T E) (P : Type 0) → false ≡ is_err r → OnOk r P → P
+on_ok (Ok x) P e h = h
+on_ok (Err x) P e h = absurd (let y : false ≡ true = e in cc)
+
+pub on_err : {T E : Type 0} (r : Result T E) (P : Type 0) → true ≡ is_err r → OnErr r P → P
+on_err (Ok x) P e h = absurd (let y : true ≡ false = e in cc)
+on_err (Err x) P e h = h

@@ -1,5 +1,5 @@
 -- What a collector gives, and whole runs of its calls.
-use Rattle.std.specs.Prelude.{ℕ, ◌≡◌, Bool, true, false, List, [], ◌∷◌, ◌++◌, length, take, Option, Some, None}
+use Rattle.std.specs.Prelude.{ℕ, ◌≡◌, true, false, List, [], ◌∷◌, ◌++◌, length, take, Option, Some, None}
 use Rattle.dcp_collect.specs.declared.taken.Taken.{Taken}
 use Rattle.dcp_collect.specs.declared.taken.Taken.TheVariants.{NoMemory}
 use Rattle.dcp_collect.specs.Fragments.{suffice, of_packet}

@@ -1,5 +1,5 @@
 -- What holds of the fields of a collector, and what they stand for.
-use Rattle.std.specs.Prelude.{ℕ, ◌≡◌, ◌+◌, ◌^◌, ◌<◌, ◌≤◌, List, length, take, true, false, pos, unwrap_or, Contains, Option, Some, None, IfSome}
+use Rattle.std.specs.Prelude.{ℕ, ◌≡◌, ◌^◌, ◌<◌, ◌≤◌, List, length, take, true, false, pos, unwrap_or, Contains, Option, Some, None, IfSome}
 use Rattle.std.specs.BTreeMap.{keys}
 use Rattle.dcp_collect.specs.declared.collector.Collector.TheInside.{Inside}
 use Rattle.dcp_collect.specs.declared.found.Found.{Found}

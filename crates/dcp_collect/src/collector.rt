@@ -2,6 +2,7 @@
 
 ghost use Rattle.std.specs.Prelude.{◌≡◌, ◌+◌, ◌*◌, ◌^◌, ◌<◌, ◌≤◌, ℕ, IfOk, IfSome, None, true, false, Some, length, unwrap_or};
 ghost use Rattle.std.specs.Borrow.{sem};
+ghost use Rattle.dcp_collect.specs.declared.taken.Taken.TheVariants.{Kept as ToKeep};
 ghost use Rattle.dcp_collect.specs.Reading.{IsRead, Unread, Brings};
 ghost use Rattle.dcp_collect.specs.State.{made, ready as is_ready, is_late as number_is_late, reached, newer, after_finish, held as bytes_held};
 ghost use Rattle.dcp_collect.specs.Runs.{TakesOrStays};
@@ -119,10 +120,12 @@ impl Collector {
         requires none_ready { is_ready self.old ≡ false }
         requires unfinished { self.old.end ≡ None }
         ensures takes { TakesOrStays self.old datagram.now result self.new }
+        ensures unchanged { (result ≡ ToKeep → ⊥) → self.new ≡ self.old }
         // How far a datagram can raise the newest number.
         ensures rises { unwrap_or self.new.newest 0 ≤ unwrap_or self.old.newest 0 + 32767 }
         ensures small { IfSome self.new.newest (λ n. n < 2 ^ 62) }
     {
+        let newest = self.newest();
         let read = match read_datagram(datagram) {
             Ok(read) => read,
             Err(field) => return Taken::Refused(field),
@@ -130,15 +133,23 @@ impl Collector {
         let Some(number) = self.number_in_time(read.sequence) else {
             return Taken::Late;
         };
-        let answer = answer_for(fragments_of(&self.packets, number), read.head);
-        if answer != Taken::Kept {
-            return answer;
+        match answer_for(fragments_of(&self.packets, number), read.head) {
+            Taken::Kept => {}
+            other => return other,
         }
-        if keep(self.alloc, &mut self.packets, number, read.head, read.payload).is_err() {
+        if keep(
+            self.alloc,
+            &mut self.packets,
+            number,
+            read.head,
+            read.payload,
+        )
+        .is_err()
+        {
             return Taken::NoMemory;
         }
         self.first = Some(self.first.unwrap_or(read.sequence));
-        self.newest = Some(newer_of(self.newest, number));
+        self.newest = Some(newer_of(newest, number));
         Taken::Kept
     }
 

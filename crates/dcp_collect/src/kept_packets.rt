@@ -1,8 +1,9 @@
 //! The packets of which fragments are kept, by their numbers.
 
-ghost use Rattle.std.specs.Prelude.{◌≡◌, ◌≢◌, ◌+◌, ◌*◌, ◌^◌, ◌<◌, ◌≤◌, ◌⊎◌, ◌==◌, not, ℕ, OnOk, OnErr, Contains, length};
+ghost use Rattle.std.specs.Prelude.{◌≡◌, ◌≢◌, ◌+◌, ◌*◌, ◌^◌, ◌<◌, ◌≤◌, ◌⊎◌, ◌==◌, not, ℕ, None, OnOk, OnErr, Contains, length};
 ghost use Rattle.std.specs.List.{filter};
-ghost use Rattle.std.specs.BTreeMap.{keys};
+ghost use Rattle.std.specs.Ordering.{nat_cmp};
+ghost use Rattle.std.specs.BTreeMap.{get, keys};
 ghost use Rattle.drm_bits.specs.Bits.{IsBytes};
 ghost use Rattle.dcp_collect.specs.declared.taken.Taken.TheVariants.{Kept as ToKeep};
 ghost use Rattle.dcp_collect.specs.Fragments.{of_packet};
@@ -23,6 +24,7 @@ pub(crate) fn fragments_of(packets: &Packets, number: u64) -> &[KeptFragment]
     ensures those { fragments number result.now ≡ of_packet number (all_fragments packets.now.entries) }
     ensures kept { AreKept result.now }
     ensures small { 0 < length result.now → number < 2 ^ 62 }
+    ensures few { length result.now ≤ 1024 }
 {
     match packets.get(&number) {
         Some(packet) => &packet.fragments,
@@ -89,7 +91,7 @@ fn put_first(
     requires packets { ArePackets packets.old }
     requires number { number < 2 ^ 62 }
     requires fragment { IsKept fragment }
-    requires first { Contains (keys packets.old) number → ⊥ }
+    requires first { get nat_cmp packets.old number ≡ None }
     ensures kept { OnOk result (all_fragments packets.new.entries
         ≡ insert_kept (fragment_of number fragment) (all_fragments packets.old.entries)) }
     ensures unchanged { OnErr result (packets.new.entries ≡ packets.old.entries) }

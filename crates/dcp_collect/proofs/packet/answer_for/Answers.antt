@@ -1,6 +1,5 @@
-use Rattle.std.proofs.Common.{◌≡◌, ◌∙◌, sym, ap, true, false, None}
+use Rattle.std.proofs.Common.{◌∙◌, sym, ap, None}
 use Rattle.dcp_collect.specs.State.{answer_by}
-use Rattle.dcp_collect.specs.View.{fragments, index_is_kept}
 use Rattle.dcp_collect.proofs.KeptLemmas.{answer_odd, answer_even}
 use Rattle.dcp_collect.proofs.packet.answer_for.Goals as goal
 

@@ -1,6 +1,4 @@
-use Rattle.std.proofs.Common.{◌≡◌, ◌+◌, ◌≤◌, length, drop, ap, arith}
-use Rattle.dcp_collect.specs.State.{held}
-use Rattle.dcp_collect.specs.View.{fragments}
+use Rattle.std.proofs.Common.{◌+◌, ◌≤◌, length, ap, arith}
 use Rattle.dcp_collect.proofs.KeptLemmas.{few_bytes, one_more_fits}
 use Rattle.dcp_collect.proofs.packet.bytes_of.Goals as goal
 

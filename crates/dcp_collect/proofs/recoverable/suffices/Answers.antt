@@ -1,4 +1,4 @@
-use Rattle.std.proofs.Common.{◌≡◌, ◌∙◌, sym}
+use Rattle.std.proofs.Common.{◌∙◌, sym}
 use Rattle.dcp_collect.proofs.KeptIndices.{suffice_first}
 use Rattle.dcp_collect.proofs.recoverable.suffices.Goals as goal
 
