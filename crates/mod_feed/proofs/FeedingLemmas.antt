@@ -1,8 +1,7 @@
 -- A feed answers in one way, steps join, and what is told before items is what stands there.
-use Rattle.std.proofs.Common.{◌≡◌, ℕ, ◌<◌, List, [], ◌∷◌, ◌++◌, length, slice_get, suc, Option, Some, refl, sym, ap, ap₂, subst, ◌∙◌}
+use Rattle.std.proofs.Common.{◌≡◌, ℕ, ◌<◌, List, [], ◌∷◌, length, slice_get, suc, Option, Some, refl, sym, ap, ap₂, subst, ◌∙◌}
 use Rattle.dcp_collect.specs.Runs.{Item as Given}
 use Rattle.drm_timeline.specs.declared.tracker.Before.{Before}
-use Rattle.drm_timeline.specs.Switches.{StandsBefore}
 use Rattle.drm_timeline.specs.Tracker.{TrackerState, new_tracker, answered, answers}
 use Rattle.drm_timeline.proofs.TrackerLemmas.{tells_the_switches}
 use Rattle.mod_feed.specs.Items.{Item, seen_in}
@@ -55,8 +54,7 @@ pub feed_tells : FeedTellsTheSwitches
 feed_tells given steps after h k before =
     let told = told_is new_tracker after given steps h in
     let size = length-seen new_tracker after given steps h in
-    let law = tells_the_switches (all_seen steps) k before in
-    (
+    let law = tells_the_switches (all_seen steps) k before in (
       λ e.
           let stands = law.0 (subst (λ (bs : List (Option Before)). slice_get bs k ≡ Some before) told e) in
           (subst (λ (n : ℕ). k < n) size stands.0, stands.1),

@@ -1,14 +1,14 @@
 -- What a collector gives has one item; and a fault is one that reading can meet.
-use Rattle.std.proofs.Common.{◌≡◌, ℕ, List, inl, inr, refl, sym, ap, subst, ◌∙◌}
+use Rattle.std.proofs.Common.{◌≡◌, ℕ, List, sym, ap, subst, ◌∙◌}
 use Rattle.dcp_af.specs.Packet.{AfPacket, IsAf}
 use Rattle.dcp_af.proofs.Answered.{one_fault, no_fault, is_packet_at}
-use Rattle.dcp_collect.specs.Runs.{Item as Given, Packet, Lost, Damaged}
+use Rattle.dcp_collect.specs.Runs.{Packet, Lost, Damaged}
 use Rattle.mdi_items.specs.Frame.{Frame as MdiFrame}
 use Rattle.mdi_items.specs.Mdi.{IsMdi, IsMdiFault}
 use Rattle.mdi_items.proofs.MdiLemmas.{one_mdi, mdi_or_fault, one_mdi_fault}
 use Rattle.mod_feed.specs.declared.item.BadFault.{BadFault}
 use Rattle.mod_feed.specs.declared.item.BadFault.TheVariants.{Code, Af, Mdi}
-use Rattle.mod_feed.specs.Items.{Item, Frame, Missing, Bad, CarriesFrame, CarriesNone, IsItemOf}
+use Rattle.mod_feed.specs.Items.{Frame, Missing, Bad, CarriesFrame, CarriesNone}
 use Rattle.mod_feed.specs.Feeding.{IsOneItem}
 
 one_payload : (p q : AfPacket) (bytes : List ℕ) → IsAf p bytes → IsAf q bytes → q.payload ≡ p.payload
