@@ -1,0 +1,91 @@
+//! A step of a feed: an item, with the switch that stands before it.
+
+ghost use Rattle.std.specs.Prelude.{◌≡◌, OnOk, OnErr, IsErr};
+ghost use Rattle.drm_links.specs.Told.{HasCause};
+ghost use Rattle.drm_links.specs.Sink.{Outputs, IsFront};
+ghost use Rattle.drm_show.specs.Text.{text_of};
+ghost use Rattle.drm_show.specs.FaultWords.{HasWords};
+ghost use Rattle.drm_show.specs.Report.{before_line, missing_line, bad_line, item_line, step_text};
+ghost use Rattle.drm_show.specs.Printable.{IsPrintable};
+
+use crate::frame_line::write_frame;
+use crate::words::bad_words;
+use crate::{Piece, write_pieces};
+use drm_links::{Sink, WriteFault};
+use drm_timeline::Before;
+use mod_feed::{BadFault, FeedItem, Step};
+
+/// Writes the line of an item, behind that of the switch that stands before it.
+pub fn write_step<O: Sink>(out: &mut O, step: &Step<'_>) -> Result<(), WriteFault>
+    requires { IsPrintable step.now.item }
+    ensures whole { OnOk result (Outputs (O.tells out.old) (O.tells out.new) (λ text. text ≡ step_text step.now)) }
+    ensures front { OnErr result (Outputs (O.tells out.old) (O.tells out.new) (IsFront (step_text step.now))) }
+    ensures cause { HasCause (O.faults out.old) (O.faults out.new) (IsErr result) }
+{
+    write_before(out, step.before)?;
+    write_item(out, &step.item)
+}
+
+fn write_before<O: Sink>(out: &mut O, before: Option<Before>) -> Result<(), WriteFault>
+    ensures whole { OnOk result (Outputs (O.tells out.old) (O.tells out.new) (λ text. text ≡ before_line before)) }
+    ensures front { OnErr result (Outputs (O.tells out.old) (O.tells out.new) (IsFront (before_line before))) }
+    ensures cause { HasCause (O.faults out.old) (O.faults out.new) (IsErr result) }
+{
+    let (word, frame) = match before {
+        None => return Ok(()),
+        Some(Before::Switch(frame)) => ("switch ", frame),
+        Some(Before::Resumed(frame)) => ("resumed ", frame),
+    };
+    write_pieces(
+        out,
+        &[
+            Piece::Words(word),
+            Piece::Number(frame),
+            Piece::Words("\n"),
+        ],
+    )
+}
+
+fn write_item<O: Sink>(out: &mut O, item: &FeedItem<'_>) -> Result<(), WriteFault>
+    requires { IsPrintable item.now }
+    ensures whole { OnOk result (Outputs (O.tells out.old) (O.tells out.new) (λ text. text ≡ item_line item.now)) }
+    ensures front { OnErr result (Outputs (O.tells out.old) (O.tells out.new) (IsFront (item_line item.now))) }
+    ensures cause { HasCause (O.faults out.old) (O.faults out.new) (IsErr result) }
+{
+    match item {
+        FeedItem::Frame { index, view } => write_frame(out, *index, view),
+        FeedItem::Missing { index, had, of } => {
+            write_pieces(out, &missing_pieces(*index, *had, *of))
+        }
+        FeedItem::Bad { index, fault } => write_pieces(out, &bad_pieces(*index, *fault)),
+    }
+}
+
+fn missing_pieces(index: u64, had: u32, of_all: u32) -> [Piece<'static>; 7]
+    ensures { text_of result ≡ missing_line index had of_all }
+{
+    [
+        Piece::Words("missing "),
+        Piece::Number(index),
+        Piece::Words(" had "),
+        Piece::Number(u64::from(had)),
+        Piece::Words(" of "),
+        Piece::Number(u64::from(of_all)),
+        Piece::Words("\n"),
+    ]
+}
+
+fn bad_pieces(index: u64, fault: BadFault) -> [Piece<'static>; 6]
+    requires { HasWords fault }
+    ensures { text_of result ≡ bad_line index fault }
+{
+    let words = bad_words(fault);
+    [
+        Piece::Words("bad "),
+        Piece::Number(index),
+        Piece::Words(" "),
+        words.0,
+        words.1,
+        Piece::Words("\n"),
+    ]
+}
