@@ -1,5 +1,5 @@
 -- The multiplex frame has as many bytes as are described, and is written byte by byte.
-use Rattle.std.proofs.Common.{◌≡◌, ℕ, suc, ◌+◌, ◌<◌, ◌≤◌, List, [], ◌∷◌, ◌++◌, length, take, drop, get_or, Option, refl, sym, ◌∙◌, ap, append-nil, arith, length-append, length-drop}
+use Rattle.std.proofs.Common.{◌≡◌, ℕ, suc, ◌+◌, ◌<◌, ◌≤◌, List, [], ◌∷◌, ◌++◌, length, take, drop, get_or, Option, Result, OnOk, OnErr, refl, sym, ◌∙◌, ap, append-nil, arith, length-append, length-drop}
 use Rattle.std.specs.Prelude.{codes}
 use Rattle.std.specs.List.{sum_by, flat_map}
 use Rattle.std.proofs.lemmas.List.{length-take-le, take_all, take_more}
@@ -12,7 +12,7 @@ use Rattle.drm_links.proofs.ToldLemmas.{Outputs-then, Outputs-weaker}
 use Rattle.drm_mux.specs.Frame.{parts_a, parts_b, pieces, part_length, frame_length}
 use Rattle.drm_mux.proofs.PartLemmas.{no_part}
 use Rattle.drm_mux.proofs.RangeLemmas.{covers}
-use Rattle.mdi_items.specs.declared.view.MdiView.{MdiView}
+use Rattle.mdi_items.specs.Frame.{Frame}
 use Rattle.drm_show.specs.FrameLine.{IsWhole, frame_bytes, bytes_text}
 use Rattle.drm_show.proofs.TextLemmas.{encode_lower-is, front_of_next}
 
@@ -33,13 +33,13 @@ length-parts (p ∷ parts) (at ∷ places) (len ∷ lens) buffer same_p same_l f
     length-parts parts places lens buffer (omega (arith, same_p)) (omega (arith, same_l)) (λ k below. fit (suc k) (omega (arith, below))) (λ k below. inside (suc k) (omega (arith, below))) in
     omega (arith, length-append (take p.a stream) (parts_a parts (pieces buffer places lens)), length-append (take p.b (drop p.a stream)) (parts_b parts (pieces buffer places lens)), a, b, rest, sum_by-cons part_length p parts)
 
-pub length-frame : (v : MdiView) → length v.streams.at ≡ 4 → length v.streams.len ≡ 4 → IsWhole v → length (frame_bytes v) ≡ frame_length v.mux
-length-frame v size_at size_len is =
-    let streams : List (List ℕ) = pieces v.payload.now v.streams.at v.streams.len in
-    let four : length v.mux.parts ≡ 4 = is.description.size in
-    length-append (parts_a v.mux.parts streams) (parts_b v.mux.parts streams)
-    ∙ length-parts v.mux.parts v.streams.at v.streams.len v.payload.now (four ∙ sym size_at) (four ∙ sym size_len)
-    (λ k below. covers v.mux v.streams is.description is.lengths k (omega (arith, below, four)))
+pub length-frame : (frame : Frame) (payload : List ℕ) → length frame.streams.at ≡ 4 → length frame.streams.len ≡ 4 → IsWhole frame payload → length (frame_bytes frame payload) ≡ frame_length frame.mux
+length-frame frame payload size_at size_len is =
+    let streams : List (List ℕ) = pieces payload frame.streams.at frame.streams.len in
+    let four : length frame.mux.parts ≡ 4 = is.description.size in
+    length-append (parts_a frame.mux.parts streams) (parts_b frame.mux.parts streams)
+    ∙ length-parts frame.mux.parts frame.streams.at frame.streams.len payload (four ∙ sym size_at) (four ∙ sym size_len)
+    (λ k below. covers frame.mux frame.streams is.description is.lengths k (omega (arith, below, four)))
     (λ k below. is.inside k (omega (arith, below, four)))
 
 -- ---- the text of bytes
@@ -48,9 +48,14 @@ pub some_bytes : (bytes : List ℕ) → 0 < length bytes → bytes_text bytes �
 some_bytes [] some = absurd (omega (arith, some))
 some_bytes (b ∷ bytes) some = refl
 
-pub no_bytes : (bytes : List ℕ) → length bytes ≡ 0 → codes "-" ≡ bytes_text bytes
-no_bytes [] none = refl
-no_bytes (b ∷ bytes) none = absurd (omega (arith, none))
+-- without bytes a dash is written
+pub dash_whole : {E : Type 0} (bytes : List ℕ) (a b : Option Output) (r : Result (Unit {0}) E) → length bytes ≡ 0 → OnOk r (Outputs a b (λ text. text ≡ codes "-")) → OnOk r (Outputs a b (λ text. text ≡ bytes_text bytes))
+dash_whole [] a b r none written = written
+dash_whole (x ∷ bytes) a b r none written = absurd (omega (arith, none))
+
+pub dash_front : {E : Type 0} (bytes : List ℕ) (a b : Option Output) (r : Result (Unit {0}) E) → length bytes ≡ 0 → OnErr r (Outputs a b (IsFront (codes "-"))) → OnErr r (Outputs a b (IsFront (bytes_text bytes)))
+dash_front [] a b r none written = written
+dash_front (x ∷ bytes) a b r none written = absurd (omega (arith, none))
 
 -- one byte more
 pub byte_more : (bytes : List ℕ) (place byte : ℕ) (a b c : Option Output) → place < length bytes → byte ≡ get_or bytes place 0

@@ -95,9 +95,3 @@ IsTold (taken.Refused (field.Pft pft.Sync)) = ⊥
 IsTold (taken.Refused cause) = Unit {0}
 IsTold (taken.Inconsistent kept came) = Unit {0}
 IsTold _ = ⊥
-
--- A fault of a packet has words.
-abbrev pub HasWords : BadFault → Type 0
-HasWords (bad.Mdi (mdi.Mux (mux.FrameLength stands described))) = ⊥
-HasWords (bad.Mdi (mdi.Sdc sdc.NoMemory)) = ⊥
-HasWords cause = Unit {0}

@@ -12,16 +12,16 @@ use Rattle.drm_schedule.specs.declared.config.Mode.{Mode}
 use Rattle.drm_schedule.specs.declared.config.Mode.TheVariants.{A, B, C, D}
 use Rattle.dcp_tag.specs.Tag.{bytes_for}
 use Rattle.mdi_items.specs.declared.view.SdcSpan.{SdcSpan}
-use Rattle.mdi_items.specs.declared.view.MdiView.{MdiView}
+use Rattle.mdi_items.specs.Frame.{Frame}
 use Rattle.drm_show.specs.HexBits.{hex_of_bits}
 
 -- The pieces of a frame lie in its payload, and each described stream has its length.
-pub record IsWhole (v : MdiView) : Type 0 where
-  pub description : IsDescription v.mux
-  pub mux_fits : FitsWidths v.mux
-  pub lengths : HaveTheirLengths v.mux v.streams
-  pub inside : EndBy (length v.payload.now) v.streams
-  pub block_inside : IfSome v.sdc (λ s. s.at + bytes_for s.bits ≤ length v.payload.now)
+pub record IsWhole (frame : Frame) (payload : List ℕ) : Type 0 where
+  pub description : IsDescription frame.mux
+  pub mux_fits : FitsWidths frame.mux
+  pub lengths : HaveTheirLengths frame.mux frame.streams
+  pub inside : EndBy (length payload) frame.streams
+  pub block_inside : IfSome frame.sdc (λ s. s.at + bytes_for s.bits ≤ length payload)
 
 abbrev pub mode_letter : Mode → List ℕ
 mode_letter A = codes "A"
@@ -50,12 +50,12 @@ bytes_text [] = codes "-"
 bytes_text bytes = encode_lower bytes
 
 -- the multiplex frame of the streams in the payload
-abbrev pub frame_bytes : MdiView → List ℕ
-frame_bytes v = multiplex_frame v.mux (streams_in v.payload.now v.streams)
+abbrev pub frame_bytes : Frame → List ℕ → List ℕ
+frame_bytes frame payload = multiplex_frame frame.mux (streams_in payload frame.streams)
 
-abbrev pub frame_line : ℕ → MdiView → List ℕ
-frame_line index v =
+abbrev pub frame_line : ℕ → Frame → List ℕ → List ℕ
+frame_line index frame payload =
     concat (
-    codes "frame " ∷ decimal index ∷ codes " dlfc " ∷ decimal v.dlfc ∷ codes " mode " ∷ mode_letter v.mode
-    ∷ codes " fac " ∷ encode_lower v.fac_bytes ∷ codes " sdc " ∷ block_text v.payload.now v.sdc
-    ∷ codes " mux " ∷ description_text v.mux ∷ codes " msc " ∷ bytes_text (frame_bytes v) ∷ codes "\n" ∷ [])
+    codes "frame " ∷ decimal index ∷ codes " dlfc " ∷ decimal frame.dlfc ∷ codes " mode " ∷ mode_letter frame.mode
+    ∷ codes " fac " ∷ encode_lower frame.fac_bytes ∷ codes " sdc " ∷ block_text payload frame.sdc
+    ∷ codes " mux " ∷ description_text frame.mux ∷ codes " msc " ∷ bytes_text (frame_bytes frame payload) ∷ codes "\n" ∷ [])

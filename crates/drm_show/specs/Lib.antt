@@ -5,4 +5,3 @@ pub mod FaultWords
 pub mod FrameLine
 pub mod FrameParts
 pub mod Report
-pub mod Printable

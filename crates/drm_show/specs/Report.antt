@@ -5,9 +5,8 @@ use Rattle.dcp_collect.specs.declared.taken.Taken.{Taken}
 use Rattle.drm_timeline.specs.declared.tracker.Before.{Before}
 use Rattle.drm_timeline.specs.declared.tracker.Before.TheVariants.{Switch, Resumed}
 use Rattle.mod_feed.specs.declared.item.BadFault.{BadFault}
-use Rattle.mod_feed.specs.declared.item.FeedItem.{FeedItem}
-use Rattle.mod_feed.specs.declared.item.FeedItem.TheVariants.{Frame, Missing, Bad}
-use Rattle.mod_feed.specs.declared.feed.Step.{Step}
+use Rattle.mod_feed.specs.Items.{Item, Frame, Missing, Bad}
+use Rattle.mod_feed.specs.Feeding.{FeedStep}
 use Rattle.drm_show.specs.declared.report.EndWord.{EndWord}
 use Rattle.drm_show.specs.declared.report.EndWord.TheVariants.{Frames, Limit, Idle, Input, Paths}
 use Rattle.drm_show.specs.declared.report.Sums.{Sums}
@@ -25,19 +24,19 @@ before_line (Some (Switch frame)) = concat (codes "switch " ∷ decimal frame �
 before_line (Some (Resumed frame)) = concat (codes "resumed " ∷ decimal frame ∷ codes "\n" ∷ [])
 
 abbrev pub missing_line : ℕ → ℕ → ℕ → List ℕ
-missing_line index had of_all = concat (codes "missing " ∷ decimal index ∷ codes " had " ∷ decimal had ∷ codes " of " ∷ decimal of_all ∷ codes "\n" ∷ [])
+missing_line index had total = concat (codes "missing " ∷ decimal index ∷ codes " had " ∷ decimal had ∷ codes " of " ∷ decimal total ∷ codes "\n" ∷ [])
 
 abbrev pub bad_line : ℕ → BadFault → List ℕ
 bad_line index fault = concat (codes "bad " ∷ decimal index ∷ codes " " ∷ bad_words fault ∷ codes "\n" ∷ [])
 
 -- the line of an item
-abbrev pub item_line : FeedItem → List ℕ
-item_line (Frame index view) = frame_line index view
-item_line (Missing index had of_all) = missing_line index had of_all
+abbrev pub item_line : Item → List ℕ
+item_line (Frame index frame payload) = frame_line index frame payload
+item_line (Missing index had total) = missing_line index had total
 item_line (Bad index fault) = bad_line index fault
 
--- what stands before an item, and its line
-abbrev pub step_text : Step → List ℕ
+-- what stands before an item, and then its line
+abbrev pub step_text : FeedStep → List ℕ
 step_text step = before_line step.before ++ item_line step.item
 
 -- the line of datagram n, which is told of

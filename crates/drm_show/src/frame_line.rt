@@ -4,10 +4,13 @@ ghost use Rattle.std.specs.Prelude.{◌≡◌, OnOk, OnErr, IsErr};
 ghost use Rattle.std.specs.List.{flat_map};
 ghost use Rattle.drm_links.specs.Told.{HasCause};
 ghost use Rattle.drm_links.specs.Sink.{Outputs, IsFront};
+ghost use Rattle.mdi_items.specs.Frame.{frame_of};
 ghost use Rattle.drm_show.specs.FrameLine.{IsWhole, mode_letter, frame_line};
 ghost use Rattle.drm_show.specs.FrameParts.{part_text};
 
 use crate::Piece;
+use Part::Text;
+use Piece::{Hex, Number, Words};
 use crate::block::write_block;
 use crate::description::write_description;
 use crate::output::write_piece;
@@ -22,9 +25,9 @@ pub(crate) fn write_frame<O: Sink>(
     index: u64,
     view: &MdiView<'_>,
 ) -> Result<(), WriteFault>
-    requires { IsWhole view.now }
-    ensures whole { OnOk result (Outputs (O.tells out.old) (O.tells out.new) (λ text. text ≡ frame_line index view.now)) }
-    ensures front { OnErr result (Outputs (O.tells out.old) (O.tells out.new) (IsFront (frame_line index view.now))) }
+    requires { IsWhole (frame_of view.now) view.now.payload.now }
+    ensures whole { OnOk result (Outputs (O.tells out.old) (O.tells out.new) (λ text. text ≡ frame_line index (frame_of view.now) view.now.payload.now)) }
+    ensures front { OnErr result (Outputs (O.tells out.old) (O.tells out.new) (IsFront (frame_line index (frame_of view.now) view.now.payload.now))) }
     ensures cause { HasCause (O.faults out.old) (O.faults out.new) (IsErr result) }
 {
     write_parts(out, view, &parts(index, view))
@@ -42,37 +45,26 @@ pub(crate) enum Part<'a> {
 const PARTS: usize = 15;
 
 fn parts<'a>(index: u64, view: &'a MdiView<'_>) -> [Part<'a>; PARTS]
-    ensures { flat_map (part_text view.now) result ≡ frame_line index view.now }
+    ensures { flat_map (part_text (frame_of view.now) view.now.payload.now) result
+        ≡ frame_line index (frame_of view.now) view.now.payload.now }
 {
     [
-        words("frame "),
-        number(index),
-        words(" dlfc "),
-        number(u64::from(view.dlfc)),
-        words(" mode "),
-        words(mode_letter(view.mode)),
-        words(" fac "),
-        Part::Text(Piece::Hex(&view.fac_bytes)),
-        words(" sdc "),
+        Text(Words("frame ")),
+        Text(Number(index)),
+        Text(Words(" dlfc ")),
+        Text(Number(u64::from(view.dlfc))),
+        Text(Words(" mode ")),
+        Text(Words(mode_letter(view.mode))),
+        Text(Words(" fac ")),
+        Text(Hex(&view.fac_bytes)),
+        Text(Words(" sdc ")),
         Part::Block,
-        words(" mux "),
+        Text(Words(" mux ")),
         Part::Description,
-        words(" msc "),
+        Text(Words(" msc ")),
         Part::Streams,
-        words("\n"),
+        Text(Words("\n")),
     ]
-}
-
-fn words(text: &str) -> Part<'_>
-    ensures { result ≡ Part.Text (Piece.Words text) }
-{
-    Part::Text(Piece::Words(text))
-}
-
-fn number<'a>(n: u64) -> Part<'a>
-    ensures { result ≡ Part.Text (Piece.Number n) }
-{
-    Part::Text(Piece::Number(n))
 }
 
 fn mode_letter(mode: Mode) -> &'static str
@@ -92,11 +84,11 @@ fn write_parts<O: Sink>(
     view: &MdiView<'_>,
     parts: &[Part<'_>],
 ) -> Result<(), WriteFault>
-    requires { IsWhole view.now }
+    requires { IsWhole (frame_of view.now) view.now.payload.now }
     ensures whole { OnOk result (Outputs (O.tells out.old) (O.tells out.new)
-        (λ text. text ≡ flat_map (part_text view.now) parts.now)) }
+        (λ text. text ≡ flat_map (part_text (frame_of view.now) view.now.payload.now) parts.now)) }
     ensures front { OnErr result (Outputs (O.tells out.old) (O.tells out.new)
-        (IsFront (flat_map (part_text view.now) parts.now))) }
+        (IsFront (flat_map (part_text (frame_of view.now) view.now.payload.now) parts.now))) }
     ensures cause { HasCause (O.faults out.old) (O.faults out.new) (IsErr result) }
 {
     for part in parts {
@@ -110,11 +102,11 @@ fn write_part<O: Sink>(
     view: &MdiView<'_>,
     part: Part<'_>,
 ) -> Result<(), WriteFault>
-    requires { IsWhole view.now }
+    requires { IsWhole (frame_of view.now) view.now.payload.now }
     ensures whole { OnOk result (Outputs (O.tells out.old) (O.tells out.new)
-        (λ text. text ≡ part_text view.now part.entry)) }
+        (λ text. text ≡ part_text (frame_of view.now) view.now.payload.now part.entry)) }
     ensures front { OnErr result (Outputs (O.tells out.old) (O.tells out.new)
-        (IsFront (part_text view.now part.entry))) }
+        (IsFront (part_text (frame_of view.now) view.now.payload.now part.entry))) }
     ensures cause { HasCause (O.faults out.old) (O.faults out.new) (IsErr result) }
 {
     match part {

@@ -1,8 +1,8 @@
 //! The printed lines. Payloads were packed, and lines written, by a program in Python.
 
 ghost use Rattle.std.specs.Prelude.{IsTrue};
-ghost use Rattle.drm_show.specs.FaultWords.{IsTold, HasWords};
-ghost use Rattle.drm_show.specs.Printable.{IsPrintable};
+ghost use Rattle.mod_feed.specs.Items.{IsOfReading};
+ghost use Rattle.drm_show.specs.FaultWords.{IsTold};
 
 use crate::{EndWord, Sums, write_end, write_feed, write_refused, write_step};
 use dcp_af::AfFault;
@@ -59,21 +59,6 @@ const NO_STREAM: [u8; 63] = [
     0x69, 0x00, 0x00, 0x00, 0x08, 0x01, 0x72, 0x6f, 0x62, 0x6d, 0x00, 0x00, 0x00, 0x08, 0x00,
 ];
 
-fn step_prints<R: Abort + AllocGlobal>(
-    rt: &R,
-    before: Option<Before>,
-    item: FeedItem<'_>,
-    text: &str,
-) -> Result<(), Fail>
-    requires { IsPrintable item }
-{
-    let mut out = MemSink::make(rt.alloc(), 1000, &[], 7)?;
-    let step = Step { before, item };
-    assert_eq!(rt; write_step(&mut out, &step), Ok(()));
-    assert_eq!(rt; out.bytes(), text.as_bytes());
-    Ok(())
-}
-
 fn frame_prints<R: Abort + AllocGlobal>(
     rt: &R,
     before: Option<Before>,
@@ -82,7 +67,11 @@ fn frame_prints<R: Abort + AllocGlobal>(
     text: &str,
 ) -> Result<(), Fail> {
     let view = read_mdi(payload).expect(rt, "a frame");
-    step_prints(rt, before, FeedItem::Frame { index, view }, text)
+    let item = FeedItem::Frame { index, view };
+    let mut out = MemSink::make(rt.alloc(), 1000, &[], 7)?;
+    assert_eq!(rt; write_step(&mut out, &Step { before, item }), Ok(()));
+    assert_eq!(rt; out.bytes(), text.as_bytes());
+    Ok(())
 }
 
 #[test]
@@ -108,19 +97,21 @@ fn prints_frames(rt: HostRuntime) -> Result<(), Fail> {
 
 #[test]
 fn prints_missing_packets(rt: HostRuntime) -> Result<(), Fail> {
-    let missing = FeedItem::Missing {
-        index: 1,
-        had: 5,
-        of: 9,
-    };
-    step_prints(&rt, None, missing, "missing 1 had 5 of 9\n")?;
-    let missing = FeedItem::Missing {
-        index: 15,
-        had: 0,
-        of: 0,
-    };
-    let before = Some(Before::Switch(15));
-    step_prints(&rt, before, missing, "switch 15\nmissing 15 had 0 of 0\n")
+    let cases = [
+        (None, (1, 5, 9), "missing 1 had 5 of 9\n"),
+        (
+            Some(Before::Switch(15)),
+            (15, 0, 0),
+            "switch 15\nmissing 15 had 0 of 0\n",
+        ),
+    ];
+    for (before, (index, had, of), text) in cases {
+        let item = FeedItem::Missing { index, had, of };
+        let mut out = MemSink::make(rt.alloc(), 100, &[], 7)?;
+        assert_eq!(rt; write_step(&mut out, &Step { before, item }), Ok(()));
+        assert_eq!(rt; out.bytes(), text.as_bytes());
+    }
+    Ok(())
 }
 
 #[test]
@@ -154,9 +145,9 @@ end paths given 1 missing 5 bad 0 refused 18446744073709551615
     Ok(())
 }
 
-// Whether there are words for the fault.
-fn has_words(fault: BadFault) -> bool
-    ensures { IsTrue result → HasWords fault }
+// Whether reading can meet the fault.
+fn is_of_reading(fault: BadFault) -> bool
+    ensures { IsTrue result → IsOfReading fault }
 {
     match fault {
         BadFault::Mdi(MdiFault::Mux(MuxFault::FrameLength { .. })) => false,
@@ -196,9 +187,13 @@ fn names_what_is_wrong_with_a_packet(rt: HostRuntime) -> Result<(), Fail> {
         (sdc(SdcFault::LabelText { at: 0 }), "sdc label-text"),
     ];
     for (fault, words) in cases {
-        assert!(rt; has_words(fault));
+        assert!(rt; is_of_reading(fault));
+        let item = FeedItem::Bad { index: 0, fault };
+        let mut out = MemSink::make(rt.alloc(), 100, &[], 7)?;
+        let step = Step { before: None, item };
+        assert_eq!(rt; write_step(&mut out, &step), Ok(()));
         let line = format!(in rt.alloc(); "bad 0 {words}\n")?;
-        step_prints(&rt, None, FeedItem::Bad { index: 0, fault }, &line)?;
+        assert_eq!(rt; out.bytes(), line.as_bytes());
     }
     Ok(())
 }

@@ -1,8 +1,9 @@
 //! The words for what is wrong: a layer, and a field of it.
 
-ghost use Rattle.std.specs.Prelude.{◌≡◌, ◌++◌};
+ghost use Rattle.std.specs.Prelude.{◌≡◌, ◌≢◌, ◌++◌};
 ghost use Rattle.drm_show.specs.Text.{piece_text};
-ghost use Rattle.drm_show.specs.FaultWords.{af_words, pft_words, sdc_words, mux_words, mdi_words, bad_words, field_words, taken_words, IsTold, HasWords};
+ghost use Rattle.drm_show.specs.FaultWords.{af_words, pft_words, sdc_words, mux_words, mdi_words, bad_words, field_words, taken_words, IsTold};
+ghost use Rattle.mod_feed.specs.Items.{IsOfReading};
 ghost use Rattle.dcp_pft.specs.declared.fault.PftFault.TheVariants as pft;
 ghost use Rattle.drm_sdc.specs.declared.fault.SdcFault.TheVariants as sdc;
 
@@ -20,7 +21,7 @@ pub(crate) type FaultWords = (Piece<'static>, Piece<'static>);
 
 /// The words for a packet that is no frame.
 pub(crate) fn bad_words(fault: BadFault) -> FaultWords
-    requires { HasWords fault }
+    requires { IsOfReading fault }
     ensures { piece_text result.0 ++ piece_text result.1 ≡ bad_words fault }
 {
     match fault {
@@ -99,7 +100,7 @@ fn pft_words(fault: PftFault) -> &'static str
 }
 
 fn mdi_words(fault: MdiFault) -> FaultWords
-    requires { HasWords (BadFault.Mdi fault) }
+    requires { IsOfReading (BadFault.Mdi fault) }
     ensures { piece_text result.0 ++ piece_text result.1 ≡ mdi_words fault }
 {
     match fault {
@@ -117,7 +118,7 @@ fn mdi_words(fault: MdiFault) -> FaultWords
 }
 
 fn mux_words(fault: MuxFault) -> FaultWords
-    requires { HasWords (BadFault.Mdi (MdiFault.Mux fault)) }
+    requires { IsOfReading (BadFault.Mdi (MdiFault.Mux fault)) }
     ensures { piece_text result.0 ++ piece_text result.1 ≡ mux_words fault }
 {
     match fault {
