@@ -4,6 +4,12 @@
 
 mod feed;
 mod item;
+mod laws;
+mod read;
+mod shown;
+#[cfg(test)]
+mod tests;
 
 pub use feed::{Feed, Step};
 pub use item::{BadFault, FeedItem};
+pub use laws::{feeding_joins, one_feeding, one_item, the_feed_tells_the_switches};

@@ -1,0 +1,65 @@
+-- A feed over what a collector gives. A feed is seen as its tracker.
+use Rattle.std.specs.Prelude.{ℕ, ◌≡◌, ◌<◌, ◌↔◌, List, [], ◌∷◌, ◌++◌, map, length, slice_get, Option, Some}
+use Rattle.dcp_collect.specs.Runs.{Item as Given}
+use Rattle.drm_timeline.specs.declared.seen.Seen.{Seen}
+use Rattle.drm_timeline.specs.declared.tracker.Before.{Before}
+use Rattle.drm_timeline.specs.Switches.{StandsBefore}
+use Rattle.drm_timeline.specs.Tracker.{TrackerState, new_tracker, answered, stepped}
+use Rattle.mod_feed.specs.declared.feed.Step.{Step}
+use Rattle.mod_feed.specs.Items.{Item, item_of, IsItemOf, number_of, seen_in}
+
+-- a step as data: an item, and what stands before it
+pub record FeedStep : Type 0 where
+  pub before : Option Before
+  pub item : Item
+
+abbrev pub step_of : Step → FeedStep
+step_of step = record { before = step.before; item = item_of step.item }
+
+-- what a feed answers to what a collector gives, whose number is that of the feed's earlier steps
+pub record IsStep (feed : TrackerState) (given : Given) (step : FeedStep) : Type 0 where
+  pub in_order : number_of given ≡ feed.calls
+  pub item : IsItemOf given step.item
+  pub before : step.before ≡ answered feed (seen_in step.item)
+
+-- the feed after a step
+abbrev pub after_step : TrackerState → FeedStep → TrackerState
+after_step feed step = stepped feed (seen_in step.item)
+
+-- a feed answers one after another by these steps, and is then left so
+abbrev pub Feeds : TrackerState → List Given → List FeedStep → TrackerState → Type 0
+Feeds feed [] [] after = after ≡ feed
+Feeds feed [] (step ∷ steps) after = ⊥
+Feeds feed (given ∷ more) [] after = ⊥
+Feeds feed (given ∷ more) (step ∷ steps) after = IsStep feed given step × Feeds (after_step feed step) more steps after
+
+-- what stands before the items, and what was seen in them
+abbrev pub told_before : List FeedStep → List (Option Before)
+told_before steps = map (λ step. step.before) steps
+
+abbrev pub all_seen : List FeedStep → List (Option Seen)
+all_seen steps = map (λ step. seen_in step.item) steps
+
+-- What a collector gives has one item.
+abbrev pub IsOneItem : Type 0
+IsOneItem = (given : Given) (item other : Item) → IsItemOf given item → IsItemOf given other → other ≡ item
+
+-- A feed answers in one way.
+abbrev pub IsOneFeeding : Type 0
+IsOneFeeding =
+    (feed after after' : TrackerState) (given : List Given) (steps steps' : List FeedStep)
+    → Feeds feed given steps after → Feeds feed given steps' after' → (steps' ≡ steps) × (after' ≡ after)
+
+-- Steps one after another are steps.
+abbrev pub FeedingJoins : Type 0
+FeedingJoins =
+    (feed mid after : TrackerState) (given more : List Given) (steps later : List FeedStep)
+    → Feeds feed given steps mid → Feeds mid more later after → Feeds feed (given ++ more) (steps ++ later) after
+
+-- Whatever a new feed is given, what it tells before item k is what stands there in the list of all that was seen, and
+-- nothing else.
+abbrev pub FeedTellsTheSwitches : Type 0
+FeedTellsTheSwitches =
+    (given : List Given) (steps : List FeedStep) (after : TrackerState) → Feeds new_tracker given steps after
+    → (k : ℕ) (before : Option Before)
+    → (slice_get (told_before steps) k ≡ Some before) ↔ ((k < length given) × StandsBefore (all_seen steps) k before)
