@@ -6,14 +6,16 @@ use Rattle.std.proofs.lemmas.List.{length-take-le, take_all, take_more}
 use Rattle.std.proofs.lemmas.List.Sums.{sum_by-cons}
 use Rattle.std.proofs.lemmas.Grind.{flat_map-append}
 use Rattle.hex.specs.Hex.{encode_lower}
+use Rattle.drm_bits.specs.Description.{IsDescription}
 use Rattle.drm_bits.specs.declared.description.Part.{Part}
+use Rattle.drm_bits.specs.declared.description.MuxDesc.{MuxDesc}
 use Rattle.drm_links.specs.Sink.{Output, Outputs, IsFront}
 use Rattle.drm_links.proofs.ToldLemmas.{Outputs-then, Outputs-weaker}
-use Rattle.drm_mux.specs.Frame.{parts_a, parts_b, pieces, part_length, frame_length}
+use Rattle.drm_mux.specs.declared.frame.Spans.{Spans}
+use Rattle.drm_mux.specs.Frame.{parts_a, parts_b, multiplex_frame, pieces, streams_in, part_length, frame_length, HaveTheirLengths, EndBy}
 use Rattle.drm_mux.proofs.PartLemmas.{no_part}
 use Rattle.drm_mux.proofs.RangeLemmas.{covers}
-use Rattle.mdi_items.specs.Frame.{Frame}
-use Rattle.drm_show.specs.FrameLine.{IsWhole, frame_bytes, bytes_text}
+use Rattle.drm_show.specs.FrameLine.{bytes_text}
 use Rattle.drm_show.proofs.TextLemmas.{encode_lower-is, front_of_next}
 
 length-parts : (parts : List Part) (places lens buffer : List ℕ) → length parts ≡ length places → length parts ≡ length lens
@@ -33,14 +35,15 @@ length-parts (p ∷ parts) (at ∷ places) (len ∷ lens) buffer same_p same_l f
     length-parts parts places lens buffer (omega (arith, same_p)) (omega (arith, same_l)) (λ k below. fit (suc k) (omega (arith, below))) (λ k below. inside (suc k) (omega (arith, below))) in
     omega (arith, length-append (take p.a stream) (parts_a parts (pieces buffer places lens)), length-append (take p.b (drop p.a stream)) (parts_b parts (pieces buffer places lens)), a, b, rest, sum_by-cons part_length p parts)
 
-pub length-frame : (frame : Frame) (payload : List ℕ) → length frame.streams.at ≡ 4 → length frame.streams.len ≡ 4 → IsWhole frame payload → length (frame_bytes frame payload) ≡ frame_length frame.mux
-length-frame frame payload size_at size_len is =
-    let streams : List (List ℕ) = pieces payload frame.streams.at frame.streams.len in
-    let four : length frame.mux.parts ≡ 4 = is.description.size in
-    length-append (parts_a frame.mux.parts streams) (parts_b frame.mux.parts streams)
-    ∙ length-parts frame.mux.parts frame.streams.at frame.streams.len payload (four ∙ sym size_at) (four ∙ sym size_len)
-    (λ k below. covers frame.mux frame.streams is.description is.lengths k (omega (arith, below, four)))
-    (λ k below. is.inside k (omega (arith, below, four)))
+pub length-frame : (mux : MuxDesc) (streams : Spans) (payload : List ℕ) → length streams.at ≡ 4 → length streams.len ≡ 4 → IsDescription mux → HaveTheirLengths mux streams → EndBy (length payload) streams
+    → length (multiplex_frame mux (streams_in payload streams)) ≡ frame_length mux
+length-frame mux streams payload size_at size_len is lengths inside =
+    let lent : List (List ℕ) = pieces payload streams.at streams.len in
+    let four : length mux.parts ≡ 4 = is.size in
+    length-append (parts_a mux.parts lent) (parts_b mux.parts lent)
+    ∙ length-parts mux.parts streams.at streams.len payload (four ∙ sym size_at) (four ∙ sym size_len)
+    (λ k below. covers mux streams is lengths k (omega (arith, below, four)))
+    (λ k below. inside k (omega (arith, below, four)))
 
 -- ---- the text of bytes
 

@@ -9,12 +9,12 @@ ghost use Rattle.drm_show.specs.FrameLine.{IsWhole, mode_letter, frame_line};
 ghost use Rattle.drm_show.specs.FrameParts.{part_text};
 
 use crate::Piece;
-use Part::Text;
-use Piece::{Hex, Number, Words};
 use crate::block::write_block;
 use crate::description::write_description;
 use crate::output::write_piece;
 use crate::streams::write_streams;
+use Part::Text;
+use Piece::{Hex, Number, Words};
 use drm_links::{Sink, WriteFault};
 use drm_schedule::Mode;
 use mdi_items::MdiView;
@@ -97,11 +97,7 @@ fn write_parts<O: Sink>(
     Ok(())
 }
 
-fn write_part<O: Sink>(
-    out: &mut O,
-    view: &MdiView<'_>,
-    part: Part<'_>,
-) -> Result<(), WriteFault>
+fn write_part<O: Sink>(out: &mut O, view: &MdiView<'_>, part: Part<'_>) -> Result<(), WriteFault>
     requires { IsWhole (frame_of view.now) view.now.payload.now }
     ensures whole { OnOk result (Outputs (O.tells out.old) (O.tells out.new)
         (λ text. text ≡ part_text (frame_of view.now) view.now.payload.now part.entry)) }
@@ -113,6 +109,6 @@ fn write_part<O: Sink>(
         Part::Text(piece) => write_piece(out, piece),
         Part::Block => write_block(out, view.payload, view.sdc),
         Part::Description => write_description(out, &view.mux),
-        Part::Streams => write_streams(out, view),
+        Part::Streams => write_streams(out, &view.mux, &view.streams, view.payload),
     }
 }

@@ -50,11 +50,7 @@ fn write_before<O: Sink>(out: &mut O, before: Option<Before>) -> Result<(), Writ
     };
     write_pieces(
         out,
-        &[
-            Piece::Words(word),
-            Piece::Number(frame),
-            Piece::Words("\n"),
-        ],
+        &[Piece::Words(word), Piece::Number(frame), Piece::Words("\n")],
     )
 }
 

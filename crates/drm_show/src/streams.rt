@@ -1,32 +1,41 @@
 //! The multiplex frame, written byte by byte out of the streams in the payload.
 
-ghost use Rattle.std.specs.Prelude.{◌≡◌, OnOk, OnErr, IsErr};
+ghost use Rattle.std.specs.Prelude.{◌≡◌, length, OnOk, OnErr, IsErr};
+ghost use Rattle.drm_bits.specs.Description.{IsDescription};
 ghost use Rattle.drm_links.specs.Told.{HasCause};
 ghost use Rattle.drm_links.specs.Sink.{Outputs, IsFront};
-ghost use Rattle.mdi_items.specs.Frame.{frame_of};
-ghost use Rattle.drm_show.specs.FrameLine.{IsWhole, frame_bytes, bytes_text};
+ghost use Rattle.drm_mux.specs.Frame.{multiplex_frame, streams_in, EndBy, HaveTheirLengths};
+ghost use Rattle.drm_show.specs.FrameLine.{bytes_text};
 
 use crate::output::write_byte;
 use drm_links::{Sink, WriteFault, write_all};
-use drm_mux::{frame_len, locate};
-use mdi_items::MdiView;
+use drm_mux::{MuxDesc, Spans, frame_len, locate};
 
 /// Writes the digits of the multiplex frame.
-pub(crate) fn write_streams<O: Sink>(out: &mut O, view: &MdiView<'_>) -> Result<(), WriteFault>
-    requires { IsWhole (frame_of view.now) view.now.payload.now }
+pub(crate) fn write_streams<O: Sink>(
+    out: &mut O,
+    mux: &MuxDesc,
+    streams: &Spans,
+    payload: &[u8],
+) -> Result<(), WriteFault>
+    requires description { IsDescription mux.now }
+    requires lengths { HaveTheirLengths mux.now streams.now }
+    requires inside { EndBy (length payload.now) streams.now }
     ensures whole { OnOk result (Outputs (O.tells out.old) (O.tells out.new)
-        (λ text. text ≡ bytes_text (frame_bytes (frame_of view.now) view.now.payload.now))) }
+        (λ text. text ≡ bytes_text (multiplex_frame mux.now (streams_in payload.now streams.now)))) }
     ensures front { OnErr result (Outputs (O.tells out.old) (O.tells out.new)
-        (IsFront (bytes_text (frame_bytes (frame_of view.now) view.now.payload.now)))) }
+        (IsFront (bytes_text (multiplex_frame mux.now (streams_in payload.now streams.now))))) }
     ensures cause { HasCause (O.faults out.old) (O.faults out.new) (IsErr result) }
 {
-    let len = frame_len(&view.mux);
+    // What is read of the streams tells how many there are.
+    let _places = streams.at;
+    let len = frame_len(mux);
     if len == 0 {
         return write_all(out, b"-");
     }
     for place in 0..len {
-        let at = locate(&view.mux, &view.streams, place);
-        write_byte(out, view.payload[at])?;
+        let at = locate(mux, streams, place);
+        write_byte(out, payload[at])?;
     }
     Ok(())
 }

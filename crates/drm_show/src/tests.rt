@@ -76,7 +76,8 @@ fn frame_prints<R: Abort + AllocGlobal>(
 
 #[test]
 fn prints_frames(rt: HostRuntime) -> Result<(), Fail> {
-    let first = "frame 0 dlfc 0 mode B fac 660801234560a1806d sdc 00601000004049023006be6 mux 01000004 msc 55555555\n";
+    let first =
+        "frame 0 dlfc 0 mode B fac 660801234560a1806d sdc 00601000004049023006be6 mux 01000004 msc 55555555\n";
     frame_prints(&rt, None, 0, &FIRST, first)?;
     frame_prints(&rt, None, 0, &BEHIND_ZEROS, first)?;
     frame_prints(
@@ -168,22 +169,47 @@ fn names_what_is_wrong_with_a_packet(rt: HostRuntime) -> Result<(), Fail> {
         (af(AfFault::Version { major: 2 }), "af version"),
         (af(AfFault::Kind { kind: 0 }), "af kind"),
         (af(crc(1, 2)), "af crc"),
-        (BadFault::Mdi(MdiFault::Tag(ValueCut { at: 9 })), "mdi value-cut"),
-        (BadFault::Mdi(MdiFault::Twice { name: NAME }), "mdi twice:*ptr"),
-        (BadFault::Mdi(MdiFault::Absent { name: NAME }), "mdi absent:*ptr"),
+        (
+            BadFault::Mdi(MdiFault::Tag(ValueCut { at: 9 })),
+            "mdi value-cut",
+        ),
+        (
+            BadFault::Mdi(MdiFault::Twice { name: NAME }),
+            "mdi twice:*ptr",
+        ),
+        (
+            BadFault::Mdi(MdiFault::Absent { name: NAME }),
+            "mdi absent:*ptr",
+        ),
         (BadFault::Mdi(MdiFault::Protocol), "mdi protocol"),
         (BadFault::Mdi(item_length(3)), "mdi item-length:*ptr"),
         (BadFault::Mdi(fac_crc(1, 2)), "mdi fac-crc"),
-        (BadFault::Mdi(MdiFault::Hierarchical { msc: 1 }), "mdi hierarchical"),
+        (
+            BadFault::Mdi(MdiFault::Hierarchical { msc: 1 }),
+            "mdi hierarchical",
+        ),
         (mux(MuxFault::SdciLength { bits: 16 }), "mdi sdci-length"),
         (mux(MuxFault::SdciFront), "mdi sdci-front"),
         (BadFault::Mdi(MdiFault::Mode { value: 4 }), "mdi mode"),
         (mux(stream_length(3, 0, 1)), "mdi stream-length:3"),
         (sdc(SdcFault::BlockLength { bits: 3 }), "sdc block-length"),
         (sdc(SdcFault::Front { bits: 1 }), "sdc front"),
-        (sdc(SdcFault::Crc { stands: 1, computed: 2 }), "sdc crc"),
+        (
+            sdc(SdcFault::Crc {
+                stands: 1,
+                computed: 2,
+            }),
+            "sdc crc",
+        ),
         (sdc(SdcFault::EntityCut { at: 0 }), "sdc entity-cut"),
-        (sdc(SdcFault::BodyLength { at: 0, kind: 1, len: 2 }), "sdc body-length"),
+        (
+            sdc(SdcFault::BodyLength {
+                at: 0,
+                kind: 1,
+                len: 2,
+            }),
+            "sdc body-length",
+        ),
         (sdc(SdcFault::LabelText { at: 0 }), "sdc label-text"),
     ];
     for (fault, words) in cases {
