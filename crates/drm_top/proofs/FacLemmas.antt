@@ -13,7 +13,7 @@ use Rattle.drm_links.proofs.ToldLemmas.{Inputs-weaker}
 use Rattle.drm_top.specs.declared.fault.Fault.{Fault}
 use Rattle.drm_top.specs.declared.fault.Fault.TheVariants.{NoMemory, Words, FacLength, FacOver, FacCrc, Schedule, Read, Write, Link}
 use Rattle.drm_top.specs.Input.{ReadsHead, FailsWithin}
-use Rattle.drm_top.specs.Lines.{fac_line}
+use Rattle.drm_show.specs.FacLine.{fac_line}
 use Rattle.drm_top.specs.Fault.{status_of}
 use Rattle.drm_top.specs.Fac.{ComesTo, Reads, Writes, FacRun}
 

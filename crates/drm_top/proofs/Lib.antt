@@ -1,4 +1,3 @@
-pub mod TextLemmas
 pub mod HeadLemmas
 pub mod FacLemmas
 pub mod StatusLemmas

@@ -7,7 +7,7 @@ use Rattle.drm_links.specs.Told.{HasCause}
 use Rattle.drm_links.specs.Source.{Input, Inputs}
 use Rattle.drm_links.specs.Sink.{Output, Outputs, IsFront}
 use Rattle.drm_top.specs.Input.{ReadsHead, FailsWithin}
-use Rattle.drm_top.specs.Lines.{fac_line}
+use Rattle.drm_show.specs.FacLine.{fac_line}
 use Rattle.drm_top.specs.declared.fault.Fault.{Fault}
 use Rattle.drm_top.specs.declared.fault.Fault.TheVariants.{FacLength, FacOver, FacCrc, Read, Write}
 

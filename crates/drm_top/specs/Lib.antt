@@ -1,6 +1,5 @@
 pub mod CrcLine
 pub mod Reasons
-pub mod Text
 pub mod Lines
 pub mod Faults
 pub mod Input

@@ -5,11 +5,11 @@ ghost use Rattle.drm_links.specs.Told.{HasCause};
 ghost use Rattle.drm_fac.specs.Fac.{FacFits};
 ghost use Rattle.drm_top.specs.Fac.{Reads, FacRun};
 
-use crate::fac_line::write_fac;
 use crate::fault::Fault;
 use crate::head::read_head;
 use drm_fac::{Fac, decode};
 use drm_links::{Sink, Source};
+use drm_show::write_fac;
 
 /// Reads a FAC and writes its line.
 pub fn fac<I: Source, O: Sink>(input: &mut I, out: &mut O) -> Result<(), Fault>

@@ -3,19 +3,17 @@
 ghost use Rattle.std.specs.Prelude.{◌≡◌, OnOk, OnErr, IsErr};
 ghost use Rattle.drm_links.specs.Told.{HasCause};
 ghost use Rattle.drm_links.specs.Sink.{Outputs, IsFront};
-ghost use Rattle.drm_top.specs.Text.{text_of};
+ghost use Rattle.drm_show.specs.Text.{text_of};
 ghost use Rattle.drm_top.specs.CrcLine.{crc_line};
 
 use crate::head::ReadFault;
 use crate::loading::ScheduleFault;
-use crate::output::write_pieces;
 use crate::reason::schedule_pieces;
-use crate::text::Piece;
 use drm_bits::NoMemory;
 use drm_fac::FacFault;
-use drm_links::{LinkFault, Sink, Status, WriteFault};
+use drm_links::{LinkFault, Sink, Status, WriteFault, write_all};
 use drm_schedule::Reason;
-use drm_server::write_all;
+use drm_show::{Piece, write_pieces};
 
 /// A fault of a run. Each has a status and a line.
 #[derive(Clone, Copy, Debug, PartialEq, Eq)]

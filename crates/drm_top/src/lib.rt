@@ -4,12 +4,10 @@
 mod check;
 mod command;
 mod fac;
-mod fac_line;
 mod fault;
 mod head;
 mod laws;
 mod loading;
-mod output;
 mod reason;
 mod schedule;
 #[cfg(test)]
@@ -20,7 +18,6 @@ mod serve;
 mod serve_tests;
 #[cfg(test)]
 mod tests;
-mod text;
 #[cfg(test)]
 mod trial;
 mod words;

@@ -2,10 +2,10 @@
 
 ghost use Rattle.std.specs.Prelude.{◌≡◌};
 ghost use Rattle.drm_top.specs.Reasons.{reason_word, schedule_line};
-ghost use Rattle.drm_top.specs.Text.{text_of};
+ghost use Rattle.drm_show.specs.Text.{text_of};
 
-use crate::text::Piece;
 use drm_schedule::Reason;
+use drm_show::Piece;
 
 /// The line of a fault in a line of a schedule's text.
 pub fn schedule_pieces(line: u32, reason: Reason) -> [Piece<'static>; 5]

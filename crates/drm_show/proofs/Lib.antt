@@ -1,0 +1,4 @@
+pub mod TextLemmas
+pub mod SequenceLemmas
+pub mod HexLemmas
+pub mod StreamLemmas

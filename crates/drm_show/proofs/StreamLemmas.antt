@@ -1,0 +1,89 @@
+-- The multiplex frame has as many bytes as are described, and is written byte by byte.
+use Rattle.std.proofs.Common.{◌≡◌, ℕ, suc, ◌+◌, ◌<◌, ◌≤◌, List, [], ◌∷◌, ◌++◌, length, take, drop, get_or, Option, Result, OnOk, OnErr, refl, sym, ◌∙◌, ap, append-nil, arith, length-append, length-drop}
+use Rattle.std.specs.Prelude.{codes}
+use Rattle.std.specs.List.{sum_by, flat_map}
+use Rattle.std.proofs.lemmas.List.{length-take-le, take_all, take_more}
+use Rattle.std.proofs.lemmas.List.Sums.{sum_by-cons}
+use Rattle.std.proofs.lemmas.Grind.{flat_map-append}
+use Rattle.hex.specs.Hex.{encode_lower}
+use Rattle.drm_bits.specs.Description.{IsDescription}
+use Rattle.drm_bits.specs.declared.description.Part.{Part}
+use Rattle.drm_bits.specs.declared.description.MuxDesc.{MuxDesc}
+use Rattle.drm_links.specs.Sink.{Output, Outputs, IsFront}
+use Rattle.drm_links.proofs.ToldLemmas.{Outputs-then, Outputs-weaker}
+use Rattle.drm_mux.specs.declared.frame.Spans.{Spans}
+use Rattle.drm_mux.specs.Frame.{parts_a, parts_b, multiplex_frame, pieces, streams_in, part_length, frame_length, HaveTheirLengths, EndBy}
+use Rattle.drm_mux.proofs.PartLemmas.{no_part}
+use Rattle.drm_mux.proofs.RangeLemmas.{covers}
+use Rattle.drm_show.specs.FrameLine.{bytes_text}
+use Rattle.drm_show.proofs.TextLemmas.{encode_lower-is, front_of_next}
+
+length-parts : (parts : List Part) (places lens buffer : List ℕ) → length parts ≡ length places → length parts ≡ length lens
+    → ((k : ℕ) → k < length parts → part_length (get_or parts k no_part) ≤ get_or lens k 0) → ((k : ℕ) → k < length parts → get_or places k 0 + get_or lens k 0 ≤ length buffer)
+    → length (parts_a parts (pieces buffer places lens)) + length (parts_b parts (pieces buffer places lens)) ≡ sum_by part_length parts
+length-parts [] places lens buffer same_p same_l fit inside = refl
+length-parts (p ∷ parts) [] lens buffer same_p same_l fit inside = absurd (omega (arith, same_p))
+length-parts (p ∷ parts) (at ∷ places) [] buffer same_p same_l fit inside = absurd (omega (arith, same_l))
+length-parts (p ∷ parts) (at ∷ places) (len ∷ lens) buffer same_p same_l fit inside =
+    let stream : List ℕ = take len (drop at buffer) in
+    let here : p.a + p.b ≤ len = fit 0 (omega arith) in
+    let within : at + len ≤ length buffer = inside 0 (omega arith) in
+    let all : length stream ≡ len = length-take-le len (drop at buffer) (omega (arith, within, length-drop at buffer)) in
+    let a : length (take p.a stream) ≡ p.a = length-take-le p.a stream (omega (arith, all, here)) in
+    let b : length (take p.b (drop p.a stream)) ≡ p.b = length-take-le p.b (drop p.a stream) (omega (arith, all, here, length-drop p.a stream)) in
+    let rest : length (parts_a parts (pieces buffer places lens)) + length (parts_b parts (pieces buffer places lens)) ≡ sum_by part_length parts =
+    length-parts parts places lens buffer (omega (arith, same_p)) (omega (arith, same_l)) (λ k below. fit (suc k) (omega (arith, below))) (λ k below. inside (suc k) (omega (arith, below))) in
+    omega (arith, length-append (take p.a stream) (parts_a parts (pieces buffer places lens)), length-append (take p.b (drop p.a stream)) (parts_b parts (pieces buffer places lens)), a, b, rest, sum_by-cons part_length p parts)
+
+pub length-frame : (mux : MuxDesc) (streams : Spans) (payload : List ℕ) → length streams.at ≡ 4 → length streams.len ≡ 4 → IsDescription mux → HaveTheirLengths mux streams → EndBy (length payload) streams
+    → length (multiplex_frame mux (streams_in payload streams)) ≡ frame_length mux
+length-frame mux streams payload size_at size_len is lengths inside =
+    let lent : List (List ℕ) = pieces payload streams.at streams.len in
+    let four : length mux.parts ≡ 4 = is.size in
+    length-append (parts_a mux.parts lent) (parts_b mux.parts lent)
+    ∙ length-parts mux.parts streams.at streams.len payload (four ∙ sym size_at) (four ∙ sym size_len)
+    (λ k below. covers mux streams is lengths k (omega (arith, below, four)))
+    (λ k below. inside k (omega (arith, below, four)))
+
+-- ---- the text of bytes
+
+pub some_bytes : (bytes : List ℕ) → 0 < length bytes → bytes_text bytes ≡ encode_lower bytes
+some_bytes [] some = absurd (omega (arith, some))
+some_bytes (b ∷ bytes) some = refl
+
+-- without bytes a dash is written
+pub dash_whole : {E : Type 0} (bytes : List ℕ) (a b : Option Output) (r : Result (Unit {0}) E) → length bytes ≡ 0 → OnOk r (Outputs a b (λ text. text ≡ codes "-")) → OnOk r (Outputs a b (λ text. text ≡ bytes_text bytes))
+dash_whole [] a b r none written = written
+dash_whole (x ∷ bytes) a b r none written = absurd (omega (arith, none))
+
+pub dash_front : {E : Type 0} (bytes : List ℕ) (a b : Option Output) (r : Result (Unit {0}) E) → length bytes ≡ 0 → OnErr r (Outputs a b (IsFront (codes "-"))) → OnErr r (Outputs a b (IsFront (bytes_text bytes)))
+dash_front [] a b r none written = written
+dash_front (x ∷ bytes) a b r none written = absurd (omega (arith, none))
+
+-- one byte more
+pub byte_more : (bytes : List ℕ) (place byte : ℕ) (a b c : Option Output) → place < length bytes → byte ≡ get_or bytes place 0
+    → Outputs a b (λ text. text ≡ flat_map (λ x. encode_lower (x ∷ [])) (take place bytes)) → Outputs b c (λ text. text ≡ encode_lower (byte ∷ []))
+    → Outputs a c (λ text. text ≡ flat_map (λ x. encode_lower (x ∷ [])) (take (place + 1) bytes))
+byte_more bytes place byte a b c below is done more =
+    let f : ℕ → List ℕ = λ x. encode_lower (x ∷ []) in
+    let one : f byte ≡ flat_map f (get_or bytes place 0 ∷ []) = ap f is ∙ sym (append-nil (f (get_or bytes place 0))) in
+    let both : flat_map f (take (place + 1) bytes) ≡ flat_map f (take place bytes) ++ flat_map f (get_or bytes place 0 ∷ []) =
+    ap (λ l. flat_map f l) (take_more bytes place 0 below) ∙ flat_map-append f (take place bytes) (get_or bytes place 0 ∷ []) in
+    Outputs-then (λ text. text ≡ flat_map f (take place bytes)) (λ text. text ≡ f byte) (λ text. text ≡ flat_map f (take (place + 1) bytes)) a b c done more
+    (λ s t is_s is_t. ap (λ l. l ++ t) is_s ∙ (ap (λ l. flat_map f (take place bytes) ++ l) (is_t ∙ one) ∙ sym both))
+
+-- a front of it
+pub byte_front : (bytes : List ℕ) (place byte : ℕ) (a b c : Option Output) → place < length bytes → byte ≡ get_or bytes place 0
+    → Outputs a b (λ text. text ≡ flat_map (λ x. encode_lower (x ∷ [])) (take place bytes)) → Outputs b c (IsFront (encode_lower (byte ∷ []))) → Outputs a c (IsFront (bytes_text bytes))
+byte_front bytes place byte a b c below is done front =
+    let f : ℕ → List ℕ = λ x. encode_lower (x ∷ []) in
+    let next : Outputs b c (IsFront (f (get_or bytes place 0))) = rw is at front in
+    rw (some_bytes bytes (omega (arith, below)), encode_lower-is bytes) (front_of_next f bytes place 0 below a b c done next)
+
+-- all bytes
+pub all_bytes : (bytes : List ℕ) (place : ℕ) (a b : Option Output) → length bytes ≤ place → 0 < length bytes
+    → Outputs a b (λ text. text ≡ flat_map (λ x. encode_lower (x ∷ [])) (take place bytes)) → Outputs a b (λ text. text ≡ bytes_text bytes)
+all_bytes bytes place a b past some done =
+    let f : ℕ → List ℕ = λ x. encode_lower (x ∷ []) in
+    Outputs-weaker (λ text. text ≡ flat_map f (take place bytes)) (λ text. text ≡ bytes_text bytes) a b done
+    (λ text is. is ∙ (ap (λ l. flat_map f l) (take_all place bytes past) ∙ (sym (encode_lower-is bytes) ∙ sym (some_bytes bytes some))))

@@ -1,0 +1,61 @@
+-- The line of a logical frame.
+use Rattle.std.specs.Prelude.{ℕ, ◌+◌, ◌≤◌, ◌%◌, ◌==◌, Bool, List, [], ◌∷◌, length, take, drop, codes, decimal, Option, None, Some, IfSome, if◌then◌else◌}
+use Rattle.std.specs.List.{concat}
+use Rattle.hex.specs.Hex.{encode_lower}
+use Rattle.drm_bits.specs.Bits.{bits_of}
+use Rattle.drm_bits.specs.Fields.{spelled}
+use Rattle.drm_bits.specs.Description.{IsDescription, FitsWidths}
+use Rattle.drm_bits.specs.declared.description.MuxDesc.{MuxDesc}
+use Rattle.drm_mux.specs.Sdci.{sdci_fields}
+use Rattle.drm_mux.specs.Frame.{multiplex_frame, streams_in, EndBy, HaveTheirLengths}
+use Rattle.drm_schedule.specs.declared.config.Mode.{Mode}
+use Rattle.drm_schedule.specs.declared.config.Mode.TheVariants.{A, B, C, D}
+use Rattle.dcp_tag.specs.Tag.{bytes_for}
+use Rattle.mdi_items.specs.declared.view.SdcSpan.{SdcSpan}
+use Rattle.mdi_items.specs.Frame.{Frame}
+use Rattle.drm_show.specs.HexBits.{hex_of_bits}
+
+-- The pieces of a frame lie in its payload, and each described stream has its length.
+pub record IsWhole (frame : Frame) (payload : List ℕ) : Type 0 where
+  pub description : IsDescription frame.mux
+  pub mux_fits : FitsWidths frame.mux
+  pub lengths : HaveTheirLengths frame.mux frame.streams
+  pub inside : EndBy (length payload) frame.streams
+  pub block_inside : IfSome frame.sdc (λ s. s.at + bytes_for s.bits ≤ length payload)
+
+abbrev pub mode_letter : Mode → List ℕ
+mode_letter A = codes "A"
+mode_letter B = codes "B"
+mode_letter C = codes "C"
+mode_letter D = codes "D"
+
+-- a block of whole bytes has four zero bits in front of it
+abbrev pub front_bits : ℕ → ℕ
+front_bits bits = if bits % 8 == 0 then 4 else 0
+
+-- the bits of the block, without those in front of it
+abbrev pub block_bits : List ℕ → SdcSpan → List Bool
+block_bits payload span = drop (front_bits span.bits) (take span.bits (bits_of (drop span.at payload)))
+
+abbrev pub block_text : List ℕ → Option SdcSpan → List ℕ
+block_text payload None = codes "-"
+block_text payload (Some span) = hex_of_bits (block_bits payload span)
+
+-- the value of `sdci`
+abbrev pub description_text : MuxDesc → List ℕ
+description_text mux = hex_of_bits (spelled (sdci_fields mux))
+
+abbrev pub bytes_text : List ℕ → List ℕ
+bytes_text [] = codes "-"
+bytes_text bytes = encode_lower bytes
+
+-- the multiplex frame of the streams in the payload
+abbrev pub frame_bytes : Frame → List ℕ → List ℕ
+frame_bytes frame payload = multiplex_frame frame.mux (streams_in payload frame.streams)
+
+abbrev pub frame_line : ℕ → Frame → List ℕ → List ℕ
+frame_line index frame payload =
+    concat (
+    codes "frame " ∷ decimal index ∷ codes " dlfc " ∷ decimal frame.dlfc ∷ codes " mode " ∷ mode_letter frame.mode
+    ∷ codes " fac " ∷ encode_lower frame.fac_bytes ∷ codes " sdc " ∷ block_text payload frame.sdc
+    ∷ codes " mux " ∷ description_text frame.mux ∷ codes " msc " ∷ bytes_text (frame_bytes frame payload) ∷ codes "\n" ∷ [])

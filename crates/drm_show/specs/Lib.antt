@@ -1,0 +1,7 @@
+pub mod Text
+pub mod FacLine
+pub mod HexBits
+pub mod FaultWords
+pub mod FrameLine
+pub mod FrameParts
+pub mod Report

@@ -1,0 +1,43 @@
+//! The SDC block of a frame, four bits a digit.
+
+ghost use Rattle.std.specs.Prelude.{◌≡◌, ◌+◌, ◌≤◌, length, IfSome, OnOk, OnErr, IsErr};
+ghost use Rattle.dcp_tag.specs.Tag.{bytes_for};
+ghost use Rattle.drm_links.specs.Told.{HasCause};
+ghost use Rattle.drm_links.specs.Sink.{Outputs, IsFront};
+ghost use Rattle.drm_show.specs.FrameLine.{block_bits, block_text};
+
+use crate::hex_bits::write_bits;
+use drm_bits::Bits;
+use drm_links::{Sink, WriteFault, write_all};
+use mdi_items::SdcSpan;
+
+/// Writes the digits of the block, where there is one.
+pub(crate) fn write_block<O: Sink>(
+    out: &mut O,
+    payload: &[u8],
+    sdc: Option<SdcSpan>,
+) -> Result<(), WriteFault>
+    requires { IfSome sdc (λ s. s.at + bytes_for s.bits ≤ length payload.now) }
+    ensures whole { OnOk result (Outputs (O.tells out.old) (O.tells out.new)
+        (λ text. text ≡ block_text payload.now sdc)) }
+    ensures front { OnErr result (Outputs (O.tells out.old) (O.tells out.new)
+        (IsFront (block_text payload.now sdc))) }
+    ensures cause { HasCause (O.faults out.old) (O.faults out.new) (IsErr result) }
+{
+    match sdc {
+        None => write_all(out, b"-"),
+        Some(span) => write_bits(out, block_bits(payload, &span)),
+    }
+}
+
+// The bits of the block, without those in front of it.
+fn block_bits<'a>(payload: &'a [u8], span: &SdcSpan) -> Bits<'a>
+    requires { span.now.at + bytes_for span.now.bits ≤ length payload.now }
+    ensures { result ≡ block_bits payload.now span.now }
+{
+    let mut bits = Bits::new(&payload[span.at..], span.bits as usize);
+    if span.bits % u8::BITS == 0 {
+        let _ = bits.take(4);
+    }
+    bits
+}

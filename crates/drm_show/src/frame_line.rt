@@ -1,0 +1,114 @@
+//! The line of a logical frame.
+
+ghost use Rattle.std.specs.Prelude.{◌≡◌, OnOk, OnErr, IsErr};
+ghost use Rattle.std.specs.List.{flat_map};
+ghost use Rattle.drm_links.specs.Told.{HasCause};
+ghost use Rattle.drm_links.specs.Sink.{Outputs, IsFront};
+ghost use Rattle.mdi_items.specs.Frame.{frame_of};
+ghost use Rattle.drm_show.specs.FrameLine.{IsWhole, mode_letter, frame_line};
+ghost use Rattle.drm_show.specs.FrameParts.{part_text};
+
+use crate::Piece;
+use crate::block::write_block;
+use crate::description::write_description;
+use crate::output::write_piece;
+use crate::streams::write_streams;
+use Part::Text;
+use Piece::{Hex, Number, Words};
+use drm_links::{Sink, WriteFault};
+use drm_schedule::Mode;
+use mdi_items::MdiView;
+
+/// Writes the line of a frame.
+pub(crate) fn write_frame<O: Sink>(
+    out: &mut O,
+    index: u64,
+    view: &MdiView<'_>,
+) -> Result<(), WriteFault>
+    requires { IsWhole (frame_of view.now) view.now.payload.now }
+    ensures whole { OnOk result (Outputs (O.tells out.old) (O.tells out.new) (λ text. text ≡ frame_line index (frame_of view.now) view.now.payload.now)) }
+    ensures front { OnErr result (Outputs (O.tells out.old) (O.tells out.new) (IsFront (frame_line index (frame_of view.now) view.now.payload.now))) }
+    ensures cause { HasCause (O.faults out.old) (O.faults out.new) (IsErr result) }
+{
+    write_parts(out, view, &parts(index, view))
+}
+
+/// A part of the line: a piece of text, or what is written straight out of the frame.
+#[derive(Clone, Copy)]
+pub(crate) enum Part<'a> {
+    Text(Piece<'a>),
+    Block,
+    Description,
+    Streams,
+}
+
+const PARTS: usize = 15;
+
+fn parts<'a>(index: u64, view: &'a MdiView<'_>) -> [Part<'a>; PARTS]
+    ensures { flat_map (part_text (frame_of view.now) view.now.payload.now) result
+        ≡ frame_line index (frame_of view.now) view.now.payload.now }
+{
+    [
+        Text(Words("frame ")),
+        Text(Number(index)),
+        Text(Words(" dlfc ")),
+        Text(Number(u64::from(view.dlfc))),
+        Text(Words(" mode ")),
+        Text(Words(mode_letter(view.mode))),
+        Text(Words(" fac ")),
+        Text(Hex(&view.fac_bytes)),
+        Text(Words(" sdc ")),
+        Part::Block,
+        Text(Words(" mux ")),
+        Part::Description,
+        Text(Words(" msc ")),
+        Part::Streams,
+        Text(Words("\n")),
+    ]
+}
+
+fn mode_letter(mode: Mode) -> &'static str
+    ensures { result.now ≡ mode_letter mode }
+{
+    match mode {
+        Mode::A => "A",
+        Mode::B => "B",
+        Mode::C => "C",
+        Mode::D => "D",
+    }
+}
+
+// Writes the parts, one after another.
+fn write_parts<O: Sink>(
+    out: &mut O,
+    view: &MdiView<'_>,
+    parts: &[Part<'_>],
+) -> Result<(), WriteFault>
+    requires { IsWhole (frame_of view.now) view.now.payload.now }
+    ensures whole { OnOk result (Outputs (O.tells out.old) (O.tells out.new)
+        (λ text. text ≡ flat_map (part_text (frame_of view.now) view.now.payload.now) parts.now)) }
+    ensures front { OnErr result (Outputs (O.tells out.old) (O.tells out.new)
+        (IsFront (flat_map (part_text (frame_of view.now) view.now.payload.now) parts.now))) }
+    ensures cause { HasCause (O.faults out.old) (O.faults out.new) (IsErr result) }
+{
+    for part in parts {
+        write_part(out, view, *part)?;
+    }
+    Ok(())
+}
+
+fn write_part<O: Sink>(out: &mut O, view: &MdiView<'_>, part: Part<'_>) -> Result<(), WriteFault>
+    requires { IsWhole (frame_of view.now) view.now.payload.now }
+    ensures whole { OnOk result (Outputs (O.tells out.old) (O.tells out.new)
+        (λ text. text ≡ part_text (frame_of view.now) view.now.payload.now part.entry)) }
+    ensures front { OnErr result (Outputs (O.tells out.old) (O.tells out.new)
+        (IsFront (part_text (frame_of view.now) view.now.payload.now part.entry))) }
+    ensures cause { HasCause (O.faults out.old) (O.faults out.new) (IsErr result) }
+{
+    match part {
+        Part::Text(piece) => write_piece(out, piece),
+        Part::Block => write_block(out, view.payload, view.sdc),
+        Part::Description => write_description(out, &view.mux),
+        Part::Streams => write_streams(out, &view.mux, &view.streams, view.payload),
+    }
+}

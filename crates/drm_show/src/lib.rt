@@ -1,0 +1,23 @@
+//! The texts that are printed of what was received: each line is one definition, and one function that writes it to a
+//! sink in pieces, without memory.
+#![tactic(auto)]
+
+mod block;
+mod description;
+mod fac_line;
+mod frame_line;
+mod hex_bits;
+mod output;
+mod piece;
+mod report;
+mod step;
+mod streams;
+#[cfg(test)]
+mod tests;
+mod words;
+
+pub use fac_line::write_fac;
+pub use output::write_pieces;
+pub use piece::Piece;
+pub use report::{EndWord, Sums, write_end, write_feed, write_refused};
+pub use step::write_step;

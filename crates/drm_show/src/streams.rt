@@ -1,0 +1,41 @@
+//! The multiplex frame, written byte by byte out of the streams in the payload.
+
+ghost use Rattle.std.specs.Prelude.{◌≡◌, length, OnOk, OnErr, IsErr};
+ghost use Rattle.drm_bits.specs.Description.{IsDescription};
+ghost use Rattle.drm_links.specs.Told.{HasCause};
+ghost use Rattle.drm_links.specs.Sink.{Outputs, IsFront};
+ghost use Rattle.drm_mux.specs.Frame.{multiplex_frame, streams_in, EndBy, HaveTheirLengths};
+ghost use Rattle.drm_show.specs.FrameLine.{bytes_text};
+
+use crate::output::write_byte;
+use drm_links::{Sink, WriteFault, write_all};
+use drm_mux::{MuxDesc, Spans, frame_len, locate};
+
+/// Writes the digits of the multiplex frame.
+pub(crate) fn write_streams<O: Sink>(
+    out: &mut O,
+    mux: &MuxDesc,
+    streams: &Spans,
+    payload: &[u8],
+) -> Result<(), WriteFault>
+    requires description { IsDescription mux.now }
+    requires lengths { HaveTheirLengths mux.now streams.now }
+    requires inside { EndBy (length payload.now) streams.now }
+    ensures whole { OnOk result (Outputs (O.tells out.old) (O.tells out.new)
+        (λ text. text ≡ bytes_text (multiplex_frame mux.now (streams_in payload.now streams.now)))) }
+    ensures front { OnErr result (Outputs (O.tells out.old) (O.tells out.new)
+        (IsFront (bytes_text (multiplex_frame mux.now (streams_in payload.now streams.now))))) }
+    ensures cause { HasCause (O.faults out.old) (O.faults out.new) (IsErr result) }
+{
+    // What is read of the streams tells how many there are.
+    let _places = streams.at;
+    let len = frame_len(mux);
+    if len == 0 {
+        return write_all(out, b"-");
+    }
+    for place in 0..len {
+        let at = locate(mux, streams, place);
+        write_byte(out, payload[at])?;
+    }
+    Ok(())
+}
