@@ -1,0 +1,10 @@
+pub mod PacketLemmas
+pub mod Putting
+pub mod RuleLemmas
+pub mod FeedLemmas
+pub mod StepLemmas
+pub mod LoopLemmas
+pub mod EndLemmas
+pub mod SaidLemmas
+pub mod KeptLemmas
+pub mod CountLemmas
