@@ -8,3 +8,4 @@ pub mod EndLemmas
 pub mod SaidLemmas
 pub mod KeptLemmas
 pub mod CountLemmas
+pub mod SizeLaw

@@ -4,15 +4,21 @@
 mod delivery;
 mod fault;
 mod feeds;
+mod laws;
 mod line;
 mod packet;
 mod read_line;
 mod reading;
 mod rules;
 mod script;
+#[cfg(test)]
+mod script_tests;
 mod spelling;
+#[cfg(test)]
+mod trial;
 
 pub use delivery::Delivery;
 pub use fault::ScriptFault;
+pub use laws::fragments_have_their_size;
 pub use reading::read_script;
 pub use script::Script;

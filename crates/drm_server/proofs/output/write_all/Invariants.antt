@@ -1,0 +1,12 @@
+use Rattle.std.proofs.Common.{◌≡◌, ◌++◌, ◌≤◌, length}
+use Rattle.drm_links.specs.Sink.{Outputs}
+use Rattle.drm_server.proofs.output.write_all.Given as goal
+
+-- what was written so far, and the rest, are the bytes
+abbrev pub invariant-loop-rest : goal.invariant-loop-rest
+invariant-loop-rest g l =
+    Outputs (g.O.Sink.tells l.fn.out) (g.O.Sink.tells l.out) (λ text. text ++ l.rest ≡ l.bytes)
+    × (g.O.Sink.faults l.fn.out ≤ g.O.Sink.faults l.out)
+
+abbrev pub decreases-loop-rest : goal.decreases-loop-rest
+decreases-loop-rest g l = length l.rest
