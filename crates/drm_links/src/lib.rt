@@ -24,6 +24,7 @@ mod source;
 mod status;
 #[cfg(test)]
 mod tests;
+mod writing;
 
 pub use dock::{Address, Dock, Opened};
 pub use docked_link::DockedLink;
@@ -37,3 +38,4 @@ pub use shelf::{Loaded, Shelf};
 pub use sink::{Sink, WriteFault, WriteOut};
 pub use source::{ReadOut, Source};
 pub use status::Status;
+pub use writing::write_all;

@@ -4,7 +4,6 @@
 mod configuration;
 mod cut;
 mod laws;
-mod output;
 mod packet;
 mod payload;
 mod send;
@@ -19,7 +18,6 @@ mod tests;
 mod trial;
 
 pub use laws::{first_ones_are_front, one_capture, one_delivery, one_packet};
-pub use output::write_all;
 pub use send::serve_link;
 pub use serve::serve_sink;
 pub use server::Server;

@@ -7,8 +7,7 @@ ghost use Rattle.drm_server.specs.Capture.{IsCapture, IsFrontOfCapture, IsCount}
 ghost use Rattle.drm_server.specs.OneFrame.{WroteFrame, IsPartOfFrame};
 
 use crate::Server;
-use crate::output::write_all;
-use drm_links::{Sink, WriteFault};
+use drm_links::{Sink, WriteFault, write_all};
 
 /// Writes the datagrams of all frames, in order from the first one on, and gives their number.
 pub fn serve_sink<O: Sink>(server: &mut Server<'_>, out: &mut O) -> Result<u64, WriteFault>

@@ -95,6 +95,13 @@ impl<'a> Server<'a> {
         3 * self.plan.length()
     }
 
+    /// The frame that is loaded.
+    pub fn frame(&self) -> u32
+        ensures { result ≡ self.now.frame }
+    {
+        self.frame
+    }
+
     /// Loads frame `t`.
     pub fn load(&mut self, t: u32)
         requires { t < 3 * self.old.plan.length }

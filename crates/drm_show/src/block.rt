@@ -7,9 +7,8 @@ ghost use Rattle.drm_links.specs.Sink.{Outputs, IsFront};
 ghost use Rattle.drm_show.specs.FrameLine.{block_bits, block_text};
 
 use crate::hex_bits::write_bits;
-use crate::writing::write_all;
 use drm_bits::Bits;
-use drm_links::{Sink, WriteFault};
+use drm_links::{Sink, WriteFault, write_all};
 use mdi_items::SdcSpan;
 
 /// Writes the digits of the block, where there is one.

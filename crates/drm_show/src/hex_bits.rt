@@ -6,9 +6,8 @@ ghost use Rattle.drm_links.specs.Told.{HasCause};
 ghost use Rattle.drm_links.specs.Sink.{Outputs, IsFront};
 ghost use Rattle.drm_show.specs.HexBits.{hex_of_bits};
 
-use crate::writing::write_all;
 use drm_bits::Bits;
-use drm_links::{Sink, WriteFault};
+use drm_links::{Sink, WriteFault, write_all};
 
 /// Writes a digit for each four bits that are left.
 pub(crate) fn write_bits<O: Sink>(out: &mut O, mut bits: Bits<'_>) -> Result<(), WriteFault>

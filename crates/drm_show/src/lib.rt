@@ -15,7 +15,6 @@ mod streams;
 #[cfg(test)]
 mod tests;
 mod words;
-mod writing;
 
 pub use fac_line::write_fac;
 pub use output::write_pieces;

@@ -7,8 +7,7 @@ ghost use Rattle.drm_links.specs.Sink.{Outputs, IsFront};
 ghost use Rattle.drm_show.specs.Text.{piece_text, text_of};
 
 use crate::Piece;
-use crate::writing::write_all;
-use drm_links::{Sink, WriteFault};
+use drm_links::{Sink, WriteFault, write_all};
 use itoa::Buffer;
 
 /// Writes the texts of the pieces, one after another.

@@ -8,8 +8,7 @@ ghost use Rattle.drm_mux.specs.Frame.{multiplex_frame, streams_in, EndBy, HaveTh
 ghost use Rattle.drm_show.specs.FrameLine.{bytes_text};
 
 use crate::output::write_byte;
-use crate::writing::write_all;
-use drm_links::{Sink, WriteFault};
+use drm_links::{Sink, WriteFault, write_all};
 use drm_mux::{MuxDesc, Spans, frame_len, locate};
 
 /// Writes the digits of the multiplex frame.

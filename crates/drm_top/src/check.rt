@@ -5,9 +5,8 @@ ghost use Rattle.drm_top.specs.Check.{CheckRun};
 
 use crate::fault::Fault;
 use crate::schedule::read_schedule;
-use drm_links::{Shelf, Sink};
+use drm_links::{Shelf, Sink, write_all};
 use drm_plan::write_plan;
-use drm_server::write_all;
 use std::alloc::Global;
 
 /// Reads a schedule, and writes its canonical text.

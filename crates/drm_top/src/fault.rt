@@ -11,9 +11,8 @@ use crate::loading::ScheduleFault;
 use crate::reason::schedule_pieces;
 use drm_bits::NoMemory;
 use drm_fac::FacFault;
-use drm_links::{LinkFault, Sink, Status, WriteFault};
+use drm_links::{LinkFault, Sink, Status, WriteFault, write_all};
 use drm_schedule::Reason;
-use drm_server::write_all;
 use drm_show::{Piece, write_pieces};
 
 /// A fault of a run. Each has a status and a line.

@@ -1,6 +1,6 @@
 use Rattle.std.proofs.Common.{◌≡◌, ◌++◌, ◌≤◌, length}
 use Rattle.drm_links.specs.Sink.{Outputs}
-use Rattle.drm_show.proofs.writing.write_all.Given as goal
+use Rattle.drm_links.proofs.writing.write_all.Given as goal
 
 -- what was written so far, and the rest, are the bytes
 abbrev pub invariant-loop-rest : goal.invariant-loop-rest

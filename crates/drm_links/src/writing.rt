@@ -4,10 +4,10 @@ ghost use Rattle.std.specs.Prelude.{◌≡◌, OnOk, OnErr, IsErr};
 ghost use Rattle.drm_links.specs.Told.{HasCause};
 ghost use Rattle.drm_links.specs.Sink.{Outputs, IsFront};
 
-use drm_links::{Sink, WriteFault, WriteOut};
+use crate::{Sink, WriteFault, WriteOut};
 
 /// Writes all of the bytes, in as many calls as the sink wants.
-pub(crate) fn write_all<O: Sink>(out: &mut O, bytes: &[u8]) -> Result<(), WriteFault>
+pub fn write_all<O: Sink>(out: &mut O, bytes: &[u8]) -> Result<(), WriteFault>
     ensures whole { OnOk result (Outputs (O.tells out.old) (O.tells out.new)
         (λ text. text ≡ bytes.now)) }
     ensures front { OnErr result (Outputs (O.tells out.old) (O.tells out.new) (IsFront bytes.now)) }

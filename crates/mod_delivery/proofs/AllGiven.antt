@@ -1,0 +1,80 @@
+-- Where each frame is in time, all frames are given.
+use Rattle.std.proofs.Common.{ℕ, ◌≡◌, ◌+◌, ◌-◌, ◌*◌, ◌<◌, ◌≤◌, ◌⊎◌, inl, inr, Bool, true, false, cond, ◌&&◌, ◌||◌, eqb, List, [], ◌∷◌, length, Option, Some, None, refl, ap, ◌∙◌, arith}
+use Rattle.std.specs.Prelude.{ℤ, pos, negsuc}
+use Rattle.std.specs.List.{list_any}
+use Rattle.std.proofs.lemmas.Int.{ints}
+use Rattle.std.proofs.lemmas.Bool.{eqb-true, leb-true, leb-false, le-leb, lt-leb}
+use Rattle.std.proofs.lemmas.Option.{slice_get_within}
+use Rattle.drm_schedule.specs.declared.plan.Plan.{Plan}
+use Rattle.drm_schedule.specs.Valid.{IsSchedule}
+use Rattle.dcp_collect.specs.State.{reached, end_of}
+use Rattle.dcp_collect.specs.Delivery.{number, is_number, is_at_least, got, newest_of}
+use Rattle.dcp_collect.proofs.Got.{reached_is}
+use Rattle.mod_delivery.specs.Sent.{AreSent, IsFollowed, IsInTime}
+use Rattle.mod_delivery.specs.Laws.{AllFrames}
+use Rattle.mod_delivery.proofs.InTime.{given_in_time}
+use Rattle.mod_delivery.proofs.Needed.{some_got}
+
+number_ahead : (z : ℤ) (q : ℕ) → is_number z q ≡ true → is_at_least z q ≡ true
+number_ahead (pos n) q is = let same : n ≡ q = eqb-true n q is in le-leb q n (omega (arith, same))
+number_ahead (negsuc n) q is = is
+
+one_of_both : (a b : Bool) → b ≡ true → (a || b) ≡ true
+one_of_both true b is = refl
+one_of_both false b is = is
+
+-- what is got has come
+got_came : (window : ℕ) (base : ℤ) (pairs : List (ℕ × ℕ)) (q i : ℕ) → got window base pairs q i ≡ true → list_any (λ pair. is_at_least (number base pair) q) pairs ≡ true
+got_came window base [] q i is = is
+got_came window base (pair ∷ pairs) q i is =
+    by (is_at_least (number base pair) (q + window)) (is_number (number base pair) q) (eqb pair.1 i) (got window base pairs q i)
+    (number_ahead (number base pair) q) (got_came window base pairs q i) is
+  where
+    by : (late same index rest : Bool) → (same ≡ true → is_at_least (number base pair) q ≡ true)
+        → (rest ≡ true → list_any (λ p. is_at_least (number base p) q) pairs ≡ true) → cond late false ((same && index) || rest) ≡ true
+        → (is_at_least (number base pair) q || list_any (λ p. is_at_least (number base p) q) pairs) ≡ true
+    by true same index rest here later got_it = absurd (let e : false ≡ true = got_it in cc)
+    by false true true rest here later got_it = ap (λ (b : Bool). b || list_any (λ p. is_at_least (number base p) q) pairs) (here refl)
+    by false true false rest here later got_it = ap (λ (b : Bool). b || list_any (λ p. is_at_least (number base p) q) pairs) (here refl)
+    by false false index rest here later got_it = one_of_both (is_at_least (number base pair) q) (list_any (λ p. is_at_least (number base p) q) pairs) (later got_it)
+
+from_first : (pair : ℕ × ℕ) → number (pos 0) pair ≡ pos pair.0
+from_first pair = omega (arith, ints)
+
+-- no pair is beyond the schedule
+none_beyond : (plan : Plan) (pairs : List (ℕ × ℕ)) (datagrams : List (List ℕ)) → AreSent plan pairs datagrams
+    → list_any (λ pair. is_at_least (number (pos 0) pair) (3 * plan.length)) pairs ≡ false
+none_beyond plan [] datagrams are = refl
+none_beyond plan (pair ∷ pairs) [] are = absurd are
+none_beyond plan (pair ∷ pairs) (datagram ∷ datagrams) are =
+    let within : pair.0 < 3 * plan.length = are.0.within in
+    let here : is_at_least (number (pos 0) pair) (3 * plan.length) ≡ false =
+    ap (λ (z : ℤ). is_at_least z (3 * plan.length)) (from_first pair) ∙ lt-leb (3 * plan.length) pair.0 within in
+    ap (λ (b : Bool). b || list_any (λ (p : ℕ × ℕ). is_at_least (number (pos 0) p) (3 * plan.length)) pairs) here ∙ none_beyond plan pairs datagrams are.1
+
+ends_there : (newest : Option ℕ) (n : ℕ) → 1 ≤ n → reached newest (n - 1) ≡ true → reached newest n ≡ false → end_of None newest ≡ n
+ends_there None n some last none = absurd (let e : false ≡ true = last in cc)
+ends_there (Some m) n some last none = let low : n - 1 ≤ m = leb-true (n - 1) m last in let high : m < n = leb-false n m none in omega (arith, low, high, some)
+
+-- whether the number of items is told or not, they are as many as the schedule's frames
+all_many : (plan : Plan) (window : ℕ) (told : Option ℕ) (pairs : List (ℕ × ℕ)) (datagrams : List (List ℕ)) (first : Option ℕ)
+    → IsSchedule plan → (told ≡ None) ⊎ (told ≡ Some (3 * plan.length)) → IsFollowed plan first (pos 0) pairs datagrams
+    → ((q : ℕ) → q < 3 * plan.length → IsInTime plan window (pos 0) pairs q) → end_of told (newest_of (pos 0) None pairs) ≡ 3 * plan.length
+all_many plan window told pairs datagrams first is (inr known) followed in_time = ap (λ (o : Option ℕ). end_of o (newest_of (pos 0) None pairs)) known
+all_many plan window told pairs datagrams first is (inl unknown) followed in_time =
+    let n : ℕ = 3 * plan.length in
+    let some : 1 ≤ 3 * plan.length = omega (arith, is.in_lines.some_frames) in
+    let last = in_time (n - 1) (omega (arith, some)) in
+    let one = some_got plan last.t (got window (pos 0) pairs (n - 1)) is last.enough in
+    let came : reached (newest_of (pos 0) None pairs) (n - 1) ≡ true = reached_is (pos 0) None pairs (n - 1) ∙ got_came window (pos 0) pairs (n - 1) one.0 one.1 in
+    let none : reached (newest_of (pos 0) None pairs) n ≡ false = reached_is (pos 0) None pairs n ∙ none_beyond plan pairs datagrams followed.sent in
+    ap (λ (o : Option ℕ). end_of o (newest_of (pos 0) None pairs)) unknown ∙ ends_there (newest_of (pos 0) None pairs) n some came none
+
+pub all_frames : AllFrames
+all_frames plan window told pairs datagrams first steps is known followed in_time given =
+    let many : length steps ≡ 3 * plan.length = given.many ∙ all_many plan window told pairs datagrams first is known followed in_time in (
+      many,
+      λ q step at.
+          let within : q < length steps = slice_get_within steps q step at in
+          given_in_time plan window (pos 0) told pairs steps q step is given (in_time q (omega (arith, within, many))) at,
+    )

@@ -1,0 +1,14 @@
+pub mod Numbering
+pub mod Places
+pub mod Configurations
+pub mod Seeing
+pub mod SwitchLaws
+pub mod InTime
+pub mod Needed
+pub mod AllGiven
+pub mod Lengths
+pub mod Suiting
+pub mod Packets
+pub mod Delivered
+pub mod Bytes
+pub mod Early

@@ -1,0 +1,10 @@
+//! What reaches a modulator of a schedule: a delivery of its datagrams, and the frames and switches that it calls for. No
+//! code is here that runs: the laws tie what a server sends to what a collector and a feed give.
+#![tactic(auto)]
+
+mod laws;
+
+pub use laws::{
+    all_frames_are_given, all_switches_are_told, frames_in_time_are_given, modulators_give,
+    modulators_give_early, no_datagram_is_refused, switches_are_told_at_starts,
+};
