@@ -11,7 +11,7 @@ use Rattle.drm_links.specs.Source.{Input, Inputs}
 use Rattle.drm_links.specs.Sink.{Output, Outputs, IsFront}
 use Rattle.drm_links.proofs.ToldLemmas.{Inputs-weaker}
 use Rattle.drm_top.specs.declared.fault.Fault.{Fault}
-use Rattle.drm_top.specs.declared.fault.Fault.TheVariants.{NoMemory, Words, FacLength, FacOver, FacCrc, Schedule, Read, Write, Link}
+use Rattle.drm_top.specs.declared.fault.Fault.TheVariants.{NoMemory, Words, FacLength, FacOver, FacCrc, Schedule, Script, Read, Write, Link}
 use Rattle.drm_top.specs.Input.{ReadsHead, FailsWithin}
 use Rattle.drm_show.specs.FacLine.{fac_line}
 use Rattle.drm_top.specs.Fault.{status_of}
@@ -41,30 +41,35 @@ comes_once bytes (Ok f) (Err Words) is_v is_w = absurd is_w
 comes_once bytes (Ok f) (Err Read) is_v is_w = absurd is_w
 comes_once bytes (Ok f) (Err Write) is_v is_w = absurd is_w
 comes_once bytes (Ok f) (Err (Schedule l r)) is_v is_w = absurd is_w
+comes_once bytes (Ok f) (Err (Script l r)) is_v is_w = absurd is_w
 comes_once bytes (Err (FacLength n)) (Err NoMemory) is_v is_w = absurd is_w
 comes_once bytes (Err (FacLength n)) (Err Link) is_v is_w = absurd is_w
 comes_once bytes (Err (FacLength n)) (Err Words) is_v is_w = absurd is_w
 comes_once bytes (Err (FacLength n)) (Err Read) is_v is_w = absurd is_w
 comes_once bytes (Err (FacLength n)) (Err Write) is_v is_w = absurd is_w
 comes_once bytes (Err (FacLength n)) (Err (Schedule l r)) is_v is_w = absurd is_w
+comes_once bytes (Err (FacLength n)) (Err (Script l r)) is_v is_w = absurd is_w
 comes_once bytes (Err FacOver) (Err NoMemory) is_v is_w = absurd is_w
 comes_once bytes (Err FacOver) (Err Link) is_v is_w = absurd is_w
 comes_once bytes (Err FacOver) (Err Words) is_v is_w = absurd is_w
 comes_once bytes (Err FacOver) (Err Read) is_v is_w = absurd is_w
 comes_once bytes (Err FacOver) (Err Write) is_v is_w = absurd is_w
 comes_once bytes (Err FacOver) (Err (Schedule l r)) is_v is_w = absurd is_w
+comes_once bytes (Err FacOver) (Err (Script l r)) is_v is_w = absurd is_w
 comes_once bytes (Err (FacCrc s c)) (Err NoMemory) is_v is_w = absurd is_w
 comes_once bytes (Err (FacCrc s c)) (Err Link) is_v is_w = absurd is_w
 comes_once bytes (Err (FacCrc s c)) (Err Words) is_v is_w = absurd is_w
 comes_once bytes (Err (FacCrc s c)) (Err Read) is_v is_w = absurd is_w
 comes_once bytes (Err (FacCrc s c)) (Err Write) is_v is_w = absurd is_w
 comes_once bytes (Err (FacCrc s c)) (Err (Schedule l r)) is_v is_w = absurd is_w
+comes_once bytes (Err (FacCrc s c)) (Err (Script l r)) is_v is_w = absurd is_w
 comes_once bytes (Err NoMemory) w is_v is_w = absurd is_v
 comes_once bytes (Err Link) w is_v is_w = absurd is_v
 comes_once bytes (Err Words) w is_v is_w = absurd is_v
 comes_once bytes (Err Read) w is_v is_w = absurd is_v
 comes_once bytes (Err Write) w is_v is_w = absurd is_v
 comes_once bytes (Err (Schedule l r)) w is_v is_w = absurd is_v
+comes_once bytes (Err (Script l r)) w is_v is_w = absurd is_v
 
 whole : (left : List ℕ) → length left ≤ 9 → take 10 left ≡ left
 whole left few = take_all 10 left (omega (arith, few))
@@ -93,6 +98,7 @@ comes_front left (Err Words) is = is
 comes_front left (Err Read) is = is
 comes_front left (Err Write) is = is
 comes_front left (Err (Schedule l r)) is = is
+comes_front left (Err (Script l r)) is = is
 
 pub comes_whole : (left : List ℕ) (v : Result Fac Fault) → ComesTo (take 10 left) v → ComesTo left v
 comes_whole left (Ok f) is = along (Ok f) (take 10 left) left (whole_of_front left (omega (arith, is.nine))) is
@@ -105,6 +111,7 @@ comes_whole left (Err Words) is = is
 comes_whole left (Err Read) is = is
 comes_whole left (Err Write) is = is
 comes_whole left (Err (Schedule l r)) is = is
+comes_whole left (Err (Script l r)) is = is
 
 -- a head that was read, and what it comes to
 judged : (came : Result Fac Fault) (a b : Option Input) (head : List ℕ) → ReadsHead head a b → ComesTo head came → Inputs a b (λ left rest. ComesTo left came)
@@ -124,6 +131,7 @@ comes (Err FacOver) a b no_fault (head, reads, is) = judged (Err FacOver) a b he
 comes (Err (FacCrc s c)) a b no_fault (head, reads, is) = judged (Err (FacCrc s c)) a b head reads is
 comes (Err Write) a b no_fault (head, reads, is) = judged (Err Write) a b head reads is
 comes (Err (Schedule l r)) a b no_fault (head, reads, is) = judged (Err (Schedule l r)) a b head reads is
+comes (Err (Script l r)) a b no_fault (head, reads, is) = judged (Err (Script l r)) a b head reads is
 
 is_read : (came : Result Fac Fault) → (came ≡ Err Read) ⊎ (came ≡ Err Read → ⊥)
 is_read (Ok f) = inr (λ e. cc)
@@ -136,6 +144,7 @@ is_read (Err (FacCrc s c)) = inr (λ e. cc)
 is_read (Err Read) = inl refl
 is_read (Err Write) = inr (λ e. cc)
 is_read (Err (Schedule l r)) = inr (λ e. cc)
+is_read (Err (Script l r)) = inr (λ e. cc)
 
 failed_within : (came : Result Fac Fault) (a b : Option Input) → came ≡ Err Read → Reads came a b → (taken : ℕ) × FailsWithin taken a b
 failed_within came a b is reads = let P : Result Fac Fault → Type 0 = λ v. Reads v a b in subst P is reads
@@ -225,6 +234,7 @@ run_ends ending input_faults input_tells input input' out_faults out_tells out o
     ended (Ok fac) FacOver tells out out' writes reads no_write none = writes
     ended (Ok fac) (FacCrc s c) tells out out' writes reads no_write none = writes
     ended (Ok fac) (Schedule l r) tells out out' writes reads no_write none = writes
+    ended (Ok fac) (Script l r) tells out out' writes reads no_write none = writes
     ended (Ok fac) Read tells out out' writes reads no_write none = writes
     ended (Ok fac) Write tells out out' writes reads no_write none = no_write refl
     ended (Err other) fault tells out out' writes reads no_write none =
@@ -249,6 +259,7 @@ three_exactly (Ok fac) (Err (FacLength n)) tells out out' left writes comes = ab
 three_exactly (Ok fac) (Err FacOver) tells out out' left writes comes = absurd writes
 three_exactly (Ok fac) (Err (FacCrc s c)) tells out out' left writes comes = absurd writes
 three_exactly (Ok fac) (Err (Schedule l r)) tells out out' left writes comes = absurd writes
+three_exactly (Ok fac) (Err (Script l r)) tells out out' left writes comes = absurd writes
 three_exactly (Ok fac) (Err Read) tells out out' left writes comes = absurd writes
 three_exactly (Err (FacLength n)) ending tells out out' left writes comes = (λ e fac is. let wrong : Err (FacLength n) ≡ Ok fac = comes_once left (Err (FacLength n)) (Ok fac) comes is in cc, λ none. ap status_of writes.0)
 three_exactly (Err FacOver) ending tells out out' left writes comes = (λ e fac is. let wrong : Err FacOver ≡ Ok fac = comes_once left (Err FacOver) (Ok fac) comes is in cc, λ none. ap status_of writes.0)
@@ -259,6 +270,7 @@ three_exactly (Err Words) ending tells out out' left writes comes = absurd comes
 three_exactly (Err Read) ending tells out out' left writes comes = absurd comes
 three_exactly (Err Write) ending tells out out' left writes comes = absurd comes
 three_exactly (Err (Schedule l r)) ending tells out out' left writes comes = absurd comes
+three_exactly (Err (Script l r)) ending tells out out' left writes comes = absurd comes
 
 -- status 3 comes exactly where the input is no FAC
 pub run_refused : {I O : Type 0} (ending : Result (Unit {0}) Fault) (input_faults : I → ℕ) (input_tells : I → Option Input) (input input' : I) (out_faults : O → ℕ) (out_tells : O → Option Output) (out out' : O)
@@ -279,6 +291,7 @@ printed fac (Err (FacLength n)) tells out out' writes none = absurd writes
 printed fac (Err FacOver) tells out out' writes none = absurd writes
 printed fac (Err (FacCrc s c)) tells out out' writes none = absurd writes
 printed fac (Err (Schedule l r)) tells out out' writes none = absurd writes
+printed fac (Err (Script l r)) tells out out' writes none = absurd writes
 printed fac (Err Read) tells out out' writes none = absurd writes
 
 -- where neither side failed a FAC is printed

@@ -5,7 +5,7 @@ use Rattle.drm_links.specs.Shelf.{Files, Supplies}
 use Rattle.drm_links.specs.Sink.{Output, Outputs}
 use Rattle.drm_links.proofs.ToldLemmas.{Supplies-weaker}
 use Rattle.drm_top.specs.declared.fault.Fault.{Fault}
-use Rattle.drm_top.specs.declared.fault.Fault.TheVariants.{NoMemory, Words, FacLength, FacOver, FacCrc, Schedule, Read, Write, Link}
+use Rattle.drm_top.specs.declared.fault.Fault.TheVariants.{NoMemory, Words, FacLength, FacOver, FacCrc, Schedule, Script, Read, Write, Link}
 use Rattle.drm_top.specs.declared.loading.ScheduleFault.{ScheduleFault}
 use Rattle.drm_top.specs.declared.loading.ScheduleFault.TheVariants as schedule
 use Rattle.drm_top.specs.Fault.{status_of}
@@ -24,6 +24,7 @@ module _ {T O : Type 0} (whole front : T → List ℕ → Type 0) where
   three_exactly (Ok x) (Err FacOver) tells out out' writes = absurd writes
   three_exactly (Ok x) (Err (FacCrc s c)) tells out out' writes = absurd writes
   three_exactly (Ok x) (Err (Schedule l r)) tells out out' writes = absurd writes
+  three_exactly (Ok x) (Err (Script l r)) tells out out' writes = absurd writes
   three_exactly (Ok x) (Err Read) tells out out' writes = absurd writes
   three_exactly (Err schedule.NoMemory) ending tells out out' writes = (λ e. let is = ap status_of writes.0 in absurd (omega (arith, e, is)), λ refused. absurd refused)
   three_exactly (Err (schedule.Line l r)) ending tells out out' writes = (λ e. tt, λ refused. ap status_of writes.0)
@@ -39,6 +40,7 @@ module _ {T O : Type 0} (whole front : T → List ℕ → Type 0) where
   four_exactly (Ok x) (Err FacOver) tells out out' writes = absurd writes
   four_exactly (Ok x) (Err (FacCrc s c)) tells out out' writes = absurd writes
   four_exactly (Ok x) (Err (Schedule l r)) tells out out' writes = absurd writes
+  four_exactly (Ok x) (Err (Script l r)) tells out out' writes = absurd writes
   four_exactly (Ok x) (Err Read) tells out out' writes = absurd writes
   four_exactly (Err schedule.NoMemory) ending tells out out' writes = (λ e. let is = ap status_of writes.0 in absurd (omega (arith, e, is)), λ read. cc)
   four_exactly (Err (schedule.Line l r)) ending tells out out' writes = (λ e. let is = ap status_of writes.0 in absurd (omega (arith, e, is)), λ read. cc)
@@ -54,6 +56,7 @@ module _ {T O : Type 0} (whole front : T → List ℕ → Type 0) where
   all_written x (Err FacOver) tells out out' writes none = absurd writes
   all_written x (Err (FacCrc s c)) tells out out' writes none = absurd writes
   all_written x (Err (Schedule l r)) tells out out' writes none = absurd writes
+  all_written x (Err (Script l r)) tells out out' writes none = absurd writes
   all_written x (Err Read) tells out out' writes none = absurd writes
 
   -- unless memory ran out, what came is what the files come to

@@ -1,34 +1,35 @@
 -- The command of a request.
-use Rattle.std.proofs.Common.{◌≡◌, ◌⊎◌, inl, inr, ℕ, List, Result, Ok, Err, refl, sym, ◌∙◌, ap, subst}
+use Rattle.std.proofs.Common.{◌≡◌, ◌⊎◌, inl, inr, ℕ, List, Option, None, Some, Result, Ok, Err, refl, sym, ◌∙◌, ap, subst}
 use Rattle.drm_words.specs.declared.fault.WordsFault.{WordsFault}
 use Rattle.drm_words.specs.declared.fault.WordsFault.TheVariants as faults
 use Rattle.drm_words.specs.declared.request.Request.{Request}
+use Rattle.drm_words.specs.declared.request.Request.TheVariants as requests
 use Rattle.drm_words.specs.Line.{IsLine}
 use Rattle.drm_top.specs.declared.words.Command.{Command}
-use Rattle.drm_top.specs.declared.words.Command.TheVariants.{Fac, Check, Serve, Send}
+use Rattle.drm_top.specs.declared.words.Command.TheVariants.{Fac, Check, Serve, Send, Receive, Air}
 use Rattle.drm_top.specs.Words.{request_of, AsksFor, AsksForNothing, Asks}
 
+-- the command that a request is asked by, where there is one
+abbrev command_by : Request → Command
+command_by requests.Fac = Fac
+command_by (requests.Check name) = Check name
+command_by (requests.Serve name None pace) = Serve name pace
+command_by (requests.Serve name (Some to) pace) = Send name to pace
+command_by (requests.Receive (Some addresses) window first frames idle limit) =
+    Receive addresses (record { window = window; first = first; frames = frames; idle = idle; limit = limit })
+command_by (requests.Air name script window) = Air name script window
+command_by other = Fac
+
+same_command : (a : Command) → command_by (request_of a) ≡ a
+same_command Fac = refl
+same_command (Check name) = refl
+same_command (Serve name pace) = refl
+same_command (Send name to pace) = refl
+same_command (Receive addresses rules) = refl
+same_command (Air name script window) = refl
+
 one_command : (a b : Command) → request_of a ≡ request_of b → a ≡ b
-one_command Fac Fac is = refl
-one_command Fac (Check n) is = cc
-one_command Fac (Serve n p) is = cc
-one_command Fac (Send n a p) is = cc
-one_command (Check m) Fac is = cc
-one_command (Check m) (Check n) is = let same : m ≡ n = cc in ap Check same
-one_command (Check m) (Serve n p) is = cc
-one_command (Check m) (Send n a p) is = cc
-one_command (Serve m q) Fac is = cc
-one_command (Serve m q) (Check n) is = cc
-one_command (Serve m q) (Serve n p) is = let same : m ≡ n = cc in let pace : q ≡ p = cc in ap (λ k. Serve k q) same ∙ ap (λ k. Serve n k) pace
-one_command (Serve m q) (Send n a p) is = cc
-one_command (Send m b q) Fac is = cc
-one_command (Send m b q) (Check n) is = cc
-one_command (Send m b q) (Serve n p) is = cc
-one_command (Send m b q) (Send n a p) is =
-    let same : m ≡ n = cc in
-    let address : b ≡ a = cc in
-    let pace : q ≡ p = cc in
-    ap (λ k. Send k b q) same ∙ (ap (λ k. Send n k q) address ∙ ap (λ k. Send n a k) pace)
+one_command a b is = sym (same_command a) ∙ (ap command_by is ∙ same_command b)
 
 -- a request that is a command's comes to that command
 the_command : (came : Result Command WordsFault) (request : Request) (command : Command) → Asks came request → request ≡ request_of command → came ≡ Ok command

@@ -2,7 +2,7 @@
 use Rattle.drm_fac.specs.declared.fac.FacFault.{FacFault}
 use Rattle.drm_fac.specs.declared.fac.FacFault.TheVariants.{Crc}
 use Rattle.drm_top.specs.declared.fault.Fault.{Fault}
-use Rattle.drm_top.specs.declared.fault.Fault.TheVariants.{NoMemory, FacCrc, Schedule, Read}
+use Rattle.drm_top.specs.declared.fault.Fault.TheVariants.{NoMemory, FacCrc, Schedule, Script, Read}
 use Rattle.drm_top.specs.declared.loading.ScheduleFault.{ScheduleFault}
 use Rattle.drm_top.specs.declared.loading.ScheduleFault.TheVariants as schedule
 
@@ -13,3 +13,8 @@ abbrev pub fault_of_schedule : ScheduleFault → Fault
 fault_of_schedule schedule.NoMemory = NoMemory
 fault_of_schedule (schedule.Line line reason) = Schedule line reason
 fault_of_schedule schedule.Read = Read
+
+abbrev pub fault_of_script : ScheduleFault → Fault
+fault_of_script schedule.NoMemory = NoMemory
+fault_of_script (schedule.Line line reason) = Script line reason
+fault_of_script schedule.Read = Read

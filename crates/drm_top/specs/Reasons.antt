@@ -21,6 +21,14 @@ reason_word ContentShort = codes "content-short"
 reason_word PacketSize = codes "packet-size"
 reason_word TooLong = codes "too-long"
 
--- the line of a fault in line n of a schedule's text
+-- the line of a fault in line n of a text
+abbrev pub reason_line : List ℕ → ℕ → List ℕ → List ℕ
+reason_line front n reason = concat (front ∷ decimal n ∷ codes ": " ∷ reason ∷ codes "\n" ∷ [])
+
+-- of a schedule's text
 abbrev pub schedule_line : ℕ → List ℕ → List ℕ
-schedule_line n reason = concat (codes "drmcast: schedule line " ∷ decimal n ∷ codes ": " ∷ reason ∷ codes "\n" ∷ [])
+schedule_line n reason = reason_line (codes "drmcast: schedule line ") n reason
+
+-- of a script's text
+abbrev pub script_line : ℕ → List ℕ → List ℕ
+script_line n reason = reason_line (codes "drmcast: script line ") n reason

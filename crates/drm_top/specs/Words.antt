@@ -1,12 +1,13 @@
 -- The command lines whose command is built.
-use Rattle.std.specs.Prelude.{ℕ, ◌≡◌, List, None, Some, Result, Ok, Err, IsUtf8}
+use Rattle.std.specs.Prelude.{ℕ, ◌≡◌, ◌≤◌, List, None, Some, Result, Ok, Err, IsUtf8}
 use Rattle.drm_words.specs.Line.{IsLine}
 use Rattle.drm_words.specs.declared.request.Request.{Request}
 use Rattle.drm_words.specs.declared.request.Request.TheVariants as requests
 use Rattle.drm_words.specs.declared.fault.WordsFault.{WordsFault}
 use Rattle.drm_words.specs.declared.fault.WordsFault.TheVariants as faults
+use Rattle.drm_top.specs.Terms.{AreInRange, AreListed}
 use Rattle.drm_top.specs.declared.words.Command.{Command}
-use Rattle.drm_top.specs.declared.words.Command.TheVariants.{Fac, Check, Serve, Send}
+use Rattle.drm_top.specs.declared.words.Command.TheVariants.{Fac, Check, Serve, Send, Receive, Air}
 
 -- what a command is asked for with
 abbrev pub request_of : Command → Request
@@ -14,6 +15,8 @@ request_of Fac = requests.Fac
 request_of (Check name) = requests.Check name
 request_of (Serve name pace) = requests.Serve name None pace
 request_of (Send name to pace) = requests.Serve name (Some to) pace
+request_of (Receive addresses rules) = requests.Receive (Some addresses) rules.window rules.first rules.frames rules.idle rules.limit
+request_of (Air name script window) = requests.Air name script window
 
 -- the words are a command line of this command
 abbrev pub AsksFor : Command → List (List ℕ) → Type 0
@@ -28,9 +31,11 @@ abbrev pub Asks : Result Command WordsFault → Request → Type 0
 Asks (Ok command) request = request ≡ request_of command
 Asks (Err fault) request = (fault ≡ faults.Words) × ((command : Command) → request ≡ request_of command → ⊥)
 
--- the name is text
-abbrev pub HasTextName : Command → Type 0
-HasTextName Fac = Unit {0}
-HasTextName (Check name) = IsUtf8 name
-HasTextName (Serve name pace) = IsUtf8 name
-HasTextName (Send name to pace) = IsUtf8 name
+-- its names are text, and its numbers are in their ranges
+abbrev pub IsInRange : Command → Type 0
+IsInRange Fac = Unit {0}
+IsInRange (Check name) = IsUtf8 name
+IsInRange (Serve name pace) = IsUtf8 name
+IsInRange (Send name to pace) = IsUtf8 name
+IsInRange (Receive addresses rules) = AreInRange rules × AreListed addresses
+IsInRange (Air name script window) = IsUtf8 name × IsUtf8 script × (1 ≤ window) × (window ≤ 64)

@@ -1,6 +1,6 @@
 //! The top call.
 
-ghost use Rattle.std.specs.Prelude.{◌≡◌, ◌≢◌, ◌≤◌, ◌↔◌, ◌⊎◌, ℕ, List, length, Some, Result, IsErrOf, map, string_bytes};
+ghost use Rattle.std.specs.Prelude.{◌≡◌, ◌≢◌, ◌≤◌, ◌↔◌, ◌⊎◌, ℕ, List, length, Some, Bool, false, Result, Ok, IsErrOf, map, string_bytes};
 ghost use Rattle.drm_links.specs.Told.{HasCause, Rose, WhileTold};
 ghost use Rattle.drm_links.specs.Dock.{LinkStart, address_key};
 ghost use Rattle.drm_links.specs.Transmission.{TakesSends};
@@ -13,7 +13,7 @@ ghost use Rattle.drm_links.specs.Sink.{Outputs};
 ghost use Rattle.drm_fac.specs.Fac.{IsFac};
 ghost use Rattle.drm_show.specs.FacLine.{fac_line};
 ghost use Rattle.drm_top.specs.Lines.{fault_line};
-ghost use Rattle.drm_top.specs.Fault.{status_of, WritesLine, Reports};
+ghost use Rattle.drm_top.specs.Fault.{status_of, done_of, report_status, WritesLine, Reports};
 ghost use Rattle.drm_top.specs.Fac.{FacRun};
 ghost use Rattle.drm_schedule.specs.declared.plan.Plan.{Plan};
 ghost use Rattle.drm_server.specs.Capture.{IsCapture};
@@ -22,14 +22,21 @@ ghost use Rattle.drm_top.specs.Check.{CheckRun};
 ghost use Rattle.drm_top.specs.Serve.{ServeRun};
 ghost use Rattle.drm_top.specs.Send.{SendRun, OpeningFails, OpensLink, LacksSends, SendsNothing};
 ghost use Rattle.drm_top.specs.Schedule.{checked, schedule_named};
-ghost use Rattle.drm_top.specs.Command.{CommandRun, OpensALink};
-ghost use Rattle.drm_top.specs.Words.{AsksFor, AsksForNothing, HasTextName};
+ghost use Rattle.script_lines.specs.declared.delivery.Delivery.{Delivery};
+ghost use Rattle.drm_top.specs.declared.rules.Rules.{Rules};
+ghost use Rattle.drm_top.specs.Receive.{ReceiveRun, AreReports, FailsSome, Docked};
+ghost use Rattle.drm_top.specs.Air.{AirRun, AreAired};
+ghost use Rattle.drm_top.specs.Status.{WroteReports, AreInTime, FeedsAreInTime, schedule_and_script};
+ghost use Rattle.drm_top.specs.Command.{CommandRun, OpensALink, WritesReport};
+ghost use Rattle.drm_top.specs.Words.{AsksFor, AsksForNothing, IsInRange};
 ghost use Rattle.drm_top.specs.declared.words.Command.{Command};
 
+use crate::air::air;
 use crate::check::check;
 use crate::fac::fac;
 use crate::fault::Fault;
 use crate::loading::ScheduleFault;
+use crate::receive::receive;
 use crate::send::send;
 use crate::serve::serve;
 use crate::words::{Command, read_command, text};
@@ -44,9 +51,11 @@ use std::thread::Threads;
 ///
 /// `fac` reads the nine bytes of a FAC from `input` and writes its line to `out`. `check` reads a schedule and its files
 /// from `shelf` and writes its canonical text to `out`; `serve` reads them too and writes the datagrams of the schedule to
-/// `out` as a capture, or sends them over a link that it opens in `dock`. The statuses are 0 done, 1 no memory, 2 no
-/// command line, 3 no FAC or no schedule, 4 a read of `input` or a load from `shelf` failed, 5 a write to `out` failed, 6 a
-/// link couldn't be opened or failed; each but 0 writes a line to `err`.
+/// `out` as a capture, or sends them over a link that it opens in `dock`. `receive` opens links in `dock`, reads them side
+/// by side and writes their reports to `out`; `air` does the same in memory with a schedule and a script from `shelf`. The
+/// statuses are 0 done, 1 no memory, 2 no command line, 3 no FAC, no schedule or no script, 4 a read of `input` or a load
+/// from `shelf` failed, 5 a write to `out` failed, 6 a link couldn't be opened or failed, 7 done, and a frame is missing or
+/// bad; each from 1 to 6 writes a line to `err`.
 pub fn run<R: Threads + Sync, S: Shelf, I: Source, O: Sink, E: Sink, D: Dock>(
     rt: &R,
     alloc: Global,
@@ -178,6 +187,78 @@ where
         (λ before _. (result.code ≡ 4)
         ↔ ((schedule_named name before).came ≡ Err ScheduleFault.Read)) }
 
+    // The command `receive` from links, which leaves shelf and input alone.
+    ensures receive { (addresses : List Address) → (rules : Rules)
+        → AsksFor (Command.Receive addresses rules) (map string_bytes words.now) → result.code ≢ 1
+        → (ending : Result Bool Fault) × (result.code ≡ report_status ending)
+        × ReceiveRun rules addresses ending D.faults D.tells dock.old dock.new D.L.faults
+        O.faults O.tells out.old out.new
+        × (shelf.new ≡ shelf.old) × (input.new ≡ input.old)
+        × Reports (done_of ending) E.faults E.tells err.old err.new }
+
+    // Its status 6 comes exactly where an opening fails, or what is read of some link ends in a failure.
+    ensures receive_linked { (addresses : List Address) → (rules : Rules)
+        → AsksFor (Command.Receive addresses rules) (map string_bytes words.now) → result.code ≢ 1
+        → Docked (D.tells dock.old) (D.tells dock.new)
+        (λ told. (result.code ≡ 6) ↔ FailsSome rules told addresses) }
+
+    // Where no link and no write failed, the report of each link is written, in the order of the
+    // addresses: whatever delivery of whatever valid schedule came over a link, its report is that of
+    // the delivery. The status is 7 exactly where a line of them is missing or bad.
+    ensures receive_complete { (addresses : List Address) → (rules : Rules)
+        → AsksFor (Command.Receive addresses rules) (map string_bytes words.now) → result.code ≢ 1
+        → (Rose (O.faults out.old) (O.faults out.new) → ⊥)
+        → Docked (D.tells dock.old) (D.tells dock.new) (λ told. (FailsSome rules told addresses → ⊥)
+        → WroteReports result.code (AreReports rules told addresses) O.tells out.old out.new) }
+
+    // Where each link brings each frame of a schedule in time, none is missing.
+    ensures receive_in_time { (addresses : List Address) → (rules : Rules)
+        → AsksFor (Command.Receive addresses rules) (map string_bytes words.now) → result.code ≢ 1
+        → (Rose (O.faults out.old) (O.faults out.new) → ⊥)
+        → Docked (D.tells dock.old) (D.tells dock.new) (λ told. (FailsSome rules told addresses → ⊥)
+        → AreInTime rules told addresses → result.code ≡ 0) }
+
+    // The command `air`, which leaves input and dock alone.
+    ensures air { (name : List ℕ) → (script : List ℕ) → (window : ℕ)
+        → AsksFor (Command.Air name script window) (map string_bytes words.now) → result.code ≢ 1
+        → (ending : Result Bool Fault) × (result.code ≡ report_status ending)
+        × AirRun name script window ending S.faults S.tells shelf.old shelf.new
+        O.faults O.tells out.old out.new
+        × (input.new ≡ input.old) × (dock.new ≡ dock.old)
+        × Reports (done_of ending) E.faults E.tells err.old err.new }
+
+    // Its status 3 comes exactly where a line of the schedule or of the script is wrong, 4 exactly
+    // where a load fails.
+    ensures air_refused { (name : List ℕ) → (script : List ℕ) → (window : ℕ)
+        → AsksFor (Command.Air name script window) (map string_bytes words.now) → result.code ≢ 1
+        → Supplies (S.tells shelf.old) (S.tells shelf.new)
+        (λ before _. (result.code ≡ 3) ↔ IsRefused (schedule_and_script name script before).came) }
+    ensures air_unread { (name : List ℕ) → (script : List ℕ) → (window : ℕ)
+        → AsksFor (Command.Air name script window) (map string_bytes words.now) → result.code ≢ 1
+        → Supplies (S.tells shelf.old) (S.tells shelf.new)
+        (λ before _. (result.code ≡ 4)
+        ↔ ((schedule_and_script name script before).came ≡ Err ScheduleFault.Read)) }
+
+    // Where the files are a schedule and a script and no write failed, the report of each feed is
+    // written, in their order: it is that of the datagrams that the feed delivers. The status is 7
+    // exactly where a line of them is missing or bad.
+    ensures air_complete { (name : List ℕ) → (script : List ℕ) → (window : ℕ)
+        → AsksFor (Command.Air name script window) (map string_bytes words.now) → result.code ≢ 1
+        → (Rose (O.faults out.old) (O.faults out.new) → ⊥)
+        → Supplies (S.tells shelf.old) (S.tells shelf.new)
+        (λ before _. (plan : Plan) → (feeds : List (List Delivery))
+        → (schedule_and_script name script before).came ≡ Ok (plan, feeds)
+        → WroteReports result.code (AreAired plan window feeds) O.tells out.old out.new) }
+
+    // Where each feed has each frame in time, none is missing.
+    ensures air_in_time { (name : List ℕ) → (script : List ℕ) → (window : ℕ)
+        → AsksFor (Command.Air name script window) (map string_bytes words.now) → result.code ≢ 1
+        → (Rose (O.faults out.old) (O.faults out.new) → ⊥)
+        → Supplies (S.tells shelf.old) (S.tells shelf.new)
+        (λ before _. (plan : Plan) → (feeds : List (List Delivery))
+        → (schedule_and_script name script before).came ≡ Ok (plan, feeds)
+        → FeedsAreInTime plan window feeds → result.code ≡ 0) }
+
     // The statuses 4 and 5 come only where the count of faults of input or shelf, or of out rose; 6 only
     // where a link was to be opened. There are no others.
     ensures read { result.code ≡ 4 → Rose (I.faults input.old) (I.faults input.new)
@@ -185,7 +266,9 @@ where
     ensures write { result.code ≡ 5 → Rose (O.faults out.old) (O.faults out.new) }
     ensures link { result.code ≡ 6 → (command : Command) × OpensALink command
         × AsksFor command (map string_bytes words.now) }
-    ensures known { result.code ≤ 6 }
+    ensures known { result.code ≤ 7 }
+    ensures lacking { result.code ≡ 7 → (command : Command) × WritesReport command
+        × AsksFor command (map string_bytes words.now) }
 
     // After want of memory nothing was sent. Where no link is to be opened, the dock is left alone.
     ensures unsent { result.code ≡ 1
@@ -196,8 +279,9 @@ where
     // Laws that the clauses of `serve` to an address rest on.
     one_delivery();
     first_ones_are_front();
-    match execute(alloc, words, shelf, input, out, dock) {
-        Ok(()) => Status { code: 0 },
+    match execute(rt, alloc, words, shelf, input, out, dock) {
+        Ok(true) => Status { code: 0 },
+        Ok(false) => Status { code: 7 },
         Err(fault) => fault.report(err),
     }
 }
@@ -211,14 +295,17 @@ pub fn no_memory<E: Sink>(err: &mut E) -> Status
     Fault::NoMemory.report(err)
 }
 
-fn execute<S: Shelf, I: Source, O: Sink, D: Dock>(
+fn execute<R: Threads + Sync, S: Shelf, I: Source, O: Sink, D: Dock>(
+    rt: &R,
     alloc: Global,
     words: &[String],
     shelf: &mut S,
     input: &mut I,
     out: &mut O,
     dock: &mut D,
-) -> Result<(), Fault>
+) -> Result<bool, Fault>
+where
+    D::L: Link + Send,
     ensures words { IsErrOf result Fault.Words → AsksForNothing (map string_bytes words.now) }
     ensures others { AsksForNothing (map string_bytes words.now)
         → IsErrOf result Fault.Words ⊎ IsErrOf result Fault.NoMemory }
@@ -235,27 +322,34 @@ fn execute<S: Shelf, I: Source, O: Sink, D: Dock>(
     ensures write { HasCause (O.faults out.old) (O.faults out.new) (IsErrOf result Fault.Write) }
     ensures link { IsErrOf result Fault.Link → (command : Command) × OpensALink command
         × AsksFor command (map string_bytes words.now) }
+    ensures lacking { result ≡ Ok false → (command : Command) × WritesReport command
+        × AsksFor command (map string_bytes words.now) }
+    ensures reports { result ≡ Ok false → (command : Command)
+        → AsksFor command (map string_bytes words.now) → WritesReport command }
     ensures unsent { IsErrOf result Fault.NoMemory
         → WhileTold (D.tells dock.old) (D.tells dock.new) SendsNothing }
     ensures dock { ((command : Command) → OpensALink command
         → AsksFor command (map string_bytes words.now) → ⊥) → dock.new ≡ dock.old }
 {
     match read_command(alloc, words) {
-        Ok(command) => run_command(alloc, &command, shelf, input, out, dock),
+        Ok(command) => run_command(rt, alloc, &command, shelf, input, out, dock),
         Err(WordsFault::Words) => Err(Fault::Words),
         Err(WordsFault::NoMemory) => Err(Fault::NoMemory),
     }
 }
 
-fn run_command<S: Shelf, I: Source, O: Sink, D: Dock>(
+fn run_command<R: Threads + Sync, S: Shelf, I: Source, O: Sink, D: Dock>(
+    rt: &R,
     alloc: Global,
     command: &Command,
     shelf: &mut S,
     input: &mut I,
     out: &mut O,
     dock: &mut D,
-) -> Result<(), Fault>
-    requires { HasTextName command.now }
+) -> Result<bool, Fault>
+where
+    D::L: Link + Send,
+    requires { IsInRange command.now }
     ensures words { IsErrOf result Fault.Words → ⊥ }
     ensures memory { IsErrOf result Fault.NoMemory → (input.new ≡ input.old) × (out.new ≡ out.old) }
     ensures run { CommandRun command.now result S.faults S.tells shelf.old shelf.new
@@ -265,14 +359,34 @@ fn run_command<S: Shelf, I: Source, O: Sink, D: Dock>(
         ⊎ Rose (S.faults shelf.old) (S.faults shelf.new) }
     ensures write { HasCause (O.faults out.old) (O.faults out.new) (IsErrOf result Fault.Write) }
     ensures link { IsErrOf result Fault.Link → OpensALink command.now }
+    ensures lacking { result ≡ Ok false → WritesReport command.now }
     ensures unsent { IsErrOf result Fault.NoMemory
         → WhileTold (D.tells dock.old) (D.tells dock.new) SendsNothing }
     ensures dock { (OpensALink command.now → ⊥) → dock.new ≡ dock.old }
 {
     match command {
-        Command::Fac => fac(input, out),
-        Command::Check { name } => check(alloc, text(name), shelf, out),
-        Command::Serve { name, .. } => serve(alloc, text(name), shelf, out),
-        Command::Send { name, to, pace } => send(alloc, text(name), *to, *pace, shelf, dock),
+        Command::Fac => whole(fac(input, out)),
+        Command::Check { name } => whole(check(alloc, text(name), shelf, out)),
+        Command::Serve { name, .. } => whole(serve(alloc, text(name), shelf, out)),
+        Command::Send { name, to, pace } => {
+            whole(send(alloc, text(name), *to, *pace, shelf, dock))
+        }
+        Command::Receive { addresses, rules } => receive(rt, alloc, rules, addresses, dock, out),
+        Command::Air {
+            name,
+            script,
+            window,
+        } => air(rt, alloc, text(name), text(script), *window, shelf, out),
+    }
+}
+
+// A run that reports nothing that could be missing.
+fn whole(done: Result<(), Fault>) -> Result<bool, Fault>
+    ensures done { done_of result ≡ done }
+    ensures clean { result ≡ Ok false → ⊥ }
+{
+    match done {
+        Ok(()) => Ok(true),
+        Err(fault) => Err(fault),
     }
 }

@@ -8,7 +8,7 @@ ghost use Rattle.drm_top.specs.CrcLine.{crc_line};
 
 use crate::head::ReadFault;
 use crate::loading::ScheduleFault;
-use crate::reason::schedule_pieces;
+use crate::reason::{schedule_pieces, script_pieces};
 use drm_bits::NoMemory;
 use drm_fac::FacFault;
 use drm_links::{LinkFault, Sink, Status, WriteFault, write_all};
@@ -24,6 +24,7 @@ pub enum Fault {
     FacOver,
     FacCrc { stands: u8, computed: u8 },
     Schedule { line: u32, reason: Reason },
+    Script { line: u32, reason: Reason },
     Read,
     Write,
     Link,
@@ -120,7 +121,7 @@ impl Fault {
             Fault::NoMemory => 1,
             Fault::Words => 2,
             Fault::FacLength(_) | Fault::FacOver | Fault::FacCrc { .. } => 3,
-            Fault::Schedule { .. } => 3,
+            Fault::Schedule { .. } | Fault::Script { .. } => 3,
             Fault::Read => 4,
             Fault::Write => 5,
             Fault::Link => 6,
@@ -152,6 +153,7 @@ impl Fault {
                 write_pieces(err, &crc_pieces(&values[..1], &values[1..]))
             }
             Fault::Schedule { line, reason } => write_pieces(err, &schedule_pieces(line, reason)),
+            Fault::Script { line, reason } => write_pieces(err, &script_pieces(line, reason)),
             Fault::Read => write_words(err, "drmcast: read fault\n"),
             Fault::Write => write_words(err, "drmcast: write fault\n"),
             Fault::Link => write_words(err, "drmcast: link fault\n"),

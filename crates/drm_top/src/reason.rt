@@ -1,7 +1,7 @@
 //! The words for what is wrong with a text.
 
 ghost use Rattle.std.specs.Prelude.{◌≡◌};
-ghost use Rattle.drm_top.specs.Reasons.{reason_word, schedule_line};
+ghost use Rattle.drm_top.specs.Reasons.{reason_word, reason_line, schedule_line, script_line};
 ghost use Rattle.drm_show.specs.Text.{text_of};
 
 use drm_schedule::Reason;
@@ -11,8 +11,21 @@ use drm_show::Piece;
 pub fn schedule_pieces(line: u32, reason: Reason) -> [Piece<'static>; 5]
     ensures { text_of result ≡ schedule_line line (reason_word reason) }
 {
+    line_pieces("drmcast: schedule line ", line, reason)
+}
+
+/// The line of a fault in a line of a script's text.
+pub fn script_pieces(line: u32, reason: Reason) -> [Piece<'static>; 5]
+    ensures { text_of result ≡ script_line line (reason_word reason) }
+{
+    line_pieces("drmcast: script line ", line, reason)
+}
+
+fn line_pieces(front: &'static str, line: u32, reason: Reason) -> [Piece<'static>; 5]
+    ensures { text_of result ≡ reason_line front.now line (reason_word reason) }
+{
     [
-        Piece::Words("drmcast: schedule line "),
+        Piece::Words(front),
         Piece::Number(u64::from(line)),
         Piece::Words(": "),
         Piece::Words(word(reason)),

@@ -1,13 +1,14 @@
 //! The commands that are built.
 
 ghost use Rattle.std.specs.Prelude.{◌≡◌, ◌⊎◌, IfOk, IsUtf8, map, string_bytes};
-ghost use Rattle.drm_top.specs.Words.{AsksFor, AsksForNothing, Asks, HasTextName};
+ghost use Rattle.drm_top.specs.Words.{AsksFor, AsksForNothing, Asks, IsInRange};
 ghost use Rattle.drm_words.specs.Table.{HasTextNames};
 ghost use Rattle.drm_top.specs.declared.words.Command.{Command};
 
+use crate::rules::Rules;
 use drm_bits::Octets;
 use drm_links::Address;
-use drm_words::{Request, WordsFault, read_words};
+use drm_words::{Addresses, Request, WordsFault, read_words};
 use std::alloc::Global;
 
 /// A command that is built.
@@ -28,6 +29,17 @@ pub enum Command {
         to: Address,
         pace: u32,
     },
+    /// `receive` from links at these addresses.
+    Receive {
+        addresses: Addresses,
+        rules: Rules,
+    },
+    /// `air`; the window counts packets.
+    Air {
+        name: Octets,
+        script: Octets,
+        window: u8,
+    },
 }
 
 /// The command of a command line.
@@ -38,7 +50,7 @@ pub fn read_command(alloc: Global, words: &[String]) -> Result<Command, WordsFau
     ensures refused { result ≡ Err WordsFault.Words → AsksForNothing (map string_bytes words.now) }
     ensures exact { AsksForNothing (map string_bytes words.now)
         → (result ≡ Err WordsFault.Words) ⊎ (result ≡ Err WordsFault.NoMemory) }
-    ensures text { IfOk result HasTextName }
+    ensures in_range { IfOk result IsInRange }
 {
     match read_words(alloc, words) {
         Ok(request) => command_of(request),
@@ -49,7 +61,6 @@ pub fn read_command(alloc: Global, words: &[String]) -> Result<Command, WordsFau
 // No other command is built yet.
 fn command_of(request: Request) -> Result<Command, WordsFault>
     ensures asks { Asks result request }
-    ensures text { HasTextNames request → IfOk result HasTextName }
 {
     match request {
         Request::Fac => Ok(Command::Fac),
@@ -57,6 +68,36 @@ fn command_of(request: Request) -> Result<Command, WordsFault>
         Request::Serve { name, to, pace } => Ok(match to {
             None => Command::Serve { name, pace },
             Some(to) => Command::Send { name, to, pace },
+        }),
+        Request::Receive {
+            addresses,
+            window,
+            first,
+            frames,
+            idle,
+            limit,
+        } => match addresses {
+            Some(addresses) => Ok(Command::Receive {
+                addresses,
+                rules: Rules {
+                    window,
+                    first,
+                    frames,
+                    idle,
+                    limit,
+                },
+            }),
+            // A capture can't be received yet.
+            None => Err(WordsFault::Words),
+        },
+        Request::Air {
+            name,
+            script,
+            window,
+        } => Ok(Command::Air {
+            name,
+            script,
+            window,
         }),
         _ => Err(WordsFault::Words),
     }

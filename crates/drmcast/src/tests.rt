@@ -1,12 +1,14 @@
-//! A schedule over UDP, on the loopback. It is sent whole before it is received.
+//! Schedules over UDP, on the loopback.
 
 use drm_adapt::{UdpDock, UdpLink};
 use drm_links::{Address, Came, Dock, Link, MemShelf, MemSink, MemSource, Opened};
 use drm_top::run;
 use std::alloc::{AllocError, Global};
 use std::net::Net;
+use std::process::Abort;
 use std::test::Fail;
-use std::time::Clock;
+use std::thread::{Threads, join, sleep};
+use std::time::{Clock, Duration};
 
 // One service in one stream of four bytes. Its three packets have 10, 9 and 9 fragments of 16 bytes.
 const SCHEDULE: &[u8] = b"drmplan 1
@@ -100,5 +102,87 @@ fn what_is_sent_is_received(rt: HostRuntime) -> Result<(), Fail> {
         }
     }
     assert!(rt; next_datagram(alloc, &mut link)?.is_none());
+    Ok(())
+}
+
+// What a command line of `receive` or `serve` came to, over the sockets of the system.
+#[derive(Drop)]
+struct Outcome {
+    status: u8,
+    written: Vec<u8>,
+}
+
+fn ran<R: Abort + AllocGlobal + Threads + Sync + Net + Clock>(
+    rt: &R,
+    line: &[&str],
+) -> Option<Outcome> {
+    let alloc = rt.alloc();
+    let mut words = Vec::new(alloc);
+    for word in line {
+        let Ok(()) = words.push(String::from_str(alloc, word).ok()?) else {
+            return None;
+        };
+    }
+    let mut shelf = MemShelf::make(alloc, &[]).ok()?;
+    shelf.add(alloc, "schedule.txt", SCHEDULE).ok()?;
+    let mut input = MemSource::make(alloc, &[], &[], 1).ok()?;
+    let mut out = MemSink::make(alloc, 1000, &[], 100).ok()?;
+    let mut err = MemSink::make(alloc, 100, &[], 100).ok()?;
+    let mut dock = UdpDock::new(rt);
+    let status = run(
+        rt, alloc, &words, &mut shelf, &mut input, &mut out, &mut err, &mut dock,
+    );
+    Some(Outcome {
+        status: status.code,
+        written: out.bytes().to_vec(alloc).ok()?,
+    })
+}
+
+#[test]
+fn where_nobody_sends_the_report_ends_idle(rt: HostRuntime) -> Result<(), Fail> {
+    let heard = ran(&rt, &["receive", "127.0.0.1:47811", "--idle", "1"]).ok_or("memory")?;
+    assert_eq!(rt;
+        heard.written.as_slice(),
+        b"feed 1\nend idle given 0 missing 0 bad 0 refused 0\n".as_slice()
+    );
+    assert_eq!(rt; heard.status, 0);
+    Ok(())
+}
+
+// The reports of two modulators that give the three frames.
+const REPORTS: &[u8] = b"feed 1
+frame 0 dlfc 0 mode B fac 660801234560a1806d sdc 00601000004049023006be6 mux 01000004 msc 55555555
+frame 1 dlfc 1 mode B fac 260801234560a18033 sdc - mux 01000004 msc 55555555
+frame 2 dlfc 2 mode B fac 460801234560a18042 sdc - mux 01000004 msc 55555555
+end frames given 3 missing 0 bad 0 refused 0
+feed 2
+frame 0 dlfc 0 mode B fac 660801234560a1806d sdc 00601000004049023006be6 mux 01000004 msc 55555555
+frame 1 dlfc 1 mode B fac 260801234560a18033 sdc - mux 01000004 msc 55555555
+frame 2 dlfc 2 mode B fac 460801234560a18042 sdc - mux 01000004 msc 55555555
+end frames given 3 missing 0 bad 0 refused 0
+";
+
+#[test]
+fn two_modulators_give_what_is_served(rt: HostRuntime) -> Result<(), Fail> {
+    let (heard, served) = join(
+        &rt,
+        || {
+            let both = "127.0.0.1:47812,127.0.0.1:47813";
+            ran(&rt, &["receive", both, "--frames", "3", "--idle", "100"])
+        },
+        || {
+            // So long the receivers have to open their links.
+            sleep(&rt, Duration::from_millis(500));
+            let first = ran(&rt, &["serve", "schedule.txt", "--to", "127.0.0.1:47812"]);
+            let second = ran(&rt, &["serve", "schedule.txt", "--to", "127.0.0.1:47813"]);
+            (first, second)
+        },
+    );
+    let heard = heard.ok_or("memory")?;
+    let (first, second) = served;
+    assert_eq!(rt; first.ok_or("memory")?.status, 0);
+    assert_eq!(rt; second.ok_or("memory")?.status, 0);
+    assert_eq!(rt; heard.written.as_slice(), REPORTS);
+    assert_eq!(rt; heard.status, 0);
     Ok(())
 }

@@ -1,4 +1,5 @@
-use Rattle.std.proofs.Common.{◌≡◌}
+use Rattle.std.proofs.Common.{◌≡◌, subst}
+use Rattle.drm_top.specs.Command.{WritesReport}
 use Rattle.drm_top.proofs.WordsLemmas.{command_read}
 use Rattle.drm_top.proofs.command.execute.Goals as goal
 
@@ -12,3 +13,11 @@ returns-in-Ok-clause-link g c = λ is. (c.in-Ok.command, c.run_command.ensures.l
 
 pub returns-in-Ok-clause-dock : goal.returns-in-Ok-clause-dock
 returns-in-Ok-clause-dock g c = λ none. c.run_command.ensures.dock (λ opens. none c.in-Ok.command opens c.in-Ok.ensures.found)
+
+pub returns-in-Ok-clause-lacking : goal.returns-in-Ok-clause-lacking
+returns-in-Ok-clause-lacking g c = λ is. (c.in-Ok.command, c.run_command.ensures.lacking is, c.in-Ok.ensures.found)
+
+pub returns-in-Ok-clause-reports : goal.returns-in-Ok-clause-reports
+returns-in-Ok-clause-reports g c = λ is command asked.
+    let same : c.in-Ok.command ≡ command = command_read c.in-Ok.command command (c.in-Ok.ensures.only command asked) in
+    subst WritesReport same (c.run_command.ensures.lacking is)

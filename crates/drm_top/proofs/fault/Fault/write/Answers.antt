@@ -23,3 +23,6 @@ returns-in-Write-clause-whole g c = rw c.in-Write.is c.write_words-in-Write.ensu
 
 pub returns-in-Link-clause-whole : goal.returns-in-Link-clause-whole
 returns-in-Link-clause-whole g c = rw c.in-Link.is c.write_words-in-Link.ensures.whole
+
+pub returns-in-Script-clause-whole : goal.returns-in-Script-clause-whole
+returns-in-Script-clause-whole g c = rw (c.in-Script.is, ← c.script_pieces.ensures) c.write_pieces-in-Script.ensures.whole

@@ -1,0 +1,247 @@
+-- Openings, one after another.
+use Rattle.std.proofs.Common.{◌≡◌, ℕ, zero, suc, ◌+◌, ◌<◌, ◌≤◌, ◌⊎◌, inl, inr, Bool, true, false, cond, List, [], ◌∷◌, ◌++◌, length, slice_index_or, Option, None, Some, IsNone, Contains, Result, Ok, Err, refl, sym, ◌∙◌, ap, subst, arith}
+use Rattle.std.specs.Prelude.{◌≢◌}
+use Rattle.std.specs.List.{AllByRecursion}
+use Rattle.std.specs.FinMap as map
+use Rattle.std.specs.FinMap.{get-remove}
+use Rattle.std.specs.Ordering.{nat_cmp, eq_by_cmp}
+use Rattle.std.specs.Cmp.Lexicographic.{slice_cmp, nat_list_cmp_total}
+use Rattle.std.proofs.lemmas.Map.Views.{tells_apart}
+use Rattle.drm_links.specs.Told.{WhileTold, CountsCall}
+use Rattle.drm_links.specs.Link.{Traffic}
+use Rattle.drm_links.specs.Dock.{DockContents, LinkStart, Opens, address_key, start_at, first_traffic}
+use Rattle.drm_links.specs.declared.dock.Address.{Address}
+use Rattle.drm_links.specs.declared.dock.Opened.TheVariants as opened
+use Rattle.drm_links.proofs.ToldLemmas.{Opens-started}
+use Rattle.drm_words.specs.Addresses.{AreDifferent}
+use Rattle.drm_top.specs.Receive.{Docked, Finds, FindsNone}
+use Rattle.drm_top.specs.Opening.{HasLink, HaveLinks, FailsOpening}
+use Rattle.drm_top.specs.declared.job.Job.{Job}
+
+-- ---- addresses that are different
+
+ends_same : (xs ys : List ℕ) (x y : ℕ) → xs ++ x ∷ [] ≡ ys ++ y ∷ [] → (xs ≡ ys) × (x ≡ y)
+ends_same [] [] x y is = (refl, cc)
+ends_same [] (b ∷ []) x y is = cc
+ends_same [] (b ∷ (d ∷ ys)) x y is = cc
+ends_same (a ∷ []) [] x y is = cc
+ends_same (a ∷ (c ∷ xs)) [] x y is = cc
+ends_same (a ∷ xs) (b ∷ ys) x y is =
+    let first : a ≡ b = cc in
+    let rest : xs ++ x ∷ [] ≡ ys ++ y ∷ [] = cc in
+    let same = ends_same xs ys x y rest in
+    ((λ i. first i ∷ same.0 i), same.1)
+
+one_address : (a b : Address) → address_key a ≡ address_key b → a ≡ b
+one_address a b is =
+    let same = ends_same a.ip b.ip a.port b.port is in
+    λ i. record { ip = same.0 i; port = same.1 i }
+
+all_at : {X : Type 0} (P : X → Type 0) (xs : List X) (k : ℕ) (none : X) → AllByRecursion P xs → k < length xs → P (slice_index_or xs k none)
+all_at P [] k none all within = absurd (omega arith)
+all_at P (x ∷ xs) zero none all within = all.0
+all_at P (x ∷ xs) (suc k) none all within = all_at P xs k none all.1 (omega arith)
+
+apart : (addresses : List Address) → AreDifferent addresses → (i j : ℕ) (d e : Address) → i < j → j < length addresses
+    → slice_index_or addresses i d ≡ slice_index_or addresses j e → ⊥
+apart [] different i j d e before within is = absurd (omega arith)
+apart (a ∷ others) different i zero d e before within is = absurd (omega arith)
+apart (a ∷ others) different zero (suc j) d e before within is =
+    all_at (λ other. other ≢ a) others j e different.0 (omega arith) (sym is)
+apart (a ∷ others) different (suc i) (suc j) d e before within is = apart others different.1 i j d e (omega arith) (omega arith) is
+
+pub same_index : {X : Type 0} (xs : List X) (k : ℕ) (d e : X) → k < length xs → slice_index_or xs k d ≡ slice_index_or xs k e
+same_index [] k d e within = absurd (omega arith)
+same_index (x ∷ xs) zero d e within = refl
+same_index (x ∷ xs) (suc k) d e within = same_index xs k d e (omega arith)
+
+-- ---- what a dock tells, over several calls
+
+-- where it tells at the end it told before, and P holds of both
+abbrev pub Docks : Option DockContents → Option DockContents → (DockContents → DockContents → Type 0) → Type 0
+Docks before None P = Unit {0}
+Docks None (Some after) P = ⊥
+Docks (Some before) (Some after) P = P before after
+
+pub docks_none : (a : Option DockContents) (P : DockContents → DockContents → Type 0) → ((told : DockContents) → P told told) → Docks a a P
+docks_none None P same = tt
+docks_none (Some told) P same = same told
+
+pub docks_more : (P S Q : DockContents → DockContents → Type 0) (a b c : Option DockContents) → Docks a b P → WhileTold b c S → CountsCall (λ (d : DockContents). d.calls) b c
+    → ((x y z : DockContents) → P x y → S y z → Q x z) → Docks a c Q
+docks_more P S Q a b None first second counts both = tt
+docks_more P S Q a None (Some z) first second counts both = cc
+docks_more P S Q None (Some y) (Some z) first second counts both = absurd first
+docks_more P S Q (Some x) (Some y) (Some z) first second counts both = both x y z first second
+
+pub docks_docked : (P : DockContents → DockContents → Type 0) (Q : DockContents → Type 0) (a b : Option DockContents) → Docks a b P → ((x y : DockContents) → P x y → Q x) → Docked a b Q
+docks_docked P Q a None first weaker = tt
+docks_docked P Q None (Some y) first weaker = first
+docks_docked P Q (Some x) (Some y) first weaker = weaker x y first
+
+pub docks_while : (P Q : DockContents → DockContents → Type 0) (a b : Option DockContents) → Docks a b P → ((x y : DockContents) → P x y → Q x y) → WhileTold a b Q
+docks_while P Q None b first weaker = tt
+docks_while P Q (Some x) None first weaker = tt
+docks_while P Q (Some x) (Some y) first weaker = weaker x y first
+
+pub docked_weaker : (P Q : DockContents → Type 0) (a b : Option DockContents) → Docked a b P → ((x : DockContents) → P x → Q x) → Docked a b Q
+docked_weaker P Q a None first weaker = tt
+docked_weaker P Q None (Some y) first weaker = first
+docked_weaker P Q (Some x) (Some y) first weaker = weaker x first
+
+-- what held, after one more call
+pub docked_still : (P : DockContents → Type 0) (a b c : Option DockContents) → Docked a b P → CountsCall (λ (d : DockContents). d.calls) b c → Docked a c P
+docked_still P a b None first counts = tt
+docked_still P a None (Some z) first counts = cc
+docked_still P None (Some y) (Some z) first counts = absurd first
+docked_still P (Some x) (Some y) (Some z) first counts = first
+
+-- ---- the dock after the openings at the first k addresses
+
+pub record AreOpened (addresses : List Address) (k : ℕ) (before after : DockContents) : Type 0 where
+  pub openings : after.openings ≡ before.openings + k
+  pub failing : after.failing ≡ before.failing
+  pub links : (q : List ℕ) → ((i : ℕ) (at : Address) → i < k → address_key (slice_index_or addresses i at) ≡ q → ⊥)
+      → map.get after.links q ≡ map.get before.links q
+  pub gone : after.gone ≡ before.gone
+
+pub opened_none : (addresses : List Address) (told : DockContents) → AreOpened addresses 0 told told
+opened_none addresses told = record { openings = omega arith; failing = refl; links = λ q none. refl; gone = refl }
+
+other_key_by : (q key : List ℕ) (b : Bool) → eq_by_cmp (slice_cmp nat_cmp) q key ≡ b → (q ≡ key → ⊥) → eq_by_cmp (slice_cmp nat_cmp) q key ≡ false
+other_key_by q key true is other = absurd (other (tells_apart (map.slice_cmp-IsAntisymmetric map.nat_cmp-IsAntisymmetric) q key is))
+other_key_by q key false is other = is
+
+other_key : (q key : List ℕ) → (q ≡ key → ⊥) → eq_by_cmp (slice_cmp nat_cmp) q key ≡ false
+other_key q key other = other_key_by q key (eq_by_cmp (slice_cmp nat_cmp) q key) refl other
+
+module _ (addresses : List Address) (k : ℕ) (at : Address) (within : k < length addresses) (is : at ≡ slice_index_or addresses k at) where
+  not_before : AreDifferent addresses → (i : ℕ) (e : Address) → i < k → address_key (slice_index_or addresses i e) ≡ address_key at → ⊥
+  not_before different i e before same =
+      apart addresses different i k e at before within (one_address (slice_index_or addresses i e) at same ∙ is)
+
+  pub opened_more : {L : Type 0} (tells : L → Option Traffic) (link : L) (x y z : DockContents)
+      → AreOpened addresses k x y → Opens tells at (opened.Link link) y z → AreOpened addresses (k + 1) x z
+  opened_more tells link x y z before now = record {
+    openings = (let a = ap (λ (d : DockContents). d.openings) now.2 in let b = before.openings in omega (arith, a, b));
+    failing = ap (λ (d : DockContents). d.failing) now.2 ∙ before.failing;
+    links = λ q none.
+        let other : q ≡ address_key at → ⊥ = λ e. none k at (omega arith) (ap address_key (sym is) ∙ sym e) in
+        ap (λ (d : DockContents). map.get d.links q) now.2
+        ∙ get-remove nat_list_cmp_total y.links (address_key at) q
+        ∙ ap (λ b. cond b None (map.get y.links q)) (other_key q (address_key at) other)
+        ∙ before.links q (λ i e less e_is. none i e (omega arith) e_is);
+    gone = ap (λ (d : DockContents). d.gone) now.2 ∙ before.gone;
+  }
+
+  same_at : (d : Address) → slice_index_or addresses k d ≡ at
+  same_at d = same_index addresses k d at within ∙ sym is
+
+  pub found : {L : Type 0} (tells : L → Option Traffic) (link : L) (x y z : DockContents) → AreDifferent addresses
+      → AreOpened addresses k x y → Opens tells at (opened.Link link) y z → (d : Address) → HasLink tells x k (slice_index_or addresses k d) link
+  found tells link x y z different before now d =
+      let started = Opens-started tells at link y z now in (
+        started.0,
+        record {
+          allowed = λ fails.
+              now.0 (subst (λ m. Contains y.failing m) (let a = before.openings in omega (arith, a)) (subst (λ l. Contains l (x.openings + k)) (sym before.failing) fails));
+          stands = ap (λ a. map.get x.links (address_key a)) (same_at d) ∙ sym (before.links (address_key at) (not_before different)) ∙ started.1;
+        },
+        started.2,
+      )
+
+  pub not_found : {L : Type 0} (tells : L → Option Traffic) (x y z : DockContents) → AreDifferent addresses
+      → AreOpened addresses k x y → Opens tells at opened.Failed y z → FailsOpening x addresses
+  not_found tells x y z different before now = record {
+    k = k;
+    within = within;
+    fails = λ d. elim now.0 [
+      | inl fails ↦ inl (subst (λ l. Contains l (x.openings + k)) before.failing (subst (λ m. Contains y.failing m) (let a = before.openings in omega (arith, a)) fails))
+      | inr none ↦ inr (subst (λ a. IsNone (map.get x.links (address_key a))) (sym (same_at d)) (subst (λ m. IsNone m) (before.links (address_key at) (not_before different)) none))
+    ];
+  }
+
+  pub found_now : {L : Type 0} (tells : L → Option Traffic) (link : L) (a b c : Option DockContents) → AreDifferent addresses
+      → Docks a b (AreOpened addresses k) → WhileTold b c (Opens tells at (opened.Link link)) → CountsCall (λ (d : DockContents). d.calls) b c
+      → (d : Address) → Docked a c (λ told. HasLink tells told k (slice_index_or addresses k d) link)
+  found_now tells link a b c different before now counts d =
+      docks_docked (λ x _. HasLink tells x k (slice_index_or addresses k d) link) (λ told. HasLink tells told k (slice_index_or addresses k d) link) a c
+      (docks_more (AreOpened addresses k) (Opens tells at (opened.Link link)) (λ x _. HasLink tells x k (slice_index_or addresses k d) link) a b c before now counts
+      (λ x y z p q. found tells link x y z different p q d))
+      (λ x y has. has)
+
+  pub opened_now : {L : Type 0} (tells : L → Option Traffic) (link : L) (a b c : Option DockContents)
+      → Docks a b (AreOpened addresses k) → WhileTold b c (Opens tells at (opened.Link link)) → CountsCall (λ (d : DockContents). d.calls) b c
+      → Docks a c (AreOpened addresses (k + 1))
+  opened_now tells link a b c before now counts =
+      docks_more (AreOpened addresses k) (Opens tells at (opened.Link link)) (AreOpened addresses (k + 1)) a b c before now counts
+      (λ x y z p q. opened_more tells link x y z p q)
+
+  pub failed_now : {L : Type 0} (tells : L → Option Traffic) (a b c : Option DockContents) → AreDifferent addresses
+      → Docks a b (AreOpened addresses k) → WhileTold b c (Opens tells at opened.Failed) → CountsCall (λ (d : DockContents). d.calls) b c
+      → Docked a c (λ told. FailsOpening told addresses)
+  failed_now tells a b c different before now counts =
+      docks_docked (λ x _. FailsOpening x addresses) (λ told. FailsOpening told addresses) a c
+      (docks_more (AreOpened addresses k) (Opens tells at opened.Failed) (λ x _. FailsOpening x addresses) a b c before now counts
+      (λ x y z p q. not_found tells x y z different p q))
+      (λ x y fails. fails)
+
+-- nothing is sent by openings, nor by one more call that sends nothing
+pub unsent_now : (addresses : List Address) (k : ℕ) (a b c : Option DockContents) → Docks a b (AreOpened addresses k)
+    → WhileTold b c (λ x y. y.gone ≡ x.gone) → CountsCall (λ (d : DockContents). d.calls) b c → WhileTold a c (λ x y. y.gone ≡ x.gone)
+unsent_now addresses k a b c before now counts =
+    docks_while (λ x y. y.gone ≡ x.gone) (λ x y. y.gone ≡ x.gone) a c
+    (docks_more (AreOpened addresses k) (λ x y. y.gone ≡ x.gone) (λ x y. y.gone ≡ x.gone) a b c before now counts (λ x y z p q. q ∙ p.gone))
+    (λ x y same. same)
+
+pub docked_now : (addresses : List Address) (k : ℕ) (a b c : Option DockContents) → Docks a b (AreOpened addresses k)
+    → WhileTold b c (λ x y. y.gone ≡ x.gone) → CountsCall (λ (d : DockContents). d.calls) b c → Docked a c (λ _. Unit {0})
+docked_now addresses k a b c before now counts =
+    docks_docked (λ _ _. Unit {0}) (λ _. Unit {0}) a c
+    (docks_more (AreOpened addresses k) (λ x y. y.gone ≡ x.gone) (λ _ _. Unit {0}) a b c before now counts (λ x y z p q. tt))
+    (λ x y any. tt)
+
+-- ---- one more element
+
+less_or_last : (k n : ℕ) → k < n + 1 → (k < n) ⊎ (k ≡ n)
+less_or_last k n within = grind arith
+
+at_front : {X : Type 0} (xs ys : List X) (k : ℕ) (d : X) → k < length xs → slice_index_or (xs ++ ys) k d ≡ slice_index_or xs k d
+at_front [] ys k d within = absurd (omega arith)
+at_front (x ∷ xs) ys zero d within = refl
+at_front (x ∷ xs) ys (suc k) d within = at_front xs ys k d (omega arith)
+
+at_last : {X : Type 0} (xs : List X) (x : X) (k : ℕ) (d : X) → k ≡ length xs → slice_index_or (xs ++ x ∷ []) k d ≡ x
+at_last [] x zero d is = refl
+at_last [] x (suc k) d is = absurd (omega arith)
+at_last (y ∷ xs) x zero d is = absurd (omega arith)
+at_last (y ∷ xs) x (suc k) d is = at_last xs x k d (omega arith)
+
+-- what holds of each element by its place, and of one more
+pub each_more : {X : Type 0} (P : ℕ → X → Type 0) (xs ys : List X) (x : X) (n : ℕ) → length xs ≡ n → ys ≡ xs ++ x ∷ []
+    → ((k : ℕ) (d : X) → k < n → P k (slice_index_or xs k d)) → P n x → (k : ℕ) (d : X) → k < n + 1 → P k (slice_index_or ys k d)
+each_more P xs ys x n size is each one k d within =
+    elim (less_or_last k n within) [
+      | inl less ↦ subst (λ y. P k y) (sym (ap (λ zs. slice_index_or zs k d) is ∙ at_front xs (x ∷ []) k d (omega (arith, size, less)))) (each k d less)
+      | inr last ↦ subst (λ y. P k y) (sym (ap (λ zs. slice_index_or zs k d) is ∙ at_last xs x k d (omega (arith, size, last)))) (subst (λ m. P m x) (sym last) one)
+    ]
+
+-- all links at once
+pub all_links : {L : Type 0} (tells : L → Option Traffic) (addresses : List Address) (jobs : List (Job L)) (n : ℕ) (a b : Option DockContents) → length addresses ≤ n → Docked a b (λ _. Unit {0})
+    → ((k : ℕ) (d : Job L) → k < n → (at : Address) → Docked a b (λ told. HasLink tells told k (slice_index_or addresses k at) (slice_index_or jobs k d).link))
+    → Docked a b (λ told. HaveLinks tells told addresses jobs)
+all_links tells addresses jobs n a None all any each = tt
+all_links tells addresses jobs n None (Some y) all any each = any
+all_links tells addresses jobs n (Some x) (Some y) all any each = λ k at d within. each k d (omega (arith, within, all)) at
+
+pub opened_any : (addresses : List Address) (k : ℕ) (a b : Option DockContents) → Docks a b (AreOpened addresses k) → Docked a b (λ _. Unit {0})
+opened_any addresses k a b opened = docks_docked (AreOpened addresses k) (λ _. Unit {0}) a b opened (λ x y o. tt)
+
+pub opened_unsent : (addresses : List Address) (k : ℕ) (a b : Option DockContents) → Docks a b (AreOpened addresses k) → WhileTold a b (λ x y. y.gone ≡ x.gone)
+opened_unsent addresses k a b opened = docks_while (AreOpened addresses k) (λ x y. y.gone ≡ x.gone) a b opened (λ x y o. o.gone)
+
+-- the fault with which a call returned early
+pub same_fault : {T F : Type 0} (result : Result T F) (x y fault : F) → result ≡ Err x → x ≡ y → result ≡ Err fault → y ≡ fault
+same_fault {T} {F} result x y fault is same returned =
+    let both : (let e : Result T F = Err x in e) ≡ Err fault = sym is ∙ returned in
+    sym same ∙ cc

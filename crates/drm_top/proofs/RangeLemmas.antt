@@ -1,0 +1,66 @@
+-- The numbers of a command that was read are in their ranges.
+use Rattle.std.proofs.Common.{◌≡◌, ◌≤◌, ◌<◌, ℕ, List, [], ◌∷◌, Option, None, Some, IfSome, IfOk, IsUtf8, Result, Ok, Err, refl, sym, ◌∙◌, ap, subst, arith}
+use Rattle.drm_links.specs.declared.dock.Address.{Address}
+use Rattle.drm_words.specs.declared.fault.WordsFault.{WordsFault}
+use Rattle.drm_words.specs.declared.request.Request.{Request}
+use Rattle.drm_words.specs.declared.request.Request.TheVariants as requests
+use Rattle.drm_words.specs.Addresses.{AreAddresses}
+use Rattle.drm_words.specs.Table.{IsNumberOr, IsNumberOrNone, AreAddressesOrNone, HasTextNames}
+use Rattle.drm_words.specs.Line.{IsLine}
+use Rattle.drm_top.specs.declared.rules.Rules.{Rules}
+use Rattle.drm_top.specs.Terms.{AreInRange, AreListed}
+use Rattle.drm_top.specs.Words.{request_of, Asks, IsInRange}
+use Rattle.drm_top.specs.declared.words.Command.{Command}
+use Rattle.drm_top.specs.declared.words.Command.TheVariants.{Fac, Check, Serve, Send, Receive, Air}
+
+within : (default least greatest n : ℕ) (value : Option (List ℕ)) → least ≤ default → default ≤ greatest → IsNumberOr default least greatest value n → (least ≤ n) × (n ≤ greatest)
+within default least greatest n None low high is = (omega (arith, is, low), omega (arith, is, high))
+within default least greatest n (Some text) low high is = (is.1, is.2)
+
+within_or_none : (least greatest : ℕ) (value : Option (List ℕ)) (n : Option ℕ) → IsNumberOrNone least greatest value n → IfSome n (λ k. least ≤ k) × IfSome n (λ k. k ≤ greatest)
+within_or_none least greatest None n is = subst (λ o. IfSome o (λ k. least ≤ k) × IfSome o (λ k. k ≤ greatest)) (sym is) (tt, tt)
+within_or_none least greatest (Some text) n (number, is, within) =
+    subst (λ o. IfSome o (λ k. least ≤ k) × IfSome o (λ k. k ≤ greatest)) (sym is) (within.1, within.2)
+
+listed : (texts : List (List ℕ)) (addresses : List Address) → AreAddressesOrNone texts (Some addresses) → AreListed addresses
+listed [] addresses is = cc
+listed (text ∷ []) addresses (list, is, are) =
+    let same : addresses ≡ list = cc in
+    subst AreListed (sym same) (record { some = are.some; few = are.few; different = are.different })
+listed (text ∷ other ∷ texts) addresses is = absurd is
+
+receives : (words : List (List ℕ)) (addresses : List Address) (rules : Rules) → IsLine words (request_of (Receive addresses rules)) → AreInRange rules × AreListed addresses
+receives words addresses rules line =
+    let asks = line.asks in
+    let window = within 8 1 64 rules.window _ (omega arith) (omega arith) asks.3 in
+    let frames = within_or_none 1 3000000 _ rules.frames asks.5 in
+    let idle = within 50 1 1000000 rules.idle _ (omega arith) (omega arith) asks.6 in
+    let limit = within 4294967295 1 4294967295 rules.limit _ (omega arith) (omega arith) asks.7 in
+    let less : rules.limit ≤ 4294967295 = limit.1 in (
+      record {
+        some_window = window.0;
+        few_packets = window.1;
+        some_frames = frames.0;
+        few_frames = frames.1;
+        some_idles = idle.0;
+        few_idles = idle.1;
+        some_datagrams = limit.0;
+        few_datagrams = omega (arith, less);
+      },
+      listed _ addresses asks.1,
+    )
+
+airs : (words : List (List ℕ)) (name script : List ℕ) (window : ℕ) → IsLine words (request_of (Air name script window)) → (1 ≤ window) × (window ≤ 64)
+airs words name script window line = within 8 1 64 window _ (omega arith) (omega arith) line.asks.3
+
+pub in_range : (came : Result Command WordsFault) (request : Request) (words : List (List ℕ)) → Asks came request → IsLine words request → HasTextNames request → IfOk came IsInRange
+in_range (Err fault) request words asks line text = tt
+in_range (Ok Fac) request words asks line text = tt
+in_range (Ok (Check name)) request words asks line text = subst HasTextNames asks text
+in_range (Ok (Serve name pace)) request words asks line text = subst HasTextNames asks text
+in_range (Ok (Send name to pace)) request words asks line text = subst HasTextNames asks text
+in_range (Ok (Receive addresses rules)) request words asks line text = receives words addresses rules (subst (λ r. IsLine words r) asks line)
+in_range (Ok (Air name script window)) request words asks line text =
+    let names : IsUtf8 name × IsUtf8 script = subst HasTextNames asks text in
+    let range = airs words name script window (subst (λ r. IsLine words r) asks line) in
+    (names.0, names.1, range.0, range.1)

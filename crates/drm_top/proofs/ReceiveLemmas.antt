@@ -1,0 +1,229 @@
+-- From receivers that ended to the whole command.
+use Rattle.std.proofs.Common.{◌≡◌, ℕ, ◌+◌, ◌<◌, ◌≤◌, ◌⊎◌, ◌↔◌, inl, inr, Bool, false, IsTrue, List, [], ◌∷◌, ◌++◌, length, map, slice_index_or, take, drop, Option, None, Some, Result, Ok, Err, refl, sym, ◌∙◌, ap, subst, arith, le_refl}
+use Rattle.std.specs.List.{flat_map, All}
+use Rattle.std.proofs.lemmas.List.{take_at}
+use Rattle.drm_links.specs.Told.{HasCause, Rose, WhileTold}
+use Rattle.drm_links.specs.Link.{Traffic}
+use Rattle.drm_links.specs.Sink.{Output, Outputs, IsFront}
+use Rattle.drm_links.specs.Dock.{DockContents, LinkStart, first_traffic}
+use Rattle.drm_links.specs.declared.dock.Address.{Address}
+use Rattle.drm_links.proofs.ToldLemmas.{Outputs-weaker}
+use Rattle.drm_top.specs.declared.rules.Rules.{Rules}
+use Rattle.drm_top.specs.declared.fault.Fault.{Fault}
+use Rattle.drm_top.specs.declared.fault.Fault.TheVariants as faults
+use Rattle.drm_top.specs.declared.job.Job.{Job}
+use Rattle.drm_top.specs.Terms.{AreInRange}
+use Rattle.drm_top.specs.Jobs.{HasEnded, text_of, is_failed, clean_of, IsDone}
+use Rattle.drm_top.specs.Opening.{IsJob, AreJobs, HasLink, HaveLinks, AreFresh, FailsOpening, EndsOpening}
+use Rattle.drm_top.specs.Settling.{NoneFailed, job_texts, Settles}
+use Rattle.drm_top.specs.Following.{HeadlinesFollow, CompletesFollow}
+use Rattle.drm_top.specs.Receive.{Report, Finds, FindsNone, IsReportOf, BreaksOff, Docked, AreReports, AreClean, all_texts, FailsSome, WritesReports, SomeLinkRose, ReceiveRun}
+use Rattle.drm_top.proofs.OpeningLemmas.{docked_weaker}
+use Rattle.drm_top.proofs.BreakingOff.{report_whole}
+use Rattle.drm_top.proofs.JobLemmas.{told_of, job_report, job_breaks, job_rose, index_of, map_at, map_size, flat_map_map, all_told, SomeFailed, some_failed}
+
+-- ---- what is written
+
+texts_told : {L : Type 0} (jobs : List (Job L)) → job_texts jobs ≡ all_texts (map told_of jobs)
+texts_told jobs = sym (flat_map_map told_of (λ (r : Report). r.text) jobs)
+
+-- where all are done their reports are written
+pub reports_written : {L O : Type 0} (jobs : List (Job L)) (ending : Result Bool Fault) (are : List Report → Type 0) (tells : O → Option Output) (out out' : O)
+    → (All IsDone jobs → are (map told_of jobs)) → Settles jobs ending tells out out' → WritesReports are ending tells out out'
+reports_written jobs (Ok clean) are tells out out' reports settled = (
+  map told_of jobs,
+  reports settled.0,
+  Outputs-weaker (λ text. text ≡ job_texts jobs) (λ text. text ≡ all_texts (map told_of jobs)) (tells out) (tells out') settled.1 (λ t is. is ∙ texts_told jobs),
+  ((λ clean_is. (all_told jobs).0 (settled.2.0 clean_is)), (λ all. settled.2.1 ((all_told jobs).1 all))),
+)
+reports_written jobs (Err faults.Write) are tells out out' reports settled = (
+  map told_of jobs,
+  reports settled.0,
+  subst (λ t. Outputs (tells out) (tells out') (IsFront t)) (texts_told jobs) settled.1,
+)
+reports_written jobs (Err faults.Link) are tells out out' reports settled = settled.1
+reports_written jobs (Err faults.NoMemory) are tells out out' reports settled = settled
+reports_written jobs (Err faults.Words) are tells out out' reports settled = absurd settled
+reports_written jobs (Err (faults.FacLength n)) are tells out out' reports settled = absurd settled
+reports_written jobs (Err faults.FacOver) are tells out out' reports settled = absurd settled
+reports_written jobs (Err (faults.FacCrc stands computed)) are tells out out' reports settled = absurd settled
+reports_written jobs (Err (faults.Schedule line reason)) are tells out out' reports settled = absurd settled
+reports_written jobs (Err (faults.Script line reason)) are tells out out' reports settled = absurd settled
+reports_written jobs (Err faults.Read) are tells out out' reports settled = absurd settled
+
+-- how it ends
+pub settled_kind : {L O : Type 0} (jobs : List (Job L)) (fault : Fault) (tells : O → Option Output) (out out' : O) → Settles jobs (Err fault) tells out out'
+    → (fault ≡ faults.NoMemory) ⊎ ((fault ≡ faults.Link) × (NoneFailed jobs → ⊥)) ⊎ (fault ≡ faults.Write)
+settled_kind jobs faults.Write tells out out' settled = inr (inr refl)
+settled_kind jobs faults.Link tells out out' settled = inr (inl (refl, settled.0))
+settled_kind jobs faults.NoMemory tells out out' settled = inl refl
+settled_kind jobs faults.Words tells out out' settled = absurd settled
+settled_kind jobs (faults.FacLength n) tells out out' settled = absurd settled
+settled_kind jobs faults.FacOver tells out out' settled = absurd settled
+settled_kind jobs (faults.FacCrc stands computed) tells out out' settled = absurd settled
+settled_kind jobs (faults.Schedule line reason) tells out out' settled = absurd settled
+settled_kind jobs (faults.Script line reason) tells out out' settled = absurd settled
+settled_kind jobs faults.Read tells out out' settled = absurd settled
+
+settled_link : {L O : Type 0} (jobs : List (Job L)) (ending : Result Bool Fault) (tells : O → Option Output) (out out' : O) → Settles jobs ending tells out out' → ending ≡ Err faults.Link → NoneFailed jobs → ⊥
+settled_link jobs ending tells out out' settled is =
+    (subst (λ e. Settles jobs e tells out out') is settled).0
+
+settled_unwritten : {L O : Type 0} (jobs : List (Job L)) (ending : Result Bool Fault) (tells : O → Option Output) (out out' : O) → Settles jobs ending tells out out'
+    → (ending ≡ Err faults.NoMemory) ⊎ (ending ≡ Err faults.Link) → out' ≡ out
+settled_unwritten jobs ending tells out out' settled (inl is) = subst (λ e. Settles jobs e tells out out') is settled
+settled_unwritten jobs ending tells out out' settled (inr is) = (subst (λ e. Settles jobs e tells out out') is settled).1
+
+-- all are done, where the texts are written
+all_done : {L O : Type 0} (jobs : List (Job L)) (ending : Result Bool Fault) (tells : O → Option Output) (out out' : O) → Settles jobs ending tells out out'
+    → (ending ≡ Err faults.Link → ⊥) → (ending ≡ Err faults.NoMemory → ⊥) → All IsDone jobs
+all_done jobs (Ok clean) tells out out' settled link memory = settled.0
+all_done jobs (Err fault) tells out out' settled link memory =
+    elim (settled_kind jobs fault tells out out' settled) [
+      | inl is ↦ absurd (memory (ap Err is))
+      | inr rest ↦ elim rest [
+        | inl is ↦ absurd (link (ap Err is.0))
+        | inr is ↦ (subst (λ f. Settles jobs (Err f) tells out out') is settled).0
+      ]
+    ]
+
+-- ---- receivers that were opened and ran
+
+pub record Ran {L : Type 0} (link_faults : L → ℕ) (link_tells : L → Option Traffic) (rules : Rules) (many : ℕ) (before after : List (Job L)) : Type 0 where
+  pub size : length before ≡ many
+  pub still : length after ≡ length before
+  pub jobs : AreJobs rules many before
+  pub ended : (k : ℕ) (d : Job L) → k < length before → HasEnded link_faults link_tells (slice_index_or before k d) (slice_index_or after k d)
+
+module _ {L : Type 0} (link_faults : L → ℕ) (link_tells : L → Option Traffic) (rules : Rules) (valid : AreInRange rules) (headlines : HeadlinesFollow) (completes : CompletesFollow) (addresses : List Address) (before after : List (Job L)) (ran : Ran link_faults link_tells rules (length addresses) before after) where
+  are_reports : (told : DockContents) → HaveLinks link_tells told addresses before → All IsDone after → AreReports rules told addresses (map told_of after)
+  are_reports told links done = record {
+    as_many = map_size told_of after ∙ ran.still ∙ ran.size;
+    each = λ k at none within.
+        let first : k < length before = (let size = ran.size in omega (arith, size, within)) in
+        let last : k < length after = (let still = ran.still in omega (arith, still, first)) in
+        let d : Job L = (index_of after k last).0 in
+        let link = links k at d within in
+        let report : IsReportOf rules (k + 1) link.0.ahead (told_of (slice_index_or after k d)) =
+        job_report link_faults link_tells rules valid (k + 1) link.0 (slice_index_or before k d) (slice_index_or after k d) (ran.jobs k d within) link.2 (ran.ended k d first) headlines completes (done k d last) in
+        (link.0, link.1, subst (λ r. IsReportOf rules (k + 1) link.0.ahead r) (sym (map_at told_of after k d none last)) report);
+  }
+
+  none_fails : (told : DockContents) (reports : List Report) → AreReports rules told addresses reports → FailsSome rules told addresses → ⊥
+  none_fails told reports are fails =
+      let at : Address = record { ip = []; port = 0 } in
+      let none : Report = record { text = []; clean = false } in
+      let each = are.each fails.k at none fails.within in
+      report_whole rules told fails.k (fails.k + 1) (slice_index_or addresses fails.k at) each.0 (slice_index_or reports fails.k none) each.1 each.2 (fails.fails at)
+
+  fails_some : (told : DockContents) → HaveLinks link_tells told addresses before → SomeFailed after → FailsSome rules told addresses
+  fails_some told links some =
+      let last : some.0 < length after = some.1 in
+      let first : some.0 < length before = (let still = ran.still in omega (arith, still, last)) in
+      let within : some.0 < length addresses = (let size = ran.size in omega (arith, size, first)) in
+      let d : Job L = (index_of after some.0 last).0 in
+      record {
+        k = some.0;
+        within = within;
+        fails = λ at.
+            let link = links some.0 at d within in
+            inr (
+              link.0,
+              link.1,
+              job_breaks link_faults link_tells rules valid (some.0 + 1) link.0 (slice_index_or before some.0 d) (slice_index_or after some.0 d) (ran.jobs some.0 d within) link.2 (ran.ended some.0 d first) (some.2 d),
+            );
+      }
+
+  some_rose : AreFresh link_faults (length addresses) before → SomeFailed after → SomeLinkRose link_faults
+  some_rose fresh some =
+      let last : some.0 < length after = some.1 in
+      let first : some.0 < length before = (let still = ran.still in omega (arith, still, last)) in
+      let within : some.0 < length addresses = (let size = ran.size in omega (arith, size, first)) in
+      let d : Job L = (index_of after some.0 last).0 in (
+        (slice_index_or before some.0 d).link,
+        (slice_index_or after some.0 d).link,
+        fresh some.0 d within,
+        job_rose link_faults link_tells (slice_index_or before some.0 d) (slice_index_or after some.0 d) (ran.ended some.0 d first) (some.2 d),
+      )
+
+  failed_where : (NoneFailed after → ⊥) → SomeFailed after
+  failed_where some = elim (some_failed after) [
+    | inl none ↦ absurd (some none)
+    | inr failed ↦ failed
+  ]
+
+  pub settled_run : {D O : Type 0} (ending : Result Bool Fault) (dock_faults : D → ℕ) (dock_tells : D → Option DockContents) (dock dock' : D)
+      (out_faults : O → ℕ) (out_tells : O → Option Output) (out out' : O)
+      → AreFresh link_faults (length addresses) before → Docked (dock_tells dock) (dock_tells dock') (λ told. HaveLinks link_tells told addresses before)
+      → WhileTold (dock_tells dock) (dock_tells dock') (λ x y. y.gone ≡ x.gone) → dock_faults dock ≤ dock_faults dock'
+      → Settles after ending out_tells out out' → HasCause (out_faults out) (out_faults out') (ending ≡ Err faults.Write)
+      → ReceiveRun rules addresses ending dock_faults dock_tells dock dock' link_faults out_faults out_tells out out'
+  settled_run ending dock_faults dock_tells dock dock' out_faults out_tells out out' fresh links unsent later settled cause = record {
+    kind = λ fault is.
+        elim (settled_kind after fault out_tells out out' (subst (λ e. Settles after e out_tells out out') is settled)) [
+          | inl memory ↦ inl memory
+          | inr rest ↦ elim rest [
+            | inl link ↦ inr (inl link.0)
+            | inr write ↦ inr (inr write)
+          ]
+        ];
+    writes = docked_weaker (λ told. HaveLinks link_tells told addresses before) (λ told. WritesReports (AreReports rules told addresses) ending out_tells out out') (dock_tells dock) (dock_tells dock') links
+        (λ told has. reports_written after ending (AreReports rules told addresses) out_tells out out' (are_reports told has) settled);
+    unwritten = settled_unwritten after ending out_tells out out' settled;
+    link = λ is. docked_weaker (λ told. HaveLinks link_tells told addresses before) (λ told. FailsSome rules told addresses) (dock_tells dock) (dock_tells dock') links
+        (λ told has. fails_some told has (failed_where (settled_link after ending out_tells out out' settled is)));
+    linked = λ no_link no_want. docked_weaker (λ told. HaveLinks link_tells told addresses before) (λ told. FailsSome rules told addresses → ⊥) (dock_tells dock) (dock_tells dock') links
+        (λ told has fails. none_fails told (map told_of after) (are_reports told has (all_done after ending out_tells out out' settled no_link no_want)) fails);
+    unsent = unsent;
+    later = later;
+    link_cause = λ is. inr (some_rose fresh (failed_where (settled_link after ending out_tells out out' settled is)));
+    write_cause = cause;
+  }
+
+-- ---- a run that ends while links are opened
+
+unwritten_by : {O : Type 0} (are : List Report → Type 0) (fault : Fault) (tells : O → Option Output) (out : O) → EndsOpening fault → WritesReports are (Err fault) tells out out
+unwritten_by are fault tells out (inl memory) = subst (λ f. WritesReports are (Err f) tells out out) (sym memory) refl
+unwritten_by are fault tells out (inr link) = subst (λ f. WritesReports are (Err f) tells out out) (sym link) refl
+
+abbrev of_fault : Fault → Result Bool Fault
+of_fault fault = Err fault
+
+inner : (fault other : Fault) → of_fault fault ≡ of_fault other → fault ≡ other
+inner fault other is = cc
+
+not_write : (fault : Fault) → EndsOpening fault → of_fault fault ≡ Err faults.Write → ⊥
+not_write fault (inl memory) is = let one : faults.NoMemory ≡ faults.Write = sym memory ∙ inner fault faults.Write is in cc
+not_write fault (inr link) is = let one : faults.Link ≡ faults.Write = sym link ∙ inner fault faults.Write is in cc
+
+pub opening_failed : {D O L : Type 0} (rules : Rules) (addresses : List Address) (fault : Fault) (dock_faults : D → ℕ) (dock_tells : D → Option DockContents) (dock dock' : D) (link_faults : L → ℕ)
+    (out_faults : O → ℕ) (out_tells : O → Option Output) (out : O)
+    → EndsOpening fault → (fault ≡ faults.Link → Docked (dock_tells dock) (dock_tells dock') (λ told. FailsOpening told addresses))
+    → Docked (dock_tells dock) (dock_tells dock') (λ _. Unit {0})
+    → WhileTold (dock_tells dock) (dock_tells dock') (λ x y. y.gone ≡ x.gone) → dock_faults dock ≤ dock_faults dock' → (fault ≡ faults.Link → Rose (dock_faults dock) (dock_faults dock'))
+    → ReceiveRun rules addresses (Err fault) dock_faults dock_tells dock dock' link_faults out_faults out_tells out out
+opening_failed rules addresses fault dock_faults dock_tells dock dock' link_faults out_faults out_tells out ends failed told unsent later rose = record {
+  kind = λ other is.
+      let same : fault ≡ other = inner fault other is in
+      elim ends [
+        | inl memory ↦ inl (sym same ∙ memory)
+        | inr link ↦ inr (inl (sym same ∙ link))
+      ];
+  writes = docked_weaker (λ _. Unit {0}) (λ x. WritesReports (AreReports rules x addresses) (Err fault) out_tells out out) (dock_tells dock) (dock_tells dock') told
+      (λ x any. unwritten_by (AreReports rules x addresses) fault out_tells out ends);
+  unwritten = λ any. refl;
+  link = λ is. docked_weaker (λ x. FailsOpening x addresses) (λ x. FailsSome rules x addresses) (dock_tells dock) (dock_tells dock') (failed (inner fault faults.Link is))
+      (λ x opening. record { k = opening.k; within = opening.within; fails = λ at. inl (opening.fails at) });
+  linked = λ no_link no_memory. elim ends [
+    | inl memory ↦ absurd (no_memory (ap Err memory))
+    | inr link ↦ absurd (no_link (ap Err link))
+  ];
+  unsent = unsent;
+  later = later;
+  link_cause = λ is. inl (rose (inner fault faults.Link is));
+  write_cause = record { later = le_refl _; rose = λ is. absurd (not_write fault ends is) };
+}
+
+-- what a vector holds after its slice was lent
+pub written_back : {X : Type 0} (n : ℕ) (xs ys zs : List X) → n ≡ length xs → zs ≡ take n (xs ++ drop (length xs) ys) → zs ≡ xs
+written_back n xs ys zs size is = is ∙ take_at xs (drop (length xs) ys) n (sym size)

@@ -1,0 +1,107 @@
+-- What the status of `receive` says.
+use Rattle.std.proofs.Common.{◌≡◌, ℕ, ◌≤◌, ◌<◌, ◌+◌, ◌⊎◌, ◌↔◌, inl, inr, Bool, true, false, IsTrue, List, [], length, slice_index_or, Option, None, Some, Result, Ok, Err, refl, sym, ◌∙◌, ap, subst, arith}
+use Rattle.drm_links.specs.Told.{Rose}
+use Rattle.drm_links.specs.Link.{Answer}
+use Rattle.drm_links.specs.Sink.{Output, Outputs}
+use Rattle.drm_links.specs.Dock.{DockContents, LinkStart, start_at}
+use Rattle.drm_links.specs.declared.dock.Address.{Address}
+use Rattle.drm_top.specs.declared.rules.Rules.{Rules}
+use Rattle.drm_top.specs.declared.fault.Fault.{Fault}
+use Rattle.drm_top.specs.declared.fault.Fault.TheVariants as faults
+use Rattle.drm_top.specs.Fault.{report_status, clean_status}
+use Rattle.drm_top.specs.Receive.{Report, IsReportOf, Docked, Finds, AreReports, AreClean, FailsSome, WritesReports, ReceiveRun, all_texts}
+use Rattle.drm_top.specs.Status.{WroteReports, IsInTimeAhead, AreInTime}
+
+pub docked_weaker : (P Q : DockContents → Type 0) (a b : Option DockContents) → Docked a b P → ((told : DockContents) → P told → Q told) → Docked a b Q
+docked_weaker P Q a None p w = tt
+docked_weaker P Q None (Some after) p w = p
+docked_weaker P Q (Some before) (Some after) p w = w before p
+
+docked_both : (P Q : DockContents → Type 0) (a b : Option DockContents) → Docked a b P → Docked a b Q → Docked a b (λ told. P told × Q told)
+docked_both P Q a None p q = tt
+docked_both P Q None (Some after) p q = p
+docked_both P Q (Some before) (Some after) p q = (p, q)
+
+pub is_true : IsTrue true
+is_true = refl
+
+is_not_false : IsTrue false → ⊥
+is_not_false e = cc
+
+-- all reports of these were written, and the status is that of whether they are clean
+pub wrote : {O : Type 0} (are : List Report → Type 0) (clean : Bool) (tells : O → Option Output) (out out' : O) → WritesReports are (Ok clean) tells out out' → WroteReports (clean_status clean) are tells out out'
+wrote are true tells out out' (reports, is, text, iff) = record {
+  reports = reports;
+  are_reports = is;
+  text = text;
+  clean = (λ e. iff.0 is_true, λ all. refl);
+  lacking = (λ e. absurd (omega (arith, e)), λ none. absurd (none (iff.0 is_true)));
+}
+wrote are false tells out out' (reports, is, text, iff) = record {
+  reports = reports;
+  are_reports = is;
+  text = text;
+  clean = (λ e. absurd (omega (arith, e)), λ all. absurd (is_not_false (iff.1 all)));
+  lacking = (λ e all. is_not_false (iff.1 all), λ none. refl);
+}
+
+module _ {D L O : Type 0} (rules : Rules) (addresses : List Address) (dock_faults : D → ℕ) (dock_tells : D → Option DockContents) (dock dock' : D) (link_faults : L → ℕ) (out_faults : O → ℕ) (out_tells : O → Option Output) (out out' : O) where
+  not_six : (clean : Bool) → clean_status clean ≡ 6 → ⊥
+  not_six true e = omega (arith, e)
+  not_six false e = omega (arith, e)
+
+  linked_by : (ending : Result Bool Fault) → ((fault : Fault) → ending ≡ Err fault → (fault ≡ faults.NoMemory) ⊎ (fault ≡ faults.Link) ⊎ (fault ≡ faults.Write)) → (report_status ending ≡ 1 → ⊥)
+      → ((report_status ending ≡ 6) × (ending ≡ Err faults.Link)) ⊎ ((report_status ending ≡ 6 → ⊥) × (ending ≡ Err faults.Link → ⊥) × (ending ≡ Err faults.NoMemory → ⊥))
+  linked_by (Ok clean) kind memory = inr (not_six clean, (λ e. cc), (λ e. cc))
+  linked_by (Err fault) kind memory = elim (kind fault refl) [
+    | inl is ↦ absurd (memory (ap (λ f. report_status (Err f)) is))
+    | inr (inl is) ↦ inl (ap (λ f. report_status (Err f)) is, ap Err is)
+    | inr (inr is) ↦
+        let five : report_status (Err fault) ≡ 5 = ap (λ f. report_status (Err f)) is in
+        inr ((λ e. omega (arith, e, five)), (λ e. let same : fault ≡ faults.Link = cc in let other : faults.Link ≡ faults.Write = sym same ∙ is in cc), (λ e. let same : fault ≡ faults.NoMemory = cc in let other : faults.NoMemory ≡ faults.Write = sym same ∙ is in cc))
+  ]
+
+  module _ (ending : Result Bool Fault) (run : ReceiveRun rules addresses ending dock_faults dock_tells dock dock' link_faults out_faults out_tells out out') (memory : report_status ending ≡ 1 → ⊥) where
+    pub linked : Docked (dock_tells dock) (dock_tells dock') (λ told. (report_status ending ≡ 6) ↔ FailsSome rules told addresses)
+    linked = elim (linked_by ending run.kind memory) [
+      | inl (six, is) ↦ docked_weaker _ _ (dock_tells dock) (dock_tells dock') (run.link is) (λ told fails. (λ e. fails, λ f. six))
+      | inr (other, not_link, not_memory) ↦ docked_weaker _ _ (dock_tells dock) (dock_tells dock') (run.linked not_link not_memory) (λ told none. (λ e. absurd (other e), λ f. absurd (none f)))
+    ]
+
+  complete_by : (ending : Result Bool Fault) (run : ReceiveRun rules addresses ending dock_faults dock_tells dock dock' link_faults out_faults out_tells out out') → (report_status ending ≡ 1 → ⊥)
+      → (Rose (out_faults out) (out_faults out') → ⊥)
+      → Docked (dock_tells dock) (dock_tells dock') (λ told. (FailsSome rules told addresses → ⊥) → WroteReports (report_status ending) (AreReports rules told addresses) out_tells out out')
+  complete_by (Ok clean) run memory no_write =
+      docked_weaker _ _ (dock_tells dock) (dock_tells dock') run.writes (λ told writes none. wrote (AreReports rules told addresses) clean out_tells out out' writes)
+  complete_by (Err fault) run memory no_write = elim (run.kind fault refl) [
+    | inl is ↦ absurd (memory (ap (λ f. report_status (Err f)) is))
+    | inr (inl is) ↦ docked_weaker _ _ (dock_tells dock) (dock_tells dock') (run.link (ap Err is)) (λ told fails none. absurd (none fails))
+    | inr (inr is) ↦ absurd (no_write (run.write_cause.rose (ap Err is)))
+  ]
+
+  pub complete : (ending : Result Bool Fault) (run : ReceiveRun rules addresses ending dock_faults dock_tells dock dock' link_faults out_faults out_tells out out') → (report_status ending ≡ 1 → ⊥)
+      → (Rose (out_faults out) (out_faults out') → ⊥)
+      → Docked (dock_tells dock) (dock_tells dock') (λ told. (FailsSome rules told addresses → ⊥) → WroteReports (report_status ending) (AreReports rules told addresses) out_tells out out')
+  complete = complete_by
+
+-- the report of a link that brings each frame in time is clean
+clean_in_time : (rules : Rules) (feed : ℕ) (ahead : List Answer) (r : Report) → IsReportOf rules feed ahead r → IsInTimeAhead rules ahead → IsTrue r.clean
+clean_in_time rules feed ahead r report time =
+    let all = report.complete time.plan time.pairs time.answers time.valid time.read time.followed time.frames time.in_time in
+    subst IsTrue (sym all.clean_is) is_true
+
+all_clean : (rules : Rules) (told : DockContents) (addresses : List Address) (reports : List Report) → AreReports rules told addresses reports → AreInTime rules told addresses → AreClean reports
+all_clean rules told addresses reports are time k d within =
+    let at : Address = record { ip = []; port = 0 } in
+    let l : k < length addresses = (let many = are.as_many in omega (arith, many, within)) in
+    let (start, finds, report) = are.each k at d l in
+    let (start', finds', ahead) = time k at l in
+    let same : Some start' ≡ Some start = sym finds'.stands ∙ finds.stands in
+    let starts : start' ≡ start = cc in
+    clean_in_time rules (k + 1) start.ahead (slice_index_or reports k d) report (subst (λ (s : LinkStart). IsInTimeAhead rules s.ahead) starts ahead)
+
+pub in_time : {O : Type 0} (code : ℕ) (rules : Rules) (addresses : List Address) (a b : Option DockContents) (tells : O → Option Output) (out out' : O)
+    → Docked a b (λ told. (FailsSome rules told addresses → ⊥) → WroteReports code (AreReports rules told addresses) tells out out')
+    → Docked a b (λ told. (FailsSome rules told addresses → ⊥) → AreInTime rules told addresses → code ≡ 0)
+in_time code rules addresses a b tells out out' complete =
+    docked_weaker _ _ a b complete (λ told wrote none time. let w = wrote none in w.clean.1 (all_clean rules told addresses w.reports w.are_reports time))

@@ -1,0 +1,27 @@
+-- Texts that are written one after another.
+use Rattle.std.proofs.Common.{◌≡◌, ℕ, ◌+◌, ◌<◌, List, [], ◌∷◌, ◌++◌, length, take, drop, get_or, Option, sym, ◌∙◌, ap, append_assoc}
+use Rattle.std.specs.List.{flat_map}
+use Rattle.std.proofs.lemmas.Grind.{flat_map-append}
+use Rattle.std.proofs.lemmas.List.{take-append-drop, drop_more}
+use Rattle.drm_links.specs.Sink.{Output, Outputs, IsFront}
+use Rattle.drm_links.proofs.ToldLemmas.{Outputs-then}
+
+-- the text at a place, and those before and after it
+flat_map-split : {X : Type 0} (f : X → List ℕ) (xs : List X) (i : ℕ) (d : X) → i < length xs → flat_map f xs ≡ flat_map f (take i xs) ++ (f (get_or xs i d) ++ flat_map f (drop (i + 1) xs))
+flat_map-split f xs i d within =
+    ap (λ l. flat_map f l) (sym (take-append-drop i xs) ∙ ap (λ l. take i xs ++ l) (drop_more xs i d within))
+    ∙ flat_map-append f (take i xs) (get_or xs i d ∷ drop (i + 1) xs)
+
+-- all before a text, and a front of it
+pub front_of_next : {X : Type 0} (f : X → List ℕ) (xs : List X) (i : ℕ) (d : X) → i < length xs → (a b c : Option Output) → Outputs a b (λ t. t ≡ flat_map f (take i xs)) → Outputs b c (IsFront (f (get_or xs i d)))
+    → Outputs a c (IsFront (flat_map f xs))
+front_of_next f xs i d within a b c done front =
+    let more : List ℕ = flat_map f (drop (i + 1) xs) in
+    Outputs-then (λ t. t ≡ flat_map f (take i xs)) (IsFront (f (get_or xs i d))) (IsFront (flat_map f xs)) a b c done front
+    (λ s t is_s (rest, is_t). (
+      rest ++ more,
+      flat_map-split f xs i d within
+          ∙ (ap (λ l. l ++ (f (get_or xs i d) ++ more)) (sym is_s)
+          ∙ (ap (λ l. s ++ (l ++ more)) is_t
+          ∙ (ap (λ l. s ++ l) (append_assoc t rest more) ∙ sym (append_assoc s t (rest ++ more))))),
+    ))

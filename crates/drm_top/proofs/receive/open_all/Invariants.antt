@@ -1,0 +1,18 @@
+use Rattle.std.proofs.Common.{◌≡◌, ℕ, ◌+◌, ◌<◌, ◌≤◌, vec_len, slice_index_or, length}
+use Rattle.drm_links.specs.declared.dock.Address.{Address}
+use Rattle.drm_top.specs.declared.job.Job.{Job}
+use Rattle.drm_top.specs.Receive.{Docked}
+use Rattle.drm_top.specs.Opening.{IsJob, HasLink}
+use Rattle.drm_top.proofs.OpeningLemmas.{Docks, AreOpened}
+use Rattle.drm_top.proofs.receive.open_all.Given as goal
+
+-- each receiver so far has the link of its address
+abbrev pub invariant-loop-k : goal.invariant-loop-k
+invariant-loop-k g l =
+    (vec_len l.jobs ≡ l.k) × (length l.jobs.items ≡ l.k)
+    × (g.D.Dock.faults l.fn.dock ≤ g.D.Dock.faults l.dock)
+    × Docks (g.D.Dock.tells l.fn.dock) (g.D.Dock.tells l.dock) (AreOpened l.addresses l.k)
+    × ((k : ℕ) (d : Job g.row.D-L.Denot) → k < l.k → IsJob l.rules (k + 1) (slice_index_or l.jobs.items k d))
+    × ((k : ℕ) (d : Job g.row.D-L.Denot) → k < l.k → g.D.L.Link.faults (slice_index_or l.jobs.items k d).link ≡ 0)
+    × ((k : ℕ) (d : Job g.row.D-L.Denot) → k < l.k → (at : Address)
+    → Docked (g.D.Dock.tells l.fn.dock) (g.D.Dock.tells l.dock) (λ told. HasLink g.D.L.Link.tells told k (slice_index_or l.addresses k at) (slice_index_or l.jobs.items k d).link))

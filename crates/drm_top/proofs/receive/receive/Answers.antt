@@ -1,0 +1,35 @@
+use Rattle.std.proofs.Common.{◌≡◌, ℕ, ◌<◌, List, length, slice_index_or, sym, ◌∙◌, ap, subst, Err}
+use Rattle.std.proofs.lemmas.Result.{err_from_is_err_and}
+use Rattle.drm_top.specs.declared.job.Job.{Job}
+use Rattle.drm_top.specs.Jobs.{HasEnded}
+use Rattle.drm_top.specs.Settling.{Settles}
+use Rattle.drm_top.proofs.ReceiveLemmas.{Ran, settled_run, opening_failed, written_back}
+use Rattle.drm_top.proofs.receive.receive.Goals as goal
+
+pub returns-in_err-jobs : goal.returns-in_err-jobs
+returns-in_err-jobs g c =
+    let p = err_from_is_err_and c.from_residual.result c.from_residual.ensures.1 in
+    record {
+      run = rw (p.1 ∙ ap Err p.2)
+          (opening_failed c.args.rules.now c.args.addresses.now c.in_err-jobs.field-0.0 g.D.Dock.faults g.D.Dock.tells c.args.dock.now c.open_all.new.dock g.D.L.Link.faults g.O.Sink.faults g.O.Sink.tells c.args.out.now
+          c.in_err-jobs.ensures.ends (λ is. c.in_err-jobs.ensures.failed (ap Err is)) c.in_err-jobs.ensures.docked c.in_err-jobs.ensures.unsent c.in_err-jobs.ensures.cause.later (λ is. c.in_err-jobs.ensures.cause.rose (ap Err is)));
+    }
+
+pub returns : goal.returns
+returns g c =
+    let before : List (Job g.row.D-L.Denot) = c.in_ok-jobs.jobs.items in
+    let after : List (Job g.row.D-L.Denot) = c.run_all.new.jobs in
+    let value : c.as_mut_slice.result.now ≡ before = c.as_mut_slice.ensures.value in
+    let size : length before ≡ length c.args.addresses.now = ap length (sym value) ∙ c.as_mut_slice.ensures.len ∙ c.in_ok-jobs.ensures.many in
+    let still : length after ≡ length before = c.run_all.auto.jobs ∙ ap length value in
+    let E : List (Job g.row.D-L.Denot) → Type 0 = λ xs. (k : ℕ) (d : Job g.row.D-L.Denot) → k < length xs → HasEnded g.D.L.Link.faults g.D.L.Link.tells (slice_index_or xs k d) (slice_index_or after k d) in
+    let ran : Ran g.D.L.Link.faults g.D.L.Link.tells c.args.rules.now (length c.args.addresses.now) before after =
+    record { size = size; still = still; jobs = c.in_ok-jobs.ensures.jobs; ended = subst E value c.run_all.ensures } in
+    let same : c.as_slice.result.now ≡ after = written_back c.in_ok-jobs.jobs.len after before c.as_slice.result.now (sym (still ∙ ap length (sym value) ∙ c.as_mut_slice.ensures.len)) c.as_slice.ensures.value in
+    let settled : Settles after c.settle.result g.O.Sink.tells c.args.out.now c.settle.new.out =
+    subst (λ (jobs : List (Job g.row.D-L.Denot)). Settles jobs c.settle.result g.O.Sink.tells c.args.out.now c.settle.new.out) same c.settle.ensures.settles in
+    record {
+      run = settled_run g.D.L.Link.faults g.D.L.Link.tells c.args.rules.now c.requires.rules c.reports_follow.ensures.headlines c.reports_follow.ensures.completes c.args.addresses.now before after ran
+          c.settle.result g.D.Dock.faults g.D.Dock.tells c.args.dock.now c.open_all.new.dock g.O.Sink.faults g.O.Sink.tells c.args.out.now c.settle.new.out
+          c.in_ok-jobs.ensures.fresh c.in_ok-jobs.ensures.links c.in_ok-jobs.ensures.unsent c.in_ok-jobs.ensures.cause.later settled c.settle.ensures.cause;
+    }

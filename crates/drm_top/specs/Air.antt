@@ -1,0 +1,80 @@
+-- The command `air`: a report for each feed of a script.
+use Rattle.std.specs.Prelude.{ℕ, ℤ, pos, ◌≡◌, ◌+◌, ◌*◌, ◌<◌, ◌⊎◌, Bool, List, length, map, slice_index_or, Option, Some, Result, Ok, Err, IfOk}
+use Rattle.drm_schedule.specs.declared.plan.Plan.{Plan}
+use Rattle.drm_schedule.specs.Valid.{IsSchedule}
+use Rattle.script_lines.specs.declared.delivery.Delivery.{Delivery}
+use Rattle.script_lines.specs.Script.{IsScript}
+use Rattle.drm_links.specs.Told.{HasCause}
+use Rattle.drm_links.specs.Shelf.{Files}
+use Rattle.drm_links.specs.Link.{Datagram}
+use Rattle.drm_links.specs.Sink.{Output}
+use Rattle.mod_delivery.specs.Sent.{AreSent, IsFollowed, IsInTime}
+use Rattle.drm_top.specs.declared.rules.Rules.{Rules}
+use Rattle.drm_top.specs.Headline.{Modulates, ModulatesAll}
+use Rattle.drm_top.specs.Receive.{Report, IsReportOf, WritesReports}
+use Rattle.drm_top.specs.Loading.{ReadBy}
+use Rattle.drm_top.specs.Schedule.{schedule_named}
+use Rattle.drm_top.specs.Scripts.{script_named}
+use Rattle.drm_top.specs.Faults.{fault_of_schedule, fault_of_script}
+use Rattle.drm_top.specs.declared.loading.ScheduleFault.{ScheduleFault}
+use Rattle.drm_top.specs.declared.fault.Fault.{Fault}
+use Rattle.drm_top.specs.declared.fault.Fault.TheVariants as faults
+
+-- a feed is read by the schedule's first sequence number and all its frames, and ends where nothing is left
+abbrev pub air_rules : Plan → ℕ → Rules
+air_rules plan window = record { window = window; first = Some plan.seq; frames = Some (3 * plan.length); idle = 1; limit = 4294967295 }
+
+-- the pairs that a feed delivers
+abbrev pub pairs_of : List Delivery → List (ℕ × ℕ)
+pairs_of feed = map (λ d. (d.packet, d.fragment)) feed
+
+-- The report of a feed: that of the datagrams that it delivers.
+pub record IsAired (plan : Plan) (window feed : ℕ) (deliveries : List Delivery) (r : Report) : Type 0 where
+  pub datagrams : List (List ℕ)
+  pub sent : AreSent plan (pairs_of deliveries) datagrams
+  pub report : IsReportOf (air_rules plan window) feed (map Datagram datagrams) r
+  pub headline : (base : ℤ) → IsFollowed plan (Some plan.seq) base (pairs_of deliveries) datagrams
+      → Modulates plan (air_rules plan window) feed base (pairs_of deliveries) r.text r.clean
+  pub complete : IsFollowed plan (Some plan.seq) (pos 0) (pairs_of deliveries) datagrams
+      → ((q : ℕ) → q < 3 * plan.length → IsInTime plan window (pos 0) (pairs_of deliveries) q)
+      → ModulatesAll plan feed r.text r.clean
+
+-- a report for each feed, in their order
+pub record AreAired (plan : Plan) (window : ℕ) (feeds : List (List Delivery)) (reports : List Report) : Type 0 where
+  pub as_many : length reports ≡ length feeds
+  pub each : (k : ℕ) (feed : List Delivery) (none : Report) → k < length feeds
+      → IsAired plan window (k + 1) (slice_index_or feeds k feed) (slice_index_or reports k none)
+
+-- What comes of a script that was read, or not.
+abbrev pub ByScript : {O : Type 0} → Plan → ℕ → Result (List (List Delivery)) ScheduleFault → Result Bool Fault → (O → Option Output) → O → O → Type 0
+ByScript plan window (Ok feeds) ending tells out out' =
+    IsScript plan feeds × WritesReports (AreAired plan window feeds) ending tells out out'
+    × ((fault : Fault) → ending ≡ Err fault → (fault ≡ faults.NoMemory) ⊎ (fault ≡ faults.Write))
+ByScript plan window (Err fault) ending tells out out' = (ending ≡ Err (fault_of_script fault)) × (out' ≡ out)
+
+-- A run over a schedule that came: its script is read, and its feeds are received.
+pub record OverSchedule {S O : Type 0} (plan : Plan) (script : List ℕ) (window : ℕ) (ending : Result Bool Fault)
+    (shelf_tells : S → Option Files) (shelf shelf' : S) (out_tells : O → Option Output) (out out' : O) : Type 0 where
+  pub valid : IsSchedule plan
+  pub came : Result (List (List Delivery)) ScheduleFault
+  pub loads : ReadBy (script_named plan script) came (shelf_tells shelf) (shelf_tells shelf')
+  pub writes : ByScript plan window came ending out_tells out out'
+
+abbrev pub BySchedule : {S O : Type 0} → List ℕ → ℕ → Result Plan ScheduleFault → Result Bool Fault
+    → (S → Option Files) → S → S → (O → Option Output) → O → O → Type 0
+BySchedule script window (Ok plan) ending shelf_tells shelf shelf' out_tells out out' =
+    OverSchedule plan script window ending shelf_tells shelf shelf' out_tells out out'
+BySchedule script window (Err fault) ending shelf_tells shelf shelf' out_tells out out' =
+    (ending ≡ Err (fault_of_schedule fault)) × (shelf' ≡ shelf) × (out' ≡ out)
+
+-- A run of `air`: the schedule is read, then the script, and then the feeds are received.
+pub record AirRun {S O : Type 0} (name script : List ℕ) (window : ℕ) (ending : Result Bool Fault)
+    (shelf_faults : S → ℕ) (shelf_tells : S → Option Files) (shelf shelf' : S)
+    (out_faults : O → ℕ) (out_tells : O → Option Output) (out out' : O) : Type 0 where
+  pub came : Result Plan ScheduleFault
+  pub between : S
+  pub loads : ReadBy (schedule_named name) came (shelf_tells shelf) (shelf_tells between)
+  pub runs : BySchedule script window came ending shelf_tells between shelf' out_tells out out'
+  -- The faults of the outside come only where its count of faults rose.
+  pub read_cause : HasCause (shelf_faults shelf) (shelf_faults shelf') (ending ≡ Err faults.Read)
+  pub write_cause : HasCause (out_faults out) (out_faults out') (ending ≡ Err faults.Write)

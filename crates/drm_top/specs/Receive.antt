@@ -1,0 +1,107 @@
+-- The command `receive` with addresses: a report for each link.
+use Rattle.std.specs.Prelude.{ℕ, ◌≡◌, ◌+◌, ◌<◌, ◌≤◌, ◌⊎◌, ◌↔◌, IsTrue, Contains, IsNone, Bool, List, length, slice_index_or, Option, None, Some, Result, Ok, Err}
+use Rattle.std.specs.List.{flat_map, All}
+use Rattle.drm_links.specs.Told.{HasCause, Rose, WhileTold}
+use Rattle.drm_links.specs.Link.{Answer, Traffic}
+use Rattle.drm_links.specs.Sink.{Output, Outputs, IsFront}
+use Rattle.drm_links.specs.Dock.{DockContents, LinkStart, start_at}
+use Rattle.drm_links.specs.declared.dock.Address.{Address}
+use Rattle.drm_top.specs.Hearing.{AreNext}
+use Rattle.drm_top.specs.declared.rules.Rules.{Rules}
+use Rattle.drm_top.specs.Reading.{IsBroken}
+use Rattle.drm_top.specs.Received.{IsReport}
+use Rattle.drm_top.specs.Headline.{HeadlineOf, CompleteOf}
+use Rattle.drm_top.specs.declared.fault.Fault.{Fault}
+use Rattle.drm_top.specs.declared.fault.Fault.TheVariants as faults
+
+-- a report: its text, and whether no line of it is missing or bad
+pub record Report : Type 0 where
+  pub text : List ℕ
+  pub clean : Bool
+
+-- The report of what is ahead of a link: of the answers that are read of it. It is that of the delivery that is read, and
+-- where each frame is in time of all frames.
+pub record IsReportOf (rules : Rules) (feed : ℕ) (ahead : List Answer) (r : Report) : Type 0 where
+  pub answers : List Answer
+  pub rest : List Answer
+  pub next : AreNext ahead answers rest
+  pub is : IsReport rules feed answers r.text r.clean
+  pub headline : HeadlineOf rules feed answers r.text r.clean
+  pub complete : CompleteOf rules feed ahead r.text r.clean
+
+-- What is ahead of a link breaks off: its reading ends in `Failed`.
+pub record BreaksOff (rules : Rules) (ahead : List Answer) : Type 0 where
+  pub before : List Answer
+  pub answers : List Answer
+  pub rest : List Answer
+  pub next : AreNext ahead answers rest
+  pub reading : IsBroken rules before answers
+
+-- the k-th opening from here finds a link at this address that starts so
+pub record Finds (told : DockContents) (k : ℕ) (at : Address) (start : LinkStart) : Type 0 where
+  pub allowed : Contains told.failing (told.openings + k) → ⊥
+  pub stands : start_at told at ≡ Some start
+
+-- it fails
+abbrev pub FindsNone : DockContents → ℕ → Address → Type 0
+FindsNone told k at = Contains told.failing (told.openings + k) ⊎ IsNone (start_at told at)
+
+-- where a dock tells at the end, it told before, and P holds of what it told then
+abbrev pub Docked : Option DockContents → Option DockContents → (DockContents → Type 0) → Type 0
+Docked before None P = Unit {0}
+Docked None (Some after) P = ⊥
+Docked (Some before) (Some after) P = P before
+
+-- a report for each address, in their order
+pub record AreReports (rules : Rules) (told : DockContents) (addresses : List Address) (reports : List Report) : Type 0 where
+  pub as_many : length reports ≡ length addresses
+  pub each : (k : ℕ) (at : Address) (none : Report) → k < length addresses
+      → (start : LinkStart) × Finds told k (slice_index_or addresses k at) start
+      × IsReportOf rules (k + 1) start.ahead (slice_index_or reports k none)
+
+-- the texts of reports, one after another
+abbrev pub all_texts : List Report → List ℕ
+all_texts reports = flat_map (λ r. r.text) reports
+
+abbrev pub AreClean : List Report → Type 0
+AreClean reports = All (λ r. IsTrue r.clean) reports
+
+-- Opening some address fails, or what is ahead of some link breaks off.
+pub record FailsSome (rules : Rules) (told : DockContents) (addresses : List Address) : Type 0 where
+  pub k : ℕ
+  pub within : k < length addresses
+  pub fails : (at : Address) → FindsNone told k (slice_index_or addresses k at)
+      ⊎ ((start : LinkStart) × Finds told k (slice_index_or addresses k at) start × BreaksOff rules start.ahead)
+
+-- What is written: the reports of all links, and whether they are clean; after a failed write a front of them; after
+-- another fault nothing.
+abbrev pub WritesReports : {O : Type 0} → (List Report → Type 0) → Result Bool Fault → (O → Option Output) → O → O → Type 0
+WritesReports are (Ok clean) tells out out' =
+    (reports : List Report) × are reports × Outputs (tells out) (tells out') (λ text. text ≡ all_texts reports) × (IsTrue clean ↔ AreClean reports)
+WritesReports are (Err faults.Write) tells out out' =
+    (reports : List Report) × are reports × Outputs (tells out) (tells out') (IsFront (all_texts reports))
+WritesReports are (Err fault) tells out out' = out' ≡ out
+
+-- a count of faults rose that was 0 where the link was opened
+abbrev pub SomeLinkRose : {L : Type 0} → (L → ℕ) → Type 0
+SomeLinkRose {L} faults = (opened : L) × (closed : L) × (faults opened ≡ 0) × Rose (faults opened) (faults closed)
+
+-- A run of `receive` with addresses.
+pub record ReceiveRun {D L O : Type 0} (rules : Rules) (addresses : List Address) (ending : Result Bool Fault)
+    (dock_faults : D → ℕ) (dock_tells : D → Option DockContents) (dock dock' : D) (link_faults : L → ℕ)
+    (out_faults : O → ℕ) (out_tells : O → Option Output) (out out' : O) : Type 0 where
+  -- It ends well, or for want of memory, by a failed link or by a failed write.
+  pub kind : (fault : Fault) → ending ≡ Err fault → (fault ≡ faults.NoMemory) ⊎ (fault ≡ faults.Link) ⊎ (fault ≡ faults.Write)
+  -- Where the dock tells: the reports are those of what was ahead of the links that it opened. Nothing else is written.
+  pub writes : Docked (dock_tells dock) (dock_tells dock') (λ told. WritesReports (AreReports rules told addresses) ending out_tells out out')
+  pub unwritten : (ending ≡ Err faults.NoMemory) ⊎ (ending ≡ Err faults.Link) → out' ≡ out
+  -- It fails by a link exactly where an opening fails, or what is read of some link ends in `Failed`.
+  pub link : ending ≡ Err faults.Link → Docked (dock_tells dock) (dock_tells dock') (λ told. FailsSome rules told addresses)
+  pub linked : (ending ≡ Err faults.Link → ⊥) → (ending ≡ Err faults.NoMemory → ⊥)
+      → Docked (dock_tells dock) (dock_tells dock') (λ told. FailsSome rules told addresses → ⊥)
+  -- Nothing is sent.
+  pub unsent : WhileTold (dock_tells dock) (dock_tells dock') (λ before after. after.gone ≡ before.gone)
+  -- The faults of the outside come only where its count of faults rose.
+  pub later : dock_faults dock ≤ dock_faults dock'
+  pub link_cause : ending ≡ Err faults.Link → Rose (dock_faults dock) (dock_faults dock') ⊎ SomeLinkRose link_faults
+  pub write_cause : HasCause (out_faults out) (out_faults out') (ending ≡ Err faults.Write)

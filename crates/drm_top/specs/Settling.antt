@@ -1,0 +1,26 @@
+-- What becomes of receivers that ended.
+use Rattle.std.specs.Prelude.{ℕ, ◌≡◌, ◌↔◌, IsTrue, not, All, Bool, List, Option, Result, Ok, Err}
+use Rattle.std.specs.List.{flat_map}
+use Rattle.drm_links.specs.Sink.{Output, Outputs, IsFront}
+use Rattle.drm_top.specs.declared.fault.Fault.{Fault}
+use Rattle.drm_top.specs.declared.fault.Fault.TheVariants as faults
+use Rattle.drm_top.specs.declared.job.Job.{Job}
+use Rattle.drm_top.specs.Jobs.{is_failed, clean_of, text_of, IsDone}
+
+-- no receiver's link failed
+abbrev pub NoneFailed : {L : Type 0} → List (Job L) → Type 0
+NoneFailed jobs = All (λ job. IsTrue (not (is_failed job.ended))) jobs
+
+-- the texts of receivers, one after another
+abbrev pub job_texts : {L : Type 0} → List (Job L) → List ℕ
+job_texts jobs = flat_map (λ job. text_of job) jobs
+
+-- Where all are done their texts are written, or a front of them; where a link failed or memory ran out, nothing.
+abbrev pub Settles : {L O : Type 0} → List (Job L) → Result Bool Fault → (O → Option Output) → O → O → Type 0
+Settles jobs (Ok clean) tells out out' =
+    All IsDone jobs × Outputs (tells out) (tells out') (λ text. text ≡ job_texts jobs)
+    × (IsTrue clean ↔ All (λ job. IsTrue (clean_of job)) jobs)
+Settles jobs (Err faults.Write) tells out out' = All IsDone jobs × Outputs (tells out) (tells out') (IsFront (job_texts jobs))
+Settles jobs (Err faults.Link) tells out out' = (NoneFailed jobs → ⊥) × (out' ≡ out)
+Settles jobs (Err faults.NoMemory) tells out out' = out' ≡ out
+Settles jobs (Err other) tells out out' = ⊥

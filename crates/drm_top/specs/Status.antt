@@ -1,0 +1,59 @@
+-- What the status of a run that reports says.
+use Rattle.std.specs.Prelude.{ℕ, ℤ, pos, ◌≡◌, ◌+◌, ◌*◌, ◌<◌, ◌⊎◌, ◌↔◌, List, length, slice_index_or, Option, None, Some, Result, Ok, Err}
+use Rattle.drm_schedule.specs.declared.plan.Plan.{Plan}
+use Rattle.drm_schedule.specs.Valid.{IsSchedule}
+use Rattle.script_lines.specs.declared.delivery.Delivery.{Delivery}
+use Rattle.drm_links.specs.Link.{Answer}
+use Rattle.drm_links.specs.Sink.{Output, Outputs}
+use Rattle.drm_links.specs.Dock.{DockContents, LinkStart}
+use Rattle.drm_links.specs.declared.dock.Address.{Address}
+use Rattle.mod_delivery.specs.Sent.{AreSent, IsFollowed, IsInTime}
+use Rattle.drm_top.specs.declared.rules.Rules.{Rules}
+use Rattle.drm_top.specs.Reading.{datagrams}
+use Rattle.drm_top.specs.Headline.{WouldBeRead}
+use Rattle.drm_top.specs.Receive.{Report, Finds, AreClean, all_texts}
+use Rattle.drm_top.specs.Air.{pairs_of}
+use Rattle.drm_top.specs.Loading.{Reading, given, ◌>>=◌}
+use Rattle.drm_top.specs.Schedule.{schedule_named}
+use Rattle.drm_top.specs.Scripts.{script_named}
+
+-- The reports were written, all of them, and the status is 0 exactly where no line of them is missing or bad, and else 7.
+pub record WroteReports {O : Type 0} (code : ℕ) (are : List Report → Type 0) (tells : O → Option Output) (out out' : O) : Type 0 where
+  pub reports : List Report
+  pub are_reports : are reports
+  pub text : Outputs (tells out) (tells out') (λ text. text ≡ all_texts reports)
+  pub clean : (code ≡ 0) ↔ AreClean reports
+  pub lacking : (code ≡ 7) ↔ (AreClean reports → ⊥)
+
+-- What is ahead of a link is a delivery of a valid schedule, from its first frame on, in which each frame is in time; the
+-- number of frames is the schedule's, or isn't told.
+pub record IsInTimeAhead (rules : Rules) (ahead : List Answer) : Type 0 where
+  pub plan : Plan
+  pub valid : IsSchedule plan
+  pub pairs : List (ℕ × ℕ)
+  pub answers : List Answer
+  pub read : WouldBeRead rules ahead answers
+  pub followed : IsFollowed plan rules.first (pos 0) pairs (datagrams answers)
+  pub frames : (rules.frames ≡ None) ⊎ (rules.frames ≡ Some (3 * plan.length))
+  pub in_time : (q : ℕ) → q < 3 * plan.length → IsInTime plan rules.window (pos 0) pairs q
+
+-- so is that of the link at each address
+abbrev pub AreInTime : Rules → DockContents → List Address → Type 0
+AreInTime rules told addresses =
+    (k : ℕ) (at : Address) → k < length addresses
+    → (start : LinkStart) × Finds told k (slice_index_or addresses k at) start × IsInTimeAhead rules start.ahead
+
+-- the schedule of this name, and the feeds that the script of this name has for it
+abbrev pub schedule_and_script : List ℕ → List ℕ → Reading (Plan × List (List Delivery))
+schedule_and_script name script = do
+  plan ← schedule_named name
+  feeds ← script_named plan script
+  given (Ok (plan, feeds))
+
+-- What each feed delivers of the schedule has each frame in time.
+abbrev pub FeedsAreInTime : Plan → ℕ → List (List Delivery) → Type 0
+FeedsAreInTime plan window feeds =
+    (k : ℕ) (feed : List Delivery) (datagrams : List (List ℕ)) → k < length feeds
+    → let pairs = pairs_of (slice_index_or feeds k feed) in
+    AreSent plan pairs datagrams
+    → IsFollowed plan (Some plan.seq) (pos 0) pairs datagrams × ((q : ℕ) → q < 3 * plan.length → IsInTime plan window (pos 0) pairs q)

@@ -1,0 +1,158 @@
+//! The command `receive` with addresses.
+
+ghost use Rattle.std.specs.Prelude.{◌≡◌, ◌≤◌, length, vec_len, IfOk, IfErr, Err};
+ghost use Rattle.drm_links.specs.Told.{HasCause, CountsCall, WhileTold};
+ghost use Rattle.drm_links.specs.Dock.{Opens};
+ghost use Rattle.drm_top.specs.Terms.{AreInRange, AreListed};
+ghost use Rattle.drm_top.specs.Receive.{ReceiveRun, Docked};
+ghost use Rattle.drm_top.specs.Opening.{IsJob, AreJobs, HaveLinks, AreFresh, FailsOpening, EndsOpening};
+ghost use Rattle.drm_top.specs.Settling.{Settles};
+
+use crate::fault::Fault;
+use crate::follow::reports_follow;
+use crate::job::{Job, all_clean, all_done, none_failed, run_all, write_texts};
+use crate::receiver::Options;
+use crate::rules::Rules;
+use crate::text::Text;
+use dcp_collect::Collector;
+use drm_bits::NoMemory;
+use drm_links::{Address, Dock, Link, Opened, Sink};
+use drm_words::Addresses;
+use mod_feed::Feed;
+use std::alloc::Global;
+use std::thread::Threads;
+
+/// Room for the longest datagram.
+const MOST_BYTES: usize = 65536;
+
+/// Opens a link at each address, reads each until it has read enough, in threads of their own, and writes their reports in
+/// the order of the addresses. Answers whether no frame is missing or bad.
+pub(crate) fn receive<R: Threads + Sync, D: Dock, O: Sink>(
+    rt: &R,
+    alloc: Global,
+    rules: &Rules,
+    addresses: &Addresses,
+    dock: &mut D,
+    out: &mut O,
+) -> Result<bool, Fault>
+where
+    D::L: Link + Send,
+    requires rules { AreInRange rules.now }
+    requires listed { AreListed addresses.now }
+    ensures run { ReceiveRun rules.now addresses.now result
+        D.faults D.tells dock.old dock.new D.L.faults O.faults O.tells out.old out.new }
+{
+    reports_follow();
+    let mut jobs = open_all(alloc, rules, addresses, dock)?;
+    run_all(rt, alloc, jobs.as_mut_slice());
+    settle(jobs.as_slice(), out)
+}
+
+// Opens the links at all addresses, in their order, and makes their receivers.
+fn open_all<D: Dock>(
+    alloc: Global,
+    rules: &Rules,
+    addresses: &Addresses,
+    dock: &mut D,
+) -> Result<Vec<Job<D::L>>, Fault>
+    requires rules { AreInRange rules.now }
+    requires listed { AreListed addresses.now }
+    ensures many { IfOk result (λ jobs. vec_len jobs ≡ length addresses.now) }
+    ensures jobs { IfOk result (λ jobs. AreJobs rules.now (length addresses.now) jobs.items) }
+    ensures fresh { IfOk result (λ jobs. AreFresh D.L.faults (length addresses.now) jobs.items) }
+    ensures links { IfOk result (λ jobs. Docked (D.tells dock.old) (D.tells dock.new) (λ told.
+        HaveLinks D.L.tells told addresses.now jobs.items)) }
+    ensures failed { result ≡ Err Fault.Link
+        → Docked (D.tells dock.old) (D.tells dock.new) (λ told. FailsOpening told addresses.now) }
+    ensures ends { IfErr result EndsOpening }
+    ensures unsent { WhileTold (D.tells dock.old) (D.tells dock.new) (λ before after. after.gone ≡ before.gone) }
+    ensures docked { Docked (D.tells dock.old) (D.tells dock.new) (λ _. Unit {0}) }
+    ensures cause { HasCause (D.faults dock.old) (D.faults dock.new) (result ≡ Err Fault.Link) }
+{
+    let mut jobs = Vec::new(alloc);
+    for k in 0..addresses.len() {
+        let job = open_one(alloc, rules, k as u8 + 1, *addresses.get(k), dock)?;
+        let Ok(()) = jobs.push(job) else {
+            return Err(Fault::NoMemory);
+        };
+    }
+    Ok(jobs)
+}
+
+// Opens the link at an address, and makes its receiver.
+fn open_one<D: Dock>(
+    alloc: Global,
+    rules: &Rules,
+    feed: u8,
+    at: Address,
+    dock: &mut D,
+) -> Result<Job<D::L>, Fault>
+    requires rules { AreInRange rules.now }
+    ensures job { IfOk result (IsJob rules.now feed) }
+    ensures fresh { IfOk result (λ job. D.L.faults job.link ≡ 0) }
+    ensures opened { IfOk result (λ job.
+        WhileTold (D.tells dock.old) (D.tells dock.new) (Opens D.L.tells at (Opened.Link job.link))) }
+    ensures failed { result ≡ Err Fault.Link
+        → WhileTold (D.tells dock.old) (D.tells dock.new) (Opens D.L.tells at Opened.Failed) }
+    ensures told { CountsCall (λ contents. contents.calls) (D.tells dock.old) (D.tells dock.new) }
+    ensures ends { IfErr result EndsOpening }
+    ensures unsent { WhileTold (D.tells dock.old) (D.tells dock.new) (λ before after. after.gone ≡ before.gone) }
+    ensures cause { HasCause (D.faults dock.old) (D.faults dock.new) (result ≡ Err Fault.Link) }
+{
+    match dock.bind(at) {
+        Opened::Link(link) => Ok(job_for(alloc, rules, feed, link)?),
+        Opened::Failed => Err(Fault::Link),
+    }
+}
+
+/// A receiver of this link, under the number of its feed.
+pub(crate) fn job_for<L: Link>(
+    alloc: Global,
+    rules: &Rules,
+    feed: u8,
+    link: L,
+) -> Result<Job<L>, NoMemory>
+    requires some { 1 ≤ rules.now.window }
+    requires few { rules.now.window ≤ 64 }
+    ensures job { IfOk result (IsJob rules.now feed) }
+    ensures link { IfOk result (λ job. job.link ≡ link) }
+{
+    let collector = Collector::make(alloc, rules.window, rules.first)?;
+    let buffer = room(alloc, MOST_BYTES)?;
+    Ok(Job {
+        link,
+        collector,
+        feed: Feed::new(),
+        options: Options {
+            feed,
+            frames: rules.frames,
+            idle: rules.idle,
+            limit: rules.limit,
+        },
+        buffer,
+        text: Text::new(alloc),
+        ended: None,
+    })
+}
+
+// Room for so many bytes.
+fn room(alloc: Global, len: usize) -> Result<Vec<u8>, NoMemory>
+    ensures { IfOk result (λ bytes. vec_len bytes ≡ len) }
+{
+    Ok(vec![in alloc; 0u8; len]?)
+}
+
+/// Writes the reports of receivers that ended, unless one of them failed.
+pub(crate) fn settle<L: Link, O: Sink>(jobs: &[Job<L>], out: &mut O) -> Result<bool, Fault>
+    ensures settles { Settles jobs.now result O.tells out.old out.new }
+    ensures cause { HasCause (O.faults out.old) (O.faults out.new) (result ≡ Err Fault.Write) }
+{
+    if !none_failed(jobs) {
+        return Err(Fault::Link);
+    }
+    if !all_done(jobs) {
+        return Err(Fault::NoMemory);
+    }
+    write_texts(jobs, out)?;
+    Ok(all_clean(jobs))
+}

@@ -1,0 +1,155 @@
+//! Receivers work side by side: the first of two links brings nothing before the second one was asked.
+
+ghost use Rattle.std.specs.Prelude.{◌≡◌, None, IfOk};
+ghost use Rattle.drm_links.specs.Told.{HasCause};
+ghost use Rattle.drm_links.specs.Dock.{IsFresh, IsFailed};
+
+use crate::receive_tests::bring_all;
+use crate::run;
+use drm_bits::NoMemory;
+use drm_links::{Address, Came, Dock, Link, MemLink, MemShelf, MemSink, MemSource, Opened, Sent};
+use std::alloc::Global;
+use std::sync::atomic::AtomicU64;
+use std::sync::atomic::Ordering::SeqCst;
+use std::test::Fail;
+
+const REPORTS: &[u8] = b"feed 1
+frame 0 dlfc 0 mode B fac 660801234560a1806d sdc 00601000004049023006be6 mux 01000004 msc 55555555
+frame 1 dlfc 1 mode B fac 260801234560a18033 sdc - mux 01000004 msc 55555555
+frame 2 dlfc 2 mode B fac 460801234560a18042 sdc - mux 01000004 msc 55555555
+end frames given 3 missing 0 bad 0 refused 0
+feed 2
+frame 0 dlfc 0 mode B fac 660801234560a1806d sdc 00601000004049023006be6 mux 01000004 msc 55555555
+frame 1 dlfc 1 mode B fac 260801234560a18033 sdc - mux 01000004 msc 55555555
+frame 2 dlfc 2 mode B fac 460801234560a18042 sdc - mux 01000004 msc 55555555
+end frames given 3 missing 0 bad 0 refused 0
+";
+
+/// A link that is idle until another one was asked, or that other one.
+#[derive(Drop)]
+struct Gated<'a> {
+    inner: MemLink,
+    waits: bool,
+    asked: &'a AtomicU64,
+    idles: u64,
+}
+
+impl<'a> Gated<'a> {
+    fn make(alloc: Global, waits: bool, asked: &'a AtomicU64) -> Result<Gated<'a>, NoMemory>
+        ensures { IfOk result (λ link. (link.inner.faults ≡ 0) × (link.idles ≡ 0)) }
+    {
+        let mut inner = MemLink::make(alloc, &[], &[], 0)?;
+        bring_all(alloc, &mut inner)?;
+        Ok(Gated {
+            inner,
+            waits,
+            asked,
+            idles: 0,
+        })
+    }
+}
+
+impl<'a> Link for Gated<'a> {
+    ghost faults = { λ link. link.inner.faults };
+
+    ghost idles = { λ link. link.idles };
+
+    ghost tells = { λ _. None };
+
+    fn recv(&mut self, buf: &mut [u8]) -> Came {
+        if self.waits && self.asked.load(SeqCst) == 0 {
+            self.idles = self.idles.saturating_add(1);
+            return Came::Idle;
+        }
+        if !self.waits {
+            self.asked.store(1, SeqCst);
+        }
+        let came = self.inner.recv(buf);
+        if came == Came::Idle {
+            self.idles = self.idles.saturating_add(1);
+        }
+        came
+    }
+
+    fn send(&mut self, bytes: &[u8]) -> Sent {
+        self.inner.send(bytes)
+    }
+
+    fn rest(&mut self, millis: u32) {
+        self.inner.rest(millis);
+    }
+}
+
+/// Gives the link that waits at the first port, and the other one at the second.
+#[derive(Drop)]
+struct Pair<'a> {
+    alloc: Global,
+    asked: &'a AtomicU64,
+    faults: u64,
+}
+
+impl<'a> Pair<'a> {
+    fn open(&mut self, at: Address) -> Opened<Gated<'a>>
+        ensures fresh { IsFresh ⟦<Gated<'a> as Link>⟧.faults ⟦<Gated<'a> as Link>⟧.idles result }
+        ensures cause { HasCause self.old.faults self.new.faults (IsFailed result) }
+    {
+        match Gated::make(self.alloc, at.port == 5001, self.asked) {
+            Ok(link) => Opened::Link(link),
+            Err(NoMemory) => {
+                self.faults = self.faults.saturating_add(1);
+                Opened::Failed
+            }
+        }
+    }
+}
+
+impl<'a> Dock for Pair<'a> {
+    type L = Gated<'a>;
+
+    ghost faults = { λ dock. dock.faults };
+
+    ghost tells = { λ _. None };
+
+    fn bind(&mut self, at: Address) -> Opened<Gated<'a>> {
+        self.open(at)
+    }
+
+    fn reach(&mut self, at: Address) -> Opened<Gated<'a>> {
+        self.open(at)
+    }
+
+    fn close(&mut self, _at: Address, link: Gated<'a>) {
+        drop(link);
+    }
+}
+
+#[test]
+fn receivers_work_side_by_side(rt: HostRuntime) -> Result<(), Fail> {
+    let alloc = rt.alloc();
+    let mut words = Vec::new(alloc);
+    for word in [
+        "receive",
+        "127.0.0.1:5001,127.0.0.1:5002",
+        "--frames=3",
+        "--idle=1000000",
+    ] {
+        words.push(String::from_str(alloc, word)?)?;
+    }
+    let asked = AtomicU64::new(0);
+    let mut dock = Pair {
+        alloc,
+        asked: &asked,
+        faults: 0,
+    };
+    let mut shelf = MemShelf::make(alloc, &[])?;
+    let mut input = MemSource::make(alloc, &[], &[], 1)?;
+    let mut out = MemSink::make(alloc, 2000, &[], 100)?;
+    let mut err = MemSink::make(alloc, 100, &[], 100)?;
+    let ended = run(
+        &rt, alloc, &words, &mut shelf, &mut input, &mut out, &mut err, &mut dock,
+    );
+    assert_eq!(rt; err.bytes(), b"".as_slice());
+    assert_eq!(rt; out.bytes(), REPORTS);
+    assert_eq!(rt; ended.code, 0);
+    Ok(())
+}
