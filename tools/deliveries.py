@@ -1,8 +1,6 @@
 #!/usr/bin/env python3
 """Draws deliveries of a schedule at random, and compares the reports of `air` with those that they call for.
 
-usage: deliveries.py SCHEDULE [--program PROGRAM] [--scripts N] [--seed N]
-
 A delivery is some of the schedule's datagrams: some never come, some twice, and many in another order. What it calls for is
 worked out here anew, from the definitions in docs/FORMATS.md, and shares no code with the program: the frames are read out of
 a plain capture, and of each packet it's counted what came before it was closed. It prints how many reports were compared, and
@@ -147,18 +145,22 @@ def delivery(shapes, draw):
 
 
 def main():
-    parser = argparse.ArgumentParser()
+    parser = argparse.ArgumentParser(description=__doc__, formatter_class=argparse.RawDescriptionHelpFormatter)
     parser.add_argument("schedule")
-    parser.add_argument("--program", default="drmcast")
-    parser.add_argument("--scripts", type=int, default=20)
-    parser.add_argument("--seed", type=int, default=1)
+    parser.add_argument("--program", default="drmcast", help="drmcast, where it isn't told")
+    parser.add_argument("--scripts", type=int, default=20, help="how many scripts of one feed or more; 20")
+    parser.add_argument("--seed", type=int, default=1, help="of the random numbers; 1")
     options = parser.parse_args()
     draw = random.Random(options.seed)
 
     def run(*words):
         return subprocess.run([options.program, *words], stdout=subprocess.PIPE)
 
-    text = run("check", options.schedule).stdout.decode()
+    checked = run("check", options.schedule)
+    if checked.returncode:
+        # the program has told what is wrong
+        return 1
+    text = checked.stdout.decode()
     carry = next(line.split()[1:] for line in text.splitlines() if line.startswith("carry "))
     with tempfile.TemporaryDirectory() as folder:
         plain, script = os.path.join(folder, "plain.plan"), os.path.join(folder, "script")

@@ -1,11 +1,10 @@
 #!/usr/bin/env python3
 """Runs the shell sessions of a document, and compares what they print with what the document shows.
 
-usage: tour.py DOCUMENT [--stdout] [--without TEXT]..
-
 A session is a block whose first line begins with '$ '. Its lines that begin so are commands, those that begin with '> '
 go on with the command above, and all others are what that one prints, on both outputs; with --stdout on the standard
-output alone. A block runs in one shell, in the current folder. One that has a TEXT in it is left out.
+output alone. A block runs in one shell, in the current folder, and what its commands write stays there. One that has a TEXT
+in it is left out.
 
     tools/tour.py README.md
     tools/tour.py docs/WIRESHARK.md --stdout --without 'tshark -i' --without 'pace 400'
@@ -48,10 +47,10 @@ def printed(texts, errors):
 
 
 def main():
-    parser = argparse.ArgumentParser()
+    parser = argparse.ArgumentParser(description=__doc__, formatter_class=argparse.RawDescriptionHelpFormatter)
     parser.add_argument("document")
-    parser.add_argument("--stdout", action="store_true")
-    parser.add_argument("--without", action="append", default=[])
+    parser.add_argument("--stdout", action="store_true", help="compare the standard output alone")
+    parser.add_argument("--without", action="append", default=[], metavar="TEXT", help="leave out the blocks with this text")
     options = parser.parse_args()
     errors = subprocess.DEVNULL if options.stdout else subprocess.STDOUT
     with open(options.document, encoding="utf-8") as document:
