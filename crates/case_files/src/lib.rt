@@ -1,0 +1,11 @@
+//! Files of cases: runs of the program as data, each with what is handed in and what has to come out (docs/CASES.md).
+#![tactic(auto)]
+
+mod case;
+mod keyword;
+mod pieces;
+mod reader;
+mod words;
+
+pub use case::{Case, Input, LONGEST, LinkCase, NamedFile, Output, Sent};
+pub use reader::Reader;
