@@ -7,15 +7,9 @@ mod laws;
 mod packet;
 mod payload;
 mod send;
-#[cfg(test)]
-mod sending_tests;
 mod serve;
 mod server;
 mod stream;
-#[cfg(test)]
-mod tests;
-#[cfg(test)]
-mod trial;
 
 pub use laws::{first_ones_are_front, one_capture, one_delivery, one_packet};
 pub use send::serve_link;

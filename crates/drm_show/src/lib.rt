@@ -12,8 +12,6 @@ mod piece;
 mod report;
 mod step;
 mod streams;
-#[cfg(test)]
-mod tests;
 mod words;
 
 pub use fac_line::write_fac;

@@ -2,8 +2,6 @@
 #![tactic(auto)]
 
 mod air;
-#[cfg(test)]
-mod air_tests;
 mod check;
 mod command;
 mod fac;
@@ -17,29 +15,15 @@ mod reading;
 mod reading_laws;
 mod reason;
 mod receive;
-#[cfg(test)]
-mod receive_tests;
 mod receiver;
-#[cfg(test)]
-mod receiver_tests;
 mod rules;
 mod schedule;
-#[cfg(test)]
-mod schedule_tests;
 mod script;
 mod send;
 mod serve;
-#[cfg(test)]
-mod serve_tests;
-#[cfg(test)]
-mod side_by_side_tests;
 mod stop;
 mod tally;
-#[cfg(test)]
-mod tests;
 mod text;
-#[cfg(test)]
-mod trial;
 mod words;
 
 pub use command::{no_memory, run};

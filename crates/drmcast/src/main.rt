@@ -2,8 +2,6 @@
 
 #![tactic(auto)]
 
-#[cfg(test)]
-mod tests;
 mod words;
 
 use drm_adapt::{FileShelf, StreamSink, StreamSource, UdpDock};

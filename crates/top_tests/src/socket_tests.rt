@@ -1,5 +1,6 @@
 //! Schedules over UDP, on the loopback.
 
+use crate::small::{REPORTS, SCHEDULE};
 use drm_adapt::{UdpDock, UdpLink};
 use drm_links::{Address, Came, Dock, Link, MemShelf, MemSink, MemSource, Opened};
 use drm_top::run;
@@ -9,24 +10,6 @@ use std::process::Abort;
 use std::test::Fail;
 use std::thread::{Threads, join, sleep};
 use std::time::{Clock, Duration};
-
-// One service in one stream of four bytes. Its three packets have 10, 9 and 9 fragments of 16 bytes.
-const SCHEDULE: &[u8] = b"drmplan 1
-carry pft 2 1400
-first 0 0
-length 1
-config 0 0
-mode B
-occupancy 3
-depth long
-msc 0
-sdc 0
-protection 0 1
-room 9
-service 123456 0 0 5 audio 3 0
-stream 0 4 fill 55
-audio 0 0 0 1 0 3 0 0 0
-";
 
 // The headers of the first fragments of the three packets, but for their check values.
 const FIRST: [(usize, [u8; 14]); 3] = [
@@ -148,19 +131,6 @@ fn where_nobody_sends_the_report_ends_idle(rt: HostRuntime) -> Result<(), Fail> 
     assert_eq!(rt; heard.status, 0);
     Ok(())
 }
-
-// The reports of two modulators that give the three frames.
-const REPORTS: &[u8] = b"feed 1
-frame 0 dlfc 0 mode B fac 660801234560a1806d sdc 00601000004049023006be6 mux 01000004 msc 55555555
-frame 1 dlfc 1 mode B fac 260801234560a18033 sdc - mux 01000004 msc 55555555
-frame 2 dlfc 2 mode B fac 460801234560a18042 sdc - mux 01000004 msc 55555555
-end frames given 3 missing 0 bad 0 refused 0
-feed 2
-frame 0 dlfc 0 mode B fac 660801234560a1806d sdc 00601000004049023006be6 mux 01000004 msc 55555555
-frame 1 dlfc 1 mode B fac 260801234560a18033 sdc - mux 01000004 msc 55555555
-frame 2 dlfc 2 mode B fac 460801234560a18042 sdc - mux 01000004 msc 55555555
-end frames given 3 missing 0 bad 0 refused 0
-";
 
 #[test]
 fn two_modulators_give_what_is_served(rt: HostRuntime) -> Result<(), Fail> {

@@ -4,26 +4,14 @@ ghost use Rattle.std.specs.Prelude.{◌≡◌, None, IfOk};
 ghost use Rattle.drm_links.specs.Told.{HasCause};
 ghost use Rattle.drm_links.specs.Dock.{IsFresh, IsFailed};
 
-use crate::receive_tests::bring_all;
-use crate::run;
+use crate::small::{REPORTS, bring_all};
 use drm_bits::NoMemory;
 use drm_links::{Address, Came, Dock, Link, MemLink, MemShelf, MemSink, MemSource, Opened, Sent};
+use drm_top::run;
 use std::alloc::Global;
 use std::sync::atomic::AtomicU64;
 use std::sync::atomic::Ordering::SeqCst;
 use std::test::Fail;
-
-const REPORTS: &[u8] = b"feed 1
-frame 0 dlfc 0 mode B fac 660801234560a1806d sdc 00601000004049023006be6 mux 01000004 msc 55555555
-frame 1 dlfc 1 mode B fac 260801234560a18033 sdc - mux 01000004 msc 55555555
-frame 2 dlfc 2 mode B fac 460801234560a18042 sdc - mux 01000004 msc 55555555
-end frames given 3 missing 0 bad 0 refused 0
-feed 2
-frame 0 dlfc 0 mode B fac 660801234560a1806d sdc 00601000004049023006be6 mux 01000004 msc 55555555
-frame 1 dlfc 1 mode B fac 260801234560a18033 sdc - mux 01000004 msc 55555555
-frame 2 dlfc 2 mode B fac 460801234560a18042 sdc - mux 01000004 msc 55555555
-end frames given 3 missing 0 bad 0 refused 0
-";
 
 /// A link that is idle until another one was asked, or that other one.
 #[derive(Drop)]

@@ -1,0 +1,96 @@
+//! A receiver whose link or sink fails in the middle.
+
+ghost use Rattle.std.specs.Prelude.{◌≡◌, length, IfOk};
+
+use dcp_collect::Collector;
+use drm_bits::NoMemory;
+use drm_links::{MemLink, MemSink};
+use drm_top::{Ended, Options, receive_one};
+use mod_feed::Feed;
+use std::alloc::Global;
+use std::process::Abort;
+use std::test::Fail;
+
+const BUFFER: usize = 65_536;
+
+// An AF packet with no payload.
+const EMPTY: [u8; 12] = [
+    0x41, 0x46, 0x00, 0x00, 0x00, 0x00, 0x00, 0x00, 0x90, 0x54, 0x04, 0x52,
+];
+
+// The calls of link and sink that fail, how the receiver ends, and what it has written.
+#[derive(Clone, Copy)]
+struct Case<'a> {
+    link: &'a [u64],
+    sink: &'a [u64],
+    ended: Ended,
+    text: &'a str,
+}
+
+fn zeros(alloc: Global, count: usize) -> Result<Vec<u8>, NoMemory>
+    ensures { IfOk result (λ bytes. length bytes.items ≡ count) }
+{
+    Ok(vec![in alloc; 0u8; count]?)
+}
+
+fn receives<R: Abort + AllocGlobal>(rt: &R, case: Case<'_>) -> Result<(), Fail> {
+    let alloc = rt.alloc();
+    let mut link = MemLink::make(alloc, case.link, &[], 0)?;
+    link.bring(alloc, &EMPTY)?;
+    let mut out = MemSink::make(alloc, 2000, case.sink, 100)?;
+    let mut collector = Collector::make(alloc, 8, None)?;
+    let mut feed = Feed::new();
+    let mut buffer = zeros(alloc, BUFFER)?;
+    let options = Options {
+        feed: 1,
+        frames: None,
+        idle: 1,
+        limit: 1000,
+    };
+    let ended = receive_one(
+        alloc,
+        &mut collector,
+        &mut feed,
+        &mut link,
+        &options,
+        buffer.as_mut_slice(),
+        &mut out,
+    );
+    assert_eq!(rt; out.bytes(), case.text.as_bytes());
+    assert_eq!(rt; ended, case.ended);
+    Ok(())
+}
+
+#[test]
+fn stops_where_the_outside_fails(rt: HostRuntime) -> Result<(), Fail> {
+    let cases = [
+        Case {
+            link: &[],
+            sink: &[],
+            ended: Ended::Done { clean: false },
+            text: "feed 1\nbad 0 mdi absent:*ptr\nend idle given 0 missing 0 bad 1 refused 0\n",
+        },
+        Case {
+            link: &[0],
+            sink: &[],
+            ended: Ended::LinkFailed,
+            text: "feed 1\n",
+        },
+        Case {
+            link: &[1],
+            sink: &[],
+            ended: Ended::LinkFailed,
+            text: "feed 1\nbad 0 mdi absent:*ptr\n",
+        },
+        Case {
+            link: &[],
+            sink: &[0],
+            ended: Ended::WriteFailed,
+            text: "",
+        },
+    ];
+    for case in cases {
+        receives(&rt, case)?;
+    }
+    Ok(())
+}

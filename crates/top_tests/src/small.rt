@@ -1,0 +1,59 @@
+//! A schedule of one service in one stream of four bytes, and its three packets.
+
+ghost use Rattle.std.specs.Prelude.{OnOk};
+ghost use Rattle.drm_links.specs.MemoryLink.{IsUntouched};
+
+use drm_bits::NoMemory;
+use drm_links::MemLink;
+use std::alloc::Global;
+
+/// Its packets have 10, 9 and 9 fragments of 16 bytes behind their headers.
+pub const SCHEDULE: &[u8] = b"drmplan 1
+carry pft 2 1400
+first 0 0
+length 1
+config 0 0
+mode B
+occupancy 3
+depth long
+msc 0
+sdc 0
+protection 0 1
+room 9
+service 123456 0 0 5 audio 3 0
+stream 0 4 fill 55
+audio 0 0 0 1 0 3 0 0 0
+";
+
+// Packed and checked by a program in Python.
+const PACKETS: [&[u8]; 3] = [
+    b"AF\x00\x00\x00\x62\x00\x00\x90T*ptr\x00\x00\x00\x40DMDI\x00\x00\x00\x00dlfc\x00\x00\x00\x20\x00\x00\x00\x00fac_\x00\x00\x00\x48\x66\x08\x01\x23\x45\x60\xa1\x80\x6dsdci\x00\x00\x00\x20\x01\x00\x00\x04robm\x00\x00\x00\x08\x01sdc_\x00\x00\x00\x5c\x00\x60\x10\x00\x00\x40\x49\x02\x30\x06\xbe\x60str0\x00\x00\x00\x20\x55\x55\x55\x55\xf9\x59",
+    b"AF\x00\x00\x00\x4e\x00\x01\x90T*ptr\x00\x00\x00\x40DMDI\x00\x00\x00\x00dlfc\x00\x00\x00\x20\x00\x00\x00\x01fac_\x00\x00\x00\x48\x26\x08\x01\x23\x45\x60\xa1\x80\x33sdci\x00\x00\x00\x20\x01\x00\x00\x04robm\x00\x00\x00\x08\x01str0\x00\x00\x00\x20\x55\x55\x55\x55\x87\x85",
+    b"AF\x00\x00\x00\x4e\x00\x02\x90T*ptr\x00\x00\x00\x40DMDI\x00\x00\x00\x00dlfc\x00\x00\x00\x20\x00\x00\x00\x02fac_\x00\x00\x00\x48\x46\x08\x01\x23\x45\x60\xa1\x80\x42sdci\x00\x00\x00\x20\x01\x00\x00\x04robm\x00\x00\x00\x08\x01str0\x00\x00\x00\x20\x55\x55\x55\x55\x10\x9f",
+];
+
+/// What two modulators print that get all of it, of which three frames were told.
+pub const REPORTS: &[u8] = b"feed 1
+frame 0 dlfc 0 mode B fac 660801234560a1806d sdc 00601000004049023006be6 mux 01000004 msc 55555555
+frame 1 dlfc 1 mode B fac 260801234560a18033 sdc - mux 01000004 msc 55555555
+frame 2 dlfc 2 mode B fac 460801234560a18042 sdc - mux 01000004 msc 55555555
+end frames given 3 missing 0 bad 0 refused 0
+feed 2
+frame 0 dlfc 0 mode B fac 660801234560a1806d sdc 00601000004049023006be6 mux 01000004 msc 55555555
+frame 1 dlfc 1 mode B fac 260801234560a18033 sdc - mux 01000004 msc 55555555
+frame 2 dlfc 2 mode B fac 460801234560a18042 sdc - mux 01000004 msc 55555555
+end frames given 3 missing 0 bad 0 refused 0
+";
+
+/// Its packets, whole, for the link to bring.
+pub fn bring_all(alloc: Global, link: &mut MemLink) -> Result<(), NoMemory>
+    requires { IsUntouched link.old }
+    ensures { OnOk result (IsUntouched link.new) }
+{
+    for packet in PACKETS {
+        if packet.len() <= 65_536 {
+            link.bring(alloc, packet)?;
+        }
+    }
+    Ok(())
+}
