@@ -1,0 +1,241 @@
+#!/usr/bin/env python3
+"""Runs the built program over cases, as a process: words, files, standard input, and links over real sockets.
+
+    tools/edge.py PROGRAM CASES..
+
+PROGRAM is crates/drmcast/out/drmcast, and CASES are files of crates/trials/data (docs/CASES.md). A case is run where a process
+can do what it says: nothing of the outside fails, and no link is idle at a certain answer. Its addresses become ports of
+127.1.2.3, whose four numbers differ. Where silence ends a run, it is a second of it, and a file has no folder in its name.
+Each case that ends otherwise is named, with what differs. Status 1 where one does. A case over sockets that differs is tried
+twice more, with nothing beside it, since the system may drop a datagram or come late on a busy machine.
+"""
+import concurrent.futures
+import pathlib
+import re
+import socket
+import subprocess
+import sys
+import tempfile
+import threading
+import time
+
+HOST = "127.1.2.3"
+# as /proc/net/udp writes it
+HOST_DIGITS = "".join(f"{int(number):02X}" for number in reversed(HOST.split(".")))
+IDLE = "10"
+MOST_DATAGRAMS = 400
+FAILING = re.compile(r"-(fails|room|piece)$|^(failed|idle|out-prefix|differs)$")
+ADDRESS = re.compile(r"\d+\.\d+\.\d+\.\d+:\d+")
+
+
+def append(piece, keyword, rest, lets):
+    if keyword == "|":
+        piece += rest.encode() + b"\n"
+    elif keyword == ".":
+        piece += rest.encode()
+    elif keyword == "x":
+        piece += bytes.fromhex(rest)
+    elif keyword == "*":
+        count, byte = rest.split(" ")
+        piece += bytes.fromhex(byte) * int(count)
+    elif keyword == "+":
+        count, byte = rest.split(" ")
+        piece += bytes((int(byte, 16) + k) % 256 for k in range(int(count)))
+    elif keyword == "%":
+        first, last, text = rest.split(" ", 2)
+        for k in range(int(first), int(last) + 1):
+            piece += text.replace("#", str(k)).encode() + b"\n"
+    else:
+        piece += lets[rest]
+
+
+class Case:
+    def __init__(self, place, name):
+        self.place, self.name = place, name
+        self.words, self.files, self.input = [], {}, bytearray()
+        self.status, self.out, self.err = None, bytearray(), bytearray()
+        self.links, self.sent, self.asks = {}, {}, set()
+
+
+def cases_of(path):
+    """The cases of a file, in order."""
+    lets, lists, case, piece, group = {}, {}, None, None, None
+    for number, line in enumerate(pathlib.Path(path).read_text().split("\n"), 1):
+        if not line or line.startswith("#"):
+            continue
+        keyword, _, rest = line.partition(" ")
+        if keyword in "|.x*+%@":
+            append(piece, keyword, rest, lets)
+        elif keyword in "<>":
+            piece = bytearray.fromhex(rest)
+            group.append(piece)
+        elif keyword == "of":
+            name, *places = rest.split(" ")
+            first, last = (int(places[0]), int(places[-1]) + 1) if places else (0, None)
+            group += lists[name][first:last]
+        elif keyword == "let":
+            piece = lets[rest] = bytearray()
+        elif keyword == "list":
+            group = lists[rest] = []
+        elif keyword == "case":
+            if case:
+                yield case
+            case = Case(f"{path}:{number}", rest)
+        else:
+            case.asks.add(keyword)
+            if keyword == "words":
+                case.words = [bytearray(word.encode()) for word in rest.split(" ")]
+            elif keyword == "word":
+                piece = bytearray(rest.encode())
+                case.words.append(piece)
+            elif keyword == "file":
+                piece = case.files[rest] = bytearray()
+            elif keyword in ("input", "out", "err"):
+                piece = getattr(case, keyword)
+            elif keyword == "link":
+                group = case.links[rest] = []
+            elif keyword == "sent":
+                group = case.sent[rest] = []
+            elif keyword == "status":
+                case.status = int(rest)
+    if case:
+        yield case
+
+
+def can_run(case):
+    """Whether a process can do what the case says."""
+    # how its reads are cut makes no difference
+    if any(FAILING.search(it) for it in case.asks - {"input-piece"}) or case.status == 6:
+        return False
+    if any("/" in name or len(name) > 255 for name in case.files) or any(len(word) > 100_000 or b"\0" in word for word in case.words):
+        return False
+    datagrams = [it for link in [*case.links.values(), *case.sent.values()] for it in link]
+    if len(datagrams) > MOST_DATAGRAMS or any(len(it) > 65_507 for it in datagrams):
+        return False
+    # a port serves one case at a time, and one socket of it
+    named = [it for word in case.words for it in ADDRESS.findall(word.decode())]
+    return len(named) == len(set(named)) and (set(named) == set(case.links) or case.status == 2)
+
+
+class Ports:
+    """Ports of the host that nobody has, each given once."""
+
+    def __init__(self):
+        self.lock, self.next = threading.Lock(), 20_001
+
+    def take(self):
+        while True:
+            with self.lock:
+                port, self.next = self.next, self.next + 1
+            with socket.socket(socket.AF_INET, socket.SOCK_DGRAM) as it:
+                try:
+                    it.bind((HOST, port))
+                    return port
+                except OSError:
+                    pass
+
+
+PORTS = Ports()
+
+
+def are_bound(ports):
+    with open("/proc/net/udp", encoding="ascii") as it:
+        text = it.read()
+    return all(f"{HOST_DIGITS}:{port:04X}" in text for port in ports)
+
+
+def bring(ran, links, ports):
+    """Sends each link's datagrams to its port, once all ports are bound."""
+    end = time.monotonic() + 10
+    while ran.poll() is None and not are_bound(ports.values()):
+        if time.monotonic() > end:
+            return
+        time.sleep(0.002)
+    with socket.socket(socket.AF_INET, socket.SOCK_DGRAM) as it:
+        for at, datagrams in links.items():
+            for k, datagram in enumerate(datagrams):
+                it.sendto(datagram, (HOST, ports[at]))
+                if k % 16 == 15:
+                    time.sleep(0.002)
+
+
+def gather(listening, got, is_ended):
+    """Takes what comes, until nothing more does once the run has ended."""
+    listening.settimeout(0.05)
+    while True:
+        ended = is_ended.is_set()
+        try:
+            got.append(listening.recv(65_536))
+        except TimeoutError:
+            if ended:
+                return
+
+
+def words_of(case, ports):
+    words = [ADDRESS.sub(lambda it: f"{HOST}:{ports[it[0]]}" if it[0] in ports else it[0], word.decode()) for word in case.words]
+    if words[:1] != ["receive"] or not ports:
+        return words
+    for at, word in enumerate(words):
+        if word == "--idle":
+            words[at + 1] = IDLE
+            return words
+        if word.startswith("--idle="):
+            words[at] = f"--idle={IDLE}"
+            return words
+    return [words[0], "--idle", IDLE, *words[1:]]
+
+
+def differences(program, case):
+    """What of a run differs from what the case says."""
+    ports = {at: PORTS.take() for at in case.links}
+    got, is_ended = {at: [] for at in case.sent}, threading.Event()
+    with tempfile.TemporaryDirectory() as room:
+        for name, data in case.files.items():
+            pathlib.Path(room, name).write_bytes(data)
+        workers, sockets = [], []
+        for at in case.sent:
+            listening = socket.socket(socket.AF_INET, socket.SOCK_DGRAM)
+            listening.bind((HOST, ports[at]))
+            sockets.append(listening)
+            workers.append(threading.Thread(target=gather, args=(listening, got[at], is_ended)))
+        ran = subprocess.Popen([program, *words_of(case, ports)], cwd=room, stdin=subprocess.PIPE, stdout=subprocess.PIPE, stderr=subprocess.PIPE)
+        if any(case.links.values()):
+            workers.append(threading.Thread(target=bring, args=(ran, case.links, ports)))
+        for it in workers:
+            it.start()
+        try:
+            out, err = ran.communicate(bytes(case.input), timeout=40)
+        except subprocess.TimeoutExpired:
+            ran.kill()
+            out, err = ran.communicate()
+        is_ended.set()
+        for it in workers:
+            it.join()
+        for it in sockets:
+            it.close()
+    said = [f"status {ran.returncode}"] if ran.returncode != case.status else []
+    said += ["out"] if out != case.out else []
+    said += ["err"] if err != case.err else []
+    return said + [f"sent {at}" for at in case.sent if got[at] != case.sent[at]]
+
+
+def main():
+    if len(sys.argv) < 3:
+        sys.exit(__doc__)
+    program = str(pathlib.Path(sys.argv[1]).resolve())
+    whole = [case for path in sys.argv[2:] for case in cases_of(path)]
+    cases = [case for case in whole if can_run(case)]
+    with concurrent.futures.ThreadPoolExecutor(24) as pool:
+        found = list(pool.map(lambda case: differences(program, case), cases))
+    failed = 0
+    for case, said in zip(cases, found):
+        for _ in range(2):
+            said = differences(program, case) if said and case.links else said
+        if said:
+            failed += 1
+            print(f"{case.place}: {case.name}: {', '.join(said)}")
+    print(f"edge: {len(cases) - failed} passed, {failed} failed, {len(whole) - len(cases)} skipped")
+    sys.exit(failed > 0)
+
+
+main()
