@@ -1,4 +1,3 @@
-pub mod TextLemmas
 pub mod SequenceLemmas
 pub mod HexLemmas
 pub mod StreamLemmas

@@ -16,7 +16,7 @@ use Rattle.drm_mux.specs.Frame.{parts_a, parts_b, multiplex_frame, pieces, strea
 use Rattle.drm_mux.proofs.PartLemmas.{no_part}
 use Rattle.drm_mux.proofs.RangeLemmas.{covers}
 use Rattle.drm_show.specs.FrameLine.{bytes_text}
-use Rattle.drm_show.proofs.TextLemmas.{encode_lower-is, front_of_next}
+use Rattle.text_pieces.proofs.TextLemmas.{encode_lower-is, front_of_next}
 
 length-parts : (parts : List Part) (places lens buffer : List ℕ) → length parts ≡ length places → length parts ≡ length lens
     → ((k : ℕ) → k < length parts → part_length (get_or parts k no_part) ≤ get_or lens k 0) → ((k : ℕ) → k < length parts → get_or places k 0 + get_or lens k 0 ≤ length buffer)

@@ -3,7 +3,7 @@ use Rattle.std.specs.Prelude.{ℕ, List}
 use Rattle.mdi_items.specs.Frame.{Frame}
 use Rattle.drm_show.specs.declared.frame_line.Part.{Part}
 use Rattle.drm_show.specs.declared.frame_line.Part.TheVariants.{Text, Block, Description, Streams}
-use Rattle.drm_show.specs.Text.{piece_text}
+use Rattle.text_pieces.specs.Text.{piece_text}
 use Rattle.drm_show.specs.FrameLine.{block_text, description_text, frame_bytes, bytes_text}
 
 -- the text of a part, in the line of this frame

@@ -1,4 +1,3 @@
-pub mod Text
 pub mod FacLine
 pub mod HexBits
 pub mod FaultWords

@@ -7,12 +7,12 @@ ghost use Rattle.drm_links.specs.Told.{HasCause};
 ghost use Rattle.drm_links.specs.Sink.{Outputs, IsFront};
 ghost use Rattle.drm_fac.specs.Fac.{FacFits};
 ghost use Rattle.drm_fac.specs.Services.{counts_of};
-ghost use Rattle.drm_show.specs.Text.{piece_text, text_of};
+ghost use Rattle.text_pieces.specs.Text.{piece_text, text_of};
 ghost use Rattle.drm_show.specs.FacLine.{fac_line, id_digits, services_text};
 
-use crate::{Piece, write_pieces};
 use drm_fac::{Fac, counts};
 use drm_links::{Sink, WriteFault};
+use text_pieces::{Piece, write_pieces};
 
 /// Writes the line of a FAC.
 #[tactic(auto, unfolding(crate::specs::FacLine::id_digits))]

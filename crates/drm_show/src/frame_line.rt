@@ -8,16 +8,15 @@ ghost use Rattle.mdi_items.specs.Frame.{frame_of};
 ghost use Rattle.drm_show.specs.FrameLine.{IsWhole, mode_letter, frame_line};
 ghost use Rattle.drm_show.specs.FrameParts.{part_text};
 
-use crate::Piece;
 use crate::block::write_block;
 use crate::description::write_description;
-use crate::output::write_piece;
 use crate::streams::write_streams;
 use Part::Text;
 use Piece::{Hex, Number, Words};
 use drm_links::{Sink, WriteFault};
 use drm_schedule::Mode;
 use mdi_items::MdiView;
+use text_pieces::{Piece, write_piece};
 
 /// Writes the line of a frame.
 pub(crate) fn write_frame<O: Sink>(

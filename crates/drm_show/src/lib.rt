@@ -7,15 +7,12 @@ mod description;
 mod fac_line;
 mod frame_line;
 mod hex_bits;
-mod output;
-mod piece;
 mod report;
 mod step;
 mod streams;
 mod words;
 
 pub use fac_line::write_fac;
-pub use output::write_pieces;
-pub use piece::Piece;
 pub use report::{EndWord, Sums, write_end, write_feed, write_refused};
 pub use step::write_step;
+pub use text_pieces::{Piece, write_pieces};

@@ -7,9 +7,9 @@ ghost use Rattle.drm_show.specs.FaultWords.{IsTold};
 ghost use Rattle.drm_show.specs.Report.{feed_line, refused_line, end_word, end_line};
 
 use crate::words::taken_words;
-use crate::{Piece, write_pieces};
 use dcp_collect::Taken;
 use drm_links::{Sink, WriteFault};
+use text_pieces::{Piece, write_pieces};
 
 /// Why a report ends.
 #[derive(Clone, Copy, Debug, PartialEq, Eq)]

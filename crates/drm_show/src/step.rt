@@ -8,15 +8,15 @@ ghost use Rattle.drm_links.specs.Sink.{Outputs, IsFront};
 ghost use Rattle.dcp_tag.specs.Tag.{bytes_for};
 ghost use Rattle.mod_feed.specs.Items.{item_of, IfFrame, IfBad, IsOfReading};
 ghost use Rattle.mod_feed.specs.Feeding.{step_of};
-ghost use Rattle.drm_show.specs.Text.{text_of};
+ghost use Rattle.text_pieces.specs.Text.{text_of};
 ghost use Rattle.drm_show.specs.Report.{before_line, missing_line, bad_line, item_line, step_text};
 
 use crate::frame_line::write_frame;
 use crate::words::bad_words;
-use crate::{Piece, write_pieces};
 use drm_links::{Sink, WriteFault};
 use drm_timeline::Before;
 use mod_feed::{BadFault, FeedItem, Step};
+use text_pieces::{Piece, write_pieces};
 
 /// Writes the line of an item, behind that of the switch that stands before it.
 pub fn write_step<O: Sink>(out: &mut O, step: &Step<'_>) -> Result<(), WriteFault>

@@ -7,9 +7,9 @@ ghost use Rattle.drm_links.specs.Sink.{Outputs, IsFront};
 ghost use Rattle.drm_mux.specs.Frame.{multiplex_frame, streams_in, EndBy, HaveTheirLengths};
 ghost use Rattle.drm_show.specs.FrameLine.{bytes_text};
 
-use crate::output::write_byte;
 use drm_links::{Sink, WriteFault, write_all};
 use drm_mux::{MuxDesc, Spans, frame_len, locate};
+use text_pieces::write_byte;
 
 /// Writes the digits of the multiplex frame.
 pub(crate) fn write_streams<O: Sink>(

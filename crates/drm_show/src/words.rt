@@ -1,13 +1,12 @@
 //! The words for what is wrong: a layer, and a field of it.
 
 ghost use Rattle.std.specs.Prelude.{◌≡◌, ◌≢◌, ◌++◌};
-ghost use Rattle.drm_show.specs.Text.{piece_text};
+ghost use Rattle.text_pieces.specs.Text.{piece_text};
 ghost use Rattle.drm_show.specs.FaultWords.{af_words, pft_words, sdc_words, mux_words, mdi_words, bad_words, field_words, taken_words, IsTold};
 ghost use Rattle.mod_feed.specs.Items.{IsOfReading};
 ghost use Rattle.dcp_pft.specs.declared.fault.PftFault.TheVariants as pft;
 ghost use Rattle.drm_sdc.specs.declared.fault.SdcFault.TheVariants as sdc;
 
-use crate::Piece;
 use dcp_af::AfFault;
 use dcp_collect::{Field, Taken};
 use dcp_pft::PftFault;
@@ -15,6 +14,7 @@ use drm_mux::MuxFault;
 use drm_sdc::SdcFault;
 use mdi_items::MdiFault;
 use mod_feed::BadFault;
+use text_pieces::Piece;
 
 /// A layer and a field, and what stands behind the field's colon.
 pub(crate) type FaultWords = (Piece<'static>, Piece<'static>);

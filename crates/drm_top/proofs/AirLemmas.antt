@@ -1,43 +1,42 @@
 -- From the receivers of a script's feeds to the whole command.
-use Rattle.std.proofs.Common.{◌≡◌, ℕ, zero, suc, ◌+◌, ◌*◌, ◌<◌, ◌≤◌, ◌⊎◌, inl, inr, Bool, List, [], ◌∷◌, ◌++◌, length, map, slice_index_or, Option, None, Some, Result, Ok, Err, refl, sym, ◌∙◌, ap, subst, arith, le_refl, le_trans}
-use Rattle.std.specs.Prelude.{ℤ, pos, sum_by}
+use Rattle.std.proofs.Common.{◌≡◌, ℕ, zero, suc, ◌+◌, ◌<◌, ◌≤◌, ◌⊎◌, inl, inr, Bool, List, [], ◌∷◌, ◌++◌, length, map, slice_index_or, Option, Some, Result, Ok, Err, refl, sym, ◌∙◌, subst, arith, le_refl, le_trans}
+use Rattle.std.specs.Prelude.{sum_by}
 use Rattle.std.specs.List.{All, AllByRecursion, fold}
 use Rattle.drm_links.specs.Told.{HasCause, Rose}
 use Rattle.drm_links.specs.Link.{Answer, Datagram, Failed}
 use Rattle.drm_links.specs.Sink.{Output}
 use Rattle.drm_links.specs.Shelf.{Files}
-use Rattle.drm_links.specs.Dock.{LinkStart, first_traffic}
+use Rattle.drm_links.specs.Dock.{LinkStart}
 use Rattle.drm_links.specs.MemoryLink.{LinkState, link_tells}
-use Rattle.drm_links.proofs.ToldLemmas.{Rose-later, later-Rose}
+use Rattle.drm_links.proofs.ToldLemmas.{later-Rose}
 use Rattle.dcp_collect.specs.Laws.{OneRun}
 use Rattle.drm_schedule.specs.declared.plan.Plan.{Plan}
 use Rattle.drm_schedule.specs.Valid.{IsSchedule}
 use Rattle.script_lines.specs.declared.delivery.Delivery.{Delivery}
 use Rattle.script_lines.specs.Script.{IsScript}
 use Rattle.mod_delivery.specs.Laws.{Delivering, DeliveringEarly}
-use Rattle.drm_top.specs.declared.rules.Rules.{Rules}
-use Rattle.drm_top.specs.declared.job.Job.{Job}
-use Rattle.drm_top.specs.declared.fault.Fault.{Fault}
-use Rattle.drm_top.specs.declared.fault.Fault.TheVariants as faults
-use Rattle.drm_top.specs.declared.loading.ScheduleFault.{ScheduleFault}
-use Rattle.drm_top.specs.declared.loading.ScheduleFault.TheVariants as schedule
-use Rattle.drm_top.specs.Hearing.{AreNext}
-use Rattle.drm_top.specs.Reading.{IsSound}
-use Rattle.drm_top.specs.Terms.{AreInRange}
-use Rattle.drm_top.specs.Loading.{ReadBy}
-use Rattle.drm_top.specs.Schedule.{schedule_named}
-use Rattle.drm_top.specs.Scripts.{script_named}
-use Rattle.drm_top.specs.Faults.{fault_of_schedule, fault_of_script}
-use Rattle.drm_top.specs.Jobs.{HasEnded, IsDone, is_failed}
-use Rattle.drm_top.specs.Settling.{NoneFailed, Settles}
+use Rattle.mod_receiver.specs.declared.rules.Rules.{Rules}
+use Rattle.mod_receiver.specs.declared.job.Job.{Job}
+use Rattle.drm_faults.specs.declared.fault.Fault.{Fault}
+use Rattle.drm_faults.specs.declared.fault.Fault.TheVariants as faults
+use Rattle.drm_load.specs.declared.loading.ScheduleFault.{ScheduleFault}
+use Rattle.drm_load.specs.declared.loading.ScheduleFault.TheVariants as schedule
+use Rattle.mod_receiver.specs.Reading.{IsSound}
+use Rattle.mod_receiver.specs.Ranges.{AreInRange}
+use Rattle.drm_load.specs.Loading.{ReadBy}
+use Rattle.drm_load.specs.Schedule.{schedule_named}
+use Rattle.drm_load.specs.Scripts.{script_named}
+use Rattle.drm_load.specs.Faults.{fault_of_schedule, fault_of_script}
+use Rattle.mod_receiver.specs.Jobs.{IsDone, NoneFailed}
+use Rattle.drm_top.specs.Settling.{Settles}
 use Rattle.drm_top.specs.Feeds.{BringsFeed, BringFeeds}
-use Rattle.drm_top.specs.Following.{HeadlinesFollow, CompletesFollow}
-use Rattle.drm_top.specs.Receive.{Report, IsReportOf, BreaksOff, WritesReports}
-use Rattle.drm_top.specs.Air.{air_rules, pairs_of, IsAired, AreAired, ByScript, OverSchedule, BySchedule, AirRun}
-use Rattle.drm_top.proofs.JobLemmas.{told_of, job_report, job_breaks, index_of, map_at, map_size, SomeFailed, some_failed}
+use Rattle.mod_receiver.specs.Following.{HeadlinesFollow, CompletesFollow}
+use Rattle.mod_receiver.specs.Ahead.{IsReportOf, BreaksOff}
+use Rattle.drm_top.specs.Air.{air_rules, pairs_of, IsAired, AreAired, AirRun}
+use Rattle.mod_receiver.proofs.JobLemmas.{told_of, job_report, job_breaks, index_of, map_at, map_size, SomeFailed, some_failed}
 use Rattle.drm_top.proofs.ReceiveLemmas.{Ran, reports_written, settled_kind}
-use Rattle.drm_top.proofs.ScriptLemmas.{read_schedule, read_script, write_schedule, write_script}
-use Rattle.drm_top.proofs.Composing.{ItemLaws}
+use Rattle.drm_load.proofs.ScriptLemmas.{read_schedule, read_script, write_schedule, write_script}
+use Rattle.mod_receiver.proofs.Composing.{ItemLaws}
 use Rattle.drm_top.proofs.FedLemmas as fed
 
 -- the rules of a feed are in their range

@@ -1,25 +1,26 @@
 -- What the status of `air` says.
-use Rattle.std.proofs.Common.{◌≡◌, ℕ, ◌≤◌, ◌<◌, ◌+◌, ◌*◌, ◌⊎◌, ◌↔◌, inl, inr, Bool, true, false, IsTrue, List, [], length, slice_index_or, Option, None, Some, Result, Ok, Err, refl, sym, ◌∙◌, ap, subst, arith}
+use Rattle.std.proofs.Common.{◌≡◌, ℕ, ◌<◌, ◌⊎◌, ◌↔◌, inl, inr, Bool, true, false, IsTrue, List, [], length, Option, Result, Ok, Err, refl, sym, ◌∙◌, ap, subst, arith}
 use Rattle.drm_schedule.specs.declared.plan.Plan.{Plan}
 use Rattle.script_lines.specs.declared.delivery.Delivery.{Delivery}
 use Rattle.drm_links.specs.Told.{Rose}
 use Rattle.drm_links.specs.Shelf.{Files, Supplies}
-use Rattle.drm_links.specs.Sink.{Output, Outputs}
+use Rattle.drm_links.specs.Sink.{Output}
 use Rattle.drm_links.proofs.ToldLemmas.{Supplies-weaker}
-use Rattle.drm_top.specs.declared.loading.ScheduleFault.{ScheduleFault}
-use Rattle.drm_top.specs.declared.loading.ScheduleFault.TheVariants as loads
-use Rattle.drm_top.specs.declared.fault.Fault.{Fault}
-use Rattle.drm_top.specs.declared.fault.Fault.TheVariants as faults
-use Rattle.drm_top.specs.Fault.{report_status, fault_status, clean_status}
-use Rattle.drm_top.specs.Faults.{fault_of_schedule, fault_of_script}
-use Rattle.drm_top.specs.Loading.{Reading, Step, ReadBy, given, ◌>>=◌}
-use Rattle.drm_top.specs.Schedule.{schedule_named}
-use Rattle.drm_top.specs.ScheduleRun.{IsRefused}
-use Rattle.drm_top.specs.Scripts.{script_named}
-use Rattle.drm_top.specs.Receive.{Report, AreClean, WritesReports}
+use Rattle.drm_load.specs.declared.loading.ScheduleFault.{ScheduleFault}
+use Rattle.drm_load.specs.declared.loading.ScheduleFault.TheVariants as loads
+use Rattle.drm_faults.specs.declared.fault.Fault.{Fault}
+use Rattle.drm_faults.specs.declared.fault.Fault.TheVariants as faults
+use Rattle.drm_faults.specs.Fault.{report_status, fault_status, clean_status}
+use Rattle.drm_load.specs.Faults.{fault_of_schedule, fault_of_script}
+use Rattle.drm_load.specs.Loading.{Reading, Step, ReadBy, given, ◌>>=◌}
+use Rattle.drm_load.specs.Schedule.{schedule_named}
+use Rattle.drm_transmit.specs.ScheduleRun.{IsRefused}
+use Rattle.drm_load.specs.Scripts.{script_named}
+use Rattle.drm_top.specs.Receive.{AreClean, WritesReports}
+use Rattle.mod_receiver.specs.Ahead.{Report}
 use Rattle.drm_top.specs.Air.{AirRun, AreAired, BySchedule, ByScript}
 use Rattle.drm_top.specs.Status.{WroteReports, FeedsAreInTime, schedule_and_script}
-use Rattle.drm_top.proofs.LoadingLemmas.{ReadBy-then, ReadBy-stops, ReadBy-given}
+use Rattle.drm_load.proofs.LoadingLemmas.{ReadBy-then, ReadBy-stops, ReadBy-given}
 use Rattle.drm_top.proofs.ReceiveStatus.{is_true, wrote}
 
 -- the status of a text that doesn't come

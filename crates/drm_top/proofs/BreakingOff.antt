@@ -1,11 +1,12 @@
 -- A link that gives a report doesn't break off.
-use Rattle.std.proofs.Common.{◌≡◌, ℕ, ◌⊎◌, inl, inr, List, IsNone, Option, Some, sym, ◌∙◌, subst}
+use Rattle.std.proofs.Common.{◌≡◌, ℕ, ◌⊎◌, inl, inr, IsNone, Some, sym, ◌∙◌, subst}
 use Rattle.drm_links.specs.Dock.{DockContents, LinkStart}
 use Rattle.drm_links.specs.declared.dock.Address.{Address}
-use Rattle.drm_top.specs.Hearing.{AreNext}
-use Rattle.drm_top.specs.declared.rules.Rules.{Rules}
-use Rattle.drm_top.specs.Receive.{Report, Finds, FindsNone, IsReportOf, BreaksOff}
-use Rattle.drm_top.proofs.OneReading.{finished_whole}
+use Rattle.mod_receiver.specs.Hearing.{AreNext}
+use Rattle.mod_receiver.specs.declared.rules.Rules.{Rules}
+use Rattle.drm_top.specs.Receive.{Finds, FindsNone}
+use Rattle.mod_receiver.specs.Ahead.{Report, IsReportOf, BreaksOff}
+use Rattle.mod_receiver.proofs.OneReading.{finished_whole}
 
 found_once : (told : DockContents) (k : ℕ) (at : Address) (a b : LinkStart) → Finds told k at a → Finds told k at b → a ≡ b
 found_once told k at a b first second = let is : Some a ≡ Some b = sym first.stands ∙ second.stands in cc

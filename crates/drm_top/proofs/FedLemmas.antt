@@ -1,33 +1,30 @@
 -- What is read of a link that brings the datagrams of a feed, and then nothing.
-use Rattle.std.proofs.Common.{◌≡◌, ℕ, zero, suc, ◌+◌, ◌*◌, ◌<◌, ◌≤◌, ◌⊎◌, inl, inr, List, [], ◌∷◌, ◌++◌, length, map, take, drop, Option, None, Some, refl, sym, ◌∙◌, ap, subst, arith, length-append}
-use Rattle.std.specs.Prelude.{ℤ, ◌+ℤ◌, pos, Bool, false}
-use Rattle.std.specs.List.{AllByRecursion, AllZip}
-use Rattle.std.proofs.lemmas.List.{take-append-le, append-nil}
-use Rattle.drm_links.specs.Link.{Answer, Datagram, Idle, Failed}
-use Rattle.dcp_collect.specs.declared.taken.Taken.{Taken}
-use Rattle.dcp_collect.specs.declared.taken.Taken.TheVariants.{Kept, Repeated, Late, Refused, Inconsistent, NoMemory}
-use Rattle.dcp_collect.specs.Delivery.{IsWithinSpan, IsBase, number, newer_number}
-use Rattle.dcp_collect.specs.Laws.{IsRight, OneRun}
-use Rattle.dcp_collect.specs.Runs.{Item, up_to}
+use Rattle.std.proofs.Common.{◌≡◌, ℕ, zero, suc, ◌+◌, ◌*◌, ◌<◌, ◌≤◌, ◌⊎◌, inl, inr, List, [], ◌∷◌, ◌++◌, length, map, take, Option, None, Some, refl, sym, ◌∙◌, ap, subst, arith, length-append}
+use Rattle.std.specs.Prelude.{ℤ, pos, Bool}
+use Rattle.std.specs.List.{AllByRecursion}
+use Rattle.std.proofs.lemmas.List.{take-append-le}
+use Rattle.drm_links.specs.Link.{Answer, Datagram, Idle}
+use Rattle.dcp_collect.specs.Delivery.{IsWithinSpan, number, newer_number}
+use Rattle.dcp_collect.specs.Laws.{OneRun}
 use Rattle.dcp_collect.specs.State.{made}
 use Rattle.drm_schedule.specs.declared.plan.Plan.{Plan}
 use Rattle.drm_schedule.specs.Valid.{IsSchedule}
-use Rattle.mod_feed.specs.Feeding.{FeedStep, Feeds}
-use Rattle.drm_timeline.specs.Tracker.{TrackerState, new_tracker}
-use Rattle.mod_delivery.specs.Sent.{IsSent, AreSent, IsFollowed, IsInTime}
+use Rattle.mod_feed.specs.Feeding.{Feeds}
+use Rattle.drm_timeline.specs.Tracker.{new_tracker}
+use Rattle.mod_delivery.specs.Sent.{AreSent, IsFollowed, IsInTime}
 use Rattle.mod_delivery.specs.Given.{AreGiven}
 use Rattle.mod_delivery.specs.Laws.{Delivering, DeliveringEarly}
 use Rattle.drm_show.specs.declared.report.EndWord.{EndWord}
 use Rattle.drm_show.specs.declared.report.EndWord.TheVariants as word
-use Rattle.drm_top.specs.Hearing.{AreNext}
-use Rattle.drm_top.specs.declared.rules.Rules.{Rules}
-use Rattle.drm_top.specs.Reading.{datagrams, idles, idles_from, Holds, IsOpen, IsSound, EndsBy, GoesOn, IsFinished}
-use Rattle.drm_top.specs.Reports.{refusals, refusals_from, report}
-use Rattle.drm_top.specs.Received.{IsReport}
-use Rattle.drm_top.specs.Headline.{Modulates, ModulatesAll, untold, WouldBeRead}
-use Rattle.drm_top.specs.Receive.{Report, IsReportOf}
+use Rattle.mod_receiver.specs.Hearing.{AreNext}
+use Rattle.mod_receiver.specs.declared.rules.Rules.{Rules}
+use Rattle.mod_receiver.specs.Reading.{datagrams, idles, Holds, IsOpen, IsSound, EndsBy}
+use Rattle.mod_receiver.specs.Reports.{report}
+use Rattle.mod_receiver.specs.Received.{IsReport}
+use Rattle.mod_receiver.specs.Headline.{Modulates, ModulatesAll, untold, WouldBeRead}
+use Rattle.mod_receiver.specs.Ahead.{Report, IsReportOf}
 use Rattle.drm_top.specs.Air.{air_rules}
-use Rattle.drm_top.proofs.Composing.{ItemLaws, tells_switches, gives_in_time, none_refused}
+use Rattle.mod_receiver.proofs.Composing.{ItemLaws, tells_switches, gives_in_time, none_refused}
 
 -- ---- the answers
 

@@ -1,5 +1,5 @@
 -- Openings, one after another.
-use Rattle.std.proofs.Common.{◌≡◌, ℕ, zero, suc, ◌+◌, ◌<◌, ◌≤◌, ◌⊎◌, inl, inr, Bool, true, false, cond, List, [], ◌∷◌, ◌++◌, length, slice_index_or, Option, None, Some, IsNone, Contains, Result, Ok, Err, refl, sym, ◌∙◌, ap, subst, arith}
+use Rattle.std.proofs.Common.{◌≡◌, ℕ, zero, suc, ◌+◌, ◌<◌, ◌≤◌, ◌⊎◌, inl, inr, Bool, true, false, cond, List, [], ◌∷◌, ◌++◌, length, slice_index_or, Option, None, Some, IsNone, Contains, Result, Err, refl, sym, ◌∙◌, ap, subst, arith}
 use Rattle.std.specs.Prelude.{◌≢◌}
 use Rattle.std.specs.List.{AllByRecursion}
 use Rattle.std.specs.FinMap as map
@@ -9,14 +9,15 @@ use Rattle.std.specs.Cmp.Lexicographic.{slice_cmp, nat_list_cmp_total}
 use Rattle.std.proofs.lemmas.Map.Views.{tells_apart}
 use Rattle.drm_links.specs.Told.{WhileTold, CountsCall}
 use Rattle.drm_links.specs.Link.{Traffic}
-use Rattle.drm_links.specs.Dock.{DockContents, LinkStart, Opens, address_key, start_at, first_traffic}
+use Rattle.drm_links.specs.Dock.{DockContents, Opens, address_key}
 use Rattle.drm_links.specs.declared.dock.Address.{Address}
 use Rattle.drm_links.specs.declared.dock.Opened.TheVariants as opened
 use Rattle.drm_links.proofs.ToldLemmas.{Opens-started}
 use Rattle.drm_words.specs.Addresses.{AreDifferent}
-use Rattle.drm_top.specs.Receive.{Docked, Finds, FindsNone}
+use Rattle.drm_top.specs.Receive.{Docked}
 use Rattle.drm_top.specs.Opening.{HasLink, HaveLinks, FailsOpening}
-use Rattle.drm_top.specs.declared.job.Job.{Job}
+use Rattle.mod_receiver.specs.declared.job.Job.{Job}
+use Rattle.mod_receiver.proofs.JobLemmas.{same_index}
 
 -- ---- addresses that are different
 
@@ -49,11 +50,6 @@ apart (a ∷ others) different i zero d e before within is = absurd (omega arith
 apart (a ∷ others) different zero (suc j) d e before within is =
     all_at (λ other. other ≢ a) others j e different.0 (omega arith) (sym is)
 apart (a ∷ others) different (suc i) (suc j) d e before within is = apart others different.1 i j d e (omega arith) (omega arith) is
-
-pub same_index : {X : Type 0} (xs : List X) (k : ℕ) (d e : X) → k < length xs → slice_index_or xs k d ≡ slice_index_or xs k e
-same_index [] k d e within = absurd (omega arith)
-same_index (x ∷ xs) zero d e within = refl
-same_index (x ∷ xs) (suc k) d e within = same_index xs k d e (omega arith)
 
 -- ---- what a dock tells, over several calls
 

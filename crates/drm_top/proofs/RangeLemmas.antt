@@ -1,14 +1,13 @@
 -- The numbers of a command that was read are in their ranges.
-use Rattle.std.proofs.Common.{◌≡◌, ◌≤◌, ◌<◌, ℕ, List, [], ◌∷◌, Option, None, Some, IfSome, IfOk, IsUtf8, Result, Ok, Err, refl, sym, ◌∙◌, ap, subst, arith}
+use Rattle.std.proofs.Common.{◌≡◌, ◌≤◌, ℕ, List, [], ◌∷◌, Option, None, Some, IfSome, IfOk, IsUtf8, Result, Ok, Err, sym, subst, arith}
 use Rattle.drm_links.specs.declared.dock.Address.{Address}
 use Rattle.drm_words.specs.declared.fault.WordsFault.{WordsFault}
 use Rattle.drm_words.specs.declared.request.Request.{Request}
-use Rattle.drm_words.specs.declared.request.Request.TheVariants as requests
-use Rattle.drm_words.specs.Addresses.{AreAddresses}
 use Rattle.drm_words.specs.Table.{IsNumberOr, IsNumberOrNone, AreAddressesOrNone, HasTextNames}
 use Rattle.drm_words.specs.Line.{IsLine}
-use Rattle.drm_top.specs.declared.rules.Rules.{Rules}
-use Rattle.drm_top.specs.Terms.{AreInRange, AreListed}
+use Rattle.mod_receiver.specs.declared.rules.Rules.{Rules}
+use Rattle.drm_top.specs.Terms.{AreListed}
+use Rattle.mod_receiver.specs.Ranges.{AreInRange}
 use Rattle.drm_top.specs.Words.{request_of, Asks, IsInRange}
 use Rattle.drm_top.specs.declared.words.Command.{Command}
 use Rattle.drm_top.specs.declared.words.Command.TheVariants.{Fac, Check, Serve, Send, Receive, Air}

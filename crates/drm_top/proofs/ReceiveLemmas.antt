@@ -1,26 +1,27 @@
 -- From receivers that ended to the whole command.
-use Rattle.std.proofs.Common.{◌≡◌, ℕ, ◌+◌, ◌<◌, ◌≤◌, ◌⊎◌, ◌↔◌, inl, inr, Bool, false, IsTrue, List, [], ◌∷◌, ◌++◌, length, map, slice_index_or, take, drop, Option, None, Some, Result, Ok, Err, refl, sym, ◌∙◌, ap, subst, arith, le_refl}
-use Rattle.std.specs.List.{flat_map, All}
+use Rattle.std.proofs.Common.{◌≡◌, ℕ, ◌+◌, ◌<◌, ◌≤◌, ◌⊎◌, inl, inr, Bool, false, List, [], ◌++◌, length, map, slice_index_or, take, drop, Option, Result, Ok, Err, refl, sym, ◌∙◌, ap, subst, arith, le_refl}
+use Rattle.std.specs.List.{All}
 use Rattle.std.proofs.lemmas.List.{take_at}
 use Rattle.drm_links.specs.Told.{HasCause, Rose, WhileTold}
 use Rattle.drm_links.specs.Link.{Traffic}
 use Rattle.drm_links.specs.Sink.{Output, Outputs, IsFront}
-use Rattle.drm_links.specs.Dock.{DockContents, LinkStart, first_traffic}
+use Rattle.drm_links.specs.Dock.{DockContents}
 use Rattle.drm_links.specs.declared.dock.Address.{Address}
 use Rattle.drm_links.proofs.ToldLemmas.{Outputs-weaker}
-use Rattle.drm_top.specs.declared.rules.Rules.{Rules}
-use Rattle.drm_top.specs.declared.fault.Fault.{Fault}
-use Rattle.drm_top.specs.declared.fault.Fault.TheVariants as faults
-use Rattle.drm_top.specs.declared.job.Job.{Job}
-use Rattle.drm_top.specs.Terms.{AreInRange}
-use Rattle.drm_top.specs.Jobs.{HasEnded, text_of, is_failed, clean_of, IsDone}
-use Rattle.drm_top.specs.Opening.{IsJob, AreJobs, HasLink, HaveLinks, AreFresh, FailsOpening, EndsOpening}
-use Rattle.drm_top.specs.Settling.{NoneFailed, job_texts, Settles}
-use Rattle.drm_top.specs.Following.{HeadlinesFollow, CompletesFollow}
-use Rattle.drm_top.specs.Receive.{Report, Finds, FindsNone, IsReportOf, BreaksOff, Docked, AreReports, AreClean, all_texts, FailsSome, WritesReports, SomeLinkRose, ReceiveRun}
+use Rattle.mod_receiver.specs.declared.rules.Rules.{Rules}
+use Rattle.drm_faults.specs.declared.fault.Fault.{Fault}
+use Rattle.drm_faults.specs.declared.fault.Fault.TheVariants as faults
+use Rattle.mod_receiver.specs.declared.job.Job.{Job}
+use Rattle.mod_receiver.specs.Ranges.{AreInRange}
+use Rattle.mod_receiver.specs.Jobs.{HasEnded, IsDone, AreJobs, NoneFailed}
+use Rattle.drm_top.specs.Opening.{HaveLinks, AreFresh, FailsOpening, EndsOpening}
+use Rattle.drm_top.specs.Settling.{job_texts, Settles}
+use Rattle.mod_receiver.specs.Following.{HeadlinesFollow, CompletesFollow}
+use Rattle.drm_top.specs.Receive.{Docked, AreReports, all_texts, FailsSome, WritesReports, SomeLinkRose, ReceiveRun}
+use Rattle.mod_receiver.specs.Ahead.{Report, IsReportOf}
 use Rattle.drm_top.proofs.OpeningLemmas.{docked_weaker}
 use Rattle.drm_top.proofs.BreakingOff.{report_whole}
-use Rattle.drm_top.proofs.JobLemmas.{told_of, job_report, job_breaks, job_rose, index_of, map_at, map_size, flat_map_map, all_told, SomeFailed, some_failed}
+use Rattle.mod_receiver.proofs.JobLemmas.{told_of, job_report, job_breaks, job_rose, index_of, map_at, map_size, flat_map_map, all_told, SomeFailed, some_failed}
 
 -- ---- what is written
 

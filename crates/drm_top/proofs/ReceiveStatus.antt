@@ -1,15 +1,16 @@
 -- What the status of `receive` says.
-use Rattle.std.proofs.Common.{◌≡◌, ℕ, ◌≤◌, ◌<◌, ◌+◌, ◌⊎◌, ◌↔◌, inl, inr, Bool, true, false, IsTrue, List, [], length, slice_index_or, Option, None, Some, Result, Ok, Err, refl, sym, ◌∙◌, ap, subst, arith}
+use Rattle.std.proofs.Common.{◌≡◌, ℕ, ◌<◌, ◌+◌, ◌⊎◌, ◌↔◌, inl, inr, Bool, true, false, IsTrue, List, [], length, slice_index_or, Option, None, Some, Result, Ok, Err, refl, sym, ◌∙◌, ap, subst, arith}
 use Rattle.drm_links.specs.Told.{Rose}
 use Rattle.drm_links.specs.Link.{Answer}
-use Rattle.drm_links.specs.Sink.{Output, Outputs}
-use Rattle.drm_links.specs.Dock.{DockContents, LinkStart, start_at}
+use Rattle.drm_links.specs.Sink.{Output}
+use Rattle.drm_links.specs.Dock.{DockContents, LinkStart}
 use Rattle.drm_links.specs.declared.dock.Address.{Address}
-use Rattle.drm_top.specs.declared.rules.Rules.{Rules}
-use Rattle.drm_top.specs.declared.fault.Fault.{Fault}
-use Rattle.drm_top.specs.declared.fault.Fault.TheVariants as faults
-use Rattle.drm_top.specs.Fault.{report_status, clean_status}
-use Rattle.drm_top.specs.Receive.{Report, IsReportOf, Docked, Finds, AreReports, AreClean, FailsSome, WritesReports, ReceiveRun, all_texts}
+use Rattle.mod_receiver.specs.declared.rules.Rules.{Rules}
+use Rattle.drm_faults.specs.declared.fault.Fault.{Fault}
+use Rattle.drm_faults.specs.declared.fault.Fault.TheVariants as faults
+use Rattle.drm_faults.specs.Fault.{report_status, clean_status}
+use Rattle.drm_top.specs.Receive.{Docked, AreReports, AreClean, FailsSome, WritesReports, ReceiveRun}
+use Rattle.mod_receiver.specs.Ahead.{Report, IsReportOf}
 use Rattle.drm_top.specs.Status.{WroteReports, IsInTimeAhead, AreInTime}
 
 pub docked_weaker : (P Q : DockContents → Type 0) (a b : Option DockContents) → Docked a b P → ((told : DockContents) → P told → Q told) → Docked a b Q

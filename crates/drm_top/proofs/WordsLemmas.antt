@@ -1,5 +1,5 @@
 -- The command of a request.
-use Rattle.std.proofs.Common.{◌≡◌, ◌⊎◌, inl, inr, ℕ, List, Option, None, Some, Result, Ok, Err, refl, sym, ◌∙◌, ap, subst}
+use Rattle.std.proofs.Common.{◌≡◌, ◌⊎◌, inl, inr, ℕ, List, None, Some, Result, Ok, Err, refl, sym, ◌∙◌, ap, subst}
 use Rattle.drm_words.specs.declared.fault.WordsFault.{WordsFault}
 use Rattle.drm_words.specs.declared.fault.WordsFault.TheVariants as faults
 use Rattle.drm_words.specs.declared.request.Request.{Request}

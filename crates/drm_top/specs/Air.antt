@@ -1,5 +1,5 @@
 -- The command `air`: a report for each feed of a script.
-use Rattle.std.specs.Prelude.{ℕ, ℤ, pos, ◌≡◌, ◌+◌, ◌*◌, ◌<◌, ◌⊎◌, Bool, List, length, map, slice_index_or, Option, Some, Result, Ok, Err, IfOk}
+use Rattle.std.specs.Prelude.{ℕ, ℤ, pos, ◌≡◌, ◌+◌, ◌*◌, ◌<◌, ◌⊎◌, Bool, List, length, map, slice_index_or, Option, Some, Result, Ok, Err}
 use Rattle.drm_schedule.specs.declared.plan.Plan.{Plan}
 use Rattle.drm_schedule.specs.Valid.{IsSchedule}
 use Rattle.script_lines.specs.declared.delivery.Delivery.{Delivery}
@@ -9,16 +9,17 @@ use Rattle.drm_links.specs.Shelf.{Files}
 use Rattle.drm_links.specs.Link.{Datagram}
 use Rattle.drm_links.specs.Sink.{Output}
 use Rattle.mod_delivery.specs.Sent.{AreSent, IsFollowed, IsInTime}
-use Rattle.drm_top.specs.declared.rules.Rules.{Rules}
-use Rattle.drm_top.specs.Headline.{Modulates, ModulatesAll}
-use Rattle.drm_top.specs.Receive.{Report, IsReportOf, WritesReports}
-use Rattle.drm_top.specs.Loading.{ReadBy}
-use Rattle.drm_top.specs.Schedule.{schedule_named}
-use Rattle.drm_top.specs.Scripts.{script_named}
-use Rattle.drm_top.specs.Faults.{fault_of_schedule, fault_of_script}
-use Rattle.drm_top.specs.declared.loading.ScheduleFault.{ScheduleFault}
-use Rattle.drm_top.specs.declared.fault.Fault.{Fault}
-use Rattle.drm_top.specs.declared.fault.Fault.TheVariants as faults
+use Rattle.mod_receiver.specs.declared.rules.Rules.{Rules}
+use Rattle.mod_receiver.specs.Headline.{Modulates, ModulatesAll}
+use Rattle.drm_top.specs.Receive.{WritesReports}
+use Rattle.mod_receiver.specs.Ahead.{Report, IsReportOf}
+use Rattle.drm_load.specs.Loading.{ReadBy}
+use Rattle.drm_load.specs.Schedule.{schedule_named}
+use Rattle.drm_load.specs.Scripts.{script_named}
+use Rattle.drm_load.specs.Faults.{fault_of_schedule, fault_of_script}
+use Rattle.drm_load.specs.declared.loading.ScheduleFault.{ScheduleFault}
+use Rattle.drm_faults.specs.declared.fault.Fault.{Fault}
+use Rattle.drm_faults.specs.declared.fault.Fault.TheVariants as faults
 
 -- a feed is read by the schedule's first sequence number and all its frames, and ends where nothing is left
 abbrev pub air_rules : Plan → ℕ → Rules

@@ -4,14 +4,14 @@ use Rattle.drm_links.specs.Shelf.{Files}
 use Rattle.drm_links.specs.Source.{Input}
 use Rattle.drm_links.specs.Sink.{Output}
 use Rattle.drm_links.specs.Dock.{DockContents}
-use Rattle.drm_top.specs.Fac.{FacRun}
-use Rattle.drm_top.specs.Check.{CheckRun}
-use Rattle.drm_top.specs.Serve.{ServeRun}
-use Rattle.drm_top.specs.Send.{SendRun}
+use Rattle.drm_inspect.specs.Fac.{FacRun}
+use Rattle.drm_transmit.specs.Check.{CheckRun}
+use Rattle.drm_transmit.specs.Serve.{ServeRun}
+use Rattle.drm_transmit.specs.Send.{SendRun}
 use Rattle.drm_top.specs.Receive.{ReceiveRun}
 use Rattle.drm_top.specs.Air.{AirRun}
-use Rattle.drm_top.specs.Fault.{done_of}
-use Rattle.drm_top.specs.declared.fault.Fault.{Fault}
+use Rattle.drm_faults.specs.Fault.{done_of}
+use Rattle.drm_faults.specs.declared.fault.Fault.{Fault}
 use Rattle.drm_top.specs.declared.words.Command.{Command}
 use Rattle.drm_top.specs.declared.words.Command.TheVariants.{Fac, Check, Serve, Send, Receive, Air}
 

@@ -1,12 +1,12 @@
 -- The links of the feeds of a script.
-use Rattle.std.specs.Prelude.{ℕ, ◌≡◌, ◌+◌, ◌<◌, List, map, length, slice_index_or, Some}
+use Rattle.std.specs.Prelude.{ℕ, ◌≡◌, ◌<◌, List, map, length, slice_index_or, Some}
 use Rattle.drm_schedule.specs.declared.plan.Plan.{Plan}
 use Rattle.script_lines.specs.declared.delivery.Delivery.{Delivery}
 use Rattle.drm_links.specs.Link.{Datagram}
 use Rattle.drm_links.specs.Dock.{first_traffic}
 use Rattle.drm_links.specs.MemoryLink.{LinkState, link_tells}
 use Rattle.mod_delivery.specs.Sent.{AreSent}
-use Rattle.drm_top.specs.declared.job.Job.{Job}
+use Rattle.mod_receiver.specs.declared.job.Job.{Job}
 use Rattle.drm_top.specs.Air.{pairs_of}
 
 -- The link brings the datagrams of these deliveries, and is to fail nowhere.

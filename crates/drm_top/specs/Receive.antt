@@ -2,40 +2,13 @@
 use Rattle.std.specs.Prelude.{ℕ, ◌≡◌, ◌+◌, ◌<◌, ◌≤◌, ◌⊎◌, ◌↔◌, IsTrue, Contains, IsNone, Bool, List, length, slice_index_or, Option, None, Some, Result, Ok, Err}
 use Rattle.std.specs.List.{flat_map, All}
 use Rattle.drm_links.specs.Told.{HasCause, Rose, WhileTold}
-use Rattle.drm_links.specs.Link.{Answer, Traffic}
 use Rattle.drm_links.specs.Sink.{Output, Outputs, IsFront}
 use Rattle.drm_links.specs.Dock.{DockContents, LinkStart, start_at}
 use Rattle.drm_links.specs.declared.dock.Address.{Address}
-use Rattle.drm_top.specs.Hearing.{AreNext}
-use Rattle.drm_top.specs.declared.rules.Rules.{Rules}
-use Rattle.drm_top.specs.Reading.{IsBroken}
-use Rattle.drm_top.specs.Received.{IsReport}
-use Rattle.drm_top.specs.Headline.{HeadlineOf, CompleteOf}
-use Rattle.drm_top.specs.declared.fault.Fault.{Fault}
-use Rattle.drm_top.specs.declared.fault.Fault.TheVariants as faults
-
--- a report: its text, and whether no line of it is missing or bad
-pub record Report : Type 0 where
-  pub text : List ℕ
-  pub clean : Bool
-
--- The report of what is ahead of a link: of the answers that are read of it. It is that of the delivery that is read, and
--- where each frame is in time of all frames.
-pub record IsReportOf (rules : Rules) (feed : ℕ) (ahead : List Answer) (r : Report) : Type 0 where
-  pub answers : List Answer
-  pub rest : List Answer
-  pub next : AreNext ahead answers rest
-  pub is : IsReport rules feed answers r.text r.clean
-  pub headline : HeadlineOf rules feed answers r.text r.clean
-  pub complete : CompleteOf rules feed ahead r.text r.clean
-
--- What is ahead of a link breaks off: its reading ends in `Failed`.
-pub record BreaksOff (rules : Rules) (ahead : List Answer) : Type 0 where
-  pub before : List Answer
-  pub answers : List Answer
-  pub rest : List Answer
-  pub next : AreNext ahead answers rest
-  pub reading : IsBroken rules before answers
+use Rattle.mod_receiver.specs.declared.rules.Rules.{Rules}
+use Rattle.mod_receiver.specs.Ahead.{Report, IsReportOf, BreaksOff}
+use Rattle.drm_faults.specs.declared.fault.Fault.{Fault}
+use Rattle.drm_faults.specs.declared.fault.Fault.TheVariants as faults
 
 -- the k-th opening from here finds a link at this address that starts so
 pub record Finds (told : DockContents) (k : ℕ) (at : Address) (start : LinkStart) : Type 0 where

@@ -1,15 +1,11 @@
 -- What becomes of receivers that ended.
-use Rattle.std.specs.Prelude.{ℕ, ◌≡◌, ◌↔◌, IsTrue, not, All, Bool, List, Option, Result, Ok, Err}
+use Rattle.std.specs.Prelude.{ℕ, ◌≡◌, ◌↔◌, IsTrue, All, Bool, List, Option, Result, Ok, Err}
 use Rattle.std.specs.List.{flat_map}
 use Rattle.drm_links.specs.Sink.{Output, Outputs, IsFront}
-use Rattle.drm_top.specs.declared.fault.Fault.{Fault}
-use Rattle.drm_top.specs.declared.fault.Fault.TheVariants as faults
-use Rattle.drm_top.specs.declared.job.Job.{Job}
-use Rattle.drm_top.specs.Jobs.{is_failed, clean_of, text_of, IsDone}
-
--- no receiver's link failed
-abbrev pub NoneFailed : {L : Type 0} → List (Job L) → Type 0
-NoneFailed jobs = All (λ job. IsTrue (not (is_failed job.ended))) jobs
+use Rattle.drm_faults.specs.declared.fault.Fault.{Fault}
+use Rattle.drm_faults.specs.declared.fault.Fault.TheVariants as faults
+use Rattle.mod_receiver.specs.declared.job.Job.{Job}
+use Rattle.mod_receiver.specs.Jobs.{NoneFailed, clean_of, text_of, IsDone}
 
 -- the texts of receivers, one after another
 abbrev pub job_texts : {L : Type 0} → List (Job L) → List ℕ

@@ -1,5 +1,5 @@
 -- What the status of a run that reports says.
-use Rattle.std.specs.Prelude.{ℕ, ℤ, pos, ◌≡◌, ◌+◌, ◌*◌, ◌<◌, ◌⊎◌, ◌↔◌, List, length, slice_index_or, Option, None, Some, Result, Ok, Err}
+use Rattle.std.specs.Prelude.{ℕ, pos, ◌≡◌, ◌*◌, ◌<◌, ◌⊎◌, ◌↔◌, List, length, slice_index_or, Option, None, Some, Ok}
 use Rattle.drm_schedule.specs.declared.plan.Plan.{Plan}
 use Rattle.drm_schedule.specs.Valid.{IsSchedule}
 use Rattle.script_lines.specs.declared.delivery.Delivery.{Delivery}
@@ -8,14 +8,15 @@ use Rattle.drm_links.specs.Sink.{Output, Outputs}
 use Rattle.drm_links.specs.Dock.{DockContents, LinkStart}
 use Rattle.drm_links.specs.declared.dock.Address.{Address}
 use Rattle.mod_delivery.specs.Sent.{AreSent, IsFollowed, IsInTime}
-use Rattle.drm_top.specs.declared.rules.Rules.{Rules}
-use Rattle.drm_top.specs.Reading.{datagrams}
-use Rattle.drm_top.specs.Headline.{WouldBeRead}
-use Rattle.drm_top.specs.Receive.{Report, Finds, AreClean, all_texts}
+use Rattle.mod_receiver.specs.declared.rules.Rules.{Rules}
+use Rattle.mod_receiver.specs.Reading.{datagrams}
+use Rattle.mod_receiver.specs.Headline.{WouldBeRead}
+use Rattle.drm_top.specs.Receive.{Finds, AreClean, all_texts}
+use Rattle.mod_receiver.specs.Ahead.{Report}
 use Rattle.drm_top.specs.Air.{pairs_of}
-use Rattle.drm_top.specs.Loading.{Reading, given, ◌>>=◌}
-use Rattle.drm_top.specs.Schedule.{schedule_named}
-use Rattle.drm_top.specs.Scripts.{script_named}
+use Rattle.drm_load.specs.Loading.{Reading, given, ◌>>=◌}
+use Rattle.drm_load.specs.Schedule.{schedule_named}
+use Rattle.drm_load.specs.Scripts.{script_named}
 
 -- The reports were written, all of them, and the status is 0 exactly where no line of them is missing or bad, and else 7.
 pub record WroteReports {O : Type 0} (code : ℕ) (are : List Report → Type 0) (tells : O → Option Output) (out out' : O) : Type 0 where

@@ -4,23 +4,20 @@ ghost use Rattle.std.specs.Prelude.{ℕ, ◌≡◌, ◌≤◌, ◌++◌, [], ◌
 ghost use Rattle.mod_delivery.specs.Sent.{IsSent};
 ghost use Rattle.script_lines.specs.Script.{IsScript, IsDelivery, fragment_count};
 ghost use Rattle.drm_server.specs.Datagrams.{HasDatagrams};
-ghost use Rattle.drm_top.specs.Opening.{AreJobs};
+ghost use Rattle.mod_receiver.specs.Jobs.{AreJobs};
 ghost use Rattle.drm_top.specs.Feeds.{BringsFeed, BringFeeds};
 ghost use Rattle.drm_top.specs.Air.{AirRun, air_rules};
 
-use crate::fault::Fault;
-use crate::follow::{laws_of_deliveries, reports_follow};
-use crate::job::{Job, run_all};
-use crate::receive::{job_for, settle};
-use crate::rules::Rules;
-use crate::schedule::read_schedule;
-use crate::script::{read_script_named, script_fault};
+use crate::receive::settle;
 use dcp_collect::one_run;
 use drm_bits::NoMemory;
+use drm_faults::Fault;
 use drm_links::{MemLink, Shelf, Sink};
+use drm_load::{read_schedule, read_script_named, script_fault};
 use drm_schedule::Schedule;
 use drm_server::Server;
-use drm_words::{Delivery, Script};
+use mod_receiver::{Job, Rules, job_for, laws_of_deliveries, reports_follow, run_all};
+use script_lines::{Delivery, Script};
 use std::alloc::Global;
 use std::thread::Threads;
 

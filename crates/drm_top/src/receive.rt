@@ -3,27 +3,21 @@
 ghost use Rattle.std.specs.Prelude.{◌≡◌, ◌≤◌, length, vec_len, IfOk, IfErr, Err};
 ghost use Rattle.drm_links.specs.Told.{HasCause, CountsCall, WhileTold};
 ghost use Rattle.drm_links.specs.Dock.{Opens};
-ghost use Rattle.drm_top.specs.Terms.{AreInRange, AreListed};
+ghost use Rattle.mod_receiver.specs.Ranges.{AreInRange};
+ghost use Rattle.drm_top.specs.Terms.{AreListed};
 ghost use Rattle.drm_top.specs.Receive.{ReceiveRun, Docked};
-ghost use Rattle.drm_top.specs.Opening.{IsJob, AreJobs, HaveLinks, AreFresh, FailsOpening, EndsOpening};
+ghost use Rattle.mod_receiver.specs.Jobs.{IsJob, AreJobs};
+ghost use Rattle.drm_top.specs.Opening.{HaveLinks, AreFresh, FailsOpening, EndsOpening};
 ghost use Rattle.drm_top.specs.Settling.{Settles};
 
-use crate::fault::Fault;
-use crate::follow::reports_follow;
-use crate::job::{Job, all_clean, all_done, none_failed, run_all, write_texts};
-use crate::receiver::Options;
-use crate::rules::Rules;
-use crate::text::Text;
-use dcp_collect::Collector;
-use drm_bits::NoMemory;
+use drm_faults::Fault;
 use drm_links::{Address, Dock, Link, Opened, Sink};
 use drm_words::Addresses;
-use mod_feed::Feed;
+use mod_receiver::{
+    Job, Rules, all_clean, all_done, job_for, none_failed, reports_follow, run_all, write_texts,
+};
 use std::alloc::Global;
 use std::thread::Threads;
-
-/// Room for the longest datagram.
-const MOST_BYTES: usize = 65536;
 
 /// Opens a link at each address, reads each until it has read enough, in threads of their own, and writes their reports in
 /// the order of the addresses. Answers whether no frame is missing or bad.
@@ -103,43 +97,6 @@ fn open_one<D: Dock>(
         Opened::Link(link) => Ok(job_for(alloc, rules, feed, link)?),
         Opened::Failed => Err(Fault::Link),
     }
-}
-
-/// A receiver of this link, under the number of its feed.
-pub(crate) fn job_for<L: Link>(
-    alloc: Global,
-    rules: &Rules,
-    feed: u8,
-    link: L,
-) -> Result<Job<L>, NoMemory>
-    requires some { 1 ≤ rules.now.window }
-    requires few { rules.now.window ≤ 64 }
-    ensures job { IfOk result (IsJob rules.now feed) }
-    ensures link { IfOk result (λ job. job.link ≡ link) }
-{
-    let collector = Collector::make(alloc, rules.window, rules.first)?;
-    let buffer = room(alloc, MOST_BYTES)?;
-    Ok(Job {
-        link,
-        collector,
-        feed: Feed::new(),
-        options: Options {
-            feed,
-            frames: rules.frames,
-            idle: rules.idle,
-            limit: rules.limit,
-        },
-        buffer,
-        text: Text::new(alloc),
-        ended: None,
-    })
-}
-
-// Room for so many bytes.
-fn room(alloc: Global, len: usize) -> Result<Vec<u8>, NoMemory>
-    ensures { IfOk result (λ bytes. vec_len bytes ≡ len) }
-{
-    Ok(vec![in alloc; 0u8; len]?)
 }
 
 /// Writes the reports of receivers that ended, unless one of them failed.

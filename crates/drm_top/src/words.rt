@@ -5,10 +5,10 @@ ghost use Rattle.drm_top.specs.Words.{AsksFor, AsksForNothing, Asks, IsInRange};
 ghost use Rattle.drm_words.specs.Table.{HasTextNames};
 ghost use Rattle.drm_top.specs.declared.words.Command.{Command};
 
-use crate::rules::Rules;
 use drm_bits::Octets;
 use drm_links::Address;
 use drm_words::{Addresses, Request, WordsFault, read_words};
+use mod_receiver::Rules;
 use std::alloc::Global;
 
 /// A command that is built.

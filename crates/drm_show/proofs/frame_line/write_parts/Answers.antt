@@ -1,7 +1,7 @@
 use Rattle.std.proofs.lemmas.Result.{err_from_is_err_and}
 use Rattle.mdi_items.specs.Frame.{frame_of}
 use Rattle.drm_show.specs.FrameParts.{part_text}
-use Rattle.drm_show.proofs.TextLemmas.{front_of_next}
+use Rattle.text_pieces.proofs.TextLemmas.{front_of_next}
 use Rattle.drm_show.proofs.frame_line.write_parts.Goals as goal
 
 pub returns-in_err-write_part-clause-front : goal.returns-in_err-write_part-clause-front

@@ -2,8 +2,8 @@ use Rattle.std.proofs.Common.{◌≡◌, ℕ, ◌<◌, List, length, slice_index
 use Rattle.std.proofs.lemmas.Result.{err_from_is_err_and}
 use Rattle.drm_links.specs.MemoryLink.{LinkState, link_tells}
 use Rattle.drm_schedule.specs.Valid.{IsSchedule}
-use Rattle.drm_top.specs.declared.job.Job.{Job}
-use Rattle.drm_top.specs.Jobs.{HasEnded}
+use Rattle.mod_receiver.specs.declared.job.Job.{Job}
+use Rattle.mod_receiver.specs.Jobs.{HasEnded}
 use Rattle.drm_top.specs.Settling.{Settles}
 use Rattle.drm_top.specs.Air.{air_rules}
 use Rattle.drm_top.proofs.ReceiveLemmas.{Ran, written_back}

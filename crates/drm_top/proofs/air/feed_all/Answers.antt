@@ -1,12 +1,12 @@
 use Rattle.std.proofs.Common.{◌≡◌, ℕ, ◌+◌, ◌<◌, ◌≤◌, slice_index_or, sym, ◌∙◌, ap, subst, arith, length, length-append, List, [], ◌∷◌}
 use Rattle.drm_links.specs.MemoryLink.{LinkState}
 use Rattle.script_lines.specs.declared.delivery.Delivery.{Delivery}
-use Rattle.drm_top.specs.declared.job.Job.{Job}
-use Rattle.drm_top.specs.declared.rules.Rules.{Rules}
+use Rattle.mod_receiver.specs.declared.job.Job.{Job}
 use Rattle.drm_top.specs.Air.{air_rules}
-use Rattle.drm_top.specs.Opening.{IsJob}
+use Rattle.mod_receiver.specs.Jobs.{IsJob}
 use Rattle.drm_top.specs.Feeds.{BringsFeed}
-use Rattle.drm_top.proofs.OpeningLemmas.{each_more, same_index}
+use Rattle.drm_top.proofs.OpeningLemmas.{each_more}
+use Rattle.mod_receiver.proofs.JobLemmas.{same_index}
 use Rattle.drm_top.proofs.air.feed_all.Goals as goal
 
 pub loop-k-preserved : goal.loop-k-preserved

@@ -1,9 +1,9 @@
-use Rattle.std.proofs.Common.{◌≡◌, ℕ, ◌+◌, ◌<◌, List, vec_len, slice_index_or, length}
+use Rattle.std.proofs.Common.{◌≡◌, ℕ, ◌<◌, List, vec_len, slice_index_or, length}
 use Rattle.drm_links.specs.MemoryLink.{LinkState}
 use Rattle.script_lines.specs.declared.delivery.Delivery.{Delivery}
-use Rattle.drm_top.specs.declared.job.Job.{Job}
+use Rattle.mod_receiver.specs.declared.job.Job.{Job}
 use Rattle.drm_top.specs.Air.{air_rules}
-use Rattle.drm_top.specs.Opening.{AreJobs}
+use Rattle.mod_receiver.specs.Jobs.{AreJobs}
 use Rattle.drm_top.specs.Feeds.{BringsFeed}
 use Rattle.drm_top.proofs.air.feed_all.Given as goal
 

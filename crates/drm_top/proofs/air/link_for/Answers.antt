@@ -1,8 +1,7 @@
-use Rattle.std.proofs.Common.{◌≡◌, ℕ, ◌++◌, ◌∷◌, [], ◌∙◌, ap, subst, List}
+use Rattle.std.proofs.Common.{◌++◌, ◌∷◌, [], ◌∙◌, ap}
 use Rattle.drm_links.specs.MemoryLink.{LinkState}
 use Rattle.script_lines.specs.declared.delivery.Delivery.{Delivery}
-use Rattle.mod_delivery.specs.Sent.{IsSent}
-use Rattle.drm_top.proofs.FeedLemmas.{link_of, sent_more}
+use Rattle.drm_top.proofs.FeedLemmas.{sent_more}
 use Rattle.drm_top.proofs.air.link_for.Goals as goal
 
 pub loop-delivery-preserved : goal.loop-delivery-preserved

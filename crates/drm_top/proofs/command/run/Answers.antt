@@ -1,14 +1,14 @@
-use Rattle.std.proofs.Common.{◌≡◌, ◌∙◌, ℕ, inl, inr, sym, ap, refl, Bool, true, false, Result, Ok, Err}
-use Rattle.drm_top.specs.declared.fault.Fault.{Fault}
-use Rattle.drm_top.specs.declared.fault.Fault.TheVariants.{NoMemory}
+use Rattle.std.proofs.Common.{◌≡◌, ◌∙◌, ℕ, inl, inr, sym, ap, refl, Bool, Result, Ok, Err}
+use Rattle.drm_faults.specs.declared.fault.Fault.{Fault}
+use Rattle.drm_faults.specs.declared.fault.Fault.TheVariants.{NoMemory}
 use Rattle.drm_top.specs.declared.words.Command.TheVariants as commands
-use Rattle.drm_top.specs.Fault.{fault_status, clean_status}
-use Rattle.drm_top.proofs.FacLemmas.{run_refused, run_complete}
-use Rattle.drm_top.proofs.ScheduleRunLemmas.{refused_exactly, unread_exactly, complete}
-use Rattle.drm_top.proofs.SendLemmas.{unopened, cut_where, all_where, refused_where, unread_where}
+use Rattle.drm_faults.specs.Fault.{fault_status, clean_status}
+use Rattle.drm_inspect.proofs.FacLemmas.{run_refused, run_complete}
+use Rattle.drm_transmit.proofs.ScheduleRunLemmas.{refused_exactly, unread_exactly, complete}
+use Rattle.drm_transmit.proofs.SendLemmas.{unopened, cut_where, all_where, refused_where, unread_where}
 use Rattle.drm_top.proofs.ReceiveStatus.{linked, complete as receive_complete, in_time as receive_in_time}
 use Rattle.drm_top.proofs.AirStatus.{refused_exactly as air_refused, unread_exactly as air_unread, complete as air_complete, in_time as air_in_time}
-use Rattle.drm_top.proofs.StatusLemmas.{two_is_words, words_is_two, memory_is_one, four_is_read, five_is_write, six_is_link, one_is_memory}
+use Rattle.drm_faults.proofs.StatusLemmas.{two_is_words, words_is_two, memory_is_one, four_is_read, five_is_write, six_is_link, one_is_memory}
 use Rattle.drm_top.proofs.command.run.Goals as goal
 
 pub returns-in-Ok-true-clause-refused : goal.returns-in-Ok-true-clause-refused

@@ -1,11 +1,12 @@
-use Rattle.std.proofs.Common.{◌≡◌, ℕ, ◌+◌, ◌<◌, ◌≤◌, slice_index_or, sym, ◌∙◌, ap, arith, refl, length, length-append, [], ◌∷◌, Err, le_trans}
+use Rattle.std.proofs.Common.{◌≡◌, ℕ, ◌+◌, ◌<◌, ◌≤◌, slice_index_or, ◌∙◌, ap, arith, length, length-append, [], ◌∷◌, Err, le_trans}
 use Rattle.std.proofs.lemmas.Result.{err_from_is_err_and}
 use Rattle.drm_links.specs.declared.dock.Address.{Address}
 use Rattle.drm_links.proofs.ToldLemmas.{later-Rose}
-use Rattle.drm_top.specs.declared.job.Job.{Job}
-use Rattle.drm_top.specs.declared.fault.Fault.TheVariants as faults
+use Rattle.mod_receiver.specs.declared.job.Job.{Job}
+use Rattle.drm_faults.specs.declared.fault.Fault.TheVariants as faults
 use Rattle.drm_top.specs.Receive.{Docked}
-use Rattle.drm_top.specs.Opening.{IsJob, HasLink}
+use Rattle.drm_top.specs.Opening.{HasLink}
+use Rattle.mod_receiver.specs.Jobs.{IsJob}
 use Rattle.drm_top.proofs.OpeningLemmas.{each_more, found_now, opened_now, failed_now, unsent_now, docked_now, docked_still, all_links, opened_any, opened_unsent, same_fault}
 use Rattle.drm_top.proofs.receive.open_all.Goals as goal
 

@@ -1,8 +1,9 @@
 use Rattle.std.proofs.Common.{◌≡◌, ℕ, ◌+◌, ◌<◌, ◌≤◌, vec_len, slice_index_or, length}
 use Rattle.drm_links.specs.declared.dock.Address.{Address}
-use Rattle.drm_top.specs.declared.job.Job.{Job}
+use Rattle.mod_receiver.specs.declared.job.Job.{Job}
 use Rattle.drm_top.specs.Receive.{Docked}
-use Rattle.drm_top.specs.Opening.{IsJob, HasLink}
+use Rattle.drm_top.specs.Opening.{HasLink}
+use Rattle.mod_receiver.specs.Jobs.{IsJob}
 use Rattle.drm_top.proofs.OpeningLemmas.{Docks, AreOpened}
 use Rattle.drm_top.proofs.receive.open_all.Given as goal
 

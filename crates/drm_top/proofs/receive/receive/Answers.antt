@@ -1,7 +1,7 @@
 use Rattle.std.proofs.Common.{◌≡◌, ℕ, ◌<◌, List, length, slice_index_or, sym, ◌∙◌, ap, subst, Err}
 use Rattle.std.proofs.lemmas.Result.{err_from_is_err_and}
-use Rattle.drm_top.specs.declared.job.Job.{Job}
-use Rattle.drm_top.specs.Jobs.{HasEnded}
+use Rattle.mod_receiver.specs.declared.job.Job.{Job}
+use Rattle.mod_receiver.specs.Jobs.{HasEnded}
 use Rattle.drm_top.specs.Settling.{Settles}
 use Rattle.drm_top.proofs.ReceiveLemmas.{Ran, settled_run, opening_failed, written_back}
 use Rattle.drm_top.proofs.receive.receive.Goals as goal

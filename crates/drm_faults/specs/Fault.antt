@@ -1,0 +1,46 @@
+-- How a run ends: as it should, or with a fault, which has a status and a line.
+use Rattle.std.specs.Prelude.{ℕ, ◌≡◌, Bool, true, false, List, Option, Result, Ok, Err}
+use Rattle.drm_links.specs.Told.{Rose}
+use Rattle.drm_links.specs.Sink.{Output, Outputs, IsFront}
+use Rattle.drm_faults.specs.Lines.{fault_line}
+use Rattle.drm_faults.specs.declared.fault.Fault.{Fault}
+use Rattle.drm_faults.specs.declared.fault.Fault.TheVariants.{NoMemory, Words, FacLength, FacOver, FacCrc, Schedule, Script, Read, Write, Link}
+
+abbrev pub fault_status : Fault → ℕ
+fault_status NoMemory = 1
+fault_status Words = 2
+fault_status (FacLength n) = 3
+fault_status FacOver = 3
+fault_status (FacCrc stands computed) = 3
+fault_status (Schedule line reason) = 3
+fault_status (Script line reason) = 3
+fault_status Read = 4
+fault_status Write = 5
+fault_status Link = 6
+
+abbrev pub status_of : Result (Unit {0}) Fault → ℕ
+status_of (Ok done) = 0
+status_of (Err fault) = fault_status fault
+
+-- done, and whether each frame that the run tells of was given
+abbrev pub done_of : Result Bool Fault → Result (Unit {0}) Fault
+done_of (Ok clean) = Ok tt
+done_of (Err fault) = Err fault
+
+abbrev pub clean_status : Bool → ℕ
+clean_status true = 0
+clean_status false = 7
+
+abbrev pub report_status : Result Bool Fault → ℕ
+report_status (Ok clean) = clean_status clean
+report_status (Err fault) = fault_status fault
+
+-- The line is written, or where the count of faults rose a front of it.
+pub record WritesLine {E : Type 0} (line : List ℕ) (faults : E → ℕ) (tells : E → Option Output) (old new : E) : Type 0 where
+  pub front : Outputs (tells old) (tells new) (IsFront line)
+  pub whole : (Rose (faults old) (faults new) → ⊥) → Outputs (tells old) (tells new) (λ text. text ≡ line)
+
+-- What a run writes to err: the line of its fault, and else nothing.
+abbrev pub Reports : {E : Type 0} → Result (Unit {0}) Fault → (E → ℕ) → (E → Option Output) → E → E → Type 0
+Reports (Ok done) faults tells old new = new ≡ old
+Reports (Err fault) faults tells old new = WritesLine (fault_line fault) faults tells old new

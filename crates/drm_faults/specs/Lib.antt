@@ -1,0 +1,5 @@
+pub mod CrcLine
+pub mod Reasons
+pub mod Lines
+pub mod FacFaults
+pub mod Fault

@@ -1,0 +1,155 @@
+//! Why a run stops early.
+
+ghost use Rattle.std.specs.Prelude.{◌≡◌, OnOk, OnErr, IsErr};
+ghost use Rattle.drm_links.specs.Told.{HasCause};
+ghost use Rattle.drm_links.specs.Sink.{Outputs, IsFront};
+ghost use Rattle.text_pieces.specs.Text.{text_of};
+ghost use Rattle.drm_faults.specs.CrcLine.{crc_line};
+
+use crate::reason::{schedule_pieces, script_pieces};
+use drm_bits::NoMemory;
+use drm_fac::FacFault;
+use drm_links::{LinkFault, Sink, Status, WriteFault, write_all};
+use drm_schedule::Reason;
+use text_pieces::{Piece, write_pieces};
+
+/// A fault of a run. Each has a status and a line.
+#[derive(Clone, Copy, Debug, PartialEq, Eq)]
+pub enum Fault {
+    NoMemory,
+    Words,
+    FacLength(usize),
+    FacOver,
+    FacCrc { stands: u8, computed: u8 },
+    Schedule { line: u32, reason: Reason },
+    Script { line: u32, reason: Reason },
+    Read,
+    Write,
+    Link,
+}
+
+impl From<WriteFault> for Fault {
+    ghost use Rattle.std.specs.Prelude.{◌≡◌};
+    ghost use Rattle.drm_faults.specs.declared.fault.Fault.TheVariants.{Write};
+
+    ghost from_gives = { λ _ fault. fault ≡ Write };
+
+    fn from(_: WriteFault) -> Self {
+        Fault::Write
+    }
+}
+
+impl From<LinkFault> for Fault {
+    ghost use Rattle.std.specs.Prelude.{◌≡◌};
+    ghost use Rattle.drm_faults.specs.declared.fault.Fault.TheVariants.{Link};
+
+    ghost from_gives = { λ _ fault. fault ≡ Link };
+
+    fn from(_: LinkFault) -> Self {
+        Fault::Link
+    }
+}
+
+impl From<FacFault> for Fault {
+    ghost use Rattle.std.specs.Prelude.{◌≡◌};
+    ghost use Rattle.drm_faults.specs.FacFaults.{fault_of};
+
+    ghost from_gives = { λ refused fault. fault ≡ fault_of refused };
+
+    fn from(refused: FacFault) -> Self {
+        let FacFault::Crc { stands, computed } = refused;
+        Fault::FacCrc { stands, computed }
+    }
+}
+
+impl From<NoMemory> for Fault {
+    ghost use Rattle.std.specs.Prelude.{◌≡◌};
+    ghost use Rattle.drm_faults.specs.declared.fault.Fault.TheVariants as faults;
+
+    ghost from_gives = { λ _ fault. fault ≡ faults.NoMemory };
+
+    fn from(_: NoMemory) -> Self {
+        Fault::NoMemory
+    }
+}
+
+impl Fault {
+    ghost use Rattle.drm_faults.specs.Lines.{fault_line};
+    ghost use Rattle.drm_faults.specs.Fault.{fault_status, WritesLine};
+
+    /// Writes the line of the fault, and answers its status. A failure of `err` changes nothing.
+    pub fn report<E: Sink>(self, err: &mut E) -> Status
+        ensures status { result.code ≡ fault_status self }
+        ensures line { WritesLine (fault_line self) E.faults E.tells err.old err.new }
+    {
+        let _ = self.write(err);
+        self.status()
+    }
+
+    fn status(self) -> Status
+        ensures { result.code ≡ fault_status self }
+    {
+        let code = match self {
+            Fault::NoMemory => 1,
+            Fault::Words => 2,
+            Fault::FacLength(_) | Fault::FacOver | Fault::FacCrc { .. } => 3,
+            Fault::Schedule { .. } | Fault::Script { .. } => 3,
+            Fault::Read => 4,
+            Fault::Write => 5,
+            Fault::Link => 6,
+        };
+        Status { code }
+    }
+
+    fn write<E: Sink>(self, err: &mut E) -> Result<(), WriteFault>
+        ensures whole { OnOk result (Outputs (E.tells err.old) (E.tells err.new)
+            (λ text. text ≡ fault_line self)) }
+        ensures front { OnErr result (Outputs (E.tells err.old) (E.tells err.new)
+            (IsFront (fault_line self))) }
+        ensures cause { HasCause (E.faults err.old) (E.faults err.new) (IsErr result) }
+    {
+        match self {
+            Fault::NoMemory => write_words(err, "drmcast: no memory\n"),
+            Fault::Words => write_words(err, "drmcast: words\n"),
+            Fault::FacLength(bytes) => write_pieces(
+                err,
+                &[
+                    Piece::Words("drmcast: fac length "),
+                    Piece::Number(bytes as u64),
+                    Piece::Words("\n"),
+                ],
+            ),
+            Fault::FacOver => write_words(err, "drmcast: fac length over 9\n"),
+            Fault::FacCrc { stands, computed } => {
+                let values = [stands, computed];
+                write_pieces(err, &crc_pieces(&values[..1], &values[1..]))
+            }
+            Fault::Schedule { line, reason } => write_pieces(err, &schedule_pieces(line, reason)),
+            Fault::Script { line, reason } => write_pieces(err, &script_pieces(line, reason)),
+            Fault::Read => write_words(err, "drmcast: read fault\n"),
+            Fault::Write => write_words(err, "drmcast: write fault\n"),
+            Fault::Link => write_words(err, "drmcast: link fault\n"),
+        }
+    }
+}
+
+fn write_words<E: Sink>(err: &mut E, line: &str) -> Result<(), WriteFault>
+    ensures whole { OnOk result (Outputs (E.tells err.old) (E.tells err.new)
+        (λ text. text ≡ line.now)) }
+    ensures front { OnErr result (Outputs (E.tells err.old) (E.tells err.new) (IsFront line.now)) }
+    ensures cause { HasCause (E.faults err.old) (E.faults err.new) (IsErr result) }
+{
+    write_all(err, line.as_bytes())
+}
+
+fn crc_pieces<'a>(stands: &'a [u8], computed: &'a [u8]) -> [Piece<'a>; 5]
+    ensures { text_of result ≡ crc_line stands.now computed.now }
+{
+    [
+        Piece::Words("drmcast: fac crc stands "),
+        Piece::Hex(stands),
+        Piece::Words(" computed "),
+        Piece::Hex(computed),
+        Piece::Words("\n"),
+    ]
+}

@@ -1,0 +1,7 @@
+//! Why a run stops early: its faults, each with its status and its line.
+#![tactic(auto)]
+
+mod fault;
+mod reason;
+
+pub use fault::Fault;

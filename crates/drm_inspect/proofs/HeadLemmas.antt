@@ -1,0 +1,80 @@
+-- The head of an input, which is read into a buffer part by part.
+use Rattle.std.proofs.Common.{◌≡◌, ℕ, ◌+◌, ◌<◌, ◌≤◌, List, [], ◌++◌, length, take, drop, min, Option, None, Some, sym, ◌∙◌, ap, arith, append_assoc}
+use Rattle.std.proofs.lemmas.Grind.{common_steps}
+use Rattle.std.proofs.lemmas.List.{append-nil, take-append-le, length-take-le, take_at, drop_at, take_all}
+use Rattle.std.proofs.Math.Seq.{take-append-add}
+use borrow.Rule.Slice.PartMut.{put_mid, post_of}
+use Rattle.drm_links.specs.declared.source.ReadOut.TheVariants.{Got, End, Failed}
+use Rattle.drm_links.specs.Told.{WhileTold, CountsCall}
+use Rattle.drm_links.specs.Source.{Input, Inputs, Takes}
+use Rattle.drm_links.proofs.ToldLemmas.{Inputs-then, Inputs-got, Inputs-end, Inputs-weaker}
+use Rattle.drm_inspect.specs.Input.{ReadsHead, FailsWithin, AsksAtMost}
+
+-- the front of a buffer after one more read
+front_more : (len n room : ℕ) (bytes buf : List ℕ) → length bytes ≡ len + room → n ≤ length buf → take (len + n) (put_mid len room bytes buf) ≡ take len bytes ++ take n buf
+front_more len n room bytes buf size within =
+    let front : length (take len bytes) ≡ len = length-take-le len bytes (omega (arith, size)) in
+    ap (λ k. take (k + n) (put_mid len room bytes buf)) (sym front)
+    ∙ (take-append-add (take len bytes) (buf ++ post_of len room bytes) n ∙ ap (λ l. take len bytes ++ l) (take-append-le n buf (post_of len room bytes) within))
+
+pub got_more : (a b c : Option Input) (len n room : ℕ) (bytes buf : List ℕ) → length bytes ≡ len + room → n ≤ length buf → Inputs a b (λ left rest. left ≡ take len bytes ++ rest) → WhileTold b c (Takes (Got n) buf) → CountsCall (λ (i : Input). i.calls) b c → Inputs a c (λ left rest. left ≡ take (len + n) (put_mid len room bytes buf) ++ rest)
+got_more a b c len n room bytes buf size within before told counts =
+    Inputs-then (λ left rest. left ≡ take len bytes ++ rest) (λ left rest. left ≡ take n buf ++ rest) (λ left rest. left ≡ take (len + n) (put_mid len room bytes buf) ++ rest) a b c before (Inputs-got n buf b c told counts)
+    (λ x y z p q. p ∙ (ap (λ l. take len bytes ++ l) q ∙ (sym (append_assoc (take len bytes) (take n buf) z) ∙ ap (λ l. l ++ z) (sym (front_more len n room bytes buf size within)))))
+
+-- one more call
+pub asks_more : (m n : ℕ) (a b c : Option Input) → m < n → AsksAtMost m a b → CountsCall (λ (i : Input). i.calls) b c → AsksAtMost n a c
+asks_more m n a b None more asks counts = tt
+asks_more m n a None (Some z) more asks counts = cc
+asks_more m n None (Some y) (Some z) more asks counts = absurd asks
+asks_more m n (Some x) (Some y) (Some z) more asks counts = omega (arith, counts.0, asks, more)
+
+asks_fewer : (m n : ℕ) (a b : Option Input) → m ≤ n → AsksAtMost m a b → AsksAtMost n a b
+asks_fewer m n a None fewer asks = tt
+asks_fewer m n None (Some y) fewer asks = absurd asks
+asks_fewer m n (Some x) (Some y) fewer asks = omega (arith, asks, fewer)
+
+-- the bytes in front of the rest are the first ten, where they are ten
+first_ten : (head left rest : List ℕ) → length head ≡ 10 → left ≡ head ++ rest → (head ≡ take 10 left) × (rest ≡ drop 10 left)
+first_ten head left rest ten is = (sym (ap (λ l. take 10 l) is ∙ take_at head rest 10 ten), sym (ap (λ l. drop 10 l) is ∙ drop_at head rest 10 ten))
+
+-- the buffer is full
+pub head_full : (a b : Option Input) (len : ℕ) (bytes : List ℕ) → length bytes ≡ 10 → len ≤ 10 → 10 ≤ len → Inputs a b (λ left rest. left ≡ take len bytes ++ rest) → AsksAtMost len a b → ReadsHead (take len bytes) a b
+head_full a b len bytes size within full read asks =
+    let ten : length (take len bytes) ≡ 10 = length-take-le len bytes (omega (arith, size, within)) ∙ omega (arith, within, full) in
+    record {
+      bytes = Inputs-weaker (λ left rest. left ≡ take len bytes ++ rest) (λ left rest. (take len bytes ≡ take 10 left) × (rest ≡ drop 10 left)) a b read (λ left rest is. first_ten (take len bytes) left rest ten is);
+      asks = asks_fewer len (min 10 (length (take len bytes) + 1)) a b (omega (arith, ten, within)) asks;
+      short = omega (arith, ten);
+    }
+
+whole_left : (head left : List ℕ) → length head ≤ 10 → left ≡ head → (head ≡ take 10 left) × ([] ≡ drop 10 left)
+whole_left head left within is = (sym (take_all 10 left (omega (arith, ap length is, within)) ∙ is), grind (arith, common_steps, ap length is, within))
+
+-- the input has ended
+pub head_end : (a b c : Option Input) (len : ℕ) (bytes buf : List ℕ) → length bytes ≡ 10 → len < 10 → Inputs a b (λ left rest. left ≡ take len bytes ++ rest) → AsksAtMost len a b → WhileTold b c (Takes End buf) → CountsCall (λ (i : Input). i.calls) b c → ReadsHead (take len bytes) a c
+head_end a b c len bytes buf size within before asks told counts =
+    let some : length (take len bytes) ≡ len = length-take-le len bytes (omega (arith, size, within)) in
+    let P : List ℕ → List ℕ → Type 0 = λ left rest. (take len bytes ≡ take 10 left) × (rest ≡ drop 10 left) in
+    record {
+      bytes = Inputs-then (λ left rest. left ≡ take len bytes ++ rest) (λ x y. (x ≡ []) × (y ≡ [])) P a b c before (Inputs-end buf b c told counts)
+          (λ x y z p q. let e = whole_left (take len bytes) x (omega (arith, some, within)) (p ∙ (ap (λ l. take len bytes ++ l) q.0 ∙ append-nil (take len bytes))) in (e.0, q.1 ∙ e.1));
+      asks = asks_more len (min 10 (length (take len bytes) + 1)) a b c (omega (arith, some, within)) asks counts;
+      short = omega (arith, some, within);
+    }
+
+-- a read failed
+pub head_failed : (a b c : Option Input) (len : ℕ) (bytes buf : List ℕ) → length bytes ≡ 10 → len < 10 → Inputs a b (λ left rest. left ≡ take len bytes ++ rest) → AsksAtMost len a b → WhileTold b c (Takes Failed buf) → CountsCall (λ (i : Input). i.calls) b c → FailsWithin len a c
+head_failed a b c len bytes buf size within before asks told counts =
+    let some : length (take len bytes) ≡ len = length-take-le len bytes (omega (arith, size, within)) in
+    record {
+      few = within;
+      bytes = Inputs-then (λ left rest. left ≡ take len bytes ++ rest) (λ x y. y ≡ x) (λ left rest. rest ≡ drop len left) a b c before (failed_kept buf b c told counts)
+          (λ x y z p q. q ∙ sym (ap (λ l. drop len l) p ∙ drop_at (take len bytes) y len some));
+      asks = asks_more len (len + 1) a b c (omega arith) asks counts;
+    }
+  where
+    failed_kept : (buf : List ℕ) (b c : Option Input) → WhileTold b c (Takes Failed buf) → CountsCall (λ (i : Input). i.calls) b c → Inputs b c (λ x y. y ≡ x)
+    failed_kept buf b None told counts = tt
+    failed_kept buf None (Some z) told counts = cc
+    failed_kept buf (Some y) (Some z) told counts = told

@@ -1,0 +1,84 @@
+//! The front of an input.
+
+ghost use Rattle.std.specs.Prelude.{ℕ, ◌≡◌, IfOk, OnErr, IsErr, length};
+ghost use Rattle.drm_links.specs.Told.{HasCause};
+ghost use Rattle.drm_inspect.specs.Input.{ReadsHead, FailsWithin};
+
+use drm_faults::Fault;
+use drm_links::{ReadOut, Source};
+use std::marker::Model;
+
+const HEAD_SIZE: usize = 10;
+
+/// A source failed.
+#[derive(Clone, Copy, Debug, PartialEq, Eq)]
+pub struct ReadFault;
+
+impl From<ReadFault> for Fault {
+    ghost use Rattle.std.specs.Prelude.{◌≡◌};
+    ghost use Rattle.drm_faults.specs.declared.fault.Fault.TheVariants.{Read};
+
+    ghost from_gives = { λ _ fault. fault ≡ Read };
+
+    fn from(_: ReadFault) -> Self {
+        Fault::Read
+    }
+}
+
+/// The first ten bytes of an input, or all of them.
+#[derive(Drop)]
+pub struct Head {
+    bytes: [u8; HEAD_SIZE],
+    len: usize,
+}
+
+impl Model for Head {
+    ghost use Rattle.std.specs.Prelude.{List, ℕ, take, ◌≤◌};
+
+    ghost Value = { List ℕ };
+
+    ghost view = { λ head. take head.len head.bytes };
+
+    ghost invariant = { λ head. head.len ≤ 10 };
+}
+
+impl Head {
+    ghost use Rattle.std.specs.Prelude.{IsSome, ◌↔◌, IfSome};
+
+    pub fn len(&self) -> usize
+        ensures { result ≡ length self.now }
+    {
+        self.len
+    }
+
+    /// The bytes, where there are nine.
+    pub fn nine(&self) -> Option<[u8; 9]>
+        ensures nine { IsSome result ↔ (length self.now ≡ 9) }
+        ensures bytes { IfSome result (λ bytes. bytes ≡ self.now) }
+    {
+        if self.len == 9 {
+            self.bytes.first_chunk().copied()
+        } else {
+            None
+        }
+    }
+}
+
+/// Reads until the input ends or a tenth byte came.
+pub fn read_head<I: Source>(input: &mut I) -> Result<Head, ReadFault>
+    ensures read { IfOk result (λ head. ReadsHead head (I.tells input.old) (I.tells input.new)) }
+    ensures failed { OnErr result
+        ((taken : ℕ) × FailsWithin taken (I.tells input.old) (I.tells input.new)) }
+    ensures cause { HasCause (I.faults input.old) (I.faults input.new) (IsErr result) }
+{
+    let mut bytes = [0u8; HEAD_SIZE];
+    let mut len = 0;
+    while len < HEAD_SIZE {
+        match input.read(&mut bytes[len..]) {
+            ReadOut::Got(n) => len += n,
+            ReadOut::End => break,
+            ReadOut::Failed => return Err(ReadFault),
+        }
+    }
+    Ok(Head { bytes, len })
+}

@@ -1,0 +1,3 @@
+pub mod LoadingLemmas
+pub mod ScheduleLemmas
+pub mod ScriptLemmas

@@ -1,0 +1,133 @@
+-- A schedule from a shelf, load by load.
+use Rattle.std.proofs.Common.{◌≡◌, ℕ, ◌+◌, ◌-◌, ◌<◌, ◌≤◌, zero, suc, inl, inr, Bool, true, false, List, length, Option, Result, Ok, Err, IsUtf8, if◌then◌else◌, refl, sym, ◌∙◌, ap, arith}
+use Rattle.std.specs.Str.{is_utf8}
+use Rattle.std.proofs.lemmas.Str.{IsUtf8-from_is_utf8, is_utf8-from_IsUtf8}
+use Rattle.text_lines.specs.Lines.{lines_of, bad_line_of}
+use Rattle.drm_schedule.specs.declared.invalid.Reason.TheVariants as reasons
+use Rattle.drm_schedule.specs.declared.plan.Plan.{Plan}
+use Rattle.drm_plan.specs.declared.fault.PlanFault.{PlanFault}
+use Rattle.drm_plan.specs.declared.fault.PlanFault.TheVariants as plan
+use Rattle.drm_plan.specs.Rules.{Fault}
+use Rattle.drm_plan.specs.Steps.{Reads}
+use Rattle.drm_plan.specs.Projection.{Drafted}
+use Rattle.drm_plan.specs.Text.{lines_give}
+use Rattle.drm_plan.specs.Canonical.{canonical}
+use Rattle.drm_plan.specs.Draft.{name_at, line_at, attached, valid_of}
+use Rattle.drm_links.specs.Shelf.{Files, Supplies}
+use Rattle.drm_links.proofs.ToldLemmas.{Supplies-weaker, Supplies-nothing}
+use Rattle.drm_load.specs.declared.loading.ScheduleFault.{ScheduleFault}
+use Rattle.drm_load.specs.declared.loading.ScheduleFault.TheVariants.{NoMemory, Line}
+use Rattle.drm_load.specs.Loading.{Reading, given, ◌>>=◌, load_for, ReadBy, GivesUnlessMemory}
+use Rattle.drm_load.specs.PlanFaults.{schedule_fault_of}
+use Rattle.drm_load.specs.Schedule.{longest_text, longest_file, by_lines, draft_of, by_validity, with_files, schedule_named, checked}
+use Rattle.drm_load.proofs.LoadingLemmas.{ReadBy-then, ReadBy-stops, ReadBy-rest, rest_after, ReadBy-gives, ReadBy-given}
+
+-- ---- a text by its lines alone
+
+abbrev pub lifted : {T : Type 0} → Result T PlanFault → Result T ScheduleFault
+lifted (Ok x) = Ok x
+lifted (Err fault) = Err (schedule_fault_of fault)
+
+by_reading : (came : Result Drafted PlanFault) (said : Result Drafted Fault) → Reads came said → GivesUnlessMemory (lifted came) (by_lines said)
+by_reading (Ok draft) said reads = inr (ap by_lines (sym reads))
+by_reading (Err plan.NoMemory) said reads = inl refl
+by_reading (Err (plan.Line line reason)) said reads = inr (ap by_lines (sym reads))
+
+by_text : (came : Result Drafted PlanFault) (text : List ℕ) (b : Bool) → is_utf8 text ≡ b
+    → ((IsUtf8 text → ⊥) → came ≡ Err (plan.Line (bad_line_of text) reasons.Utf8)) → (IsUtf8 text → Reads came (lines_give (lines_of text)))
+    → GivesUnlessMemory (lifted came) (if b then by_lines (lines_give (lines_of text)) else Err (Line (bad_line_of text) reasons.Utf8))
+by_text came text true is wrong right = by_reading came (lines_give (lines_of text)) (right (IsUtf8-from_is_utf8 text is))
+by_text came text false is wrong right =
+    inr (ap lifted (wrong (λ utf8. let found : is_utf8 text ≡ true = is_utf8-from_IsUtf8 text utf8 in cc)))
+
+pub draft_given : (came : Result Drafted PlanFault) (text : List ℕ)
+    → ((IsUtf8 text → ⊥) → came ≡ Err (plan.Line (bad_line_of text) reasons.Utf8)) → (IsUtf8 text → Reads came (lines_give (lines_of text)))
+    → GivesUnlessMemory (lifted came) (draft_of text)
+draft_given came text wrong right = by_text came text (is_utf8 text) refl wrong right
+
+-- ---- the files of a draft
+
+-- what follows the k-th file of so many
+abbrev pub behind : ℕ → ℕ → Drafted → List ℕ → Reading Drafted
+behind files k draft bytes = with_files (files - (k + 1)) (k + 1) (attached draft k bytes)
+
+one_more : (files k : ℕ) (draft : Drafted) (line : ℕ) (name : List ℕ) → k < files → line ≡ line_at draft k → name ≡ name_at draft k → with_files (files - k) k draft ≡ (load_for line name longest_file >>= behind files k draft)
+one_more files k draft line name more line_is name_is =
+    let left : files - k ≡ suc (files - (k + 1)) = omega arith in
+    ap (λ n. with_files n k draft) left ∙ (λ i. load_for (sym line_is i) (sym name_is i) longest_file >>= behind files k draft)
+
+pub files_next : (whole : Reading Drafted) (files k : ℕ) (draft next : Drafted) (line : ℕ) (name bytes : List ℕ) (a b c : Option Files) → k < files → line ≡ line_at draft k → name ≡ name_at draft k → next ≡ attached draft k bytes
+    → Supplies a b (λ x y. whole x ≡ with_files (files - k) k draft y) → ReadBy (load_for line name longest_file) (Ok bytes) b c
+    → Supplies a c (λ x y. whole x ≡ with_files (files - (k + 1)) (k + 1) next y)
+files_next whole files k draft next line name bytes a b c more line_is name_is next_is so_far came =
+    let step = one_more files k draft line name more line_is name_is in
+    let now : Supplies a b (λ x y. whole x ≡ (load_for line name longest_file >>= behind files k draft) y) = Supplies-weaker _ _ a b so_far (λ x y is. is ∙ (λ i. step i y)) in
+    Supplies-weaker _ _ a c (rest_after whole (load_for line name longest_file) (behind files k draft) bytes a b c now came)
+    (λ x y is. is ∙ ap (λ d. with_files (files - (k + 1)) (k + 1) d y) (sym next_is))
+
+pub files_fail : (whole : Reading Drafted) (files k : ℕ) (draft : Drafted) (line : ℕ) (name : List ℕ) (fault : ScheduleFault) (a b c : Option Files) → k < files → line ≡ line_at draft k → name ≡ name_at draft k
+    → Supplies a b (λ x y. whole x ≡ with_files (files - k) k draft y) → ReadBy (load_for line name longest_file) (Err fault) b c → ReadBy whole (Err fault) a c
+files_fail whole files k draft line name fault a b c more line_is name_is so_far came =
+    let step = one_more files k draft line name more line_is name_is in
+    let now : Supplies a b (λ x y. whole x ≡ (load_for line name longest_file >>= behind files k draft) y) = Supplies-weaker _ _ a b so_far (λ x y is. is ∙ (λ i. step i y)) in
+    ReadBy-rest whole (load_for line name longest_file >>= behind files k draft) (Err fault) a b c now
+    (ReadBy-stops (load_for line name longest_file) (behind files k draft) fault b c came)
+
+pub files_done : (whole : Reading Drafted) (files k : ℕ) (draft : Drafted) (a b : Option Files) → files ≤ k → Supplies a b (λ x y. whole x ≡ with_files (files - k) k draft y) → ReadBy whole (Ok draft) a b
+files_done whole files k draft a b last so_far =
+    let none : files - k ≡ zero = omega arith in
+    Supplies-weaker _ _ a b so_far (λ x y is. inr (is ∙ ap (λ n. with_files n k draft y) none))
+
+pub files_first : (files : ℕ) (draft : Drafted) (a : Option Files) → files ≡ length draft.files → Supplies a a (λ x y. with_files (length draft.files) 0 draft x ≡ with_files (files - 0) 0 draft y)
+files_first files draft a is =
+    let all : length draft.files ≡ files - 0 = omega (arith, is) in
+    Supplies-nothing _ a (λ told. ap (λ n. with_files n 0 draft told) all)
+
+-- ---- the whole schedule
+
+abbrev pub from_draft : Drafted → Reading Plan
+from_draft draft = with_files (length draft.files) 0 draft >>= λ whole. given (by_validity (valid_of whole))
+
+abbrev pub from_text : List ℕ → Reading Plan
+from_text text = given (draft_of text) >>= from_draft
+
+pub text_fails : (name : List ℕ) (fault : ScheduleFault) (a b : Option Files) → ReadBy (load_for 0 name longest_text) (Err fault) a b → ReadBy (schedule_named name) (Err fault) a b
+text_fails name fault a b loaded = ReadBy-stops (load_for 0 name longest_text) from_text fault a b loaded
+
+pub draft_fails : (name text : List ℕ) (fault : ScheduleFault) (a b : Option Files) → ReadBy (load_for 0 name longest_text) (Ok text) a b → GivesUnlessMemory (Err fault) (draft_of text) → ReadBy (schedule_named name) (Err fault) a b
+draft_fails name text fault a b loaded gives =
+    ReadBy-then (load_for 0 name longest_text) from_text text (Err fault) a b b loaded
+    (ReadBy-stops (given (draft_of text)) from_draft fault b b (ReadBy-gives (Err fault) (draft_of text) b gives))
+
+-- what comes once the text gave a draft
+draft_came : (name text : List ℕ) (draft : Drafted) (came : Result Plan ScheduleFault) (a b c : Option Files) → ReadBy (load_for 0 name longest_text) (Ok text) a b → GivesUnlessMemory (Ok draft) (draft_of text) → ReadBy (from_draft draft) came b c → ReadBy (schedule_named name) came a c
+draft_came name text draft came a b c loaded gives comes =
+    ReadBy-then (load_for 0 name longest_text) from_text text came a b c loaded
+    (ReadBy-then (given (draft_of text)) from_draft draft came b b c (ReadBy-gives (Ok draft) (draft_of text) b gives) comes)
+
+pub files_break : (name text : List ℕ) (draft : Drafted) (fault : ScheduleFault) (a b c : Option Files) → ReadBy (load_for 0 name longest_text) (Ok text) a b → GivesUnlessMemory (Ok draft) (draft_of text) → ReadBy (with_files (length draft.files) 0 draft) (Err fault) b c → ReadBy (schedule_named name) (Err fault) a c
+files_break name text draft fault a b c loaded gives files =
+    draft_came name text draft (Err fault) a b c loaded gives
+    (ReadBy-stops (with_files (length draft.files) 0 draft) (λ whole. given (by_validity (valid_of whole))) fault b c files)
+
+pub schedule_comes : (name text : List ℕ) (draft whole : Drafted) (came : Result Plan ScheduleFault) (a b c : Option Files) → ReadBy (load_for 0 name longest_text) (Ok text) a b → GivesUnlessMemory (Ok draft) (draft_of text) → ReadBy (with_files (length draft.files) 0 draft) (Ok whole) b c → came ≡ by_validity (valid_of whole) → ReadBy (schedule_named name) came a c
+schedule_comes name text draft whole came a b c loaded gives files is =
+    draft_came name text draft came a b c loaded gives
+    (ReadBy-then (with_files (length draft.files) 0 draft) (λ d. given (by_validity (valid_of d))) whole came b c c files
+    (ReadBy-gives came (by_validity (valid_of whole)) c (inr is)))
+
+-- ---- its canonical text
+
+pub checked_fails : (name : List ℕ) (fault : ScheduleFault) (a b : Option Files) → ReadBy (schedule_named name) (Err fault) a b → ReadBy (checked name) (Err fault) a b
+checked_fails name fault a b comes = ReadBy-stops (schedule_named name) (λ schedule. given (Ok (canonical schedule))) fault a b comes
+
+pub checked_unwritten : (name : List ℕ) (schedule : Plan) (a b : Option Files) → ReadBy (schedule_named name) (Ok schedule) a b → ReadBy (checked name) (Err NoMemory) a b
+checked_unwritten name schedule a b comes = Supplies-weaker _ _ a b comes (λ x y is. inl refl)
+
+pub checked_comes : (name : List ℕ) (schedule : Plan) (a b : Option Files) → ReadBy (schedule_named name) (Ok schedule) a b → ReadBy (checked name) (Ok (canonical schedule)) a b
+checked_comes name schedule a b comes =
+    ReadBy-then (schedule_named name) (λ s. given (Ok (canonical s))) schedule (Ok (canonical schedule)) a b b comes (ReadBy-given (Ok (canonical schedule)) b)
+
+-- where memory runs out behind a reading
+pub ran_out : {T : Type 0} (reading : Reading T) (x : T) (a b : Option Files) → ReadBy reading (Ok x) a b → ReadBy reading (Err NoMemory) a b
+ran_out reading x a b comes = Supplies-weaker _ _ a b comes (λ p q is. inl refl)

@@ -1,0 +1,67 @@
+-- A script from a shelf.
+use Rattle.std.proofs.Common.{◌≡◌, ℕ, inl, inr, Bool, true, false, List, Option, Result, Ok, Err, IsUtf8, if◌then◌else◌, refl, sym, ap}
+use Rattle.std.specs.Str.{is_utf8}
+use Rattle.std.proofs.lemmas.Str.{IsUtf8-from_is_utf8, is_utf8-from_IsUtf8}
+use Rattle.text_lines.specs.Lines.{lines_of, bad_line_of}
+use Rattle.drm_schedule.specs.declared.invalid.Reason.TheVariants as reasons
+use Rattle.drm_schedule.specs.declared.plan.Plan.{Plan}
+use Rattle.script_lines.specs.declared.delivery.Delivery.{Delivery}
+use Rattle.script_lines.specs.declared.fault.ScriptFault.{ScriptFault}
+use Rattle.script_lines.specs.declared.fault.ScriptFault.TheVariants as script
+use Rattle.script_lines.specs.Script.{Fault, script_of}
+use Rattle.script_lines.specs.Steps.{Reads}
+use Rattle.drm_links.specs.Shelf.{Files}
+use Rattle.drm_load.specs.declared.loading.ScheduleFault.{ScheduleFault}
+use Rattle.drm_load.specs.declared.loading.ScheduleFault.TheVariants.{NoMemory, Line, Read}
+use Rattle.drm_faults.specs.declared.fault.Fault.TheVariants as faults
+use Rattle.drm_load.specs.Faults.{fault_of_schedule, fault_of_script}
+use Rattle.drm_load.specs.Loading.{given, load_for, ReadBy, GivesUnlessMemory}
+use Rattle.drm_load.specs.Schedule.{longest_text}
+use Rattle.drm_load.specs.ScriptFaults.{text_fault_of}
+use Rattle.drm_load.specs.Scripts.{by_script, script_in, script_named}
+use Rattle.drm_load.proofs.LoadingLemmas.{ReadBy-then, ReadBy-gives}
+
+abbrev pub lifted : {T : Type 0} → Result T ScriptFault → Result T ScheduleFault
+lifted (Ok x) = Ok x
+lifted (Err fault) = Err (text_fault_of fault)
+
+by_reading : (came : Result (List (List Delivery)) ScriptFault) (said : Result (List (List Delivery)) Fault) → Reads came said → GivesUnlessMemory (lifted came) (by_script said)
+by_reading (Ok feeds) said reads = inr (ap by_script (sym reads))
+by_reading (Err script.NoMemory) said reads = inl refl
+by_reading (Err (script.Line line reason)) said reads = inr (ap by_script (sym reads))
+
+by_text : (came : Result (List (List Delivery)) ScriptFault) (plan : Plan) (text : List ℕ) (b : Bool) → is_utf8 text ≡ b
+    → ((IsUtf8 text → ⊥) → came ≡ Err (script.Line (bad_line_of text) reasons.Utf8)) → (IsUtf8 text → Reads came (script_of plan (lines_of text)))
+    → GivesUnlessMemory (lifted came) (if b then by_script (script_of plan (lines_of text)) else Err (Line (bad_line_of text) reasons.Utf8))
+by_text came plan text true is wrong right = by_reading came (script_of plan (lines_of text)) (right (IsUtf8-from_is_utf8 text is))
+by_text came plan text false is wrong right =
+    inr (ap lifted (wrong (λ utf8. let found : is_utf8 text ≡ true = is_utf8-from_IsUtf8 text utf8 in cc)))
+
+pub script_comes : (came : Result (List (List Delivery)) ScriptFault) (plan : Plan) (name text : List ℕ) (a b : Option Files) → ReadBy (load_for 0 name longest_text) (Ok text) a b
+    → ((IsUtf8 text → ⊥) → came ≡ Err (script.Line (bad_line_of text) reasons.Utf8)) → (IsUtf8 text → Reads came (script_of plan (lines_of text)))
+    → ReadBy (script_named plan name) (lifted came) a b
+script_comes came plan name text a b loaded wrong right =
+    ReadBy-then (load_for 0 name longest_text) (λ t. given (script_in plan t)) text (lifted came) a b b loaded
+    (ReadBy-gives (lifted came) (script_in plan text) b (by_text came plan text (is_utf8 text) refl wrong right))
+
+-- ---- which faults are those of a load
+
+pub read_schedule : (fault : ScheduleFault) → fault_of_schedule fault ≡ faults.Read → fault ≡ Read
+read_schedule NoMemory is = cc
+read_schedule (Line line reason) is = cc
+read_schedule Read is = refl
+
+pub read_script : (fault : ScheduleFault) → fault_of_script fault ≡ faults.Read → fault ≡ Read
+read_script NoMemory is = cc
+read_script (Line line reason) is = cc
+read_script Read is = refl
+
+pub write_schedule : (fault : ScheduleFault) → fault_of_schedule fault ≡ faults.Write → ⊥
+write_schedule NoMemory is = cc
+write_schedule (Line line reason) is = cc
+write_schedule Read is = cc
+
+pub write_script : (fault : ScheduleFault) → fault_of_script fault ≡ faults.Write → ⊥
+write_script NoMemory is = cc
+write_script (Line line reason) is = cc
+write_script Read is = cc

@@ -1,0 +1,59 @@
+-- The schedule of a text on a shelf, with its files.
+use Rattle.std.specs.Prelude.{ℕ, zero, suc, ◌+◌, List, length, Result, Ok, Err, if◌then◌else◌}
+use Rattle.std.specs.Str.{is_utf8}
+use Rattle.text_lines.specs.Lines.{lines_of, bad_line_of}
+use Rattle.drm_schedule.specs.declared.invalid.Reason.TheVariants as reasons
+use Rattle.drm_schedule.specs.declared.plan.Plan.{Plan}
+use Rattle.drm_plan.specs.declared.fault.PlanFault.{PlanFault}
+use Rattle.drm_plan.specs.declared.fault.PlanFault.TheVariants as plan
+use Rattle.drm_plan.specs.Rules.{Fault}
+use Rattle.drm_plan.specs.Projection.{Drafted}
+use Rattle.drm_plan.specs.Text.{lines_give}
+use Rattle.drm_plan.specs.Canonical.{canonical}
+use Rattle.drm_plan.specs.Draft.{name_at, line_at, attached, valid_of}
+use Rattle.drm_load.specs.declared.loading.ScheduleFault.{ScheduleFault}
+use Rattle.drm_load.specs.declared.loading.ScheduleFault.TheVariants.{NoMemory, Line}
+use Rattle.drm_load.specs.Loading.{Reading, given, ◌>>=◌, load_for}
+
+-- the most bytes of a schedule's text, and of a file that it names
+abbrev pub longest_text : ℕ
+longest_text = 262144
+
+abbrev pub longest_file : ℕ
+longest_file = 4194304
+
+-- what lines give, or the line that is wrong
+abbrev pub by_lines : Result Drafted Fault → Result Drafted ScheduleFault
+by_lines (Ok draft) = Ok draft
+by_lines (Err fault) = Err (Line fault.line fault.reason)
+
+-- what a text gives by its lines alone
+abbrev pub draft_of : List ℕ → Result Drafted ScheduleFault
+draft_of text = if is_utf8 text then by_lines (lines_give (lines_of text)) else Err (Line (bad_line_of text) reasons.Utf8)
+
+-- the schedule, or the line that makes it invalid
+abbrev pub by_validity : Result Plan PlanFault → Result Plan ScheduleFault
+by_validity (Ok schedule) = Ok schedule
+by_validity (Err (plan.Line line reason)) = Err (Line line reason)
+by_validity (Err plan.NoMemory) = Err NoMemory
+
+-- so many files are loaded in the order of their lines, the first of which has number k
+abbrev pub with_files : ℕ → ℕ → Drafted → Reading Drafted
+with_files zero k draft = given (Ok draft)
+with_files (suc n) k draft = do
+  bytes ← load_for (line_at draft k) (name_at draft k) longest_file
+  with_files n (k + 1) (attached draft k bytes)
+
+-- The schedule whose text has this name: the text and its lines, then the files that they name, then whether it is valid.
+abbrev pub schedule_named : List ℕ → Reading Plan
+schedule_named name = do
+  text ← load_for 0 name longest_text
+  draft ← given (draft_of text)
+  whole ← with_files (length draft.files) 0 draft
+  given (by_validity (valid_of whole))
+
+-- the canonical text of the schedule of this name
+abbrev pub checked : List ℕ → Reading (List ℕ)
+checked name = do
+  schedule ← schedule_named name
+  given (Ok (canonical schedule))

@@ -1,0 +1,9 @@
+-- The fault that a fault of a script becomes.
+use Rattle.script_lines.specs.declared.fault.ScriptFault.{ScriptFault}
+use Rattle.script_lines.specs.declared.fault.ScriptFault.TheVariants as script
+use Rattle.drm_load.specs.declared.loading.ScheduleFault.{ScheduleFault}
+use Rattle.drm_load.specs.declared.loading.ScheduleFault.TheVariants.{NoMemory, Line}
+
+abbrev pub text_fault_of : ScriptFault → ScheduleFault
+text_fault_of (script.Line line reason) = Line line reason
+text_fault_of script.NoMemory = NoMemory

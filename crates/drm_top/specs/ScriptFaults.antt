@@ -1,9 +1,0 @@
--- The fault that a fault of a script becomes.
-use Rattle.script_lines.specs.declared.fault.ScriptFault.{ScriptFault}
-use Rattle.script_lines.specs.declared.fault.ScriptFault.TheVariants as script
-use Rattle.drm_top.specs.declared.loading.ScheduleFault.{ScheduleFault}
-use Rattle.drm_top.specs.declared.loading.ScheduleFault.TheVariants.{NoMemory, Line}
-
-abbrev pub text_fault_of : ScriptFault → ScheduleFault
-text_fault_of (script.Line line reason) = Line line reason
-text_fault_of script.NoMemory = NoMemory

@@ -1,0 +1,4 @@
+pub mod ScheduleRunLemmas
+pub mod AgainLaw
+pub mod SendLemmas
+pub mod OverLinkLemmas

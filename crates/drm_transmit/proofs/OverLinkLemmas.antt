@@ -1,0 +1,102 @@
+-- A run over a link, by how it ends.
+use Rattle.std.proofs.Common.{◌≡◌, ℕ, ◌+◌, ◌*◌, ◌≤◌, List, [], ◌++◌, Option, None, Some, Result, Ok, Err, refl, ◌∙◌, ap, subst, arith}
+use Rattle.std.specs.FinMap as map
+use Rattle.drm_links.specs.Told.{Rose, WhileTold, CountsCall}
+use Rattle.drm_links.specs.Dock.{DockContents, LinkStart, Opens, Closes, address_key, first_traffic}
+use Rattle.drm_links.specs.declared.dock.Address.{Address}
+use Rattle.drm_links.specs.declared.dock.Opened.TheVariants as opened
+use Rattle.drm_links.proofs.ToldLemmas.{WhileTold-then, Opens-started}
+use Rattle.drm_links.specs.Link.{Traffic}
+use Rattle.drm_links.specs.Shelf.{Files}
+use Rattle.drm_links.specs.ManyCalls.{MakesCalls}
+use Rattle.drm_links.specs.Transmission.{Transmits, SendsAll}
+use Rattle.drm_links.proofs.TransmissionLemmas.{Transmits-weaker, Transmits-nothing}
+use Rattle.drm_links.proofs.ManyCallsLemmas.{no_calls, at_most}
+use Rattle.drm_schedule.specs.declared.plan.Plan.{Plan}
+use Rattle.drm_schedule.specs.Valid.{IsSchedule}
+use Rattle.drm_server.specs.Sending.{SendsSchedule, SendsPart}
+use Rattle.drm_faults.specs.declared.fault.Fault.{Fault}
+use Rattle.drm_faults.specs.declared.fault.Fault.TheVariants.{Link}
+use Rattle.drm_load.specs.declared.loading.ScheduleFault.{ScheduleFault}
+use Rattle.drm_load.specs.declared.loading.ScheduleFault.TheVariants as schedule
+use Rattle.drm_load.specs.Faults.{fault_of_schedule}
+use Rattle.drm_load.specs.Loading.{ReadBy}
+use Rattle.drm_load.specs.Schedule.{schedule_named}
+use Rattle.drm_transmit.specs.Send.{Go, OpensLink, after_link}
+use Rattle.drm_transmit.specs.OverLink.{OverLink, most_calls}
+use Rattle.drm_transmit.proofs.ScheduleRunLemmas.{is_read}
+
+not_link : (fault : ScheduleFault) → (let ended : Result (Unit {0}) Fault = Err (fault_of_schedule fault) in ended ≡ Err Link) → ⊥
+not_link schedule.NoMemory is = cc
+not_link (schedule.Line l r) is = cc
+not_link schedule.Read is = cc
+
+few_calls : (plan : Plan) (a b : Option Traffic) → plan.length ≤ 1000000 → MakesCalls (λ (t : Traffic). t.calls) (1025 * (3 * plan.length)) a b → MakesCalls (λ (t : Traffic). t.calls) most_calls a b
+few_calls plan a b few made = at_most (λ (t : Traffic). t.calls) (1025 * (3 * plan.length)) most_calls a b (omega (arith, few)) made
+
+module _ {S L : Type 0} (name : List ℕ) (shelf_faults : S → ℕ) (shelf_tells : S → Option Files) (shelf shelf' : S) (link_faults : L → ℕ) (link_tells : L → Option Traffic) where
+  -- no schedule came, and nothing was sent
+  pub unsent : (fault : ScheduleFault) (link : L) → ReadBy (schedule_named name) (Err fault) (shelf_tells shelf) (shelf_tells shelf')
+      → shelf_faults shelf ≤ shelf_faults shelf' → (fault ≡ schedule.Read → Rose (shelf_faults shelf) (shelf_faults shelf'))
+      → OverLink name (Err (fault_of_schedule fault)) shelf_faults shelf_tells shelf shelf' link_faults link_tells link link
+  unsent fault link comes later rose = record {
+    came = Err fault;
+    loads = comes;
+    sound = tt;
+    ends = refl;
+    sent = Transmits-weaker (SendsAll []) _ (link_tells link) (link_tells link) (Transmits-nothing (link_tells link)) (λ x y all. ([], refl, all.gone));
+    calls = at_most (λ (t : Traffic). t.calls) 0 most_calls (link_tells link) (link_tells link) (omega arith) (no_calls (λ (t : Traffic). t.calls) (link_tells link));
+    read_cause = record { later = later; rose = λ is. rose (is_read fault is) };
+    link_cause = record { later = omega arith; rose = λ is. absurd (not_link fault is) };
+  }
+
+  module _ (plan : Plan) (valid : IsSchedule plan) (comes : ReadBy (schedule_named name) (Ok plan) (shelf_tells shelf) (shelf_tells shelf')) (later : shelf_faults shelf ≤ shelf_faults shelf') (link link' : L) (later' : link_faults link ≤ link_faults link')
+      (calls : MakesCalls (λ (t : Traffic). t.calls) (1025 * (3 * plan.length)) (link_tells link) (link_tells link')) where
+    pub all_sent : Transmits (link_tells link) (link_tells link') (SendsSchedule plan) → OverLink name (Ok tt) shelf_faults shelf_tells shelf shelf' link_faults link_tells link link'
+    all_sent sent = record {
+      came = Ok plan;
+      loads = comes;
+      sound = valid;
+      ends = tt;
+      sent = Transmits-weaker (SendsSchedule plan) _ (link_tells link) (link_tells link') sent (λ x y all. (all.0, (all.1, all.2.taken), all.2.gone));
+      calls = few_calls plan (link_tells link) (link_tells link') valid.in_lines.few_frames calls;
+      read_cause = record { later = later; rose = λ is. cc };
+      link_cause = record { later = later'; rose = λ is. cc };
+    }
+
+    pub part_sent : Transmits (link_tells link) (link_tells link') (SendsPart plan) → Rose (link_faults link) (link_faults link') → OverLink name (Err Link) shelf_faults shelf_tells shelf shelf' link_faults link_tells link link'
+    part_sent sent rose = record {
+      came = Ok plan;
+      loads = comes;
+      sound = valid;
+      ends = refl;
+      sent = Transmits-weaker (SendsPart plan) _ (link_tells link) (link_tells link') sent (λ x y part. (part.1, (part.0, part.2, part.3.no_more), part.3.gone));
+      calls = few_calls plan (link_tells link) (link_tells link') valid.in_lines.few_frames calls;
+      read_cause = record { later = later; rose = λ is. cc };
+      link_cause = record { later = later'; rose = λ is. rose };
+    }
+
+-- ---- the link that a dock opened, and closed
+
+module _ (came : Result Plan ScheduleFault) (ending : Result (Unit {0}) Fault) (at : Address) where
+  closed_after : (start : LinkStart) (x y z : DockContents) (last : Option Traffic) → y ≡ record x { openings = x.openings + 1; links = map.remove x.links (address_key at); calls = x.calls + 1 } → Closes last at y z
+      → Transmits (Some (first_traffic start)) last (λ before after. (gone : List (List ℕ)) × Go came ending before.sends gone × (after.gone ≡ before.gone ++ gone)) → MakesCalls (λ (t : Traffic). t.calls) most_calls (Some (first_traffic start)) last
+      → (gone : List (List ℕ)) × Go came ending start.sends gone × (z ≡ after_link at gone x)
+  closed_after start x y z None opened closed sent calls = absurd (omega (arith, calls))
+  closed_after start x y z (Some traffic) opened closed sent calls =
+      (sent.0, sent.1, closed ∙ (ap (λ (d : DockContents). record d { gone = map.insert d.gone (address_key at) traffic.gone; calls = d.calls + 1 }) opened ∙ ap (after x) sent.2))
+    where
+      after : DockContents → List (List ℕ) → DockContents
+      after told gone = after_link at gone told
+
+  pub link_told : {L : Type 0} (tells : L → Option Traffic) (first last : L) (a b c : Option DockContents) → WhileTold a b (Opens tells at (opened.Link first)) → CountsCall (λ (d : DockContents). d.calls) b c → WhileTold b c (Closes (tells last) at)
+      → Transmits (tells first) (tells last) (λ before after. (gone : List (List ℕ)) × Go came ending before.sends gone × (after.gone ≡ before.gone ++ gone)) → MakesCalls (λ (t : Traffic). t.calls) most_calls (tells first) (tells last)
+      → WhileTold a c (λ before after. (start : LinkStart) × OpensLink at before start × (gone : List (List ℕ)) × Go came ending start.sends gone × (after ≡ after_link at gone before))
+  link_told tells first last a b c opens counts closes sent calls =
+      WhileTold-then (λ (d : DockContents). d.calls) (Opens tells at (opened.Link first)) (Closes (tells last) at) _ a b c counts opens closes
+      (λ x y z opening closing.
+      let s = Opens-started tells at first x y opening in
+      let P : Option Traffic → Type 0 = λ t. Transmits t (tells last) (λ before after. (gone : List (List ℕ)) × Go came ending before.sends gone × (after.gone ≡ before.gone ++ gone)) in
+      let Q : Option Traffic → Type 0 = λ t. MakesCalls (λ (t : Traffic). t.calls) most_calls t (tells last) in
+      let done = closed_after s.0 x y z (tells last) opening.2 closing (subst P s.2 sent) (subst Q s.2 calls) in
+      (s.0, (opening.0, s.1), done.0, done.1, done.2))

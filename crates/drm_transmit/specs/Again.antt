@@ -1,0 +1,39 @@
+-- Whether a text that `check` prints is checked again as itself.
+use Rattle.std.specs.Prelude.{ℕ, ◌≡◌, ◌≤◌, List, length, Contains, Some, Ok}
+use Rattle.drm_links.specs.Shelf.{Files, file_at}
+use Rattle.drm_schedule.specs.declared.plan.Plan.{Plan}
+use Rattle.drm_schedule.specs.Valid.{IsSchedule}
+use Rattle.drm_plan.specs.Canonical.{canonical}
+use Rattle.drm_plan.specs.Law.{EachFile}
+use Rattle.drm_load.specs.Schedule.{longest_text, schedule_named, checked}
+
+-- each file of the schedule is on the shelf, under its name
+abbrev pub HasFiles : Files → Plan → Type 0
+HasFiles told schedule = EachFile (λ name bytes. file_at told name ≡ Some bytes) schedule
+
+-- each file of the first shelf is on the second
+abbrev pub HasAll : Files → Files → Type 0
+HasAll first second = (name bytes : List ℕ) → file_at first name ≡ Some bytes → file_at second name ≡ Some bytes
+
+-- no load from here on is to fail
+abbrev pub NoLoadFails : Files → Type 0
+NoLoadFails told = (load : ℕ) → told.loads ≤ load → Contains told.failing load → ⊥
+
+-- What a shelf gives as a schedule is one, and has the bytes of the shelf's files.
+abbrev pub SchedulesAreOnTheShelf : Type 0
+SchedulesAreOnTheShelf =
+    (name : List ℕ) (told : Files) (schedule : Plan) → (schedule_named name told).came ≡ Ok schedule → IsSchedule schedule × HasFiles told schedule
+
+-- The canonical text of a schedule is checked as itself, where it isn't too long and the files are there.
+abbrev pub CanonicalIsChecked : Type 0
+CanonicalIsChecked =
+    (schedule : Plan) (name : List ℕ) (told : Files) → IsSchedule schedule → length (canonical schedule) ≤ longest_text
+    → file_at told name ≡ Some (canonical schedule) → HasFiles told schedule → NoLoadFails told
+    → (checked name told).came ≡ Ok (canonical schedule)
+
+-- What came of one text comes of itself, where it isn't too long and stands on a shelf that has all that the first had.
+abbrev pub PrintedIsChecked : Type 0
+PrintedIsChecked =
+    (name again text : List ℕ) (first second : Files) → (checked name first).came ≡ Ok text → length text ≤ longest_text
+    → file_at second again ≡ Some text → HasAll first second → NoLoadFails second
+    → (checked again second).came ≡ Ok text

@@ -1,0 +1,19 @@
+-- The command `check`: a schedule becomes its canonical text.
+use Rattle.std.specs.Prelude.{ℕ, ◌≡◌, List, Option, Result}
+use Rattle.drm_links.specs.Shelf.{Files}
+use Rattle.drm_links.specs.Sink.{Output, IsFront}
+use Rattle.drm_schedule.specs.declared.plan.Plan.{Plan}
+use Rattle.drm_schedule.specs.Valid.{IsSchedule}
+use Rattle.drm_plan.specs.Canonical.{canonical}
+use Rattle.drm_load.specs.Schedule.{checked}
+use Rattle.drm_transmit.specs.ScheduleRun.{ScheduleRun}
+use Rattle.drm_faults.specs.declared.fault.Fault.{Fault}
+
+-- the canonical text of a valid schedule
+abbrev pub IsCanonical : List ℕ → Type 0
+IsCanonical text = (schedule : Plan) × IsSchedule schedule × (text ≡ canonical schedule)
+
+-- A run of `check`: it writes the text that came.
+abbrev pub CheckRun : {S O : Type 0} → List ℕ → Result (Unit {0}) Fault → (S → ℕ) → (S → Option Files) → S → S → (O → ℕ) → (O → Option Output) → O → O → Type 0
+CheckRun name ending shelf_faults shelf_tells shelf shelf' out_faults out_tells out out' =
+    ScheduleRun (checked name) IsCanonical (λ text written. written ≡ text) IsFront ending shelf_faults shelf_tells shelf shelf' out_faults out_tells out out'

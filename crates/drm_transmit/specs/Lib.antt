@@ -1,0 +1,6 @@
+pub mod ScheduleRun
+pub mod Check
+pub mod Serve
+pub mod Send
+pub mod OverLink
+pub mod Again

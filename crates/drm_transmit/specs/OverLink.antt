@@ -1,0 +1,32 @@
+-- A run over a link that was opened.
+use Rattle.std.specs.Prelude.{ℕ, ◌≡◌, ◌++◌, List, Option, Result, Err, IfOk}
+use Rattle.drm_links.specs.Told.{HasCause}
+use Rattle.drm_links.specs.Shelf.{Files}
+use Rattle.drm_links.specs.Link.{Traffic}
+use Rattle.drm_links.specs.ManyCalls.{MakesCalls}
+use Rattle.drm_links.specs.Transmission.{Transmits}
+use Rattle.drm_schedule.specs.declared.plan.Plan.{Plan}
+use Rattle.drm_schedule.specs.Valid.{IsSchedule}
+use Rattle.drm_load.specs.Loading.{ReadBy}
+use Rattle.drm_load.specs.Schedule.{schedule_named}
+use Rattle.drm_transmit.specs.Send.{EndsBy, Go}
+use Rattle.drm_load.specs.declared.loading.ScheduleFault.{ScheduleFault}
+use Rattle.drm_faults.specs.declared.fault.Fault.{Fault}
+use Rattle.drm_faults.specs.declared.fault.Fault.TheVariants as faults
+
+-- the most calls of a link in a run: 1,025 for each of 3,000,000 frames
+abbrev pub most_calls : ℕ
+most_calls = 3075000000
+
+pub record OverLink {S L : Type 0} (name : List ℕ) (ending : Result (Unit {0}) Fault)
+    (shelf_faults : S → ℕ) (shelf_tells : S → Option Files) (shelf shelf' : S)
+    (link_faults : L → ℕ) (link_tells : L → Option Traffic) (link link' : L) : Type 0 where
+  pub came : Result Plan ScheduleFault
+  pub loads : ReadBy (schedule_named name) came (shelf_tells shelf) (shelf_tells shelf')
+  pub sound : IfOk came IsSchedule
+  pub ends : EndsBy came ending
+  pub sent : Transmits (link_tells link) (link_tells link') (λ before after.
+      (gone : List (List ℕ)) × Go came ending before.sends gone × (after.gone ≡ before.gone ++ gone))
+  pub calls : MakesCalls (λ (t : Traffic). t.calls) most_calls (link_tells link) (link_tells link')
+  pub read_cause : HasCause (shelf_faults shelf) (shelf_faults shelf') (ending ≡ Err faults.Read)
+  pub link_cause : HasCause (link_faults link) (link_faults link') (ending ≡ Err faults.Link)

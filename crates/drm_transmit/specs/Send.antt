@@ -1,0 +1,97 @@
+-- The command `serve --to`: a schedule becomes datagrams over a link.
+use Rattle.std.specs.Prelude.{ℕ, ◌≡◌, ◌+◌, ◌≤◌, ◌⊎◌, List, [], length, Contains, Option, Some, IsNone, Result, Ok, Err, IfOk}
+use Rattle.std.specs.FinMap as map
+use Rattle.drm_links.specs.Told.{HasCause, Rose, WhileTold}
+use Rattle.drm_links.specs.Shelf.{Files}
+use Rattle.drm_links.specs.Dock.{DockContents, LinkStart, address_key, start_at}
+use Rattle.drm_links.specs.Transmission.{TakesSends, TakesFewer}
+use Rattle.drm_links.specs.declared.dock.Address.{Address}
+use Rattle.drm_schedule.specs.declared.plan.Plan.{Plan}
+use Rattle.drm_schedule.specs.Valid.{IsSchedule}
+use Rattle.drm_server.specs.Datagrams.{AreDatagrams, AreBefore}
+use Rattle.drm_load.specs.Loading.{ReadBy}
+use Rattle.drm_load.specs.Schedule.{schedule_named}
+use Rattle.drm_load.specs.Faults.{fault_of_schedule}
+use Rattle.drm_load.specs.declared.loading.ScheduleFault.{ScheduleFault}
+use Rattle.drm_faults.specs.declared.fault.Fault.{Fault}
+use Rattle.drm_faults.specs.declared.fault.Fault.TheVariants as faults
+
+-- the next opening, at this address, is to fail
+abbrev pub OpeningFails : Address → DockContents → Type 0
+OpeningFails at told = Contains told.failing told.openings ⊎ IsNone (start_at told at)
+
+-- it isn't: a link stands there that starts so
+abbrev pub OpensLink : Address → DockContents → LinkStart → Type 0
+OpensLink at told start = (Contains told.failing told.openings → ⊥) × (start_at told at ≡ Some start)
+
+-- what the dock tells after an opening that failed
+abbrev pub after_failure : DockContents → DockContents
+after_failure told = record told { openings = told.openings + 1; calls = told.calls + 1 }
+
+-- what it tells after a link was opened and closed over which these datagrams had gone
+abbrev pub after_link : Address → List (List ℕ) → DockContents → DockContents
+after_link at gone told = record told {
+  openings = told.openings + 1;
+  links = map.remove told.links (address_key at);
+  gone = map.insert told.gone (address_key at) gone;
+  calls = told.calls + 1 + 1;
+}
+
+-- how a run ends whose link was opened: by what came of the schedule, or with a fault of the link
+abbrev pub EndsBy : Result Plan ScheduleFault → Result (Unit {0}) Fault → Type 0
+EndsBy (Ok schedule) (Ok done) = Unit {0}
+EndsBy (Ok schedule) (Err fault) = fault ≡ faults.Link
+EndsBy (Err fault) ending = ending ≡ Err (fault_of_schedule fault)
+
+-- The datagrams that go over a link that takes so many sends: all of the schedule that came, or some first ones, after
+-- which no more are taken. Where no schedule came, none.
+abbrev pub Go : Result Plan ScheduleFault → Result (Unit {0}) Fault → Option ℕ → List (List ℕ) → Type 0
+Go (Ok schedule) (Ok done) sends gone = AreDatagrams schedule gone × TakesSends sends (length gone)
+Go (Ok schedule) (Err fault) sends gone = (next : List ℕ) × AreBefore schedule next gone × (sends ≡ Some (length gone))
+Go (Err fault) ending sends gone = gone ≡ []
+
+-- The link takes fewer sends than the schedule that came has datagrams.
+abbrev pub LacksSends : Result Plan ScheduleFault → Option ℕ → Type 0
+LacksSends (Ok schedule) sends = (datagrams : List (List ℕ)) → AreDatagrams schedule datagrams → TakesFewer sends (length datagrams)
+LacksSends (Err fault) sends = ⊥
+
+-- what a dock tells where nothing was sent: what had gone is as before, but for a link that was closed with nothing gone
+abbrev pub SendsNothing : DockContents → DockContents → Type 0
+SendsNothing before after = (after.gone ≡ before.gone) ⊎ ((at : Address) × (after.gone ≡ map.insert before.gone (address_key at) []))
+
+-- A run whose opening failed: nothing is read.
+pub record ClosedRun {S D : Type 0} (at : Address) (ending : Result (Unit {0}) Fault) (shelf shelf' : S)
+    (dock_faults : D → ℕ) (dock_tells : D → Option DockContents) (dock dock' : D) : Type 0 where
+  pub fault : ending ≡ Err faults.Link
+  pub unread : shelf' ≡ shelf
+  pub told : WhileTold (dock_tells dock) (dock_tells dock') (λ before after. OpeningFails at before × (after ≡ after_failure before))
+  pub rose : Rose (dock_faults dock) (dock_faults dock')
+
+-- A run whose link was opened, before the schedule of this name was read, and closed at the end.
+pub record LinkRun {S D L : Type 0} (name : List ℕ) (at : Address) (ending : Result (Unit {0}) Fault)
+    (shelf_faults : S → ℕ) (shelf_tells : S → Option Files) (shelf shelf' : S)
+    (dock_faults : D → ℕ) (dock_tells : D → Option DockContents) (dock dock' : D) (link_faults : L → ℕ) : Type 0 where
+  -- the schedule, or why there is none
+  pub came : Result Plan ScheduleFault
+  -- Where the shelf tells, that is what its files come to, and these loads were made.
+  pub loads : ReadBy (schedule_named name) came (shelf_tells shelf) (shelf_tells shelf')
+  -- Whatever it tells, what came is valid.
+  pub sound : IfOk came IsSchedule
+  pub ends : EndsBy came ending
+  pub told : WhileTold (dock_tells dock) (dock_tells dock') (λ before after.
+      (start : LinkStart) × OpensLink at before start
+      × (gone : List (List ℕ)) × Go came ending start.sends gone × (after ≡ after_link at gone before))
+  pub later : dock_faults dock ≤ dock_faults dock'
+  -- The faults of the outside come only where its count of faults rose.
+  pub read_cause : HasCause (shelf_faults shelf) (shelf_faults shelf') (ending ≡ Err faults.Read)
+  pub opened : L
+  pub closed : L
+  pub fresh : link_faults opened ≡ 0
+  pub link_cause : HasCause (link_faults opened) (link_faults closed) (ending ≡ Err faults.Link)
+
+-- A run of `serve --to`.
+abbrev pub SendRun : {S D L : Type 0} → List ℕ → Address → Result (Unit {0}) Fault
+    → (S → ℕ) → (S → Option Files) → S → S → (D → ℕ) → (D → Option DockContents) → D → D → (L → ℕ) → Type 0
+SendRun name at ending shelf_faults shelf_tells shelf shelf' dock_faults dock_tells dock dock' link_faults =
+    ClosedRun at ending shelf shelf' dock_faults dock_tells dock dock'
+    ⊎ LinkRun name at ending shelf_faults shelf_tells shelf shelf' dock_faults dock_tells dock dock' link_faults

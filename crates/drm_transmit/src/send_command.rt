@@ -1,0 +1,60 @@
+//! The command `serve` to an address.
+
+ghost use Rattle.std.specs.Prelude.{◌≡◌, IsErrOf};
+ghost use Rattle.drm_links.specs.Told.{Rose, WhileTold};
+ghost use Rattle.drm_transmit.specs.Send.{SendRun, SendsNothing};
+ghost use Rattle.drm_transmit.specs.OverLink.{OverLink};
+
+use drm_faults::Fault;
+use drm_links::{Address, Dock, Link, Opened, Shelf};
+use drm_load::read_schedule;
+use drm_server::{Server, serve_link};
+use std::alloc::Global;
+
+/// Opens a link to the address, reads a schedule and sends its datagrams, and closes the link. Between frames it rests for
+/// `pace` milliseconds.
+pub fn send<S: Shelf, D: Dock>(
+    alloc: Global,
+    name: &str,
+    to: Address,
+    pace: u32,
+    shelf: &mut S,
+    dock: &mut D,
+) -> Result<(), Fault>
+    ensures run { SendRun name.now to result S.faults S.tells shelf.old shelf.new
+        D.faults D.tells dock.old dock.new D.L.faults }
+    // After want of memory nothing was sent. The words were judged before, and nothing is written.
+    ensures unsent { IsErrOf result Fault.NoMemory
+        → WhileTold (D.tells dock.old) (D.tells dock.new) SendsNothing }
+    ensures read { IsErrOf result Fault.Read → Rose (S.faults shelf.old) (S.faults shelf.new) }
+    ensures words { IsErrOf result Fault.Words → ⊥ }
+    ensures write { IsErrOf result Fault.Write → ⊥ }
+{
+    match dock.reach(to) {
+        Opened::Link(mut link) => {
+            let sent = send_over(alloc, name, pace, shelf, &mut link);
+            dock.close(to, link);
+            sent
+        }
+        Opened::Failed => Err(Fault::Link),
+    }
+}
+
+// Reads a schedule and sends its datagrams over this link.
+fn send_over<S: Shelf, L: Link>(
+    alloc: Global,
+    name: &str,
+    pace: u32,
+    shelf: &mut S,
+    link: &mut L,
+) -> Result<(), Fault>
+    ensures run { OverLink name.now result S.faults S.tells shelf.old shelf.new
+        L.faults L.tells link.old link.new }
+    ensures words { IsErrOf result Fault.Words → ⊥ }
+    ensures write { IsErrOf result Fault.Write → ⊥ }
+{
+    let schedule = read_schedule(alloc, shelf, name)?;
+    let mut server = Server::make(alloc, &schedule)?;
+    serve_link(&mut server, link, pace)?;
+    Ok(())
+}

@@ -1,0 +1,30 @@
+//! The command `serve` without an address.
+
+ghost use Rattle.std.specs.Prelude.{◌≡◌, IsErrOf};
+ghost use Rattle.drm_transmit.specs.Serve.{ServeRun};
+
+use drm_faults::Fault;
+use drm_links::{Shelf, Sink};
+use drm_load::read_schedule;
+use drm_server::{Server, serve_sink};
+use std::alloc::Global;
+
+/// Reads a schedule, and writes its datagrams as a capture.
+pub fn serve<S: Shelf, O: Sink>(
+    alloc: Global,
+    name: &str,
+    shelf: &mut S,
+    out: &mut O,
+) -> Result<(), Fault>
+    ensures run { ServeRun name.now result S.faults S.tells shelf.old shelf.new
+        O.faults O.tells out.old out.new }
+    // The words were judged before, and memory is taken before the first write.
+    ensures link { IsErrOf result Fault.Link → ⊥ }
+    ensures words { IsErrOf result Fault.Words → ⊥ }
+    ensures memory { IsErrOf result Fault.NoMemory → out.new ≡ out.old }
+{
+    let schedule = read_schedule(alloc, shelf, name)?;
+    let mut server = Server::make(alloc, &schedule)?;
+    serve_sink(&mut server, out)?;
+    Ok(())
+}

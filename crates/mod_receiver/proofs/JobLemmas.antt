@@ -1,0 +1,205 @@
+-- What a receiver that ended has for its report.
+use Rattle.std.proofs.Common.{◌≡◌, ℕ, zero, suc, ◌+◌, ◌*◌, ◌<◌, ◌≤◌, ◌^◌, ◌⊎◌, ◌↔◌, inl, inr, nat_le, Bool, true, false, IsTrue, IsSome, if◌then◌else◌, List, [], ◌∷◌, ◌++◌, length, map, slice_index_or, Option, None, Some, MatchOption, refl, sym, ◌∙◌, ap, subst, arith, IfSome}
+use Rattle.std.specs.Prelude.{not}
+use Rattle.std.specs.List.{flat_map, All}
+use Rattle.std.proofs.Math.Nat.{mul-le-mul_right}
+use Rattle.drm_links.specs.Told.{Rose}
+use Rattle.drm_links.specs.Link.{Answer, Traffic}
+use Rattle.drm_links.specs.Sink.{Output, Outputs}
+use Rattle.drm_links.specs.Dock.{LinkStart, first_traffic}
+use Rattle.dcp_collect.specs.State.{State, made}
+use Rattle.mod_receiver.specs.Hearing.{AreNext, Heard}
+use Rattle.mod_receiver.specs.declared.rules.Rules.{Rules}
+use Rattle.mod_receiver.specs.Reading.{most_answers}
+use Rattle.mod_receiver.specs.Received.{Reported, Broken, IsReport, IsReasonable, rules_of}
+use Rattle.mod_receiver.specs.Texts.{text_tells}
+use Rattle.mod_receiver.specs.Ranges.{AreInRange}
+use Rattle.mod_receiver.specs.Jobs.{IsReady, EndedAs, HasEnded, job_rules, text_of, is_failed, clean_of, IsDone, options_for, IsJob, AreJobs, NoneFailed}
+use Rattle.mod_receiver.specs.Ahead.{Report, IsReportOf, BreaksOff}
+use Rattle.mod_receiver.specs.Following.{HeadlinesFollow, CompletesFollow}
+use Rattle.mod_receiver.specs.declared.text.Text.{Text}
+use Rattle.mod_receiver.specs.declared.receiver.Options.{Options}
+use Rattle.mod_receiver.specs.declared.receiver.Ended.{Ended}
+use Rattle.mod_receiver.specs.declared.receiver.Ended.TheVariants.{Done, LinkFailed, WriteFailed, NoMemory}
+use Rattle.mod_receiver.specs.declared.job.Job.{Job}
+
+-- rules in their range read few answers
+pub few_answers : (rules : Rules) → AreInRange rules → most_answers rules ≤ 2 ^ 62
+few_answers rules valid =
+    let l : rules.limit ≤ 2 ^ 32 = (let few = valid.few_datagrams in omega (arith, few)) in
+    let i : rules.idle ≤ 1000000 = valid.few_idles in
+    let m : rules.limit * rules.idle ≤ 2 ^ 32 * rules.idle = mul-le-mul_right rules.idle l in
+    omega (arith, m, i)
+
+-- what was heard of a new link stood ahead of it
+heard_next : (a b : Option Traffic) (start : LinkStart) (answers : List Answer) → Heard answers a b → a ≡ Some (first_traffic start) → length answers ≤ 2 ^ 62
+    → (rest : List Answer) × AreNext start.ahead answers rest
+heard_next None b start answers heard is few = absurd (cc)
+heard_next (Some x) None start answers heard is few =
+    let same : x ≡ first_traffic start = cc in
+    let calls : x.calls ≡ 0 = ap (λ (t : Traffic). t.calls) same in
+    absurd (omega (arith, heard, calls, few))
+heard_next (Some x) (Some y) start answers heard is few =
+    let same : x ≡ first_traffic start = cc in
+    (y.ahead, subst (λ (t : Traffic). AreNext t.ahead answers y.ahead) same heard.ahead)
+
+text_if : (P : List ℕ → Type 0) (first : Option Output) (told : Bool) (o : Output) → Outputs first (if told then Some o else None) P → first ≡ Some (record { written = []; calls = 0 })
+    → IsSome (if told then Some o else None) → P o.written
+text_if P None true o writes is some = absurd (cc)
+text_if P (Some x) true o writes is some =
+    let same : x ≡ record { written = []; calls = 0 } = cc in
+    let written : o.written ≡ writes.0 = writes.1 ∙ ap (λ (u : Output). u.written ++ writes.0) same in
+    subst P (sym written) writes.2
+text_if P first false o writes is some = absurd (cc)
+
+text_written : (P : List ℕ → Type 0) (first : Option Output) (text : Text) → Outputs first (text_tells text) P → first ≡ Some (record { written = []; calls = 0 })
+    → IsSome (text_tells text) → P text.bytes.items
+text_written P first text writes is some = text_if P first (nat_le text.calls (2 ^ 62)) (record { written = text.bytes.items; calls = text.calls }) writes is some
+
+abbrev pub told_of : {L : Type 0} → Job L → Report
+told_of job = record { text = text_of job; clean = clean_of job }
+
+rules_are : (rules : Rules) (number : ℕ) (c : State) (options : Options) → c ≡ made rules.window rules.first → options ≡ options_for rules number → rules_of c options ≡ rules
+rules_are rules number c options c_is options_is = ap (λ d. rules_of d options) c_is ∙ ap (λ o. rules_of (made rules.window rules.first) o) options_is
+
+failed_is : (ended : Option Ended) → is_failed ended ≡ true → ended ≡ Some LinkFailed
+failed_is None is = absurd (let same : false ≡ true = is in cc)
+failed_is (Some LinkFailed) is = refl
+failed_is (Some (Done clean)) is = absurd (let same : false ≡ true = is in cc)
+failed_is (Some WriteFailed) is = absurd (let same : false ≡ true = is in cc)
+failed_is (Some NoMemory) is = absurd (let same : false ≡ true = is in cc)
+
+some_now : (n : Option ℕ) → IfSome n (λ n. 1 ≤ n) → IfSome n (λ n. 0 < n)
+some_now None some = some
+some_now (Some n) some = some
+
+-- a receiver that was made is ready
+pub job_ready : {L : Type 0} (rules : Rules) (k : ℕ) (job : Job L) → AreInRange rules → IsJob rules (k + 1) job → IsReady job
+job_ready {L} rules k job valid is =
+    let window : job.collector.window ≡ rules.window = ap (λ (c : State). c.window) is.collector in
+    let first : job.collector.first ≡ rules.first = ap (λ (c : State). c.first) is.collector in
+    record {
+      buffer = is.buffer;
+      options = subst IsReasonable (sym is.options) (record {
+        feed = omega arith;
+        idle = valid.some_idles;
+        limit = valid.some_datagrams;
+        some_frames = some_now rules.frames valid.some_frames;
+        few_frames = valid.few_frames;
+      });
+      window = ((let some = valid.some_window in omega (arith, some, window)), (let few = valid.few_packets in omega (arith, few, window)));
+      collector = is.collector ∙ (λ i. made (sym window i) (sym first i));
+      feed = is.feed;
+    }
+
+pub jobs_ready : {L : Type 0} (rules : Rules) (jobs : List (Job L)) (many : ℕ) → AreInRange rules → length jobs ≡ many → AreJobs rules many jobs → All IsReady jobs
+jobs_ready rules jobs many valid size are k none within = job_ready rules k (slice_index_or jobs k none) valid (are k none (omega (arith, size, within)))
+
+module _ {L : Type 0} (faults : L → ℕ) (tells : L → Option Traffic) (rules : Rules) (valid : AreInRange rules) (number : ℕ) (start : LinkStart) (before after : Job L) (is : IsJob rules number before) (told : tells before.link ≡ Some (first_traffic start)) (ended : HasEnded faults tells before after) where
+  abbrev Was : Option Ended → Type 0
+  Was o = MatchOption o ⊥ (EndedAs faults tells before after)
+
+  same_rules : job_rules before ≡ rules
+  same_rules = rules_are rules number before.collector before.options is.collector is.options
+
+  same_number : before.options.feed ≡ number
+  same_number = ap (λ (o : Options). o.feed) is.options
+
+  -- the report of one that is done is that of what was ahead of its link
+  pub job_report : HeadlinesFollow → CompletesFollow → IsDone after → IsReportOf rules number start.ahead (told_of after)
+  job_report headlines completes done =
+      let was : EndedAs faults tells before after (Done (clean_of after)) = subst Was done.0 ended in
+      let raw : Reported (job_rules before) before.options.feed (tells before.link) (tells after.link) (text_tells before.text) (text_tells after.text) (clean_of after) = was.ends in
+      let reported : Reported rules number (tells before.link) (tells after.link) (text_tells before.text) (text_tells after.text) (clean_of after) =
+      subst (λ n. Reported rules n (tells before.link) (tells after.link) (text_tells before.text) (text_tells after.text) (clean_of after)) same_number
+      (subst (λ r. Reported r before.options.feed (tells before.link) (tells after.link) (text_tells before.text) (text_tells after.text) (clean_of after)) same_rules raw) in
+      let few : length reported.answers ≤ 2 ^ 62 = (let some = reported.few in let most = few_answers rules valid in omega (arith, some, most)) in
+      let next = heard_next (tells before.link) (tells after.link) start reported.answers reported.heard told few in
+      let text : text_of after ≡ reported.whole = text_written (λ t. t ≡ reported.whole) (text_tells before.text) after.text reported.text is.text done.1 in
+      let report : IsReport rules number reported.answers (text_of after) (clean_of after) = subst (λ t. IsReport rules number reported.answers t (clean_of after)) (sym text) reported.is in
+      record {
+        answers = reported.answers;
+        rest = next.0;
+        next = next.1;
+        is = report;
+        headline = headlines rules number reported.answers (text_of after) (clean_of after) valid.some_window report;
+        complete = completes rules number start.ahead reported.answers next.0 (text_of after) (clean_of after) valid.some_window next.1 report;
+      }
+
+  -- what is ahead of the link of one that failed breaks off
+  pub job_breaks : is_failed after.ended ≡ true → BreaksOff rules start.ahead
+  job_breaks failed =
+      let was : EndedAs faults tells before after LinkFailed = subst Was (failed_is after.ended failed) ended in
+      let raw : Broken (job_rules before) before.options.feed (tells before.link) (tells after.link) (text_tells before.text) (text_tells after.text) = was.ends in
+      let broken : Broken rules before.options.feed (tells before.link) (tells after.link) (text_tells before.text) (text_tells after.text) =
+      subst (λ r. Broken r before.options.feed (tells before.link) (tells after.link) (text_tells before.text) (text_tells after.text)) same_rules raw in
+      let few : length broken.answers ≤ 2 ^ 62 = (let some = broken.few in let most = few_answers rules valid in omega (arith, some, most)) in
+      let next = heard_next (tells before.link) (tells after.link) start broken.answers broken.heard told few in
+      record {
+        before = broken.is.before;
+        answers = broken.answers;
+        rest = next.0;
+        next = next.1;
+        reading = broken.is.reading;
+      }
+
+-- the count of faults of the link of one that failed rose
+pub job_rose : {L : Type 0} (faults : L → ℕ) (tells : L → Option Traffic) (before after : Job L) → HasEnded faults tells before after → is_failed after.ended ≡ true → Rose (faults before.link) (faults after.link)
+job_rose {L} faults tells before after ended failed =
+    let P : Option Ended → Type 0 = λ o. MatchOption o ⊥ (EndedAs faults tells before after) in
+    let was : EndedAs faults tells before after LinkFailed = subst P (failed_is after.ended failed) ended in
+    was.link.rose refl
+
+-- ---- by place
+
+pub same_index : {X : Type 0} (xs : List X) (k : ℕ) (d e : X) → k < length xs → slice_index_or xs k d ≡ slice_index_or xs k e
+same_index [] k d e within = absurd (omega arith)
+same_index (x ∷ xs) zero d e within = refl
+same_index (x ∷ xs) (suc k) d e within = same_index xs k d e (omega arith)
+
+pub index_of : {X : Type 0} (xs : List X) (k : ℕ) → k < length xs → (x : X) × ((d : X) → slice_index_or xs k d ≡ x)
+index_of [] k within = absurd (omega arith)
+index_of (x ∷ xs) zero within = (x, λ d. refl)
+index_of (x ∷ xs) (suc k) within = let more = index_of xs k (omega arith) in (more.0, more.1)
+
+pub map_at : {X Y : Type 0} (f : X → Y) (xs : List X) (k : ℕ) (d : X) (e : Y) → k < length xs → slice_index_or (map f xs) k e ≡ f (slice_index_or xs k d)
+map_at f [] k d e within = absurd (omega arith)
+map_at f (x ∷ xs) zero d e within = refl
+map_at f (x ∷ xs) (suc k) d e within = map_at f xs k d e (omega arith)
+
+pub map_size : {X Y : Type 0} (f : X → Y) (xs : List X) → length (map f xs) ≡ length xs
+map_size f [] = refl
+map_size f (x ∷ xs) = let more : length (map f xs) ≡ length xs = map_size f xs in omega (arith, more)
+
+pub flat_map_map : {X Y : Type 0} (f : X → Y) (g : Y → List ℕ) (xs : List X) → flat_map g (map f xs) ≡ flat_map (λ x. g (f x)) xs
+flat_map_map f g [] = refl
+flat_map_map f g (x ∷ xs) = ap (λ t. g (f x) ++ t) (flat_map_map f g xs)
+
+pub all_told : {L : Type 0} (jobs : List (Job L)) → All (λ job. IsTrue (clean_of job)) jobs ↔ All (λ (r : Report). IsTrue r.clean) (map told_of jobs)
+all_told {L} jobs = (
+  (λ all k d within.
+      let inside : k < length jobs = (let size : length (map told_of jobs) ≡ length jobs = map_size told_of jobs in omega (arith, size, within)) in
+      let job = (index_of jobs k inside).0 in
+      subst (λ (r : Report). IsTrue r.clean) (sym (map_at told_of jobs k job d inside)) (all k job inside)),
+  (λ all k d within.
+      let inside : k < length (map told_of jobs) = (let size : length (map told_of jobs) ≡ length jobs = map_size told_of jobs in omega (arith, size, within)) in
+      subst (λ (r : Report). IsTrue r.clean) (map_at told_of jobs k d (told_of d) within) (all k (told_of d) inside)),
+)
+
+-- ---- whether some link failed
+
+none_more : {L : Type 0} (job : Job L) (jobs : List (Job L)) → IsTrue (not (is_failed job.ended)) → NoneFailed jobs → NoneFailed (job ∷ jobs)
+none_more job jobs is all zero d within = is
+none_more job jobs is all (suc k) d within = all k d (omega arith)
+
+abbrev pub SomeFailed : {L : Type 0} → List (Job L) → Type 0
+SomeFailed {L} jobs = (k : ℕ) × (k < length jobs) × ((d : Job L) → is_failed (slice_index_or jobs k d).ended ≡ true)
+
+failed_by : {L : Type 0} (job : Job L) (jobs : List (Job L)) (b : Bool) → is_failed job.ended ≡ b → NoneFailed jobs ⊎ SomeFailed jobs → NoneFailed (job ∷ jobs) ⊎ SomeFailed (job ∷ jobs)
+failed_by job jobs true is rest = inr (0, omega arith, λ d. is)
+failed_by job jobs false is (inr some) = inr (suc some.0, (let within = some.1 in omega arith), some.2)
+failed_by job jobs false is (inl none) = inl (none_more job jobs (ap not is) none)
+
+pub some_failed : {L : Type 0} (jobs : List (Job L)) → NoneFailed jobs ⊎ SomeFailed jobs
+some_failed [] = inl (λ k d within. absurd (omega arith))
+some_failed (job ∷ jobs) = failed_by job jobs (is_failed job.ended) refl (some_failed jobs)

@@ -1,0 +1,12 @@
+pub mod Printing
+pub mod Composing
+pub mod OneReading
+pub mod Reporting
+pub mod Reaching
+pub mod Hearing
+pub mod Going
+pub mod Giving
+pub mod Tallying
+pub mod Refusing
+pub mod Taking
+pub mod JobLemmas

@@ -1,0 +1,282 @@
+-- Items are given to the feed, counted and written.
+use Rattle.std.proofs.Common.{◌≡◌, ℕ, zero, suc, ◌+◌, ◌-◌, ◌<◌, ◌≤◌, nat_le, min, Bool, true, false, if◌then◌else◌, List, [], ◌∷◌, ◌++◌, length, take, Option, None, Some, refl, sym, ◌∙◌, ap, subst, arith, append_assoc}
+use Rattle.std.proofs.lemmas.List.{append-nil}
+use Rattle.std.proofs.lemmas.List.Concat.{flat_map-append}
+use Rattle.drm_links.specs.Sink.{Output, Outputs, IsFront}
+use Rattle.drm_links.proofs.ToldLemmas.{Outputs-then, Outputs-nothing, Outputs-weaker}
+use Rattle.dcp_collect.specs.State.{State, ready, after_item, after_next}
+use Rattle.dcp_collect.specs.Runs.{Item, Packet, Lost, Damaged, IsItem, Gives, up_to}
+use Rattle.dcp_collect.proofs.Runs.{Given, given_more, given_all}
+use Rattle.drm_timeline.specs.declared.seen.Seen.{Seen}
+use Rattle.drm_timeline.specs.Tracker.{TrackerState, stepped}
+use Rattle.mod_feed.specs.Items.{Item as FeedItem, Frame, Missing, Bad, number_of, seen_in}
+use Rattle.mod_feed.specs.Feeding.{FeedStep, IsStep, Feeds, after_step}
+use Rattle.mod_feed.proofs.FeedingLemmas.{feedings_join}
+use Rattle.drm_show.specs.declared.report.Sums.{Sums}
+use Rattle.drm_show.specs.Report.{step_text}
+use Rattle.mod_receiver.specs.Reports.{steps_text}
+use Rattle.mod_receiver.specs.Tallies.{Tallied, counted, one_more_item}
+use Rattle.mod_receiver.specs.Received.{GivesFirst}
+use Rattle.mod_receiver.specs.Printed.{items_in, is_full, left_of, steps_before, with_steps, KeepsPace, Prints, PrintsReady, PrintsFront}
+
+-- ---- lists
+
+pub take_join : {A : Type 0} (n : ℕ) (xs ys : List A) → take n (xs ++ ys) ≡ take n xs ++ take (n - length xs) ys
+take_join zero [] ys = refl
+take_join (suc n) [] ys = ap (λ k. take k ys) (let e : suc n ≡ suc n - 0 = omega arith in e)
+take_join zero (x ∷ xs) ys = ap (λ k. take k ys) (let e : 0 ≡ 0 - length (x ∷ xs) = omega arith in e)
+take_join (suc n) (x ∷ xs) ys =
+    let e : n - length xs ≡ suc n - length (x ∷ xs) = omega arith in
+    ap (λ l. x ∷ l) (take_join n xs ys ∙ ap (λ k. take n xs ++ take k ys) e)
+
+pub taken_length : {A : Type 0} (n : ℕ) (xs : List A) → length (take n xs) ≡ min n (length xs)
+taken_length zero [] = refl
+taken_length zero (x ∷ xs) = omega arith
+taken_length (suc n) [] = omega arith
+taken_length (suc n) (x ∷ xs) = let e = taken_length n xs in omega (arith, e)
+
+pub up_to_join : (told : Option ℕ) (n : ℕ) (xs ys : List Item)
+    → up_to (left_of told n) (xs ++ ys) ≡ up_to (left_of told n) xs ++ up_to (left_of told (n + length (up_to (left_of told n) xs))) ys
+up_to_join None n xs ys = refl
+up_to_join (Some told) n xs ys =
+    let size : length (take (told - n) xs) ≡ min (told - n) (length xs) = taken_length (told - n) xs in
+    let e : (told - n) - length xs ≡ told - (n + length (take (told - n) xs)) = omega (arith, size) in
+    take_join (told - n) xs ys ∙ ap (λ k. take (told - n) xs ++ take k ys) e
+
+-- ---- a feed's number of calls
+
+stepped_calls : (f : TrackerState) (seen : Option Seen) → (stepped f seen).calls ≡ f.calls + 1
+stepped_calls f None = refl
+stepped_calls f (Some seen) = refl
+
+pub feeds_calls : (f after : TrackerState) (given : List Item) (steps : List FeedStep) → Feeds f given steps after → after.calls ≡ f.calls + length given
+feeds_calls f after [] [] h = ap (λ (s : TrackerState). s.calls) h ∙ omega arith
+feeds_calls f after [] (step ∷ steps) h = absurd h
+feeds_calls f after (g ∷ given) [] h = absurd h
+feeds_calls f after (g ∷ given) (step ∷ steps) h =
+    let one : (after_step f step).calls ≡ f.calls + 1 = stepped_calls f (seen_in step.item) in
+    let more : after.calls ≡ (after_step f step).calls + length given = feeds_calls (after_step f step) after given steps h.1 in
+    omega (arith, one, more)
+
+pub feeds_left : (told : Option ℕ) (f g h : TrackerState) (xs ys : List Item) (ss ts : List FeedStep)
+    → Feeds f (up_to (left_of told f.calls) xs) ss g → Feeds g (up_to (left_of told g.calls) ys) ts h
+    → Feeds f (up_to (left_of told f.calls) (xs ++ ys)) (ss ++ ts) h
+feeds_left told f g h xs ys ss ts p q =
+    let e : g.calls ≡ f.calls + length (up_to (left_of told f.calls) xs) = feeds_calls f g (up_to (left_of told f.calls) xs) ss p in
+    let r : Feeds g (up_to (left_of told (f.calls + length (up_to (left_of told f.calls) xs))) ys) ts h =
+    subst (λ n. Feeds g (up_to (left_of told n) ys) ts h) e q in
+    subst (λ l. Feeds f l (ss ++ ts) h) (sym (up_to_join told f.calls xs ys))
+    (feedings_join f g h (up_to (left_of told f.calls) xs) (up_to (left_of told (f.calls + length (up_to (left_of told f.calls) xs))) ys) ss ts p r)
+
+-- ---- the tally
+
+pub with_more : (t : Tallied) (ss ts : List FeedStep) → with_steps t (ss ++ ts) ≡ with_steps (with_steps t ss) ts
+with_more t [] ts = refl
+with_more t (s ∷ ss) ts = with_more (counted t s.item) ss ts
+
+pub one_more : (sums : Sums) (item : FeedItem) → items_in (one_more_item sums item) ≡ items_in sums + 1
+one_more sums (Frame index frame payload) = omega arith
+one_more sums (Missing index had total) = omega arith
+one_more sums (Bad index fault) = omega arith
+
+pub text_more : (ss ts : List FeedStep) → steps_text (ss ++ ts) ≡ steps_text ss ++ steps_text ts
+text_more ss ts = flat_map-append step_text ss ts
+
+-- ---- what is printed
+
+pub prints_none : (told : Option ℕ) (f : TrackerState) (t : Tallied) (a : Option Output) → Prints told f f t t a a []
+prints_none None f t a = record { steps = []; feeds = refl; tally = refl; text = Outputs-nothing a (λ x. x ≡ []) refl }
+prints_none (Some told) f t a = record { steps = []; feeds = take_nothing f (told - f.calls); tally = refl; text = Outputs-nothing a (λ x. x ≡ []) refl }
+  where
+    take_nothing : (f : TrackerState) (n : ℕ) → Feeds f (take {A = Item} n []) [] f
+    take_nothing f zero = refl
+    take_nothing f (suc n) = refl
+
+pub prints_then : (told : Option ℕ) (f g h : TrackerState) (t u v : Tallied) (a b d : Option Output) (xs ys : List Item)
+    → Prints told f g t u a b xs → Prints told g h u v b d ys → Prints told f h t v a d (xs ++ ys)
+prints_then told f g h t u v a b d xs ys p q = record {
+  steps = p.steps ++ q.steps;
+  feeds = feeds_left told f g h xs ys p.steps q.steps p.feeds q.feeds;
+  tally = q.tally ∙ ap (λ w. with_steps w q.steps) p.tally ∙ sym (with_more t p.steps q.steps);
+  text = Outputs-then (λ x. x ≡ steps_text p.steps) (λ x. x ≡ steps_text q.steps) (λ x. x ≡ steps_text (p.steps ++ q.steps)) a b d p.text q.text
+      (λ x y e g. ap (λ l. l ++ y) e ∙ ap (λ l. steps_text p.steps ++ l) g ∙ sym (text_more p.steps q.steps));
+}
+
+is_left : (told n : ℕ) → nat_le told n ≡ false → n < told
+is_left told n e = grind arith
+
+none_left : (told n : ℕ) → nat_le told n ≡ true → told - n ≡ 0
+none_left told n e = grind arith
+
+-- an item past the told number
+pub prints_past : (told : Option ℕ) (f : TrackerState) (t : Tallied) (a : Option Output) (item : Item)
+    → is_full told f.calls ≡ true → Prints told f f t t a a (item ∷ [])
+prints_past None f t a item full = absurd (let e : false ≡ true = full in cc)
+prints_past (Some told) f t a item full =
+    record {
+      steps = [];
+      feeds = subst (λ n. Feeds f (take n (item ∷ [])) [] f) (sym (none_left told f.calls full)) refl;
+      tally = refl;
+      text = Outputs-nothing a (λ x. x ≡ []) refl;
+    }
+
+one_of : (k : ℕ) (item : Item) → 0 < k → take k (item ∷ []) ≡ item ∷ []
+one_of zero item l = absurd (omega (arith, l))
+one_of (suc zero) item l = refl
+one_of (suc (suc k)) item l = refl
+
+up_to_one : (told : Option ℕ) (n : ℕ) (item : Item) → is_full told n ≡ false → up_to (left_of told n) (item ∷ []) ≡ item ∷ []
+up_to_one None n item room = refl
+up_to_one (Some told) n item room = one_of (told - n) item (let l : n < told = is_left told n room in omega (arith, l))
+
+-- one item's step
+pub feeds_one : (told : Option ℕ) (f : TrackerState) (item : Item) (step : FeedStep)
+    → is_full told f.calls ≡ false → IsStep f item step → Feeds f (up_to (left_of told f.calls) (item ∷ [])) (step ∷ []) (after_step f step)
+feeds_one told f item step room is =
+    subst (λ l. Feeds f l (step ∷ []) (after_step f step)) (sym (up_to_one told f.calls item room)) (is, refl)
+
+one_text : (step : FeedStep) → step_text step ≡ steps_text (step ∷ [])
+one_text step = sym (append-nil (step_text step))
+
+pub prints_one : (told : Option ℕ) (f f' : TrackerState) (t t' : Tallied) (a b : Option Output) (item : Item) (step : FeedStep)
+    → is_full told f.calls ≡ false → IsStep f item step → f' ≡ after_step f step → t' ≡ counted t step.item → Outputs a b (λ x. x ≡ step_text step)
+    → Prints told f f' t t' a b (item ∷ [])
+prints_one told f f' t t' a b item step room is after counts text = record {
+  steps = step ∷ [];
+  feeds = subst (λ g. Feeds f (up_to (left_of told f.calls) (item ∷ [])) (step ∷ []) g) (sym after) (feeds_one told f item step room is);
+  tally = counts;
+  text = Outputs-weaker (λ x. x ≡ step_text step) (λ x. x ≡ steps_text (step ∷ [])) a b text (λ x e. e ∙ one_text step);
+}
+
+-- ---- fronts
+
+pub front_more : (xs ys t : List ℕ) → IsFront xs t → IsFront (xs ++ ys) t
+front_more xs ys t (rest, e) = (rest ++ ys, ap (λ l. l ++ ys) e ∙ append_assoc t rest ys)
+
+pub front_then : (xs ys : List ℕ) (a b c : Option Output) → Outputs a b (λ t. t ≡ xs) → Outputs b c (IsFront ys) → Outputs a c (IsFront (xs ++ ys))
+front_then xs ys a b c p q = Outputs-then (λ t. t ≡ xs) (IsFront ys) (IsFront (xs ++ ys)) a b c p q
+    (λ s t e (rest, f). (rest, ap (λ l. l ++ ys) (sym e) ∙ ap (λ l. s ++ l) f ∙ sym (append_assoc s t rest)))
+
+pub nothing_front : (xs : List ℕ) (a : Option Output) → Outputs a a (IsFront xs)
+nothing_front xs a = Outputs-nothing a (IsFront xs) (xs, refl)
+
+pub whole_front : (xs t : List ℕ) → t ≡ xs → IsFront xs t
+whole_front xs t e = ([], sym e ∙ sym (append-nil t))
+
+-- ---- what a loop over the ready items keeps
+
+pub record Drained (told : Option ℕ) (c d : State) (f g : TrackerState) (t u : Tallied) (a b : Option Output) (items : List Item) : Type 0 where
+  pub given : Given c items d
+  pub prints : Prints told f g t u a b items
+  pub pace : KeepsPace told d g u
+
+given_first : (items : List Item) (c d : State) → Given c items d → GivesFirst c items
+given_first [] c d g = tt
+given_first (item ∷ items) c d g = (g.0, g.1, given_first items (after_item c) d g.2)
+
+number_is : (c : State) (item : Item) → IsItem c item → number_of item ≡ c.next
+number_is c (Packet q bytes) is = is.0
+number_is c (Lost q had total) is = is.0
+number_is c (Damaged q) is = is.0
+
+-- where the told number isn't reached, each item was stepped
+pub in_order : (told : Option ℕ) (c : State) (f : TrackerState) (t : Tallied) → KeepsPace told c f t → is_full told (items_in t.sums) ≡ false → f.calls ≡ c.next
+in_order None c f t pace room = pace.calls
+in_order (Some told) c f t pace room =
+    let i : items_in t.sums ≡ f.calls = pace.items in
+    let p : f.calls ≡ min c.next told = pace.calls in
+    let l : items_in t.sums < told = is_left told (items_in t.sums) room in
+    omega (arith, i, p, l)
+
+pub in_number : (told : Option ℕ) (c : State) (f : TrackerState) (t : Tallied) (item : Item) → KeepsPace told c f t → is_full told (items_in t.sums) ≡ false → IsItem c item → number_of item ≡ f.calls
+in_number told c f t item pace room is = number_is c item is ∙ sym (in_order told c f t pace room)
+
+pub pace_below : (told : Option ℕ) (c : State) (f : TrackerState) (t : Tallied) → KeepsPace told c f t → items_in t.sums ≤ c.next
+pace_below None c f t pace =
+    let i : items_in t.sums ≡ f.calls = pace.items in
+    let p : f.calls ≡ c.next = pace.calls in
+    omega (arith, i, p)
+pace_below (Some told) c f t pace =
+    let i : items_in t.sums ≡ f.calls = pace.items in
+    let p : f.calls ≡ min c.next told = pace.calls in
+    omega (arith, i, p)
+
+pace_past : (told : Option ℕ) (next : ℕ) (f : TrackerState) → f.calls ≡ steps_before told next → is_full told f.calls ≡ true → f.calls ≡ steps_before told (next + 1)
+pace_past None next f e full = absurd (let x : false ≡ true = full in cc)
+pace_past (Some told) next f e full = let z : told - f.calls ≡ 0 = none_left told f.calls full in let p : f.calls ≡ min next told = e in omega (arith, z, p)
+
+pace_one : (told : Option ℕ) (next n m : ℕ) → n ≡ steps_before told next → is_full told n ≡ false → m ≡ n + 1 → m ≡ steps_before told (next + 1)
+pace_one None next n m e room f = let p : n ≡ next = e in omega (arith, p, f)
+pace_one (Some told) next n m e room f = let l : n < told = is_left told n room in let p : n ≡ min next told = e in omega (arith, l, p, f)
+
+pub drained_none : (told : Option ℕ) (c : State) (f : TrackerState) (t : Tallied) (a : Option Output) → KeepsPace told c f t → Drained told c c f f t t a a []
+drained_none told c f t a pace = record { given = refl; prints = prints_none told f t a; pace = pace }
+
+is_next : (d e : State) → ready d ≡ true → e ≡ after_next d → e ≡ after_item d
+is_next d e r n = n ∙ rw r refl
+
+end_by : (b : Bool) (c d : State) → d.end ≡ c.end → (if b then d else c).end ≡ c.end
+end_by true c d e = e
+end_by false c d e = refl
+
+-- `next` keeps the end
+pub next_end : (c : State) → (after_next c).end ≡ c.end
+next_end c = end_by (ready c) c (after_item c) refl
+
+-- an item past the told number was given
+pub drained_past : (told : Option ℕ) (c d e : State) (f g : TrackerState) (t u : Tallied) (a b : Option Output) (items : List Item) (item : Item)
+    → Drained told c d f g t u a b items → ready d ≡ true → IsItem d item → e ≡ after_next d → is_full told (items_in u.sums) ≡ true
+    → Drained told c e f g t u a b (items ++ item ∷ [])
+drained_past told c d e f g t u a b items item i r is n full =
+    let after : e ≡ after_item d = is_next d e r n in
+    let full' : is_full told g.calls ≡ true = ap (is_full told) (sym i.pace.items) ∙ full in
+    record {
+      given = subst (λ m. Given c (items ++ item ∷ []) m) (sym after) (given_more items c d item i.given r is);
+      prints = prints_then told f g g t u u a b b items (item ∷ []) i.prints (prints_past told g u b item full');
+      pace = record {
+        calls = pace_past told d.next g i.pace.calls full' ∙ ap (λ (m : State). steps_before told m.next) (sym after);
+        items = i.pace.items;
+      };
+    }
+
+-- an item was given and written
+pub drained_one : (told : Option ℕ) (c d e : State) (f g h : TrackerState) (t u v : Tallied) (a b b' : Option Output) (items : List Item) (item : Item) (step : FeedStep)
+    → Drained told c d f g t u a b items → ready d ≡ true → IsItem d item → e ≡ after_next d → is_full told (items_in u.sums) ≡ false
+    → IsStep g item step → h ≡ after_step g step → v ≡ counted u step.item → Outputs b b' (λ x. x ≡ step_text step)
+    → Drained told c e f h t v a b' (items ++ item ∷ [])
+drained_one told c d e f g h t u v a b b' items item step i r is n room stepping after_it counts text =
+    let after : e ≡ after_item d = is_next d e r n in
+    let room' : is_full told g.calls ≡ false = ap (is_full told) (sym i.pace.items) ∙ room in
+    let one : h.calls ≡ g.calls + 1 = ap (λ (s : TrackerState). s.calls) after_it ∙ stepped_calls g (seen_in step.item) in
+    record {
+      given = subst (λ m. Given c (items ++ item ∷ []) m) (sym after) (given_more items c d item i.given r is);
+      prints = prints_then told f g h t u v a b b' items (item ∷ []) i.prints (prints_one told g h u v b b' item step room' stepping after_it counts text);
+      pace = record {
+        calls = pace_one told d.next g.calls h.calls i.pace.calls room' one ∙ ap (λ (m : State). steps_before told m.next) (sym after);
+        items = ap (λ (w : Tallied). items_in w.sums) counts ∙ one_more u.sums step.item ∙ ap (λ k. k + 1) i.pace.items ∙ sym one;
+      };
+    }
+
+-- nothing more is ready
+pub drained_all : (told : Option ℕ) (c d e : State) (f g : TrackerState) (t u : Tallied) (a b : Option Output) (items : List Item)
+    → Drained told c d f g t u a b items → ready d ≡ false → e ≡ after_next d → PrintsReady told c e f g t u a b
+drained_all told c d e f g t u a b items i r n =
+    let same : e ≡ d = n ∙ rw r refl in
+    record { items = items; gives = subst (λ m. Gives c items m) (sym same) (given_all items c d i.given r); prints = i.prints }
+
+-- a front of an item's line was written
+pub drained_front : (told : Option ℕ) (c d : State) (f g : TrackerState) (t u : Tallied) (a b b' : Option Output) (items : List Item) (item : Item) (step : FeedStep)
+    → Drained told c d f g t u a b items → ready d ≡ true → IsItem d item → is_full told (items_in u.sums) ≡ false
+    → IsStep g item step → Outputs b b' (IsFront (step_text step)) → PrintsFront told c f a b'
+drained_front told c d f g t u a b b' items item step i r is room stepping text =
+    let room' : is_full told g.calls ≡ false = ap (is_full told) (sym i.pace.items) ∙ room in
+    let ss : List FeedStep = i.prints.steps in
+    let whole : steps_text ss ++ step_text step ≡ steps_text (ss ++ step ∷ []) = ap (λ l. steps_text ss ++ l) (one_text step) ∙ sym (text_more ss (step ∷ [])) in
+    record {
+      items = items ++ item ∷ [];
+      gives = given_first (items ++ item ∷ []) c (after_item d) (given_more items c d item i.given r is);
+      steps = ss ++ step ∷ [];
+      after = after_step g step;
+      feeds = feeds_left told f g (after_step g step) items (item ∷ []) ss (step ∷ []) i.prints.feeds (feeds_one told g item step room' stepping);
+      text = subst (λ l. Outputs a b' (IsFront l)) whole (front_then (steps_text ss) (step_text step) a b b' i.prints.text text);
+    }

@@ -1,0 +1,308 @@
+-- A whole report, and fronts of one.
+use Rattle.std.proofs.Common.{◌≡◌, ℕ, zero, suc, ◌≤◌, ◌⊎◌, inl, inr, Bool, true, false, IsTrue, ◌&&◌, ◌↔◌, if◌then◌else◌, List, [], ◌∷◌, ◌++◌, length, Option, None, Some, Result, Err, refl, sym, ◌∙◌, ap, subst, arith, append_assoc}
+use Rattle.std.specs.List.{filter}
+use Rattle.std.proofs.lemmas.List.{append-nil}
+use Rattle.circular_buffer.specs.Buffer.{keep_last}
+use Rattle.drm_links.specs.Link.{Answer, Traffic}
+use Rattle.drm_links.specs.Sink.{Output, Outputs, IsFront}
+use Rattle.drm_links.proofs.ToldLemmas.{Outputs-then, Outputs-weaker}
+use Rattle.dcp_collect.specs.declared.taken.Taken.{Taken}
+use Rattle.dcp_collect.specs.State.{State, made, after_finish}
+use Rattle.dcp_collect.specs.Runs.{Item as Given, Gives, Run, up_to}
+use Rattle.drm_timeline.specs.Tracker.{TrackerState, new_tracker}
+use Rattle.mod_feed.specs.Items.{Item, Frame, Missing, Bad}
+use Rattle.mod_feed.specs.Feeding.{FeedStep, Feeds}
+use Rattle.drm_show.specs.declared.report.EndWord.{EndWord}
+use Rattle.drm_show.specs.Report.{feed_line, end_line}
+use Rattle.mod_receiver.specs.declared.rules.Rules.{Rules}
+use Rattle.mod_receiver.specs.declared.stop.Stop.{Stop}
+use Rattle.mod_receiver.specs.declared.stop.Stop.TheVariants as stop
+use Rattle.mod_receiver.specs.Hearing.{Heard}
+use Rattle.mod_receiver.specs.Reading.{datagrams, IsFinished, most_answers}
+use Rattle.mod_receiver.specs.Reports.{is_given, is_missing, is_bad, refusals, refused_text, steps_text, sums_of, report, is_clean}
+use Rattle.mod_receiver.specs.Tallies.{Tallied}
+use Rattle.mod_receiver.specs.Received.{IsReport, GivesSome, IsReportFront, Reported, Broken, Stopped}
+use Rattle.mod_receiver.specs.Printed.{steps_before, with_steps, tally_of, KeepsPace, PrintsReady, PrintsFront, ReadsTo, ReadsBroken, ReadsFront, StopsReading}
+use Rattle.mod_receiver.proofs.Hearing.{heard_none}
+use Rattle.mod_receiver.proofs.Going.{goes_none}
+use Rattle.mod_receiver.proofs.Giving.{gave_none}
+use Rattle.mod_receiver.proofs.Refusing.{AreTold}
+use Rattle.mod_receiver.proofs.Tallying.{steps_counted, refusals_told, last_told}
+use Rattle.mod_receiver.proofs.Printing.{front_more, front_then, nothing_front}
+use Rattle.mod_receiver.proofs.Reaching.{feeds_more, texts_join, front_joins}
+
+-- ---- texts behind one another
+
+pub text_then : (xs ys : List ℕ) (a b d : Option Output) → Outputs a b (λ x. x ≡ xs) → Outputs b d (λ x. x ≡ ys) → Outputs a d (λ x. x ≡ xs ++ ys)
+text_then xs ys a b d p q =
+    Outputs-then (λ x. x ≡ xs) (λ x. x ≡ ys) (λ x. x ≡ xs ++ ys) a b d p q (λ x y e f. ap (λ l. l ++ y) e ∙ ap (λ l. xs ++ l) f)
+
+-- ---- whether a report is clean
+
+abbrev AreNone : Bool → List FeedStep → List FeedStep → Type 0
+AreNone all missing bad = IsTrue all ↔ ((length missing ≡ 0) × (length bad ≡ 0))
+
+one_kind : (item : Item) (s : FeedStep) (all : Bool) (missing bad : List FeedStep)
+    → AreNone all missing bad → AreNone (is_given item && all) (if is_missing item then s ∷ missing else missing) (if is_bad item then s ∷ bad else bad)
+one_kind (Frame index frame payload) s all missing bad h = h
+one_kind (Missing index had total) s all missing bad h = ((λ t. absurd (let e : false ≡ true = t in cc)), (λ (m, b). absurd (omega (arith, m))))
+one_kind (Bad index fault) s all missing bad h = ((λ t. absurd (let e : false ≡ true = t in cc)), (λ (m, b). absurd (omega (arith, b))))
+
+clean_as : (steps : List FeedStep) → AreNone (is_clean steps) (filter (λ s. is_missing s.item) steps) (filter (λ s. is_bad s.item) steps)
+clean_as [] = ((λ t. (refl, refl)), (λ z. refl))
+clean_as (s ∷ steps) = one_kind s.item s (is_clean steps) (filter (λ s. is_missing s.item) steps) (filter (λ s. is_bad s.item) steps) (clean_as steps)
+
+same_true : (x y : Bool) (P : Type 0) → IsTrue x ↔ P → IsTrue y ↔ P → x ≡ y
+same_true true true P h k = refl
+same_true true false P h k = absurd (let e : false ≡ true = k.1 (h.0 refl) in cc)
+same_true false true P h k = absurd (let e : false ≡ true = h.1 (k.0 refl) in cc)
+same_true false false P h k = refl
+
+pub clean_is : (clean : Bool) (t : Tallied) (steps : List FeedStep) (taken : List Taken) → IsTrue clean ↔ ((t.sums.missing ≡ 0) × (t.sums.bad ≡ 0)) → t ≡ tally_of steps taken → clean ≡ is_clean steps
+clean_is clean t steps taken h is =
+    same_true clean (is_clean steps) ((length (filter (λ s. is_missing s.item) steps) ≡ 0) × (length (filter (λ s. is_bad s.item) steps) ≡ 0))
+    (subst (λ (u : Tallied). IsTrue clean ↔ ((u.sums.missing ≡ 0) × (u.sums.bad ≡ 0))) is h) (clean_as steps)
+
+-- ---- all items were written
+
+pub record WroteItems (rules : Rules) (feed : ℕ) (before after : Option Traffic) (a b : Option Output) (t : Tallied) (word : EndWord) : Type 0 where
+  pub answers : List Answer
+  pub heard : Heard answers before after
+  pub few : length answers ≤ most_answers rules
+  pub reading : IsFinished rules answers word
+  pub taken : List Taken
+  pub items : List Given
+  pub run : Run rules.window rules.first rules.frames (datagrams answers) taken items
+  pub steps : List FeedStep
+  pub last : TrackerState
+  pub feeds : Feeds new_tracker items steps last
+  pub tally : t ≡ tally_of steps taken
+  pub text : Outputs a b (λ text. text ≡ feed_line feed ++ steps_text steps)
+
+pub wrote_items : (rules : Rules) (feed : ℕ) (before after : Option Traffic) (a0 a b d : Option Output) (c c' e : State) (f g : TrackerState) (t u : Tallied) (word : EndWord)
+    → Outputs a0 a (λ x. x ≡ feed_line feed) → ReadsTo rules before after a b c f t word → c' ≡ after_finish c rules.frames
+    → PrintsReady rules.frames c' e f g t u b d → WroteItems rules feed before after a0 d u word
+wrote_items rules feed before after a0 a b d c c' e f g t u word first read finished rest =
+    let s = read.so_far in
+    let p = rest.prints in
+    record {
+      answers = read.answers;
+      heard = s.heard;
+      few = read.few;
+      reading = record { goes_on = s.goes_on; ends = read.ends };
+      taken = s.taken;
+      items = up_to rules.frames (s.items ++ rest.items);
+      run = record {
+        during = s.items;
+        rest = rest.items;
+        mid = c;
+        after = e;
+        steps = s.gave;
+        gives = subst (λ m. Gives m rest.items e) finished rest.gives;
+        are = refl;
+      };
+      steps = s.steps ++ p.steps;
+      last = g;
+      feeds = feeds_more rules.frames f g s.items rest.items s.steps p.steps s.feeds p.feeds;
+      tally = p.tally ∙ ap (λ w. with_steps w p.steps) s.tally ∙ steps_counted s.steps p.steps s.taken;
+      text = text_then (feed_line feed) (steps_text (s.steps ++ p.steps)) a0 a d first (texts_join s.steps p.steps a b d s.text p.text);
+    }
+
+-- the refusals that are shown are told of
+pub shown_told : (rules : Rules) (feed : ℕ) (before after : Option Traffic) (a b : Option Output) (t : Tallied) (word : EndWord)
+    → WroteItems rules feed before after a b t word → AreTold t.refused
+shown_told rules feed before after a b t word w =
+    subst (λ (u : Tallied). AreTold u.refused) (sym w.tally)
+    (last_told 16 (refusals w.taken) (refusals_told (made rules.window rules.first) w.run.mid (datagrams w.answers) w.taken w.run.during 0 w.run.steps))
+
+pub pace_finished : (told : Option ℕ) (c c' : State) (f : TrackerState) (t : Tallied) → KeepsPace told c f t → c' ≡ after_finish c told → KeepsPace told c' f t
+pace_finished told c c' f t pace is = record { calls = pace.calls ∙ ap (λ (s : State). steps_before told s.next) (sym is); items = pace.items }
+
+-- the text from the refusals on
+abbrev tail_of : List FeedStep → List Taken → EndWord → List ℕ
+tail_of steps taken word = refused_text (keep_last 16 (refusals taken)) ++ end_line word (sums_of steps (refusals taken))
+
+whole_is : (feed : ℕ) (steps : List FeedStep) (taken : List Taken) (word : EndWord)
+    → ((feed_line feed ++ steps_text steps) ++ tail_of steps taken word) ≡ report feed steps (refusals taken) word
+whole_is feed steps taken word = append_assoc (feed_line feed) (steps_text steps) (tail_of steps taken word)
+
+report_of : (rules : Rules) (feed : ℕ) (before after : Option Traffic) (a b : Option Output) (t : Tallied) (word : EndWord) (w : WroteItems rules feed before after a b t word)
+    → IsReport rules feed w.answers (report feed w.steps (refusals w.taken) word) (is_clean w.steps)
+report_of rules feed before after a b t word w = record {
+  word = word;
+  reading = w.reading;
+  taken = w.taken;
+  items = w.items;
+  run = w.run;
+  steps = w.steps;
+  after = w.last;
+  feeds = w.feeds;
+  text_is = refl;
+  clean_is = refl;
+}
+
+pub reported : (rules : Rules) (feed : ℕ) (before after : Option Traffic) (a b d e : Option Output) (t : Tallied) (word : EndWord) (clean : Bool)
+    → WroteItems rules feed before after a b t word → Outputs b d (λ x. x ≡ refused_text t.refused) → Outputs d e (λ x. x ≡ end_line word t.sums)
+    → IsTrue clean ↔ ((t.sums.missing ≡ 0) × (t.sums.bad ≡ 0)) → Reported rules feed before after a e clean
+reported rules feed before after a b d e t word clean w refused last is =
+    let refused' : Outputs b d (λ x. x ≡ refused_text (keep_last 16 (refusals w.taken))) = subst (λ (u : Tallied). Outputs b d (λ x. x ≡ refused_text u.refused)) w.tally refused in
+    let last' : Outputs d e (λ x. x ≡ end_line word (sums_of w.steps (refusals w.taken))) = subst (λ (u : Tallied). Outputs d e (λ x. x ≡ end_line word u.sums)) w.tally last in
+    record {
+      answers = w.answers;
+      heard = w.heard;
+      few = w.few;
+      whole = report feed w.steps (refusals w.taken) word;
+      is = subst (λ b. IsReport rules feed w.answers (report feed w.steps (refusals w.taken) word) b) (sym (clean_is clean t w.steps w.taken is w.tally)) (report_of rules feed before after a b t word w);
+      text = subst (λ l. Outputs a e (λ x. x ≡ l)) (whole_is feed w.steps w.taken word)
+          (text_then (feed_line feed ++ steps_text w.steps) (tail_of w.steps w.taken word) a b e w.text
+          (text_then (refused_text (keep_last 16 (refusals w.taken))) (end_line word (sums_of w.steps (refusals w.taken))) b d e refused' last'));
+    }
+
+-- ---- where it stops
+
+-- a front of the whole report was written
+front_of_whole : (rules : Rules) (feed : ℕ) (before after : Option Traffic) (a b e : Option Output) (t : Tallied) (word : EndWord) (w : WroteItems rules feed before after a b t word)
+    → Outputs b e (IsFront (tail_of w.steps w.taken word)) → Stopped rules feed before after a e
+front_of_whole rules feed before after a b e t word w tail = record {
+  answers = w.answers;
+  heard = w.heard;
+  goes_on = w.reading.goes_on;
+  text = Outputs-weaker (IsFront ((feed_line feed ++ steps_text w.steps) ++ tail_of w.steps w.taken word)) (IsReportFront rules feed w.answers) a e
+      (front_then (feed_line feed ++ steps_text w.steps) (tail_of w.steps w.taken word) a b e w.text tail)
+      (λ x f. inr (
+        report feed w.steps (refusals w.taken) word,
+        is_clean w.steps,
+        report_of rules feed before after a b t word w,
+        subst (λ l. IsFront l x) (whole_is feed w.steps w.taken word) f,
+      ));
+}
+
+pub refused_front : (rules : Rules) (feed : ℕ) (before after : Option Traffic) (a b d : Option Output) (t : Tallied) (word : EndWord)
+    → WroteItems rules feed before after a b t word → Outputs b d (IsFront (refused_text t.refused)) → Stopped rules feed before after a d
+refused_front rules feed before after a b d t word w refused =
+    front_of_whole rules feed before after a b d t word w
+    (Outputs-weaker (IsFront (refused_text (keep_last 16 (refusals w.taken)))) (IsFront (tail_of w.steps w.taken word)) b d
+    (subst (λ (u : Tallied). Outputs b d (IsFront (refused_text u.refused))) w.tally refused)
+    (λ x f. front_more (refused_text (keep_last 16 (refusals w.taken))) (end_line word (sums_of w.steps (refusals w.taken))) x f))
+
+pub end_front : (rules : Rules) (feed : ℕ) (before after : Option Traffic) (a b d e : Option Output) (t : Tallied) (word : EndWord)
+    → WroteItems rules feed before after a b t word → Outputs b d (λ x. x ≡ refused_text t.refused) → Outputs d e (IsFront (end_line word t.sums)) → Stopped rules feed before after a e
+end_front rules feed before after a b d e t word w refused last =
+    front_of_whole rules feed before after a b e t word w
+    (front_then (refused_text (keep_last 16 (refusals w.taken))) (end_line word (sums_of w.steps (refusals w.taken))) b d e
+    (subst (λ (u : Tallied). Outputs b d (λ x. x ≡ refused_text u.refused)) w.tally refused)
+    (subst (λ (u : Tallied). Outputs d e (IsFront (end_line word u.sums))) w.tally last))
+
+none_given : (rules : Rules) → GivesSome rules [] (up_to rules.frames [])
+none_given rules = record {
+  before = [];
+  later = [];
+  are = refl;
+  taken = [];
+  during = [];
+  mid = made rules.window rules.first;
+  gave = gave_none rules;
+  state = made rules.window rules.first;
+  comes = inl refl;
+  more = [];
+  gives = tt;
+  items_are = refl;
+}
+
+none_fed : (told : Option ℕ) → Feeds new_tracker (up_to told []) [] new_tracker
+none_fed None = refl
+none_fed (Some zero) = refl
+none_fed (Some (suc n)) = refl
+
+-- nothing was read yet
+pub first_front : (rules : Rules) (feed : ℕ) (u : Option Traffic) (a b : Option Output) → Outputs a b (IsFront (feed_line feed)) → Stopped rules feed u u a b
+first_front rules feed u a b text = record {
+  answers = [];
+  heard = heard_none u;
+  goes_on = goes_none rules;
+  text = Outputs-weaker (IsFront (feed_line feed)) (IsReportFront rules feed []) a b text
+      (λ x f. inl (up_to rules.frames [], none_given rules, [], new_tracker, none_fed rules.frames, front_more (feed_line feed) [] x f));
+}
+
+pub nothing_written : (rules : Rules) (feed : ℕ) (u : Option Traffic) (a : Option Output) → Stopped rules feed u u a a
+nothing_written rules feed u a = first_front rules feed u a a (nothing_front (feed_line feed) a)
+
+reading_front : (rules : Rules) (feed : ℕ) (u v : Option Traffic) (a0 a b : Option Output) → Outputs a0 a (λ x. x ≡ feed_line feed) → ReadsFront rules u v a b → Stopped rules feed u v a0 b
+reading_front rules feed u v a0 a b first read = record {
+  answers = read.answers;
+  heard = read.heard;
+  goes_on = read.goes_on;
+  text = Outputs-weaker (IsFront (feed_line feed ++ steps_text read.steps)) (IsReportFront rules feed read.answers) a0 b
+      (front_then (feed_line feed) (steps_text read.steps) a0 a b first read.text)
+      (λ x f. inl (read.items, read.some, read.steps, read.last, read.feeds, f));
+}
+
+-- the reading stopped, but not by the link
+pub reading_stopped : (rules : Rules) (feed : ℕ) (u v : Option Traffic) (a0 a b : Option Output) (r : Result Bool Stop) (why : Stop)
+    → r ≡ Err why → (r ≡ Err stop.Write) ⊎ (r ≡ Err stop.NoMemory) → Outputs a0 a (λ x. x ≡ feed_line feed) → StopsReading rules u v a b why → Stopped rules feed u v a0 b
+reading_stopped rules feed u v a0 a b r stop.Write is other first read = reading_front rules feed u v a0 a b first read
+reading_stopped rules feed u v a0 a b r stop.NoMemory is other first read = reading_front rules feed u v a0 a b first read
+reading_stopped rules feed u v a0 a b r stop.Link is (inl e) first read = absurd (let x : Err stop.Link ≡ Err stop.Write = sym is ∙ e in cc)
+reading_stopped rules feed u v a0 a b r stop.Link is (inr e) first read = absurd (let x : Err stop.Link ≡ Err stop.NoMemory = sym is ∙ e in cc)
+
+broken : (rules : Rules) (feed : ℕ) (u v : Option Traffic) (a0 a b : Option Output) → Outputs a0 a (λ x. x ≡ feed_line feed) → ReadsBroken rules u v a b → Broken rules feed u v a0 b
+broken rules feed u v a0 a b first read = record {
+  answers = read.answers;
+  heard = read.heard;
+  few = read.few;
+  whole = feed_line feed ++ steps_text read.steps;
+  is = record {
+    before = read.sound;
+    reading = read.reading;
+    taken = read.taken;
+    items = read.items;
+    end = read.end;
+    gave = read.gave;
+    steps = read.steps;
+    after = read.last;
+    feeds = read.feeds;
+    text_is = refl;
+  };
+  text = text_then (feed_line feed) (steps_text read.steps) a0 a b first read.text;
+}
+
+-- the reading stopped by the link
+pub reading_broken : (rules : Rules) (feed : ℕ) (u v : Option Traffic) (a0 a b : Option Output) (r : Result Bool Stop) (why : Stop)
+    → r ≡ Err why → r ≡ Err stop.Link → Outputs a0 a (λ x. x ≡ feed_line feed) → StopsReading rules u v a b why → Broken rules feed u v a0 b
+reading_broken rules feed u v a0 a b r stop.Link is e first read = broken rules feed u v a0 a b first read
+reading_broken rules feed u v a0 a b r stop.Write is e first read = absurd (let x : Err stop.Write ≡ Err stop.Link = sym is ∙ e in cc)
+reading_broken rules feed u v a0 a b r stop.NoMemory is e first read = absurd (let x : Err stop.NoMemory ≡ Err stop.Link = sym is ∙ e in cc)
+
+-- what was ready at the end wasn't all written
+pub rest_front : (rules : Rules) (feed : ℕ) (u v : Option Traffic) (a0 a b d : Option Output) (c c' : State) (f : TrackerState) (t : Tallied) (word : EndWord)
+    → Outputs a0 a (λ x. x ≡ feed_line feed) → ReadsTo rules u v a b c f t word → c' ≡ after_finish c rules.frames → PrintsFront rules.frames c' f b d → Stopped rules feed u v a0 d
+rest_front rules feed u v a0 a b d c c' f t word first read finished rest =
+    let s = read.so_far in
+    record {
+      answers = read.answers;
+      heard = s.heard;
+      goes_on = s.goes_on;
+      text = Outputs-weaker (IsFront (feed_line feed ++ steps_text (s.steps ++ rest.steps))) (IsReportFront rules feed read.answers) a0 d
+          (front_then (feed_line feed) (steps_text (s.steps ++ rest.steps)) a0 a d first (front_joins s.steps rest.steps a b d s.text rest.text))
+          (λ x h. inl (
+            up_to rules.frames (s.items ++ rest.items),
+            record {
+              before = read.answers;
+              later = [];
+              are = sym (append-nil read.answers);
+              taken = s.taken;
+              during = s.items;
+              mid = c;
+              gave = s.gave;
+              state = c';
+              comes = inr (inr (word, refl, read.ends, finished));
+              more = rest.items;
+              gives = rest.gives;
+              items_are = refl;
+            },
+            s.steps ++ rest.steps,
+            rest.after,
+            feeds_more rules.frames f rest.after s.items rest.items s.steps rest.steps s.feeds rest.feeds,
+            h,
+          ));
+    }

@@ -1,0 +1,12 @@
+use Rattle.mod_receiver.proofs.Composing.{headline, complete}
+use Rattle.mod_receiver.proofs.follow.reports_follow.Goals as goal
+
+pub returns-clause-headlines : goal.returns-clause-headlines
+returns-clause-headlines c =
+    let laws = c.laws_of_deliveries.ensures in
+    headline laws.delivering (record { in_time = laws.in_time; at_starts = laws.at_starts; all_switches = laws.all_switches })
+
+pub returns-clause-completes : goal.returns-clause-completes
+returns-clause-completes c =
+    let laws = c.laws_of_deliveries.ensures in
+    complete laws.delivering laws.early laws.all_frames (record { in_time = laws.in_time; at_starts = laws.at_starts; all_switches = laws.all_switches })

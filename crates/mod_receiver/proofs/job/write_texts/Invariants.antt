@@ -1,0 +1,11 @@
+use Rattle.std.proofs.Common.{◌≡◌, ◌≤◌, take}
+use Rattle.std.specs.List.{flat_map}
+use Rattle.drm_links.specs.Sink.{Outputs}
+use Rattle.mod_receiver.specs.Jobs.{text_of}
+use Rattle.mod_receiver.proofs.job.write_texts.Given as goal
+
+-- the texts before this one were written
+abbrev pub invariant-loop-job : goal.invariant-loop-job
+invariant-loop-job g l =
+    Outputs (g.O.Sink.tells l.fn.out) (g.O.Sink.tells l.out) (λ text. text ≡ flat_map (λ job. text_of job) (take l.job-index l.jobs))
+    × (g.O.Sink.faults l.fn.out ≤ g.O.Sink.faults l.out)

@@ -1,0 +1,5 @@
+use Rattle.mod_receiver.proofs.OneReading.{one_report}
+use Rattle.mod_receiver.proofs.reading_laws.one_report.Goals as goal
+
+pub returns : goal.returns
+returns c = one_report

@@ -1,0 +1,31 @@
+-- The report of what is ahead of a link.
+use Rattle.std.specs.Prelude.{ℕ, Bool, List}
+use Rattle.drm_links.specs.Link.{Answer}
+use Rattle.mod_receiver.specs.Hearing.{AreNext}
+use Rattle.mod_receiver.specs.declared.rules.Rules.{Rules}
+use Rattle.mod_receiver.specs.Reading.{IsBroken}
+use Rattle.mod_receiver.specs.Received.{IsReport}
+use Rattle.mod_receiver.specs.Headline.{HeadlineOf, CompleteOf}
+
+-- a report: its text, and whether no line of it is missing or bad
+pub record Report : Type 0 where
+  pub text : List ℕ
+  pub clean : Bool
+
+-- The report of what is ahead of a link: of the answers that are read of it. It is that of the delivery that is read, and
+-- where each frame is in time of all frames.
+pub record IsReportOf (rules : Rules) (feed : ℕ) (ahead : List Answer) (r : Report) : Type 0 where
+  pub answers : List Answer
+  pub rest : List Answer
+  pub next : AreNext ahead answers rest
+  pub is : IsReport rules feed answers r.text r.clean
+  pub headline : HeadlineOf rules feed answers r.text r.clean
+  pub complete : CompleteOf rules feed ahead r.text r.clean
+
+-- What is ahead of a link breaks off: its reading ends in `Failed`.
+pub record BreaksOff (rules : Rules) (ahead : List Answer) : Type 0 where
+  pub before : List Answer
+  pub answers : List Answer
+  pub rest : List Answer
+  pub next : AreNext ahead answers rest
+  pub reading : IsBroken rules before answers

@@ -1,0 +1,72 @@
+-- Receivers side by side.
+use Rattle.std.specs.Prelude.{ℕ, ◌≡◌, ◌≤◌, ◌<◌, ◌+◌, IsTrue, not, All, Bool, true, false, List, [], slice_index_or, vec_len, Option, Some, IsSome, MatchOption}
+use Rattle.drm_links.specs.Told.{HasCause}
+use Rattle.drm_links.specs.Link.{Traffic}
+use Rattle.dcp_collect.specs.State.{made}
+use Rattle.drm_timeline.specs.Tracker.{new_tracker}
+use Rattle.mod_receiver.specs.declared.rules.Rules.{Rules}
+use Rattle.mod_receiver.specs.Texts.{text_tells}
+use Rattle.mod_receiver.specs.Received.{IsReasonable, EndsAs, rules_of}
+use Rattle.mod_receiver.specs.declared.receiver.Options.{Options}
+use Rattle.mod_receiver.specs.declared.receiver.Ended.{Ended}
+use Rattle.mod_receiver.specs.declared.receiver.Ended.TheVariants.{Done, LinkFailed}
+use Rattle.mod_receiver.specs.declared.job.Job.{Job}
+
+-- by what the receiver with this number goes
+abbrev pub options_for : Rules → ℕ → Options
+options_for rules number = record { feed = number; frames = rules.frames; idle = rules.idle; limit = rules.limit }
+
+-- a receiver with this number, which goes by these rules
+pub record IsJob {L : Type 0} (rules : Rules) (number : ℕ) (job : Job L) : Type 0 where
+  pub buffer : 65536 ≤ vec_len job.buffer
+  pub options : job.options ≡ options_for rules number
+  pub collector : job.collector ≡ made rules.window rules.first
+  pub feed : job.feed ≡ new_tracker
+  pub text : text_tells job.text ≡ Some (record { written = []; calls = 0 })
+
+-- receivers with the numbers from 1 on
+abbrev pub AreJobs : {L : Type 0} → Rules → ℕ → List (Job L) → Type 0
+AreJobs {L} rules many jobs = (k : ℕ) (none : Job L) → k < many → IsJob rules (k + 1) (slice_index_or jobs k none)
+
+-- Nothing was received yet.
+pub record IsReady {L : Type 0} (job : Job L) : Type 0 where
+  pub buffer : 65536 ≤ vec_len job.buffer
+  pub options : IsReasonable job.options
+  pub window : (1 ≤ job.collector.window) × (job.collector.window ≤ 64)
+  pub collector : job.collector ≡ made job.collector.window job.collector.first
+  pub feed : job.feed ≡ new_tracker
+
+-- what a receiver reads by
+abbrev pub job_rules : {L : Type 0} → Job L → Rules
+job_rules job = rules_of job.collector job.options
+
+-- The receiver ended as this says: its link, its text and the cause of its end are those of `receive_one`.
+pub record EndedAs {L : Type 0} (faults : L → ℕ) (tells : L → Option Traffic) (before after : Job L) (ended : Ended) : Type 0 where
+  pub ends : EndsAs (job_rules before) before.options.feed (tells before.link) (tells after.link) (text_tells before.text) (text_tells after.text) ended
+  pub link : HasCause (faults before.link) (faults after.link) (ended ≡ LinkFailed)
+
+abbrev pub HasEnded : {L : Type 0} → (L → ℕ) → (L → Option Traffic) → Job L → Job L → Type 0
+HasEnded faults tells before after = MatchOption after.ended ⊥ (EndedAs faults tells before after)
+
+-- the text of a receiver
+abbrev pub text_of : {L : Type 0} → Job L → List ℕ
+text_of job = job.text.bytes.items
+
+abbrev pub is_failed : Option Ended → Bool
+is_failed (Some LinkFailed) = true
+is_failed ended = false
+
+abbrev pub clean_by : Option Ended → Bool
+clean_by (Some (Done clean)) = clean
+clean_by ended = false
+
+abbrev pub clean_of : {L : Type 0} → Job L → Bool
+clean_of job = clean_by job.ended
+
+-- its report is whole, and its text is told
+abbrev pub IsDone : {L : Type 0} → Job L → Type 0
+IsDone job = (job.ended ≡ Some (Done (clean_of job))) × IsSome (text_tells job.text)
+
+-- no receiver's link failed
+abbrev pub NoneFailed : {L : Type 0} → List (Job L) → Type 0
+NoneFailed jobs = All (λ job. IsTrue (not (is_failed job.ended))) jobs

@@ -1,0 +1,13 @@
+pub mod Hearing
+pub mod Reading
+pub mod Reports
+pub mod Tallies
+pub mod Received
+pub mod Printed
+pub mod OneReading
+pub mod Headline
+pub mod Texts
+pub mod Ranges
+pub mod Ahead
+pub mod Jobs
+pub mod Following

@@ -1,0 +1,147 @@
+-- What a receiver has written of what came so far.
+use Rattle.std.specs.Prelude.{ℕ, ◌≡◌, ◌≤◌, ◌+◌, ◌-◌, Bool, false, min, nat_le, List, [], ◌∷◌, length, Option, None, Some}
+use Rattle.circular_buffer.specs.Buffer.{keep_last}
+use Rattle.drm_links.specs.Link.{Answer, Traffic}
+use Rattle.drm_links.specs.Sink.{Output, Outputs, IsFront}
+use Rattle.dcp_collect.specs.declared.taken.Taken.{Taken}
+use Rattle.dcp_collect.specs.State.{State}
+use Rattle.dcp_collect.specs.Runs.{Item, Takes, Gives, up_to}
+use Rattle.drm_timeline.specs.Tracker.{TrackerState, new_tracker}
+use Rattle.mod_feed.specs.Feeding.{FeedStep, Feeds}
+use Rattle.drm_show.specs.declared.report.EndWord.{EndWord}
+use Rattle.drm_show.specs.declared.report.Sums.{Sums}
+use Rattle.mod_receiver.specs.Hearing.{Heard}
+use Rattle.mod_receiver.specs.declared.rules.Rules.{Rules}
+use Rattle.mod_receiver.specs.declared.stop.Stop.{Stop}
+use Rattle.mod_receiver.specs.declared.stop.Stop.TheVariants as stop
+use Rattle.mod_receiver.specs.Reading.{Gave, EndsBy, GoesOn, IsBroken, most_answers}
+use Rattle.mod_receiver.specs.Reports.{refusals, steps_text, sums_of}
+use Rattle.mod_receiver.specs.Tallies.{Tallied, counted, noted}
+use Rattle.mod_receiver.specs.Received.{GivesFirst, GivesSome}
+
+-- how many items these sums count
+abbrev pub items_in : Sums → ℕ
+items_in sums = sums.given + sums.missing + sums.bad
+
+-- as many items were given as are told
+abbrev pub is_full : Option ℕ → ℕ → Bool
+is_full None n = false
+is_full (Some told) n = nat_le told n
+
+-- how many of those told are left
+abbrev pub left_of : Option ℕ → ℕ → Option ℕ
+left_of None n = None
+left_of (Some told) n = Some (told - n)
+
+-- how many steps a feed has made where the collector's next number is this
+abbrev pub steps_before : Option ℕ → ℕ → ℕ
+steps_before None next = next
+steps_before (Some told) next = min next told
+
+abbrev pub with_steps : Tallied → List FeedStep → Tallied
+with_steps tally [] = tally
+with_steps tally (step ∷ steps) = with_steps (counted tally step.item) steps
+
+-- what is counted of these steps and of what became of these datagrams
+abbrev pub tally_of : List FeedStep → List Taken → Tallied
+tally_of steps taken = record { sums = sums_of steps (refusals taken); refused = keep_last 16 (refusals taken) }
+
+-- Each item below the told number was given to the feed, and was counted.
+pub record KeepsPace (told : Option ℕ) (c : State) (f : TrackerState) (t : Tallied) : Type 0 where
+  pub calls : f.calls ≡ steps_before told c.next
+  pub items : items_in t.sums ≡ f.calls
+
+-- the items were given to the feed and counted, up to the told number, and their lines were written
+pub record Prints (told : Option ℕ) (f f' : TrackerState) (t t' : Tallied) (a b : Option Output) (items : List Item) : Type 0 where
+  pub steps : List FeedStep
+  pub feeds : Feeds f (up_to (left_of told f.calls) items) steps f'
+  pub tally : t' ≡ with_steps t steps
+  pub text : Outputs a b (λ text. text ≡ steps_text steps)
+
+-- what is ready was written
+pub record PrintsReady (told : Option ℕ) (c d : State) (f f' : TrackerState) (t t' : Tallied) (a b : Option Output) : Type 0 where
+  pub items : List Item
+  pub gives : Gives c items d
+  pub prints : Prints told f f' t t' a b items
+
+-- a front of the lines of some first items that are ready was written
+pub record PrintsFront (told : Option ℕ) (c : State) (f : TrackerState) (a b : Option Output) : Type 0 where
+  pub items : List Item
+  pub gives : GivesFirst c items
+  pub steps : List FeedStep
+  pub after : TrackerState
+  pub feeds : Feeds f (up_to (left_of told f.calls) items) steps after
+  pub text : Outputs a b (IsFront (steps_text steps))
+
+-- a datagram was taken and noted, and what it made ready was written
+pub record PrintsTaken (told : Option ℕ) (number : ℕ) (bytes : List ℕ) (c d : State) (f f' : TrackerState) (t t' : Tallied) (a b : Option Output) : Type 0 where
+  pub answer : Taken
+  pub kept : State
+  pub takes : Takes c bytes answer kept
+  pub ready : PrintsReady told kept d f f' (noted t number answer) t' a b
+
+-- a datagram was taken, and a front of what it made ready was written
+pub record TakesFront (told : Option ℕ) (bytes : List ℕ) (c : State) (f : TrackerState) (a b : Option Output) : Type 0 where
+  pub answer : Taken
+  pub kept : State
+  pub takes : Takes c bytes answer kept
+  pub front : PrintsFront told kept f a b
+
+-- what stops the taking of a datagram
+abbrev pub StopsTaking : Option ℕ → List ℕ → State → TrackerState → Option Output → Option Output → Stop → Type 0
+StopsTaking told bytes c f a b stop.Link = ⊥
+StopsTaking told bytes c f a b stop.Write = TakesFront told bytes c f a b
+StopsTaking told bytes c f a b stop.NoMemory = b ≡ a
+
+-- The reading has come so far: these answers came, and what was ready was written.
+pub record SoFar (rules : Rules) (before after : Option Traffic) (a b : Option Output) (c : State) (f : TrackerState) (t : Tallied) (answers : List Answer) : Type 0 where
+  pub heard : Heard answers before after
+  pub goes_on : GoesOn rules answers
+  pub taken : List Taken
+  pub items : List Item
+  pub gave : Gave rules answers taken items c
+  pub steps : List FeedStep
+  pub feeds : Feeds new_tracker (up_to rules.frames items) steps f
+  pub tally : t ≡ tally_of steps taken
+  pub text : Outputs a b (λ text. text ≡ steps_text steps)
+
+-- the reading is finished, for this reason
+pub record ReadsTo (rules : Rules) (before after : Option Traffic) (a b : Option Output) (c : State) (f : TrackerState) (t : Tallied) (word : EndWord) : Type 0 where
+  pub answers : List Answer
+  pub so_far : SoFar rules before after a b c f t answers
+  pub few : length answers ≤ most_answers rules
+  pub ends : EndsBy rules answers word
+
+-- the reading ended in `Failed`, and what was given before was written
+pub record ReadsBroken (rules : Rules) (before after : Option Traffic) (a b : Option Output) : Type 0 where
+  pub answers : List Answer
+  pub heard : Heard answers before after
+  pub few : length answers ≤ most_answers rules
+  pub sound : List Answer
+  pub reading : IsBroken rules sound answers
+  pub taken : List Taken
+  pub items : List Item
+  pub end : State
+  pub gave : Gave rules sound taken items end
+  pub steps : List FeedStep
+  pub last : TrackerState
+  pub feeds : Feeds new_tracker (up_to rules.frames items) steps last
+  pub text : Outputs a b (λ text. text ≡ steps_text steps)
+
+-- the reading stopped, and a front of the lines of some first items was written
+pub record ReadsFront (rules : Rules) (before after : Option Traffic) (a b : Option Output) : Type 0 where
+  pub answers : List Answer
+  pub heard : Heard answers before after
+  pub goes_on : GoesOn rules answers
+  pub items : List Item
+  pub some : GivesSome rules answers items
+  pub steps : List FeedStep
+  pub last : TrackerState
+  pub feeds : Feeds new_tracker items steps last
+  pub text : Outputs a b (IsFront (steps_text steps))
+
+-- what stops a reading
+abbrev pub StopsReading : Rules → Option Traffic → Option Traffic → Option Output → Option Output → Stop → Type 0
+StopsReading rules before after a b stop.Link = ReadsBroken rules before after a b
+StopsReading rules before after a b stop.Write = ReadsFront rules before after a b
+StopsReading rules before after a b stop.NoMemory = ReadsFront rules before after a b

@@ -1,0 +1,77 @@
+-- When a receiver has read enough of a link.
+use Rattle.std.specs.Prelude.{ℕ, ◌≡◌, ◌+◌, ◌*◌, ◌<◌, ◌≤◌, List, [], ◌∷◌, ◌++◌, length, take, Option, None, Some}
+use Rattle.std.specs.List.{filter_map, AllByRecursion}
+use Rattle.drm_links.specs.Link.{Answer, Datagram, Idle, Failed, datagram_of}
+use Rattle.dcp_collect.specs.declared.taken.Taken.{Taken}
+use Rattle.dcp_collect.specs.State.{State, made}
+use Rattle.dcp_collect.specs.Runs.{Item, Steps}
+use Rattle.drm_show.specs.declared.report.EndWord.{EndWord}
+use Rattle.drm_show.specs.declared.report.EndWord.TheVariants as word
+use Rattle.mod_receiver.specs.declared.rules.Rules.{Rules}
+
+-- the datagrams among the answers
+abbrev pub datagrams : List Answer → List (List ℕ)
+datagrams answers = filter_map datagram_of answers
+
+-- how many idle answers stand at the end, behind n of them
+abbrev pub idles_from : ℕ → List Answer → ℕ
+idles_from n [] = n
+idles_from n (Datagram bytes ∷ answers) = idles_from 0 answers
+idles_from n (Idle ∷ answers) = idles_from (n + 1) answers
+idles_from n (Failed ∷ answers) = idles_from 0 answers
+
+abbrev pub idles : List Answer → ℕ
+idles answers = idles_from 0 answers
+
+-- A new collector that takes these datagrams, and gives all that is ready after each, has given these items.
+abbrev pub Gave : Rules → List Answer → List Taken → List Item → State → Type 0
+Gave rules answers taken items end = Steps (made rules.window rules.first) (datagrams answers) taken items end
+
+-- as many items were given as are told
+abbrev pub HasGiven : Rules → List Answer → Option ℕ → Type 0
+HasGiven rules answers None = ⊥
+HasGiven rules answers (Some n) = (taken : List Taken) × (items : List Item) × (end : State) × Gave rules answers taken items end × (n ≤ length items)
+
+-- a reason to end after these answers
+abbrev pub Holds : Rules → List Answer → EndWord → Type 0
+Holds rules answers word.Frames = HasGiven rules answers rules.frames
+Holds rules answers word.Limit = length (datagrams answers) ≡ rules.limit
+Holds rules answers word.Idle = rules.idle ≤ idles answers
+Holds rules answers other = ⊥
+
+abbrev pub IsOpen : Rules → List Answer → Type 0
+IsOpen rules answers = (w : EndWord) → Holds rules answers w → ⊥
+
+-- the first reason that holds
+abbrev pub EndsBy : Rules → List Answer → EndWord → Type 0
+EndsBy rules answers word.Frames = Holds rules answers word.Frames
+EndsBy rules answers word.Limit = Holds rules answers word.Limit × (Holds rules answers word.Frames → ⊥)
+EndsBy rules answers word.Idle =
+    Holds rules answers word.Idle × (Holds rules answers word.Frames → ⊥) × (Holds rules answers word.Limit → ⊥)
+EndsBy rules answers other = ⊥
+
+-- the answer didn't fail
+abbrev pub IsSound : Answer → Type 0
+IsSound (Datagram bytes) = Unit {0}
+IsSound Idle = Unit {0}
+IsSound Failed = ⊥
+
+-- Nothing failed, and nothing shorter than these answers is finished.
+pub record GoesOn (rules : Rules) (answers : List Answer) : Type 0 where
+  pub sound : AllByRecursion IsSound answers
+  pub shorter : (k : ℕ) → k < length answers → IsOpen rules (take k answers)
+
+-- These answers are the shortest that are finished, and this is why.
+pub record IsFinished (rules : Rules) (answers : List Answer) (w : EndWord) : Type 0 where
+  pub goes_on : GoesOn rules answers
+  pub ends : EndsBy rules answers w
+
+-- These answers, none of whose fronts is finished, are the shortest that end in `Failed`.
+pub record IsBroken (rules : Rules) (before answers : List Answer) : Type 0 where
+  pub last : answers ≡ before ++ Failed ∷ []
+  pub goes_on : GoesOn rules before
+  pub is_open : IsOpen rules before
+
+-- so many answers are read at the most
+abbrev pub most_answers : Rules → ℕ
+most_answers rules = rules.limit * rules.idle + rules.idle + 1

@@ -1,0 +1,130 @@
+-- What a receiver does.
+use Rattle.std.specs.Prelude.{ℕ, ◌≡◌, ◌≤◌, ◌<◌, ◌⊎◌, Bool, true, IfSome, List, [], ◌∷◌, ◌++◌, length, Option}
+use Rattle.drm_links.specs.Link.{Answer, Datagram, Traffic}
+use Rattle.drm_links.specs.Sink.{Output, Outputs, IsFront}
+use Rattle.dcp_collect.specs.declared.taken.Taken.{Taken}
+use Rattle.dcp_collect.specs.State.{State, ready, after_item, after_finish}
+use Rattle.dcp_collect.specs.Runs.{Item, IsItem, Takes, Run, up_to}
+use Rattle.drm_timeline.specs.Tracker.{TrackerState, new_tracker}
+use Rattle.mod_feed.specs.Feeding.{FeedStep, Feeds}
+use Rattle.drm_show.specs.declared.report.EndWord.{EndWord}
+use Rattle.drm_show.specs.Report.{feed_line}
+use Rattle.mod_receiver.specs.Hearing.{Heard}
+use Rattle.mod_receiver.specs.declared.rules.Rules.{Rules}
+use Rattle.mod_receiver.specs.Reading.{datagrams, Gave, EndsBy, GoesOn, IsFinished, IsBroken, most_answers}
+use Rattle.mod_receiver.specs.Reports.{refusals, steps_text, report, is_clean}
+use Rattle.mod_receiver.specs.declared.receiver.Options.{Options}
+use Rattle.mod_receiver.specs.declared.receiver.Ended.{Ended}
+use Rattle.mod_receiver.specs.declared.receiver.Ended.TheVariants.{Done, LinkFailed, WriteFailed, NoMemory}
+
+-- The report of these answers: the shortest that are finished, what a new collector and a new feed give of their datagrams,
+-- and why they end.
+pub record IsReport (rules : Rules) (feed : ℕ) (answers : List Answer) (text : List ℕ) (clean : Bool) : Type 0 where
+  pub word : EndWord
+  pub reading : IsFinished rules answers word
+  pub taken : List Taken
+  pub items : List Item
+  pub run : Run rules.window rules.first rules.frames (datagrams answers) taken items
+  pub steps : List FeedStep
+  pub after : TrackerState
+  pub feeds : Feeds new_tracker items steps after
+  pub text_is : text ≡ report feed steps (refusals taken) word
+  pub clean_is : clean ≡ is_clean steps
+
+-- What is written where the reading ends in `Failed`: the first line, and the items that were given before it.
+pub record IsBrokenOff (rules : Rules) (feed : ℕ) (answers : List Answer) (text : List ℕ) : Type 0 where
+  pub before : List Answer
+  pub reading : IsBroken rules before answers
+  pub taken : List Taken
+  pub items : List Item
+  pub end : State
+  pub gave : Gave rules before taken items end
+  pub steps : List FeedStep
+  pub after : TrackerState
+  pub feeds : Feeds new_tracker (up_to rules.frames items) steps after
+  pub text_is : text ≡ feed_line feed ++ steps_text steps
+
+-- some first items that a collector gives, each while it is ready
+abbrev pub GivesFirst : State → List Item → Type 0
+GivesFirst c [] = Unit {0}
+GivesFirst c (item ∷ items) = (ready c ≡ true) × IsItem c item × GivesFirst (after_item c) items
+
+-- a collector after the last of these answers: as it was, or with that datagram taken, or finished where the reading is
+abbrev pub ComesTo : Rules → List Answer → List Answer → State → State → Type 0
+ComesTo rules answers later mid c =
+    (c ≡ mid)
+    ⊎ ((bytes : List ℕ) × (answer : Taken) × (later ≡ Datagram bytes ∷ []) × Takes mid bytes answer c)
+    ⊎ ((word : EndWord) × (later ≡ []) × EndsBy rules answers word × (c ≡ after_finish mid rules.frames))
+
+-- These are some first items of those that the answers give: all that was given before the last of them, and then some.
+pub record GivesSome (rules : Rules) (answers : List Answer) (items : List Item) : Type 0 where
+  pub before : List Answer
+  pub later : List Answer
+  pub are : answers ≡ before ++ later
+  pub taken : List Taken
+  pub during : List Item
+  pub mid : State
+  pub gave : Gave rules before taken during mid
+  pub state : State
+  pub comes : ComesTo rules answers later mid state
+  pub more : List Item
+  pub gives : GivesFirst state more
+  pub items_are : items ≡ up_to rules.frames (during ++ more)
+
+-- What is written is a front of the first line and of the lines of some first items, or of the whole report.
+abbrev pub IsReportFront : Rules → ℕ → List Answer → List ℕ → Type 0
+IsReportFront rules feed answers text =
+    ((items : List Item) × GivesSome rules answers items × (steps : List FeedStep) × (after : TrackerState)
+    × Feeds new_tracker items steps after × IsFront (feed_line feed ++ steps_text steps) text)
+    ⊎ ((whole : List ℕ) × (clean : Bool) × IsReport rules feed answers whole clean × IsFront whole text)
+
+-- The reading was finished, and the report of what was read was written.
+pub record Reported (rules : Rules) (feed : ℕ) (before after : Option Traffic) (a b : Option Output) (clean : Bool) : Type 0 where
+  pub answers : List Answer
+  pub heard : Heard answers before after
+  pub few : length answers ≤ most_answers rules
+  pub whole : List ℕ
+  pub is : IsReport rules feed answers whole clean
+  pub text : Outputs a b (λ text. text ≡ whole)
+
+-- The reading ended in `Failed`, and what was given before was written.
+pub record Broken (rules : Rules) (feed : ℕ) (before after : Option Traffic) (a b : Option Output) : Type 0 where
+  pub answers : List Answer
+  pub heard : Heard answers before after
+  pub few : length answers ≤ most_answers rules
+  pub whole : List ℕ
+  pub is : IsBrokenOff rules feed answers whole
+  pub text : Outputs a b (λ text. text ≡ whole)
+
+-- A write failed or memory ran out: nothing shorter than what was read is finished, and a front of its report was written.
+pub record Stopped (rules : Rules) (feed : ℕ) (before after : Option Traffic) (a b : Option Output) : Type 0 where
+  pub answers : List Answer
+  pub heard : Heard answers before after
+  pub goes_on : GoesOn rules answers
+  pub text : Outputs a b (IsReportFront rules feed answers)
+
+-- what a call reads by: from its new collector and its options
+abbrev pub rules_of : State → Options → Rules
+rules_of c options = record { window = c.window; first = c.first; frames = options.frames; idle = options.idle; limit = options.limit }
+
+-- each number of the options is in its range
+pub record IsReasonable (options : Options) : Type 0 where
+  pub feed : 0 < options.feed
+  pub idle : 0 < options.idle
+  pub limit : 0 < options.limit
+  pub some_frames : IfSome options.frames (λ n. 0 < n)
+  pub few_frames : IfSome options.frames (λ n. n ≤ 3000000)
+
+-- what each ending says
+abbrev pub EndsAs : Rules → ℕ → Option Traffic → Option Traffic → Option Output → Option Output → Ended → Type 0
+EndsAs rules feed before after a b (Done clean) = Reported rules feed before after a b clean
+EndsAs rules feed before after a b LinkFailed = Broken rules feed before after a b
+EndsAs rules feed before after a b WriteFailed = Stopped rules feed before after a b
+EndsAs rules feed before after a b NoMemory = Stopped rules feed before after a b
+
+-- where it is done, P holds of whether no item is missing or bad
+abbrev pub IfDone : (Bool → Type 0) → Ended → Type 0
+IfDone P (Done clean) = P clean
+IfDone P LinkFailed = Unit {0}
+IfDone P WriteFailed = Unit {0}
+IfDone P NoMemory = Unit {0}

@@ -1,0 +1,34 @@
+//! What the laws of deliveries say of reports.
+
+ghost use Rattle.mod_delivery.specs.Laws.{Delivering, DeliveringEarly, GivenInTime, SwitchesAtStarts, AllSwitches, AllFrames};
+ghost use Rattle.mod_receiver.specs.Following.{HeadlinesFollow, CompletesFollow};
+
+use mod_delivery::{
+    all_frames_are_given, all_switches_are_told, frames_in_time_are_given, modulators_give,
+    modulators_give_early, switches_are_told_at_starts,
+};
+
+/// A report is that of the delivery that was read, and that of all frames where each of them is in time.
+pub fn reports_follow()
+    ensures headlines { HeadlinesFollow }
+    ensures completes { CompletesFollow }
+{
+    laws_of_deliveries();
+}
+
+/// The laws that this rests on.
+pub fn laws_of_deliveries()
+    ensures delivering { Delivering }
+    ensures early { DeliveringEarly }
+    ensures in_time { GivenInTime }
+    ensures at_starts { SwitchesAtStarts }
+    ensures all_switches { AllSwitches }
+    ensures all_frames { AllFrames }
+{
+    modulators_give();
+    modulators_give_early();
+    frames_in_time_are_given();
+    switches_are_told_at_starts();
+    all_switches_are_told();
+    all_frames_are_given();
+}

@@ -1,0 +1,149 @@
+//! Receivers side by side.
+
+ghost use Rattle.std.specs.Prelude.{ℕ, ◌≡◌, ◌<◌, ◌≤◌, ◌↔◌, IsTrue, not, length, vec_len, slice_index_or, All, IfOk, OnOk, OnErr, IsErr};
+ghost use Rattle.std.specs.List.{flat_map};
+ghost use Rattle.drm_links.specs.Told.{HasCause};
+ghost use Rattle.drm_links.specs.Sink.{Outputs, IsFront};
+ghost use Rattle.mod_receiver.specs.Jobs.{IsJob, IsReady, HasEnded, IsDone, is_failed, clean_of, text_of};
+
+use crate::receiver::{Ended, Options, receive_one};
+use crate::rules::Rules;
+use crate::text::Text;
+use dcp_collect::Collector;
+use drm_bits::NoMemory;
+use drm_links::{Link, Sink, WriteFault, write_all};
+use mod_feed::Feed;
+use std::alloc::Global;
+use std::thread;
+use std::thread::Threads;
+
+/// A receiver: its link, what it keeps, and how it ended.
+#[derive(Drop)]
+pub struct Job<L: Link> {
+    pub link: L,
+    pub collector: Collector,
+    pub feed: Feed,
+    pub options: Options,
+    pub buffer: Vec<u8>,
+    pub text: Text,
+    pub ended: Option<Ended>,
+}
+
+/// The most receivers of a run, each with a thread.
+const MOST_THREADS: usize = 16;
+
+/// Room for the longest datagram.
+const MOST_BYTES: usize = 65536;
+
+/// A receiver of this link, under the number of its feed.
+pub fn job_for<L: Link>(alloc: Global, rules: &Rules, feed: u8, link: L) -> Result<Job<L>, NoMemory>
+    requires some { 1 ≤ rules.now.window }
+    requires few { rules.now.window ≤ 64 }
+    ensures job { IfOk result (IsJob rules.now feed) }
+    ensures link { IfOk result (λ job. job.link ≡ link) }
+{
+    let collector = Collector::make(alloc, rules.window, rules.first)?;
+    let buffer = room(alloc, MOST_BYTES)?;
+    Ok(Job {
+        link,
+        collector,
+        feed: Feed::new(),
+        options: Options {
+            feed,
+            frames: rules.frames,
+            idle: rules.idle,
+            limit: rules.limit,
+        },
+        buffer,
+        text: Text::new(alloc),
+        ended: None,
+    })
+}
+
+// Room for so many bytes.
+fn room(alloc: Global, len: usize) -> Result<Vec<u8>, NoMemory>
+    ensures { IfOk result (λ bytes. vec_len bytes ≡ len) }
+{
+    Ok(vec![in alloc; 0u8; len]?)
+}
+
+fn run_one<L: Link>(alloc: Global, job: &mut Job<L>)
+    requires { IsReady job.old }
+    ensures { HasEnded L.faults L.tells job.old job.new }
+{
+    let ended = receive_one(
+        alloc,
+        &mut job.collector,
+        &mut job.feed,
+        &mut job.link,
+        &job.options,
+        job.buffer.as_mut_slice(),
+        &mut job.text,
+    );
+    job.ended = Some(ended);
+}
+
+/// Runs all receivers, in threads.
+pub fn run_all<R: Threads + Sync, L: Link + Send>(rt: &R, alloc: Global, jobs: &mut [Job<L>])
+    requires { All IsReady jobs.old }
+    ensures { (k : ℕ) (d : _) → k < length jobs.old → HasEnded L.faults L.tells (slice_index_or jobs.old k d) (slice_index_or jobs.new k d) }
+{
+    thread::for_each_mut(rt, jobs, MOST_THREADS, &|_, job| run_one(alloc, job));
+}
+
+/// Whether no receiver's link failed.
+pub fn none_failed<L: Link>(jobs: &[Job<L>]) -> bool
+    ensures { IsTrue result ↔ All (λ job. IsTrue (not (is_failed job.ended))) jobs.now }
+{
+    jobs.iter().all(|job| !has_failed(job))
+}
+
+fn has_failed<L: Link>(job: &Job<L>) -> bool
+    ensures { result ≡ is_failed job.now.ended }
+{
+    matches!(job.ended, Some(Ended::LinkFailed))
+}
+
+/// Whether each receiver's report is whole, and its text told.
+pub fn all_done<L: Link>(jobs: &[Job<L>]) -> bool
+    ensures { IsTrue result ↔ All IsDone jobs.now }
+{
+    jobs.iter().all(|job| is_done(job))
+}
+
+fn is_done<L: Link>(job: &Job<L>) -> bool
+    ensures { IsTrue result ↔ IsDone job.now }
+{
+    match job.ended {
+        Some(Ended::Done { clean: _ }) => job.text.is_told(),
+        _ => false,
+    }
+}
+
+/// Whether no receiver's report has a missing or bad line.
+pub fn all_clean<L: Link>(jobs: &[Job<L>]) -> bool
+    ensures { IsTrue result ↔ All (λ job. IsTrue (clean_of job)) jobs.now }
+{
+    jobs.iter().all(|job| is_clean(job))
+}
+
+fn is_clean<L: Link>(job: &Job<L>) -> bool
+    ensures { result ≡ clean_of job.now }
+{
+    match job.ended {
+        Some(Ended::Done { clean }) => clean,
+        _ => false,
+    }
+}
+
+/// Writes the texts of all receivers, in their order.
+pub fn write_texts<L: Link, O: Sink>(jobs: &[Job<L>], out: &mut O) -> Result<(), WriteFault>
+    ensures whole { OnOk result (Outputs (O.tells out.old) (O.tells out.new) (λ text. text ≡ flat_map (λ job. text_of job) jobs.now)) }
+    ensures front { OnErr result (Outputs (O.tells out.old) (O.tells out.new) (IsFront (flat_map (λ job. text_of job) jobs.now))) }
+    ensures cause { HasCause (O.faults out.old) (O.faults out.new) (IsErr result) }
+{
+    for job in jobs {
+        write_all(out, job.text.bytes())?;
+    }
+    Ok(())
+}

@@ -1,0 +1,20 @@
+//! Receivers: each reads a link until it has read enough, and writes the report of what came; several side by side.
+#![tactic(auto)]
+
+mod follow;
+mod job;
+mod reading;
+mod reading_laws;
+mod receiver;
+mod rules;
+mod stop;
+mod tally;
+mod text;
+
+pub use follow::{laws_of_deliveries, reports_follow};
+pub use job::{Job, all_clean, all_done, job_for, none_failed, run_all, write_texts};
+pub use reading_laws::{one_reading_of_a_link, one_report};
+pub use receiver::{Ended, Options, receive_one};
+pub use rules::Rules;
+pub use tally::Refusal;
+pub use text::Text;

@@ -1,0 +1,182 @@
+//! Reading a link: each datagram is taken, and each item that it makes ready is written.
+
+ghost use Rattle.std.specs.Prelude.{◌≡◌, ◌≤◌, ◌<◌, ◌^◌, ◌⊎◌, length, false, None, Err, IfOk, IfErr, OnOk, OnErr, IsErr, IfSome};
+ghost use Rattle.dcp_collect.specs.State.{made, ready as is_ready};
+ghost use Rattle.drm_timeline.specs.Tracker.{new_tracker};
+ghost use Rattle.drm_links.specs.Told.{HasCause};
+ghost use Rattle.mod_receiver.specs.Received.{rules_of, IsReasonable, Reported, Broken, Stopped};
+ghost use Rattle.mod_receiver.specs.Printed.{items_in, is_full, KeepsPace, PrintsReady, PrintsFront, PrintsTaken, StopsTaking, ReadsTo, StopsReading};
+ghost use Rattle.mod_receiver.specs.Tallies.{new_tally};
+ghost use Rattle.mod_receiver.specs.declared.stop.Stop.{Stop};
+
+use crate::receiver::Options;
+use crate::stop::Stop;
+use crate::tally::Tally;
+use dcp_collect::{Collector, Taken};
+use drm_links::{Came, Link, Sink, WriteFault};
+use drm_show::{EndWord, write_feed, write_step};
+use mod_feed::Feed;
+use std::alloc::Global;
+
+// Writes the items that are ready, up to the told number of them.
+fn drain<O: Sink>(
+    collector: &mut Collector,
+    feed: &mut Feed,
+    tally: &mut Tally,
+    told: Option<u64>,
+    out: &mut O,
+) -> Result<(), WriteFault>
+    requires pace { KeepsPace told collector.old feed.old tally.old }
+    ensures pace { OnOk result (KeepsPace told collector.new feed.new tally.new) }
+    ensures ready { OnOk result (PrintsReady told collector.old collector.new feed.old feed.new
+        tally.old tally.new (O.tells out.old) (O.tells out.new)) }
+    ensures front { OnErr result (PrintsFront told collector.old feed.old
+        (O.tells out.old) (O.tells out.new)) }
+    ensures end { collector.new.end ≡ collector.old.end }
+    ensures cause { HasCause (O.faults out.old) (O.faults out.new) (IsErr result) }
+{
+    while let Some(given) = collector.next() {
+        if is_full(tally, told) {
+            continue;
+        }
+        let step = feed.step(given);
+        tally.count(&step.item);
+        write_step(out, &step)?;
+    }
+    Ok(())
+}
+
+// Whether the told number of items was given.
+fn is_full(tally: &Tally, told: Option<u64>) -> bool
+    requires { IfSome told (λ _. items_in tally.now.sums < 2 ^ 63) }
+    ensures { result ≡ is_full told (items_in tally.now.sums) }
+{
+    match told {
+        Some(told) => told <= tally.items(),
+        None => false,
+    }
+}
+
+// Takes the datagram with this number, and writes the items that it makes ready.
+fn take<O: Sink>(
+    collector: &mut Collector,
+    feed: &mut Feed,
+    tally: &mut Tally,
+    told: Option<u64>,
+    number: u64,
+    datagram: &[u8],
+    out: &mut O,
+) -> Result<(), Stop>
+    requires ready { is_ready collector.old ≡ false }
+    requires end { collector.old.end ≡ None }
+    requires pace { KeepsPace told collector.old feed.old tally.old }
+    requires refused { tally.old.sums.refused < 2 ^ 62 }
+    ensures pace { OnOk result (KeepsPace told collector.new feed.new tally.new) }
+    ensures taken { OnOk result (PrintsTaken told number datagram.now collector.old collector.new
+        feed.old feed.new tally.old tally.new (O.tells out.old) (O.tells out.new)) }
+    ensures end { collector.new.end ≡ collector.old.end }
+    ensures stopped { IfErr result (StopsTaking told datagram.now collector.old feed.old
+        (O.tells out.old) (O.tells out.new)) }
+    ensures cause { HasCause (O.faults out.old) (O.faults out.new) (result ≡ Err Stop.Write) }
+{
+    let taken = collector.take(datagram);
+    if let Taken::NoMemory = taken {
+        return Err(Stop::NoMemory);
+    }
+    tally.note(number, taken);
+    drain(collector, feed, tally, told, out)?;
+    Ok(())
+}
+
+// Reads answers of the link, takes each datagram and writes what is ready, until the reading is finished.
+fn read_all<L: Link, O: Sink>(
+    collector: &mut Collector,
+    feed: &mut Feed,
+    tally: &mut Tally,
+    link: &mut L,
+    options: &Options,
+    buffer: &mut [u8],
+    out: &mut O,
+) -> Result<EndWord, Stop>
+    requires buffer { 65536 ≤ length buffer.old }
+    requires options { IsReasonable options.now }
+    requires collector { collector.old ≡ made collector.old.window collector.old.first }
+    requires feed { feed.old ≡ new_tracker }
+    requires tally { tally.old ≡ new_tally }
+    ensures pace { IfOk result (λ _. KeepsPace options.now.frames collector.new feed.new tally.new) }
+    ensures end { IfOk result (λ _. collector.new.end ≡ None) }
+    ensures finished { IfOk result (ReadsTo (rules_of collector.old options.now)
+        (L.tells link.old) (L.tells link.new) (O.tells out.old) (O.tells out.new)
+        collector.new feed.new tally.new) }
+    ensures stopped { IfErr result (StopsReading (rules_of collector.old options.now)
+        (L.tells link.old) (L.tells link.new) (O.tells out.old) (O.tells out.new)) }
+    ensures link { HasCause (L.faults link.old) (L.faults link.new) (result ≡ Err Stop.Link) }
+    ensures write { HasCause (O.faults out.old) (O.faults out.new) (result ≡ Err Stop.Write) }
+{
+    let mut taken = 0u32;
+    let mut idles = 0u32;
+    'answers: loop {
+        match link.recv(buffer) {
+            Came::Datagram(len) => {
+                take(
+                    collector,
+                    feed,
+                    tally,
+                    options.frames,
+                    u64::from(taken),
+                    &buffer[..len],
+                    out,
+                )?;
+                taken += 1;
+                idles = 0;
+                if is_full(tally, options.frames) {
+                    return Ok(EndWord::Frames);
+                }
+                if taken == options.limit {
+                    return Ok(EndWord::Limit);
+                }
+            }
+            Came::Idle => {
+                idles += 1;
+                if idles == options.idle {
+                    return Ok(EndWord::Idle);
+                }
+            }
+            Came::Failed => return Err(Stop::Link),
+        }
+    }
+}
+
+/// Reads a link until it has read enough, and writes its report. Answers whether no frame is missing or bad.
+pub(crate) fn write_report<L: Link, O: Sink>(
+    alloc: Global,
+    collector: &mut Collector,
+    feed: &mut Feed,
+    link: &mut L,
+    options: &Options,
+    buffer: &mut [u8],
+    out: &mut O,
+) -> Result<bool, Stop>
+    requires buffer { 65536 ≤ length buffer.old }
+    requires options { IsReasonable options.now }
+    requires window { (1 ≤ collector.old.window) × (collector.old.window ≤ 64) }
+    requires collector { collector.old ≡ made collector.old.window collector.old.first }
+    requires feed { feed.old ≡ new_tracker }
+    ensures finished { IfOk result (Reported (rules_of collector.old options.now) options.now.feed
+        (L.tells link.old) (L.tells link.new) (O.tells out.old) (O.tells out.new)) }
+    ensures broken { result ≡ Err Stop.Link → Broken (rules_of collector.old options.now) options.now.feed
+        (L.tells link.old) (L.tells link.new) (O.tells out.old) (O.tells out.new) }
+    ensures front { (result ≡ Err Stop.Write) ⊎ (result ≡ Err Stop.NoMemory) → Stopped (rules_of collector.old options.now) options.now.feed
+        (L.tells link.old) (L.tells link.new) (O.tells out.old) (O.tells out.new) }
+    ensures link { HasCause (L.faults link.old) (L.faults link.new) (result ≡ Err Stop.Link) }
+    ensures write { HasCause (O.faults out.old) (O.faults out.new) (result ≡ Err Stop.Write) }
+{
+    let mut tally = Tally::new(alloc)?;
+    write_feed(out, options.feed)?;
+    let word = read_all(collector, feed, &mut tally, link, options, buffer, out)?;
+    collector.finish(options.frames);
+    drain(collector, feed, &mut tally, options.frames, out)?;
+    tally.write_refused(out)?;
+    tally.write_end(out, word)?;
+    Ok(tally.is_clean())
+}

@@ -1,0 +1,76 @@
+//! One receiver: it reads a link until it has read enough, and writes the report of what came.
+
+ghost use Rattle.std.specs.Prelude.{◌≡◌, ◌≤◌, length};
+ghost use Rattle.dcp_collect.specs.State.{made};
+ghost use Rattle.drm_timeline.specs.Tracker.{new_tracker};
+ghost use Rattle.drm_links.specs.Told.{HasCause};
+ghost use Rattle.mod_receiver.specs.Received.{rules_of, IsReasonable, EndsAs, IfDone};
+ghost use Rattle.mod_receiver.specs.Headline.{Headline, Complete};
+
+use crate::follow::reports_follow;
+use crate::reading::write_report;
+use crate::stop::Stop;
+use dcp_collect::Collector;
+use drm_links::{Link, Sink};
+use mod_feed::Feed;
+use std::alloc::Global;
+
+/// By what a receiver goes. Each number is at least 1.
+#[derive(Clone, Copy, Debug, PartialEq, Eq)]
+pub struct Options {
+    /// The number in the first line of its report.
+    pub feed: u8,
+    /// How many frames it gives, where that is told; at most 3,000,000.
+    pub frames: Option<u64>,
+    /// How many idle answers of its link in a row end its report.
+    pub idle: u32,
+    /// The most datagrams that it takes.
+    pub limit: u32,
+}
+
+/// How a receiver ended.
+#[derive(Clone, Copy, Debug, PartialEq, Eq)]
+pub enum Ended {
+    /// Its report is whole; `clean` where no frame is missing or bad.
+    Done { clean: bool },
+    LinkFailed,
+    WriteFailed,
+    NoMemory,
+}
+
+/// Reads a link until it has read enough, and writes the report of what came. Collector and feed are new. An item is written
+/// as soon as it is ready. The buffer holds one datagram.
+pub fn receive_one<L: Link, O: Sink>(
+    alloc: Global,
+    collector: &mut Collector,
+    feed: &mut Feed,
+    link: &mut L,
+    options: &Options,
+    buffer: &mut [u8],
+    out: &mut O,
+) -> Ended
+    requires buffer { 65536 ≤ length buffer.old }
+    requires options { IsReasonable options.now }
+    requires window { (1 ≤ collector.old.window) × (collector.old.window ≤ 64) }
+    requires collector { collector.old ≡ made collector.old.window collector.old.first }
+    requires feed { feed.old ≡ new_tracker }
+    // What was read of the link, and what was written of it.
+    ensures ended { EndsAs (rules_of collector.old options.now) options.now.feed
+        (L.tells link.old) (L.tells link.new) (O.tells out.old) (O.tells out.new) result }
+    // Whatever delivery of whatever valid schedule came, its report was written; and where each frame was in time, all
+    // frames were given.
+    ensures headline { IfDone (Headline (rules_of collector.old options.now) options.now.feed
+        (L.tells link.old) (L.tells link.new) (O.tells out.old) (O.tells out.new)) result }
+    ensures complete { IfDone (Complete (rules_of collector.old options.now) options.now.feed
+        (L.tells link.old) (L.tells link.new) (O.tells out.old) (O.tells out.new)) result }
+    ensures link { HasCause (L.faults link.old) (L.faults link.new) (result ≡ Ended.LinkFailed) }
+    ensures write { HasCause (O.faults out.old) (O.faults out.new) (result ≡ Ended.WriteFailed) }
+{
+    reports_follow();
+    match write_report(alloc, collector, feed, link, options, buffer, out) {
+        Ok(clean) => Ended::Done { clean },
+        Err(Stop::Link) => Ended::LinkFailed,
+        Err(Stop::Write) => Ended::WriteFailed,
+        Err(Stop::NoMemory) => Ended::NoMemory,
+    }
+}

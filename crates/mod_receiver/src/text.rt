@@ -1,0 +1,58 @@
+//! A text that grows, as a sink.
+
+ghost use Rattle.std.specs.Prelude.{◌≡◌, ◌↔◌, [], Some, IsTrue, IsSome};
+ghost use Rattle.mod_receiver.specs.Texts.{text_tells};
+
+use drm_links::{Sink, WriteOut};
+use std::alloc::Global;
+
+/// A text in memory.
+#[derive(Drop)]
+pub struct Text {
+    bytes: Vec<u8>,
+    calls: u64,
+    faults: u64,
+}
+
+/// A text tells what was written for so many calls.
+const MOST_CALLS: u64 = 1 << 62;
+
+impl Text {
+    pub fn new(alloc: Global) -> Text
+        ensures { text_tells result ≡ Some (record { written = []; calls = 0 }) }
+    {
+        Text {
+            bytes: Vec::new(alloc),
+            calls: 0,
+            faults: 0,
+        }
+    }
+
+    /// Whether it still tells what was written.
+    pub fn is_told(&self) -> bool
+        ensures { IsTrue result ↔ IsSome (text_tells self.now) }
+    {
+        self.calls <= MOST_CALLS
+    }
+
+    pub fn bytes(&self) -> &[u8]
+        ensures { result.now ≡ self.now.bytes.items }
+    {
+        &self.bytes
+    }
+}
+
+impl Sink for Text {
+    ghost faults = { λ text. text.faults };
+
+    ghost tells = { text_tells };
+
+    fn write(&mut self, bytes: &[u8]) -> WriteOut {
+        self.calls = self.calls.saturating_add(1);
+        if self.bytes.extend_from_slice(bytes).is_err() {
+            self.faults = self.faults.saturating_add(1);
+            return WriteOut::Failed;
+        }
+        WriteOut::Wrote(bytes.len())
+    }
+}

@@ -1,0 +1,69 @@
+//! Texts in pieces to a sink.
+
+ghost use Rattle.std.specs.Prelude.{◌≡◌, [], ◌∷◌, OnOk, OnErr, IsErr};
+ghost use Rattle.hex.specs.Hex.{encode_lower};
+ghost use Rattle.drm_links.specs.Told.{HasCause};
+ghost use Rattle.drm_links.specs.Sink.{Outputs, IsFront};
+ghost use Rattle.text_pieces.specs.Text.{piece_text, text_of};
+
+use crate::piece::Piece;
+use drm_links::{Sink, WriteFault, write_all};
+use itoa::Buffer;
+
+/// Writes the texts of the pieces, one after another.
+pub fn write_pieces<O: Sink>(out: &mut O, pieces: &[Piece<'_>]) -> Result<(), WriteFault>
+    ensures whole { OnOk result (Outputs (O.tells out.old) (O.tells out.new)
+        (λ text. text ≡ text_of pieces.now)) }
+    ensures front { OnErr result (Outputs (O.tells out.old) (O.tells out.new)
+        (IsFront (text_of pieces.now))) }
+    ensures cause { HasCause (O.faults out.old) (O.faults out.new) (IsErr result) }
+{
+    for piece in pieces {
+        write_piece(out, *piece)?;
+    }
+    Ok(())
+}
+
+/// Writes the text of a piece.
+pub fn write_piece<O: Sink>(out: &mut O, piece: Piece<'_>) -> Result<(), WriteFault>
+    ensures whole { OnOk result (Outputs (O.tells out.old) (O.tells out.new)
+        (λ text. text ≡ piece_text piece.entry)) }
+    ensures front { OnErr result (Outputs (O.tells out.old) (O.tells out.new)
+        (IsFront (piece_text piece.entry))) }
+    ensures cause { HasCause (O.faults out.old) (O.faults out.new) (IsErr result) }
+{
+    match piece {
+        Piece::Words(text) => write_all(out, text.as_bytes()),
+        Piece::Number(n) => write_all(out, Buffer::new().format(n).as_bytes()),
+        Piece::Hex(bytes) => write_hex(out, bytes),
+        Piece::Name(name) => write_all(out, &name),
+    }
+}
+
+fn write_hex<O: Sink>(out: &mut O, bytes: &[u8]) -> Result<(), WriteFault>
+    ensures whole { OnOk result (Outputs (O.tells out.old) (O.tells out.new)
+        (λ text. text ≡ encode_lower bytes.now)) }
+    ensures front { OnErr result (Outputs (O.tells out.old) (O.tells out.new)
+        (IsFront (encode_lower bytes.now))) }
+    ensures cause { HasCause (O.faults out.old) (O.faults out.new) (IsErr result) }
+{
+    for byte in bytes {
+        write_byte(out, *byte)?;
+    }
+    Ok(())
+}
+
+/// Writes the two digits of a byte.
+pub fn write_byte<O: Sink>(out: &mut O, byte: u8) -> Result<(), WriteFault>
+    ensures whole { OnOk result (Outputs (O.tells out.old) (O.tells out.new)
+        (λ text. text ≡ encode_lower (byte ∷ []))) }
+    ensures front { OnErr result (Outputs (O.tells out.old) (O.tells out.new)
+        (IsFront (encode_lower (byte ∷ [])))) }
+    ensures cause { HasCause (O.faults out.old) (O.faults out.new) (IsErr result) }
+{
+    let mut digits = [0; 2];
+    match hex::encode_to_slice([byte], &mut digits) {
+        Ok(()) => write_all(out, &digits),
+        Err(_) => unreachable!(),
+    }
+}
