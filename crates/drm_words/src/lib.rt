@@ -1,4 +1,4 @@
-//! The words of a command line: what they ask for, or that they ask for nothing; and the scripts that one may name.
+//! The words of a command line: what they ask for, or that they ask for nothing.
 #![tactic(auto)]
 
 mod addresses;
@@ -19,4 +19,3 @@ pub use addresses::Addresses;
 pub use fault::WordsFault;
 pub use read::{one_request, read_words};
 pub use request::Request;
-pub use script_lines::{Delivery, Script, ScriptFault, read_script};
