@@ -8,11 +8,3 @@ pub mod LookupLemmas
 pub mod FileLemmas
 pub mod CountLemmas
 pub mod TextLemmas
-pub mod AgainLemmas
-pub mod ConfigLemmas
-pub mod ProjectionLemmas
-pub mod CanonicalLaw
-pub mod Utf8Lines
-pub mod PlanLaw
-pub mod AttachLaw
-pub mod GivenLaw

@@ -11,4 +11,3 @@ pub mod InLines
 pub mod Lists
 pub mod Text
 pub mod Canonical
-pub mod Law

@@ -8,7 +8,6 @@ mod draft;
 mod fault;
 mod files;
 mod keywords;
-mod laws;
 mod lists;
 mod places;
 mod projection;
@@ -24,8 +23,4 @@ pub use drm_schedule::{
     Services, Stream, Streams,
 };
 pub use fault::PlanFault;
-pub use laws::canonical_texts_are_read_again;
 pub use reading::read_plan;
-
-#[cfg(test)]
-mod tests;

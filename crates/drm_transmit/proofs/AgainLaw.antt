@@ -22,9 +22,9 @@ use Rattle.drm_plan.specs.Lookup.{at}
 use Rattle.drm_plan.specs.Projection.{Drafted}
 use Rattle.drm_plan.specs.Rules.{Fault}
 use Rattle.drm_plan.specs.Text.{lines_give}
-use Rattle.drm_plan.proofs.AttachLaw.{Fills, at_seam, files_come, files_came, fills_fit, each_small, each_weaker}
-use Rattle.drm_plan.proofs.GivenLaw.{lines_given}
-use Rattle.drm_plan.proofs.PlanLaw.{read_again, canonical_utf8}
+use Rattle.plan_laws.proofs.AttachLaw.{Fills, at_seam, files_come, files_came, fills_fit, each_small, each_weaker}
+use Rattle.plan_laws.proofs.GivenLaw.{lines_given}
+use Rattle.plan_laws.proofs.PlanLaw.{read_again, canonical_utf8}
 use Rattle.drm_load.specs.declared.loading.ScheduleFault.{ScheduleFault}
 use Rattle.drm_load.specs.declared.loading.ScheduleFault.TheVariants.{Line}
 use Rattle.drm_transmit.specs.Again.{HasFiles, HasAll, NoLoadFails}

@@ -4,7 +4,7 @@ use Rattle.drm_links.specs.Shelf.{Files, file_at}
 use Rattle.drm_schedule.specs.declared.plan.Plan.{Plan}
 use Rattle.drm_schedule.specs.Valid.{IsSchedule}
 use Rattle.drm_plan.specs.Canonical.{canonical}
-use Rattle.drm_plan.specs.Law.{EachFile}
+use Rattle.plan_laws.specs.Texts.{EachFile}
 use Rattle.drm_load.specs.Schedule.{longest_text, schedule_named, checked}
 
 -- each file of the schedule is on the shelf, under its name

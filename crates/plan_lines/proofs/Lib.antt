@@ -1,3 +1,4 @@
+pub mod Faults
 pub mod Forms
 pub mod Elements
 pub mod KeywordLemmas
@@ -5,11 +6,3 @@ pub mod RangeLemmas
 pub mod KindLemmas
 pub mod CleanLemmas
 pub mod Joining
-pub mod Parts
-pub mod FrequencyLaws
-pub mod LabelLaws
-pub mod SettingsAgain
-pub mod EntitiesAgain
-pub mod Tokens
-pub mod SaidAgain
-pub mod LineAgain

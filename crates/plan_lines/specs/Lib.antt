@@ -1,5 +1,6 @@
 pub mod Gives
 pub mod Shape
+pub mod Asked
 pub mod Keywords
 pub mod Same
 pub mod Clean
@@ -8,4 +9,3 @@ pub mod Settings
 pub mod Entities
 pub mod Lines
 pub mod Said
-pub mod Laws

@@ -8,23 +8,20 @@ mod fault;
 mod first_word;
 mod frequencies;
 mod label;
-mod laws;
 mod line;
+mod numbers;
 mod raw;
 mod read;
 mod said;
 mod services;
 mod settings;
 mod spelling;
-#[cfg(test)]
-mod tests;
 mod words_out;
 mod writing;
 
 pub use entity_writing::write_entity;
 pub use fault::LineFault;
 pub use first_word::Keyword;
-pub use laws::canonical_lines_are_read_again;
 pub use line::Line;
 pub use read::{keyword, read_line};
 pub use writing::{write_line, write_stream};

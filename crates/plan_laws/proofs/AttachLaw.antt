@@ -1,0 +1,211 @@
+-- Files that come one after another make a plan whole, and a whole plan has the bytes that came.
+use Rattle.std.proofs.Common.{◌≡◌, ℕ, ◌+◌, ◌≤◌, List, [], ◌∷◌, ◌++◌, Some, length, map, refl, sym, ap, subst, ◌∙◌, append_assoc}
+use Rattle.std.specs.Prelude.{All}
+use Rattle.std.proofs.lemmas.List.{length-append}
+use Rattle.std.proofs.lemmas.List.Elements.{All-nil, All-cons, All-head, All-tail}
+use Rattle.drm_schedule.specs.declared.config.Config.{Config}
+use Rattle.drm_schedule.specs.declared.stream.Content.{Content}
+use Rattle.drm_schedule.specs.declared.stream.Content.TheVariants.{Fill, File}
+use Rattle.drm_schedule.specs.declared.stream.Stream.{Stream}
+use Rattle.drm_schedule.specs.declared.plan.Plan.{Plan}
+use Rattle.drm_schedule.specs.Ranges.{ContentInLines, StreamInLines, ConfigInLines, InLines}
+use Rattle.drm_plan.specs.declared.files.Filed.{Filed}
+use Rattle.drm_plan.specs.Files.{file_here, stream_files, config_files, filled_stream, filled_config, with_file, name_in, name_of_stream, name_of_config, name_of}
+use Rattle.plan_laws.specs.Texts.{emptied, without_bytes, config_without_bytes, without_files, OfFile, EachFile}
+use Rattle.drm_plan.specs.Lookup.{at, changed}
+use Rattle.drm_plan.proofs.FileLemmas.{with_file_fits}
+
+-- Where each of these files got bytes of which P holds, one after another, this plan became the whole one.
+abbrev pub Fills : (List ℕ → List ℕ → Type 0) → List Filed → Plan → Plan → Type 0
+Fills P [] plan whole = plan ≡ whole
+Fills P (file ∷ files) plan whole = (bytes : List ℕ) × P (name_of file plan) bytes × Fills P files (with_file file bytes plan) whole
+
+pub at_seam : {X : Type 0} (a : List X) (x : X) (b : List X) → at (length a) (a ++ x ∷ b) ≡ Some x
+at_seam [] x b = refl
+at_seam (y ∷ a) x b = at_seam a x b
+
+changed_seam : {X : Type 0} (f : X → X) (a : List X) (x : X) (b : List X) → changed f (length a) (a ++ x ∷ b) ≡ a ++ f x ∷ b
+changed_seam f [] x b = refl
+changed_seam f (y ∷ a) x b = ap (λ l. y ∷ l) (changed_seam f a x b)
+
+one_longer : {X : Type 0} (a : List X) (x : X) → length (a ++ x ∷ []) ≡ length a + 1
+one_longer a x = length-append a (x ∷ [])
+
+-- the plan with these configurations, and with these streams in one of them
+abbrev with_configs : Plan → List Config → Plan
+with_configs plan configs = record plan { configs = configs }
+
+abbrev here : Plan → List Config → Config → List Config → List Stream → Plan
+here plan before c after streams = with_configs plan (before ++ record c { streams = streams } ∷ after)
+
+-- the file of the stream behind these
+abbrev file_at : List Config → List Stream → Filed
+file_at before done = record { config = length before; stream = length done }
+
+module _ (plan : Plan) (before : List Config) (c : Config) (after : List Config) (done : List Stream) (s : Stream) (more : List Stream) where
+  name_here : name_of (file_at before done) (here plan before c after (done ++ s ∷ more)) ≡ name_in s.content
+  name_here = ap (name_of_config (length done)) (at_seam before (record c { streams = done ++ s ∷ more }) after) ∙ ap name_of_stream (at_seam done s more)
+
+  filled_here : (bytes : List ℕ) → with_file (file_at before done) bytes (here plan before c after (done ++ s ∷ more)) ≡ here plan before c after (done ++ filled_stream bytes s ∷ more)
+  filled_here bytes =
+      ap (with_configs plan) (changed_seam (filled_config (length done) bytes) before (record c { streams = done ++ s ∷ more }) after)
+      ∙ ap (here plan before c after) (changed_seam (filled_stream bytes) done s more)
+
+module _ (P : List ℕ → List ℕ → Type 0) where
+  abbrev Filled : Stream → Type 0
+  Filled s = OfFile P s.content
+
+  abbrev AllFilled : Config → Type 0
+  AllFilled c = All Filled c.streams
+
+  -- ---- to the whole plan
+
+  stream_comes : (plan : Plan) (before : List Config) (c : Config) (after : List Config) (done : List Stream) (a b : ℕ) (content : Content) (more : List Stream) (files : List Filed) (whole : Plan)
+      → OfFile P content → Fills P files (here plan before c after (done ++ record { a = a; b = b; content = content } ∷ more)) whole
+      → Fills P (file_here (length before) (length done) (record { a = a; b = b; content = emptied content }) ++ files) (here plan before c after (done ++ record { a = a; b = b; content = emptied content } ∷ more)) whole
+  stream_comes plan before c after done a b (Fill byte) more files whole has rest = rest
+  stream_comes plan before c after done a b (File name bytes) more files whole has rest = (
+    bytes,
+    subst (λ (n : List ℕ). P n bytes) (sym (name_here plan before c after done (record { a = a; b = b; content = File name [] }) more)) has,
+    subst (λ (p : Plan). Fills P files p whole) (sym (filled_here plan before c after done (record { a = a; b = b; content = File name [] }) more bytes)) rest,
+  )
+
+  streams_come : (plan : Plan) (before : List Config) (c : Config) (after : List Config) (done target : List Stream) (files : List Filed) (whole : Plan)
+      → All Filled target → Fills P files (here plan before c after (done ++ target)) whole
+      → Fills P (stream_files (length before) (length done) (map without_bytes target) ++ files) (here plan before c after (done ++ map without_bytes target)) whole
+  streams_come plan before c after done [] files whole all rest = rest
+  streams_come plan before c after done (s ∷ target) files whole all rest =
+      let bare : List Stream = map without_bytes target in
+      let next : List Filed = stream_files (length before) (length done + 1) bare ++ files in
+      let behind : Fills P (stream_files (length before) (length (done ++ s ∷ [])) bare ++ files) (here plan before c after ((done ++ s ∷ []) ++ bare)) whole =
+      streams_come plan before c after (done ++ s ∷ []) target files whole (All-tail Filled s target all)
+      (subst (λ (ss : List Stream). Fills P files (here plan before c after ss) whole) (sym (append_assoc done (s ∷ []) target)) rest) in
+      let counted : Fills P next (here plan before c after ((done ++ s ∷ []) ++ bare)) whole =
+      subst (λ (j : ℕ). Fills P (stream_files (length before) j bare ++ files) (here plan before c after ((done ++ s ∷ []) ++ bare)) whole) (one_longer done s) behind in
+      let placed : Fills P next (here plan before c after (done ++ s ∷ bare)) whole =
+      subst (λ (ss : List Stream). Fills P next (here plan before c after ss) whole) (append_assoc done (s ∷ []) bare) counted in
+      subst (λ (fs : List Filed). Fills P fs (here plan before c after (done ++ without_bytes s ∷ bare)) whole)
+      (sym (append_assoc (file_here (length before) (length done) (without_bytes s)) (stream_files (length before) (length done + 1) bare) files))
+      (stream_comes plan before c after done s.a s.b s.content bare next whole (All-head Filled s target all) placed)
+
+  configs_come : (plan : Plan) (before target : List Config) (whole : Plan) → All AllFilled target → with_configs plan (before ++ target) ≡ whole
+      → Fills P (config_files (length before) (map config_without_bytes target)) (with_configs plan (before ++ map config_without_bytes target)) whole
+  configs_come plan before [] whole all same = same
+  configs_come plan before (c ∷ target) whole all same =
+      let bare : List Config = map config_without_bytes target in
+      let behind : Fills P (config_files (length (before ++ c ∷ [])) bare) (with_configs plan ((before ++ c ∷ []) ++ bare)) whole =
+      configs_come plan (before ++ c ∷ []) target whole (All-tail AllFilled c target all) (ap (with_configs plan) (append_assoc before (c ∷ []) target) ∙ same) in
+      let counted : Fills P (config_files (length before + 1) bare) (with_configs plan ((before ++ c ∷ []) ++ bare)) whole =
+      subst (λ (i : ℕ). Fills P (config_files i bare) (with_configs plan ((before ++ c ∷ []) ++ bare)) whole) (one_longer before c) behind in
+      streams_come plan before c bare [] c.streams (config_files (length before + 1) bare) whole (All-head AllFilled c target all)
+      (subst (λ (cs : List Config). Fills P (config_files (length before + 1) bare) (with_configs plan cs) whole) (append_assoc before (c ∷ []) bare) counted)
+
+  -- the files of a schedule, put into its plan without them, make the schedule
+  pub files_come : (schedule : Plan) → EachFile P schedule → Fills P (config_files 0 (without_files schedule).configs) (without_files schedule) schedule
+  files_come schedule all = configs_come schedule [] schedule.configs schedule all refl
+
+  -- ---- from the whole plan
+
+  record StreamCame (plan : Plan) (before : List Config) (c : Config) (after : List Config) (done more : List Stream) (files : List Filed) (whole : Plan) : Type 0 where
+    stream : Stream
+    has : Filled stream
+    rest : Fills P files (here plan before c after (done ++ stream ∷ more)) whole
+
+  stream_came : (plan : Plan) (before : List Config) (c : Config) (after : List Config) (done : List Stream) (a b : ℕ) (content : Content) (more : List Stream) (files : List Filed) (whole : Plan)
+      → Fills P (file_here (length before) (length done) (record { a = a; b = b; content = content }) ++ files) (here plan before c after (done ++ record { a = a; b = b; content = content } ∷ more)) whole
+      → StreamCame plan before c after done more files whole
+  stream_came plan before c after done a b (Fill byte) more files whole fills = record { stream = record { a = a; b = b; content = Fill byte }; has = tt; rest = fills }
+  stream_came plan before c after done a b (File name old) more files whole fills =
+      let s : Stream = record { a = a; b = b; content = File name old } in
+      record {
+        stream = filled_stream fills.0 s;
+        has = subst (λ (n : List ℕ). P n fills.0) (name_here plan before c after done s more) fills.1;
+        rest = subst (λ (p : Plan). Fills P files p whole) (filled_here plan before c after done s more fills.0) fills.2;
+      }
+
+  record StreamsCame (plan : Plan) (before : List Config) (c : Config) (after : List Config) (done : List Stream) (files : List Filed) (whole : Plan) : Type 0 where
+    streams : List Stream
+    have : All Filled streams
+    rest : Fills P files (here plan before c after (done ++ streams)) whole
+
+  streams_came : (plan : Plan) (before : List Config) (c : Config) (after : List Config) (done todo : List Stream) (files : List Filed) (whole : Plan)
+      → Fills P (stream_files (length before) (length done) todo ++ files) (here plan before c after (done ++ todo)) whole → StreamsCame plan before c after done files whole
+  streams_came plan before c after done [] files whole fills = record { streams = []; have = All-nil Filled; rest = fills }
+  streams_came plan before c after done (s ∷ todo) files whole fills =
+      let next : List Filed = stream_files (length before) (length done + 1) todo ++ files in
+      let came : StreamCame plan before c after done todo next whole =
+      stream_came plan before c after done s.a s.b s.content todo next whole
+      (subst (λ (fs : List Filed). Fills P fs (here plan before c after (done ++ s ∷ todo)) whole) (append_assoc (file_here (length before) (length done) s) (stream_files (length before) (length done + 1) todo) files) fills) in
+      let now : List Stream = done ++ came.stream ∷ [] in
+      let placed : Fills P next (here plan before c after (now ++ todo)) whole =
+      subst (λ (ss : List Stream). Fills P next (here plan before c after ss) whole) (sym (append_assoc done (came.stream ∷ []) todo)) came.rest in
+      let counted : Fills P (stream_files (length before) (length now) todo ++ files) (here plan before c after (now ++ todo)) whole =
+      subst (λ (j : ℕ). Fills P (stream_files (length before) j todo ++ files) (here plan before c after (now ++ todo)) whole) (sym (one_longer done came.stream)) placed in
+      let behind = streams_came plan before c after now todo files whole counted in
+      record {
+        streams = came.stream ∷ behind.streams;
+        have = All-cons Filled came.stream behind.streams came.has behind.have;
+        rest = subst (λ (ss : List Stream). Fills P files (here plan before c after ss) whole) (append_assoc done (came.stream ∷ []) behind.streams) behind.rest;
+      }
+
+  record ConfigsCame (plan : Plan) (before : List Config) (whole : Plan) : Type 0 where
+    configs : List Config
+    have : All AllFilled configs
+    is : with_configs plan (before ++ configs) ≡ whole
+
+  configs_came : (plan : Plan) (before todo : List Config) (whole : Plan) → Fills P (config_files (length before) todo) (with_configs plan (before ++ todo)) whole → ConfigsCame plan before whole
+  configs_came plan before [] whole fills = record { configs = []; have = All-nil AllFilled; is = fills }
+  configs_came plan before (c ∷ todo) whole fills =
+      let came = streams_came plan before c todo [] c.streams (config_files (length before + 1) todo) whole fills in
+      let full : Config = record c { streams = came.streams } in
+      let now : List Config = before ++ full ∷ [] in
+      let placed : Fills P (config_files (length before + 1) todo) (with_configs plan (now ++ todo)) whole =
+      subst (λ (cs : List Config). Fills P (config_files (length before + 1) todo) (with_configs plan cs) whole) (sym (append_assoc before (full ∷ []) todo)) came.rest in
+      let counted : Fills P (config_files (length now) todo) (with_configs plan (now ++ todo)) whole =
+      subst (λ (i : ℕ). Fills P (config_files i todo) (with_configs plan (now ++ todo)) whole) (sym (one_longer before full)) placed in
+      let behind = configs_came plan now todo whole counted in
+      record {
+        configs = full ∷ behind.configs;
+        have = All-cons AllFilled full behind.configs came.have behind.have;
+        is = sym (ap (with_configs plan) (append_assoc before (full ∷ []) behind.configs)) ∙ behind.is;
+      }
+
+  -- what holds of the files that came holds of those of the whole plan
+  pub files_came : (plan whole : Plan) → Fills P (config_files 0 plan.configs) plan whole → EachFile P whole
+  files_came plan whole fills =
+      let came = configs_came plan [] plan.configs whole fills in
+      subst (EachFile P) came.is came.have
+
+  -- a plan that a text can give is still one
+  pub fills_fit : ((name bytes : List ℕ) → P name bytes → length bytes ≤ 4194304) → (files : List Filed) (plan whole : Plan) → Fills P files plan whole → InLines plan → InLines whole
+  fills_fit small [] plan whole fills fits = subst InLines fills fits
+  fills_fit small (file ∷ files) plan whole fills fits =
+      fills_fit small files (with_file file fills.0 plan) whole fills.2 (with_file_fits file fills.0 plan (small (name_of file plan) fills.0 fills.1) fits)
+
+-- ---- what holds of each file
+
+content_small : (P : List ℕ → List ℕ → Type 0) (content : Content) → ContentInLines content → OfFile P content → OfFile (λ name bytes. P name bytes × (length bytes ≤ 4194304)) content
+content_small P (Fill byte) fits has = tt
+content_small P (File name bytes) fits has = (has, fits.1)
+
+content_weaker : (P Q : List ℕ → List ℕ → Type 0) → ((name bytes : List ℕ) → P name bytes → Q name bytes) → (content : Content) → OfFile P content → OfFile Q content
+content_weaker P Q weaker (Fill byte) has = tt
+content_weaker P Q weaker (File name bytes) has = weaker name bytes has
+
+both_all : {X : Type 0} (P Q R : X → Type 0) → ((x : X) → P x → Q x → R x) → (xs : List X) → All P xs → All Q xs → All R xs
+both_all P Q R of [] all also = All-nil R
+both_all P Q R of (x ∷ xs) all also = All-cons R x xs (of x (All-head P x xs all) (All-head Q x xs also)) (both_all P Q R of xs (All-tail P x xs all) (All-tail Q x xs also))
+
+-- a plan that a text can give has short files
+pub each_small : (P : List ℕ → List ℕ → Type 0) (plan : Plan) → InLines plan → EachFile P plan → EachFile (λ name bytes. P name bytes × (length bytes ≤ 4194304)) plan
+each_small P plan fits each =
+    let Small : List ℕ → List ℕ → Type 0 = λ name bytes. P name bytes × (length bytes ≤ 4194304) in
+    both_all ConfigInLines (AllFilled P) (AllFilled Small)
+    (λ c config_fits has. both_all StreamInLines (Filled P) (Filled Small) (λ s stream_fits file. content_small P s.content stream_fits.contents file) c.streams config_fits.each_stream has)
+    plan.configs fits.each_config each
+
+pub each_weaker : (P Q : List ℕ → List ℕ → Type 0) → ((name bytes : List ℕ) → P name bytes → Q name bytes) → (plan : Plan) → EachFile P plan → EachFile Q plan
+each_weaker P Q weaker plan each =
+    both_all (AllFilled P) (AllFilled P) (AllFilled Q)
+    (λ c has _. both_all (Filled P) (Filled P) (Filled Q) (λ s file _. content_weaker P Q weaker s.content file) c.streams has has)
+    plan.configs each each

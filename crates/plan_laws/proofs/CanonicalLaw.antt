@@ -1,0 +1,157 @@
+-- The lines of a plan, one configuration after another, are read again.
+use Rattle.std.proofs.Common.{◌≡◌, ℕ, ◌+◌, ◌≤◌, ◌<◌, false, List, [], ◌∷◌, ◌++◌, Some, None, Ok, length, map, refl, sym, ap, subst, ◌∙◌, append_assoc, arith}
+use Rattle.std.specs.Prelude.{All, nat_le}
+use Rattle.std.specs.List.{flat_map}
+use Rattle.std.proofs.lemmas.Bool.Decides.{nat_tests}
+use Rattle.std.proofs.lemmas.List.{length-append, map_push}
+use Rattle.std.proofs.lemmas.List.Concat.{flat_map-cons}
+use Rattle.std.proofs.lemmas.List.Elements.{All-head, All-tail}
+use Rattle.drm_schedule.specs.declared.config.Config.{Config}
+use Rattle.drm_schedule.specs.declared.plan.Plan.{Plan}
+use Rattle.drm_schedule.specs.Ranges.{ConfigInLines}
+use Rattle.plan_lines.specs.declared.first_word.Keyword.TheVariants as keywords
+use Rattle.plan_lines.specs.declared.line.Line.{Line}
+use Rattle.drm_plan.specs.declared.said.Said.{Said}
+use Rattle.drm_plan.specs.declared.said.Block.{Block}
+use Rattle.drm_plan.specs.declared.said.Read.{Read}
+use Rattle.drm_plan.specs.Said.{nothing, begin}
+use Rattle.drm_plan.specs.Rules.{is_incomplete, is_second, is_too_many, ends_incomplete}
+use Rattle.drm_plan.specs.Steps.{check_of}
+use Rattle.drm_plan.specs.Canonical.{front_lines, config_lines, plan_lines}
+use Rattle.drm_plan.specs.Projection.{config_of, plan_of}
+use Rattle.plan_laws.proofs.AgainLemmas.{adds, Fine, adds_append, fine_append, numbered, inner_fine, inner_adds}
+use Rattle.plan_laws.proofs.ConfigLemmas.{inner_lines, all_fine}
+use Rattle.plan_laws.proofs.ProjectionLemmas.{block_of, config_again, complete_again}
+
+-- what is read, with this configuration as the last one
+abbrev pub full : List Said → List Block → Block → Read
+full front closed block = record { front = front; closed = closed; current = Some block }
+
+abbrev pub fronted : List Said → Read
+fronted front = record { front = front; closed = []; current = None }
+
+few_before : (k : ℕ) → k < 15 → nat_le 15 k ≡ false
+few_before k few = grind (arith, nat_tests)
+
+next_check : (front : List Said) (closed : List Block) (b : Block) (n : ℕ) → length closed < 15 → check_of (full front closed b) n keywords.Config ≡ Ok tt
+unfolding check_of is_second is_too_many
+next_check front closed b n few = rw (few_before (length closed) few) refl
+
+next_whole : (front : List Said) (closed : List Block) (b : Block) → is_incomplete b.lines ≡ false → ends_incomplete (full front closed b) keywords.Config ≡ false
+next_whole front closed b whole = rw whole refl
+
+next_adds : (front : List Said) (closed : List Block) (b : Block) (n : ℕ) (c : Config) → ConfigInLines c → adds n (config_lines c) (full front closed b) ≡ full front (closed ++ b ∷ []) (block_of n c)
+next_adds front closed b n c fits =
+    inner_adds (begin n c.start c.countdown (full front closed b)) (record { line = n; start = c.start; countdown = c.countdown; lines = [] }) [] (n + 1) (inner_lines c) (all_fine (n + 1) c fits.few_streams fits.few_entities)
+
+next_fine : (front : List Said) (closed : List Block) (b : Block) (n : ℕ) (c : Config) → is_incomplete b.lines ≡ false → length closed < 15 → ConfigInLines c → Fine (full front closed b) n (config_lines c)
+next_fine front closed b n c whole few fits = (
+  next_whole front closed b whole,
+  next_check front closed b n few,
+  inner_fine (begin n c.start c.countdown (full front closed b)) (record { line = n; start = c.start; countdown = c.countdown; lines = [] }) [] (n + 1) (inner_lines c) (all_fine (n + 1) c fits.few_streams fits.few_entities),
+)
+
+-- configurations behind others
+record Told (front : List Said) (closed : List Block) (b : Block) (n : ℕ) (cs : List Config) : Type 0 where
+  fine : Fine (full front closed b) n (flat_map config_lines cs)
+  closed_then : List Block
+  last : Block
+  is : adds n (flat_map config_lines cs) (full front closed b) ≡ full front closed_then last
+  whole : is_incomplete last.lines ≡ false
+  configs : map config_of (closed_then ++ last ∷ []) ≡ map config_of (closed ++ b ∷ []) ++ cs
+
+append_nil : {X : Type 0} (xs : List X) → xs ++ [] ≡ xs
+append_nil [] = refl
+append_nil (x ∷ xs) = ap (λ l. x ∷ l) (append_nil xs)
+
+told : (front : List Said) (closed : List Block) (b : Block) (n : ℕ) (cs : List Config) → is_incomplete b.lines ≡ false → length closed + length cs ≤ 15 → All ConfigInLines cs → Told front closed b n cs
+told front closed b n [] whole few fit = record { fine = tt; closed_then = closed; last = b; is = refl; whole = whole; configs = sym (append_nil (map config_of (closed ++ b ∷ []))) }
+told front closed b n (c ∷ cs) whole few fit =
+    let fits = All-head ConfigInLines c cs fit in
+    let flat : flat_map config_lines (c ∷ cs) ≡ config_lines c ++ flat_map config_lines cs = flat_map-cons config_lines c cs in
+    let count : length (closed ++ b ∷ []) ≡ length closed + 1 = length-append closed (b ∷ []) in
+    let here = next_adds front closed b n c fits in
+    let more = told front (closed ++ b ∷ []) (block_of n c) (n + length (config_lines c)) cs (complete_again (n + 1) c fits.some_service fits.some_stream) (omega (arith, few, count)) (All-tail ConfigInLines c cs fit) in
+    let behind : Fine (adds n (config_lines c) (full front closed b)) (n + length (config_lines c)) (flat_map config_lines cs) = rw here more.fine in
+    record {
+      fine = subst (λ (ls : List Line). Fine (full front closed b) n ls) (sym flat) (fine_append (full front closed b) n (config_lines c) (flat_map config_lines cs) (next_fine front closed b n c whole (omega (arith, few)) fits) behind);
+      closed_then = more.closed_then;
+      last = more.last;
+      is = ap (λ (ls : List Line). adds n ls (full front closed b)) flat
+          ∙ adds_append n (config_lines c) (flat_map config_lines cs) (full front closed b)
+          ∙ ap (adds (n + length (config_lines c)) (flat_map config_lines cs)) here
+          ∙ more.is;
+      whole = more.whole;
+      configs = more.configs
+          ∙ ap (λ l. l ++ cs) (map_push config_of (closed ++ b ∷ []) (block_of n c) ∙ ap (λ k. map config_of (closed ++ b ∷ []) ++ k ∷ []) (config_again n c))
+          ∙ append_assoc (map config_of (closed ++ b ∷ [])) (c ∷ []) cs;
+    }
+
+-- the four first lines
+front_fine : (plan : Plan) → Fine nothing 1 (front_lines plan)
+unfolding check_of
+front_fine plan = (refl, refl, (refl, refl, (refl, refl, (refl, refl, tt))))
+
+front_adds : (plan : Plan) → adds 1 (front_lines plan) nothing ≡ fronted (numbered 1 (front_lines plan))
+front_adds plan = refl
+
+first_fine : (plan : Plan) (c : Config) → ConfigInLines c → Fine (fronted (numbered 1 (front_lines plan))) 5 (config_lines c)
+unfolding check_of
+first_fine plan c fits = (
+  refl,
+  refl,
+  inner_fine (begin 5 c.start c.countdown (fronted (numbered 1 (front_lines plan)))) (record { line = 5; start = c.start; countdown = c.countdown; lines = [] }) [] (5 + 1) (inner_lines c) (all_fine (5 + 1) c fits.few_streams fits.few_entities),
+)
+
+first_adds : (plan : Plan) (c : Config) → ConfigInLines c → adds 5 (config_lines c) (fronted (numbered 1 (front_lines plan))) ≡ full (numbered 1 (front_lines plan)) [] (block_of 5 c)
+first_adds plan c fits =
+    inner_adds (begin 5 c.start c.countdown (fronted (numbered 1 (front_lines plan)))) (record { line = 5; start = c.start; countdown = c.countdown; lines = [] }) [] (5 + 1) (inner_lines c) (all_fine (5 + 1) c fits.few_streams fits.few_entities)
+
+-- all lines of a plan
+pub record PlanRead (plan : Plan) : Type 0 where
+  pub read : Read
+  pub fine : Fine nothing 1 (plan_lines plan)
+  pub is : adds 1 (plan_lines plan) nothing ≡ read
+  pub block : Block
+  pub last : read.current ≡ Some block
+  pub whole : is_incomplete block.lines ≡ false
+  pub gives : plan_of read ≡ plan
+
+plan_read_of : (plan : Plan) (c : Config) (cs : List Config) → plan.configs ≡ c ∷ cs → length (c ∷ cs) ≤ 16 → All ConfigInLines (c ∷ cs) → PlanRead plan
+plan_read_of plan c cs are few fit =
+    let front : List Said = numbered 1 (front_lines plan) in
+    let fits = All-head ConfigInLines c cs fit in
+    let flat : flat_map config_lines plan.configs ≡ config_lines c ++ flat_map config_lines cs = ap (flat_map config_lines) are ∙ flat_map-cons config_lines c cs in
+    let n : ℕ = 5 + length (config_lines c) in
+    let more = told front [] (block_of 5 c) n cs (complete_again (5 + 1) c fits.some_service fits.some_stream) (omega (arith, few)) (All-tail ConfigInLines c cs fit) in
+    let here = first_adds plan c fits in
+    let behind : Fine (adds 5 (config_lines c) (fronted front)) n (flat_map config_lines cs) = rw here more.fine in
+    let configs_fine : Fine (fronted front) 5 (flat_map config_lines plan.configs) =
+    subst (λ (ls : List Line). Fine (fronted front) 5 ls) (sym flat) (fine_append (fronted front) 5 (config_lines c) (flat_map config_lines cs) (first_fine plan c fits) behind) in
+    record {
+      read = full front more.closed_then more.last;
+      fine = fine_append nothing 1 (front_lines plan) (flat_map config_lines plan.configs) (front_fine plan) configs_fine;
+      is = adds_append 1 (front_lines plan) (flat_map config_lines plan.configs) nothing
+          ∙ ap (λ (ls : List Line). adds 5 ls (fronted front)) flat
+          ∙ adds_append 5 (config_lines c) (flat_map config_lines cs) (fronted front)
+          ∙ ap (adds n (flat_map config_lines cs)) here
+          ∙ more.is;
+      block = more.last;
+      last = refl;
+      whole = more.whole;
+      gives =
+          ap (λ l. record { carry = plan.carry; seq = plan.seq; dlfc = plan.dlfc; length = plan.length; configs = l })
+          (more.configs ∙ ap (λ k. k ∷ cs) (config_again 5 c) ∙ sym are);
+    }
+
+no_config : (plan : Plan) → plan.configs ≡ [] → 1 ≤ length plan.configs → PlanRead plan
+no_config plan none some =
+    let zero_of : length plan.configs ≡ 0 = ap (λ (l : List Config). length l) none in
+    absurd (omega (arith, zero_of, some))
+
+pub plan_read : (plan : Plan) → 1 ≤ length plan.configs → length plan.configs ≤ 16 → All ConfigInLines plan.configs → PlanRead plan
+plan_read plan some few fit = by plan.configs refl some few fit
+  where
+    by : (cs : List Config) → plan.configs ≡ cs → 1 ≤ length cs → length cs ≤ 16 → All ConfigInLines cs → PlanRead plan
+    by [] are some few fit = absurd (omega (arith, some))
+    by (c ∷ cs) are some few fit = plan_read_of plan c cs are few fit

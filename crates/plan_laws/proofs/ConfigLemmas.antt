@@ -1,0 +1,199 @@
+-- The lines of a configuration, written and read again, give the configuration.
+use Rattle.std.proofs.Common.{◌≡◌, ℕ, ◌+◌, ◌≤◌, ◌<◌, suc, Bool, true, false, List, [], ◌∷◌, ◌++◌, Option, Some, None, length, map, filter, refl, sym, ap, subst, ◌∙◌, append_assoc, arith}
+use Rattle.std.specs.Prelude.{nat_le, if◌then◌else◌}
+use Rattle.std.proofs.lemmas.Bool.Decides.{nat_tests}
+use Rattle.std.proofs.lemmas.List.{length-append}
+use Rattle.std.proofs.lemmas.List.Elements.{filter-append}
+use Rattle.drm_fac.specs.declared.service.Service.{Service}
+use Rattle.drm_sdc.specs.declared.body.Body.{Body}
+use Rattle.drm_sdc.specs.declared.body.Body.TheVariants as bodies
+use Rattle.drm_sdc.specs.declared.entity.Entity.{Entity}
+use Rattle.drm_schedule.specs.declared.config.Clock.{Clock}
+use Rattle.drm_schedule.specs.declared.config.Config.{Config}
+use Rattle.drm_schedule.specs.declared.stream.Stream.{Stream}
+use Rattle.plan_lines.specs.declared.first_word.Keyword.{Keyword}
+use Rattle.plan_lines.specs.declared.first_word.Keyword.TheVariants as keywords
+use Rattle.plan_lines.specs.declared.line.Line.{Line}
+use Rattle.plan_lines.specs.declared.line.Line.TheVariants as lines
+use Rattle.plan_lines.specs.Same.{same}
+use Rattle.plan_lines.specs.Said.{keyword_said, keyword_of_body}
+use Rattle.drm_plan.specs.declared.said.Said.{Said}
+use Rattle.drm_plan.specs.Said.{count}
+use Rattle.drm_plan.specs.Rules.{is_entity, count_entities, is_second, is_too_many}
+use Rattle.drm_plan.specs.Canonical.{service_lines, stream_lines, clock_lines, entity_lines}
+use Rattle.plan_laws.proofs.AgainLemmas.{numbered, is_inner, InnerFine}
+use Rattle.drm_plan.proofs.PlanLemmas.{one, entity_is_one}
+
+append_nil : {X : Type 0} (xs : List X) → xs ++ [] ≡ xs
+append_nil [] = refl
+append_nil (x ∷ xs) = ap (λ l. x ∷ l) (append_nil xs)
+
+pub numbered_append : (n : ℕ) (a b : List Line) → numbered n (a ++ b) ≡ numbered n a ++ numbered (n + length a) b
+numbered_append n [] b =
+    let same : n + 0 ≡ n = omega arith in
+    rw same refl
+numbered_append n (l ∷ a) b =
+    let next : n + suc (length a) ≡ n + 1 + length a = omega arith in
+    ap (λ s. record { line = n; says = l } ∷ s) (numbered_append (n + 1) a b ∙ ap (λ k. numbered (n + 1) a ++ numbered k b) (sym next))
+
+pub inner_append : (said : List Said) (n : ℕ) (a b : List Line) → InnerFine said n a → InnerFine (said ++ numbered n a) (n + length a) b → InnerFine said n (a ++ b)
+inner_append said n [] b first behind =
+    let same : n + 0 ≡ n = omega arith in
+    subst (λ (s : List Said). InnerFine s n b) (append_nil said) (subst (λ k. InnerFine (said ++ []) k b) same behind)
+inner_append said n (l ∷ a) b first behind =
+    let next : n + suc (length a) ≡ n + 1 + length a = omega arith in
+    let moved : InnerFine ((said ++ record { line = n; says = l } ∷ []) ++ numbered (n + 1) a) (n + 1 + length a) b =
+    subst (λ (s : List Said). InnerFine s (n + 1 + length a) b) (sym (append_assoc said (record { line = n; says = l } ∷ []) (numbered (n + 1) a))) (subst (λ k. InnerFine (said ++ record { line = n; says = l } ∷ numbered (n + 1) a) k b) next behind) in
+    (first.0, first.1, first.2, inner_append (said ++ record { line = n; says = l } ∷ []) (n + 1) a b first.3 moved)
+
+-- how many lines meet a test on their keywords
+abbrev pub tested : (Keyword → Bool) → List Said → ℕ
+tested test said = length (filter (λ s. test (keyword_said s.says)) said)
+
+pub tested_append : (test : Keyword → Bool) (a b : List Said) → tested test (a ++ b) ≡ tested test a + tested test b
+tested_append test a b =
+    ap (λ (l : List Said). length l) (filter-append (λ s. test (keyword_said s.says)) a b) ∙ length-append (filter (λ s. test (keyword_said s.says)) a) (filter (λ s. test (keyword_said s.says)) b)
+
+abbrev one_said : ℕ → Line → List Said
+one_said n l = record { line = n; says = l } ∷ []
+
+abbrev said_if : Bool → List Said → List Said
+said_if b said = if b then said else []
+
+tested_one : (test : Keyword → Bool) (n : ℕ) (l : Line) → tested test (one_said n l) ≡ one (test (keyword_said l))
+tested_one test n l = by (test (keyword_said l))
+  where
+    by : (b : Bool) → length (said_if b (one_said n l)) ≡ one b
+    by true = refl
+    by false = refl
+
+tested_push : (test : Keyword → Bool) (said : List Said) (n : ℕ) (l : Line) → tested test (said ++ record { line = n; says = l } ∷ []) ≡ tested test said + one (test (keyword_said l))
+tested_push test said n l = tested_append test said (record { line = n; says = l } ∷ []) ∙ ap (λ k. tested test said + k) (tested_one test n l)
+
+-- lines of one kind, none of which meets the test
+pub tested_none : {X : Type 0} (test : Keyword → Bool) (f : X → Line) → ((x : X) → test (keyword_said (f x)) ≡ false) → (n : ℕ) (xs : List X) → tested test (numbered n (map f xs)) ≡ 0
+tested_none test f none n [] = refl
+tested_none test f none n (x ∷ xs) = rw (none x) (tested_none test f none (n + 1) xs)
+
+pub tested_all : {X : Type 0} (test : Keyword → Bool) (f : X → Line) → ((x : X) → test (keyword_said (f x)) ≡ true) → (n : ℕ) (xs : List X) → tested test (numbered n (map f xs)) ≡ length xs
+tested_all test f all n [] = refl
+tested_all test f all n (x ∷ xs) = rw (all x) (ap suc (tested_all test f all (n + 1) xs))
+
+services_fine : (said : List Said) (n : ℕ) (services : List Service) → InnerFine said n (service_lines services)
+unfolding is_second is_too_many
+services_fine said n [] = tt
+services_fine said n (s ∷ services) = (refl, refl, refl, services_fine (said ++ record { line = n; says = lines.Service s } ∷ []) (n + 1) services)
+
+few_streams : (c : ℕ) → c < 4 → nat_le 4 c ≡ false
+few_streams c few = grind (arith, nat_tests)
+
+streams_fine : (said : List Said) (n : ℕ) (streams : List Stream) → count keywords.Stream said + length streams ≤ 4 → InnerFine said n (stream_lines streams)
+unfolding is_second is_too_many
+streams_fine said n [] few = tt
+streams_fine said n (s ∷ streams) few =
+    let pushed : count keywords.Stream (said ++ record { line = n; says = lines.Stream s } ∷ []) ≡ count keywords.Stream said + 1 = tested_push (λ k. same k keywords.Stream) said n (lines.Stream s) in
+    (refl, refl, few_streams (count keywords.Stream said) (omega (arith, few)), streams_fine (said ++ record { line = n; says = lines.Stream s } ∷ []) (n + 1) streams (omega (arith, few, pushed)))
+
+clock_fine : (said : List Said) (n : ℕ) (clock : Option Clock) → count keywords.Clock said ≡ 0 → InnerFine said n (clock_lines clock)
+unfolding is_second is_too_many
+clock_fine said n None none = tt
+clock_fine said n (Some c) none = (refl, rw none refl, refl, tt)
+
+entity_inner : (b : Body) → is_inner (keyword_of_body b) ≡ true
+entity_inner (bodies.Mux desc) = refl
+entity_inner _ = refl
+
+entity_single : (k : Keyword) (said : List Said) → is_entity k ≡ true → is_second k said ≡ false
+unfolding is_second
+entity_single keywords.Drmplan said e = absurd cc
+entity_single keywords.Mode said e = absurd cc
+entity_single keywords.Occupancy said e = absurd cc
+entity_single keywords.Depth said e = absurd cc
+entity_single keywords.Msc said e = absurd cc
+entity_single keywords.Sdc said e = absurd cc
+entity_single keywords.Protection said e = absurd cc
+entity_single keywords.Room said e = absurd cc
+entity_single keywords.Clock said e = absurd cc
+entity_single _ said e = refl
+
+entity_few : (k : Keyword) (said : List Said) → is_entity k ≡ true → nat_le 64 (count_entities said) ≡ false → is_too_many k said ≡ false
+unfolding is_too_many
+entity_few keywords.Stream said e few = absurd cc
+entity_few keywords.Label said e few = few
+entity_few keywords.Freq said e few = few
+entity_few keywords.When said e few = few
+entity_few keywords.App said e few = few
+entity_few keywords.Audio said e few = few
+entity_few keywords.Language said e few = few
+entity_few keywords.Raw said e few = few
+entity_few _ said e few = absurd cc
+
+few_entities : (c : ℕ) → c < 64 → nat_le 64 c ≡ false
+few_entities c few = grind (arith, nat_tests)
+
+entities_fine : (said : List Said) (n : ℕ) (entities : List Entity) → count_entities said + length entities ≤ 64 → InnerFine said n (entity_lines entities)
+entities_fine said n [] few = tt
+entities_fine said n (e ∷ entities) few =
+    let is = entity_is_one e.body in
+    let pushed : count_entities (said ++ record { line = n; says = lines.Entity e } ∷ []) ≡ count_entities said + one (is_entity (keyword_of_body e.body)) = tested_push is_entity said n (lines.Entity e) in
+    let one_more : count_entities (said ++ record { line = n; says = lines.Entity e } ∷ []) ≡ count_entities said + 1 = pushed ∙ ap (λ b. count_entities said + one b) is in (
+      entity_inner e.body,
+      entity_single (keyword_of_body e.body) said is,
+      entity_few (keyword_of_body e.body) said is (few_entities (count_entities said) (omega (arith, few))),
+      entities_fine (said ++ record { line = n; says = lines.Entity e } ∷ []) (n + 1) entities (omega (arith, few, one_more)),
+    )
+
+-- the settings after the config line
+abbrev pub rest_settings : Config → List Line
+rest_settings c = lines.Mode c.mode ∷ lines.Occupancy c.occupancy ∷ lines.Depth c.short_depth ∷ lines.Msc c.msc ∷ lines.Sdc c.qam4 ∷ lines.Protection c.prot_a c.prot_b ∷ lines.Room c.room ∷ []
+
+settings_fine : (n : ℕ) (c : Config) → InnerFine [] n (rest_settings c)
+unfolding is_second is_too_many
+settings_fine n c = (refl, refl, refl, (refl, refl, refl, (refl, refl, refl, (refl, refl, refl, (refl, refl, refl, (refl, refl, refl, (refl, refl, refl, tt)))))))
+
+-- the lines after the config line
+abbrev pub inner_lines : Config → List Line
+inner_lines c = rest_settings c ++ (service_lines c.services ++ (stream_lines c.streams ++ (clock_lines c.clock ++ entity_lines c.entities)))
+
+-- the numbers of the first lines
+abbrev after_settings : ℕ → Config → List Said
+after_settings n c = [] ++ numbered n (rest_settings c)
+
+pub services_of : (test : Keyword → Bool) → test keywords.Service ≡ false → (n : ℕ) (services : List Service) → tested test (numbered n (service_lines services)) ≡ 0
+services_of test none n services = tested_none test (λ s. lines.Service s) (λ s. none) n services
+
+streams_of : (test : Keyword → Bool) → test keywords.Stream ≡ false → (n : ℕ) (streams : List Stream) → tested test (numbered n (stream_lines streams)) ≡ 0
+streams_of test none n streams = tested_none test (λ s. lines.Stream s) (λ s. none) n streams
+
+clock_count : (test : Keyword → Bool) → test keywords.Clock ≡ false → (n : ℕ) (clock : Option Clock) → tested test (numbered n (clock_lines clock)) ≡ 0
+clock_count test none n None = refl
+clock_count test none n (Some c) = rw none refl
+
+-- all lines after the config line
+pub all_fine : (n : ℕ) (c : Config) → length c.streams ≤ 4 → length c.entities ≤ 64 → InnerFine [] n (inner_lines c)
+all_fine n c streams entities =
+    let l1 : List Said = [] ++ numbered n (rest_settings c) in
+    let n1 : ℕ = n + length (rest_settings c) in
+    let l2 : List Said = l1 ++ numbered n1 (service_lines c.services) in
+    let n2 : ℕ = n1 + length (service_lines c.services) in
+    let l3 : List Said = l2 ++ numbered n2 (stream_lines c.streams) in
+    let n3 : ℕ = n2 + length (stream_lines c.streams) in
+    let l4 : List Said = l3 ++ numbered n3 (clock_lines c.clock) in
+    let n4 : ℕ = n3 + length (clock_lines c.clock) in
+    let stream_2 : count keywords.Stream l2 ≡ 0 =
+    tested_append (λ k. same k keywords.Stream) l1 (numbered n1 (service_lines c.services)) ∙ rw (services_of (λ k. same k keywords.Stream) refl n1 c.services) refl in
+    let clock_2 : count keywords.Clock l2 ≡ 0 =
+    tested_append (λ k. same k keywords.Clock) l1 (numbered n1 (service_lines c.services)) ∙ rw (services_of (λ k. same k keywords.Clock) refl n1 c.services) refl in
+    let clock_3 : count keywords.Clock l3 ≡ 0 =
+    tested_append (λ k. same k keywords.Clock) l2 (numbered n2 (stream_lines c.streams)) ∙ rw (clock_2, streams_of (λ k. same k keywords.Clock) refl n2 c.streams) refl in
+    let entity_2 : count_entities l2 ≡ 0 =
+    tested_append is_entity l1 (numbered n1 (service_lines c.services)) ∙ rw (services_of is_entity refl n1 c.services) refl in
+    let entity_3 : count_entities l3 ≡ 0 =
+    tested_append is_entity l2 (numbered n2 (stream_lines c.streams)) ∙ rw (entity_2, streams_of is_entity refl n2 c.streams) refl in
+    let entity_4 : count_entities l4 ≡ 0 =
+    tested_append is_entity l3 (numbered n3 (clock_lines c.clock)) ∙ rw (entity_3, clock_count is_entity refl n3 c.clock) refl in
+    inner_append [] n (rest_settings c) (service_lines c.services ++ (stream_lines c.streams ++ (clock_lines c.clock ++ entity_lines c.entities))) (settings_fine n c)
+    (inner_append l1 n1 (service_lines c.services) (stream_lines c.streams ++ (clock_lines c.clock ++ entity_lines c.entities)) (services_fine l1 n1 c.services)
+    (inner_append l2 n2 (stream_lines c.streams) (clock_lines c.clock ++ entity_lines c.entities) (streams_fine l2 n2 c.streams (omega (arith, streams, stream_2)))
+    (inner_append l3 n3 (clock_lines c.clock) (entity_lines c.entities) (clock_fine l3 n3 c.clock clock_3)
+    (entities_fine l4 n4 c.entities (omega (arith, entities, entity_4))))))

@@ -1,0 +1,16 @@
+pub mod Parts
+pub mod FrequencyLaws
+pub mod LabelLaws
+pub mod SettingsAgain
+pub mod EntitiesAgain
+pub mod Tokens
+pub mod SaidAgain
+pub mod LineAgain
+pub mod AgainLemmas
+pub mod ConfigLemmas
+pub mod ProjectionLemmas
+pub mod CanonicalLaw
+pub mod Utf8Lines
+pub mod PlanLaw
+pub mod GivenLaw
+pub mod AttachLaw

@@ -1,0 +1,269 @@
+-- Reading the canonical text of a plan gives the plan again, but for the bytes of its files.
+use Rattle.std.proofs.Common.{◌≡◌, ℕ, false, List, [], ◌∷◌, ◌++◌, Option, Some, None, Result, Ok, map, refl, sym, ap, subst, ◌∙◌, arith}
+use Rattle.std.specs.Prelude.{All, IfSome, IsUtf8}
+use Rattle.std.specs.List.{flat_map, AllByRecursion}
+use Rattle.std.proofs.lemmas.List.{length-map}
+use Rattle.std.proofs.lemmas.List.Concat.{flat_map-cons}
+use Rattle.std.proofs.lemmas.List.Elements.{All-nil, All-cons, All-head, All-tail}
+use Rattle.std.proofs.lemmas.Str.{IsUtf8-nil, IsUtf8-append, IsUtf8-from_ascii}
+use Rattle.std.proofs.lemmas.Str.Ascii.{IsAscii-nil, IsAscii-cons}
+use Rattle.drm_schedule.specs.declared.config.Clock.{Clock}
+use Rattle.drm_schedule.specs.declared.config.Config.{Config}
+use Rattle.drm_schedule.specs.declared.stream.Content.{Content}
+use Rattle.drm_schedule.specs.declared.stream.Content.TheVariants.{Fill, File}
+use Rattle.drm_schedule.specs.declared.stream.Stream.{Stream}
+use Rattle.drm_schedule.specs.declared.plan.Plan.{Plan}
+use Rattle.drm_schedule.specs.Ranges.{ContentInLines, StreamInLines, ServiceInLines, ClockInLines, EntityInLines, ConfigInLines, InLines}
+use Rattle.text_lines.specs.Lines.{lines_of}
+use Rattle.text_lines.proofs.LineLaws.{IsLine, lines_again}
+use Rattle.plan_lines.specs.declared.line.Line.{Line}
+use Rattle.plan_lines.specs.declared.line.Line.TheVariants as lines
+use Rattle.plan_lines.specs.Said.{canonical as line_of, line_text, detached, LineInLines}
+use Rattle.plan_laws.proofs.LineAgain.{line_again}
+use Rattle.plan_laws.proofs.SaidAgain.{said_again}
+use Rattle.drm_plan.specs.declared.said.Block.{Block}
+use Rattle.drm_plan.specs.declared.said.Read.{Read}
+use Rattle.drm_plan.specs.Said.{nothing}
+use Rattle.drm_plan.specs.Rules.{Fault, ended, is_incomplete, said_from, said}
+use Rattle.drm_plan.specs.Canonical.{front_lines, settings_lines, service_lines, stream_lines, clock_lines, entity_lines, config_lines, plan_lines, text_of, canonical}
+use Rattle.plan_laws.specs.Texts.{emptied, without_bytes, config_without_bytes, without_files, IsReadAgain}
+use Rattle.drm_plan.specs.Projection.{Drafted, drafted}
+use Rattle.drm_plan.specs.Text.{lines_give}
+use Rattle.plan_laws.proofs.AgainLemmas.{LineAgain, lines_said}
+use Rattle.plan_laws.proofs.CanonicalLaw.{plan_read}
+use Rattle.drm_plan.proofs.EndLemmas.{text_gives}
+use Rattle.drm_plan.proofs.TextLemmas.{text_append, no_text}
+use Rattle.plan_laws.proofs.Utf8Lines.{line_utf8}
+
+-- A line that has no bytes of a file, is written as one line of UTF-8, and reads as itself.
+record Clean (l : Line) : Type 0 where
+  again : LineAgain l
+  line : IsLine (line_of l)
+  utf8 : IsUtf8 (line_of l)
+
+clean : (l : Line) → LineInLines l → detached l ≡ l → Clean l
+clean l fits same =
+    let cut = line_again l fits in
+    record { again = record { cut = cut.words; reads = said_again l fits ∙ ap (λ (x : Line). Ok x) same }; line = cut.one_line; utf8 = line_utf8 l fits }
+
+both : (a b : List Line) → AllByRecursion Clean a → AllByRecursion Clean b → AllByRecursion Clean (a ++ b)
+both [] b first behind = behind
+both (l ∷ a) b first behind = (first.0, both a b first.1 behind)
+
+each : {X : Type 0} (f : X → Line) (P : X → Type 0) → ((x : X) → P x → Clean (f x)) → (xs : List X) → All P xs → AllByRecursion Clean (map f xs)
+each f P is [] all = tt
+each f P is (x ∷ xs) all = (is x (All-head P x xs all), each f P is xs (All-tail P x xs all))
+
+content_fits : (content : Content) → ContentInLines content → ContentInLines (emptied content)
+content_fits (Fill byte) fits = fits
+content_fits (File name bytes) fits = (fits.0, omega arith)
+
+stream_fits : (s : Stream) → StreamInLines s → StreamInLines (without_bytes s)
+stream_fits s fits = record { a_fits = fits.a_fits; b_fits = fits.b_fits; not_empty = fits.not_empty; contents = content_fits s.content fits.contents }
+
+stream_clean : (s : Stream) → StreamInLines s → Clean (lines.Stream (without_bytes s))
+stream_clean s fits = clean (lines.Stream (without_bytes s)) (stream_fits s fits) (ap (λ (k : Content). lines.Stream (record { a = s.a; b = s.b; content = k })) (by s.content))
+  where
+    detach : Content → Content
+    detach (Fill byte) = Fill byte
+    detach (File name bytes) = File name []
+
+    by : (content : Content) → detach (emptied content) ≡ emptied content
+    by (Fill byte) = refl
+    by (File name bytes) = refl
+
+mapped : {X Y : Type 0} (f : Y → Line) (g : X → Y) (xs : List X) → map f (map g xs) ≡ map (λ x. f (g x)) xs
+mapped f g [] = refl
+mapped f g (x ∷ xs) = ap (λ l. f (g x) ∷ l) (mapped f g xs)
+
+clock_clean : (clock : Option Clock) → IfSome clock ClockInLines → AllByRecursion Clean (clock_lines clock)
+clock_clean None fits = tt
+clock_clean (Some c) fits = (clean (lines.Clock c) fits refl, tt)
+
+settings_clean : (c : Config) → ConfigInLines c → AllByRecursion Clean (settings_lines c)
+settings_clean c fits = (
+  clean (lines.Config c.start c.countdown) (fits.start_fits, fits.countdown_fits) refl,
+  (
+    clean (lines.Mode c.mode) tt refl,
+    (
+      clean (lines.Occupancy c.occupancy) fits.occupancy_fits refl,
+      (
+        clean (lines.Depth c.short_depth) tt refl,
+        (
+          clean (lines.Msc c.msc) fits.msc_fits refl,
+          (
+            clean (lines.Sdc c.qam4) tt refl,
+            (
+              clean (lines.Protection c.prot_a c.prot_b) (fits.prot_a_fits, fits.prot_b_fits) refl,
+              (clean (lines.Room c.room) fits.room_fits refl, tt),
+            ),
+          ),
+        ),
+      ),
+    ),
+  ),
+)
+
+config_clean : (c : Config) → ConfigInLines c → AllByRecursion Clean (config_lines (config_without_bytes c))
+config_clean c fits =
+    let streams : AllByRecursion Clean (stream_lines (map without_bytes c.streams)) =
+    subst (λ (ls : List Line). AllByRecursion Clean ls) (sym (mapped (λ s. lines.Stream s) without_bytes c.streams)) (each (λ s. lines.Stream (without_bytes s)) StreamInLines stream_clean c.streams fits.each_stream) in
+    both (settings_lines c) (service_lines c.services ++ (stream_lines (map without_bytes c.streams) ++ (clock_lines c.clock ++ entity_lines c.entities))) (settings_clean c fits)
+    (both (service_lines c.services) (stream_lines (map without_bytes c.streams) ++ (clock_lines c.clock ++ entity_lines c.entities)) (each (λ s. lines.Service s) ServiceInLines (λ s is. clean (lines.Service s) is refl) c.services fits.each_service)
+    (both (stream_lines (map without_bytes c.streams)) (clock_lines c.clock ++ entity_lines c.entities) streams
+    (both (clock_lines c.clock) (entity_lines c.entities) (clock_clean c.clock fits.clock_fits) (each (λ e. lines.Entity e) EntityInLines (λ e is. clean (lines.Entity e) is refl) c.entities fits.each_entity))))
+
+configs_clean : (cs : List Config) → All ConfigInLines cs → AllByRecursion Clean (flat_map config_lines (map config_without_bytes cs))
+configs_clean [] fit = tt
+configs_clean (c ∷ cs) fit =
+    subst (λ (ls : List Line). AllByRecursion Clean ls) (sym (flat_map-cons config_lines (config_without_bytes c) (map config_without_bytes cs)))
+    (both (config_lines (config_without_bytes c)) (flat_map config_lines (map config_without_bytes cs)) (config_clean c (All-head ConfigInLines c cs fit)) (configs_clean cs (All-tail ConfigInLines c cs fit)))
+
+plan_clean : (plan : Plan) → InLines plan → AllByRecursion Clean (plan_lines (without_files plan))
+plan_clean plan fits =
+    both (front_lines plan) (flat_map config_lines (map config_without_bytes plan.configs))
+    (clean lines.Version tt refl, (clean (lines.Carry plan.carry) fits.carry_fits refl, (clean (lines.First plan.seq plan.dlfc) (fits.seq_fits, fits.dlfc_fits) refl, (clean (lines.Length plan.length) (fits.some_frames, fits.few_frames) refl, tt))))
+    (configs_clean plan.configs fits.each_config)
+
+-- the ranges stay
+config_stays : (c : Config) → ConfigInLines c → ConfigInLines (config_without_bytes c)
+config_stays c fits =
+    let same = length-map c.streams without_bytes in
+    record {
+      start_fits = fits.start_fits;
+      countdown_fits = fits.countdown_fits;
+      occupancy_fits = fits.occupancy_fits;
+      msc_fits = fits.msc_fits;
+      prot_a_fits = fits.prot_a_fits;
+      prot_b_fits = fits.prot_b_fits;
+      room_fits = fits.room_fits;
+      some_service = fits.some_service;
+      each_service = fits.each_service;
+      some_stream = rw same fits.some_stream;
+      few_streams = rw same fits.few_streams;
+      each_stream = all_mapped StreamInLines without_bytes stream_fits c.streams fits.each_stream;
+      clock_fits = fits.clock_fits;
+      few_entities = fits.few_entities;
+      each_entity = fits.each_entity;
+    }
+  where
+    all_mapped : {X : Type 0} (P : X → Type 0) (f : X → X) → ((x : X) → P x → P (f x)) → (xs : List X) → All P xs → All P (map f xs)
+    all_mapped P f keeps [] all = All-nil P
+    all_mapped P f keeps (x ∷ xs) all = All-cons P (f x) (map f xs) (keeps x (All-head P x xs all)) (all_mapped P f keeps xs (All-tail P x xs all))
+
+configs_stay : (cs : List Config) → All ConfigInLines cs → All ConfigInLines (map config_without_bytes cs)
+configs_stay [] all = All-nil ConfigInLines
+configs_stay (c ∷ cs) all = All-cons ConfigInLines (config_without_bytes c) (map config_without_bytes cs) (config_stays c (All-head ConfigInLines c cs all)) (configs_stay cs (All-tail ConfigInLines c cs all))
+
+-- the bytes of files stand in no line
+stream_text : (s : Stream) → line_text (lines.Stream (without_bytes s)) ≡ line_text (lines.Stream s)
+stream_text s = by s.a s.b s.content
+  where
+    by : (a b : ℕ) (content : Content) → line_text (lines.Stream (record { a = a; b = b; content = emptied content })) ≡ line_text (lines.Stream (record { a = a; b = b; content = content }))
+    by a b (Fill byte) = refl
+    by a b (File name bytes) = refl
+
+text_cons : (l : Line) (ls : List Line) → text_of (l ∷ ls) ≡ line_text l ++ text_of ls
+unfolding text_of
+text_cons l ls = flat_map-cons line_text l ls
+
+streams_text : (streams : List Stream) → text_of (stream_lines (map without_bytes streams)) ≡ text_of (stream_lines streams)
+streams_text [] = refl
+streams_text (s ∷ streams) =
+    text_cons (lines.Stream (without_bytes s)) (stream_lines (map without_bytes streams))
+    ∙ ap (λ t. t ++ text_of (stream_lines (map without_bytes streams))) (stream_text s)
+    ∙ ap (λ t. line_text (lines.Stream s) ++ t) (streams_text streams)
+    ∙ sym (text_cons (lines.Stream s) (stream_lines streams))
+
+config_text : (c : Config) → text_of (config_lines (config_without_bytes c)) ≡ text_of (config_lines c)
+config_text c =
+    let rest : List Line = clock_lines c.clock ++ entity_lines c.entities in
+    let streams : text_of (stream_lines (map without_bytes c.streams) ++ rest) ≡ text_of (stream_lines c.streams ++ rest) =
+    text_append (stream_lines (map without_bytes c.streams)) rest ∙ ap (λ t. t ++ text_of rest) (streams_text c.streams) ∙ sym (text_append (stream_lines c.streams) rest) in
+    let services : text_of (service_lines c.services ++ (stream_lines (map without_bytes c.streams) ++ rest)) ≡ text_of (service_lines c.services ++ (stream_lines c.streams ++ rest)) =
+    text_append (service_lines c.services) (stream_lines (map without_bytes c.streams) ++ rest) ∙ ap (λ t. text_of (service_lines c.services) ++ t) streams ∙ sym (text_append (service_lines c.services) (stream_lines c.streams ++ rest)) in
+    text_append (settings_lines c) (service_lines c.services ++ (stream_lines (map without_bytes c.streams) ++ rest))
+    ∙ ap (λ t. text_of (settings_lines c) ++ t) services
+    ∙ sym (text_append (settings_lines c) (service_lines c.services ++ (stream_lines c.streams ++ rest)))
+
+configs_text : (cs : List Config) → text_of (flat_map config_lines (map config_without_bytes cs)) ≡ text_of (flat_map config_lines cs)
+configs_text [] = refl
+configs_text (c ∷ cs) =
+    ap text_of (flat_map-cons config_lines (config_without_bytes c) (map config_without_bytes cs))
+    ∙ text_append (config_lines (config_without_bytes c)) (flat_map config_lines (map config_without_bytes cs))
+    ∙ ap (λ t. t ++ text_of (flat_map config_lines (map config_without_bytes cs))) (config_text c)
+    ∙ ap (λ t. text_of (config_lines c) ++ t) (configs_text cs)
+    ∙ sym (text_append (config_lines c) (flat_map config_lines cs))
+    ∙ ap text_of (sym (flat_map-cons config_lines c cs))
+
+pub same_text : (plan : Plan) → canonical (without_files plan) ≡ canonical plan
+same_text plan =
+    text_append (front_lines plan) (flat_map config_lines (map config_without_bytes plan.configs))
+    ∙ ap (λ t. text_of (front_lines plan) ++ t) (configs_text plan.configs)
+    ∙ sym (text_append (front_lines plan) (flat_map config_lines plan.configs))
+
+-- the lines of a text of lines
+all_again : (ls : List Line) → AllByRecursion Clean ls → AllByRecursion LineAgain ls
+all_again [] are = tt
+all_again (l ∷ ls) are = (are.0.again, all_again ls are.1)
+
+all_lines : (ls : List Line) → AllByRecursion Clean ls → AllByRecursion IsLine (map line_of ls)
+all_lines [] are = tt
+all_lines (l ∷ ls) are = (are.0.line, all_lines ls are.1)
+
+text_is : (ls : List Line) → text_of ls ≡ flat_map (λ (x : List ℕ). x ++ 10 ∷ []) (map line_of ls)
+unfolding text_of
+text_is [] = refl
+text_is (l ∷ ls) = flat_map-cons line_text l ls ∙ ap (λ t. line_text l ++ t) (text_is ls) ∙ sym (flat_map-cons (λ (x : List ℕ). x ++ 10 ∷ []) (line_of l) (map line_of ls))
+
+-- a whole text that has been read
+said_whole : (ls : List (List ℕ)) (read : Read) (b : Block) → said_from nothing 1 ls ≡ Ok read → read.current ≡ Some b → is_incomplete b.lines ≡ false → said ls ≡ Ok read
+unfolding said ended
+said_whole ls read b e last whole = rw (e, last, whole) refl
+
+abbrev ok_read : Read → Result Read Fault
+ok_read read = Ok read
+
+-- the canonical text of a plan gives the plan again
+pub read_again : (plan : Plan) → InLines plan → IsReadAgain plan
+read_again plan fits =
+    let bare : Plan = without_files plan in
+    let count = length-map plan.configs config_without_bytes in
+    let read = plan_read bare (rw count fits.some_config) (rw count fits.few_configs) (configs_stay plan.configs fits.each_config) in
+    let are = plan_clean plan fits in
+    let ls : List (List ℕ) = map line_of (plan_lines bare) in
+    let lines_are : lines_of (canonical plan) ≡ ls = ap lines_of (sym (same_text plan) ∙ text_is (plan_lines bare)) ∙ lines_again ls (all_lines (plan_lines bare) are) in
+    let from_start : said_from nothing 1 ls ≡ Ok read.read = lines_said nothing 1 (plan_lines bare) (all_again (plan_lines bare) are) read.fine ∙ ap ok_read read.is in
+    let all : said ls ≡ Ok read.read = said_whole ls read.read read.block from_start read.last read.whole in
+    record {
+      draft = drafted read.read;
+      lines = ap lines_give lines_are ∙ text_gives ls read.read all;
+      same = read.gives;
+    }
+
+abbrev ok_draft : Drafted → Result Drafted Fault
+ok_draft draft = Ok draft
+
+ok_is : (a b : Drafted) → ok_draft a ≡ ok_draft b → a ≡ b
+ok_is a b e = cc
+
+-- two plans with one text
+pub one_text : (a b : Plan) → InLines a → InLines b → canonical a ≡ canonical b → without_files a ≡ without_files b
+one_text a b fits_a fits_b same =
+    let first = read_again a fits_a in
+    let second = read_again b fits_b in
+    let drafts : first.draft ≡ second.draft = ok_is first.draft second.draft (sym first.lines ∙ ap (λ (t : List ℕ). lines_give (lines_of t)) same ∙ second.lines) in
+    sym first.same ∙ ap (λ (d : Drafted). d.plan) drafts ∙ second.same
+
+pub one_plan : (a b : Plan) → without_files a ≡ without_files b → canonical a ≡ canonical b
+one_plan a b same = sym (same_text a) ∙ ap canonical same ∙ same_text b
+
+text_utf8 : (ls : List Line) → AllByRecursion Clean ls → IsUtf8 (text_of ls)
+text_utf8 [] are = subst IsUtf8 (sym no_text) IsUtf8-nil
+text_utf8 (l ∷ ls) are =
+    let fed : IsUtf8 (10 ∷ []) = IsUtf8-from_ascii (10 ∷ []) (IsAscii-cons 10 [] (omega arith) IsAscii-nil) in
+    subst IsUtf8 (sym (text_cons l ls)) (IsUtf8-append (line_text l) (text_of ls) (IsUtf8-append (line_of l) (10 ∷ []) are.0.utf8 fed) (text_utf8 ls are.1))
+
+-- the canonical text of a plan is UTF-8
+pub canonical_utf8 : (plan : Plan) → InLines plan → IsUtf8 (canonical plan)
+canonical_utf8 plan fits = subst IsUtf8 (same_text plan) (text_utf8 (plan_lines (without_files plan)) (plan_clean plan fits))
