@@ -11,7 +11,7 @@ use Rattle.drm_plan.specs.Rules.{Fault}
 use Rattle.drm_plan.specs.Steps.{Reads}
 use Rattle.drm_plan.specs.Projection.{Drafted}
 use Rattle.drm_plan.specs.Text.{lines_give}
-use Rattle.drm_plan.specs.Canonical.{canonical}
+use Rattle.plan_writing.specs.Canonical.{canonical}
 use Rattle.drm_plan.specs.Draft.{name_at, line_at, attached, valid_of}
 use Rattle.drm_links.specs.Shelf.{Files, Supplies}
 use Rattle.drm_links.proofs.ToldLemmas.{Supplies-weaker, Supplies-nothing}

@@ -9,7 +9,7 @@ use Rattle.drm_plan.specs.declared.fault.PlanFault.TheVariants as plan
 use Rattle.drm_plan.specs.Rules.{Fault}
 use Rattle.drm_plan.specs.Projection.{Drafted}
 use Rattle.drm_plan.specs.Text.{lines_give}
-use Rattle.drm_plan.specs.Canonical.{canonical}
+use Rattle.plan_writing.specs.Canonical.{canonical}
 use Rattle.drm_plan.specs.Draft.{name_at, line_at, attached, valid_of}
 use Rattle.drm_load.specs.declared.loading.ScheduleFault.{ScheduleFault}
 use Rattle.drm_load.specs.declared.loading.ScheduleFault.TheVariants.{NoMemory, Line}

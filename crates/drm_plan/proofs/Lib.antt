@@ -7,4 +7,3 @@ pub mod KeptLemmas
 pub mod LookupLemmas
 pub mod FileLemmas
 pub mod CountLemmas
-pub mod TextLemmas

@@ -8,12 +8,12 @@ use Rattle.std.proofs.lemmas.List.Elements.{All-nil, All-cons, All-head, All-tai
 use Rattle.drm_sdc.specs.declared.body.Body.{Body}
 use Rattle.drm_sdc.specs.declared.body.Body.TheVariants as bodies
 use Rattle.drm_schedule.specs.Ranges.{CarryInLines, StreamInLines, ServiceInLines, ClockInLines, EntityInLines, ConfigInLines, InLines}
-use Rattle.plan_lines.specs.declared.line.Line.{Line}
-use Rattle.plan_lines.specs.declared.line.Line.TheVariants as lines
-use Rattle.plan_lines.specs.declared.first_word.Keyword.{Keyword}
-use Rattle.plan_lines.specs.declared.first_word.Keyword.TheVariants as keywords
-use Rattle.plan_lines.specs.Said.{keyword_of_body, keyword_said, LineInLines}
-use Rattle.plan_lines.specs.Same.{same}
+use Rattle.line_forms.specs.declared.line.Line.{Line}
+use Rattle.line_forms.specs.declared.line.Line.TheVariants as lines
+use Rattle.line_forms.specs.declared.first_word.Keyword.{Keyword}
+use Rattle.line_forms.specs.declared.first_word.Keyword.TheVariants as keywords
+use Rattle.line_forms.specs.Said.{keyword_of_body, keyword_said, LineInLines}
+use Rattle.line_forms.specs.Same.{same}
 use Rattle.drm_plan.specs.declared.said.Said.{Said}
 use Rattle.drm_plan.specs.declared.said.Block.{Block}
 use Rattle.drm_plan.specs.declared.said.Read.{Read}

@@ -4,16 +4,16 @@ use Rattle.std.specs.Prelude.{not, ◌||◌, IfOk}
 use Rattle.std.specs.List.{list_all}
 use Rattle.drm_schedule.specs.declared.invalid.Reason.{Reason}
 use Rattle.drm_schedule.specs.declared.invalid.Reason.TheVariants as reasons
-use Rattle.plan_lines.specs.declared.fault.LineFault.{LineFault}
-use Rattle.plan_lines.specs.declared.fault.LineFault.TheVariants as line_faults
-use Rattle.plan_lines.specs.declared.line.Line.{Line}
-use Rattle.plan_lines.specs.declared.first_word.Keyword.{Keyword}
-use Rattle.plan_lines.specs.Gives.{Gives}
-use Rattle.plan_lines.specs.Clean.{IsClean}
-use Rattle.plan_lines.specs.Lines.{shape_of}
-use Rattle.plan_lines.specs.Said.{keyword_said, SaysKeyword, LineInLines}
+use Rattle.line_forms.specs.declared.fault.LineFault.{LineFault}
+use Rattle.line_forms.specs.declared.fault.LineFault.TheVariants as line_faults
+use Rattle.line_forms.specs.declared.line.Line.{Line}
+use Rattle.line_forms.specs.declared.first_word.Keyword.{Keyword}
+use Rattle.line_forms.specs.Gives.{Gives}
+use Rattle.line_forms.specs.Clean.{IsClean}
+use Rattle.line_forms.specs.Lines.{shape_of}
+use Rattle.line_forms.specs.Said.{keyword_said, SaysKeyword, LineInLines}
 use Rattle.plan_lines.proofs.KindLemmas.{line_fits}
-use Rattle.plan_lines.specs.Shape.{Shape, reading, first_row, ok_unless as line_unless}
+use Rattle.line_forms.specs.Shape.{Shape, reading, first_row, ok_unless as line_unless}
 use Rattle.drm_plan.specs.declared.said.Read.{Read}
 use Rattle.drm_plan.specs.declared.fault.PlanFault.{PlanFault}
 use Rattle.drm_plan.specs.Said.{add}

@@ -10,4 +10,3 @@ pub mod Draft
 pub mod InLines
 pub mod Lists
 pub mod Text
-pub mod Canonical

@@ -1,8 +1,8 @@
 -- What the lines of a configuration list, one line after another.
 use Rattle.std.specs.Prelude.{ℕ, ◌≡◌, List, [], ◌∷◌, ◌++◌}
 use Rattle.drm_schedule.specs.declared.config.Config.{Config}
-use Rattle.plan_lines.specs.declared.line.Line.{Line}
-use Rattle.plan_lines.specs.declared.line.Line.TheVariants as lines
+use Rattle.line_forms.specs.declared.line.Line.{Line}
+use Rattle.line_forms.specs.declared.line.Line.TheVariants as lines
 use Rattle.drm_plan.specs.declared.said.Said.{Said}
 use Rattle.drm_plan.specs.declared.said.Block.{Block}
 use Rattle.drm_plan.specs.declared.places.Places.{Places}

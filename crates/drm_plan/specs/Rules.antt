@@ -4,13 +4,13 @@ use Rattle.std.specs.List.{list_all, list_any}
 use Rattle.text_lines.specs.Lines.{words_of}
 use Rattle.drm_schedule.specs.declared.invalid.Reason.{Reason}
 use Rattle.drm_schedule.specs.declared.invalid.Reason.TheVariants.{Word, Order, Number, Range, Twice, TooLong, Missing}
-use Rattle.plan_lines.specs.declared.first_word.Keyword.{Keyword}
-use Rattle.plan_lines.specs.declared.first_word.Keyword.TheVariants as keywords
-use Rattle.plan_lines.specs.Shape.{Shape}
-use Rattle.plan_lines.specs.Keywords.{keyword_of}
-use Rattle.plan_lines.specs.Lines.{shape_of}
-use Rattle.plan_lines.specs.Same.{same}
-use Rattle.plan_lines.specs.Said.{keyword_said}
+use Rattle.line_forms.specs.declared.first_word.Keyword.{Keyword}
+use Rattle.line_forms.specs.declared.first_word.Keyword.TheVariants as keywords
+use Rattle.line_forms.specs.Shape.{Shape}
+use Rattle.line_forms.specs.Keywords.{keyword_of}
+use Rattle.line_forms.specs.Lines.{shape_of}
+use Rattle.line_forms.specs.Same.{same}
+use Rattle.line_forms.specs.Said.{keyword_said}
 use Rattle.drm_plan.specs.declared.said.Said.{Said}
 use Rattle.drm_plan.specs.declared.said.Block.{Block}
 use Rattle.drm_plan.specs.declared.said.Read.{Read}

@@ -2,7 +2,7 @@
 use Rattle.std.specs.Prelude.{ℕ, ◌≡◌, ◌+◌, ◌||◌, Bool, Option, Some, None, Result, Ok, Err, if◌then◌else◌}
 use Rattle.drm_schedule.specs.declared.invalid.Reason.{Reason}
 use Rattle.drm_schedule.specs.declared.invalid.Reason.TheVariants.{Word, Order, Twice, TooLong, Missing}
-use Rattle.plan_lines.specs.declared.first_word.Keyword.{Keyword}
+use Rattle.line_forms.specs.declared.first_word.Keyword.{Keyword}
 use Rattle.drm_plan.specs.declared.said.Block.{Block}
 use Rattle.drm_plan.specs.declared.said.Read.{Read}
 use Rattle.drm_plan.specs.declared.fault.PlanFault.{PlanFault}

@@ -1,7 +1,6 @@
 //! The schedule of a multiplex as a text: read with its first fault, and written in its canonical form.
 #![tactic(auto)]
 
-mod canonical;
 mod configs;
 mod counts;
 mod draft;
@@ -16,11 +15,11 @@ mod rules;
 mod said;
 mod settings;
 
-pub use canonical::write_plan;
 pub use draft::Draft;
 pub use drm_schedule::{
     Carry, Clock, Config, Configs, Content, Invalid, Items, Mode, Place, Plan, Reason, Schedule,
     Services, Stream, Streams,
 };
 pub use fault::PlanFault;
+pub use plan_writing::write_plan;
 pub use reading::read_plan;

@@ -6,8 +6,6 @@ mod carry;
 mod config;
 mod invalid;
 mod items;
-#[cfg(test)]
-mod later_tests;
 mod laws;
 mod packing;
 mod plan;
@@ -15,10 +13,6 @@ mod schedule;
 mod service_rules;
 mod sizes;
 mod stream;
-#[cfg(test)]
-mod tests;
-#[cfg(test)]
-mod trial;
 mod valid;
 
 pub use announcement::{Repeated, free_in_countdown};

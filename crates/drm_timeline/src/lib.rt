@@ -6,17 +6,11 @@ mod announced;
 mod announcing;
 mod block;
 mod fast_access;
-#[cfg(test)]
-mod frame_tests;
 mod schedule_laws;
 mod seen;
 mod standing;
-#[cfg(test)]
-mod switch_tests;
 mod told;
 mod tracker;
-#[cfg(test)]
-mod trial;
 
 pub use announced::{none_is_resumed, switches_at_all_starts, switches_only_at_starts};
 pub use block::block_into;

@@ -11,8 +11,6 @@ mod numbers;
 mod options;
 mod read;
 mod request;
-#[cfg(test)]
-mod tests;
 mod word;
 
 pub use addresses::Addresses;

@@ -3,15 +3,15 @@ use Rattle.std.proofs.Common.{◌≡◌, ℕ, ◌+◌, suc, Bool, true, false, L
 use Rattle.std.specs.Prelude.{◌==◌, slice_index}
 use Rattle.std.specs.List.{AllByRecursion}
 use Rattle.text_lines.specs.Lines.{words_of}
-use Rattle.plan_lines.specs.declared.first_word.Keyword.{Keyword}
-use Rattle.plan_lines.specs.declared.first_word.Keyword.TheVariants as keywords
-use Rattle.plan_lines.specs.declared.line.Line.{Line}
-use Rattle.plan_lines.specs.declared.line.Line.TheVariants as lines
-use Rattle.plan_lines.specs.Keywords.{keyword_of, keyword_text}
-use Rattle.plan_lines.specs.Lines.{shape_of}
-use Rattle.plan_lines.specs.Same.{same}
-use Rattle.plan_lines.specs.Said.{keyword_said, words_said, canonical}
-use Rattle.plan_lines.specs.Shape.{reading}
+use Rattle.line_forms.specs.declared.first_word.Keyword.{Keyword}
+use Rattle.line_forms.specs.declared.first_word.Keyword.TheVariants as keywords
+use Rattle.line_forms.specs.declared.line.Line.{Line}
+use Rattle.line_forms.specs.declared.line.Line.TheVariants as lines
+use Rattle.line_forms.specs.Keywords.{keyword_of, keyword_text}
+use Rattle.line_forms.specs.Lines.{shape_of}
+use Rattle.line_forms.specs.Same.{same}
+use Rattle.line_forms.specs.Said.{keyword_said, words_said, canonical}
+use Rattle.line_forms.specs.Shape.{reading}
 use Rattle.drm_plan.specs.declared.said.Said.{Said}
 use Rattle.drm_plan.specs.declared.said.Block.{Block}
 use Rattle.drm_plan.specs.declared.said.Read.{Read}

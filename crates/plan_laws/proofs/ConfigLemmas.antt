@@ -11,16 +11,16 @@ use Rattle.drm_sdc.specs.declared.entity.Entity.{Entity}
 use Rattle.drm_schedule.specs.declared.config.Clock.{Clock}
 use Rattle.drm_schedule.specs.declared.config.Config.{Config}
 use Rattle.drm_schedule.specs.declared.stream.Stream.{Stream}
-use Rattle.plan_lines.specs.declared.first_word.Keyword.{Keyword}
-use Rattle.plan_lines.specs.declared.first_word.Keyword.TheVariants as keywords
-use Rattle.plan_lines.specs.declared.line.Line.{Line}
-use Rattle.plan_lines.specs.declared.line.Line.TheVariants as lines
-use Rattle.plan_lines.specs.Same.{same}
-use Rattle.plan_lines.specs.Said.{keyword_said, keyword_of_body}
+use Rattle.line_forms.specs.declared.first_word.Keyword.{Keyword}
+use Rattle.line_forms.specs.declared.first_word.Keyword.TheVariants as keywords
+use Rattle.line_forms.specs.declared.line.Line.{Line}
+use Rattle.line_forms.specs.declared.line.Line.TheVariants as lines
+use Rattle.line_forms.specs.Same.{same}
+use Rattle.line_forms.specs.Said.{keyword_said, keyword_of_body}
 use Rattle.drm_plan.specs.declared.said.Said.{Said}
 use Rattle.drm_plan.specs.Said.{count}
 use Rattle.drm_plan.specs.Rules.{is_entity, count_entities, is_second, is_too_many}
-use Rattle.drm_plan.specs.Canonical.{service_lines, stream_lines, clock_lines, entity_lines}
+use Rattle.plan_writing.specs.Canonical.{service_lines, stream_lines, clock_lines, entity_lines}
 use Rattle.plan_laws.proofs.AgainLemmas.{numbered, is_inner, InnerFine}
 use Rattle.drm_plan.proofs.PlanLemmas.{one, entity_is_one}
 

@@ -9,12 +9,12 @@ use Rattle.std.proofs.lemmas.Str.{IsUtf8-drop, IsUtf8-between, IsCharBoundary-st
 use Rattle.drm_schedule.specs.declared.invalid.Reason.TheVariants.{Word, Missing}
 use Rattle.drm_schedule.specs.Ranges.{InLines}
 use Rattle.text_lines.specs.Lines.{words_of, lines_of, without_last_empty}
-use Rattle.plan_lines.specs.declared.first_word.Keyword.{Keyword}
-use Rattle.plan_lines.specs.declared.line.Line.{Line}
-use Rattle.plan_lines.specs.Keywords.{keyword_of}
-use Rattle.plan_lines.specs.Lines.{shape_of}
-use Rattle.plan_lines.specs.Said.{SaysKeyword, LineInLines}
-use Rattle.plan_lines.specs.Shape.{Shape, reading}
+use Rattle.line_forms.specs.declared.first_word.Keyword.{Keyword}
+use Rattle.line_forms.specs.declared.line.Line.{Line}
+use Rattle.line_forms.specs.Keywords.{keyword_of}
+use Rattle.line_forms.specs.Lines.{shape_of}
+use Rattle.line_forms.specs.Said.{SaysKeyword, LineInLines}
+use Rattle.line_forms.specs.Shape.{Shape, reading}
 use Rattle.plan_lines.proofs.CleanLemmas.{clean, lines_are_single}
 use Rattle.plan_lines.proofs.KeywordLemmas.{says_keyword}
 use Rattle.plan_lines.proofs.KindLemmas.{line_fits}

@@ -16,23 +16,23 @@ use Rattle.drm_schedule.specs.declared.plan.Plan.{Plan}
 use Rattle.drm_schedule.specs.Ranges.{ContentInLines, StreamInLines, ServiceInLines, ClockInLines, EntityInLines, ConfigInLines, InLines}
 use Rattle.text_lines.specs.Lines.{lines_of}
 use Rattle.text_lines.proofs.LineLaws.{IsLine, lines_again}
-use Rattle.plan_lines.specs.declared.line.Line.{Line}
-use Rattle.plan_lines.specs.declared.line.Line.TheVariants as lines
-use Rattle.plan_lines.specs.Said.{canonical as line_of, line_text, detached, LineInLines}
+use Rattle.line_forms.specs.declared.line.Line.{Line}
+use Rattle.line_forms.specs.declared.line.Line.TheVariants as lines
+use Rattle.line_forms.specs.Said.{canonical as line_of, line_text, detached, LineInLines}
 use Rattle.plan_laws.proofs.LineAgain.{line_again}
 use Rattle.plan_laws.proofs.SaidAgain.{said_again}
 use Rattle.drm_plan.specs.declared.said.Block.{Block}
 use Rattle.drm_plan.specs.declared.said.Read.{Read}
 use Rattle.drm_plan.specs.Said.{nothing}
 use Rattle.drm_plan.specs.Rules.{Fault, ended, is_incomplete, said_from, said}
-use Rattle.drm_plan.specs.Canonical.{front_lines, settings_lines, service_lines, stream_lines, clock_lines, entity_lines, config_lines, plan_lines, text_of, canonical}
+use Rattle.plan_writing.specs.Canonical.{front_lines, settings_lines, service_lines, stream_lines, clock_lines, entity_lines, config_lines, plan_lines, text_of, canonical}
 use Rattle.plan_laws.specs.Texts.{emptied, without_bytes, config_without_bytes, without_files, IsReadAgain}
 use Rattle.drm_plan.specs.Projection.{Drafted, drafted}
 use Rattle.drm_plan.specs.Text.{lines_give}
 use Rattle.plan_laws.proofs.AgainLemmas.{LineAgain, lines_said}
 use Rattle.plan_laws.proofs.CanonicalLaw.{plan_read}
 use Rattle.drm_plan.proofs.EndLemmas.{text_gives}
-use Rattle.drm_plan.proofs.TextLemmas.{text_append, no_text}
+use Rattle.plan_writing.proofs.TextLemmas.{text_append, no_text}
 use Rattle.plan_laws.proofs.Utf8Lines.{line_utf8}
 
 -- A line that has no bytes of a file, is written as one line of UTF-8, and reads as itself.

@@ -10,17 +10,17 @@ use Rattle.drm_sdc.specs.declared.body.Body.TheVariants as bodies
 use Rattle.drm_sdc.specs.declared.entity.Entity.{Entity}
 use Rattle.drm_schedule.specs.declared.config.Clock.{Clock}
 use Rattle.drm_schedule.specs.declared.config.Config.{Config}
-use Rattle.plan_lines.specs.declared.first_word.Keyword.{Keyword}
-use Rattle.plan_lines.specs.declared.first_word.Keyword.TheVariants as keywords
-use Rattle.plan_lines.specs.declared.line.Line.{Line}
-use Rattle.plan_lines.specs.declared.line.Line.TheVariants as lines
-use Rattle.plan_lines.specs.Same.{same}
-use Rattle.plan_lines.specs.Said.{keyword_said, keyword_of_body}
+use Rattle.line_forms.specs.declared.first_word.Keyword.{Keyword}
+use Rattle.line_forms.specs.declared.first_word.Keyword.TheVariants as keywords
+use Rattle.line_forms.specs.declared.line.Line.{Line}
+use Rattle.line_forms.specs.declared.line.Line.TheVariants as lines
+use Rattle.line_forms.specs.Same.{same}
+use Rattle.line_forms.specs.Said.{keyword_said, keyword_of_body}
 use Rattle.drm_plan.specs.declared.said.Said.{Said}
 use Rattle.drm_plan.specs.declared.said.Block.{Block}
 use Rattle.drm_plan.specs.Said.{count}
 use Rattle.drm_plan.specs.Rules.{is_incomplete}
-use Rattle.drm_plan.specs.Canonical.{service_lines, stream_lines, clock_lines, entity_lines}
+use Rattle.plan_writing.specs.Canonical.{service_lines, stream_lines, clock_lines, entity_lines}
 use Rattle.drm_plan.specs.Projection.{first_said, clock_in, service_said, stream_said, entity_said, services_in, streams_in, entities_in, config_of}
 use Rattle.plan_laws.proofs.AgainLemmas.{numbered}
 use Rattle.plan_laws.proofs.ConfigLemmas.{numbered_append, inner_lines, tested, tested_append, tested_all, services_of}

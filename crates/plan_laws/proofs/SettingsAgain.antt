@@ -16,11 +16,11 @@ use Rattle.drm_schedule.specs.declared.stream.Content.TheVariants.{Fill, File}
 use Rattle.drm_schedule.specs.declared.stream.Stream.{Stream}
 use Rattle.drm_schedule.specs.Ranges.{CarryInLines, ServiceInLines, StreamInLines, ContentInLines, ClockInLines}
 use Rattle.text_lines.proofs.SpellingLaws.{decimal_value}
-use Rattle.plan_lines.specs.declared.line.Line.{Line}
-use Rattle.plan_lines.specs.declared.line.Line.TheVariants as lines
-use Rattle.plan_lines.specs.Shape.{Part, number, value, bit, flag, hex, hex_value, byte_value, name, some_of, reading}
-use Rattle.plan_lines.specs.Settings.{version_line, carry_line, first_line, length_line, config_line, mode_line, occupancy_line, depth_line, msc_line, sdc_line, protection_line, room_line, service_line, stream_line, clock_line}
-use Rattle.plan_lines.specs.Said.{carry_words, mode_word, depth_word, bit_word, kind_word, service_words, content_words, hex6, detached}
+use Rattle.line_forms.specs.declared.line.Line.{Line}
+use Rattle.line_forms.specs.declared.line.Line.TheVariants as lines
+use Rattle.line_forms.specs.Shape.{Part, number, value, bit, flag, hex, hex_value, byte_value, name, some_of, reading}
+use Rattle.line_forms.specs.Settings.{version_line, carry_line, first_line, length_line, config_line, mode_line, occupancy_line, depth_line, msc_line, sdc_line, protection_line, room_line, service_line, stream_line, clock_line}
+use Rattle.line_forms.specs.Said.{carry_words, mode_word, depth_word, bit_word, kind_word, service_words, content_words, hex6, detached}
 use Rattle.plan_laws.proofs.Parts.{Good, read_as, number_good, bit_good, flag_again, hex6_good, hex6_value, byte_good, byte_again}
 
 pub version_again : reading (version_line (codes "1" ∷ [])) ≡ Ok lines.Version

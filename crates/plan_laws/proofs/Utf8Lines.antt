@@ -23,12 +23,12 @@ use Rattle.drm_schedule.specs.declared.config.Mode.TheVariants.{A, B, C, D}
 use Rattle.drm_schedule.specs.declared.stream.Content.{Content}
 use Rattle.drm_schedule.specs.declared.stream.Content.TheVariants.{Fill, File}
 use Rattle.drm_schedule.specs.Ranges.{CarryInLines, ContentInLines, AppInLines, BodyInLines}
-use Rattle.plan_lines.specs.declared.first_word.Keyword.{Keyword}
-use Rattle.plan_lines.specs.declared.first_word.Keyword.TheVariants as keywords
-use Rattle.plan_lines.specs.declared.line.Line.{Line}
-use Rattle.plan_lines.specs.declared.line.Line.TheVariants as lines
-use Rattle.plan_lines.specs.Keywords.{keyword_text}
-use Rattle.plan_lines.specs.Said.{keyword_said, carry_words, mode_word, depth_word, kind_word, content_words, app_words, config_words, bit_word, optional_byte_word, bytes_word, channel_word, channels_word, parts_said, canonical, LineInLines}
+use Rattle.line_forms.specs.declared.first_word.Keyword.{Keyword}
+use Rattle.line_forms.specs.declared.first_word.Keyword.TheVariants as keywords
+use Rattle.line_forms.specs.declared.line.Line.{Line}
+use Rattle.line_forms.specs.declared.line.Line.TheVariants as lines
+use Rattle.line_forms.specs.Keywords.{keyword_text}
+use Rattle.line_forms.specs.Said.{keyword_said, carry_words, mode_word, depth_word, kind_word, content_words, app_words, config_words, bit_word, optional_byte_word, bytes_word, channel_word, channels_word, parts_said, canonical, LineInLines}
 use Rattle.plan_laws.proofs.SaidAgain.{raw_small}
 
 abbrev is_low : List ℕ → Bool

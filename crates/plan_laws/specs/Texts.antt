@@ -6,7 +6,7 @@ use Rattle.drm_schedule.specs.declared.stream.Content.TheVariants.{Fill, File}
 use Rattle.drm_schedule.specs.declared.stream.Stream.{Stream}
 use Rattle.drm_schedule.specs.declared.plan.Plan.{Plan}
 use Rattle.text_lines.specs.Lines.{lines_of}
-use Rattle.drm_plan.specs.Canonical.{canonical}
+use Rattle.plan_writing.specs.Canonical.{canonical}
 use Rattle.drm_plan.specs.Projection.{Drafted}
 use Rattle.drm_plan.specs.Text.{lines_give}
 

@@ -1,7 +1,7 @@
 //! Laws of the canonical text.
 
 ghost use Rattle.std.specs.Prelude.{◌≡◌, ◌↔◌, IsUtf8};
-ghost use Rattle.drm_plan.specs.Canonical.{canonical};
+ghost use Rattle.plan_writing.specs.Canonical.{canonical};
 ghost use Rattle.plan_laws.specs.Texts.{IsReadAgain, without_files};
 
 use drm_schedule::Schedule;

@@ -11,11 +11,7 @@ mod read_line;
 mod reading;
 mod rules;
 mod script;
-#[cfg(test)]
-mod script_tests;
 mod spelling;
-#[cfg(test)]
-mod trial;
 
 pub use delivery::Delivery;
 pub use fault::ScriptFault;

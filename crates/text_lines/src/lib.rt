@@ -5,8 +5,6 @@ mod behind;
 mod hex_digits;
 mod line;
 mod numerals;
-#[cfg(test)]
-mod tests;
 mod text;
 
 pub use behind::behind_two_words;

@@ -1,8 +1,8 @@
 use Rattle.std.proofs.lemmas.Result.{err_from_is_err_and}
-use Rattle.plan_lines.specs.Shape.{reading}
+use Rattle.line_forms.specs.Shape.{reading}
 use Rattle.drm_plan.proofs.StepLemmas.{fails, goes_on, refuses, gives_broken}
 use Rattle.std.proofs.Common.{◌≡◌, sym, ◌∙◌}
-use Rattle.plan_lines.specs.Said.{keyword_said, LineInLines}
+use Rattle.line_forms.specs.Said.{keyword_said, LineInLines}
 use Rattle.drm_plan.proofs.KeptLemmas.{add_fits}
 use Rattle.drm_plan.proofs.said.Read.judge.Goals as goal
 

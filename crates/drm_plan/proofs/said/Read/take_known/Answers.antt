@@ -1,5 +1,5 @@
 use Rattle.std.proofs.Common.{◌∙◌, sym, map}
-use Rattle.plan_lines.specs.Lines.{shape_of}
+use Rattle.line_forms.specs.Lines.{shape_of}
 use Rattle.plan_lines.proofs.CleanLemmas.{clean}
 use Rattle.plan_lines.proofs.KeywordLemmas.{says_keyword}
 use Rattle.drm_plan.proofs.StepLemmas.{ends_early, gives_keyword, gives_fits}

@@ -1,0 +1,31 @@
+-- Whether two keywords are the same, by the place of each in the list of all.
+use Rattle.std.specs.Prelude.{ℕ, ◌==◌, Bool}
+use Rattle.line_forms.specs.declared.first_word.Keyword.{Keyword}
+use Rattle.line_forms.specs.declared.first_word.Keyword.TheVariants.{Drmplan, Carry, First, Length, Config, Mode, Occupancy, Depth, Msc, Sdc, Protection, Room, Service, Stream, Clock, Label, Freq, When, App, Audio, Language, Raw}
+
+abbrev pub keyword_number : Keyword → ℕ
+keyword_number Drmplan = 0
+keyword_number Carry = 1
+keyword_number First = 2
+keyword_number Length = 3
+keyword_number Config = 4
+keyword_number Mode = 5
+keyword_number Occupancy = 6
+keyword_number Depth = 7
+keyword_number Msc = 8
+keyword_number Sdc = 9
+keyword_number Protection = 10
+keyword_number Room = 11
+keyword_number Service = 12
+keyword_number Stream = 13
+keyword_number Clock = 14
+keyword_number Label = 15
+keyword_number Freq = 16
+keyword_number When = 17
+keyword_number App = 18
+keyword_number Audio = 19
+keyword_number Language = 20
+keyword_number Raw = 21
+
+abbrev pub same : Keyword → Keyword → Bool
+same a b = keyword_number a == keyword_number b

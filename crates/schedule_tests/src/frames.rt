@@ -1,0 +1,140 @@
+//! The frames of schedules, after the worked rows and by hand. The bytes of blocks and of FACs were packed, and their
+//! check values divided out bit by bit, by a program in Python.
+
+ghost use Rattle.std.specs.Prelude.{◌<◌};
+
+use drm_fac::encode;
+use drm_plan::PlanFault;
+use drm_schedule::Schedule;
+use drm_timeline::{block_into, config_at, fac_at, index_at, packet_len};
+use std::process::Abort;
+use trial_schedules::{Edit, SWITCHING, schedule};
+
+// Nine bytes are free in each super frame: the description of the streams and the channel parameters fill the first
+// one, and the audio entity goes into the second.
+const SPREAD: [Edit<'static>; 1] = [(12, "room 18")];
+
+// A clock that starts at 23:58 is told at once, and after each fifty super frames a minute later.
+const CLOCK: [Edit<'static>; 5] = [
+    (4, "length 109"),
+    (12, "room 22"),
+    (16, "config 7 7"),
+    (19, "depth long"),
+    (25, "stream 0 4 fill 55\nclock 61372 23 58"),
+];
+
+// Two audio services and a data service, with the order counted from the configuration's start.
+const TURNS: [Edit<'static>; 7] = [
+    (4, "length 4"),
+    (12, "room 60"),
+    (16, "config 1 1"),
+    (19, "depth long"),
+    (23, "room 60"),
+    (
+        24,
+        "service 123456 0 0 5 audio 3 0\nservice 123456 1 0 5 data 3 0\nservice 123456 2 0 5 audio 3 0",
+    ),
+    (
+        26,
+        "audio 0 0 0 1 0 3 0 0 0\napp 1 0 sync 0 1 -\naudio 2 0 0 1 0 3 0 0 0",
+    ),
+];
+
+fn is_block(rt: &impl Abort, plan: &Schedule, sf: u32, block: &[u8]) {
+    assert!(rt; sf < plan.length() && block.len() < 100);
+    let mut into = [0xff; 1026];
+    let bits = block_into(plan, sf, &mut into);
+    assert_eq!(rt; bits as usize + 4, 8 * block.len(), "super frame {sf}");
+    assert_eq!(rt; &into[..block.len()], block, "super frame {sf}");
+    assert_eq!(rt; into[block.len()], 0xff, "super frame {sf}");
+}
+
+// The next configuration begins in super frame 5, and is announced from super frame 3 on.
+#[test]
+fn counts_down_to_the_next_configuration(rt: HostRuntime) -> Result<(), PlanFault> {
+    let plan = schedule(rt.alloc(), SWITCHING, &[])?;
+    let cases = [
+        (0, 0, 0),
+        (2, 0, 0),
+        (3, 0, 2),
+        (4, 0, 1),
+        (5, 1, 0),
+        (8, 1, 0),
+    ];
+    for (sf, config, index) in cases {
+        assert_eq!(rt; config_at(&plan, sf), config, "super frame {sf}");
+        assert_eq!(rt; index_at(&plan, sf), index, "super frame {sf}");
+    }
+    for (t, len) in [(0, 125), (1, 90), (2, 90), (15, 125)] {
+        assert_eq!(rt; packet_len(&plan, t), len, "frame {t}");
+    }
+    Ok(())
+}
+
+#[test]
+fn tells_the_next_configuration_and_the_time(rt: HostRuntime) -> Result<(), PlanFault> {
+    let blocks: [(&[Edit<'_>], u32, &[u8]); 5] = [
+        (
+            &SPREAD,
+            3,
+            &[
+                0x00, 0x60, 0x10, 0x00, 0x00, 0x40, 0x49, 0x02, 0x30, 0x00, 0x70, 0x10, 0x00, 0x00,
+                0x40, 0x5a, 0x27, 0x08, 0x06, 0x2f, 0x70,
+            ],
+        ),
+        (
+            &SPREAD,
+            4,
+            &[
+                0x00, 0x60, 0x10, 0x00, 0x00, 0x40, 0x49, 0x02, 0x30, 0x00, 0x59, 0x02, 0x30, 0x00,
+                0x00, 0x00, 0x00, 0x00, 0x0e, 0xa6, 0xc0,
+            ],
+        ),
+        (
+            &CLOCK,
+            7,
+            &[
+                0x00, 0x60, 0x10, 0x00, 0x00, 0x40, 0x49, 0x02, 0x30, 0x00, 0x68, 0x77, 0xde, 0x5f,
+                0xa0, 0x00, 0x00, 0x00, 0x00, 0x00, 0x00, 0x00, 0x00, 0x00, 0x0d, 0x44, 0x60,
+            ],
+        ),
+        (
+            &CLOCK,
+            57,
+            &[
+                0x00, 0x60, 0x10, 0x00, 0x00, 0x40, 0x49, 0x02, 0x30, 0x00, 0x68, 0x77, 0xde, 0x5f,
+                0xb0, 0x00, 0x00, 0x00, 0x00, 0x00, 0x00, 0x00, 0x00, 0x00, 0x00, 0xc0, 0xf0,
+            ],
+        ),
+        (
+            &CLOCK,
+            107,
+            &[
+                0x00, 0x60, 0x10, 0x00, 0x00, 0x40, 0x49, 0x02, 0x30, 0x00, 0x68, 0x77, 0xde, 0x80,
+                0x00, 0x00, 0x00, 0x00, 0x00, 0x00, 0x00, 0x00, 0x00, 0x00, 0x0f, 0x14, 0xa0,
+            ],
+        ),
+    ];
+    for (edits, sf, block) in blocks {
+        let plan = schedule(rt.alloc(), SWITCHING, edits)?;
+        is_block(&rt, &plan, sf, block);
+    }
+    Ok(())
+}
+
+#[test]
+fn services_take_turns(rt: HostRuntime) -> Result<(), PlanFault> {
+    let plan = schedule(rt.alloc(), SWITCHING, &TURNS)?;
+    let facs = [
+        (3, [0x66, 0x12, 0x01, 0x23, 0x45, 0x60, 0xa1, 0x80, 0xbc]),
+        (4, [0x26, 0x12, 0x01, 0x23, 0x45, 0x68, 0xa1, 0x80, 0xee]),
+        (5, [0x46, 0x12, 0x01, 0x23, 0x45, 0x60, 0xa1, 0x80, 0x93]),
+        (6, [0x66, 0x12, 0x01, 0x23, 0x45, 0x68, 0xa1, 0x80, 0xb0]),
+        (7, [0x26, 0x12, 0x01, 0x23, 0x45, 0x64, 0xb1, 0x80, 0x50]),
+        (8, [0x46, 0x12, 0x01, 0x23, 0x45, 0x60, 0xa1, 0x80, 0x93]),
+    ];
+    for (t, bytes) in facs {
+        assert_eq!(rt; encode(&fac_at(&plan, t)), bytes, "frame {t}");
+    }
+    Ok(())
+}

@@ -1,0 +1,233 @@
+//! What words ask for.
+
+use drm_bits::Octets;
+use drm_links::Address;
+use drm_schedule::Carry;
+use drm_words::{Addresses, Request, read_words};
+use std::alloc::{AllocError, Global};
+use std::test::Fail;
+
+// Lines of words, each word behind a `|`, and what they ask for: the command, then the plain words and the options in
+// the order of the command's row, `-` where one isn't told. By hand from the rules of the command line; a reader of the
+// same rules in Python gives the same.
+const ASKED: [(&str, &str); 51] = [
+    ("|fac", "fac"),
+    ("|fac|--", "fac"),
+    ("|show", "show"),
+    ("|check|a", "check a"),
+    ("|check|-", "check -"),
+    ("|check|", "check "),
+    ("|check|a=b", "check a=b"),
+    ("|check|a|--", "check a"),
+    ("|check|--|a", "check a"),
+    ("|check|--|-a", "check -a"),
+    ("|check|--|--", "check --"),
+    ("|check|--|--window=4", "check --window=4"),
+    ("|check|Ås -x", "check Ås -x"),
+    ("|serve|a", "serve a - 0"),
+    ("|serve|a|--pace|0", "serve a - 0"),
+    ("|serve|--pace|10000|a", "serve a - 10000"),
+    ("|serve|a|--to|127.0.0.1:5000", "serve a 127.0.0.1:5000 0"),
+    ("|serve|--to=0.0.0.0:1|a|--pace=25", "serve a 0.0.0.0:1 25"),
+    (
+        "|serve|--pace=25|--to|255.255.255.255:65535|--|-",
+        "serve - 255.255.255.255:65535 25",
+    ),
+    ("|receive", "receive - 8 - - 50 4294967295"),
+    ("|receive|--", "receive - 8 - - 50 4294967295"),
+    (
+        "|receive|127.0.0.1:5000",
+        "receive 127.0.0.1:5000 8 - - 50 4294967295",
+    ),
+    (
+        "|receive|1.2.3.4:5,1.2.3.4:6",
+        "receive 1.2.3.4:5,1.2.3.4:6 8 - - 50 4294967295",
+    ),
+    (
+        "|receive|--|1.2.3.4:5,5.4.3.2:5",
+        "receive 1.2.3.4:5,5.4.3.2:5 8 - - 50 4294967295",
+    ),
+    (
+        "|receive|1.0.0.0:1,1.0.0.0:2,1.0.0.0:3,1.0.0.0:4,1.0.0.0:5,1.0.0.0:6,1.0.0.0:7,1.0.0.0:8,1.0.0.0:9,1.0.0.1:1,1.0.0.1:2,1.0.0.1:3,1.0.0.1:4,1.0.0.1:5,1.0.0.1:6,1.0.0.1:7",
+        "receive 1.0.0.0:1,1.0.0.0:2,1.0.0.0:3,1.0.0.0:4,1.0.0.0:5,1.0.0.0:6,1.0.0.0:7,1.0.0.0:8,1.0.0.0:9,1.0.0.1:1,1.0.0.1:2,1.0.0.1:3,1.0.0.1:4,1.0.0.1:5,1.0.0.1:6,1.0.0.1:7 8 - - 50 4294967295",
+    ),
+    ("|receive|--window|1", "receive - 1 - - 50 4294967295"),
+    ("|receive|--window|64", "receive - 64 - - 50 4294967295"),
+    ("|receive|--first|0", "receive - 8 0 - 50 4294967295"),
+    (
+        "|receive|--first|65535",
+        "receive - 8 65535 - 50 4294967295",
+    ),
+    ("|receive|--frames|1", "receive - 8 - 1 50 4294967295"),
+    (
+        "|receive|--frames|3000000",
+        "receive - 8 - 3000000 50 4294967295",
+    ),
+    ("|receive|--idle|1", "receive - 8 - - 1 4294967295"),
+    (
+        "|receive|--idle|1000000",
+        "receive - 8 - - 1000000 4294967295",
+    ),
+    ("|receive|--limit|1", "receive - 8 - - 50 1"),
+    (
+        "|receive|--limit|4294967295",
+        "receive - 8 - - 50 4294967295",
+    ),
+    (
+        "|receive|--window=4|--first=5|--frames=6|--idle=7|--limit=8",
+        "receive - 4 5 6 7 8",
+    ),
+    (
+        "|receive|--limit|8|--idle|7|--frames|6|9.9.9.9:9|--first|5|--window|4",
+        "receive 9.9.9.9:9 4 5 6 7 8",
+    ),
+    ("|air|a|b", "air a b 8"),
+    ("|air|a|--window|4|b", "air a b 4"),
+    ("|air|--window=64|--|a|--window", "air a --window 64"),
+    ("|air|-|-", "air - - 8"),
+    ("|convert|plain", "convert plain 8 - -"),
+    ("|convert|pft:0:128", "convert pft:0:128 8 - -"),
+    ("|convert|pft:5:1500", "convert pft:5:1500 8 - -"),
+    (
+        "|convert|pft:2:1400|--frames|10|--first|9|--window|3",
+        "convert pft:2:1400 3 9 10",
+    ),
+    ("|convert|--window=3|plain", "convert plain 3 - -"),
+    ("|exercise|1", "exercise 1"),
+    ("|exercise|1000", "exercise 1000"),
+    ("|exercise|--|7", "exercise 7"),
+    ("|exercise|10|--", "exercise 10"),
+    ("|check|-|--", "check -"),
+];
+
+fn words_of(alloc: Global, line: &str) -> Result<Vec<String>, AllocError> {
+    let mut words = Vec::new(alloc);
+    for word in line.split('|').skip(1) {
+        words.push(String::from_str(alloc, word)?)?;
+    }
+    Ok(words)
+}
+
+fn text(octets: &Octets) -> &str {
+    octets.as_text().unwrap_or("no text")
+}
+
+fn number_shown(alloc: Global, number: Option<u64>) -> Result<String, AllocError> {
+    match number {
+        Some(number) => format!(in alloc; "{number}"),
+        None => String::from_str(alloc, "-"),
+    }
+}
+
+fn address_shown(alloc: Global, address: &Address) -> Result<String, AllocError> {
+    let [a, b, c, d] = address.ip;
+    let port = address.port;
+    format!(in alloc; "{a}.{b}.{c}.{d}:{port}")
+}
+
+fn to_shown(alloc: Global, to: &Option<Address>) -> Result<String, AllocError> {
+    match to {
+        Some(address) => address_shown(alloc, address),
+        None => String::from_str(alloc, "-"),
+    }
+}
+
+fn list_shown(alloc: Global, list: &Addresses) -> Result<String, AllocError> {
+    let mut shown = String::new(alloc);
+    for k in 0..list.len() {
+        if k > 0 {
+            shown.push(',')?;
+        }
+        shown.push_str(&address_shown(alloc, list.get(k))?)?;
+    }
+    Ok(shown)
+}
+
+fn addresses_shown(alloc: Global, addresses: &Option<Addresses>) -> Result<String, AllocError> {
+    match addresses {
+        Some(list) => list_shown(alloc, list),
+        None => String::from_str(alloc, "-"),
+    }
+}
+
+fn carry_shown(alloc: Global, carry: Carry) -> Result<String, AllocError> {
+    match carry {
+        Carry::Plain => String::from_str(alloc, "plain"),
+        Carry::Pft { m, mtu } => format!(in alloc; "pft:{m}:{mtu}"),
+    }
+}
+
+fn serve_shown(
+    alloc: Global,
+    name: &Octets,
+    to: &Option<Address>,
+    pace: u32,
+) -> Result<String, AllocError> {
+    let to = to_shown(alloc, to)?;
+    format!(in alloc; "serve {} {to} {pace}", text(name))
+}
+
+// The window, the first number and how many frames.
+fn rules_shown(
+    alloc: Global,
+    window: u8,
+    first: Option<u16>,
+    frames: Option<u64>,
+) -> Result<String, AllocError> {
+    let first = number_shown(alloc, first.map(u64::from))?;
+    let frames = number_shown(alloc, frames)?;
+    format!(in alloc; "{window} {first} {frames}")
+}
+
+fn shown(alloc: Global, request: &Request) -> Result<String, AllocError> {
+    match request {
+        Request::Fac => String::from_str(alloc, "fac"),
+        Request::Check { name } => format!(in alloc; "check {}", text(name)),
+        Request::Serve { name, to, pace } => serve_shown(alloc, name, to, *pace),
+        Request::Receive {
+            addresses,
+            window,
+            first,
+            frames,
+            idle,
+            limit,
+        } => {
+            let addresses = addresses_shown(alloc, addresses)?;
+            let rules = rules_shown(alloc, *window, *first, *frames)?;
+            format!(in alloc; "receive {addresses} {rules} {idle} {limit}")
+        }
+        Request::Air {
+            name,
+            script,
+            window,
+        } => format!(in alloc; "air {} {} {window}", text(name), text(script)),
+        Request::Show => String::from_str(alloc, "show"),
+        Request::Convert {
+            carry,
+            window,
+            first,
+            frames,
+        } => {
+            let carry = carry_shown(alloc, *carry)?;
+            let rules = rules_shown(alloc, *window, *first, *frames)?;
+            format!(in alloc; "convert {carry} {rules}")
+        }
+        Request::Exercise { n } => format!(in alloc; "exercise {n}"),
+    }
+}
+
+#[test]
+fn reads_what_words_ask_for(rt: HostRuntime) -> Result<(), Fail> {
+    let alloc = rt.alloc();
+    for (line, expected) in ASKED {
+        let words = words_of(alloc, line)?;
+        match read_words(alloc, &words) {
+            Ok(request) => {
+                let found = shown(alloc, &request)?;
+                assert_eq!(rt; found.as_str(), expected, "{line}");
+            }
+            Err(fault) => assert!(rt; false, "{line}: {fault:?}"),
+        }
+    }
+    Ok(())
+}
