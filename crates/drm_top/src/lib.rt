@@ -8,7 +8,6 @@ mod words;
 
 pub use command::{no_memory, run};
 pub use drm_links::Status;
-pub use drm_transmit::what_check_prints_is_checked_again;
 pub use mod_receiver::{
     Ended, Options, Refusal, Rules, one_reading_of_a_link, one_report, receive_one,
 };

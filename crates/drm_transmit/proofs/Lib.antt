@@ -1,4 +1,3 @@
 pub mod ScheduleRunLemmas
-pub mod AgainLaw
 pub mod SendLemmas
 pub mod OverLinkLemmas

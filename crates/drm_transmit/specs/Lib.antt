@@ -3,4 +3,3 @@ pub mod Check
 pub mod Serve
 pub mod Send
 pub mod OverLink
-pub mod Again

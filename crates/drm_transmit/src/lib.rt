@@ -2,11 +2,9 @@
 #![tactic(auto)]
 
 mod check_command;
-mod laws;
 mod send_command;
 mod serve_command;
 
 pub use check_command::check;
-pub use laws::what_check_prints_is_checked_again;
 pub use send_command::send;
 pub use serve_command::serve;

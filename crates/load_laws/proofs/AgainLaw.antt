@@ -27,7 +27,7 @@ use Rattle.plan_laws.proofs.GivenLaw.{lines_given}
 use Rattle.plan_laws.proofs.PlanLaw.{read_again, canonical_utf8}
 use Rattle.drm_load.specs.declared.loading.ScheduleFault.{ScheduleFault}
 use Rattle.drm_load.specs.declared.loading.ScheduleFault.TheVariants.{Line}
-use Rattle.drm_transmit.specs.Again.{HasFiles, HasAll, NoLoadFails}
+use Rattle.load_laws.specs.Again.{HasFiles, HasAll, NoLoadFails}
 use Rattle.drm_load.specs.Loading.{Step, Reading, given, after, ◌>>=◌, bytes_or_fault, load_for}
 use Rattle.drm_load.specs.Schedule.{longest_text, longest_file, by_lines, draft_of, by_validity, with_files, schedule_named, checked}
 use Rattle.drm_load.proofs.ScheduleLemmas.{from_draft, from_text}

@@ -1,6 +1,6 @@
 //! Laws of the schedules that a shelf gives.
 
-ghost use Rattle.drm_transmit.specs.Again.{SchedulesAreOnTheShelf, CanonicalIsChecked, PrintedIsChecked};
+ghost use Rattle.load_laws.specs.Again.{SchedulesAreOnTheShelf, CanonicalIsChecked, PrintedIsChecked};
 
 /// The schedule of a text is valid and has the files of its shelf; its canonical text is checked as itself; and so is what
 /// `check` printed of a text, beside the same files.

@@ -1,5 +1,0 @@
-use Rattle.drm_transmit.proofs.AgainLaw.{schedule_came, canonical_checked, printed_checked}
-use Rattle.drm_transmit.proofs.laws.what_check_prints_is_checked_again.Goals as goal
-
-pub returns : goal.returns
-returns c = record { came = schedule_came; canonical = canonical_checked; printed = printed_checked }
