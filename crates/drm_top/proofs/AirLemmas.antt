@@ -28,13 +28,16 @@ use Rattle.drm_load.specs.Schedule.{schedule_named}
 use Rattle.drm_load.specs.Scripts.{script_named}
 use Rattle.drm_load.specs.Faults.{fault_of_schedule, fault_of_script}
 use Rattle.mod_receiver.specs.Jobs.{IsDone, NoneFailed}
-use Rattle.drm_top.specs.Settling.{Settles}
+use Rattle.mod_receiver.specs.Settling.{Settles}
+use Rattle.mod_receiver.specs.declared.stop.Stop.{Stop}
+use Rattle.mod_receiver.specs.declared.stop.Stop.TheVariants as stops
+use Rattle.drm_top.specs.Stopping.{ending_of}
 use Rattle.drm_top.specs.Feeds.{BringsFeed, BringFeeds}
 use Rattle.mod_receiver.specs.Following.{HeadlinesFollow, CompletesFollow}
 use Rattle.mod_receiver.specs.Ahead.{IsReportOf, BreaksOff}
 use Rattle.drm_top.specs.Air.{air_rules, pairs_of, IsAired, AreAired, AirRun}
 use Rattle.mod_receiver.proofs.JobLemmas.{told_of, job_report, job_breaks, index_of, map_at, map_size, SomeFailed, some_failed}
-use Rattle.drm_top.proofs.ReceiveLemmas.{Ran, reports_written, settled_kind}
+use Rattle.drm_top.proofs.ReceiveLemmas.{Ran, reports_written, ending_kind, write_is}
 use Rattle.drm_load.proofs.ScriptLemmas.{read_schedule, read_script, write_schedule, write_script}
 use Rattle.mod_receiver.proofs.Composing.{ItemLaws}
 use Rattle.drm_top.proofs.FedLemmas as fed
@@ -128,9 +131,9 @@ module _ (link_faults : LinkState → ℕ) (plan : Plan) (window : ℕ) (valid :
     | inr failed ↦ none_failed failed
   ]
 
-  air_kind : {O : Type 0} (fault : Fault) (tells : O → Option Output) (out out' : O) → Settles after (Err fault) tells out out' → (fault ≡ faults.NoMemory) ⊎ (fault ≡ faults.Write)
-  air_kind fault tells out out' settled =
-      elim (settled_kind after fault tells out out' settled) [
+  kind_by : {O : Type 0} (stopped : Result Bool Stop) (tells : O → Option Output) (out out' : O) → Settles after stopped tells out out' → (fault : Fault) → ending_of stopped ≡ Err fault → (fault ≡ faults.NoMemory) ⊎ (fault ≡ faults.Write)
+  kind_by stopped tells out out' settled fault is =
+      elim (ending_kind after stopped tells out out' settled fault is) [
         | inl memory ↦ inl memory
         | inr rest ↦ elim rest [
           | inl link ↦ absurd (no_link link.1)
@@ -138,23 +141,20 @@ module _ (link_faults : LinkState → ℕ) (plan : Plan) (window : ℕ) (valid :
         ]
       ]
 
-  kind_by : {O : Type 0} (ending : Result Bool Fault) (tells : O → Option Output) (out out' : O) → Settles after ending tells out out' → (fault : Fault) → ending ≡ Err fault → (fault ≡ faults.NoMemory) ⊎ (fault ≡ faults.Write)
-  kind_by ending tells out out' settled fault is = air_kind fault tells out out' (subst (λ e. Settles after e tells out out') is settled)
-
-  not_read : {O : Type 0} (ending : Result Bool Fault) (tells : O → Option Output) (out out' : O) → Settles after ending tells out out' → ending ≡ Err faults.Read → ⊥
-  not_read ending tells out out' settled is =
-      elim (kind_by ending tells out out' settled faults.Read is) [
+  not_read : {O : Type 0} (stopped : Result Bool Stop) (tells : O → Option Output) (out out' : O) → Settles after stopped tells out out' → ending_of stopped ≡ Err faults.Read → ⊥
+  not_read stopped tells out out' settled is =
+      elim (kind_by stopped tells out out' settled faults.Read is) [
         | inl memory ↦ cc
         | inr write ↦ cc
       ]
 
-  pub settled_air : OneRun → Delivering → DeliveringEarly → ItemLaws → {S O : Type 0} (name text : List ℕ) (ending : Result Bool Fault) (shelf_faults : S → ℕ) (shelf_tells : S → Option Files) (shelf between shelf' : S)
+  pub settled_air : OneRun → Delivering → DeliveringEarly → ItemLaws → {S O : Type 0} (name text : List ℕ) (stopped : Result Bool Stop) (shelf_faults : S → ℕ) (shelf_tells : S → Option Files) (shelf between shelf' : S)
       (out_faults : O → ℕ) (out_tells : O → Option Output) (out out' : O)
       → ReadBy (schedule_named name) (Ok plan) (shelf_tells shelf) (shelf_tells between) → ReadBy (script_named plan text) (Ok feeds) (shelf_tells between) (shelf_tells shelf')
       → shelf_faults shelf ≤ shelf_faults between → shelf_faults between ≤ shelf_faults shelf'
-      → Settles after ending out_tells out out' → HasCause (out_faults out) (out_faults out') (ending ≡ Err faults.Write)
-      → AirRun name text window ending shelf_faults shelf_tells shelf shelf' out_faults out_tells out out'
-  settled_air one_run delivering early laws name text ending shelf_faults shelf_tells shelf between shelf' out_faults out_tells out out' loads script_loads later later' settled cause = record {
+      → Settles after stopped out_tells out out' → HasCause (out_faults out) (out_faults out') (stopped ≡ Err stops.Write)
+      → AirRun name text window (ending_of stopped) shelf_faults shelf_tells shelf shelf' out_faults out_tells out out'
+  settled_air one_run delivering early laws name text stopped shelf_faults shelf_tells shelf between shelf' out_faults out_tells out out' loads script_loads later later' settled cause = record {
     came = Ok plan;
     between = between;
     loads = loads;
@@ -164,12 +164,12 @@ module _ (link_faults : LinkState → ℕ) (plan : Plan) (window : ℕ) (valid :
       loads = script_loads;
       writes = (
         script,
-        reports_written after ending (AreAired plan window feeds) out_tells out out' (are_aired one_run delivering early laws) settled,
-        kind_by ending out_tells out out' settled,
+        reports_written after stopped (AreAired plan window feeds) out_tells out out' (are_aired one_run delivering early laws) settled,
+        kind_by stopped out_tells out out' settled,
       );
     };
-    read_cause = record { later = le_trans later later'; rose = λ is. absurd (not_read ending out_tells out out' settled is) };
-    write_cause = cause;
+    read_cause = record { later = le_trans later later'; rose = λ is. absurd (not_read stopped out_tells out out' settled is) };
+    write_cause = record { later = cause.later; rose = λ is. cause.rose (write_is stopped is) };
   }
 
 -- ---- a run that ends before

@@ -15,7 +15,10 @@ use Rattle.mod_receiver.specs.declared.job.Job.{Job}
 use Rattle.mod_receiver.specs.Ranges.{AreInRange}
 use Rattle.mod_receiver.specs.Jobs.{HasEnded, IsDone, AreJobs, NoneFailed}
 use Rattle.drm_top.specs.Opening.{HaveLinks, AreFresh, FailsOpening, EndsOpening}
-use Rattle.drm_top.specs.Settling.{job_texts, Settles}
+use Rattle.mod_receiver.specs.Settling.{job_texts, Settles}
+use Rattle.mod_receiver.specs.declared.stop.Stop.{Stop}
+use Rattle.mod_receiver.specs.declared.stop.Stop.TheVariants as stops
+use Rattle.drm_top.specs.Stopping.{ending_of}
 use Rattle.mod_receiver.specs.Following.{HeadlinesFollow, CompletesFollow}
 use Rattle.drm_top.specs.Receive.{Docked, AreReports, all_texts, FailsSome, WritesReports, SomeLinkRose, ReceiveRun}
 use Rattle.mod_receiver.specs.Ahead.{Report, IsReportOf}
@@ -29,64 +32,75 @@ texts_told : {L : Type 0} (jobs : List (Job L)) → job_texts jobs ≡ all_texts
 texts_told jobs = sym (flat_map_map told_of (λ (r : Report). r.text) jobs)
 
 -- where all are done their reports are written
-pub reports_written : {L O : Type 0} (jobs : List (Job L)) (ending : Result Bool Fault) (are : List Report → Type 0) (tells : O → Option Output) (out out' : O)
-    → (All IsDone jobs → are (map told_of jobs)) → Settles jobs ending tells out out' → WritesReports are ending tells out out'
+pub reports_written : {L O : Type 0} (jobs : List (Job L)) (stopped : Result Bool Stop) (are : List Report → Type 0) (tells : O → Option Output) (out out' : O)
+    → (All IsDone jobs → are (map told_of jobs)) → Settles jobs stopped tells out out' → WritesReports are (ending_of stopped) tells out out'
 reports_written jobs (Ok clean) are tells out out' reports settled = (
   map told_of jobs,
   reports settled.0,
   Outputs-weaker (λ text. text ≡ job_texts jobs) (λ text. text ≡ all_texts (map told_of jobs)) (tells out) (tells out') settled.1 (λ t is. is ∙ texts_told jobs),
   ((λ clean_is. (all_told jobs).0 (settled.2.0 clean_is)), (λ all. settled.2.1 ((all_told jobs).1 all))),
 )
-reports_written jobs (Err faults.Write) are tells out out' reports settled = (
+reports_written jobs (Err stops.Write) are tells out out' reports settled = (
   map told_of jobs,
   reports settled.0,
   subst (λ t. Outputs (tells out) (tells out') (IsFront t)) (texts_told jobs) settled.1,
 )
-reports_written jobs (Err faults.Link) are tells out out' reports settled = settled.1
-reports_written jobs (Err faults.NoMemory) are tells out out' reports settled = settled
-reports_written jobs (Err faults.Words) are tells out out' reports settled = absurd settled
-reports_written jobs (Err (faults.FacLength n)) are tells out out' reports settled = absurd settled
-reports_written jobs (Err faults.FacOver) are tells out out' reports settled = absurd settled
-reports_written jobs (Err (faults.FacCrc stands computed)) are tells out out' reports settled = absurd settled
-reports_written jobs (Err (faults.Schedule line reason)) are tells out out' reports settled = absurd settled
-reports_written jobs (Err (faults.Script line reason)) are tells out out' reports settled = absurd settled
-reports_written jobs (Err faults.Read) are tells out out' reports settled = absurd settled
+reports_written jobs (Err stops.Link) are tells out out' reports settled = settled.1
+reports_written jobs (Err stops.NoMemory) are tells out out' reports settled = settled
+
+abbrev of_fault : Fault → Result Bool Fault
+of_fault fault = Err fault
+
+abbrev of_clean : Bool → Result Bool Fault
+of_clean clean = Ok clean
+
+inner : (fault other : Fault) → of_fault fault ≡ of_fault other → fault ≡ other
+inner fault other is = cc
+
+no_fault : (clean : Bool) (fault : Fault) → of_clean clean ≡ of_fault fault → ⊥
+no_fault clean fault is = cc
 
 -- how it ends
-pub settled_kind : {L O : Type 0} (jobs : List (Job L)) (fault : Fault) (tells : O → Option Output) (out out' : O) → Settles jobs (Err fault) tells out out'
+pub ending_kind : {L O : Type 0} (jobs : List (Job L)) (stopped : Result Bool Stop) (tells : O → Option Output) (out out' : O) → Settles jobs stopped tells out out' → (fault : Fault) → ending_of stopped ≡ Err fault
     → (fault ≡ faults.NoMemory) ⊎ ((fault ≡ faults.Link) × (NoneFailed jobs → ⊥)) ⊎ (fault ≡ faults.Write)
-settled_kind jobs faults.Write tells out out' settled = inr (inr refl)
-settled_kind jobs faults.Link tells out out' settled = inr (inl (refl, settled.0))
-settled_kind jobs faults.NoMemory tells out out' settled = inl refl
-settled_kind jobs faults.Words tells out out' settled = absurd settled
-settled_kind jobs (faults.FacLength n) tells out out' settled = absurd settled
-settled_kind jobs faults.FacOver tells out out' settled = absurd settled
-settled_kind jobs (faults.FacCrc stands computed) tells out out' settled = absurd settled
-settled_kind jobs (faults.Schedule line reason) tells out out' settled = absurd settled
-settled_kind jobs (faults.Script line reason) tells out out' settled = absurd settled
-settled_kind jobs faults.Read tells out out' settled = absurd settled
+ending_kind jobs (Ok clean) tells out out' settled fault is = absurd (no_fault clean fault is)
+ending_kind jobs (Err stops.Write) tells out out' settled fault is = inr (inr (sym (inner faults.Write fault is)))
+ending_kind jobs (Err stops.Link) tells out out' settled fault is = inr (inl (sym (inner faults.Link fault is), settled.0))
+ending_kind jobs (Err stops.NoMemory) tells out out' settled fault is = inl (sym (inner faults.NoMemory fault is))
 
-settled_link : {L O : Type 0} (jobs : List (Job L)) (ending : Result Bool Fault) (tells : O → Option Output) (out out' : O) → Settles jobs ending tells out out' → ending ≡ Err faults.Link → NoneFailed jobs → ⊥
-settled_link jobs ending tells out out' settled is =
-    (subst (λ e. Settles jobs e tells out out') is settled).0
+-- a failed write is one of the run
+pub write_is : (stopped : Result Bool Stop) → ending_of stopped ≡ Err faults.Write → stopped ≡ Err stops.Write
+write_is (Ok clean) is = absurd (no_fault clean faults.Write is)
+write_is (Err stops.Write) is = refl
+write_is (Err stops.Link) is = let one : faults.Link ≡ faults.Write = inner faults.Link faults.Write is in absurd cc
+write_is (Err stops.NoMemory) is = let one : faults.NoMemory ≡ faults.Write = inner faults.NoMemory faults.Write is in absurd cc
 
-settled_unwritten : {L O : Type 0} (jobs : List (Job L)) (ending : Result Bool Fault) (tells : O → Option Output) (out out' : O) → Settles jobs ending tells out out'
-    → (ending ≡ Err faults.NoMemory) ⊎ (ending ≡ Err faults.Link) → out' ≡ out
-settled_unwritten jobs ending tells out out' settled (inl is) = subst (λ e. Settles jobs e tells out out') is settled
-settled_unwritten jobs ending tells out out' settled (inr is) = (subst (λ e. Settles jobs e tells out out') is settled).1
-
--- all are done, where the texts are written
-all_done : {L O : Type 0} (jobs : List (Job L)) (ending : Result Bool Fault) (tells : O → Option Output) (out out' : O) → Settles jobs ending tells out out'
-    → (ending ≡ Err faults.Link → ⊥) → (ending ≡ Err faults.NoMemory → ⊥) → All IsDone jobs
-all_done jobs (Ok clean) tells out out' settled link memory = settled.0
-all_done jobs (Err fault) tells out out' settled link memory =
-    elim (settled_kind jobs fault tells out out' settled) [
-      | inl is ↦ absurd (memory (ap Err is))
+settled_link : {L O : Type 0} (jobs : List (Job L)) (stopped : Result Bool Stop) (tells : O → Option Output) (out out' : O) → Settles jobs stopped tells out out' → ending_of stopped ≡ Err faults.Link → NoneFailed jobs → ⊥
+settled_link jobs stopped tells out out' settled is =
+    elim (ending_kind jobs stopped tells out out' settled faults.Link is) [
+      | inl memory ↦ absurd cc
       | inr rest ↦ elim rest [
-        | inl is ↦ absurd (link (ap Err is.0))
-        | inr is ↦ (subst (λ f. Settles jobs (Err f) tells out out') is settled).0
+        | inl link ↦ link.1
+        | inr write ↦ absurd cc
       ]
     ]
+
+settled_unwritten : {L O : Type 0} (jobs : List (Job L)) (stopped : Result Bool Stop) (tells : O → Option Output) (out out' : O) → Settles jobs stopped tells out out'
+    → (ending_of stopped ≡ Err faults.NoMemory) ⊎ (ending_of stopped ≡ Err faults.Link) → out' ≡ out
+settled_unwritten jobs (Ok clean) tells out out' settled (inl is) = absurd (no_fault clean faults.NoMemory is)
+settled_unwritten jobs (Ok clean) tells out out' settled (inr is) = absurd (no_fault clean faults.Link is)
+settled_unwritten jobs (Err stops.Write) tells out out' settled (inl is) = let one : faults.Write ≡ faults.NoMemory = inner faults.Write faults.NoMemory is in absurd cc
+settled_unwritten jobs (Err stops.Write) tells out out' settled (inr is) = let one : faults.Write ≡ faults.Link = inner faults.Write faults.Link is in absurd cc
+settled_unwritten jobs (Err stops.Link) tells out out' settled any = settled.1
+settled_unwritten jobs (Err stops.NoMemory) tells out out' settled any = settled
+
+-- all are done, where the texts are written
+all_done : {L O : Type 0} (jobs : List (Job L)) (stopped : Result Bool Stop) (tells : O → Option Output) (out out' : O) → Settles jobs stopped tells out out'
+    → (ending_of stopped ≡ Err faults.Link → ⊥) → (ending_of stopped ≡ Err faults.NoMemory → ⊥) → All IsDone jobs
+all_done jobs (Ok clean) tells out out' settled link memory = settled.0
+all_done jobs (Err stops.Write) tells out out' settled link memory = settled.0
+all_done jobs (Err stops.Link) tells out out' settled link memory = absurd (link refl)
+all_done jobs (Err stops.NoMemory) tells out out' settled link memory = absurd (memory refl)
 
 -- ---- receivers that were opened and ran
 
@@ -153,32 +167,32 @@ module _ {L : Type 0} (link_faults : L → ℕ) (link_tells : L → Option Traff
     | inr failed ↦ failed
   ]
 
-  pub settled_run : {D O : Type 0} (ending : Result Bool Fault) (dock_faults : D → ℕ) (dock_tells : D → Option DockContents) (dock dock' : D)
+  pub settled_run : {D O : Type 0} (stopped : Result Bool Stop) (dock_faults : D → ℕ) (dock_tells : D → Option DockContents) (dock dock' : D)
       (out_faults : O → ℕ) (out_tells : O → Option Output) (out out' : O)
       → AreFresh link_faults (length addresses) before → Docked (dock_tells dock) (dock_tells dock') (λ told. HaveLinks link_tells told addresses before)
       → WhileTold (dock_tells dock) (dock_tells dock') (λ x y. y.gone ≡ x.gone) → dock_faults dock ≤ dock_faults dock'
-      → Settles after ending out_tells out out' → HasCause (out_faults out) (out_faults out') (ending ≡ Err faults.Write)
-      → ReceiveRun rules addresses ending dock_faults dock_tells dock dock' link_faults out_faults out_tells out out'
-  settled_run ending dock_faults dock_tells dock dock' out_faults out_tells out out' fresh links unsent later settled cause = record {
+      → Settles after stopped out_tells out out' → HasCause (out_faults out) (out_faults out') (stopped ≡ Err stops.Write)
+      → ReceiveRun rules addresses (ending_of stopped) dock_faults dock_tells dock dock' link_faults out_faults out_tells out out'
+  settled_run stopped dock_faults dock_tells dock dock' out_faults out_tells out out' fresh links unsent later settled cause = record {
     kind = λ fault is.
-        elim (settled_kind after fault out_tells out out' (subst (λ e. Settles after e out_tells out out') is settled)) [
+        elim (ending_kind after stopped out_tells out out' settled fault is) [
           | inl memory ↦ inl memory
           | inr rest ↦ elim rest [
             | inl link ↦ inr (inl link.0)
             | inr write ↦ inr (inr write)
           ]
         ];
-    writes = docked_weaker (λ told. HaveLinks link_tells told addresses before) (λ told. WritesReports (AreReports rules told addresses) ending out_tells out out') (dock_tells dock) (dock_tells dock') links
-        (λ told has. reports_written after ending (AreReports rules told addresses) out_tells out out' (are_reports told has) settled);
-    unwritten = settled_unwritten after ending out_tells out out' settled;
+    writes = docked_weaker (λ told. HaveLinks link_tells told addresses before) (λ told. WritesReports (AreReports rules told addresses) (ending_of stopped) out_tells out out') (dock_tells dock) (dock_tells dock') links
+        (λ told has. reports_written after stopped (AreReports rules told addresses) out_tells out out' (are_reports told has) settled);
+    unwritten = settled_unwritten after stopped out_tells out out' settled;
     link = λ is. docked_weaker (λ told. HaveLinks link_tells told addresses before) (λ told. FailsSome rules told addresses) (dock_tells dock) (dock_tells dock') links
-        (λ told has. fails_some told has (failed_where (settled_link after ending out_tells out out' settled is)));
+        (λ told has. fails_some told has (failed_where (settled_link after stopped out_tells out out' settled is)));
     linked = λ no_link no_want. docked_weaker (λ told. HaveLinks link_tells told addresses before) (λ told. FailsSome rules told addresses → ⊥) (dock_tells dock) (dock_tells dock') links
-        (λ told has fails. none_fails told (map told_of after) (are_reports told has (all_done after ending out_tells out out' settled no_link no_want)) fails);
+        (λ told has fails. none_fails told (map told_of after) (are_reports told has (all_done after stopped out_tells out out' settled no_link no_want)) fails);
     unsent = unsent;
     later = later;
-    link_cause = λ is. inr (some_rose fresh (failed_where (settled_link after ending out_tells out out' settled is)));
-    write_cause = cause;
+    link_cause = λ is. inr (some_rose fresh (failed_where (settled_link after stopped out_tells out out' settled is)));
+    write_cause = record { later = cause.later; rose = λ is. cause.rose (write_is stopped is) };
   }
 
 -- ---- a run that ends while links are opened
@@ -186,12 +200,6 @@ module _ {L : Type 0} (link_faults : L → ℕ) (link_tells : L → Option Traff
 unwritten_by : {O : Type 0} (are : List Report → Type 0) (fault : Fault) (tells : O → Option Output) (out : O) → EndsOpening fault → WritesReports are (Err fault) tells out out
 unwritten_by are fault tells out (inl memory) = subst (λ f. WritesReports are (Err f) tells out out) (sym memory) refl
 unwritten_by are fault tells out (inr link) = subst (λ f. WritesReports are (Err f) tells out out) (sym link) refl
-
-abbrev of_fault : Fault → Result Bool Fault
-of_fault fault = Err fault
-
-inner : (fault other : Fault) → of_fault fault ≡ of_fault other → fault ≡ other
-inner fault other is = cc
 
 not_write : (fault : Fault) → EndsOpening fault → of_fault fault ≡ Err faults.Write → ⊥
 not_write fault (inl memory) is = let one : faults.NoMemory ≡ faults.Write = sym memory ∙ inner fault faults.Write is in cc

@@ -3,7 +3,7 @@ pub mod Terms
 pub mod Words
 pub mod Air
 pub mod Opening
-pub mod Settling
+pub mod Stopping
 pub mod Feeds
 pub mod Status
 pub mod Command

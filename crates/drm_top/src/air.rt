@@ -8,7 +8,7 @@ ghost use Rattle.mod_receiver.specs.Jobs.{AreJobs};
 ghost use Rattle.drm_top.specs.Feeds.{BringsFeed, BringFeeds};
 ghost use Rattle.drm_top.specs.Air.{AirRun, air_rules};
 
-use crate::receive::settle;
+use crate::receive::ending;
 use dcp_collect::one_run;
 use drm_bits::NoMemory;
 use drm_faults::Fault;
@@ -16,7 +16,7 @@ use drm_links::{MemLink, Shelf, Sink};
 use drm_load::{read_schedule, read_script_named, script_fault};
 use drm_schedule::Schedule;
 use drm_server::Server;
-use mod_receiver::{Job, Rules, job_for, laws_of_deliveries, reports_follow, run_all};
+use mod_receiver::{Job, Rules, job_for, laws_of_deliveries, reports_follow, run_all, settle};
 use script_lines::{Delivery, Script};
 use std::alloc::Global;
 use std::thread::Threads;
@@ -47,7 +47,7 @@ pub(crate) fn air<R: Threads + Sync, S: Shelf, O: Sink>(
     };
     let mut jobs = feed_all(alloc, &plan, &script, window)?;
     run_all(rt, alloc, jobs.as_mut_slice());
-    settle(jobs.as_slice(), out)
+    ending(settle(jobs.as_slice(), out))
 }
 
 // A receiver for each feed.

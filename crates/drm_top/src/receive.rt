@@ -8,14 +8,12 @@ ghost use Rattle.drm_top.specs.Terms.{AreListed};
 ghost use Rattle.drm_top.specs.Receive.{ReceiveRun, Docked};
 ghost use Rattle.mod_receiver.specs.Jobs.{IsJob, AreJobs};
 ghost use Rattle.drm_top.specs.Opening.{HaveLinks, AreFresh, FailsOpening, EndsOpening};
-ghost use Rattle.drm_top.specs.Settling.{Settles};
+ghost use Rattle.drm_top.specs.Stopping.{ending_of};
 
 use drm_faults::Fault;
 use drm_links::{Address, Dock, Link, Opened, Sink};
 use drm_words::Addresses;
-use mod_receiver::{
-    Job, Rules, all_clean, all_done, job_for, none_failed, reports_follow, run_all, write_texts,
-};
+use mod_receiver::{Job, Rules, Stop, job_for, reports_follow, run_all, settle};
 use std::alloc::Global;
 use std::thread::Threads;
 
@@ -39,7 +37,7 @@ where
     reports_follow();
     let mut jobs = open_all(alloc, rules, addresses, dock)?;
     run_all(rt, alloc, jobs.as_mut_slice());
-    settle(jobs.as_slice(), out)
+    ending(settle(jobs.as_slice(), out))
 }
 
 // Opens the links at all addresses, in their order, and makes their receivers.
@@ -99,17 +97,14 @@ fn open_one<D: Dock>(
     }
 }
 
-/// Writes the reports of receivers that ended, unless one of them failed.
-pub(crate) fn settle<L: Link, O: Sink>(jobs: &[Job<L>], out: &mut O) -> Result<bool, Fault>
-    ensures settles { Settles jobs.now result O.tells out.old out.new }
-    ensures cause { HasCause (O.faults out.old) (O.faults out.new) (result ≡ Err Fault.Write) }
+// How a run ends whose receivers end so.
+pub(crate) fn ending(stopped: Result<bool, Stop>) -> Result<bool, Fault>
+    ensures { result ≡ ending_of stopped }
 {
-    if !none_failed(jobs) {
-        return Err(Fault::Link);
+    match stopped {
+        Ok(clean) => Ok(clean),
+        Err(Stop::Link) => Err(Fault::Link),
+        Err(Stop::Write) => Err(Fault::Write),
+        Err(Stop::NoMemory) => Err(Fault::NoMemory),
     }
-    if !all_done(jobs) {
-        return Err(Fault::NoMemory);
-    }
-    write_texts(jobs, out)?;
-    Ok(all_clean(jobs))
 }

@@ -11,3 +11,4 @@ pub mod Ranges
 pub mod Ahead
 pub mod Jobs
 pub mod Following
+pub mod Settling

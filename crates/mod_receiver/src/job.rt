@@ -92,7 +92,7 @@ pub fn run_all<R: Threads + Sync, L: Link + Send>(rt: &R, alloc: Global, jobs: &
 }
 
 /// Whether no receiver's link failed.
-pub fn none_failed<L: Link>(jobs: &[Job<L>]) -> bool
+pub(crate) fn none_failed<L: Link>(jobs: &[Job<L>]) -> bool
     ensures { IsTrue result ↔ All (λ job. IsTrue (not (is_failed job.ended))) jobs.now }
 {
     jobs.iter().all(|job| !has_failed(job))
@@ -105,7 +105,7 @@ fn has_failed<L: Link>(job: &Job<L>) -> bool
 }
 
 /// Whether each receiver's report is whole, and its text told.
-pub fn all_done<L: Link>(jobs: &[Job<L>]) -> bool
+pub(crate) fn all_done<L: Link>(jobs: &[Job<L>]) -> bool
     ensures { IsTrue result ↔ All IsDone jobs.now }
 {
     jobs.iter().all(|job| is_done(job))
@@ -121,7 +121,7 @@ fn is_done<L: Link>(job: &Job<L>) -> bool
 }
 
 /// Whether no receiver's report has a missing or bad line.
-pub fn all_clean<L: Link>(jobs: &[Job<L>]) -> bool
+pub(crate) fn all_clean<L: Link>(jobs: &[Job<L>]) -> bool
     ensures { IsTrue result ↔ All (λ job. IsTrue (clean_of job)) jobs.now }
 {
     jobs.iter().all(|job| is_clean(job))
@@ -137,7 +137,7 @@ fn is_clean<L: Link>(job: &Job<L>) -> bool
 }
 
 /// Writes the texts of all receivers, in their order.
-pub fn write_texts<L: Link, O: Sink>(jobs: &[Job<L>], out: &mut O) -> Result<(), WriteFault>
+pub(crate) fn write_texts<L: Link, O: Sink>(jobs: &[Job<L>], out: &mut O) -> Result<(), WriteFault>
     ensures whole { OnOk result (Outputs (O.tells out.old) (O.tells out.new) (λ text. text ≡ flat_map (λ job. text_of job) jobs.now)) }
     ensures front { OnErr result (Outputs (O.tells out.old) (O.tells out.new) (IsFront (flat_map (λ job. text_of job) jobs.now))) }
     ensures cause { HasCause (O.faults out.old) (O.faults out.new) (IsErr result) }

@@ -7,14 +7,17 @@ mod reading;
 mod reading_laws;
 mod receiver;
 mod rules;
+mod settling;
 mod stop;
 mod tally;
 mod text;
 
 pub use follow::{laws_of_deliveries, reports_follow};
-pub use job::{Job, all_clean, all_done, job_for, none_failed, run_all, write_texts};
+pub use job::{Job, job_for, run_all};
 pub use reading_laws::{one_reading_of_a_link, one_report};
 pub use receiver::{Ended, Options, receive_one};
 pub use rules::Rules;
+pub use settling::settle;
+pub use stop::Stop;
 pub use tally::Refusal;
 pub use text::Text;

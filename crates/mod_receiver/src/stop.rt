@@ -4,7 +4,7 @@ use drm_bits::NoMemory;
 use drm_links::WriteFault;
 
 #[derive(Clone, Copy, Debug, PartialEq, Eq)]
-pub(crate) enum Stop {
+pub enum Stop {
     Link,
     Write,
     NoMemory,

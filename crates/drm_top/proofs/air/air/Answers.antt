@@ -4,7 +4,7 @@ use Rattle.drm_links.specs.MemoryLink.{LinkState, link_tells}
 use Rattle.drm_schedule.specs.Valid.{IsSchedule}
 use Rattle.mod_receiver.specs.declared.job.Job.{Job}
 use Rattle.mod_receiver.specs.Jobs.{HasEnded}
-use Rattle.drm_top.specs.Settling.{Settles}
+use Rattle.mod_receiver.specs.Settling.{Settles}
 use Rattle.drm_top.specs.Air.{air_rules}
 use Rattle.drm_top.proofs.ReceiveLemmas.{Ran, written_back}
 use Rattle.drm_top.proofs.AirLemmas.{settled_air, no_schedule, no_script, no_jobs}
@@ -55,7 +55,8 @@ returns g c =
     let settled : Settles after c.settle.result g.O.Sink.tells c.args.out.now c.settle.new.out =
     subst (λ (jobs : List (Job LinkState)). Settles jobs c.settle.result g.O.Sink.tells c.args.out.now c.settle.new.out) same c.settle.ensures.settles in
     record {
-      run = settled_air link_faults c.in_ok-plan.plan c.args.window valid c.requires.some c.requires.few c.reports_follow.ensures.headlines c.reports_follow.ensures.completes c.in-Ok.script c.in-Ok.ensures.script before after ran c.in_ok-jobs.ensures.feeds
+      run = rw c.ending.ensures
+          (settled_air link_faults c.in_ok-plan.plan c.args.window valid c.requires.some c.requires.few c.reports_follow.ensures.headlines c.reports_follow.ensures.completes c.in-Ok.script c.in-Ok.ensures.script before after ran c.in_ok-jobs.ensures.feeds
           c.one_run.ensures laws.delivering laws.early (record { in_time = laws.in_time; at_starts = laws.at_starts; all_switches = laws.all_switches }) c.args.name.now c.args.script.now c.settle.result g.S.Shelf.faults g.S.Shelf.tells c.args.shelf.now c.read_schedule.new.shelf c.read_script_named.new.shelf
-          g.O.Sink.faults g.O.Sink.tells c.args.out.now c.settle.new.out c.in_ok-plan.ensures.reads c.in-Ok.ensures.reads c.in_ok-plan.ensures.cause.later c.in-Ok.ensures.cause.later settled c.settle.ensures.cause;
+          g.O.Sink.faults g.O.Sink.tells c.args.out.now c.settle.new.out c.in_ok-plan.ensures.reads c.in-Ok.ensures.reads c.in_ok-plan.ensures.cause.later c.in-Ok.ensures.cause.later settled c.settle.ensures.cause);
     }

@@ -2,7 +2,7 @@ use Rattle.std.proofs.Common.{◌≡◌, ℕ, ◌<◌, List, length, slice_index
 use Rattle.std.proofs.lemmas.Result.{err_from_is_err_and}
 use Rattle.mod_receiver.specs.declared.job.Job.{Job}
 use Rattle.mod_receiver.specs.Jobs.{HasEnded}
-use Rattle.drm_top.specs.Settling.{Settles}
+use Rattle.mod_receiver.specs.Settling.{Settles}
 use Rattle.drm_top.proofs.ReceiveLemmas.{Ran, settled_run, opening_failed, written_back}
 use Rattle.drm_top.proofs.receive.receive.Goals as goal
 
@@ -29,7 +29,8 @@ returns g c =
     let settled : Settles after c.settle.result g.O.Sink.tells c.args.out.now c.settle.new.out =
     subst (λ (jobs : List (Job g.row.D-L.Denot)). Settles jobs c.settle.result g.O.Sink.tells c.args.out.now c.settle.new.out) same c.settle.ensures.settles in
     record {
-      run = settled_run g.D.L.Link.faults g.D.L.Link.tells c.args.rules.now c.requires.rules c.reports_follow.ensures.headlines c.reports_follow.ensures.completes c.args.addresses.now before after ran
+      run = rw c.ending.ensures
+          (settled_run g.D.L.Link.faults g.D.L.Link.tells c.args.rules.now c.requires.rules c.reports_follow.ensures.headlines c.reports_follow.ensures.completes c.args.addresses.now before after ran
           c.settle.result g.D.Dock.faults g.D.Dock.tells c.args.dock.now c.open_all.new.dock g.O.Sink.faults g.O.Sink.tells c.args.out.now c.settle.new.out
-          c.in_ok-jobs.ensures.fresh c.in_ok-jobs.ensures.links c.in_ok-jobs.ensures.unsent c.in_ok-jobs.ensures.cause.later settled c.settle.ensures.cause;
+          c.in_ok-jobs.ensures.fresh c.in_ok-jobs.ensures.links c.in_ok-jobs.ensures.unsent c.in_ok-jobs.ensures.cause.later settled c.settle.ensures.cause);
     }

@@ -2,8 +2,8 @@
 use Rattle.std.specs.Prelude.{ℕ, ◌≡◌, ◌↔◌, IsTrue, All, Bool, List, Option, Result, Ok, Err}
 use Rattle.std.specs.List.{flat_map}
 use Rattle.drm_links.specs.Sink.{Output, Outputs, IsFront}
-use Rattle.drm_faults.specs.declared.fault.Fault.{Fault}
-use Rattle.drm_faults.specs.declared.fault.Fault.TheVariants as faults
+use Rattle.mod_receiver.specs.declared.stop.Stop.{Stop}
+use Rattle.mod_receiver.specs.declared.stop.Stop.TheVariants as stops
 use Rattle.mod_receiver.specs.declared.job.Job.{Job}
 use Rattle.mod_receiver.specs.Jobs.{NoneFailed, clean_of, text_of, IsDone}
 
@@ -12,11 +12,10 @@ abbrev pub job_texts : {L : Type 0} → List (Job L) → List ℕ
 job_texts jobs = flat_map (λ job. text_of job) jobs
 
 -- Where all are done their texts are written, or a front of them; where a link failed or memory ran out, nothing.
-abbrev pub Settles : {L O : Type 0} → List (Job L) → Result Bool Fault → (O → Option Output) → O → O → Type 0
+abbrev pub Settles : {L O : Type 0} → List (Job L) → Result Bool Stop → (O → Option Output) → O → O → Type 0
 Settles jobs (Ok clean) tells out out' =
     All IsDone jobs × Outputs (tells out) (tells out') (λ text. text ≡ job_texts jobs)
     × (IsTrue clean ↔ All (λ job. IsTrue (clean_of job)) jobs)
-Settles jobs (Err faults.Write) tells out out' = All IsDone jobs × Outputs (tells out) (tells out') (IsFront (job_texts jobs))
-Settles jobs (Err faults.Link) tells out out' = (NoneFailed jobs → ⊥) × (out' ≡ out)
-Settles jobs (Err faults.NoMemory) tells out out' = out' ≡ out
-Settles jobs (Err other) tells out out' = ⊥
+Settles jobs (Err stops.Write) tells out out' = All IsDone jobs × Outputs (tells out) (tells out') (IsFront (job_texts jobs))
+Settles jobs (Err stops.Link) tells out out' = (NoneFailed jobs → ⊥) × (out' ≡ out)
+Settles jobs (Err stops.NoMemory) tells out out' = out' ≡ out

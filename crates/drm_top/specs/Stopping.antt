@@ -1,0 +1,12 @@
+-- How a run ends whose receivers end so.
+use Rattle.std.specs.Prelude.{Bool, Result, Ok, Err}
+use Rattle.mod_receiver.specs.declared.stop.Stop.{Stop}
+use Rattle.mod_receiver.specs.declared.stop.Stop.TheVariants as stops
+use Rattle.drm_faults.specs.declared.fault.Fault.{Fault}
+use Rattle.drm_faults.specs.declared.fault.Fault.TheVariants as faults
+
+abbrev pub ending_of : Result Bool Stop → Result Bool Fault
+ending_of (Ok clean) = Ok clean
+ending_of (Err stops.Link) = Err faults.Link
+ending_of (Err stops.Write) = Err faults.Write
+ending_of (Err stops.NoMemory) = Err faults.NoMemory
