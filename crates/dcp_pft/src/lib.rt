@@ -3,20 +3,14 @@
 #![tactic(auto)]
 
 mod coding;
-#[cfg(test)]
-mod cutting_tests;
 mod fault;
 mod fragment;
 mod head;
 mod laws;
 mod parts;
 mod read;
-#[cfg(test)]
-mod read_tests;
 mod shape;
 mod write;
-#[cfg(test)]
-mod writing_tests;
 
 pub use coding::code;
 pub use fault::PftFault;

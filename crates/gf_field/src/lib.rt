@@ -5,8 +5,6 @@
 mod element;
 mod laws;
 mod shifts;
-#[cfg(test)]
-mod tests;
 
 pub use element::Gf;
 pub use laws::{field_laws, power_laws, product_is_remainder};

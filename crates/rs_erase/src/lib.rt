@@ -8,8 +8,6 @@ mod laws;
 mod parity;
 mod places;
 mod roots;
-#[cfg(test)]
-mod tests;
 
 pub use fault::SolveFault;
 pub use laws::{code_word_or_none, code_words_have_the_roots, one_code_word, one_parity};

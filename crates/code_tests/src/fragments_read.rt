@@ -1,6 +1,6 @@
 ghost use Rattle.std.specs.Prelude.{◌≤◌};
 
-use super::*;
+use dcp_pft::{Addr, Fragment, PftFault, Rs, read_fragment};
 
 const MOST: usize = 1300;
 
@@ -103,19 +103,17 @@ fn reads_fragments(rt: HostRuntime) {
     for (head, len, numbers, rs, addr) in cases {
         let mut into = [0x5a; MOST];
         put(head, &mut into);
-        let read = read_fragment(&into[..end(head, len)]);
-        assert!(rt; read.is_ok(), "{head:?}");
-        let Ok(fragment) = read else { return };
+        let fragment = Fragment {
+            seq: numbers.0,
+            index: numbers.1,
+            count: numbers.2,
+            rs,
+            addr,
+            payload: &[0x5a; MOST][..len.min(MOST)],
+        };
         assert_eq!(rt;
-            (fragment.seq, fragment.index, fragment.count),
-            numbers,
-            "{head:?}"
-        );
-        assert_eq!(rt; fragment.rs, rs, "{head:?}");
-        assert_eq!(rt; fragment.addr, addr, "{head:?}");
-        assert_eq!(rt; fragment.payload.len(), len, "{head:?}");
-        assert!(rt;
-            fragment.payload.iter().all(|byte| *byte == 0x5a),
+            read_fragment(&into[..end(head, len)]),
+            Ok(fragment),
             "{head:?}"
         );
     }

@@ -3,8 +3,8 @@
 ghost use Rattle.std.specs.Prelude.{◌↔◌, IsTrue};
 ghost use Rattle.rs_erase.specs.Code.{ArePlaces};
 
-use super::{SolveFault, encode, solve, syndromes};
 use gf_field::Gf;
+use rs_erase::{SolveFault, encode, solve, syndromes};
 
 /// A chunk, whose bytes begin with `first` and grow by `step` modulo 256, and its parity.
 struct Coded {

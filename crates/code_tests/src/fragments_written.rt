@@ -4,7 +4,7 @@
 
 ghost use Rattle.std.specs.Prelude.{◌≡◌, ◌≤◌, length};
 
-use super::{chunks, code, shape_for, write_fragment};
+use dcp_pft::{chunks, code, shape_for, write_fragment};
 use drm_bits::crc16;
 
 /// The longest datagram.

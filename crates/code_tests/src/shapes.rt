@@ -1,11 +1,11 @@
 //! Shapes of packets, from the formulas in Python.
 
-use super::{Rs, Shape, chunks, shape_for};
+use dcp_pft::{Rs, Shape, chunks, shape_for};
 
 /// The length of the packet, the fragments that may be lost, the longest datagram; the shape, and the number of chunks.
 type Case = (usize, u8, u16, u32, u16, Option<Rs>, u32);
 
-const CASES: [Case; 14] = [
+const CASES: [Case; 16] = [
     (12, 5, 1400, 8, 8, Some(Rs { k: 12, z: 0 }), 1),
     (207, 1, 1400, 11, 24, Some(Rs { k: 207, z: 0 }), 1),
     (208, 5, 1400, 19, 16, Some(Rs { k: 104, z: 0 }), 2),
@@ -16,6 +16,8 @@ const CASES: [Case; 14] = [
     (90, 2, 1400, 9, 16, Some(Rs { k: 90, z: 0 }), 1),
     (1, 5, 128, 7, 7, Some(Rs { k: 1, z: 0 }), 1),
     (8192, 1, 1500, 11, 920, Some(Rs { k: 205, z: 8 }), 40),
+    (1129, 2, 1400, 15, 95, Some(Rs { k: 189, z: 5 }), 6),
+    (1086, 2, 1400, 15, 92, Some(Rs { k: 181, z: 0 }), 6),
     (400, 0, 1400, 1, 400, None, 0),
     (1387, 0, 1400, 2, 694, None, 0),
     (1, 0, 128, 1, 1, None, 0),

@@ -1,7 +1,7 @@
 //! The field's own values. Those of the tables are from a program in Python that multiplies polynomials over bits term by
 //! term, divides by the modulus, and looks for an inverse among all elements.
 
-use super::Gf;
+use gf_field::Gf;
 
 /// An element, another, and their product.
 const PRODUCTS: [(u8, u8, u8); 14] = [
