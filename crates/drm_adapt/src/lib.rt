@@ -6,8 +6,6 @@ mod file_shelf;
 mod streams;
 mod udp_dock;
 mod udp_link;
-#[cfg(test)]
-mod udp_tests;
 
 pub use file_shelf::FileShelf;
 pub use streams::{StreamSink, StreamSource};

@@ -4,14 +4,10 @@
 #![tactic(auto)]
 
 mod dock;
-#[cfg(test)]
-mod dock_tests;
 mod docked_link;
 mod failing;
 mod front;
 mod link;
-#[cfg(test)]
-mod link_tests;
 mod memory_dock;
 mod memory_link;
 mod memory_shelf;
@@ -22,8 +18,6 @@ mod shelf;
 mod sink;
 mod source;
 mod status;
-#[cfg(test)]
-mod tests;
 mod writing;
 
 pub use dock::{Address, Dock, Opened};

@@ -2,7 +2,8 @@
 
 ghost use Rattle.std.specs.Prelude.{◌<◌, length};
 
-use crate::{
+use crate::calls::{Gave, what_it_gave};
+use drm_links::{
     Address, Dock, Loaded, MemDock, MemShelf, MemSink, MemSource, Opened, ReadOut, Shelf, Sink,
     Source, WriteOut,
 };
@@ -23,24 +24,6 @@ fn write<O: Sink>(sink: &mut O, bytes: &[u8]) -> WriteOut
 
 fn load<S: Shelf>(alloc: Global, shelf: &mut S, name: &str, limit: usize) -> Loaded {
     shelf.load(alloc, name, limit)
-}
-
-// What a load gave: a file, or why it gave none.
-#[derive(Clone, Copy, Debug, PartialEq, Eq)]
-enum Gave<'a> {
-    File(&'a [u8]),
-    TooLong,
-    Failed,
-    NoMemory,
-}
-
-fn what_it_gave(loaded: &Loaded) -> Gave<'_> {
-    match loaded {
-        Loaded::Bytes(bytes) => Gave::File(bytes.as_slice()),
-        Loaded::TooLong => Gave::TooLong,
-        Loaded::Failed => Gave::Failed,
-        Loaded::NoMemory => Gave::NoMemory,
-    }
 }
 
 fn binds_and_reaches<D: Dock>(dock: &mut D, at: Address) -> (bool, bool) {

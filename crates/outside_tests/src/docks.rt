@@ -4,8 +4,9 @@ ghost use Rattle.std.specs.Prelude.{IsNone};
 ghost use Rattle.drm_links.specs.MemoryLink.{IsUntouched};
 ghost use Rattle.drm_links.specs.MemoryDock.{link_at};
 
-use crate::{Address, Came, Dock, Link, MemDock, MemLink, Opened, PutFault, Sent};
+use crate::calls::{bytes_of, recv, was_sent};
 use drm_bits::NoMemory;
+use drm_links::{Address, Came, Dock, Link, MemDock, MemLink, Opened, PutFault, Sent};
 use std::alloc::Global;
 use std::test::Fail;
 
@@ -23,14 +24,6 @@ const THERE: Address = Address {
     ip: [1, 0, 0, 127],
     port: 5000,
 };
-
-// What a recv answers, in a buffer that is long enough.
-fn recv<L: Link>(link: &mut L, buf: &mut [u8]) -> Option<Came> {
-    if buf.len() < 65536 {
-        return None;
-    }
-    Some(link.recv(buf))
-}
 
 fn send<L: Link>(link: &mut L, bytes: &[u8]) -> Sent {
     link.send(bytes)
@@ -55,17 +48,6 @@ fn put(dock: &mut MemDock, alloc: Global, at: Address, link: MemLink) -> Result<
     match dock.put(alloc, at, link) {
         Ok(()) => Ok(()),
         Err(PutFault::NoMemory(_)) => Err(NoMemory),
-    }
-}
-
-fn bytes_of(alloc: Global, byte: u8, length: usize) -> Result<Vec<u8>, NoMemory> {
-    Ok(vec![in alloc; byte; length]?)
-}
-
-fn was_sent(link: &MemLink, k: usize, bytes: &[u8]) -> bool {
-    match link.sent(k) {
-        Some(sent) => sent == bytes,
-        None => false,
     }
 }
 

@@ -1,38 +1,20 @@
 //! Links in memory through their trait. The expected answers follow from the arguments by hand.
 
-use crate::{Came, Link, MemLink, Sent};
+use crate::calls::{bytes_of, recv, was_sent};
 use drm_bits::NoMemory;
+use drm_links::{Came, Link, MemLink, Sent};
 use std::alloc::Global;
 use std::test::Fail;
 
 const BUFFER: usize = 65536;
-
-// What a recv answers, in a buffer that is long enough.
-fn recv<L: Link>(link: &mut L, buf: &mut [u8]) -> Option<Came> {
-    if buf.len() < BUFFER {
-        return None;
-    }
-    Some(link.recv(buf))
-}
 
 fn send<L: Link>(link: &mut L, bytes: &[u8]) -> Sent {
     link.rest(1);
     link.send(bytes)
 }
 
-fn bytes_of(alloc: Global, byte: u8, length: usize) -> Result<Vec<u8>, NoMemory> {
-    Ok(vec![in alloc; byte; length]?)
-}
-
 fn begins(buf: &[u8], front: &[u8]) -> bool {
     buf.starts_with(front)
-}
-
-fn was_sent(link: &MemLink, k: usize, bytes: &[u8]) -> bool {
-    match link.sent(k) {
-        Some(sent) => sent == bytes,
-        None => false,
-    }
 }
 
 // Puts these datagrams behind all others.
