@@ -5,8 +5,6 @@
 mod head;
 mod items;
 mod laws;
-#[cfg(test)]
-mod tests;
 mod write;
 
 pub use items::{Item, Items, ValueCut};

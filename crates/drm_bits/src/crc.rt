@@ -72,26 +72,3 @@ pub(crate) fn crc16_after(check: u16, byte: u8) -> u16
     }
     !register
 }
-
-#[cfg(test)]
-mod tests {
-    use super::*;
-
-    // Computed by a long division of bit lists in Python. The second case is the first eight bytes of a FAC, and the
-    // third the head of an AF packet without payload, which ends with the bytes 04 52.
-    #[test]
-    fn gives_known_check_values(rt: HostRuntime) {
-        let fac = [0x66, 0x08, 0x01, 0x23, 0x45, 0x60, 0xa1, 0x80];
-        let cases = [
-            (b"123456789".as_slice(), 0x4b, 0xd64e),
-            (&fac, 0x6d, 0x05ac),
-            (b"AF\0\0\0\0\0\0\x90T", 0x5e, 0x0452),
-            (&[0], 0x3b, 0x1e0f),
-            (&[], 0x00, 0x0000),
-        ];
-        for (bytes, narrow, wide) in cases {
-            assert_eq!(rt; crc8(bytes), narrow, "{bytes:?}");
-            assert_eq!(rt; crc16(bytes), wide, "{bytes:?}");
-        }
-    }
-}

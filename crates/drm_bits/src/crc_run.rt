@@ -54,22 +54,3 @@ impl CrcRun {
         self.check
     }
 }
-
-#[cfg(test)]
-mod tests {
-    use super::*;
-
-    // Computed by a long division of bit lists in Python.
-    #[test]
-    fn gives_known_check_values(rt: HostRuntime) {
-        let mut run = CrcRun::start();
-        assert_eq!(rt; run.value(), 0);
-        run = run.byte(0);
-        assert_eq!(rt; run.value(), 0x1e0f);
-        let mut digits = CrcRun::start();
-        for byte in b"123456789" {
-            digits = digits.byte(*byte);
-        }
-        assert_eq!(rt; digits.value(), 0xd64e);
-    }
-}

@@ -7,8 +7,6 @@ mod frame;
 mod sdci;
 mod splitting;
 mod streams;
-#[cfg(test)]
-mod tests;
 
 pub use drm_bits::{MuxDesc, Part};
 pub use fault::MuxFault;

@@ -39,8 +39,3 @@ pub use field::read_entities;
 pub use put::put_zeros;
 pub use write_field::{total_size, write_entities, write_entity};
 pub use written_block::{frame_field, write_block};
-
-#[cfg(test)]
-mod tests;
-#[cfg(test)]
-mod write_tests;

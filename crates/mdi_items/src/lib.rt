@@ -9,8 +9,6 @@ mod laws;
 mod names;
 mod needed;
 mod streams;
-#[cfg(test)]
-mod tests;
 mod value;
 mod view;
 mod writer;

@@ -1,9 +1,0 @@
-use Rattle.std.proofs.Common.{arith}
-use Rattle.drm_sdc.proofs.WrittenField.{field_fits, field_size}
-use Rattle.drm_sdc.proofs.write_tests.written.Goals as goal
-
-pub write_block-requires-clause-fit : goal.write_block-requires-clause-fit
-write_block-requires-clause-fit c = field_fits _ _ _ c.in-Ok.ensures.read
-
-pub write_block-requires-clause-small : goal.write_block-requires-clause-small
-write_block-requires-clause-small c = omega (arith, field_size _ _ _ c.in-Ok.ensures.read, c.well_formed)

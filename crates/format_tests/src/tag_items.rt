@@ -1,0 +1,146 @@
+//! TAG items, read and written.
+
+use dcp_tag::{Items, ValueCut, write_item};
+use std::process::Abort;
+
+// The payload of a logical frame, by hand after TS 102 820: *ptr, dlfc, fac_, sdci, robm and str0.
+const FRAME: [u8; 78] = [
+    0x2a, 0x70, 0x74, 0x72, 0, 0, 0, 0x40, 0x44, 0x4d, 0x44, 0x49, 0, 0, 0, 0, 0x64, 0x6c, 0x66,
+    0x63, 0, 0, 0, 0x20, 0, 0, 0, 1, 0x66, 0x61, 0x63, 0x5f, 0, 0, 0, 0x48, 0x26, 0x08, 0x01, 0x23,
+    0x45, 0x60, 0xa1, 0x80, 0x33, 0x73, 0x64, 0x63, 0x69, 0, 0, 0, 0x20, 1, 0, 0, 4, 0x72, 0x6f,
+    0x62, 0x6d, 0, 0, 0, 8, 1, 0x73, 0x74, 0x72, 0x30, 0, 0, 0, 0x20, 0x55, 0x55, 0x55, 0x55,
+];
+
+struct Expected {
+    name: [u8; 4],
+    bits: u32,
+    at: usize,
+    value: &'static [u8],
+}
+
+const ITEMS: [Expected; 6] = [
+    Expected {
+        name: *b"*ptr",
+        bits: 64,
+        at: 8,
+        value: b"DMDI\0\0\0\0",
+    },
+    Expected {
+        name: *b"dlfc",
+        bits: 32,
+        at: 24,
+        value: &[0, 0, 0, 1],
+    },
+    Expected {
+        name: *b"fac_",
+        bits: 72,
+        at: 36,
+        value: &[0x26, 0x08, 0x01, 0x23, 0x45, 0x60, 0xa1, 0x80, 0x33],
+    },
+    Expected {
+        name: *b"sdci",
+        bits: 32,
+        at: 53,
+        value: &[1, 0, 0, 4],
+    },
+    Expected {
+        name: *b"robm",
+        bits: 8,
+        at: 65,
+        value: &[1],
+    },
+    Expected {
+        name: *b"str0",
+        bits: 32,
+        at: 74,
+        value: b"UUUU",
+    },
+];
+
+fn expect_item(rt: &impl Abort, items: &mut Items<'_>, expected: &Expected) {
+    let found = items.next_item();
+    assert!(rt; matches!(found, Ok(Some(_))), "item at {}", expected.at);
+    let Ok(Some(item)) = found else { return };
+    assert_eq!(rt; item.name, expected.name);
+    assert_eq!(rt; item.bits, expected.bits);
+    assert_eq!(rt; item.at, expected.at);
+    assert_eq!(rt; item.value, expected.value);
+}
+
+#[test]
+fn reads_the_items_of_a_frame(rt: HostRuntime) {
+    let mut items = Items::new(&FRAME);
+    for expected in &ITEMS {
+        expect_item(&rt, &mut items, expected);
+    }
+    assert_eq!(rt; items.next_item(), Ok(None));
+    assert_eq!(rt; items.next_item(), Ok(None));
+}
+
+// Without the last byte the last item is cut, again and again.
+#[test]
+fn stays_at_a_cut(rt: HostRuntime) {
+    let mut items = Items::new(&FRAME[..77]);
+    for expected in &ITEMS[..5] {
+        expect_item(&rt, &mut items, expected);
+    }
+    for _ in 0..3u8 {
+        assert_eq!(rt; items.next_item(), Err(ValueCut { at: 66 }));
+    }
+}
+
+// The first answer, as a reader written in Python gives it: the bits and the bytes of an item, None, or a cut.
+#[test]
+fn answers_at_the_front(rt: HostRuntime) {
+    let cases: [(&[u8], Option<(u32, &[u8])>); 7] = [
+        (b"", None),
+        (b"A", None),
+        (b"ABCD\0\0\0", None),
+        (b"ABCD\0\0\0\0", Some((0, b""))),
+        (b"ABCD\0\0\0\x01\xff\0\0\0\0", Some((1, b"\xff"))),
+        (b"ABCD\0\0\0\x04\xbf\0\0\0\0\0\0\0", Some((4, b"\xbf"))),
+        (
+            b"ABCD\0\0\0\x09\x01\x80XYZZ\0\0\0\0",
+            Some((9, b"\x01\x80")),
+        ),
+    ];
+    for (payload, expected) in cases {
+        let found = Items::new(payload).next_item();
+        match (found, expected) {
+            (Ok(None), None) => {}
+            (Ok(Some(item)), Some((bits, value))) => {
+                assert_eq!(rt; item.bits, bits, "{payload:?}");
+                assert_eq!(rt; item.value, value, "{payload:?}");
+                assert_eq!(rt; item.at, 8, "{payload:?}");
+            }
+            _ => assert!(rt; false, "{payload:?}"),
+        }
+    }
+    let cut: [&[u8]; 4] = [
+        b"ABCD\0\0\0\x09\xff",
+        b"ABCD\0\0\0\x01",
+        b"ABCD\xff\xff\xff\xff\0\0\0\0\0\0\0\0\0",
+        b"ABCD\xff\xff\xff\xf9\x55\x55\x55\x55",
+    ];
+    for payload in cut {
+        assert_eq!(rt;
+            Items::new(payload).next_item(),
+            Err(ValueCut { at: 0 }),
+            "{payload:?}"
+        );
+    }
+}
+
+// The bytes are those of a writer in Python. What stands before and behind stays.
+#[test]
+fn writes_one_item_after_another(rt: HostRuntime) {
+    let mut into = [0xee; 29];
+    let place = write_item(&mut into, 1, *b"fac_", 0, b"");
+    assert_eq!(rt; place, 9);
+    let place = write_item(&mut into, 9, *b"sdci", 12, b"\x01\x50");
+    assert_eq!(rt; place, 19);
+    let place = write_item(&mut into, 19, *b"bit1", 1, b"\x80");
+    assert_eq!(rt; place, 28);
+    let expected = b"\xeefac_\0\0\0\0sdci\0\0\0\x0c\x01\x50bit1\0\0\0\x01\x80\xee";
+    assert_eq!(rt; into, *expected);
+}
