@@ -3,25 +3,17 @@
 #![tactic(auto)]
 
 mod collector;
-#[cfg(test)]
-mod datagram_tests;
 mod decode;
 mod found;
 mod head;
 mod item;
 mod kept_packets;
 mod laws;
-#[cfg(test)]
-mod loss_tests;
 mod number;
-#[cfg(test)]
-mod order_tests;
 mod packet;
 mod read;
 mod recoverable;
 mod taken;
-#[cfg(test)]
-mod tests;
 
 pub use collector::Collector;
 pub use head::Head;

@@ -7,8 +7,6 @@ mod item;
 mod laws;
 mod read;
 mod shown;
-#[cfg(test)]
-mod tests;
 
 pub use feed::{Feed, Step};
 pub use item::{BadFault, FeedItem};
