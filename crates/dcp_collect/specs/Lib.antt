@@ -3,8 +3,6 @@ pub mod Reading
 pub mod State
 pub mod Decoding
 pub mod Runs
-pub mod Delivery
-pub mod Laws
 pub mod View
 pub mod Erasure
 pub mod Sound

@@ -8,7 +8,6 @@ mod found;
 mod head;
 mod item;
 mod kept_packets;
-mod laws;
 mod number;
 mod packet;
 mod read;
@@ -18,8 +17,4 @@ mod taken;
 pub use collector::Collector;
 pub use head::Head;
 pub use item::Out;
-pub use laws::{
-    collecting, giving_ends, in_time, one_giving, one_reading, one_run, steps_count, steps_join,
-    steps_part,
-};
 pub use taken::{Field, Taken};

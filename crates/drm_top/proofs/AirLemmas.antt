@@ -9,7 +9,7 @@ use Rattle.drm_links.specs.Shelf.{Files}
 use Rattle.drm_links.specs.Dock.{LinkStart}
 use Rattle.drm_links.specs.MemoryLink.{LinkState, link_tells}
 use Rattle.drm_links.proofs.ToldLemmas.{later-Rose}
-use Rattle.dcp_collect.specs.Laws.{OneRun}
+use Rattle.collect_laws.specs.Laws.{OneRun}
 use Rattle.drm_schedule.specs.declared.plan.Plan.{Plan}
 use Rattle.drm_schedule.specs.Valid.{IsSchedule}
 use Rattle.script_lines.specs.declared.delivery.Delivery.{Delivery}

@@ -4,8 +4,8 @@ use Rattle.std.specs.Prelude.{ℤ, pos, Bool}
 use Rattle.std.specs.List.{AllByRecursion}
 use Rattle.std.proofs.lemmas.List.{take-append-le}
 use Rattle.drm_links.specs.Link.{Answer, Datagram, Idle}
-use Rattle.dcp_collect.specs.Delivery.{IsWithinSpan, number, newer_number}
-use Rattle.dcp_collect.specs.Laws.{OneRun}
+use Rattle.collect_laws.specs.Delivery.{IsWithinSpan, number, newer_number}
+use Rattle.collect_laws.specs.Laws.{OneRun}
 use Rattle.dcp_collect.specs.State.{made}
 use Rattle.drm_schedule.specs.declared.plan.Plan.{Plan}
 use Rattle.drm_schedule.specs.Valid.{IsSchedule}

@@ -9,7 +9,7 @@ ghost use Rattle.drm_top.specs.Feeds.{BringsFeed, BringFeeds};
 ghost use Rattle.drm_top.specs.Air.{AirRun, air_rules};
 
 use crate::receive::ending;
-use dcp_collect::one_run;
+use collect_laws::one_run;
 use drm_bits::NoMemory;
 use drm_faults::Fault;
 use drm_links::{MemLink, Shelf, Sink};

@@ -8,8 +8,8 @@ use Rattle.std.proofs.lemmas.Option.{slice_get_within}
 use Rattle.drm_schedule.specs.declared.plan.Plan.{Plan}
 use Rattle.drm_schedule.specs.Valid.{IsSchedule}
 use Rattle.dcp_collect.specs.State.{reached, end_of}
-use Rattle.dcp_collect.specs.Delivery.{number, is_number, is_at_least, got, newest_of}
-use Rattle.dcp_collect.proofs.Got.{reached_is}
+use Rattle.collect_laws.specs.Delivery.{number, is_number, is_at_least, got, newest_of}
+use Rattle.collect_laws.proofs.Got.{reached_is}
 use Rattle.mod_delivery.specs.Sent.{AreSent, IsFollowed, IsInTime}
 use Rattle.mod_delivery.specs.Laws.{AllFrames}
 use Rattle.mod_delivery.proofs.InTime.{given_in_time}

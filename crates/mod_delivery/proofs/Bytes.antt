@@ -12,8 +12,8 @@ use Rattle.dcp_pft.specs.declared.shape.Shape.{Shape}
 use Rattle.dcp_pft.specs.Coding.{AreParities, IsParityOf, byte_or_zero, coded, every, filled, payload_of}
 use Rattle.dcp_pft.proofs.Fragments.{with_rs, chunks_by, parities_with}
 use Rattle.dcp_pft.proofs.Written.{IsBytes-append}
-use Rattle.dcp_collect.specs.Delivery.{Carriage, Whole, Cut}
-use Rattle.dcp_collect.proofs.Sent.{IsPayload}
+use Rattle.collect_laws.specs.Delivery.{Carriage, Whole, Cut}
+use Rattle.collect_laws.proofs.Sent.{IsPayload}
 use Rattle.drm_server.proofs.ByteLemmas.{bytes_take, bytes_drop, bytes_behind}
 
 bytes_of : (xs : List ℕ) → AreElements xs → IsBytes xs

@@ -9,8 +9,8 @@ use Rattle.dcp_pft.specs.declared.shape.Shape.{Shape}
 use Rattle.dcp_pft.specs.Loss.{size, is_recoverable}
 use Rattle.dcp_collect.specs.Runs.{Item as Collected, Packet, Lost}
 use Rattle.dcp_collect.specs.State.{end_of}
-use Rattle.dcp_collect.specs.Delivery.{Carriage, shape_under, got, number, is_number, is_at_least, packet_at, item_by, item, items, newest_of}
-use Rattle.dcp_collect.specs.Laws.{IsHeard, Collecting}
+use Rattle.collect_laws.specs.Delivery.{Carriage, shape_under, got, number, is_number, is_at_least, packet_at, item_by, item, items, newest_of}
+use Rattle.collect_laws.specs.Laws.{IsHeard, Collecting}
 use Rattle.dcp_collect.proofs.Sets.{recoverable_same, size_same}
 use Rattle.drm_schedule.specs.declared.plan.Plan.{Plan}
 use Rattle.drm_schedule.specs.Valid.{IsSchedule}

@@ -11,13 +11,13 @@ use Rattle.dcp_collect.specs.declared.taken.Taken.{Taken}
 use Rattle.dcp_collect.specs.Reading.{Incoming, Read, Brings, IsRead}
 use Rattle.dcp_collect.specs.State.{State, made, number_of, answer, after_take, after_item, after_finish}
 use Rattle.dcp_collect.specs.Runs.{Item as Collected, Takes, Gives, Steps, Run}
-use Rattle.dcp_collect.specs.Delivery.{Carriage}
-use Rattle.dcp_collect.specs.Laws.{IsRight, OneReading, StepsJoin, GivingEnds}
+use Rattle.collect_laws.specs.Delivery.{Carriage}
+use Rattle.collect_laws.specs.Laws.{IsRight, OneReading, StepsJoin, GivingEnds}
 use Rattle.dcp_collect.proofs.Lists.{all_insert}
-use Rattle.dcp_collect.proofs.Stays.{after_by}
-use Rattle.dcp_collect.proofs.Ending.{bytes_filter}
-use Rattle.dcp_collect.proofs.Sent.{BringsPair}
-use Rattle.dcp_collect.proofs.Brought.{all_brought}
+use Rattle.collect_laws.proofs.Stays.{after_by}
+use Rattle.collect_laws.proofs.Ending.{bytes_filter}
+use Rattle.collect_laws.proofs.Sent.{BringsPair}
+use Rattle.collect_laws.proofs.Brought.{all_brought}
 use Rattle.mod_delivery.specs.Sent.{carriage_of, AreSent, IsFollowed}
 use Rattle.mod_delivery.specs.Laws.{Delivering, DeliveringEarly, NoneRefused}
 use Rattle.mod_delivery.proofs.Bytes.{carried_bytes}

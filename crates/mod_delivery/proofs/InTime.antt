@@ -4,7 +4,7 @@ use Rattle.std.specs.Prelude.{pos, ◌+ℤ◌}
 use Rattle.dcp_pft.specs.Loss.{size, is_recoverable}
 use Rattle.dcp_pft.proofs.LossBound.{loss_bound}
 use Rattle.dcp_pft.proofs.Erased.{all_kept}
-use Rattle.dcp_collect.specs.Delivery.{Carriage, Whole, Cut, IsCarriage, shape_under, losses, got}
+use Rattle.collect_laws.specs.Delivery.{Carriage, Whole, Cut, IsCarriage, shape_under, losses, got}
 use Rattle.drm_schedule.specs.declared.carry.Carry.{Carry}
 use Rattle.drm_schedule.specs.declared.carry.Carry.TheVariants.{Plain, Pft}
 use Rattle.drm_schedule.specs.declared.plan.Plan.{Plan}

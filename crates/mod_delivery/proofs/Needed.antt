@@ -4,8 +4,8 @@ use Rattle.std.proofs.lemmas.Bool.{cases_lt}
 use Rattle.dcp_pft.specs.Cutting.{IsShapeOf, shape_of}
 use Rattle.dcp_pft.specs.Loss.{size, is_recoverable}
 use Rattle.dcp_pft.proofs.Payloads.{shape_is_taken}
-use Rattle.dcp_collect.specs.Delivery.{Carriage, Whole, Cut, IsCarriage, shape_under, losses}
-use Rattle.dcp_collect.proofs.Heads.{none_all, cut_needed}
+use Rattle.collect_laws.specs.Delivery.{Carriage, Whole, Cut, IsCarriage, shape_under, losses}
+use Rattle.collect_laws.proofs.Heads.{none_all, cut_needed}
 use Rattle.drm_schedule.specs.declared.plan.Plan.{Plan}
 use Rattle.drm_schedule.specs.Valid.{IsSchedule}
 use Rattle.script_lines.specs.Script.{packet_size}

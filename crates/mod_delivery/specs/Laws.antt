@@ -9,7 +9,7 @@ use Rattle.drm_timeline.specs.Starts.{later_starts}
 use Rattle.dcp_collect.specs.declared.taken.Taken.{Taken}
 use Rattle.dcp_collect.specs.State.{State, made}
 use Rattle.dcp_collect.specs.Runs.{Item as Collected, Steps, Run}
-use Rattle.dcp_collect.specs.Laws.{IsRight}
+use Rattle.collect_laws.specs.Laws.{IsRight}
 use Rattle.mod_feed.specs.Feeding.{FeedStep, Feeds, told_before}
 use Rattle.mod_delivery.specs.Sent.{IsFollowed, IsInTime}
 use Rattle.mod_delivery.specs.Given.{IsServed, AreGiven, IsStart, AreAllServed}

@@ -7,7 +7,7 @@ use Rattle.drm_schedule.specs.declared.plan.Plan.{Plan}
 use Rattle.script_lines.specs.Script.{packet_size}
 use Rattle.dcp_pft.specs.declared.shape.Shape.{Shape}
 use Rattle.dcp_pft.specs.Loss.{size}
-use Rattle.dcp_collect.specs.Delivery.{Carriage, Whole, Cut, shape_under, losses, got, IsWithinSpan, IsBase}
+use Rattle.collect_laws.specs.Delivery.{Carriage, Whole, Cut, shape_under, losses, got, IsWithinSpan, IsBase}
 use Rattle.drm_server.specs.Datagrams.{IsDatagramAt}
 
 -- The datagram is that of the pair (t, i): datagram i of frame t of the schedule.

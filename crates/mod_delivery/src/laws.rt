@@ -2,7 +2,7 @@
 
 ghost use Rattle.mod_delivery.specs.Laws.{Delivering, DeliveringEarly, NoneRefused, GivenInTime, SwitchesAtStarts, AllSwitches, AllFrames};
 
-use dcp_collect::{collecting, giving_ends, one_reading, steps_join};
+use collect_laws::{collecting, giving_ends, one_reading, steps_join};
 use mod_feed::the_feed_tells_the_switches;
 
 /// Whatever comes of a schedule's datagrams, a collector and a feed give what the delivery calls for.

@@ -13,8 +13,8 @@ use Rattle.dcp_collect.specs.declared.taken.Taken.{Taken}
 use Rattle.dcp_collect.specs.declared.taken.Taken.TheVariants.{Kept, Repeated, Late, Refused, Inconsistent, NoMemory}
 use Rattle.dcp_collect.specs.State.{State, made}
 use Rattle.dcp_collect.specs.Runs.{Item as Given, Steps, Run, up_to}
-use Rattle.dcp_collect.specs.Laws.{IsRight}
-use Rattle.dcp_collect.specs.Delivery.{IsWithinSpan, IsBase, number, newer_number}
+use Rattle.collect_laws.specs.Laws.{IsRight}
+use Rattle.collect_laws.specs.Delivery.{IsWithinSpan, IsBase, number, newer_number}
 use Rattle.drm_timeline.specs.Tracker.{TrackerState, new_tracker}
 use Rattle.mod_feed.specs.Items.{Item}
 use Rattle.mod_feed.specs.Feeding.{FeedStep, Feeds}

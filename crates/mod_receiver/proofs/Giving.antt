@@ -6,8 +6,8 @@ use Rattle.drm_links.specs.Link.{Answer, Datagram, Idle, datagram_of}
 use Rattle.dcp_collect.specs.declared.taken.Taken.{Taken}
 use Rattle.dcp_collect.specs.State.{State, made, ready}
 use Rattle.dcp_collect.specs.Runs.{Item, Takes, Gives, Steps}
-use Rattle.dcp_collect.specs.Laws.{OneRun}
-use Rattle.dcp_collect.proofs.Runs.{steps_more, gives_given}
+use Rattle.collect_laws.specs.Laws.{OneRun}
+use Rattle.collect_laws.proofs.Runs.{steps_more, gives_given}
 use Rattle.mod_receiver.specs.declared.rules.Rules.{Rules}
 use Rattle.mod_receiver.specs.Reading.{datagrams, Gave, HasGiven}
 

@@ -6,9 +6,9 @@ use Rattle.drm_links.specs.Link.{Answer, Failed}
 use Rattle.dcp_collect.specs.declared.taken.Taken.{Taken}
 use Rattle.dcp_collect.specs.State.{made, after_finish}
 use Rattle.dcp_collect.specs.Runs.{Item, Gives, Run, up_to}
-use Rattle.dcp_collect.specs.Laws.{OneGiving}
+use Rattle.collect_laws.specs.Laws.{OneGiving}
 use Rattle.dcp_collect.proofs.Decoded.{one_decoding}
-use Rattle.dcp_collect.proofs.Unique.{one_giving}
+use Rattle.collect_laws.proofs.Unique.{one_giving}
 use Rattle.drm_timeline.specs.Tracker.{new_tracker}
 use Rattle.mod_feed.specs.Feeding.{Feeds}
 use Rattle.mod_feed.proofs.FeedingLemmas.{feeding_is_one}

@@ -6,7 +6,7 @@ use Rattle.drm_links.specs.Sink.{Output, Outputs, IsFront}
 use Rattle.drm_links.proofs.ToldLemmas.{Outputs-then, Outputs-nothing, Outputs-weaker}
 use Rattle.dcp_collect.specs.State.{State, ready, after_item, after_next}
 use Rattle.dcp_collect.specs.Runs.{Item, Packet, Lost, Damaged, IsItem, Gives, up_to}
-use Rattle.dcp_collect.proofs.Runs.{Given, given_more, given_all}
+use Rattle.collect_laws.proofs.Runs.{Given, given_more, given_all}
 use Rattle.drm_timeline.specs.declared.seen.Seen.{Seen}
 use Rattle.drm_timeline.specs.Tracker.{TrackerState, stepped}
 use Rattle.mod_feed.specs.Items.{Item as FeedItem, Frame, Missing, Bad, number_of, seen_in}

@@ -10,10 +10,10 @@ use Rattle.drm_links.proofs.ToldLemmas.{Outputs-then, Outputs-nothing, Outputs-w
 use Rattle.dcp_collect.specs.declared.taken.Taken.{Taken}
 use Rattle.dcp_collect.specs.State.{State, made, ready}
 use Rattle.dcp_collect.specs.Runs.{Item, up_to}
-use Rattle.dcp_collect.specs.Laws.{OneRun}
-use Rattle.dcp_collect.proofs.OneReading.{one_reading as one_datagram}
+use Rattle.collect_laws.specs.Laws.{OneRun}
+use Rattle.collect_laws.proofs.OneReading.{one_reading as one_datagram}
 use Rattle.dcp_collect.proofs.Decoded.{one_decoding}
-use Rattle.dcp_collect.proofs.Unique.{one_run}
+use Rattle.collect_laws.proofs.Unique.{one_run}
 use Rattle.drm_timeline.specs.Tracker.{TrackerState, new_tracker}
 use Rattle.mod_feed.specs.Feeding.{FeedStep, Feeds}
 use Rattle.drm_show.specs.declared.report.EndWord.TheVariants as word

@@ -1,0 +1,88 @@
+-- The laws of collecting.
+use Rattle.std.specs.Prelude.{ℕ, ℤ, pos, ◌+ℤ◌, ◌≡◌, ◌+◌, ◌≤◌, List, ◌++◌, length, Option, None, Some}
+use Rattle.std.specs.List.{AllByRecursion}
+use Rattle.drm_bits.specs.Bits.{IsBytes}
+use Rattle.dcp_pft.specs.Loss.{size}
+use Rattle.dcp_collect.specs.declared.taken.Taken.{Taken}
+use Rattle.dcp_collect.specs.declared.taken.Taken.TheVariants.{Kept, Repeated, Late}
+use Rattle.dcp_collect.specs.Reading.{Read, IsRead}
+use Rattle.dcp_collect.specs.State.{State}
+use Rattle.dcp_collect.specs.Runs.{Item, Packet, Gives, Steps, Run}
+use Rattle.collect_laws.specs.Delivery.{Carriage, shape_under, losses, AreSent, AreDelivered, packet_at, got, item, items, IsWithinSpan, IsBase}
+
+-- a datagram is read as one thing
+abbrev pub OneReading : Type 0
+OneReading = (bytes : List ℕ) (first second : Read) → IsRead first bytes → IsRead second bytes → second ≡ first
+
+-- the datagram was neither refused nor inconsistent
+abbrev pub IsRight : Taken → Type 0
+IsRight Kept = Unit {0}
+IsRight Repeated = Unit {0}
+IsRight Late = Unit {0}
+IsRight other = ⊥
+
+-- a delivery of sent packets, within the span
+pub record IsHeard (carriage : Carriage) (sequence0 : ℕ) (packets : List (List ℕ)) (first : Option ℕ) (base : ℤ) (pairs : List (ℕ × ℕ)) (datagrams : List (List ℕ)) : Type 0 where
+  pub sent : AreSent carriage sequence0 packets
+  pub delivered : AreDelivered carriage sequence0 packets pairs datagrams
+  pub based : IsBase sequence0 first pairs base
+  pub within_span : IsWithinSpan base None pairs
+
+-- Every run over a delivery gives its items, each once and in order, and finds no datagram refused or inconsistent.
+abbrev pub Collecting : Type 0
+Collecting =
+    (carriage : Carriage) (sequence0 window : ℕ) (packets : List (List ℕ)) (first told : Option ℕ) (base : ℤ)
+    (pairs : List (ℕ × ℕ)) (datagrams : List (List ℕ)) (answers : List Taken) (given : List Item)
+    → 1 ≤ window → IsHeard carriage sequence0 packets first base pairs datagrams
+    → Run window first told datagrams answers given
+    → (given ≡ items carriage packets window base told pairs) × AllByRecursion IsRight answers
+
+-- The item of a packet that lost no more datagrams than it was cut for, and whose others came within the window, is the
+-- packet.
+abbrev pub InTime : Type 0
+InTime =
+    (carriage : Carriage) (sequence0 window : ℕ) (packets : List (List ℕ)) (base : ℤ) (pairs : List (ℕ × ℕ)) (q : ℕ) (packet : List ℕ)
+    → AreSent carriage sequence0 packets → packet_at packets (base +ℤ pos q) ≡ Some packet
+    → let count = (shape_under carriage (length packet)).count in
+    count ≤ size count (got window base pairs q) + losses carriage
+    → item carriage packets window base pairs q ≡ Packet q packet
+
+-- a collector answers and gives in one way
+abbrev pub OneRun : Type 0
+OneRun =
+    (c after after' : State) (datagrams : List (List ℕ)) (answers answers' : List Taken) (given given' : List Item)
+    → Steps c datagrams answers given after → Steps c datagrams answers' given' after'
+    → (answers' ≡ answers) × (given' ≡ given) × (after' ≡ after)
+
+abbrev pub OneGiving : Type 0
+OneGiving =
+    (c after after' : State) (given given' : List Item)
+    → Gives c given after → Gives c given' after' → (given' ≡ given) × (after' ≡ after)
+
+-- steps one after another are steps
+abbrev pub StepsJoin : Type 0
+StepsJoin =
+    (c mid after : State) (before later : List (List ℕ)) (answers answers' : List Taken) (given given' : List Item)
+    → Steps c before answers given mid → Steps mid later answers' given' after
+    → Steps c (before ++ later) (answers ++ answers') (given ++ given') after
+
+-- and steps over datagrams are steps over the first of them, and then over the others
+abbrev pub StepsPart : Type 0
+StepsPart =
+    (c after : State) (before later : List (List ℕ)) (answers : List Taken) (given : List Item)
+    → Steps c (before ++ later) answers given after
+    → (mid : State) × (first : List Taken) × (last : List Taken) × (now : List Item) × (then_given : List Item)
+    × Steps c before first now mid × Steps mid later last then_given after
+    × (answers ≡ first ++ last) × (given ≡ now ++ then_given)
+
+-- each item that is given has the next number
+abbrev pub StepsCount : Type 0
+StepsCount =
+    (c after : State) (datagrams : List (List ℕ)) (answers : List Taken) (given : List Item)
+    → Steps c datagrams answers given after → after.next ≡ c.next + length given
+
+-- whatever bytes a collector keeps, giving what is ready comes to an end
+abbrev pub GivingEnds : Type 0
+GivingEnds =
+    (c : State) → 1 ≤ c.window → AllByRecursion (λ f. IsBytes f.payload) c.kept
+    → (given : List Item) × (after : State) × Gives c given after

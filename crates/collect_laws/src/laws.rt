@@ -1,0 +1,48 @@
+//! The laws of collecting, each on a function that does nothing.
+
+ghost use Rattle.collect_laws.specs.Laws.{OneReading, Collecting, InTime, OneRun, OneGiving, StepsJoin, StepsPart, StepsCount, GivingEnds};
+
+/// A datagram is read as one thing.
+pub fn one_reading()
+    ensures { OneReading }
+{}
+
+/// Every run gives the items of its delivery, each once and in order.
+pub fn collecting()
+    ensures { Collecting }
+{}
+
+/// What came in time is given.
+pub fn in_time()
+    ensures { InTime }
+{}
+
+/// A collector answers datagrams, and gives items, in one way.
+pub fn one_run()
+    ensures { OneRun }
+{}
+
+/// A collector gives what is ready in one way.
+pub fn one_giving()
+    ensures { OneGiving }
+{}
+
+/// Steps one after another are steps.
+pub fn steps_join()
+    ensures { StepsJoin }
+{}
+
+/// Steps over datagrams are steps over the first of them, and then over the others.
+pub fn steps_part()
+    ensures { StepsPart }
+{}
+
+/// Each item that is given has the next number.
+pub fn steps_count()
+    ensures { StepsCount }
+{}
+
+/// Giving what is ready comes to an end.
+pub fn giving_ends()
+    ensures { GivingEnds }
+{}
