@@ -13,7 +13,7 @@ use Rattle.drm_links.specs.Dock.{DockContents, Opens, address_key}
 use Rattle.drm_links.specs.declared.dock.Address.{Address}
 use Rattle.drm_links.specs.declared.dock.Opened.TheVariants as opened
 use Rattle.drm_links.proofs.ToldLemmas.{Opens-started}
-use Rattle.drm_words.specs.Addresses.{AreDifferent}
+use Rattle.word_forms.specs.Addresses.{AreDifferent}
 use Rattle.drm_top.specs.Receive.{Docked}
 use Rattle.drm_top.specs.Opening.{HasLink, HaveLinks, FailsOpening}
 use Rattle.mod_receiver.specs.declared.job.Job.{Job}

@@ -1,7 +1,7 @@
 -- The numbers of a command that was read are in their ranges.
 use Rattle.std.proofs.Common.{◌≡◌, ◌≤◌, ℕ, List, [], ◌∷◌, Option, None, Some, IfSome, IfOk, IsUtf8, Result, Ok, Err, sym, subst, arith}
 use Rattle.drm_links.specs.declared.dock.Address.{Address}
-use Rattle.drm_words.specs.declared.fault.WordsFault.{WordsFault}
+use Rattle.word_forms.specs.declared.fault.WordsFault.{WordsFault}
 use Rattle.drm_words.specs.declared.request.Request.{Request}
 use Rattle.drm_words.specs.Table.{IsNumberOr, IsNumberOrNone, AreAddressesOrNone, HasTextNames}
 use Rattle.drm_words.specs.Line.{IsLine}

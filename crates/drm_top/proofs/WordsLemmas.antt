@@ -1,7 +1,7 @@
 -- The command of a request.
 use Rattle.std.proofs.Common.{◌≡◌, ◌⊎◌, inl, inr, ℕ, List, None, Some, Result, Ok, Err, refl, sym, ◌∙◌, ap, subst}
-use Rattle.drm_words.specs.declared.fault.WordsFault.{WordsFault}
-use Rattle.drm_words.specs.declared.fault.WordsFault.TheVariants as faults
+use Rattle.word_forms.specs.declared.fault.WordsFault.{WordsFault}
+use Rattle.word_forms.specs.declared.fault.WordsFault.TheVariants as faults
 use Rattle.drm_words.specs.declared.request.Request.{Request}
 use Rattle.drm_words.specs.declared.request.Request.TheVariants as requests
 use Rattle.drm_words.specs.Line.{IsLine}

@@ -1,7 +1,7 @@
 -- What is known of the addresses that a command line names.
 use Rattle.std.specs.Prelude.{◌≤◌, List, length}
 use Rattle.drm_links.specs.declared.dock.Address.{Address}
-use Rattle.drm_words.specs.Addresses.{AreDifferent}
+use Rattle.word_forms.specs.Addresses.{AreDifferent}
 
 -- one to sixteen addresses, all different
 pub record AreListed (addresses : List Address) : Type 0 where

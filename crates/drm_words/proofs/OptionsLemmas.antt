@@ -6,13 +6,13 @@ use Rattle.std.proofs.lemmas.Option.{same_Some}
 use Rattle.std.proofs.lemmas.Slice.Eq.{bytes_eq-Decides}
 use Rattle.drm_links.specs.declared.dock.Address.{Address}
 use Rattle.drm_words.specs.declared.request.Request.{Request}
-use Rattle.drm_words.specs.Reading.{within}
-use Rattle.drm_words.specs.Addressing.{address_of, addresses_of}
+use Rattle.word_forms.specs.Reading.{within}
+use Rattle.word_forms.specs.Addressing.{address_of, addresses_of}
 use Rattle.drm_words.specs.Table.{Options, told, IsOneOf, AreOf, IsNumberOr, IsNumberOrNone, IsAddressOrNone, AreAddressesOrNone}
 use Rattle.drm_words.specs.Asking.{is_one_of, are_of, number_or, number_or_none, address_or_none, addresses_or_none, with_options, window_of, first_of, frames_of, idle_of, limit_of, pace_of, to_of}
-use Rattle.drm_words.proofs.OptionLemmas.{mapped}
-use Rattle.drm_words.proofs.NumberLemmas.{within_fits, within_is}
-use Rattle.drm_words.proofs.AddressLemmas.{address_fits, address_is, addresses_fit, addresses_are}
+use Rattle.word_forms.proofs.OptionLemmas.{mapped}
+use Rattle.word_forms.proofs.NumberLemmas.{within_fits, within_is}
+use Rattle.word_forms.proofs.AddressLemmas.{address_fits, address_is, addresses_fit, addresses_are}
 
 pub number_or_fits : (default least greatest : ℕ) (value : Option (List ℕ)) (n : ℕ) → number_or default least greatest value ≡ Some n → IsNumberOr default least greatest value n
 number_or_fits default least greatest None n e = sym (same_Some default n e)

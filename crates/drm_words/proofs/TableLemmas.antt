@@ -10,13 +10,13 @@ use Rattle.drm_links.specs.declared.dock.Address.{Address}
 use Rattle.drm_schedule.specs.declared.carry.Carry.{Carry}
 use Rattle.drm_words.specs.declared.request.Request.{Request}
 use Rattle.drm_words.specs.declared.request.Request.TheVariants.{Fac, Check, Serve, Receive, Air, Show, Convert, Exercise}
-use Rattle.drm_words.specs.Reading.{within}
-use Rattle.drm_words.specs.Addressing.{carry_of}
+use Rattle.word_forms.specs.Reading.{within}
+use Rattle.word_forms.specs.Addressing.{carry_of}
 use Rattle.drm_words.specs.Table.{Options, AreOf, IsRequest}
 use Rattle.drm_words.specs.Asking.{addresses_or_none, window_of, first_of, frames_of, idle_of, limit_of, pace_of, to_of, is_bare, bare_of, check_of, serve_with, serve_of, receive_with, receive_of, air_with, air_of, convert_with, convert_of, exercise_with, exercise_of, request_of}
-use Rattle.drm_words.proofs.OptionLemmas.{stepped}
-use Rattle.drm_words.proofs.NumberLemmas.{within_fits, within_is}
-use Rattle.drm_words.proofs.CarryLemmas.{carry_fits, carry_is}
+use Rattle.word_forms.proofs.OptionLemmas.{stepped}
+use Rattle.word_forms.proofs.NumberLemmas.{within_fits, within_is}
+use Rattle.word_forms.proofs.CarryLemmas.{carry_fits, carry_is}
 use Rattle.drm_words.proofs.OptionsLemmas.{addresses_or_none_fit, addresses_or_none_are, with_fits, with_is, none_of, window_fits, window_is, first_fits, first_is, frames_fit, frames_are, idle_fits, idle_is, limit_fits, limit_is, pace_fits, pace_is, to_fits, to_is}
 
 bare_fits : (asked : Request) (texts : List (List ℕ)) (options : Options) (r : Request) → bare_of asked texts options ≡ Some r → (texts ≡ []) × (options ≡ []) × (asked ≡ r)

@@ -4,8 +4,8 @@ use Rattle.std.specs.Str.{bytes_eq}
 use Rattle.drm_links.specs.declared.dock.Address.{Address}
 use Rattle.drm_words.specs.declared.request.Request.{Request}
 use Rattle.drm_words.specs.declared.request.Request.TheVariants.{Fac, Check, Serve, Receive, Air, Show, Convert, Exercise}
-use Rattle.drm_words.specs.Reading.{within}
-use Rattle.drm_words.specs.Addressing.{◌>>=◌, address_of, addresses_of, carry_of}
+use Rattle.word_forms.specs.Reading.{within}
+use Rattle.word_forms.specs.Addressing.{◌>>=◌, address_of, addresses_of, carry_of}
 use Rattle.drm_words.specs.Table.{Options, told}
 
 abbrev pub is_one_of : List (List ℕ) → List ℕ → Bool

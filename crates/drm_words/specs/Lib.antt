@@ -1,12 +1,4 @@
-pub mod Numbers
-pub mod Addresses
-pub mod Carries
-pub mod Spelling
-pub mod Reading
-pub mod Addressing
 pub mod Table
 pub mod Line
-pub mod Arguing
 pub mod Asking
-pub mod Gives
 pub mod Whole

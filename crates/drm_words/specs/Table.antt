@@ -4,9 +4,9 @@ use Rattle.std.specs.Str.{bytes_eq}
 use Rattle.drm_links.specs.declared.dock.Address.{Address}
 use Rattle.drm_words.specs.declared.request.Request.{Request}
 use Rattle.drm_words.specs.declared.request.Request.TheVariants.{Fac, Check, Serve, Receive, Air, Show, Convert, Exercise}
-use Rattle.drm_words.specs.Numbers.{IsWithin}
-use Rattle.drm_words.specs.Addresses.{IsAddress, AreAddresses}
-use Rattle.drm_words.specs.Carries.{IsCarry}
+use Rattle.word_forms.specs.Numbers.{IsWithin}
+use Rattle.word_forms.specs.Addresses.{IsAddress, AreAddresses}
+use Rattle.word_forms.specs.Carries.{IsCarry}
 
 -- the options that stand behind a command: names and values
 abbrev pub Options : Type 0

@@ -1,21 +1,17 @@
 //! The commands: the plain words and options of each.
 
 ghost use Rattle.std.specs.Prelude.{◌≡◌, IfOk, IfErr, IfSome, IsUtf8, map};
-ghost use Rattle.drm_words.specs.Arguing.{option_said};
+ghost use Rattle.word_forms.specs.Arguing.{option_said};
 ghost use Rattle.drm_words.specs.Asking.{is_bare, bare_of, check_of, serve_with, serve_of, addresses_or_none, receive_with, receive_of, air_with, air_of, convert_with, convert_of, exercise_with, exercise_of, request_of};
-ghost use Rattle.drm_words.specs.Gives.{Gives};
+ghost use Rattle.word_forms.specs.Gives.{Gives};
 ghost use Rattle.drm_words.specs.Table.{HasTextNames};
-ghost use Rattle.drm_words.specs.declared.fault.WordsFault.TheVariants as faults;
+ghost use Rattle.word_forms.specs.declared.fault.WordsFault.TheVariants as faults;
 
-use crate::addresses::{Addresses, read_addresses};
-use crate::carry::carry;
-use crate::fault::WordsFault;
-use crate::numbers::within;
 use crate::options::{are_of, first, frames, idle, limit, pace, to, window};
 use crate::request::Request;
-use crate::word::Named;
 use drm_bits::Octets;
 use std::alloc::Global;
+use word_forms::{Addresses, Named, WordsFault, carry, read_addresses, within};
 
 fn octets(alloc: Global, text: &str) -> Result<Octets, WordsFault>
     ensures ok { IfOk result (λ octets. octets ≡ text.now) }

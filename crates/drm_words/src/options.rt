@@ -1,14 +1,12 @@
 //! Options and what they tell: each with its range, and its default where it has one.
 
 ghost use Rattle.std.specs.Prelude.{◌≡◌, ◌≤◌, IfSome, map, option_map, codes};
-ghost use Rattle.drm_words.specs.Arguing.{option_said};
+ghost use Rattle.word_forms.specs.Arguing.{option_said};
 ghost use Rattle.drm_words.specs.Table.{told};
 ghost use Rattle.drm_words.specs.Asking.{is_one_of, are_of, number_or, number_or_none, window_of, first_of, frames_of, idle_of, limit_of, pace_of, to_of};
 
-use crate::addresses::address;
-use crate::numbers::within;
-use crate::word::Named;
 use drm_links::Address;
+use word_forms::{Named, address, within};
 
 // The value of an option, where it is told.
 fn told<'a>(options: &[Named<'a>], name: &str) -> Option<&'a str>

@@ -1,5 +1,5 @@
 use Rattle.std.proofs.Common.{◌≡◌, inl, inr, ap, Err, map, string_bytes}
-use Rattle.drm_words.specs.declared.fault.WordsFault.TheVariants as faults
+use Rattle.word_forms.specs.declared.fault.WordsFault.TheVariants as faults
 use Rattle.drm_top.specs.Words.{request_of}
 use Rattle.drm_top.proofs.WordsLemmas.{command_only, command_refused, unread}
 use Rattle.drm_top.proofs.RangeLemmas.{in_range}
