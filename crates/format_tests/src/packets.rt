@@ -1,6 +1,6 @@
 //! AF packets, read and written.
 
-use dcp_af::{AfFault, read_af, write_af};
+use dcp_af::{Af, AfFault, read_af, write_af};
 
 // The packet with sequence number 0 and no payload. Its check value is that of a long division in Python.
 const EMPTY: [u8; 12] = [0x41, 0x46, 0, 0, 0, 0, 0, 0, 0x90, 0x54, 0x04, 0x52];
@@ -24,13 +24,13 @@ fn reads_packets(rt: HostRuntime) {
         (b"AF\0\0\0\x01\0\x03\x1aTy\xbe\xef", 3, false, 10, b"y"),
     ];
     for (packet, seq, checked, minor, payload) in cases {
-        let read = read_af(packet);
-        assert!(rt; read.is_ok(), "{packet:?}");
-        let Ok(af) = read else { return };
-        assert_eq!(rt; af.seq, seq, "{packet:?}");
-        assert_eq!(rt; af.checked, checked, "{packet:?}");
-        assert_eq!(rt; af.minor, minor, "{packet:?}");
-        assert_eq!(rt; af.payload, payload, "{packet:?}");
+        let af = Af {
+            seq,
+            checked,
+            minor,
+            payload,
+        };
+        assert_eq!(rt; read_af(packet), Ok(af), "{packet:?}");
     }
 }
 
