@@ -5,10 +5,10 @@ use Rattle.std.proofs.lemmas.Str.{IsUtf8-from_is_utf8, is_utf8-from_IsUtf8}
 use Rattle.text_lines.specs.Lines.{lines_of, bad_line_of}
 use Rattle.drm_schedule.specs.declared.invalid.Reason.TheVariants as reasons
 use Rattle.drm_schedule.specs.declared.plan.Plan.{Plan}
-use Rattle.drm_plan.specs.declared.fault.PlanFault.{PlanFault}
-use Rattle.drm_plan.specs.declared.fault.PlanFault.TheVariants as plan
-use Rattle.drm_plan.specs.Rules.{Fault}
-use Rattle.drm_plan.specs.Steps.{Reads}
+use Rattle.plan_said.specs.declared.fault.PlanFault.{PlanFault}
+use Rattle.plan_said.specs.declared.fault.PlanFault.TheVariants as plan
+use Rattle.plan_said.specs.Rules.{Fault}
+use Rattle.plan_said.specs.Steps.{Reads}
 use Rattle.drm_plan.specs.Projection.{Drafted}
 use Rattle.drm_plan.specs.Text.{lines_give}
 use Rattle.plan_writing.specs.Canonical.{canonical}

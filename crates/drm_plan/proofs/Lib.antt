@@ -1,9 +1,6 @@
-pub mod StepLemmas
-pub mod LoopLemmas
-pub mod EndLemmas
 pub mod ListLemmas
+pub mod TextLemmas
 pub mod PlanLemmas
-pub mod KeptLemmas
 pub mod LookupLemmas
 pub mod FileLemmas
 pub mod CountLemmas

@@ -14,13 +14,14 @@ use Rattle.line_forms.specs.declared.first_word.Keyword.{Keyword}
 use Rattle.line_forms.specs.declared.first_word.Keyword.TheVariants as keywords
 use Rattle.line_forms.specs.Said.{keyword_of_body, keyword_said, LineInLines}
 use Rattle.line_forms.specs.Same.{same}
-use Rattle.drm_plan.specs.declared.said.Said.{Said}
-use Rattle.drm_plan.specs.declared.said.Block.{Block}
-use Rattle.drm_plan.specs.declared.said.Read.{Read}
-use Rattle.drm_plan.specs.Said.{count}
-use Rattle.drm_plan.specs.Rules.{is_entity, count_entities, is_incomplete}
+use Rattle.plan_said.specs.declared.said.Said.{Said}
+use Rattle.plan_said.specs.declared.said.Block.{Block}
+use Rattle.plan_said.specs.declared.said.Read.{Read}
+use Rattle.plan_said.specs.Said.{count}
+use Rattle.plan_said.specs.Rules.{is_entity, count_entities, is_incomplete}
 use Rattle.drm_plan.specs.Projection.{first_said, occupancy_in, msc_in, prot_a_in, prot_b_in, room_in, clock_in, carry_in, seq_in, dlfc_in, length_in, service_said, stream_said, entity_said, services_in, streams_in, entities_in, config_of, blocks_of, plan_of}
-use Rattle.drm_plan.specs.InLines.{AllInLines, BlockInLines, EndedInLines, ReadInLines}
+use Rattle.plan_said.proofs.KeywordLemmas.{one, entity_is_no_stream, entity_is_one}
+use Rattle.plan_said.specs.InLines.{AllInLines, BlockInLines, EndedInLines, ReadInLines}
 
 -- what the first line of a keyword says is one that a text can have
 first_fits : (k : Keyword) (said : List Said) → AllInLines said → IfSome (first_said k said) (λ s. LineInLines s.says)
@@ -133,11 +134,6 @@ entity_listed : (l : Line) → LineInLines l → IfSome (entity_said l) EntityIn
 entity_listed (lines.Entity entity) fits = fits
 entity_listed _ fits = tt
 
--- how many there are of what lines list
-abbrev pub one : Bool → ℕ
-one true = 1
-one false = 0
-
 counted : {X : Type 0} (h : Line → Option X) (test : Line → Bool) → ((l : Line) → length (option_to_list (h l)) ≡ one (test l)) → (said : List Said) → length (filter_map (λ s. h s.says) said) ≡ length (filter (λ s. test s.says) said)
 counted {X = X} h test each [] = refl
 counted {X = X} h test each (s ∷ said) = by (h s.says) (test s.says) (each s.says) (counted h test each said)
@@ -152,14 +148,6 @@ counted {X = X} h test each (s ∷ said) = by (h s.says) (test s.says) (each s.s
 entity_is_no_service : (b : Body) → same (keyword_of_body b) keywords.Service ≡ false
 entity_is_no_service (bodies.Mux desc) = refl
 entity_is_no_service _ = refl
-
-pub entity_is_no_stream : (b : Body) → same (keyword_of_body b) keywords.Stream ≡ false
-entity_is_no_stream (bodies.Mux desc) = refl
-entity_is_no_stream _ = refl
-
-pub entity_is_one : (b : Body) → is_entity (keyword_of_body b) ≡ true
-entity_is_one (bodies.Mux desc) = refl
-entity_is_one _ = refl
 
 service_one : (l : Line) → length (option_to_list (service_said l)) ≡ one (same (keyword_said l) keywords.Service)
 service_one (lines.Service service) = refl

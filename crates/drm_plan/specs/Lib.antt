@@ -1,12 +1,8 @@
-pub mod Said
-pub mod Rules
-pub mod Steps
 pub mod Projection
 pub mod Settings
 pub mod Parts
 pub mod Files
 pub mod Lookup
 pub mod Draft
-pub mod InLines
 pub mod Lists
 pub mod Text

@@ -3,8 +3,8 @@ use Rattle.std.specs.Prelude.{ℕ, ◌≡◌, List, [], ◌∷◌, ◌++◌}
 use Rattle.drm_schedule.specs.declared.config.Config.{Config}
 use Rattle.line_forms.specs.declared.line.Line.{Line}
 use Rattle.line_forms.specs.declared.line.Line.TheVariants as lines
-use Rattle.drm_plan.specs.declared.said.Said.{Said}
-use Rattle.drm_plan.specs.declared.said.Block.{Block}
+use Rattle.plan_said.specs.declared.said.Said.{Said}
+use Rattle.plan_said.specs.declared.said.Block.{Block}
 use Rattle.drm_plan.specs.declared.places.Places.{Places}
 use Rattle.drm_plan.specs.declared.configs.Parts.{Parts}
 use Rattle.drm_plan.specs.Projection.{services_in, streams_in, stream_lines_in, entities_in, config_of, places_of}

@@ -18,9 +18,9 @@ use Rattle.line_forms.specs.declared.first_word.Keyword.{Keyword}
 use Rattle.line_forms.specs.declared.first_word.Keyword.TheVariants as keywords
 use Rattle.line_forms.specs.Same.{same}
 use Rattle.line_forms.specs.Said.{keyword_said}
-use Rattle.drm_plan.specs.declared.said.Said.{Said}
-use Rattle.drm_plan.specs.declared.said.Block.{Block}
-use Rattle.drm_plan.specs.declared.said.Read.{Read}
+use Rattle.plan_said.specs.declared.said.Said.{Said}
+use Rattle.plan_said.specs.declared.said.Block.{Block}
+use Rattle.plan_said.specs.declared.said.Read.{Read}
 use Rattle.drm_plan.specs.declared.places.Places.{Places}
 use Rattle.drm_plan.specs.declared.files.Filed.{Filed}
 use Rattle.drm_plan.specs.Files.{config_files}

@@ -1,7 +1,7 @@
 -- A line that was found, as its value.
 use Rattle.std.specs.Prelude.{Option, Some, None}
 use Rattle.std.specs.Borrow.{Bor}
-use Rattle.drm_plan.specs.declared.said.Said.{Said}
+use Rattle.plan_said.specs.declared.said.Said.{Said}
 
 abbrev pub said_by : Option (Bor Said) → Option Said
 said_by None = None

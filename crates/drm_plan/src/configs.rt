@@ -5,11 +5,11 @@ ghost use Rattle.drm_plan.specs.Projection.{config_of, places_of};
 ghost use Rattle.drm_plan.specs.Parts.{parts_of, more, no_parts, Made};
 
 use crate::places::Places;
-use crate::said::{Block, Said};
 use crate::settings;
 use drm_bits::NoMemory;
 use drm_schedule::{Config, Entities, Items, Services, Streams};
 use plan_lines::{Keyword, Line};
+use plan_said::{Block, Said};
 use std::alloc::Global;
 
 /// What the lines of a configuration list: its services, streams and entities.

@@ -5,10 +5,10 @@ ghost use Rattle.drm_schedule.specs.Ranges.{InLines};
 ghost use Rattle.drm_plan.specs.Draft.{name_at, line_at, attached, valid_of};
 ghost use Rattle.drm_plan.specs.Lookup.{at};
 
-use crate::fault::{PlanFault, at};
 use crate::files::{Filed, put_bytes};
 use crate::places::{Places, place_line};
 use drm_schedule::{Items, Octets, Place, Plan, Schedule};
+use plan_said::{PlanFault, at};
 use std::marker::Model;
 
 /// What the lines of a text give, while the files that it names come.

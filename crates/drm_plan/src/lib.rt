@@ -2,17 +2,12 @@
 #![tactic(auto)]
 
 mod configs;
-mod counts;
 mod draft;
-mod fault;
 mod files;
-mod keywords;
 mod lists;
 mod places;
 mod projection;
 mod reading;
-mod rules;
-mod said;
 mod settings;
 
 pub use draft::Draft;
@@ -20,6 +15,6 @@ pub use drm_schedule::{
     Carry, Clock, Config, Configs, Content, Invalid, Items, Mode, Place, Plan, Reason, Schedule,
     Services, Stream, Streams,
 };
-pub use fault::PlanFault;
+pub use plan_said::PlanFault;
 pub use plan_writing::write_plan;
 pub use reading::read_plan;

@@ -6,9 +6,9 @@ ghost use Rattle.drm_plan.specs.Lists.{no_lists, with_block, lists_of};
 use crate::configs::make_config;
 use crate::files::{Filed, put_files};
 use crate::places::Places;
-use crate::said::Block;
 use drm_bits::NoMemory;
 use drm_schedule::{Configs, Items};
+use plan_said::Block;
 use std::alloc::Global;
 
 /// Configurations, the lines of each that a fault can name, and their files.

@@ -2,15 +2,15 @@
 
 ghost use Rattle.std.specs.Prelude.{◌≡◌, ◌++◌, IfOk};
 ghost use Rattle.std.specs.Option.{option_to_list};
-ghost use Rattle.drm_plan.specs.InLines.{ReadInLines, EndsComplete};
+ghost use Rattle.plan_said.specs.InLines.{ReadInLines, EndsComplete};
 ghost use Rattle.drm_plan.specs.Projection.{drafted};
 
 use crate::draft::Draft;
 use crate::lists::make_lists;
-use crate::said::{Block, Read};
 use crate::settings;
 use drm_bits::NoMemory;
 use drm_schedule::{Items, Plan};
+use plan_said::{Block, Read};
 use std::alloc::Global;
 
 fn all_blocks(closed: Items<Block>, current: Option<Block>) -> Result<Items<Block>, NoMemory>

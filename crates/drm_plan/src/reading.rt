@@ -2,14 +2,13 @@
 
 ghost use Rattle.std.specs.Prelude.{◌≡◌, ◌<◌, ◌≤◌, length, IsUtf8, Err};
 ghost use Rattle.text_lines.specs.Lines.{lines_of, bad_line_of};
-ghost use Rattle.drm_plan.specs.Steps.{Reads};
+ghost use Rattle.plan_said.specs.Steps.{Reads};
 ghost use Rattle.drm_plan.specs.Text.{lines_give};
 
 use crate::draft::Draft;
-use crate::fault::{PlanFault, at};
 use crate::projection::make_draft;
-use crate::rules::read_lines;
 use drm_schedule::Reason;
+use plan_said::{PlanFault, at, read_lines};
 use std::alloc::Global;
 use text_lines::{bad_line, lines};
 

@@ -5,9 +5,9 @@ ghost use Rattle.drm_plan.specs.Projection.{first_said, line_of, mode_in, occupa
 ghost use Rattle.line_forms.specs.declared.first_word.Keyword.TheVariants as keywords;
 ghost use Rattle.drm_plan.specs.Settings.{said_by};
 
-use crate::said::Said;
 use drm_schedule::{Carry, Clock, Mode};
 use plan_lines::{Keyword, Line};
+use plan_said::Said;
 
 /// The first line of this keyword.
 fn find(keyword: Keyword, lines: &[Said]) -> Option<&Said>

@@ -12,13 +12,13 @@ use Rattle.line_forms.specs.Lines.{shape_of}
 use Rattle.line_forms.specs.Same.{same}
 use Rattle.line_forms.specs.Said.{keyword_said, words_said, canonical}
 use Rattle.line_forms.specs.Shape.{reading}
-use Rattle.drm_plan.specs.declared.said.Said.{Said}
-use Rattle.drm_plan.specs.declared.said.Block.{Block}
-use Rattle.drm_plan.specs.declared.said.Read.{Read}
-use Rattle.drm_plan.specs.Said.{add}
-use Rattle.drm_plan.specs.Rules.{ends_incomplete, is_front, is_second, is_too_many, said_line, said_from}
-use Rattle.drm_plan.specs.Steps.{check_of}
-use Rattle.drm_plan.proofs.StepLemmas.{goes_on}
+use Rattle.plan_said.specs.declared.said.Said.{Said}
+use Rattle.plan_said.specs.declared.said.Block.{Block}
+use Rattle.plan_said.specs.declared.said.Read.{Read}
+use Rattle.plan_said.specs.Said.{add}
+use Rattle.plan_said.specs.Rules.{ends_incomplete, is_front, is_second, is_too_many, said_line, said_from}
+use Rattle.plan_said.specs.Steps.{check_of}
+use Rattle.plan_said.proofs.StepLemmas.{goes_on}
 
 -- A canonical line is cut into its words, and reads as what it says.
 pub record LineAgain (l : Line) : Type 0 where

@@ -17,12 +17,12 @@ use Rattle.line_forms.specs.declared.line.Line.{Line}
 use Rattle.line_forms.specs.declared.line.Line.TheVariants as lines
 use Rattle.line_forms.specs.Same.{same}
 use Rattle.line_forms.specs.Said.{keyword_said, keyword_of_body}
-use Rattle.drm_plan.specs.declared.said.Said.{Said}
-use Rattle.drm_plan.specs.Said.{count}
-use Rattle.drm_plan.specs.Rules.{is_entity, count_entities, is_second, is_too_many}
+use Rattle.plan_said.specs.declared.said.Said.{Said}
+use Rattle.plan_said.specs.Said.{count}
+use Rattle.plan_said.specs.Rules.{is_entity, count_entities, is_second, is_too_many}
 use Rattle.plan_writing.specs.Canonical.{service_lines, stream_lines, clock_lines, entity_lines}
 use Rattle.plan_laws.proofs.AgainLemmas.{numbered, is_inner, InnerFine}
-use Rattle.drm_plan.proofs.PlanLemmas.{one, entity_is_one}
+use Rattle.plan_said.proofs.KeywordLemmas.{one, entity_is_one}
 
 append_nil : {X : Type 0} (xs : List X) → xs ++ [] ≡ xs
 append_nil [] = refl

@@ -21,17 +21,17 @@ use Rattle.line_forms.specs.declared.line.Line.TheVariants as lines
 use Rattle.line_forms.specs.Said.{canonical as line_of, line_text, detached, LineInLines}
 use Rattle.plan_laws.proofs.LineAgain.{line_again}
 use Rattle.plan_laws.proofs.SaidAgain.{said_again}
-use Rattle.drm_plan.specs.declared.said.Block.{Block}
-use Rattle.drm_plan.specs.declared.said.Read.{Read}
-use Rattle.drm_plan.specs.Said.{nothing}
-use Rattle.drm_plan.specs.Rules.{Fault, ended, is_incomplete, said_from, said}
+use Rattle.plan_said.specs.declared.said.Block.{Block}
+use Rattle.plan_said.specs.declared.said.Read.{Read}
+use Rattle.plan_said.specs.Said.{nothing}
+use Rattle.plan_said.specs.Rules.{Fault, ended, is_incomplete, said_from, said}
 use Rattle.plan_writing.specs.Canonical.{front_lines, settings_lines, service_lines, stream_lines, clock_lines, entity_lines, config_lines, plan_lines, text_of, canonical}
 use Rattle.plan_laws.specs.Texts.{emptied, without_bytes, config_without_bytes, without_files, IsReadAgain}
 use Rattle.drm_plan.specs.Projection.{Drafted, drafted}
 use Rattle.drm_plan.specs.Text.{lines_give}
 use Rattle.plan_laws.proofs.AgainLemmas.{LineAgain, lines_said}
 use Rattle.plan_laws.proofs.CanonicalLaw.{plan_read}
-use Rattle.drm_plan.proofs.EndLemmas.{text_gives}
+use Rattle.drm_plan.proofs.TextLemmas.{text_gives}
 use Rattle.plan_writing.proofs.TextLemmas.{text_append, no_text}
 use Rattle.plan_laws.proofs.Utf8Lines.{line_utf8}
 

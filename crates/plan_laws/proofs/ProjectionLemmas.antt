@@ -16,10 +16,10 @@ use Rattle.line_forms.specs.declared.line.Line.{Line}
 use Rattle.line_forms.specs.declared.line.Line.TheVariants as lines
 use Rattle.line_forms.specs.Same.{same}
 use Rattle.line_forms.specs.Said.{keyword_said, keyword_of_body}
-use Rattle.drm_plan.specs.declared.said.Said.{Said}
-use Rattle.drm_plan.specs.declared.said.Block.{Block}
-use Rattle.drm_plan.specs.Said.{count}
-use Rattle.drm_plan.specs.Rules.{is_incomplete}
+use Rattle.plan_said.specs.declared.said.Said.{Said}
+use Rattle.plan_said.specs.declared.said.Block.{Block}
+use Rattle.plan_said.specs.Said.{count}
+use Rattle.plan_said.specs.Rules.{is_incomplete}
 use Rattle.plan_writing.specs.Canonical.{service_lines, stream_lines, clock_lines, entity_lines}
 use Rattle.drm_plan.specs.Projection.{first_said, clock_in, service_said, stream_said, entity_said, services_in, streams_in, entities_in, config_of}
 use Rattle.plan_laws.proofs.AgainLemmas.{numbered}

@@ -3,10 +3,10 @@ use Rattle.std.specs.Borrow.{Bor}
 use Rattle.std.proofs.lemmas.List.{length-map}
 use Rattle.std.proofs.lemmas.Result.{err_from_is_err_and}
 use Rattle.text_lines.specs.Lines.{lines_of}
-use Rattle.drm_plan.proofs.EndLemmas.{text_fails, text_gives}
+use Rattle.drm_plan.proofs.TextLemmas.{text_fails, text_gives}
 use Rattle.std.specs.Prelude.{All}
 use Rattle.plan_lines.proofs.CleanLemmas.{lines_are_single}
-use Rattle.drm_plan.specs.InLines.{IsSingle}
+use Rattle.plan_said.specs.InLines.{IsSingle}
 use Rattle.drm_plan.proofs.CountLemmas.{few_lines, all_unmapped}
 use Rattle.drm_plan.proofs.reading.read_text.Goals as goal
 

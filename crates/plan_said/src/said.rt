@@ -1,7 +1,7 @@
 //! What the lines of a text say, in their order.
 
 ghost use Rattle.std.specs.Prelude.{◌≡◌, OnOk};
-ghost use Rattle.drm_plan.specs.Said.{add};
+ghost use Rattle.plan_said.specs.Said.{add};
 
 use drm_bits::NoMemory;
 use drm_schedule::Items;
@@ -34,7 +34,7 @@ pub struct Read {
 }
 
 impl Read {
-    ghost use Rattle.drm_plan.specs.Said.{nothing, put};
+    ghost use Rattle.plan_said.specs.Said.{nothing, put};
 
     pub fn new(alloc: Global) -> Read
         ensures { result ≡ nothing }

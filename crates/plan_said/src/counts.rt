@@ -1,8 +1,8 @@
 //! What the lines of a configuration have, and lack.
 
 ghost use Rattle.std.specs.Prelude.{◌≡◌, ◌==◌, length};
-ghost use Rattle.drm_plan.specs.Said.{count};
-ghost use Rattle.drm_plan.specs.Rules.{count_entities, is_incomplete, is_second, is_too_many};
+ghost use Rattle.plan_said.specs.Said.{count};
+ghost use Rattle.plan_said.specs.Rules.{count_entities, is_incomplete, is_second, is_too_many};
 
 use crate::keywords::{is_entity, is_single};
 use crate::said::Said;

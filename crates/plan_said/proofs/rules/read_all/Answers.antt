@@ -1,7 +1,7 @@
 use Rattle.std.proofs.Common.{◌+◌}
 use Rattle.std.proofs.lemmas.Result.{err_from_is_err_and}
-use Rattle.drm_plan.proofs.LoopLemmas.{goes, stops, ends}
-use Rattle.drm_plan.proofs.rules.read_all.Goals as goal
+use Rattle.plan_said.proofs.LoopLemmas.{goes, stops, ends}
+use Rattle.plan_said.proofs.rules.read_all.Goals as goal
 
 pub returns-in_err-take-clause-said : goal.returns-in_err-take-clause-said
 returns-in_err-take-clause-said c =

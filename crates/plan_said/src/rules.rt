@@ -5,11 +5,11 @@ ghost use Rattle.text_lines.specs.Lines.{words_of};
 ghost use Rattle.line_forms.specs.Shape.{Shape, reading};
 ghost use Rattle.line_forms.specs.Gives.{Gives};
 ghost use Rattle.line_forms.specs.Said.{LineInLines, keyword_said};
-ghost use Rattle.drm_plan.specs.InLines.{IsSingle, ReadInLines, EndsComplete};
+ghost use Rattle.plan_said.specs.InLines.{IsSingle, ReadInLines, EndsComplete};
 ghost use Rattle.line_forms.specs.Lines.{shape_of};
-ghost use Rattle.drm_plan.specs.Said.{nothing};
-ghost use Rattle.drm_plan.specs.Rules.{is_misplaced, in_current, is_second, is_too_many, is_17th, ends_incomplete, current_line, said_shape, said_words, said_line, said_from, said};
-ghost use Rattle.drm_plan.specs.Steps.{Steps, Reads, check_of, refused_of, end_check};
+ghost use Rattle.plan_said.specs.Said.{nothing};
+ghost use Rattle.plan_said.specs.Rules.{is_misplaced, in_current, is_second, is_too_many, is_17th, ends_incomplete, current_line, said_shape, said_words, said_line, said_from, said};
+ghost use Rattle.plan_said.specs.Steps.{Steps, Reads, check_of, refused_of, end_check};
 
 use crate::counts;
 use crate::fault::{PlanFault, at};

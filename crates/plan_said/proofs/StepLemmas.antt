@@ -14,11 +14,11 @@ use Rattle.line_forms.specs.Lines.{shape_of}
 use Rattle.line_forms.specs.Said.{keyword_said, SaysKeyword, LineInLines}
 use Rattle.plan_lines.proofs.KindLemmas.{line_fits}
 use Rattle.line_forms.specs.Shape.{Shape, reading, first_row, ok_unless as line_unless}
-use Rattle.drm_plan.specs.declared.said.Read.{Read}
-use Rattle.drm_plan.specs.declared.fault.PlanFault.{PlanFault}
-use Rattle.drm_plan.specs.Said.{add}
-use Rattle.drm_plan.specs.Rules.{Fault, fault, first_fault, ok_unless, is_misplaced, is_second, is_too_many, is_17th, in_current, current_line, ends_incomplete, said_shape}
-use Rattle.drm_plan.specs.Steps.{FailsAs, check_rows, check_of, refuse, refused_of}
+use Rattle.plan_said.specs.declared.said.Read.{Read}
+use Rattle.plan_said.specs.declared.fault.PlanFault.{PlanFault}
+use Rattle.plan_said.specs.Said.{add}
+use Rattle.plan_said.specs.Rules.{Fault, fault, first_fault, ok_unless, is_misplaced, is_second, is_too_many, is_17th, in_current, current_line, ends_incomplete, said_shape}
+use Rattle.plan_said.specs.Steps.{FailsAs, check_rows, check_of, refuse, refused_of}
 
 abbrev pub Matches : Result (Unit {0}) PlanFault → Result Read Fault → Read → Type 0
 Matches (Ok done) said read = said ≡ Ok read

@@ -2,17 +2,15 @@
 use Rattle.std.proofs.Common.{◌≡◌, ℕ, List, Bool, true, false, Option, Some, None, Result, Ok, Err, length, subst, sym, refl}
 use Rattle.std.specs.Prelude.{if◌then◌else◌, [], ◌∷◌}
 use Rattle.drm_schedule.specs.declared.invalid.Reason.TheVariants.{Missing}
-use Rattle.drm_plan.specs.declared.fault.PlanFault.{PlanFault}
-use Rattle.drm_plan.specs.declared.fault.PlanFault.TheVariants as plan
-use Rattle.drm_plan.specs.declared.said.Block.{Block}
-use Rattle.drm_plan.specs.declared.said.Read.{Read}
-use Rattle.drm_plan.specs.Said.{nothing}
-use Rattle.drm_plan.specs.Rules.{fault, first_fault, ok_unless, is_incomplete, end_rows, ended, said_from, said}
-use Rattle.drm_plan.specs.Steps.{FailsAs, end_check}
-use Rattle.drm_plan.specs.InLines.{EndsComplete}
-use Rattle.drm_plan.specs.Projection.{drafted}
-use Rattle.drm_plan.specs.Text.{lines_give}
-use Rattle.drm_plan.proofs.StepLemmas.{Matches}
+use Rattle.plan_said.specs.declared.fault.PlanFault.{PlanFault}
+use Rattle.plan_said.specs.declared.fault.PlanFault.TheVariants as plan
+use Rattle.plan_said.specs.declared.said.Block.{Block}
+use Rattle.plan_said.specs.declared.said.Read.{Read}
+use Rattle.plan_said.specs.Said.{nothing}
+use Rattle.plan_said.specs.Rules.{fault, first_fault, ok_unless, is_incomplete, end_rows, ended, said_from, said}
+use Rattle.plan_said.specs.Steps.{FailsAs, end_check}
+use Rattle.plan_said.specs.InLines.{EndsComplete}
+use Rattle.plan_said.proofs.StepLemmas.{Matches}
 
 -- a fault before the end
 pub fails_early : (p : PlanFault) (lines : List (List ℕ)) → FailsAs p (said_from nothing 1 lines) → FailsAs p (said lines)
@@ -61,13 +59,3 @@ complete_by read (Some b) n is found = not_lacking read b is (is_incomplete b.li
 -- a check at the end that finds no fault
 pub end_complete : (read : Read) (n : ℕ) → end_check read.current n ≡ fine → EndsComplete read
 end_complete read n found = complete_by read read.current n refl found
-
--- a fault of the lines
-pub text_fails : (p : PlanFault) (lines : List (List ℕ)) → FailsAs p (said lines) → FailsAs p (lines_give lines)
-unfolding lines_give
-text_fails plan.NoMemory lines e = tt
-text_fails (plan.Line l r) lines e = rw e refl
-
-pub text_gives : (lines : List (List ℕ)) (read : Read) → said lines ≡ Ok read → lines_give lines ≡ Ok (drafted read)
-unfolding lines_give
-text_gives lines read e = rw e refl

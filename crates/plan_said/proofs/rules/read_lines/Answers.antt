@@ -1,8 +1,8 @@
 use Rattle.std.proofs.Common.{map, length, sym, ◌∙◌}
 use Rattle.std.proofs.lemmas.Result.{err_from_is_err_and}
 use Rattle.std.proofs.lemmas.List.{length-map}
-use Rattle.drm_plan.proofs.EndLemmas.{fails_early, end_fails, end_done, end_complete}
-use Rattle.drm_plan.proofs.rules.read_lines.Goals as goal
+use Rattle.plan_said.proofs.EndLemmas.{fails_early, end_fails, end_done, end_complete}
+use Rattle.plan_said.proofs.rules.read_lines.Goals as goal
 
 pub returns-in_err-read-clause-said : goal.returns-in_err-read-clause-said
 returns-in_err-read-clause-said c =

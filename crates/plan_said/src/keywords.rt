@@ -1,7 +1,7 @@
 //! Which keywords may stand where, and how often.
 
 ghost use Rattle.std.specs.Prelude.{◌≡◌};
-ghost use Rattle.drm_plan.specs.Rules.{keyword_at, is_front, is_single, is_entity};
+ghost use Rattle.plan_said.specs.Rules.{keyword_at, is_front, is_single, is_entity};
 
 use plan_lines::Keyword;
 

@@ -1,10 +1,10 @@
 use Rattle.std.proofs.lemmas.Result.{err_from_is_err_and}
 use Rattle.line_forms.specs.Shape.{reading}
-use Rattle.drm_plan.proofs.StepLemmas.{fails, goes_on, refuses, gives_broken}
+use Rattle.plan_said.proofs.StepLemmas.{fails, goes_on, refuses, gives_broken}
 use Rattle.std.proofs.Common.{◌≡◌, sym, ◌∙◌}
 use Rattle.line_forms.specs.Said.{keyword_said, LineInLines}
-use Rattle.drm_plan.proofs.KeptLemmas.{add_fits}
-use Rattle.drm_plan.proofs.said.Read.judge.Goals as goal
+use Rattle.plan_said.proofs.KeptLemmas.{add_fits}
+use Rattle.plan_said.proofs.said.Read.judge.Goals as goal
 
 pub returns-in_err-check-in-Ok-clause-steps : goal.returns-in_err-check-in-Ok-clause-steps
 returns-in_err-check-in-Ok-clause-steps c = λ s gives.

@@ -1,7 +1,7 @@
 //! Why a text gives no schedule.
 
 ghost use Rattle.std.specs.Prelude.{◌≡◌};
-ghost use Rattle.drm_plan.specs.declared.fault.PlanFault.TheVariants as faults;
+ghost use Rattle.plan_said.specs.declared.fault.PlanFault.TheVariants as faults;
 
 use drm_bits::NoMemory;
 use drm_schedule::Reason;

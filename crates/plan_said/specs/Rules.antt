@@ -11,10 +11,10 @@ use Rattle.line_forms.specs.Keywords.{keyword_of}
 use Rattle.line_forms.specs.Lines.{shape_of}
 use Rattle.line_forms.specs.Same.{same}
 use Rattle.line_forms.specs.Said.{keyword_said}
-use Rattle.drm_plan.specs.declared.said.Said.{Said}
-use Rattle.drm_plan.specs.declared.said.Block.{Block}
-use Rattle.drm_plan.specs.declared.said.Read.{Read}
-use Rattle.drm_plan.specs.Said.{nothing, add, count}
+use Rattle.plan_said.specs.declared.said.Said.{Said}
+use Rattle.plan_said.specs.declared.said.Block.{Block}
+use Rattle.plan_said.specs.declared.said.Read.{Read}
+use Rattle.plan_said.specs.Said.{nothing, add, count}
 
 -- a fault of a text: its line, from 1, and what is wrong with it
 pub record Fault : Type 0 where

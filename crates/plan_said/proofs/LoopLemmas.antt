@@ -2,11 +2,11 @@
 use Rattle.std.proofs.Common.{◌≡◌, ℕ, ◌+◌, ◌≤◌, ◌<◌, List, [], ◌∷◌, length, map, drop, get_or, Result, Ok, refl, sym, ap, ◌∙◌, add-one, drop-cons, arith}
 use Rattle.std.specs.Borrow.{Bor}
 use Rattle.std.proofs.lemmas.List.{nil_from_length, length-drop}
-use Rattle.drm_plan.specs.declared.fault.PlanFault.{PlanFault}
-use Rattle.drm_plan.specs.declared.fault.PlanFault.TheVariants as plan
-use Rattle.drm_plan.specs.declared.said.Read.{Read}
-use Rattle.drm_plan.specs.Rules.{Fault, said_line, said_from, ◌>>=◌}
-use Rattle.drm_plan.specs.Steps.{FailsAs}
+use Rattle.plan_said.specs.declared.fault.PlanFault.{PlanFault}
+use Rattle.plan_said.specs.declared.fault.PlanFault.TheVariants as plan
+use Rattle.plan_said.specs.declared.said.Read.{Read}
+use Rattle.plan_said.specs.Rules.{Fault, said_line, said_from, ◌>>=◌}
+use Rattle.plan_said.specs.Steps.{FailsAs}
 
 abbrev texts : List (Bor (List ℕ)) → List (List ℕ)
 texts lines = map (λ w. w.now) lines

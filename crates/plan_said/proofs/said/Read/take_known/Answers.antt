@@ -2,8 +2,8 @@ use Rattle.std.proofs.Common.{◌∙◌, sym, map}
 use Rattle.line_forms.specs.Lines.{shape_of}
 use Rattle.plan_lines.proofs.CleanLemmas.{clean}
 use Rattle.plan_lines.proofs.KeywordLemmas.{says_keyword}
-use Rattle.drm_plan.proofs.StepLemmas.{ends_early, gives_keyword, gives_fits}
-use Rattle.drm_plan.proofs.said.Read.take_known.Goals as goal
+use Rattle.plan_said.proofs.StepLemmas.{ends_early, gives_keyword, gives_fits}
+use Rattle.plan_said.proofs.said.Read.take_known.Goals as goal
 
 pub returns-then-ends_incomplete-clause-steps : goal.returns-then-ends_incomplete-clause-steps
 returns-then-ends_incomplete-clause-steps c =

@@ -2,11 +2,11 @@
 use Rattle.std.specs.Prelude.{ℕ, ◌≡◌, ◌≢◌, ◌≤◌, ◌<◌, ◌^◌, false, List, length, All, IfSome, Some}
 use Rattle.line_forms.specs.declared.first_word.Keyword.TheVariants as keywords
 use Rattle.line_forms.specs.Said.{LineInLines}
-use Rattle.drm_plan.specs.declared.said.Said.{Said}
-use Rattle.drm_plan.specs.declared.said.Block.{Block}
-use Rattle.drm_plan.specs.declared.said.Read.{Read}
-use Rattle.drm_plan.specs.Said.{count}
-use Rattle.drm_plan.specs.Rules.{count_entities, is_incomplete}
+use Rattle.plan_said.specs.declared.said.Said.{Said}
+use Rattle.plan_said.specs.declared.said.Block.{Block}
+use Rattle.plan_said.specs.declared.said.Read.{Read}
+use Rattle.plan_said.specs.Said.{count}
+use Rattle.plan_said.specs.Rules.{count_entities, is_incomplete}
 
 -- a line has no line feed in it
 abbrev pub IsSingle : List ℕ → Type 0

@@ -11,14 +11,14 @@ use Rattle.line_forms.specs.declared.first_word.Keyword.{Keyword}
 use Rattle.line_forms.specs.declared.first_word.Keyword.TheVariants as keywords
 use Rattle.line_forms.specs.Said.{keyword_said, LineInLines}
 use Rattle.line_forms.specs.Same.{same}
-use Rattle.drm_plan.specs.declared.said.Said.{Said}
-use Rattle.drm_plan.specs.declared.said.Block.{Block}
-use Rattle.drm_plan.specs.declared.said.Read.{Read}
-use Rattle.drm_plan.specs.Said.{count, put, put_into, add, begin}
-use Rattle.drm_plan.specs.Rules.{is_entity, count_entities, is_incomplete, is_too_many, in_current, ends_incomplete}
-use Rattle.drm_plan.specs.Steps.{check_rows, check_of}
-use Rattle.drm_plan.specs.InLines.{BlockInLines, EndedInLines, ReadInLines}
-use Rattle.drm_plan.proofs.PlanLemmas.{one, entity_is_one, entity_is_no_stream}
+use Rattle.plan_said.specs.declared.said.Said.{Said}
+use Rattle.plan_said.specs.declared.said.Block.{Block}
+use Rattle.plan_said.specs.declared.said.Read.{Read}
+use Rattle.plan_said.specs.Said.{count, put, put_into, add, begin}
+use Rattle.plan_said.specs.Rules.{is_entity, count_entities, is_incomplete, is_too_many, in_current, ends_incomplete}
+use Rattle.plan_said.specs.Steps.{check_rows, check_of}
+use Rattle.plan_said.specs.InLines.{BlockInLines, EndedInLines, ReadInLines}
+use Rattle.plan_said.proofs.KeywordLemmas.{one, entity_is_one, entity_is_no_stream}
 
 abbrev InSaid : Said → Type 0
 InSaid s = LineInLines s.says

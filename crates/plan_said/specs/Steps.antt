@@ -3,11 +3,11 @@ use Rattle.std.specs.Prelude.{ℕ, ◌≡◌, ◌+◌, ◌||◌, Bool, Option, S
 use Rattle.drm_schedule.specs.declared.invalid.Reason.{Reason}
 use Rattle.drm_schedule.specs.declared.invalid.Reason.TheVariants.{Word, Order, Twice, TooLong, Missing}
 use Rattle.line_forms.specs.declared.first_word.Keyword.{Keyword}
-use Rattle.drm_plan.specs.declared.said.Block.{Block}
-use Rattle.drm_plan.specs.declared.said.Read.{Read}
-use Rattle.drm_plan.specs.declared.fault.PlanFault.{PlanFault}
-use Rattle.drm_plan.specs.declared.fault.PlanFault.TheVariants as plan
-use Rattle.drm_plan.specs.Rules.{Fault, fault, is_misplaced, is_second, is_too_many, is_17th, in_current, is_incomplete}
+use Rattle.plan_said.specs.declared.said.Block.{Block}
+use Rattle.plan_said.specs.declared.said.Read.{Read}
+use Rattle.plan_said.specs.declared.fault.PlanFault.{PlanFault}
+use Rattle.plan_said.specs.declared.fault.PlanFault.TheVariants as plan
+use Rattle.plan_said.specs.Rules.{Fault, fault, is_misplaced, is_second, is_too_many, is_17th, in_current, is_incomplete}
 
 -- a call that fails as the reading does, unless memory ran out
 abbrev pub FailsAs : {X : Type 0} → PlanFault → Result X Fault → Type 0

@@ -1,9 +1,9 @@
 use Rattle.std.proofs.Common.{◌≡◌, ◌+◌, map, drop}
 use Rattle.std.specs.Prelude.{All}
-use Rattle.drm_plan.specs.Said.{nothing}
-use Rattle.drm_plan.specs.Rules.{said_from}
-use Rattle.drm_plan.specs.InLines.{IsSingle, ReadInLines}
-use Rattle.drm_plan.proofs.rules.read_all.Given as goal
+use Rattle.plan_said.specs.Said.{nothing}
+use Rattle.plan_said.specs.Rules.{said_from}
+use Rattle.plan_said.specs.InLines.{IsSingle, ReadInLines}
+use Rattle.plan_said.proofs.rules.read_all.Given as goal
 
 abbrev pub invariant-loop-i : goal.invariant-loop-i
 invariant-loop-i l =

@@ -1,0 +1,21 @@
+-- What a line of an entity counts as.
+use Rattle.std.proofs.Common.{◌≡◌, ℕ, Bool, true, false, refl}
+use Rattle.drm_sdc.specs.declared.body.Body.{Body}
+use Rattle.drm_sdc.specs.declared.body.Body.TheVariants as bodies
+use Rattle.line_forms.specs.declared.first_word.Keyword.TheVariants as keywords
+use Rattle.line_forms.specs.Said.{keyword_of_body}
+use Rattle.line_forms.specs.Same.{same}
+use Rattle.plan_said.specs.Rules.{is_entity}
+
+-- how many there are of what lines list
+abbrev pub one : Bool → ℕ
+one true = 1
+one false = 0
+
+pub entity_is_no_stream : (b : Body) → same (keyword_of_body b) keywords.Stream ≡ false
+entity_is_no_stream (bodies.Mux desc) = refl
+entity_is_no_stream _ = refl
+
+pub entity_is_one : (b : Body) → is_entity (keyword_of_body b) ≡ true
+entity_is_one (bodies.Mux desc) = refl
+entity_is_one _ = refl

@@ -1,0 +1,5 @@
+pub mod StepLemmas
+pub mod LoopLemmas
+pub mod EndLemmas
+pub mod KeywordLemmas
+pub mod KeptLemmas

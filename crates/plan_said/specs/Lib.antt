@@ -1,0 +1,4 @@
+pub mod Said
+pub mod Rules
+pub mod Steps
+pub mod InLines

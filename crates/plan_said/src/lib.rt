@@ -1,0 +1,12 @@
+//! What the lines of a schedule's text say together, and which of them is the first that is wrong.
+#![tactic(auto)]
+
+mod counts;
+mod fault;
+mod keywords;
+mod rules;
+mod said;
+
+pub use fault::{PlanFault, at};
+pub use rules::read_lines;
+pub use said::{Block, Read, Said};
