@@ -18,6 +18,7 @@ use Rattle.line_forms.specs.Shape.{Shape, reading}
 use Rattle.plan_lines.proofs.CleanLemmas.{clean, lines_are_single}
 use Rattle.plan_lines.proofs.KeywordLemmas.{says_keyword}
 use Rattle.plan_lines.proofs.KindLemmas.{line_fits}
+use Rattle.plan_lines.proofs.CleanLemmas.{utf8_cut}
 use Rattle.plan_said.specs.declared.said.Block.{Block}
 use Rattle.plan_said.specs.declared.said.Read.{Read}
 use Rattle.plan_said.specs.Said.{nothing, add}
@@ -31,30 +32,6 @@ use Rattle.plan_said.proofs.KeptLemmas.{add_fits}
 use Rattle.drm_plan.proofs.PlanLemmas.{plan_fits}
 
 -- ---- the lines of a text in UTF-8
-
-take_front : (a b : List ℕ) → take (length a) (a ++ b) ≡ a
-take_front [] b = refl
-take_front (x ∷ a) b = ap (λ l. x ∷ l) (take_front a b)
-
-drop_front : (a : List ℕ) (x : ℕ) (b : List ℕ) → drop (length a + 1) (a ++ x ∷ b) ≡ b
-drop_front [] x b = refl
-drop_front (y ∷ a) x b =
-    let n : length (y ∷ a) + 1 ≡ suc (length a + 1) = omega arith in
-    rw n (drop_front a x b)
-
-at_seam : (a : List ℕ) (x : ℕ) (b : List ℕ) → get_or (a ++ x ∷ b) (length a) 0 ≡ x
-at_seam [] x b = refl
-at_seam (y ∷ a) x b = at_seam a x b
-
-utf8_cut : (c : ℕ) → c < 128 → (a b : List ℕ) → IsUtf8 (a ++ c ∷ b) → IsUtf8 a × IsUtf8 b
-utf8_cut c small a b is =
-    let whole : length (a ++ c ∷ b) ≡ length a + length (c ∷ b) = length-append a (c ∷ b) in
-    let inside : length a < length (a ++ c ∷ b) = omega (arith, whole) in
-    let ascii : get_or (a ++ c ∷ b) (length a) 0 < 128 = rw (at_seam a c b) small in
-    let front = IsUtf8-between (a ++ c ∷ b) 0 (length a) is (omega arith) (IsCharBoundary-start (a ++ c ∷ b) is) (IsCharBoundary-before_ascii (a ++ c ∷ b) (length a) inside ascii) in
-    let back = IsUtf8-drop (a ++ c ∷ b) (length a + 1) is (IsCharBoundary-after_ascii (a ++ c ∷ b) (length a) is inside ascii) in
-    let all : length a - 0 ≡ length a = omega arith in
-    (rw (all, take_front a (c ∷ b)) at front, rw (drop_front a c b) at back)
 
 parts_utf8 : (parts : List (List ℕ)) → IsUtf8 (join_with_byte 10 parts) → All IsUtf8 parts
 parts_utf8 [] is = All-nil IsUtf8
