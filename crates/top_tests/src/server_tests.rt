@@ -1,15 +1,13 @@
 //! A server that is asked for its frames out of turn.
 
-use crate::small::SCHEDULE;
-use drm_plan::read_plan;
 use drm_server::Server;
 use std::test::Fail;
+use trial_schedules::{SMALL, schedule};
 
 #[test]
 fn loads_frames_in_any_order(rt: HostRuntime) -> Result<(), Fail> {
     let alloc = rt.alloc();
-    let draft = read_plan(alloc, SCHEDULE).ok().ok_or("a schedule")?;
-    let schedule = draft.valid().ok().ok_or("a valid schedule")?;
+    let schedule = schedule(alloc, SMALL, &[]).ok().ok_or("a schedule")?;
     let mut server = Server::make(alloc, &schedule)?;
     assert_eq!(rt; server.frames(), 3);
     // The frame, the bytes of its packet, its fragments, and the ends of its first one's header.

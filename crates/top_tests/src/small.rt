@@ -1,4 +1,5 @@
-//! A schedule of one service in one stream of four bytes, and its three packets.
+//! The three packets of the small trial schedule, and what is printed of them. Cut, they have 10, 9 and 9 fragments of 16
+//! bytes behind their headers.
 
 ghost use Rattle.std.specs.Prelude.{OnOk};
 ghost use Rattle.drm_links.specs.MemoryLink.{IsUntouched};
@@ -6,24 +7,6 @@ ghost use Rattle.drm_links.specs.MemoryLink.{IsUntouched};
 use drm_bits::NoMemory;
 use drm_links::MemLink;
 use std::alloc::Global;
-
-/// Its packets have 10, 9 and 9 fragments of 16 bytes behind their headers.
-pub const SCHEDULE: &[u8] = b"drmplan 1
-carry pft 2 1400
-first 0 0
-length 1
-config 0 0
-mode B
-occupancy 3
-depth long
-msc 0
-sdc 0
-protection 0 1
-room 9
-service 123456 0 0 5 audio 3 0
-stream 0 4 fill 55
-audio 0 0 0 1 0 3 0 0 0
-";
 
 // Packed and checked by a program in Python.
 const PACKETS: [&[u8]; 3] = [

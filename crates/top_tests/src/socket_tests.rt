@@ -1,6 +1,6 @@
 //! Schedules over UDP, on the loopback.
 
-use crate::small::{REPORTS, SCHEDULE};
+use crate::small::REPORTS;
 use drm_adapt::{UdpDock, UdpLink};
 use drm_links::{Address, Came, Dock, Link, MemShelf, MemSink, MemSource, Opened};
 use drm_top::run;
@@ -10,6 +10,7 @@ use std::process::Abort;
 use std::test::Fail;
 use std::thread::{Threads, join, sleep};
 use std::time::{Clock, Duration};
+use trial_schedules::SMALL;
 
 // The headers of the first fragments of the three packets, but for their check values.
 const FIRST: [(usize, [u8; 14]); 3] = [
@@ -66,7 +67,7 @@ fn what_is_sent_is_received(rt: HostRuntime) -> Result<(), Fail> {
         words.push(String::from_str(alloc, word)?)?;
     }
     let mut shelf = MemShelf::make(alloc, &[])?;
-    shelf.add(alloc, "schedule.txt", SCHEDULE)?;
+    shelf.add(alloc, "schedule.txt", SMALL.as_bytes())?;
     let mut input = MemSource::make(alloc, &[], &[], 1)?;
     let mut out = MemSink::make(alloc, 0, &[], 1)?;
     let mut err = MemSink::make(alloc, 100, &[], 100)?;
@@ -107,7 +108,7 @@ fn ran<R: Abort + AllocGlobal + Threads + Sync + Net + Clock>(
         };
     }
     let mut shelf = MemShelf::make(alloc, &[]).ok()?;
-    shelf.add(alloc, "schedule.txt", SCHEDULE).ok()?;
+    shelf.add(alloc, "schedule.txt", SMALL.as_bytes()).ok()?;
     let mut input = MemSource::make(alloc, &[], &[], 1).ok()?;
     let mut out = MemSink::make(alloc, 1000, &[], 100).ok()?;
     let mut err = MemSink::make(alloc, 100, &[], 100).ok()?;
