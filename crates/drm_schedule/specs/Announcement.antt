@@ -10,7 +10,7 @@ use Rattle.drm_schedule.specs.declared.announcement.Repeated.{Repeated}
 use Rattle.drm_schedule.specs.declared.announcement.Repeated.TheVariants as repeated
 use Rattle.drm_schedule.specs.declared.config.Config.{Config}
 use Rattle.drm_schedule.specs.Sizes.{description_size, free_bytes}
-use Rattle.drm_schedule.specs.Packing.{can_be_packed}
+use Rattle.block_packing.specs.Packing.{can_be_packed}
 
 abbrev pub is_of : Repeated → Body → Bool
 is_of repeated.Audio (Audio short stream coding sbr mode rate text enhancement coder spare config) = true

@@ -1,8 +1,9 @@
 //! The configurations of a schedule.
 
-use crate::{Items, Stream};
+use crate::Stream;
 use drm_fac::Service;
 use drm_sdc::Entities;
+use owned_items::Items;
 
 /// The services of a configuration, in the order of their lines.
 pub type Services = Items<Service>;

@@ -10,11 +10,11 @@ use Rattle.drm_sdc.specs.declared.entity.Entity.{Entity}
 use Rattle.drm_sdc.specs.Entity.{EntityFits, entity_fields, entity_size}
 use Rattle.drm_sdc.specs.Writing.{Wrote, entity_bits, total_size}
 use Rattle.drm_sdc.proofs.Written.{then as behind, wrote_none}
-use Rattle.drm_schedule.specs.declared.packing.Spot.{Spot}
+use Rattle.block_packing.specs.declared.packing.Spot.{Spot}
 use Rattle.drm_schedule.specs.declared.announcement.Repeated.{Repeated}
 use Rattle.drm_schedule.specs.Announcement.{is_of}
-use Rattle.drm_schedule.specs.Packing.{chain, first_that_holds, placed, packed, last_spot}
-use Rattle.drm_schedule.proofs.PackingLemmas.{last_is_packed, last_spot-append}
+use Rattle.block_packing.specs.Packing.{chain, first_that_holds, placed, packed, last_spot}
+use Rattle.block_packing.proofs.PackingLemmas.{last_is_packed, last_spot-append}
 use Rattle.drm_timeline.specs.Announcing.{as_next, those_in, by_frames, packed_in, left_in}
 use Rattle.drm_timeline.specs.Telling.{WroteEntities}
 

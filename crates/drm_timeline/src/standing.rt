@@ -4,7 +4,7 @@ ghost use Rattle.std.specs.Prelude.{◌≡◌, ◌<◌, ◌≤◌, length, All, 
 ghost use Rattle.std.specs.List.{find, last_or};
 ghost use Rattle.std.specs.Option.{option_copied};
 ghost use Rattle.drm_schedule.specs.Ranges.{ConfigInLines};
-ghost use Rattle.drm_schedule.specs.Packing.{chain};
+ghost use Rattle.block_packing.specs.Packing.{chain};
 ghost use Rattle.drm_schedule.specs.declared.config.Config.{Config};
 ghost use Rattle.drm_schedule.specs.Announcement.{can_be_announced};
 ghost use Rattle.drm_schedule.specs.Sizes.{has_no_room, packet_len};

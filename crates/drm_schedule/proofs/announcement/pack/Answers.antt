@@ -1,9 +1,9 @@
 use Rattle.std.proofs.Common.{◌∷◌, [], length, map}
 use Rattle.drm_sdc.specs.Entity.{entity_size}
 use Rattle.drm_schedule.specs.Sizes.{description_size}
-use Rattle.drm_schedule.specs.Packing.{front}
+use Rattle.block_packing.specs.Packing.{front}
 use Rattle.drm_schedule.specs.Announcement.{all_repeated, parameters_size}
-use Rattle.drm_schedule.proofs.PackingLemmas.{goes_on, stops}
+use Rattle.block_packing.proofs.PackingLemmas.{goes_on, stops}
 use Rattle.drm_schedule.proofs.announcement.pack.Goals as goal
 
 pub returns-in_err-spot : goal.returns-in_err-spot

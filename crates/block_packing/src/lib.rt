@@ -1,0 +1,6 @@
+//! The packing of sizes into room after room, each not before the one in front of it.
+#![tactic(auto)]
+
+mod packing;
+
+pub use packing::{Spot, can_be_packed};
