@@ -8,5 +8,5 @@ mod read;
 mod write;
 
 pub use fault::AfFault;
-pub use read::{Af, read_af};
+pub use read::{Af, payload_of, read_af};
 pub use write::write_af;

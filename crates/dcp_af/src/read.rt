@@ -46,6 +46,14 @@ pub fn read_af(packet: &[u8]) -> Result<Af<'_>, AfFault>
     })
 }
 
+/// The payload of a packet. That the bytes are one is known, so nothing of them is judged again.
+pub fn payload_of(packet: &[u8]) -> &[u8]
+    requires known { (af : AfPacket) × IsAf af packet.now }
+    ensures payload { (af : AfPacket) → IsAf af packet.now → result.now ≡ af.payload }
+{
+    &packet[HEAD_BYTES..packet.len() - CHECK_BYTES]
+}
+
 // The head, where it isn't refused.
 fn read_head(packet: &[u8]) -> Result<Head, AfFault>
     ensures fault { IfErr result (λ fault. IsFault fault packet.now) }

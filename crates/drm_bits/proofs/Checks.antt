@@ -102,7 +102,7 @@ check-unique w low bits m n below_m below_n is_m is_n =
     sym (value-digits w m below_m) ∙ (ap value digits_same ∙ value-digits w n below_n)
 
 -- a byte at the front of a wider register
-digits-shifted : (k b : ℕ) → digits (k + 8) (b * 2 ^ k) ≡ digits 8 b ++ zeros k
+pub digits-shifted : (k b : ℕ) → digits (k + 8) (b * 2 ^ k) ≡ digits 8 b ++ zeros k
 digits-shifted zero b = ap (λ n. digits 8 n) (omega arith) ∙ sym (append-nil (digits 8 b))
 digits-shifted (suc k) b =
     let more : b * 2 ^ suc k ≡ b * 2 ^ k * 2 = ap (λ n. b * n) (pow-suc 2 k) ∙ sym (mul_assoc b (2 ^ k) 2) in

@@ -5,5 +5,6 @@ pub mod FieldLemmas
 pub mod Polynomials
 pub mod Registers
 pub mod Checks
+mod EightShifts
 pub mod BitWrites
 pub mod SinkLemmas

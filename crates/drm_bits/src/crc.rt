@@ -1,15 +1,14 @@
-//! Check values, by a register that is shifted bit by bit.
+//! Check values, by a register that is shifted.
 
-ghost use Rattle.std.specs.Prelude.{◌≡◌, ℕ, ◌<◌, ◌^◌, ◌++◌, List, Bool};
+ghost use Rattle.std.specs.Prelude.{◌≡◌, ℕ, ◌<◌, ◌^◌, ◌++◌, List, Bool, slice_index};
 ghost use Rattle.drm_bits.specs.Bits.{digits, bits_of};
 ghost use Rattle.drm_bits.specs.Crc.{IsCheck, crc8_polynomial, crc16_polynomial};
 
 use crate::CrcRun;
+use crate::remainders::REMAINDERS;
 
-// The polynomials' coefficients below the greatest power.
+// The polynomial's coefficients below the greatest power.
 const CRC8_LOW: u8 = 0x1d;
-
-const CRC16_LOW: u16 = 0x1021;
 
 /// The check value of the Fast Access Channel (ES 201 980): a register of ones takes the bytes, the greatest bit
 /// first, and is complemented.
@@ -57,18 +56,19 @@ fn crc8_after(check: u8, byte: u8) -> u8
     !register
 }
 
-// The same for the wider register.
+// The same for the wider register, whose first eight bits are shifted out at once.
 pub(crate) fn crc16_after(check: u16, byte: u8) -> u16
     ensures { (bits : List Bool) → IsCheck crc16_polynomial bits (digits 16 check)
         → IsCheck crc16_polynomial (bits ++ digits 8 byte) (digits 16 result) }
 {
-    let mut register = !check ^ u16::from(byte) << 8;
-    for _ in 0..u8::BITS {
-        register = if register & 0x8000 == 0 {
-            register << 1
-        } else {
-            register << 1 ^ CRC16_LOW
-        };
-    }
-    !register
+    let register = !check ^ u16::from(byte) << 8;
+    let front = (register >> 8) as u8;
+    !(register << 8 ^ remainder_at(front))
+}
+
+// What stands in the table.
+fn remainder_at(front: u8) -> u16
+    ensures { result ≡ slice_index REMAINDERS front }
+{
+    REMAINDERS[usize::from(front)]
 }

@@ -7,6 +7,7 @@ mod crc;
 mod crc_run;
 mod description;
 mod octets;
+mod remainders;
 
 pub use bit_sink::BitSink;
 pub use bits::{Bits, Short};

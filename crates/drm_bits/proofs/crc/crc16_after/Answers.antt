@@ -1,21 +1,21 @@
-use Rattle.std.proofs.Common.{◌≡◌, ◌*◌, ◌%◌, ◌^◌, refl, w16, false, sym, ◌∙◌, ap, arith}
+use Rattle.std.proofs.Common.{ℕ, ◌≡◌, ◌*◌, ◌/◌, ◌%◌, ◌^◌, ◌<◌, refl, w16, ◌∙◌, ap, arith, bit_xor, get_or}
+use Rattle.std.proofs.lemmas.Nat.{xor_of_16}
 use Rattle.std.proofs.Math.Nat.{mod-eq_of_lt}
-use Rattle.drm_bits.specs.Bits.{digits}
+use Rattle.std.specs.Int.{bit_not}
 use Rattle.drm_bits.specs.Crc.{crc16_polynomial}
-use Rattle.drm_bits.proofs.Registers.{step}
-use Rattle.drm_bits.proofs.Checks.{step_clear, step_set, run-zero, IsCheck-byte, crc16_low}
+use Rattle.drm_bits.specs.declared.remainders.TheConstants.{REMAINDERS}
+use Rattle.drm_bits.proofs.Checks.{IsCheck-byte, crc16_low}
+use Rattle.drm_bits.proofs.EightShifts.{shifted_at_once}
 use Rattle.drm_bits.proofs.crc.crc16_after.Goals as goal
-use Rattle.drm_bits.proofs.crc.crc16_after.Goals.{then-register-eq0, else-register-eq0}
-
-pub loop-preserved : goal.loop-preserved
-loop-preserved c =
-    let next = ap (λ l. step (digits 16 4129) l false) c.loop.invariant ∙ sym (run-zero (digits 16 4129) _ c.loop.counter) in
-    elim c.if-register-eq0.branch [
-      | then-register-eq0 w ↦ ap (digits 16) w.register-is ∙ (step_clear 15 c.loop.register 4129 w.if-register-eq0.true ∙ next)
-      | else-register-eq0 w ↦ ap (digits 16) w.register-is ∙ (step_set 15 c.loop.register 4129 w.if-register-eq0.false ∙ next)
-    ]
 
 pub returns : goal.returns
 returns c = λ taken is.
-    let shifted : c.from.result * 2 ^ 8 % 2 ^ 16 ≡ c.args.byte * 2 ^ 8 = ap (λ n. n * 2 ^ 8 % 2 ^ 16) c.from.ensures ∙ mod-eq_of_lt (omega (arith, c.ranges.byte)) in
-    IsCheck-byte 8 4129 w16 crc16_polynomial taken c.args.check c.args.byte (c.from.result * 2 ^ 8 % 2 ^ 16) c.loop.register c.loop.counter refl crc16_low (omega arith) shifted (omega arith) (omega arith) c.loop.invariant is
+    let moved : ℕ = c.from.result * 2 ^ 8 % 2 ^ 16 in
+    let shifted : moved ≡ c.args.byte * 2 ^ 8 = ap (λ n. n * 2 ^ 8 % 2 ^ 16) c.from.ensures ∙ mod-eq_of_lt (omega (arith, c.ranges.byte)) in
+    let register : ℕ = bit_xor (bit_not w16 c.args.check) moved in
+    let small : register < 2 ^ 16 = xor_of_16 (bit_not w16 c.args.check) moved (omega arith) (omega arith) in
+    let front : c.remainder_at.result ≡ get_or REMAINDERS (register / 2 ^ 8) 0 = c.remainder_at.ensures in
+    let below : c.remainder_at.result < 2 ^ 16 = omega arith in
+    let after = xor_of_16 (register * 2 ^ 8 % 2 ^ 16) c.remainder_at.result (omega arith) below in
+    IsCheck-byte 8 4129 w16 crc16_polynomial taken c.args.check c.args.byte moved (bit_xor (register * 2 ^ 8 % 2 ^ 16) c.remainder_at.result) 8 refl crc16_low refl shifted (omega arith) after
+    (rw front (shifted_at_once register small)) is
