@@ -1,5 +1,5 @@
 -- The bytes of the coded chunks by their places.
-use Rattle.std.proofs.Common.{ℕ, zero, suc, ◌≡◌, ◌+◌, ◌-◌, ◌*◌, ◌/◌, ◌%◌, ◌<◌, ◌≤◌, inl, inr, List, ◌++◌, length, take, drop, get_or, replicate, refl, sym, ap, ◌∙◌, arith, length-append, length-drop}
+use Rattle.std.proofs.Common.{ℕ, zero, suc, ◌≡◌, ◌+◌, ◌-◌, ◌*◌, ◌<◌, ◌≤◌, inl, inr, List, ◌++◌, length, take, drop, get_or, replicate, refl, sym, ap, ◌∙◌, arith, length-append, length-drop}
 use Rattle.std.proofs.lemmas.Bool.{cases_lt}
 use Rattle.std.proofs.lemmas.List.{get_or_append_left, get_or-append_right, get_or-append-add, get_or-take, get_or-drop, get_or-replicate, get_or_past, length-take-le, length-replicate}
 use Rattle.dcp_pft.specs.Coding.{coded}
@@ -80,22 +80,16 @@ parity_at (suc c) k chunks parities (suc q) r whole long lt =
     ∙ (parity_at c k (drop k chunks) (drop 48 parities) q r (omega (arith, whole, length-drop k chunks)) (omega (arith, long, length-drop 48 parities)) lt
     ∙ (get_or-drop 48 parities (q * 48 + r) 0 ∙ ap (λ (n : ℕ). get_or parities n 0) place')))
 
--- the bytes at a place, by the place's chunk
-module _ (c k z : ℕ) (packet parities : List ℕ) (whole : c * k ≡ length packet + z) (long : length parities ≡ 48 * c) (place : ℕ) where
+-- of a packet that ends with zeros, and of its parity, the bytes of chunk q
+module _ (c k z : ℕ) (packet parities : List ℕ) (whole : c * k ≡ length packet + z) (long : length parities ≡ 48 * c) (q r : ℕ) where
   filled_long : length (packet ++ replicate z 0) ≡ c * k
   filled_long = omega (arith, length-append packet (replicate z 0), length-replicate {A = ℕ} z 0, whole)
 
-  pub at_chunk : place % (k + 48) < k
-      → get_or packet (place / (k + 48) * k + place % (k + 48)) 0 ≡ get_or (coded c k (packet ++ replicate z 0) parities) place 0
-  at_chunk lt =
-      let at : place / (k + 48) * (k + 48) + place % (k + 48) ≡ place = omega arith in
-      sym (filled_at packet z (place / (k + 48) * k + place % (k + 48)))
-      ∙ (sym (chunk_at c k (packet ++ replicate z 0) parities (place / (k + 48)) (place % (k + 48)) filled_long long lt)
-      ∙ ap (λ (n : ℕ). get_or (coded c k (packet ++ replicate z 0) parities) n 0) at)
+  pub at_chunk : r < k → get_or packet (q * k + r) 0 ≡ get_or (coded c k (packet ++ replicate z 0) parities) (q * (k + 48) + r) 0
+  at_chunk lt = sym (filled_at packet z (q * k + r)) ∙ sym (chunk_at c k (packet ++ replicate z 0) parities q r filled_long long lt)
 
-  pub at_parity : k ≤ place % (k + 48)
-      → get_or parities (place / (k + 48) * 48 + (place % (k + 48) - k)) 0 ≡ get_or (coded c k (packet ++ replicate z 0) parities) place 0
-  at_parity le =
-      let at : place / (k + 48) * (k + 48) + (k + (place % (k + 48) - k)) ≡ place = omega arith in
-      sym (parity_at c k (packet ++ replicate z 0) parities (place / (k + 48)) (place % (k + 48) - k) filled_long long (omega arith))
-      ∙ ap (λ (n : ℕ). get_or (coded c k (packet ++ replicate z 0) parities) n 0) at
+  pub at_parity : k ≤ r → r < k + 48 → get_or parities (q * 48 + (r - k)) 0 ≡ get_or (coded c k (packet ++ replicate z 0) parities) (q * (k + 48) + r) 0
+  at_parity le lt =
+      let behind : k + (r - k) ≡ r = omega arith in
+      sym (parity_at c k (packet ++ replicate z 0) parities q (r - k) filled_long long (omega arith))
+      ∙ ap (λ (n : ℕ). get_or (coded c k (packet ++ replicate z 0) parities) (q * (k + 48) + n) 0) behind

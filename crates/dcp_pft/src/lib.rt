@@ -8,6 +8,7 @@ mod fragment;
 mod head;
 mod laws;
 mod parts;
+mod place;
 mod read;
 mod shape;
 mod write;

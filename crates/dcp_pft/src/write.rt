@@ -9,6 +9,7 @@ ghost use Rattle.dcp_pft.specs.Head.{Spells, IsFragmentOf, fragment_of, sync, th
 ghost use Rattle.dcp_pft.specs.Writing.{PutsHead, Writes};
 
 use crate::parts::{part, put};
+use crate::place::Place;
 use crate::shape::{CODED_HEAD, PARITY_BYTES, PLAIN_HEAD, Rs, Shape};
 use drm_bits::crc16;
 
@@ -131,30 +132,27 @@ fn interleave(packet: &[u8], parity: &[u8], k: u8, count: u32, first: u32, into:
     ensures every { (c z : ℕ) → c * k ≡ length packet.now + z → length parity.now ≡ 48 * c
         → into.new ≡ every count first (length into.old) (coded c k (packet.now ++ replicate z 0) parity.now) }
 {
-    for (j, byte) in into.iter_mut().enumerate() {
-        *byte = coded_byte(
-            packet,
-            parity,
-            usize::from(k),
-            j * count as usize + first as usize,
-        );
+    let size = usize::from(k) + PARITY_BYTES as usize;
+    let step = Place::behind(count as usize, size);
+    let mut place = Place::behind(first as usize, size);
+    for byte in into.iter_mut() {
+        *byte = coded_byte(packet, parity, usize::from(k), place);
+        place = place.further(step, size);
     }
 }
 
 // The byte at a place of the coded chunks of k bytes: each chunk with its parity behind it.
-fn coded_byte(packet: &[u8], parity: &[u8], k: usize, place: usize) -> u8
-    requires some { 0 < k }
+fn coded_byte(packet: &[u8], parity: &[u8], k: usize, at: Place) -> u8
     requires few { k ≤ 255 }
-    requires place { place < 2 ^ 40 }
+    requires within { at.within < k + 48 }
+    requires small { at.chunk < 2 ^ 40 }
     ensures { (c z : ℕ) → c * k ≡ length packet.now + z → length parity.now ≡ 48 * c
-        → result ≡ byte_or_zero (coded c k (packet.now ++ replicate z 0) parity.now) place }
+        → result ≡ byte_or_zero (coded c k (packet.now ++ replicate z 0) parity.now) (at.chunk * (k + 48) + at.within) }
 {
-    let size = k + PARITY_BYTES as usize;
-    let (chunk, within) = (place / size, place % size);
-    if within < k {
-        byte_at(packet, chunk * k + within)
+    if at.within < k {
+        byte_at(packet, at.chunk * k + at.within)
     } else {
-        byte_at(parity, chunk * PARITY_BYTES as usize + (within - k))
+        byte_at(parity, at.chunk * PARITY_BYTES as usize + (at.within - k))
     }
 }
 

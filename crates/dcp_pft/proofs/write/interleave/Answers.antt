@@ -10,13 +10,13 @@ returns-clause-every c = λ n z whole long.
     let bytes : List ℕ = coded n c.args.k (c.args.packet.now ++ replicate z 0) c.args.parity.now in
     let f : ℕ → ℕ = λ j. byte_or_zero bytes (j * c.args.count + c.args.first) in
     let size : ℕ = length c.args.into.now in
-    ext_get_or 0 c.loop-j.into (every c.args.count c.args.first (length c.args.into.now) bytes)
+    ext_get_or 0 c.loop-byte.into (every c.args.count c.args.first (length c.args.into.now) bytes)
     (omega (arith, length-map-range_with_len f 0 (length c.args.into.now)))
-    (λ i lt. c.loop-j.invariant.every n z whole long i (omega arith) ∙ sym (get_or-map-range_with_len f 0 (length c.args.into.now) i i 0 (omega arith) (omega arith)))
+    (λ i lt. c.loop-byte.invariant.every n z whole long i (omega arith) ∙ sym (get_or-map-range_with_len f 0 (length c.args.into.now) i i 0 (omega arith) (omega arith)))
 
 pub returns-clause-bytes : goal.returns-clause-bytes
 returns-clause-bytes c = λ i.
-    elim (cases_lt i (length c.loop-j.into)) [
-      | inl lt ↦ c.loop-j.invariant.bytes i (omega arith)
-      | inr le ↦ rw (get_or_past c.loop-j.into i 0 le) (omega arith)
+    elim (cases_lt i (length c.loop-byte.into)) [
+      | inl lt ↦ c.loop-byte.invariant.bytes i (omega arith)
+      | inr le ↦ rw (get_or_past c.loop-byte.into i 0 le) (omega arith)
     ]

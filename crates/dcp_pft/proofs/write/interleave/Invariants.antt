@@ -2,9 +2,11 @@ use Rattle.std.proofs.Common.{◌≡◌, ◌+◌, ◌*◌, ◌<◌, ℕ, ◌++�
 use Rattle.dcp_pft.specs.Coding.{coded}
 use Rattle.dcp_pft.proofs.write.interleave.Given as goal
 
-abbrev pub invariant-loop-j : goal.invariant-loop-j
-invariant-loop-j l = record {
-  bytes : (i : ℕ) → i < l.j → get_or l.into i 0 < 256;
+abbrev pub invariant-loop-byte : goal.invariant-loop-byte
+invariant-loop-byte l = record {
+  place : l.place.chunk * l.size + l.place.within ≡ l.byte-index * l.count + l.first;
+  within : l.place.within < l.size;
+  bytes : (i : ℕ) → i < l.byte-index → get_or l.into i 0 < 256;
   every : (c z : ℕ) → c * l.k ≡ length l.packet + z → length l.parity ≡ 48 * c
-      → (i : ℕ) → i < l.j → get_or l.into i 0 ≡ get_or (coded c l.k (l.packet ++ replicate z 0) l.parity) (i * l.count + l.first) 0;
+      → (i : ℕ) → i < l.byte-index → get_or l.into i 0 ≡ get_or (coded c l.k (l.packet ++ replicate z 0) l.parity) (i * l.count + l.first) 0;
 }
