@@ -1,55 +1,201 @@
--- What is written of a schedule, datagram by datagram and frame by frame.
-use Rattle.std.proofs.Common.{◌≡◌, ◌<◌, ◌*◌, ℕ, List, [], ◌∷◌, ◌++◌, Option, refl, sym, ap, ◌∙◌, append_assoc}
-use Rattle.std.proofs.lemmas.List.{append-nil}
+-- What is written of a schedule, datagram by datagram and frame by frame, where some of it waits.
+use Rattle.std.proofs.Common.{◌≡◌, ◌<◌, ◌≤◌, ◌+◌, ◌*◌, ℕ, zero, suc, List, [], ◌∷◌, ◌++◌, Option, ◌⊎◌, inl, inr, ⊎_elim, refl, sym, ap, ap₂, subst, ◌∙◌, append_assoc, length, take, arith}
+use Rattle.std.proofs.lemmas.List.{append-nil, take-append-le, length-take-le}
+use Rattle.std.proofs.Math.Seq.{take-append-add}
+use borrow.Rule.Slice.PartMut.{put_mid, post_of}
 use Rattle.std.specs.List.{concat}
 use Rattle.drm_schedule.specs.declared.plan.Plan.{Plan}
 use Rattle.drm_links.specs.Sink.{Output, Outputs, IsFront}
 use Rattle.drm_links.proofs.ToldLemmas.{Outputs-then, Outputs-weaker}
-use Rattle.drm_server.specs.Datagrams.{IsDatagramAt, AreFirst, AreOfFrames, AreDatagrams}
+use Rattle.drm_server.specs.Datagrams.{IsDatagramAt, AreFirst, AreOfFrame, AreOfFrames, AreDatagrams}
 use Rattle.drm_server.specs.Capture.{IsCapture, IsFrontOfCapture}
-use Rattle.drm_server.specs.OneFrame.{IsPartOfFrame}
+use Rattle.drm_server.specs.Gathering.{Gathers, IsFrontOfFrame, IsFrontWithDatagram}
 
-concat_append : (xs ys : List (List ℕ)) → concat (xs ++ ys) ≡ concat xs ++ concat ys
+pub concat_append : (xs ys : List (List ℕ)) → concat (xs ++ ys) ≡ concat xs ++ concat ys
 concat_append [] ys = refl
 concat_append (x ∷ xs) ys = ap (λ l. x ++ l) (concat_append xs ys) ∙ sym (append_assoc x (concat xs) (concat ys))
 
--- these datagrams were written
-abbrev pub IsAllOf : List (List ℕ) → List ℕ → Type 0
-IsAllOf datagrams bytes = bytes ≡ concat datagrams
+concat_push : (xs : List (List ℕ)) (x : List ℕ) → concat (xs ++ x ∷ []) ≡ concat xs ++ x
+concat_push xs x = concat_append xs (x ∷ []) ∙ ap (λ l. concat xs ++ l) (append-nil x)
 
--- some, and then others
-pub then_written : (xs ys : List (List ℕ)) (a b c : Option Output) → Outputs a b (IsAllOf xs) → Outputs b c (IsAllOf ys) → Outputs a c (IsAllOf (xs ++ ys))
-then_written xs ys a b c first second =
-    Outputs-then (IsAllOf xs) (IsAllOf ys) (IsAllOf (xs ++ ys)) a b c first second
-    (λ s t is_s is_t. ap (λ l. l ++ t) is_s ∙ (ap (λ l. concat xs ++ l) is_t ∙ sym (concat_append xs ys)))
+-- The front of two lists, one after the other, ends in the first one or in the second.
+front_of_two : (xs ys text : List ℕ) → IsFront (xs ++ ys) text → IsFront xs text ⊎ ((part : List ℕ) × IsFront ys part × (text ≡ xs ++ part))
+front_of_two [] ys text front = inr (text, front, refl)
+front_of_two (x ∷ xs) ys [] front = inl (x ∷ xs, refl)
+front_of_two (x ∷ xs) ys (y ∷ text) (rest, is) =
+    let first : x ≡ y = cc in
+    let same : xs ++ ys ≡ text ++ rest = cc in
+    elim (front_of_two xs ys text (rest, same)) [
+      | inl front ↦ inl (front.0, ap₂ (λ (a : ℕ) (l : List ℕ). a ∷ l) first front.1)
+      | inr found ↦ inr (found.0, found.1, ap₂ (λ (a : ℕ) (l : List ℕ). a ∷ l) (sym first) found.2)
+    ]
 
--- one more
-pub one_written : (xs : List (List ℕ)) (datagram : List ℕ) (a b c : Option Output) → Outputs a b (IsAllOf xs) → Outputs b c (λ text. text ≡ datagram) → Outputs a c (IsAllOf (xs ++ datagram ∷ []))
-one_written xs datagram a b c first second =
-    Outputs-then (IsAllOf xs) (λ text. text ≡ datagram) (IsAllOf (xs ++ datagram ∷ [])) a b c first second
-    (λ s t is_s is_t. ap (λ l. l ++ t) is_s ∙ (ap (λ l. concat xs ++ l) (is_t ∙ sym (append-nil datagram)) ∙ sym (concat_append xs (datagram ∷ []))))
+-- the front of a room of which a part behind its first bytes was written over
+pub front_more : (at n more : ℕ) (old part : List ℕ) → length old ≡ at + more → n ≤ length part → take (at + n) (put_mid at more old part) ≡ take at old ++ take n part
+front_more at n more old part size within =
+    let front : length (take at old) ≡ at = length-take-le at old (omega (arith, size)) in
+    ap (λ k. take (k + n) (put_mid at more old part)) (sym front)
+    ∙ (take-append-add (take at old) (part ++ post_of at more old) n ∙ ap (λ l. take at old ++ l) (take-append-le n part (post_of at more old) within))
 
--- a front of the next one
-pub front_written : (plan : Plan) (t i : ℕ) (next : List ℕ) (datagrams : List (List ℕ)) (a b c : Option Output) → IsDatagramAt plan t i next → AreFirst plan t i datagrams → Outputs a b (IsAllOf datagrams) → Outputs b c (IsFront next)
-    → Outputs a c (IsPartOfFrame plan t)
-front_written plan t i next datagrams a b c is are first second =
-    Outputs-then (IsAllOf datagrams) (IsFront next) (IsPartOfFrame plan t) a b c first second
-    (λ s u is_s front. (i, next, datagrams, (is, are), u, front, ap (λ l. l ++ u) is_s))
+nothing_before : (part rest : List ℕ) → [] ≡ part ++ rest → part ≡ []
+nothing_before [] rest is = refl
+nothing_before (x ∷ part) rest is = cc
 
--- a part of the next frame
-pub part_written : (plan : Plan) (t : ℕ) (datagrams : List (List ℕ)) (a b c : Option Output) → t < 3 * plan.length → AreOfFrames plan t datagrams → Outputs a b (IsAllOf datagrams) → Outputs b c (IsPartOfFrame plan t)
-    → Outputs a c (IsFrontOfCapture plan)
-part_written plan t datagrams a b c within are first second =
-    Outputs-then (IsAllOf datagrams) (IsPartOfFrame plan t) (IsFrontOfCapture plan) a b c first second
-    (λ s u is_s part. (
-      part.1,
-      datagrams ++ part.2,
-      record { t = t; within = within; i = part.0; is_next = part.3.0; of_frames = datagrams; are_of_frames = are; of_frame = part.2; are_first = part.3.1; are = refl },
-      part.4,
-      part.5,
-      ap (λ l. l ++ u) is_s ∙ (ap (λ l. concat datagrams ++ l) part.6 ∙ (sym (append_assoc (concat datagrams) (concat part.2) part.4) ∙ ap (λ l. l ++ part.4) (sym (concat_append datagrams part.2)))),
+module _ (plan : Plan) where
+  -- datagrams of the frames before, some first ones of this frame, and a front of the next one
+  ends_in : (t i : ℕ) → t < 3 * plan.length → (before first : List (List ℕ)) → AreOfFrames plan t before → AreFirst plan t i first
+      → (next front : List ℕ) → IsDatagramAt plan t i next → IsFront next front → IsFrontOfCapture plan (concat before ++ (concat first ++ front))
+  ends_in t i within before first are are_first next front is is_front = (
+    next,
+    before ++ first,
+    record { t = t; within = within; i = i; is_next = is; of_frames = before; are_of_frames = are; of_frame = first; are_first = are_first; are = refl },
+    front,
+    is_front,
+    sym (append_assoc (concat before) (concat first) front) ∙ ap (λ l. l ++ front) (sym (concat_append before first)),
+  )
+
+  -- a front of some first datagrams and one more: it ends in that one, or where `early` says
+  in_next : (t i : ℕ) → t < 3 * plan.length → (before others : List (List ℕ)) (datagram : List ℕ) → AreOfFrames plan t before → AreFirst plan t i others → IsDatagramAt plan t i datagram
+      → (part : List ℕ) → (IsFront (concat others) part → IsFrontOfCapture plan (concat before ++ part)) → IsFront (concat (others ++ datagram ∷ [])) part
+      → IsFrontOfCapture plan (concat before ++ part)
+  in_next t i within before others datagram are are_others is part early (rest, front) =
+      elim (front_of_two (concat others) datagram part (rest, sym (concat_push others datagram) ∙ front)) [
+        | inl first ↦ early first
+        | inr found ↦
+            subst (λ l. IsFrontOfCapture plan (concat before ++ l)) (sym found.2)
+            (ends_in t i within before others are are_others datagram found.0 is found.1)
+      ]
+
+  -- a front of one or more first datagrams of a frame, behind all of the frames before it
+  front_in_frame : (t i : ℕ) → t < 3 * plan.length → (before first : List (List ℕ)) → AreOfFrames plan t before → AreFirst plan t (suc i) first
+      → (part : List ℕ) → IsFront (concat first) part → IsFrontOfCapture plan (concat before ++ part)
+  front_in_frame t zero within before first are (others, datagram, none, is, same) part front =
+      in_next t zero within before others datagram are none is part
+      (λ (rest, is_front).
+      subst (λ l. IsFrontOfCapture plan (concat before ++ l)) (sym (nothing_before part rest (sym (ap concat none) ∙ is_front)))
+      (ends_in t zero within before [] are refl datagram [] is (datagram, refl)))
+      (subst (λ l. IsFront (concat l) part) same front)
+  front_in_frame t (suc i) within before first are (others, datagram, are_others, is, same) part front =
+      in_next t (suc i) within before others datagram are are_others is part
+      (front_in_frame t i within before others are are_others part)
+      (subst (λ l. IsFront (concat l) part) same front)
+
+  -- a front of the datagrams of some first frames: it ends in one of them, or there are none and nothing else
+  front_in_frames : (t : ℕ) → t ≤ 3 * plan.length → (before : List (List ℕ)) → AreOfFrames plan t before
+      → (text : List ℕ) → IsFront (concat before) text → IsFrontOfCapture plan text ⊎ (text ≡ concat before)
+  front_in_frames zero within before none text (rest, is) =
+      inr (nothing_before text rest (sym (ap concat none) ∙ is) ∙ sym (ap concat none))
+  front_in_frames (suc t) within before (others, of_frame, are, (count, has, first), same) text (rest, is) =
+      let here : concat before ≡ concat others ++ concat of_frame = ap concat same ∙ concat_append others of_frame in
+      elim (front_of_two (concat others) (concat of_frame) text (rest, sym here ∙ is)) [
+        | inl early ↦
+            elim (front_in_frames t (omega (arith, within)) others are text early) [
+              | inl found ↦ inl found
+              | inr whole ↦ last count first [] (concat of_frame, refl) (whole ∙ sym (append-nil (concat others)))
+            ]
+        | inr found ↦ last count first found.0 found.1 found.2
+      ]
+    where
+      last : (count : ℕ) → AreFirst plan t count of_frame → (part : List ℕ) → IsFront (concat of_frame) part → text ≡ concat others ++ part
+          → IsFrontOfCapture plan text ⊎ (text ≡ concat before)
+      last zero none part (rest, front) is =
+          let empty : part ≡ [] = nothing_before part rest (sym (ap concat none) ∙ front) in
+          inr (is ∙ (ap (λ l. concat others ++ l) (empty ∙ sym (ap concat none)) ∙ sym (ap concat same ∙ concat_append others of_frame)))
+      last (suc i) first part front is =
+          inl (subst (IsFrontOfCapture plan) (sym is) (front_in_frame t i (omega (arith, within)) others of_frame are first part front))
+
+  -- All datagrams of one frame or more are a front too: the last of them is whole.
+  all_are_front : (t i : ℕ) → t < 3 * plan.length → (before first : List (List ℕ)) → AreOfFrames plan t before → AreFirst plan t (suc i) first
+      → IsFrontOfCapture plan (concat (before ++ first))
+  all_are_front t i within before first are are_first =
+      subst (IsFrontOfCapture plan) (sym (concat_append before first))
+      (front_in_frame t i within before first are are_first (concat first) ([], sym (append-nil (concat first))))
+
+  pub one_or_more : (t count : ℕ) → t < 3 * plan.length → 1 ≤ count → (before first : List (List ℕ)) → AreOfFrames plan t before → AreFirst plan t count first
+      → IsFrontOfCapture plan (concat (before ++ first))
+  one_or_more t zero within some before first are are_first = absurd (omega (arith, some))
+  one_or_more t (suc i) within some before first are are_first = all_are_front t i within before first are are_first
+
+  -- a front of all frames before, and of one or more first datagrams of this frame
+  front_so_far : (t i : ℕ) → t < 3 * plan.length → (before first : List (List ℕ)) → AreOfFrames plan t before → AreFirst plan t (suc i) first
+      → (text : List ℕ) → IsFront (concat before ++ concat first) text → IsFrontOfCapture plan text
+  front_so_far t i within before first are are_first text front =
+      elim (front_of_two (concat before) (concat first) text front) [
+        | inl early ↦
+            elim (front_in_frames t (omega (arith, within)) before are text early) [
+              | inl found ↦ found
+              | inr whole ↦
+                  subst (IsFrontOfCapture plan) (append-nil (concat before) ∙ sym whole)
+                  (front_in_frame t i within before first are are_first [] (concat first, refl))
+            ]
+        | inr found ↦ subst (IsFrontOfCapture plan) (sym found.2) (front_in_frame t i within before first are are_first found.0 found.1)
+      ]
+
+-- what waited, and more behind it, and more again
+pub gathers_then : (waited xs ys then_waits waits : List ℕ) (a b c : Option Output) → Gathers waited xs then_waits a b → Gathers then_waits ys waits b c → Gathers waited (xs ++ ys) waits a c
+gathers_then waited xs ys then_waits waits a b c first second =
+    Outputs-then (λ s. waited ++ xs ≡ s ++ then_waits) (λ t. then_waits ++ ys ≡ t ++ waits) (λ text. waited ++ (xs ++ ys) ≡ text ++ waits) a b c first second
+    (λ s t is_s is_t. sym (append_assoc waited xs ys) ∙ (ap (λ l. l ++ ys) is_s ∙ (append_assoc s then_waits ys ∙ (ap (λ l. s ++ l) is_t ∙ sym (append_assoc s t waits)))))
+
+-- and then a front of what waits, and of more behind it
+pub gathers_front : (waited xs ys then_waits : List ℕ) (a b c : Option Output) → Gathers waited xs then_waits a b → Outputs b c (IsFront (then_waits ++ ys)) → Outputs a c (IsFront (waited ++ (xs ++ ys)))
+gathers_front waited xs ys then_waits a b c first second =
+    Outputs-then (λ s. waited ++ xs ≡ s ++ then_waits) (IsFront (then_waits ++ ys)) (IsFront (waited ++ (xs ++ ys))) a b c first second
+    (λ s t is_s front. (
+      front.0,
+      sym (append_assoc waited xs ys) ∙ (ap (λ l. l ++ ys) is_s ∙ (append_assoc s then_waits ys ∙ (ap (λ l. s ++ l) front.1 ∙ sym (append_assoc s t front.0)))),
     ))
 
--- all
-pub all_written : (plan : Plan) (datagrams : List (List ℕ)) (a b : Option Output) → AreDatagrams plan datagrams → Outputs a b (IsAllOf datagrams) → Outputs a b (IsCapture plan)
-all_written plan datagrams a b are written = Outputs-weaker (IsAllOf datagrams) (IsCapture plan) a b written (λ text is. (datagrams, are, is))
+-- one datagram more
+pub gathers_datagram : (waited : List ℕ) (datagrams : List (List ℕ)) (datagram then_waits waits : List ℕ) (a b c : Option Output)
+    → Gathers waited (concat datagrams) then_waits a b → Gathers then_waits datagram waits b c → Gathers waited (concat (datagrams ++ datagram ∷ [])) waits a c
+gathers_datagram waited datagrams datagram then_waits waits a b c first second =
+    subst (λ l. Gathers waited l waits a c) (sym (concat_push datagrams datagram)) (gathers_then waited (concat datagrams) datagram then_waits waits a b c first second)
+
+-- a front with one datagram more
+pub front_of_frame : (plan : Plan) (t i : ℕ) (datagrams : List (List ℕ)) (waited then_waits : List ℕ) (a b c : Option Output) → AreFirst plan t i datagrams
+    → Gathers waited (concat datagrams) then_waits a b → Outputs b c (IsFrontWithDatagram plan t i then_waits) → Outputs a c (IsFrontOfFrame plan t waited)
+front_of_frame plan t i datagrams waited then_waits a b c are first second =
+    Outputs-then (λ s. waited ++ concat datagrams ≡ s ++ then_waits) (IsFrontWithDatagram plan t i then_waits) (IsFrontOfFrame plan t waited) a b c first second
+    (λ s u is (datagram, is_datagram, (rest, front)). (
+      i,
+      datagrams ++ datagram ∷ [],
+      (datagrams, datagram, are, is_datagram, refl),
+      (
+        rest,
+        ap (λ l. waited ++ l) (concat_push datagrams datagram)
+            ∙ (sym (append_assoc waited (concat datagrams) datagram)
+            ∙ (ap (λ l. l ++ datagram) is ∙ (append_assoc s then_waits datagram ∙ (ap (λ l. s ++ l) front ∙ sym (append_assoc s u rest))))),
+      ),
+    ))
+
+-- the datagrams of one frame more
+pub gathers_frame : (before of_frame : List (List ℕ)) (then_waits waits : List ℕ) (a b c : Option Output) → Gathers [] (concat before) then_waits a b → Gathers then_waits (concat of_frame) waits b c → Gathers [] (concat (before ++ of_frame)) waits a c
+gathers_frame before of_frame then_waits waits a b c first second =
+    subst (λ l. Gathers [] l waits a c) (sym (concat_append before of_frame)) (gathers_then [] (concat before) (concat of_frame) then_waits waits a b c first second)
+
+module _ (plan : Plan) where
+  -- a part of the next frame
+  pub part_written : (t : ℕ) (datagrams : List (List ℕ)) (waits : List ℕ) (a b c : Option Output) → t < 3 * plan.length → AreOfFrames plan t datagrams
+      → Gathers [] (concat datagrams) waits a b → Outputs b c (IsFrontOfFrame plan t waits) → Outputs a c (IsFrontOfCapture plan)
+  part_written t datagrams waits a b c within are first second =
+      Outputs-then (λ s. concat datagrams ≡ s ++ waits) (IsFrontOfFrame plan t waits) (IsFrontOfCapture plan) a b c first second
+      (λ s u is (i, of_frame, are_first, (rest, front)).
+      front_so_far plan t i within datagrams of_frame are are_first (s ++ u)
+      (rest, ap (λ l. l ++ concat of_frame) is ∙ (append_assoc s waits (concat of_frame) ∙ (ap (λ l. s ++ l) front ∙ sym (append_assoc s u rest)))))
+
+  -- a front of what waits at the end
+  pub end_written : (t : ℕ) (datagrams : List (List ℕ)) (waits : List ℕ) (a b c : Option Output) → t ≤ 3 * plan.length → AreOfFrames plan t datagrams → IsFrontOfCapture plan (concat datagrams)
+      → Gathers [] (concat datagrams) waits a b → Outputs b c (IsFront waits) → Outputs a c (IsFrontOfCapture plan)
+  end_written t datagrams waits a b c within are all first second =
+      Outputs-then (λ s. concat datagrams ≡ s ++ waits) (IsFront waits) (IsFrontOfCapture plan) a b c first second
+      (λ s u is (rest, front).
+      ⊎_elim (λ found. found) (λ whole. subst (IsFrontOfCapture plan) (sym whole) all)
+      (front_in_frames plan t within datagrams are (s ++ u) (rest, is ∙ (ap (λ l. s ++ l) front ∙ sym (append_assoc s u rest)))))
+
+  -- all of what waits at the end
+  pub all_written : (datagrams : List (List ℕ)) (waits : List ℕ) (a b c : Option Output) → AreDatagrams plan datagrams
+      → Gathers [] (concat datagrams) waits a b → Outputs b c (λ text. text ≡ waits) → Outputs a c (IsCapture plan)
+  all_written datagrams waits a b c are first second =
+      Outputs-then (λ s. concat datagrams ≡ s ++ waits) (λ text. text ≡ waits) (IsCapture plan) a b c first second
+      (λ s u is last. (datagrams, are, ap (λ l. s ++ l) last ∙ sym is))

@@ -1,8 +1,8 @@
 -- A packet, made around its payload.
 use Rattle.std.proofs.Common.{◌≡◌, ◌≤◌, ◌+◌, ◌-◌, ◌%◌, ◌^◌, ℕ, true, List, ◌++◌, length, take, drop, sym, ap, subst, ◌∙◌, arith, append_assoc}
 use Rattle.std.specs.List.{slice_range}
-use Rattle.std.proofs.lemmas.List.{length-take-le}
-use Rattle.std.proofs.Math.Seq.{take-append_seam, drop-append_seam}
+use Rattle.std.proofs.lemmas.List.{length-take-le, take-append-le}
+use Rattle.std.proofs.Math.Seq.{drop-append_seam}
 use Rattle.drm_schedule.specs.declared.plan.Plan.{Plan}
 use Rattle.drm_bits.specs.Bits.{IsBytes}
 use Rattle.dcp_af.specs.Packet.{IsAf}
@@ -22,12 +22,10 @@ packet_is plan t seq payload stands packet (parts, frame, written) same number i
   octets = small;
 }
 
--- what was put at byte 10 stands there
-pub put_stands : (old p rest into : List ℕ) (n : ℕ) → into ≡ take 10 old ++ p ++ rest → 10 ≤ length old → length p ≡ n → slice_range into 10 (n + 10) ≡ p
-put_stands old p rest into n is long size =
+-- what was written behind the head stands there
+pub behind_head : (old room rest : List ℕ) (n : ℕ) → 10 ≤ length old → n ≤ length room → slice_range (take 10 old ++ (room ++ rest)) 10 (n + 10) ≡ take n room
+behind_head old room rest n long fits =
     let front : List ℕ = take 10 old in
     let ten : length front ≡ 10 = length-take-le 10 old long in
-    let behind : drop 10 into ≡ p ++ rest =
-    ap (drop 10) (is ∙ append_assoc front p rest) ∙ (ap (λ k. drop k (front ++ (p ++ rest))) (sym ten) ∙ drop-append_seam front (p ++ rest)) in
-    let count : n + 10 - 10 ≡ length p = omega (arith, size) in
-    ap (take (n + 10 - 10)) behind ∙ (ap (λ k. take k (p ++ rest)) count ∙ take-append_seam p rest)
+    let behind : drop 10 (front ++ (room ++ rest)) ≡ room ++ rest = ap (λ k. drop k (front ++ (room ++ rest))) (sym ten) ∙ drop-append_seam front (room ++ rest) in
+    ap (take (n + 10 - 10)) behind ∙ (ap (λ k. take k (room ++ rest)) (let e : n + 10 - 10 ≡ n = omega arith in e) ∙ take-append-le n room rest fits)

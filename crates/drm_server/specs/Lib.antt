@@ -6,4 +6,5 @@ pub mod Capture
 pub mod Sending
 pub mod Rests
 pub mod OneFrame
+pub mod Gathering
 pub mod Laws

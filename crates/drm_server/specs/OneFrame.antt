@@ -1,9 +1,7 @@
--- What is written and sent of one frame.
-use Rattle.std.specs.Prelude.{ℕ, ◌≡◌, List, ◌++◌, length, Option}
-use Rattle.std.specs.List.{concat}
+-- What is sent of one frame.
+use Rattle.std.specs.Prelude.{ℕ, ◌≡◌, List, length, Option}
 use Rattle.drm_schedule.specs.declared.plan.Plan.{Plan}
 use Rattle.drm_links.specs.Link.{Traffic}
-use Rattle.drm_links.specs.Sink.{Output, Outputs, IsFront}
 use Rattle.drm_links.specs.Transmission.{Transmits, SendsAll, SendsNoMore}
 use Rattle.drm_server.specs.Datagrams.{AreOfFrame, AreFirst, IsDatagramAt}
 
@@ -11,19 +9,7 @@ use Rattle.drm_server.specs.Datagrams.{AreOfFrame, AreFirst, IsDatagramAt}
 abbrev pub StandBefore : Plan → ℕ → ℕ → List ℕ → List (List ℕ) → Type 0
 StandBefore plan t i next datagrams = IsDatagramAt plan t i next × AreFirst plan t i datagrams
 
--- all of its datagrams were written, and they are n
-abbrev pub WroteFrame : Plan → ℕ → ℕ → Option Output → Option Output → Type 0
-WroteFrame plan t n before after =
-    (datagrams : List (List ℕ)) × AreOfFrame plan t datagrams × (n ≡ length datagrams)
-    × Outputs before after (λ bytes. bytes ≡ concat datagrams)
-
--- some first ones, and a front of the next one
-abbrev pub IsPartOfFrame : Plan → ℕ → List ℕ → Type 0
-IsPartOfFrame plan t text =
-    (i : ℕ) × (next : List ℕ) × (datagrams : List (List ℕ)) × StandBefore plan t i next datagrams
-    × (front : List ℕ) × IsFront next front × (text ≡ concat datagrams ++ front)
-
--- all were sent, and they are n
+-- all of its datagrams were sent, and they are n
 abbrev pub SentFrame : Plan → ℕ → ℕ → Option Traffic → Option Traffic → Type 0
 SentFrame plan t n before after =
     (datagrams : List (List ℕ)) × AreOfFrame plan t datagrams × (n ≡ length datagrams) × Transmits before after (SendsAll datagrams)

@@ -72,14 +72,34 @@ pub fn write_cut(
     requires all { length parity.now ≡ 1920 }
     requires parity { HoldsParity (Some shape.now) packet.now parity.now }
     requires within { i < shape.now.count }
-    requires room { length into.old ≡ 1500 }
+    requires room { 1500 ≤ length into.old }
     ensures fragment { IsFragmentOf shape.now seq packet.now i (take result into.new) }
     ensures small { result ≤ 1500 }
-    ensures room { length into.new ≡ 1500 }
+    ensures room { length into.new ≡ length into.old }
+{
+    match into.first_chunk_mut() {
+        Some(room) => write_in(packet, shape, parity, seq, i, room),
+        None => unreachable!(),
+    }
+}
+
+// Writes it to room for the longest one.
+fn write_in(
+    packet: &[u8],
+    shape: &Shape,
+    parity: &[u8],
+    seq: u16,
+    i: u32,
+    room: &mut [u8; 1500],
+) -> usize
+    requires shape { IsShapeOf (length packet.now) shape.now }
+    requires all { length parity.now ≡ 1920 }
+    requires parity { HoldsParity (Some shape.now) packet.now parity.now }
+    requires within { i < shape.now.count }
+    ensures fragment { IsFragmentOf shape.now seq packet.now i (take result room.new) }
+    ensures small { result ≤ 1500 }
+    ensures long { length room.new ≡ 1500 }
 {
     let len = parity_len(shape, packet.len());
-    let mut fragment = [0; 1500];
-    let written = write_fragment(shape, seq, i, packet, &parity[..len], &mut fragment);
-    into.copy_from_slice(&fragment);
-    written
+    write_fragment(shape, seq, i, packet, &parity[..len], room)
 }

@@ -24,6 +24,7 @@ pub fn write_payload(plan: &Schedule, t: u32, into: &mut [u8; 8180]) -> usize
     ensures written { (parts : Parts) × IsFrameAt plan.now t parts × IsWrittenOf parts (take result into.new) }
     ensures len { Some (result + 12) ≡ option_map (λ c. sizes.packet_len c (t % 3 == 0)) (config_of plan.now (t / 3)) }
     ensures small { result ≤ 8180 }
+    ensures long { length into.new ≡ 8180 }
 {
     let config = config_of_frame(plan, t);
     // For its clauses alone: they say that all fits.

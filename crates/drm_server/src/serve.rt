@@ -1,13 +1,20 @@
-//! A schedule to a sink.
+//! A schedule to a sink, which is called once for some KiB.
 
-ghost use Rattle.std.specs.Prelude.{◌≡◌, ◌≤◌, IfOk, OnOk, OnErr, IsErr};
+ghost use Rattle.std.specs.Prelude.{◌≡◌, ◌+◌, ◌≤◌, ◌<◌, ◌++◌, ℕ, length, take, IfOk, OnOk, OnErr, IsErr};
 ghost use Rattle.drm_links.specs.Told.{HasCause};
-ghost use Rattle.drm_links.specs.Sink.{Outputs};
+ghost use Rattle.drm_links.specs.Sink.{Outputs, IsFront};
+ghost use Rattle.drm_server.specs.Datagrams.{HasDatagrams};
 ghost use Rattle.drm_server.specs.Capture.{IsCapture, IsFrontOfCapture, IsCount};
-ghost use Rattle.drm_server.specs.OneFrame.{WroteFrame, IsPartOfFrame};
+ghost use Rattle.drm_server.specs.Gathering.{GathersDatagram, IsFrontWithDatagram, GathersFrame, IsFrontOfFrame};
 
 use crate::Server;
 use drm_links::{Sink, WriteFault, write_all};
+
+// Room in which datagrams wait for those behind them.
+const ROOM: usize = 32_768;
+
+// The most bytes of a datagram that waits: the packet of a frame, whole.
+const MOST: usize = 8192;
 
 /// Writes the datagrams of all frames, in order from the first one on, and gives their number.
 pub fn serve_sink<O: Sink>(server: &mut Server<'_>, out: &mut O) -> Result<u64, WriteFault>
@@ -17,27 +24,76 @@ pub fn serve_sink<O: Sink>(server: &mut Server<'_>, out: &mut O) -> Result<u64, 
     ensures cause { HasCause (O.faults out.old) (O.faults out.new) (IsErr result) }
     ensures schedule { server.new.plan ≡ server.old.plan }
 {
+    let mut room = [0; ROOM];
+    let mut waiting = 0;
     let mut written = 0;
     for t in 0..server.frames() {
         server.load(t);
-        written += write_frame(server, out)?;
+        waiting = gather_frame(server, &mut room, waiting, out)?;
+        written += u64::from(server.fragments());
     }
+    write_all(out, &room[..waiting])?;
     Ok(written)
 }
 
-// Writes the datagrams of the frame that is loaded.
-fn write_frame<O: Sink>(server: &mut Server<'_>, out: &mut O) -> Result<u64, WriteFault>
-    ensures whole { IfOk result (λ n. WroteFrame server.old.plan server.old.frame n
-        (O.tells out.old) (O.tells out.new)) }
-    ensures few { IfOk result (λ n. n ≤ 1024) }
-    ensures part { OnErr result (Outputs (O.tells out.old) (O.tells out.new)
-        (IsPartOfFrame server.old.plan server.old.frame)) }
+// Puts the datagrams of the frame that is loaded behind the bytes that wait in the room, and gives how many wait then.
+fn gather_frame<O: Sink>(
+    server: &Server<'_>,
+    room: &mut [u8],
+    waiting: usize,
+    out: &mut O,
+) -> Result<usize, WriteFault>
+    requires room { waiting + 8192 ≤ length room.old }
+    ensures gathered { IfOk result (λ n. GathersFrame server.now.plan server.now.frame
+        (take waiting room.old) (take n room.new) (O.tells out.old) (O.tells out.new)) }
+    ensures front { OnErr result (Outputs (O.tells out.old) (O.tells out.new)
+        (IsFrontOfFrame server.now.plan server.now.frame (take waiting room.old))) }
+    ensures left { IfOk result (λ n. n + 8192 ≤ length room.new) }
+    ensures long { length room.new ≡ length room.old }
     ensures cause { HasCause (O.faults out.old) (O.faults out.new) (IsErr result) }
-    ensures server { server.new ≡ server.old }
 {
-    let count = server.fragments();
-    for i in 0..count {
-        write_all(out, server.datagram(i))?;
+    let mut waiting = waiting;
+    for i in 0..server.fragments() {
+        waiting = gather(server, i, room, waiting, out)?;
     }
-    Ok(u64::from(count))
+    Ok(waiting)
+}
+
+// Puts one datagram behind the bytes that wait.
+fn gather<O: Sink>(
+    server: &Server<'_>,
+    i: u32,
+    room: &mut [u8],
+    waiting: usize,
+    out: &mut O,
+) -> Result<usize, WriteFault>
+    requires within { (count : ℕ) × HasDatagrams server.now.plan server.now.frame count × (i < count) }
+    requires room { waiting + 8192 ≤ length room.old }
+    ensures gathered { IfOk result (λ n. GathersDatagram server.now.plan server.now.frame i
+        (take waiting room.old) (take n room.new) (O.tells out.old) (O.tells out.new)) }
+    ensures front { OnErr result (Outputs (O.tells out.old) (O.tells out.new)
+        (IsFrontWithDatagram server.now.plan server.now.frame i (take waiting room.old))) }
+    ensures left { IfOk result (λ n. n + 8192 ≤ length room.new) }
+    ensures long { length room.new ≡ length room.old }
+    ensures cause { HasCause (O.faults out.old) (O.faults out.new) (IsErr result) }
+{
+    let waiting = waiting + server.write_datagram(i, &mut room[waiting..]);
+    pass_on(room, waiting, out)
+}
+
+// Writes what waits where the room may be too small for the next datagram, and gives how many bytes wait then.
+fn pass_on<O: Sink>(room: &[u8], waiting: usize, out: &mut O) -> Result<usize, WriteFault>
+    requires within { waiting ≤ length room.now }
+    requires room { 8192 ≤ length room.now }
+    ensures whole { IfOk result (λ n. Outputs (O.tells out.old) (O.tells out.new)
+        (λ text. take waiting room.now ≡ text ++ take n room.now)) }
+    ensures front { OnErr result (Outputs (O.tells out.old) (O.tells out.new) (IsFront (take waiting room.now))) }
+    ensures left { IfOk result (λ n. n + 8192 ≤ length room.now) }
+    ensures cause { HasCause (O.faults out.old) (O.faults out.new) (IsErr result) }
+{
+    if room.len() - waiting >= MOST {
+        return Ok(waiting);
+    }
+    write_all(out, &room[..waiting])?;
+    Ok(0)
 }

@@ -1,6 +1,6 @@
 //! The server of a schedule.
 
-ghost use Rattle.std.specs.Prelude.{ℕ, ◌≡◌, ◌*◌, ◌<◌, ◌≤◌, length, IfOk};
+ghost use Rattle.std.specs.Prelude.{ℕ, ◌≡◌, ◌*◌, ◌<◌, ◌≤◌, length, take, IfOk};
 ghost use Rattle.std.specs.Borrow.{sem};
 ghost use Rattle.drm_server.specs.Frames.{IsPacketAt};
 ghost use Rattle.drm_server.specs.Datagrams.{HasDatagrams, IsDatagramAt};
@@ -89,6 +89,7 @@ impl<'a> Server<'a> {
     /// How many frames there are.
     pub fn frames(&self) -> u32
         ensures frames { result ≡ 3 * self.now.plan.length }
+        ensures some { 1 ≤ result }
         ensures few { result ≤ 3000000 }
     {
         self.plan.always_valid();
@@ -136,6 +137,24 @@ impl<'a> Server<'a> {
         }
     }
 
+    /// Writes the datagram with this number, from 0, of the frame that is loaded to the front, and gives its length.
+    pub(crate) fn write_datagram(&self, i: u32, into: &mut [u8]) -> usize
+        requires within { (count : ℕ) × HasDatagrams self.now.plan self.now.frame count × (i < count) }
+        requires room { 8192 ≤ length into.old }
+        ensures datagram { IsDatagramAt self.now.plan self.now.frame i (take result into.new) }
+        ensures small { result ≤ 8192 }
+        ensures long { length into.new ≡ length into.old }
+    {
+        let packet = &self.buffer[..self.len];
+        match self.cut {
+            None => write_whole(packet, into),
+            Some(shape) => {
+                let seq = sequence_number(self.plan, self.frame);
+                write_cut(packet, &shape, &self.parity, seq, i, into)
+            }
+        }
+    }
+
     /// The datagram with this number, from 0, of the frame that is loaded.
     pub fn datagram(&mut self, i: u32) -> &[u8]
         requires within { (count : ℕ) × HasDatagrams self.old.plan self.old.frame count × (i < count) }
@@ -153,6 +172,17 @@ impl<'a> Server<'a> {
             }
         }
     }
+}
+
+// Writes a packet to the front, and gives its length.
+fn write_whole(packet: &[u8], into: &mut [u8]) -> usize
+    requires { length packet.now ≤ length into.old }
+    ensures packet { take result into.new ≡ packet.now }
+    ensures len { result ≡ length packet.now }
+    ensures long { length into.new ≡ length into.old }
+{
+    into[..packet.len()].copy_from_slice(packet);
+    packet.len()
 }
 
 // So many zeros.

@@ -1,49 +1,73 @@
-use Rattle.std.proofs.Common.{◌≡◌, ◌∙◌, ◌+◌, ◌*◌, ◌++◌, length, ap, subst, arith, length-append}
+use Rattle.std.proofs.Common.{◌≡◌, ◌∙◌, ◌+◌, ◌*◌, ◌≤◌, ℕ, suc, List, ◌++◌, length, take, ap, sym, subst, arith, length-append}
 use Rattle.std.proofs.lemmas.Result.{err_from_is_err_and}
+use Rattle.std.specs.List.{concat}
 use Rattle.drm_schedule.specs.declared.plan.Plan.{Plan}
 use Rattle.drm_links.specs.Sink.{Outputs}
 use Rattle.drm_server.specs.Serving.{Serving}
-use Rattle.drm_server.specs.OneFrame.{WroteFrame, IsPartOfFrame}
-use Rattle.drm_server.specs.Datagrams.{AreOfFrames}
-use Rattle.drm_server.proofs.DatagramLemmas.{next_frame, at_frame}
-use Rattle.drm_server.proofs.CaptureLemmas.{then_written, part_written, all_written}
+use Rattle.drm_server.specs.Datagrams.{AreFirst, AreOfFrames, HasDatagrams}
+use Rattle.drm_server.specs.Gathering.{GathersFrame, IsFrontOfFrame}
+use Rattle.drm_server.proofs.DatagramLemmas.{next_frame, at_frame, first_length}
+use Rattle.drm_server.proofs.OneDelivery.{one_count}
+use Rattle.drm_server.proofs.CaptureLemmas.{gathers_frame, part_written, end_written, all_written, one_or_more}
 use Rattle.drm_server.proofs.serve.serve_sink.Goals as goal
 
-pub returns-in_err-written-clause-front : goal.returns-in_err-written-clause-front
-returns-in_err-written-clause-front g c =
+pub returns-in_err-waiting-clause-front : goal.returns-in_err-waiting-clause-front
+returns-in_err-waiting-clause-front g c =
     let i = c.loop-t.invariant in
     let plan : Plan = c.args.server.now.plan in
+    let waits : List ℕ = take c.loop-t.waiting c.loop-t.room in
     let p = err_from_is_err_and c.from_residual.result c.from_residual.ensures.1 in
-    let P : Serving → Type 0 = λ s. Outputs (g.O.Sink.tells c.loop-t.out) (g.O.Sink.tells c.write_frame.new.out) (IsPartOfFrame s.plan s.frame) in
-    let part = subst P (at_frame c.loop-t.server c.load.new.self plan c.loop-t.t c.load.ensures i.4) c.in_err-written.ensures.part in
-    rw p.1 (part_written plan c.loop-t.t i.0 (g.O.Sink.tells c.args.out.now) (g.O.Sink.tells c.loop-t.out) (g.O.Sink.tells c.write_frame.new.out) (omega (arith, c.loop-t-test.true, c.frames-t-end.ensures.frames)) i.1 i.2 part)
+    let P : Serving → Type 0 = λ s. Outputs (g.O.Sink.tells c.loop-t.out) (g.O.Sink.tells c.gather_frame.new.out) (IsFrontOfFrame s.plan s.frame waits) in
+    let part = subst P (at_frame c.loop-t.server c.load.new.self plan c.loop-t.t c.load.ensures i.7) c.in_err-waiting.ensures.front in
+    rw p.1 (part_written plan c.loop-t.t i.0 waits (g.O.Sink.tells c.args.out.now) (g.O.Sink.tells c.loop-t.out) (g.O.Sink.tells c.gather_frame.new.out)
+    (omega (arith, c.loop-t-test.true, c.frames-t-end.ensures.frames)) i.1 i.2 part)
 
 pub loop-t-preserved : goal.loop-t-preserved
 loop-t-preserved g c =
     let i = c.loop-t.invariant in
     let plan : Plan = c.args.server.now.plan in
-    let P : Serving → Type 0 = λ s. WroteFrame s.plan s.frame c.in_ok-written.field-0 (g.O.Sink.tells c.loop-t.out) (g.O.Sink.tells c.write_frame.new.out) in
-    let w = subst P (at_frame c.loop-t.server c.load.new.self plan c.loop-t.t c.load.ensures i.4) c.in_ok-written.ensures.whole in
+    let t : ℕ = c.loop-t.t in
+    let then_waits : List ℕ = take c.loop-t.waiting c.loop-t.room in
+    let waits : List ℕ = take c.in_ok-waiting.waiting c.gather_frame.new.room in
+    let loaded = at_frame c.loop-t.server c.load.new.self plan t c.load.ensures i.7 in
+    let P : Serving → Type 0 = λ s. GathersFrame s.plan s.frame then_waits waits (g.O.Sink.tells c.loop-t.out) (g.O.Sink.tells c.gather_frame.new.out) in
+    let w = subst P loaded c.in_ok-waiting.ensures.gathered in
+    let has : HasDatagrams plan t c.fragments.result = subst (λ (s : Serving). HasDatagrams s.plan s.frame c.fragments.result) loaded c.fragments.ensures.datagrams in
+    let count : w.1.0 ≡ c.fragments.result = one_count plan t w.1.0 c.fragments.result w.1.1 has in
+    let size : length w.0 ≡ c.fragments.result = first_length plan t w.1.0 w.0 w.1.2 ∙ count in
     let long : length (i.0 ++ w.0) ≡ length i.0 + length w.0 = length-append i.0 w.0 in (
       i.0 ++ w.0,
-      next_frame plan c.loop-t.t i.0 w.0 i.1 w.1,
-      then_written i.0 w.0 (g.O.Sink.tells c.args.out.now) (g.O.Sink.tells c.loop-t.out) (g.O.Sink.tells c.write_frame.new.out) i.2 w.3,
-      omega (arith, i.3, c.write_frame.ensures.cause.later),
-      ap (λ (s : Serving). s.plan) (c.write_frame.ensures.server ∙ c.load.ensures) ∙ i.4,
-      omega (arith, i.5, w.2, long),
-      omega (arith, i.6, c.in_ok-written.ensures.few),
+      next_frame plan t i.0 w.0 i.1 w.1,
+      gathers_frame i.0 w.0 then_waits waits (g.O.Sink.tells c.args.out.now) (g.O.Sink.tells c.loop-t.out) (g.O.Sink.tells c.gather_frame.new.out) i.2 w.2,
+      (λ some. one_or_more plan t w.1.0 (omega (arith, c.loop-t-test.true, c.frames-t-end.ensures.frames)) (omega (arith, count, c.fragments.ensures.some)) i.0 w.0 i.1 w.1.2),
+      c.in_ok-waiting.ensures.left,
+      c.gather_frame.ensures.long ∙ i.5,
+      omega (arith, i.6, c.gather_frame.ensures.cause.later),
+      ap (λ (s : Serving). s.plan) c.load.ensures ∙ i.7,
+      omega (arith, i.8, size, long, c.from-written.ensures),
+      omega (arith, i.9, c.from-written.ensures, c.fragments.ensures.few),
     )
+
+pub returns-in_err-write_all-clause-front : goal.returns-in_err-write_all-clause-front
+returns-in_err-write_all-clause-front g c =
+    let i = c.loop-t.invariant in
+    let plan : Plan = c.args.server.now.plan in
+    let all : c.loop-t.t ≡ 3 * plan.length = omega (arith, c.loop-t-test.false, c.loop-t.auto.t-end, c.frames-t-end.ensures.frames) in
+    let p = err_from_is_err_and c.from_residual-in_err-write_all.result c.from_residual-in_err-write_all.ensures.1 in
+    rw p.1 (end_written plan c.loop-t.t i.0 (take c.loop-t.waiting c.loop-t.room) (g.O.Sink.tells c.args.out.now) (g.O.Sink.tells c.loop-t.out) (g.O.Sink.tells c.write_all.new.out)
+    (omega (arith, all)) i.1 (i.3 (omega (arith, all, c.frames-t-end.ensures.frames, c.frames-t-end.ensures.some))) i.2 c.in_err-write_all.ensures.front)
 
 pub returns-clause-whole : goal.returns-clause-whole
 returns-clause-whole g c =
     let i = c.loop-t.invariant in
     let plan : Plan = c.args.server.now.plan in
     let all : c.loop-t.t ≡ 3 * plan.length = omega (arith, c.loop-t-test.false, c.loop-t.auto.t-end, c.frames-t-end.ensures.frames) in
-    all_written plan i.0 (g.O.Sink.tells c.args.out.now) (g.O.Sink.tells c.loop-t.out) (subst (λ k. AreOfFrames plan k i.0) all i.1) i.2
+    all_written plan i.0 (take c.loop-t.waiting c.loop-t.room) (g.O.Sink.tells c.args.out.now) (g.O.Sink.tells c.loop-t.out) (g.O.Sink.tells c.write_all.new.out)
+    (subst (λ k. AreOfFrames plan k i.0) all i.1) i.2 c.in_ok-write_all.ensures.whole
 
 pub returns-clause-count : goal.returns-clause-count
 returns-clause-count g c =
     let i = c.loop-t.invariant in
     let plan : Plan = c.args.server.now.plan in
     let all : c.loop-t.t ≡ 3 * plan.length = omega (arith, c.loop-t-test.false, c.loop-t.auto.t-end, c.frames-t-end.ensures.frames) in
-    (i.0, subst (λ k. AreOfFrames plan k i.0) all i.1, i.5)
+    (i.0, subst (λ k. AreOfFrames plan k i.0) all i.1, i.8)

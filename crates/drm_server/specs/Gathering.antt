@@ -1,0 +1,29 @@
+-- What becomes of datagrams that wait in a room for those behind them, so that a sink is called once for many.
+use Rattle.std.specs.Prelude.{ℕ, suc, ◌≡◌, List, ◌++◌, Option}
+use Rattle.std.specs.List.{concat}
+use Rattle.drm_schedule.specs.declared.plan.Plan.{Plan}
+use Rattle.drm_links.specs.Sink.{Output, Outputs, IsFront}
+use Rattle.drm_server.specs.Datagrams.{AreOfFrame, AreFirst, IsDatagramAt}
+
+-- What waited, and these bytes behind it, was written, but for what waits now.
+abbrev pub Gathers : List ℕ → List ℕ → List ℕ → Option Output → Option Output → Type 0
+Gathers waited bytes waits before after = Outputs before after (λ text. waited ++ bytes ≡ text ++ waits)
+
+-- the bytes are datagram i of frame t
+abbrev pub GathersDatagram : Plan → ℕ → ℕ → List ℕ → List ℕ → Option Output → Option Output → Type 0
+GathersDatagram plan t i waited waits before after =
+    (datagram : List ℕ) × IsDatagramAt plan t i datagram × Gathers waited datagram waits before after
+
+-- a front of what waited, and of datagram i of frame t behind it
+abbrev pub IsFrontWithDatagram : Plan → ℕ → ℕ → List ℕ → List ℕ → Type 0
+IsFrontWithDatagram plan t i waited text = (datagram : List ℕ) × IsDatagramAt plan t i datagram × IsFront (waited ++ datagram) text
+
+-- the bytes are the datagrams of frame t
+abbrev pub GathersFrame : Plan → ℕ → List ℕ → List ℕ → Option Output → Option Output → Type 0
+GathersFrame plan t waited waits before after =
+    (datagrams : List (List ℕ)) × AreOfFrame plan t datagrams × Gathers waited (concat datagrams) waits before after
+
+-- a front of what waited, and of some first datagrams of frame t behind it
+abbrev pub IsFrontOfFrame : Plan → ℕ → List ℕ → List ℕ → Type 0
+IsFrontOfFrame plan t waited text =
+    (i : ℕ) × (datagrams : List (List ℕ)) × AreFirst plan t (suc i) datagrams × IsFront (waited ++ concat datagrams) text
