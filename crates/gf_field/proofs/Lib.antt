@@ -6,4 +6,7 @@ pub mod Product
 pub mod Times
 pub mod Inverse
 pub mod Powers
-pub mod Steps
+mod FourBits
+mod TableProducts
+mod TableEntries
+mod LaneProducts

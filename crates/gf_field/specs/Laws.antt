@@ -1,5 +1,5 @@
 -- The laws of the field.
-use Rattle.std.specs.Prelude.{ℕ, ◌≡◌, ◌+◌, ◌^◌, ◌<◌, ◌↔◌, bit_xor}
+use Rattle.std.specs.Prelude.{ℕ, ◌≡◌, ◌+◌, ◌^◌, ◌<◌, ◌↔◌, List, bit_xor, slice_index}
 use Rattle.gf_field.specs.Field.{IsProduct, times, power}
 
 -- `times` gives what remains of the product of polynomials, and nothing else remains of it
@@ -22,3 +22,13 @@ pub record ArePowerLaws : Type 0 where
   pub distinct : (m n : ℕ) → m < 255 → n < 255 → power m ≡ power n → m ≡ n
   pub sum : (m n : ℕ) → power (m + n) ≡ times (power m) (power n)
   pub around : power 255 ≡ 1
+
+-- place j of a table of powers holds 2 to the j
+abbrev pub ArePowers : List ℕ → Type 0
+ArePowers powers = (j : ℕ) → j < 255 → slice_index powers j ≡ power j
+
+-- place v of a table of logarithms holds the place of v among the powers, and place 0 holds 0
+pub record AreLogarithms (logs powers : List ℕ) : Type 0 where
+  pub none : slice_index logs 0 ≡ 0
+  pub below : (v : ℕ) → 0 < v → v < 2 ^ 8 → slice_index logs v < 255
+  pub power : (v : ℕ) → 0 < v → v < 2 ^ 8 → slice_index powers (slice_index logs v) ≡ v

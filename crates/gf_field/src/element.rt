@@ -3,7 +3,7 @@
 ghost use Rattle.std.specs.Prelude.{◌≡◌, ◌≢◌, ℕ, ◌^◌, ◌<◌, bit_xor};
 ghost use Rattle.gf_field.specs.Field.{power, times, IsProduct};
 
-use crate::shifts::{doubled, inverse_of, product_of};
+use crate::tables::{inverse_of, power_of, product_of};
 use std::marker::Model;
 
 /// An element of the field: a polynomial over bits of degree below 8, bit i the coefficient of x to the i.
@@ -49,10 +49,6 @@ impl Gf {
         ensures { result ≡ power n }
     {
         // 2 to the 255 is 1.
-        let mut element = 1;
-        for _i in 0..n % 255 {
-            element = doubled(element);
-        }
-        Gf(element)
+        Gf(power_of((n % 255) as u8))
     }
 }

@@ -3,8 +3,14 @@
 #![tactic(auto)]
 
 mod element;
+mod inverses;
+mod lanes;
 mod laws;
-mod shifts;
+mod logarithms;
+mod nibbles;
+mod tables;
 
 pub use element::Gf;
-pub use laws::{field_laws, power_laws, product_is_remainder};
+pub use lanes::{mul_lanes, scaled};
+pub use laws::{field_laws, logarithm_table, power_laws, power_table, product_is_remainder};
+pub use logarithms::{LOGS, POWERS};
