@@ -1,5 +1,5 @@
 -- Products of lanes by shifts and sums, lane by lane.
-use Rattle.std.proofs.Common.{◌≡◌, ℕ, ◌+◌, ◌-◌, ◌*◌, ◌/◌, ◌%◌, ◌^◌, ◌<◌, zero, suc, Bool, true, false, ◌==◌, if◌then◌else◌, List, [], ◌∷◌, length, map, get_or, refl, sym, subst, ◌∙◌, ap, ap₂, arith, cond, replicate, bit_xor, bit_and, w8, add-one}
+use Rattle.std.proofs.Common.{◌≡◌, ℕ, ◌+◌, ◌-◌, ◌*◌, ◌/◌, ◌%◌, ◌^◌, ◌<◌, zero, suc, Bool, true, false, ◌==◌, List, [], ◌∷◌, length, map, get_or, refl, sym, subst, ◌∙◌, ap, ap₂, arith, cond, replicate, bit_xor, bit_and, w8, add-one}
 use Rattle.std.proofs.lemmas.Nat.{and_mask, shr-shr, xor_comm}
 use Rattle.std.proofs.lemmas.Bool.{eqb-true}
 use lib.Lanes.{zip2, sel_l, top, Each1}

@@ -1,8 +1,7 @@
 -- What the loops over the equations write and read, by their indices.
-use Rattle.std.proofs.Common.{[], All, List, ap, ap₂, arith, bit_xor, drop, get_or, length, length-take, refl, subst, suc, sym, take, zero, ℕ, ◌+◌, ◌-◌, ◌<◌, ◌∙◌, ◌∷◌, ◌≡◌, ◌≤◌}
+use Rattle.std.proofs.Common.{[], All, List, ap, ap₂, arith, bit_xor, get_or, length, length-take, refl, subst, suc, sym, take, zero, ℕ, ◌+◌, ◌-◌, ◌<◌, ◌∙◌, ◌∷◌, ◌≡◌, ◌≤◌}
 use Rattle.std.proofs.lemmas.List.{ext_get_or, get_or-take}
 use Rattle.std.proofs.lemmas.Nat.{xor_of_8}
-use Rattle.std.specs.Int.Bits.{xor_assoc}
 use Rattle.gf_field.proofs.Polynomial.{same_from_xor}
 use Rattle.gf_field.proofs.Times.{times-lt, times_assoc, times_comm, times_one}
 use Rattle.gf_field.specs.Field.{times}
@@ -51,19 +50,6 @@ remaining_values_by_index y (x ∷ xs) (v ∷ vs) (u ∷ us) lv lu h =
 pub divided : (v d i r : ℕ) → v < 256 → times d i ≡ 1 → r ≡ times v i → times r d ≡ v
 divided v d i r lv one e =
     ap (λ (m : ℕ). times m d) e ∙ times_assoc v i d ∙ ap (times v) (times_comm i d ∙ one) ∙ times_one v lv
-
-pub power_sum_step : (xs vs : List ℕ) (i : ℕ) → length vs ≡ length xs → i < length xs
-    → power_sum 1 (drop i xs) (drop i vs) ≡ bit_xor (times (get_or vs i 0) (get_or xs i 0)) (power_sum 1 (drop (i + 1) xs) (drop (i + 1) vs))
-power_sum_step [] vs i lv lt = absurd (omega arith)
-power_sum_step (x ∷ xs) [] i lv lt = absurd (omega arith)
-power_sum_step (x ∷ xs) (v ∷ vs) zero lv lt =
-    ap (λ (m : ℕ). bit_xor m (power_sum 1 xs vs)) (sym (times_assoc v x 1) ∙ times_one (times v x) (times-lt v x))
-power_sum_step (x ∷ xs) (v ∷ vs) (suc i) lv lt =
-    power_sum_step xs vs i (omega arith) (omega arith)
-    ∙ ap (λ (n : ℕ). bit_xor (times (get_or vs i 0) (get_or xs i 0)) (power_sum 1 (drop n (x ∷ xs)) (drop n (v ∷ vs)))) (let e : suc (i + 1) ≡ suc i + 1 = omega arith in e)
-
-pub sum_more : (sum v x t : ℕ) (whole rest after : ℕ) → bit_xor sum rest ≡ whole → rest ≡ bit_xor (times v x) after → t ≡ bit_xor sum (times v x) → bit_xor t after ≡ whole
-sum_more sum v x t whole rest after e r h = ap (λ (m : ℕ). bit_xor m after) h ∙ xor_assoc sum (times v x) after ∙ ap (bit_xor sum) (sym r) ∙ e
 
 -- all zeros are the syndromes of no values
 pub zero_sums : (j : ℕ) (s : List ℕ) → All (λ a. a ≡ 0) s → SumsFrom j [] [] s

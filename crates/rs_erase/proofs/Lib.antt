@@ -7,6 +7,11 @@ pub mod EquationLoops
 pub mod WordValues
 pub mod ErasedPlaces
 pub mod Solutions
+pub mod LaneRows
+pub mod RemainderTable
 pub mod ShiftRegister
+pub mod RootSums
+pub mod FromZero
+pub mod RemovedPlaces
 pub mod OneWord
 pub mod Decided

@@ -1,5 +1,5 @@
 -- The laws of polynomials over the field.
-use Rattle.std.proofs.Common.{[], List, ap, ap₂, arith, bit_xor, length, refl, sym, ℕ, ◌<◌, ◌∙◌, ◌∷◌, ◌≡◌, ◌≤◌}
+use Rattle.std.proofs.Common.{[], List, ap, ap₂, arith, bit_xor, get_or, length, refl, suc, sym, zero, ℕ, ◌<◌, ◌∙◌, ◌∷◌, ◌≡◌, ◌≤◌}
 use Rattle.std.proofs.lemmas.Nat.{xor_comm, xor_of_8}
 use Rattle.std.specs.Int.Bits.{xor_assoc, xor_zero_r}
 use Rattle.gf_field.proofs.Polynomial.{xor_four}
@@ -134,3 +134,14 @@ add_elements (a ∷ p) (b ∷ q) hp hq =
 pub mul_elements : (p q : List ℕ) → AreElements (mul p q)
 mul_elements [] q = no_elements
 mul_elements (a ∷ p) q = add_elements (scale a q) (0 ∷ mul p q) (scale_elements a q) (cons_elements 0 (mul p q) (omega arith) (mul_elements p q))
+
+pub get_or_add : (a b : List ℕ) (j : ℕ) → j < length a → j < length b → get_or (add a b) j 0 ≡ bit_xor (get_or a j 0) (get_or b j 0)
+get_or_add [] b j la lb = absurd (omega arith)
+get_or_add (x ∷ a) [] j la lb = absurd (omega arith)
+get_or_add (x ∷ a) (y ∷ b) zero la lb = refl
+get_or_add (x ∷ a) (y ∷ b) (suc j) la lb = get_or_add a b j (omega arith) (omega arith)
+
+pub get_or_scale : (f : ℕ) (q : List ℕ) (j : ℕ) → j < length q → get_or (scale f q) j 0 ≡ times f (get_or q j 0)
+get_or_scale f [] j lt = absurd (omega arith)
+get_or_scale f (y ∷ q) zero lt = refl
+get_or_scale f (y ∷ q) (suc j) lt = get_or_scale f q j (omega arith)

@@ -1,117 +1,118 @@
 -- The shift register of the parity.
-use Rattle.std.proofs.Common.{[], List, ap, ap₂, arith, bit_xor, drop, get_or, length, length-append, ltb, refl, replicate, reverse, slice_set, subst, suc, sym, take, ℕ, ◌++◌, ◌+◌, ◌-◌, ◌<◌, ◌∙◌, ◌∷◌, ◌≡◌, ◌≤◌}
-use Rattle.std.proofs.Math.Seq.{set-append_seam}
-use Rattle.std.proofs.lemmas.Bool.{ltb-true}
-use Rattle.std.proofs.lemmas.List.{length-replicate}
-use Rattle.std.proofs.lemmas.List.Elements.{All-set}
-use Rattle.std.specs.Int.Bits.{xor_self, xor_zero_r}
-use Rattle.gf_field.proofs.EachBelow.{each_at}
-use Rattle.gf_field.proofs.Polynomial.{same_from_xor, xor_four}
-use Rattle.gf_field.proofs.Times.{one_times, times_assoc, times_comm, times_xor, times_zero, xor_times, zero_times}
-use Rattle.gf_field.specs.Field.{polynomial_product, power, remainder, times}
-use Rattle.rs_erase.specs.Code.{AreElements, IsCodeWord, generator, word_of}
+use Rattle.std.proofs.Common.{◌≡◌, ℕ, ◌+◌, ◌-◌, ◌*◌, ◌<◌, ◌≤◌, List, [], ◌∷◌, ◌++◌, length, length-append, take, replicate, get_or, sym, ap, ap₂, ◌∙◌, arith, bit_xor}
+use Rattle.std.proofs.Math.Seq.{take-add}
+use Rattle.std.proofs.lemmas.List.{append_assoc, length-replicate, take_all}
+use Rattle.std.proofs.lemmas.Nat.{xor_comm}
+use Rattle.std.specs.Int.Bits.{xor_assoc, xor_self, xor_zero_r}
+use lib.Lanes.{chunk, zip2}
+use Rattle.gf_field.specs.Field.{power, times}
+use Rattle.gf_field.proofs.Polynomial.{xor_four}
+use Rattle.gf_field.proofs.Times.{times_assoc, times_comm, times_xor, times_zero, xor_times, zero_times}
+use Rattle.rs_erase.specs.Code.{AreElements, IsCodeWord, word_of}
 use Rattle.rs_erase.specs.Equations.{nth_power, word_value}
-use Rattle.rs_erase.specs.Polynomial.{add, scale, value}
-use Rattle.rs_erase.specs.Register.{IsRemainder, sum_with_multiple}
-use Rattle.rs_erase.specs.declared.parity.TheConstants.{GENERATOR}
+use Rattle.rs_erase.specs.Polynomial.{add, scale}
+use Rattle.rs_erase.specs.Register.{IsRemainder}
+use Rattle.rs_erase.specs.declared.remainders.TheConstants.{REMAINDERS}
 use Rattle.rs_erase.proofs.CodeWords.{code_word_from}
-use Rattle.rs_erase.proofs.Division.{generator_root}
-use Rattle.rs_erase.proofs.Elements.{append_elements, cons_elements, elements_each, no_elements, zeros_elements}
-use Rattle.rs_erase.proofs.OnePlaceLess.{swap, xor_twice}
-use Rattle.rs_erase.proofs.PolynomialLaws.{add_elements, length-scale, scale_elements}
-use Rattle.rs_erase.proofs.WordValues.{length-add_same, nth_power-lt, one_more, value-reverse, word_value_add, word_value_append, word_value_scale, word_value_zeros}
-
-pub cancelled : (a b c d : ℕ) → bit_xor (bit_xor a b) (bit_xor (bit_xor c d) (bit_xor b d)) ≡ bit_xor a c
-cancelled a b c d =
-    ap (bit_xor (bit_xor a b)) (xor_four c d b d ∙ ap (bit_xor (bit_xor c b)) (xor_self d) ∙ xor_zero_r (bit_xor c b))
-    ∙ xor_four a b c b ∙ ap (bit_xor (bit_xor a c)) (xor_self b) ∙ xor_zero_r (bit_xor a c)
-
--- one byte more, where the coefficients make what the leading 1 takes away
-pub shift_step : (x b r : ℕ) (m t g : List ℕ) → length g ≡ suc (length t) → word_value x g ≡ nth_power x (suc (length t)) → word_value x (m ++ r ∷ t) ≡ 0
-    → word_value x ((m ++ b ∷ []) ++ add (t ++ 0 ∷ []) (scale (bit_xor b r) g)) ≡ 0
-shift_step x b r m t g lg hg h =
-    let n = length t in let f = bit_xor b r in
-    let y = nth_power x 1 in let big = nth_power x (suc n) in
-    let mv = word_value x m in let tv = word_value x t in let v = bit_xor tv (times r (nth_power x n)) in
-    let ls : length (scale f g) ≡ suc n = length-scale f g ∙ lg in
-    let lt : length (t ++ 0 ∷ []) ≡ length (scale f g) = omega (arith, length-append t (0 ∷ []), ls) in
-    let la : length (add (t ++ 0 ∷ []) (scale f g)) ≡ suc n = length-add_same (t ++ 0 ∷ []) (scale f g) lt ∙ ls in
-    let before : bit_xor (times mv big) v ≡ 0 = sym (word_value_append x m (r ∷ t)) ∙ h in
-    let yn : times y (nth_power x n) ≡ big = times_assoc x 1 (nth_power x n) ∙ ap (times x) (one_times (nth_power x n) (nth_power-lt x n)) in
-    let yv : times y v ≡ bit_xor (times y tv) (times r big) = times_xor y tv (times r (nth_power x n)) ∙ ap (bit_xor (times y tv)) (swap y r (nth_power x n) ∙ ap (times r) yn) in
-    let yt : times y tv ≡ bit_xor (times y v) (times r big) = sym (xor_twice (times y tv) (times r big)) ∙ ap (λ (z : ℕ). bit_xor z (times r big)) (sym yv) in
-    let first : times (word_value x (m ++ b ∷ [])) big ≡ bit_xor (times y (times mv big)) (times b big) =
-    ap (λ (z : ℕ). times z big) (one_more x b m) ∙ xor_times (times mv y) (times b 1) big
-    ∙ ap₂ bit_xor (ap (λ (z : ℕ). times z big) (times_comm mv y) ∙ times_assoc y mv big)
-    (times_assoc b 1 big ∙ ap (times b) (one_times big (nth_power-lt x (suc n)))) in
-    let shifted' : word_value x (t ++ 0 ∷ []) ≡ times y tv =
-    one_more x 0 t ∙ ap (bit_xor (times tv y)) (zero_times 1) ∙ xor_zero_r (times tv y) ∙ times_comm tv y in
-    let second : word_value x (add (t ++ 0 ∷ []) (scale f g)) ≡ bit_xor (bit_xor (times y v) (times r big)) (bit_xor (times b big) (times r big)) =
-    word_value_add x (t ++ 0 ∷ []) (scale f g) lt
-    ∙ ap₂ bit_xor (shifted' ∙ yt) (word_value_scale x f g ∙ ap (times f) hg ∙ xor_times b r big) in
-    word_value_append x (m ++ b ∷ []) (add (t ++ 0 ∷ []) (scale f g))
-    ∙ ap (λ (k : ℕ). bit_xor (times (word_value x (m ++ b ∷ [])) (nth_power x k)) (word_value x (add (t ++ 0 ∷ []) (scale f g)))) la
-    ∙ ap₂ bit_xor first second
-    ∙ cancelled (times y (times mv big)) (times b big) (times y v) (times r big)
-    ∙ sym (times_xor y (times mv big) v) ∙ ap (times y) before ∙ times_zero y
-
-pub generator_is : generator 48 ≡ reverse (1 ∷ GENERATOR)
-unfolding generator power times polynomial_product remainder
-generator_is = refl
-
-pub generator_elements : AreElements (1 ∷ GENERATOR)
-generator_elements = elements_each (1 ∷ GENERATOR) (λ k lt. ltb-true _ _ (each_at 49 (λ k. ltb (get_or (1 ∷ GENERATOR) k 0) 256) refl k lt))
-
-pub taps : (x n : ℕ) (g : List ℕ) → length g ≡ n → word_value x (1 ∷ g) ≡ 0 → word_value x g ≡ nth_power x n
-taps x n g e h =
-    same_from_xor (word_value x g) (times 1 (nth_power x (length g))) h ∙ one_times (nth_power x (length g)) (nth_power-lt x (length g)) ∙ ap (nth_power x) e
-
-pub generator_taps : (j : ℕ) → 0 < j → j ≤ 48 → word_value (power j) GENERATOR ≡ nth_power (power j) 48
-generator_taps j pos le =
-    taps (power j) 48 GENERATOR refl
-    (sym (value-reverse (power j) (1 ∷ GENERATOR) generator_elements) ∙ ap (value (power j)) (sym generator_is) ∙ generator_root 48 j pos le)
-
-pub sum_with_multiple_by_index : (f : ℕ) (r g s : List ℕ) → length r ≡ length g → length s ≡ length g
-    → ((k : ℕ) → k < length g → get_or s k 0 ≡ bit_xor (get_or r k 0) (times f (get_or g k 0))) → s ≡ sum_with_multiple r f g
-unfolding sum_with_multiple
-sum_with_multiple_by_index f [] [] [] lr ls h = refl
-sum_with_multiple_by_index f [] [] (c ∷ s) lr ls h = absurd (omega arith)
-sum_with_multiple_by_index f [] (b ∷ g) s lr ls h = absurd (omega arith)
-sum_with_multiple_by_index f (a ∷ r) [] s lr ls h = absurd (omega arith)
-sum_with_multiple_by_index f (a ∷ r) (b ∷ g) [] lr ls h = absurd (omega arith)
-sum_with_multiple_by_index f (a ∷ r) (b ∷ g) (c ∷ s) lr ls h =
-    ap₂ (λ (x : ℕ) (xs : List ℕ). x ∷ xs) (h 0 (omega arith))
-    (sum_with_multiple_by_index f r g s (omega arith) (omega arith) (λ k lt. h (suc k) (omega arith)))
-
--- the register after one more byte
-pub shifted_remainder : (b f : ℕ) (r s : List ℕ) → length r ≡ 48 → f ≡ bit_xor b (get_or r 0 0)
-    → s ≡ sum_with_multiple (slice_set (drop 1 r ++ take 1 r) 47 0) f GENERATOR → (m : List ℕ) → IsRemainder m r → IsRemainder (m ++ b ∷ []) s
-unfolding sum_with_multiple
-shifted_remainder b f [] s lr hf hs m h = absurd (omega arith)
-shifted_remainder b f (r ∷ t) s lr hf hs m h =
-    let lt : length t ≡ 47 = omega arith in
-    let moved : slice_set (t ++ r ∷ []) 47 0 ≡ t ++ 0 ∷ [] =
-    ap (λ (k : ℕ). slice_set (t ++ r ∷ []) k 0) (sym lt) ∙ set-append_seam t r [] 0 in
-    let is : add (t ++ 0 ∷ []) (scale (bit_xor b r) GENERATOR) ≡ s =
-    ap₂ (λ (p : List ℕ) (k : ℕ). add p (scale k GENERATOR)) (sym moved) (sym hf) ∙ sym hs in
-    record {
-      roots = λ j pos le.
-          ap (λ (p : List ℕ). word_value (power j) ((m ++ b ∷ []) ++ p)) (sym is)
-          ∙ shift_step (power j) b r m t GENERATOR (let e : 48 ≡ suc (length t) = omega arith in e) (generator_taps j pos le ∙ ap (nth_power (power j)) (let e : 48 ≡ suc (length t) = omega arith in e)) (h.roots j pos le);
-    }
-
-pub shifted_elements : (f : ℕ) (r s : List ℕ) → ((i : ℕ) → get_or r i 0 < 256) → s ≡ sum_with_multiple (slice_set (drop 1 r ++ take 1 r) 47 0) f GENERATOR → AreElements s
-unfolding sum_with_multiple
-shifted_elements f [] s h e = subst AreElements (sym e) (scale_elements f GENERATOR)
-shifted_elements f (r ∷ t) s h e =
-    let moved : AreElements (t ++ r ∷ []) = append_elements t (r ∷ []) (elements_each t (λ k lt. h (suc k))) (cons_elements r [] (h 0) no_elements) in
-    subst AreElements (sym e)
-    (add_elements (slice_set (t ++ r ∷ []) 47 0) (scale f GENERATOR) (All-set (λ a. a < 256) (t ++ r ∷ []) 47 0 (omega arith) moved) (scale_elements f GENERATOR))
+use Rattle.rs_erase.proofs.Elements.{append_elements, zeros_elements}
+use Rattle.rs_erase.proofs.LaneRows.{length_three, sum_is}
+use Rattle.rs_erase.proofs.PolynomialLaws.{length-scale}
+use Rattle.rs_erase.proofs.RemainderTable.{row_long, row_value}
+use Rattle.rs_erase.proofs.WordValues.{length-add_same, more_symbols, nth_power_add, value-reverse, word_value_add, word_value_append, word_value_scale, word_value_zeros}
 
 pub nothing_taken : IsRemainder [] (replicate 48 0)
 nothing_taken = record { roots = λ j pos le. word_value_zeros (power j) 48 }
 
-pub length_word_of : (chunk parity : List ℕ) → length chunk ≤ 207 → length (word_of chunk parity) ≡ 207 + length parity
+-- a zero before a message changes no remainder
+pub leading_zero : (w r : List ℕ) → IsRemainder (0 ∷ w) r → IsRemainder w r
+leading_zero w r h = record {
+  roots = λ j pos le.
+      sym (ap (bit_xor (word_value (power j) (w ++ r))) (zero_times (nth_power (power j) (length (w ++ r)))) ∙ xor_zero_r (word_value (power j) (w ++ r)))
+      ∙ h.roots j pos le;
+}
+
+-- the register that was moved by sixteen places, and what remains of the first k coefficients that left it
+pub record HasTaken (leaving moved register : List ℕ) (k : ℕ) : Type 0 where
+  pub long : length register ≡ 48
+  pub values : (j : ℕ) → 0 < j → j ≤ 48 → word_value (power j) register
+      ≡ bit_xor (word_value (power j) moved) (times (word_value (power j) (take k leaving)) (nth_power (power j) (64 - k)))
+
+pub none_taken : (leaving moved : List ℕ) → length moved ≡ 48 → HasTaken leaving moved moved 0
+none_taken leaving moved long = record {
+  long = long;
+  values = λ j pos le.
+      sym (xor_zero_r (word_value (power j) moved)) ∙ ap (bit_xor (word_value (power j) moved)) (sym (zero_times (nth_power (power j) 64)));
+}
+
+pub one_taken : (leaving moved r new row : List ℕ) (f k : ℕ) → k < 16 → length leaving ≡ 16 → f ≡ get_or leaving k 0
+    → row ≡ chunk (48 * k) 48 REMAINDERS → new ≡ add r (scale f row) → HasTaken leaving moved r k → HasTaken leaving moved new (k + 1)
+one_taken leaving moved r new row f k lt ll hf hr hn h =
+    let table = chunk (48 * k) 48 REMAINDERS in
+    let is : new ≡ add r (scale f table) = hn ∙ ap (λ (q : List ℕ). add r (scale f q)) hr in
+    let ls : length (scale f table) ≡ 48 = length-scale f table ∙ row_long k lt in
+    record {
+      long = ap (λ (q : List ℕ). length q) is ∙ length-add_same r (scale f table) (h.long ∙ sym ls) ∙ ls;
+      values = λ j pos le.
+          let i = power j in
+          let start = word_value i moved in
+          ap (word_value i) is
+          ∙ word_value_add i r (scale f table) (h.long ∙ sym ls)
+          ∙ ap₂ bit_xor
+          (h.values j pos le ∙ ap (λ (n : ℕ). bit_xor start (times (word_value i (take k leaving)) (nth_power i n))) (let e : 64 - k ≡ 63 - k + 1 = omega arith in e))
+          (word_value_scale i f table ∙ ap (times f) (row_value j k pos le lt))
+          ∙ xor_assoc start (times (word_value i (take k leaving)) (nth_power i (63 - k + 1))) (times f (nth_power i (63 - k)))
+          ∙ ap (bit_xor start)
+          (more_symbols i f k (63 - k) leaving (omega arith) hf
+          ∙ ap (λ (n : ℕ). times (word_value i (take (k + 1) leaving)) (nth_power i n)) (let e : 63 - k ≡ 64 - (k + 1) = omega arith in e));
+    }
+
+-- the sums cancel where the old register was a remainder
+sums_cancel : (n f b s m : ℕ) → times n (bit_xor m (bit_xor f b)) ≡ 0
+    → bit_xor (bit_xor (times n m) s) (bit_xor (times n b) (bit_xor (times n f) s)) ≡ 0
+sums_cancel n f b s m h =
+    ap (bit_xor (bit_xor (times n m) s)) (sym (xor_assoc (times n b) (times n f) s))
+    ∙ xor_four (times n m) s (bit_xor (times n b) (times n f)) s
+    ∙ ap₂ bit_xor (ap (bit_xor (times n m)) (xor_comm (times n b) (times n f) ∙ sym (times_xor n f b)) ∙ sym (times_xor n m (bit_xor f b)) ∙ h) (xor_self s)
+    ∙ xor_self 0
+
+pub all_taken : (first second third symbols register : List ℕ) → length first ≡ 16 → length second ≡ 16 → length third ≡ 16 → length symbols ≡ 16
+    → HasTaken (zip2 bit_xor first symbols) (second ++ (third ++ replicate 16 0)) register 16
+    → (m : List ℕ) → IsRemainder m (first ++ (second ++ third)) → IsRemainder (m ++ symbols) register
+all_taken first second third symbols register lf ls lt lsy h m r = record {
+  roots = λ j pos le.
+      let i = power j in
+      let leaving = zip2 bit_xor first symbols in
+      let n = nth_power i 16 in let big = nth_power i 48 in
+      let mv = word_value i m in let sv = word_value i symbols in let fv = word_value i first in let rv = word_value i (second ++ third) in
+      let lold : length (first ++ (second ++ third)) ≡ 48 = length_three first second third lf ls lt in
+      let lrest : length (second ++ third) ≡ 32 = omega (arith, length-append second third) in
+      let lleaving : length leaving ≡ 16 = ap (λ (q : List ℕ). length q) (sum_is first symbols (lf ∙ sym lsy)) ∙ length-add_same first symbols (lf ∙ sym lsy) ∙ lsy in
+      let before : bit_xor (times mv big) (bit_xor (times fv (nth_power i 32)) rv) ≡ 0 =
+      sym (word_value_append i m (first ++ (second ++ third))
+      ∙ ap₂ bit_xor (ap (λ (k : ℕ). times mv (nth_power i k)) lold) (word_value_append i first (second ++ third) ∙ ap (λ (k : ℕ). bit_xor (times fv (nth_power i k)) rv) lrest)) ∙ r.roots j pos le in
+      let start : word_value i (second ++ (third ++ replicate 16 0)) ≡ times n rv =
+      ap (word_value i) (sym (append_assoc second third (replicate 16 0))) ∙ word_value_append i (second ++ third) (replicate 16 0)
+      ∙ ap (bit_xor (times rv n)) (word_value_zeros i 16) ∙ xor_zero_r (times rv n) ∙ times_comm rv n in
+      let whole : word_value i (take 16 leaving) ≡ bit_xor fv sv =
+      ap (word_value i) (take_all 16 leaving (omega arith) ∙ sum_is first symbols (lf ∙ sym lsy)) ∙ word_value_add i first symbols (lf ∙ sym lsy) in
+      let far : times fv big ≡ times n (times fv (nth_power i 32)) =
+      ap (times fv) (nth_power_add i 16 32) ∙ sym (times_assoc fv n (nth_power i 32)) ∙ ap (λ (k : ℕ). times k (nth_power i 32)) (times_comm fv n) ∙ times_assoc n fv (nth_power i 32) in
+      let new : word_value i register ≡ bit_xor (times n rv) (bit_xor (times n (times fv (nth_power i 32))) (times sv big)) =
+      h.values j pos le ∙ ap₂ bit_xor start (ap (λ (k : ℕ). times k big) whole ∙ xor_times fv sv big ∙ ap (λ (k : ℕ). bit_xor k (times sv big)) far) in
+      let old : times (word_value i (m ++ symbols)) big ≡ bit_xor (times n (times mv big)) (times sv big) =
+      ap (λ (k : ℕ). times k big) (word_value_append i m symbols ∙ ap (λ (k : ℕ). bit_xor (times mv (nth_power i k)) sv) lsy)
+      ∙ xor_times (times mv n) sv big ∙ ap (λ (k : ℕ). bit_xor k (times sv big)) (ap (λ (k : ℕ). times k big) (times_comm mv n) ∙ times_assoc n mv big) in
+      word_value_append i (m ++ symbols) register
+      ∙ ap (λ (k : ℕ). bit_xor (times (word_value i (m ++ symbols)) (nth_power i k)) (word_value i register)) h.long
+      ∙ ap₂ bit_xor old new
+      ∙ sums_cancel n (times fv (nth_power i 32)) rv (times sv big) (times mv big) (ap (times n) before ∙ times_zero n);
+}
+
+-- sixteen symbols more of a message
+pub next_symbols : (i : ℕ) (xs : List ℕ) → take (16 * i) xs ++ chunk (16 * i) 16 xs ≡ take (16 * (i + 1)) xs
+next_symbols i xs = sym (take-add (16 * i) 16 xs) ∙ ap (λ (k : ℕ). take k xs) (let e : 16 * i + 16 ≡ 16 * (i + 1) = omega arith in e)
+
+length_word_of : (chunk parity : List ℕ) → length chunk ≤ 207 → length (word_of chunk parity) ≡ 207 + length parity
 length_word_of chunk parity le =
     omega (arith, length-append (chunk ++ replicate (207 - length chunk) 0) parity, length-append chunk (replicate (207 - length chunk) 0), length-replicate {A = ℕ} (207 - length chunk) 0)
 

@@ -1,9 +1,9 @@
 -- The value of a word, from its first element on.
-use Rattle.std.proofs.Common.{[], List, ap, ap₂, arith, bit_xor, get_or, length, length-append, refl, replicate, reverse, slice_set, suc, sym, zero, ℕ, ◌*◌, ◌++◌, ◌+◌, ◌-◌, ◌<◌, ◌∙◌, ◌∷◌, ◌≡◌}
+use Rattle.std.proofs.Common.{[], List, ap, ap₂, arith, bit_xor, get_or, length, length-append, refl, replicate, reverse, slice_set, suc, sym, take, zero, ℕ, ◌*◌, ◌++◌, ◌+◌, ◌-◌, ◌^◌, ◌<◌, ◌∙◌, ◌∷◌, ◌≡◌}
 use Rattle.std.proofs.Math.ListN.{length-set}
 use Rattle.std.proofs.lemmas.Grind.{reverse_onto}
-use Rattle.std.proofs.lemmas.List.{length-reverse}
-use Rattle.std.proofs.lemmas.Nat.{xor_comm}
+use Rattle.std.proofs.lemmas.List.{length-reverse, take_more}
+use Rattle.std.proofs.lemmas.Nat.{xor_comm, xor_lt}
 use Rattle.std.specs.Int.Bits.{xor_assoc, xor_self, xor_zero_l, xor_zero_r}
 use Rattle.gf_field.proofs.Polynomial.{xor_four}
 use Rattle.gf_field.proofs.Powers.{power_add}
@@ -107,3 +107,20 @@ one_more x b m = word_value_append x m (b ∷ []) ∙ ap (bit_xor (times (word_v
 pub word_value_zeros : (x n : ℕ) → word_value x (replicate n 0) ≡ 0
 word_value_zeros x zero = refl
 word_value_zeros x (suc n) = ap₂ bit_xor (word_value_zeros x n) (zero_times (nth_power x (length (replicate n 0))))
+
+-- the value of the symbols so far, and one more
+pub more_symbols : (x f k r : ℕ) (u : List ℕ) → k < length u → f ≡ get_or u k 0
+    → bit_xor (times (word_value x (take k u)) (nth_power x (r + 1))) (times f (nth_power x r)) ≡ times (word_value x (take (k + 1) u)) (nth_power x r)
+more_symbols x f k r u lt hf =
+    let t = word_value x (take k u) in let n = nth_power x r in
+    let g = get_or u k 0 in
+    let taken : word_value x (take (k + 1) u) ≡ bit_xor (times t (nth_power x 1)) (times g 1) =
+    ap (word_value x) (take_more u k 0 lt) ∙ one_more x g (take k u) in
+    let one : times (times t (nth_power x 1)) n ≡ times t (nth_power x (r + 1)) =
+    times_assoc t (nth_power x 1) n ∙ ap (times t) (sym (nth_power_add x 1 r) ∙ ap (nth_power x) (let e : 1 + r ≡ r + 1 = omega arith in e)) in
+    let two : times (times g 1) n ≡ times g n = times_assoc g 1 n ∙ ap (times g) (one_times n (nth_power-lt x r)) in
+    sym (ap (λ (h : ℕ). times h n) taken ∙ xor_times (times t (nth_power x 1)) (times g 1) n ∙ ap₂ bit_xor one (two ∙ ap (λ (h : ℕ). times h n) (sym hf)))
+
+pub word_value-lt : (x : ℕ) (w : List ℕ) → word_value x w < 2 ^ 8
+word_value-lt x [] = omega arith
+word_value-lt x (a ∷ w) = xor_lt 8 (word_value x w) (times a (nth_power x (length w))) (word_value-lt x w) (times-lt a (nth_power x (length w)))

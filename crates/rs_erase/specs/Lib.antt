@@ -2,4 +2,6 @@ pub mod Polynomial
 pub mod Code
 pub mod Laws
 pub mod Equations
+pub mod FromZero
 pub mod Register
+pub mod Rows

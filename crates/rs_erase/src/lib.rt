@@ -7,7 +7,10 @@ mod fault;
 mod laws;
 mod parity;
 mod places;
+mod remainders;
+mod root_powers;
 mod roots;
+mod row;
 
 pub use fault::SolveFault;
 pub use laws::{code_word_or_none, code_words_have_the_roots, one_code_word, one_parity};

@@ -1,17 +1,14 @@
-//! The parity, by a shift register.
+//! The parity, by a shift register that takes sixteen symbols of the message at a time.
 
-ghost use Rattle.std.specs.Prelude.{◌≡◌, ◌≤◌, ℕ, List, [], ◌∷◌, replicate, length};
-ghost use Rattle.rs_erase.specs.Code.{AreElements, IsCodeWord, word_of};
-ghost use Rattle.rs_erase.specs.Register.{TakesIn, sum_with_multiple};
+ghost use Rattle.std.specs.Prelude.{◌≡◌, ◌<◌, ◌≤◌, ◌-◌, ◌*◌, ℕ, List, ◌∷◌, ◌++◌, replicate, length, drop};
+ghost use Rattle.std.specs.Simd.Lanes.{chunk as elements_from};
+ghost use Rattle.rs_erase.specs.Code.{IsCodeWord, word_of};
+ghost use Rattle.rs_erase.specs.Register.{IsRemainder, TakesIn};
+ghost use Rattle.rs_erase.specs.Rows.{listed};
 
-use gf_field::Gf;
-
-/// The coefficients of the generator below its leading 1, highest power first.
-const GENERATOR: [u8; 48] = [
-    122, 12, 14, 218, 195, 73, 194, 157, 32, 17, 5, 62, 71, 15, 25, 240, 161, 21, 218, 148, 176,
-    109, 183, 149, 166, 245, 218, 251, 151, 150, 170, 195, 151, 160, 12, 130, 219, 117, 244, 10,
-    169, 19, 204, 113, 81, 214, 231, 228,
-];
+use crate::remainders::REMAINDERS;
+use crate::row::{Row, lanes_from};
+use std::simd::prelude::*;
 
 /// Writes the 48 bytes that make the chunk, zeros behind it up to 207 bytes, and these 48 a code word.
 pub fn encode(chunk: &[u8], parity: &mut [u8; 48])
@@ -19,47 +16,68 @@ pub fn encode(chunk: &[u8], parity: &mut [u8; 48])
     ensures code_word { IsCodeWord (word_of chunk.now parity.new) }
     ensures only { (other : List ℕ) → IsCodeWord (word_of chunk.now other) → other ≡ parity.new }
 {
-    *parity = [0; 48];
-    shift_chunk(parity, chunk);
-    shift_zeros(parity, 207 - chunk.len());
+    *parity = remainder_of(chunk).to_bytes();
 }
 
-/// Takes the bytes of the chunk into the register.
-fn shift_chunk(register: &mut [u8; 48], chunk: &[u8])
-    ensures { TakesIn chunk.now register.old register.new }
+/// What remains of the chunk and zeros behind it.
+pub fn remainder_of(chunk: &[u8]) -> Row
+    requires { length chunk.now ≤ 207 }
+    ensures { IsRemainder (chunk.now ++ replicate (207 - length chunk.now) 0) (listed result) }
 {
-    for byte in chunk {
-        shift(register, *byte);
+    let message = filled(chunk);
+    remainder(&message)
+}
+
+/// The chunk with zeros behind it, and one before it, which changes no remainder: thirteen times sixteen symbols.
+fn filled(chunk: &[u8]) -> [u8; 208]
+    requires { length chunk.now ≤ 207 }
+    ensures { result ≡ 0 ∷ (chunk.now ++ replicate (207 - length chunk.now) 0) }
+{
+    let mut message = [0; 208];
+    copy_to_front(&mut message[1..], chunk);
+    message
+}
+
+/// Writes the part over the first bytes.
+fn copy_to_front(bytes: &mut [u8], part: &[u8])
+    requires { length part.now ≤ length bytes.old }
+    ensures { bytes.new ≡ part.now ++ drop (length part.now) bytes.old }
+{
+    bytes[..part.len()].copy_from_slice(part);
+}
+
+/// What remains of the message.
+fn remainder(message: &[u8; 208]) -> Row
+    ensures { IsRemainder message.now (listed result) }
+{
+    let mut register = Row::zeros();
+    for i in 0..13usize {
+        register = take_in(register, lanes_from(message, 16 * i));
     }
+    register
 }
 
-/// Takes zeros into the register.
-fn shift_zeros(register: &mut [u8; 48], count: usize)
-    ensures remainder { TakesIn (replicate count 0) register.old register.new }
-    ensures elements { AreElements register.new }
+/// Takes sixteen more symbols of the message into the register.
+fn take_in(register: Row, symbols: u8x16) -> Row
+    ensures { TakesIn symbols (listed register) (listed result) }
 {
-    for _i in 0..count {
-        shift(register, 0);
+    // The sixteen highest coefficients leave the register; each of them comes back as what remains of its power.
+    let leaving = (register.first ^ symbols).to_array();
+    let mut next = Row {
+        first: register.second,
+        second: register.third,
+        third: u8x16::splat(0),
+    };
+    for k in 0..16usize {
+        next = next.plus_multiple(leaving[k], power_remainder(k));
     }
+    next
 }
 
-/// Takes one more byte of the message into the register.
-fn shift(register: &mut [u8; 48], byte: u8)
-    ensures remainder { TakesIn (byte ∷ []) register.old register.new }
-    ensures elements { AreElements register.new }
+/// What remains of x to the 63 - k.
+fn power_remainder(k: usize) -> Row
+    requires { k < 16 }
+    ensures { listed result ≡ elements_from (48 * k) 48 REMAINDERS }
 {
-    let feedback = Gf(byte ^ register[0]);
-    register.rotate_left(1);
-    register[47] = 0;
-    add_multiple(register, feedback, &GENERATOR);
-}
-
-/// Adds a multiple of the coefficients to the register.
-fn add_multiple(register: &mut [u8], factor: Gf, coefficients: &[u8])
-    requires { length register.old ≡ length coefficients.now }
-    ensures { register.new ≡ sum_with_multiple register.old factor coefficients.now }
-{
-    for (i, byte) in register.iter_mut().enumerate() {
-        *byte ^= factor.mul(Gf(coefficients[i])).0;
-    }
+    Row::from_place(&REMAINDERS, 48 * k)
 }

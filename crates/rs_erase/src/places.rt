@@ -1,12 +1,13 @@
 //! The erased places of a word.
 
 ghost use Rattle.std.specs.Prelude.{◌≡◌, ◌<◌, ◌≤◌, ◌↔◌, length, IsOk, OnOk, OnErr, IsErrOf};
-ghost use Rattle.rs_erase.specs.Code.{AgreesOutside, ArePlaces, HasCodeWord, IsCodeWord, IsOnlyCodeWord};
+ghost use Rattle.rs_erase.specs.Code.{AgreesOutside, AreElements, ArePlaces, HasCodeWord, IsCodeWord, IsOnlyCodeWord};
 ghost use Rattle.rs_erase.specs.Equations.{locators_of, word_with};
+ghost use Rattle.rs_erase.specs.FromZero.{weighted};
 
-use crate::equations::find_values;
+use crate::equations::find_products;
 use crate::fault::SolveFault;
-use crate::roots::syndromes;
+use crate::roots::values_at_roots;
 use gf_field::Gf;
 
 /// How many bytes of a word are parity, and so how many places can be erased.
@@ -31,13 +32,14 @@ pub fn solve(word: &mut [u8; 255], erased: &[u8]) -> Result<(), SolveFault>
     if count > PARITY {
         return Err(SolveFault::TooMany { count });
     }
-    let mut at_roots = syndromes(word);
+    let at_roots = values_at_roots(word);
     let mut locators = [Gf(0); PARITY];
     let mut values = [Gf(0); PARITY];
     write_locators(&mut locators[..count], erased);
-    if !find_values(&locators[..count], &mut at_roots, &mut values[..count]) {
+    if !find_products(&locators[..count], at_roots, &mut values[..count]) {
         return Err(SolveFault::NoCodeWord);
     }
+    divide_by_locators(&mut values[..count], erased);
     add_values(word, erased, &values[..count]);
     Ok(())
 }
@@ -50,6 +52,19 @@ fn write_locators(locators: &mut [Gf], places: &[u8])
 {
     for (i, locator) in locators.iter_mut().enumerate() {
         *locator = Gf::power(254 - u32::from(places[i]));
+    }
+}
+
+/// Divides each product by the locator of its place.
+fn divide_by_locators(products: &mut [Gf], places: &[u8])
+    requires one_each { length products.old ≡ length places.now }
+    requires elements { AreElements products.old }
+    requires places { ArePlaces places.now }
+    ensures products { products.old ≡ weighted (locators_of places.now) products.new }
+    ensures elements { AreElements products.new }
+{
+    for (i, product) in products.iter_mut().enumerate() {
+        *product = product.mul(Gf::power(254 - u32::from(places[i])).inverse());
     }
 }
 

@@ -1,10 +1,16 @@
 //! The values of a word at the roots of the generator.
 
-ghost use Rattle.std.specs.Prelude.{◌≡◌, ◌↔◌, reverse};
+ghost use Rattle.std.specs.Prelude.{◌≡◌, ◌<◌, ◌≤◌, ◌+◌, ◌*◌, ◌↔◌, ℕ, slice_index};
 ghost use Rattle.std.specs.List.{All};
-ghost use Rattle.rs_erase.specs.Polynomial.{value};
+ghost use Rattle.std.specs.Simd.Lanes.{chunk as elements_from};
+ghost use Rattle.gf_field.specs.Field.{power};
 ghost use Rattle.rs_erase.specs.Code.{AreElements, AreSyndromes, IsCodeWord};
+ghost use Rattle.rs_erase.specs.Equations.{word_value};
+ghost use Rattle.rs_erase.specs.Rows.{listed};
 
+use crate::parity::remainder_of;
+use crate::root_powers::ROOT_POWERS;
+use crate::row::Row;
 use gf_field::Gf;
 
 /// The values of the word at the roots 2, 2 to the 2 and on to 2 to the 48 of the generator, in this order.
@@ -13,20 +19,44 @@ pub fn syndromes(word: &[u8; 255]) -> [Gf; 48]
     ensures elements { AreElements result }
     ensures code_word { IsCodeWord word.now ↔ All (λ syndrome. syndrome ≡ 0) result }
 {
+    let bytes = values_at_roots(word).to_bytes();
     let mut values = [Gf(0); 48];
-    for (j, at_root) in values.iter_mut().enumerate() {
-        *at_root = value_at(word, Gf::power(j as u32 + 1));
+    for (j, value) in values.iter_mut().enumerate() {
+        *value = Gf(bytes[j]);
     }
     values
 }
 
-/// The value of the word at x.
-fn value_at(word: &[u8], x: Gf) -> Gf
-    ensures { result ≡ value x (reverse word.now) }
+/// The same in a row.
+pub fn values_at_roots(word: &[u8; 255]) -> Row
+    ensures { AreSyndromes word.now (listed result) }
 {
-    let mut sum = Gf(0);
-    for byte in word {
-        sum = Gf(*byte).add(x.mul(sum));
+    let remainder = word_remainder(word).to_bytes();
+    values_of(&remainder)
+}
+
+/// What remains of the word: at the roots it has the values of the word.
+fn word_remainder(word: &[u8; 255]) -> Row
+    ensures { (j : ℕ) → 0 < j → j ≤ 48 → word_value (power j) (listed result) ≡ word_value (power j) word.now }
+{
+    remainder_of(&word[..207]).plus(Row::from_place(word, 207))
+}
+
+/// The values at the roots of 48 symbols.
+fn values_of(symbols: &[u8; 48]) -> Row
+    ensures { (j : ℕ) → j < 48 → slice_index (listed result) j ≡ word_value (power (j + 1)) symbols.now }
+{
+    let mut values = Row::zeros();
+    for p in 0..48usize {
+        values = values.plus_multiple(symbols[p], powers_of_roots(p));
     }
-    sum
+    values
+}
+
+/// Each root to the power 47 - p.
+fn powers_of_roots(p: usize) -> Row
+    requires { p < 48 }
+    ensures { listed result ≡ elements_from (48 * p) 48 ROOT_POWERS }
+{
+    Row::from_place(&ROOT_POWERS, 48 * p)
 }

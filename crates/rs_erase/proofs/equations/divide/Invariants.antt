@@ -1,10 +1,12 @@
-use Rattle.std.proofs.Common.{◌≡◌, ℕ, ◌<◌, ◌≤◌, get_or, bit_xor}
+use Rattle.std.proofs.Common.{◌≡◌, ℕ, ◌<◌, ◌≤◌, get_or, bit_xor, take}
 use Rattle.gf_field.specs.Field.{times}
+use Rattle.rs_erase.specs.Equations.{power_sum}
 use Rattle.rs_erase.proofs.equations.divide.Given as goal
 
 abbrev pub invariant-loop-i : goal.invariant-loop-i
 invariant-loop-i l = record {
-  done : (k : ℕ) → k < l.i → times (get_or l.values k 0) (bit_xor (get_or l.locators k 0) l.locator) ≡ get_or l.fn.values k 0;
-  below : (k : ℕ) → k < l.i → get_or l.values k 0 < 256;
-  rest : (k : ℕ) → l.i ≤ k → get_or l.values k 0 ≡ get_or l.fn.values k 0;
+  done : (k : ℕ) → k < l.i → times (get_or l.products k 0) (bit_xor (get_or l.locators k 0) l.locator) ≡ get_or l.fn.products k 0;
+  below : (k : ℕ) → k < l.i → get_or l.products k 0 < 256;
+  rest : (k : ℕ) → l.i ≤ k → get_or l.products k 0 ≡ get_or l.fn.products k 0;
+  sum : l.sum ≡ power_sum 0 (take l.i l.locators) (take l.i l.products);
 }

@@ -1,16 +1,15 @@
-use Rattle.std.proofs.Common.{[]}
+use Rattle.std.proofs.Common.{arith, subst, sym, ℕ, List, ◌++◌, ◌-◌, length, replicate}
+use Rattle.rs_erase.specs.Register.{IsRemainder}
 use Rattle.rs_erase.proofs.Elements.{elements_of}
 use Rattle.rs_erase.proofs.OneWord.{one_parity}
-use Rattle.rs_erase.proofs.ShiftRegister.{nothing_taken, remainder_is_parity}
+use Rattle.rs_erase.proofs.ShiftRegister.{remainder_is_parity}
 use Rattle.rs_erase.proofs.parity.encode.Goals as goal
 
 pub returns-clause-code_word : goal.returns-clause-code_word
 returns-clause-code_word c =
-    remainder_is_parity c.args.chunk.now c.shift_zeros.new.register c.requires (elements_of c.args.chunk.now (λ i. (c.type_inv.chunk i).fits))
-    c.shift_zeros.array_long c.shift_zeros.ensures.elements (c.shift_zeros.ensures.remainder c.args.chunk.now (c.shift_chunk.ensures [] nothing_taken))
+    remainder_is_parity c.args.chunk.now c.to_bytes.result c.requires (elements_of c.args.chunk.now (λ i. (c.type_inv.chunk i).fits))
+    (omega arith) c.to_bytes.ensures.elements
+    (subst (λ (p : List ℕ). IsRemainder (c.args.chunk.now ++ replicate (207 - length c.args.chunk.now) 0) p) (sym c.to_bytes.ensures.value) c.remainder_of.ensures)
 
 pub returns-clause-only : goal.returns-clause-only
-returns-clause-only c = λ other h.
-    one_parity c.args.chunk.now c.shift_zeros.new.register other c.requires
-    (remainder_is_parity c.args.chunk.now c.shift_zeros.new.register c.requires (elements_of c.args.chunk.now (λ i. (c.type_inv.chunk i).fits))
-    c.shift_zeros.array_long c.shift_zeros.ensures.elements (c.shift_zeros.ensures.remainder c.args.chunk.now (c.shift_chunk.ensures [] nothing_taken))) h
+returns-clause-only c = λ other h. one_parity c.args.chunk.now c.to_bytes.result other c.requires (returns-clause-code_word c) h
