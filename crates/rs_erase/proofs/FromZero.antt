@@ -1,11 +1,11 @@
 -- The equations with each value times its locator in place of the value.
-use Rattle.std.proofs.Common.{◌≡◌, ℕ, ◌+◌, ◌-◌, ◌<◌, ◌≤◌, zero, suc, List, [], ◌∷◌, length, get_or, take, drop, refl, sym, ap, ap₂, ◌∙◌, subst, arith, bit_xor}
+use Rattle.std.proofs.Common.{◌≡◌, ℕ, ◌+◌, ◌<◌, ◌≤◌, zero, suc, List, [], ◌∷◌, length, get_or, take, drop, refl, sym, ap, ap₂, ◌∙◌, subst, arith, bit_xor}
 use Rattle.std.specs.List.{All}
 use Rattle.std.specs.Int.Bits.{xor_assoc, xor_zero_r, xor_zero_l}
-use Rattle.gf_field.specs.Field.{power, times}
+use Rattle.gf_field.specs.Field.{times}
 use Rattle.gf_field.proofs.Times.{times-lt, times_assoc, times_one}
 use Rattle.rs_erase.specs.Code.{AreElements}
-use Rattle.rs_erase.specs.Equations.{Solves, SumsFrom, locators_of, nth_power, power_sum, remaining_syndromes, remaining_values}
+use Rattle.rs_erase.specs.Equations.{AreLocators, Solves, SumsFrom, nth_power, power_sum, remaining_syndromes, remaining_values}
 use Rattle.rs_erase.specs.FromZero.{SolvesFromZero, syndromes_without, weighted}
 use Rattle.rs_erase.proofs.Elements.{cons_elements, no_elements}
 use Rattle.rs_erase.proofs.EquationLoops.{sums_zero, zero_sums}
@@ -104,11 +104,16 @@ weighted_solves xs vs s h = record { one_each = length-weighted xs vs h.one_each
 pub bare_solves : (xs vs us s : List ℕ) → length vs ≡ length xs → AreElements vs → us ≡ weighted xs vs → SolvesFromZero xs us s → Solves xs vs s
 bare_solves xs vs us s lv bv e h = record { one_each = lv; elements = bv; sums = sums_bare 0 xs vs s (subst (λ (w : List ℕ). SumsFrom 0 xs w s) e h.sums) }
 
-pub weighted_by_index : (es vs us : List ℕ) → length vs ≡ length es → length us ≡ length es
-    → ((k : ℕ) → k < length es → times (get_or vs k 0) (power (254 - get_or es k 0)) ≡ get_or us k 0) → us ≡ weighted (locators_of es) vs
+pub weighted_by_index : (xs vs us : List ℕ) → length vs ≡ length xs → length us ≡ length xs
+    → ((k : ℕ) → k < length xs → times (get_or vs k 0) (get_or xs k 0) ≡ get_or us k 0) → us ≡ weighted xs vs
 weighted_by_index [] vs [] lv lu h = refl
 weighted_by_index [] vs (u ∷ us) lv lu h = absurd (omega arith)
-weighted_by_index (e ∷ es) [] us lv lu h = absurd (omega arith)
-weighted_by_index (e ∷ es) (v ∷ vs) [] lv lu h = absurd (omega arith)
-weighted_by_index (e ∷ es) (v ∷ vs) (u ∷ us) lv lu h =
-    ap₂ (λ (w : ℕ) (ws : List ℕ). w ∷ ws) (sym (h 0 (omega arith))) (weighted_by_index es vs us (omega arith) (omega arith) (λ k lt. h (suc k) (omega arith)))
+weighted_by_index (x ∷ xs) [] us lv lu h = absurd (omega arith)
+weighted_by_index (x ∷ xs) (v ∷ vs) [] lv lu h = absurd (omega arith)
+weighted_by_index (x ∷ xs) (v ∷ vs) (u ∷ us) lv lu h =
+    ap₂ (λ (w : ℕ) (ws : List ℕ). w ∷ ws) (sym (h 0 (omega arith))) (weighted_by_index xs vs us (omega arith) (omega arith) (λ k lt. h (suc k) (omega arith)))
+
+pub locator_pos : (xs : List ℕ) → AreLocators xs → (k : ℕ) → k < length xs → 0 < get_or xs k 0
+locator_pos [] lo k lt = absurd (omega arith)
+locator_pos (x ∷ xs) lo zero lt = lo.0
+locator_pos (x ∷ xs) lo (suc k) lt = locator_pos xs lo.3 k (omega arith)

@@ -2,7 +2,7 @@
 
 ghost use Rattle.std.specs.Prelude.{◌≡◌, ◌<◌, ◌≤◌, ◌↔◌, length, IsOk, OnOk, OnErr, IsErrOf};
 ghost use Rattle.rs_erase.specs.Code.{AgreesOutside, AreElements, ArePlaces, HasCodeWord, IsCodeWord, IsOnlyCodeWord};
-ghost use Rattle.rs_erase.specs.Equations.{locators_of, word_with};
+ghost use Rattle.rs_erase.specs.Equations.{locators_of, word_with, AreLocators};
 ghost use Rattle.rs_erase.specs.FromZero.{weighted};
 
 use crate::equations::find_products;
@@ -39,7 +39,7 @@ pub fn solve(word: &mut [u8; 255], erased: &[u8]) -> Result<(), SolveFault>
     if !find_products(&locators[..count], at_roots, &mut values[..count]) {
         return Err(SolveFault::NoCodeWord);
     }
-    divide_by_locators(&mut values[..count], erased);
+    divide_by_locators(&mut values[..count], &locators[..count]);
     add_values(word, erased, &values[..count]);
     Ok(())
 }
@@ -55,16 +55,16 @@ fn write_locators(locators: &mut [Gf], places: &[u8])
     }
 }
 
-/// Divides each product by the locator of its place.
-fn divide_by_locators(products: &mut [Gf], places: &[u8])
-    requires one_each { length products.old ≡ length places.now }
+/// Divides each product by its locator.
+fn divide_by_locators(products: &mut [Gf], locators: &[Gf])
+    requires one_each { length products.old ≡ length locators.now }
     requires elements { AreElements products.old }
-    requires places { ArePlaces places.now }
-    ensures products { products.old ≡ weighted (locators_of places.now) products.new }
+    requires locators { AreLocators locators.now }
+    ensures products { products.old ≡ weighted locators.now products.new }
     ensures elements { AreElements products.new }
 {
     for (i, product) in products.iter_mut().enumerate() {
-        *product = product.mul(Gf::power(254 - u32::from(places[i])).inverse());
+        *product = product.mul(locators[i].inverse());
     }
 }
 

@@ -1,4 +1,4 @@
-use Rattle.std.proofs.Common.{List, ℕ, ◌≡◌, ◌≤◌, length, ◌∙◌, sym, subst, ap, refl, arith, rules}
+use Rattle.std.proofs.Common.{◌≡◌, ◌≤◌, length, ◌∙◌, sym, subst, ap, refl, arith, rules}
 use Rattle.std.proofs.lemmas.List.{take_at}
 use Rattle.rs_erase.specs.Equations.{AreLocators}
 use Rattle.rs_erase.specs.FromZero.{weighted}
@@ -10,6 +10,11 @@ use Rattle.rs_erase.proofs.places.solve.Goals as goal
 
 pub find_products-requires-clause-distinct : goal.find_products-requires-clause-distinct
 find_products-requires-clause-distinct c =
+    let e = take_at c.write_locators.new.locators _ (length c.args.erased.now) (ap length c.write_locators.ensures ∙ length-locators_of c.args.erased.now) in
+    subst AreLocators (sym (e ∙ c.write_locators.ensures)) (are_locators 0 c.args.erased.now (places_rise c.args.erased.now c.requires))
+
+pub divide_by_locators-requires-clause-locators : goal.divide_by_locators-requires-clause-locators
+divide_by_locators-requires-clause-locators c =
     let e = take_at c.write_locators.new.locators _ (length c.args.erased.now) (ap length c.write_locators.ensures ∙ length-locators_of c.args.erased.now) in
     subst AreLocators (sym (e ∙ c.write_locators.ensures)) (are_locators 0 c.args.erased.now (places_rise c.args.erased.now c.requires))
 
@@ -47,7 +52,7 @@ returns c =
     let long' : length c.divide_by_locators.new.products ≡ n = c.divide_by_locators.auto.products ∙ ap length products ∙ long in
     let bare =
     bare_solves _ c.divide_by_locators.new.products c.find_products.new.products s (long' ∙ sym (ap length located ∙ length-locators_of c.args.erased.now)) d.elements
-    (sym products ∙ d.products ∙ ap (λ (l : List ℕ). weighted l c.divide_by_locators.new.products) (sym located)) found in
+    (sym products ∙ d.products) found in
     let whole =
     solved c.args.erased.now c.args.word.now s _ c.divide_by_locators.new.products _ c.add_values.new.word
     (places_rise c.args.erased.now c.requires) c.told-word c.fits-word few c.values_at_roots-at_roots.ensures located
