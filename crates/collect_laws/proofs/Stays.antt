@@ -2,7 +2,7 @@
 use Rattle.std.proofs.Common.{ℕ, ◌≡◌, ◌≤◌, Some, None, refl, ap, arith}
 use Rattle.std.specs.Prelude.{ℤ, pos, negsuc, unwrap_or}
 use Rattle.dcp_collect.specs.declared.taken.Taken.{Taken}
-use Rattle.dcp_collect.specs.declared.taken.Taken.TheVariants.{Kept, Repeated, Late, Refused, Inconsistent, NoMemory}
+use Rattle.dcp_collect.specs.declared.taken.Taken.TheVariants.{Kept, Repeated, Late, Refused, Inconsistent}
 use Rattle.dcp_collect.specs.Reading.{Incoming, Read, Unread, Brings}
 use Rattle.dcp_collect.specs.State.{State, answer, number_of, kept_at, after_answer, after_take, end_of}
 use Rattle.collect_laws.proofs.Reached.{end_more}
@@ -16,7 +16,6 @@ after_by P c n incoming Repeated same kept = same
 after_by P c n incoming Late same kept = same
 after_by P c n incoming (Refused field) same kept = same
 after_by P c n incoming (Inconsistent f head) same kept = same
-after_by P c n incoming NoMemory same kept = same
 
 pub next_stays : (c : State) (n : ℤ) (incoming : Incoming) (a : Taken) → (after_answer c n incoming a).next ≡ c.next
 next_stays c n incoming a = after_by (λ d. d.next ≡ c.next) c n incoming a refl (λ m. refl)

@@ -7,3 +7,7 @@ pub mod View
 pub mod Erasure
 pub mod Sound
 pub mod Lending
+pub mod Counters
+pub mod Slots
+pub mod Row
+pub mod Made

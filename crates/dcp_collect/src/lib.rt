@@ -3,15 +3,15 @@
 #![tactic(auto)]
 
 mod collector;
-mod decode;
+mod counters;
 mod found;
 mod head;
 mod item;
-mod kept_packets;
 mod number;
-mod packet;
 mod read;
-mod recoverable;
+mod slot;
+mod slots;
+mod solve;
 mod taken;
 
 pub use collector::Collector;

@@ -39,7 +39,7 @@ pub(crate) fn taken_words(taken: &Taken) -> &'static str
     match taken {
         Taken::Refused(cause) => field_words(*cause),
         Taken::Inconsistent { .. } => "pft inconsistent",
-        Taken::Kept | Taken::Repeated | Taken::Late | Taken::NoMemory => unreachable!(),
+        Taken::Kept | Taken::Repeated | Taken::Late => unreachable!(),
     }
 }
 
