@@ -181,6 +181,7 @@ fn expect_switch(rt: &impl Abort, out: Out<'_>, item: FeedItem<'_>)
     let naming = Out::Packet {
         index: 0,
         bytes: &NAMING,
+        whole: false,
     };
     assert_eq!(rt; feed.step(naming), frame(0, &SHOWN_NAMING, &NAMING));
     let before = Some(Before::Switch(1));
@@ -203,7 +204,12 @@ fn tells_the_switch_that_a_frame_names(rt: HostRuntime) {
         (&SECOND, frame(1, &SHOWN_SECOND, &SECOND).item),
     ];
     for (bytes, item) in packets {
-        expect_switch(&rt, Out::Packet { index: 1, bytes }, item);
+        let packet = Out::Packet {
+            index: 1,
+            bytes,
+            whole: false,
+        };
+        expect_switch(&rt, packet, item);
     }
 }
 
@@ -222,6 +228,7 @@ fn tells_a_resumption(rt: HostRuntime) {
     let first = Out::Packet {
         index: 0,
         bytes: &SECOND,
+        whole: false,
     };
     assert_eq!(rt; feed.step(first), frame(0, &SHOWN_SECOND, &SECOND));
     assert_eq!(rt;
@@ -231,6 +238,7 @@ fn tells_a_resumption(rt: HostRuntime) {
     let other = Out::Packet {
         index: 2,
         bytes: &changed,
+        whole: false,
     };
     let resumed = Step {
         before: Some(Before::Resumed(2)),
@@ -240,6 +248,7 @@ fn tells_a_resumption(rt: HostRuntime) {
     let again = Out::Packet {
         index: 3,
         bytes: &changed,
+        whole: false,
     };
     assert_eq!(rt; feed.step(again), frame(3, &shown, &changed));
 }
@@ -251,6 +260,7 @@ fn gives_a_block(rt: HostRuntime) {
     let first = Out::Packet {
         index: 0,
         bytes: &FIRST,
+        whole: false,
     };
     assert_eq!(rt; feed.step(first), frame(0, &SHOWN_FIRST, &FIRST));
     let mut broken = FIRST;
@@ -264,6 +274,7 @@ fn gives_a_block(rt: HostRuntime) {
     let second = Out::Packet {
         index: 1,
         bytes: &broken,
+        whole: false,
     };
     assert_eq!(rt; feed.step(second), bad(1, fault));
 }
@@ -279,7 +290,11 @@ fn names_a_damaged_packet(rt: HostRuntime) {
 fn names_the_fault_of_a_packet(rt: HostRuntime) {
     for (bytes, fault) in [(NO_ITEMS, ABSENT), (BROKEN, BROKEN_CHECK)] {
         let mut feed = Feed::new();
-        let step = feed.step(Out::Packet { index: 0, bytes });
+        let step = feed.step(Out::Packet {
+            index: 0,
+            bytes,
+            whole: false,
+        });
         assert_eq!(rt; step, bad(0, fault));
     }
 }

@@ -21,3 +21,4 @@ pub mod Telling
 pub mod SlotSolved
 pub mod Joining
 pub mod SlotHeld
+pub mod Alone

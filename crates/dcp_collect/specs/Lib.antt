@@ -11,3 +11,4 @@ pub mod Counters
 pub mod Slots
 pub mod Row
 pub mod Made
+pub mod WholePackets

@@ -26,7 +26,7 @@ pub(crate) fn read_item<'a>(out: Out<'a>) -> FeedItem<'a>
     ensures of_reading { IfBad result IsOfReading }
 {
     match out {
-        Out::Packet { index, bytes } => match read_frame(bytes) {
+        Out::Packet { index, bytes, .. } => match read_frame(bytes) {
             Ok(view) => FeedItem::Frame { index, view },
             Err(fault) => FeedItem::Bad { index, fault },
         },
