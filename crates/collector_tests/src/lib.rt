@@ -7,6 +7,8 @@ mod datagrams;
 #[cfg(test)]
 mod feeds;
 #[cfg(test)]
+mod hostile;
+#[cfg(test)]
 mod losses;
 #[cfg(test)]
 mod order;

@@ -6,13 +6,13 @@ use dcp_collect::Taken::{Inconsistent, Kept, Late, Repeated};
 use drm_bits::NoMemory;
 
 // A packet with sequence number 1, in two pieces of five bytes and a last one of three.
-const FIRST: &[u8] = b"PF\0\x01\0\0\0\0\0\x03\0\x05\xc6\xe1Radio";
+pub(crate) const FIRST: &[u8] = b"PF\0\x01\0\0\0\0\0\x03\0\x05\xc6\xe1Radio";
 
-const SECOND: &[u8] = b"PF\0\x01\0\0\x01\0\0\x03\0\x05\x83A Nord";
+pub(crate) const SECOND: &[u8] = b"PF\0\x01\0\0\x01\0\0\x03\0\x05\x83A Nord";
 
-const LAST: &[u8] = b"PF\0\x01\0\0\x02\0\0\x03\0\x03-g 12";
+pub(crate) const LAST: &[u8] = b"PF\0\x01\0\0\x02\0\0\x03\0\x03-g 12";
 
-const PACKET: &[u8] = b"Radio Nord 12";
+pub(crate) const PACKET: &[u8] = b"Radio Nord 12";
 
 // The same pieces with other lengths, and a piece of four.
 const SHORT_FIRST: &[u8] = b"PF\0\x01\0\0\0\0\0\x03\0\x04\xd6\xc0Radi";

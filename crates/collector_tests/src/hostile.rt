@@ -1,0 +1,70 @@
+//! Datagrams that nobody would send so, for the narrowest window and for the widest.
+
+use crate::runs::{Item, Sent, Step, run};
+use crate::without_code::{FIRST, LAST, PACKET, SECOND};
+use dcp_collect::Taken::{Kept, Late, Repeated};
+use drm_bits::NoMemory;
+
+// One that is ahead by more than the window, where each packet before the window's end has a fragment already.
+#[test]
+fn what_runs_ahead_is_kept(rt: HostRuntime) -> Result<(), NoMemory> {
+    let steps = [
+        Step::Takes(Sent::Cut(0, 0), Kept),
+        Step::Takes(Sent::Whole(200, 500), Kept),
+        Step::Gives(Item::Lost(0, 1, 10)),
+        Step::Gives(Item::Nothing(1, 200)),
+        Step::Gives(Item::Whole(200, 200, 500)),
+        Step::GivesNone,
+    ];
+    run(&rt, rt.alloc(), (1, Some(0)), &steps, None, &[])?;
+    let mut steps = [Step::GivesNone; 133];
+    for number in 0..64u16 {
+        let place = usize::from(number);
+        let count = if number == 0 { 10 } else { 9 };
+        steps[place] = Step::Takes(Sent::Cut(number, 0), Kept);
+        steps[65 + place] = Step::Gives(Item::Lost(u64::from(number), 1, count));
+    }
+    steps[64] = Step::Takes(Sent::Whole(200, 500), Kept);
+    steps[129] = Step::Gives(Item::Nothing(64, 137));
+    steps[130] = Step::Takes(Sent::Cut(136, 0), Late);
+    steps[131] = Step::Takes(Sent::Cut(137, 1), Kept);
+    let rest = [
+        Item::Lost(137, 1, 9),
+        Item::Nothing(138, 200),
+        Item::Whole(200, 200, 500),
+    ];
+    run(&rt, rt.alloc(), (64, Some(0)), &steps, None, &rest)
+}
+
+// What is kept of a packet stands where another one stood: nothing of that one is seen.
+#[test]
+fn nothing_is_left_of_what_was_given(rt: HostRuntime) -> Result<(), NoMemory> {
+    let steps = [
+        Step::Takes(Sent::Bytes(LAST), Kept),
+        Step::Takes(Sent::Bytes(FIRST), Kept),
+        Step::Takes(Sent::Bytes(SECOND), Kept),
+        Step::Gives(Item::Bytes(0, PACKET)),
+        Step::Takes(Sent::Cut(2, 8), Kept),
+        Step::Takes(Sent::Cut(2, 7), Kept),
+        Step::Takes(Sent::Cut(2, 6), Kept),
+        Step::Takes(Sent::Cut(2, 5), Kept),
+        Step::Takes(Sent::Cut(2, 4), Kept),
+        Step::Takes(Sent::Cut(2, 3), Kept),
+        Step::Gives(Item::Packet(1, 2, 90)),
+        Step::Takes(Sent::Whole(3, 12288), Kept),
+        Step::Gives(Item::Whole(2, 3, 12288)),
+        Step::Takes(Sent::Cut(4, 8), Kept),
+        Step::Takes(Sent::Cut(4, 0), Kept),
+        Step::Takes(Sent::Cut(4, 8), Repeated),
+        Step::Takes(Sent::Cut(4, 1), Kept),
+        Step::Takes(Sent::Cut(4, 2), Kept),
+        Step::Takes(Sent::Cut(4, 3), Kept),
+        Step::GivesNone,
+        Step::Holds(80, Some(1), Some(3)),
+        Step::Takes(Sent::Cut(4, 4), Kept),
+        Step::Gives(Item::Packet(3, 4, 90)),
+        Step::Holds(0, Some(1), Some(3)),
+    ];
+    run(&rt, rt.alloc(), (1, Some(1)), &steps, None, &[])?;
+    run(&rt, rt.alloc(), (64, Some(1)), &steps, None, &[])
+}
