@@ -6,8 +6,8 @@ use borrow.Rule.Slice.PartMut.{put_mid, post_of}
 use Rattle.std.specs.List.{concat}
 use Rattle.drm_schedule.specs.declared.plan.Plan.{Plan}
 use Rattle.drm_links.specs.Sink.{Output, Outputs, IsFront}
-use Rattle.drm_links.proofs.ToldLemmas.{Outputs-then, Outputs-weaker}
-use Rattle.drm_server.specs.Datagrams.{IsDatagramAt, AreFirst, AreOfFrame, AreOfFrames, AreDatagrams}
+use Rattle.drm_links.proofs.ToldLemmas.{Outputs-then}
+use Rattle.drm_server.specs.Datagrams.{IsDatagramAt, AreFirst, AreOfFrames, AreDatagrams}
 use Rattle.drm_server.specs.Capture.{IsCapture, IsFrontOfCapture}
 use Rattle.drm_server.specs.Gathering.{Gathers, IsFrontOfFrame, IsFrontWithDatagram}
 

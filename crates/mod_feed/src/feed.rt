@@ -7,6 +7,7 @@ ghost use Rattle.drm_mux.specs.Frame.{EndBy, HaveTheirLengths};
 ghost use Rattle.drm_timeline.specs.Tracker.{new_tracker, answered, stepped};
 ghost use Rattle.dcp_tag.specs.Tag.{bytes_for};
 ghost use Rattle.dcp_collect.specs.View.{item_of as given_of};
+ghost use Rattle.dcp_collect.specs.WholePackets.{IsAfIfWhole};
 ghost use Rattle.mod_feed.specs.Items.{Item, item_of, IsItemOf, number_of, seen_in, IfFrame, IfBad, IsOfReading};
 
 use crate::FeedItem;
@@ -51,6 +52,8 @@ impl Feed {
     pub fn step<'a>(&mut self, out: Out<'a>) -> Step<'a>
         requires in_order { number_of (given_of out) ≡ self.old.calls }
         requires small { self.old.calls < 2 ^ 62 }
+        // What a collector gives meets this.
+        requires whole { IsAfIfWhole out }
         // The item is that of what a collector gives, and there is no other.
         ensures item { IsItemOf (given_of out.entry) (item_of result.item) }
         ensures only { (item : Item) → IsItemOf (given_of out.entry) item → item_of result.item ≡ item }

@@ -1,21 +1,24 @@
 //! The item of what a collector gives.
 
-ghost use Rattle.std.specs.Prelude.{◌≡◌, ◌+◌, ◌≤◌, length, IfSome, IfOk, IfErr};
+ghost use Rattle.std.specs.Prelude.{◌≡◌, ◌+◌, ◌≤◌, true, length, IfSome, IfOk, IfErr};
 ghost use Rattle.drm_bits.specs.Description.{IsDescription, FitsWidths};
 ghost use Rattle.drm_fac.specs.Fac.{FacFits};
 ghost use Rattle.drm_mux.specs.Frame.{EndBy, HaveTheirLengths};
 ghost use Rattle.dcp_tag.specs.Tag.{bytes_for};
+ghost use Rattle.dcp_af.specs.Packet.{AfPacket, IsAf};
+ghost use Rattle.dcp_collect.specs.WholePackets.{IsAfIfWhole};
 ghost use Rattle.dcp_collect.specs.View.{item_of as given_of};
 ghost use Rattle.mdi_items.specs.Frame.{frame_of};
 ghost use Rattle.mod_feed.specs.Items.{item_of, CarriesFrame, CarriesNone, IsItemOf, IfFrame, IfBad, IsOfReading};
 
 use crate::{BadFault, FeedItem};
-use dcp_af::read_af;
+use dcp_af::{payload_of, read_af};
 use dcp_collect::Out;
 use mdi_items::{MdiView, read_mdi};
 
 /// The item of what a collector gives.
 pub(crate) fn read_item<'a>(out: Out<'a>) -> FeedItem<'a>
+    requires whole { IsAfIfWhole out }
     ensures item { IsItemOf (given_of out.entry) (item_of result) }
     ensures inside { IfFrame result (λ v. EndBy (length v.payload.now) v.streams) }
     ensures block_inside { IfFrame result (λ v. IfSome v.sdc (λ s. s.at + bytes_for s.bits ≤ length v.payload.now)) }
@@ -26,7 +29,11 @@ pub(crate) fn read_item<'a>(out: Out<'a>) -> FeedItem<'a>
     ensures of_reading { IfBad result IsOfReading }
 {
     match out {
-        Out::Packet { index, bytes, .. } => match read_frame(bytes) {
+        Out::Packet {
+            index,
+            bytes,
+            whole,
+        } => match read_frame(bytes, whole) {
             Ok(view) => FeedItem::Frame { index, view },
             Err(fault) => FeedItem::Bad { index, fault },
         },
@@ -39,7 +46,8 @@ pub(crate) fn read_item<'a>(out: Out<'a>) -> FeedItem<'a>
 }
 
 // The frame that a packet carries.
-fn read_frame(packet: &[u8]) -> Result<MdiView<'_>, BadFault>
+fn read_frame(packet: &[u8], whole: bool) -> Result<MdiView<'_>, BadFault>
+    requires known { whole ≡ true → (af : AfPacket) × IsAf af packet.now }
     ensures frame { IfOk result (λ v. CarriesFrame (frame_of v) v.payload.now packet.now) }
     ensures none { IfErr result (λ fault. CarriesNone fault packet.now) }
     ensures inside { IfOk result (λ v. EndBy (length v.payload.now) v.streams) }
@@ -49,12 +57,27 @@ fn read_frame(packet: &[u8]) -> Result<MdiView<'_>, BadFault>
     ensures description { IfOk result (λ v. IsDescription v.mux) }
     ensures mux_fits { IfOk result (λ v. FitsWidths v.mux) }
 {
-    let af = match read_af(packet) {
-        Ok(af) => af,
-        Err(fault) => return Err(BadFault::Af(fault)),
+    let payload = match read_payload(packet, whole) {
+        Ok(payload) => payload,
+        Err(fault) => return Err(fault),
     };
-    match read_mdi(af.payload) {
+    match read_mdi(payload) {
         Ok(view) => Ok(view),
         Err(fault) => Err(BadFault::Mdi(fault)),
+    }
+}
+
+// The payload of a packet. One that came whole was read as an AF packet when it came, and isn't judged again.
+fn read_payload(packet: &[u8], whole: bool) -> Result<&[u8], BadFault>
+    requires known { whole ≡ true → (af : AfPacket) × IsAf af packet.now }
+    ensures carried { IfOk result (λ payload. (af : AfPacket) × IsAf af packet.now × (af.payload ≡ payload.now)) }
+    ensures fault { IfErr result (λ fault. CarriesNone fault packet.now) }
+{
+    if whole {
+        return Ok(payload_of(packet));
+    }
+    match read_af(packet) {
+        Ok(af) => Ok(af.payload),
+        Err(fault) => Err(BadFault::Af(fault)),
     }
 }

@@ -1,4 +1,4 @@
-use Rattle.std.proofs.Common.{List, ℕ, ◌≤◌, length, sym, subst, arith}
+use Rattle.std.proofs.Common.{sym, subst, arith}
 use Rattle.std.proofs.lemmas.List.{take-append-le}
 use Rattle.dcp_pft.specs.Head.{IsFragmentOf}
 use Rattle.drm_server.proofs.cut.write_cut.Goals as goal

@@ -1,10 +1,8 @@
-use Rattle.std.proofs.Common.{ℕ, List, [], ◌∷◌, ◌≡◌, ◌+◌, ◌++◌, take, length, refl, subst, ap, sym, ◌∙◌, arith}
+use Rattle.std.proofs.Common.{[], ◌∷◌, ◌≡◌, ◌++◌, take, refl, subst, ◌∙◌, arith}
 use Rattle.std.proofs.lemmas.List.{append-nil}
 use Rattle.std.proofs.lemmas.Result.{err_from_is_err_and}
-use Rattle.std.specs.List.{concat}
-use Rattle.drm_links.proofs.ToldLemmas.{Outputs-nothing, Outputs-then}
+use Rattle.drm_links.proofs.ToldLemmas.{Outputs-nothing}
 use Rattle.drm_server.specs.Datagrams.{AreFirst}
-use Rattle.drm_server.specs.Gathering.{IsFrontWithDatagram, IsFrontOfFrame}
 use Rattle.drm_server.proofs.DatagramLemmas.{next_datagram}
 use Rattle.drm_server.proofs.CaptureLemmas.{gathers_datagram, front_of_frame}
 use Rattle.drm_server.proofs.serve.gather_frame.Goals as goal

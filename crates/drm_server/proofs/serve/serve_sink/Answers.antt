@@ -1,10 +1,9 @@
-use Rattle.std.proofs.Common.{◌≡◌, ◌∙◌, ◌+◌, ◌*◌, ◌≤◌, ℕ, suc, List, ◌++◌, length, take, ap, sym, subst, arith, length-append}
+use Rattle.std.proofs.Common.{◌≡◌, ◌∙◌, ◌+◌, ◌*◌, ℕ, List, ◌++◌, length, take, ap, subst, arith, length-append}
 use Rattle.std.proofs.lemmas.Result.{err_from_is_err_and}
-use Rattle.std.specs.List.{concat}
 use Rattle.drm_schedule.specs.declared.plan.Plan.{Plan}
 use Rattle.drm_links.specs.Sink.{Outputs}
 use Rattle.drm_server.specs.Serving.{Serving}
-use Rattle.drm_server.specs.Datagrams.{AreFirst, AreOfFrames, HasDatagrams}
+use Rattle.drm_server.specs.Datagrams.{AreOfFrames, HasDatagrams}
 use Rattle.drm_server.specs.Gathering.{GathersFrame, IsFrontOfFrame}
 use Rattle.drm_server.proofs.DatagramLemmas.{next_frame, at_frame, first_length}
 use Rattle.drm_server.proofs.OneDelivery.{one_count}

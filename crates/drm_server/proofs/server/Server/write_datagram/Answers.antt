@@ -2,7 +2,7 @@ use Rattle.std.proofs.Common.{ℕ, List, ◌≡◌, ◌+◌, ◌%◌, ◌^◌, �
 use Rattle.std.proofs.lemmas.List.{length-take-le}
 use Rattle.drm_schedule.specs.declared.plan.Plan.{Plan}
 use Rattle.dcp_pft.specs.Head.{IsFragmentOf}
-use Rattle.drm_server.specs.Datagrams.{HasDatagrams, IsDatagramAt}
+use Rattle.drm_server.specs.Datagrams.{HasDatagrams}
 use Rattle.drm_server.specs.Serving.{Serving, IsCutOf}
 use Rattle.drm_server.proofs.CutLemmas.{below_cut, cut_datagram, whole_datagram}
 use Rattle.drm_server.proofs.server.Server.write_datagram.Goals as goal
