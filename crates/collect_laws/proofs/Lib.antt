@@ -23,3 +23,4 @@ pub mod SentCuts
 pub mod Brought
 pub mod SentInTime
 pub mod SentCollected
+pub mod Fit

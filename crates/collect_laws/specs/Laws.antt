@@ -81,6 +81,10 @@ StepsCount =
     (c after : State) (datagrams : List (List ℕ)) (answers : List Taken) (given : List Item)
     → Steps c datagrams answers given after → after.next ≡ c.next + length given
 
+-- the window isn't empty, and what is kept is bytes
+abbrev pub IsFit : State → Type 0
+IsFit c = (1 ≤ c.window) × AllByRecursion (λ f. IsBytes f.payload) c.kept
+
 -- whatever bytes a collector keeps, giving what is ready comes to an end
 abbrev pub GivingEnds : Type 0
 GivingEnds =

@@ -1,5 +1,5 @@
 -- A reading that ends as soon as the told number of items was given: some run goes on to the end.
-use Rattle.std.proofs.Common.{ℕ, zero, suc, ◌≡◌, ◌≤◌, inl, inr, not, eqb, List, [], ◌∷◌, ◌++◌, length, take, slice_get, Option, Some, refl, sym, ap, subst, ◌∙◌, arith, length-append}
+use Rattle.std.proofs.Common.{ℕ, zero, suc, ◌≡◌, ◌≤◌, inl, inr, List, [], ◌∷◌, ◌++◌, length, take, slice_get, Option, Some, refl, sym, ap, subst, ◌∙◌, arith, length-append}
 use Rattle.std.specs.Prelude.{ℤ}
 use Rattle.std.specs.List.{AllByRecursion, AllZip}
 use Rattle.std.proofs.lemmas.List.{take-append-le}
@@ -9,13 +9,11 @@ use Rattle.drm_schedule.specs.Valid.{IsSchedule}
 use Rattle.drm_timeline.specs.Tracker.{new_tracker}
 use Rattle.dcp_collect.specs.declared.taken.Taken.{Taken}
 use Rattle.dcp_collect.specs.Reading.{Incoming, Read, Brings, IsRead}
-use Rattle.dcp_collect.specs.State.{State, made, number_of, answer, after_take, after_item, after_finish}
+use Rattle.dcp_collect.specs.State.{State, made, answer, after_take, after_finish}
 use Rattle.dcp_collect.specs.Runs.{Item as Collected, Takes, Gives, Steps, Run}
 use Rattle.collect_laws.specs.Delivery.{Carriage}
-use Rattle.collect_laws.specs.Laws.{IsRight, OneReading, StepsJoin, GivingEnds}
-use Rattle.dcp_collect.proofs.Lists.{all_insert}
-use Rattle.collect_laws.proofs.Stays.{after_by}
-use Rattle.collect_laws.proofs.Ending.{bytes_filter}
+use Rattle.collect_laws.specs.Laws.{IsRight, OneReading, StepsJoin, IsFit, GivingEnds}
+use Rattle.collect_laws.proofs.Fit.{fit_after, fit_given}
 use Rattle.collect_laws.proofs.Sent.{BringsPair}
 use Rattle.collect_laws.proofs.Brought.{all_brought}
 use Rattle.mod_delivery.specs.Sent.{carriage_of, AreSent, IsFollowed}
@@ -28,23 +26,6 @@ pub record IsBrought (datagram : List ℕ) : Type 0 where
   pub incoming : Incoming
   pub is_read : IsRead (Brings incoming) datagram
   pub bytes : IsBytes incoming.payload
-
--- what is kept is bytes, and the window isn't empty
-abbrev IsFit : State → Type 0
-IsFit c = (1 ≤ c.window) × AllByRecursion (λ f. IsBytes f.payload) c.kept
-
-fit_after : (c : State) (incoming : Incoming) → IsFit c → IsBytes incoming.payload → IsFit (after_take c (Brings incoming))
-fit_after c incoming fit bytes =
-    after_by IsFit c (number_of c incoming) incoming (answer c (Brings incoming)) fit
-    (λ m. (
-      fit.0,
-      all_insert (λ f. IsBytes f.payload) (record { number = m; head = incoming.head; payload = incoming.payload }) c.kept bytes fit.1,
-    ))
-
-fit_given : (given : List Collected) (c d : State) → Gives c given d → IsFit c → IsFit d
-fit_given [] c d gives fit = subst IsFit (sym gives.1) fit
-fit_given (item ∷ given) c d gives fit =
-    fit_given given (after_item c) d gives.2 (fit.0, bytes_filter (λ f. not (eqb f.number c.next)) c.kept fit.1)
 
 module _ (one_reading : OneReading) where
   fit_taken : (c d : State) (datagram : List ℕ) (a : Taken) → IsBrought datagram → Takes c datagram a d → IsFit c → IsFit d

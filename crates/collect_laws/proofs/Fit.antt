@@ -1,0 +1,59 @@
+-- What a collector keeps is bytes, where the datagrams are.
+use Rattle.std.proofs.Common.{ℕ, ◌≡◌, ◌⊎◌, inl, inr, not, eqb, List, [], ◌∷◌, ◌++◌, drop, length, refl, sym, ◌∙◌, ap, subst, append_assoc}
+use Rattle.std.specs.List.{AllByRecursion}
+use Rattle.std.specs.Int.{w16, to_be_bytes}
+use Rattle.std.proofs.lemmas.List.{get_or-drop, drop-append_seam}
+use Rattle.drm_bits.specs.Bits.{IsBytes}
+use Rattle.dcp_pft.specs.Head.{head}
+use Rattle.dcp_collect.specs.declared.taken.Taken.{Taken}
+use Rattle.dcp_collect.specs.Reading.{Incoming, Read, Unread, Brings, IsIncoming, IsRead}
+use Rattle.dcp_collect.specs.State.{State, number_of, answer, after_take, after_item}
+use Rattle.dcp_collect.specs.Runs.{Item, Takes, Gives}
+use Rattle.dcp_collect.proofs.Lists.{all_insert}
+use Rattle.collect_laws.specs.Laws.{IsFit}
+use Rattle.collect_laws.proofs.Runs.{Given}
+use Rattle.collect_laws.proofs.Stays.{after_by}
+use Rattle.collect_laws.proofs.Ending.{bytes_filter}
+
+bytes_drop : (n : ℕ) (bytes : List ℕ) → IsBytes bytes → IsBytes (drop n bytes)
+bytes_drop n bytes h i = rw get_or-drop (h (n + i))
+
+bytes_behind : (front rest : List ℕ) → IsBytes (front ++ rest) → IsBytes rest
+bytes_behind front rest h = subst IsBytes (drop-append_seam front rest) (bytes_drop (length front) (front ++ rest) h)
+
+-- what a datagram brings is bytes
+payload_bytes : (incoming : Incoming) (bytes : List ℕ) → IsBytes bytes → IsIncoming incoming bytes → IsBytes incoming.payload
+payload_bytes incoming bytes are (inl (af, is, few, same)) = subst IsBytes (sym (ap (λ (i : Incoming). i.payload) same)) are
+payload_bytes incoming bytes are (inr (f, is, same)) =
+    subst IsBytes (sym (ap (λ (i : Incoming). i.payload) same))
+    (bytes_behind (head f ++ to_be_bytes w16 is.spells.check) f.payload
+    (subst IsBytes (is.spells.spelled) are))
+
+pub fit_after : (c : State) (incoming : Incoming) → IsFit c → IsBytes incoming.payload → IsFit (after_take c (Brings incoming))
+fit_after c incoming fit bytes =
+    after_by IsFit c (number_of c incoming) incoming (answer c (Brings incoming)) fit
+    (λ m. (
+      fit.0,
+      all_insert (λ f. IsBytes f.payload) (record { number = m; head = incoming.head; payload = incoming.payload }) c.kept bytes fit.1,
+    ))
+
+fit_read : (c : State) (read : Read) (bytes : List ℕ) → IsBytes bytes → IsRead read bytes → IsFit c → IsFit (after_take c read)
+fit_read c (Unread field) bytes are is fit = fit
+fit_read c (Brings incoming) bytes are is fit = fit_after c incoming fit (payload_bytes incoming bytes are is)
+
+-- after a datagram
+pub fit_taken : (c d : State) (bytes : List ℕ) (a : Taken) → IsBytes bytes → Takes c bytes a d → IsFit c → IsFit d
+fit_taken c d bytes a are takes fit = subst IsFit (sym takes.after_is) (fit_read c takes.read bytes are takes.is_read fit)
+
+pub fit_item : (c : State) → IsFit c → IsFit (after_item c)
+fit_item c fit = (fit.0, bytes_filter (λ f. not (eqb f.number c.next)) c.kept fit.1)
+
+-- after some items
+pub fit_some : (items : List Item) (c d : State) → Given c items d → IsFit c → IsFit d
+fit_some [] c d given fit = subst IsFit (sym given) fit
+fit_some (item ∷ items) c d given fit = fit_some items (after_item c) d given.2 (fit_item c fit)
+
+-- after all that were ready
+pub fit_given : (items : List Item) (c d : State) → Gives c items d → IsFit c → IsFit d
+fit_given [] c d gives fit = subst IsFit (sym gives.1) fit
+fit_given (item ∷ items) c d gives fit = fit_given items (after_item c) d gives.2 (fit_item c fit)
