@@ -1,17 +1,17 @@
 -- What a collector keeps is bytes, where the datagrams are.
-use Rattle.std.proofs.Common.{ℕ, ◌≡◌, ◌⊎◌, inl, inr, not, eqb, List, [], ◌∷◌, ◌++◌, drop, length, refl, sym, ◌∙◌, ap, subst, append_assoc}
+use Rattle.std.proofs.Common.{ℕ, ◌≡◌, ◌+◌, ◌⊎◌, inl, inr, Bool, true, false, if◌then◌else◌, not, eqb, List, [], ◌∷◌, ◌++◌, drop, length, refl, sym, ◌∙◌, ap, subst, append_assoc}
 use Rattle.std.specs.List.{AllByRecursion}
 use Rattle.std.specs.Int.{w16, to_be_bytes}
-use Rattle.std.proofs.lemmas.List.{get_or-drop, drop-append_seam}
+use Rattle.std.proofs.lemmas.List.{get_or-drop}
+use Rattle.std.proofs.Math.Seq.{drop-append_seam}
 use Rattle.drm_bits.specs.Bits.{IsBytes}
 use Rattle.dcp_pft.specs.Head.{head}
 use Rattle.dcp_collect.specs.declared.taken.Taken.{Taken}
 use Rattle.dcp_collect.specs.Reading.{Incoming, Read, Unread, Brings, IsIncoming, IsRead}
-use Rattle.dcp_collect.specs.State.{State, number_of, answer, after_take, after_item}
+use Rattle.dcp_collect.specs.State.{State, number_of, answer, after_take, ready, after_item, after_next}
 use Rattle.dcp_collect.specs.Runs.{Item, Takes, Gives}
 use Rattle.dcp_collect.proofs.Lists.{all_insert}
 use Rattle.collect_laws.specs.Laws.{IsFit}
-use Rattle.collect_laws.proofs.Runs.{Given}
 use Rattle.collect_laws.proofs.Stays.{after_by}
 use Rattle.collect_laws.proofs.Ending.{bytes_filter}
 
@@ -45,13 +45,15 @@ fit_read c (Brings incoming) bytes are is fit = fit_after c incoming fit (payloa
 pub fit_taken : (c d : State) (bytes : List ℕ) (a : Taken) → IsBytes bytes → Takes c bytes a d → IsFit c → IsFit d
 fit_taken c d bytes a are takes fit = subst IsFit (sym takes.after_is) (fit_read c takes.read bytes are takes.is_read fit)
 
-pub fit_item : (c : State) → IsFit c → IsFit (after_item c)
+fit_item : (c : State) → IsFit c → IsFit (after_item c)
 fit_item c fit = (fit.0, bytes_filter (λ f. not (eqb f.number c.next)) c.kept fit.1)
 
--- after some items
-pub fit_some : (items : List Item) (c d : State) → Given c items d → IsFit c → IsFit d
-fit_some [] c d given fit = subst IsFit (sym given) fit
-fit_some (item ∷ items) c d given fit = fit_some items (after_item c) d given.2 (fit_item c fit)
+fit_by : (b : Bool) (c : State) → IsFit c → IsFit (if b then after_item c else c)
+fit_by true c fit = fit_item c fit
+fit_by false c fit = fit
+
+pub fit_next : (c : State) → IsFit c → IsFit (after_next c)
+fit_next c fit = fit_by (ready c) c fit
 
 -- after all that were ready
 pub fit_given : (items : List Item) (c d : State) → Gives c items d → IsFit c → IsFit d
