@@ -10,7 +10,7 @@ use Rattle.drm_links.specs.Link.{Answer, Traffic, datagram_of}
 use Rattle.drm_links.specs.Sink.{Output}
 use Rattle.drm_links.proofs.ToldLemmas.{Outputs-weaker}
 use Rattle.dcp_collect.specs.declared.taken.Taken.{Taken}
-use Rattle.dcp_collect.specs.declared.taken.Taken.TheVariants.{Kept, Repeated, Late, Refused, Inconsistent, NoMemory}
+use Rattle.dcp_collect.specs.declared.taken.Taken.TheVariants.{Kept, Repeated, Late, Refused, Inconsistent}
 use Rattle.dcp_collect.specs.State.{State, made}
 use Rattle.dcp_collect.specs.Runs.{Item as Given, Steps, Run, up_to}
 use Rattle.collect_laws.specs.Laws.{IsRight}
@@ -42,7 +42,6 @@ none_refused n (Repeated ∷ taken) right = none_refused (n + 1) taken right.1
 none_refused n (Late ∷ taken) right = none_refused (n + 1) taken right.1
 none_refused n (Refused field ∷ taken) right = absurd right.0
 none_refused n (Inconsistent kept came ∷ taken) right = absurd right.0
-none_refused n (NoMemory ∷ taken) right = absurd right.0
 
 -- ---- the laws of deliveries
 

@@ -6,16 +6,17 @@ use Rattle.std.proofs.Math.Nat.{mul-le-mul_right}
 use Rattle.drm_links.specs.Told.{Rose}
 use Rattle.drm_links.specs.Link.{Answer, Traffic}
 use Rattle.drm_links.specs.Sink.{Output, Outputs}
+use Rattle.drm_links.proofs.ToldLemmas.{Outputs-weaker}
 use Rattle.drm_links.specs.Dock.{LinkStart, first_traffic}
 use Rattle.dcp_collect.specs.State.{State, made}
 use Rattle.mod_receiver.specs.Hearing.{AreNext, Heard}
 use Rattle.mod_receiver.specs.declared.rules.Rules.{Rules}
 use Rattle.mod_receiver.specs.Reading.{most_answers}
-use Rattle.mod_receiver.specs.Received.{Reported, Broken, IsReport, IsReasonable, rules_of}
+use Rattle.mod_receiver.specs.Received.{Reported, Broken, Stopped, IsReport, IsReportFront, IsReasonable, rules_of}
 use Rattle.mod_receiver.specs.Texts.{text_tells}
 use Rattle.mod_receiver.specs.Ranges.{AreInRange}
 use Rattle.mod_receiver.specs.Jobs.{IsReady, EndedAs, HasEnded, job_rules, text_of, is_failed, clean_of, IsDone, options_for, IsJob, AreJobs, NoneFailed}
-use Rattle.mod_receiver.specs.Ahead.{Report, IsReportOf, BreaksOff}
+use Rattle.mod_receiver.specs.Ahead.{Report, IsReportOf, BreaksOff, IsGivenOf, IsFrontOf}
 use Rattle.mod_receiver.specs.Following.{HeadlinesFollow, CompletesFollow}
 use Rattle.mod_receiver.specs.declared.text.Text.{Text}
 use Rattle.mod_receiver.specs.declared.receiver.Options.{Options}
@@ -59,7 +60,7 @@ text_written P first text writes is some = text_if P first (nat_le text.calls (2
 abbrev pub told_of : {L : Type 0} → Job L → Report
 told_of job = record { text = text_of job; clean = clean_of job }
 
-rules_are : (rules : Rules) (number : ℕ) (c : State) (options : Options) → c ≡ made rules.window rules.first → options ≡ options_for rules number → rules_of c options ≡ rules
+pub rules_are : (rules : Rules) (number : ℕ) (c : State) (options : Options) → c ≡ made rules.window rules.first → options ≡ options_for rules number → rules_of c options ≡ rules
 rules_are rules number c options c_is options_is = ap (λ d. rules_of d options) c_is ∙ ap (λ o. rules_of (made rules.window rules.first) o) options_is
 
 failed_is : (ended : Option Ended) → is_failed ended ≡ true → ended ≡ Some LinkFailed
@@ -95,6 +96,50 @@ job_ready {L} rules k job valid is =
 pub jobs_ready : {L : Type 0} (rules : Rules) (jobs : List (Job L)) (many : ℕ) → AreInRange rules → length jobs ≡ many → AreJobs rules many jobs → All IsReady jobs
 jobs_ready rules jobs many valid size are k none within = job_ready rules k (slice_index_or jobs k none) valid (are k none (omega (arith, size, within)))
 
+-- ---- what a receiver has written, and what was ahead of its link
+
+module _ (rules : Rules) (valid : AreInRange rules) (number : ℕ) (start : LinkStart) (a b : Option Traffic) (u v : Option Output) (told : a ≡ Some (first_traffic start)) where
+  answers_ahead : (answers : List Answer) → Heard answers a b → length answers ≤ most_answers rules → (rest : List Answer) × AreNext start.ahead answers rest
+  answers_ahead answers heard few = heard_next a b start answers heard told (let most = few_answers rules valid in omega (arith, few, most))
+
+  -- its report is that of what was ahead of its link
+  pub live_report : HeadlinesFollow → CompletesFollow → (clean : Bool) → Reported rules number a b u v clean
+      → (r : Report) × IsReportOf rules number start.ahead r × Outputs u v (λ text. text ≡ r.text) × (clean ≡ r.clean)
+  live_report headlines completes clean reported =
+      let next = answers_ahead reported.answers reported.heard reported.few in (
+        record { text = reported.whole; clean = clean },
+        record {
+          answers = reported.answers;
+          rest = next.0;
+          next = next.1;
+          is = reported.is;
+          headline = headlines rules number reported.answers reported.whole clean valid.some_window reported.is;
+          complete = completes rules number start.ahead reported.answers next.0 reported.whole clean valid.some_window next.1 reported.is;
+        },
+        reported.text,
+        refl,
+      )
+
+  -- where its link failed, what was given before was written
+  pub live_given : Broken rules number a b u v → (given : List ℕ) × IsGivenOf rules number start.ahead given × Outputs u v (λ text. text ≡ given)
+  live_given broken =
+      let next = answers_ahead broken.answers broken.heard broken.few in
+      (broken.whole, record { answers = broken.answers; rest = next.0; next = next.1; is = broken.is }, broken.text)
+
+  pub live_breaks : Broken rules number a b u v → BreaksOff rules start.ahead
+  live_breaks broken =
+      let next = answers_ahead broken.answers broken.heard broken.few in
+      record { before = broken.is.before; answers = broken.answers; rest = next.0; next = next.1; reading = broken.is.reading }
+
+  -- where a write failed, a front was written
+  pub live_front : Stopped rules number a b u v → Outputs u v (IsFrontOf rules number start.ahead)
+  live_front stopped =
+      let next = answers_ahead stopped.answers stopped.heard stopped.few in
+      Outputs-weaker (IsReportFront rules number stopped.answers) (IsFrontOf rules number start.ahead) u v stopped.text
+      (λ text is. record { answers = stopped.answers; rest = next.0; next = next.1; goes_on = stopped.goes_on; is = is })
+
+-- ---- receivers side by side
+
 module _ {L : Type 0} (faults : L → ℕ) (tells : L → Option Traffic) (rules : Rules) (valid : AreInRange rules) (number : ℕ) (start : LinkStart) (before after : Job L) (is : IsJob rules number before) (told : tells before.link ≡ Some (first_traffic start)) (ended : HasEnded faults tells before after) where
   abbrev Was : Option Ended → Type 0
   Was o = MatchOption o ⊥ (EndedAs faults tells before after)
@@ -113,35 +158,17 @@ module _ {L : Type 0} (faults : L → ℕ) (tells : L → Option Traffic) (rules
       let reported : Reported rules number (tells before.link) (tells after.link) (text_tells before.text) (text_tells after.text) (clean_of after) =
       subst (λ n. Reported rules n (tells before.link) (tells after.link) (text_tells before.text) (text_tells after.text) (clean_of after)) same_number
       (subst (λ r. Reported r before.options.feed (tells before.link) (tells after.link) (text_tells before.text) (text_tells after.text) (clean_of after)) same_rules raw) in
-      let few : length reported.answers ≤ 2 ^ 62 = (let some = reported.few in let most = few_answers rules valid in omega (arith, some, most)) in
-      let next = heard_next (tells before.link) (tells after.link) start reported.answers reported.heard told few in
-      let text : text_of after ≡ reported.whole = text_written (λ t. t ≡ reported.whole) (text_tells before.text) after.text reported.text is.text done.1 in
-      let report : IsReport rules number reported.answers (text_of after) (clean_of after) = subst (λ t. IsReport rules number reported.answers t (clean_of after)) (sym text) reported.is in
-      record {
-        answers = reported.answers;
-        rest = next.0;
-        next = next.1;
-        is = report;
-        headline = headlines rules number reported.answers (text_of after) (clean_of after) valid.some_window report;
-        complete = completes rules number start.ahead reported.answers next.0 (text_of after) (clean_of after) valid.some_window next.1 report;
-      }
+      let live = live_report rules valid number start (tells before.link) (tells after.link) (text_tells before.text) (text_tells after.text) told headlines completes (clean_of after) reported in
+      let text : text_of after ≡ live.0.text = text_written (λ t. t ≡ live.0.text) (text_tells before.text) after.text live.2 is.text done.1 in
+      subst (λ r. IsReportOf rules number start.ahead r) (λ i. record { text = sym text i; clean = sym live.3 i }) live.1
 
   -- what is ahead of the link of one that failed breaks off
   pub job_breaks : is_failed after.ended ≡ true → BreaksOff rules start.ahead
   job_breaks failed =
       let was : EndedAs faults tells before after LinkFailed = subst Was (failed_is after.ended failed) ended in
       let raw : Broken (job_rules before) before.options.feed (tells before.link) (tells after.link) (text_tells before.text) (text_tells after.text) = was.ends in
-      let broken : Broken rules before.options.feed (tells before.link) (tells after.link) (text_tells before.text) (text_tells after.text) =
-      subst (λ r. Broken r before.options.feed (tells before.link) (tells after.link) (text_tells before.text) (text_tells after.text)) same_rules raw in
-      let few : length broken.answers ≤ 2 ^ 62 = (let some = broken.few in let most = few_answers rules valid in omega (arith, some, most)) in
-      let next = heard_next (tells before.link) (tells after.link) start broken.answers broken.heard told few in
-      record {
-        before = broken.is.before;
-        answers = broken.answers;
-        rest = next.0;
-        next = next.1;
-        reading = broken.is.reading;
-      }
+      live_breaks rules valid before.options.feed start (tells before.link) (tells after.link) (text_tells before.text) (text_tells after.text) told
+      (subst (λ r. Broken r before.options.feed (tells before.link) (tells after.link) (text_tells before.text) (text_tells after.text)) same_rules raw)
 
 -- the count of faults of the link of one that failed rose
 pub job_rose : {L : Type 0} (faults : L → ℕ) (tells : L → Option Traffic) (before after : Job L) → HasEnded faults tells before after → is_failed after.ended ≡ true → Rose (faults before.link) (faults after.link)

@@ -4,9 +4,13 @@ use Rattle.std.proofs.lemmas.List.{append-nil}
 use Rattle.std.proofs.lemmas.List.Concat.{flat_map-append}
 use Rattle.drm_links.specs.Sink.{Output, Outputs, IsFront}
 use Rattle.drm_links.proofs.ToldLemmas.{Outputs-then, Outputs-nothing, Outputs-weaker}
-use Rattle.dcp_collect.specs.State.{State, ready, after_item, after_next}
+use Rattle.dcp_collect.specs.State.{State, ready, after_item, after_next, after_finish}
 use Rattle.dcp_collect.specs.Runs.{Item, Packet, Lost, Damaged, IsItem, Gives, up_to}
+use Rattle.collect_laws.specs.Laws.{IsFit, GivingEnds}
 use Rattle.collect_laws.proofs.Runs.{Given, given_more, given_all}
+use Rattle.collect_laws.proofs.Ending.{giving_ends}
+use Rattle.collect_laws.proofs.Fit.{fit_given}
+use Rattle.dcp_collect.proofs.Decoded.{decoded_or_none}
 use Rattle.drm_timeline.specs.declared.seen.Seen.{Seen}
 use Rattle.drm_timeline.specs.Tracker.{TrackerState, stepped}
 use Rattle.mod_feed.specs.Items.{Item as FeedItem, Frame, Missing, Bad, number_of, seen_in}
@@ -18,6 +22,10 @@ use Rattle.mod_receiver.specs.Reports.{steps_text}
 use Rattle.mod_receiver.specs.Tallies.{Tallied, counted, one_more_item}
 use Rattle.mod_receiver.specs.Received.{GivesFirst}
 use Rattle.mod_receiver.specs.Printed.{items_in, is_full, left_of, steps_before, with_steps, KeepsPace, Prints, PrintsReady, PrintsFront}
+
+-- whatever a collector keeps, giving what is ready comes to an end
+pub ends : GivingEnds
+ends = giving_ends decoded_or_none
 
 -- ---- lists
 
@@ -108,17 +116,34 @@ is_left told n e = grind arith
 none_left : (told n : ℕ) → nat_le told n ≡ true → told - n ≡ 0
 none_left told n e = grind arith
 
--- an item past the told number
-pub prints_past : (told : Option ℕ) (f : TrackerState) (t : Tallied) (a : Option Output) (item : Item)
-    → is_full told f.calls ≡ true → Prints told f f t t a a (item ∷ [])
-prints_past None f t a item full = absurd (let e : false ≡ true = full in cc)
-prints_past (Some told) f t a item full =
-    record {
-      steps = [];
-      feeds = subst (λ n. Feeds f (take n (item ∷ [])) [] f) (sym (none_left told f.calls full)) refl;
-      tally = refl;
-      text = Outputs-nothing a (λ x. x ≡ []) refl;
-    }
+take_none : {A : Type 0} (xs : List A) → take 0 xs ≡ []
+take_none [] = refl
+take_none (x ∷ xs) = refl
+
+-- no item is below the told number
+pub none_below : (told : Option ℕ) (n : ℕ) (items : List Item) → is_full told n ≡ true → up_to (left_of told n) items ≡ []
+none_below None n items full = absurd (let e : false ≡ true = full in cc)
+none_below (Some told) n items full = ap (λ k. take k items) (none_left told n full) ∙ take_none items
+
+-- items past the told number
+pub prints_full : (told : Option ℕ) (f : TrackerState) (t : Tallied) (a : Option Output) (items : List Item)
+    → is_full told f.calls ≡ true → Prints told f f t t a a items
+prints_full told f t a items full = record {
+  steps = [];
+  feeds = subst (λ l. Feeds f l [] f) (sym (none_below told f.calls items full)) refl;
+  tally = refl;
+  text = Outputs-nothing a (λ x. x ≡ []) refl;
+}
+
+-- past the told number it is one which items there are
+pub prints_any : (told : Option ℕ) (f g : TrackerState) (t u : Tallied) (a b : Option Output) (items others : List Item)
+    → is_full told f.calls ≡ true → Prints told f g t u a b items → Prints told f g t u a b others
+prints_any told f g t u a b items others full p = record {
+  steps = p.steps;
+  feeds = subst (λ l. Feeds f l p.steps g) (none_below told f.calls items full ∙ sym (none_below told f.calls others full)) p.feeds;
+  tally = p.tally;
+  text = p.text;
+}
 
 one_of : (k : ℕ) (item : Item) → 0 < k → take k (item ∷ []) ≡ item ∷ []
 one_of zero item l = absurd (omega (arith, l))
@@ -160,9 +185,6 @@ front_then xs ys a b c p q = Outputs-then (λ t. t ≡ xs) (IsFront ys) (IsFront
 pub nothing_front : (xs : List ℕ) (a : Option Output) → Outputs a a (IsFront xs)
 nothing_front xs a = Outputs-nothing a (IsFront xs) (xs, refl)
 
-pub whole_front : (xs t : List ℕ) → t ≡ xs → IsFront xs t
-whole_front xs t e = ([], sym e ∙ sym (append-nil t))
-
 -- ---- what a loop over the ready items keeps
 
 pub record Drained (told : Option ℕ) (c d : State) (f g : TrackerState) (t u : Tallied) (a b : Option Output) (items : List Item) : Type 0 where
@@ -201,10 +223,6 @@ pace_below (Some told) c f t pace =
     let p : f.calls ≡ min c.next told = pace.calls in
     omega (arith, i, p)
 
-pace_past : (told : Option ℕ) (next : ℕ) (f : TrackerState) → f.calls ≡ steps_before told next → is_full told f.calls ≡ true → f.calls ≡ steps_before told (next + 1)
-pace_past None next f e full = absurd (let x : false ≡ true = full in cc)
-pace_past (Some told) next f e full = let z : told - f.calls ≡ 0 = none_left told f.calls full in let p : f.calls ≡ min next told = e in omega (arith, z, p)
-
 pace_one : (told : Option ℕ) (next n m : ℕ) → n ≡ steps_before told next → is_full told n ≡ false → m ≡ n + 1 → m ≡ steps_before told (next + 1)
 pace_one None next n m e room f = let p : n ≡ next = e in omega (arith, p, f)
 pace_one (Some told) next n m e room f = let l : n < told = is_left told n room in let p : n ≡ min next told = e in omega (arith, l, p, f)
@@ -222,22 +240,6 @@ end_by false c d e = refl
 -- `next` keeps the end
 pub next_end : (c : State) → (after_next c).end ≡ c.end
 next_end c = end_by (ready c) c (after_item c) refl
-
--- an item past the told number was given
-pub drained_past : (told : Option ℕ) (c d e : State) (f g : TrackerState) (t u : Tallied) (a b : Option Output) (items : List Item) (item : Item)
-    → Drained told c d f g t u a b items → ready d ≡ true → IsItem d item → e ≡ after_next d → is_full told (items_in u.sums) ≡ true
-    → Drained told c e f g t u a b (items ++ item ∷ [])
-drained_past told c d e f g t u a b items item i r is n full =
-    let after : e ≡ after_item d = is_next d e r n in
-    let full' : is_full told g.calls ≡ true = ap (is_full told) (sym i.pace.items) ∙ full in
-    record {
-      given = subst (λ m. Given c (items ++ item ∷ []) m) (sym after) (given_more items c d item i.given r is);
-      prints = prints_then told f g g t u u a b b items (item ∷ []) i.prints (prints_past told g u b item full');
-      pace = record {
-        calls = pace_past told d.next g i.pace.calls full' ∙ ap (λ (m : State). steps_before told m.next) (sym after);
-        items = i.pace.items;
-      };
-    }
 
 -- an item was given and written
 pub drained_one : (told : Option ℕ) (c d e : State) (f g h : TrackerState) (t u v : Tallied) (a b b' : Option Output) (items : List Item) (item : Item) (step : FeedStep)
@@ -259,10 +261,36 @@ drained_one told c d e f g h t u v a b b' items item step i r is n room stepping
 
 -- nothing more is ready
 pub drained_all : (told : Option ℕ) (c d e : State) (f g : TrackerState) (t u : Tallied) (a b : Option Output) (items : List Item)
-    → Drained told c d f g t u a b items → ready d ≡ false → e ≡ after_next d → PrintsReady told c e f g t u a b
-drained_all told c d e f g t u a b items i r n =
+    → Drained told c d f g t u a b items → IsFit d → ready d ≡ false → e ≡ after_next d → PrintsReady told c e f g t u a b
+drained_all told c d e f g t u a b items i fit r n =
     let same : e ≡ d = n ∙ rw r refl in
-    record { items = items; gives = subst (λ m. Gives c items m) (sym same) (given_all items c d i.given r); prints = i.prints }
+    record {
+      items = items;
+      last = e;
+      gives = subst (λ m. Gives c items m) (sym same) (given_all items c d i.given r);
+      fit = subst IsFit (sym same) fit;
+      prints = i.prints;
+      drained = λ room. refl;
+    }
+
+given_then : (items more : List Item) (c d e : State) → Given c items d → Gives d more e → Gives c (items ++ more) e
+given_then [] more c d e given gives = subst (λ m. Gives m more e) given gives
+given_then (item ∷ items) more c d e given gives = (given.0, given.1, given_then items more (after_item c) d e given.2 gives)
+
+-- the told number was given: what else is ready isn't written
+pub drained_full : (told : Option ℕ) (c d : State) (f g : TrackerState) (t u : Tallied) (a b : Option Output) (items : List Item)
+    → Drained told c d f g t u a b items → IsFit d → is_full told (items_in u.sums) ≡ true → PrintsReady told c d f g t u a b
+drained_full told c d f g t u a b items i fit full =
+    let more = ends d fit.0 fit.1 in
+    let full' : is_full told g.calls ≡ true = ap (is_full told) (sym i.pace.items) ∙ full in
+    record {
+      items = items ++ more.0;
+      last = more.1;
+      gives = given_then items more.0 c d more.1 i.given more.2;
+      fit = fit_given more.0 d more.1 more.2 fit;
+      prints = prints_then told f g g t u u a b b items more.0 i.prints (prints_full told g u b more.0 full');
+      drained = λ room. absurd (let e : false ≡ true = sym room ∙ full in cc);
+    }
 
 -- a front of an item's line was written
 pub drained_front : (told : Option ℕ) (c d : State) (f g : TrackerState) (t u : Tallied) (a b b' : Option Output) (items : List Item) (item : Item) (step : FeedStep)
@@ -280,3 +308,42 @@ drained_front told c d f g t u a b b' items item step i r is room stepping text 
       feeds = feeds_left told f g (after_step g step) items (item ∷ []) ss (step ∷ []) i.prints.feeds (feeds_one told g item step room' stepping);
       text = subst (λ l. Outputs a b' (IsFront l)) whole (front_then (steps_text ss) (step_text step) a b b' i.prints.text text);
     }
+
+-- ---- what is ready behind a state that nothing more is taken out of
+
+-- what is left to write behind the end of a reading, which left nothing ready but where the told number was given
+pub record Rest (told : Option ℕ) (c : State) (f g : TrackerState) (t u : Tallied) (a b : Option Output) : Type 0 where
+  pub items : List Item
+  pub last : State
+  pub gives : Gives c items last
+  pub prints : Prints told f g t u a b items
+
+module _ (told : Option ℕ) (mid c d : State) (f : TrackerState) (t : Tallied) (fit : IsFit mid) (drained : is_full told (items_in t.sums) ≡ false → c ≡ mid)
+    (counted : items_in t.sums ≡ f.calls) (finished : d ≡ after_finish c told) where
+  all_taken : is_full told (items_in t.sums) ≡ false → d ≡ after_finish mid told
+  all_taken room = finished ∙ ap (λ m. after_finish m told) (drained room)
+
+  rest_by : (full : Bool) → is_full told (items_in t.sums) ≡ full → (e : State) (g : TrackerState) (u : Tallied) (a b : Option Output) → PrintsReady told d e f g t u a b → Rest told (after_finish mid told) f g t u a b
+  rest_by false room e g u a b p = record { items = p.items; last = p.last; gives = subst (λ m. Gives m p.items p.last) (all_taken room) p.gives; prints = p.prints }
+  rest_by true full e g u a b p =
+      let more = ends (after_finish mid told) fit.0 fit.1 in
+      record { items = more.0; last = more.1; gives = more.2; prints = prints_any told f g t u a b p.items more.0 (ap (is_full told) (sym counted) ∙ full) p.prints }
+
+  pub the_rest : (e : State) (g : TrackerState) (u : Tallied) (a b : Option Output) → PrintsReady told d e f g t u a b → Rest told (after_finish mid told) f g t u a b
+  the_rest e g u a b p = rest_by (is_full told (items_in t.sums)) refl e g u a b p
+
+  front_by : (full : Bool) → is_full told (items_in t.sums) ≡ full → (a b : Option Output) → PrintsFront told d f a b → PrintsFront told (after_finish mid told) f a b
+  front_by false room a b p = subst (λ m. PrintsFront told m f a b) (all_taken room) p
+  front_by true full a b p =
+      let full' : is_full told f.calls ≡ true = ap (is_full told) (sym counted) ∙ full in
+      record {
+        items = [];
+        gives = tt;
+        steps = p.steps;
+        after = p.after;
+        feeds = subst (λ l. Feeds f l p.steps p.after) (none_below told f.calls p.items full' ∙ sym (none_below told f.calls [] full')) p.feeds;
+        text = p.text;
+      }
+
+  pub the_front : (a b : Option Output) → PrintsFront told d f a b → PrintsFront told (after_finish mid told) f a b
+  the_front a b p = front_by (is_full told (items_in t.sums)) refl a b p

@@ -10,7 +10,7 @@ use Rattle.drm_links.proofs.ToldLemmas.{Outputs-then, Outputs-nothing, Outputs-w
 use Rattle.dcp_collect.specs.declared.taken.Taken.{Taken}
 use Rattle.dcp_collect.specs.State.{State, made, ready}
 use Rattle.dcp_collect.specs.Runs.{Item, up_to}
-use Rattle.collect_laws.specs.Laws.{OneRun}
+use Rattle.collect_laws.specs.Laws.{OneRun, IsFit}
 use Rattle.collect_laws.proofs.OneReading.{one_reading as one_datagram}
 use Rattle.dcp_collect.proofs.Decoded.{one_decoding}
 use Rattle.collect_laws.proofs.Unique.{one_run}
@@ -18,17 +18,15 @@ use Rattle.drm_timeline.specs.Tracker.{TrackerState, new_tracker}
 use Rattle.mod_feed.specs.Feeding.{FeedStep, Feeds}
 use Rattle.drm_show.specs.declared.report.EndWord.TheVariants as word
 use Rattle.mod_receiver.specs.declared.rules.Rules.{Rules}
-use Rattle.mod_receiver.specs.declared.stop.Stop.{Stop}
-use Rattle.mod_receiver.specs.declared.stop.Stop.TheVariants as stop
 use Rattle.mod_receiver.specs.Reading.{datagrams, idles as idles_at_end, Gave, HasGiven, IsOpen, most_answers}
 use Rattle.mod_receiver.specs.Reports.{steps_text, refusals}
 use Rattle.mod_receiver.specs.Tallies.{Tallied, new_tally, noted}
-use Rattle.mod_receiver.specs.Printed.{items_in, is_full, left_of, with_steps, KeepsPace, PrintsTaken, StopsTaking, SoFar, ReadsTo, ReadsBroken, StopsReading}
+use Rattle.mod_receiver.specs.Printed.{items_in, is_full, left_of, with_steps, KeepsPace, PrintsTaken, TakesFront, SoFar, ReadsTo, ReadsBroken, ReadsFront}
 use Rattle.mod_receiver.proofs.Hearing.{heard_none, heard_more}
 use Rattle.mod_receiver.proofs.Going.{goes_none, goes_more, is_open, datagrams_more, datagrams_idle, idles_datagram, idles_idle}
 use Rattle.mod_receiver.proofs.Giving.{gave_none, gave_datagram, gave_idle, gives_ready, none_given, steps_many}
 use Rattle.mod_receiver.proofs.Tallying.{steps_counted, answer_noted, refusals_few}
-use Rattle.mod_receiver.proofs.Printing.{taken_length, feeds_calls, feeds_left, text_more, front_then, whole_front}
+use Rattle.mod_receiver.proofs.Printing.{taken_length, feeds_calls, feeds_left, text_more, front_then}
 
 pub one_way : OneRun
 one_way = one_run one_datagram one_decoding
@@ -67,6 +65,7 @@ pub record Reaches (rules : Rules) (before after : Option Traffic) (a b : Option
   pub pace : KeepsPace rules.frames c f t
   pub none_ready : ready c ≡ false
   pub unfinished : c.end ≡ None
+  pub fit : IsFit c
   pub few : length answers ≤ taken * rules.idle + idles
 
 full_of_none : (told : Option ℕ) → IfSome told (λ n. 0 < n) → is_full told 0 ≡ false
@@ -78,8 +77,8 @@ pace_new None window first = record { calls = refl; items = omega arith }
 pace_new (Some n) window first = record { calls = omega arith; items = omega arith }
 
 starts : (rules : Rules) (before : Option Traffic) (a : Option Output)
-    → 0 < rules.limit → 0 < rules.idle → IfSome rules.frames (λ n. 0 < n) → Reaches rules before before a a (made rules.window rules.first) new_tracker new_tally 0 0
-starts rules before a limit idle some = record {
+    → 1 ≤ rules.window → 0 < rules.limit → 0 < rules.idle → IfSome rules.frames (λ n. 0 < n) → Reaches rules before before a a (made rules.window rules.first) new_tracker new_tally 0 0
+starts rules before a window limit idle some = record {
   answers = [];
   so_far = record {
     heard = heard_none before;
@@ -100,6 +99,7 @@ starts rules before a limit idle some = record {
   pace = pace_new rules.frames rules.window rules.first;
   none_ready = refl;
   unfinished = refl;
+  fit = (window, tt);
   few = omega arith;
 }
   where
@@ -110,11 +110,11 @@ starts rules before a limit idle some = record {
 
 pub at_start : (rules : Rules) (before : Option Traffic) (a : Option Output) (c : State) (f : TrackerState) (t : Tallied)
     → c ≡ made rules.window rules.first → f ≡ new_tracker → t ≡ new_tally
-    → 0 < rules.limit → 0 < rules.idle → IfSome rules.frames (λ n. 0 < n) → Reaches rules before before a a c f t 0 0
-at_start rules before a c f t is_made is_new is_empty limit idle some =
+    → 1 ≤ rules.window → 0 < rules.limit → 0 < rules.idle → IfSome rules.frames (λ n. 0 < n) → Reaches rules before before a a c f t 0 0
+at_start rules before a c f t is_made is_new is_empty window limit idle some =
     subst (λ d. Reaches rules before before a a d f t 0 0) (sym is_made)
     (subst (λ g. Reaches rules before before a a (made rules.window rules.first) g t 0 0) (sym is_new)
-    (subst (λ u. Reaches rules before before a a (made rules.window rules.first) new_tracker u 0 0) (sym is_empty) (starts rules before a limit idle some)))
+    (subst (λ u. Reaches rules before before a a (made rules.window rules.first) new_tracker u 0 0) (sym is_empty) (starts rules before a window limit idle some)))
 
 -- ---- how many were given
 
@@ -144,9 +144,9 @@ enough_given rules (Some m) answers c f sum taken items steps gave feeds is full
     (taken, items, c, gave, omega (arith, g, l, size, is))
 
 not_given : (rules : Rules) (before after : Option Traffic) (a b : Option Output) (c : State) (f : TrackerState) (t : Tallied) (answers : List Answer)
-    → SoFar rules before after a b c f t answers → KeepsPace rules.frames c f t → is_full rules.frames (items_in t.sums) ≡ false → HasGiven rules answers rules.frames → ⊥
-not_given rules before after a b c f t answers s pace room =
-    none_given rules answers rules.frames s.taken s.items c one_way s.gave (few_given rules.frames f (items_in t.sums) s.items s.steps s.feeds pace.items room)
+    → SoFar rules before after a b c f t answers → items_in t.sums ≡ f.calls → is_full rules.frames (items_in t.sums) ≡ false → HasGiven rules answers rules.frames → ⊥
+not_given rules before after a b c f t answers s counted room =
+    none_given rules answers rules.frames s.taken s.items c one_way s.gave (few_given rules.frames f (items_in t.sums) s.items s.steps s.feeds counted room)
 
 -- a reading that is so far is open
 so_far_open : (rules : Rules) (before after : Option Traffic) (a b : Option Output) (c : State) (f : TrackerState) (t : Tallied) (taken idles : ℕ)
@@ -156,7 +156,7 @@ so_far_open rules before after a b c f t taken idles r =
     let i : idles_at_end r.answers ≡ idles = r.idles_is in
     let dl : taken < rules.limit = r.more in
     let il : idles < rules.idle = r.fewer in
-    is_open rules r.answers (not_given rules before after a b c f t r.answers r.so_far r.pace r.not_full) (omega (arith, d, dl)) (omega (arith, i, il))
+    is_open rules r.answers (not_given rules before after a b c f t r.answers r.so_far r.pace.items r.not_full) (omega (arith, d, dl)) (omega (arith, i, il))
 
 -- how many refusals there are
 pub refused_few : (rules : Rules) (before after : Option Traffic) (a b : Option Output) (c : State) (f : TrackerState) (t : Tallied) (taken idles : ℕ)
@@ -189,11 +189,14 @@ one_turn size taken idles idle h l =
 -- the next answer is a datagram
 pub record OnDatagram (rules : Rules) (before after : Option Traffic) (a b : Option Output) (c : State) (f : TrackerState) (t : Tallied) (taken : ℕ) : Type 0 where
   pub answers : List Answer
-  pub so_far : SoFar rules before after a b c f t answers
+  pub mid : State
+  pub so_far : SoFar rules before after a b mid f t answers
+  pub fit : IsFit mid
+  pub drained : is_full rules.frames (items_in t.sums) ≡ false → c ≡ mid
   pub taken_is : length (datagrams answers) ≡ taken + 1
   pub idles_is : idles_at_end answers ≡ 0
   pub few : length answers ≤ (taken + 1) * rules.idle
-  pub none_ready : ready c ≡ false
+  pub none_ready : ready mid ≡ false
   pub unfinished : c.end ≡ None
 
 pub on_datagram : (rules : Rules) (before after next : Option Traffic) (a b d : Option Output) (c c' : State) (f f' : TrackerState) (t t' : Tallied) (taken idles number n : ℕ) (buf : List ℕ)
@@ -208,12 +211,13 @@ on_datagram rules before after next a b d c c' f f' t t' taken idles number n bu
     let number_is : number ≡ length s.taken = omega (arith, is, many, size) in
     record {
       answers = r.answers ++ Datagram (take n buf) ∷ [];
+      mid = p.ready.last;
       so_far = record {
         heard = heard_more before after next r.answers (recv.Datagram n) buf s.heard told counts;
         goes_on = goes_more rules r.answers (Datagram (take n buf)) s.goes_on (so_far_open rules before after a b c f t taken idles r) tt;
         taken = s.taken ++ p.answer ∷ [];
         items = s.items ++ p.ready.items;
-        gave = gave_datagram rules r.answers s.taken s.items p.ready.items c p.kept c' (take n buf) p.answer s.gave p.takes p.ready.gives;
+        gave = gave_datagram rules r.answers s.taken s.items p.ready.items c p.kept p.ready.last (take n buf) p.answer s.gave p.takes p.ready.gives;
         steps = s.steps ++ ps.steps;
         feeds = feeds_more rules.frames f f' s.items p.ready.items s.steps ps.steps s.feeds ps.feeds;
         tally = ps.tally ∙ ap (λ (u : Tallied). with_steps (noted u number p.answer) ps.steps) s.tally
@@ -221,10 +225,12 @@ on_datagram rules before after next a b d c c' f f' t t' taken idles number n bu
             ∙ steps_counted s.steps ps.steps (s.taken ++ p.answer ∷ []);
         text = texts_join s.steps ps.steps a b d s.text ps.text;
       };
+      fit = p.ready.fit;
+      drained = p.ready.drained;
       taken_is = datagrams_more r.answers (take n buf) ∙ ap (λ k. k + 1) r.taken_is;
       idles_is = idles_datagram 0 r.answers (take n buf);
       few = one_turn (length (r.answers ++ Datagram (take n buf) ∷ [])) taken idles rules.idle (one_longer r.answers (Datagram (take n buf)) (taken * rules.idle + idles) r.few) r.fewer;
-      none_ready = gives_ready p.ready.items p.kept c' p.ready.gives;
+      none_ready = gives_ready p.ready.items p.kept p.ready.last p.ready.gives;
       unfinished = end ∙ r.unfinished;
     }
 
@@ -234,15 +240,16 @@ pub datagram_more : (rules : Rules) (before after : Option Traffic) (a b : Optio
     → Reaches rules before after a b c f t (taken + 1) 0
 datagram_more rules before after a b c f t taken o pace room more idle = record {
   answers = o.answers;
-  so_far = o.so_far;
+  so_far = subst (λ m. SoFar rules before after a b m f t o.answers) (sym (o.drained room)) o.so_far;
   taken_is = o.taken_is;
   more = more;
   idles_is = o.idles_is;
   fewer = idle;
   not_full = room;
   pace = pace;
-  none_ready = o.none_ready;
+  none_ready = ap ready (o.drained room) ∙ o.none_ready;
   unfinished = o.unfinished;
+  fit = subst IsFit (sym (o.drained room)) o.fit;
   few = (let l : length o.answers ≤ (taken + 1) * rules.idle = o.few in omega (arith, l));
 }
 
@@ -257,9 +264,12 @@ pub by_frames : (rules : Rules) (before after : Option Traffic) (a b : Option Ou
     → ReadsTo rules before after a b c f t word.Frames
 by_frames rules before after a b c f t taken o pace full more = record {
   answers = o.answers;
+  mid = o.mid;
   so_far = o.so_far;
+  fit = o.fit;
+  drained = o.drained;
   few = short_enough rules (length o.answers) taken more o.few;
-  ends = enough_given rules rules.frames o.answers c f (items_in t.sums) o.so_far.taken o.so_far.items o.so_far.steps o.so_far.gave o.so_far.feeds pace.items full;
+  ends = enough_given rules rules.frames o.answers o.mid f (items_in t.sums) o.so_far.taken o.so_far.items o.so_far.steps o.so_far.gave o.so_far.feeds pace.items full;
 }
 
 -- finished by the number of datagrams
@@ -268,9 +278,12 @@ pub by_limit : (rules : Rules) (before after : Option Traffic) (a b : Option Out
     → ReadsTo rules before after a b c f t word.Limit
 by_limit rules before after a b c f t taken o pace room more all = record {
   answers = o.answers;
+  mid = o.mid;
   so_far = o.so_far;
+  fit = o.fit;
+  drained = o.drained;
   few = short_enough rules (length o.answers) taken more o.few;
-  ends = (o.taken_is ∙ all, not_given rules before after a b c f t o.answers o.so_far pace room);
+  ends = (o.taken_is ∙ all, not_given rules before after a b o.mid f t o.answers o.so_far pace.items room);
 }
 
 -- the next answer is `Idle`
@@ -319,6 +332,7 @@ idle_more rules before after next a b c f t taken idles r o fewer = record {
   pace = r.pace;
   none_ready = r.none_ready;
   unfinished = r.unfinished;
+  fit = r.fit;
   few = o.few;
 }
 
@@ -334,11 +348,14 @@ by_idle rules before after next a b c f t taken idles r o all =
     let k : taken < rules.limit = r.more in
     record {
       answers = o.answers;
+      mid = c;
       so_far = o.so_far;
+      fit = r.fit;
+      drained = λ room. refl;
       few = omega (arith, m, l, all);
       ends = (
         omega (arith, i, all),
-        not_given rules before next a b c f t o.answers o.so_far r.pace r.not_full,
+        not_given rules before next a b c f t o.answers o.so_far r.pace.items r.not_full,
         λ full. (let e : length (datagrams o.answers) ≡ rules.limit = full in omega (arith, e, d, k)),
       );
     }
@@ -369,16 +386,17 @@ on_failed rules before after next a b c f t taken idles buf r told counts =
     }
 
 -- a datagram came, and not all that it made ready was written
-pub on_stop : (rules : Rules) (before after next : Option Traffic) (a b d : Option Output) (c : State) (f : TrackerState) (t : Tallied) (taken idles n : ℕ) (buf : List ℕ) (why : Stop)
+pub on_stop : (rules : Rules) (before after next : Option Traffic) (a b d : Option Output) (c : State) (f : TrackerState) (t : Tallied) (taken idles n : ℕ) (buf : List ℕ)
     → Reaches rules before after a b c f t taken idles → WhileTold after next (Receives (recv.Datagram n) buf) → CountsCall (λ (x : Traffic). x.calls) after next
-    → StopsTaking rules.frames (take n buf) c f b d why → StopsReading rules before next a d why
-on_stop rules before after next a b d c f t taken idles n buf stop.Link r told counts stops = absurd stops
-on_stop rules before after next a b d c f t taken idles n buf stop.Write r told counts stops =
+    → TakesFront rules.frames (take n buf) c f b d → ReadsFront rules before next a d
+on_stop rules before after next a b d c f t taken idles n buf r told counts stops =
     let s = r.so_far in
     let p = stops.front in
+    let size = one_longer r.answers (Datagram (take n buf)) (taken * rules.idle + idles) r.few in
     record {
       answers = r.answers ++ Datagram (take n buf) ∷ [];
       heard = heard_more before after next r.answers (recv.Datagram n) buf s.heard told counts;
+      few = short_enough rules (length (r.answers ++ Datagram (take n buf) ∷ [])) taken r.more (one_turn (length (r.answers ++ Datagram (take n buf) ∷ [])) taken idles rules.idle size r.fewer);
       goes_on = goes_more rules r.answers (Datagram (take n buf)) s.goes_on (so_far_open rules before after a b c f t taken idles r) tt;
       items = up_to rules.frames (s.items ++ p.items);
       some = record {
@@ -399,31 +417,4 @@ on_stop rules before after next a b d c f t taken idles n buf stop.Write r told 
       last = p.after;
       feeds = feeds_more rules.frames f p.after s.items p.items s.steps p.steps s.feeds p.feeds;
       text = front_joins s.steps p.steps a b d s.text p.text;
-    }
-on_stop rules before after next a b d c f t taken idles n buf stop.NoMemory r told counts stops =
-    let s = r.so_far in
-    record {
-      answers = r.answers ++ Datagram (take n buf) ∷ [];
-      heard = heard_more before after next r.answers (recv.Datagram n) buf s.heard told counts;
-      goes_on = goes_more rules r.answers (Datagram (take n buf)) s.goes_on (so_far_open rules before after a b c f t taken idles r) tt;
-      items = up_to rules.frames s.items;
-      some = record {
-        before = r.answers;
-        later = Datagram (take n buf) ∷ [];
-        are = refl;
-        taken = s.taken;
-        during = s.items;
-        mid = c;
-        gave = s.gave;
-        state = c;
-        comes = inl refl;
-        more = [];
-        gives = tt;
-        items_are = ap (up_to rules.frames) (sym (append-nil s.items));
-      };
-      steps = s.steps;
-      last = f;
-      feeds = s.feeds;
-      text = subst (λ e. Outputs a e (IsFront (steps_text s.steps))) (sym stops)
-          (Outputs-weaker (λ x. x ≡ steps_text s.steps) (IsFront (steps_text s.steps)) a b s.text (λ x e. whole_front (steps_text s.steps) x e));
     }

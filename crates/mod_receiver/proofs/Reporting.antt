@@ -22,13 +22,13 @@ use Rattle.mod_receiver.specs.Reading.{datagrams, IsFinished, most_answers}
 use Rattle.mod_receiver.specs.Reports.{is_given, is_missing, is_bad, refusals, refused_text, steps_text, sums_of, report, is_clean}
 use Rattle.mod_receiver.specs.Tallies.{Tallied}
 use Rattle.mod_receiver.specs.Received.{IsReport, GivesSome, IsReportFront, Reported, Broken, Stopped}
-use Rattle.mod_receiver.specs.Printed.{steps_before, with_steps, tally_of, KeepsPace, PrintsReady, PrintsFront, ReadsTo, ReadsBroken, ReadsFront, StopsReading}
+use Rattle.mod_receiver.specs.Printed.{items_in, steps_before, with_steps, tally_of, KeepsPace, PrintsReady, PrintsFront, ReadsTo, ReadsBroken, ReadsFront, StopsReading}
 use Rattle.mod_receiver.proofs.Hearing.{heard_none}
 use Rattle.mod_receiver.proofs.Going.{goes_none}
 use Rattle.mod_receiver.proofs.Giving.{gave_none}
 use Rattle.mod_receiver.proofs.Refusing.{AreTold}
 use Rattle.mod_receiver.proofs.Tallying.{steps_counted, refusals_told, last_told}
-use Rattle.mod_receiver.proofs.Printing.{front_more, front_then, nothing_front}
+use Rattle.mod_receiver.proofs.Printing.{front_more, front_then, Rest, the_rest, the_front}
 use Rattle.mod_receiver.proofs.Reaching.{feeds_more, texts_join, front_joins}
 
 -- ---- texts behind one another
@@ -80,10 +80,11 @@ pub record WroteItems (rules : Rules) (feed : ℕ) (before after : Option Traffi
   pub text : Outputs a b (λ text. text ≡ feed_line feed ++ steps_text steps)
 
 pub wrote_items : (rules : Rules) (feed : ℕ) (before after : Option Traffic) (a0 a b d : Option Output) (c c' e : State) (f g : TrackerState) (t u : Tallied) (word : EndWord)
-    → Outputs a0 a (λ x. x ≡ feed_line feed) → ReadsTo rules before after a b c f t word → c' ≡ after_finish c rules.frames
+    → Outputs a0 a (λ x. x ≡ feed_line feed) → ReadsTo rules before after a b c f t word → items_in t.sums ≡ f.calls → c' ≡ after_finish c rules.frames
     → PrintsReady rules.frames c' e f g t u b d → WroteItems rules feed before after a0 d u word
-wrote_items rules feed before after a0 a b d c c' e f g t u word first read finished rest =
+wrote_items rules feed before after a0 a b d c c' e f g t u word first read counted finished ready =
     let s = read.so_far in
+    let rest : Rest rules.frames (after_finish read.mid rules.frames) f g t u b d = the_rest rules.frames read.mid c c' f t read.fit read.drained counted finished e g u b d ready in
     let p = rest.prints in
     record {
       answers = read.answers;
@@ -95,10 +96,10 @@ wrote_items rules feed before after a0 a b d c c' e f g t u word first read fini
       run = record {
         during = s.items;
         rest = rest.items;
-        mid = c;
-        after = e;
+        mid = read.mid;
+        after = rest.last;
         steps = s.gave;
-        gives = subst (λ m. Gives m rest.items e) finished rest.gives;
+        gives = rest.gives;
         are = refl;
       };
       steps = s.steps ++ p.steps;
@@ -166,6 +167,7 @@ front_of_whole : (rules : Rules) (feed : ℕ) (before after : Option Traffic) (a
 front_of_whole rules feed before after a b e t word w tail = record {
   answers = w.answers;
   heard = w.heard;
+  few = w.few;
   goes_on = w.reading.goes_on;
   text = Outputs-weaker (IsFront ((feed_line feed ++ steps_text w.steps) ++ tail_of w.steps w.taken word)) (IsReportFront rules feed w.answers) a e
       (front_then (feed_line feed ++ steps_text w.steps) (tail_of w.steps w.taken word) a b e w.text tail)
@@ -219,31 +221,36 @@ pub first_front : (rules : Rules) (feed : ℕ) (u : Option Traffic) (a b : Optio
 first_front rules feed u a b text = record {
   answers = [];
   heard = heard_none u;
+  few = omega arith;
   goes_on = goes_none rules;
   text = Outputs-weaker (IsFront (feed_line feed)) (IsReportFront rules feed []) a b text
       (λ x f. inl (up_to rules.frames [], none_given rules, [], new_tracker, none_fed rules.frames, front_more (feed_line feed) [] x f));
 }
 
-pub nothing_written : (rules : Rules) (feed : ℕ) (u : Option Traffic) (a : Option Output) → Stopped rules feed u u a a
-nothing_written rules feed u a = first_front rules feed u a a (nothing_front (feed_line feed) a)
-
 reading_front : (rules : Rules) (feed : ℕ) (u v : Option Traffic) (a0 a b : Option Output) → Outputs a0 a (λ x. x ≡ feed_line feed) → ReadsFront rules u v a b → Stopped rules feed u v a0 b
 reading_front rules feed u v a0 a b first read = record {
   answers = read.answers;
   heard = read.heard;
+  few = read.few;
   goes_on = read.goes_on;
   text = Outputs-weaker (IsFront (feed_line feed ++ steps_text read.steps)) (IsReportFront rules feed read.answers) a0 b
       (front_then (feed_line feed) (steps_text read.steps) a0 a b first read.text)
       (λ x f. inl (read.items, read.some, read.steps, read.last, read.feeds, f));
 }
 
--- the reading stopped, but not by the link
+-- the reading stopped by a write
 pub reading_stopped : (rules : Rules) (feed : ℕ) (u v : Option Traffic) (a0 a b : Option Output) (r : Result Bool Stop) (why : Stop)
-    → r ≡ Err why → (r ≡ Err stop.Write) ⊎ (r ≡ Err stop.NoMemory) → Outputs a0 a (λ x. x ≡ feed_line feed) → StopsReading rules u v a b why → Stopped rules feed u v a0 b
-reading_stopped rules feed u v a0 a b r stop.Write is other first read = reading_front rules feed u v a0 a b first read
-reading_stopped rules feed u v a0 a b r stop.NoMemory is other first read = reading_front rules feed u v a0 a b first read
-reading_stopped rules feed u v a0 a b r stop.Link is (inl e) first read = absurd (let x : Err stop.Link ≡ Err stop.Write = sym is ∙ e in cc)
-reading_stopped rules feed u v a0 a b r stop.Link is (inr e) first read = absurd (let x : Err stop.Link ≡ Err stop.NoMemory = sym is ∙ e in cc)
+    → r ≡ Err why → r ≡ Err stop.Write → Outputs a0 a (λ x. x ≡ feed_line feed) → StopsReading rules u v a b why → Stopped rules feed u v a0 b
+reading_stopped rules feed u v a0 a b r stop.Write is e first read = reading_front rules feed u v a0 a b first read
+reading_stopped rules feed u v a0 a b r stop.Link is e first read = absurd (let x : Err stop.Link ≡ Err stop.Write = sym is ∙ e in cc)
+reading_stopped rules feed u v a0 a b r stop.NoMemory is e first read = absurd read
+
+-- nothing that a reading wants is memory
+pub reading_takes_none : (rules : Rules) (u v : Option Traffic) (a b : Option Output) (r : Result Bool Stop) (why : Stop)
+    → r ≡ Err why → r ≡ Err stop.NoMemory → StopsReading rules u v a b why → ⊥
+reading_takes_none rules u v a b r stop.NoMemory is e read = read
+reading_takes_none rules u v a b r stop.Write is e read = let x : Err stop.Write ≡ Err stop.NoMemory = sym is ∙ e in cc
+reading_takes_none rules u v a b r stop.Link is e read = let x : Err stop.Link ≡ Err stop.NoMemory = sym is ∙ e in cc
 
 broken : (rules : Rules) (feed : ℕ) (u v : Option Traffic) (a0 a b : Option Output) → Outputs a0 a (λ x. x ≡ feed_line feed) → ReadsBroken rules u v a b → Broken rules feed u v a0 b
 broken rules feed u v a0 a b first read = record {
@@ -271,16 +278,18 @@ pub reading_broken : (rules : Rules) (feed : ℕ) (u v : Option Traffic) (a0 a b
     → r ≡ Err why → r ≡ Err stop.Link → Outputs a0 a (λ x. x ≡ feed_line feed) → StopsReading rules u v a b why → Broken rules feed u v a0 b
 reading_broken rules feed u v a0 a b r stop.Link is e first read = broken rules feed u v a0 a b first read
 reading_broken rules feed u v a0 a b r stop.Write is e first read = absurd (let x : Err stop.Write ≡ Err stop.Link = sym is ∙ e in cc)
-reading_broken rules feed u v a0 a b r stop.NoMemory is e first read = absurd (let x : Err stop.NoMemory ≡ Err stop.Link = sym is ∙ e in cc)
+reading_broken rules feed u v a0 a b r stop.NoMemory is e first read = absurd read
 
 -- what was ready at the end wasn't all written
 pub rest_front : (rules : Rules) (feed : ℕ) (u v : Option Traffic) (a0 a b d : Option Output) (c c' : State) (f : TrackerState) (t : Tallied) (word : EndWord)
-    → Outputs a0 a (λ x. x ≡ feed_line feed) → ReadsTo rules u v a b c f t word → c' ≡ after_finish c rules.frames → PrintsFront rules.frames c' f b d → Stopped rules feed u v a0 d
-rest_front rules feed u v a0 a b d c c' f t word first read finished rest =
+    → Outputs a0 a (λ x. x ≡ feed_line feed) → ReadsTo rules u v a b c f t word → items_in t.sums ≡ f.calls → c' ≡ after_finish c rules.frames → PrintsFront rules.frames c' f b d → Stopped rules feed u v a0 d
+rest_front rules feed u v a0 a b d c c' f t word first read counted finished front =
     let s = read.so_far in
+    let rest : PrintsFront rules.frames (after_finish read.mid rules.frames) f b d = the_front rules.frames read.mid c c' f t read.fit read.drained counted finished b d front in
     record {
       answers = read.answers;
       heard = s.heard;
+      few = read.few;
       goes_on = s.goes_on;
       text = Outputs-weaker (IsFront (feed_line feed ++ steps_text (s.steps ++ rest.steps))) (IsReportFront rules feed read.answers) a0 d
           (front_then (feed_line feed) (steps_text (s.steps ++ rest.steps)) a0 a d first (front_joins s.steps rest.steps a b d s.text rest.text))
@@ -292,10 +301,10 @@ rest_front rules feed u v a0 a b d c c' f t word first read finished rest =
               are = sym (append-nil read.answers);
               taken = s.taken;
               during = s.items;
-              mid = c;
+              mid = read.mid;
               gave = s.gave;
-              state = c';
-              comes = inr (inr (word, refl, read.ends, finished));
+              state = after_finish read.mid rules.frames;
+              comes = inr (inr (word, refl, read.ends, refl));
               more = rest.items;
               gives = rest.gives;
               items_are = refl;

@@ -10,25 +10,17 @@ use Rattle.dcp_collect.specs.declared.head.Head.{Head}
 use Rattle.dcp_collect.specs.declared.taken.Field.{Field}
 use Rattle.dcp_collect.specs.declared.taken.Field.TheVariants as field
 use Rattle.dcp_collect.specs.declared.taken.Taken.{Taken}
-use Rattle.dcp_collect.specs.declared.taken.Taken.TheVariants.{Kept, Repeated, Late, Refused, Inconsistent, NoMemory}
+use Rattle.dcp_collect.specs.declared.taken.Taken.TheVariants.{Kept, Repeated, Late, Refused, Inconsistent}
 use Rattle.dcp_collect.specs.Fragments.{Fragment, suffice, of_packet, agree, has_index}
 use Rattle.dcp_collect.specs.Reading.{Read, Unread, Brings, IsRead}
 use Rattle.dcp_collect.specs.State.{State, answer, answer_at, answer_among, answer_by, is_late, number_of}
-use Rattle.dcp_collect.specs.Runs.{Takes, TakesOrStays}
+use Rattle.dcp_collect.specs.Runs.{Takes}
 use Rattle.collect_laws.proofs.Stays.{take_next, take_end}
 use Rattle.drm_timeline.specs.Tracker.{TrackerState}
 use Rattle.drm_show.specs.FaultWords.{IsTold}
 use Rattle.mod_receiver.specs.Reports.{is_refused}
 use Rattle.mod_receiver.specs.Tallies.{Tallied, noted}
 use Rattle.mod_receiver.specs.Printed.{items_in, steps_before, KeepsPace, PrintsReady, PrintsFront, PrintsTaken, TakesFront}
-
-pub takes_not : (c after : State) (bytes : List ℕ) (a : Taken) → (a ≡ NoMemory → ⊥) → TakesOrStays c bytes a after → Takes c bytes a after
-takes_not c after bytes Kept n t = t
-takes_not c after bytes Repeated n t = t
-takes_not c after bytes Late n t = t
-takes_not c after bytes (Refused f) n t = t
-takes_not c after bytes (Inconsistent kept came) n t = t
-takes_not c after bytes NoMemory n t = absurd (n refl)
 
 noted_by : (b : Bool) (t u : Tallied) → items_in u.sums ≡ items_in t.sums → items_in (if b then u else t).sums ≡ items_in t.sums
 noted_by true t u e = e

@@ -3,8 +3,8 @@ use Rattle.std.specs.Prelude.{ℕ, Bool, List}
 use Rattle.drm_links.specs.Link.{Answer}
 use Rattle.mod_receiver.specs.Hearing.{AreNext}
 use Rattle.mod_receiver.specs.declared.rules.Rules.{Rules}
-use Rattle.mod_receiver.specs.Reading.{IsBroken}
-use Rattle.mod_receiver.specs.Received.{IsReport}
+use Rattle.mod_receiver.specs.Reading.{GoesOn, IsBroken}
+use Rattle.mod_receiver.specs.Received.{IsReport, IsBrokenOff, IsReportFront}
 use Rattle.mod_receiver.specs.Headline.{HeadlineOf, CompleteOf}
 
 -- a report: its text, and whether no line of it is missing or bad
@@ -29,3 +29,18 @@ pub record BreaksOff (rules : Rules) (ahead : List Answer) : Type 0 where
   pub rest : List Answer
   pub next : AreNext ahead answers rest
   pub reading : IsBroken rules before answers
+
+-- The text is what is given of what is ahead of a link, which breaks off.
+pub record IsGivenOf (rules : Rules) (feed : ℕ) (ahead : List Answer) (text : List ℕ) : Type 0 where
+  pub answers : List Answer
+  pub rest : List Answer
+  pub next : AreNext ahead answers rest
+  pub is : IsBrokenOff rules feed answers text
+
+-- The text is a front of what is written of what is ahead of a link.
+pub record IsFrontOf (rules : Rules) (feed : ℕ) (ahead : List Answer) (text : List ℕ) : Type 0 where
+  pub answers : List Answer
+  pub rest : List Answer
+  pub next : AreNext ahead answers rest
+  pub goes_on : GoesOn rules answers
+  pub is : IsReportFront rules feed answers text

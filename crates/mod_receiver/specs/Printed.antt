@@ -6,6 +6,7 @@ use Rattle.drm_links.specs.Sink.{Output, Outputs, IsFront}
 use Rattle.dcp_collect.specs.declared.taken.Taken.{Taken}
 use Rattle.dcp_collect.specs.State.{State}
 use Rattle.dcp_collect.specs.Runs.{Item, Takes, Gives, up_to}
+use Rattle.collect_laws.specs.Laws.{IsFit}
 use Rattle.drm_timeline.specs.Tracker.{TrackerState, new_tracker}
 use Rattle.mod_feed.specs.Feeding.{FeedStep, Feeds}
 use Rattle.drm_show.specs.declared.report.EndWord.{EndWord}
@@ -58,11 +59,14 @@ pub record Prints (told : Option ℕ) (f f' : TrackerState) (t t' : Tallied) (a 
   pub tally : t' ≡ with_steps t steps
   pub text : Outputs a b (λ text. text ≡ steps_text steps)
 
--- what is ready was written
+-- What is ready was written, up to the told number. Where that isn't reached, nothing more is ready.
 pub record PrintsReady (told : Option ℕ) (c d : State) (f f' : TrackerState) (t t' : Tallied) (a b : Option Output) : Type 0 where
   pub items : List Item
-  pub gives : Gives c items d
+  pub last : State
+  pub gives : Gives c items last
+  pub fit : IsFit last
   pub prints : Prints told f f' t t' a b items
+  pub drained : is_full told (items_in t'.sums) ≡ false → d ≡ last
 
 -- a front of the lines of some first items that are ready was written
 pub record PrintsFront (told : Option ℕ) (c : State) (f : TrackerState) (a b : Option Output) : Type 0 where
@@ -87,12 +91,6 @@ pub record TakesFront (told : Option ℕ) (bytes : List ℕ) (c : State) (f : Tr
   pub takes : Takes c bytes answer kept
   pub front : PrintsFront told kept f a b
 
--- what stops the taking of a datagram
-abbrev pub StopsTaking : Option ℕ → List ℕ → State → TrackerState → Option Output → Option Output → Stop → Type 0
-StopsTaking told bytes c f a b stop.Link = ⊥
-StopsTaking told bytes c f a b stop.Write = TakesFront told bytes c f a b
-StopsTaking told bytes c f a b stop.NoMemory = b ≡ a
-
 -- The reading has come so far: these answers came, and what was ready was written.
 pub record SoFar (rules : Rules) (before after : Option Traffic) (a b : Option Output) (c : State) (f : TrackerState) (t : Tallied) (answers : List Answer) : Type 0 where
   pub heard : Heard answers before after
@@ -105,10 +103,13 @@ pub record SoFar (rules : Rules) (before after : Option Traffic) (a b : Option O
   pub tally : t ≡ tally_of steps taken
   pub text : Outputs a b (λ text. text ≡ steps_text steps)
 
--- the reading is finished, for this reason
+-- The reading is finished, for this reason. Where the told number isn't reached, nothing more is ready.
 pub record ReadsTo (rules : Rules) (before after : Option Traffic) (a b : Option Output) (c : State) (f : TrackerState) (t : Tallied) (word : EndWord) : Type 0 where
   pub answers : List Answer
-  pub so_far : SoFar rules before after a b c f t answers
+  pub mid : State
+  pub so_far : SoFar rules before after a b mid f t answers
+  pub fit : IsFit mid
+  pub drained : is_full rules.frames (items_in t.sums) ≡ false → c ≡ mid
   pub few : length answers ≤ most_answers rules
   pub ends : EndsBy rules answers word
 
@@ -132,6 +133,7 @@ pub record ReadsBroken (rules : Rules) (before after : Option Traffic) (a b : Op
 pub record ReadsFront (rules : Rules) (before after : Option Traffic) (a b : Option Output) : Type 0 where
   pub answers : List Answer
   pub heard : Heard answers before after
+  pub few : length answers ≤ most_answers rules
   pub goes_on : GoesOn rules answers
   pub items : List Item
   pub some : GivesSome rules answers items
@@ -144,4 +146,4 @@ pub record ReadsFront (rules : Rules) (before after : Option Traffic) (a b : Opt
 abbrev pub StopsReading : Rules → Option Traffic → Option Traffic → Option Output → Option Output → Stop → Type 0
 StopsReading rules before after a b stop.Link = ReadsBroken rules before after a b
 StopsReading rules before after a b stop.Write = ReadsFront rules before after a b
-StopsReading rules before after a b stop.NoMemory = ReadsFront rules before after a b
+StopsReading rules before after a b stop.NoMemory = ⊥

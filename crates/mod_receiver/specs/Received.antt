@@ -96,10 +96,11 @@ pub record Broken (rules : Rules) (feed : ℕ) (before after : Option Traffic) (
   pub is : IsBrokenOff rules feed answers whole
   pub text : Outputs a b (λ text. text ≡ whole)
 
--- A write failed or memory ran out: nothing shorter than what was read is finished, and a front of its report was written.
+-- A write failed: nothing shorter than what was read is finished, and a front of its report was written.
 pub record Stopped (rules : Rules) (feed : ℕ) (before after : Option Traffic) (a b : Option Output) : Type 0 where
   pub answers : List Answer
   pub heard : Heard answers before after
+  pub few : length answers ≤ most_answers rules
   pub goes_on : GoesOn rules answers
   pub text : Outputs a b (IsReportFront rules feed answers)
 
@@ -115,12 +116,12 @@ pub record IsReasonable (options : Options) : Type 0 where
   pub some_frames : IfSome options.frames (λ n. 0 < n)
   pub few_frames : IfSome options.frames (λ n. n ≤ 3000000)
 
--- what each ending says
+-- what each ending says; memory is wanted before anything is read or written
 abbrev pub EndsAs : Rules → ℕ → Option Traffic → Option Traffic → Option Output → Option Output → Ended → Type 0
 EndsAs rules feed before after a b (Done clean) = Reported rules feed before after a b clean
 EndsAs rules feed before after a b LinkFailed = Broken rules feed before after a b
 EndsAs rules feed before after a b WriteFailed = Stopped rules feed before after a b
-EndsAs rules feed before after a b NoMemory = Stopped rules feed before after a b
+EndsAs rules feed before after a b NoMemory = (after ≡ before) × (b ≡ a)
 
 -- where it is done, P holds of whether no item is missing or bad
 abbrev pub IfDone : (Bool → Type 0) → Ended → Type 0

@@ -4,7 +4,8 @@ ghost use Rattle.std.specs.Prelude.{ℕ, ◌≡◌, ◌<◌, ◌≤◌, ◌↔�
 ghost use Rattle.std.specs.List.{flat_map};
 ghost use Rattle.drm_links.specs.Told.{HasCause};
 ghost use Rattle.drm_links.specs.Sink.{Outputs, IsFront};
-ghost use Rattle.mod_receiver.specs.Jobs.{IsJob, IsReady, HasEnded, IsDone, is_failed, clean_of, text_of};
+ghost use Rattle.mod_receiver.specs.Jobs.{IsJob, IsReady, HasEnded, IsDone, is_failed, clean_of, text_of, job_rules};
+ghost use Rattle.mod_receiver.specs.Received.{EndsAs};
 
 use crate::receiver::{Ended, Options, receive_one};
 use crate::rules::Rules;
@@ -81,6 +82,26 @@ fn run_one<L: Link>(alloc: Global, job: &mut Job<L>)
         &mut job.text,
     );
     job.ended = Some(ended);
+}
+
+/// Runs a receiver whose report goes to `out` as it comes, and not into its text.
+pub fn run_live<L: Link, O: Sink>(alloc: Global, job: &mut Job<L>, out: &mut O) -> Ended
+    requires { IsReady job.old }
+    ensures ended { EndsAs (job_rules job.old) job.old.options.feed
+        (L.tells job.old.link) (L.tells job.new.link) (O.tells out.old) (O.tells out.new) result }
+    ensures memory { result ≡ Ended.NoMemory → out.new ≡ out.old }
+    ensures link { HasCause (L.faults job.old.link) (L.faults job.new.link) (result ≡ Ended.LinkFailed) }
+    ensures write { HasCause (O.faults out.old) (O.faults out.new) (result ≡ Ended.WriteFailed) }
+{
+    receive_one(
+        alloc,
+        &mut job.collector,
+        &mut job.feed,
+        &mut job.link,
+        &job.options,
+        job.buffer.as_mut_slice(),
+        out,
+    )
 }
 
 /// Runs all receivers, in threads.

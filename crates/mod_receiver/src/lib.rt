@@ -3,6 +3,7 @@
 
 mod follow;
 mod job;
+mod lines;
 mod reading;
 mod reading_laws;
 mod receiver;
@@ -13,7 +14,7 @@ mod tally;
 mod text;
 
 pub use follow::{laws_of_deliveries, reports_follow};
-pub use job::{Job, job_for, run_all};
+pub use job::{Job, job_for, run_all, run_live};
 pub use reading_laws::{one_reading_of_a_link, one_report};
 pub use receiver::{Ended, Options, receive_one};
 pub use rules::Rules;

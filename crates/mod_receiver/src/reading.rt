@@ -5,20 +5,21 @@ ghost use Rattle.dcp_collect.specs.State.{made, ready as is_ready};
 ghost use Rattle.drm_timeline.specs.Tracker.{new_tracker};
 ghost use Rattle.drm_links.specs.Told.{HasCause};
 ghost use Rattle.mod_receiver.specs.Received.{rules_of, IsReasonable, Reported, Broken, Stopped};
-ghost use Rattle.mod_receiver.specs.Printed.{items_in, is_full, KeepsPace, PrintsReady, PrintsFront, PrintsTaken, StopsTaking, ReadsTo, StopsReading};
+ghost use Rattle.collect_laws.specs.Laws.{IsFit};
+ghost use Rattle.mod_receiver.specs.Printed.{items_in, is_full, KeepsPace, PrintsReady, PrintsFront, PrintsTaken, TakesFront, ReadsTo, StopsReading};
 ghost use Rattle.mod_receiver.specs.Tallies.{new_tally};
 ghost use Rattle.mod_receiver.specs.declared.stop.Stop.{Stop};
 
 use crate::receiver::Options;
 use crate::stop::Stop;
 use crate::tally::Tally;
-use dcp_collect::{Collector, Taken};
+use dcp_collect::Collector;
 use drm_links::{Came, Link, Sink, WriteFault};
-use drm_show::{EndWord, write_feed, write_step};
+use drm_show::{EndWord, write_feed};
 use mod_feed::Feed;
 use std::alloc::Global;
 
-// Writes the items that are ready, up to the told number of them.
+// Writes the items that are ready, up to the told number of them. Nothing more is taken out of the collector then.
 fn drain<O: Sink>(
     collector: &mut Collector,
     feed: &mut Feed,
@@ -26,7 +27,10 @@ fn drain<O: Sink>(
     told: Option<u64>,
     out: &mut O,
 ) -> Result<(), WriteFault>
+    requires few { IfSome told (λ n. n ≤ 3000000) }
+    requires fit { IsFit collector.old }
     requires pace { KeepsPace told collector.old feed.old tally.old }
+    ensures fit { OnOk result (IsFit collector.new) }
     ensures pace { OnOk result (KeepsPace told collector.new feed.new tally.new) }
     ensures ready { OnOk result (PrintsReady told collector.old collector.new feed.old feed.new
         tally.old tally.new (O.tells out.old) (O.tells out.new)) }
@@ -35,13 +39,13 @@ fn drain<O: Sink>(
     ensures end { collector.new.end ≡ collector.old.end }
     ensures cause { HasCause (O.faults out.old) (O.faults out.new) (IsErr result) }
 {
-    while let Some(given) = collector.next() {
-        if is_full(tally, told) {
-            continue;
-        }
+    while !is_full(tally, told) {
+        let Some(given) = collector.next() else {
+            return Ok(());
+        };
         let step = feed.step(given);
         tally.count(&step.item);
-        write_step(out, &step)?;
+        tally.write_item(out, &step)?;
     }
     Ok(())
 }
@@ -66,26 +70,25 @@ fn take<O: Sink>(
     number: u64,
     datagram: &[u8],
     out: &mut O,
-) -> Result<(), Stop>
+) -> Result<(), WriteFault>
     requires ready { is_ready collector.old ≡ false }
     requires end { collector.old.end ≡ None }
+    requires few { IfSome told (λ n. n ≤ 3000000) }
+    requires fit { IsFit collector.old }
     requires pace { KeepsPace told collector.old feed.old tally.old }
     requires refused { tally.old.sums.refused < 2 ^ 62 }
+    ensures fit { OnOk result (IsFit collector.new) }
     ensures pace { OnOk result (KeepsPace told collector.new feed.new tally.new) }
     ensures taken { OnOk result (PrintsTaken told number datagram.now collector.old collector.new
         feed.old feed.new tally.old tally.new (O.tells out.old) (O.tells out.new)) }
     ensures end { collector.new.end ≡ collector.old.end }
-    ensures stopped { IfErr result (StopsTaking told datagram.now collector.old feed.old
+    ensures front { OnErr result (TakesFront told datagram.now collector.old feed.old
         (O.tells out.old) (O.tells out.new)) }
-    ensures cause { HasCause (O.faults out.old) (O.faults out.new) (result ≡ Err Stop.Write) }
+    ensures cause { HasCause (O.faults out.old) (O.faults out.new) (IsErr result) }
 {
     let taken = collector.take(datagram);
-    if let Taken::NoMemory = taken {
-        return Err(Stop::NoMemory);
-    }
     tally.note(number, taken);
-    drain(collector, feed, tally, told, out)?;
-    Ok(())
+    drain(collector, feed, tally, told, out)
 }
 
 // Reads answers of the link, takes each datagram and writes what is ready, until the reading is finished.
@@ -100,9 +103,11 @@ fn read_all<L: Link, O: Sink>(
 ) -> Result<EndWord, Stop>
     requires buffer { 65536 ≤ length buffer.old }
     requires options { IsReasonable options.now }
+    requires window { 1 ≤ collector.old.window }
     requires collector { collector.old ≡ made collector.old.window collector.old.first }
     requires feed { feed.old ≡ new_tracker }
     requires tally { tally.old ≡ new_tally }
+    ensures fit { IfOk result (λ _. IsFit collector.new) }
     ensures pace { IfOk result (λ _. KeepsPace options.now.frames collector.new feed.new tally.new) }
     ensures end { IfOk result (λ _. collector.new.end ≡ None) }
     ensures finished { IfOk result (ReadsTo (rules_of collector.old options.now)
@@ -147,7 +152,8 @@ fn read_all<L: Link, O: Sink>(
     }
 }
 
-/// Reads a link until it has read enough, and writes its report. Answers whether no frame is missing or bad.
+/// Takes all memory that it wants, reads a link until it has read enough, and writes its report. Answers whether no frame is
+/// missing or bad.
 pub(crate) fn write_report<L: Link, O: Sink>(
     alloc: Global,
     collector: &mut Collector,
@@ -166,8 +172,9 @@ pub(crate) fn write_report<L: Link, O: Sink>(
         (L.tells link.old) (L.tells link.new) (O.tells out.old) (O.tells out.new)) }
     ensures broken { result ≡ Err Stop.Link → Broken (rules_of collector.old options.now) options.now.feed
         (L.tells link.old) (L.tells link.new) (O.tells out.old) (O.tells out.new) }
-    ensures front { (result ≡ Err Stop.Write) ⊎ (result ≡ Err Stop.NoMemory) → Stopped (rules_of collector.old options.now) options.now.feed
+    ensures front { result ≡ Err Stop.Write → Stopped (rules_of collector.old options.now) options.now.feed
         (L.tells link.old) (L.tells link.new) (O.tells out.old) (O.tells out.new) }
+    ensures memory { result ≡ Err Stop.NoMemory → (link.new ≡ link.old) × (out.new ≡ out.old) }
     ensures link { HasCause (L.faults link.old) (L.faults link.new) (result ≡ Err Stop.Link) }
     ensures write { HasCause (O.faults out.old) (O.faults out.new) (result ≡ Err Stop.Write) }
 {

@@ -63,6 +63,8 @@ pub fn receive_one<L: Link, O: Sink>(
         (L.tells link.old) (L.tells link.new) (O.tells out.old) (O.tells out.new)) result }
     ensures complete { IfDone (Complete (rules_of collector.old options.now) options.now.feed
         (L.tells link.old) (L.tells link.new) (O.tells out.old) (O.tells out.new)) result }
+    // All memory is taken before anything is read or written.
+    ensures memory { result ≡ Ended.NoMemory → (link.new ≡ link.old) × (out.new ≡ out.old) }
     ensures link { HasCause (L.faults link.old) (L.faults link.new) (result ≡ Ended.LinkFailed) }
     ensures write { HasCause (O.faults out.old) (O.faults out.new) (result ≡ Ended.WriteFailed) }
 {

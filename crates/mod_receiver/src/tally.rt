@@ -1,21 +1,27 @@
-//! What a report tells behind its items: how many there were of each kind, and which datagrams were refused.
+//! What a report tells behind its items: how many there were of each kind, and which datagrams were refused; and the
+//! writing of an item.
 
-ghost use Rattle.std.specs.Prelude.{◌≡◌, ◌+◌, ◌<◌, ◌^◌, ◌↔◌, IsTrue, OnOk, OnErr, IsErr, IfOk};
+ghost use Rattle.std.specs.Prelude.{◌≡◌, ◌+◌, ◌≤◌, ◌<◌, ◌^◌, ◌↔◌, IsTrue, OnOk, OnErr, IsErr, IfOk, IfSome, length};
 ghost use Rattle.std.specs.List.{AllByRecursion};
+ghost use Rattle.drm_bits.specs.Description.{IsDescription, FitsWidths};
+ghost use Rattle.drm_mux.specs.Frame.{EndBy, HaveTheirLengths};
+ghost use Rattle.dcp_tag.specs.Tag.{bytes_for};
 ghost use Rattle.drm_links.specs.Told.{HasCause};
 ghost use Rattle.drm_links.specs.Sink.{Outputs, IsFront};
 ghost use Rattle.drm_show.specs.FaultWords.{IsTold};
-ghost use Rattle.drm_show.specs.Report.{end_line};
-ghost use Rattle.mod_feed.specs.Items.{item_of};
+ghost use Rattle.drm_show.specs.Report.{end_line, step_text};
+ghost use Rattle.mod_feed.specs.Items.{item_of, IfFrame, IfBad, IsOfReading};
+ghost use Rattle.mod_feed.specs.Feeding.{step_of};
 ghost use Rattle.mod_receiver.specs.Reports.{refused_text};
 ghost use Rattle.mod_receiver.specs.Tallies.{new_tally, noted, counted};
 
+use crate::lines::Lines;
 use circular_buffer::HeapCircularBuffer;
 use dcp_collect::Taken;
 use drm_bits::NoMemory;
-use drm_links::{Sink, WriteFault};
-use drm_show::{EndWord, Sums, write_end, write_refused};
-use mod_feed::FeedItem;
+use drm_links::{Sink, WriteFault, write_all};
+use drm_show::{EndWord, Sums, write_end, write_refused, write_step};
+use mod_feed::{FeedItem, Step};
 use std::alloc::Global;
 use std::marker::Model;
 
@@ -30,12 +36,14 @@ pub struct Refusal {
 /// How many refusals a report shows.
 const MOST_SHOWN: usize = 16;
 
-/// What a report tells behind its items.
+/// What a report tells behind its items. All memory that a report wants is taken where it is made.
 #[derive(Drop)]
 pub(crate) struct Tally {
     sums: Sums,
     // The last refusals.
     refused: HeapCircularBuffer<Refusal>,
+    // Where the lines of an item are gathered.
+    lines: Lines,
 }
 
 impl Model for Tally {
@@ -63,6 +71,7 @@ impl Tally {
                 refused: 0,
             },
             refused,
+            lines: Lines::make(alloc)?,
         })
     }
 
@@ -105,6 +114,30 @@ impl Tally {
         ensures { IsTrue result ↔ ((self.now.sums.missing ≡ 0) × (self.now.sums.bad ≡ 0)) }
     {
         self.sums.missing == 0 && self.sums.bad == 0
+    }
+
+    /// Writes the lines of a step. They are gathered first, so that they go out in one call; what doesn't fit there goes out
+    /// piece by piece.
+    pub fn write_item<O: Sink>(&mut self, out: &mut O, step: &Step<'_>) -> Result<(), WriteFault>
+        requires inside { IfFrame step.now.item (λ v. EndBy (length v.payload.now) v.streams) }
+        requires block_inside { IfFrame step.now.item (λ v. IfSome v.sdc (λ s. s.at + bytes_for s.bits ≤ length v.payload.now)) }
+        requires lengths { IfFrame step.now.item (λ v. HaveTheirLengths v.mux v.streams) }
+        requires description { IfFrame step.now.item (λ v. IsDescription v.mux) }
+        requires mux_fits { IfFrame step.now.item (λ v. FitsWidths v.mux) }
+        requires of_reading { IfBad step.now.item IsOfReading }
+        ensures same { self.new ≡ self.old }
+        ensures whole { OnOk result (Outputs (O.tells out.old) (O.tells out.new) (λ text. text ≡ step_text (step_of step.now))) }
+        ensures front { OnErr result (Outputs (O.tells out.old) (O.tells out.new) (IsFront (step_text (step_of step.now)))) }
+        ensures cause { HasCause (O.faults out.old) (O.faults out.new) (IsErr result) }
+    {
+        self.lines.clear();
+        let Ok(()) = write_step(&mut self.lines, step) else {
+            return write_step(out, step);
+        };
+        match self.lines.text() {
+            Some(text) => write_all(out, text),
+            None => write_step(out, step),
+        }
     }
 
     /// Writes the lines of the last refusals.

@@ -1,14 +1,16 @@
 use Rattle.std.proofs.Common.{◌≡◌, ◌≤◌, ◌-◌, ◌^◌, List}
 use Rattle.dcp_collect.specs.Runs.{Item}
+use Rattle.collect_laws.specs.Laws.{IsFit}
 use Rattle.mod_receiver.proofs.Printing.{Drained}
 use Rattle.mod_receiver.proofs.reading.drain.Given as goal
 
 -- what was given so far was written
-abbrev pub invariant-loop-given : goal.invariant-loop-given
-invariant-loop-given g l =
+abbrev pub invariant-loop-told : goal.invariant-loop-told
+invariant-loop-told g l =
     (items : List Item) × Drained l.told l.fn.collector l.collector l.fn.feed l.feed l.fn.tally l.tally (g.O.Sink.tells l.fn.out) (g.O.Sink.tells l.out) items
     × (g.O.Sink.faults l.fn.out ≤ g.O.Sink.faults l.out)
     × (l.collector.end ≡ l.fn.collector.end)
+    × IsFit l.collector
 
-abbrev pub decreases-loop-given : goal.decreases-loop-given
-decreases-loop-given g l = 2 ^ 62 - l.collector.next
+abbrev pub decreases-loop-told : goal.decreases-loop-told
+decreases-loop-told g l = 2 ^ 62 - l.collector.next

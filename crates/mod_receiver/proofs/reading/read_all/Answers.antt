@@ -9,7 +9,7 @@ use Rattle.mod_receiver.proofs.reading.read_all.Goals as goal
 pub answers-init : goal.answers-init
 answers-init g c = (
   at_start (rules_of c.args.collector.now c.args.options.now) _ _ c.args.collector.now c.args.feed.now c.args.tally.now c.requires.collector c.requires.feed c.requires.tally
-      c.requires.options.limit c.requires.options.idle c.requires.options.some_frames,
+      c.requires.window c.requires.options.limit c.requires.options.idle c.requires.options.some_frames,
   omega arith,
   omega arith,
   refl,
@@ -26,8 +26,8 @@ returns-in_err-take-in-Datagram-clause-stopped g c =
     let p = err_from_is_err_and c.from_residual.result c.from_residual.ensures.1 in
     rw (p.1 ∙ ap Err p.2)
     (on_stop (rules_of c.args.collector.now c.args.options.now) (g.L.Link.tells c.args.link.now) (g.L.Link.tells c.answers.link) (g.L.Link.tells c.recv.new.self) (g.O.Sink.tells c.args.out.now) (g.O.Sink.tells c.answers.out) (g.O.Sink.tells c.take.new.out)
-    c.answers.collector c.answers.feed c.answers.tally c.answers.taken c.answers.idles c.in-Datagram.len c.recv.new.buf c.in_err-take-in-Datagram.field-0.0
-    c.answers.invariant.0 c.in-Datagram.ensures.answer c.in-Datagram.ensures.told c.in_err-take-in-Datagram.ensures.stopped)
+    c.answers.collector c.answers.feed c.answers.tally c.answers.taken c.answers.idles c.in-Datagram.len c.recv.new.buf
+    c.answers.invariant.0 c.in-Datagram.ensures.answer c.in-Datagram.ensures.told c.in_err-take-in-Datagram.ensures.front)
 
 pub returns-then-is_full-clause-finished : goal.returns-then-is_full-clause-finished
 returns-then-is_full-clause-finished g c =

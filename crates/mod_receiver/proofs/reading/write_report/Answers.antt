@@ -2,11 +2,8 @@ use Rattle.std.proofs.Common.{◌∙◌, ap, Err}
 use Rattle.std.proofs.lemmas.Result.{err_from_is_err_and}
 use Rattle.mod_receiver.specs.declared.rules.Rules.{Rules}
 use Rattle.mod_receiver.specs.Received.{rules_of}
-use Rattle.mod_receiver.proofs.Reporting.{WroteItems, wrote_items, shown_told, reported, refused_front, end_front, first_front, nothing_written, reading_stopped, reading_broken, rest_front}
+use Rattle.mod_receiver.proofs.Reporting.{WroteItems, wrote_items, shown_told, reported, refused_front, end_front, first_front, reading_stopped, reading_takes_none, reading_broken, rest_front}
 use Rattle.mod_receiver.proofs.reading.write_report.Goals as goal
-
-pub returns-in_err-tally-clause-front : goal.returns-in_err-tally-clause-front
-returns-in_err-tally-clause-front g c = λ _. nothing_written (rules_of c.args.collector.now c.args.options.now) c.args.options.now.feed (g.L.Link.tells c.args.link.now) (g.O.Sink.tells c.args.out.now)
 
 pub returns-in_err-write_feed-clause-front : goal.returns-in_err-write_feed-clause-front
 returns-in_err-write_feed-clause-front g c = λ _.
@@ -24,11 +21,17 @@ returns-in_err-word-clause-front g c = λ e.
     reading_stopped (rules_of c.args.collector.now c.args.options.now) c.args.options.now.feed (g.L.Link.tells c.args.link.now) (g.L.Link.tells c.read_all.new.link) (g.O.Sink.tells c.args.out.now) (g.O.Sink.tells c.write_feed.new.out) (g.O.Sink.tells c.read_all.new.out)
     c.from_residual-in_err-word.result c.in_err-word.field-0.0 (p.1 ∙ ap Err p.2) e c.in_ok-write_feed.ensures.whole c.in_err-word.ensures.stopped
 
+pub returns-in_err-word-clause-memory : goal.returns-in_err-word-clause-memory
+returns-in_err-word-clause-memory g c = λ e.
+    let p = err_from_is_err_and c.from_residual-in_err-word.result c.from_residual-in_err-word.ensures.1 in
+    absurd (reading_takes_none (rules_of c.args.collector.now c.args.options.now) (g.L.Link.tells c.args.link.now) (g.L.Link.tells c.read_all.new.link) (g.O.Sink.tells c.write_feed.new.out) (g.O.Sink.tells c.read_all.new.out)
+    c.from_residual-in_err-word.result c.in_err-word.field-0.0 (p.1 ∙ ap Err p.2) e c.in_err-word.ensures.stopped)
+
 pub returns-in_err-drain-clause-front : goal.returns-in_err-drain-clause-front
 returns-in_err-drain-clause-front g c = λ _.
     rest_front (rules_of c.args.collector.now c.args.options.now) c.args.options.now.feed (g.L.Link.tells c.args.link.now) (g.L.Link.tells c.read_all.new.link) (g.O.Sink.tells c.args.out.now) (g.O.Sink.tells c.write_feed.new.out) (g.O.Sink.tells c.read_all.new.out) (g.O.Sink.tells c.drain.new.out)
     c.read_all.new.collector c.finish.new.self c.read_all.new.feed c.read_all.new.tally c.in_ok-word.word
-    c.in_ok-write_feed.ensures.whole c.in_ok-word.ensures.finished c.finish.ensures c.in_err-drain.ensures.front
+    c.in_ok-write_feed.ensures.whole c.in_ok-word.ensures.finished c.in_ok-word.ensures.pace.items c.finish.ensures c.in_err-drain.ensures.front
 
 pub write_refused-requires : goal.write_refused-requires
 write_refused-requires g c =
@@ -36,7 +39,7 @@ write_refused-requires g c =
     let wrote : WroteItems rules c.args.options.now.feed (g.L.Link.tells c.args.link.now) (g.L.Link.tells c.read_all.new.link) (g.O.Sink.tells c.args.out.now) (g.O.Sink.tells c.drain.new.out) c.drain.new.tally c.in_ok-word.word =
     wrote_items rules c.args.options.now.feed (g.L.Link.tells c.args.link.now) (g.L.Link.tells c.read_all.new.link) (g.O.Sink.tells c.args.out.now) (g.O.Sink.tells c.write_feed.new.out) (g.O.Sink.tells c.read_all.new.out) (g.O.Sink.tells c.drain.new.out)
     c.read_all.new.collector c.finish.new.self c.drain.new.collector c.read_all.new.feed c.drain.new.feed c.read_all.new.tally c.drain.new.tally c.in_ok-word.word
-    c.in_ok-write_feed.ensures.whole c.in_ok-word.ensures.finished c.finish.ensures c.in_ok-drain.ensures.ready in
+    c.in_ok-write_feed.ensures.whole c.in_ok-word.ensures.finished c.in_ok-word.ensures.pace.items c.finish.ensures c.in_ok-drain.ensures.ready in
     shown_told rules c.args.options.now.feed _ _ _ _ c.drain.new.tally c.in_ok-word.word wrote
 
 pub returns-in_err-write_refused-clause-front : goal.returns-in_err-write_refused-clause-front
@@ -45,7 +48,7 @@ returns-in_err-write_refused-clause-front g c = λ _.
     let wrote : WroteItems rules c.args.options.now.feed (g.L.Link.tells c.args.link.now) (g.L.Link.tells c.read_all.new.link) (g.O.Sink.tells c.args.out.now) (g.O.Sink.tells c.drain.new.out) c.drain.new.tally c.in_ok-word.word =
     wrote_items rules c.args.options.now.feed (g.L.Link.tells c.args.link.now) (g.L.Link.tells c.read_all.new.link) (g.O.Sink.tells c.args.out.now) (g.O.Sink.tells c.write_feed.new.out) (g.O.Sink.tells c.read_all.new.out) (g.O.Sink.tells c.drain.new.out)
     c.read_all.new.collector c.finish.new.self c.drain.new.collector c.read_all.new.feed c.drain.new.feed c.read_all.new.tally c.drain.new.tally c.in_ok-word.word
-    c.in_ok-write_feed.ensures.whole c.in_ok-word.ensures.finished c.finish.ensures c.in_ok-drain.ensures.ready in
+    c.in_ok-write_feed.ensures.whole c.in_ok-word.ensures.finished c.in_ok-word.ensures.pace.items c.finish.ensures c.in_ok-drain.ensures.ready in
     refused_front rules c.args.options.now.feed _ _ _ _ (g.O.Sink.tells c.write_refused.new.out) c.drain.new.tally c.in_ok-word.word wrote c.in_err-write_refused.ensures.front
 
 pub returns-in_err-write_end-clause-front : goal.returns-in_err-write_end-clause-front
@@ -54,7 +57,7 @@ returns-in_err-write_end-clause-front g c = λ _.
     let wrote : WroteItems rules c.args.options.now.feed (g.L.Link.tells c.args.link.now) (g.L.Link.tells c.read_all.new.link) (g.O.Sink.tells c.args.out.now) (g.O.Sink.tells c.drain.new.out) c.drain.new.tally c.in_ok-word.word =
     wrote_items rules c.args.options.now.feed (g.L.Link.tells c.args.link.now) (g.L.Link.tells c.read_all.new.link) (g.O.Sink.tells c.args.out.now) (g.O.Sink.tells c.write_feed.new.out) (g.O.Sink.tells c.read_all.new.out) (g.O.Sink.tells c.drain.new.out)
     c.read_all.new.collector c.finish.new.self c.drain.new.collector c.read_all.new.feed c.drain.new.feed c.read_all.new.tally c.drain.new.tally c.in_ok-word.word
-    c.in_ok-write_feed.ensures.whole c.in_ok-word.ensures.finished c.finish.ensures c.in_ok-drain.ensures.ready in
+    c.in_ok-write_feed.ensures.whole c.in_ok-word.ensures.finished c.in_ok-word.ensures.pace.items c.finish.ensures c.in_ok-drain.ensures.ready in
     end_front rules c.args.options.now.feed _ _ _ _ (g.O.Sink.tells c.write_refused.new.out) (g.O.Sink.tells c.write_end.new.out) c.drain.new.tally c.in_ok-word.word wrote c.in_ok-write_refused.ensures.whole c.in_err-write_end.ensures.front
 
 pub returns-clause-finished : goal.returns-clause-finished
@@ -63,6 +66,6 @@ returns-clause-finished g c =
     let wrote : WroteItems rules c.args.options.now.feed (g.L.Link.tells c.args.link.now) (g.L.Link.tells c.read_all.new.link) (g.O.Sink.tells c.args.out.now) (g.O.Sink.tells c.drain.new.out) c.drain.new.tally c.in_ok-word.word =
     wrote_items rules c.args.options.now.feed (g.L.Link.tells c.args.link.now) (g.L.Link.tells c.read_all.new.link) (g.O.Sink.tells c.args.out.now) (g.O.Sink.tells c.write_feed.new.out) (g.O.Sink.tells c.read_all.new.out) (g.O.Sink.tells c.drain.new.out)
     c.read_all.new.collector c.finish.new.self c.drain.new.collector c.read_all.new.feed c.drain.new.feed c.read_all.new.tally c.drain.new.tally c.in_ok-word.word
-    c.in_ok-write_feed.ensures.whole c.in_ok-word.ensures.finished c.finish.ensures c.in_ok-drain.ensures.ready in
+    c.in_ok-write_feed.ensures.whole c.in_ok-word.ensures.finished c.in_ok-word.ensures.pace.items c.finish.ensures c.in_ok-drain.ensures.ready in
     reported rules c.args.options.now.feed _ _ _ _ (g.O.Sink.tells c.write_refused.new.out) (g.O.Sink.tells c.write_end.new.out) c.drain.new.tally c.in_ok-word.word c.is_clean.result
     wrote c.in_ok-write_refused.ensures.whole c.in_ok-write_end.ensures.whole c.is_clean.ensures

@@ -1,0 +1,81 @@
+//! Room for the lines of an item, as a sink.
+
+ghost use Rattle.std.specs.Prelude.{◌≡◌, ◌↔◌, [], Some, IsSome, IfOk, IfSome};
+ghost use Rattle.mod_receiver.specs.Texts.{lines_tell};
+
+use crate::text::MOST_CALLS;
+use drm_bits::NoMemory;
+use drm_links::{Sink, WriteOut};
+use std::alloc::Global;
+use std::marker::Model;
+
+/// The lines of the longest packet have two digits for each of its bytes.
+const MOST_BYTES: usize = 65_536;
+
+/// Room for the lines of an item. All its memory is taken where it is made.
+#[derive(Drop)]
+pub(crate) struct Lines {
+    bytes: Vec<u8>,
+    calls: u64,
+    faults: u64,
+}
+
+impl Model for Lines {
+    ghost use Rattle.std.specs.Prelude.{◌≤◌, vec_len, vec_capacity};
+    ghost use Rattle.mod_receiver.specs.Texts.{LinesState};
+
+    ghost Value = { LinesState };
+
+    ghost view = { λ lines. record { bytes = lines.bytes.items; calls = lines.calls; faults = lines.faults } };
+
+    ghost invariant = { λ lines. (vec_len lines.bytes ≤ 65536) × (65536 ≤ vec_capacity lines.bytes) };
+}
+
+impl Lines {
+    /// Room in which nothing lies yet.
+    pub fn make(alloc: Global) -> Result<Lines, NoMemory> {
+        Ok(Lines {
+            bytes: Vec::with_capacity(alloc, MOST_BYTES)?,
+            calls: 0,
+            faults: 0,
+        })
+    }
+
+    /// Takes out what lies in it.
+    pub fn clear(&mut self)
+        ensures { lines_tell self.new ≡ Some (record { written = []; calls = 0 }) }
+    {
+        self.bytes.clear();
+        self.calls = 0;
+    }
+
+    /// What lies in it, where it still tells that.
+    pub fn text(&self) -> Option<&[u8]>
+        ensures told { IsSome result ↔ IsSome (lines_tell self.now) }
+        ensures text { IfSome result (λ text. text.now ≡ self.now.bytes) }
+    {
+        if self.calls <= MOST_CALLS {
+            Some(&self.bytes)
+        } else {
+            None
+        }
+    }
+}
+
+impl Sink for Lines {
+    ghost faults = { λ lines. lines.faults };
+
+    ghost tells = { lines_tell };
+
+    fn write(&mut self, bytes: &[u8]) -> WriteOut {
+        self.calls = self.calls.saturating_add(1);
+        if MOST_BYTES - self.bytes.len() < bytes.len() {
+            self.faults = self.faults.saturating_add(1);
+            return WriteOut::Failed;
+        }
+        let Ok(()) = self.bytes.extend_from_slice(bytes) else {
+            unreachable!()
+        };
+        WriteOut::Wrote(bytes.len())
+    }
+}
