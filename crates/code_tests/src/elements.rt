@@ -1,7 +1,8 @@
 //! The field's own values. Those of the tables are from a program in Python that multiplies polynomials over bits term by
 //! term, divides by the modulus, and looks for an inverse among all elements.
 
-use gf_field::Gf;
+use gf_field::{Gf, LOGS, POWERS as POWER_TABLE, mul_lanes};
+use std::simd::prelude::*;
 
 /// An element, another, and their product.
 const PRODUCTS: [(u8, u8, u8); 14] = [
@@ -88,4 +89,17 @@ fn powers(rt: HostRuntime) {
 fn sums(rt: HostRuntime) {
     assert_eq!(rt; Gf(0x53).add(Gf(0xca)), Gf(0x99));
     assert_eq!(rt; Gf(0xff).add(Gf(0xff)), Gf(0));
+}
+
+#[test]
+fn powers_and_logarithms_by_table(rt: HostRuntime) {
+    assert_eq!(rt; LOGS[29], 8);
+    assert_eq!(rt; POWER_TABLE[8], 29);
+    assert_eq!(rt; LOGS[0], 0);
+}
+
+#[test]
+fn products_of_lanes(rt: HostRuntime) {
+    let products = mul_lanes(u8x16::splat(2), u8x16::splat(0x80));
+    assert_eq!(rt; products.to_array(), [0x1d; 16]);
 }

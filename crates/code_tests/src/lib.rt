@@ -9,6 +9,12 @@ mod fragments_read;
 #[cfg(test)]
 mod fragments_written;
 #[cfg(test)]
+mod places;
+#[cfg(test)]
+mod plain;
+#[cfg(test)]
+mod random_words;
+#[cfg(test)]
 mod shapes;
 #[cfg(test)]
 mod words;

@@ -1,8 +1,6 @@
 //! Words and their parity from another program, and erased places of them.
 
-ghost use Rattle.std.specs.Prelude.{◌↔◌, IsTrue};
-ghost use Rattle.rs_erase.specs.Code.{ArePlaces};
-
+use crate::places::are_places;
 use gf_field::Gf;
 use rs_erase::{SolveFault, encode, solve, syndromes};
 
@@ -215,18 +213,6 @@ fn zeroed(word: &[u8; 255], places: &[u8]) -> [u8; 255] {
         }
     }
     zeroed
-}
-
-/// Whether these are places of a word, each after the one before it.
-fn are_places(places: &[u8]) -> bool
-    ensures { IsTrue result ↔ ArePlaces places.now }
-{
-    for (i, place) in places.iter().enumerate() {
-        if *place == 255 || (i > 0 && places[i - 1] >= *place) {
-            return false;
-        }
-    }
-    true
 }
 
 #[test]
