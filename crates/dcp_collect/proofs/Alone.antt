@@ -1,17 +1,15 @@
 -- A packet that came as one datagram.
-use Rattle.std.proofs.Common.{ℕ, ◌≡◌, inl, inr, Bool, true, false, eqb, Option, None, List, [], ◌∷◌, ◌++◌, length, take, refl, sym, subst, ap, ◌∙◌}
+use Rattle.std.proofs.Common.{ℕ, ◌≡◌, inl, inr, Bool, true, eqb, List, [], ◌∷◌, take, refl, sym, subst, ap, ◌∙◌}
 use Rattle.std.specs.List.{AllByRecursion}
 use Rattle.std.proofs.lemmas.Bool.{false≢true}
 use Rattle.std.proofs.lemmas.List.{append-nil}
 use Rattle.dcp_af.specs.Packet.{AfPacket, IsAf}
-use Rattle.dcp_pft.specs.declared.shape.Rs.{Rs}
-use Rattle.dcp_collect.specs.declared.head.Head.{Head}
 use Rattle.dcp_collect.specs.declared.found.Found.TheVariants.{Made}
-use Rattle.dcp_collect.specs.Fragments.{Fragment, suffice, of_packet}
-use Rattle.dcp_collect.specs.Decoding.{IsDecoded, joined}
-use Rattle.dcp_collect.specs.Reading.{Incoming, IsIncoming, whole_packet, fragment_of}
+use Rattle.dcp_collect.specs.Fragments.{Fragment, of_packet}
+use Rattle.dcp_collect.specs.Decoding.{joined}
+use Rattle.dcp_collect.specs.Reading.{Incoming, IsIncoming}
 use Rattle.dcp_collect.specs.Made.{IsMade}
-use Rattle.dcp_collect.specs.WholePackets.{IsAlone, came_whole}
+use Rattle.dcp_collect.specs.WholePackets.{IsAlone}
 use Rattle.dcp_collect.proofs.Lists.{all_filter, all_weaker}
 use Rattle.dcp_collect.proofs.Decoded.{decoded_plain}
 

@@ -12,3 +12,4 @@ pub mod Slots
 pub mod Row
 pub mod Made
 pub mod WholePackets
+pub mod Sizes

@@ -1,5 +1,5 @@
 -- Packets that came as one datagram each.
-use Rattle.std.specs.Prelude.{ℕ, ◌≡◌, Bool, true, false, List, [], ◌∷◌, None}
+use Rattle.std.specs.Prelude.{◌≡◌, Bool, true, false, List, [], ◌∷◌, None}
 use Rattle.dcp_af.specs.Packet.{AfPacket, IsAf}
 use Rattle.dcp_collect.specs.declared.item.Out.{Out}
 use Rattle.dcp_collect.specs.declared.item.Out.TheVariants.{Packet, Lost, Damaged}

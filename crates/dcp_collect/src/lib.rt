@@ -2,13 +2,17 @@
 //! in order, or named as lost (TS 102 821; the window and the numbering are this project's own).
 #![tactic(auto)]
 
+mod bytes;
 mod collector;
 mod counters;
+mod form;
 mod found;
 mod head;
 mod item;
 mod number;
+mod payloads;
 mod read;
+mod sizes;
 mod slot;
 mod slots;
 mod solve;

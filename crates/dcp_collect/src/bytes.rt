@@ -1,0 +1,30 @@
+//! Bytes written over others.
+
+ghost use Rattle.std.specs.Prelude.{◌≡◌, ◌≢◌, ◌+◌, ◌*◌, ◌<◌, ◌≤◌, ◌++◌, ℕ, length, slice_index, take, drop};
+
+// Writes bytes over those from a place on.
+pub(crate) fn put(into: &mut [u8], at: usize, bytes: &[u8])
+    requires { at + length bytes.now ≤ length into.old }
+    ensures { into.new ≡ take at into.old ++ bytes.now ++ drop (at + length bytes.now) into.old }
+{
+    into[at..at + bytes.len()].copy_from_slice(bytes);
+}
+
+// Writes bytes from a place on, each so far behind the one before.
+pub(crate) fn store(bytes: &mut [u8], start: usize, step: usize, payload: &[u8])
+    requires room { (j : ℕ) → j < length payload.now → start + j * step < length bytes.old }
+    requires start { start ≤ length bytes.old }
+    requires step { 0 < step }
+    ensures there { (j : ℕ) → j < length payload.now → slice_index bytes.new (start + j * step) ≡ slice_index payload.now j }
+    ensures others { (p : ℕ) → ((j : ℕ) → j < length payload.now → p ≢ start + j * step)
+        → slice_index bytes.new p ≡ slice_index bytes.old p }
+    ensures long { length bytes.new ≡ length bytes.old }
+{
+    if step == 1 {
+        put(bytes, start, payload);
+        return;
+    }
+    for (j, byte) in payload.iter().enumerate() {
+        bytes[start + j * step] = *byte;
+    }
+}
