@@ -6,3 +6,4 @@ pub mod Writing
 pub mod Loss
 pub mod Faults
 pub mod Reading
+pub mod Places

@@ -17,6 +17,7 @@ pub use coding::code;
 pub use fault::PftFault;
 pub use fragment::{Addr, Fragment};
 pub use laws::{all_taken, any_may_be_lost, chunks_agree, one_fragment, read_as_written};
+pub use place::Place;
 pub use read::read_fragment;
 pub use shape::{Rs, Shape, chunks, shape_for};
 pub use write::write_fragment;

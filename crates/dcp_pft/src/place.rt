@@ -1,20 +1,21 @@
-//! Places in the coded chunks, without a division for each.
+//! Places of the coded chunks, one after another, without a division for each.
 
-ghost use Rattle.std.specs.Prelude.{◌≡◌, ◌+◌, ◌*◌, ◌<◌, ◌≤◌, ◌^◌};
+ghost use Rattle.std.specs.Prelude.{◌≡◌, ◌+◌, ◌*◌, ◌<◌, ◌^◌, ℕ};
+ghost use Rattle.dcp_pft.specs.Places.{IsAt};
 
-/// A place in the coded chunks: the number of its chunk, and the place in this chunk with its parity.
-#[derive(Clone, Copy)]
-pub(crate) struct Place {
-    pub(crate) chunk: usize,
-    pub(crate) within: usize,
+/// A place of the coded chunks: the number of the chunk that it lies in, and how many bytes of that chunk with its parity stand
+/// before it.
+#[derive(Clone, Copy, Debug, PartialEq, Eq)]
+pub struct Place {
+    pub chunk: usize,
+    pub within: usize,
 }
 
 impl Place {
-    // The place before which so many bytes stand. Each chunk with its parity has `size` bytes.
-    pub(crate) fn behind(bytes: usize, size: usize) -> Place
-        requires some { 0 < size }
-        ensures place { result.chunk * size + result.within ≡ bytes }
-        ensures within { result.within < size }
+    /// The place before which so many bytes stand, where a chunk with its parity has `size` bytes.
+    pub fn behind(bytes: usize, size: usize) -> Place
+        requires { 0 < size }
+        ensures { IsAt bytes size result }
     {
         Place {
             chunk: bytes / size,
@@ -22,14 +23,13 @@ impl Place {
         }
     }
 
-    // The place as far behind this one as `step` is behind the first.
-    pub(crate) fn further(self, step: Place, size: usize) -> Place
+    /// The place as far behind this one as `step` is behind the first.
+    pub fn further(self, step: Place, size: usize) -> Place
         requires within { self.within < size }
         requires step { step.within < size }
         requires small { self.chunk * size + self.within < 2 ^ 40 }
         requires small_step { step.chunk * size + step.within < 2 ^ 40 }
-        ensures place { result.chunk * size + result.within ≡ self.chunk * size + self.within + (step.chunk * size + step.within) }
-        ensures within { result.within < size }
+        ensures { (bytes more : ℕ) → IsAt bytes size self → IsAt more size step → IsAt (bytes + more) size result }
     {
         let chunk = self.chunk + step.chunk;
         let within = self.within + step.within;
