@@ -7,6 +7,6 @@ pub mod Times
 pub mod Inverse
 pub mod Powers
 mod FourBits
-mod TableProducts
 mod TableEntries
+mod TableProducts
 mod LaneProducts

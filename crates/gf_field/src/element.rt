@@ -3,7 +3,7 @@
 ghost use Rattle.std.specs.Prelude.{◌≡◌, ◌≢◌, ℕ, ◌^◌, ◌<◌, bit_xor};
 ghost use Rattle.gf_field.specs.Field.{power, times, IsProduct};
 
-use crate::tables::{inverse_of, power_of, product_of};
+use crate::tables::{inverse_of, power_of, product_of, quotient_of};
 use std::marker::Model;
 
 /// An element of the field: a polynomial over bits of degree below 8, bit i the coefficient of x to the i.
@@ -32,6 +32,16 @@ impl Gf {
         ensures value { result ≡ times self other }
     {
         Gf(product_of(self.0, other.0))
+    }
+
+    /// The element whose product with the other one is this one.
+    pub fn div(self, other: Gf) -> Gf
+        requires { other ≢ 0 }
+        ensures product { IsProduct result other self }
+        ensures value { times result other ≡ self }
+        ensures element { result < 2 ^ 8 }
+    {
+        Gf(quotient_of(self.0, other.0))
     }
 
     /// The element whose product with this one is 1.

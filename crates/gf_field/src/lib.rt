@@ -8,6 +8,7 @@ mod lanes;
 mod laws;
 mod logarithms;
 mod nibbles;
+mod quotients;
 mod tables;
 
 pub use element::Gf;

@@ -6,6 +6,7 @@ ghost use Rattle.gf_field.specs.Field.{power, times, IsProduct};
 use crate::inverses::INVERSES;
 use crate::logarithms::POWERS;
 use crate::nibbles::NIBBLES;
+use crate::quotients::QUOTIENTS;
 
 /// The product of two elements.
 pub fn product_of(x: u8, y: u8) -> u8
@@ -23,6 +24,26 @@ fn nibble_product(place: usize) -> u8
     ensures { result ≡ slice_index NIBBLES place }
 {
     NIBBLES[place]
+}
+
+/// The element whose product with y is x.
+pub fn quotient_of(x: u8, y: u8) -> u8
+    requires { 0 < y }
+    ensures product { IsProduct result y x }
+    ensures value { times result y ≡ x }
+    ensures element { result < 2 ^ 8 }
+{
+    let row = 32 * usize::from(y);
+    nibble_quotient(row + usize::from(x % 16)) ^ nibble_quotient(row + 16 + usize::from(x / 16))
+}
+
+/// What the table of quotients by four bits holds at this place.
+fn nibble_quotient(place: usize) -> u8
+    requires { place < 8192 }
+    ensures value { result ≡ slice_index QUOTIENTS place }
+    ensures element { result < 2 ^ 8 }
+{
+    QUOTIENTS[place]
 }
 
 /// The inverse of an element other than 0.

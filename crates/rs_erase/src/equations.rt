@@ -110,7 +110,7 @@ fn divide(products: &mut [Gf], locators: &[Gf], locator: Gf) -> Gf
 {
     let mut sum = Gf(0);
     for (i, product) in products.iter_mut().enumerate() {
-        let quotient = product.mul(locators[i].add(locator).inverse());
+        let quotient = product.div(locators[i].add(locator));
         *product = quotient;
         sum = sum.add(quotient);
     }

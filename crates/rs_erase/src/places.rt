@@ -64,7 +64,7 @@ fn divide_by_locators(products: &mut [Gf], locators: &[Gf])
     ensures elements { AreElements products.new }
 {
     for (i, product) in products.iter_mut().enumerate() {
-        *product = product.mul(locators[i].inverse());
+        *product = product.div(locators[i]);
     }
 }
 
