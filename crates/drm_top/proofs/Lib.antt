@@ -9,3 +9,4 @@ pub mod FeedLemmas
 pub mod ReceiveStatus
 pub mod AirStatus
 pub mod AirLemmas
+pub mod LiveLemmas

@@ -1,5 +1,5 @@
 -- From receivers that ended to the whole command.
-use Rattle.std.proofs.Common.{◌≡◌, ℕ, ◌+◌, ◌<◌, ◌≤◌, ◌⊎◌, inl, inr, Bool, false, List, [], ◌++◌, length, map, slice_index_or, take, drop, Option, Result, Ok, Err, refl, sym, ◌∙◌, ap, subst, arith, le_refl}
+use Rattle.std.proofs.Common.{◌≡◌, ℕ, zero, suc, ◌+◌, ◌<◌, ◌≤◌, ◌⊎◌, inl, inr, Bool, false, List, [], ◌∷◌, ◌++◌, length, map, slice_index_or, take, drop, Option, Result, Ok, Err, refl, sym, ◌∙◌, ap, subst, arith, le_refl}
 use Rattle.std.specs.List.{All}
 use Rattle.std.proofs.lemmas.List.{take_at}
 use Rattle.drm_links.specs.Told.{HasCause, Rose, WhileTold}
@@ -20,7 +20,7 @@ use Rattle.mod_receiver.specs.declared.stop.Stop.{Stop}
 use Rattle.mod_receiver.specs.declared.stop.Stop.TheVariants as stops
 use Rattle.drm_top.specs.Stopping.{ending_of}
 use Rattle.mod_receiver.specs.Following.{HeadlinesFollow, CompletesFollow}
-use Rattle.drm_top.specs.Receive.{Docked, AreReports, all_texts, FailsSome, WritesReports, SomeLinkRose, ReceiveRun}
+use Rattle.drm_top.specs.Receive.{Docked, FindsNone, AreReports, all_texts, FailsSome, WritesReports, WritesAll, IsLive, SomeLinkRose, ReceiveRun}
 use Rattle.mod_receiver.specs.Ahead.{Report, IsReportOf}
 use Rattle.drm_top.proofs.OpeningLemmas.{docked_weaker}
 use Rattle.drm_top.proofs.BreakingOff.{report_whole}
@@ -54,10 +54,10 @@ of_fault fault = Err fault
 abbrev of_clean : Bool → Result Bool Fault
 of_clean clean = Ok clean
 
-inner : (fault other : Fault) → of_fault fault ≡ of_fault other → fault ≡ other
+pub inner : (fault other : Fault) → of_fault fault ≡ of_fault other → fault ≡ other
 inner fault other is = cc
 
-no_fault : (clean : Bool) (fault : Fault) → of_clean clean ≡ of_fault fault → ⊥
+pub no_fault : (clean : Bool) (fault : Fault) → of_clean clean ≡ of_fault fault → ⊥
 no_fault clean fault is = cc
 
 -- how it ends
@@ -93,6 +93,17 @@ settled_unwritten jobs (Err stops.Write) tells out out' settled (inl is) = let o
 settled_unwritten jobs (Err stops.Write) tells out out' settled (inr is) = let one : faults.Write ≡ faults.Link = inner faults.Write faults.Link is in absurd cc
 settled_unwritten jobs (Err stops.Link) tells out out' settled any = settled.1
 settled_unwritten jobs (Err stops.NoMemory) tells out out' settled any = settled
+
+either : {P Q R : Type 0} → P ⊎ (Q × R) → P ⊎ Q
+either (inl p) = inl p
+either (inr q) = inr q.0
+
+-- what is written of several links
+all_several : {O : Type 0} (rules : Rules) (told : DockContents) (addresses : List Address) (ending : Result Bool Fault) (tells : O → Option Output) (out out' : O) → (IsLive addresses → ⊥)
+    → WritesReports (AreReports rules told addresses) ending tells out out' → WritesAll rules told addresses ending tells out out'
+all_several rules told [] ending tells out out' several writes = writes
+all_several rules told (at ∷ []) ending tells out out' several writes = absurd (several refl)
+all_several rules told (at ∷ (other ∷ addresses)) ending tells out out' several writes = writes
 
 -- all are done, where the texts are written
 all_done : {L O : Type 0} (jobs : List (Job L)) (stopped : Result Bool Stop) (tells : O → Option Output) (out out' : O) → Settles jobs stopped tells out out'
@@ -171,9 +182,9 @@ module _ {L : Type 0} (link_faults : L → ℕ) (link_tells : L → Option Traff
       (out_faults : O → ℕ) (out_tells : O → Option Output) (out out' : O)
       → AreFresh link_faults (length addresses) before → Docked (dock_tells dock) (dock_tells dock') (λ told. HaveLinks link_tells told addresses before)
       → WhileTold (dock_tells dock) (dock_tells dock') (λ x y. y.gone ≡ x.gone) → dock_faults dock ≤ dock_faults dock'
-      → Settles after stopped out_tells out out' → HasCause (out_faults out) (out_faults out') (stopped ≡ Err stops.Write)
+      → (IsLive addresses → ⊥) → Settles after stopped out_tells out out' → HasCause (out_faults out) (out_faults out') (stopped ≡ Err stops.Write)
       → ReceiveRun rules addresses (ending_of stopped) dock_faults dock_tells dock dock' link_faults out_faults out_tells out out'
-  settled_run stopped dock_faults dock_tells dock dock' out_faults out_tells out out' fresh links unsent later settled cause = record {
+  settled_run stopped dock_faults dock_tells dock dock' out_faults out_tells out out' fresh links unsent later several settled cause = record {
     kind = λ fault is.
         elim (ending_kind after stopped out_tells out out' settled fault is) [
           | inl memory ↦ inl memory
@@ -182,12 +193,12 @@ module _ {L : Type 0} (link_faults : L → ℕ) (link_tells : L → Option Traff
             | inr write ↦ inr (inr write)
           ]
         ];
-    writes = docked_weaker (λ told. HaveLinks link_tells told addresses before) (λ told. WritesReports (AreReports rules told addresses) (ending_of stopped) out_tells out out') (dock_tells dock) (dock_tells dock') links
-        (λ told has. reports_written after stopped (AreReports rules told addresses) out_tells out out' (are_reports told has) settled);
-    unwritten = settled_unwritten after stopped out_tells out out' settled;
+    writes = docked_weaker (λ told. HaveLinks link_tells told addresses before) (λ told. WritesAll rules told addresses (ending_of stopped) out_tells out out') (dock_tells dock) (dock_tells dock') links
+        (λ told has. all_several rules told addresses (ending_of stopped) out_tells out out' several (reports_written after stopped (AreReports rules told addresses) out_tells out out' (are_reports told has) settled));
+    unwritten = λ any. settled_unwritten after stopped out_tells out out' settled (either any);
     link = λ is. docked_weaker (λ told. HaveLinks link_tells told addresses before) (λ told. FailsSome rules told addresses) (dock_tells dock) (dock_tells dock') links
         (λ told has. fails_some told has (failed_where (settled_link after stopped out_tells out out' settled is)));
-    linked = λ no_link no_want. docked_weaker (λ told. HaveLinks link_tells told addresses before) (λ told. FailsSome rules told addresses → ⊥) (dock_tells dock) (dock_tells dock') links
+    linked = λ no_link no_want no_write. docked_weaker (λ told. HaveLinks link_tells told addresses before) (λ told. FailsSome rules told addresses → ⊥) (dock_tells dock) (dock_tells dock') links
         (λ told has fails. none_fails told (map told_of after) (are_reports told has (all_done after stopped out_tells out out' settled no_link no_want)) fails);
     unsent = unsent;
     later = later;
@@ -197,9 +208,19 @@ module _ {L : Type 0} (link_faults : L → ℕ) (link_tells : L → Option Traff
 
 -- ---- a run that ends while links are opened
 
-unwritten_by : {O : Type 0} (are : List Report → Type 0) (fault : Fault) (tells : O → Option Output) (out : O) → EndsOpening fault → WritesReports are (Err fault) tells out out
-unwritten_by are fault tells out (inl memory) = subst (λ f. WritesReports are (Err f) tells out out) (sym memory) refl
-unwritten_by are fault tells out (inr link) = subst (λ f. WritesReports are (Err f) tells out out) (sym link) refl
+none_found : (told : DockContents) (at : Address) (k : ℕ) → k < 1 → FindsNone told k (slice_index_or (at ∷ []) k at) → FindsNone told 0 at
+none_found told at zero within none = none
+none_found told at (suc k) within none = absurd (omega (arith, within))
+
+unwritten_memory : {O : Type 0} (rules : Rules) (told : DockContents) (addresses : List Address) (tells : O → Option Output) (out : O) → WritesAll rules told addresses (Err faults.NoMemory) tells out out
+unwritten_memory rules told [] tells out = refl
+unwritten_memory rules told (at ∷ []) tells out = refl
+unwritten_memory rules told (at ∷ (other ∷ addresses)) tells out = refl
+
+unwritten_link : {O : Type 0} (rules : Rules) (told : DockContents) (addresses : List Address) (tells : O → Option Output) (out : O) → FailsOpening told addresses → WritesAll rules told addresses (Err faults.Link) tells out out
+unwritten_link rules told [] tells out fails = refl
+unwritten_link rules told (at ∷ []) tells out fails = inl (none_found told at fails.k fails.within (fails.fails at), refl)
+unwritten_link rules told (at ∷ (other ∷ addresses)) tells out fails = refl
 
 not_write : (fault : Fault) → EndsOpening fault → of_fault fault ≡ Err faults.Write → ⊥
 not_write fault (inl memory) is = let one : faults.NoMemory ≡ faults.Write = sym memory ∙ inner fault faults.Write is in cc
@@ -218,12 +239,16 @@ opening_failed rules addresses fault dock_faults dock_tells dock dock' link_faul
         | inl memory ↦ inl (sym same ∙ memory)
         | inr link ↦ inr (inl (sym same ∙ link))
       ];
-  writes = docked_weaker (λ _. Unit {0}) (λ x. WritesReports (AreReports rules x addresses) (Err fault) out_tells out out) (dock_tells dock) (dock_tells dock') told
-      (λ x any. unwritten_by (AreReports rules x addresses) fault out_tells out ends);
+  writes = elim ends [
+    | inl memory ↦ docked_weaker (λ _. Unit {0}) (λ x. WritesAll rules x addresses (Err fault) out_tells out out) (dock_tells dock) (dock_tells dock') told
+          (λ x any. subst (λ f. WritesAll rules x addresses (Err f) out_tells out out) (sym memory) (unwritten_memory rules x addresses out_tells out))
+    | inr link ↦ docked_weaker (λ x. FailsOpening x addresses) (λ x. WritesAll rules x addresses (Err fault) out_tells out out) (dock_tells dock) (dock_tells dock') (failed link)
+          (λ x fails. subst (λ f. WritesAll rules x addresses (Err f) out_tells out out) (sym link) (unwritten_link rules x addresses out_tells out fails))
+  ];
   unwritten = λ any. refl;
   link = λ is. docked_weaker (λ x. FailsOpening x addresses) (λ x. FailsSome rules x addresses) (dock_tells dock) (dock_tells dock') (failed (inner fault faults.Link is))
       (λ x opening. record { k = opening.k; within = opening.within; fails = λ at. inl (opening.fails at) });
-  linked = λ no_link no_memory. elim ends [
+  linked = λ no_link no_memory no_write. elim ends [
     | inl memory ↦ absurd (no_memory (ap Err memory))
     | inr link ↦ absurd (no_link (ap Err link))
   ];

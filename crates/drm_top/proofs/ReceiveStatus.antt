@@ -1,15 +1,17 @@
 -- What the status of `receive` says.
-use Rattle.std.proofs.Common.{◌≡◌, ℕ, ◌<◌, ◌+◌, ◌⊎◌, ◌↔◌, inl, inr, Bool, true, false, IsTrue, List, [], length, slice_index_or, Option, None, Some, Result, Ok, Err, refl, sym, ◌∙◌, ap, subst, arith}
+use Rattle.std.proofs.Common.{◌≡◌, ℕ, zero, suc, ◌<◌, ◌+◌, ◌⊎◌, ◌↔◌, inl, inr, Bool, true, false, IsTrue, List, [], ◌∷◌, length, slice_index_or, Option, None, Some, Result, Ok, Err, refl, sym, ◌∙◌, ap, subst, arith}
 use Rattle.drm_links.specs.Told.{Rose}
 use Rattle.drm_links.specs.Link.{Answer}
 use Rattle.drm_links.specs.Sink.{Output}
+use Rattle.drm_links.proofs.ToldLemmas.{Outputs-weaker}
+use Rattle.std.proofs.lemmas.List.{append-nil}
 use Rattle.drm_links.specs.Dock.{DockContents, LinkStart}
 use Rattle.drm_links.specs.declared.dock.Address.{Address}
 use Rattle.mod_receiver.specs.declared.rules.Rules.{Rules}
 use Rattle.drm_faults.specs.declared.fault.Fault.{Fault}
 use Rattle.drm_faults.specs.declared.fault.Fault.TheVariants as faults
 use Rattle.drm_faults.specs.Fault.{report_status, clean_status}
-use Rattle.drm_top.specs.Receive.{Docked, AreReports, AreClean, FailsSome, WritesReports, ReceiveRun}
+use Rattle.drm_top.specs.Receive.{Docked, Finds, AreReports, AreClean, all_texts, FailsSome, WritesReports, WritesAll, IsLive, ReceiveRun}
 use Rattle.mod_receiver.specs.Ahead.{Report, IsReportOf}
 use Rattle.drm_top.specs.Status.{WroteReports, IsInTimeAhead, AreInTime}
 
@@ -46,6 +48,35 @@ wrote are false tells out out' (reports, is, text, iff) = record {
   lacking = (λ e all. is_not_false (iff.1 all), λ none. refl);
 }
 
+-- the report of one link is all there are
+one_report : (rules : Rules) (told : DockContents) (at : Address) (start : LinkStart) (r : Report) → Finds told 0 at start → IsReportOf rules 1 start.ahead r
+    → (k : ℕ) (d : Address) (none : Report) → k < 1
+    → (s : LinkStart) × Finds told k (slice_index_or (at ∷ []) k d) s × IsReportOf rules (k + 1) s.ahead (slice_index_or (r ∷ []) k none)
+one_report rules told at start r finds report zero d none within = (start, finds, report)
+one_report rules told at start r finds report (suc k) d none within = absurd (omega (arith, within))
+
+one_clean : (clean : Bool) (r : Report) → clean ≡ r.clean → IsTrue clean ↔ AreClean (r ∷ [])
+one_clean clean r is = (
+  (λ is_clean k d within. each is_clean k d within),
+  (λ all. subst IsTrue (sym is) (all 0 r (omega arith))),
+)
+  where
+    each : IsTrue clean → (k : ℕ) (d : Report) → k < 1 → IsTrue (slice_index_or (r ∷ []) k d).clean
+    each is_clean zero d within = subst IsTrue is is_clean
+    each is_clean (suc k) d within = absurd (omega (arith, within))
+
+-- where the run ends well the reports of all links are written, whether there is one or are several
+all_reports : {O : Type 0} (rules : Rules) (told : DockContents) (addresses : List Address) (clean : Bool) (tells : O → Option Output) (out out' : O)
+    → WritesAll rules told addresses (Ok clean) tells out out' → WritesReports (AreReports rules told addresses) (Ok clean) tells out out'
+all_reports rules told [] clean tells out out' writes = writes
+all_reports rules told (at ∷ []) clean tells out out' (start, finds, (r, report, text, is)) = (
+  r ∷ [],
+  record { as_many = refl; each = one_report rules told at start r finds report },
+  Outputs-weaker (λ t. t ≡ r.text) (λ t. t ≡ all_texts (r ∷ [])) (tells out) (tells out') text (λ t e. e ∙ sym (append-nil r.text)),
+  one_clean clean r is,
+)
+all_reports rules told (at ∷ (other ∷ addresses)) clean tells out out' writes = writes
+
 module _ {D L O : Type 0} (rules : Rules) (addresses : List Address) (dock_faults : D → ℕ) (dock_tells : D → Option DockContents) (dock dock' : D) (link_faults : L → ℕ) (out_faults : O → ℕ) (out_tells : O → Option Output) (out out' : O) where
   not_six : (clean : Bool) → clean_status clean ≡ 6 → ⊥
   not_six true e = omega (arith, e)
@@ -62,18 +93,23 @@ module _ {D L O : Type 0} (rules : Rules) (addresses : List Address) (dock_fault
         inr ((λ e. omega (arith, e, five)), (λ e. let same : fault ≡ faults.Link = cc in let other : faults.Link ≡ faults.Write = sym same ∙ is in cc), (λ e. let same : fault ≡ faults.NoMemory = cc in let other : faults.NoMemory ≡ faults.Write = sym same ∙ is in cc))
   ]
 
-  module _ (ending : Result Bool Fault) (run : ReceiveRun rules addresses ending dock_faults dock_tells dock dock' link_faults out_faults out_tells out out') (memory : report_status ending ≡ 1 → ⊥) where
+  write_five : (ending : Result Bool Fault) → ending ≡ Err faults.Write → report_status ending ≡ 5
+  write_five ending is = ap report_status is
+
+  module _ (ending : Result Bool Fault) (run : ReceiveRun rules addresses ending dock_faults dock_tells dock dock' link_faults out_faults out_tells out out') (memory : report_status ending ≡ 1 → ⊥)
+      (unless : IsLive addresses → report_status ending ≡ 5 → ⊥) where
     pub linked : Docked (dock_tells dock) (dock_tells dock') (λ told. (report_status ending ≡ 6) ↔ FailsSome rules told addresses)
     linked = elim (linked_by ending run.kind memory) [
       | inl (six, is) ↦ docked_weaker _ _ (dock_tells dock) (dock_tells dock') (run.link is) (λ told fails. (λ e. fails, λ f. six))
-      | inr (other, not_link, not_memory) ↦ docked_weaker _ _ (dock_tells dock) (dock_tells dock') (run.linked not_link not_memory) (λ told none. (λ e. absurd (other e), λ f. absurd (none f)))
+      | inr (other, not_link, not_memory) ↦ docked_weaker _ _ (dock_tells dock) (dock_tells dock') (run.linked not_link not_memory (λ live is. unless live (write_five ending is))) (λ told none. (λ e. absurd (other e), λ f. absurd (none f)))
     ]
 
   complete_by : (ending : Result Bool Fault) (run : ReceiveRun rules addresses ending dock_faults dock_tells dock dock' link_faults out_faults out_tells out out') → (report_status ending ≡ 1 → ⊥)
       → (Rose (out_faults out) (out_faults out') → ⊥)
       → Docked (dock_tells dock) (dock_tells dock') (λ told. (FailsSome rules told addresses → ⊥) → WroteReports (report_status ending) (AreReports rules told addresses) out_tells out out')
   complete_by (Ok clean) run memory no_write =
-      docked_weaker _ _ (dock_tells dock) (dock_tells dock') run.writes (λ told writes none. wrote (AreReports rules told addresses) clean out_tells out out' writes)
+      docked_weaker _ _ (dock_tells dock) (dock_tells dock') run.writes
+      (λ told writes none. wrote (AreReports rules told addresses) clean out_tells out out' (all_reports rules told addresses clean out_tells out out' writes))
   complete_by (Err fault) run memory no_write = elim (run.kind fault refl) [
     | inl is ↦ absurd (memory (ap (λ f. report_status (Err f)) is))
     | inr (inl is) ↦ docked_weaker _ _ (dock_tells dock) (dock_tells dock') (run.link (ap Err is)) (λ told fails none. absurd (none fails))

@@ -1,12 +1,14 @@
--- The command `receive` with addresses: a report for each link.
-use Rattle.std.specs.Prelude.{ℕ, ◌≡◌, ◌+◌, ◌<◌, ◌≤◌, ◌⊎◌, ◌↔◌, IsTrue, Contains, IsNone, Bool, List, length, slice_index_or, Option, None, Some, Result, Ok, Err}
+-- The command `receive` with addresses: a report for each link. That of one link is written as it is read, those of several
+-- together at their end.
+use Rattle.std.specs.Prelude.{ℕ, ◌≡◌, ◌+◌, ◌<◌, ◌≤◌, ◌⊎◌, ◌↔◌, IsTrue, Contains, IsNone, Bool, List, [], ◌∷◌, length, slice_index_or, Option, None, Some, Result, Ok, Err}
 use Rattle.std.specs.List.{flat_map, All}
 use Rattle.drm_links.specs.Told.{HasCause, Rose, WhileTold}
+use Rattle.drm_links.specs.Link.{Answer}
 use Rattle.drm_links.specs.Sink.{Output, Outputs, IsFront}
 use Rattle.drm_links.specs.Dock.{DockContents, LinkStart, start_at}
 use Rattle.drm_links.specs.declared.dock.Address.{Address}
 use Rattle.mod_receiver.specs.declared.rules.Rules.{Rules}
-use Rattle.mod_receiver.specs.Ahead.{Report, IsReportOf, BreaksOff}
+use Rattle.mod_receiver.specs.Ahead.{Report, IsReportOf, BreaksOff, IsGivenOf, IsFrontOf}
 use Rattle.drm_faults.specs.declared.fault.Fault.{Fault}
 use Rattle.drm_faults.specs.declared.fault.Fault.TheVariants as faults
 
@@ -55,6 +57,30 @@ WritesReports are (Err faults.Write) tells out out' =
     (reports : List Report) × are reports × Outputs (tells out) (tells out') (IsFront (all_texts reports))
 WritesReports are (Err fault) tells out out' = out' ≡ out
 
+-- P holds of what is ahead of the link that the first opening from here finds at this address
+abbrev pub Ahead : DockContents → Address → (List Answer → Type 0) → Type 0
+Ahead told at P = (start : LinkStart) × Finds told 0 at start × P start.ahead
+
+-- What is written of one link: the report of what is ahead of it; after a failed write a front of that; where it breaks off,
+-- what is given before it does; where it can't be opened, or memory is wanting, nothing.
+abbrev pub WritesLive : {O : Type 0} → Rules → DockContents → Address → Result Bool Fault → (O → Option Output) → O → O → Type 0
+WritesLive rules told at (Ok clean) tells out out' =
+    Ahead told at (λ ahead. (r : Report) × IsReportOf rules 1 ahead r × Outputs (tells out) (tells out') (λ text. text ≡ r.text) × (clean ≡ r.clean))
+WritesLive rules told at (Err faults.Write) tells out out' = Ahead told at (λ ahead. Outputs (tells out) (tells out') (IsFrontOf rules 1 ahead))
+WritesLive rules told at (Err faults.Link) tells out out' =
+    (FindsNone told 0 at × (out' ≡ out))
+    ⊎ Ahead told at (λ ahead. (given : List ℕ) × IsGivenOf rules 1 ahead given × Outputs (tells out) (tells out') (λ text. text ≡ given))
+WritesLive rules told at (Err fault) tells out out' = out' ≡ out
+
+-- what is written of the links at these addresses
+abbrev pub WritesAll : {O : Type 0} → Rules → DockContents → List Address → Result Bool Fault → (O → Option Output) → O → O → Type 0
+WritesAll rules told (at ∷ []) ending tells out out' = WritesLive rules told at ending tells out out'
+WritesAll rules told addresses ending tells out out' = WritesReports (AreReports rules told addresses) ending tells out out'
+
+-- the report is written as it is read: there is one link
+abbrev pub IsLive : List Address → Type 0
+IsLive addresses = length addresses ≡ 1
+
 -- a count of faults rose that was 0 where the link was opened
 abbrev pub SomeLinkRose : {L : Type 0} → (L → ℕ) → Type 0
 SomeLinkRose {L} faults = (opened : L) × (closed : L) × (faults opened ≡ 0) × Rose (faults opened) (faults closed)
@@ -66,11 +92,13 @@ pub record ReceiveRun {D L O : Type 0} (rules : Rules) (addresses : List Address
   -- It ends well, or for want of memory, by a failed link or by a failed write.
   pub kind : (fault : Fault) → ending ≡ Err fault → (fault ≡ faults.NoMemory) ⊎ (fault ≡ faults.Link) ⊎ (fault ≡ faults.Write)
   -- Where the dock tells: the reports are those of what was ahead of the links that it opened. Nothing else is written.
-  pub writes : Docked (dock_tells dock) (dock_tells dock') (λ told. WritesReports (AreReports rules told addresses) ending out_tells out out')
-  pub unwritten : (ending ≡ Err faults.NoMemory) ⊎ (ending ≡ Err faults.Link) → out' ≡ out
-  -- It fails by a link exactly where an opening fails, or what is read of some link ends in `Failed`.
+  pub writes : Docked (dock_tells dock) (dock_tells dock') (λ told. WritesAll rules told addresses ending out_tells out out')
+  -- After want of memory nothing is written, and where one of several links failed.
+  pub unwritten : (ending ≡ Err faults.NoMemory) ⊎ ((ending ≡ Err faults.Link) × (IsLive addresses → ⊥)) → out' ≡ out
+  -- It fails by a link exactly where an opening fails, or what is read of some link ends in `Failed`; where there is one link,
+  -- unless a write failed before.
   pub link : ending ≡ Err faults.Link → Docked (dock_tells dock) (dock_tells dock') (λ told. FailsSome rules told addresses)
-  pub linked : (ending ≡ Err faults.Link → ⊥) → (ending ≡ Err faults.NoMemory → ⊥)
+  pub linked : (ending ≡ Err faults.Link → ⊥) → (ending ≡ Err faults.NoMemory → ⊥) → (IsLive addresses → ending ≡ Err faults.Write → ⊥)
       → Docked (dock_tells dock) (dock_tells dock') (λ told. FailsSome rules told addresses → ⊥)
   -- Nothing is sent.
   pub unsent : WhileTold (dock_tells dock) (dock_tells dock') (λ before after. after.gone ≡ before.gone)

@@ -2,6 +2,8 @@
 use Rattle.std.specs.Prelude.{Bool, Result, Ok, Err}
 use Rattle.mod_receiver.specs.declared.stop.Stop.{Stop}
 use Rattle.mod_receiver.specs.declared.stop.Stop.TheVariants as stops
+use Rattle.mod_receiver.specs.declared.receiver.Ended.{Ended}
+use Rattle.mod_receiver.specs.declared.receiver.Ended.TheVariants as ended
 use Rattle.drm_faults.specs.declared.fault.Fault.{Fault}
 use Rattle.drm_faults.specs.declared.fault.Fault.TheVariants as faults
 
@@ -10,3 +12,10 @@ ending_of (Ok clean) = Ok clean
 ending_of (Err stops.Link) = Err faults.Link
 ending_of (Err stops.Write) = Err faults.Write
 ending_of (Err stops.NoMemory) = Err faults.NoMemory
+
+-- how a run ends whose one receiver ends so
+abbrev pub ending_live : Ended → Result Bool Fault
+ending_live (ended.Done clean) = Ok clean
+ending_live ended.LinkFailed = Err faults.Link
+ending_live ended.WriteFailed = Err faults.Write
+ending_live ended.NoMemory = Err faults.NoMemory

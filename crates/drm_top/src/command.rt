@@ -24,7 +24,7 @@ ghost use Rattle.drm_transmit.specs.Send.{SendRun, OpeningFails, OpensLink, Lack
 ghost use Rattle.drm_load.specs.Schedule.{checked, schedule_named};
 ghost use Rattle.script_lines.specs.declared.delivery.Delivery.{Delivery};
 ghost use Rattle.mod_receiver.specs.declared.rules.Rules.{Rules};
-ghost use Rattle.drm_top.specs.Receive.{ReceiveRun, AreReports, FailsSome, Docked};
+ghost use Rattle.drm_top.specs.Receive.{ReceiveRun, AreReports, FailsSome, Docked, IsLive};
 ghost use Rattle.drm_top.specs.Air.{AirRun, AreAired};
 ghost use Rattle.drm_top.specs.Status.{WroteReports, AreInTime, FeedsAreInTime, schedule_and_script};
 ghost use Rattle.drm_top.specs.Command.{CommandRun, OpensALink, WritesReport};
@@ -49,8 +49,9 @@ use std::thread::Threads;
 ///
 /// `fac` reads the nine bytes of a FAC from `input` and writes its line to `out`. `check` reads a schedule and its files
 /// from `shelf` and writes its canonical text to `out`; `serve` reads them too and writes the datagrams of the schedule to
-/// `out` as a capture, or sends them over a link that it opens in `dock`. `receive` opens links in `dock`, reads them side
-/// by side and writes their reports to `out`; `air` does the same in memory with a schedule and a script from `shelf`. The
+/// `out` as a capture, or sends them over a link that it opens in `dock`. `receive` opens links in `dock` and writes their
+/// reports to `out`: that of one link as it is read, those of several, which are read side by side, when all have ended. `air`
+/// does the same in memory with a schedule and a script from `shelf`; its reports come at the end. The
 /// statuses are 0 done, 1 no memory, 2 no command line, 3 no FAC, no schedule or no script, 4 a read of `input` or a load
 /// from `shelf` failed, 5 a write to `out` failed, 6 a link couldn't be opened or failed, 7 done, and a frame is missing or
 /// bad; each from 1 to 6 writes a line to `err`.
@@ -194,10 +195,11 @@ where
         × (shelf.new ≡ shelf.old) × (input.new ≡ input.old)
         × Reports (done_of ending) E.faults E.tells err.old err.new }
 
-    // Its status 6 comes exactly where an opening fails, or what is read of some link ends in a failure.
+    // Its status 6 comes exactly where an opening fails, or what is read of some link ends in a failure;
+    // of one link, whose report is written as it is read, unless a write failed before.
     ensures receive_linked { (addresses : List Address) → (rules : Rules)
         → AsksFor (Command.Receive addresses rules) (map string_bytes words.now) → result.code ≢ 1
-        → Docked (D.tells dock.old) (D.tells dock.new)
+        → (IsLive addresses → result.code ≢ 5) → Docked (D.tells dock.old) (D.tells dock.new)
         (λ told. (result.code ≡ 6) ↔ FailsSome rules told addresses) }
 
     // Where no link and no write failed, the report of each link is written, in the order of the

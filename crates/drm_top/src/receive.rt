@@ -8,17 +8,18 @@ ghost use Rattle.drm_top.specs.Terms.{AreListed};
 ghost use Rattle.drm_top.specs.Receive.{ReceiveRun, Docked};
 ghost use Rattle.mod_receiver.specs.Jobs.{IsJob, AreJobs};
 ghost use Rattle.drm_top.specs.Opening.{HaveLinks, AreFresh, FailsOpening, EndsOpening};
-ghost use Rattle.drm_top.specs.Stopping.{ending_of};
+ghost use Rattle.drm_top.specs.Stopping.{ending_of, ending_live};
 
 use drm_faults::Fault;
 use drm_links::{Address, Dock, Link, Opened, Sink};
 use drm_words::Addresses;
-use mod_receiver::{Job, Rules, Stop, job_for, reports_follow, run_all, settle};
+use mod_receiver::{Ended, Job, Rules, Stop, job_for, reports_follow, run_all, run_live, settle};
 use std::alloc::Global;
 use std::thread::Threads;
 
-/// Opens a link at each address, reads each until it has read enough, in threads of their own, and writes their reports in
-/// the order of the addresses. Answers whether no frame is missing or bad.
+/// Opens a link at each address and reads each until it has read enough. The report of one link is written as it is read;
+/// several are read in threads of their own, and their reports written at the end, in the order of the addresses. Answers
+/// whether no frame is missing or bad.
 pub(crate) fn receive<R: Threads + Sync, D: Dock, O: Sink>(
     rt: &R,
     alloc: Global,
@@ -36,6 +37,9 @@ where
 {
     reports_follow();
     let mut jobs = open_all(alloc, rules, addresses, dock)?;
+    if addresses.len() == 1 {
+        return live_ending(run_live(alloc, &mut jobs[0], out));
+    }
     run_all(rt, alloc, jobs.as_mut_slice());
     ending(settle(jobs.as_slice(), out))
 }
@@ -94,6 +98,18 @@ fn open_one<D: Dock>(
     match dock.bind(at) {
         Opened::Link(link) => Ok(job_for(alloc, rules, feed, link)?),
         Opened::Failed => Err(Fault::Link),
+    }
+}
+
+// How a run ends whose one receiver ends so.
+fn live_ending(ended: Ended) -> Result<bool, Fault>
+    ensures { result ≡ ending_live ended }
+{
+    match ended {
+        Ended::Done { clean } => Ok(clean),
+        Ended::LinkFailed => Err(Fault::Link),
+        Ended::WriteFailed => Err(Fault::Write),
+        Ended::NoMemory => Err(Fault::NoMemory),
     }
 }
 

@@ -228,8 +228,9 @@ returns-in-Ok-true-clause-receive g c = λ addresses rules words free.
     (Ok c.in-Ok-true.field-0, sym (ap clean_status c.in-Ok-true.field-0-test), run.0, run.1, run.2, refl)
 
 pub returns-in-Ok-true-clause-receive_linked : goal.returns-in-Ok-true-clause-receive_linked
-returns-in-Ok-true-clause-receive_linked g c = λ addresses rules words free.
-    rw c.in-Ok-true.field-0-test at (linked _ _ _ _ _ _ _ _ _ _ _ (Ok c.in-Ok-true.field-0) (c.in-Ok-true.ensures.runs (commands.Receive addresses rules) words (λ e. cc)).0 (λ one. free (sym (ap clean_status c.in-Ok-true.field-0-test) ∙ one)))
+returns-in-Ok-true-clause-receive_linked g c = λ addresses rules words free unless.
+    rw c.in-Ok-true.field-0-test at (linked _ _ _ _ _ _ _ _ _ _ _ (Ok c.in-Ok-true.field-0) (c.in-Ok-true.ensures.runs (commands.Receive addresses rules) words (λ e. cc)).0 (λ one. free (sym (ap clean_status c.in-Ok-true.field-0-test) ∙ one))
+    (λ live five. unless live (sym (ap clean_status c.in-Ok-true.field-0-test) ∙ five)))
 
 pub returns-in-Ok-true-clause-receive_complete : goal.returns-in-Ok-true-clause-receive_complete
 returns-in-Ok-true-clause-receive_complete g c = λ addresses rules words free no_write.
@@ -266,8 +267,9 @@ returns-in-Ok-false-clause-receive g c = λ addresses rules words free.
     (Ok c.in-Ok-false.field-0, sym (ap clean_status c.in-Ok-false.field-0-test), run.0, run.1, run.2, refl)
 
 pub returns-in-Ok-false-clause-receive_linked : goal.returns-in-Ok-false-clause-receive_linked
-returns-in-Ok-false-clause-receive_linked g c = λ addresses rules words free.
-    rw c.in-Ok-false.field-0-test at (linked _ _ _ _ _ _ _ _ _ _ _ (Ok c.in-Ok-false.field-0) (c.in-Ok-false.ensures.runs (commands.Receive addresses rules) words (λ e. cc)).0 (λ one. free (sym (ap clean_status c.in-Ok-false.field-0-test) ∙ one)))
+returns-in-Ok-false-clause-receive_linked g c = λ addresses rules words free unless.
+    rw c.in-Ok-false.field-0-test at (linked _ _ _ _ _ _ _ _ _ _ _ (Ok c.in-Ok-false.field-0) (c.in-Ok-false.ensures.runs (commands.Receive addresses rules) words (λ e. cc)).0 (λ one. free (sym (ap clean_status c.in-Ok-false.field-0-test) ∙ one))
+    (λ live five. unless live (sym (ap clean_status c.in-Ok-false.field-0-test) ∙ five)))
 
 pub returns-in-Ok-false-clause-receive_complete : goal.returns-in-Ok-false-clause-receive_complete
 returns-in-Ok-false-clause-receive_complete g c = λ addresses rules words free no_write.
@@ -304,8 +306,9 @@ returns-in-Err-clause-receive g c = λ addresses rules words free.
     ((Err c.in-Err.fault), c.report.ensures.status, run.0, run.1, run.2, c.report.ensures.line)
 
 pub returns-in-Err-clause-receive_linked : goal.returns-in-Err-clause-receive_linked
-returns-in-Err-clause-receive_linked g c = λ addresses rules words free.
-    rw c.report.ensures.status (linked _ _ _ _ _ _ _ _ _ _ _ (Err c.in-Err.fault) (c.in-Err.ensures.runs (commands.Receive addresses rules) words (free_of_memory c.in-Err.fault c.report.result.code c.report.ensures.status free)).0 (λ one. free (c.report.ensures.status ∙ one)))
+returns-in-Err-clause-receive_linked g c = λ addresses rules words free unless.
+    rw c.report.ensures.status (linked _ _ _ _ _ _ _ _ _ _ _ (Err c.in-Err.fault) (c.in-Err.ensures.runs (commands.Receive addresses rules) words (free_of_memory c.in-Err.fault c.report.result.code c.report.ensures.status free)).0 (λ one. free (c.report.ensures.status ∙ one))
+    (λ live five. unless live (c.report.ensures.status ∙ five)))
 
 pub returns-in-Err-clause-receive_complete : goal.returns-in-Err-clause-receive_complete
 returns-in-Err-clause-receive_complete g c = λ addresses rules words free no_write.

@@ -3,7 +3,11 @@ use Rattle.std.proofs.lemmas.Result.{err_from_is_err_and}
 use Rattle.mod_receiver.specs.declared.job.Job.{Job}
 use Rattle.mod_receiver.specs.Jobs.{HasEnded}
 use Rattle.mod_receiver.specs.Settling.{Settles}
+use Rattle.mod_receiver.specs.Jobs.{IsReady}
+use Rattle.mod_receiver.proofs.JobLemmas.{jobs_ready}
+use Rattle.std.specs.List.{All}
 use Rattle.drm_top.proofs.ReceiveLemmas.{Ran, settled_run, opening_failed, written_back}
+use Rattle.drm_top.proofs.LiveLemmas.{only_run}
 use Rattle.drm_top.proofs.receive.receive.Goals as goal
 
 pub returns-in_err-jobs : goal.returns-in_err-jobs
@@ -32,5 +36,22 @@ returns g c =
       run = rw c.ending.ensures
           (settled_run g.D.L.Link.faults g.D.L.Link.tells c.args.rules.now c.requires.rules c.reports_follow.ensures.headlines c.reports_follow.ensures.completes c.args.addresses.now before after ran
           c.settle.result g.D.Dock.faults g.D.Dock.tells c.args.dock.now c.open_all.new.dock g.O.Sink.faults g.O.Sink.tells c.args.out.now c.settle.new.out
-          c.in_ok-jobs.ensures.fresh c.in_ok-jobs.ensures.links c.in_ok-jobs.ensures.unsent c.in_ok-jobs.ensures.cause.later settled c.settle.ensures.cause);
+          c.in_ok-jobs.ensures.fresh c.in_ok-jobs.ensures.links c.in_ok-jobs.ensures.unsent c.in_ok-jobs.ensures.cause.later (λ one. c.if-len-eq1.false (c.len.ensures ∙ one)) settled c.settle.ensures.cause);
     }
+
+pub returns-then-len-eq1 : goal.returns-then-len-eq1
+returns-then-len-eq1 g c =
+    let jobs : List (Job g.row.D-L.Denot) = c.in_ok-jobs.jobs.items in
+    record {
+      run = rw c.live_ending.ensures
+          (only_run c.args.rules.now c.requires.rules c.reports_follow.ensures.headlines c.reports_follow.ensures.completes c.args.addresses.now jobs c.index_mut.result.now c.run_live.new.job c.run_live.result
+          g.D.Dock.faults g.D.Dock.tells c.args.dock.now c.open_all.new.dock g.D.L.Link.faults g.D.L.Link.tells g.O.Sink.faults g.O.Sink.tells c.args.out.now c.run_live.new.out
+          (sym c.len.ensures ∙ c.if-len-eq1.true) (sym c.index_mut.ensures.value) c.in_ok-jobs.ensures.jobs c.in_ok-jobs.ensures.fresh c.in_ok-jobs.ensures.links
+          c.in_ok-jobs.ensures.unsent c.in_ok-jobs.ensures.cause.later c.run_live.ensures.ended c.run_live.ensures.memory c.run_live.ensures.link c.run_live.ensures.write);
+    }
+
+pub run_all-requires-after_bounds : goal.run_all-requires-after_bounds
+run_all-requires-after_bounds g c = λ lifetimes within.
+    let jobs : List (Job g.row.D-L.Denot) = c.in_ok-jobs.jobs.items in
+    subst (λ (xs : List (Job g.row.D-L.Denot)). All IsReady xs) (sym c.as_mut_slice.ensures.value)
+    (jobs_ready c.args.rules.now jobs (length c.args.addresses.now) c.requires.rules (ap length (sym c.as_mut_slice.ensures.value) ∙ c.as_mut_slice.ensures.len ∙ c.in_ok-jobs.ensures.many) c.in_ok-jobs.ensures.jobs)
