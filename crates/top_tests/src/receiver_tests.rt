@@ -88,6 +88,13 @@ fn stops_where_the_outside_fails(rt: HostRuntime) -> Result<(), Fail> {
             ended: Ended::WriteFailed,
             text: "",
         },
+        // The first line goes out in three calls, and each item in one.
+        Case {
+            link: &[],
+            sink: &[4],
+            ended: Ended::WriteFailed,
+            text: "feed 1\nbad 0 mdi absent:*ptr\n",
+        },
     ];
     for case in cases {
         receives(&rt, case)?;
