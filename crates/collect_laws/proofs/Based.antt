@@ -54,4 +54,4 @@ number_is carriage packets sequence0 window base c pairs pair rest incoming h b 
     = subst (λ x. (pos (unwrap_or c.first x) +ℤ number base pair) ≡ (pos x +ℤ (k.0 *ℤ pos 65536))) (sym s) k.1 in
     nearest_is (unwrap_or c.first incoming.sequence) (unwrap_or c.newest 0) incoming.sequence (number base pair) k.0 e
     (subst (λ m. number base pair <ℤ (pos (unwrap_or m 0) +ℤ pos 32768)) (sym h.newest_is) span.0)
-    (subst (λ m. pos (unwrap_or m 0) <ℤ (number base pair +ℤ pos 32768)) (sym h.newest_is) span.1)
+    (let near : pos (unwrap_or c.newest 0) <ℤ (number base pair +ℤ pos 32768) = subst (λ m. pos (unwrap_or m 0) <ℤ (number base pair +ℤ pos 32768)) (sym h.newest_is) span.1 in omega (arith, ints, near))

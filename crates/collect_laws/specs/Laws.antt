@@ -1,18 +1,34 @@
 -- The laws of collecting.
-use Rattle.std.specs.Prelude.{ℕ, ℤ, pos, ◌+ℤ◌, ◌≡◌, ◌+◌, ◌≤◌, List, ◌++◌, length, Option, None, Some}
+use Rattle.std.specs.Prelude.{ℕ, ℤ, pos, ◌+ℤ◌, ◌*ℤ◌, ◌<ℤ◌, ◌≡◌, ◌+◌, ◌≤◌, List, ◌++◌, length, Option, None, Some}
 use Rattle.std.specs.List.{AllByRecursion}
 use Rattle.drm_bits.specs.Bits.{IsBytes}
 use Rattle.dcp_pft.specs.Loss.{size}
 use Rattle.dcp_collect.specs.declared.taken.Taken.{Taken}
 use Rattle.dcp_collect.specs.declared.taken.Taken.TheVariants.{Kept, Repeated, Late}
 use Rattle.dcp_collect.specs.Reading.{Read, IsRead}
-use Rattle.dcp_collect.specs.State.{State}
+use Rattle.dcp_collect.specs.State.{State, nearest}
 use Rattle.dcp_collect.specs.Runs.{Item, Packet, Gives, Steps, Run}
 use Rattle.collect_laws.specs.Delivery.{Carriage, shape_under, losses, AreSent, AreDelivered, packet_at, got, item, items, IsWithinSpan, IsBase}
 
 -- a datagram is read as one thing
 abbrev pub OneReading : Type 0
 OneReading = (bytes : List ℕ) (first second : Read) → IsRead first bytes → IsRead second bytes → second ≡ first
+
+-- The number n has this sequence number, where `first` is that of number 0.
+abbrev pub HasSequence : ℕ → ℕ → ℤ → Type 0
+HasSequence first sequence n = (turns : ℤ) × ((pos first +ℤ n) ≡ (pos sequence +ℤ (turns *ℤ pos 65536)))
+
+-- n lies from 32,768 below the reference to 32,767 above
+abbrev pub IsNear : ℕ → ℤ → Type 0
+IsNear reference n = (n <ℤ (pos reference +ℤ pos 32768)) × (pos reference <ℤ (n +ℤ pos 32769))
+
+-- Of all numbers with a sequence number one lies near the reference, and that is the number of a datagram with it.
+abbrev pub OneNearest : Type 0
+OneNearest =
+    (first reference sequence : ℕ)
+    → HasSequence first sequence (nearest first reference sequence)
+    × IsNear reference (nearest first reference sequence)
+    × ((n : ℤ) → HasSequence first sequence n → IsNear reference n → n ≡ nearest first reference sequence)
 
 -- the datagram was neither refused nor inconsistent
 abbrev pub IsRight : Taken → Type 0

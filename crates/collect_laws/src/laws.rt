@@ -1,10 +1,15 @@
 //! The laws of collecting, each on a function that does nothing.
 
-ghost use Rattle.collect_laws.specs.Laws.{OneReading, Collecting, InTime, OneRun, OneGiving, StepsJoin, StepsPart, StepsCount, GivingEnds};
+ghost use Rattle.collect_laws.specs.Laws.{OneNearest, OneReading, Collecting, InTime, OneRun, OneGiving, StepsJoin, StepsPart, StepsCount, GivingEnds};
 
 /// A datagram is read as one thing.
 pub fn one_reading()
     ensures { OneReading }
+{}
+
+/// A sequence number has one number near the newest.
+pub fn one_nearest()
+    ensures { OneNearest }
 {}
 
 /// Every run gives the items of its delivery, each once and in order.
