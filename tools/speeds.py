@@ -3,10 +3,12 @@
 
     tools/speeds.py PROGRAM [--super-frames N] [--rounds N]
 
-PROGRAM is crates/drmcast/out/drmcast. The schedule has packets of 4,090 bytes; in the first of each three a block comes on top.
-A row has the bytes of the datagrams that were served, or that came, the best time of the rounds, the rate, and the most memory
-that the process held. `air` serves and receives in one process, so a receiver alone is faster than its row says. The last rows
-are a session over the loopback, at an even pace, of two lengths. MB is 10^6 bytes.
+PROGRAM is crates/drmcast/out/drmcast. The schedule has packets of 4,090 bytes; in the first of each three a block comes on top. Its
+stream is one byte again and again, and in the rows that say so 4 MB of a file, the most that a schedule reads.
+A row has the bytes of the datagrams that were served, or that came, the best time of the rounds and the rate. `air` serves and
+receives in one process; the row behind it is what is left of its time without that of `serve` for the same datagrams. The last
+rows are sessions over the loopback, at an even pace, of two lengths, with the most memory that the receiver held, by GNU time
+(in Debian the package `time`). MB is 10^6 bytes.
 """
 import argparse
 import os
@@ -20,7 +22,10 @@ import tempfile
 import time
 
 STREAM = 4004
+# A stream's file has so many bytes at the most.
+MOST_FILE = 4_194_304
 MOST_SCRIPT = 262_144
+MOST_DELIVERIES = 100_000
 ADDRESS = "127.0.0.1:50123"
 
 PLAN = """drmplan 1
@@ -36,10 +41,14 @@ sdc 0
 protection 0 1
 room 32
 service 123456 0 0 5 audio 3 0
-stream 0 {stream} file audio.bin
+stream 0 {stream} {content}
 audio 0 0 0 1 0 3 0 0 0
 label 0 Radio Nord
 """
+
+
+def schedule(carry, length, content="fill 55"):
+    return PLAN.format(carry=carry, length=length, stream=STREAM, content=content)
 
 
 def datagrams(capture):
@@ -67,100 +76,99 @@ def pcap(path, wanted):
 
 
 def timed(words, folder, out=os.devnull, rounds=1):
-    """The best time of a command, the most memory that it held in MiB, and its status."""
-    best = None
+    """The best time of a command, and its last status."""
+    best, status = None, None
     for _ in range(rounds):
         with open(f"{folder}/{out}" if out != os.devnull else out, "wb") as sink:
             start = time.perf_counter()
-            process = subprocess.Popen(words, cwd=folder, stdout=sink, stderr=subprocess.DEVNULL)
-            _, status, usage = os.wait4(process.pid, 0)
+            status = subprocess.run(words, cwd=folder, stdout=sink, stderr=subprocess.DEVNULL).returncode
             took = time.perf_counter() - start
         best = took if best is None else min(best, took)
-    return best, usage.ru_maxrss / 1024, os.waitstatus_to_exitcode(status)
+    return best, status
 
 
-def row(what, size, took, memory):
-    print(f"| {what} | {size / 1e6:.1f} | {took:.2f} | {size / took / 1e6:.1f} | {memory:.1f} |", flush=True)
+def row(what, size, took):
+    print(f"| {what} | {size / 1e6:.1f} | {took:.2f} | {size / took / 1e6:.1f} |", flush=True)
 
 
-def lossy(folder, name, lost, most):
-    """A script that loses the first fragments of each packet, and what is left of the capture. As many packets as fit."""
-    lines, left, packet = ["feed"], [], -1
-    room = MOST_SCRIPT - len("feed\n")
+def chosen(folder, name, lost, most):
+    """A script that loses the first fragments of each packet, what is left of the capture, and of how many packets. As many
+    packets as a script may deliver, and as its text may name where fragments are lost."""
     with open(f"{folder}/{name}.capture", "rb") as capture:
         parts = list(datagrams(capture.read()))
+    lines, left, packets = [], [], 0
+    room = MOST_SCRIPT - len("feed\n")
     for datagram, count, index in parts:
-        packet += index == 0
-        if packet == most:
-            break
-        line = f"take {packet} {index}"
-        if index >= lost:
-            room -= len(line) + 1
-            if room < 0:
+        if index == 0:
+            lines_of_packet = [f"take {packets} {i}" for i in range(lost, count)]
+            room -= sum(len(line) + 1 for line in lines_of_packet) if lost else 0
+            if room < 0 or packets == most or len(left) + count > MOST_DELIVERIES:
                 break
-            lines.append(line)
+            lines += lines_of_packet
+            packets += 1
+        if index >= lost:
             left.append(datagram)
-    with open(f"{folder}/{name}.{lost}.script", "w") as script:
-        script.write("\n".join(lines) + "\n")
-    return f"{name}.{lost}.script", left
+    if not lost:
+        lines = [f"packets 0 {packets - 1}"]
+    script = f"{name}.{lost}.script"
+    pathlib.Path(folder, script).write_text("\n".join(["feed"] + lines) + "\n")
+    return script, left, packets
 
 
-def tshark(folder, name, wanted, rounds):
-    """The best time in which tshark puts the packets together and checks them; how many had a right check value."""
+def tshark(folder, name, wanted):
+    """The time in which tshark puts the packets together and compares their check values."""
     pcap(f"{folder}/{name}.pcap", wanted)
     words = ["tshark", "-n", "-r", f"{name}.pcap", "-Y", "dcp-af.crc_ok", "-T", "fields", "-e", "dcp-af.crc_ok"]
-    took, memory, _ = timed(words, folder, "tshark.txt", rounds)
-    return took, memory
+    return timed(words, folder, "tshark.txt")[0]
 
 
 def session(program, folder, frames):
-    """A receiver over the loopback, with a server that sends a frame every two milliseconds."""
-    words = [program, "receive", ADDRESS, "--first", "0", "--frames", str(frames)]
+    """A receiver over the loopback, with a server that sends a frame every two milliseconds: its last line and its memory."""
+    pathlib.Path(folder, "session.plan").write_text(schedule("pft 2 1400", frames // 3))
+    words = ["time", "-f", "%M", "-o", "memory", program, "receive", ADDRESS, "--first", "0", "--frames", str(frames)]
     with open(f"{folder}/report", "wb") as report:
-        start = time.perf_counter()
-        process = subprocess.Popen(words, cwd=folder, stdout=report)
+        receiver = subprocess.Popen(words, cwd=folder, stdout=report)
         time.sleep(0.3)
-        plan = f"{frames}.plan"
-        with open(f"{folder}/{plan}", "w") as text:
-            text.write(PLAN.format(carry="pft 2 1400", length=frames // 3, stream=STREAM).replace("file audio.bin", "fill 55"))
-        subprocess.run([program, "serve", plan, "--to", ADDRESS, "--pace", "2"], cwd=folder, check=True)
-        _, status, usage = os.wait4(process.pid, 0)
-    given = pathlib.Path(folder, "report").read_text().splitlines()[-1]
-    print(f"| a session of {frames:,} frames over UDP: `{given}` | | {time.perf_counter() - start:.2f} | | {usage.ru_maxrss / 1024:.1f} |")
+        subprocess.run([program, "serve", "session.plan", "--to", ADDRESS, "--pace", "2"], cwd=folder, check=True)
+        receiver.wait()
+    last = pathlib.Path(folder, "report").read_text().splitlines()[-1]
+    memory = int(pathlib.Path(folder, "memory").read_text().split()[-1]) / 1024
+    print(f"| a receiver of {frames:,} frames over UDP holds {memory:.1f} MiB: `{last}` | | | |", flush=True)
 
 
 def main():
     words = argparse.ArgumentParser(description=__doc__, formatter_class=argparse.RawDescriptionHelpFormatter)
     words.add_argument("program")
-    words.add_argument("--super-frames", type=int, default=600)
+    words.add_argument("--super-frames", type=int, default=2000)
     words.add_argument("--rounds", type=int, default=3)
     given = words.parse_args()
     program, length, rounds = os.path.abspath(given.program), given.super_frames, given.rounds
     beside = shutil.which("tshark") is not None
     with tempfile.TemporaryDirectory() as folder:
-        pathlib.Path(folder, "audio.bin").write_bytes(random.Random(1).randbytes(STREAM * 3 * length))
-        print("| what | MB of datagrams | seconds | MB/s | MiB held |\n|---|---|---|---|---|")
-        for name, carry in (("plain", "plain"), ("pft 0", "pft 0 1400"), ("pft 2", "pft 2 1400"), ("pft 5", "pft 5 1400")):
-            pathlib.Path(folder, f"{name}.plan").write_text(PLAN.format(carry=carry, length=length, stream=STREAM))
-            took, memory, status = timed([program, "serve", f"{name}.plan"], folder, f"{name}.capture", rounds)
-            if status:
-                sys.exit(f"serve ended with {status}")
-            row(f"`serve` under `{name}`, to a file", os.path.getsize(f"{folder}/{name}.capture"), took, memory)
-        pathlib.Path(folder, "all.script").write_text(f"feed\npackets 0 {3 * length - 1}\n")
+        print("| what | MB of datagrams | seconds | MB/s |\n|---|---|---|---|")
+        from_file = MOST_FILE // (3 * STREAM)
+        pathlib.Path(folder, "audio.bin").write_bytes(random.Random(1).randbytes(STREAM * 3 * from_file))
+        alone = {}
+        for name in ("plain", "pft 0", "pft 2", "pft 5"):
+            carry = name if name == "plain" else f"{name} 1400"
+            for kind, text in (("", schedule(carry, length)), (" from a file", schedule(carry, from_file, "file audio.bin"))):
+                pathlib.Path(folder, f"{name}{kind}.plan").write_text(text)
+                took, status = timed([program, "serve", f"{name}{kind}.plan"], folder, f"{name}{kind}.capture", rounds)
+                if status:
+                    sys.exit(f"serve ended with {status}")
+                alone[name + kind] = took
+                row(f"`serve` under `{name}`{kind}, to a file", os.path.getsize(f"{folder}/{name}{kind}.capture"), took)
         for name, lost in (("plain", 0), ("pft 2", 0), ("pft 2", 2), ("pft 5", 0), ("pft 5", 5)):
-            if lost:
-                script, left = lossy(folder, name, lost, 3 * length)
-            else:
-                script = "all.script"
-                with open(f"{folder}/{name}.capture", "rb") as capture:
-                    left = [datagram for datagram, _, _ in datagrams(capture.read())]
+            script, left, packets = chosen(folder, name, lost, 3 * length)
             size = sum(map(len, left))
-            took, memory, _ = timed([program, "air", f"{name}.plan", script], folder, "report", rounds)
+            took, status = timed([program, "air", f"{name}.plan", script], folder, "report", rounds)
+            if status not in (0, 7):
+                sys.exit(f"air ended with {status}")
             how = f"{lost} of each packet's fragments lost" if lost else "nothing lost"
-            row(f"`air` under `{name}`, {how}", size, took, memory)
+            row(f"`air` under `{name}`, {how}", size, took)
+            row("receiving alone", size, took - alone[name] * packets / (3 * length))
             if beside and name != "plain":
-                took, memory = tshark(folder, name, left, 1)
-                row(f"tshark on these datagrams", size, took, memory)
+                row("tshark on these datagrams", size, tshark(folder, name, left))
         for frames in (300, 3000):
             session(program, folder, frames)
     if not beside:

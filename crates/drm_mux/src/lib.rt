@@ -13,4 +13,4 @@ pub use fault::MuxFault;
 pub use frame::{Spans, frame_len};
 pub use sdci::{read_sdci, write_sdci};
 pub use splitting::split;
-pub use streams::{assemble, check_streams, locate};
+pub use streams::{assemble, check_streams, locate, range};

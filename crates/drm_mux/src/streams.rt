@@ -102,8 +102,9 @@ pub fn locate(desc: &MuxDesc, spans: &Spans, place: usize) -> usize
     unreachable!()
 }
 
-// Where one of the eight parts begins, and its length: four parts A, then four parts B.
-fn range(desc: &MuxDesc, spans: &Spans, index: usize) -> (usize, usize)
+/// Where one of the eight parts of the multiplex frame begins in the buffer of the streams, and its length in bytes: the four
+/// parts A, and then the four parts B.
+pub fn range(desc: &MuxDesc, spans: &Spans, index: usize) -> (usize, usize)
     requires index { index < 8 }
     requires description { IsDescription desc.now }
     requires lengths { HaveTheirLengths desc.now spans.now }

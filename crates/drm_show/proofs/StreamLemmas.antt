@@ -1,11 +1,11 @@
--- The multiplex frame has as many bytes as are described, and is written byte by byte.
-use Rattle.std.proofs.Common.{◌≡◌, ℕ, suc, ◌+◌, ◌<◌, ◌≤◌, List, [], ◌∷◌, ◌++◌, length, take, drop, get_or, Option, Result, OnOk, OnErr, refl, sym, ◌∙◌, ap, append-nil, arith, length-append, length-drop}
+-- The multiplex frame has as many bytes as are described, and is written part by part.
+use Rattle.std.proofs.Common.{◌≡◌, ℕ, suc, ◌+◌, ◌-◌, ◌<◌, ◌≤◌, List, [], ◌∷◌, ◌++◌, length, take, drop, get_or, Option, Result, OnOk, OnErr, refl, sym, ◌∙◌, ap, append-nil, arith, length-append, length-drop}
 use Rattle.std.specs.Prelude.{codes}
 use Rattle.std.specs.List.{sum_by, flat_map}
 use Rattle.std.proofs.lemmas.List.{length-take-le, take_all, take_more}
 use Rattle.std.proofs.lemmas.List.Sums.{sum_by-cons}
 use Rattle.std.proofs.lemmas.Grind.{flat_map-append}
-use Rattle.hex.specs.Hex.{encode_lower}
+use Rattle.hex.specs.Hex.{encode_with, encode_lower}
 use Rattle.drm_bits.specs.Description.{IsDescription}
 use Rattle.drm_bits.specs.declared.description.Part.{Part}
 use Rattle.drm_bits.specs.declared.description.MuxDesc.{MuxDesc}
@@ -14,7 +14,7 @@ use Rattle.drm_links.proofs.ToldLemmas.{Outputs-then, Outputs-weaker}
 use Rattle.drm_mux.specs.declared.frame.Spans.{Spans}
 use Rattle.drm_mux.specs.Frame.{parts_a, parts_b, multiplex_frame, pieces, streams_in, part_length, frame_length, HaveTheirLengths, EndBy}
 use Rattle.drm_mux.proofs.PartLemmas.{no_part}
-use Rattle.drm_mux.proofs.RangeLemmas.{covers}
+use Rattle.drm_mux.proofs.RangeLemmas.{covers, cut, first_range}
 use Rattle.drm_show.specs.FrameLine.{bytes_text}
 use Rattle.text_pieces.proofs.TextLemmas.{encode_lower-is, front_of_next}
 
@@ -60,30 +60,18 @@ pub dash_front : {E : Type 0} (bytes : List ℕ) (a b : Option Output) (r : Resu
 dash_front [] a b r none written = written
 dash_front (x ∷ bytes) a b r none written = absurd (omega (arith, none))
 
--- one byte more
-pub byte_more : (bytes : List ℕ) (place byte : ℕ) (a b c : Option Output) → place < length bytes → byte ≡ get_or bytes place 0
-    → Outputs a b (λ text. text ≡ flat_map (λ x. encode_lower (x ∷ [])) (take place bytes)) → Outputs b c (λ text. text ≡ encode_lower (byte ∷ []))
-    → Outputs a c (λ text. text ≡ flat_map (λ x. encode_lower (x ∷ [])) (take (place + 1) bytes))
-byte_more bytes place byte a b c below is done more =
-    let f : ℕ → List ℕ = λ x. encode_lower (x ∷ []) in
-    let one : f byte ≡ flat_map f (get_or bytes place 0 ∷ []) = ap f is ∙ sym (append-nil (f (get_or bytes place 0))) in
-    let both : flat_map f (take (place + 1) bytes) ≡ flat_map f (take place bytes) ++ flat_map f (get_or bytes place 0 ∷ []) =
-    ap (λ l. flat_map f l) (take_more bytes place 0 below) ∙ flat_map-append f (take place bytes) (get_or bytes place 0 ∷ []) in
-    Outputs-then (λ text. text ≡ flat_map f (take place bytes)) (λ text. text ≡ f byte) (λ text. text ≡ flat_map f (take (place + 1) bytes)) a b c done more
-    (λ s t is_s is_t. ap (λ l. l ++ t) is_s ∙ (ap (λ l. flat_map f (take place bytes) ++ l) (is_t ∙ one) ∙ sym both))
+-- the part with an index, and those behind it
+pub one_part : (payload : List ℕ) (parts : List (ℕ × ℕ)) (index : ℕ) (part : ℕ × ℕ) → index < length parts → part ≡ get_or parts index (0, 0)
+    → take (part.0 + part.1 - part.0) (drop part.0 payload) ++ cut payload (drop (index + 1) parts) ≡ cut payload (drop index parts)
+one_part payload parts index part below is =
+    ap (λ (k : ℕ). take k (drop part.0 payload) ++ cut payload (drop (index + 1) parts)) (let e : part.0 + part.1 - part.0 ≡ part.1 = omega arith in e)
+    ∙ sym (ap (cut payload) (first_range parts index part below is))
 
--- a front of it
-pub byte_front : (bytes : List ℕ) (place byte : ℕ) (a b c : Option Output) → place < length bytes → byte ≡ get_or bytes place 0
-    → Outputs a b (λ text. text ≡ flat_map (λ x. encode_lower (x ∷ [])) (take place bytes)) → Outputs b c (IsFront (encode_lower (byte ∷ []))) → Outputs a c (IsFront (bytes_text bytes))
-byte_front bytes place byte a b c below is done front =
-    let f : ℕ → List ℕ = λ x. encode_lower (x ∷ []) in
-    let next : Outputs b c (IsFront (f (get_or bytes place 0))) = rw is at front in
-    rw (some_bytes bytes (omega (arith, below)), encode_lower-is bytes) (front_of_next f bytes place 0 below a b c done next)
-
--- all bytes
-pub all_bytes : (bytes : List ℕ) (place : ℕ) (a b : Option Output) → length bytes ≤ place → 0 < length bytes
-    → Outputs a b (λ text. text ≡ flat_map (λ x. encode_lower (x ∷ [])) (take place bytes)) → Outputs a b (λ text. text ≡ bytes_text bytes)
-all_bytes bytes place a b past some done =
-    let f : ℕ → List ℕ = λ x. encode_lower (x ∷ []) in
-    Outputs-weaker (λ text. text ≡ flat_map f (take place bytes)) (λ text. text ≡ bytes_text bytes) a b done
-    (λ text is. is ∙ (ap (λ l. flat_map f l) (take_all place bytes past) ∙ (sym (encode_lower-is bytes) ∙ sym (some_bytes bytes some))))
+-- the digits of all parts
+pub all_parts : (bytes rest : List ℕ) (a b : Option Output) → 0 < length bytes → rest ≡ []
+    → Outputs a b (λ text. text ++ encode_lower rest ≡ encode_lower bytes) → Outputs a b (λ text. text ≡ bytes_text bytes)
+unfolding encode_with
+all_parts bytes [] a b some none done =
+    Outputs-weaker (λ text. text ++ [] ≡ encode_lower bytes) (λ text. text ≡ bytes_text bytes) a b done
+    (λ text is. sym (append-nil text) ∙ (is ∙ sym (some_bytes bytes some)))
+all_parts bytes (x ∷ rest) a b some none done = cc

@@ -1,4 +1,4 @@
-//! The multiplex frame, written byte by byte out of the streams in the payload.
+//! The multiplex frame, written part by part out of the streams in the payload.
 
 ghost use Rattle.std.specs.Prelude.{◌≡◌, length, OnOk, OnErr, IsErr};
 ghost use Rattle.drm_bits.specs.Description.{IsDescription};
@@ -8,8 +8,8 @@ ghost use Rattle.drm_mux.specs.Frame.{multiplex_frame, streams_in, EndBy, HaveTh
 ghost use Rattle.drm_show.specs.FrameLine.{bytes_text};
 
 use drm_links::{Sink, WriteFault, write_all};
-use drm_mux::{MuxDesc, Spans, frame_len, locate};
-use text_pieces::write_byte;
+use drm_mux::{MuxDesc, Spans, frame_len, range};
+use text_pieces::write_hex;
 
 /// Writes the digits of the multiplex frame.
 pub(crate) fn write_streams<O: Sink>(
@@ -29,13 +29,12 @@ pub(crate) fn write_streams<O: Sink>(
 {
     // What is read of the streams tells how many there are.
     let _places = streams.at;
-    let len = frame_len(mux);
-    if len == 0 {
+    if frame_len(mux) == 0 {
         return write_all(out, b"-");
     }
-    for place in 0..len {
-        let at = locate(mux, streams, place);
-        write_byte(out, payload[at])?;
+    for index in 0..8 {
+        let (from, len) = range(mux, streams, index);
+        write_hex(out, &payload[from..from + len])?;
     }
     Ok(())
 }

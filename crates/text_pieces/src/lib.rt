@@ -4,5 +4,5 @@
 mod output;
 mod piece;
 
-pub use output::{write_byte, write_piece, write_pieces};
+pub use output::{write_hex, write_piece, write_pieces};
 pub use piece::Piece;

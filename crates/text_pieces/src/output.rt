@@ -1,6 +1,6 @@
 //! Texts in pieces to a sink.
 
-ghost use Rattle.std.specs.Prelude.{◌≡◌, [], ◌∷◌, OnOk, OnErr, IsErr};
+ghost use Rattle.std.specs.Prelude.{◌≡◌, ◌≤◌, length, OnOk, OnErr, IsErr};
 ghost use Rattle.hex.specs.Hex.{encode_lower};
 ghost use Rattle.drm_links.specs.Told.{HasCause};
 ghost use Rattle.drm_links.specs.Sink.{Outputs, IsFront};
@@ -9,6 +9,9 @@ ghost use Rattle.text_pieces.specs.Text.{piece_text, text_of};
 use crate::piece::Piece;
 use drm_links::{Sink, WriteFault, write_all};
 use itoa::Buffer;
+
+// The bytes whose digits are made at once.
+const AT_ONCE: usize = 64;
 
 /// Writes the texts of the pieces, one after another.
 pub fn write_pieces<O: Sink>(out: &mut O, pieces: &[Piece<'_>]) -> Result<(), WriteFault>
@@ -40,30 +43,36 @@ pub fn write_piece<O: Sink>(out: &mut O, piece: Piece<'_>) -> Result<(), WriteFa
     }
 }
 
-fn write_hex<O: Sink>(out: &mut O, bytes: &[u8]) -> Result<(), WriteFault>
+/// Writes bytes in hex, two digits each.
+pub fn write_hex<O: Sink>(out: &mut O, bytes: &[u8]) -> Result<(), WriteFault>
     ensures whole { OnOk result (Outputs (O.tells out.old) (O.tells out.new)
         (λ text. text ≡ encode_lower bytes.now)) }
     ensures front { OnErr result (Outputs (O.tells out.old) (O.tells out.new)
         (IsFront (encode_lower bytes.now))) }
     ensures cause { HasCause (O.faults out.old) (O.faults out.new) (IsErr result) }
 {
-    for byte in bytes {
-        write_byte(out, *byte)?;
+    let mut rest = bytes;
+    while !rest.is_empty() {
+        let (part, behind) = rest.split_at(rest.len().min(AT_ONCE));
+        write_digits(out, part)?;
+        rest = behind;
     }
     Ok(())
 }
 
-/// Writes the two digits of a byte.
-pub fn write_byte<O: Sink>(out: &mut O, byte: u8) -> Result<(), WriteFault>
+// Writes the digits of a few bytes in one call.
+fn write_digits<O: Sink>(out: &mut O, bytes: &[u8]) -> Result<(), WriteFault>
+    requires { length bytes.now ≤ 64 }
     ensures whole { OnOk result (Outputs (O.tells out.old) (O.tells out.new)
-        (λ text. text ≡ encode_lower (byte ∷ []))) }
+        (λ text. text ≡ encode_lower bytes.now)) }
     ensures front { OnErr result (Outputs (O.tells out.old) (O.tells out.new)
-        (IsFront (encode_lower (byte ∷ [])))) }
+        (IsFront (encode_lower bytes.now))) }
     ensures cause { HasCause (O.faults out.old) (O.faults out.new) (IsErr result) }
 {
-    let mut digits = [0; 2];
-    match hex::encode_to_slice([byte], &mut digits) {
-        Ok(()) => write_all(out, &digits),
+    let mut room = [0; 2 * AT_ONCE];
+    let digits = &mut room[..2 * bytes.len()];
+    match hex::encode_to_slice(bytes, digits) {
+        Ok(()) => write_all(out, digits),
         Err(_) => unreachable!(),
     }
 }

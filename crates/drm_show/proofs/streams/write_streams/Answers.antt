@@ -1,42 +1,80 @@
-use Rattle.std.proofs.Common.{get_or, arith}
+use Rattle.std.proofs.Common.{ℕ, List, [], ◌≡◌, ◌+◌, ◌-◌, ◌<◌, ◌++◌, drop, take, length, ap, sym, subst, ◌∙◌, arith}
+use Rattle.std.proofs.lemmas.List.{drop_all}
 use Rattle.std.proofs.lemmas.Result.{err_from_is_err_and}
+use Rattle.hex.specs.Hex.{encode_lower}
+use Rattle.drm_links.specs.Sink.{Outputs, IsFront}
+use Rattle.drm_links.proofs.ToldLemmas.{Outputs-nothing}
 use Rattle.drm_mux.specs.Frame.{multiplex_frame, streams_in}
-use Rattle.drm_show.proofs.StreamLemmas.{length-frame, dash_whole, dash_front, byte_more, byte_front, all_bytes}
+use Rattle.drm_mux.specs.Ranges.{ranges}
+use Rattle.drm_mux.proofs.RangeLemmas.{cut, frame_cut, first_range, length-ranges}
+use Rattle.text_pieces.proofs.TextLemmas.{digits_more, digits_front}
+use Rattle.drm_show.proofs.StreamLemmas.{length-frame, dash_whole, dash_front, some_bytes, one_part, all_parts}
 use Rattle.drm_show.proofs.streams.write_streams.Goals as goal
 
-pub returns-then-len-eq0-clause-whole : goal.returns-then-len-eq0-clause-whole
-returns-then-len-eq0-clause-whole g c =
+pub returns-then-frame_len-eq0-clause-whole : goal.returns-then-frame_len-eq0-clause-whole
+returns-then-frame_len-eq0-clause-whole g c =
     let long = length-frame c.args.mux.now c.args.streams.now c.args.payload.now (omega arith) (omega arith) c.requires.description c.requires.lengths c.requires.inside in
     dash_whole (multiplex_frame c.args.mux.now (streams_in c.args.payload.now c.args.streams.now)) (g.O.Sink.tells c.args.out.now) (g.O.Sink.tells c.write_all.new.out) c.write_all.result
-    (omega (arith, long, c.frame_len-len.ensures, c.if-len-eq0.true)) c.write_all.ensures.whole
+    (omega (arith, long, c.frame_len.ensures, c.if-frame_len-eq0.true)) c.write_all.ensures.whole
 
-pub returns-then-len-eq0-clause-front : goal.returns-then-len-eq0-clause-front
-returns-then-len-eq0-clause-front g c =
+pub returns-then-frame_len-eq0-clause-front : goal.returns-then-frame_len-eq0-clause-front
+returns-then-frame_len-eq0-clause-front g c =
     let long = length-frame c.args.mux.now c.args.streams.now c.args.payload.now (omega arith) (omega arith) c.requires.description c.requires.lengths c.requires.inside in
     dash_front (multiplex_frame c.args.mux.now (streams_in c.args.payload.now c.args.streams.now)) (g.O.Sink.tells c.args.out.now) (g.O.Sink.tells c.write_all.new.out) c.write_all.result
-    (omega (arith, long, c.frame_len-len.ensures, c.if-len-eq0.true)) c.write_all.ensures.front
+    (omega (arith, long, c.frame_len.ensures, c.if-frame_len-eq0.true)) c.write_all.ensures.front
 
-pub returns-in_err-write_byte-clause-front : goal.returns-in_err-write_byte-clause-front
-returns-in_err-write_byte-clause-front g c =
+pub loop-index-init : goal.loop-index-init
+loop-index-init g c =
+    let payload : List ℕ = c.args.payload.now in
+    let frame : List ℕ = multiplex_frame c.args.mux.now (streams_in payload c.args.streams.now) in
+    let rs = ranges c.args.mux.now c.args.streams.now in
+    let is : frame ≡ cut payload rs = frame_cut c.args.mux.now c.args.streams.now payload (omega arith) (omega arith) c.requires.description c.requires.lengths in (
+      Outputs-nothing (g.O.Sink.tells c.args.out.now) (λ text. text ++ encode_lower (cut payload (drop 0 rs)) ≡ encode_lower frame) (ap (λ l. encode_lower l) (sym is)),
+      omega arith,
+    )
+
+pub returns-in_err-write_hex-clause-front : goal.returns-in_err-write_hex-clause-front
+returns-in_err-write_hex-clause-front g c =
     let p = err_from_is_err_and c.from_residual.result c.from_residual.ensures.1 in
     let long = length-frame c.args.mux.now c.args.streams.now c.args.payload.now (omega arith) (omega arith) c.requires.description c.requires.lengths c.requires.inside in
-    rw p.1 (byte_front (multiplex_frame c.args.mux.now (streams_in c.args.payload.now c.args.streams.now)) c.loop-place.place (get_or c.args.payload.now c.locate-at.result 0)
-    (g.O.Sink.tells c.args.out.now) (g.O.Sink.tells c.loop-place.out) (g.O.Sink.tells c.write_byte.new.out)
-    (omega (arith, long, c.frame_len-len.ensures, c.loop-place-test.true)) (c.locate-at.ensures.byte c.args.payload.now c.requires.inside)
-    c.loop-place.invariant.0 c.in_err-write_byte.ensures.front)
+    let payload : List ℕ = c.args.payload.now in
+    let frame : List ℕ = multiplex_frame c.args.mux.now (streams_in payload c.args.streams.now) in
+    let parts = ranges c.args.mux.now c.args.streams.now in
+    let a = g.O.Sink.tells c.args.out.now in
+    let b = g.O.Sink.tells c.loop-index.out in
+    let r = c.range-from.result in
+    let slice : List ℕ = take (r.0 + r.1 - r.0) (drop r.0 payload) in
+    let behind : List ℕ = cut payload (drop (c.loop-index.index + 1) parts) in
+    let below : c.loop-index.index < length parts = omega (arith, c.loop-index-test.true, length-ranges c.args.mux.now c.args.streams.now c.requires.description.size (omega arith)) in
+    let is : slice ++ behind ≡ cut payload (drop c.loop-index.index parts) = one_part payload parts c.loop-index.index r below c.range-from.ensures.range in
+    let done = subst (λ l. Outputs a b (λ text. text ++ encode_lower l ≡ encode_lower frame)) (sym is) c.loop-index.invariant.0 in
+    rw (p.1, some_bytes frame (omega (arith, long, c.frame_len.ensures, c.if-frame_len-eq0.false)))
+    (digits_front (encode_lower frame) slice behind a b (g.O.Sink.tells c.write_hex.new.out) done c.in_err-write_hex.ensures.front)
 
-pub loop-place-preserved : goal.loop-place-preserved
-loop-place-preserved g c =
-    let long = length-frame c.args.mux.now c.args.streams.now c.args.payload.now (omega arith) (omega arith) c.requires.description c.requires.lengths c.requires.inside in (
-      byte_more (multiplex_frame c.args.mux.now (streams_in c.args.payload.now c.args.streams.now)) c.loop-place.place (get_or c.args.payload.now c.locate-at.result 0)
-          (g.O.Sink.tells c.args.out.now) (g.O.Sink.tells c.loop-place.out) (g.O.Sink.tells c.write_byte.new.out)
-          (omega (arith, long, c.frame_len-len.ensures, c.loop-place-test.true)) (c.locate-at.ensures.byte c.args.payload.now c.requires.inside)
-          c.loop-place.invariant.0 c.in_ok-write_byte.ensures.whole,
-      omega (arith, c.loop-place.invariant.1, c.write_byte.ensures.cause.later),
+pub loop-index-preserved : goal.loop-index-preserved
+loop-index-preserved g c =
+    let payload : List ℕ = c.args.payload.now in
+    let frame : List ℕ = multiplex_frame c.args.mux.now (streams_in payload c.args.streams.now) in
+    let parts = ranges c.args.mux.now c.args.streams.now in
+    let a = g.O.Sink.tells c.args.out.now in
+    let b = g.O.Sink.tells c.loop-index.out in
+    let r = c.range-from.result in
+    let slice : List ℕ = take (r.0 + r.1 - r.0) (drop r.0 payload) in
+    let behind : List ℕ = cut payload (drop (c.loop-index.index + 1) parts) in
+    let below : c.loop-index.index < length parts = omega (arith, c.loop-index-test.true, length-ranges c.args.mux.now c.args.streams.now c.requires.description.size (omega arith)) in
+    let is : slice ++ behind ≡ cut payload (drop c.loop-index.index parts) = one_part payload parts c.loop-index.index r below c.range-from.ensures.range in
+    let done = subst (λ l. Outputs a b (λ text. text ++ encode_lower l ≡ encode_lower frame)) (sym is) c.loop-index.invariant.0 in (
+      digits_more (encode_lower frame) slice behind a b (g.O.Sink.tells c.write_hex.new.out) done c.in_ok-write_hex.ensures.whole,
+      omega (arith, c.loop-index.invariant.1, c.write_hex.ensures.cause.later),
     )
 
 pub returns-clause-whole : goal.returns-clause-whole
 returns-clause-whole g c =
-    let long = length-frame c.args.mux.now c.args.streams.now c.args.payload.now (omega arith) (omega arith) c.requires.description c.requires.lengths c.requires.inside in
-    all_bytes (multiplex_frame c.args.mux.now (streams_in c.args.payload.now c.args.streams.now)) c.loop-place.place (g.O.Sink.tells c.args.out.now) (g.O.Sink.tells c.loop-place.out)
-    (omega (arith, long, c.frame_len-len.ensures, c.loop-place-test.false)) (omega (arith, long, c.frame_len-len.ensures, c.if-len-eq0.false)) c.loop-place.invariant.0
+    let payload : List ℕ = c.args.payload.now in
+    let frame : List ℕ = multiplex_frame c.args.mux.now (streams_in payload c.args.streams.now) in
+    let rs = ranges c.args.mux.now c.args.streams.now in
+    let long = length-frame c.args.mux.now c.args.streams.now payload (omega arith) (omega arith) c.requires.description c.requires.lengths c.requires.inside in
+    let none : drop c.loop-index.index rs ≡ [] =
+    drop_all c.loop-index.index rs (omega (arith, c.loop-index-test.false, length-ranges c.args.mux.now c.args.streams.now c.requires.description.size (omega arith))) in
+    all_parts frame (cut payload (drop c.loop-index.index rs)) (g.O.Sink.tells c.args.out.now) (g.O.Sink.tells c.loop-index.out)
+    (omega (arith, long, c.frame_len.ensures, c.if-frame_len-eq0.false)) (ap (cut payload) none) c.loop-index.invariant.0

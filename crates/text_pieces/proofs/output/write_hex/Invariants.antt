@@ -1,11 +1,13 @@
-use Rattle.std.proofs.Common.{◌≡◌, ◌≤◌, [], ◌∷◌, take}
-use Rattle.std.specs.List.{flat_map}
+use Rattle.std.proofs.Common.{◌≡◌, ◌++◌, ◌≤◌, length}
 use Rattle.hex.specs.Hex.{encode_lower}
 use Rattle.drm_links.specs.Sink.{Outputs}
 use Rattle.text_pieces.proofs.output.write_hex.Given as goal
 
--- the digits of the bytes before this one were written
-abbrev pub invariant-loop-byte : goal.invariant-loop-byte
-invariant-loop-byte g l =
-    Outputs (g.O.Sink.tells l.fn.out) (g.O.Sink.tells l.out) (λ text. text ≡ flat_map (λ b. encode_lower (b ∷ [])) (take l.byte-index l.bytes))
+-- what was written so far, and the digits of the rest, are those of the bytes
+abbrev pub invariant-loop-rest : goal.invariant-loop-rest
+invariant-loop-rest g l =
+    Outputs (g.O.Sink.tells l.fn.out) (g.O.Sink.tells l.out) (λ text. text ++ encode_lower l.rest ≡ encode_lower l.bytes)
     × (g.O.Sink.faults l.fn.out ≤ g.O.Sink.faults l.out)
+
+abbrev pub decreases-loop-rest : goal.decreases-loop-rest
+decreases-loop-rest g l = length l.rest
