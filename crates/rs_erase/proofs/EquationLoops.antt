@@ -1,6 +1,5 @@
 -- What the loops over the equations write and read, by their indices.
-use Rattle.std.proofs.Common.{[], All, List, ap, ap₂, arith, bit_xor, get_or, length, length-take, refl, subst, suc, sym, take, zero, ℕ, ◌+◌, ◌-◌, ◌<◌, ◌∙◌, ◌∷◌, ◌≡◌, ◌≤◌}
-use Rattle.std.proofs.lemmas.List.{ext_get_or, get_or-take}
+use Rattle.std.proofs.Common.{[], All, List, ap, ap₂, arith, bit_xor, get_or, length, refl, subst, suc, sym, zero, ℕ, ◌-◌, ◌<◌, ◌∙◌, ◌∷◌, ◌≡◌, ◌≤◌}
 use Rattle.std.proofs.lemmas.Nat.{xor_of_8}
 use Rattle.gf_field.proofs.Polynomial.{same_from_xor}
 use Rattle.gf_field.proofs.Times.{times-lt, times_assoc, times_comm, times_one}
@@ -10,26 +9,9 @@ use Rattle.rs_erase.specs.Equations.{AreLocators, IsNoneOf, Solves, SumsFrom, nt
 use Rattle.rs_erase.proofs.Elements.{cons_elements, elements_head, elements_tail}
 use Rattle.rs_erase.proofs.OnePlaceLess.{length-remaining_syndromes, rest_solves, whole_solves}
 
-pub remaining_syndromes_at : (x : ℕ) (s : List ℕ) (k : ℕ) → k + 1 < length s → get_or (remaining_syndromes x s) k 0 ≡ bit_xor (get_or s (k + 1) 0) (times x (get_or s k 0))
-remaining_syndromes_at x [] k lt = absurd (omega arith)
-remaining_syndromes_at x (a ∷ []) k lt = absurd (omega arith)
-remaining_syndromes_at x (a ∷ b ∷ s) zero lt = refl
-remaining_syndromes_at x (a ∷ b ∷ s) (suc k) lt =
-    remaining_syndromes_at x (b ∷ s) k (omega arith)
-    ∙ ap (λ (n : ℕ). bit_xor (get_or (a ∷ b ∷ s) n 0) (times x (get_or (b ∷ s) k 0))) (let e : suc (k + 1) ≡ suc k + 1 = omega arith in e)
-
 pub length_remaining_syndromes : (x : ℕ) (s : List ℕ) → length (remaining_syndromes x s) ≡ length s - 1
 length_remaining_syndromes x [] = refl
 length_remaining_syndromes x (a ∷ s) = let h = length-remaining_syndromes x a s in omega arith
-
-pub remaining_syndromes_by_index : (x : ℕ) (f s : List ℕ) → length s ≡ length f
-    → ((k : ℕ) → k + 1 < length f → get_or s k 0 ≡ bit_xor (get_or f (k + 1) 0) (times x (get_or f k 0)))
-    → take (length f - 1) s ≡ remaining_syndromes x f
-remaining_syndromes_by_index x f s len h =
-    let lr = length_remaining_syndromes x f in
-    let lt' : length (take (length f - 1) s) ≡ length f - 1 = omega (arith, length-take (length f - 1) s) in
-    ext_get_or 0 (take (length f - 1) s) (remaining_syndromes x f) (omega arith)
-    (λ k lt. get_or-take (length f - 1) s k 0 (omega arith) ∙ h k (omega arith) ∙ sym (remaining_syndromes_at x f k (omega arith)))
 
 pub apart_at : (y : ℕ) (xs : List ℕ) → IsNoneOf y xs → (k : ℕ) → k < length xs → bit_xor (get_or xs k 0) y ≡ 0 → ⊥
 apart_at y [] h k lt e = absurd (omega arith)

@@ -1,5 +1,5 @@
 -- Words with values added at places.
-use Rattle.std.proofs.Common.{[], List, ap, ap₂, arith, bit_xor, drop, get_or, get_or-set_other, get_or-set_same, inl, inr, length, refl, slice_set, subst, suc, sym, zero, ℕ, ◌+◌, ◌-◌, ◌<◌, ◌∙◌, ◌∷◌, ◌≡◌, ◌≢◌, ◌≤◌}
+use Rattle.std.proofs.Common.{[], List, ap, ap₂, arith, bit_xor, get_or, get_or-set_other, get_or-set_same, inl, inr, length, refl, slice_set, subst, suc, sym, zero, ℕ, ◌+◌, ◌-◌, ◌<◌, ◌∙◌, ◌∷◌, ◌≡◌, ◌≢◌, ◌≤◌}
 use Rattle.std.proofs.Math.ListN.{length-set}
 use Rattle.std.proofs.lemmas.Bool.{cases_eq}
 use Rattle.std.proofs.lemmas.List.{ext_get_or}
@@ -155,14 +155,3 @@ locators_by_index [] (x ∷ xs) le h = absurd (omega arith)
 locators_by_index (e ∷ es) [] le h = absurd (omega arith)
 locators_by_index (e ∷ es) (x ∷ xs) le h =
     ap₂ (λ (y : ℕ) (ys : List ℕ). y ∷ ys) (h 0 (omega arith)) (locators_by_index es xs (omega arith) (λ k lt. h (suc k) (omega arith)))
-
-pub word_with_step : (es vs w : List ℕ) (i : ℕ) → length vs ≡ length es → i < length es
-    → word_with (drop i es) (drop i vs) w
-    ≡ word_with (drop (i + 1) es) (drop (i + 1) vs) (slice_set w (get_or es i 0) (bit_xor (get_or w (get_or es i 0) 0) (get_or vs i 0)))
-word_with_step [] vs w i lv lt = absurd (omega arith)
-word_with_step (e ∷ es) [] w i lv lt = absurd (omega arith)
-word_with_step (e ∷ es) (v ∷ vs) w zero lv lt = refl
-word_with_step (e ∷ es) (v ∷ vs) w (suc i) lv lt =
-    word_with_step es vs w i (omega arith) (omega arith)
-    ∙ ap (λ (n : ℕ). word_with (drop n (e ∷ es)) (drop n (v ∷ vs)) (slice_set w (get_or es i 0) (bit_xor (get_or w (get_or es i 0) 0) (get_or vs i 0))))
-    (let q : suc (i + 1) ≡ suc i + 1 = omega arith in q)
