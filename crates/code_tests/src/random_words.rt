@@ -7,7 +7,7 @@ use rs_erase::{SolveFault, encode, solve, syndromes};
 use std::simd::prelude::*;
 
 /// How many words each test compares.
-const WORDS: u32 = 200;
+const WORDS: u32 = 1000;
 
 /// Pseudo-random numbers: Marsaglia's xorshift with the shifts 13, 7 and 17.
 #[derive(Drop)]
