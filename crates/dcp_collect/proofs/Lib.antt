@@ -15,7 +15,6 @@ pub mod SlotBytes
 pub mod SlotKeep
 pub mod SlotAnswers
 pub mod RowLemmas
-pub mod SlotMore
 pub mod RowChanges
 pub mod Telling
 pub mod SlotSolved

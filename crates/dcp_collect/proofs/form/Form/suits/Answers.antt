@@ -1,7 +1,7 @@
 use Rattle.std.proofs.Common.{◌∙◌, ap, sym}
 use Rattle.std.proofs.lemmas.Bool.{leb-true}
 use Rattle.dcp_collect.specs.Fragments.{agree}
-use Rattle.dcp_collect.proofs.SlotMore.{form_suits}
+use Rattle.dcp_collect.proofs.SlotForms.{form_suits}
 use Rattle.dcp_collect.proofs.form.Form.suits.Goals as goal
 
 pub returns-then-agrees_with : goal.returns-then-agrees_with
