@@ -10,7 +10,7 @@ use Rattle.drm_timeline.specs.Tracker.{new_tracker}
 use Rattle.dcp_collect.specs.declared.taken.Taken.{Taken}
 use Rattle.dcp_collect.specs.Reading.{Incoming, Read, Brings, IsRead}
 use Rattle.dcp_collect.specs.State.{State, made, answer, after_take, after_finish}
-use Rattle.dcp_collect.specs.Runs.{Item as Collected, Takes, Gives, Steps, Run}
+use Rattle.dcp_collect.specs.Runs.{Item as Collected, Takes, Steps, Run}
 use Rattle.collect_laws.specs.Delivery.{Carriage}
 use Rattle.collect_laws.specs.Laws.{IsRight, OneReading, StepsJoin, IsFit, GivingEnds}
 use Rattle.collect_laws.proofs.Fit.{fit_after, fit_given}

@@ -12,7 +12,7 @@ use Rattle.dcp_collect.specs.State.{State, made}
 use Rattle.mod_receiver.specs.Hearing.{AreNext, Heard}
 use Rattle.mod_receiver.specs.declared.rules.Rules.{Rules}
 use Rattle.mod_receiver.specs.Reading.{most_answers}
-use Rattle.mod_receiver.specs.Received.{Reported, Broken, Stopped, IsReport, IsReportFront, IsReasonable, rules_of}
+use Rattle.mod_receiver.specs.Received.{Reported, Broken, Stopped, IsReportFront, IsReasonable, rules_of}
 use Rattle.mod_receiver.specs.Texts.{text_tells}
 use Rattle.mod_receiver.specs.Ranges.{AreInRange}
 use Rattle.mod_receiver.specs.Jobs.{IsReady, EndedAs, HasEnded, job_rules, text_of, is_failed, clean_of, IsDone, options_for, IsJob, AreJobs, NoneFailed}

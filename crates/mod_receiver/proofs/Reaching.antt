@@ -1,12 +1,11 @@
 -- A reading, answer by answer.
 use Rattle.std.proofs.Common.{◌≡◌, ℕ, zero, suc, ◌+◌, ◌-◌, ◌*◌, ◌^◌, ◌<◌, ◌≤◌, inl, inr, nat_le, min, true, false, List, [], ◌∷◌, ◌++◌, length, take, Option, None, Some, IfSome, refl, sym, ◌∙◌, ap, subst, arith, length-append, add-one}
 use Rattle.std.proofs.Math.Nat.{mul-le-mul_right, suc-mul}
-use Rattle.std.proofs.lemmas.List.{append-nil}
 use Rattle.drm_links.specs.declared.link.Came.TheVariants as recv
 use Rattle.drm_links.specs.Link.{Answer, Traffic, Receives, Datagram, Idle, Failed}
 use Rattle.drm_links.specs.Told.{WhileTold, CountsCall}
 use Rattle.drm_links.specs.Sink.{Output, Outputs, IsFront}
-use Rattle.drm_links.proofs.ToldLemmas.{Outputs-then, Outputs-nothing, Outputs-weaker}
+use Rattle.drm_links.proofs.ToldLemmas.{Outputs-then, Outputs-nothing}
 use Rattle.dcp_collect.specs.declared.taken.Taken.{Taken}
 use Rattle.dcp_collect.specs.State.{State, made, ready}
 use Rattle.dcp_collect.specs.Runs.{Item, up_to}

@@ -10,7 +10,7 @@ use Rattle.dcp_collect.specs.declared.head.Head.{Head}
 use Rattle.dcp_collect.specs.declared.taken.Field.{Field}
 use Rattle.dcp_collect.specs.declared.taken.Field.TheVariants as field
 use Rattle.dcp_collect.specs.declared.taken.Taken.{Taken}
-use Rattle.dcp_collect.specs.declared.taken.Taken.TheVariants.{Kept, Repeated, Late, Refused, Inconsistent}
+use Rattle.dcp_collect.specs.declared.taken.Taken.TheVariants.{Repeated, Late, Refused}
 use Rattle.dcp_collect.specs.Fragments.{Fragment, suffice, of_packet, agree, has_index}
 use Rattle.dcp_collect.specs.Reading.{Read, Unread, Brings, IsRead}
 use Rattle.dcp_collect.specs.State.{State, answer, answer_at, answer_among, answer_by, is_late, number_of}

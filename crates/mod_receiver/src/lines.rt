@@ -1,6 +1,6 @@
 //! Room for the lines of an item, as a sink.
 
-ghost use Rattle.std.specs.Prelude.{◌≡◌, ◌↔◌, [], Some, IsSome, IfOk, IfSome};
+ghost use Rattle.std.specs.Prelude.{◌≡◌, ◌↔◌, [], Some, IsSome, IfSome};
 ghost use Rattle.mod_receiver.specs.Texts.{lines_tell};
 
 use crate::text::MOST_CALLS;

@@ -1,6 +1,6 @@
 //! Reading a link: each datagram is taken, and each item that it makes ready is written.
 
-ghost use Rattle.std.specs.Prelude.{◌≡◌, ◌≤◌, ◌<◌, ◌^◌, ◌⊎◌, length, false, None, Err, IfOk, IfErr, OnOk, OnErr, IsErr, IfSome};
+ghost use Rattle.std.specs.Prelude.{◌≡◌, ◌≤◌, ◌<◌, ◌^◌, length, false, None, Err, IfOk, IfErr, OnOk, OnErr, IsErr, IfSome};
 ghost use Rattle.dcp_collect.specs.State.{made, ready as is_ready};
 ghost use Rattle.drm_timeline.specs.Tracker.{new_tracker};
 ghost use Rattle.drm_links.specs.Told.{HasCause};
