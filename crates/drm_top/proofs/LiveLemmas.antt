@@ -1,6 +1,6 @@
 -- From the receiver of one link that ended to the whole command.
-use Rattle.std.proofs.Common.{◌≡◌, ℕ, zero, suc, ◌<◌, ◌≤◌, ◌⊎◌, inl, inr, Bool, List, [], ◌∷◌, length, slice_index_or, Option, Result, Ok, Err, refl, sym, ◌∙◌, ap, subst, arith}
-use Rattle.drm_links.specs.Told.{HasCause, Rose, WhileTold}
+use Rattle.std.proofs.Common.{◌≡◌, ℕ, zero, suc, ◌<◌, ◌≤◌, ◌⊎◌, inl, inr, List, [], ◌∷◌, length, slice_index_or, Option, Err, refl, sym, ap, subst, arith}
+use Rattle.drm_links.specs.Told.{HasCause, WhileTold}
 use Rattle.drm_links.specs.Link.{Traffic}
 use Rattle.drm_links.specs.Sink.{Output}
 use Rattle.drm_links.specs.Dock.{DockContents, LinkStart}
@@ -20,7 +20,7 @@ use Rattle.drm_faults.specs.declared.fault.Fault.{Fault}
 use Rattle.drm_faults.specs.declared.fault.Fault.TheVariants as faults
 use Rattle.drm_top.specs.Stopping.{ending_live}
 use Rattle.drm_top.specs.Opening.{HasLink, HaveLinks, AreFresh}
-use Rattle.drm_top.specs.Receive.{Docked, Finds, FindsNone, FailsSome, WritesLive, IsLive, SomeLinkRose, ReceiveRun}
+use Rattle.drm_top.specs.Receive.{Docked, Finds, FindsNone, FailsSome, WritesLive, ReceiveRun}
 use Rattle.drm_top.proofs.OpeningLemmas.{docked_weaker}
 use Rattle.drm_top.proofs.BreakingOff.{report_whole}
 use Rattle.drm_top.proofs.ReceiveLemmas.{inner, no_fault}
