@@ -2,6 +2,7 @@
 
 ghost use Rattle.std.specs.Prelude.{◌≡◌};
 ghost use Rattle.dcp_collect.specs.View.{item_of as given_of};
+ghost use Rattle.dcp_collect.specs.WholePackets.{IsAfIfWhole};
 ghost use Rattle.mod_feed.specs.Items.{number_of};
 
 use dcp_af::AfFault;
@@ -175,7 +176,8 @@ const BROKEN_CHECK: BadFault = BadFault::Af(AfFault::Crc {
 
 // The next frame is named, and then this comes.
 fn expect_switch(rt: &impl Abort, out: Out<'_>, item: FeedItem<'_>)
-    requires { number_of (given_of out) ≡ 1 }
+    requires number { number_of (given_of out) ≡ 1 }
+    requires whole { IsAfIfWhole out }
 {
     let mut feed = Feed::new();
     let naming = Out::Packet {
