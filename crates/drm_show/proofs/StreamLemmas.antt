@@ -1,22 +1,20 @@
 -- The multiplex frame has as many bytes as are described, and is written part by part.
 use Rattle.std.proofs.Common.{◌≡◌, ℕ, suc, ◌+◌, ◌-◌, ◌<◌, ◌≤◌, List, [], ◌∷◌, ◌++◌, length, take, drop, get_or, Option, Result, OnOk, OnErr, refl, sym, ◌∙◌, ap, append-nil, arith, length-append, length-drop}
 use Rattle.std.specs.Prelude.{codes}
-use Rattle.std.specs.List.{sum_by, flat_map}
-use Rattle.std.proofs.lemmas.List.{length-take-le, take_all, take_more}
+use Rattle.std.specs.List.{sum_by}
+use Rattle.std.proofs.lemmas.List.{length-take-le}
 use Rattle.std.proofs.lemmas.List.Sums.{sum_by-cons}
-use Rattle.std.proofs.lemmas.Grind.{flat_map-append}
 use Rattle.hex.specs.Hex.{encode_with, encode_lower}
 use Rattle.drm_bits.specs.Description.{IsDescription}
 use Rattle.drm_bits.specs.declared.description.Part.{Part}
 use Rattle.drm_bits.specs.declared.description.MuxDesc.{MuxDesc}
 use Rattle.drm_links.specs.Sink.{Output, Outputs, IsFront}
-use Rattle.drm_links.proofs.ToldLemmas.{Outputs-then, Outputs-weaker}
+use Rattle.drm_links.proofs.ToldLemmas.{Outputs-weaker}
 use Rattle.drm_mux.specs.declared.frame.Spans.{Spans}
 use Rattle.drm_mux.specs.Frame.{parts_a, parts_b, multiplex_frame, pieces, streams_in, part_length, frame_length, HaveTheirLengths, EndBy}
 use Rattle.drm_mux.proofs.PartLemmas.{no_part}
 use Rattle.drm_mux.proofs.RangeLemmas.{covers, cut, first_range}
 use Rattle.drm_show.specs.FrameLine.{bytes_text}
-use Rattle.text_pieces.proofs.TextLemmas.{encode_lower-is, front_of_next}
 
 length-parts : (parts : List Part) (places lens buffer : List ℕ) → length parts ≡ length places → length parts ≡ length lens
     → ((k : ℕ) → k < length parts → part_length (get_or parts k no_part) ≤ get_or lens k 0) → ((k : ℕ) → k < length parts → get_or places k 0 + get_or lens k 0 ≤ length buffer)

@@ -138,7 +138,7 @@ only_run {D} {L} {O} rules valid headlines completes addresses jobs job job' end
     let found : Docked (dock_tells dock) (dock_tells dock') (λ told. HasLink link_tells told 0 at job.link) =
     docked_weaker (λ told. HaveLinks link_tells told addresses jobs) (λ told. HasLink link_tells told 0 at job.link) (dock_tells dock) (dock_tells dock') links
     (λ told has. subst (λ (j : Job L). HasLink link_tells told 0 at j.link) first
-        (subst (λ xs. HasLink link_tells told 0 (slice_index_or xs 0 at) (slice_index_or jobs 0 job).link) only (has 0 at job within))) in
+    (subst (λ xs. HasLink link_tells told 0 (slice_index_or xs 0 at) (slice_index_or jobs 0 job).link) only (has 0 at job within))) in
     let rules_is = rules_are rules 1 job.collector job.options is.collector is.options in
     let raw : EndsAs rules job.options.feed (link_tells job.link) (link_tells job'.link) (out_tells out) (out_tells out') ended =
     subst (λ r. EndsAs r job.options.feed (link_tells job.link) (link_tells job'.link) (out_tells out) (out_tells out') ended) rules_is ends in

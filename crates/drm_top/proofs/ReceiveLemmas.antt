@@ -241,9 +241,9 @@ opening_failed rules addresses fault dock_faults dock_tells dock dock' link_faul
       ];
   writes = elim ends [
     | inl memory ↦ docked_weaker (λ _. Unit {0}) (λ x. WritesAll rules x addresses (Err fault) out_tells out out) (dock_tells dock) (dock_tells dock') told
-          (λ x any. subst (λ f. WritesAll rules x addresses (Err f) out_tells out out) (sym memory) (unwritten_memory rules x addresses out_tells out))
+        (λ x any. subst (λ f. WritesAll rules x addresses (Err f) out_tells out out) (sym memory) (unwritten_memory rules x addresses out_tells out))
     | inr link ↦ docked_weaker (λ x. FailsOpening x addresses) (λ x. WritesAll rules x addresses (Err fault) out_tells out out) (dock_tells dock) (dock_tells dock') (failed link)
-          (λ x fails. subst (λ f. WritesAll rules x addresses (Err f) out_tells out out) (sym link) (unwritten_link rules x addresses out_tells out fails))
+        (λ x fails. subst (λ f. WritesAll rules x addresses (Err f) out_tells out out) (sym link) (unwritten_link rules x addresses out_tells out fails))
   ];
   unwritten = λ any. refl;
   link = λ is. docked_weaker (λ x. FailsOpening x addresses) (λ x. FailsSome rules x addresses) (dock_tells dock) (dock_tells dock') (failed (inner fault faults.Link is))

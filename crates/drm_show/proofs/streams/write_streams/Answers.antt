@@ -1,12 +1,12 @@
-use Rattle.std.proofs.Common.{ℕ, List, [], ◌≡◌, ◌+◌, ◌-◌, ◌<◌, ◌++◌, drop, take, length, ap, sym, subst, ◌∙◌, arith}
+use Rattle.std.proofs.Common.{ℕ, List, [], ◌≡◌, ◌+◌, ◌-◌, ◌<◌, ◌++◌, drop, take, length, ap, sym, subst, arith}
 use Rattle.std.proofs.lemmas.List.{drop_all}
 use Rattle.std.proofs.lemmas.Result.{err_from_is_err_and}
 use Rattle.hex.specs.Hex.{encode_lower}
-use Rattle.drm_links.specs.Sink.{Outputs, IsFront}
+use Rattle.drm_links.specs.Sink.{Outputs}
 use Rattle.drm_links.proofs.ToldLemmas.{Outputs-nothing}
 use Rattle.drm_mux.specs.Frame.{multiplex_frame, streams_in}
 use Rattle.drm_mux.specs.Ranges.{ranges}
-use Rattle.drm_mux.proofs.RangeLemmas.{cut, frame_cut, first_range, length-ranges}
+use Rattle.drm_mux.proofs.RangeLemmas.{cut, frame_cut, length-ranges}
 use Rattle.text_pieces.proofs.TextLemmas.{digits_more, digits_front}
 use Rattle.drm_show.proofs.StreamLemmas.{length-frame, dash_whole, dash_front, some_bytes, one_part, all_parts}
 use Rattle.drm_show.proofs.streams.write_streams.Goals as goal
