@@ -12,6 +12,7 @@ use std::alloc::Global;
 use std::sync::atomic::AtomicU64;
 use std::sync::atomic::Ordering::SeqCst;
 use std::test::Fail;
+use std::thread;
 
 /// A link that is idle until another one was asked, or that other one.
 #[derive(Drop)]
@@ -46,6 +47,8 @@ impl<'a> Link for Gated<'a> {
 
     fn recv(&mut self, buf: &mut [u8]) -> Came {
         if self.waits && self.asked.load(SeqCst) == 0 {
+            // On a busy machine the other thread may not have begun.
+            thread::yield_now();
             self.idles = self.idles.saturating_add(1);
             return Came::Idle;
         }
