@@ -8,3 +8,4 @@ pub mod Checks
 mod EightShifts
 pub mod BitWrites
 pub mod SinkLemmas
+pub mod PutLemmas

@@ -3,6 +3,7 @@
 
 mod bit_sink;
 mod bits;
+mod bytes;
 mod crc;
 mod crc_run;
 mod description;
@@ -11,6 +12,7 @@ mod remainders;
 
 pub use bit_sink::BitSink;
 pub use bits::{Bits, Short};
+pub use bytes::{put_at, zeros};
 pub use crc::{crc8, crc16};
 pub use crc_run::CrcRun;
 pub use description::{MuxDesc, Part};
