@@ -7,9 +7,8 @@ ghost use Rattle.mod_feed.specs.Items.{number_of};
 
 use dcp_af::AfFault;
 use dcp_collect::Out;
-use drm_fac::{Channel, Fac, Service};
+use drm_fac::{Channel, Fac, Mode, Service};
 use drm_mux::{MuxDesc, Part, Spans};
-use drm_schedule::Mode;
 use drm_sdc::{BlockInfo, SdcFault};
 use drm_timeline::Before;
 use mdi_items::{MdiFault, MdiView, SdcSpan};

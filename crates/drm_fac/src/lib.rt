@@ -5,12 +5,14 @@
 mod channel;
 mod fac;
 mod fields;
+mod mode;
 mod order;
 mod service;
 mod services;
 
 pub use channel::Channel;
 pub use fac::{Fac, FacFault, decode, encode};
+pub use mode::Mode;
 pub use order::{Slot, pattern};
 pub use service::Service;
 pub use services::{counts, services_code};

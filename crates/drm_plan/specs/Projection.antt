@@ -6,8 +6,8 @@ use Rattle.drm_fac.specs.declared.service.Service.{Service}
 use Rattle.drm_sdc.specs.declared.entity.Entity.{Entity}
 use Rattle.drm_schedule.specs.declared.carry.Carry.{Carry}
 use Rattle.drm_schedule.specs.declared.carry.Carry.TheVariants as carries
-use Rattle.drm_schedule.specs.declared.config.Mode.{Mode}
-use Rattle.drm_schedule.specs.declared.config.Mode.TheVariants as modes
+use Rattle.drm_fac.specs.declared.mode.Mode.{Mode}
+use Rattle.drm_fac.specs.declared.mode.Mode.TheVariants as modes
 use Rattle.drm_schedule.specs.declared.config.Clock.{Clock}
 use Rattle.drm_schedule.specs.declared.config.Config.{Config}
 use Rattle.drm_schedule.specs.declared.stream.Stream.{Stream}

@@ -1,7 +1,7 @@
 //! The configurations of a schedule.
 
 use crate::Stream;
-use drm_fac::Service;
+use drm_fac::{Mode, Service};
 use drm_sdc::Entities;
 use owned_items::Items;
 
@@ -13,15 +13,6 @@ pub type Streams = Items<Stream>;
 
 /// The configurations of a schedule, in the order of their lines.
 pub type Configs = Items<Config>;
-
-/// The robustness mode (ES 201 980).
-#[derive(Clone, Copy, Debug, PartialEq, Eq)]
-pub enum Mode {
-    A,
-    B,
-    C,
-    D,
-}
 
 /// What the clock shows in the first super frame of a configuration.
 #[derive(Clone, Copy, Debug, PartialEq, Eq)]

@@ -5,7 +5,7 @@ use Rattle.drm_bits.specs.Bits.{IsBytes}
 use Rattle.drm_bits.specs.declared.description.MuxDesc.{MuxDesc}
 use Rattle.drm_fac.specs.declared.fac.Fac.{Fac}
 use Rattle.drm_schedule.specs.declared.config.Config.{Config}
-use Rattle.drm_schedule.specs.declared.config.Mode.{Mode}
+use Rattle.drm_fac.specs.declared.mode.Mode.{Mode}
 use Rattle.drm_schedule.specs.declared.plan.Plan.{Plan}
 use Rattle.drm_timeline.specs.Description.{description_of}
 use Rattle.dcp_af.specs.Packet.{AfPacket, IsAf, head}

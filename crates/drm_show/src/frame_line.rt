@@ -13,8 +13,8 @@ use crate::description::write_description;
 use crate::streams::write_streams;
 use Part::Text;
 use Piece::{Hex, Number, Words};
+use drm_fac::Mode;
 use drm_links::{Sink, WriteFault};
-use drm_schedule::Mode;
 use mdi_items::MdiView;
 use text_pieces::{Piece, write_piece};
 

@@ -10,8 +10,8 @@ use Rattle.drm_bits.specs.contracts.description.PartPartialEq.TheImpl as part
 use Rattle.drm_bits.specs.contracts.description.PartEq.TheImpl.Laws as part_laws
 use Rattle.drm_fac.specs.declared.channel.Channel.{Channel}
 use Rattle.drm_fac.specs.contracts.channel.ChannelPartialEq.TheImpl as channel
-use Rattle.drm_schedule.specs.declared.config.Mode.{Mode}
-use Rattle.drm_schedule.specs.contracts.config.ModePartialEq.TheImpl as mode
+use Rattle.drm_fac.specs.declared.mode.Mode.{Mode}
+use Rattle.drm_fac.specs.contracts.mode.ModePartialEq.TheImpl as mode
 use Rattle.drm_timeline.specs.declared.seen.Signature.{Signature}
 use Rattle.drm_timeline.specs.contracts.seen.SignatureEq.TheImpl.Laws as signature_laws
 use Rattle.drm_timeline.specs.Seen.{is_same}

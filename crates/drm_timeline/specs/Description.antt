@@ -6,8 +6,8 @@ use Rattle.drm_sdc.specs.declared.body.Body.{Body}
 use Rattle.drm_sdc.specs.declared.body.Body.TheVariants.{Time, Next}
 use Rattle.drm_schedule.specs.declared.config.Clock.{Clock}
 use Rattle.drm_schedule.specs.declared.config.Config.{Config}
-use Rattle.drm_schedule.specs.declared.config.Mode.{Mode}
-use Rattle.drm_schedule.specs.declared.config.Mode.TheVariants.{A, B, C, D}
+use Rattle.drm_fac.specs.declared.mode.Mode.{Mode}
+use Rattle.drm_fac.specs.declared.mode.Mode.TheVariants.{A, B, C, D}
 use Rattle.drm_schedule.specs.declared.stream.Stream.{Stream}
 use Rattle.drm_timeline.specs.FastAccess.{services_of}
 

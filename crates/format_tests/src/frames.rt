@@ -5,9 +5,8 @@ ghost use Rattle.drm_bits.specs.Description.{IsDescription, FitsWidths};
 ghost use Rattle.drm_fac.specs.Fac.{FacFits};
 
 use dcp_tag::ValueCut;
-use drm_fac::{Channel, Fac, FacFault, Service};
+use drm_fac::{Channel, Fac, FacFault, Mode, Service};
 use drm_mux::{MuxDesc, MuxFault, Part, Spans};
-use drm_schedule::Mode;
 use drm_sdc::{BlockInfo, SdcFault};
 use mdi_items::{MdiFault, MdiView, MdiWriter, SdcSpan, read_mdi};
 use std::process::Abort;

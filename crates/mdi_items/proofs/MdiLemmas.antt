@@ -6,8 +6,8 @@ use Rattle.drm_fac.specs.Fac.{IsFac}
 use Rattle.drm_fac.proofs.FacLemmas.{one_fac}
 use Rattle.drm_bits.specs.declared.description.MuxDesc.{MuxDesc}
 use Rattle.drm_mux.specs.declared.frame.Spans.{Spans}
-use Rattle.drm_schedule.specs.declared.config.Mode.{Mode}
-use Rattle.drm_schedule.specs.declared.config.Mode.TheVariants.{A, B, C, D}
+use Rattle.drm_fac.specs.declared.mode.Mode.{Mode}
+use Rattle.drm_fac.specs.declared.mode.Mode.TheVariants.{A, B, C, D}
 use Rattle.drm_sdc.specs.declared.block.Block.{Block}
 use Rattle.drm_sdc.specs.Block.{IsBlock, info_of}
 use Rattle.drm_sdc.proofs.BlockLaws.{one_block}

@@ -18,8 +18,8 @@ use Rattle.drm_mux.specs.Faults.{IsSdciFault}
 use Rattle.drm_mux.specs.Frame.{stream_length}
 use Rattle.drm_mux.specs.Sdci.{IsSdci}
 use Rattle.drm_mux.proofs.SdciLemmas.{length-value}
-use Rattle.drm_schedule.specs.declared.config.Mode.{Mode}
-use Rattle.drm_schedule.specs.declared.config.Mode.TheVariants.{A, B, C, D}
+use Rattle.drm_fac.specs.declared.mode.Mode.{Mode}
+use Rattle.drm_fac.specs.declared.mode.Mode.TheVariants.{A, B, C, D}
 use Rattle.drm_sdc.specs.declared.block.Block.{Block}
 use Rattle.drm_sdc.specs.Block.{IsBlock, IsBlockFault, info_of}
 use Rattle.drm_sdc.proofs.BlockLaws.{framed_length, block_or_fault}

@@ -10,7 +10,7 @@ use Rattle.drm_bits.proofs.FieldLemmas.{spelled_fields}
 use Rattle.drm_fac.specs.declared.fac.Fac.{Fac}
 use Rattle.drm_fac.proofs.WrittenFac.{fac_once}
 use Rattle.drm_mux.specs.Sdci.{IsSdci, sdci_fields}
-use Rattle.drm_schedule.specs.declared.config.Mode.{Mode}
+use Rattle.drm_fac.specs.declared.mode.Mode.{Mode}
 use Rattle.dcp_tag.specs.Tag.{head}
 use Rattle.mdi_items.specs.Names.{name_at, ptr, dlfc, fac_, sdci, robm, str}
 use Rattle.mdi_items.specs.Frame.{mode_code}

@@ -7,8 +7,8 @@ use Rattle.drm_fac.specs.declared.fac.Fac.{Fac}
 use Rattle.drm_fac.specs.Fac.{IsFac}
 use Rattle.drm_mux.specs.declared.frame.Spans.{Spans}
 use Rattle.drm_mux.specs.Sdci.{IsSdci}
-use Rattle.drm_schedule.specs.declared.config.Mode.{Mode}
-use Rattle.drm_schedule.specs.declared.config.Mode.TheVariants.{A, B, C, D}
+use Rattle.drm_fac.specs.declared.mode.Mode.{Mode}
+use Rattle.drm_fac.specs.declared.mode.Mode.TheVariants.{A, B, C, D}
 use Rattle.drm_sdc.specs.declared.block.Block.{Block}
 use Rattle.drm_sdc.specs.Block.{IsBlock, info_of}
 use Rattle.dcp_tag.specs.Tag.{bytes_for}

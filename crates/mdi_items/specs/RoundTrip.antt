@@ -5,7 +5,7 @@ use Rattle.drm_bits.specs.Description.{IsDescription}
 use Rattle.drm_bits.specs.declared.description.MuxDesc.{MuxDesc}
 use Rattle.drm_fac.specs.declared.fac.Fac.{Fac}
 use Rattle.drm_mux.specs.Frame.{stream_length}
-use Rattle.drm_schedule.specs.declared.config.Mode.{Mode}
+use Rattle.drm_fac.specs.declared.mode.Mode.{Mode}
 use Rattle.drm_sdc.specs.declared.block.Block.{Block}
 use Rattle.drm_sdc.specs.Block.{IsBlock}
 use Rattle.dcp_tag.specs.Tag.{bytes_for}

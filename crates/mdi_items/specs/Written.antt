@@ -6,7 +6,7 @@ use Rattle.drm_bits.specs.declared.description.MuxDesc.{MuxDesc}
 use Rattle.drm_fac.specs.declared.fac.Fac.{Fac}
 use Rattle.drm_fac.specs.Fac.{IsFac}
 use Rattle.drm_mux.specs.Sdci.{IsSdci}
-use Rattle.drm_schedule.specs.declared.config.Mode.{Mode}
+use Rattle.drm_fac.specs.declared.mode.Mode.{Mode}
 use Rattle.dcp_tag.specs.Tag.{TagItem, head}
 use Rattle.dcp_tag.specs.Reading.{item_of}
 use Rattle.mdi_items.specs.declared.writer.MdiWriter.{MdiWriter}

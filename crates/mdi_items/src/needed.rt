@@ -12,9 +12,8 @@ use crate::MdiFault;
 use crate::known::Known;
 use crate::names::{DLFC, FAC, PTR, ROBM, SDCI};
 use crate::value::{bytes_at, bytes_of, find};
-use drm_fac::{Fac, decode};
+use drm_fac::{Fac, Mode, decode};
 use drm_mux::{MuxDesc, read_sdci};
-use drm_schedule::Mode;
 
 /// The major and the minor revision of the protocol, out of `*ptr`.
 pub(crate) fn read_revision(payload: &[u8], known: &Known) -> Result<(u16, u16), MdiFault>

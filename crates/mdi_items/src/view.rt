@@ -13,9 +13,8 @@ use crate::block::read_block_span;
 use crate::known::gather;
 use crate::needed::{read_count, read_description, read_fac, read_mode, read_revision};
 use crate::streams::{check_streams, spans};
-use drm_fac::Fac;
+use drm_fac::{Fac, Mode};
 use drm_mux::{MuxDesc, Spans};
-use drm_schedule::Mode;
 use drm_sdc::BlockInfo;
 
 /// One logical frame. Its pieces are lent out of the payload, by their places there.

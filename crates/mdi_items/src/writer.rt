@@ -10,9 +10,8 @@ ghost use Rattle.mdi_items.specs.Frame.{mode_code};
 
 use crate::names::{DLFC, FAC, PTR, ROBM, SDC, SDCI, STREAMS, name_at};
 use dcp_tag::write_item;
-use drm_fac::{Fac, encode};
+use drm_fac::{Fac, Mode, encode};
 use drm_mux::{MuxDesc, write_sdci};
-use drm_schedule::Mode;
 
 /// Writes one frame into a buffer: first the head, then the block where there is one, then the streams in order.
 #[derive(Drop)]

@@ -12,7 +12,7 @@ use Rattle.drm_bits.specs.declared.description.MuxDesc.{MuxDesc}
 use Rattle.drm_fac.specs.declared.fac.Fac.{Fac}
 use Rattle.drm_mux.proofs.SdciLemmas.{length-value}
 use Rattle.drm_schedule.specs.declared.config.Config.{Config}
-use Rattle.drm_schedule.specs.declared.config.Mode.{Mode}
+use Rattle.drm_fac.specs.declared.mode.Mode.{Mode}
 use Rattle.drm_schedule.specs.declared.plan.Plan.{Plan}
 use Rattle.drm_schedule.specs.declared.stream.Content.{Content}
 use Rattle.drm_schedule.specs.declared.stream.Content.TheVariants.{Fill, File}

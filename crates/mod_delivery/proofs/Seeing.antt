@@ -6,7 +6,7 @@ use Rattle.drm_fac.specs.declared.channel.Channel.{Channel}
 use Rattle.drm_fac.specs.declared.fac.Fac.{Fac}
 use Rattle.drm_fac.specs.declared.service.Service.{Service}
 use Rattle.drm_schedule.specs.declared.config.Config.{Config}
-use Rattle.drm_schedule.specs.declared.config.Mode.{Mode}
+use Rattle.drm_fac.specs.declared.mode.Mode.{Mode}
 use Rattle.drm_schedule.specs.declared.plan.Plan.{Plan}
 use Rattle.block_packing.specs.Packing.{chain}
 use Rattle.dcp_pft.specs.Loss.{is_recoverable}

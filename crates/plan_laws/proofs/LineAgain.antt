@@ -8,8 +8,8 @@ use Rattle.drm_sdc.specs.declared.body.Body.{Body}
 use Rattle.drm_sdc.specs.declared.body.Body.TheVariants as bodies
 use Rattle.drm_schedule.specs.declared.carry.Carry.{Carry}
 use Rattle.drm_schedule.specs.declared.carry.Carry.TheVariants.{Plain, Pft}
-use Rattle.drm_schedule.specs.declared.config.Mode.{Mode}
-use Rattle.drm_schedule.specs.declared.config.Mode.TheVariants.{A, B, C, D}
+use Rattle.drm_fac.specs.declared.mode.Mode.{Mode}
+use Rattle.drm_fac.specs.declared.mode.Mode.TheVariants.{A, B, C, D}
 use Rattle.drm_schedule.specs.declared.stream.Content.{Content}
 use Rattle.drm_schedule.specs.declared.stream.Content.TheVariants.{Fill, File}
 use Rattle.drm_schedule.specs.Ranges.{CarryInLines, ContentInLines, AppInLines, BodyInLines, IsLabel}

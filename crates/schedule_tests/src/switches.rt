@@ -5,8 +5,7 @@ ghost use Rattle.std.specs.Prelude.{◌≡◌, ◌<◌, ◌+◌, ◌^◌};
 use Before::{Resumed, Switch};
 use Item::{Gap, X, Y};
 use drm_bits::{MuxDesc, Part};
-use drm_fac::Channel;
-use drm_schedule::Mode;
+use drm_fac::{Channel, Mode};
 use drm_timeline::{Before, Seen, Signature, Tracker};
 use std::process::Abort;
 
