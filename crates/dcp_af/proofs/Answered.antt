@@ -3,19 +3,15 @@ use Rattle.std.proofs.Common.{◌≡◌, ℕ, ◌≤◌, Bool, true, List, ◌++
 use Rattle.std.specs.Prelude.{IsOkAnd}
 use Rattle.std.specs.Int.{w16, from_be_bytes}
 use Rattle.std.proofs.lemmas.List.{drop-take, take-take}
-use Rattle.drm_bits.specs.Bits.{bits_of}
-use Rattle.drm_bits.specs.Crc.{crc16_polynomial}
-use Rattle.drm_bits.proofs.Checks.{IsCheck-unique, crc16_low}
+use Rattle.drm_bits.proofs.Checks.{one_check}
 use Rattle.dcp_af.specs.declared.fault.AfFault.{AfFault}
 use Rattle.dcp_af.specs.declared.fault.AfFault.TheVariants.{Sync, HeadCut, Length, Version, Kind, Crc}
 use Rattle.dcp_af.specs.declared.read.Af.{Af}
-use Rattle.dcp_af.specs.Packet.{AfPacket, head, EndsWith, IsCheckOf, IsAf}
+use Rattle.drm_bits.specs.Crc.{IsCheckOf}
+use Rattle.dcp_af.specs.Packet.{AfPacket, head, EndsWith, IsAf}
 use Rattle.dcp_af.specs.Faults.{sequence_number, minor, payload, checked_bytes, check_value, is_checked, HasKind, IsFault}
 use Rattle.dcp_af.specs.Reading.{packet_of, Compares}
 use Rattle.dcp_af.proofs.Spellings.{IsBytes, packet_at, placed, spelled_at}
-
-pub one_check : (bytes : List ℕ) (m n : ℕ) → IsCheckOf bytes m → IsCheckOf bytes n → m ≡ n
-one_check bytes m n is other = IsCheck-unique 16 4129 crc16_polynomial (bits_of bytes) m n crc16_low is.narrow other.narrow is.is other.is
 
 pub one_fault : (f g : AfFault) (bytes : List ℕ) → IsFault f bytes → IsFault g bytes → f ≡ g
 one_fault Sync Sync bytes h k = refl

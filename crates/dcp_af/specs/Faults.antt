@@ -3,7 +3,8 @@ use Rattle.std.specs.Prelude.{ℕ, ◌≡◌, ◌≢◌, ◌+◌, ◌-◌, ◌/�
 use Rattle.std.specs.Int.{w16, w32, from_be_bytes}
 use Rattle.dcp_af.specs.declared.fault.AfFault.{AfFault}
 use Rattle.dcp_af.specs.declared.fault.AfFault.TheVariants.{Sync, HeadCut, Length, Version, Kind, Crc}
-use Rattle.dcp_af.specs.Packet.{sync, tag_kind, IsCheckOf}
+use Rattle.drm_bits.specs.Crc.{IsCheckOf}
+use Rattle.dcp_af.specs.Packet.{sync, tag_kind}
 
 -- how many bytes the packet has by its head: ten of the head, those of the payload, and two of the check value
 abbrev pub described : List ℕ → ℕ

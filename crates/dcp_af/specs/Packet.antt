@@ -1,8 +1,7 @@
 -- AF packets (TS 102 821).
 use Rattle.std.specs.Prelude.{ℕ, ◌≡◌, ◌+◌, ◌*◌, ◌^◌, ◌<◌, Bool, true, List, [], ◌∷◌, ◌++◌, length}
 use Rattle.std.specs.Int.{w16, w32, to_be_bytes, from_bool}
-use Rattle.drm_bits.specs.Bits.{digits, bits_of}
-use Rattle.drm_bits.specs.Crc.{IsCheck, crc16_polynomial}
+use Rattle.drm_bits.specs.Crc.{IsCheckOf}
 
 -- what an AF packet says: its sequence number, whether its check value counts, the minor revision, and the payload
 pub record AfPacket : Type 0 where
@@ -38,11 +37,6 @@ pub record EndsWith (p : AfPacket) (check : ℕ) (bytes : List ℕ) : Type 0 whe
   pub fits : Fits p
   pub narrow : check < 2 ^ 16
   pub spelled : bytes ≡ head p ++ p.payload ++ to_be_bytes w16 check
-
--- the number is the check value of these bytes
-pub record IsCheckOf (bytes : List ℕ) (check : ℕ) : Type 0 where
-  pub narrow : check < 2 ^ 16
-  pub is : IsCheck crc16_polynomial (bits_of bytes) (digits 16 check)
 
 -- The bytes are this packet. Where the check value doesn't count, the last two bytes are free.
 abbrev pub IsAf : AfPacket → List ℕ → Type 0

@@ -5,7 +5,8 @@ use Rattle.dcp_af.specs.declared.fault.AfFault.{AfFault}
 use Rattle.dcp_af.specs.declared.fault.AfFault.TheVariants.{Crc}
 use Rattle.dcp_af.specs.declared.read.Af.{Af}
 use Rattle.dcp_af.specs.declared.head.Head.{Head}
-use Rattle.dcp_af.specs.Packet.{AfPacket, IsCheckOf}
+use Rattle.drm_bits.specs.Crc.{IsCheckOf}
+use Rattle.dcp_af.specs.Packet.{AfPacket}
 use Rattle.dcp_af.specs.Faults.{described, sequence_number, is_checked, major, minor, kind}
 
 -- the packet that is given

@@ -7,7 +7,7 @@ ghost use Rattle.dcp_af.specs.Reading.{packet_of, IsHeadOf, Compares};
 
 use crate::AfFault;
 use crate::head::{CHECK_BYTES, HEAD_BYTES, Head, MAJOR, TAG_KIND, head_of};
-use drm_bits::crc16;
+use drm_bits::compare_crc16;
 
 /// An AF packet.
 #[derive(Clone, Copy, Debug, PartialEq, Eq)]
@@ -87,11 +87,11 @@ fn compare(front: &[u8], check: &[u8]) -> Result<(), AfFault>
     requires { length check.now ≡ 2 }
     ensures { Compares result front.now check.now }
 {
-    let stands = u16::from_be_bytes([check[0], check[1]]);
-    let computed = crc16(front);
-    if stands == computed {
-        Ok(())
-    } else {
-        Err(AfFault::Crc { stands, computed })
+    match compare_crc16(front, check) {
+        Ok(()) => Ok(()),
+        Err(wrong) => Err(AfFault::Crc {
+            stands: wrong.stands,
+            computed: wrong.computed,
+        }),
     }
 }

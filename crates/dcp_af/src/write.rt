@@ -5,7 +5,7 @@ ghost use Rattle.std.specs.Int.{w16, w32, to_be_bytes};
 ghost use Rattle.dcp_af.specs.Packet.{IsAf, sync, revision, tag_kind};
 
 use crate::head::{CHECK_BYTES, HEAD_BYTES, TAG_KIND};
-use drm_bits::crc16;
+use drm_bits::{crc16, put_at};
 
 // The check value counts, the major revision is 1 and the minor one 0.
 const REVISION: u8 = 0x90;
@@ -19,14 +19,6 @@ fn head(seq: u16, payload: u32) -> [u8; 10]
     [
         b'A', b'F', length[0], length[1], length[2], length[3], seq[0], seq[1], REVISION, TAG_KIND,
     ]
-}
-
-// Writes bytes over those from a place on.
-fn put(into: &mut [u8], at: usize, bytes: &[u8])
-    requires { at + length bytes.now ≤ length into.old }
-    ensures { into.new ≡ take at into.old ++ bytes.now ++ drop (at + length bytes.now) into.old }
-{
-    into[at..at + bytes.len()].copy_from_slice(bytes);
 }
 
 /// Makes a packet with this sequence number of the payload that stands from byte 10 on and has `payload` bytes. Writes
@@ -45,8 +37,8 @@ pub fn write_af(seq: u16, into: &mut [u8], payload: usize) -> usize
     ensures behind { drop result into.new ≡ drop result into.old }
 {
     let end = HEAD_BYTES + payload;
-    put(into, 0, &head(seq, payload as u32));
+    put_at(into, 0, &head(seq, payload as u32));
     let check = crc16(&into[..end]);
-    put(into, end, &check.to_be_bytes());
+    put_at(into, end, &check.to_be_bytes());
     end + CHECK_BYTES
 }

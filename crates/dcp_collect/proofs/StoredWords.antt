@@ -8,7 +8,7 @@ use Rattle.dcp_collect.specs.Fragments.{Fragment, has_index}
 use Rattle.dcp_collect.specs.Erasure.{erased_positions, position, received, received_word}
 use Rattle.dcp_collect.specs.Counters.{Tells}
 use Rattle.dcp_collect.proofs.Positions.{position_in_chunk, position_in_parity, kept_outside}
-use Rattle.dcp_collect.proofs.Telling.{put_at, put_before, put_behind, put_long}
+use Rattle.drm_bits.proofs.PutLemmas.{put_byte, put_before, put_behind, put_long}
 use Rattle.dcp_collect.proofs.Received.{at_chunk, at_fill, at_parity, word_at, word_length}
 
 -- It is that of the fragments outside the erased positions.
@@ -66,11 +66,11 @@ module _ (bytes one two : List ℕ) (k start m n : ℕ) (few : k ≤ 207) (room 
         | inl inside ↦
             ap (λ p. get_or two p 0) (position_in_chunk k j inside)
             ∙ put_before one (take n (drop (start + k) bytes)) two 207 j (omega (arith, o)) second (omega (arith, inside, few))
-            ∙ put_at (replicate 255 0) (take m (drop start bytes)) one 0 j j (omega arith) first (let c = chunk_long in omega (arith, c, inside)) (omega arith)
+            ∙ put_byte (replicate 255 0) (take m (drop start bytes)) one 0 j j (omega arith) first (let c = chunk_long in omega (arith, c, inside)) (omega arith)
             ∙ get_or-take m (drop start bytes) j 0 (omega (arith, is_k, inside)) ∙ get_or-drop start bytes j 0
         | inr beyond ↦
             let at : position k j ≡ 207 + (j - k) = position_in_parity k j beyond in
-            put_at one (take n (drop (start + k) bytes)) two 207 (j - k) (position k j) (omega (arith, o)) second (let p = parity_long in omega (arith, p, l, beyond)) at
+            put_byte one (take n (drop (start + k) bytes)) two 207 (j - k) (position k j) (omega (arith, o)) second (let p = parity_long in omega (arith, p, l, beyond)) at
             ∙ get_or-take n (drop (start + k) bytes) (j - k) 0 (omega (arith, is_48, l, beyond)) ∙ get_or-drop (start + k) bytes (j - k) 0
             ∙ ap (λ p. get_or bytes p 0) (let e : start + k + (j - k) ≡ start + j = omega (arith, beyond) in e)
       ]

@@ -1,14 +1,8 @@
-//! Bytes written over others.
+//! Bytes written over others, each so far behind the one before.
 
-ghost use Rattle.std.specs.Prelude.{◌≡◌, ◌≢◌, ◌+◌, ◌*◌, ◌<◌, ◌≤◌, ◌++◌, ℕ, length, slice_index, take, drop};
+ghost use Rattle.std.specs.Prelude.{◌≡◌, ◌≢◌, ◌+◌, ◌*◌, ◌<◌, ◌≤◌, ℕ, length, slice_index};
 
-// Writes bytes over those from a place on.
-pub(crate) fn put(into: &mut [u8], at: usize, bytes: &[u8])
-    requires { at + length bytes.now ≤ length into.old }
-    ensures { into.new ≡ take at into.old ++ bytes.now ++ drop (at + length bytes.now) into.old }
-{
-    into[at..at + bytes.len()].copy_from_slice(bytes);
-}
+use drm_bits::put_at;
 
 // Writes bytes from a place on, each so far behind the one before.
 pub(crate) fn store(bytes: &mut [u8], start: usize, step: usize, payload: &[u8])
@@ -21,7 +15,7 @@ pub(crate) fn store(bytes: &mut [u8], start: usize, step: usize, payload: &[u8])
     ensures long { length bytes.new ≡ length bytes.old }
 {
     if step == 1 {
-        put(bytes, start, payload);
+        put_at(bytes, start, payload);
         return;
     }
     for (j, byte) in payload.iter().enumerate() {

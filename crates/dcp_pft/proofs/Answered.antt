@@ -8,7 +8,8 @@ use Rattle.dcp_pft.specs.declared.shape.Rs.{Rs}
 use Rattle.dcp_pft.specs.declared.fragment.Addr.{Addr}
 use Rattle.dcp_pft.specs.declared.fragment.Fragment.{Fragment}
 use Rattle.dcp_pft.specs.declared.fault.PftFault.{PftFault}
-use Rattle.dcp_pft.specs.Head.{PftFragment, sync, IsCheckOf}
+use Rattle.drm_bits.specs.Crc.{IsCheckOf}
+use Rattle.dcp_pft.specs.Head.{PftFragment, sync}
 use Rattle.dcp_pft.specs.Faults.{sequence_number, fragment_index, fragment_count, described, code, addresses, addresses_at, addresses_place, marks, has_addresses, checked_bytes, check_value, head_size, payload, table, NoneOf, IsFault}
 use Rattle.dcp_pft.specs.Reading.{pft_of, IsCodeFor, IsPft}
 use Rattle.dcp_pft.proofs.Table.{one_first, none_first}

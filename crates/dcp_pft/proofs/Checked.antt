@@ -1,11 +1,11 @@
 -- The check value of a header at its place.
-use Rattle.std.proofs.Common.{◌≡◌, ℕ, ◌+◌, ◌-◌, ◌<◌, ◌^◌, List, take, drop, sym, subst, ap, ◌∙◌, arith}
+use Rattle.std.proofs.Common.{◌≡◌, ℕ, ◌+◌, ◌-◌, List, take, drop, sym, subst, ap, ◌∙◌, arith}
 use Rattle.std.specs.Int.{w16, from_be_bytes}
 use Rattle.std.proofs.lemmas.List.{take-take, drop-take}
-use Rattle.drm_bits.specs.Bits.{digits, bits_of}
-use Rattle.drm_bits.specs.Crc.{IsCheck, crc16_polynomial}
-use Rattle.drm_bits.proofs.Checks.{IsCheck-unique, crc16_low}
-use Rattle.dcp_pft.specs.Head.{IsCheckOf}
+use Rattle.drm_bits.specs.Crc.{IsCheckOf}
+use Rattle.drm_bits.specs.Compared.{IsWrong}
+use Rattle.drm_bits.specs.declared.compared.WrongCheck.{WrongCheck}
+use Rattle.drm_bits.proofs.Checks.{one_check}
 use Rattle.dcp_pft.specs.Faults.{checked_size, checked_bytes, check_value, head_size}
 
 front_is : (bytes : List ℕ) (size n : ℕ) → size ≡ n + 2 → take (size - 2) (take size bytes) ≡ take n bytes
@@ -31,25 +31,19 @@ checked bytes size front last cut = cut.before ∙ front_is bytes size (checked_
 pub stands : (bytes : List ℕ) (size : ℕ) (front last : List ℕ) → IsCut bytes size front last → from_be_bytes w16 last ≡ check_value bytes
 stands bytes size front last cut = ap (from_be_bytes w16) (cut.behind ∙ last_is bytes size (checked_size bytes) cut.whole)
 
--- a number is the check value, where it is the one that stands there
-pub right : (bytes : List ℕ) (size : ℕ) (front last : List ℕ) (value : ℕ) → IsCut bytes size front last → value < 2 ^ 16 → from_be_bytes w16 last ≡ value
-    → IsCheck crc16_polynomial (bits_of front) (digits 16 value)
+-- the number that stands there is the check value, where it is that of the bytes in front
+pub right : (bytes : List ℕ) (size : ℕ) (front last : List ℕ) → IsCut bytes size front last → IsCheckOf front (from_be_bytes w16 last)
     → IsCheckOf (checked_bytes bytes) (check_value bytes)
-right bytes size front last value cut narrow same is =
-    let P : List ℕ → Type 0 = λ l. IsCheckOf l value in
+right bytes size front last cut is =
+    let P : List ℕ → Type 0 = λ l. IsCheckOf l (from_be_bytes w16 last) in
     let Q : ℕ → Type 0 = λ n. IsCheckOf (checked_bytes bytes) n in
-    let of_front : IsCheckOf front value = record { narrow = narrow; is = is } in
-    subst Q (sym same ∙ stands bytes size front last cut) (subst P (checked bytes size front last cut) of_front)
+    subst Q (stands bytes size front last cut) (subst P (checked bytes size front last cut) is)
 
--- and where it is another, that one isn't
-pub wrong : (bytes : List ℕ) (size : ℕ) (front last : List ℕ) (value : ℕ) → IsCut bytes size front last → (from_be_bytes w16 last ≡ value → ⊥)
-    → ((n : ℕ) → n < 2 ^ 16 → IsCheck crc16_polynomial (bits_of front) (digits 16 n) → n ≡ value)
+-- and where they have another, it isn't
+pub wrong : (bytes : List ℕ) (size : ℕ) (front last : List ℕ) (w : WrongCheck) → IsCut bytes size front last → IsWrong w front last
     → IsCheckOf (checked_bytes bytes) (check_value bytes)
     → ⊥
-wrong bytes size front last value cut other only is =
+wrong bytes size front last w cut other is =
     let P : List ℕ → Type 0 = λ l. IsCheckOf l (check_value bytes) in
     let of_front : IsCheckOf front (check_value bytes) = subst P (sym (checked bytes size front last cut)) is in
-    other (stands bytes size front last cut ∙ only (check_value bytes) of_front.narrow of_front.is)
-
-pub one_check : (bytes : List ℕ) (m n : ℕ) → IsCheckOf bytes m → IsCheckOf bytes n → m ≡ n
-one_check bytes m n is other = IsCheck-unique 16 4129 crc16_polynomial (bits_of bytes) m n crc16_low is.narrow other.narrow is.is other.is
+    other.differ (other.stands ∙ stands bytes size front last cut ∙ one_check front (check_value bytes) w.computed of_front other.computed)

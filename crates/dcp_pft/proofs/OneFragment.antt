@@ -2,15 +2,14 @@
 use Rattle.std.proofs.Common.{ℕ, zero, suc, ◌≡◌, ◌≤◌, Option, None, Some, List, ◌++◌, length, take, drop, refl, sym, subst, ap, ◌∙◌, arith, length-take}
 use Rattle.std.specs.Int.{w16, to_be_bytes}
 use Rattle.std.proofs.lemmas.List.{take-append-drop}
-use Rattle.drm_bits.specs.Bits.{bits_of}
-use Rattle.drm_bits.specs.Crc.{crc16_polynomial}
-use Rattle.drm_bits.proofs.Checks.{IsCheck-unique, crc16_low}
+use Rattle.drm_bits.proofs.Checks.{one_check}
 use Rattle.rs_erase.proofs.OneWord.{one_parity}
 use Rattle.dcp_pft.specs.declared.shape.Rs.{Rs}
 use Rattle.dcp_pft.specs.declared.shape.Shape.{Shape}
 use Rattle.dcp_pft.specs.Cutting.{chunk_size, coded_shape, plain_shape, shape_of}
 use Rattle.dcp_pft.specs.Coding.{AreParities, IsParityOf, filled}
-use Rattle.dcp_pft.specs.Head.{PftFragment, IsCheckOf, Spells, head, fragment_of}
+use Rattle.drm_bits.specs.Crc.{IsCheckOf}
+use Rattle.dcp_pft.specs.Head.{PftFragment, Spells, head, fragment_of}
 use Rattle.dcp_pft.specs.Laws.{OneFragment}
 use Rattle.dcp_pft.proofs.Sizes.{short_chunks}
 use Rattle.dcp_pft.proofs.Shapes.{code_of}
@@ -53,10 +52,6 @@ same_by shape packet first second is here there (Some rs) has =
 
 pub one_parity_of : (shape : Shape) (packet first second : List ℕ) → HasShortChunks shape → IsParityOf shape packet first → IsParityOf shape packet second → second ≡ first
 one_parity_of shape packet first second is here there = same_by shape packet first second is here there shape.rs refl
-
--- a header has one check value
-one_check : (bytes : List ℕ) (m n : ℕ) → IsCheckOf bytes m → IsCheckOf bytes n → m ≡ n
-one_check bytes m n is other = IsCheck-unique 16 4129 crc16_polynomial (bits_of bytes) m n crc16_low is.narrow other.narrow is.is other.is
 
 one_spelling : (f : PftFragment) (first second : List ℕ) → Spells f first → Spells f second → second ≡ first
 one_spelling f first second is other =

@@ -4,6 +4,7 @@ use Rattle.std.proofs.Math.Nat.{mul-le-mul_left}
 use Rattle.std.proofs.Math.Seq.{take-append-add}
 use Rattle.std.proofs.lemmas.Bool.{cases_lt}
 use Rattle.std.proofs.lemmas.List.{take_at, drop_at, drop-drop, take-append-le, drop-append-le, take_all, take-replicate, length-replicate, replicate-append-replicate, take-take, drop-take, append-nil, length-take-le, nil_from_length}
+use Rattle.drm_bits.proofs.PutLemmas.{same_before}
 use Rattle.rs_erase.specs.Code.{IsCodeWord, word_of}
 use Rattle.dcp_pft.specs.declared.shape.Rs.{Rs}
 use Rattle.dcp_pft.specs.declared.shape.Shape.{Shape}
@@ -33,22 +34,6 @@ more_zeros chunk parity k within small =
     let zeros = zeros_are (207 - length chunk) (k - length chunk) (207 - length (chunk ++ replicate (k - length chunk) 0)) all in
     ap (λ (l : List ℕ). chunk ++ l ++ parity) zeros
     ∙ two_parts chunk (replicate (k - length chunk) 0) (replicate (207 - length (chunk ++ replicate (k - length chunk) 0)) 0) parity
-
--- what was put in its place stands there
-pub put_there : (old last new : List ℕ) (at n : ℕ) → at + n ≤ length old → length last ≡ n → new ≡ take at old ++ last ++ drop (at + length last) old
-    → take n (drop at new) ≡ last
-put_there old last new at n room long is =
-    let rest : List ℕ = drop (at + length last) old in
-    let front : length (take at old) ≡ at = length-take-le at old (omega arith) in
-    ap (λ (l : List ℕ). take n (drop at l)) (is ∙ append_assoc (take at old) last rest)
-    ∙ (ap (take n) (drop_at (take at old) (last ++ rest) at front) ∙ take_at last rest n long)
-
--- what stands before a place is known from what is before it
-pub same_before : (old new : List ℕ) (at place n : ℕ) → take at new ≡ take at old → place + n ≤ at → take n (drop place new) ≡ take n (drop place old)
-same_before old new at place n same within =
-    let part : (l : List ℕ) → take n (drop place l) ≡ take n (drop place (take at l)) = λ l.
-    sym (drop-take place n l) ∙ (ap (drop place) (sym (take-take (place + n) at l within)) ∙ drop-take place n (take at l)) in
-    part new ∙ (ap (λ (l : List ℕ). take n (drop place l)) same ∙ sym (part old))
 
 -- a chunk of the packet, filled where it is the last
 pub chunk_filled : (c k z : ℕ) (packet : List ℕ) → c * k ≡ length packet + z → z < k → (j : ℕ) → j < c

@@ -4,7 +4,8 @@ use Rattle.std.specs.Int.{w16, to_be_bytes}
 use Rattle.std.proofs.lemmas.Bool.{cases_lt}
 use Rattle.std.proofs.lemmas.List.{take_at, drop_at, drop-drop, get_or_append_left, get_or-append_right}
 use Rattle.drm_bits.specs.Bits.{IsBytes}
-use Rattle.dcp_pft.specs.Head.{PftFragment, IsCheckOf, head}
+use Rattle.drm_bits.specs.Crc.{IsCheckOf}
+use Rattle.dcp_pft.specs.Head.{PftFragment, head}
 use Rattle.dcp_pft.specs.Writing.{PutsHead, Writes}
 
 pub IsBytes-append : (xs ys : List ℕ) → IsBytes xs → IsBytes ys → IsBytes (xs ++ ys)

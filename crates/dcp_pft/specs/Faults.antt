@@ -6,7 +6,8 @@ use Rattle.dcp_pft.specs.declared.shape.Rs.{Rs}
 use Rattle.dcp_pft.specs.declared.fragment.Addr.{Addr}
 use Rattle.dcp_pft.specs.declared.fault.PftFault.{PftFault}
 use Rattle.dcp_pft.specs.declared.fault.PftFault.TheVariants.{Sync, HeadCut, HeadCrc, Count, Index, PlenMismatch, RsK, RsZ, TooMany, TooLarge, Chunks}
-use Rattle.dcp_pft.specs.Head.{sync, IsCheckOf}
+use Rattle.drm_bits.specs.Crc.{IsCheckOf}
+use Rattle.dcp_pft.specs.Head.{sync}
 
 -- the numbers at their places
 abbrev pub sequence_number : List ℕ → ℕ

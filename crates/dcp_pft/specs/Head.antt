@@ -1,8 +1,7 @@
 -- PFT fragments (TS 102 821).
 use Rattle.std.specs.Prelude.{ℕ, ◌≡◌, ◌+◌, ◌*◌, ◌^◌, ◌<◌, List, [], ◌∷◌, ◌++◌, drop, length, Option, None, Some}
 use Rattle.std.specs.Int.{w16, w32, to_be_bytes}
-use Rattle.drm_bits.specs.Bits.{digits, bits_of}
-use Rattle.drm_bits.specs.Crc.{IsCheck, crc16_polynomial}
+use Rattle.drm_bits.specs.Crc.{IsCheckOf}
 use Rattle.dcp_pft.specs.declared.shape.Rs.{Rs}
 use Rattle.dcp_pft.specs.declared.shape.Shape.{Shape}
 use Rattle.dcp_pft.specs.declared.fragment.Addr.{Addr}
@@ -47,11 +46,6 @@ head f =
     sync ++ to_be_bytes w16 f.seq ++ three_bytes f.index ++ three_bytes f.count
     ++ to_be_bytes w16 (32768 * flag f.rs + 16384 * flag f.addr + length f.payload)
     ++ rs_bytes f.rs ++ addr_bytes f.addr
-
--- the number is the check value of these bytes
-pub record IsCheckOf (bytes : List ℕ) (check : ℕ) : Type 0 where
-  pub narrow : check < 2 ^ 16
-  pub is : IsCheck crc16_polynomial (bits_of bytes) (digits 16 check)
 
 -- The bytes are the header of this fragment, its check value, and its payload.
 pub record Spells (f : PftFragment) (bytes : List ℕ) : Type 0 where

@@ -2,7 +2,8 @@
 use Rattle.std.specs.Prelude.{ℕ, ◌≡◌, ◌+◌, ◌≤◌, List, ◌++◌, take, drop, length}
 use Rattle.std.specs.Int.{w16, to_be_bytes}
 use Rattle.drm_bits.specs.Bits.{IsBytes}
-use Rattle.dcp_pft.specs.Head.{PftFragment, IsCheckOf, Spells}
+use Rattle.drm_bits.specs.Crc.{IsCheckOf}
+use Rattle.dcp_pft.specs.Head.{PftFragment, Spells}
 
 -- these bytes with their check value are written to the front
 pub record PutsHead (head old new : List ℕ) : Type 0 where

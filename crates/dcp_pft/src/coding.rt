@@ -5,8 +5,9 @@ ghost use Rattle.rs_erase.specs.Code.{IsCodeWord, word_of};
 ghost use Rattle.dcp_pft.specs.Cutting.{IsShapeOf, chunks_of};
 ghost use Rattle.dcp_pft.specs.Coding.{IsParityOf, AreParities};
 
-use crate::parts::{part, put};
+use crate::parts::part;
 use crate::shape::{PARITY_BYTES, Shape};
+use drm_bits::put_at;
 use rs_erase::encode;
 
 /// Writes the parity of a packet that is cut in this shape: 48 bytes for each chunk.
@@ -43,5 +44,5 @@ fn code_chunk(chunk: &[u8], parity: &mut [u8], at: usize)
 {
     let mut last = [0; 48];
     encode(chunk, &mut last);
-    put(parity, at, &last);
+    put_at(parity, at, &last);
 }

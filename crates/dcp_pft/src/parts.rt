@@ -1,16 +1,6 @@
-//! Parts of bytes, read and written over.
+//! Parts of bytes.
 
-ghost use Rattle.std.specs.Prelude.{◌≡◌, ◌+◌, ◌^◌, ◌<◌, ◌≤◌, ◌++◌, length, take, drop};
-ghost use Rattle.drm_bits.specs.Bits.{IsBytes};
-
-// Writes bytes over those from a place on.
-pub(crate) fn put(into: &mut [u8], at: usize, bytes: &[u8])
-    requires { at + length bytes.now ≤ length into.old }
-    ensures put { into.new ≡ take at into.old ++ bytes.now ++ drop (at + length bytes.now) into.old }
-    ensures bytes { IsBytes bytes.now }
-{
-    into[at..at + bytes.len()].copy_from_slice(bytes);
-}
+ghost use Rattle.std.specs.Prelude.{◌≡◌, ◌+◌, ◌^◌, ◌<◌, take, drop};
 
 // So many bytes from a place on, or as many as there are.
 pub(crate) fn part(bytes: &[u8], at: usize, size: usize) -> &[u8]

@@ -1,13 +1,14 @@
 //! A fragment, read.
 
 ghost use Rattle.std.specs.Prelude.{◌≡◌, ◌≤◌, ◌+◌, ◌/◌, List, ℕ, length, IfOk, IfErr, IsOkAnd, OnOk, MatchBool, IsSomeAnd, IfSome};
-ghost use Rattle.dcp_pft.specs.Head.{PftFragment, IsCheckOf};
+ghost use Rattle.drm_bits.specs.Crc.{IsCheckOf};
+ghost use Rattle.dcp_pft.specs.Head.{PftFragment};
 ghost use Rattle.dcp_pft.specs.Faults.{IsFault, IsFirst, NoneOf, table, payload, head_size, checked_bytes, check_value};
 ghost use Rattle.dcp_pft.specs.Reading.{pft_of, IsPft, IsHeadOf, size_rows, check_rows, number_rows, JudgesCode};
 
 use crate::head::{CHECK_BYTES, Head, LEAST_HEAD, head_of, size_of_head};
 use crate::{Fragment, PftFault, Rs};
-use drm_bits::crc16;
+use drm_bits::compare_crc16;
 
 const MOST_FRAGMENTS: u32 = 1024;
 
@@ -84,10 +85,9 @@ fn compare(datagram: &[u8], size: usize) -> Result<(), PftFault>
     ensures check { OnOk result (IsCheckOf (checked_bytes datagram.now) (check_value datagram.now)) }
 {
     let (front, check) = datagram[..size].split_at(size - CHECK_BYTES);
-    if u16::from_be_bytes([check[0], check[1]]) == crc16(front) {
-        Ok(())
-    } else {
-        Err(PftFault::HeadCrc)
+    match compare_crc16(front, check) {
+        Ok(()) => Ok(()),
+        Err(_) => Err(PftFault::HeadCrc),
     }
 }
 

@@ -8,10 +8,10 @@ ghost use Rattle.dcp_pft.specs.Coding.{IsParityOf, byte_or_zero, coded, every};
 ghost use Rattle.dcp_pft.specs.Head.{Spells, IsFragmentOf, fragment_of, sync, three_bytes};
 ghost use Rattle.dcp_pft.specs.Writing.{PutsHead, Writes};
 
-use crate::parts::{part, put};
+use crate::parts::part;
 use crate::place::Place;
 use crate::shape::{CODED_HEAD, PARITY_BYTES, PLAIN_HEAD, Rs, Shape};
-use drm_bits::crc16;
+use drm_bits::{crc16, put_at};
 
 /// The first of the two flags before the length of the payload: there is a code. The second, for addresses, is not set.
 const CODED: u16 = 0x8000;
@@ -80,7 +80,7 @@ fn write_plain(shape: &Shape, seq: u16, index: u32, packet: &[u8], into: &mut [u
         &plain_head(seq, index, shape.count, payload.len() as u16),
         into,
     );
-    put(into, PLAIN_HEAD as usize, payload);
+    put_at(into, PLAIN_HEAD as usize, payload);
     PLAIN_HEAD as usize + payload.len()
 }
 
@@ -119,8 +119,8 @@ fn put_head(head: &[u8], into: &mut [u8])
     requires { length head.now + 2 ≤ length into.old }
     ensures { PutsHead head.now into.old into.new }
 {
-    put(into, 0, head);
-    put(into, head.len(), &crc16(head).to_be_bytes());
+    put_at(into, 0, head);
+    put_at(into, head.len(), &crc16(head).to_be_bytes());
 }
 
 // Writes every count-th byte of the coded chunks of k bytes, from the first one on.

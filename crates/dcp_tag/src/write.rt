@@ -6,14 +6,7 @@ ghost use Rattle.dcp_tag.specs.Tag.{bytes_for, head, IsWritten};
 ghost use Rattle.dcp_tag.specs.Reading.{item_of};
 
 use crate::head::HEAD_BYTES;
-
-// Writes bytes over those from a place on.
-fn put(into: &mut [u8], at: usize, bytes: &[u8])
-    requires { at + length bytes.now ≤ length into.old }
-    ensures { into.new ≡ take at into.old ++ bytes.now ++ drop (at + length bytes.now) into.old }
-{
-    into[at..at + bytes.len()].copy_from_slice(bytes);
-}
+use drm_bits::put_at;
 
 /// Writes an item from the byte `at` on, and answers the byte behind it. `bits` is the length of the value in bits.
 pub fn write_item(into: &mut [u8], at: usize, name: [u8; 4], bits: u32, value: &[u8]) -> usize
@@ -26,8 +19,8 @@ pub fn write_item(into: &mut [u8], at: usize, name: [u8; 4], bits: u32, value: &
     ensures spelling { IsWritten (item_of name bits value.now) (slice_range into.new at result) }
 {
     let value_at = at + HEAD_BYTES;
-    put(into, at, &name);
-    put(into, at + 4, &bits.to_be_bytes());
-    put(into, value_at, value);
+    put_at(into, at, &name);
+    put_at(into, at + 4, &bits.to_be_bytes());
+    put_at(into, value_at, value);
     value_at + value.len()
 }

@@ -6,7 +6,7 @@ use Rattle.std.proofs.lemmas.Nat.Bits.{and_pow, bit_at-lt}
 use Rattle.std.specs.Int.{bit_at, bit_not, Width}
 use mir.Val.{bits}
 use Rattle.drm_bits.specs.Bits.{value, digits, bits_of}
-use Rattle.drm_bits.specs.Crc.{plus, sum, zeros, times, complement, IsMultiple, prepared, IsCheck, crc8_polynomial, crc16_polynomial}
+use Rattle.drm_bits.specs.Crc.{plus, sum, zeros, times, complement, IsMultiple, prepared, IsCheck, IsCheckOf, crc8_polynomial, crc16_polynomial}
 use Rattle.drm_bits.proofs.BitsLemmas.{length-digits}
 use Rattle.drm_bits.proofs.DigitsLemmas.{digits-push, digits-doubled, digits-xor, digits-not, value-digits}
 use Rattle.std.proofs.Math.Nat.{mul-div_cancel, mul-mod_left, mul_assoc, pow-suc}
@@ -182,3 +182,7 @@ crc8_of_nothing = IsCheck-start 8 (digits 8 29) crc8_polynomial refl crc8_low re
 pub crc16_of_nothing : IsCheck crc16_polynomial [] (digits 16 0)
 unfolding digits
 crc16_of_nothing = IsCheck-start 16 (digits 16 4129) crc16_polynomial refl crc16_low refl
+
+-- bytes have one check value of sixteen bits
+pub one_check : (bytes : List ℕ) (m n : ℕ) → IsCheckOf bytes m → IsCheckOf bytes n → m ≡ n
+one_check bytes m n is other = IsCheck-unique 16 4129 crc16_polynomial (bits_of bytes) m n crc16_low is.narrow other.narrow is.is other.is

@@ -9,3 +9,4 @@ mod EightShifts
 pub mod BitWrites
 pub mod SinkLemmas
 pub mod PutLemmas
+pub mod WroteLemmas

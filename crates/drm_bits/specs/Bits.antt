@@ -1,11 +1,18 @@
 -- Bits: lists of digits, the greatest first, as in the formats of ES 201 980, TS 102 820 and TS 102 821.
-use Rattle.std.specs.Prelude.{ℕ, zero, suc, ◌+◌, ◌*◌, ◌/◌, ◌%◌, ◌^◌, ◌==◌, ◌<◌, Bool, List, [], ◌∷◌, ◌++◌, length, slice_index}
+use Rattle.std.specs.Prelude.{ℕ, zero, suc, ◌+◌, ◌*◌, ◌/◌, ◌%◌, ◌^◌, ◌==◌, ◌<◌, Bool, List, [], ◌∷◌, ◌++◌, length, take, slice_index}
 use Rattle.std.specs.Int.{from_bool}
 
 -- the number that the digits stand for, as a sum of powers of two
 abbrev pub value : List Bool → ℕ
 value [] = 0
 value (b ∷ bs) = from_bool b * 2 ^ length bs + value bs
+
+-- the number of the first w bits, and the first bit
+abbrev pub front : ℕ → List Bool → ℕ
+front w bits = value (take w bits)
+
+abbrev pub bit : List Bool → Bool
+bit bits = front 1 bits == 1
 
 -- the w digits of a number below 2 ^ w
 unfoldable pub digits : ℕ → ℕ → List Bool

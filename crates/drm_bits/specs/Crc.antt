@@ -1,6 +1,7 @@
 -- Check values (ES 201 980, TS 102 821), by multiples of a polynomial over bits.
 -- A polynomial is the list of its coefficients, the highest power first.
-use Rattle.std.specs.Prelude.{ℕ, ◌≡◌, ◌+◌, ◌-◌, Bool, true, false, not, List, [], ◌∷◌, ◌++◌, length, map, replicate}
+use Rattle.std.specs.Prelude.{ℕ, ◌≡◌, ◌+◌, ◌-◌, ◌<◌, ◌^◌, Bool, true, false, not, List, [], ◌∷◌, ◌++◌, length, map, replicate}
+use Rattle.drm_bits.specs.Bits.{digits, bits_of}
 
 -- the sum of two coefficients
 abbrev pub plus : Bool → Bool → Bool
@@ -53,3 +54,8 @@ crc8_polynomial = true ∷ false ∷ false ∷ false ∷ true ∷ true ∷ true 
 abbrev pub crc16_polynomial : List Bool
 crc16_polynomial =
     true ∷ false ∷ false ∷ false ∷ true ∷ false ∷ false ∷ false ∷ false ∷ false ∷ false ∷ true ∷ false ∷ false ∷ false ∷ false ∷ true ∷ []
+
+-- the number is the check value of sixteen bits of these bytes
+pub record IsCheckOf (bytes : List ℕ) (check : ℕ) : Type 0 where
+  pub narrow : check < 2 ^ 16
+  pub is : IsCheck crc16_polynomial (bits_of bytes) (digits 16 check)

@@ -3,3 +3,4 @@ pub mod Crc
 pub mod Fields
 pub mod Sink
 pub mod Description
+pub mod Compared

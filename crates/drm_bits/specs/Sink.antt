@@ -1,5 +1,5 @@
 -- A bit sink: the bits that were written, and those behind them, as they were.
-use Rattle.std.specs.Prelude.{List, Bool, take, drop}
+use Rattle.std.specs.Prelude.{◌≡◌, ◌++◌, List, Bool, take, drop}
 use Rattle.std.specs.Borrow.{GName}
 use Rattle.drm_bits.specs.declared.bit_sink.BitSink.{BitSink}
 use Rattle.drm_bits.specs.Bits.{bits_of}
@@ -15,3 +15,8 @@ unwritten s = drop s.at (bits_of s.bytes.now)
 -- the reference that the sink was made of
 abbrev pub lender : BitSink → GName
 lender s = s.bytes.ghost_name
+
+-- These bits, behind those that were written.
+pub record Wrote (bits : List Bool) (old new : BitSink) : Type 0 where
+  pub more : written new ≡ written old ++ bits
+  pub same_reference : lender new ≡ lender old

@@ -4,15 +4,18 @@
 mod bit_sink;
 mod bits;
 mod bytes;
+mod compared;
 mod crc;
 mod crc_run;
 mod description;
+mod fields;
 mod octets;
 mod remainders;
 
 pub use bit_sink::BitSink;
 pub use bits::{Bits, Short};
 pub use bytes::{put_at, zeros};
+pub use compared::{WrongCheck, compare_crc16};
 pub use crc::{crc8, crc16};
 pub use crc_run::CrcRun;
 pub use description::{MuxDesc, Part};

@@ -9,7 +9,7 @@ use Rattle.drm_fac.specs.declared.mode.Mode.{Mode}
 use Rattle.drm_schedule.specs.declared.plan.Plan.{Plan}
 use Rattle.drm_timeline.specs.Description.{description_of}
 use Rattle.dcp_af.specs.Packet.{AfPacket, IsAf, head}
-use Rattle.dcp_af.proofs.Answered.{one_check}
+use Rattle.drm_bits.proofs.Checks.{one_check}
 use Rattle.dcp_tag.specs.Tag as tag
 use Rattle.mdi_items.specs.Names.{name_at, sdc_}
 use Rattle.mdi_items.specs.Written.{spelling, stream_pieces}

@@ -1,6 +1,7 @@
 use Rattle.std.proofs.Common.{◌≡◌, ◌+◌, ◌-◌, ◌≤◌, take, drop, true, false, sym, subst, ◌∙◌, length, arith}
 use Rattle.std.proofs.lemmas.Result.{err_from_is_err_and}
-use Rattle.dcp_af.specs.Packet.{AfPacket, IsCheckOf, IsAf}
+use Rattle.drm_bits.specs.Crc.{IsCheckOf}
+use Rattle.dcp_af.specs.Packet.{AfPacket, IsAf}
 use Rattle.dcp_af.specs.Faults.{is_checked, checked_bytes, check_value}
 use Rattle.dcp_af.proofs.Spellings.{packet_at}
 use Rattle.dcp_af.proofs.Answered.{fault_only, fault_is, payload_is, given_is, found_at, no_fault, is_packet_at, compared, right_at}

@@ -14,8 +14,8 @@ two : (c : goal.After-slice_known-3-1) → length c.to_be_bytes.result ≡ 2
 two c = ap length c.to_be_bytes.ensures
 
 -- all bytes afterwards
-whole : (c : goal.After-slice_known-3-1) → c.put-2.new.into ≡ c.head.result ++ inner c.args.payload c.args.into.now ++ c.to_be_bytes.result ++ drop (10 + c.args.payload + 2) c.args.into.now
-whole c = packet_written c.args.into.now c.put.new.into c.put-2.new.into c.head.result c.to_be_bytes.result c.args.payload (ten c) (two c) c.requires.room c.put.ensures c.put-2.ensures
+whole : (c : goal.After-slice_known-3-1) → c.put_at-2.new.into ≡ c.head.result ++ inner c.args.payload c.args.into.now ++ c.to_be_bytes.result ++ drop (10 + c.args.payload + 2) c.args.into.now
+whole c = packet_written c.args.into.now c.put_at.new.into c.put_at-2.new.into c.head.result c.to_be_bytes.result c.args.payload (ten c) (two c) c.requires.room c.put_at.ensures.put c.put_at-2.ensures.put
 
 -- the packet
 abbrev made : (c : goal.After-slice_known-3-1) → AfPacket
@@ -34,8 +34,8 @@ returns-clause-packet c =
     let last : List ℕ = c.to_be_bytes.result in
     let payload : List ℕ = inner c.args.payload c.args.into.now in
     let packet = ap (take (10 + c.args.payload + 2)) (whole c) ∙ take_at (c.head.result ++ payload ++ last) (drop (10 + c.args.payload + 2) c.args.into.now) (10 + c.args.payload + 2) (size c) in
-    let front : take (10 + c.args.payload) c.put.new.into ≡ head (made c) ++ payload =
-    head_written c.args.into.now c.put.new.into c.head.result c.args.payload (ten c) c.requires.room c.put.ensures ∙ ap (λ (l : List ℕ). l ++ payload) (head_is c) in (
+    let front : take (10 + c.args.payload) c.put_at.new.into ≡ head (made c) ++ payload =
+    head_written c.args.into.now c.put_at.new.into c.head.result c.args.payload (ten c) c.requires.room c.put_at.ensures.put ∙ ap (λ (l : List ℕ). l ++ payload) (head_is c) in (
       c.crc16-check.result,
       record {
         fits = record { seq = c.ranges.seq.fits; minor = omega arith; payload = omega (arith, length-inner c.args.payload c.args.into.now c.requires.room, c.requires.fits) };
@@ -48,7 +48,7 @@ returns-clause-packet c =
 
 pub returns-clause-payload : goal.returns-clause-payload
 returns-clause-payload c =
-    payload_kept c.args.into.now c.put-2.new.into c.head.result c.to_be_bytes.result (drop (10 + c.args.payload + 2) c.args.into.now) c.args.payload (ten c) c.requires.room (whole c)
+    payload_kept c.args.into.now c.put_at-2.new.into c.head.result c.to_be_bytes.result (drop (10 + c.args.payload + 2) c.args.into.now) c.args.payload (ten c) c.requires.room (whole c)
 
 pub returns-clause-behind : goal.returns-clause-behind
 returns-clause-behind c =

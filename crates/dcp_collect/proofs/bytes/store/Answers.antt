@@ -1,12 +1,12 @@
 use Rattle.std.proofs.Common.{ℕ, zero, suc, ◌≡◌, ◌+◌, ◌-◌, ◌*◌, ◌<◌, ◌≤◌, inl, inr, length, get_or, slice_set, sym, ap, ◌∙◌, arith}
 use Rattle.std.proofs.lemmas.Bool.{cases_eq, cases_lt}
-use Rattle.dcp_collect.proofs.Telling.{put_before, put_at, put_behind}
+use Rattle.drm_bits.proofs.PutLemmas.{put_before, put_byte, put_behind}
 use Rattle.std.proofs.lemmas.List.{get_or-set_same, get_or-set_other, length-set}
 use Rattle.std.proofs.lemmas.Nat.{same_from_place}
 use Rattle.dcp_collect.proofs.bytes.store.Goals as goal
 
-pub put-requires : goal.put-requires
-put-requires c =
+pub put_at-requires : goal.put_at-requires
+put_at-requires c =
     let n = length c.args.payload.now in
     room n (λ j l. let r = c.requires.room j l in let e = c.if-step-eq1.true in let m : j * c.args.step ≡ j * 1 = ap (λ s. j * s) e in omega (arith, r, m))
   where
@@ -16,20 +16,20 @@ put-requires c =
 
 pub returns-then-step-eq1-clause-there : goal.returns-then-step-eq1-clause-there
 returns-then-step-eq1-clause-there c = λ j l.
-    put_at c.args.bytes.now c.args.payload.now c.put.new.into c.args.start j (c.args.start + j * c.args.step) c.requires.start c.put.ensures l
+    put_byte c.args.bytes.now c.args.payload.now c.put_at.new.into c.args.start j (c.args.start + j * c.args.step) c.requires.start c.put_at.ensures.put l
     (let m : j * c.args.step ≡ j * 1 = ap (λ s. j * s) c.if-step-eq1.true in omega (arith, m))
 
 pub returns-then-step-eq1-clause-others : goal.returns-then-step-eq1-clause-others
 returns-then-step-eq1-clause-others c = λ p apart.
     let n = length c.args.payload.now in
     elim (cases_lt p c.args.start) [
-      | inl before ↦ put_before c.args.bytes.now c.args.payload.now c.put.new.into c.args.start p c.requires.start c.put.ensures before
+      | inl before ↦ put_before c.args.bytes.now c.args.payload.now c.put_at.new.into c.args.start p c.requires.start c.put_at.ensures.put before
       | inr from ↦ elim (cases_lt p (c.args.start + n)) [
         | inl inside ↦
             let j = p - c.args.start in
             let m : (p - c.args.start) * c.args.step ≡ (p - c.args.start) * 1 = ap (λ s. (p - c.args.start) * s) c.if-step-eq1.true in
             absurd (apart (p - c.args.start) (omega (arith, from, inside)) (omega (arith, m, from)))
-        | inr behind ↦ put_behind c.args.bytes.now c.args.payload.now c.put.new.into c.args.start p c.requires.start c.put.ensures (omega (arith, behind))
+        | inr behind ↦ put_behind c.args.bytes.now c.args.payload.now c.put_at.new.into c.args.start p c.requires.start c.put_at.ensures.put (omega (arith, behind))
       ]
     ]
 

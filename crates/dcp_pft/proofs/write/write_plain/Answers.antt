@@ -3,14 +3,14 @@ use Rattle.dcp_pft.proofs.Fragments.{plain_writes}
 use Rattle.dcp_pft.proofs.Shapes.{has_none}
 use Rattle.dcp_pft.proofs.write.write_plain.Goals as goal
 
-pub put-requires : goal.put-requires
-put-requires c =
+pub put_at-requires : goal.put_at-requires
+put_at-requires c =
     let has = has_none (length c.args.packet.now) c.args.shape.now c.requires.shape c.requires.code in
     omega (arith, has.piece, ap length c.part-payload.ensures, length-take c.from-size.result (drop (c.args.index * c.from-size.result) c.args.packet.now), c.told-into)
 
 pub returns : goal.returns
 returns c = λ parity.
-    plain_writes c.args.shape.now c.args.seq c.args.index c.args.packet.now parity c.plain_head.result c.args.into.now c.put_head.new.into c.put.new.into c.part-payload.result.now
+    plain_writes c.args.shape.now c.args.seq c.args.index c.args.packet.now parity c.plain_head.result c.args.into.now c.put_head.new.into c.put_at.new.into c.part-payload.result.now
     c.requires.shape c.requires.code
     (c.part-payload.ensures ∙ ap (λ (n : ℕ). take n (drop (c.args.index * n) c.args.packet.now)) c.from-size.ensures)
-    c.plain_head.ensures c.put_head.ensures c.put.ensures.bytes c.put.ensures.put
+    c.plain_head.ensures c.put_head.ensures c.put_at.ensures.bytes c.put_at.ensures.put

@@ -12,8 +12,8 @@ returns-clause-written c =
     let four : length c.args.name ≡ 4 = omega arith in
     let width : length number ≡ 4 = ap length c.to_be_bytes.ensures in
     let size : length (c.args.name ++ number) ≡ 8 = omega (arith, length-append c.args.name number, four, width) in
-    let head_written = put-after into c.put.new.into c.put-2.new.into c.args.name number c.args.at (c.args.at + 4) (omega (arith, c.requires.room, four)) (omega (arith, four)) c.put.ensures c.put-2.ensures in
-    let all_written = put-after into c.put-2.new.into c.put-3.new.into (c.args.name ++ number) c.args.value.now c.args.at (c.args.at + 8) (omega (arith, c.requires.room, size)) (omega (arith, size)) head_written c.put-3.ensures in
+    let head_written = put-after into c.put_at.new.into c.put_at-2.new.into c.args.name number c.args.at (c.args.at + 4) (omega (arith, c.requires.room, four)) (omega (arith, four)) c.put_at.ensures.put c.put_at-2.ensures.put in
+    let all_written = put-after into c.put_at-2.new.into c.put_at-3.new.into (c.args.name ++ number) c.args.value.now c.args.at (c.args.at + 8) (omega (arith, c.requires.room, size)) (omega (arith, size)) head_written c.put_at-3.ensures.put in
     let total : c.args.at + length (c.args.name ++ number ++ c.args.value.now) ≡ c.args.at + 8 + length c.args.value.now =
     omega (arith, length-append (c.args.name ++ number) c.args.value.now, size) in
     all_written
@@ -26,7 +26,7 @@ returns-clause-spelling c =
     let end : ℕ = c.args.at + 8 + length c.args.value.now in
     let four : length c.args.name ≡ 4 = omega arith in
     let size : c.args.at + length spelling ≡ end = omega (arith, length-append (head c.args.name c.args.bits) c.args.value.now, length-head c.args.name c.args.bits four) in
-    let piece = put-piece c.args.into.now c.put-3.new.into spelling c.args.at end (omega (arith, c.requires.room, size)) (sym size) (returns-clause-written c) in
+    let piece = put-piece c.args.into.now c.put_at-3.new.into spelling c.args.at end (omega (arith, c.requires.room, size)) (sym size) (returns-clause-written c) in
     let is = padded c.args.name c.args.bits c.args.value.now four c.ranges.bits.fits c.requires.size in
     let zeros = subst (λ (p : List Bool). IsPadded (item_of c.args.name c.args.bits c.args.value.now) p spelling) c.requires.padding is in
     (_, subst (λ (l : List ℕ). IsPadded (item_of c.args.name c.args.bits c.args.value.now) (replicate (8 * length c.args.value.now - c.args.bits) false) l) (sym piece) zeros)
