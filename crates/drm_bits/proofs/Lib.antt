@@ -10,3 +10,4 @@ pub mod BitWrites
 pub mod SinkLemmas
 pub mod PutLemmas
 pub mod WroteLemmas
+pub mod PartLemmas

@@ -1,19 +1,34 @@
 -- Bits that are written one behind another.
-use Rattle.std.proofs.Common.{◌≡◌, ℕ, zero, suc, ◌+◌, ◌<◌, List, [], ◌∷◌, ◌++◌, Bool, length, take, get_or, refl, sym, ◌∙◌, ap, subst, arith, append_assoc}
-use Rattle.std.proofs.lemmas.List.{append-nil}
+use Rattle.std.proofs.Common.{◌≡◌, ℕ, zero, suc, ◌+◌, ◌<◌, List, [], ◌∷◌, ◌++◌, Bool, length, take, get_or, refl, sym, ◌∙◌, ap, subst, arith, append_assoc, length-append, drop}
+use Rattle.std.proofs.lemmas.List.{append-nil, drop-drop}
 use Rattle.drm_bits.specs.Bits.{digits}
 use Rattle.std.specs.Int.{from_bool}
 use Rattle.drm_bits.specs.Fields.{Field, spelled}
+use Rattle.drm_bits.proofs.BitsLemmas.{length-digits}
 use Rattle.drm_bits.proofs.FieldLemmas.{spelled-append}
-use Rattle.drm_bits.specs.Sink.{Wrote, written}
+use Rattle.drm_bits.specs.Sink.{Wrote, written, unwritten, lender}
 use Rattle.drm_bits.specs.declared.bit_sink.BitSink.{BitSink}
 
+-- one number is written
+pub wrote_number : (s t : BitSink) (w n m : ℕ) → n ≡ m → written t ≡ written s ++ digits w n → unwritten t ≡ drop w (unwritten s) → lender t ≡ lender s
+    → Wrote (digits w m) s t
+wrote_number s t w n m same more behind reference = record {
+  more = more ∙ ap (λ k. written s ++ digits w k) same;
+  behind = behind ∙ ap (λ k. drop k (unwritten s)) (sym (length-digits w m));
+  same_reference = reference;
+}
+
 pub wrote_none : (s : BitSink) → Wrote [] s s
-wrote_none s = record { more = sym (append-nil (written s)); same_reference = refl }
+wrote_none s = record { more = sym (append-nil (written s)); behind = refl; same_reference = refl }
 
 pub then : {a b : List Bool} {s t u : BitSink} → Wrote a s t → Wrote b t u → Wrote (a ++ b) s u
 then {a} {b} {s} {t} {u} x y =
-    record { more = y.more ∙ (ap (λ l. l ++ b) x.more ∙ append_assoc (written s) a b); same_reference = y.same_reference ∙ x.same_reference }
+    let long : length a + length b ≡ length (a ++ b) = sym (length-append a b) in
+    record {
+      more = y.more ∙ (ap (λ l. l ++ b) x.more ∙ append_assoc (written s) a b);
+      behind = y.behind ∙ (ap (drop (length b)) x.behind ∙ (drop-drop (length b) (length a) (unwritten s) ∙ ap (λ n. drop n (unwritten s)) long));
+      same_reference = y.same_reference ∙ x.same_reference;
+    }
 
 -- the last field of a list
 pub last : {a : List Bool} {s t : BitSink} → Wrote a s t → Wrote (a ++ []) s t

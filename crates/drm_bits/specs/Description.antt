@@ -1,5 +1,6 @@
 -- The multiplex description (ES 201 980, TS 102 820): protections, and the lengths of each stream's parts.
-use Rattle.std.specs.Prelude.{◌≡◌, ◌-◌, ◌≤◌, List, [], ◌∷◌, take, drop, replicate, ◌<◌, ◌^◌, length, All}
+use Rattle.std.specs.Prelude.{ℕ, zero, suc, Bool, ◌≡◌, ◌++◌, ◌-◌, ◌≤◌, List, [], ◌∷◌, take, drop, replicate, ◌<◌, ◌^◌, length, All}
+use Rattle.drm_bits.specs.Bits.{front}
 use Rattle.drm_bits.specs.Fields.{Field, field}
 use Rattle.drm_bits.specs.declared.description.Part.{Part}
 use Rattle.drm_bits.specs.declared.description.MuxDesc.{MuxDesc}
@@ -28,3 +29,17 @@ part_fields (p ∷ parts) = field 12 p.a ∷ field 12 p.b ∷ part_fields parts
 -- both protections in 2 bits each, then the parts
 abbrev pub description_fields : MuxDesc → List Field
 description_fields d = field 2 d.prot_a ∷ field 2 d.prot_b ∷ part_fields (described d)
+
+-- what stands in the bits, whatever they are: so many parts, and the description of so many streams
+abbrev pub parts_from : ℕ → List Bool → List Part
+parts_from zero bits = []
+parts_from (suc n) bits = record { a = front 12 bits; b = front 12 (drop 12 bits) } ∷ parts_from n (drop 12 (drop 12 bits))
+
+abbrev pub description_from : ℕ → List Bool → MuxDesc
+description_from n bits =
+    record {
+      prot_a = front 2 bits;
+      prot_b = front 2 (drop 2 bits);
+      count = n;
+      parts = parts_from n (drop 2 (drop 2 bits)) ++ replicate (4 - n) (record { a = 0; b = 0 });
+    }

@@ -1,5 +1,5 @@
 -- A bit sink: the bits that were written, and those behind them, as they were.
-use Rattle.std.specs.Prelude.{◌≡◌, ◌++◌, List, Bool, take, drop}
+use Rattle.std.specs.Prelude.{◌≡◌, ◌++◌, List, Bool, length, take, drop}
 use Rattle.std.specs.Borrow.{GName}
 use Rattle.drm_bits.specs.declared.bit_sink.BitSink.{BitSink}
 use Rattle.drm_bits.specs.Bits.{bits_of}
@@ -16,7 +16,8 @@ unwritten s = drop s.at (bits_of s.bytes.now)
 abbrev pub lender : BitSink → GName
 lender s = s.bytes.ghost_name
 
--- These bits, behind those that were written.
+-- These bits, behind those that were written; what stands behind them stays.
 pub record Wrote (bits : List Bool) (old new : BitSink) : Type 0 where
   pub more : written new ≡ written old ++ bits
+  pub behind : unwritten new ≡ drop (length bits) (unwritten old)
   pub same_reference : lender new ≡ lender old

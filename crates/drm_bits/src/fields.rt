@@ -64,7 +64,6 @@ impl<'a> BitSink<'a> {
     pub fn put_flag(&mut self, set: bool)
         requires { 1 ≤ length (unwritten self.old) }
         ensures wrote { Wrote (digits 1 (from_bool set)) self.old self.new }
-        ensures unwritten { unwritten self.new ≡ drop 1 (unwritten self.old) }
         ensures left { length (unwritten self.new) + 1 ≡ length (unwritten self.old) }
     {
         self.put_u32(u32::from(set), 1);
@@ -76,7 +75,6 @@ impl<'a> BitSink<'a> {
         requires fits { number < 2 ^ width }
         requires room { width ≤ length (unwritten self.old) }
         ensures wrote { Wrote (digits width number) self.old self.new }
-        ensures unwritten { unwritten self.new ≡ drop width (unwritten self.old) }
         ensures left { length (unwritten self.new) + width ≡ length (unwritten self.old) }
     {
         self.put_u32(u32::from(number), width);
@@ -88,7 +86,6 @@ impl<'a> BitSink<'a> {
         requires fits { number < 2 ^ width }
         requires room { width ≤ length (unwritten self.old) }
         ensures wrote { Wrote (digits width number) self.old self.new }
-        ensures unwritten { unwritten self.new ≡ drop width (unwritten self.old) }
         ensures left { length (unwritten self.new) + width ≡ length (unwritten self.old) }
     {
         self.put_u32(u32::from(number), width);
@@ -100,7 +97,6 @@ impl<'a> BitSink<'a> {
         requires fits { number < 2 ^ width }
         requires room { width ≤ length (unwritten self.old) }
         ensures wrote { Wrote (digits width number) self.old self.new }
-        ensures unwritten { unwritten self.new ≡ drop width (unwritten self.old) }
         ensures left { length (unwritten self.new) + width ≡ length (unwritten self.old) }
     {
         match self.put(u64::from(number), width) {

@@ -1,10 +1,9 @@
 //! The channel parameters.
 
-ghost use Rattle.std.specs.Prelude.{◌≡◌, ◌+◌, ◌≤◌, ◌++◌, ◌↔◌, length, IsTrue};
+ghost use Rattle.std.specs.Prelude.{◌≡◌, ◌+◌, ◌≤◌, ◌↔◌, length, IsTrue};
 ghost use Rattle.drm_bits.specs.Fields.{BeginsWith, Fit, spelled};
-ghost use Rattle.drm_bits.specs.Sink.{written, unwritten, lender};
+ghost use Rattle.drm_bits.specs.Sink.{Wrote, unwritten};
 
-use crate::fields::{flag, number, put, put_flag};
 use drm_bits::{BitSink, Bits};
 
 /// The channel parameters of a FAC, 20 bits (ES 201 980, "Channel parameters"). Codes are kept as they stand, also
@@ -42,15 +41,15 @@ impl Channel {
         ensures left { length bits.new + 20 ≡ length bits.old }
     {
         Channel {
-            enhancement: flag(bits),
-            identity: number(bits, 2),
-            occupancy: number(bits, 4),
-            short_depth: flag(bits),
-            msc: number(bits, 2),
-            qam4: flag(bits),
-            services: number(bits, 4),
-            index: number(bits, 3),
-            last: number(bits, 2),
+            enhancement: bits.take_flag(),
+            identity: bits.take_u8(2),
+            occupancy: bits.take_u8(4),
+            short_depth: bits.take_flag(),
+            msc: bits.take_u8(2),
+            qam4: bits.take_flag(),
+            services: bits.take_u8(4),
+            index: bits.take_u8(3),
+            last: bits.take_u8(2),
         }
     }
 
@@ -58,19 +57,18 @@ impl Channel {
     pub(crate) fn write(self, sink: &mut BitSink<'_>)
         requires fits { Fit (channel_fields self) }
         requires room { 20 ≤ length (unwritten sink.old) }
-        ensures written { written sink.new ≡ written sink.old ++ spelled (channel_fields self) }
+        ensures wrote { Wrote (spelled (channel_fields self)) sink.old sink.new }
         ensures left { length (unwritten sink.new) + 20 ≡ length (unwritten sink.old) }
-        ensures same_reference { lender sink.new ≡ lender sink.old }
     {
-        put_flag(sink, self.enhancement);
-        put(sink, u32::from(self.identity), 2);
-        put(sink, u32::from(self.occupancy), 4);
-        put_flag(sink, self.short_depth);
-        put(sink, u32::from(self.msc), 2);
-        put_flag(sink, self.qam4);
-        put(sink, u32::from(self.services), 4);
-        put(sink, u32::from(self.index), 3);
-        put(sink, u32::from(self.last), 2);
+        sink.put_flag(self.enhancement);
+        sink.put_u8(self.identity, 2);
+        sink.put_u8(self.occupancy, 4);
+        sink.put_flag(self.short_depth);
+        sink.put_u8(self.msc, 2);
+        sink.put_flag(self.qam4);
+        sink.put_u8(self.services, 4);
+        sink.put_u8(self.index, 3);
+        sink.put_u8(self.last, 2);
     }
 
     /// Whether each field fits its width.

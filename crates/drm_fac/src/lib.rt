@@ -4,7 +4,6 @@
 
 mod channel;
 mod fac;
-mod fields;
 mod mode;
 mod order;
 mod service;

@@ -1,10 +1,9 @@
 //! The service parameters.
 
-ghost use Rattle.std.specs.Prelude.{◌≡◌, ◌+◌, ◌≤◌, ◌++◌, ◌↔◌, length, IsTrue};
+ghost use Rattle.std.specs.Prelude.{◌≡◌, ◌+◌, ◌≤◌, ◌↔◌, length, IsTrue};
 ghost use Rattle.drm_bits.specs.Fields.{BeginsWith, Fit, spelled};
-ghost use Rattle.drm_bits.specs.Sink.{written, unwritten, lender};
+ghost use Rattle.drm_bits.specs.Sink.{Wrote, unwritten};
 
-use crate::fields::{flag, long_number, number, put, put_flag};
 use drm_bits::{BitSink, Bits};
 
 /// The parameters of one service in a FAC, 44 bits (ES 201 980, "Service parameters"). Codes are kept as they stand,
@@ -39,14 +38,14 @@ impl Service {
         ensures left { length bits.new + 44 ≡ length bits.old }
     {
         Service {
-            id: long_number(bits, 24),
-            short: number(bits, 2),
-            ca: flag(bits),
-            language: number(bits, 4),
-            is_data: flag(bits),
-            descriptor: number(bits, 5),
-            data_ca: flag(bits),
-            last: number(bits, 6),
+            id: bits.take_u32(24),
+            short: bits.take_u8(2),
+            ca: bits.take_flag(),
+            language: bits.take_u8(4),
+            is_data: bits.take_flag(),
+            descriptor: bits.take_u8(5),
+            data_ca: bits.take_flag(),
+            last: bits.take_u8(6),
         }
     }
 
@@ -54,18 +53,17 @@ impl Service {
     pub(crate) fn write(self, sink: &mut BitSink<'_>)
         requires fits { Fit (service_fields self) }
         requires room { 44 ≤ length (unwritten sink.old) }
-        ensures written { written sink.new ≡ written sink.old ++ spelled (service_fields self) }
+        ensures wrote { Wrote (spelled (service_fields self)) sink.old sink.new }
         ensures left { length (unwritten sink.new) + 44 ≡ length (unwritten sink.old) }
-        ensures same_reference { lender sink.new ≡ lender sink.old }
     {
-        put(sink, self.id, 24);
-        put(sink, u32::from(self.short), 2);
-        put_flag(sink, self.ca);
-        put(sink, u32::from(self.language), 4);
-        put_flag(sink, self.is_data);
-        put(sink, u32::from(self.descriptor), 5);
-        put_flag(sink, self.data_ca);
-        put(sink, u32::from(self.last), 6);
+        sink.put_u32(self.id, 24);
+        sink.put_u8(self.short, 2);
+        sink.put_flag(self.ca);
+        sink.put_u8(self.language, 4);
+        sink.put_flag(self.is_data);
+        sink.put_u8(self.descriptor, 5);
+        sink.put_flag(self.data_ca);
+        sink.put_u8(self.last, 6);
     }
 
     /// Whether each field fits its width.

@@ -1,4 +1,3 @@
-pub mod PartLemmas
 pub mod SdciLemmas
 pub mod RangeLemmas
 pub mod StreamLemmas

@@ -10,7 +10,7 @@ use Rattle.drm_bits.specs.declared.description.MuxDesc.{MuxDesc}
 use Rattle.drm_mux.specs.declared.frame.Spans.{Spans}
 use Rattle.drm_mux.specs.Frame.{parts_a, parts_b, multiplex_frame, pieces, streams_in, part_length, frame_length, stream_length, HaveTheirLengths}
 use Rattle.drm_mux.specs.Ranges.{ranges_a, ranges_b, ranges}
-use Rattle.drm_mux.proofs.PartLemmas.{no_part}
+use Rattle.drm_bits.proofs.PartLemmas.{no_part}
 
 -- a stream is as long as both of its parts, also where it isn't described
 pub covers : (d : MuxDesc) (spans : Spans) → IsDescription d → HaveTheirLengths d spans → (k : ℕ) → k < 4 → stream_length d k ≤ get_or spans.len k 0

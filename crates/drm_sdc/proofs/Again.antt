@@ -2,10 +2,9 @@
 use Rattle.std.proofs.Common.{◌≡◌, ℕ, ◌+◌, ◌-◌, ◌*◌, ◌/◌, nat_eq, Bool, true, false, List, [], ◌∷◌, ◌++◌, length, drop, replicate, Option, None, Some, is_some, refl, sym, ◌∙◌, ap, subst, arith, cond}
 use Rattle.std.proofs.lemmas.List.{drop-drop, length-take-le, take-append-drop, get_or-drop}
 use Rattle.std.specs.Int.{from_bool}
-use Rattle.drm_bits.specs.Bits.{bits_of}
+use Rattle.drm_bits.specs.Bits.{bits_of, front, bit}
 use Rattle.drm_bits.specs.Fields.{AreFields}
-use Rattle.drm_bits.specs.Description.{IsDescription, described, part_fields, description_fields}
-use Rattle.drm_bits.specs.declared.description.Part.{Part}
+use Rattle.drm_bits.specs.Description.{IsDescription, description_fields, description_from}
 use Rattle.drm_bits.specs.declared.description.MuxDesc.{MuxDesc}
 use Rattle.drm_sdc.specs.declared.channels.Channel15.{Channel15}
 use Rattle.drm_sdc.specs.declared.body.AppMode.{AppMode}
@@ -13,8 +12,9 @@ use Rattle.drm_sdc.specs.declared.body.AppMode.TheVariants.{Sync, Packet}
 use Rattle.drm_sdc.specs.declared.body.Body.{Body}
 use Rattle.drm_sdc.specs.declared.body.Body.TheVariants.{Mux, Label, Freq, When, App, Time, Audio, Next, Language, Raw}
 use Rattle.drm_sdc.specs.Bodies.{octets, channel_fields, body_fields, kind_of, count, body_length, is_typed, IsBody}
-use Rattle.drm_sdc.specs.Reading.{front, bit, parts_from, mux_from, label_from, optional_from, behind, channels_from, has_restriction, has_region, freq_from, when_from, in_packets, sync_from, packet_from, app_from, time_from, audio_middle, audio_from, next_from, language_from, raw_from, typed_from, body_from}
+use Rattle.drm_sdc.specs.Reading.{mux_from, label_from, optional_from, behind, channels_from, has_restriction, has_region, freq_from, when_from, in_packets, sync_from, packet_from, app_from, time_from, audio_middle, audio_from, next_from, language_from, raw_from, typed_from, body_from}
 use Rattle.drm_bits.proofs.ByteBits.{bits_of-drop}
+use Rattle.drm_bits.proofs.PartLemmas.{description_again}
 use Rattle.drm_sdc.proofs.FieldLaws.{AreBytes, flag_again, octets_again}
 
 -- Bytes behind the first four bits. They are cut off in pieces, as they are read.
@@ -24,31 +24,12 @@ AreBehind bytes bits = drop 4 bits ≡ bits_of bytes
 octets_behind : (xs bytes : List ℕ) (rest : List Bool) → AreBytes bytes → rest ≡ bits_of bytes → AreFields (octets xs) rest → xs ≡ bytes
 octets_behind xs bytes rest small is are = octets_again xs bytes small (subst (AreFields (octets xs)) is are)
 
-parts_again : (parts : List Part) (bits : List Bool) → AreFields (part_fields parts) bits → parts ≡ parts_from (length parts) bits
-parts_again [] bits are = refl
-parts_again (p ∷ parts) bits are =
-    let a : p.a ≡ front 12 bits = sym are.1 in
-    let b : p.b ≡ front 12 (drop 12 bits) = sym are.2.1 in
-    let rest = parts_again parts (drop 12 (drop 12 bits)) are.2.2 in
-    ap (λ (l : List Part). p ∷ l) rest
-    ∙ (ap (λ n. record { a = n; b = p.b } ∷ parts_from (length parts) (drop 12 (drop 12 bits))) a
-    ∙ ap (λ n. record { a = front 12 bits; b = n } ∷ parts_from (length parts) (drop 12 (drop 12 bits))) b)
-
 third : (n len : ℕ) → 3 * n ≡ len → n ≡ len / 3
 third n len is = omega arith
 
 mux_again : (d : MuxDesc) (bits : List Bool) (bytes : List ℕ) → IsDescription d → 3 * d.count ≡ length bytes → AreFields (description_fields d) bits → Mux d ≡ mux_from bits bytes
 mux_again d bits bytes is size are =
-    let n : d.count ≡ length bytes / 3 = third d.count (length bytes) size in
-    let long : length (described d) ≡ d.count = length-take-le d.count d.parts (omega (arith, is.size, is.count)) in
-    let read : described d ≡ parts_from d.count (drop 2 (drop 2 bits)) = parts_again (described d) (drop 2 (drop 2 bits)) are.2.2 ∙ ap (λ m. parts_from m (drop 2 (drop 2 bits))) long in
-    let parts : d.parts ≡ parts_from d.count (drop 2 (drop 2 bits)) ++ replicate (4 - d.count) (record { a = 0; b = 0 }) =
-    sym (take-append-drop d.count d.parts)
-    ∙ (ap (λ l. l ++ drop d.count d.parts) read ∙ ap (λ l. parts_from d.count (drop 2 (drop 2 bits)) ++ l) is.rest) in
-    ap (λ (l : List Part). Mux (record { prot_a = d.prot_a; prot_b = d.prot_b; count = d.count; parts = l })) parts
-    ∙ (ap (λ m. Mux (record { prot_a = d.prot_a; prot_b = d.prot_b; count = m; parts = parts_from m (drop 2 (drop 2 bits)) ++ replicate (4 - m) (record { a = 0; b = 0 }) })) n
-    ∙ (ap (λ m. Mux (record { prot_a = m; prot_b = d.prot_b; count = length bytes / 3; parts = parts_from (length bytes / 3) (drop 2 (drop 2 bits)) ++ replicate (4 - length bytes / 3) (record { a = 0; b = 0 }) })) (sym are.1)
-    ∙ ap (λ m. Mux (record { prot_a = front 2 bits; prot_b = m; count = length bytes / 3; parts = parts_from (length bytes / 3) (drop 2 (drop 2 bits)) ++ replicate (4 - length bytes / 3) (record { a = 0; b = 0 }) })) (sym are.2.1)))
+    ap Mux (description_again d bits is are) ∙ ap (λ n. Mux (description_from n bits)) (third d.count (length bytes) size)
 
 label_again : (short spare : ℕ) (text : List ℕ) (bits : List Bool) (bytes : List ℕ) → AreBytes bytes → AreBehind bytes bits → AreFields (body_fields (Label short spare text)) bits → Label short spare text ≡ label_from bits bytes
 label_again short spare text bits bytes small behind are =

@@ -20,7 +20,8 @@ use Rattle.drm_sdc.specs.declared.body.Body.{Body}
 use Rattle.drm_sdc.specs.declared.body.Body.TheVariants.{Mux, Label, Freq, When, App, Time, Audio, Next, Language, Raw}
 use Rattle.drm_sdc.specs.Bodies.{octets, optional, channel_fields, mode_fields, mode_length, body_fields, kind_of, count, mode_size, body_length, is_typed, IsBody}
 use Rattle.drm_sdc.specs.Entity.{entity_fields, entity_size, empty_entity, IsEntity}
-use Rattle.drm_sdc.specs.Reading.{front, bit, has_restriction, has_region, optional_count, in_packets, body_from, has_body_length, described_length, described_kind, body_bits, entity_from, IsSound}
+use Rattle.drm_bits.specs.Bits.{front, bit}
+use Rattle.drm_sdc.specs.Reading.{has_restriction, has_region, optional_count, in_packets, body_from, has_body_length, described_length, described_kind, body_bits, entity_from, IsSound}
 use Rattle.drm_sdc.specs.Field.{IsTail, first_entity}
 use Rattle.drm_sdc.proofs.FieldLaws.{AreBytes, widths, length-fields, widths-append, widths-octets, flag_again, front-bit, fields_fit}
 use Rattle.drm_sdc.proofs.Again.{AreBehind, body_again}

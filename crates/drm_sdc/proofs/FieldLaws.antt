@@ -7,7 +7,7 @@ use Rattle.drm_bits.specs.Fields.{Field, field, flag, AreFields, Fit, spelled}
 use Rattle.drm_bits.proofs.BitsLemmas.{length-digits, length-bits_of, value-below}
 use Rattle.drm_bits.proofs.DigitsLemmas.{value-digits}
 use Rattle.drm_sdc.specs.Bodies.{octets}
-use Rattle.drm_sdc.specs.Reading.{front, bit}
+use Rattle.drm_bits.specs.Bits.{front, bit}
 
 abbrev pub AreBytes : List ℕ → Type 0
 AreBytes bytes = (i : ℕ) → get_or bytes i 0 < 2 ^ 8

@@ -8,7 +8,7 @@ use Rattle.drm_bits.specs.Crc.{zeros}
 use Rattle.drm_bits.proofs.BitsLemmas.{length-digits, length-bits_of}
 use Rattle.drm_bits.proofs.DigitsLemmas.{digits-value}
 use Rattle.drm_bits.proofs.Checks.{bits_of-push}
-use Rattle.drm_sdc.specs.Reading.{front}
+use Rattle.drm_bits.specs.Bits.{front}
 use Rattle.drm_sdc.specs.Block.{first_form, IsFramed, IsOpen}
 use Rattle.drm_sdc.proofs.EntityLaws.{front-below}
 

@@ -4,14 +4,13 @@ use Rattle.std.proofs.lemmas.List.{drop-drop, take_at, drop_at, length-replicate
 use Rattle.std.proofs.lemmas.Bool.{and_parts, or_cases, eqb-true, leb-true, cond_both}
 use Rattle.std.specs.Int.{from_bool}
 use Rattle.std.specs.Str.{IsUtf8}
-use Rattle.drm_bits.specs.Bits.{bits_of}
+use Rattle.drm_bits.specs.Bits.{bits_of, front}
 use Rattle.drm_bits.specs.Fields.{Field, AreFields}
-use Rattle.drm_bits.specs.Description.{part_fields}
-use Rattle.drm_bits.specs.declared.description.Part.{Part}
 use Rattle.drm_sdc.specs.declared.body.Body.{Body}
 use Rattle.drm_sdc.specs.declared.body.Body.TheVariants.{Time}
 use Rattle.drm_sdc.specs.Bodies.{octets, optional, channel_fields, body_fields, kind_of, count, body_length, is_typed, IsBody}
-use Rattle.drm_sdc.specs.Reading.{front, parts_from, mux_from, label_from, optional_from, behind, channels_from, has_restriction, has_region, freq_from, when_from, in_packets, sync_from, packet_from, app_from, time_from, audio_middle, audio_from, next_from, language_from, raw_from, body_from, has_body_length}
+use Rattle.drm_sdc.specs.Reading.{mux_from, label_from, optional_from, behind, channels_from, has_restriction, has_region, freq_from, when_from, in_packets, sync_from, packet_from, app_from, time_from, audio_middle, audio_from, next_from, language_from, raw_from, body_from, has_body_length}
+use Rattle.drm_bits.proofs.PartLemmas.{description_made, is_description_from}
 use Rattle.drm_sdc.proofs.FieldLaws.{AreBytes, front-bit, octets_are}
 use Rattle.drm_sdc.proofs.Again.{AreBehind, byte_behind, small_behind}
 
@@ -29,34 +28,15 @@ nothing_left : (rest : List Bool) → length rest ≡ 0 → rest ≡ []
 nothing_left [] none = refl
 nothing_left (b ∷ rest) none = absurd (omega (arith, none))
 
-length-parts : (n : ℕ) (bits : List Bool) → length (parts_from n bits) ≡ n
-length-parts zero bits = refl
-length-parts (suc n) bits = ap suc (length-parts n (drop 12 (drop 12 bits)))
-
-parts_made : (n : ℕ) (bits : List Bool) → length bits ≡ 24 * n → AreFields (part_fields (parts_from n bits)) bits
-parts_made zero bits size = nothing_left bits size
-parts_made (suc n) bits size =
-    let rest : length (drop 12 (drop 12 bits)) ≡ 24 * n = simp length-drop (omega (arith, size)) in
-    ((omega (arith, size)), refl, (((simp length-drop (omega (arith, size))), refl, (parts_made n (drop 12 (drop 12 bits)) rest))))
-
 mux_made : (bits : List Bool) (bytes : List ℕ) → length bits ≡ 4 + 8 * length bytes → has_body_length 0 bits (length bytes) ≡ true → IsMade 0 bits (length bytes) (mux_from bits bytes)
 mux_made bits bytes size right =
     let tests = and_parts _ _ right in
     let whole : length bytes % 3 ≡ 0 = eqb-true _ _ tests.0 in
     let few : length bytes ≤ 12 = leb-true _ _ tests.1 in
     let n : ℕ = length bytes / 3 in
-    let rest : List Bool = drop 2 (drop 2 bits) in
-    let none : List Part = replicate (4 - n) (record { a = 0; b = 0 }) in
-    let long : length (parts_from n rest) ≡ n = length-parts n rest in
-    let all : length rest ≡ 24 * n = simp length-drop (omega (arith, size, whole)) in
-    let front_is : take n (parts_from n rest ++ none) ≡ parts_from n rest = take_at (parts_from n rest) none n long in
     record {
-      fields = ((omega (arith, size)), refl, (((simp length-drop (omega (arith, size))), refl, (subst (λ (l : List Part). AreFields (part_fields l) rest) (sym front_is) (parts_made n rest all)))));
-      body = record {
-        size = omega (arith, length-append (parts_from n rest) none, long, length-replicate (4 - n) (let p : Part = record { a = 0; b = 0 } in p));
-        count = omega (arith, few);
-        rest = drop_at (parts_from n rest) none n long;
-      };
+      fields = description_made n bits (omega (arith, few)) (omega (arith, size, whole));
+      body = is_description_from n bits (omega (arith, few));
       kind_is = refl;
       size = omega (arith, whole);
     }

@@ -17,7 +17,7 @@ use Rattle.drm_sdc.specs.Field.{IsTail, IsField}
 use Rattle.drm_sdc.specs.Writing.{entity_bits, total_size}
 use Rattle.drm_sdc.proofs.FieldLaws.{AreBytes, length-spelled}
 use Rattle.drm_sdc.proofs.EntityLaws.{widths-entity, small_rest, size_within}
-use Rattle.drm_sdc.proofs.Written.{each}
+use Rattle.drm_bits.proofs.WroteLemmas.{each}
 
 zero_bytes : (n : ℕ) → AreBytes (replicate n 0)
 zero_bytes zero i = omega arith

@@ -1,8 +1,8 @@
 -- What stands in the bits of an entity, whatever they are: the numbers of its header and of each body.
 use Rattle.std.specs.Prelude.{ℕ, zero, suc, ◌≡◌, ◌+◌, ◌-◌, ◌/◌, ◌%◌, ◌==◌, ◌&&◌, ◌||◌, nat_le, Bool, true, false, if◌then◌else◌, List, [], ◌∷◌, ◌++◌, length, take, drop, replicate, Option, None, Some, IsUtf8}
 use Rattle.std.specs.Int.{from_bool}
-use Rattle.drm_bits.specs.Bits.{value, bits_of}
-use Rattle.drm_bits.specs.declared.description.Part.{Part}
+use Rattle.drm_bits.specs.Bits.{bits_of, front, bit}
+use Rattle.drm_bits.specs.Description.{description_from}
 use Rattle.drm_sdc.specs.declared.channels.Channel15.{Channel15}
 use Rattle.drm_sdc.specs.declared.entity.Entity.{Entity}
 use Rattle.drm_sdc.specs.declared.body.AppMode.TheVariants.{Sync, Packet}
@@ -10,27 +10,9 @@ use Rattle.drm_sdc.specs.declared.body.Body.{Body}
 use Rattle.drm_sdc.specs.declared.body.Body.TheVariants.{Mux, Label, Freq, When, App, Time, Audio, Next, Language, Raw}
 use Rattle.drm_sdc.specs.Bodies.{is_typed}
 
--- the number of the first w bits, and the first bit
-abbrev pub front : ℕ → List Bool → ℕ
-front w bits = value (take w bits)
-
-abbrev pub bit : List Bool → Bool
-bit bits = front 1 bits == 1
-
 -- A body is in the bits from its first four on; its bytes are those behind the four.
-abbrev pub parts_from : ℕ → List Bool → List Part
-parts_from zero bits = []
-parts_from (suc n) bits = record { a = front 12 bits; b = front 12 (drop 12 bits) } ∷ parts_from n (drop 12 (drop 12 bits))
-
 abbrev pub mux_from : List Bool → List ℕ → Body
-mux_from bits bytes =
-    let n : ℕ = length bytes / 3 in
-    Mux (record {
-      prot_a = front 2 bits;
-      prot_b = front 2 (drop 2 bits);
-      count = n;
-      parts = parts_from n (drop 2 (drop 2 bits)) ++ replicate (4 - n) (record { a = 0; b = 0 });
-    })
+mux_from bits bytes = Mux (description_from (length bytes / 3) bits)
 
 abbrev pub label_from : List Bool → List ℕ → Body
 label_from bits bytes = Label (front 2 bits) (front 2 (drop 2 bits)) bytes

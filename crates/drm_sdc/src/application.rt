@@ -3,7 +3,6 @@
 ghost use Rattle.std.specs.Prelude.{◌≡◌, ◌≤◌, ◌+◌, ◌*◌, true, ℕ, length, IfOk};
 ghost use Rattle.drm_sdc.specs.Reading.{app_from, sync_from, packet_from, in_packets};
 
-use crate::fields::{flag, number};
 use crate::{AppMode, Body};
 use drm_bits::{Bits, NoMemory, Octets};
 use std::alloc::Global;
@@ -14,9 +13,9 @@ pub fn read_application(alloc: Global, bits: &mut Bits<'_>, bytes: &[u8]) -> Res
     requires bits { length bits.old ≡ 4 + 8 * length bytes.now }
     ensures { IfOk result (λ b. b ≡ app_from bits.old bytes.now) }
 {
-    let short = number(bits, 2);
-    let stream = number(bits, 2);
-    if flag(bits) {
+    let short = bits.take_u8(2);
+    let stream = bits.take_u8(2);
+    if bits.take_flag() {
         read_packet(alloc, short, stream, bits, bytes)
     } else {
         read_sync(alloc, short, stream, bits, bytes)
@@ -35,10 +34,10 @@ fn read_sync(
     ensures { IfOk result (λ b. b ≡ sync_from short stream bits.old bytes.now) }
 {
     let packet = AppMode::Sync {
-        spare: number(bits, 3),
+        spare: bits.take_u8(3),
     };
-    let enhancement = flag(bits);
-    let domain = number(bits, 3);
+    let enhancement = bits.take_flag();
+    let domain = bits.take_u8(3);
     let bytes = Octets::from_slice(alloc, &bytes[1..])?;
     Ok(Body::App {
         short,
@@ -61,11 +60,11 @@ fn read_packet(
     requires bits { 15 ≤ length bits.old }
     ensures { IfOk result (λ b. b ≡ packet_from short stream bits.old bytes.now) }
 {
-    let unit = flag(bits);
-    let pid = number(bits, 2);
-    let enhancement = flag(bits);
-    let domain = number(bits, 3);
-    let length = number(bits, 8);
+    let unit = bits.take_flag();
+    let pid = bits.take_u8(2);
+    let enhancement = bits.take_flag();
+    let domain = bits.take_u8(3);
+    let length = bits.take_u8(8);
     let bytes = Octets::from_slice(alloc, &bytes[2..])?;
     Ok(Body::App {
         short,

@@ -4,7 +4,6 @@ ghost use Rattle.std.specs.Prelude.{◌≡◌, ◌≤◌, length, IfOk};
 ghost use Rattle.drm_sdc.specs.Reading.{audio_from};
 
 use crate::Body;
-use crate::fields::{flag, number};
 use drm_bits::{Bits, NoMemory, Octets};
 use std::alloc::Global;
 
@@ -15,16 +14,16 @@ pub fn read_audio(alloc: Global, bits: &mut Bits<'_>, bytes: &[u8]) -> Result<Bo
 {
     let config = Octets::from_slice(alloc, &bytes[2..])?;
     Ok(Body::Audio {
-        short: number(bits, 2),
-        stream: number(bits, 2),
-        coding: number(bits, 2),
-        sbr: flag(bits),
-        mode: number(bits, 2),
-        rate: number(bits, 3),
-        text: flag(bits),
-        enhancement: flag(bits),
-        coder: number(bits, 5),
-        spare: flag(bits),
+        short: bits.take_u8(2),
+        stream: bits.take_u8(2),
+        coding: bits.take_u8(2),
+        sbr: bits.take_flag(),
+        mode: bits.take_u8(2),
+        rate: bits.take_u8(3),
+        text: bits.take_flag(),
+        enhancement: bits.take_flag(),
+        coder: bits.take_u8(5),
+        spare: bits.take_flag(),
         config,
     })
 }

@@ -1,22 +1,20 @@
 //! Which bodies can be written.
 
-ghost use Rattle.std.specs.Prelude.{◌≡◌, ◌↔◌, ◌+◌, ◌*◌, ◌<◌, ◌^◌, IsTrue, length, replicate, Option};
+ghost use Rattle.std.specs.Prelude.{◌≡◌, ◌↔◌, ◌+◌, ◌*◌, ◌<◌, ◌^◌, IsTrue, length};
 ghost use Rattle.drm_bits.specs.Fields.{Fit};
-ghost use Rattle.drm_bits.specs.Description.{IsDescription, part_fields, description_fields};
-ghost use Rattle.drm_bits.specs.declared.description.Part.{Part};
 ghost use Rattle.drm_sdc.specs.Bodies.{body_length, channel_fields, is_typed, octets, optional, count, mode_size, mode_fields, mode_length};
 ghost use Rattle.drm_sdc.specs.Entity.{BodyFits};
 ghost use Rattle.drm_sdc.specs.declared.body.AppMode.TheVariants.{Sync, Packet};
 ghost use Rattle.drm_sdc.specs.declared.body.Body.TheVariants.{Mux, Label, Freq, When, App, Time, Audio, Next, Language, Raw};
 
 use crate::{AppMode, Body, Channel15, Channels};
-use drm_bits::{MuxDesc, Octets, Part};
+use drm_bits::Octets;
 
 pub fn body_fits(body: &Body) -> bool
     ensures { IsTrue result ↔ BodyFits body.now }
 {
     match body {
-        Body::Mux { desc } => is_description(desc) && parts_fit(desc),
+        Body::Mux { desc } => desc.is_description() && desc.fits(),
         Body::Label { short, spare, text } => label_fits(*short, *spare, text),
         Body::Freq {
             restriction,
@@ -156,51 +154,4 @@ fn channels_fit(channels: &[Channel15]) -> bool
         }
     }
     true
-}
-
-fn is_description(desc: &MuxDesc) -> bool
-    ensures { IsTrue result ↔ IsDescription desc.now }
-{
-    desc.count <= 4 && all_zero(&desc.parts[usize::from(desc.count)..])
-}
-
-fn all_zero(parts: &[Part]) -> bool
-    ensures { IsTrue result ↔ (parts.now ≡ replicate (length parts.now) (record { a = 0; b = 0 })) }
-{
-    for part in parts {
-        if !is_zero(*part) {
-            return false;
-        }
-    }
-    true
-}
-
-fn is_zero(part: Part) -> bool
-    ensures { IsTrue result ↔ ((part.a ≡ 0) × (part.b ≡ 0)) }
-{
-    part.a == 0 && part.b == 0
-}
-
-fn parts_fit(desc: &MuxDesc) -> bool
-    requires { IsDescription desc.now }
-    ensures { IsTrue result ↔ Fit (description_fields desc.now) }
-{
-    desc.prot_a < 4 && desc.prot_b < 4 && all_narrow(&desc.parts[..usize::from(desc.count)])
-}
-
-fn all_narrow(parts: &[Part]) -> bool
-    ensures { IsTrue result ↔ Fit (part_fields parts.now) }
-{
-    for part in parts {
-        if !is_narrow(*part) {
-            return false;
-        }
-    }
-    true
-}
-
-fn is_narrow(part: Part) -> bool
-    ensures { IsTrue result ↔ ((part.a < 2 ^ 12) × (part.b < 2 ^ 12)) }
-{
-    part.a < 1 << 12 && part.b < 1 << 12
 }

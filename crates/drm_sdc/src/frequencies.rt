@@ -1,10 +1,11 @@
 //! Lists of frequencies in entities.
 
 ghost use Rattle.std.specs.Prelude.{◌≡◌, ◌≤◌, ◌+◌, ◌-◌, ◌*◌, ◌%◌, length, drop, IfOk};
-ghost use Rattle.drm_sdc.specs.Reading.{freq_from, channels_from, optional_count, front, bit};
+ghost use Rattle.drm_bits.specs.Bits.{front, bit};
+ghost use Rattle.drm_sdc.specs.Reading.{freq_from, channels_from, optional_count};
 ghost use Rattle.drm_sdc.specs.declared.channels.Channel15.{Channel15};
 
-use crate::fields::{flag, optional, wide};
+use crate::optional::take_optional;
 use crate::{Body, Channel15, Channels};
 use drm_bits::{Bits, NoMemory};
 use std::alloc::Global;
@@ -15,12 +16,12 @@ pub fn read_frequencies(alloc: Global, bits: &mut Bits<'_>, bytes: &[u8]) -> Res
     requires bits { length bits.old ≡ 4 + 8 * length bytes.now }
     ensures { IfOk result (λ b. b ≡ freq_from bits.old bytes.now) }
 {
-    let sync = flag(bits);
-    let layer = flag(bits);
-    let has_restriction = flag(bits);
-    let has_region = flag(bits);
-    let restriction = optional(bits, has_restriction);
-    let region = optional(bits, has_region);
+    let sync = bits.take_flag();
+    let layer = bits.take_flag();
+    let has_restriction = bits.take_flag();
+    let has_region = bits.take_flag();
+    let restriction = take_optional(bits, has_restriction);
+    let region = take_optional(bits, has_region);
     let optional_count = usize::from(has_restriction) + usize::from(has_region);
     let list = read_channels(alloc, bits, (bytes.len() - optional_count) / 2)?;
     Ok(Body::Freq {
@@ -50,7 +51,7 @@ fn read_channel(bits: &mut Bits<'_>) -> Channel15
     ensures left { length bits.new + 16 ≡ length bits.old }
 {
     Channel15 {
-        first: flag(bits),
-        number: wide(bits, 15),
+        first: bits.take_flag(),
+        number: bits.take_u16(15),
     }
 }

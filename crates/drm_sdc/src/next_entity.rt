@@ -5,7 +5,6 @@ ghost use Rattle.drm_sdc.specs.Reading.{described_length, has_body_length, optio
 ghost use Rattle.drm_sdc.specs.Field.{IsTail, IsCut, IsEntityFault, first_entity, IsNext};
 
 use crate::SdcFault;
-use crate::fields::{flag, number};
 use drm_bits::Bits;
 
 /// The bytes of the entity that begins at `at`, or `None` where the tail does.
@@ -42,7 +41,7 @@ fn header_length(bytes: &[u8]) -> usize
     ensures fits { result < 128 }
 {
     let mut bits = Bits::new(bytes, 8);
-    usize::from(number(&mut bits, 7))
+    usize::from(bits.take_u8(7))
 }
 
 fn check_entity(bytes: &[u8], len: usize, at: usize) -> Result<(), SdcFault>
@@ -54,9 +53,9 @@ fn check_entity(bytes: &[u8], len: usize, at: usize) -> Result<(), SdcFault>
 {
     let entity = &bytes[..2 + len];
     let mut bits = Bits::new(entity, 8 * entity.len());
-    let _length = number(&mut bits, 7);
-    let _version = flag(&mut bits);
-    let kind = number(&mut bits, 4);
+    let _length = bits.take_u8(7);
+    let _version = bits.take_flag();
+    let kind = bits.take_u8(4);
     if !is_body_length(kind, &mut bits, len) {
         return Err(SdcFault::BodyLength { at, kind, len });
     }
@@ -108,10 +107,10 @@ fn count_optional(bits: &mut Bits<'_>) -> usize
     requires { 4 ≤ length bits.old }
     ensures { result ≡ optional_count bits.old }
 {
-    let _sync = flag(bits);
-    let _layer = flag(bits);
-    let has_restriction = flag(bits);
-    let has_region = flag(bits);
+    let _sync = bits.take_flag();
+    let _layer = bits.take_flag();
+    let has_restriction = bits.take_flag();
+    let has_region = bits.take_flag();
     usize::from(has_restriction) + usize::from(has_region)
 }
 
@@ -119,7 +118,7 @@ fn is_packet_mode(bits: &mut Bits<'_>) -> bool
     requires { 5 ≤ length bits.old }
     ensures { result ≡ in_packets bits.old }
 {
-    let _short = number(bits, 2);
-    let _stream = number(bits, 2);
-    flag(bits)
+    let _short = bits.take_u8(2);
+    let _stream = bits.take_u8(2);
+    bits.take_flag()
 }

@@ -6,7 +6,6 @@ ghost use Rattle.drm_sdc.specs.Reading.{body_from, entity_from, has_body_length,
 use crate::application::read_application;
 use crate::audio::read_audio;
 use crate::description::read_description;
-use crate::fields::{flag, number};
 use crate::frequencies::read_frequencies;
 use crate::service::{read_label, read_language};
 use crate::settings::{read_next, read_time, read_when};
@@ -21,9 +20,9 @@ pub fn read_entity(alloc: Global, bytes: &[u8]) -> Result<Entity, NoMemory>
     ensures { IfOk result (λ e. e ≡ entity_from bytes.now) }
 {
     let mut bits = Bits::new(bytes, 8 * bytes.len());
-    let _length = number(&mut bits, 7);
-    let version = flag(&mut bits);
-    let kind = number(&mut bits, 4);
+    let _length = bits.take_u8(7);
+    let version = bits.take_flag();
+    let kind = bits.take_u8(4);
     let body = read_body(alloc, kind, &mut bits, &bytes[2..])?;
     Ok(Entity { version, body })
 }
@@ -51,7 +50,7 @@ fn read_raw(alloc: Global, kind: u8, bits: &mut Bits<'_>, bytes: &[u8]) -> Resul
     requires { 4 ≤ length bits.old }
     ensures { IfOk result (λ b. b ≡ raw_from kind bits.old bytes.now) }
 {
-    let nibble = number(bits, 4);
+    let nibble = bits.take_u8(4);
     let bytes = Octets::from_slice(alloc, bytes)?;
     Ok(Body::Raw {
         kind,

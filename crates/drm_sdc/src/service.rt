@@ -4,7 +4,6 @@ ghost use Rattle.std.specs.Prelude.{◌≡◌, ◌≤◌, length, IfOk};
 ghost use Rattle.drm_sdc.specs.Reading.{label_from, language_from};
 
 use crate::Body;
-use crate::fields::{long, number, wide};
 use drm_bits::{Bits, NoMemory, Octets};
 use std::alloc::Global;
 
@@ -12,8 +11,8 @@ pub fn read_label(alloc: Global, bits: &mut Bits<'_>, bytes: &[u8]) -> Result<Bo
     requires { 4 ≤ length bits.old }
     ensures { IfOk result (λ b. b ≡ label_from bits.old bytes.now) }
 {
-    let short = number(bits, 2);
-    let spare = number(bits, 2);
+    let short = bits.take_u8(2);
+    let spare = bits.take_u8(2);
     let text = Octets::from_slice(alloc, bytes)?;
     Ok(Body::Label { short, spare, text })
 }
@@ -23,9 +22,9 @@ pub fn read_language(bits: &mut Bits<'_>) -> Body
     ensures { result ≡ language_from bits.old }
 {
     Body::Language {
-        short: number(bits, 2),
-        spare: number(bits, 2),
-        language: long(bits, 24),
-        country: wide(bits, 16),
+        short: bits.take_u8(2),
+        spare: bits.take_u8(2),
+        language: bits.take_u32(24),
+        country: bits.take_u16(16),
     }
 }

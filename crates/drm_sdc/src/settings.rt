@@ -4,7 +4,7 @@ ghost use Rattle.std.specs.Prelude.{◌≡◌, ◌≤◌, ◌+◌, ◌*◌, leng
 ghost use Rattle.drm_sdc.specs.Reading.{when_from, time_from, next_from};
 
 use crate::Body;
-use crate::fields::{flag, long, number, optional, wide};
+use crate::optional::take_optional;
 use drm_bits::Bits;
 
 pub fn read_when(bits: &mut Bits<'_>) -> Body
@@ -12,10 +12,10 @@ pub fn read_when(bits: &mut Bits<'_>) -> Body
     ensures { result ≡ when_from bits.old }
 {
     Body::When {
-        id: number(bits, 4),
-        day: number(bits, 7),
-        start: wide(bits, 11),
-        duration: wide(bits, 14),
+        id: bits.take_u8(4),
+        day: bits.take_u8(7),
+        start: bits.take_u16(11),
+        duration: bits.take_u16(14),
     }
 }
 
@@ -24,10 +24,10 @@ pub fn read_time(bits: &mut Bits<'_>, bytes: &[u8]) -> Body
     requires bits { length bits.old ≡ 4 + 8 * length bytes.now }
     ensures { result ≡ time_from bits.old bytes.now }
 {
-    let mjd = long(bits, 17);
-    let hours = number(bits, 5);
-    let minutes = number(bits, 6);
-    let extra = optional(bits, bytes.len() == 4);
+    let mjd = bits.take_u32(17);
+    let hours = bits.take_u8(5);
+    let minutes = bits.take_u8(6);
+    let extra = take_optional(bits, bytes.len() == 4);
     Body::Time {
         mjd,
         hours,
@@ -41,13 +41,13 @@ pub fn read_next(bits: &mut Bits<'_>) -> Body
     ensures { result ≡ next_from bits.old }
 {
     Body::Next {
-        enhancement: flag(bits),
-        mode: number(bits, 2),
-        occupancy: number(bits, 4),
-        short_depth: flag(bits),
-        msc: number(bits, 2),
-        qam4: flag(bits),
-        services: number(bits, 4),
-        last: number(bits, 5),
+        enhancement: bits.take_flag(),
+        mode: bits.take_u8(2),
+        occupancy: bits.take_u8(4),
+        short_depth: bits.take_flag(),
+        msc: bits.take_u8(2),
+        qam4: bits.take_flag(),
+        services: bits.take_u8(4),
+        last: bits.take_u8(5),
     }
 }

@@ -6,7 +6,6 @@ ghost use Rattle.drm_bits.specs.Crc.{IsCheck, crc16_polynomial};
 ghost use Rattle.drm_sdc.specs.Block.{IsFramed, IsChecked, IsOpen, IsBlockLength, IsBlockFault};
 
 use crate::SdcFault;
-use crate::fields::{number, wide};
 use drm_bits::{Bits, CrcRun};
 
 /// How many bytes the data field has.
@@ -20,7 +19,7 @@ pub fn block_room(value: &[u8], bits: u32) -> Result<usize, SdcFault>
     };
     if bits % 8 == 0 {
         let mut all = Bits::new(value, bits as usize);
-        let front = number(&mut all, 4);
+        let front = all.take_u8(4);
         if front != 0 {
             return Err(SdcFault::Front { bits: front });
         }
@@ -46,9 +45,9 @@ pub fn unpack_block(value: &[u8], bits: u32, field: &mut [u8]) -> Result<u8, Sdc
     ensures fault { IfErr result (IsBlockFault (take bits (bits_of value.now))) }
 {
     let mut rest = behind_front(value, bits);
-    let afs = number(&mut rest, 4);
+    let afs = rest.take_u8(4);
     unpack(&mut rest, field);
-    let stands = wide(&mut rest, 16);
+    let stands = rest.take_u16(16);
     let computed = check_value(afs, field);
     if stands != computed {
         return Err(SdcFault::Crc { stands, computed });
@@ -64,7 +63,7 @@ fn behind_front(value: &[u8], bits: u32) -> Bits<'_>
 {
     let mut rest = Bits::new(value, bits as usize);
     if bits % 8 == 0 {
-        let _front = number(&mut rest, 4);
+        let _front = rest.take_u8(4);
     }
     rest
 }
@@ -76,7 +75,7 @@ fn unpack(bits: &mut Bits<'_>, bytes: &mut [u8])
     ensures octets { (i : ℕ) → slice_index bytes.new i < 2 ^ 8 }
 {
     for byte in bytes.iter_mut() {
-        *byte = number(bits, 8);
+        *byte = bits.take_u8(8);
     }
 }
 

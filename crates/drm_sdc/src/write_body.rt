@@ -3,17 +3,17 @@
 ghost use Rattle.std.specs.Prelude.{◌≡◌, ◌+◌, ◌*◌, ◌≤◌, ◌<◌, ◌^◌, ℕ, length};
 ghost use Rattle.drm_bits.specs.Fields.{Fit, spelled};
 ghost use Rattle.drm_bits.specs.Sink.{unwritten};
-ghost use Rattle.drm_bits.specs.Description.{IsDescription, part_fields, description_fields};
 ghost use Rattle.drm_sdc.specs.Bodies.{body_fields, body_length, kind_of, channel_fields, mode_fields, mode_length, mode_size, count};
 ghost use Rattle.drm_sdc.specs.Entity.{BodyFits, EntityFits, entity_fields, entity_size};
-ghost use Rattle.drm_sdc.specs.Writing.{Wrote};
+ghost use Rattle.drm_bits.specs.Sink.{Wrote};
 ghost use Rattle.drm_sdc.specs.declared.body.Body.TheVariants.{Mux, Label, Freq, When, App, Time, Audio, Next, Language, Raw};
 
-use crate::put::{put_flag, put_number, put_octets, put_optional, put_wide};
+use crate::optional::put_optional;
+use crate::put::put_octets;
 use crate::write_service::{write_application, write_audio, write_label, write_language};
 use crate::write_settings::{write_next, write_time, write_when};
 use crate::{Body, Channel15, Channels};
-use drm_bits::{BitSink, MuxDesc, Octets, Part};
+use drm_bits::{BitSink, Octets};
 
 /// The four bits and the bytes of a body.
 pub fn write_body(sink: &mut BitSink<'_>, body: &Body)
@@ -23,7 +23,7 @@ pub fn write_body(sink: &mut BitSink<'_>, body: &Body)
     ensures left { length (unwritten sink.new) + (4 + 8 * body_length body.now) ≡ length (unwritten sink.old) }
 {
     match body {
-        Body::Mux { desc } => write_description(sink, desc),
+        Body::Mux { desc } => desc.write(sink),
         Body::Label { short, spare, text } => write_label(sink, *short, *spare, text),
         Body::Freq {
             sync,
@@ -108,30 +108,6 @@ pub fn write_body(sink: &mut BitSink<'_>, body: &Body)
     }
 }
 
-fn write_description(sink: &mut BitSink<'_>, desc: &MuxDesc)
-    requires description { IsDescription desc.now }
-    requires fits { Fit (description_fields desc.now) }
-    requires room { 4 + 24 * desc.now.count ≤ length (unwritten sink.old) }
-    ensures wrote { Wrote (spelled (description_fields desc.now)) sink.old sink.new }
-    ensures left { length (unwritten sink.new) + (4 + 24 * desc.now.count) ≡ length (unwritten sink.old) }
-{
-    put_number(sink, desc.prot_a, 2);
-    put_number(sink, desc.prot_b, 2);
-    write_parts(sink, &desc.parts[..usize::from(desc.count)]);
-}
-
-fn write_parts(sink: &mut BitSink<'_>, parts: &[Part])
-    requires fits { Fit (part_fields parts.now) }
-    requires room { 24 * length parts.now ≤ length (unwritten sink.old) }
-    ensures wrote { Wrote (spelled (part_fields parts.now)) sink.old sink.new }
-    ensures left { length (unwritten sink.new) + 24 * length parts.now ≡ length (unwritten sink.old) }
-{
-    for part in parts {
-        put_wide(sink, part.a, 12);
-        put_wide(sink, part.b, 12);
-    }
-}
-
 fn write_frequencies(
     sink: &mut BitSink<'_>,
     sync: bool,
@@ -145,10 +121,10 @@ fn write_frequencies(
     ensures wrote { Wrote (spelled (body_fields (Freq sync layer restriction region list.now))) sink.old sink.new }
     ensures left { length (unwritten sink.new) + (4 + 8 * (count restriction + count region + 2 * length list.now)) ≡ length (unwritten sink.old) }
 {
-    put_flag(sink, sync);
-    put_flag(sink, layer);
-    put_flag(sink, restriction.is_some());
-    put_flag(sink, region.is_some());
+    sink.put_flag(sync);
+    sink.put_flag(layer);
+    sink.put_flag(restriction.is_some());
+    sink.put_flag(region.is_some());
     put_optional(sink, restriction);
     put_optional(sink, region);
     write_channels(sink, list.as_slice());
@@ -161,8 +137,8 @@ fn write_channels(sink: &mut BitSink<'_>, channels: &[Channel15])
     ensures left { length (unwritten sink.new) + 16 * length channels.now ≡ length (unwritten sink.old) }
 {
     for channel in channels {
-        put_flag(sink, channel.first);
-        put_wide(sink, channel.number, 15);
+        sink.put_flag(channel.first);
+        sink.put_u16(channel.number, 15);
     }
 }
 
@@ -172,6 +148,6 @@ fn write_raw(sink: &mut BitSink<'_>, nibble: u8, bytes: &Octets)
     ensures wrote { (kind : ℕ) → Wrote (spelled (body_fields (Raw kind nibble bytes.now))) sink.old sink.new }
     ensures left { length (unwritten sink.new) + (4 + 8 * length bytes.now) ≡ length (unwritten sink.old) }
 {
-    put_number(sink, nibble, 4);
+    sink.put_u8(nibble, 4);
     put_octets(sink, bytes);
 }

@@ -6,9 +6,10 @@ ghost use Rattle.drm_bits.specs.Sink.{unwritten};
 ghost use Rattle.drm_sdc.specs.Bodies.{kind_of};
 ghost use Rattle.drm_sdc.specs.Entity.{EntityFits, entity_fields, entity_size};
 ghost use Rattle.drm_sdc.specs.Field.{IsField};
-ghost use Rattle.drm_sdc.specs.Writing.{Wrote, entity_bits, total_size};
+ghost use Rattle.drm_bits.specs.Sink.{Wrote};
+ghost use Rattle.drm_sdc.specs.Writing.{entity_bits, total_size};
 
-use crate::put::{put_flag, put_number, put_zeros};
+use crate::put::put_zeros;
 use crate::size::body_size;
 use crate::write_body::write_body;
 use crate::{Body, Entity};
@@ -60,9 +61,9 @@ pub fn write_entity(sink: &mut BitSink<'_>, version: bool, body: &Body)
     ensures left { length (unwritten sink.new) + 8 * entity_size (record { version = version; body = body.now }) ≡ length (unwritten sink.old) }
 {
     let len = body_size(body) as u8;
-    put_number(sink, len, 7);
-    put_flag(sink, version);
-    put_number(sink, type_of(body), 4);
+    sink.put_u8(len, 7);
+    sink.put_flag(version);
+    sink.put_u8(type_of(body), 4);
     write_body(sink, body);
 }
 

@@ -4,11 +4,11 @@ ghost use Rattle.std.specs.Prelude.{◌≡◌, ◌+◌, ◌*◌, ◌≤◌, ◌<
 ghost use Rattle.drm_bits.specs.Fields.{Fit, field, flag, spelled};
 ghost use Rattle.drm_bits.specs.Sink.{unwritten};
 ghost use Rattle.drm_sdc.specs.Bodies.{body_fields, mode_fields, mode_length, mode_size};
-ghost use Rattle.drm_sdc.specs.Writing.{Wrote};
+ghost use Rattle.drm_bits.specs.Sink.{Wrote};
 ghost use Rattle.drm_sdc.specs.declared.body.Body.TheVariants.{Label, App, Audio, Language};
 
 use crate::AppMode;
-use crate::put::{put_flag, put_long, put_number, put_octets, put_wide};
+use crate::put::put_octets;
 use drm_bits::{BitSink, Octets};
 
 pub fn write_label(sink: &mut BitSink<'_>, short: u8, spare: u8, text: &Octets)
@@ -17,8 +17,8 @@ pub fn write_label(sink: &mut BitSink<'_>, short: u8, spare: u8, text: &Octets)
     ensures wrote { Wrote (spelled (body_fields (Label short spare text.now))) sink.old sink.new }
     ensures left { length (unwritten sink.new) + (4 + 8 * length text.now) ≡ length (unwritten sink.old) }
 {
-    put_number(sink, short, 2);
-    put_number(sink, spare, 2);
+    sink.put_u8(short, 2);
+    sink.put_u8(spare, 2);
     put_octets(sink, text);
 }
 
@@ -28,10 +28,10 @@ pub fn write_language(sink: &mut BitSink<'_>, short: u8, spare: u8, language: u3
     ensures wrote { Wrote (spelled (body_fields (Language short spare language country))) sink.old sink.new }
     ensures left { length (unwritten sink.new) + 44 ≡ length (unwritten sink.old) }
 {
-    put_number(sink, short, 2);
-    put_number(sink, spare, 2);
-    put_long(sink, language, 24);
-    put_wide(sink, country, 16);
+    sink.put_u8(short, 2);
+    sink.put_u8(spare, 2);
+    sink.put_u32(language, 24);
+    sink.put_u16(country, 16);
 }
 
 pub fn write_application(
@@ -49,8 +49,8 @@ pub fn write_application(
     ensures wrote { Wrote (spelled (body_fields (App short stream packet enhancement domain bytes.now))) sink.old sink.new }
     ensures left { length (unwritten sink.new) + (4 + 8 * (mode_size packet + length bytes.now)) ≡ length (unwritten sink.old) }
 {
-    put_number(sink, short, 2);
-    put_number(sink, stream, 2);
+    sink.put_u8(short, 2);
+    sink.put_u8(stream, 2);
     write_mode(sink, packet, enhancement, domain);
     put_octets(sink, bytes);
 }
@@ -64,18 +64,18 @@ fn write_mode(sink: &mut BitSink<'_>, packet: AppMode, enhancement: bool, domain
 {
     match packet {
         AppMode::Sync { spare } => {
-            put_flag(sink, false);
-            put_number(sink, spare, 3);
-            put_flag(sink, enhancement);
-            put_number(sink, domain, 3);
+            sink.put_flag(false);
+            sink.put_u8(spare, 3);
+            sink.put_flag(enhancement);
+            sink.put_u8(domain, 3);
         }
         AppMode::Packet { unit, pid, length } => {
-            put_flag(sink, true);
-            put_flag(sink, unit);
-            put_number(sink, pid, 2);
-            put_flag(sink, enhancement);
-            put_number(sink, domain, 3);
-            put_number(sink, length, 8);
+            sink.put_flag(true);
+            sink.put_flag(unit);
+            sink.put_u8(pid, 2);
+            sink.put_flag(enhancement);
+            sink.put_u8(domain, 3);
+            sink.put_u8(length, 8);
         }
     }
 }
@@ -99,15 +99,15 @@ pub fn write_audio(
     ensures wrote { Wrote (spelled (body_fields (Audio short stream coding sbr mode rate text enhancement coder spare config.now))) sink.old sink.new }
     ensures left { length (unwritten sink.new) + (20 + 8 * length config.now) ≡ length (unwritten sink.old) }
 {
-    put_number(sink, short, 2);
-    put_number(sink, stream, 2);
-    put_number(sink, coding, 2);
-    put_flag(sink, sbr);
-    put_number(sink, mode, 2);
-    put_number(sink, rate, 3);
-    put_flag(sink, text);
-    put_flag(sink, enhancement);
-    put_number(sink, coder, 5);
-    put_flag(sink, spare);
+    sink.put_u8(short, 2);
+    sink.put_u8(stream, 2);
+    sink.put_u8(coding, 2);
+    sink.put_flag(sbr);
+    sink.put_u8(mode, 2);
+    sink.put_u8(rate, 3);
+    sink.put_flag(text);
+    sink.put_flag(enhancement);
+    sink.put_u8(coder, 5);
+    sink.put_flag(spare);
     put_octets(sink, config);
 }

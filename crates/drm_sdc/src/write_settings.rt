@@ -4,10 +4,10 @@ ghost use Rattle.std.specs.Prelude.{◌≡◌, ◌+◌, ◌*◌, ◌≤◌, leng
 ghost use Rattle.drm_bits.specs.Fields.{Fit, spelled};
 ghost use Rattle.drm_bits.specs.Sink.{unwritten};
 ghost use Rattle.drm_sdc.specs.Bodies.{body_fields, count};
-ghost use Rattle.drm_sdc.specs.Writing.{Wrote};
+ghost use Rattle.drm_bits.specs.Sink.{Wrote};
 ghost use Rattle.drm_sdc.specs.declared.body.Body.TheVariants.{When, Time, Next};
 
-use crate::put::{put_flag, put_long, put_number, put_optional, put_wide};
+use crate::optional::put_optional;
 use drm_bits::BitSink;
 
 pub fn write_when(sink: &mut BitSink<'_>, id: u8, day: u8, start: u16, duration: u16)
@@ -16,10 +16,10 @@ pub fn write_when(sink: &mut BitSink<'_>, id: u8, day: u8, start: u16, duration:
     ensures wrote { Wrote (spelled (body_fields (When id day start duration))) sink.old sink.new }
     ensures left { length (unwritten sink.new) + 36 ≡ length (unwritten sink.old) }
 {
-    put_number(sink, id, 4);
-    put_number(sink, day, 7);
-    put_wide(sink, start, 11);
-    put_wide(sink, duration, 14);
+    sink.put_u8(id, 4);
+    sink.put_u8(day, 7);
+    sink.put_u16(start, 11);
+    sink.put_u16(duration, 14);
 }
 
 pub fn write_time(sink: &mut BitSink<'_>, mjd: u32, hours: u8, minutes: u8, extra: Option<u8>)
@@ -28,9 +28,9 @@ pub fn write_time(sink: &mut BitSink<'_>, mjd: u32, hours: u8, minutes: u8, extr
     ensures wrote { Wrote (spelled (body_fields (Time mjd hours minutes extra))) sink.old sink.new }
     ensures left { length (unwritten sink.new) + (28 + 8 * count extra) ≡ length (unwritten sink.old) }
 {
-    put_long(sink, mjd, 17);
-    put_number(sink, hours, 5);
-    put_number(sink, minutes, 6);
+    sink.put_u32(mjd, 17);
+    sink.put_u8(hours, 5);
+    sink.put_u8(minutes, 6);
     put_optional(sink, extra);
 }
 
@@ -50,12 +50,12 @@ pub fn write_next(
     ensures wrote { Wrote (spelled (body_fields (Next enhancement mode occupancy short_depth msc qam4 services last))) sink.old sink.new }
     ensures left { length (unwritten sink.new) + 20 ≡ length (unwritten sink.old) }
 {
-    put_flag(sink, enhancement);
-    put_number(sink, mode, 2);
-    put_number(sink, occupancy, 4);
-    put_flag(sink, short_depth);
-    put_number(sink, msc, 2);
-    put_flag(sink, qam4);
-    put_number(sink, services, 4);
-    put_number(sink, last, 5);
+    sink.put_flag(enhancement);
+    sink.put_u8(mode, 2);
+    sink.put_u8(occupancy, 4);
+    sink.put_flag(short_depth);
+    sink.put_u8(msc, 2);
+    sink.put_flag(qam4);
+    sink.put_u8(services, 4);
+    sink.put_u8(last, 5);
 }

@@ -9,7 +9,7 @@ ghost use Rattle.drm_sdc.specs.Block.{IsBlock, IsChecked, first_form};
 ghost use Rattle.drm_sdc.specs.Field.{IsField};
 ghost use Rattle.drm_sdc.specs.Writing.{total_size};
 
-use crate::put::{put_bytes, put_number, put_wide};
+use crate::put::put_bytes;
 use crate::unpack::check_value;
 use crate::write_field::{total_size, write_field};
 use crate::{Block, NoRoom};
@@ -73,8 +73,8 @@ fn write_frame(afs: u8, field: &[u8], into: &mut [u8; 1026])
 {
     let check = check_value(afs, field);
     let mut sink = BitSink::new(into);
-    put_number(&mut sink, afs, 4);
+    sink.put_u8(afs, 4);
     put_bytes(&mut sink, field);
-    put_wide(&mut sink, check, 16);
-    put_number(&mut sink, 0, 4);
+    sink.put_u16(check, 16);
+    sink.put_u8(0, 4);
 }

@@ -12,7 +12,7 @@ use Rattle.drm_links.specs.Sink.{Output, Outputs, IsFront}
 use Rattle.drm_links.proofs.ToldLemmas.{Outputs-weaker}
 use Rattle.drm_mux.specs.declared.frame.Spans.{Spans}
 use Rattle.drm_mux.specs.Frame.{parts_a, parts_b, multiplex_frame, pieces, streams_in, part_length, frame_length, HaveTheirLengths, EndBy}
-use Rattle.drm_mux.proofs.PartLemmas.{no_part}
+use Rattle.drm_bits.proofs.PartLemmas.{no_part}
 use Rattle.drm_mux.proofs.RangeLemmas.{covers, cut, first_range}
 use Rattle.drm_show.specs.FrameLine.{bytes_text}
 

@@ -7,7 +7,8 @@ use Rattle.drm_bits.specs.declared.bit_sink.BitSink.{BitSink}
 use Rattle.drm_bits.proofs.SinkLemmas.{front-bytes}
 use Rattle.drm_sdc.specs.declared.entity.Entity.{Entity}
 use Rattle.drm_sdc.specs.Field.{IsField}
-use Rattle.drm_sdc.specs.Writing.{Wrote, entity_bits, total_size}
+use Rattle.drm_bits.specs.Sink.{Wrote}
+use Rattle.drm_sdc.specs.Writing.{entity_bits, total_size}
 use Rattle.drm_sdc.proofs.EntityLaws.{small_front}
 use Rattle.drm_sdc.proofs.WrittenField.{field_is, field_length}
 use Rattle.drm_schedule.specs.declared.config.Config.{Config}

@@ -8,8 +8,9 @@ use Rattle.drm_bits.specs.Fields.{spelled}
 use Rattle.drm_bits.specs.Sink.{unwritten}
 use Rattle.drm_sdc.specs.declared.entity.Entity.{Entity}
 use Rattle.drm_sdc.specs.Entity.{EntityFits, entity_fields, entity_size}
-use Rattle.drm_sdc.specs.Writing.{Wrote, entity_bits, total_size}
-use Rattle.drm_sdc.proofs.Written.{then as behind, wrote_none}
+use Rattle.drm_bits.specs.Sink.{Wrote}
+use Rattle.drm_sdc.specs.Writing.{entity_bits, total_size}
+use Rattle.drm_bits.proofs.WroteLemmas.{then as behind, wrote_none}
 use Rattle.block_packing.specs.declared.packing.Spot.{Spot}
 use Rattle.drm_schedule.specs.declared.announcement.Repeated.{Repeated}
 use Rattle.drm_schedule.specs.Announcement.{is_of}

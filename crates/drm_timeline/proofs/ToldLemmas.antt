@@ -13,7 +13,8 @@ use Rattle.drm_sdc.specs.declared.body.Body.{Body}
 use Rattle.drm_sdc.specs.declared.body.Body.TheVariants.{Mux}
 use Rattle.drm_sdc.specs.declared.entity.Entity.{Entity}
 use Rattle.drm_sdc.specs.Entity.{EntityFits, entity_fields, entity_size}
-use Rattle.drm_sdc.specs.Writing.{Wrote, entity_bits, total_size}
+use Rattle.drm_bits.specs.Sink.{Wrote}
+use Rattle.drm_sdc.specs.Writing.{entity_bits, total_size}
 use Rattle.drm_sdc.proofs.FieldLaws.{length-spelled}
 use Rattle.drm_sdc.proofs.EntityLaws.{widths-entity}
 use Rattle.drm_schedule.specs.declared.config.Clock.{Clock}

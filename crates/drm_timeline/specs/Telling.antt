@@ -4,7 +4,8 @@ use Rattle.drm_bits.specs.Sink.{unwritten}
 use Rattle.drm_bits.specs.declared.bit_sink.BitSink.{BitSink}
 use Rattle.drm_sdc.specs.declared.entity.Entity.{Entity}
 use Rattle.drm_sdc.specs.Entity.{EntityFits}
-use Rattle.drm_sdc.specs.Writing.{Wrote, entity_bits, total_size}
+use Rattle.drm_bits.specs.Sink.{Wrote}
+use Rattle.drm_sdc.specs.Writing.{entity_bits, total_size}
 use Rattle.drm_schedule.specs.declared.config.Config.{Config}
 use Rattle.drm_schedule.specs.Sizes.{free_bytes}
 use Rattle.drm_timeline.specs.Announcing.{announced_by}

@@ -22,7 +22,7 @@ returns-clause-bits c =
     let channel : List Bool = spelled (channel_fields c.args.fac.now.channel) in
     let service : List Bool = spelled (service_fields c.args.fac.now.service) in
     let whole : written c.write-2.new.sink ≡ spelled (fac_fields c.args.fac.now) =
-    c.write-2.ensures.written
-    ∙ (ap (λ l. l ++ service) (c.write.ensures.written ∙ ap (λ l. l ++ channel) c.new-sink.ensures.empty)
+    c.write-2.ensures.wrote.more
+    ∙ (ap (λ l. l ++ service) (c.write.ensures.wrote.more ∙ ap (λ l. l ++ channel) c.new-sink.ensures.empty)
     ∙ sym (spelled-append (channel_fields c.args.fac.now.channel) (service_fields c.args.fac.now.service))) in
     front-bytes c.write-2.new.sink 8 (ap length whole ∙ length-spelled (fac_fields c.args.fac.now)) ∙ whole

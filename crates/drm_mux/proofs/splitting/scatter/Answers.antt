@@ -5,7 +5,7 @@ use Rattle.std.proofs.lemmas.List.{drop_more, append-nil, take_all}
 use Rattle.drm_bits.specs.declared.description.Part.{Part}
 use Rattle.drm_mux.specs.Frame.{part_length}
 use Rattle.drm_mux.specs.Streams.{parts_a_length, streams_of, joined}
-use Rattle.drm_mux.proofs.PartLemmas.{no_part}
+use Rattle.drm_bits.proofs.PartLemmas.{no_part}
 use Rattle.drm_mux.proofs.StreamLemmas.{parts_b_length, a_cons, b_cons, both_cons, both_parts, scatter_step}
 use Rattle.drm_mux.proofs.splitting.scatter.Goals as goal
 

@@ -1,7 +1,7 @@
 use Rattle.std.proofs.Common.{◌≡◌, ℕ, List, ◌+◌, ◌-◌, ◌%◌, ◌≤◌, length, get_or, arith, sym, ◌∙◌, ap}
 use Rattle.drm_bits.specs.declared.description.Part.{Part}
 use Rattle.std.proofs.Math.Nat.{mod-eq_of_lt}
-use Rattle.drm_mux.proofs.PartLemmas.{no_part}
+use Rattle.drm_bits.proofs.PartLemmas.{no_part}
 use Rattle.drm_mux.proofs.RangeLemmas.{covers, range_a, range_b}
 use Rattle.drm_mux.proofs.streams.range.Goals as goal
 

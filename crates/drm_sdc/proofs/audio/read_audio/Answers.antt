@@ -1,7 +1,8 @@
 use Rattle.std.proofs.Common.{◌≡◌, ℕ, List, Bool, drop, arith}
 use Rattle.std.proofs.lemmas.Grind.{common_steps}
 use Rattle.drm_sdc.specs.declared.body.Body.TheVariants.{Audio}
-use Rattle.drm_sdc.specs.Reading.{audio_from, front, bit}
+use Rattle.drm_bits.specs.Bits.{front, bit}
+use Rattle.drm_sdc.specs.Reading.{audio_from}
 use Rattle.drm_sdc.proofs.audio.read_audio.Goals as goal
 
 one_by_one : (b0 b1 b2 b3 b4 b5 b6 b7 b8 b9 : List Bool) (short stream coding : ℕ) (sbr : Bool) (mode rate : ℕ) (text enhancement : Bool) (coder : ℕ) (spare : Bool) (config bytes : List ℕ)
@@ -14,5 +15,5 @@ pub returns : goal.returns
 returns c =
     let config : c.in_ok-config.config ≡ drop 2 c.args.bytes.now = grind (arith, common_steps, c.in_ok-config.ensures) in
     one_by_one _ _ _ _ _ _ _ _ _ _ _ _ _ _ _ _ _ _ _ _ c.in_ok-config.config c.args.bytes.now
-    c.number.ensures.rest c.number-2.ensures.rest c.number-3.ensures.rest c.flag.ensures.rest c.number-4.ensures.rest c.number-5.ensures.rest c.flag-2.ensures.rest c.flag-3.ensures.rest c.number-6.ensures.rest
-    c.number.ensures.number c.number-2.ensures.number c.number-3.ensures.number c.flag.ensures.bit c.number-4.ensures.number c.number-5.ensures.number c.flag-2.ensures.bit c.flag-3.ensures.bit c.number-6.ensures.number c.flag-4.ensures.bit config
+    c.take_u8.ensures.rest c.take_u8-2.ensures.rest c.take_u8-3.ensures.rest c.take_flag.ensures.rest c.take_u8-4.ensures.rest c.take_u8-5.ensures.rest c.take_flag-2.ensures.rest c.take_flag-3.ensures.rest c.take_u8-6.ensures.rest
+    c.take_u8.ensures.number c.take_u8-2.ensures.number c.take_u8-3.ensures.number c.take_flag.ensures.bit c.take_u8-4.ensures.number c.take_u8-5.ensures.number c.take_flag-2.ensures.bit c.take_flag-3.ensures.bit c.take_u8-6.ensures.number c.take_flag-4.ensures.bit config

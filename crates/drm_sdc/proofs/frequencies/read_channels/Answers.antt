@@ -1,6 +1,7 @@
 use Rattle.std.proofs.Common.{◌≡◌, ℕ, suc, ◌+◌, ◌-◌, ◌<◌, ◌∷◌, [], ◌++◌, List, Bool, drop, arith, sym, ◌∙◌, ap, append_assoc}
 use Rattle.drm_sdc.specs.declared.channels.Channel15.{Channel15}
-use Rattle.drm_sdc.specs.Reading.{channels_from, front, bit}
+use Rattle.drm_bits.specs.Bits.{front, bit}
+use Rattle.drm_sdc.specs.Reading.{channels_from}
 use Rattle.drm_sdc.proofs.frequencies.read_channels.Goals as goal
 
 step : (list more : List Channel15) (bits next : List Bool) (c : Channel15) (k n : ℕ) → k < n → more ≡ list ++ c ∷ [] → c ≡ record { first = bit bits; number = front 15 (drop 1 bits) } → next ≡ drop 15 (drop 1 bits)

@@ -2,7 +2,8 @@ use Rattle.std.proofs.Common.{◌≡◌, ℕ, ◌+◌, ◌≤◌, true, Bool, Li
 use Rattle.std.proofs.lemmas.List.{length-take-le}
 use Rattle.std.specs.Str.{IsUtf8}
 use Rattle.drm_bits.specs.Bits.{bits_of}
-use Rattle.drm_sdc.specs.Reading.{front, described_length, described_kind, body_bits, has_body_length, IsSound}
+use Rattle.drm_bits.specs.Bits.{front}
+use Rattle.drm_sdc.specs.Reading.{described_length, described_kind, body_bits, has_body_length, IsSound}
 use Rattle.drm_sdc.specs.Field.{first_entity}
 use Rattle.drm_sdc.proofs.EntityLaws.{described-take}
 use Rattle.drm_sdc.proofs.next_entity.check_entity.Goals as goal
@@ -29,11 +30,11 @@ returns-clause-sound c =
     let bytes : List ℕ = c.args.bytes.now in
     let same : take (2 + c.args.len) bytes ≡ first_entity bytes = first bytes c.args.len c.requires.length in
     let all : c.new-bits.result ≡ bits_of (first_entity bytes) = c.new-bits.ensures.whole refl ∙ ap bits_of same in
-    let behind_length : c.number-length.new.bits ≡ drop 7 (bits_of (first_entity bytes)) = c.number-length.ensures.rest ∙ ap (drop 7) all in
-    let behind_version : c.flag-version.new.bits ≡ drop 1 (drop 7 (bits_of (first_entity bytes))) = c.flag-version.ensures.rest ∙ ap (drop 1) behind_length in
-    let text : c.number-kind.result ≡ 1 → IsUtf8 (drop 2 (first_entity bytes)) = λ one. subst (λ l. IsUtf8 (drop 2 l)) same (c.is_right_text.ensures.right c.if-not-is_right_text.false one) in
-    sound_when bytes c.args.len c.number-kind.result c.number-kind.new.bits c.requires.length c.requires.whole
-    (c.number-kind.ensures.number ∙ ap (front 4) behind_version)
-    (c.number-kind.ensures.rest ∙ ap (drop 4) behind_version)
+    let behind_length : c.take_u8-length.new.self ≡ drop 7 (bits_of (first_entity bytes)) = c.take_u8-length.ensures.rest ∙ ap (drop 7) all in
+    let behind_version : c.take_flag-version.new.self ≡ drop 1 (drop 7 (bits_of (first_entity bytes))) = c.take_flag-version.ensures.rest ∙ ap (drop 1) behind_length in
+    let text : c.take_u8-kind.result ≡ 1 → IsUtf8 (drop 2 (first_entity bytes)) = λ one. subst (λ l. IsUtf8 (drop 2 l)) same (c.is_right_text.ensures.right c.if-not-is_right_text.false one) in
+    sound_when bytes c.args.len c.take_u8-kind.result c.take_u8-kind.new.self c.requires.length c.requires.whole
+    (c.take_u8-kind.ensures.number ∙ ap (front 4) behind_version)
+    (c.take_u8-kind.ensures.rest ∙ ap (drop 4) behind_version)
     (sym c.is_body_length.ensures ∙ c.if-not-is_body_length.false)
     text

@@ -1,8 +1,9 @@
 use Rattle.std.proofs.Common.{◌≡◌, List, Bool, take, ◌∙◌, ap, arith, subst}
 use Rattle.std.proofs.lemmas.List.{take_all}
 use Rattle.drm_bits.specs.Bits.{digits, bits_of}
-use Rattle.drm_sdc.specs.Writing.{Wrote}
-use Rattle.drm_sdc.proofs.Written.{each, wrote_none, wrote_more, bytes_each}
+use Rattle.drm_bits.specs.Sink.{Wrote}
+use Rattle.drm_bits.proofs.WroteLemmas.{each, wrote_none, wrote_more}
+use Rattle.drm_sdc.proofs.Written.{bytes_each}
 use Rattle.drm_sdc.proofs.put.put_bytes.Goals as goal
 
 pub loop-byte-init : goal.loop-byte-init
@@ -11,8 +12,8 @@ loop-byte-init c = record { wrote = wrote_none c.args.sink.now; left = omega ari
 pub loop-byte-preserved : goal.loop-byte-preserved
 loop-byte-preserved c =
     record {
-      wrote = wrote_more (digits 8) c.args.bytes.now c.loop-byte.byte-index 0 c.loop-byte-test.true c.loop-byte.invariant.wrote c.put_number.ensures.wrote;
-      left = omega (arith, c.loop-byte.invariant.left, c.put_number.ensures.left);
+      wrote = wrote_more (digits 8) c.args.bytes.now c.loop-byte.byte-index 0 c.loop-byte-test.true c.loop-byte.invariant.wrote c.put_u8.ensures.wrote;
+      left = omega (arith, c.loop-byte.invariant.left, c.put_u8.ensures.left);
     }
 
 pub returns-clause-wrote : goal.returns-clause-wrote

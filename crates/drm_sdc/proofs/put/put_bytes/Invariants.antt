@@ -1,8 +1,8 @@
 use Rattle.std.proofs.Common.{◌≡◌, ◌+◌, ◌*◌, length, take}
 use Rattle.drm_bits.specs.Bits.{digits}
 use Rattle.drm_bits.specs.Sink.{unwritten}
-use Rattle.drm_sdc.specs.Writing.{Wrote}
-use Rattle.drm_sdc.proofs.Written.{each}
+use Rattle.drm_bits.specs.Sink.{Wrote}
+use Rattle.drm_bits.proofs.WroteLemmas.{each}
 use Rattle.drm_sdc.proofs.put.put_bytes.Given as goal
 
 -- the bytes before this one are written

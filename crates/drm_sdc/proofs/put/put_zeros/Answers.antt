@@ -1,7 +1,8 @@
 use Rattle.std.proofs.Common.{◌≡◌, List, Bool, ℕ, replicate, arith, subst}
 use Rattle.drm_bits.specs.Bits.{bits_of}
-use Rattle.drm_sdc.specs.Writing.{Wrote}
-use Rattle.drm_sdc.proofs.Written.{wrote_none, then, zeros_more}
+use Rattle.drm_bits.specs.Sink.{Wrote}
+use Rattle.drm_bits.proofs.WroteLemmas.{wrote_none, then}
+use Rattle.drm_sdc.proofs.Written.{zeros_more}
 use Rattle.drm_sdc.proofs.put.put_zeros.Goals as goal
 
 pub loop-init : goal.loop-init
@@ -10,8 +11,8 @@ loop-init c = record { wrote = wrote_none c.args.sink.now; left = omega arith }
 pub loop-preserved : goal.loop-preserved
 loop-preserved c =
     record {
-      wrote = subst (λ (l : List Bool). Wrote l c.args.sink.now c.put_number.new.sink) (zeros_more c.loop.counter) (then c.loop.invariant.wrote c.put_number.ensures.wrote);
-      left = omega (arith, c.loop.invariant.left, c.put_number.ensures.left);
+      wrote = subst (λ (l : List Bool). Wrote l c.args.sink.now c.put_u8.new.self) (zeros_more c.loop.counter) (then c.loop.invariant.wrote c.put_u8.ensures.wrote);
+      left = omega (arith, c.loop.invariant.left, c.put_u8.ensures.left);
     }
 
 pub returns-clause-wrote : goal.returns-clause-wrote

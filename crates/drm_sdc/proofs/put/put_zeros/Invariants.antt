@@ -1,7 +1,7 @@
 use Rattle.std.proofs.Common.{◌≡◌, ◌+◌, ◌*◌, length, replicate}
 use Rattle.drm_bits.specs.Bits.{bits_of}
 use Rattle.drm_bits.specs.Sink.{unwritten}
-use Rattle.drm_sdc.specs.Writing.{Wrote}
+use Rattle.drm_bits.specs.Sink.{Wrote}
 use Rattle.drm_sdc.proofs.put.put_zeros.Given as goal
 
 -- so many zero bytes are written

@@ -3,7 +3,8 @@ use Rattle.std.proofs.lemmas.List.{take_rest}
 use Rattle.drm_bits.specs.Bits.{bits_of}
 use Rattle.drm_sdc.specs.declared.body.Body.{Body}
 use Rattle.drm_sdc.specs.declared.entity.Entity.{Entity}
-use Rattle.drm_sdc.specs.Reading.{front, bit, body_from, entity_from, has_body_length, described_length, described_kind, body_bits}
+use Rattle.drm_bits.specs.Bits.{front, bit}
+use Rattle.drm_sdc.specs.Reading.{body_from, entity_from, has_body_length, described_length, described_kind, body_bits}
 use Rattle.drm_sdc.proofs.read_body.read_entity.Goals as goal
 
 sound : (kind : ℕ) (bits : List Bool) (bytes : List ℕ) → kind ≡ described_kind bytes → bits ≡ body_bits bytes → length bytes ≡ 2 + described_length bytes → has_body_length (described_kind bytes) (body_bits bytes) (described_length bytes) ≡ true
@@ -28,20 +29,20 @@ entity version kind bits body bytes is_version is_kind is_bits is =
 pub read_body-requires-clause-sound : goal.read_body-requires-clause-sound
 read_body-requires-clause-sound c =
     let all = c.new-bits.ensures.whole refl in
-    let behind_length : c.number-length.new.bits ≡ drop 7 (bits_of c.args.bytes.now) = c.number-length.ensures.rest ∙ ap (drop 7) all in
-    let behind_version : c.flag-version.new.bits ≡ drop 1 (drop 7 (bits_of c.args.bytes.now)) = c.flag-version.ensures.rest ∙ ap (drop 1) behind_length in
-    sound c.number-kind.result c.number-kind.new.bits c.args.bytes.now
-    (c.number-kind.ensures.number ∙ ap (front 4) behind_version)
-    (c.number-kind.ensures.rest ∙ ap (drop 4) behind_version)
+    let behind_length : c.take_u8-length.new.self ≡ drop 7 (bits_of c.args.bytes.now) = c.take_u8-length.ensures.rest ∙ ap (drop 7) all in
+    let behind_version : c.take_flag-version.new.self ≡ drop 1 (drop 7 (bits_of c.args.bytes.now)) = c.take_flag-version.ensures.rest ∙ ap (drop 1) behind_length in
+    sound c.take_u8-kind.result c.take_u8-kind.new.self c.args.bytes.now
+    (c.take_u8-kind.ensures.number ∙ ap (front 4) behind_version)
+    (c.take_u8-kind.ensures.rest ∙ ap (drop 4) behind_version)
     c.requires.sound.whole c.requires.sound.body
 
 pub returns : goal.returns
 returns c =
     let all = c.new-bits.ensures.whole refl in
-    let behind_length : c.number-length.new.bits ≡ drop 7 (bits_of c.args.bytes.now) = c.number-length.ensures.rest ∙ ap (drop 7) all in
-    let behind_version : c.flag-version.new.bits ≡ drop 1 (drop 7 (bits_of c.args.bytes.now)) = c.flag-version.ensures.rest ∙ ap (drop 1) behind_length in
-    entity c.flag-version.result c.number-kind.result c.number-kind.new.bits c.in_ok-body.body c.args.bytes.now
-    (c.flag-version.ensures.bit ∙ ap bit behind_length)
-    (c.number-kind.ensures.number ∙ ap (front 4) behind_version)
-    (c.number-kind.ensures.rest ∙ ap (drop 4) behind_version)
+    let behind_length : c.take_u8-length.new.self ≡ drop 7 (bits_of c.args.bytes.now) = c.take_u8-length.ensures.rest ∙ ap (drop 7) all in
+    let behind_version : c.take_flag-version.new.self ≡ drop 1 (drop 7 (bits_of c.args.bytes.now)) = c.take_flag-version.ensures.rest ∙ ap (drop 1) behind_length in
+    entity c.take_flag-version.result c.take_u8-kind.result c.take_u8-kind.new.self c.in_ok-body.body c.args.bytes.now
+    (c.take_flag-version.ensures.bit ∙ ap bit behind_length)
+    (c.take_u8-kind.ensures.number ∙ ap (front 4) behind_version)
+    (c.take_u8-kind.ensures.rest ∙ ap (drop 4) behind_version)
     c.in_ok-body.ensures

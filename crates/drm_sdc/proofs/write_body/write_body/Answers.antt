@@ -2,7 +2,7 @@ use Rattle.std.proofs.Common.{sym, subst}
 use Rattle.drm_bits.specs.Fields.{spelled}
 use Rattle.drm_sdc.specs.declared.body.Body.{Body}
 use Rattle.drm_sdc.specs.Bodies.{body_fields}
-use Rattle.drm_sdc.specs.Writing.{Wrote}
+use Rattle.drm_bits.specs.Sink.{Wrote}
 use Rattle.drm_sdc.proofs.write_body.write_body.Goals as goal
 
 pub returns-in-Raw-clause-wrote : goal.returns-in-Raw-clause-wrote

@@ -2,19 +2,20 @@ use Rattle.std.proofs.Common.{◌≡◌, List, Bool, take, ◌∙◌, ap, arith,
 use Rattle.std.proofs.lemmas.List.{take_all}
 use Rattle.drm_bits.specs.Fields.{spelled}
 use Rattle.drm_sdc.specs.Bodies.{channel_fields}
-use Rattle.drm_sdc.specs.Writing.{Wrote}
+use Rattle.drm_bits.specs.Sink.{Wrote}
 use Rattle.drm_sdc.proofs.Fitting.{channel_fits}
-use Rattle.drm_sdc.proofs.Written.{each, channel_bits, then, wrote_none, wrote_more, channels_each}
+use Rattle.drm_bits.proofs.WroteLemmas.{each, then, wrote_none, wrote_more}
+use Rattle.drm_sdc.proofs.Written.{channel_bits, channels_each}
 use Rattle.drm_sdc.proofs.write_body.write_channels.Goals as goal
 
 pub put_flag-requires : goal.put_flag-requires
 put_flag-requires c = omega (arith, c.loop-channel.invariant.left, c.loop-channel-test.true, c.requires.room)
 
-pub put_wide-requires-clause-fits : goal.put_wide-requires-clause-fits
-put_wide-requires-clause-fits c = channel_fits c.args.channels.now c.loop-channel.channel-index (record { first = false; number = 0 }) c.loop-channel-test.true c.requires.fits
+pub put_u16-requires-clause-fits : goal.put_u16-requires-clause-fits
+put_u16-requires-clause-fits c = channel_fits c.args.channels.now c.loop-channel.channel-index (record { first = false; number = 0 }) c.loop-channel-test.true c.requires.fits
 
-pub put_wide-requires-clause-room : goal.put_wide-requires-clause-room
-put_wide-requires-clause-room c = omega (arith, c.loop-channel.invariant.left, c.loop-channel-test.true, c.requires.room, c.put_flag.ensures.left)
+pub put_u16-requires-clause-room : goal.put_u16-requires-clause-room
+put_u16-requires-clause-room c = omega (arith, c.loop-channel.invariant.left, c.loop-channel-test.true, c.requires.room, c.put_flag.ensures.left)
 
 pub loop-channel-init : goal.loop-channel-init
 loop-channel-init c = record { wrote = wrote_none c.args.sink.now; left = omega arith }
@@ -22,8 +23,8 @@ loop-channel-init c = record { wrote = wrote_none c.args.sink.now; left = omega 
 pub loop-channel-preserved : goal.loop-channel-preserved
 loop-channel-preserved c =
     record {
-      wrote = wrote_more channel_bits c.args.channels.now c.loop-channel.channel-index (record { first = false; number = 0 }) c.loop-channel-test.true c.loop-channel.invariant.wrote (then c.put_flag.ensures.wrote c.put_wide.ensures.wrote);
-      left = omega (arith, c.loop-channel.invariant.left, c.put_flag.ensures.left, c.put_wide.ensures.left);
+      wrote = wrote_more channel_bits c.args.channels.now c.loop-channel.channel-index (record { first = false; number = 0 }) c.loop-channel-test.true c.loop-channel.invariant.wrote (then c.put_flag.ensures.wrote c.put_u16.ensures.wrote);
+      left = omega (arith, c.loop-channel.invariant.left, c.put_flag.ensures.left, c.put_u16.ensures.left);
     }
 
 pub returns-clause-wrote : goal.returns-clause-wrote

@@ -1,7 +1,8 @@
 use Rattle.std.proofs.Common.{◌≡◌, ◌+◌, ◌*◌, length, take}
 use Rattle.drm_bits.specs.Sink.{unwritten}
-use Rattle.drm_sdc.specs.Writing.{Wrote}
-use Rattle.drm_sdc.proofs.Written.{each, channel_bits}
+use Rattle.drm_bits.specs.Sink.{Wrote}
+use Rattle.drm_bits.proofs.WroteLemmas.{each}
+use Rattle.drm_sdc.proofs.Written.{channel_bits}
 use Rattle.drm_sdc.proofs.write_body.write_channels.Given as goal
 
 -- the channels before this one are written

@@ -2,8 +2,8 @@ use Rattle.std.proofs.Common.{List, ◌++◌, subst, is_some}
 use Rattle.drm_bits.specs.Fields.{spelled}
 use Rattle.drm_sdc.specs.declared.channels.Channel15.{Channel15}
 use Rattle.drm_sdc.specs.Bodies.{optional, channel_fields}
-use Rattle.drm_sdc.specs.Writing.{Wrote}
-use Rattle.drm_sdc.proofs.Written.{then, join, wrote_flag}
+use Rattle.drm_bits.specs.Sink.{Wrote}
+use Rattle.drm_bits.proofs.WroteLemmas.{then, join, wrote_flag}
 use Rattle.drm_sdc.proofs.write_body.write_frequencies.Goals as goal
 
 pub returns-clause-wrote : goal.returns-clause-wrote

@@ -1,8 +1,9 @@
 use Rattle.std.proofs.Common.{◌≡◌, List, Bool, ℕ, ◌+◌, take, ◌∙◌, ap, arith, subst}
 use Rattle.std.proofs.lemmas.List.{take_all}
 use Rattle.drm_sdc.specs.declared.entity.Entity.{Entity}
-use Rattle.drm_sdc.specs.Writing.{Wrote, entity_bits}
-use Rattle.drm_sdc.proofs.Written.{each, wrote_none, wrote_more}
+use Rattle.drm_bits.specs.Sink.{Wrote}
+use Rattle.drm_sdc.specs.Writing.{entity_bits}
+use Rattle.drm_bits.proofs.WroteLemmas.{each, wrote_none, wrote_more}
 use Rattle.drm_sdc.proofs.WrittenField.{bits_of_entity, entities_each, size_here, size_front}
 use Rattle.drm_sdc.proofs.write_field.write_entities.Goals as goal
 

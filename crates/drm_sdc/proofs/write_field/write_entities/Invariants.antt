@@ -1,7 +1,8 @@
 use Rattle.std.proofs.Common.{◌≡◌, ◌+◌, ◌*◌, length, take}
 use Rattle.drm_bits.specs.Sink.{unwritten}
-use Rattle.drm_sdc.specs.Writing.{Wrote, total_size}
-use Rattle.drm_sdc.proofs.Written.{each}
+use Rattle.drm_bits.specs.Sink.{Wrote}
+use Rattle.drm_sdc.specs.Writing.{total_size}
+use Rattle.drm_bits.proofs.WroteLemmas.{each}
 use Rattle.drm_sdc.proofs.WrittenField.{bits_of_entity}
 use Rattle.drm_sdc.proofs.write_field.write_entities.Given as goal
 

@@ -5,7 +5,7 @@ use Rattle.drm_bits.proofs.BitsLemmas.{length-bits_of}
 use Rattle.drm_bits.proofs.SinkLemmas.{front-bytes}
 use Rattle.drm_sdc.specs.Writing.{entity_bits}
 use Rattle.drm_sdc.proofs.EntityLaws.{small_front}
-use Rattle.drm_sdc.proofs.Written.{then}
+use Rattle.drm_bits.proofs.WroteLemmas.{then}
 use Rattle.drm_sdc.proofs.WrittenField.{field_is, field_length}
 use Rattle.drm_sdc.proofs.write_field.write_field.Goals as goal
 

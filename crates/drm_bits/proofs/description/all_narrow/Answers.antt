@@ -1,7 +1,7 @@
 use Rattle.std.proofs.Common.{◌<◌, ◌^◌, ℕ, inl, inr, arith, get_or, refl, sym, subst, ◌∙◌}
 use Rattle.std.proofs.lemmas.Bool.{cases_eq}
-use Rattle.drm_sdc.proofs.Fitting.{parts_fit, part_fits}
-use Rattle.drm_sdc.proofs.fits.all_narrow.Goals as goal
+use Rattle.drm_bits.proofs.PartLemmas.{parts_fit, part_fits}
+use Rattle.drm_bits.proofs.description.all_narrow.Goals as goal
 
 pub returns-then-not-is_narrow : goal.returns-then-not-is_narrow
 returns-then-not-is_narrow c = (

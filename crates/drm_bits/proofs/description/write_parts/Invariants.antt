@@ -1,8 +1,9 @@
 use Rattle.std.proofs.Common.{◌≡◌, ◌+◌, ◌*◌, length, take}
 use Rattle.drm_bits.specs.Sink.{unwritten}
-use Rattle.drm_sdc.specs.Writing.{Wrote}
-use Rattle.drm_sdc.proofs.Written.{each, part_bits}
-use Rattle.drm_sdc.proofs.write_body.write_parts.Given as goal
+use Rattle.drm_bits.specs.Sink.{Wrote}
+use Rattle.drm_bits.proofs.WroteLemmas.{each}
+use Rattle.drm_bits.proofs.PartLemmas.{part_bits}
+use Rattle.drm_bits.proofs.description.write_parts.Given as goal
 
 -- the parts before this one are written
 abbrev pub invariant-loop-part : goal.invariant-loop-part

@@ -1,5 +1,5 @@
 use Rattle.std.proofs.Common.{◌≡◌, ℕ, ◌<◌, get_or}
-use Rattle.drm_sdc.proofs.fits.all_zero.Given as goal
+use Rattle.drm_bits.proofs.description.all_zero.Given as goal
 
 abbrev pub invariant-loop-part : goal.invariant-loop-part
 invariant-loop-part l = (k : ℕ) → k < l.part-index → ((get_or l.parts k (record { a = 0; b = 0 })).a ≡ 0) × ((get_or l.parts k (record { a = 0; b = 0 })).b ≡ 0)

@@ -1,7 +1,7 @@
 use Rattle.std.proofs.Common.{◌≡◌, ℕ, inl, inr, arith, get_or, refl, sym, subst, ◌∙◌}
 use Rattle.std.proofs.lemmas.Bool.{cases_eq}
-use Rattle.drm_sdc.proofs.Fitting.{all_zero, one_zero}
-use Rattle.drm_sdc.proofs.fits.all_zero.Goals as goal
+use Rattle.drm_bits.proofs.PartLemmas.{all_zero, one_zero}
+use Rattle.drm_bits.proofs.description.all_zero.Goals as goal
 
 pub returns-then-not-is_zero : goal.returns-then-not-is_zero
 returns-then-not-is_zero c = (
