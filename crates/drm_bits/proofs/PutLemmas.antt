@@ -60,3 +60,14 @@ same_before old new at place n same within =
     let part : (l : List ℕ) → take n (drop place l) ≡ take n (drop place (take at l)) = λ l.
     sym (drop-take place n l) ∙ (ap (drop place) (sym (take-take (place + n) at l within)) ∙ drop-take place n (take at l)) in
     part new ∙ (ap (λ (l : List ℕ). take n (drop place l)) same ∙ sym (part old))
+
+-- the front with what was put, and what is behind it
+pub put_front : (old part new : List ℕ) (at n : ℕ) → at ≤ length old → length part ≡ n → new ≡ take at old ++ part ++ drop (at + length part) old → take (at + n) new ≡ take at old ++ part
+put_front old part new at n room long is =
+    let front : length (take at old ++ part) ≡ at + n = omega (arith, length-append (take at old) part, length-take-le at old room, long) in
+    ap (take (at + n)) is ∙ take_at (take at old ++ part) (drop (at + length part) old) (at + n) front
+
+pub put_rest : (old part new : List ℕ) (at n : ℕ) → at ≤ length old → length part ≡ n → new ≡ take at old ++ part ++ drop (at + length part) old → drop (at + n) new ≡ drop (at + n) old
+put_rest old part new at n room long is =
+    let front : length (take at old ++ part) ≡ at + n = omega (arith, length-append (take at old) part, length-take-le at old room, long) in
+    ap (drop (at + n)) is ∙ (drop_at (take at old ++ part) (drop (at + length part) old) (at + n) front ∙ ap (λ k. drop (at + k) old) long)

@@ -21,6 +21,11 @@ pub record FitsWidths (d : MuxDesc) : Type 0 where
   pub prot_b : d.prot_b < 2 ^ 2
   pub parts : All (λ (p : Part). (p.a < 2 ^ 12) × (p.b < 2 ^ 12)) d.parts
 
+-- A description that can be written: it describes at most four streams, and each number fits its width.
+pub record IsWritable (d : MuxDesc) : Type 0 where
+  pub description : IsDescription d
+  pub fits : FitsWidths d
+
 -- part A and part B of each stream, in 12 bits each
 abbrev pub part_fields : List Part → List Field
 part_fields [] = []

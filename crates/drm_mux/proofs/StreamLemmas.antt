@@ -102,7 +102,7 @@ frame_parts_b frame (p ∷ parts) from_a from_b within_a within_b =
     ∙ (ap (λ l. y ++ l) (frame_parts_b frame parts (from_a + p.a) (from_b + p.b) (omega (arith, within_a, a)) (omega (arith, within_b, b)))
     ∙ run_of frame from_b p.b (parts_b_length parts) (parts_b_length (p ∷ parts)) b)
 
-pub split_frame : (d : MuxDesc) (spans : Spans) (frame bytes : List ℕ) → AreSideBySide d spans → length frame ≡ frame_length d → bytes ≡ joined (streams_of frame d.parts 0 (parts_a_length d.parts))
+pub split_frame : (d : MuxDesc) (spans : Spans) (frame bytes : List ℕ) → AreSideBySide d.parts spans → length frame ≡ frame_length d → bytes ≡ joined (streams_of frame d.parts 0 (parts_a_length d.parts))
     → multiplex_frame d (streams_in bytes spans) ≡ frame
 split_frame d spans frame bytes side size is =
     let a : ℕ = parts_a_length d.parts in
@@ -126,7 +126,7 @@ ends_within [] from k below = absurd (omega (arith, below))
 ends_within (p ∷ parts) from zero below = omega (arith, both_cons p parts)
 ends_within (p ∷ parts) from (suc k) below = omega (arith, both_cons p parts, ends_within parts (from + (p.a + p.b)) k (omega (arith, below)))
 
-pub side_inside : (d : MuxDesc) (spans : Spans) (end : ℕ) → AreSideBySide d spans → length d.parts ≡ 4 → end ≡ frame_length d → EndBy end spans
+pub side_inside : (d : MuxDesc) (spans : Spans) (end : ℕ) → AreSideBySide d.parts spans → length d.parts ≡ 4 → end ≡ frame_length d → EndBy end spans
 side_inside d spans end side size is = λ k below.
     let at : get_or spans.at k 0 ≡ get_or (starts 0 (map part_length d.parts)) k 0 = ap (λ l. get_or l k 0) (side.at ∙ ap (starts 0) side.len) in
     let len : get_or spans.len k 0 ≡ get_or (map part_length d.parts) k 0 = ap (λ l. get_or l k 0) side.len in

@@ -1,5 +1,6 @@
 -- The multiplex frame (ES 201 980): the parts A of all streams, then their parts B.
 use Rattle.std.specs.Prelude.{ℕ, ◌≡◌, ◌+◌, ◌<◌, ◌≤◌, List, [], ◌∷◌, ◌++◌, take, drop, map, sum_by, slice_index, slice_index_or}
+use Rattle.drm_bits.specs.Description.{IsDescription}
 use Rattle.drm_bits.specs.declared.description.Part.{Part}
 use Rattle.drm_bits.specs.declared.description.MuxDesc.{MuxDesc}
 use Rattle.drm_mux.specs.declared.frame.Spans.{Spans}
@@ -47,12 +48,23 @@ HaveTheirLengths d spans = (k : ℕ) → k < d.count → slice_index spans.len k
 abbrev pub EndBy : ℕ → Spans → Type 0
 EndBy end spans = (k : ℕ) → k < 4 → slice_index spans.at k + slice_index spans.len k ≤ end
 
+-- a description, and four spans that end at or below a place
+pub record HasSpans (d : MuxDesc) (spans : Spans) (end : ℕ) : Type 0 where
+  pub description : IsDescription d
+  pub inside : EndBy end spans
+
+-- a description, and the spans of its streams: each as long as its two parts, and all end at or below a place
+pub record HasStreams (d : MuxDesc) (spans : Spans) (end : ℕ) : Type 0 where
+  pub description : IsDescription d
+  pub lengths : HaveTheirLengths d spans
+  pub inside : EndBy end spans
+
 -- where pieces of these lengths begin that stand one after another
 abbrev pub starts : ℕ → List ℕ → List ℕ
 starts from [] = []
 starts from (len ∷ lens) = from ∷ starts (from + len) lens
 
--- the spans of the streams that stand one after another from the front
-pub record AreSideBySide (d : MuxDesc) (spans : Spans) : Type 0 where
-  pub len : spans.len ≡ map part_length d.parts
+-- the spans of the streams with these parts that stand one after another from the front
+pub record AreSideBySide (parts : List Part) (spans : Spans) : Type 0 where
+  pub len : spans.len ≡ map part_length parts
   pub at : spans.at ≡ starts 0 spans.len

@@ -1,9 +1,9 @@
 //! The multiplex frame's length, and the pieces of a buffer that are its streams.
 
-ghost use Rattle.std.specs.Prelude.{◌≡◌};
-ghost use Rattle.drm_bits.specs.Description.{IsDescription};
+ghost use Rattle.std.specs.Prelude.{◌≡◌, sum_by};
+ghost use Rattle.drm_mux.specs.Frame.{frame_length, part_length};
 
-use drm_bits::MuxDesc;
+use drm_bits::{MuxDesc, Part};
 
 /// Four pieces of one buffer, one for each stream.
 #[derive(Clone, Copy, Debug, PartialEq, Eq)]
@@ -16,14 +16,17 @@ pub struct Spans {
 
 /// How many bytes the multiplex frame has.
 pub fn frame_len(desc: &MuxDesc) -> usize
-    requires { IsDescription desc.now }
     ensures { result ≡ frame_length desc.now }
 {
+    parts_len(&desc.parts)
+}
+
+fn parts_len(parts: &[Part; 4]) -> usize
+    ensures { result ≡ sum_by part_length parts.now }
+{
     let mut sum = 0;
-    for part in &desc.parts {
+    for part in parts {
         sum += usize::from(part.a) + usize::from(part.b);
     }
     sum
 }
-
-ghost use Rattle.drm_mux.specs.Frame.{frame_length};

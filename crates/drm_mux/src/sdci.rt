@@ -1,7 +1,7 @@
 //! The value of an `sdci` item: four zero bits, both protections, and the two parts of each stream.
 
 ghost use Rattle.std.specs.Prelude.{◌≡◌, ◌+◌, ◌*◌, ◌/◌, ◌≤◌, length, take, drop, IsOk, OnOk, IfOk, IfErr, IfSome, IfNone};
-ghost use Rattle.drm_bits.specs.Description.{IsDescription, FitsWidths};
+ghost use Rattle.drm_bits.specs.Description.{FitsWidths, IsWritable};
 ghost use Rattle.drm_bits.specs.declared.description.MuxDesc.{MuxDesc};
 ghost use Rattle.drm_mux.specs.Sdci.{IsSdci, IsSdciLength, HasZeroFront};
 ghost use Rattle.drm_mux.specs.Faults.{IsSdciFault};
@@ -51,10 +51,10 @@ fn described_streams(bits: u32) -> Option<u8>
     }
 }
 
-/// Writes the description at the front of `into`, and gives the number of bytes written.
+/// Writes the description at the front of `into`, and gives the number of bytes written. It describes at most four streams,
+/// and each number fits its width.
 pub fn write_sdci(desc: &MuxDesc, into: &mut [u8; 13]) -> usize
-    requires description { IsDescription desc.now }
-    requires fits { FitsWidths desc.now }
+    requires { IsWritable desc.now }
     ensures length { result ≡ 1 + 3 * desc.now.count }
     ensures written { IsSdci desc.now (take result into.new) }
     ensures rest { drop result into.new ≡ drop result into.old }

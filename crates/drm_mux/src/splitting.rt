@@ -3,11 +3,10 @@
 ghost use Rattle.std.specs.Prelude.{◌≡◌, ◌≢◌, ◌<◌, ◌^◌, length, IsOk, OnOk, OnErr, IfOk, IfErr};
 ghost use Rattle.drm_bits.specs.Description.{IsDescription};
 ghost use Rattle.drm_mux.specs.Frame.{multiplex_frame, streams_in, frame_length, part_length, AreSideBySide, HaveTheirLengths, EndBy};
-ghost use Rattle.drm_mux.specs.Streams.{streams_of, joined, parts_a_length};
+ghost use Rattle.drm_mux.specs.Streams.{parts_a_length};
 
-use crate::streams::copy;
 use crate::{MuxFault, Spans, frame_len};
-use drm_bits::{MuxDesc, Part};
+use drm_bits::{MuxDesc, Part, put_at};
 
 /// Writes the streams of a multiplex frame one after another, each as part A and then part B, and gives where they
 /// stand.
@@ -16,7 +15,7 @@ pub fn split(desc: &MuxDesc, frame: &[u8], into: &mut [u8]) -> Result<Spans, Mux
     requires room { length into.old ≡ length frame.now }
     ensures frame { IfOk result (λ spans.
         multiplex_frame desc.now (streams_in into.new spans) ≡ frame.now) }
-    ensures spans { IfOk result (AreSideBySide desc.now) }
+    ensures spans { IfOk result (AreSideBySide desc.now.parts) }
     ensures lengths { IfOk result (HaveTheirLengths desc.now) }
     ensures inside { IfOk result (EndBy (length into.new)) }
 
@@ -34,53 +33,40 @@ pub fn split(desc: &MuxDesc, frame: &[u8], into: &mut [u8]) -> Result<Spans, Mux
             described,
         });
     }
-    scatter(desc, frame, into);
-    Ok(side_by_side(desc))
-}
-
-fn scatter(desc: &MuxDesc, frame: &[u8], into: &mut [u8])
-    requires description { IsDescription desc.now }
-    requires frame { length frame.now ≡ frame_length desc.now }
-    requires room { length into.old ≡ length frame.now }
-    ensures { let from_b = parts_a_length desc.now.parts
-        in into.new ≡ joined (streams_of frame.now desc.now.parts 0 from_b) }
-{
     let mut from_a = 0;
-    let mut from_b = parts_a_len(desc);
+    let mut from_b = parts_a_len(&desc.parts);
     let mut at = 0;
     for part in &desc.parts {
         let a = usize::from(part.a);
         let b = usize::from(part.b);
-        copy(frame, from_a, a, into, at);
-        copy(frame, from_b, b, into, at + a);
+        put_at(into, at, &frame[from_a..from_a + a]);
+        put_at(into, at + a, &frame[from_b..from_b + b]);
         from_a += a;
         from_b += b;
         at += a + b;
     }
+    Ok(side_by_side(&desc.parts))
 }
 
 // How many bytes all parts A have.
-fn parts_a_len(desc: &MuxDesc) -> usize
-    requires { IsDescription desc.now }
-    ensures { result ≡ parts_a_length desc.now.parts }
+fn parts_a_len(parts: &[Part; 4]) -> usize
+    ensures { result ≡ parts_a_length parts.now }
 {
     let mut sum = 0;
-    for part in &desc.parts {
+    for part in parts {
         sum += usize::from(part.a);
     }
     sum
 }
 
-fn side_by_side(desc: &MuxDesc) -> Spans
-    requires { IsDescription desc.now }
-    ensures spans { AreSideBySide desc.now result }
-    ensures lengths { HaveTheirLengths desc.now result }
+fn side_by_side(parts: &[Part; 4]) -> Spans
+    ensures { AreSideBySide parts.now result }
 {
     let len = [
-        stream_len(&desc.parts[0]),
-        stream_len(&desc.parts[1]),
-        stream_len(&desc.parts[2]),
-        stream_len(&desc.parts[3]),
+        stream_len(&parts[0]),
+        stream_len(&parts[1]),
+        stream_len(&parts[2]),
+        stream_len(&parts[3]),
     ];
     let at = [0, len[0], len[0] + len[1], len[0] + len[1] + len[2]];
     Spans { at, len }

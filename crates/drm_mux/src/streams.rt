@@ -2,12 +2,12 @@
 
 ghost use Rattle.std.specs.Prelude.{◌≡◌, ◌≢◌, ℕ, ◌+◌, ◌*◌, ◌<◌, ◌≤◌, ◌++◌, ◌∷◌, [], ◌↔◌, List, length, take, drop, slice_index, slice_index_or, IsOk, OnOk, OnErr, IfOk, IfErr};
 ghost use Rattle.drm_bits.specs.Description.{IsDescription};
-ghost use Rattle.drm_mux.specs.Frame.{multiplex_frame, streams_in, frame_length, stream_length, HaveTheirLengths, EndBy};
+ghost use Rattle.drm_mux.specs.Frame.{multiplex_frame, streams_in, frame_length, stream_length, HasSpans, HasStreams, HaveTheirLengths, EndBy};
 ghost use Rattle.drm_mux.specs.Faults.{IsFirstWrong, NamesFirstWrong, wrong_length};
 ghost use Rattle.drm_mux.specs.Ranges.{ranges};
 
 use crate::{MuxFault, Spans};
-use drm_bits::MuxDesc;
+use drm_bits::{MuxDesc, put_at};
 
 /// Whether each described stream has the length of its two parts together.
 pub fn check_streams(desc: &MuxDesc, spans: &Spans) -> Result<(), MuxFault>
@@ -33,15 +33,15 @@ pub fn check_streams(desc: &MuxDesc, spans: &Spans) -> Result<(), MuxFault>
     Ok(())
 }
 
-/// Writes the multiplex frame of the streams at the front of `into`, and gives its length in bytes.
+/// Writes the multiplex frame of the streams at the front of `into`, and gives its length in bytes. The spans lie in the
+/// buffer.
 pub fn assemble(
     desc: &MuxDesc,
     buffer: &[u8],
     spans: &Spans,
     into: &mut [u8],
 ) -> Result<usize, MuxFault>
-    requires description { IsDescription desc.now }
-    requires inside { EndBy (length buffer.now) spans.now }
+    requires spans { HasSpans desc.now spans.now (length buffer.now) }
     requires room { frame_length desc.now ≤ length into.old }
     ensures length { IfOk result (λ n. n ≡ frame_length desc.now) }
     ensures frame { OnOk result (take (frame_length desc.now) into.new
@@ -55,36 +55,22 @@ pub fn assemble(
     ensures fault { IfErr result (NamesFirstWrong desc.now spans.now) }
     ensures unchanged { OnErr result (into.new ≡ into.old) }
 {
-    match check_streams(desc, spans) {
-        Ok(()) => Ok(gather(desc, buffer, spans, into)),
-        Err(fault) => Err(fault),
+    if let Err(fault) = check_streams(desc, spans) {
+        return Err(fault);
     }
-}
-
-fn gather(desc: &MuxDesc, buffer: &[u8], spans: &Spans, into: &mut [u8]) -> usize
-    requires description { IsDescription desc.now }
-    requires lengths { HaveTheirLengths desc.now spans.now }
-    requires inside { EndBy (length buffer.now) spans.now }
-    requires room { frame_length desc.now ≤ length into.old }
-    ensures length { result ≡ frame_length desc.now }
-    ensures frame { take result into.new
-        ≡ multiplex_frame desc.now (streams_in buffer.now spans.now) }
-    ensures rest { drop result into.new ≡ drop result into.old }
-{
     let mut at = 0;
     for index in 0..8 {
         let (from, len) = range(desc, spans, index);
-        copy(buffer, from, len, into, at);
+        put_at(into, at, &buffer[from..from + len]);
         at += len;
     }
-    at
+    Ok(at)
 }
 
-/// Where a byte of the multiplex frame stands in the buffer of the streams.
+/// Where a byte of the multiplex frame stands in the buffer of the streams, whose spans have the lengths that are described
+/// and end at or below the greatest `usize`.
 pub fn locate(desc: &MuxDesc, spans: &Spans, place: usize) -> usize
-    requires description { IsDescription desc.now }
-    requires lengths { HaveTheirLengths desc.now spans.now }
-    requires inside { EndBy usize.MAX spans.now }
+    requires streams { HasStreams desc.now spans.now usize.MAX }
     requires within { place < frame_length desc.now }
     ensures inside { (end : ℕ) → EndBy end spans.now → result < end }
     // Whatever the buffer has, this byte of it is that byte of the frame.
@@ -103,12 +89,10 @@ pub fn locate(desc: &MuxDesc, spans: &Spans, place: usize) -> usize
 }
 
 /// Where one of the eight parts of the multiplex frame begins in the buffer of the streams, and its length in bytes: the four
-/// parts A, and then the four parts B.
+/// parts A, and then the four parts B. The spans are as for `locate`.
 pub fn range(desc: &MuxDesc, spans: &Spans, index: usize) -> (usize, usize)
     requires index { index < 8 }
-    requires description { IsDescription desc.now }
-    requires lengths { HaveTheirLengths desc.now spans.now }
-    requires inside { EndBy usize.MAX spans.now }
+    requires streams { HasStreams desc.now spans.now usize.MAX }
     ensures range { result ≡ slice_index_or (ranges desc.now spans.now) index (0, 0) }
     ensures inside { (end : ℕ) → EndBy end spans.now → result.0 + result.1 ≤ end }
 {
@@ -119,14 +103,4 @@ pub fn range(desc: &MuxDesc, spans: &Spans, index: usize) -> (usize, usize)
     } else {
         (spans.at[k] + a, usize::from(desc.parts[k].b))
     }
-}
-
-// Copies `len` bytes of `buffer` to the place `at` of `into`.
-pub(crate) fn copy(buffer: &[u8], from: usize, len: usize, into: &mut [u8], at: usize)
-    requires inside { from + len ≤ length buffer.now }
-    requires room { at + len ≤ length into.old }
-    ensures front { take (at + len) into.new ≡ take at into.old ++ take len (drop from buffer.now) }
-    ensures rest { drop (at + len) into.new ≡ drop (at + len) into.old }
-{
-    into[at..at + len].copy_from_slice(&buffer[from..from + len]);
 }

@@ -1,5 +1,5 @@
 -- Octets and frequencies that are written one behind another.
-use Rattle.std.proofs.Common.{◌≡◌, ℕ, zero, suc, ◌+◌, List, [], ◌∷◌, ◌++◌, Bool, refl, ◌∙◌, ap, subst, arith, append_assoc, replicate}
+use Rattle.std.proofs.Common.{◌≡◌, ℕ, zero, suc, ◌+◌, List, [], ◌∷◌, ◌++◌, Bool, refl, sym, ◌∙◌, ap, subst, arith, append_assoc, replicate}
 use Rattle.std.proofs.lemmas.List.{append-nil}
 use Rattle.drm_bits.specs.Bits.{digits, bits_of}
 use Rattle.std.specs.Int.{from_bool}

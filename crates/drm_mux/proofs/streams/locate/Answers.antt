@@ -8,7 +8,7 @@ pub loop-index-init : goal.loop-index-init
 loop-index-init c =
     let size_at : length c.args.spans.now.at ≡ 4 = omega arith in
     record {
-      within = omega (arith, total-ranges c.args.desc.now c.args.spans.now c.requires.description.size size_at, c.requires.within);
+      within = omega (arith, total-ranges c.args.desc.now c.args.spans.now c.requires.streams.description.size size_at, c.requires.within);
       byte = λ buffer inside. refl;
     }
 
@@ -19,11 +19,11 @@ returns-then-rest-len-clause-byte c = λ buffer inside.
     let index : ℕ = c.loop-index.index in
     let size_at : length c.args.spans.now.at ≡ 4 = omega arith in
     let size_len : length c.args.spans.now.len ≡ 4 = omega arith in
-    let below : index < length rs = omega (arith, length-ranges c.args.desc.now c.args.spans.now c.requires.description.size size_at, c.loop-index-test.true) in
+    let below : index < length rs = omega (arith, length-ranges c.args.desc.now c.args.spans.now c.requires.streams.description.size size_at, c.loop-index-test.true) in
     let first : drop index rs ≡ r ∷ drop (index + 1) rs = first_range rs index r below c.range-from.ensures.range in
     sym (byte_here rs r index c.loop-index.rest buffer first (c.range-from.ensures.inside (length buffer) inside) c.if-rest-len.true)
     ∙ (c.loop-index.invariant.byte buffer inside
-    ∙ ap (λ l. get_or l c.args.place 0) (sym (frame_cut c.args.desc.now c.args.spans.now buffer size_at size_len c.requires.description c.requires.lengths)))
+    ∙ ap (λ l. get_or l c.args.place 0) (sym (frame_cut c.args.desc.now c.args.spans.now buffer size_at size_len c.requires.streams.description c.requires.streams.lengths)))
 
 pub loop-index-preserved : goal.loop-index-preserved
 loop-index-preserved c =
@@ -31,7 +31,7 @@ loop-index-preserved c =
     let r : ℕ × ℕ = c.range-from.result in
     let index : ℕ = c.loop-index.index in
     let size_at : length c.args.spans.now.at ≡ 4 = omega arith in
-    let below : index < length rs = omega (arith, length-ranges c.args.desc.now c.args.spans.now c.requires.description.size size_at, c.loop-index-test.true) in
+    let below : index < length rs = omega (arith, length-ranges c.args.desc.now c.args.spans.now c.requires.streams.description.size size_at, c.loop-index-test.true) in
     let first : drop index rs ≡ r ∷ drop (index + 1) rs = first_range rs index r below c.range-from.ensures.range in
     record {
       within = omega (arith, c.loop-index.invariant.within, ap total first, c.if-rest-len.false);
@@ -43,5 +43,5 @@ pub unreachable-requires : goal.unreachable-requires
 unreachable-requires c =
     let rs : List (ℕ × ℕ) = ranges c.args.desc.now c.args.spans.now in
     let size_at : length c.args.spans.now.at ≡ 4 = omega arith in
-    let none : drop c.loop-index.index rs ≡ [] = drop_of_length-le rs (omega (arith, length-ranges c.args.desc.now c.args.spans.now c.requires.description.size size_at, c.loop-index-test.false)) in
+    let none : drop c.loop-index.index rs ≡ [] = drop_of_length-le rs (omega (arith, length-ranges c.args.desc.now c.args.spans.now c.requires.streams.description.size size_at, c.loop-index-test.false)) in
     omega (arith, c.loop-index.invariant.within, ap total none)

@@ -13,11 +13,11 @@ returns-then-index-lt4-clause-range c =
     let places : List ℕ = c.args.spans.now.at in
     let a : c.from-a.result ≡ (get_or parts c.args.index no_part).a = c.from-a.ensures ∙ ap (λ i. (get_or parts i no_part).a) k in
     ap (λ i. (get_or places i 0, c.from-a.result)) k
-    ∙ (ap (λ n. (get_or places c.args.index 0, n)) a ∙ sym (range_a c.args.desc.now c.args.spans.now c.args.index c.requires.description.size size c.if-index-lt4.true))
+    ∙ (ap (λ n. (get_or places c.args.index 0, n)) a ∙ sym (range_a c.args.desc.now c.args.spans.now c.args.index c.requires.streams.description.size size c.if-index-lt4.true))
 
 pub returns-then-index-lt4-clause-inside : goal.returns-then-index-lt4-clause-inside
 returns-then-index-lt4-clause-inside c = λ end inside.
-    omega (arith, c.from-a.ensures, covers c.args.desc.now c.args.spans.now c.requires.description c.requires.lengths (c.args.index % 4) (omega arith), inside (c.args.index % 4) (omega arith))
+    omega (arith, c.from-a.ensures, covers c.args.desc.now c.args.spans.now c.requires.streams.description c.requires.streams.lengths (c.args.index % 4) (omega arith), inside (c.args.index % 4) (omega arith))
 
 pub returns-else-index-lt4-clause-range : goal.returns-else-index-lt4-clause-range
 returns-else-index-lt4-clause-range c =
@@ -31,8 +31,8 @@ returns-else-index-lt4-clause-range c =
     ap (λ i. (get_or places i 0 + c.from-a.result, c.from.result)) k
     ∙ (ap (λ n. (get_or places (c.args.index - 4) 0 + n, c.from.result)) a
     ∙ (ap (λ n. (get_or places (c.args.index - 4) 0 + (get_or parts (c.args.index - 4) no_part).a, n)) b
-    ∙ sym (range_b c.args.desc.now c.args.spans.now c.args.index c.requires.description.size size above c.requires.index)))
+    ∙ sym (range_b c.args.desc.now c.args.spans.now c.args.index c.requires.streams.description.size size above c.requires.index)))
 
 pub returns-else-index-lt4-clause-inside : goal.returns-else-index-lt4-clause-inside
 returns-else-index-lt4-clause-inside c = λ end inside.
-    omega (arith, c.from-a.ensures, c.from.ensures, covers c.args.desc.now c.args.spans.now c.requires.description c.requires.lengths (c.args.index % 4) (omega arith), inside (c.args.index % 4) (omega arith))
+    omega (arith, c.from-a.ensures, c.from.ensures, covers c.args.desc.now c.args.spans.now c.requires.streams.description c.requires.streams.lengths (c.args.index % 4) (omega arith), inside (c.args.index % 4) (omega arith))

@@ -5,8 +5,8 @@ use Rattle.drm_sdc.specs.Block.{IsFramed, IsChecked}
 use Rattle.drm_sdc.proofs.Frames.{framed, open_length, length-value}
 use Rattle.drm_sdc.proofs.unpack.unpack_block.Goals as goal
 
-pub wide-stands-requires-clause-enough : goal.wide-stands-requires-clause-enough
-wide-stands-requires-clause-enough c =
+pub take_u16-stands-requires-clause-enough : goal.take_u16-stands-requires-clause-enough
+take_u16-stands-requires-clause-enough c =
     let all : List Bool = take c.args.bits (bits_of c.args.value.now) in
     let rest : length c.behind_front-rest.result ≡ 8 * length c.args.field.now + 20 =
     open_length all c.behind_front-rest.result c.args.bits (length c.args.field.now) (sym (length-value c.args.value.now c.args.bits c.requires.length)) c.requires.open c.behind_front-rest.ensures.second c.behind_front-rest.ensures.first in

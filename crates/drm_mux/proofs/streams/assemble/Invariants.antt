@@ -2,7 +2,7 @@ use Rattle.std.proofs.Common.{◌≡◌, ◌+◌, ◌++◌, length, take, drop}
 use Rattle.drm_mux.specs.Frame.{frame_length}
 use Rattle.drm_mux.specs.Ranges.{ranges}
 use Rattle.drm_mux.proofs.RangeLemmas.{cut, total}
-use Rattle.drm_mux.proofs.streams.gather.Given as goal
+use Rattle.drm_mux.proofs.streams.assemble.Given as goal
 
 -- what stands at the ranges before this one is written, and the others are still to come
 abbrev pub invariant-loop-index : goal.invariant-loop-index
