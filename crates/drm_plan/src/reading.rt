@@ -2,6 +2,7 @@
 
 ghost use Rattle.std.specs.Prelude.{◌≡◌, ◌<◌, ◌≤◌, length, IsUtf8, Err};
 ghost use Rattle.text_lines.specs.Lines.{lines_of, bad_line_of};
+ghost use Rattle.text_lines.specs.Texts.{longest_text};
 ghost use Rattle.plan_said.specs.Steps.{Reads};
 ghost use Rattle.drm_plan.specs.Text.{lines_give};
 
@@ -10,10 +11,10 @@ use crate::projection::make_draft;
 use drm_schedule::Reason;
 use plan_said::{PlanFault, at, read_lines};
 use std::alloc::Global;
-use text_lines::{bad_line, lines};
+use text_lines::{NoText, lines, readable};
 
 fn read_text(alloc: Global, text: &str) -> Result<Draft, PlanFault>
-    requires { length text.now ≤ 262144 }
+    requires { length text.now ≤ longest_text }
     ensures { Reads result (lines_give (lines_of text.now)) }
 {
     let lines = lines(alloc, text)?;
@@ -25,17 +26,15 @@ fn read_text(alloc: Global, text: &str) -> Result<Draft, PlanFault>
 /// the first line, in their order, that has a fault by itself or after the lines before it, and what is missing at the
 /// end. Whether the schedule is valid isn't asked yet.
 pub fn read_plan(alloc: Global, text: &[u8]) -> Result<Draft, PlanFault>
-    ensures long { 262144 < length text.now → result ≡ Err (PlanFault.Line 0 Reason.TooLong) }
-    ensures utf8 { length text.now ≤ 262144 → (IsUtf8 text.now → ⊥)
+    ensures long { longest_text < length text.now → result ≡ Err (PlanFault.Line 0 Reason.TooLong) }
+    ensures utf8 { length text.now ≤ longest_text → (IsUtf8 text.now → ⊥)
         → result ≡ Err (PlanFault.Line (bad_line_of text.now) Reason.Utf8) }
-    ensures read { length text.now ≤ 262144 → IsUtf8 text.now
+    ensures read { length text.now ≤ longest_text → IsUtf8 text.now
         → Reads result (lines_give (lines_of text.now)) }
 {
-    if text.len() > 262_144 {
-        return Err(at(0, Reason::TooLong));
-    }
-    match bad_line(text) {
+    match readable(text) {
         Ok(text) => read_text(alloc, text),
-        Err(line) => Err(at(line, Reason::Utf8)),
+        Err(NoText::TooLong) => Err(at(0, Reason::TooLong)),
+        Err(NoText::Utf8 { line }) => Err(at(line, Reason::Utf8)),
     }
 }

@@ -16,6 +16,7 @@ use Rattle.plan_said.specs.declared.said.Said.{Said}
 use Rattle.plan_said.specs.declared.said.Block.{Block}
 use Rattle.plan_said.specs.declared.said.Read.{Read}
 use Rattle.plan_said.specs.Said.{add}
+use Rattle.text_lines.specs.Faults.{lines_say}
 use Rattle.plan_said.specs.Rules.{ends_incomplete, is_front, is_second, is_too_many, said_line, said_from}
 use Rattle.plan_said.specs.Steps.{check_of}
 use Rattle.plan_said.proofs.StepLemmas.{goes_on}
@@ -50,7 +51,7 @@ Fine read n [] = Unit {0}
 Fine read n (l ∷ ls) = (ends_incomplete read (keyword_said l) ≡ false) × (check_of read n (keyword_said l) ≡ Ok tt) × Fine (add n l read) (n + 1) ls
 
 pub lines_said : (read : Read) (n : ℕ) (ls : List Line) → AllByRecursion LineAgain ls → Fine read n ls → said_from read n (map canonical ls) ≡ Ok (adds n ls read)
-unfolding said_from
+unfolding lines_say
 lines_said read n [] again fine = refl
 lines_said read n (l ∷ ls) again fine = rw (line_said read n l again.0 fine.0 fine.1) (lines_said (add n l read) (n + 1) ls again.1 fine.2)
 

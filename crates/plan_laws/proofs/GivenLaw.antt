@@ -23,7 +23,8 @@ use Rattle.plan_said.specs.Said.{nothing, add}
 use Rattle.drm_plan.specs.Files.{config_files}
 use Rattle.plan_said.specs.InLines.{IsSingle, EndedInLines, ReadInLines, EndsComplete}
 use Rattle.drm_plan.specs.Projection.{Drafted, drafted}
-use Rattle.plan_said.specs.Rules.{Fault, fault, first_fault, ok_unless, is_misplaced, is_second, is_too_many, is_17th, in_current, is_incomplete, current_line, end_rows, ended, ends_incomplete, said_shape, said_keyword, said_words, said_line, said_from, said, ◌>>=◌}
+use Rattle.text_lines.specs.Faults.{fault, first_fault, ok_unless, ◌>>=◌, lines_say}
+use Rattle.plan_said.specs.Rules.{Fault, is_misplaced, is_second, is_too_many, is_17th, in_current, is_incomplete, current_line, end_rows, ended, ends_incomplete, said_shape, said_keyword, said_words, said_line, said_from, said}
 use Rattle.plan_said.specs.Steps.{check_of}
 use Rattle.drm_plan.specs.Text.{lines_give}
 use Rattle.plan_said.proofs.KeptLemmas.{add_fits}
@@ -111,7 +112,7 @@ line_kept read new n line utf8 single kept is = words_kept read new n line (word
 -- ---- all lines
 
 lines_kept : (read new : Read) (n : ℕ) (lines : List (List ℕ)) → All IsUtf8 lines → All IsSingle lines → ReadInLines read → said_from read n lines ≡ Ok new → ReadInLines new
-unfolding said_from
+unfolding lines_say
 lines_kept read new n [] utf8 single kept is = subst ReadInLines (read_is read new is) kept
 lines_kept read new n (line ∷ lines) utf8 single kept is =
     by (said_line read n line) refl is (λ more. lines_kept more new (n + 1) lines (All-tail IsUtf8 line lines utf8) (All-tail IsSingle line lines single))

@@ -7,7 +7,8 @@ use Rattle.plan_said.specs.declared.fault.PlanFault.TheVariants as plan
 use Rattle.plan_said.specs.declared.said.Block.{Block}
 use Rattle.plan_said.specs.declared.said.Read.{Read}
 use Rattle.plan_said.specs.Said.{nothing}
-use Rattle.plan_said.specs.Rules.{fault, first_fault, ok_unless, is_incomplete, end_rows, ended, said_from, said}
+use Rattle.text_lines.specs.Faults.{fault, first_fault, ok_unless}
+use Rattle.plan_said.specs.Rules.{is_incomplete, end_rows, ended, said_from, said}
 use Rattle.plan_said.specs.Steps.{FailsAs, end_check}
 use Rattle.plan_said.specs.InLines.{EndsComplete}
 use Rattle.plan_said.proofs.StepLemmas.{Matches}

@@ -1,5 +1,4 @@
 pub mod StepLemmas
-pub mod LoopLemmas
 pub mod EndLemmas
 pub mod KeywordLemmas
 pub mod KeptLemmas

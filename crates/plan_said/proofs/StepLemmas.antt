@@ -17,7 +17,8 @@ use Rattle.line_forms.specs.Shape.{Shape, reading, first_row, ok_unless as line_
 use Rattle.plan_said.specs.declared.said.Read.{Read}
 use Rattle.plan_said.specs.declared.fault.PlanFault.{PlanFault}
 use Rattle.plan_said.specs.Said.{add}
-use Rattle.plan_said.specs.Rules.{Fault, fault, first_fault, ok_unless, is_misplaced, is_second, is_too_many, is_17th, in_current, current_line, ends_incomplete, said_shape}
+use Rattle.text_lines.specs.Faults.{fault, first_fault, ok_unless}
+use Rattle.plan_said.specs.Rules.{Fault, is_misplaced, is_second, is_too_many, is_17th, in_current, current_line, ends_incomplete, said_shape}
 use Rattle.plan_said.specs.Steps.{FailsAs, check_rows, check_of, refuse, refused_of}
 
 abbrev pub Matches : Result (Unit {0}) PlanFault → Result Read Fault → Read → Type 0

@@ -1,6 +1,7 @@
 -- What the lines of a text say, or the first fault of the text.
-use Rattle.std.specs.Prelude.{ℕ, zero, suc, ◌+◌, ◌==◌, ◌&&◌, ◌||◌, not, nat_le, nat_lt, Bool, true, false, is_none, slice_index, length, List, [], ◌∷◌, filter, Option, Some, None, Result, Ok, Err, if◌then◌else◌}
+use Rattle.std.specs.Prelude.{ℕ, zero, suc, ◌+◌, ◌==◌, ◌&&◌, ◌||◌, not, nat_le, nat_lt, Bool, true, false, is_none, length, List, [], ◌∷◌, filter, Option, Some, None, Result, Ok, Err, if◌then◌else◌}
 use Rattle.std.specs.List.{list_all, list_any}
+use Rattle.text_lines.specs.Faults.{FaultOf, fault, first_fault, ok_unless, words_say, lines_say, ◌>>=◌}
 use Rattle.text_lines.specs.Lines.{words_of}
 use Rattle.drm_schedule.specs.declared.invalid.Reason.{Reason}
 use Rattle.drm_schedule.specs.declared.invalid.Reason.TheVariants.{Word, Order, Number, Range, Twice, TooLong, Missing}
@@ -16,18 +17,9 @@ use Rattle.plan_said.specs.declared.said.Block.{Block}
 use Rattle.plan_said.specs.declared.said.Read.{Read}
 use Rattle.plan_said.specs.Said.{nothing, add, count}
 
--- a fault of a text: its line, from 1, and what is wrong with it
-pub record Fault : Type 0 where
-  pub line : ℕ
-  pub reason : Reason
-
-abbrev pub fault : ℕ → Reason → Fault
-fault line reason = record { line = line; reason = reason }
-
--- the fault of the first row that holds
-abbrev pub first_fault : List (Bool × Fault) → Option Fault
-first_fault [] = None
-first_fault (row ∷ rows) = if row.0 then Some row.1 else first_fault rows
+-- a fault of a schedule's text
+abbrev pub Fault : Type 0
+Fault = FaultOf Reason
 
 -- the four first lines come in this order, and then a configuration begins
 abbrev pub keyword_at : ℕ → Keyword
@@ -140,10 +132,6 @@ abbrev pub add_shape : ℕ → Option Shape → Read → Read
 add_shape n None read = read
 add_shape n (Some s) read = add n s.says read
 
-abbrev pub ok_unless : {X : Type 0} → Option Fault → X → Result X Fault
-ok_unless None x = Ok x
-ok_unless (Some f) x = Err f
-
 -- a line of this shape after these lines
 unfoldable pub said_shape : Read → ℕ → Keyword → Option Shape → Result Read Fault
 said_shape read n keyword shape = ok_unless (first_fault (rows_of read n keyword shape)) (add_shape n shape read)
@@ -152,26 +140,17 @@ abbrev pub said_keyword : Read → ℕ → Option Keyword → List ℕ → List 
 said_keyword read n None line words = Err (fault n Word)
 said_keyword read n (Some keyword) line words = said_shape read n keyword (shape_of keyword line words)
 
--- a line of these words: none, or a comment, says nothing
+-- a line of these words
 abbrev pub said_words : Read → ℕ → List ℕ → List (List ℕ) → Result Read Fault
-said_words read n line [] = Ok read
-said_words read n line (first ∷ words) = if slice_index first 0 == 35 then Ok read else said_keyword read n (keyword_of first) line words
+said_words read n line words = words_say read (λ first more. said_keyword read n (keyword_of first) line more) words
 
 -- line n after these lines
 unfoldable pub said_line : Read → ℕ → List ℕ → Result Read Fault
 said_line read n line = said_words read n line (words_of line)
 
-infixl 10 ◌>>=◌
-abbrev pub ◌>>=◌ : {A B : Type 0} → Result A Fault → (A → Result B Fault) → Result B Fault
-Ok x >>= f = f x
-Err e >>= f = Err e
-
 -- lines from line n on, after these lines
-unfoldable pub said_from : Read → ℕ → List (List ℕ) → Result Read Fault
-said_from read n [] = Ok read
-said_from read n (line ∷ lines) = do
-  more ← said_line read n line
-  said_from more (n + 1) lines
+abbrev pub said_from : Read → ℕ → List (List ℕ) → Result Read Fault
+said_from read n lines = lines_say said_line read n lines
 
 -- what a text of n lines lacks at its end: a configuration, or a part of the last one
 abbrev pub end_rows : Option Block → ℕ → List (Bool × Fault)

@@ -7,22 +7,25 @@ use Rattle.plan_said.specs.declared.said.Block.{Block}
 use Rattle.plan_said.specs.declared.said.Read.{Read}
 use Rattle.plan_said.specs.declared.fault.PlanFault.{PlanFault}
 use Rattle.plan_said.specs.declared.fault.PlanFault.TheVariants as plan
-use Rattle.plan_said.specs.Rules.{Fault, fault, is_misplaced, is_second, is_too_many, is_17th, in_current, is_incomplete}
+use Rattle.text_lines.specs.Faults.{fault, FailsAt, GivesSaid, LeavesSaid}
+use Rattle.plan_said.specs.Rules.{Fault, is_misplaced, is_second, is_too_many, is_17th, in_current, is_incomplete}
+
+-- a call's fault as one of the text
+abbrev pub told : PlanFault → Option Fault
+told plan.NoMemory = None
+told (plan.Line line reason) = Some (fault line reason)
 
 -- a call that fails as the reading does, unless memory ran out
 abbrev pub FailsAs : {X : Type 0} → PlanFault → Result X Fault → Type 0
-FailsAs plan.NoMemory read = Unit {0}
-FailsAs (plan.Line line reason) read = read ≡ Err (fault line reason)
+FailsAs p read = FailsAt (told p) read
 
 -- the lines read on, or failed at their first fault, unless memory ran out
 abbrev pub Steps : Result (Unit {0}) PlanFault → Read → Result Read Fault → Type 0
-Steps (Ok done) new said = said ≡ Ok new
-Steps (Err p) new said = FailsAs p said
+Steps r new said = LeavesSaid told r new said
 
 -- what is read, or the first fault, unless memory ran out
 abbrev pub Reads : {X : Type 0} → Result X PlanFault → Result X Fault → Type 0
-Reads (Ok x) said = said ≡ Ok x
-Reads (Err p) said = FailsAs p said
+Reads r said = GivesSaid told r said
 
 abbrev pub check_rows : Bool → Bool → Bool → ℕ → Result (Unit {0}) PlanFault
 check_rows misplaced second full n =

@@ -1,6 +1,6 @@
 //! The rules of the lines, judged in their order.
 
-ghost use Rattle.std.specs.Prelude.{◌≡◌, ◌==◌, ◌||◌, ◌<◌, ◌^◌, ◌-◌, false, length, map, slice_index, List, ℕ, ◌∷◌, All, Option, IfOk, OnOk};
+ghost use Rattle.std.specs.Prelude.{◌≡◌, ◌||◌, ◌<◌, ◌^◌, ◌-◌, false, length, map, List, ℕ, ◌∷◌, All, Option, IfOk, OnOk};
 ghost use Rattle.text_lines.specs.Lines.{words_of};
 ghost use Rattle.line_forms.specs.Shape.{Shape, reading};
 ghost use Rattle.line_forms.specs.Gives.{Gives};
@@ -18,7 +18,7 @@ use crate::said::Read;
 use drm_schedule::Reason;
 use plan_lines::{Keyword, Line, LineFault, keyword, read_line};
 use std::alloc::Global;
-use text_lines::words;
+use text_lines::{is_comment, words};
 
 impl Read {
     fn is_misplaced(&self, keyword: Keyword) -> bool
@@ -198,15 +198,6 @@ impl Read {
                 Ok(())
             }
         }
-    }
-}
-
-fn is_comment(word: &str) -> bool
-    ensures { result ≡ (slice_index word.now 0 == 35) }
-{
-    match word.as_bytes() {
-        [first, ..] => *first == b'#',
-        [] => false,
     }
 }
 

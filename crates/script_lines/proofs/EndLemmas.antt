@@ -4,7 +4,8 @@ use Rattle.std.specs.Prelude.{◌==◌}
 use Rattle.drm_schedule.specs.declared.invalid.Reason.TheVariants.{Missing}
 use Rattle.script_lines.specs.declared.delivery.Delivery.{Delivery}
 use Rattle.script_lines.specs.declared.feeds.Feeds.{Feeds}
-use Rattle.script_lines.specs.Script.{fault, first_fault, ok_unless, ended}
+use Rattle.text_lines.specs.Faults.{fault, first_fault, ok_unless}
+use Rattle.script_lines.specs.Script.{ended}
 use Rattle.script_lines.specs.Steps.{feeds_in}
 use Rattle.script_lines.proofs.StepLemmas.{breaks, gives, no_feeds, some_length}
 

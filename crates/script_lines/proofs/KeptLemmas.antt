@@ -16,7 +16,8 @@ use Rattle.script_lines.specs.declared.line.Line.{Line}
 use Rattle.script_lines.specs.declared.line.Line.TheVariants as lines
 use Rattle.script_lines.specs.declared.line.Delivers.{Delivers}
 use Rattle.script_lines.specs.declared.line.Delivers.TheVariants as delivers
-use Rattle.script_lines.specs.Script.{Form, Fault, fault, first_fault, ok_unless, IsDelivery, IsScript, packet_count, fragment_count, delivery_size, delivery, all_of, delivered, has_packet, in_schedule, in_range, is_feed, is_too_long, form_of, ended, script_of, ◌>>=◌}
+use Rattle.text_lines.specs.Faults.{fault, first_fault, ok_unless, ◌>>=◌, lines_say}
+use Rattle.script_lines.specs.Script.{Form, Fault, IsDelivery, IsScript, packet_count, fragment_count, delivery_size, delivery, all_of, delivered, has_packet, in_schedule, in_range, is_feed, is_too_long, form_of, ended, script_of}
 use Rattle.script_lines.specs.Steps.{Reads, to_last, with_line, form_after, words_after, lines_after}
 use Rattle.script_lines.proofs.SaidLemmas.{script_is}
 
@@ -111,7 +112,7 @@ words_kept plan feeds new n (first ∷ words) kept e = by (slice_index first 0 =
     by false is = form_kept plan feeds new n (form_of first words) kept is
 
 lines_kept : (plan : Plan) (feeds new : List (List Delivery)) (n : ℕ) (lines : List (List ℕ)) → Kept plan feeds → lines_after plan feeds n lines ≡ gives new → Kept plan new
-unfolding lines_after
+unfolding lines_say
 lines_kept plan feeds new n [] kept e =
     let same : feeds ≡ new = cc in
     subst (Kept plan) same kept

@@ -3,9 +3,7 @@ pub mod Putting
 pub mod RuleLemmas
 pub mod FeedLemmas
 pub mod StepLemmas
-pub mod LoopLemmas
 pub mod EndLemmas
 pub mod SaidLemmas
 pub mod KeptLemmas
-pub mod CountLemmas
 pub mod SizeLaw

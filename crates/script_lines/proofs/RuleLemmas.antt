@@ -8,7 +8,8 @@ use Rattle.drm_schedule.specs.declared.invalid.Reason.TheVariants as reasons
 use Rattle.drm_schedule.specs.declared.plan.Plan.{Plan}
 use Rattle.script_lines.specs.declared.delivery.Delivery.{Delivery}
 use Rattle.script_lines.specs.declared.line.Line.{Line}
-use Rattle.script_lines.specs.Script.{Form, Fault, fault, first_fault, ok_unless, in_range, is_feed, is_too_long}
+use Rattle.text_lines.specs.Faults.{fault, first_fault, ok_unless}
+use Rattle.script_lines.specs.Script.{Form, Fault, in_range, is_feed, is_too_long}
 use Rattle.script_lines.specs.Steps.{form_after, line_unless, first_row, reading, with_line}
 
 -- a line that has no fault by itself is within range

@@ -11,7 +11,8 @@ use Rattle.script_lines.specs.declared.fault.ScriptFault.{ScriptFault}
 use Rattle.script_lines.specs.declared.fault.ScriptFault.TheVariants as faults
 use Rattle.script_lines.specs.declared.line.Line.{Line}
 use Rattle.script_lines.specs.declared.line.Line.TheVariants as lines
-use Rattle.script_lines.specs.Script.{Form, Fault, first_fault, ok_unless, rows, is_feed, line_delivers, feeds_of, form_of, with_form, lacks_feed, is_too_long, said_form, said_words, said_from, ended, script_of, ◌>>=◌}
+use Rattle.text_lines.specs.Faults.{first_fault, ok_unless, ◌>>=◌, lines_say}
+use Rattle.script_lines.specs.Script.{Form, Fault, rows, is_feed, line_delivers, feeds_of, form_of, with_form, lacks_feed, is_too_long, said_form, said_words, said_from, ended, script_of}
 use Rattle.script_lines.specs.Steps.{FailsAs, to_last, with_line, feeds_with, form_after, words_after, lines_after}
 
 -- one more line for the last part
@@ -121,7 +122,7 @@ words_given plan said n (first ∷ words) = by (slice_index first 0 == 35)
     by false = form_given plan said n (form_of first words)
 
 lines_given : (plan : Plan) (said : List Line) (n : ℕ) (lines : List (List ℕ)) → given plan (said_from plan said n lines) ≡ lines_after plan (feeds_of plan said) n lines
-unfolding said_from lines_after
+unfolding lines_say
 lines_given plan said n [] = refl
 lines_given plan said n (line ∷ lines) = by (said_words plan said n (words_of line)) (words_given plan said n (words_of line)) (λ more. lines_given plan more (n + 1) lines)
   where

@@ -12,7 +12,8 @@ use Rattle.script_lines.specs.declared.fault.ScriptFault.TheVariants as faults
 use Rattle.script_lines.specs.declared.feeds.Feeds.{Feeds}
 use Rattle.script_lines.specs.declared.line.Line.TheVariants as lines
 use Rattle.script_lines.specs.declared.line.Delivers.{Delivers}
-use Rattle.script_lines.specs.Script.{Form, Fault, fault, first_fault, ok_unless, is_too_long, delivered}
+use Rattle.text_lines.specs.Faults.{fault, first_fault, ok_unless}
+use Rattle.script_lines.specs.Script.{Form, Fault, is_too_long, delivered}
 use Rattle.script_lines.specs.Steps.{AreCounted, Begins, Puts, Steps, begun, feeds_in, form_after, reading, to_last, with_all}
 use Rattle.script_lines.proofs.RuleLemmas.{left}
 use Rattle.script_lines.proofs.FeedLemmas.{begun_counted, begun_long, more_counted, more_feeds, more_long}

@@ -3,6 +3,7 @@ use Rattle.std.specs.Prelude.{ℕ, ◌+◌, ◌-◌, ◌*◌, ◌/◌, ◌%◌, 
 use Rattle.std.specs.List.{list_all, flat_map, range_with_len, slice_split}
 use Rattle.std.specs.Str.{bytes_eq}
 use Rattle.std.specs.Str.Parse.{digits_value}
+use Rattle.text_lines.specs.Faults.{FaultOf, fault, first_fault, ok_unless, words_say, lines_say, ◌>>=◌}
 use Rattle.text_lines.specs.Lines.{words_of}
 use Rattle.text_lines.specs.Numbers.{is_number}
 use Rattle.drm_schedule.specs.declared.carry.Carry.{Carry}
@@ -160,18 +161,9 @@ pub record IsScript (plan : Plan) (feeds : List (List Delivery)) : Type 0 where
   pub few_deliveries : sum_by length feeds ≤ 100000
   pub few_bytes : sum_by (sum_by (delivery_size plan)) feeds ≤ 268435456
 
--- a fault of a text: its line, from 1, and what is wrong with it
-pub record Fault : Type 0 where
-  pub line : ℕ
-  pub reason : Reason
-
-abbrev pub fault : ℕ → Reason → Fault
-fault line reason = record { line = line; reason = reason }
-
--- the fault of the first row that holds
-abbrev pub first_fault : List (Bool × Fault) → Option Fault
-first_fault [] = None
-first_fault (row ∷ rows) = if row.0 then Some row.1 else first_fault rows
+-- a fault of a script's text
+abbrev pub Fault : Type 0
+Fault = FaultOf Reason
 
 abbrev pub are_numbers : Option Form → Bool
 are_numbers None = true
@@ -205,30 +197,17 @@ rows plan n line missing long =
 abbrev pub rows_of : Plan → List Line → ℕ → Option Form → List (Bool × Fault)
 rows_of plan said n line = rows plan n line (lacks_feed (feeds_of plan said) line) (is_too_long plan (feeds_of plan (with_form said line)))
 
-abbrev pub ok_unless : {X : Type 0} → Option Fault → X → Result X Fault
-ok_unless None x = Ok x
-ok_unless (Some f) x = Err f
-
 -- a line of this form after these lines
 unfoldable pub said_form : Plan → List Line → ℕ → Option Form → Result (List Line) Fault
 said_form plan said n line = ok_unless (first_fault (rows_of plan said n line)) (with_form said line)
 
--- a line of these words: none, or a comment, says nothing
+-- a line of these words
 abbrev pub said_words : Plan → List Line → ℕ → List (List ℕ) → Result (List Line) Fault
-said_words plan said n [] = Ok said
-said_words plan said n (first ∷ words) = if slice_index first 0 == 35 then Ok said else said_form plan said n (form_of first words)
-
-infixl 10 ◌>>=◌
-abbrev pub ◌>>=◌ : {A B : Type 0} → Result A Fault → (A → Result B Fault) → Result B Fault
-Ok x >>= f = f x
-Err e >>= f = Err e
+said_words plan said n words = words_say said (λ first more. said_form plan said n (form_of first more)) words
 
 -- lines from line n on, after these lines
-unfoldable pub said_from : Plan → List Line → ℕ → List (List ℕ) → Result (List Line) Fault
-said_from plan said n [] = Ok said
-said_from plan said n (line ∷ lines) = do
-  more ← said_words plan said n (words_of line)
-  said_from plan more (n + 1) lines
+abbrev pub said_from : Plan → List Line → ℕ → List (List ℕ) → Result (List Line) Fault
+said_from plan said n lines = lines_say (λ before k line. said_words plan before k (words_of line)) said n lines
 
 -- the end of a text of n lines, where no feed may be missing
 unfoldable pub ended : ℕ → List (List Delivery) → Result (List (List Delivery)) Fault

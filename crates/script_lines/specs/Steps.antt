@@ -2,6 +2,7 @@
 use Rattle.std.specs.Prelude.{ℕ, ◌≡◌, ◌+◌, ◌<◌, ◌≤◌, ◌==◌, ◌||◌, not, nat_lt, Bool, false, true, length, sum_by, List, [], ◌∷◌, ◌++◌, slice_index, Option, Some, None, option_map, Result, Ok, Err, if◌then◌else◌}
 use Rattle.std.specs.List.{list_all}
 use Rattle.std.specs.Option.{option_to_list}
+use Rattle.text_lines.specs.Faults.{FailsAt, GivesSaid, LeavesSaid, fault, first_fault, ok_unless, words_say, lines_say}
 use Rattle.text_lines.specs.Lines.{words_of}
 use Rattle.text_lines.specs.Numbers.{is_number}
 use Rattle.drm_schedule.specs.declared.carry.Carry.{Carry}
@@ -18,7 +19,7 @@ use Rattle.script_lines.specs.declared.feeds.Feeds.{Feeds}
 use Rattle.script_lines.specs.declared.line.Line.{Line}
 use Rattle.script_lines.specs.declared.line.Line.TheVariants as lines
 use Rattle.script_lines.specs.declared.packet.Packet.{Packet}
-use Rattle.script_lines.specs.Script.{Form, Fault, fault, first_fault, ok_unless, packet_size, delivery_size, delivered, in_range, form_of, lacks_feed, is_too_long, rows, ◌>>=◌}
+use Rattle.script_lines.specs.Script.{Form, Fault, packet_size, delivery_size, delivered, in_range, form_of, lacks_feed, is_too_long, rows}
 
 -- how a packet of so many bytes is cut, if it is
 abbrev pub cut_of : Carry → ℕ → Option Shape
@@ -64,14 +65,14 @@ unfoldable pub form_after : Plan → List (List Delivery) → ℕ → Option For
 form_after plan feeds n line = ok_unless (first_fault (rows plan n line (lacks_feed feeds line) (is_too_long plan (feeds_with plan feeds line)))) (feeds_with plan feeds line)
 
 abbrev pub words_after : Plan → List (List Delivery) → ℕ → List (List ℕ) → Result (List (List Delivery)) Fault
-words_after plan feeds n [] = Ok feeds
-words_after plan feeds n (first ∷ words) = if slice_index first 0 == 35 then Ok feeds else form_after plan feeds n (form_of first words)
+words_after plan feeds n words = words_say feeds (λ first more. form_after plan feeds n (form_of first more)) words
 
-unfoldable pub lines_after : Plan → List (List Delivery) → ℕ → List (List ℕ) → Result (List (List Delivery)) Fault
-lines_after plan feeds n [] = Ok feeds
-lines_after plan feeds n (line ∷ lines) = do
-  more ← words_after plan feeds n (words_of line)
-  lines_after plan more (n + 1) lines
+-- what line n does to the feeds
+abbrev pub line_after : Plan → List (List Delivery) → ℕ → List ℕ → Result (List (List Delivery)) Fault
+line_after plan feeds n line = words_after plan feeds n (words_of line)
+
+abbrev pub lines_after : Plan → List (List Delivery) → ℕ → List (List ℕ) → Result (List (List Delivery)) Fault
+lines_after plan feeds n lines = lines_say (line_after plan) feeds n lines
 
 -- the feeds that are kept
 abbrev pub feeds_in : Feeds → List (List Delivery)
@@ -117,20 +118,22 @@ Puts (Ok done) n new whole = (new ≡ whole) × (is_full whole ≡ false)
 Puts (Err faults.NoMemory) n new whole = Unit {0}
 Puts (Err (faults.Line line reason)) n new whole = (line ≡ n) × (reason ≡ TooLong) × (is_full whole ≡ true)
 
+-- a call's fault as one of the text
+abbrev pub told : ScriptFault → Option Fault
+told faults.NoMemory = None
+told (faults.Line line reason) = Some (fault line reason)
+
 -- a call that fails as the reading does, unless memory ran out
 abbrev pub FailsAs : {X : Type 0} → ScriptFault → Result X Fault → Type 0
-FailsAs faults.NoMemory read = Unit {0}
-FailsAs (faults.Line line reason) read = read ≡ Err (fault line reason)
+FailsAs p read = FailsAt (told p) read
 
 -- the lines are read on, or failed at their first fault, unless memory ran out
 abbrev pub Steps : Result (Unit {0}) ScriptFault → List (List Delivery) → Result (List (List Delivery)) Fault → Type 0
-Steps (Ok done) new read = read ≡ Ok new
-Steps (Err p) new read = FailsAs p read
+Steps r new read = LeavesSaid told r new read
 
 -- what is read, or the first fault, unless memory ran out
 abbrev pub Reads : {X : Type 0} → Result X ScriptFault → Result X Fault → Type 0
-Reads (Ok x) read = read ≡ Ok x
-Reads (Err p) read = FailsAs p read
+Reads r read = GivesSaid told r read
 
 -- the feeds that lines give, or their first fault, unless memory ran out
 abbrev pub ReadsFeeds : Result Feeds ScriptFault → Result (List (List Delivery)) Fault → Type 0

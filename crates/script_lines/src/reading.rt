@@ -2,6 +2,7 @@
 
 ghost use Rattle.std.specs.Prelude.{◌≡◌, ◌<◌, ◌≤◌, length, IsUtf8, Err, IfOk};
 ghost use Rattle.text_lines.specs.Lines.{lines_of, bad_line_of};
+ghost use Rattle.text_lines.specs.Texts.{longest_text};
 ghost use Rattle.script_lines.specs.Script.{IsScript, script_of};
 ghost use Rattle.script_lines.specs.Steps.{Reads};
 
@@ -10,10 +11,10 @@ use crate::rules::read_lines;
 use crate::script::Script;
 use drm_schedule::{Reason, Schedule};
 use std::alloc::Global;
-use text_lines::{bad_line, lines};
+use text_lines::{NoText, lines, readable};
 
 fn read_text(alloc: Global, text: &str, plan: &Schedule) -> Result<Script, ScriptFault>
-    requires { length text.now ≤ 262144 }
+    requires { length text.now ≤ longest_text }
     ensures read { Reads result (script_of plan.now (lines_of text.now)) }
     ensures script { IfOk result (IsScript plan.now) }
 {
@@ -25,18 +26,16 @@ fn read_text(alloc: Global, text: &str, plan: &Schedule) -> Result<Script, Scrip
 /// one that isn't UTF-8, then the first line, in their order, that has a fault by itself or after the lines before it, and
 /// at the end a text without a feed.
 pub fn read_script(alloc: Global, text: &[u8], plan: &Schedule) -> Result<Script, ScriptFault>
-    ensures long { 262144 < length text.now → result ≡ Err (ScriptFault.Line 0 Reason.TooLong) }
-    ensures utf8 { length text.now ≤ 262144 → (IsUtf8 text.now → ⊥)
+    ensures long { longest_text < length text.now → result ≡ Err (ScriptFault.Line 0 Reason.TooLong) }
+    ensures utf8 { length text.now ≤ longest_text → (IsUtf8 text.now → ⊥)
         → result ≡ Err (ScriptFault.Line (bad_line_of text.now) Reason.Utf8) }
-    ensures read { length text.now ≤ 262144 → IsUtf8 text.now
+    ensures read { length text.now ≤ longest_text → IsUtf8 text.now
         → Reads result (script_of plan.now (lines_of text.now)) }
     ensures script { IfOk result (IsScript plan.now) }
 {
-    if text.len() > 262_144 {
-        return Err(at(0, Reason::TooLong));
-    }
-    match bad_line(text) {
+    match readable(text) {
         Ok(text) => read_text(alloc, text, plan),
-        Err(line) => Err(at(line, Reason::Utf8)),
+        Err(NoText::TooLong) => Err(at(0, Reason::TooLong)),
+        Err(NoText::Utf8 { line }) => Err(at(line, Reason::Utf8)),
     }
 }

@@ -1,6 +1,6 @@
 //! The rules of the lines, judged in their order.
 
-ghost use Rattle.std.specs.Prelude.{◌≡◌, ◌==◌, ◌+◌, ◌-◌, ◌<◌, ◌≤◌, ◌^◌, ◌∷◌, [], true, slice_index, length, map, Option, Err, IfOk, OnOk};
+ghost use Rattle.std.specs.Prelude.{◌≡◌, ◌+◌, ◌-◌, ◌<◌, ◌≤◌, ◌^◌, ◌∷◌, [], true, length, map, Option, Err, IfOk, OnOk};
 ghost use Rattle.text_lines.specs.Lines.{words_of};
 ghost use Rattle.script_lines.specs.Script.{Form, delivered, in_range, in_schedule, script_of, IsScript};
 ghost use Rattle.script_lines.specs.Steps.{AreCounted, Puts, Reads, ReadsFeeds, Steps, feeds_in, form_after, lines_after, reading, with_all, words_after};
@@ -13,7 +13,7 @@ use crate::read_line::read_line;
 use crate::script::Script;
 use drm_schedule::{Reason, Schedule};
 use std::alloc::Global;
-use text_lines::words;
+use text_lines::{is_comment, words};
 
 impl Feeds {
     // What is delivered at line `n`, for the last feed.
@@ -89,15 +89,6 @@ impl Feeds {
     {
         let words = words(alloc, line)?;
         self.take_words(alloc, plan, n, &words)
-    }
-}
-
-fn is_comment(word: &str) -> bool
-    ensures { result ≡ (slice_index word.now 0 == 35) }
-{
-    match word.as_bytes() {
-        [first, ..] => *first == b'#',
-        [] => false,
     }
 }
 

@@ -5,3 +5,5 @@ pub mod Lacking
 pub mod WordLaws
 pub mod LineLaws
 pub mod SpellingLaws
+pub mod CountLemmas
+pub mod SayLemmas

@@ -9,6 +9,6 @@ mod text;
 
 pub use behind::behind_two_words;
 pub use hex_digits::{bytes, hex};
-pub use line::words;
+pub use line::{is_comment, words};
 pub use numerals::number;
-pub use text::{bad_line, lines};
+pub use text::{LONGEST_TEXT, NoText, bad_line, lines, readable};

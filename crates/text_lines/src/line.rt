@@ -1,6 +1,6 @@
 //! The words of a line.
 
-ghost use Rattle.std.specs.Prelude.{◌≡◌, map, IfOk};
+ghost use Rattle.std.specs.Prelude.{◌≡◌, ◌==◌, map, slice_index, IfOk};
 ghost use Rattle.text_lines.specs.Lines.{words_of};
 
 use drm_bits::NoMemory;
@@ -20,4 +20,14 @@ pub fn words(alloc: Global, line: &str) -> Result<Vec<&str>, NoMemory>
     ensures { IfOk result (λ words. map (λ word. word.now) words.items ≡ words_of line.now) }
 {
     Ok(collected(alloc, line)?)
+}
+
+/// Whether a line is a comment, by its first word.
+pub fn is_comment(word: &str) -> bool
+    ensures { result ≡ (slice_index word.now 0 == 35) }
+{
+    match word.as_bytes() {
+        [first, ..] => *first == b'#',
+        [] => false,
+    }
 }

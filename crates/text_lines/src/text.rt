@@ -1,11 +1,40 @@
-//! The lines of a text.
+//! A text, and its lines.
 
-ghost use Rattle.std.specs.Prelude.{◌≡◌, ◌==◌, ◌<◌, ◌^◌, ◌-◌, ◌↔◌, length, map, IsUtf8, IsOk, IfOk, IfErr};
+ghost use Rattle.std.specs.Prelude.{◌≡◌, ◌==◌, ◌<◌, ◌≤◌, ◌^◌, ◌-◌, ◌↔◌, length, map, IsUtf8, IsOk, OnOk, IfOk, IfErr};
 ghost use Rattle.std.specs.List.{slice_split};
 ghost use Rattle.text_lines.specs.Lines.{lines_of, bad_line_of};
+ghost use Rattle.text_lines.specs.Texts.{longest_text, IsNoText};
 
 use drm_bits::NoMemory;
 use std::alloc::{AllocError, Global};
+
+/// The most bytes that a text has.
+pub const LONGEST_TEXT: usize = 262_144;
+
+/// Why bytes are no text.
+#[derive(Clone, Copy, Debug, PartialEq, Eq)]
+pub enum NoText {
+    /// More than 262,144 bytes.
+    TooLong,
+    /// The line of the first byte that is no UTF-8, from 1.
+    Utf8 { line: u32 },
+}
+
+/// The bytes as text, where they are at most 262,144 and UTF-8.
+pub fn readable(bytes: &[u8]) -> Result<&str, NoText>
+    ensures text { IfOk result (λ t. t.now ≡ bytes.now) }
+    ensures fits { OnOk result (length bytes.now ≤ longest_text) }
+    ensures utf8 { OnOk result (IsUtf8 bytes.now) }
+    ensures fault { IfErr result (λ fault. IsNoText fault bytes.now) }
+{
+    if bytes.len() > LONGEST_TEXT {
+        return Err(NoText::TooLong);
+    }
+    match bad_line(bytes) {
+        Ok(text) => Ok(text),
+        Err(line) => Err(NoText::Utf8 { line }),
+    }
+}
 
 /// The bytes as text, or the line of the first byte that is no UTF-8, from 1.
 pub fn bad_line(text: &[u8]) -> Result<&str, u32>

@@ -7,7 +7,8 @@ use Rattle.drm_plan.proofs.TextLemmas.{text_fails, text_gives}
 use Rattle.std.specs.Prelude.{All}
 use Rattle.plan_lines.proofs.CleanLemmas.{lines_are_single}
 use Rattle.plan_said.specs.InLines.{IsSingle}
-use Rattle.drm_plan.proofs.CountLemmas.{few_lines, all_unmapped}
+use Rattle.text_lines.proofs.CountLemmas.{few_lines}
+use Rattle.drm_plan.proofs.CountLemmas.{all_unmapped}
 use Rattle.drm_plan.proofs.reading.read_text.Goals as goal
 
 pub read_lines-requires : goal.read_lines-requires

@@ -2,7 +2,7 @@ use Rattle.std.proofs.Common.{◌≡◌, List, ℕ, map, length, ap, arith}
 use Rattle.std.specs.Borrow.{Bor}
 use Rattle.std.proofs.lemmas.List.{length-map}
 use Rattle.text_lines.specs.Lines.{lines_of}
-use Rattle.script_lines.proofs.CountLemmas.{few_lines}
+use Rattle.text_lines.proofs.CountLemmas.{few_lines}
 use Rattle.script_lines.proofs.reading.read_text.Goals as goal
 
 pub read_lines-requires : goal.read_lines-requires
