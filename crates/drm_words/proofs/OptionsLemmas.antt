@@ -1,16 +1,18 @@
 -- What the options tell, as it is read and as the table has it.
-use Rattle.std.proofs.Common.{◌≡◌, ◌⊎◌, inl, inr, ℕ, Bool, true, false, cond, ◌||◌, ◌&&◌, List, [], ◌∷◌, Option, Some, None, refl, ap, sym, ◌∙◌}
+use Rattle.std.proofs.Common.{◌≡◌, ◌⊎◌, inl, inr, ℕ, Bool, true, false, cond, ◌||◌, ◌&&◌, List, [], ◌∷◌, Option, Some, None, refl, ap, subst, sym, ◌∙◌}
 use Rattle.std.specs.Prelude.{codes, option_map, is_none}
 use Rattle.std.specs.Str.{bytes_eq}
 use Rattle.std.proofs.lemmas.Option.{same_Some}
 use Rattle.std.proofs.lemmas.Slice.Eq.{bytes_eq-Decides}
 use Rattle.drm_links.specs.declared.dock.Address.{Address}
 use Rattle.drm_words.specs.declared.request.Request.{Request}
+use Rattle.drm_words.specs.declared.options.Stretch.{Stretch}
+use Rattle.drm_words.specs.declared.options.Reading.{Reading}
 use Rattle.word_forms.specs.Reading.{within}
 use Rattle.word_forms.specs.Addressing.{address_of, addresses_of}
-use Rattle.drm_words.specs.Table.{Options, told, IsOneOf, AreOf, IsNumberOr, IsNumberOrNone, IsAddressOrNone, AreAddressesOrNone}
-use Rattle.drm_words.specs.Asking.{is_one_of, are_of, number_or, number_or_none, address_or_none, addresses_or_none, with_options, window_of, first_of, frames_of, idle_of, limit_of, pace_of, to_of}
-use Rattle.word_forms.proofs.OptionLemmas.{mapped}
+use Rattle.drm_words.specs.Table.{Options, told, IsOneOf, AreOf, IsNumberOr, IsNumberOrNone, IsAddressOrNone, AreAddressesOrNone, IsStretch, IsReading}
+use Rattle.drm_words.specs.Asking.{is_one_of, are_of, number_or, number_or_none, address_or_none, addresses_or_none, with_options, window_of, first_of, frames_of, stretch_of, reading_of, idle_of, limit_of, pace_of, to_of}
+use Rattle.word_forms.proofs.OptionLemmas.{mapped, stepped}
 use Rattle.word_forms.proofs.NumberLemmas.{within_fits, within_is}
 use Rattle.word_forms.proofs.AddressLemmas.{address_fits, address_is, addresses_fit, addresses_are}
 
@@ -149,6 +151,34 @@ module _ (options : Options) where
   pub limit_is : (n : ℕ) → IsNumberOr 4294967295 1 4294967295 (told (codes "limit") options) n → limit_of options ≡ Some n
   unfolding limit_of
   limit_is n h = number_or_is 4294967295 1 4294967295 (told (codes "limit") options) n h
+
+  pub stretch_fits : (s : Stretch) → stretch_of options ≡ Some s → IsStretch options s.window s.first s.frames
+  unfolding stretch_of
+  stretch_fits s e =
+      let window = stepped (window_of options) _ s e in
+      let first = stepped (first_of options) _ s window.rest in
+      let frames = stepped (frames_of options) _ s first.rest in
+      subst (λ (x : Stretch). IsStretch options x.window x.first x.frames) (same_Some (record { window = window.value; first = first.value; frames = frames.value }) s frames.rest)
+      (record { window = window_fits window.value window.is; first = first_fits first.value first.is; frames = frames_fit frames.value frames.is })
+
+  pub stretch_is : (window : ℕ) (first frames : Option ℕ) → IsStretch options window first frames → stretch_of options ≡ Some (record { window = window; first = first; frames = frames })
+  unfolding stretch_of
+  stretch_is window first frames h = rw (window_is window h.window, first_is first h.first, frames_are frames h.frames) refl
+
+  pub reading_fits : (r : Reading) → reading_of options ≡ Some r → IsReading options r.stretch.window r.stretch.first r.stretch.frames r.idle r.limit
+  unfolding reading_of
+  reading_fits r e =
+      let stretch = stepped (stretch_of options) _ r e in
+      let idle = stepped (idle_of options) _ r stretch.rest in
+      let limit = stepped (limit_of options) _ r idle.rest in
+      subst (λ (x : Reading). IsReading options x.stretch.window x.stretch.first x.stretch.frames x.idle x.limit)
+      (same_Some (record { stretch = stretch.value; idle = idle.value; limit = limit.value }) r limit.rest)
+      (record { stretch = stretch_fits stretch.value stretch.is; idle = idle_fits idle.value idle.is; limit = limit_fits limit.value limit.is })
+
+  pub reading_is : (window : ℕ) (first frames : Option ℕ) (idle limit : ℕ) → IsReading options window first frames idle limit
+      → reading_of options ≡ Some (record { stretch = record { window = window; first = first; frames = frames }; idle = idle; limit = limit })
+  unfolding reading_of
+  reading_is window first frames idle limit h = rw (stretch_is window first frames h.stretch, idle_is idle h.idle, limit_is limit h.limit) refl
 
   pub pace_fits : (n : ℕ) → pace_of options ≡ Some n → IsNumberOr 0 0 10000 (told (codes "pace") options) n
   unfolding pace_of

@@ -12,12 +12,14 @@ use Rattle.drm_words.specs.declared.request.Request.{Request}
 use Rattle.drm_words.specs.declared.request.Request.TheVariants.{Fac, Check, Serve, Receive, Air, Show, Convert, Exercise}
 use Rattle.word_forms.specs.Reading.{within}
 use Rattle.word_forms.specs.Addressing.{carry_of}
-use Rattle.drm_words.specs.Table.{Options, AreOf, IsRequest}
-use Rattle.drm_words.specs.Asking.{addresses_or_none, window_of, first_of, frames_of, idle_of, limit_of, pace_of, to_of, is_bare, bare_of, check_of, serve_with, serve_of, receive_with, receive_of, air_with, air_of, convert_with, convert_of, exercise_with, exercise_of, request_of}
+use Rattle.drm_words.specs.declared.options.Stretch.{Stretch}
+use Rattle.drm_words.specs.declared.options.Reading.{Reading}
+use Rattle.drm_words.specs.Table.{Options, AreOf, IsRequest, stretch_names, reading_names}
+use Rattle.drm_words.specs.Asking.{addresses_or_none, window_of, stretch_of, reading_of, pace_of, to_of, is_bare, bare_of, check_of, serve_with, serve_of, receive_with, receive_of, air_with, air_of, convert_with, convert_of, exercise_with, exercise_of, request_of}
 use Rattle.word_forms.proofs.OptionLemmas.{stepped}
 use Rattle.word_forms.proofs.NumberLemmas.{within_fits, within_is}
 use Rattle.word_forms.proofs.CarryLemmas.{carry_fits, carry_is}
-use Rattle.drm_words.proofs.OptionsLemmas.{addresses_or_none_fit, addresses_or_none_are, with_fits, with_is, none_of, window_fits, window_is, first_fits, first_is, frames_fit, frames_are, idle_fits, idle_is, limit_fits, limit_is, pace_fits, pace_is, to_fits, to_is}
+use Rattle.drm_words.proofs.OptionsLemmas.{addresses_or_none_fit, addresses_or_none_are, with_fits, with_is, none_of, window_fits, window_is, stretch_fits, stretch_is, reading_fits, reading_is, pace_fits, pace_is, to_fits, to_is}
 
 bare_fits : (asked : Request) (texts : List (List ℕ)) (options : Options) (r : Request) → bare_of asked texts options ≡ Some r → (texts ≡ []) × (options ≡ []) × (asked ≡ r)
 bare_fits asked texts options r e =
@@ -59,16 +61,13 @@ serve_fits (name ∷ other ∷ more) options r e = absurd cc
 receive_fits : (texts : List (List ℕ)) (options : Options) (r : Request) → receive_of texts options ≡ Some r → IsRequest r (codes "receive") texts options
 unfolding receive_of
 receive_fits texts options r e =
-    let w = with_fits (codes "window" ∷ codes "first" ∷ codes "frames" ∷ codes "idle" ∷ codes "limit" ∷ []) options _ r e in
+    let w = with_fits reading_names options _ r e in
     let addresses = stepped (addresses_or_none texts) (receive_with options) r w.1 in
-    let window = stepped (window_of options) _ r addresses.rest in
-    let first = stepped (first_of options) _ r window.rest in
-    let frames = stepped (frames_of options) _ r first.rest in
-    let idle = stepped (idle_of options) _ r frames.rest in
-    let limit = stepped (limit_of options) _ r idle.rest in
+    let reading = stepped (reading_of options) _ r addresses.rest in
+    let taken : Reading = reading.value in
     subst (λ (x : Request). IsRequest x (codes "receive") texts options)
-    (same_Some (Receive addresses.value window.value first.value frames.value idle.value limit.value) r limit.rest)
-    (refl, addresses_or_none_fit texts addresses.value addresses.is, w.0, window_fits options window.value window.is, first_fits options first.value first.is, frames_fit options frames.value frames.is, idle_fits options idle.value idle.is, limit_fits options limit.value limit.is)
+    (same_Some (Receive addresses.value taken.stretch.window taken.stretch.first taken.stretch.frames taken.idle taken.limit) r reading.rest)
+    (refl, addresses_or_none_fit texts addresses.value addresses.is, w.0, reading_fits options taken reading.is)
 
 air_fits : (texts : List (List ℕ)) (options : Options) (r : Request) → air_of texts options ≡ Some r → IsRequest r (codes "air") texts options
 unfolding air_of
@@ -85,13 +84,12 @@ convert_fits : (texts : List (List ℕ)) (options : Options) (r : Request) → c
 unfolding convert_of
 convert_fits [] options r e = absurd cc
 convert_fits (text ∷ []) options r e =
-    let w = with_fits (codes "window" ∷ codes "first" ∷ codes "frames" ∷ []) options (convert_with text options) r e in
+    let w = with_fits stretch_names options (convert_with text options) r e in
     let carry = stepped (carry_of text) _ r w.1 in
-    let window = stepped (window_of options) _ r carry.rest in
-    let first = stepped (first_of options) _ r window.rest in
-    let frames = stepped (frames_of options) _ r first.rest in
-    subst (λ (x : Request). IsRequest x (codes "convert") (text ∷ []) options) (same_Some (Convert carry.value window.value first.value frames.value) r frames.rest)
-    (refl, text, refl, carry_fits text carry.value carry.is, w.0, window_fits options window.value window.is, first_fits options first.value first.is, frames_fit options frames.value frames.is)
+    let stretch = stepped (stretch_of options) _ r carry.rest in
+    let taken : Stretch = stretch.value in
+    subst (λ (x : Request). IsRequest x (codes "convert") (text ∷ []) options) (same_Some (Convert carry.value taken.window taken.first taken.frames) r stretch.rest)
+    (refl, text, refl, carry_fits text carry.value carry.is, w.0, stretch_fits options taken stretch.is)
 convert_fits (text ∷ other ∷ more) options r e = absurd cc
 
 exercise_fits : (texts : List (List ℕ)) (options : Options) (r : Request) → exercise_of texts options ≡ Some r → IsRequest r (codes "exercise") texts options
@@ -139,8 +137,7 @@ receive_is : (addresses : Option (List Address)) (window : ℕ) (first frames : 
     → IsRequest (Receive addresses window first frames idle limit) (codes "receive") texts options → receive_of texts options ≡ Some (Receive addresses window first frames idle limit)
 unfolding receive_of
 receive_is addresses window first frames idle limit texts options h =
-    with_is (codes "window" ∷ codes "first" ∷ codes "frames" ∷ codes "idle" ∷ codes "limit" ∷ []) options _ h.2
-    ∙ rw (addresses_or_none_are texts addresses h.1, window_is options window h.3, first_is options first h.4) (rw (frames_are options frames h.5, idle_is options idle h.6, limit_is options limit h.7) refl)
+    with_is reading_names options _ h.2 ∙ rw (addresses_or_none_are texts addresses h.1, reading_is options window first frames idle limit h.3) refl
 
 air_is : (name script : List ℕ) (window : ℕ) (texts : List (List ℕ)) (options : Options) → IsRequest (Air name script window) (codes "air") texts options → air_of texts options ≡ Some (Air name script window)
 unfolding air_of
@@ -151,8 +148,7 @@ convert_is : (carry : Carry) (window : ℕ) (first frames : Option ℕ) (texts :
     → IsRequest (Convert carry window first frames) (codes "convert") texts options → convert_of texts options ≡ Some (Convert carry window first frames)
 unfolding convert_of
 convert_is carry window first frames texts options h =
-    rw h.2 (with_is (codes "window" ∷ codes "first" ∷ codes "frames" ∷ []) options (convert_with h.1 options) h.4
-    ∙ rw (carry_is h.1 carry h.3, window_is options window h.5) (rw (first_is options first h.6, frames_are options frames h.7) refl))
+    rw h.2 (with_is stretch_names options (convert_with h.1 options) h.4 ∙ rw (carry_is h.1 carry h.3, stretch_is options window first frames h.5) refl)
 
 exercise_is : (n : ℕ) (texts : List (List ℕ)) (options : Options) → IsRequest (Exercise n) (codes "exercise") texts options → exercise_of texts options ≡ Some (Exercise n)
 unfolding exercise_of
@@ -164,9 +160,9 @@ request_is Fac command texts options h = rw h.0 (bare_is Fac texts options h.1 (
 request_is (Check name) command texts options h = rw h.0 (check_is name texts options (refl, h.1, h.2))
 request_is (Serve name to pace) command texts options h = rw h.0 (serve_is name to pace texts options (refl, h.1, h.2, h.3, h.4))
 request_is (Receive addresses window first frames idle limit) command texts options h =
-    rw h.0 (receive_is addresses window first frames idle limit texts options (refl, h.1, h.2, h.3, h.4, h.5, h.6, h.7))
+    rw h.0 (receive_is addresses window first frames idle limit texts options (refl, h.1, h.2, h.3))
 request_is (Air name script window) command texts options h = rw h.0 (air_is name script window texts options (refl, h.1, h.2, h.3))
 request_is Show command texts options h = rw h.0 (bare_is Show texts options h.1 (none_of options h.2))
 request_is (Convert carry window first frames) command texts options h =
-    rw h.0 (convert_is carry window first frames texts options (refl, h.1, h.2, h.3, h.4, h.5, h.6, h.7))
+    rw h.0 (convert_is carry window first frames texts options (refl, h.1, h.2, h.3, h.4, h.5))
 request_is (Exercise n) command texts options h = rw h.0 (exercise_is n texts options (refl, h.1, h.2, h.3, h.4))

@@ -6,7 +6,9 @@ use Rattle.drm_words.specs.declared.request.Request.{Request}
 use Rattle.drm_words.specs.declared.request.Request.TheVariants.{Fac, Check, Serve, Receive, Air, Show, Convert, Exercise}
 use Rattle.word_forms.specs.Reading.{within}
 use Rattle.word_forms.specs.Addressing.{◌>>=◌, address_of, addresses_of, carry_of}
-use Rattle.drm_words.specs.Table.{Options, told}
+use Rattle.drm_words.specs.declared.options.Stretch.{Stretch}
+use Rattle.drm_words.specs.declared.options.Reading.{Reading}
+use Rattle.drm_words.specs.Table.{Options, told, stretch_names, reading_names}
 
 abbrev pub is_one_of : List (List ℕ) → List ℕ → Bool
 is_one_of [] name = false
@@ -43,6 +45,21 @@ idle_of options = number_or 50 1 1000000 (told (codes "idle") options)
 
 unfoldable pub limit_of : Options → Option ℕ
 limit_of options = number_or 4294967295 1 4294967295 (told (codes "limit") options)
+
+-- what those tell that several commands share
+unfoldable pub stretch_of : Options → Option Stretch
+stretch_of options = do
+  window ← window_of options
+  first ← first_of options
+  frames ← frames_of options
+  Some (record { window = window; first = first; frames = frames })
+
+unfoldable pub reading_of : Options → Option Reading
+reading_of options = do
+  stretch ← stretch_of options
+  idle ← idle_of options
+  limit ← limit_of options
+  Some (record { stretch = stretch; idle = idle; limit = limit })
 
 unfoldable pub pace_of : Options → Option ℕ
 pace_of options = number_or 0 0 10000 (told (codes "pace") options)
@@ -81,15 +98,11 @@ serve_of _ options = None
 
 abbrev pub receive_with : Options → Option (List Address) → Option Request
 receive_with options addresses = do
-  window ← window_of options
-  first ← first_of options
-  frames ← frames_of options
-  idle ← idle_of options
-  limit ← limit_of options
-  Some (Receive addresses window first frames idle limit)
+  reading ← reading_of options
+  Some (Receive addresses reading.stretch.window reading.stretch.first reading.stretch.frames reading.idle reading.limit)
 
 unfoldable pub receive_of : List (List ℕ) → Options → Option Request
-receive_of texts options = with_options (codes "window" ∷ codes "first" ∷ codes "frames" ∷ codes "idle" ∷ codes "limit" ∷ []) options
+receive_of texts options = with_options reading_names options
     (option_and_then (receive_with options) (addresses_or_none texts))
 
 abbrev pub air_with : List ℕ → List ℕ → Options → Option Request
@@ -102,13 +115,11 @@ air_of _ options = None
 abbrev pub convert_with : List ℕ → Options → Option Request
 convert_with text options = do
   carry ← carry_of text
-  window ← window_of options
-  first ← first_of options
-  frames ← frames_of options
-  Some (Convert carry window first frames)
+  stretch ← stretch_of options
+  Some (Convert carry stretch.window stretch.first stretch.frames)
 
 unfoldable pub convert_of : List (List ℕ) → Options → Option Request
-convert_of (text ∷ []) options = with_options (codes "window" ∷ codes "first" ∷ codes "frames" ∷ []) options (convert_with text options)
+convert_of (text ∷ []) options = with_options stretch_names options (convert_with text options)
 convert_of _ options = None
 
 abbrev pub exercise_with : List ℕ → Option Request

@@ -1,5 +1,5 @@
 -- The table of the commands.
-use Rattle.std.specs.Prelude.{ℕ, ◌≡◌, ◌⊎◌, List, [], ◌∷◌, Option, Some, None, MatchOption, IsUtf8, codes, if◌then◌else◌}
+use Rattle.std.specs.Prelude.{ℕ, ◌≡◌, ◌⊎◌, List, [], ◌∷◌, ◌++◌, Option, Some, None, MatchOption, IsUtf8, codes, if◌then◌else◌}
 use Rattle.std.specs.Str.{bytes_eq}
 use Rattle.drm_links.specs.declared.dock.Address.{Address}
 use Rattle.drm_words.specs.declared.request.Request.{Request}
@@ -47,6 +47,24 @@ AreAddressesOrNone [] addresses = addresses ≡ None
 AreAddressesOrNone (text ∷ []) addresses = (list : List Address) × (addresses ≡ Some list) × AreAddresses text list
 AreAddressesOrNone _ addresses = ⊥
 
+-- [--window W] [--first N] [--frames N]: which packets are read, and how many frames of them
+abbrev pub stretch_names : List (List ℕ)
+stretch_names = codes "window" ∷ codes "first" ∷ codes "frames" ∷ []
+
+pub record IsStretch (options : Options) (window : ℕ) (first frames : Option ℕ) : Type 0 where
+  pub window : IsNumberOr 8 1 64 (told (codes "window") options) window
+  pub first : IsNumberOrNone 0 65535 (told (codes "first") options) first
+  pub frames : IsNumberOrNone 1 3000000 (told (codes "frames") options) frames
+
+-- the same with [--idle K] [--limit L]: when a link has brought enough
+abbrev pub reading_names : List (List ℕ)
+reading_names = stretch_names ++ codes "idle" ∷ codes "limit" ∷ []
+
+pub record IsReading (options : Options) (window : ℕ) (first frames : Option ℕ) (idle limit : ℕ) : Type 0 where
+  pub stretch : IsStretch options window first frames
+  pub idle : IsNumberOr 50 1 1000000 (told (codes "idle") options) idle
+  pub limit : IsNumberOr 4294967295 1 4294967295 (told (codes "limit") options) limit
+
 -- The request of a command with these plain words and these options, a row for each command. Where an option has a
 -- default it stands before the option's range.
 abbrev pub IsRequest : Request → List ℕ → List (List ℕ) → Options → Type 0
@@ -62,12 +80,7 @@ IsRequest (Serve name to pace) command texts options =
 -- receive [ADDRS] [--window W] [--first N] [--frames N] [--idle K] [--limit L]
 IsRequest (Receive addresses window first frames idle limit) command texts options =
     (command ≡ codes "receive") × AreAddressesOrNone texts addresses
-    × AreOf (codes "window" ∷ codes "first" ∷ codes "frames" ∷ codes "idle" ∷ codes "limit" ∷ []) options
-    × IsNumberOr 8 1 64 (told (codes "window") options) window
-    × IsNumberOrNone 0 65535 (told (codes "first") options) first
-    × IsNumberOrNone 1 3000000 (told (codes "frames") options) frames
-    × IsNumberOr 50 1 1000000 (told (codes "idle") options) idle
-    × IsNumberOr 4294967295 1 4294967295 (told (codes "limit") options) limit
+    × AreOf reading_names options × IsReading options window first frames idle limit
 -- air NAME SCRIPT [--window W]
 IsRequest (Air name script window) command texts options =
     (command ≡ codes "air") × (texts ≡ name ∷ script ∷ []) × AreOf (codes "window" ∷ []) options
@@ -77,10 +90,7 @@ IsRequest Show command texts options = (command ≡ codes "show") × (texts ≡ 
 -- convert CARRY [--window W] [--first N] [--frames N]
 IsRequest (Convert carry window first frames) command texts options =
     (command ≡ codes "convert") × (text : List ℕ) × (texts ≡ text ∷ []) × IsCarry text carry
-    × AreOf (codes "window" ∷ codes "first" ∷ codes "frames" ∷ []) options
-    × IsNumberOr 8 1 64 (told (codes "window") options) window
-    × IsNumberOrNone 0 65535 (told (codes "first") options) first
-    × IsNumberOrNone 1 3000000 (told (codes "frames") options) frames
+    × AreOf stretch_names options × IsStretch options window first frames
 -- exercise N
 IsRequest (Exercise n) command texts options =
     (command ≡ codes "exercise") × (text : List ℕ) × (texts ≡ text ∷ []) × IsWithin 1 1000 text n × AreOf [] options

@@ -7,7 +7,7 @@ ghost use Rattle.word_forms.specs.Gives.{Gives};
 ghost use Rattle.drm_words.specs.Table.{HasTextNames};
 ghost use Rattle.word_forms.specs.declared.fault.WordsFault.TheVariants as faults;
 
-use crate::options::{are_of, first, frames, idle, limit, pace, to, window};
+use crate::options::{are_of, pace, to, told_reading, told_stretch, window};
 use crate::request::Request;
 use drm_bits::Octets;
 use std::alloc::Global;
@@ -113,18 +113,14 @@ fn receive_with(options: &[Named<'_>], addresses: Option<Addresses>) -> Option<R
     ensures value { result ≡ receive_with (map option_said options.now) addresses }
     ensures text { IfSome result HasTextNames }
 {
-    let window = window(options)?;
-    let first = first(options)?;
-    let frames = frames(options)?;
-    let idle = idle(options)?;
-    let limit = limit(options)?;
+    let reading = told_reading(options)?;
     Some(Request::Receive {
         addresses,
-        window,
-        first,
-        frames,
-        idle,
-        limit,
+        window: reading.stretch.window,
+        first: reading.stretch.first,
+        frames: reading.stretch.frames,
+        idle: reading.idle,
+        limit: reading.limit,
     })
 }
 
@@ -177,14 +173,12 @@ fn convert_with(text: &str, options: &[Named<'_>]) -> Option<Request>
     ensures text { IfSome result HasTextNames }
 {
     let carry = carry(text)?;
-    let window = window(options)?;
-    let first = first(options)?;
-    let frames = frames(options)?;
+    let stretch = told_stretch(options)?;
     Some(Request::Convert {
         carry,
-        window,
-        first,
-        frames,
+        window: stretch.window,
+        first: stretch.first,
+        frames: stretch.frames,
     })
 }
 

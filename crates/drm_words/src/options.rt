@@ -3,10 +3,30 @@
 ghost use Rattle.std.specs.Prelude.{◌≡◌, ◌≤◌, IfSome, map, option_map, codes};
 ghost use Rattle.word_forms.specs.Arguing.{option_said};
 ghost use Rattle.drm_words.specs.Table.{told};
-ghost use Rattle.drm_words.specs.Asking.{is_one_of, are_of, number_or, number_or_none, window_of, first_of, frames_of, idle_of, limit_of, pace_of, to_of};
+ghost use Rattle.drm_words.specs.Asking.{is_one_of, are_of, number_or, number_or_none, window_of, first_of, frames_of, stretch_of, reading_of, idle_of, limit_of, pace_of, to_of};
 
 use drm_links::Address;
 use word_forms::{Named, address, within};
+
+/// Which packets are read, and how many frames of them.
+#[derive(Clone, Copy)]
+pub(crate) struct Stretch {
+    /// In packets.
+    pub(crate) window: u8,
+    /// The first sequence number.
+    pub(crate) first: Option<u16>,
+    pub(crate) frames: Option<u64>,
+}
+
+/// A stretch, and when a link has brought enough of it.
+#[derive(Clone, Copy)]
+pub(crate) struct Reading {
+    pub(crate) stretch: Stretch,
+    /// How many idle answers in a row end a report.
+    pub(crate) idle: u32,
+    /// The most datagrams.
+    pub(crate) limit: u32,
+}
 
 // The value of an option, where it is told.
 fn told<'a>(options: &[Named<'a>], name: &str) -> Option<&'a str>
@@ -62,9 +82,9 @@ pub(crate) fn window(options: &[Named<'_>]) -> Option<u8>
     Some(number as u8)
 }
 
-/// The first sequence number.
+// The first sequence number.
 #[tactic(auto, unfolding(crate::specs::Asking::first_of))]
-pub(crate) fn first(options: &[Named<'_>]) -> Option<Option<u16>>
+fn first(options: &[Named<'_>]) -> Option<Option<u16>>
     ensures { result ≡ first_of (map option_said options.now) }
 {
     let Some(text) = told(options, "first") else {
@@ -74,9 +94,9 @@ pub(crate) fn first(options: &[Named<'_>]) -> Option<Option<u16>>
     Some(Some(number as u16))
 }
 
-/// The number of frames.
+// The number of frames.
 #[tactic(auto, unfolding(crate::specs::Asking::frames_of))]
-pub(crate) fn frames(options: &[Named<'_>]) -> Option<Option<u64>>
+fn frames(options: &[Named<'_>]) -> Option<Option<u64>>
     ensures { result ≡ frames_of (map option_said options.now) }
 {
     let Some(text) = told(options, "frames") else {
@@ -86,22 +106,52 @@ pub(crate) fn frames(options: &[Named<'_>]) -> Option<Option<u64>>
     Some(Some(number))
 }
 
-/// How many idle answers in a row end a report.
+// How many idle answers in a row end a report.
 #[tactic(auto, unfolding(crate::specs::Asking::idle_of))]
-pub(crate) fn idle(options: &[Named<'_>]) -> Option<u32>
+fn idle(options: &[Named<'_>]) -> Option<u32>
     ensures { result ≡ idle_of (map option_said options.now) }
 {
     let number = number_or(50, 1, 1_000_000, told(options, "idle"))?;
     Some(number as u32)
 }
 
-/// The most datagrams.
+// The most datagrams.
 #[tactic(auto, unfolding(crate::specs::Asking::limit_of))]
-pub(crate) fn limit(options: &[Named<'_>]) -> Option<u32>
+fn limit(options: &[Named<'_>]) -> Option<u32>
     ensures { result ≡ limit_of (map option_said options.now) }
 {
     let number = number_or(4_294_967_295, 1, 4_294_967_295, told(options, "limit"))?;
     Some(number as u32)
+}
+
+/// Which packets are read, for each command that reads packets.
+#[tactic(auto, unfolding(crate::specs::Asking::stretch_of))]
+pub(crate) fn told_stretch(options: &[Named<'_>]) -> Option<Stretch>
+    ensures { result ≡ stretch_of (map option_said options.now) }
+{
+    let window = window(options)?;
+    let first = first(options)?;
+    let frames = frames(options)?;
+    Some(Stretch {
+        window,
+        first,
+        frames,
+    })
+}
+
+/// The same, and when a link has brought enough.
+#[tactic(auto, unfolding(crate::specs::Asking::reading_of))]
+pub(crate) fn told_reading(options: &[Named<'_>]) -> Option<Reading>
+    ensures { result ≡ reading_of (map option_said options.now) }
+{
+    let stretch = told_stretch(options)?;
+    let idle = idle(options)?;
+    let limit = limit(options)?;
+    Some(Reading {
+        stretch,
+        idle,
+        limit,
+    })
 }
 
 /// The milliseconds between packets.
