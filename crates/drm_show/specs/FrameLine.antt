@@ -8,8 +8,7 @@ use Rattle.drm_bits.specs.Description.{IsDescription, FitsWidths}
 use Rattle.drm_bits.specs.declared.description.MuxDesc.{MuxDesc}
 use Rattle.drm_mux.specs.Sdci.{sdci_fields}
 use Rattle.drm_mux.specs.Frame.{multiplex_frame, streams_in, EndBy, HaveTheirLengths}
-use Rattle.drm_fac.specs.declared.mode.Mode.{Mode}
-use Rattle.drm_fac.specs.declared.mode.Mode.TheVariants.{A, B, C, D}
+use Rattle.drm_fac.specs.Mode.{mode_letter}
 use Rattle.dcp_tag.specs.Tag.{bytes_for}
 use Rattle.mdi_items.specs.declared.view.SdcSpan.{SdcSpan}
 use Rattle.mdi_items.specs.Frame.{Frame}
@@ -22,12 +21,6 @@ pub record IsWhole (frame : Frame) (payload : List ℕ) : Type 0 where
   pub lengths : HaveTheirLengths frame.mux frame.streams
   pub inside : EndBy (length payload) frame.streams
   pub block_inside : IfSome frame.sdc (λ s. s.at + bytes_for s.bits ≤ length payload)
-
-abbrev pub mode_letter : Mode → List ℕ
-mode_letter A = codes "A"
-mode_letter B = codes "B"
-mode_letter C = codes "C"
-mode_letter D = codes "D"
 
 -- a block of whole bytes has four zero bits in front of it
 abbrev pub front_bits : ℕ → ℕ

@@ -5,7 +5,7 @@ ghost use Rattle.std.specs.List.{flat_map};
 ghost use Rattle.drm_links.specs.Told.{HasCause};
 ghost use Rattle.drm_links.specs.Sink.{Outputs, IsFront};
 ghost use Rattle.mdi_items.specs.Frame.{frame_of};
-ghost use Rattle.drm_show.specs.FrameLine.{IsWhole, mode_letter, frame_line};
+ghost use Rattle.drm_show.specs.FrameLine.{IsWhole, frame_line};
 ghost use Rattle.drm_show.specs.FrameParts.{part_text};
 
 use crate::block::write_block;
@@ -13,7 +13,6 @@ use crate::description::write_description;
 use crate::streams::write_streams;
 use Part::Text;
 use Piece::{Hex, Number, Words};
-use drm_fac::Mode;
 use drm_links::{Sink, WriteFault};
 use mdi_items::MdiView;
 use text_pieces::{Piece, write_piece};
@@ -53,7 +52,7 @@ fn parts<'a>(index: u64, view: &'a MdiView<'_>) -> [Part<'a>; PARTS]
         Text(Words(" dlfc ")),
         Text(Number(u64::from(view.dlfc))),
         Text(Words(" mode ")),
-        Text(Words(mode_letter(view.mode))),
+        Text(Words(view.mode.letter())),
         Text(Words(" fac ")),
         Text(Hex(&view.fac_bytes)),
         Text(Words(" sdc ")),
@@ -64,17 +63,6 @@ fn parts<'a>(index: u64, view: &'a MdiView<'_>) -> [Part<'a>; PARTS]
         Part::Streams,
         Text(Words("\n")),
     ]
-}
-
-fn mode_letter(mode: Mode) -> &'static str
-    ensures { result.now ≡ mode_letter mode }
-{
-    match mode {
-        Mode::A => "A",
-        Mode::B => "B",
-        Mode::C => "C",
-        Mode::D => "D",
-    }
 }
 
 // Writes the parts, one after another.

@@ -14,7 +14,7 @@ ghost use Rattle.drm_show.specs.Report.{before_line, missing_line, bad_line, ite
 use crate::frame_line::write_frame;
 use crate::words::bad_words;
 use drm_links::{Sink, WriteFault};
-use drm_timeline::Before;
+use drm_switches::Before;
 use mod_feed::{BadFault, FeedItem, Step};
 use text_pieces::{Piece, write_pieces};
 

@@ -20,7 +20,7 @@ ghost use Rattle.drm_timeline.specs.Announcing.{next, as_next, announcement_of, 
 ghost use Rattle.drm_timeline.specs.Telling.{WroteEntities, Tells};
 
 use crate::fast_access::code;
-use crate::told::{description, mode_code};
+use crate::told::description;
 use drm_bits::BitSink;
 use drm_schedule::{Body, Config, Entity, Repeated, Spot, entity_len, free_in_countdown};
 use drm_sdc::write_entity;
@@ -82,7 +82,7 @@ fn parameters(config: &Config) -> Body
 {
     Body::Next {
         enhancement: false,
-        mode: mode_code(config.mode),
+        mode: config.mode.code(),
         occupancy: config.occupancy,
         short_depth: config.short_depth,
         msc: config.msc,

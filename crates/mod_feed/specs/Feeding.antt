@@ -1,10 +1,10 @@
 -- A feed over what a collector gives. A feed is seen as its tracker.
 use Rattle.std.specs.Prelude.{ℕ, ◌≡◌, ◌<◌, ◌↔◌, List, [], ◌∷◌, ◌++◌, map, length, slice_get, Option, Some}
 use Rattle.dcp_collect.specs.Runs.{Item as Given}
-use Rattle.drm_timeline.specs.declared.seen.Seen.{Seen}
-use Rattle.drm_timeline.specs.declared.tracker.Before.{Before}
-use Rattle.drm_timeline.specs.Switches.{StandsBefore}
-use Rattle.drm_timeline.specs.Tracker.{TrackerState, new_tracker, answered, stepped}
+use Rattle.drm_switches.specs.declared.seen.Seen.{Seen}
+use Rattle.drm_switches.specs.declared.tracker.Before.{Before}
+use Rattle.drm_switches.specs.Switches.{StandsBefore}
+use Rattle.drm_switches.specs.Tracker.{TrackerState, new_tracker, answered, stepped}
 use Rattle.mod_feed.specs.declared.feed.Step.{Step}
 use Rattle.mod_feed.specs.Items.{Item, item_of, IsItemOf, number_of, seen_in}
 

@@ -4,7 +4,7 @@ ghost use Rattle.std.specs.Prelude.{◌≡◌, ◌+◌, ◌<◌, ◌^◌, ◌≤
 ghost use Rattle.drm_bits.specs.Description.{IsDescription, FitsWidths};
 ghost use Rattle.drm_fac.specs.Fac.{FacFits};
 ghost use Rattle.drm_mux.specs.Frame.{EndBy, HaveTheirLengths};
-ghost use Rattle.drm_timeline.specs.Tracker.{new_tracker, answered, stepped};
+ghost use Rattle.drm_switches.specs.Tracker.{new_tracker, answered, stepped};
 ghost use Rattle.dcp_tag.specs.Tag.{bytes_for};
 ghost use Rattle.dcp_collect.specs.View.{item_of as given_of};
 ghost use Rattle.dcp_collect.specs.WholePackets.{IsAfIfWhole};
@@ -14,7 +14,7 @@ use crate::FeedItem;
 use crate::read::read_item;
 use crate::shown::seen_in;
 use dcp_collect::Out;
-use drm_timeline::{Before, Tracker};
+use drm_switches::{Before, Tracker};
 use std::marker::Model;
 
 /// An item, and the switch or the resumption that stands before it.
@@ -31,7 +31,7 @@ pub struct Feed {
 }
 
 impl Model for Feed {
-    ghost use Rattle.drm_timeline.specs.Tracker.{TrackerState};
+    ghost use Rattle.drm_switches.specs.Tracker.{TrackerState};
 
     ghost Value = { TrackerState };
 

@@ -3,12 +3,12 @@
 ghost use Rattle.std.specs.Prelude.{◌≡◌, ◌<◌};
 ghost use Rattle.std.specs.Option.{ForSome};
 ghost use Rattle.drm_fac.specs.Fac.{FacFits};
-ghost use Rattle.drm_timeline.specs.Seen.{IsInRange};
+ghost use Rattle.drm_switches.specs.Seen.{IsInRange};
 ghost use Rattle.mdi_items.specs.Frame.{frame_of};
 ghost use Rattle.mod_feed.specs.Items.{item_of, position_of, shown_by, seen_in, IfFrame};
 
 use crate::FeedItem;
-use drm_timeline::{Seen, Signature};
+use drm_switches::{Seen, Signature};
 use mdi_items::MdiView;
 
 /// What is seen in an item: nothing where it is no frame.
