@@ -5,7 +5,8 @@ ghost use Rattle.std.specs.List.{flat_map};
 ghost use Rattle.drm_links.specs.Told.{HasCause};
 ghost use Rattle.drm_links.specs.Sink.{Outputs, IsFront};
 ghost use Rattle.mdi_items.specs.Frame.{frame_of};
-ghost use Rattle.drm_show.specs.FrameLine.{IsWhole, frame_line};
+ghost use Rattle.mdi_items.specs.View.{IsWholeView};
+ghost use Rattle.drm_show.specs.FrameLine.{frame_line};
 ghost use Rattle.drm_show.specs.FrameParts.{part_text};
 
 use crate::block::write_block;
@@ -23,7 +24,7 @@ pub(crate) fn write_frame<O: Sink>(
     index: u64,
     view: &MdiView<'_>,
 ) -> Result<(), WriteFault>
-    requires { IsWhole (frame_of view.now) view.now.payload.now }
+    requires { IsWholeView view.now }
     ensures whole { OnOk result (Outputs (O.tells out.old) (O.tells out.new) (λ text. text ≡ frame_line index (frame_of view.now) view.now.payload.now)) }
     ensures front { OnErr result (Outputs (O.tells out.old) (O.tells out.new) (IsFront (frame_line index (frame_of view.now) view.now.payload.now))) }
     ensures cause { HasCause (O.faults out.old) (O.faults out.new) (IsErr result) }
@@ -71,7 +72,7 @@ fn write_parts<O: Sink>(
     view: &MdiView<'_>,
     parts: &[Part<'_>],
 ) -> Result<(), WriteFault>
-    requires { IsWhole (frame_of view.now) view.now.payload.now }
+    requires { IsWholeView view.now }
     ensures whole { OnOk result (Outputs (O.tells out.old) (O.tells out.new)
         (λ text. text ≡ flat_map (part_text (frame_of view.now) view.now.payload.now) parts.now)) }
     ensures front { OnErr result (Outputs (O.tells out.old) (O.tells out.new)
@@ -85,7 +86,7 @@ fn write_parts<O: Sink>(
 }
 
 fn write_part<O: Sink>(out: &mut O, view: &MdiView<'_>, part: Part<'_>) -> Result<(), WriteFault>
-    requires { IsWhole (frame_of view.now) view.now.payload.now }
+    requires { IsWholeView view.now }
     ensures whole { OnOk result (Outputs (O.tells out.old) (O.tells out.new)
         (λ text. text ≡ part_text (frame_of view.now) view.now.payload.now part.entry)) }
     ensures front { OnErr result (Outputs (O.tells out.old) (O.tells out.new)
@@ -94,8 +95,8 @@ fn write_part<O: Sink>(out: &mut O, view: &MdiView<'_>, part: Part<'_>) -> Resul
 {
     match part {
         Part::Text(piece) => write_piece(out, piece),
-        Part::Block => write_block(out, view.payload, view.sdc),
-        Part::Description => write_description(out, &view.mux),
+        Part::Block => write_block(out, view),
+        Part::Description => write_description(out, view),
         Part::Streams => write_streams(out, &view.mux, &view.streams, view.payload),
     }
 }
