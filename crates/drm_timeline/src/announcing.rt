@@ -8,6 +8,7 @@ ghost use Rattle.drm_sdc.specs.declared.entity.Entity.{Entity};
 ghost use Rattle.drm_sdc.specs.Writing.{total_size};
 ghost use Rattle.drm_sdc.specs.Entity.{EntityFits, entity_size};
 ghost use Rattle.drm_schedule.specs.Ranges.{ConfigInLines, EntityInLines};
+ghost use Rattle.drm_schedule.specs.InForce.{first_entities};
 ghost use Rattle.drm_schedule.specs.Sizes.{description_size, free_bytes};
 ghost use Rattle.block_packing.specs.Packing.{placed, last_spot};
 ghost use Rattle.block_packing.specs.Packing as packing;
@@ -101,14 +102,14 @@ fn write_all(
     repeated: Repeated,
     config: &Config,
 ) -> Spot
-    requires each { All EntityInLines config.now.entities }
+    requires each { All EntityInLines (first_entities config.now) }
     requires packs { IsSome (last_spot free.now from (map entity_size (repeated_of repeated config.now))) }
     requires room { 8 * left_in frame free.now from ≤ length (unwritten sink.old) }
     ensures spot { last_spot free.now from (map entity_size (repeated_of repeated config.now)) ≡ Some result }
     ensures wrote { WroteEntities (packed_in frame free.now from (map as_next (repeated_of repeated config.now))) sink.old sink.new }
 {
     let mut spot = from;
-    let mut left = config.entities.as_slice();
+    let mut left = config.first_entities();
     while let [entity, more @ ..] = left {
         spot = write_repeated(sink, free, spot, frame, repeated, entity);
         left = more;
