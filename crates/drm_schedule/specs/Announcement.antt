@@ -9,6 +9,7 @@ use Rattle.drm_sdc.specs.Entity.{entity_size}
 use Rattle.drm_schedule.specs.declared.announcement.Repeated.{Repeated}
 use Rattle.drm_schedule.specs.declared.announcement.Repeated.TheVariants as repeated
 use Rattle.drm_schedule.specs.declared.config.Config.{Config}
+use Rattle.drm_schedule.specs.InForce.{first_entities}
 use Rattle.drm_schedule.specs.Sizes.{description_size, free_bytes}
 use Rattle.block_packing.specs.Packing.{can_be_packed}
 
@@ -20,7 +21,7 @@ is_of repeated.App _ = false
 
 -- the entities of the lines that an announcement repeats, in its order
 abbrev pub repeated_of : Repeated → Config → List Entity
-repeated_of kind c = filter (λ (e : Entity). is_of kind e.body) c.entities
+repeated_of kind c = filter (λ (e : Entity). is_of kind e.body) (first_entities c)
 
 abbrev pub all_repeated : Config → List Entity
 all_repeated c = repeated_of repeated.Audio c ++ repeated_of repeated.App c

@@ -3,3 +3,4 @@ pub mod Sizes
 pub mod Announcement
 pub mod Services
 pub mod Valid
+pub mod InForce

@@ -6,6 +6,7 @@ use Rattle.drm_sdc.specs.declared.body.Body.{Body}
 use Rattle.drm_sdc.specs.declared.body.Body.TheVariants.{Label, App, Audio, Language}
 use Rattle.drm_sdc.specs.declared.entity.Entity.{Entity}
 use Rattle.drm_schedule.specs.declared.config.Config.{Config}
+use Rattle.drm_schedule.specs.InForce.{first_entities}
 
 -- the short ids that there are
 abbrev pub short_ids : List ℕ
@@ -59,27 +60,27 @@ share_a_short_id c = list_any (λ k. nat_lt 1 (count_by (is_service k) c.service
 
 -- an audio service without exactly one audio line
 abbrev pub lack_one_audio_line : Config → Bool
-lack_one_audio_line c = list_any (λ (s : Service). not s.is_data && not (count_by (λ (e : Entity). is_audio_of s.short e.body) c.entities == 1)) c.services
+lack_one_audio_line c = list_any (λ (s : Service). not s.is_data && not (count_by (λ (e : Entity). is_audio_of s.short e.body) (first_entities c) == 1)) c.services
 
 -- a data service without an app line
 abbrev pub lack_an_app_line : Config → Bool
-lack_an_app_line c = list_any (λ (s : Service). s.is_data && not (list_any (λ (e : Entity). is_app_of s.short e.body) c.entities)) c.services
+lack_an_app_line c = list_any (λ (s : Service). s.is_data && not (list_any (λ (e : Entity). is_app_of s.short e.body) (first_entities c))) c.services
 
 -- an audio line whose short id isn't an audio service's
 abbrev pub have_a_stray_audio_line : Config → Bool
-have_a_stray_audio_line c = list_any (λ (e : Entity). is_stray_audio c.services e.body) c.entities
+have_a_stray_audio_line c = list_any (λ (e : Entity). is_stray_audio c.services e.body) (first_entities c)
 
 -- an app, label or language line whose short id is no service's
 abbrev pub have_a_stray_line : Config → Bool
-have_a_stray_line c = list_any (λ (e : Entity). is_stray c.services e.body) c.entities
+have_a_stray_line c = list_any (λ (e : Entity). is_stray c.services e.body) (first_entities c)
 
 -- two labels of one short id
 abbrev pub have_two_labels : Config → Bool
-have_two_labels c = list_any (λ k. nat_lt 1 (count_by (λ (e : Entity). is_label_of k e.body) c.entities)) short_ids
+have_two_labels c = list_any (λ k. nat_lt 1 (count_by (λ (e : Entity). is_label_of k e.body) (first_entities c))) short_ids
 
 -- an audio or app line whose stream isn't there
 abbrev pub have_a_line_without_stream : Config → Bool
-have_a_line_without_stream c = list_any (λ (e : Entity). is_streamless (length c.streams) e.body) c.entities
+have_a_line_without_stream c = list_any (λ (e : Entity). is_streamless (length c.streams) e.body) (first_entities c)
 
 abbrev pub services_disagree : Config → Bool
 services_disagree c =

@@ -3,6 +3,7 @@ use Rattle.std.specs.Prelude.{ℕ, ◌+◌, ◌-◌, ◌*◌, ◌%◌, ◌==◌,
 use Rattle.drm_sdc.specs.Writing.{total_size}
 use Rattle.drm_schedule.specs.declared.stream.Stream.{Stream}
 use Rattle.drm_schedule.specs.declared.config.Config.{Config}
+use Rattle.drm_schedule.specs.InForce.{entities_in_force}
 
 -- the entity that describes n streams, and that of the clock
 abbrev pub description_size : ℕ → ℕ
@@ -11,9 +12,9 @@ description_size n = 2 + 3 * n
 abbrev pub clock_size : ℕ
 clock_size = 5
 
--- what each block tells: the streams, and the entities of the lines
-abbrev pub told_size : Config → ℕ
-told_size c = description_size (length c.streams) + total_size c.entities
+-- what the block of a super frame tells by itself, but for the clock: the streams, and the entities in force
+abbrev pub told_size : Config → ℕ → ℕ
+told_size c frame = description_size (length c.streams) + total_size (entities_in_force c frame)
 
 -- the clock is told where there is one
 abbrev pub size_if : Bool → ℕ
@@ -25,11 +26,11 @@ tells_clock c frame = is_some c.clock && (frame - c.start) % 50 == 0
 
 -- the bytes that the block of a super frame has left for an announcement
 abbrev pub free_bytes : Config → ℕ → ℕ
-free_bytes c frame = c.room - (told_size c + size_if (tells_clock c frame))
+free_bytes c frame = c.room - (told_size c frame + size_if (tells_clock c frame))
 
 -- type 0, the entities of the lines and a clock don't fit in a block
 abbrev pub has_no_room : Config → Bool
-has_no_room c = nat_lt c.room (told_size c + size_if (is_some c.clock))
+has_no_room c = nat_lt c.room (told_size c c.start + size_if (is_some c.clock))
 
 -- the bytes of a stream in each frame
 abbrev pub stream_size : Stream → ℕ

@@ -1,5 +1,5 @@
 -- Which plans are schedules, and the first fault of one that isn't.
-use Rattle.std.specs.Prelude.{ℕ, ◌≡◌, ◌+◌, ◌-◌, ◌*◌, ◌==◌, ◌&&◌, ◌||◌, ◌≤◌, nat_le, nat_lt, not, min, All, Bool, true, false, if◌then◌else◌, List, [], ◌∷◌, length, Option, Some, None}
+use Rattle.std.specs.Prelude.{ℕ, ◌≡◌, ◌+◌, ◌-◌, ◌*◌, ◌==◌, ◌&&◌, ◌||◌, ◌≤◌, nat_le, nat_lt, not, min, All, Bool, true, false, if◌then◌else◌, List, [], ◌∷◌, ◌++◌, length, Option, Some, None}
 use Rattle.drm_schedule.specs.declared.invalid.Invalid.{Invalid}
 use Rattle.drm_schedule.specs.declared.invalid.Place.{Place}
 use Rattle.drm_schedule.specs.declared.invalid.Place.TheVariants as place
@@ -57,6 +57,10 @@ abbrev pub content_rows : ℕ → ℕ → ℕ → List Stream → List (Bool × 
 content_rows k j frames [] = []
 content_rows k j frames (s ∷ streams) = row (is_short frames s) k (place.Stream j) reason.ContentShort ∷ content_rows k (j + 1) frames streams
 
+-- what can be wrong with what the blocks of the k-th configuration tell by themselves
+abbrev pub block_rows : ℕ → Config → List (Bool × Invalid)
+block_rows k c = row (services_disagree c) k place.Config reason.Services ∷ row (has_no_room c) k place.Config reason.Fit ∷ []
+
 -- what can be wrong with the k-th configuration, behind the one before it and up to `end`
 abbrev pub rows : ℕ → ℕ → Option Config → Config → ℕ → List (Bool × Invalid)
 rows len k before c end =
@@ -64,9 +68,8 @@ rows len k before c end =
     ∷ row (counts_wrongly before c) k place.Config reason.Countdown
     ∷ row (has_no_such_occupancy c) k place.Occupancy reason.Occupancy
     ∷ row (is_hierarchical c) k place.Msc reason.Hierarchical
-    ∷ row (services_disagree c) k place.Config reason.Services
-    ∷ row (has_no_room c) k place.Config reason.Fit
-    ∷ row (lacks_announcement before c) k place.Config reason.Fit
+    ∷ block_rows k c
+    ++ row (lacks_announcement before c) k place.Config reason.Fit
     ∷ row (nat_lt 8192 (packet_len c true)) k place.Config reason.PacketSize
     ∷ content_rows k 0 (3 * (end - c.start)) c.streams
 

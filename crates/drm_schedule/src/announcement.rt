@@ -4,6 +4,7 @@ ghost use Rattle.std.specs.Prelude.{◌≡◌, ◌+◌, ◌<◌, ◌≤◌, ◌^
 ghost use Rattle.std.specs.List.{range_with_len};
 ghost use Rattle.drm_sdc.specs.Entity.{entity_size};
 ghost use Rattle.drm_schedule.specs.Ranges.{EntityInLines, ConfigInLines};
+ghost use Rattle.drm_schedule.specs.InForce.{first_entities};
 ghost use Rattle.drm_schedule.specs.Sizes.{description_size, free_bytes};
 ghost use Rattle.block_packing.specs.Packing as packing;
 ghost use Rattle.block_packing.specs.Packing.{last_spot};
@@ -37,11 +38,11 @@ impl Repeated {
 
 // Packs those of the entities that are repeated.
 fn place_all(free: &[u16], from: Spot, repeated: Repeated, config: &Config) -> Option<Spot>
-    requires { All EntityInLines config.now.entities }
+    requires { All EntityInLines (first_entities config.now) }
     ensures { result ≡ last_spot free.now from (map entity_size (repeated_of repeated config.now)) }
 {
     let mut spot = from;
-    let mut left = config.entities.as_slice();
+    let mut left = config.first_entities();
     while let [entity, more @ ..] = left {
         if repeated.is_of(&entity.body) {
             spot = spot.place(free, entity_len(entity))?;
@@ -53,7 +54,7 @@ fn place_all(free: &[u16], from: Spot, repeated: Repeated, config: &Config) -> O
 
 // Packs the audio entities and then the app entities.
 fn place_repeated(free: &[u16], from: Spot, config: &Config) -> Option<Spot>
-    requires { All EntityInLines config.now.entities }
+    requires { All EntityInLines (first_entities config.now) }
     ensures { result ≡ last_spot free.now from (map entity_size (all_repeated config.now)) }
 {
     let spot = place_all(free, from, Repeated::Audio, config)?;

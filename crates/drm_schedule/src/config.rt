@@ -1,8 +1,11 @@
 //! The configurations of a schedule.
 
+ghost use Rattle.std.specs.Prelude.{◌≡◌};
+ghost use Rattle.drm_schedule.specs.InForce.{entities_in_force, first_entities};
+
 use crate::Stream;
 use drm_fac::{Mode, Service};
-use drm_sdc::Entities;
+use drm_sdc::{Entities, Entity};
 use owned_items::Items;
 
 /// The services of a configuration, in the order of their lines.
@@ -51,4 +54,20 @@ pub struct Config {
     pub clock: Option<Clock>,
     /// What the blocks tell beside the multiplex and the clock, in the order of the lines.
     pub entities: Entities,
+}
+
+impl Config {
+    /// The entities that its block tells in a super frame, beside the multiplex, the clock and an announcement.
+    pub fn entities_in_force(&self, _super_frame: u32) -> &[Entity]
+        ensures { result.now ≡ entities_in_force self.now _super_frame }
+    {
+        self.entities.as_slice()
+    }
+
+    /// The entities of its first block, by which it is announced.
+    pub fn first_entities(&self) -> &[Entity]
+        ensures { result.now ≡ first_entities self.now }
+    {
+        self.entities.as_slice()
+    }
 }

@@ -111,7 +111,7 @@ fn has_app_line(entities: &[Entity], short: u8) -> bool
 fn lack_one_audio_line(config: &Config) -> bool
     ensures { result ≡ rules.lack_one_audio_line config.now }
 {
-    let entities = config.entities.as_slice();
+    let entities = config.first_entities();
     config
         .services
         .as_slice()
@@ -122,7 +122,7 @@ fn lack_one_audio_line(config: &Config) -> bool
 fn lack_an_app_line(config: &Config) -> bool
     ensures { result ≡ rules.lack_an_app_line config.now }
 {
-    let entities = config.entities.as_slice();
+    let entities = config.first_entities();
     config
         .services
         .as_slice()
@@ -135,8 +135,7 @@ fn have_a_stray_audio_line(config: &Config) -> bool
 {
     let services = config.services.as_slice();
     config
-        .entities
-        .as_slice()
+        .first_entities()
         .iter()
         .any(|e| is_stray_audio(services, &e.body))
 }
@@ -146,8 +145,7 @@ fn have_a_stray_line(config: &Config) -> bool
 {
     let services = config.services.as_slice();
     config
-        .entities
-        .as_slice()
+        .first_entities()
         .iter()
         .any(|e| is_stray(services, &e.body))
 }
@@ -165,7 +163,7 @@ fn has_two_labels(entities: &[Entity], short: u8) -> bool
 fn have_two_labels(config: &Config) -> bool
     ensures { result ≡ rules.have_two_labels config.now }
 {
-    let entities = config.entities.as_slice();
+    let entities = config.first_entities();
     has_two_labels(entities, 0)
         || has_two_labels(entities, 1)
         || has_two_labels(entities, 2)
@@ -177,8 +175,7 @@ fn have_a_line_without_stream(config: &Config) -> bool
 {
     let count = config.streams.len();
     config
-        .entities
-        .as_slice()
+        .first_entities()
         .iter()
         .any(|e| is_streamless(count, &e.body))
 }

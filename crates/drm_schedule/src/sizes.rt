@@ -17,13 +17,13 @@ pub fn entity_len(entity: &Entity) -> u16
     entity.size() as u16
 }
 
-// The bytes of what each block tells.
-fn told_len(config: &Config) -> usize
+// The bytes of what the block of a super frame tells by itself, but for the clock.
+fn told_len(config: &Config, frame: u32) -> usize
     requires { ConfigInLines config.now }
-    ensures size { result ≡ told_size config.now }
+    ensures size { result ≡ told_size config.now frame }
     ensures small { result < 2 ^ 14 }
 {
-    2 + 3 * config.streams.len() + total_size(config.entities.as_slice())
+    2 + 3 * config.streams.len() + total_size(config.entities_in_force(frame))
 }
 
 // The bytes of a clock, where it is told.
@@ -39,7 +39,7 @@ pub fn is_too_small(config: &Config) -> bool
     requires { ConfigInLines config.now }
     ensures { result ≡ has_no_room config.now }
 {
-    usize::from(config.room) < told_len(config) + clock_len(config.clock.is_some())
+    usize::from(config.room) < told_len(config, config.start) + clock_len(config.clock.is_some())
 }
 
 /// The bytes that the block of a super frame has left for an announcement.
@@ -48,7 +48,7 @@ pub fn free_len(config: &Config, frame: u32) -> u16
     ensures { result ≡ free_bytes config.now frame }
 {
     let is_told = config.clock.is_some() && frame.saturating_sub(config.start) % 50 == 0;
-    let told = told_len(config) + clock_len(is_told);
+    let told = told_len(config, frame) + clock_len(is_told);
     usize::from(config.room).saturating_sub(told) as u16
 }
 

@@ -1,33 +1,16 @@
 -- The line of a logical frame.
-use Rattle.std.specs.Prelude.{ℕ, ◌+◌, ◌≤◌, ◌%◌, ◌==◌, Bool, List, [], ◌∷◌, length, take, drop, codes, decimal, Option, None, Some, IfSome, if◌then◌else◌}
+use Rattle.std.specs.Prelude.{ℕ, ◌%◌, ◌==◌, Bool, List, [], ◌∷◌, length, take, drop, codes, decimal, Option, None, Some, if◌then◌else◌}
 use Rattle.std.specs.List.{concat}
 use Rattle.hex.specs.Hex.{encode_lower}
 use Rattle.drm_bits.specs.Bits.{bits_of}
 use Rattle.drm_bits.specs.Fields.{spelled}
-use Rattle.drm_bits.specs.Description.{IsDescription, FitsWidths}
 use Rattle.drm_bits.specs.declared.description.MuxDesc.{MuxDesc}
 use Rattle.drm_mux.specs.Sdci.{sdci_fields}
-use Rattle.drm_mux.specs.Frame.{multiplex_frame, streams_in, EndBy, HaveTheirLengths}
-use Rattle.drm_fac.specs.declared.mode.Mode.{Mode}
-use Rattle.drm_fac.specs.declared.mode.Mode.TheVariants.{A, B, C, D}
-use Rattle.dcp_tag.specs.Tag.{bytes_for}
+use Rattle.drm_mux.specs.Frame.{multiplex_frame, streams_in}
+use Rattle.drm_fac.specs.Mode.{mode_letter}
 use Rattle.mdi_items.specs.declared.view.SdcSpan.{SdcSpan}
 use Rattle.mdi_items.specs.Frame.{Frame}
 use Rattle.drm_show.specs.HexBits.{hex_of_bits}
-
--- The pieces of a frame lie in its payload, and each described stream has its length.
-pub record IsWhole (frame : Frame) (payload : List ℕ) : Type 0 where
-  pub description : IsDescription frame.mux
-  pub mux_fits : FitsWidths frame.mux
-  pub lengths : HaveTheirLengths frame.mux frame.streams
-  pub inside : EndBy (length payload) frame.streams
-  pub block_inside : IfSome frame.sdc (λ s. s.at + bytes_for s.bits ≤ length payload)
-
-abbrev pub mode_letter : Mode → List ℕ
-mode_letter A = codes "A"
-mode_letter B = codes "B"
-mode_letter C = codes "C"
-mode_letter D = codes "D"
 
 -- a block of whole bytes has four zero bits in front of it
 abbrev pub front_bits : ℕ → ℕ

@@ -1,32 +1,29 @@
 //! The SDC block of a frame, four bits a digit.
 
-ghost use Rattle.std.specs.Prelude.{◌≡◌, ◌+◌, ◌≤◌, length, IfSome, OnOk, OnErr, IsErr};
+ghost use Rattle.std.specs.Prelude.{◌≡◌, ◌+◌, ◌≤◌, length, OnOk, OnErr, IsErr};
 ghost use Rattle.dcp_tag.specs.Tag.{bytes_for};
 ghost use Rattle.drm_links.specs.Told.{HasCause};
 ghost use Rattle.drm_links.specs.Sink.{Outputs, IsFront};
+ghost use Rattle.mdi_items.specs.View.{IsWholeView};
 ghost use Rattle.drm_show.specs.FrameLine.{block_bits, block_text};
 
 use crate::hex_bits::write_bits;
 use drm_bits::Bits;
 use drm_links::{Sink, WriteFault, write_all};
-use mdi_items::SdcSpan;
+use mdi_items::{MdiView, SdcSpan};
 
 /// Writes the digits of the block, where there is one.
-pub(crate) fn write_block<O: Sink>(
-    out: &mut O,
-    payload: &[u8],
-    sdc: Option<SdcSpan>,
-) -> Result<(), WriteFault>
-    requires { IfSome sdc (λ s. s.at + bytes_for s.bits ≤ length payload.now) }
+pub(crate) fn write_block<O: Sink>(out: &mut O, view: &MdiView<'_>) -> Result<(), WriteFault>
+    requires { IsWholeView view.now }
     ensures whole { OnOk result (Outputs (O.tells out.old) (O.tells out.new)
-        (λ text. text ≡ block_text payload.now sdc)) }
+        (λ text. text ≡ block_text view.now.payload.now view.now.sdc)) }
     ensures front { OnErr result (Outputs (O.tells out.old) (O.tells out.new)
-        (IsFront (block_text payload.now sdc))) }
+        (IsFront (block_text view.now.payload.now view.now.sdc))) }
     ensures cause { HasCause (O.faults out.old) (O.faults out.new) (IsErr result) }
 {
-    match sdc {
+    match &view.sdc {
         None => write_all(out, b"-"),
-        Some(span) => write_bits(out, block_bits(payload, &span)),
+        Some(span) => write_bits(out, block_bits(view.payload, span)),
     }
 }
 

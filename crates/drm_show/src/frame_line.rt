@@ -5,7 +5,8 @@ ghost use Rattle.std.specs.List.{flat_map};
 ghost use Rattle.drm_links.specs.Told.{HasCause};
 ghost use Rattle.drm_links.specs.Sink.{Outputs, IsFront};
 ghost use Rattle.mdi_items.specs.Frame.{frame_of};
-ghost use Rattle.drm_show.specs.FrameLine.{IsWhole, mode_letter, frame_line};
+ghost use Rattle.mdi_items.specs.View.{IsWholeView};
+ghost use Rattle.drm_show.specs.FrameLine.{frame_line};
 ghost use Rattle.drm_show.specs.FrameParts.{part_text};
 
 use crate::block::write_block;
@@ -13,7 +14,6 @@ use crate::description::write_description;
 use crate::streams::write_streams;
 use Part::Text;
 use Piece::{Hex, Number, Words};
-use drm_fac::Mode;
 use drm_links::{Sink, WriteFault};
 use mdi_items::MdiView;
 use text_pieces::{Piece, write_piece};
@@ -24,7 +24,7 @@ pub(crate) fn write_frame<O: Sink>(
     index: u64,
     view: &MdiView<'_>,
 ) -> Result<(), WriteFault>
-    requires { IsWhole (frame_of view.now) view.now.payload.now }
+    requires { IsWholeView view.now }
     ensures whole { OnOk result (Outputs (O.tells out.old) (O.tells out.new) (λ text. text ≡ frame_line index (frame_of view.now) view.now.payload.now)) }
     ensures front { OnErr result (Outputs (O.tells out.old) (O.tells out.new) (IsFront (frame_line index (frame_of view.now) view.now.payload.now))) }
     ensures cause { HasCause (O.faults out.old) (O.faults out.new) (IsErr result) }
@@ -53,7 +53,7 @@ fn parts<'a>(index: u64, view: &'a MdiView<'_>) -> [Part<'a>; PARTS]
         Text(Words(" dlfc ")),
         Text(Number(u64::from(view.dlfc))),
         Text(Words(" mode ")),
-        Text(Words(mode_letter(view.mode))),
+        Text(Words(view.mode.letter())),
         Text(Words(" fac ")),
         Text(Hex(&view.fac_bytes)),
         Text(Words(" sdc ")),
@@ -66,24 +66,13 @@ fn parts<'a>(index: u64, view: &'a MdiView<'_>) -> [Part<'a>; PARTS]
     ]
 }
 
-fn mode_letter(mode: Mode) -> &'static str
-    ensures { result.now ≡ mode_letter mode }
-{
-    match mode {
-        Mode::A => "A",
-        Mode::B => "B",
-        Mode::C => "C",
-        Mode::D => "D",
-    }
-}
-
 // Writes the parts, one after another.
 fn write_parts<O: Sink>(
     out: &mut O,
     view: &MdiView<'_>,
     parts: &[Part<'_>],
 ) -> Result<(), WriteFault>
-    requires { IsWhole (frame_of view.now) view.now.payload.now }
+    requires { IsWholeView view.now }
     ensures whole { OnOk result (Outputs (O.tells out.old) (O.tells out.new)
         (λ text. text ≡ flat_map (part_text (frame_of view.now) view.now.payload.now) parts.now)) }
     ensures front { OnErr result (Outputs (O.tells out.old) (O.tells out.new)
@@ -97,7 +86,7 @@ fn write_parts<O: Sink>(
 }
 
 fn write_part<O: Sink>(out: &mut O, view: &MdiView<'_>, part: Part<'_>) -> Result<(), WriteFault>
-    requires { IsWhole (frame_of view.now) view.now.payload.now }
+    requires { IsWholeView view.now }
     ensures whole { OnOk result (Outputs (O.tells out.old) (O.tells out.new)
         (λ text. text ≡ part_text (frame_of view.now) view.now.payload.now part.entry)) }
     ensures front { OnErr result (Outputs (O.tells out.old) (O.tells out.new)
@@ -106,8 +95,8 @@ fn write_part<O: Sink>(out: &mut O, view: &MdiView<'_>, part: Part<'_>) -> Resul
 {
     match part {
         Part::Text(piece) => write_piece(out, piece),
-        Part::Block => write_block(out, view.payload, view.sdc),
-        Part::Description => write_description(out, &view.mux),
+        Part::Block => write_block(out, view),
+        Part::Description => write_description(out, view),
         Part::Streams => write_streams(out, &view.mux, &view.streams, view.payload),
     }
 }

@@ -1,12 +1,9 @@
 //! A step of a feed: an item, behind the switch that stands before it.
 
-ghost use Rattle.std.specs.Prelude.{◌≡◌, ◌+◌, ◌≤◌, length, IfSome, OnOk, OnErr, IsErr};
-ghost use Rattle.drm_bits.specs.Description.{IsDescription, FitsWidths};
-ghost use Rattle.drm_mux.specs.Frame.{EndBy, HaveTheirLengths};
+ghost use Rattle.std.specs.Prelude.{◌≡◌, OnOk, OnErr, IsErr};
 ghost use Rattle.drm_links.specs.Told.{HasCause};
 ghost use Rattle.drm_links.specs.Sink.{Outputs, IsFront};
-ghost use Rattle.dcp_tag.specs.Tag.{bytes_for};
-ghost use Rattle.mod_feed.specs.Items.{item_of, IfFrame, IfBad, IsOfReading};
+ghost use Rattle.mod_feed.specs.Items.{item_of, IsRead};
 ghost use Rattle.mod_feed.specs.Feeding.{step_of};
 ghost use Rattle.text_pieces.specs.Text.{text_of};
 ghost use Rattle.drm_show.specs.Report.{before_line, missing_line, bad_line, item_line, step_text};
@@ -14,20 +11,13 @@ ghost use Rattle.drm_show.specs.Report.{before_line, missing_line, bad_line, ite
 use crate::frame_line::write_frame;
 use crate::words::bad_words;
 use drm_links::{Sink, WriteFault};
-use drm_timeline::Before;
+use drm_switches::Before;
 use mod_feed::{BadFault, FeedItem, Step};
 use text_pieces::{Piece, write_pieces};
 
 /// Writes the line of an item, behind that of the switch that stands before it.
 pub fn write_step<O: Sink>(out: &mut O, step: &Step<'_>) -> Result<(), WriteFault>
-    // The pieces of a frame lie in its payload, and each described stream has its length.
-    requires inside { IfFrame step.now.item (λ v. EndBy (length v.payload.now) v.streams) }
-    requires block_inside { IfFrame step.now.item (λ v. IfSome v.sdc (λ s. s.at + bytes_for s.bits ≤ length v.payload.now)) }
-    requires lengths { IfFrame step.now.item (λ v. HaveTheirLengths v.mux v.streams) }
-    requires description { IfFrame step.now.item (λ v. IsDescription v.mux) }
-    requires mux_fits { IfFrame step.now.item (λ v. FitsWidths v.mux) }
-    // A fault is one that reading can meet.
-    requires of_reading { IfBad step.now.item IsOfReading }
+    requires { IsRead step.now.item }
     ensures whole { OnOk result (Outputs (O.tells out.old) (O.tells out.new)
         (λ text. text ≡ step_text (step_of step.now))) }
     ensures front { OnErr result (Outputs (O.tells out.old) (O.tells out.new)
@@ -55,12 +45,7 @@ fn write_before<O: Sink>(out: &mut O, before: Option<Before>) -> Result<(), Writ
 }
 
 fn write_item<O: Sink>(out: &mut O, item: &FeedItem<'_>) -> Result<(), WriteFault>
-    requires inside { IfFrame item.now (λ v. EndBy (length v.payload.now) v.streams) }
-    requires block_inside { IfFrame item.now (λ v. IfSome v.sdc (λ s. s.at + bytes_for s.bits ≤ length v.payload.now)) }
-    requires lengths { IfFrame item.now (λ v. HaveTheirLengths v.mux v.streams) }
-    requires description { IfFrame item.now (λ v. IsDescription v.mux) }
-    requires mux_fits { IfFrame item.now (λ v. FitsWidths v.mux) }
-    requires of_reading { IfBad item.now IsOfReading }
+    requires { IsRead item.now }
     ensures whole { OnOk result (Outputs (O.tells out.old) (O.tells out.new)
         (λ text. text ≡ item_line (item_of item.now))) }
     ensures front { OnErr result (Outputs (O.tells out.old) (O.tells out.new)
@@ -91,7 +76,6 @@ fn missing_pieces(index: u64, had: u32, total: u32) -> [Piece<'static>; 7]
 }
 
 fn bad_pieces(index: u64, fault: BadFault) -> [Piece<'static>; 6]
-    requires { IsOfReading fault }
     ensures { text_of result ≡ bad_line index fault }
 {
     let words = bad_words(fault);

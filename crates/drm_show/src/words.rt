@@ -1,11 +1,8 @@
 //! The words for what is wrong: a layer, and a field of it.
 
-ghost use Rattle.std.specs.Prelude.{◌≡◌, ◌≢◌, ◌++◌};
+ghost use Rattle.std.specs.Prelude.{◌≡◌, ◌++◌};
 ghost use Rattle.text_pieces.specs.Text.{piece_text};
-ghost use Rattle.drm_show.specs.FaultWords.{af_words, pft_words, sdc_words, mux_words, mdi_words, bad_words, field_words, taken_words, IsTold};
-ghost use Rattle.mod_feed.specs.Items.{IsOfReading};
-ghost use Rattle.dcp_pft.specs.declared.fault.PftFault.TheVariants as pft;
-ghost use Rattle.drm_sdc.specs.declared.fault.SdcFault.TheVariants as sdc;
+ghost use Rattle.drm_show.specs.FaultWords.{af_words, pft_words, sdc_words, mux_words, mdi_words, bad_words, field_words, taken_words};
 
 use dcp_af::AfFault;
 use dcp_collect::{Field, Taken};
@@ -21,7 +18,6 @@ pub(crate) type FaultWords = (Piece<'static>, Piece<'static>);
 
 /// The words for a packet that is no frame.
 pub(crate) fn bad_words(fault: BadFault) -> FaultWords
-    requires { IsOfReading fault }
     ensures { piece_text result.0 ++ piece_text result.1 ≡ bad_words fault }
 {
     match fault {
@@ -33,18 +29,17 @@ pub(crate) fn bad_words(fault: BadFault) -> FaultWords
 
 /// The words for a datagram that is refused, or disagrees.
 pub(crate) fn taken_words(taken: &Taken) -> &'static str
-    requires { IsTold taken.now }
     ensures { result.now ≡ taken_words taken.now }
 {
     match taken {
         Taken::Refused(cause) => field_words(*cause),
         Taken::Inconsistent { .. } => "pft inconsistent",
-        Taken::Kept | Taken::Repeated | Taken::Late => unreachable!(),
+        // Nothing is told of these.
+        Taken::Kept | Taken::Repeated | Taken::Late => "",
     }
 }
 
 fn field_words(field: Field) -> &'static str
-    requires { IsTold (Taken.Refused field) }
     ensures { result.now ≡ field_words field }
 {
     match field {
@@ -81,11 +76,11 @@ fn af_words(fault: AfFault) -> &'static str
 }
 
 fn pft_words(fault: PftFault) -> &'static str
-    requires { fault ≢ pft.Sync }
     ensures { result.now ≡ pft_words fault }
 {
     match fault {
-        PftFault::Sync => unreachable!(),
+        // Such a datagram is told as one of neither kind.
+        PftFault::Sync => "",
         PftFault::HeadCut => "pft head-cut",
         PftFault::HeadCrc => "pft head-crc",
         PftFault::Count => "pft count",
@@ -100,7 +95,6 @@ fn pft_words(fault: PftFault) -> &'static str
 }
 
 fn mdi_words(fault: MdiFault) -> FaultWords
-    requires { IsOfReading (BadFault.Mdi fault) }
     ensures { piece_text result.0 ++ piece_text result.1 ≡ mdi_words fault }
 {
     match fault {
@@ -118,7 +112,6 @@ fn mdi_words(fault: MdiFault) -> FaultWords
 }
 
 fn mux_words(fault: MuxFault) -> FaultWords
-    requires { IsOfReading (BadFault.Mdi (MdiFault.Mux fault)) }
     ensures { piece_text result.0 ++ piece_text result.1 ≡ mux_words fault }
 {
     match fault {
@@ -128,12 +121,12 @@ fn mux_words(fault: MuxFault) -> FaultWords
             Piece::Words("mdi stream-length:"),
             Piece::Number(u64::from(stream)),
         ),
-        MuxFault::FrameLength { .. } => unreachable!(),
+        // No multiplex frame is cut into streams here.
+        MuxFault::FrameLength { .. } => plain(""),
     }
 }
 
 fn sdc_words(fault: SdcFault) -> &'static str
-    requires { fault ≢ sdc.NoMemory }
     ensures { result.now ≡ sdc_words fault }
 {
     match fault {
@@ -143,6 +136,7 @@ fn sdc_words(fault: SdcFault) -> &'static str
         SdcFault::EntityCut { .. } => "sdc entity-cut",
         SdcFault::BodyLength { .. } => "sdc body-length",
         SdcFault::LabelText { .. } => "sdc label-text",
-        SdcFault::NoMemory => unreachable!(),
+        // Reading a frame takes no memory.
+        SdcFault::NoMemory => "",
     }
 }

@@ -5,6 +5,7 @@ use Rattle.std.proofs.lemmas.List.{append-nil, map-append}
 use Rattle.std.proofs.lemmas.List.FromFn.{get_or-map-range_with_len}
 use Rattle.drm_bits.specs.declared.bit_sink.BitSink.{BitSink}
 use Rattle.drm_bits.specs.declared.description.MuxDesc.{MuxDesc}
+use Rattle.drm_fac.specs.Mode.{mode_code}
 use Rattle.drm_sdc.specs.declared.body.Body.{Body}
 use Rattle.drm_sdc.specs.declared.body.Body.TheVariants.{Mux, Next}
 use Rattle.drm_sdc.specs.declared.entity.Entity.{Entity}
@@ -19,7 +20,7 @@ use Rattle.drm_schedule.specs.Announcement.{repeated_of, announced, parameters_s
 use Rattle.block_packing.proofs.PackingLemmas.{last_spot-append, last_is_packed}
 use Rattle.drm_timeline.specs.Standing.{is_counting}
 use Rattle.drm_timeline.specs.FastAccess.{services_of}
-use Rattle.drm_timeline.specs.Description.{description_of, parameters_of, mode_code}
+use Rattle.drm_timeline.specs.Description.{description_of, parameters_of}
 use Rattle.drm_timeline.specs.Announcing.{next, as_next, packed_in, announcement_of, left_in}
 use Rattle.drm_timeline.specs.Telling.{WroteEntities, Tells}
 use Rattle.drm_timeline.proofs.PackedLemmas.{Packs, packs_none, packs_first, packs_all, room_all, some_next, sizes_as_next}

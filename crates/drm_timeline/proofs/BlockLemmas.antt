@@ -35,7 +35,7 @@ filled c plan sf s t u room told tells = record {
   few = omega (arith, size_append (told_in c sf) tells.entities, own_size c sf, own_room c sf room, tells.fit);
 }
 
-pub own_fits : (c : Config) (sf bits : ℕ) → has_no_room c ≡ false → c.room ≤ 1023 → bits ≡ 8 * 1023 → 8 * (told_size c + size_if (tells_clock c sf)) ≤ bits
+pub own_fits : (c : Config) (sf bits : ℕ) → has_no_room c ≡ false → c.room ≤ 1023 → bits ≡ 8 * 1023 → 8 * (told_size c sf + size_if (tells_clock c sf)) ≤ bits
 own_fits c sf bits room small is = omega (arith, own_room c sf room, small, is)
 
 pub free_fits : (c : Config) (sf : ℕ) (s t : BitSink) → c.room ≤ 1023 → length (unwritten s) ≡ 8 * 1023 → WroteEntities (told_in c sf) s t → 8 * free_bytes c sf ≤ length (unwritten t)

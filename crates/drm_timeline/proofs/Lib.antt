@@ -4,11 +4,7 @@ pub mod FastAccessLemmas
 pub mod ToldLemmas
 pub mod PackedLemmas
 pub mod AnnouncingLemmas
-pub mod SignatureLemmas
-pub mod SwitchesLemmas
-pub mod TrackerLemmas
 pub mod BlockLemmas
-pub mod AnnouncedLemmas
 pub mod StartsLemmas
 pub mod SignatureAtLemmas
 pub mod ScheduleLaws

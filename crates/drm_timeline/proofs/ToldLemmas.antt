@@ -21,6 +21,7 @@ use Rattle.drm_schedule.specs.declared.config.Clock.{Clock}
 use Rattle.drm_schedule.specs.declared.config.Config.{Config}
 use Rattle.drm_schedule.specs.declared.stream.Stream.{Stream}
 use Rattle.drm_schedule.specs.Ranges.{EntityInLines, ConfigInLines, StreamInLines, BodyInLines}
+use Rattle.drm_schedule.specs.InForce.{entities_in_force}
 use Rattle.drm_schedule.specs.Sizes.{told_size, size_if, tells_clock, has_no_room}
 use Rattle.drm_schedule.proofs.Fitting.{body_fits, entity_fits}
 use Rattle.drm_timeline.specs.Announcing.{next}
@@ -79,8 +80,8 @@ description_fits c version fits = record {
         by _ = 0
 
 -- The entities of a block's own configuration.
-pub told_sizes : (c : Config) (sf : ℕ) → total_size (told_in c sf) ≡ told_size c + total_size (clock_in c sf)
-told_sizes c sf = omega (arith, size_append c.entities (clock_in c sf))
+pub told_sizes : (c : Config) (sf : ℕ) → total_size (told_in c sf) ≡ told_size c sf + total_size (clock_in c sf)
+told_sizes c sf = omega (arith, size_append (entities_in_force c sf) (clock_in c sf))
 
 clock_sizes : (c : Config) (sf : ℕ) → total_size (clock_in c sf) ≡ size_if (tells_clock c sf)
 clock_sizes c sf = by c.clock
@@ -102,18 +103,18 @@ clock_most c sf = by (is_some c.clock) ((sf - c.start) % 50 == 0)
     by true false = omega arith
     by false b = omega arith
 
-pub own_size : (c : Config) (sf : ℕ) → total_size (told_in c sf) ≡ told_size c + size_if (tells_clock c sf)
-own_size c sf = told_sizes c sf ∙ ap (λ n. told_size c + n) (clock_sizes c sf)
+pub own_size : (c : Config) (sf : ℕ) → total_size (told_in c sf) ≡ told_size c sf + size_if (tells_clock c sf)
+own_size c sf = told_sizes c sf ∙ ap (λ n. told_size c sf + n) (clock_sizes c sf)
 
 -- they have room
-pub own_room : (c : Config) (sf : ℕ) → has_no_room c ≡ false → told_size c + size_if (tells_clock c sf) ≤ c.room
-own_room c sf room = omega (arith, ltb-false c.room (told_size c + size_if (is_some c.clock)) room, clock_most c sf)
+pub own_room : (c : Config) (sf : ℕ) → has_no_room c ≡ false → told_size c sf + size_if (tells_clock c sf) ≤ c.room
+own_room c sf room = omega (arith, ltb-false c.room (told_size c c.start + size_if (is_some c.clock)) room, clock_most c sf)
 
 pub lines_fit : (es : List Entity) → All EntityInLines es → All EntityFits es
 lines_fit es all k d within = entity_fits (get_or es k d) (all k d within)
 
 -- the description, the entities of the lines and the clock, one behind another
-pub wrote_told : (c : Config) (sf : ℕ) (d : MuxDesc) (es : List Entity) (s t u v : BitSink) → ConfigInLines c → d ≡ description_of c → es ≡ c.entities
+pub wrote_told : (c : Config) (sf : ℕ) (d : MuxDesc) (es : List Entity) (s t u v : BitSink) → ConfigInLines c → d ≡ description_of c → es ≡ entities_in_force c sf
     → Wrote (spelled (entity_fields (current (Mux d)))) s t → length (unwritten t) + 8 * entity_size (current (Mux d)) ≡ length (unwritten s)
     → Wrote (entity_bits es) t u → length (unwritten u) + 8 * total_size es ≡ length (unwritten t) → WroteEntities (clock_in c sf) u v → WroteEntities (told_in c sf) s v
 wrote_told c sf d es s t u v fits is same first first_left rest rest_left clock =
@@ -122,8 +123,8 @@ wrote_told c sf d es s t u v fits is same first first_left rest rest_left clock 
       wrote = subst (λ (l : List Bool). Wrote l s t) (sym (append-nil (spelled (entity_fields (current (Mux d)))))) first;
       left = omega (arith, first_left);
     } in
-    let lines : WroteEntities es t u = record { each = subst (All EntityFits) (sym same) (lines_fit c.entities fits.each_entity); wrote = rest; left = rest_left } in
-    subst (λ (x : MuxDesc). WroteEntities (current (Mux x) ∷ (c.entities ++ clock_in c sf)) s v) is
+    let lines : WroteEntities es t u = record { each = subst (All EntityFits) (sym same) (lines_fit (entities_in_force c sf) fits.each_entity); wrote = rest; left = rest_left } in
+    subst (λ (x : MuxDesc). WroteEntities (current (Mux x) ∷ (entities_in_force c sf ++ clock_in c sf)) s v) is
     (subst (λ (l : List Entity). WroteEntities (current (Mux d) ∷ (l ++ clock_in c sf)) s v) same (wrote_both one (wrote_both lines clock)))
 
 -- entities have eight bits a byte

@@ -8,6 +8,7 @@ use Rattle.drm_sdc.specs.Writing.{total_size}
 use Rattle.drm_schedule.specs.declared.config.Clock.{Clock}
 use Rattle.drm_schedule.specs.declared.config.Config.{Config}
 use Rattle.drm_schedule.specs.declared.plan.Plan.{Plan}
+use Rattle.drm_schedule.specs.InForce.{entities_in_force}
 use Rattle.drm_schedule.specs.Sizes.{tells_clock}
 use Rattle.block_packing.specs.Packing.{chain}
 use Rattle.drm_timeline.specs.Standing.{config_of, announced_in}
@@ -29,7 +30,7 @@ clock_in c sf = if tells_clock c sf then clock_from ((sf - c.start) / 50) c.cloc
 
 -- what the block of super frame sf tells of its own configuration
 abbrev pub told_in : Config → ℕ → List Entity
-told_in c sf = current (Mux (description_of c)) ∷ (c.entities ++ clock_in c sf)
+told_in c sf = current (Mux (description_of c)) ∷ (entities_in_force c sf ++ clock_in c sf)
 
 -- the entities of a block
 abbrev pub entities_of : Config → Plan → ℕ → Option (List Entity)

@@ -6,8 +6,7 @@ use Rattle.drm_sdc.specs.declared.body.Body.{Body}
 use Rattle.drm_sdc.specs.declared.body.Body.TheVariants.{Time, Next}
 use Rattle.drm_schedule.specs.declared.config.Clock.{Clock}
 use Rattle.drm_schedule.specs.declared.config.Config.{Config}
-use Rattle.drm_fac.specs.declared.mode.Mode.{Mode}
-use Rattle.drm_fac.specs.declared.mode.Mode.TheVariants.{A, B, C, D}
+use Rattle.drm_fac.specs.Mode.{mode_code}
 use Rattle.drm_schedule.specs.declared.stream.Stream.{Stream}
 use Rattle.drm_timeline.specs.FastAccess.{services_of}
 
@@ -22,13 +21,6 @@ parts_of streams = map (λ k. part_of (slice_get streams k)) (0 ∷ 1 ∷ 2 ∷ 
 -- the multiplex description
 abbrev pub description_of : Config → MuxDesc
 description_of c = record { prot_a = c.prot_a; prot_b = c.prot_b; count = length c.streams; parts = parts_of c.streams }
-
--- the code of the mode
-abbrev pub mode_code : Mode → ℕ
-mode_code A = 0
-mode_code B = 1
-mode_code C = 2
-mode_code D = 3
 
 -- the channel parameters of a configuration, as those before it announce them
 abbrev pub parameters_of : Config → Option Body

@@ -4,8 +4,4 @@ pub mod Description
 pub mod Announcing
 pub mod Blocks
 pub mod Telling
-pub mod Seen
-pub mod Switches
-pub mod Tracker
-pub mod Announced
 pub mod Starts

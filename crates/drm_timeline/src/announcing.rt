@@ -8,6 +8,7 @@ ghost use Rattle.drm_sdc.specs.declared.entity.Entity.{Entity};
 ghost use Rattle.drm_sdc.specs.Writing.{total_size};
 ghost use Rattle.drm_sdc.specs.Entity.{EntityFits, entity_size};
 ghost use Rattle.drm_schedule.specs.Ranges.{ConfigInLines, EntityInLines};
+ghost use Rattle.drm_schedule.specs.InForce.{first_entities};
 ghost use Rattle.drm_schedule.specs.Sizes.{description_size, free_bytes};
 ghost use Rattle.block_packing.specs.Packing.{placed, last_spot};
 ghost use Rattle.block_packing.specs.Packing as packing;
@@ -20,7 +21,7 @@ ghost use Rattle.drm_timeline.specs.Announcing.{next, as_next, announcement_of, 
 ghost use Rattle.drm_timeline.specs.Telling.{WroteEntities, Tells};
 
 use crate::fast_access::code;
-use crate::told::{description, mode_code};
+use crate::told::description;
 use drm_bits::BitSink;
 use drm_schedule::{Body, Config, Entity, Repeated, Spot, entity_len, free_in_countdown};
 use drm_sdc::write_entity;
@@ -82,7 +83,7 @@ fn parameters(config: &Config) -> Body
 {
     Body::Next {
         enhancement: false,
-        mode: mode_code(config.mode),
+        mode: config.mode.code(),
         occupancy: config.occupancy,
         short_depth: config.short_depth,
         msc: config.msc,
@@ -101,14 +102,14 @@ fn write_all(
     repeated: Repeated,
     config: &Config,
 ) -> Spot
-    requires each { All EntityInLines config.now.entities }
+    requires each { All EntityInLines (first_entities config.now) }
     requires packs { IsSome (last_spot free.now from (map entity_size (repeated_of repeated config.now))) }
     requires room { 8 * left_in frame free.now from ≤ length (unwritten sink.old) }
     ensures spot { last_spot free.now from (map entity_size (repeated_of repeated config.now)) ≡ Some result }
     ensures wrote { WroteEntities (packed_in frame free.now from (map as_next (repeated_of repeated config.now))) sink.old sink.new }
 {
     let mut spot = from;
-    let mut left = config.entities.as_slice();
+    let mut left = config.first_entities();
     while let [entity, more @ ..] = left {
         spot = write_repeated(sink, free, spot, frame, repeated, entity);
         left = more;

@@ -71,12 +71,12 @@ fn write_announced(sink: &mut BitSink<'_>, plan: &Schedule, sf: u32, config: &Co
 fn write_told(sink: &mut BitSink<'_>, config: &Config, sf: u32)
     requires fits { ConfigInLines config.now }
     requires started { (config.now.start ≤ sf) × (sf < 1000000) }
-    requires room { 8 * (told_size config.now + size_if (tells_clock config.now sf)) ≤ length (unwritten sink.old) }
+    requires room { 8 * (told_size config.now sf + size_if (tells_clock config.now sf)) ≤ length (unwritten sink.old) }
     ensures { WroteEntities (told_in config.now sf) sink.old sink.new }
 {
     let desc = description(config);
     write_entity(sink, false, &Body::Mux { desc });
-    write_entities(sink, config.entities.as_slice());
+    write_entities(sink, config.entities_in_force(sf));
     write_clock(sink, config, sf);
 }
 

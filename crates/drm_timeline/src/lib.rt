@@ -1,22 +1,20 @@
 //! The frames of a schedule: which configuration holds in each super frame, and which FAC and which block of the Service
-//! Description Channel are sent; and on the other side, from the frames that came, when the configuration switched.
+//! Description Channel are sent; and what receivers see of their switches.
 #![tactic(auto)]
 
-mod announced;
 mod announcing;
 mod block;
 mod fast_access;
 mod schedule_laws;
-mod seen;
 mod standing;
 mod told;
-mod tracker;
 
-pub use announced::{none_is_resumed, switches_at_all_starts, switches_only_at_starts};
 pub use block::block_into;
+pub use drm_switches::{
+    Before, Seen, Signature, Tracker, none_is_resumed, switches_at_all_starts,
+    switches_only_at_starts, the_tracker_tells_the_switches,
+};
 pub use fast_access::{fac_at, packet_len};
 pub use schedule_laws::{starts_are_announced, switches_are_at_starts};
-pub use seen::{Seen, Signature};
 pub use standing::{config_at, index_at};
 pub use told::description;
-pub use tracker::{Before, Tracker, the_tracker_tells_the_switches};

@@ -5,10 +5,9 @@ ghost use Rattle.std.specs.Option.{option_copied};
 ghost use Rattle.drm_sdc.specs.Entity.{EntityFits};
 ghost use Rattle.drm_schedule.specs.Ranges.{ConfigInLines, ClockInLines};
 ghost use Rattle.drm_timeline.specs.Blocks.{current};
-ghost use Rattle.drm_timeline.specs.Description as description;
 ghost use Rattle.drm_timeline.specs.Description.{description_of, parts_of, part_of, moment_of};
 
-use drm_schedule::{Body, Clock, Config, Mode, MuxDesc, Part, Stream};
+use drm_schedule::{Body, Clock, Config, MuxDesc, Part, Stream};
 
 /// The multiplex description of a configuration.
 pub fn description(config: &Config) -> MuxDesc
@@ -44,19 +43,6 @@ fn part(stream: Option<&Stream>) -> Part
             a: stream.a,
             b: stream.b,
         },
-    }
-}
-
-/// The code of a mode (ES 201 980).
-pub fn mode_code(mode: Mode) -> u8
-    ensures code { result ≡ description.mode_code mode }
-    ensures small { result < 4 }
-{
-    match mode {
-        Mode::A => 0,
-        Mode::B => 1,
-        Mode::C => 2,
-        Mode::D => 3,
     }
 }
 

@@ -11,8 +11,7 @@ use Rattle.drm_sdc.specs.declared.body.Body.TheVariants as bodies
 use Rattle.drm_sdc.specs.declared.channels.Channel15.{Channel15}
 use Rattle.drm_schedule.specs.declared.carry.Carry.{Carry}
 use Rattle.drm_schedule.specs.declared.carry.Carry.TheVariants.{Plain, Pft}
-use Rattle.drm_fac.specs.declared.mode.Mode.{Mode}
-use Rattle.drm_fac.specs.declared.mode.Mode.TheVariants.{A, B, C, D}
+use Rattle.drm_fac.specs.Mode.{mode_letter}
 use Rattle.drm_schedule.specs.declared.stream.Content.{Content}
 use Rattle.drm_schedule.specs.declared.stream.Content.TheVariants.{Fill, File}
 use Rattle.drm_schedule.specs.Ranges.{CarryInLines, StreamInLines, ServiceInLines, ClockInLines, EntityInLines}
@@ -103,12 +102,6 @@ abbrev pub carry_words : Carry → List (List ℕ)
 carry_words Plain = codes "plain" ∷ []
 carry_words (Pft m mtu) = codes "pft" ∷ decimal m ∷ decimal mtu ∷ []
 
-abbrev pub mode_word : Mode → List ℕ
-mode_word A = codes "A"
-mode_word B = codes "B"
-mode_word C = codes "C"
-mode_word D = codes "D"
-
 abbrev pub depth_word : Bool → List ℕ
 depth_word true = codes "short"
 depth_word false = codes "long"
@@ -149,7 +142,7 @@ parts_said (lines.Carry carry) = carry_words carry
 parts_said (lines.First seq dlfc) = decimal seq ∷ decimal dlfc ∷ []
 parts_said (lines.Length n) = decimal n ∷ []
 parts_said (lines.Config start countdown) = decimal start ∷ decimal countdown ∷ []
-parts_said (lines.Mode mode) = mode_word mode ∷ []
+parts_said (lines.Mode mode) = mode_letter mode ∷ []
 parts_said (lines.Occupancy n) = decimal n ∷ []
 parts_said (lines.Depth short) = depth_word short ∷ []
 parts_said (lines.Msc n) = decimal n ∷ []

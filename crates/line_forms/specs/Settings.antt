@@ -4,7 +4,7 @@ use Rattle.std.specs.Int.{from_be_bytes, w32}
 use Rattle.std.specs.Str.{bytes_eq}
 use Rattle.drm_schedule.specs.declared.carry.Carry.TheVariants.{Plain, Pft}
 use Rattle.drm_fac.specs.declared.mode.Mode.{Mode}
-use Rattle.drm_fac.specs.declared.mode.Mode.TheVariants.{A, B, C, D}
+use Rattle.drm_fac.specs.Mode.{mode_of_letter}
 use Rattle.drm_schedule.specs.declared.stream.Content.TheVariants.{Fill, File}
 use Rattle.line_forms.specs.declared.line.Line.TheVariants as lines
 use Rattle.line_forms.specs.Shape.{Shape, shape, number, value, bit, flag, hex, hex_value, byte_value, name, some_of}
@@ -43,21 +43,13 @@ unfoldable pub config_line : List (List ℕ) → Option Shape
 config_line (start ∷ countdown ∷ []) = shape (number 0 999999 start ∷ number 0 7 countdown ∷ []) (lines.Config (value start) (value countdown))
 config_line _ = None
 
-abbrev pub mode_of : List ℕ → Option Mode
-mode_of word =
-    if bytes_eq word (codes "A") then Some A
-    else if bytes_eq word (codes "B") then Some B
-    else if bytes_eq word (codes "C") then Some C
-    else if bytes_eq word (codes "D") then Some D
-    else None
-
 abbrev pub says_mode : Option Mode → Option Shape
 says_mode None = None
 says_mode (Some mode) = shape [] (lines.Mode mode)
 
 -- mode M
 unfoldable pub mode_line : List (List ℕ) → Option Shape
-mode_line (mode ∷ []) = says_mode (mode_of mode)
+mode_line (mode ∷ []) = says_mode (mode_of_letter mode)
 mode_line _ = None
 
 -- occupancy N

@@ -1,5 +1,5 @@
 -- A payload is one frame, or has one first fault, and never both.
-use Rattle.std.proofs.Common.{◌≡◌, ◌≢◌, inl, inr, ℕ, zero, suc, List, [], ◌∷◌, get_or, Option, None, Some, Result, Ok, Err, IfOk, IfErr, refl, sym, subst, ap, ◌∙◌}
+use Rattle.std.proofs.Common.{◌≡◌, ◌≢◌, inl, inr, ℕ, List, [], ◌∷◌, get_or, Option, None, Some, Result, Ok, Err, IfOk, IfErr, refl, sym, subst, ap, ◌∙◌}
 use Rattle.std.specs.Prelude.{IsOkAnd}
 use Rattle.drm_fac.specs.declared.fac.Fac.{Fac}
 use Rattle.drm_fac.specs.Fac.{IsFac}
@@ -7,7 +7,8 @@ use Rattle.drm_fac.proofs.FacLemmas.{one_fac}
 use Rattle.drm_bits.specs.declared.description.MuxDesc.{MuxDesc}
 use Rattle.drm_mux.specs.declared.frame.Spans.{Spans}
 use Rattle.drm_fac.specs.declared.mode.Mode.{Mode}
-use Rattle.drm_fac.specs.declared.mode.Mode.TheVariants.{A, B, C, D}
+use Rattle.drm_fac.specs.Mode.{mode_code}
+use Rattle.drm_fac.proofs.ModeLemmas.{one_code}
 use Rattle.drm_sdc.specs.declared.block.Block.{Block}
 use Rattle.drm_sdc.specs.Block.{IsBlock, info_of}
 use Rattle.drm_sdc.proofs.BlockLaws.{one_block}
@@ -19,28 +20,15 @@ use Rattle.mdi_items.specs.declared.view.SdcSpan.{SdcSpan}
 use Rattle.mdi_items.specs.declared.view.MdiView.{MdiView}
 use Rattle.mdi_items.specs.Names.{ptr, dlfc, fac_, robm, sdc_}
 use Rattle.mdi_items.specs.Items.{known_of}
-use Rattle.mdi_items.specs.Frame.{Frame, Says, IsAt, IsBlockSpan, bits_there, block_bits, mode_code, frame_of}
+use Rattle.mdi_items.specs.Frame.{Frame, Says, IsAt, IsBlockSpan, bits_there, block_bits, frame_of}
 use Rattle.mdi_items.specs.Mdi.{IsMdi, IsMdiFault}
 use Rattle.mdi_items.specs.Table.{table, IsFirstFault}
 use Rattle.mdi_items.proofs.OnceLemmas.{one_items_fault, items_or_fault}
 use Rattle.mdi_items.proofs.RowLemmas.{one_first, none_or_first}
 use Rattle.mdi_items.proofs.TableLemmas.{one_place, one_value, one_mux}
 
-mode_back : ℕ → Mode
-mode_back zero = A
-mode_back (suc zero) = B
-mode_back (suc (suc zero)) = C
-mode_back (suc (suc (suc n))) = D
-
-mode_again : (m : Mode) → mode_back (mode_code m) ≡ m
-unfolding mode_back
-mode_again A = refl
-mode_again B = refl
-mode_again C = refl
-mode_again D = refl
-
 one_mode : (m n : Mode) → mode_code m ∷ [] ≡ mode_code n ∷ [] → m ≡ n
-one_mode m n same = sym (mode_again m) ∙ (ap (λ (l : List ℕ). mode_back (get_or l 0 0)) same ∙ mode_again n)
+one_mode m n same = one_code m n (ap (λ (l : List ℕ). get_or l 0 0) same)
 
 no_bits : (known : List (Option Found)) (found : Found) → bits_there (get_or known sdc_ None) ≡ 0 → IsAt known sdc_ found → found.bits ≢ 0 → ⊥
 no_bits known found none at some = some (sym (ap bits_there at) ∙ none)

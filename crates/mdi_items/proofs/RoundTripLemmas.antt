@@ -19,7 +19,8 @@ use Rattle.drm_mux.specs.Frame.{stream_length}
 use Rattle.drm_mux.specs.Sdci.{IsSdci}
 use Rattle.drm_mux.proofs.SdciLemmas.{length-value}
 use Rattle.drm_fac.specs.declared.mode.Mode.{Mode}
-use Rattle.drm_fac.specs.declared.mode.Mode.TheVariants.{A, B, C, D}
+use Rattle.drm_fac.specs.Mode.{mode_code}
+use Rattle.drm_fac.proofs.ModeLemmas.{code_small}
 use Rattle.drm_sdc.specs.declared.block.Block.{Block}
 use Rattle.drm_sdc.specs.Block.{IsBlock, IsBlockFault, info_of}
 use Rattle.drm_sdc.proofs.BlockLaws.{framed_length, block_or_fault}
@@ -28,7 +29,7 @@ use Rattle.mdi_items.specs.declared.known.Found.{Found}
 use Rattle.mdi_items.specs.declared.view.SdcSpan.{SdcSpan}
 use Rattle.mdi_items.specs.Names.{names, ptr, dlfc, fac_, sdci, robm, sdc_, str}
 use Rattle.mdi_items.specs.Items.{known_of, AreOnce}
-use Rattle.mdi_items.specs.Frame.{IsFirst, HasBytes, IsBlockSpan, bytes_at, block_bits, bits_there, place_there, of_streams, spans_of, mode_code}
+use Rattle.mdi_items.specs.Frame.{IsFirst, HasBytes, IsBlockSpan, bytes_at, block_bits, bits_there, place_there, of_streams, spans_of}
 use Rattle.mdi_items.specs.Streams.{IsRight, AreRight}
 use Rattle.mdi_items.specs.Table.{NoneApplies, HasFac, HasDescription, due_rows, ptr_rows, fac_rows, sdci_rows, robm_rows, sdc_rows}
 use Rattle.mdi_items.specs.Written.{Piece, whole, spelled, spelling, items_of, head_pieces, block_piece, stream_pieces}
@@ -190,12 +191,6 @@ sdci_none payload known d bytes h is = (
   ),
 )
 
-mode_below : (m : Mode) → mode_code m ≤ 3
-mode_below A = omega arith
-mode_below B = omega arith
-mode_below C = omega arith
-mode_below D = omega arith
-
 robm_none : (payload : List ℕ) (known : List (Option Found)) (mode : Mode) → IsFound payload (get_or known robm None) (whole robm (mode_code mode ∷ [])) → NoneApplies payload known robm_rows
 robm_none payload known mode h =
     let due = due_none payload known robm 8 (whole robm (mode_code mode ∷ [])) h refl in (
@@ -206,7 +201,7 @@ robm_none payload known mode h =
           (λ f x.
               let same : x.0 ∷ [] ≡ mode_code mode ∷ [] = one_value payload known robm (x.0 ∷ []) (mode_code mode ∷ []) x.1 (has_bytes payload known robm (whole robm (mode_code mode ∷ [])) h) in
               let code : x.0 ≡ mode_code mode = ap (λ (l : List ℕ). get_or l 0 0) same in
-              absurd (omega (arith, code, x.2, mode_below mode))),
+              absurd (omega (arith, code, x.2, code_small mode))),
           tt,
         ),
       ),

@@ -13,7 +13,7 @@ use Rattle.drm_mux.specs.Sdci.{IsSdci, sdci_fields}
 use Rattle.drm_fac.specs.declared.mode.Mode.{Mode}
 use Rattle.dcp_tag.specs.Tag.{head}
 use Rattle.mdi_items.specs.Names.{name_at, ptr, dlfc, fac_, sdci, robm, str}
-use Rattle.mdi_items.specs.Frame.{mode_code}
+use Rattle.drm_fac.specs.Mode.{mode_code}
 use Rattle.mdi_items.specs.Written.{Piece, whole, spelled, spelling, head_pieces, stream_pieces, IsHead}
 use Rattle.mdi_items.specs.RoundTrip.{Parts, IsWrittenOf, block_pieces}
 use Rattle.mdi_items.proofs.RoundTripLemmas.{spelling-append}

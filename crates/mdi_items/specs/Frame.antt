@@ -5,10 +5,10 @@ use Rattle.drm_bits.specs.Bits.{bits_of}
 use Rattle.drm_bits.specs.declared.description.MuxDesc.{MuxDesc}
 use Rattle.drm_fac.specs.declared.fac.Fac.{Fac}
 use Rattle.drm_fac.specs.Fac.{IsFac}
+use Rattle.drm_fac.specs.Mode.{mode_code}
 use Rattle.drm_mux.specs.declared.frame.Spans.{Spans}
 use Rattle.drm_mux.specs.Sdci.{IsSdci}
 use Rattle.drm_fac.specs.declared.mode.Mode.{Mode}
-use Rattle.drm_fac.specs.declared.mode.Mode.TheVariants.{A, B, C, D}
 use Rattle.drm_sdc.specs.declared.block.Block.{Block}
 use Rattle.drm_sdc.specs.Block.{IsBlock, info_of}
 use Rattle.dcp_tag.specs.Tag.{bytes_for}
@@ -66,13 +66,6 @@ of_streams what known =
 -- where the streams stand; one that isn't there has no bytes, at the front
 abbrev pub spans_of : List (Option Found) → Spans
 spans_of known = record { at = of_streams place_there known; len = of_streams (λ there. bits_there there / 8) known }
-
--- the value of `robm`
-abbrev pub mode_code : Mode → ℕ
-mode_code A = 0
-mode_code B = 1
-mode_code C = 2
-mode_code D = 3
 
 -- The frame is the first of its super frame, which has the SDC block.
 abbrev pub IsFirst : Fac → Type 0

@@ -8,3 +8,4 @@ pub mod Streams
 pub mod Laws
 pub mod Written
 pub mod RoundTrip
+pub mod View

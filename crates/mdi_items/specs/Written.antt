@@ -7,11 +7,11 @@ use Rattle.drm_fac.specs.declared.fac.Fac.{Fac}
 use Rattle.drm_fac.specs.Fac.{IsFac}
 use Rattle.drm_mux.specs.Sdci.{IsSdci}
 use Rattle.drm_fac.specs.declared.mode.Mode.{Mode}
+use Rattle.drm_fac.specs.Mode.{mode_code}
 use Rattle.dcp_tag.specs.Tag.{TagItem, head}
 use Rattle.dcp_tag.specs.Reading.{item_of}
 use Rattle.mdi_items.specs.declared.writer.MdiWriter.{MdiWriter}
 use Rattle.mdi_items.specs.Names.{name_at, ptr, dlfc, fac_, sdci, robm, sdc_, str}
-use Rattle.mdi_items.specs.Frame.{mode_code}
 
 -- an item that is written: the place of its name in the order, its bits, and the bytes that have them and then zeros
 pub record Piece : Type 0 where

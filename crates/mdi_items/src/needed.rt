@@ -4,8 +4,9 @@ ghost use Rattle.std.specs.Prelude.{◌≡◌, ◌≤◌, ◌∷◌, ◌↔◌, 
 ghost use Rattle.std.specs.Int.{w16, w32, from_be_bytes};
 ghost use Rattle.drm_bits.specs.Description.{FitsWidths};
 ghost use Rattle.drm_fac.specs.Fac.{IsFac, FacFits};
+ghost use Rattle.drm_fac.specs.Mode.{mode_code};
 ghost use Rattle.mdi_items.specs.Names.{ptr, dlfc, fac_, robm};
-ghost use Rattle.mdi_items.specs.Frame.{AreInside, HasBytes, mode_code};
+ghost use Rattle.mdi_items.specs.Frame.{AreInside, HasBytes};
 ghost use Rattle.mdi_items.specs.Table.{NoneApplies, IsFirstFault, HasDescription, ptr_rows, dlfc_rows, fac_rows, sdci_rows, robm_rows};
 
 use crate::MdiFault;
@@ -112,11 +113,9 @@ pub(crate) fn read_mode(payload: &[u8], known: &Known) -> Result<Mode, MdiFault>
     ensures fault { IfErr result (IsFirstFault payload.now known.now robm_rows) }
 {
     let bytes = bytes_of(payload, known, ROBM, 8)?;
-    match bytes[0] {
-        0 => Ok(Mode::A),
-        1 => Ok(Mode::B),
-        2 => Ok(Mode::C),
-        3 => Ok(Mode::D),
-        value => Err(MdiFault::Mode { value }),
+    let value = bytes[0];
+    match Mode::from_code(value) {
+        Some(mode) => Ok(mode),
+        None => Err(MdiFault::Mode { value }),
     }
 }

@@ -1,12 +1,9 @@
 //! A frame that is read, and where its pieces stand.
 
-ghost use Rattle.std.specs.Prelude.{◌≡◌, ◌+◌, ◌≤◌, length, IfSome, IfOk, IfErr, IsOkAnd};
-ghost use Rattle.drm_bits.specs.Description.{IsDescription, FitsWidths};
-ghost use Rattle.drm_fac.specs.Fac.{FacFits};
-ghost use Rattle.drm_mux.specs.Frame.{EndBy, HaveTheirLengths};
-ghost use Rattle.dcp_tag.specs.Tag.{bytes_for};
+ghost use Rattle.std.specs.Prelude.{◌≡◌, IfOk, IfErr, IsOkAnd};
 ghost use Rattle.mdi_items.specs.Frame.{Frame, frame_of};
 ghost use Rattle.mdi_items.specs.Mdi.{IsMdi, IsMdiFault};
+ghost use Rattle.mdi_items.specs.View.{IsWholeView};
 
 use crate::MdiFault;
 use crate::block::read_block_span;
@@ -52,14 +49,8 @@ pub fn read_mdi(payload: &[u8]) -> Result<MdiView<'_>, MdiFault>
     ensures read { IfOk result (λ v. IsMdi (frame_of v) payload.now) }
     ensures only { (frame : Frame) → IsMdi frame payload.now → IsOkAnd result (λ v. frame_of v ≡ frame) }
     ensures payload { IfOk result (λ v. v.payload.now ≡ payload.now) }
-
-    // Its pieces lie in the payload, and each described stream has its length.
-    ensures inside { IfOk result (λ v. EndBy (length payload.now) v.streams) }
-    ensures block_inside { IfOk result (λ v. IfSome v.sdc (λ s. s.at + bytes_for s.bits ≤ length payload.now)) }
-    ensures lengths { IfOk result (λ v. HaveTheirLengths v.mux v.streams) }
-    ensures fac_fits { IfOk result (λ v. FacFits v.fac) }
-    ensures description { IfOk result (λ v. IsDescription v.mux) }
-    ensures mux_fits { IfOk result (λ v. FitsWidths v.mux) }
+    // Its pieces can be lent out of the payload.
+    ensures whole { IfOk result IsWholeView }
 
     // Else the fault is the first one, and each first fault is named.
     ensures fault { IfErr result (IsMdiFault payload.now) }
@@ -71,12 +62,7 @@ pub fn read_mdi(payload: &[u8]) -> Result<MdiView<'_>, MdiFault>
 fn read_whole(payload: &[u8]) -> Result<MdiView<'_>, MdiFault>
     ensures read { IfOk result (λ v. IsMdi (frame_of v) payload.now) }
     ensures payload { IfOk result (λ v. v.payload.now ≡ payload.now) }
-    ensures inside { IfOk result (λ v. EndBy (length payload.now) v.streams) }
-    ensures block_inside { IfOk result (λ v. IfSome v.sdc (λ s. s.at + bytes_for s.bits ≤ length payload.now)) }
-    ensures lengths { IfOk result (λ v. HaveTheirLengths v.mux v.streams) }
-    ensures fac_fits { IfOk result (λ v. FacFits v.fac) }
-    ensures description { IfOk result (λ v. IsDescription v.mux) }
-    ensures mux_fits { IfOk result (λ v. FitsWidths v.mux) }
+    ensures whole { IfOk result IsWholeView }
     ensures fault { IfErr result (IsMdiFault payload.now) }
 {
     let known = gather(payload)?;

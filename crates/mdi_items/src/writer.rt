@@ -6,7 +6,6 @@ ghost use Rattle.drm_bits.specs.Description.{IsDescription, FitsWidths};
 ghost use Rattle.drm_fac.specs.Fac.{FacFits};
 ghost use Rattle.dcp_tag.specs.Tag.{bytes_for};
 ghost use Rattle.mdi_items.specs.Names.{sdc_, str, robm};
-ghost use Rattle.mdi_items.specs.Frame.{mode_code};
 
 use crate::names::{DLFC, FAC, PTR, ROBM, SDC, SDCI, STREAMS, name_at};
 use dcp_tag::write_item;
@@ -66,7 +65,7 @@ impl<'a> MdiWriter<'a> {
         self.bytes(DLFC, &dlfc.to_be_bytes());
         self.bytes(FAC, &encode(fac));
         self.bytes(SDCI, &description[..len]);
-        self.bytes(ROBM, &[mode_code(mode)]);
+        self.bytes(ROBM, &[mode.code()]);
     }
 
     /// Writes the SDC block, which has so many bits.
@@ -132,17 +131,5 @@ impl<'a> MdiWriter<'a> {
     {
         self.at = write_item(self.into, self.at, name_at(place), bits, value);
         self.next = place + 1;
-    }
-}
-
-// The value of `robm`.
-fn mode_code(mode: Mode) -> u8
-    ensures { result ≡ mode_code mode }
-{
-    match mode {
-        Mode::A => 0,
-        Mode::B => 1,
-        Mode::C => 2,
-        Mode::D => 3,
     }
 }

@@ -19,7 +19,7 @@ use Rattle.drm_schedule.specs.declared.stream.Content.TheVariants.{Fill, File}
 use Rattle.drm_schedule.specs.declared.stream.Stream.{Stream}
 use Rattle.drm_schedule.specs.Sizes.{packet_len, stream_size}
 use Rattle.drm_schedule.specs.Valid.{IsSchedule, is_short}
-use Rattle.mdi_items.specs.Frame.{mode_code}
+use Rattle.drm_fac.specs.Mode.{mode_code}
 use Rattle.mdi_items.specs.Names.{name_at, ptr, dlfc, fac_, sdci, robm, str}
 use Rattle.mdi_items.specs.Written.{Piece, IsHead, spelled, spelling, whole, block_piece, stream_pieces}
 use Rattle.mdi_items.specs.RoundTrip.{Parts, BlockBytes, IsWrittenOf, block_pieces}

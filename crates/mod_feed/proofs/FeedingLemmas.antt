@@ -1,9 +1,9 @@
 -- A feed answers in one way, steps join, and what is told before items is what stands there.
 use Rattle.std.proofs.Common.{◌≡◌, ℕ, ◌<◌, List, [], ◌∷◌, length, slice_get, suc, Option, Some, refl, sym, ap, ap₂, subst, ◌∙◌}
 use Rattle.dcp_collect.specs.Runs.{Item as Given}
-use Rattle.drm_timeline.specs.declared.tracker.Before.{Before}
-use Rattle.drm_timeline.specs.Tracker.{TrackerState, new_tracker, answered, answers}
-use Rattle.drm_timeline.proofs.TrackerLemmas.{tells_the_switches}
+use Rattle.drm_switches.specs.declared.tracker.Before.{Before}
+use Rattle.drm_switches.specs.Tracker.{TrackerState, new_tracker, answered, answers}
+use Rattle.drm_switches.proofs.TrackerLemmas.{tells_the_switches}
 use Rattle.mod_feed.specs.Items.{Item, seen_in}
 use Rattle.mod_feed.specs.Feeding.{FeedStep, IsStep, after_step, Feeds, told_before, all_seen, IsOneFeeding, FeedingJoins, FeedTellsTheSwitches}
 use Rattle.mod_feed.proofs.ItemLemmas.{item_is_one}

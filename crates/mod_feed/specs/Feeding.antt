@@ -1,10 +1,13 @@
 -- A feed over what a collector gives. A feed is seen as its tracker.
-use Rattle.std.specs.Prelude.{ℕ, ◌≡◌, ◌<◌, ◌↔◌, List, [], ◌∷◌, ◌++◌, map, length, slice_get, Option, Some}
+use Rattle.std.specs.Prelude.{ℕ, ◌≡◌, ◌<◌, ◌^◌, ◌↔◌, List, [], ◌∷◌, ◌++◌, map, length, slice_get, Option, Some}
+use Rattle.dcp_collect.specs.declared.item.Out.{Out}
 use Rattle.dcp_collect.specs.Runs.{Item as Given}
-use Rattle.drm_timeline.specs.declared.seen.Seen.{Seen}
-use Rattle.drm_timeline.specs.declared.tracker.Before.{Before}
-use Rattle.drm_timeline.specs.Switches.{StandsBefore}
-use Rattle.drm_timeline.specs.Tracker.{TrackerState, new_tracker, answered, stepped}
+use Rattle.dcp_collect.specs.View.{item_of as given_of}
+use Rattle.dcp_collect.specs.WholePackets.{IsAfIfWhole}
+use Rattle.drm_switches.specs.declared.seen.Seen.{Seen}
+use Rattle.drm_switches.specs.declared.tracker.Before.{Before}
+use Rattle.drm_switches.specs.Switches.{StandsBefore}
+use Rattle.drm_switches.specs.Tracker.{TrackerState, new_tracker, answered, stepped}
 use Rattle.mod_feed.specs.declared.feed.Step.{Step}
 use Rattle.mod_feed.specs.Items.{Item, item_of, IsItemOf, number_of, seen_in}
 
@@ -15,6 +18,12 @@ pub record FeedStep : Type 0 where
 
 abbrev pub step_of : Step → FeedStep
 step_of step = record { before = step.before; item = item_of step.item }
+
+-- What a collector gives next to a feed that made so many calls: it has their number, and is an AF packet where it came whole.
+pub record IsNext (feed : TrackerState) (out : Out) : Type 0 where
+  pub in_order : number_of (given_of out) ≡ feed.calls
+  pub small : feed.calls < 2 ^ 62
+  pub whole : IsAfIfWhole out
 
 -- what a feed answers to what a collector gives, whose number is that of the feed's earlier steps
 pub record IsStep (feed : TrackerState) (given : Given) (step : FeedStep) : Type 0 where

@@ -3,11 +3,11 @@ use Rattle.std.specs.Prelude.{ℕ, ◌≡◌, List, Option, Some, None, nat_eq, 
 use Rattle.dcp_af.specs.Packet.{AfPacket, IsAf}
 use Rattle.dcp_af.specs.Faults.{IsFault}
 use Rattle.dcp_collect.specs.Runs.{Item as Given, Packet, Lost, Damaged}
-use Rattle.drm_timeline.specs.declared.seen.Seen.{Seen}
-use Rattle.drm_timeline.specs.Seen.{signature_of}
-use Rattle.mdi_items.specs.declared.view.MdiView.{MdiView}
+use Rattle.drm_switches.specs.declared.seen.Seen.{Seen}
+use Rattle.drm_switches.specs.Seen.{signature_of}
 use Rattle.mdi_items.specs.Frame.{Frame as MdiFrame, frame_of}
 use Rattle.mdi_items.specs.Mdi.{IsMdi, IsMdiFault}
+use Rattle.mdi_items.specs.View.{IsWholeView}
 use Rattle.mod_feed.specs.declared.item.BadFault.{BadFault}
 use Rattle.mod_feed.specs.declared.item.BadFault.TheVariants.{Code, Af, Mdi}
 use Rattle.mod_feed.specs.declared.item.FeedItem.{FeedItem}
@@ -68,18 +68,14 @@ abbrev pub seen_in : Item → Option Seen
 seen_in (Frame index frame payload) = Some (shown_by frame)
 seen_in item = None
 
--- where the item is a frame, this holds of its view
-abbrev pub IfFrame : FeedItem → (MdiView → Type 0) → Type 0
-IfFrame (feed.Frame index view) P = P view
-IfFrame item P = Unit {0}
-
--- where the item is a bad packet, this holds of its fault
-abbrev pub IfBad : FeedItem → (BadFault → Type 0) → Type 0
-IfBad (feed.Bad index fault) P = P fault
-IfBad item P = Unit {0}
-
 -- a fault that reading can meet: it compares no length of a whole multiplex frame, and takes no memory
 abbrev pub IsOfReading : BadFault → Type 0
 IsOfReading (Mdi (mdi.Mux (mux.FrameLength stands described))) = ⊥
 IsOfReading (Mdi (mdi.Sdc sdc.NoMemory)) = ⊥
 IsOfReading fault = Unit {0}
+
+-- What reading gives: a frame whose pieces can be lent out of its payload, or a fault that reading can meet.
+abbrev pub IsRead : FeedItem → Type 0
+IsRead (feed.Frame index view) = IsWholeView view
+IsRead (feed.Missing index had total) = Unit {0}
+IsRead (feed.Bad index fault) = IsOfReading fault

@@ -1,20 +1,16 @@
 //! A feed, which follows the items of one modulator.
 
-ghost use Rattle.std.specs.Prelude.{◌≡◌, ◌+◌, ◌<◌, ◌^◌, ◌≤◌, length, IfSome};
-ghost use Rattle.drm_bits.specs.Description.{IsDescription, FitsWidths};
-ghost use Rattle.drm_fac.specs.Fac.{FacFits};
-ghost use Rattle.drm_mux.specs.Frame.{EndBy, HaveTheirLengths};
-ghost use Rattle.drm_timeline.specs.Tracker.{new_tracker, answered, stepped};
-ghost use Rattle.dcp_tag.specs.Tag.{bytes_for};
+ghost use Rattle.std.specs.Prelude.{◌≡◌, ◌+◌};
+ghost use Rattle.drm_switches.specs.Tracker.{new_tracker, answered, stepped};
 ghost use Rattle.dcp_collect.specs.View.{item_of as given_of};
-ghost use Rattle.dcp_collect.specs.WholePackets.{IsAfIfWhole};
-ghost use Rattle.mod_feed.specs.Items.{Item, item_of, IsItemOf, number_of, seen_in, IfFrame, IfBad, IsOfReading};
+ghost use Rattle.mod_feed.specs.Feeding.{IsNext};
+ghost use Rattle.mod_feed.specs.Items.{Item, item_of, IsItemOf, seen_in, IsRead};
 
 use crate::FeedItem;
 use crate::read::read_item;
 use crate::shown::seen_in;
 use dcp_collect::Out;
-use drm_timeline::{Before, Tracker};
+use drm_switches::{Before, Tracker};
 use std::marker::Model;
 
 /// An item, and the switch or the resumption that stands before it.
@@ -31,7 +27,7 @@ pub struct Feed {
 }
 
 impl Model for Feed {
-    ghost use Rattle.drm_timeline.specs.Tracker.{TrackerState};
+    ghost use Rattle.drm_switches.specs.Tracker.{TrackerState};
 
     ghost Value = { TrackerState };
 
@@ -50,10 +46,7 @@ impl Feed {
 
     /// Gives the item of what a collector gives, and what stands before it. A frame is lent out of the packet.
     pub fn step<'a>(&mut self, out: Out<'a>) -> Step<'a>
-        requires in_order { number_of (given_of out) ≡ self.old.calls }
-        requires small { self.old.calls < 2 ^ 62 }
-        // What a collector gives meets this.
-        requires whole { IsAfIfWhole out }
+        requires { IsNext self.old out }
         // The item is that of what a collector gives, and there is no other.
         ensures item { IsItemOf (given_of out.entry) (item_of result.item) }
         ensures only { (item : Item) → IsItemOf (given_of out.entry) item → item_of result.item ≡ item }
@@ -61,16 +54,8 @@ impl Feed {
         ensures before { result.before ≡ answered self.old (seen_in (item_of result.item)) }
         ensures after { self.new ≡ stepped self.old (seen_in (item_of result.item)) }
         ensures counted { self.new.calls ≡ self.old.calls + 1 }
-
-        // The pieces of a frame lie in its payload, and each described stream has its length.
-        ensures inside { IfFrame result.item (λ v. EndBy (length v.payload.now) v.streams) }
-        ensures block_inside { IfFrame result.item (λ v. IfSome v.sdc (λ s. s.at + bytes_for s.bits ≤ length v.payload.now)) }
-        ensures lengths { IfFrame result.item (λ v. HaveTheirLengths v.mux v.streams) }
-        ensures fac_fits { IfFrame result.item (λ v. FacFits v.fac) }
-        ensures description { IfFrame result.item (λ v. IsDescription v.mux) }
-        ensures mux_fits { IfFrame result.item (λ v. FitsWidths v.mux) }
-        // A fault is one that reading can meet.
-        ensures of_reading { IfBad result.item IsOfReading }
+        // The pieces of a frame can be lent out of its payload, and a fault is one that reading can meet.
+        ensures read { IsRead result.item }
     {
         let item = read_item(out);
         let before = self.tracker.step(seen_in(&item));

@@ -1,15 +1,12 @@
 //! The item of what a collector gives.
 
-ghost use Rattle.std.specs.Prelude.{◌≡◌, ◌+◌, ◌≤◌, true, length, IfSome, IfOk, IfErr};
-ghost use Rattle.drm_bits.specs.Description.{IsDescription, FitsWidths};
-ghost use Rattle.drm_fac.specs.Fac.{FacFits};
-ghost use Rattle.drm_mux.specs.Frame.{EndBy, HaveTheirLengths};
-ghost use Rattle.dcp_tag.specs.Tag.{bytes_for};
+ghost use Rattle.std.specs.Prelude.{◌≡◌, true, IfOk, IfErr};
 ghost use Rattle.dcp_af.specs.Packet.{AfPacket, IsAf};
 ghost use Rattle.dcp_collect.specs.WholePackets.{IsAfIfWhole};
 ghost use Rattle.dcp_collect.specs.View.{item_of as given_of};
 ghost use Rattle.mdi_items.specs.Frame.{frame_of};
-ghost use Rattle.mod_feed.specs.Items.{item_of, CarriesFrame, CarriesNone, IsItemOf, IfFrame, IfBad, IsOfReading};
+ghost use Rattle.mdi_items.specs.View.{IsWholeView};
+ghost use Rattle.mod_feed.specs.Items.{item_of, CarriesFrame, CarriesNone, IsItemOf, IsRead};
 
 use crate::{BadFault, FeedItem};
 use dcp_af::{payload_of, read_af};
@@ -18,15 +15,9 @@ use mdi_items::{MdiView, read_mdi};
 
 /// The item of what a collector gives.
 pub(crate) fn read_item<'a>(out: Out<'a>) -> FeedItem<'a>
-    requires whole { IsAfIfWhole out }
+    requires { IsAfIfWhole out }
     ensures item { IsItemOf (given_of out.entry) (item_of result) }
-    ensures inside { IfFrame result (λ v. EndBy (length v.payload.now) v.streams) }
-    ensures block_inside { IfFrame result (λ v. IfSome v.sdc (λ s. s.at + bytes_for s.bits ≤ length v.payload.now)) }
-    ensures lengths { IfFrame result (λ v. HaveTheirLengths v.mux v.streams) }
-    ensures fac_fits { IfFrame result (λ v. FacFits v.fac) }
-    ensures description { IfFrame result (λ v. IsDescription v.mux) }
-    ensures mux_fits { IfFrame result (λ v. FitsWidths v.mux) }
-    ensures of_reading { IfBad result IsOfReading }
+    ensures read { IsRead result }
 {
     match out {
         Out::Packet {
@@ -50,12 +41,7 @@ fn read_frame(packet: &[u8], whole: bool) -> Result<MdiView<'_>, BadFault>
     requires known { whole ≡ true → (af : AfPacket) × IsAf af packet.now }
     ensures frame { IfOk result (λ v. CarriesFrame (frame_of v) v.payload.now packet.now) }
     ensures none { IfErr result (λ fault. CarriesNone fault packet.now) }
-    ensures inside { IfOk result (λ v. EndBy (length v.payload.now) v.streams) }
-    ensures block_inside { IfOk result (λ v. IfSome v.sdc (λ s. s.at + bytes_for s.bits ≤ length v.payload.now)) }
-    ensures lengths { IfOk result (λ v. HaveTheirLengths v.mux v.streams) }
-    ensures fac_fits { IfOk result (λ v. FacFits v.fac) }
-    ensures description { IfOk result (λ v. IsDescription v.mux) }
-    ensures mux_fits { IfOk result (λ v. FitsWidths v.mux) }
+    ensures whole { IfOk result IsWholeView }
 {
     let payload = match read_payload(packet, whole) {
         Ok(payload) => payload,

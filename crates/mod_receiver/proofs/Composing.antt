@@ -15,7 +15,7 @@ use Rattle.dcp_collect.specs.State.{State, made}
 use Rattle.dcp_collect.specs.Runs.{Item as Given, Steps, Run, up_to}
 use Rattle.collect_laws.specs.Laws.{IsRight}
 use Rattle.collect_laws.specs.Delivery.{IsWithinSpan, IsBase, number, newer_number}
-use Rattle.drm_timeline.specs.Tracker.{TrackerState, new_tracker}
+use Rattle.drm_switches.specs.Tracker.{TrackerState, new_tracker}
 use Rattle.mod_feed.specs.Items.{Item}
 use Rattle.mod_feed.specs.Feeding.{FeedStep, Feeds}
 use Rattle.mod_delivery.specs.Sent.{IsSent, IsFollowed, IsInTime}

@@ -9,7 +9,7 @@ use Rattle.dcp_collect.specs.Runs.{Item, Gives, Run, up_to}
 use Rattle.collect_laws.specs.Laws.{OneGiving}
 use Rattle.dcp_collect.proofs.Decoded.{one_decoding}
 use Rattle.collect_laws.proofs.Unique.{one_giving}
-use Rattle.drm_timeline.specs.Tracker.{new_tracker}
+use Rattle.drm_switches.specs.Tracker.{new_tracker}
 use Rattle.mod_feed.specs.Feeding.{Feeds}
 use Rattle.mod_feed.proofs.FeedingLemmas.{feeding_is_one}
 use Rattle.drm_show.specs.declared.report.EndWord.{EndWord}

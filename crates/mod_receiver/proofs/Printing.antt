@@ -11,8 +11,8 @@ use Rattle.collect_laws.proofs.Runs.{Given, given_more, given_all}
 use Rattle.collect_laws.proofs.Ending.{giving_ends}
 use Rattle.collect_laws.proofs.Fit.{fit_given}
 use Rattle.dcp_collect.proofs.Decoded.{decoded_or_none}
-use Rattle.drm_timeline.specs.declared.seen.Seen.{Seen}
-use Rattle.drm_timeline.specs.Tracker.{TrackerState, stepped}
+use Rattle.drm_switches.specs.declared.seen.Seen.{Seen}
+use Rattle.drm_switches.specs.Tracker.{TrackerState, stepped}
 use Rattle.mod_feed.specs.Items.{Item as FeedItem, Frame, Missing, Bad, number_of, seen_in}
 use Rattle.mod_feed.specs.Feeding.{FeedStep, IsStep, Feeds, after_step}
 use Rattle.mod_feed.proofs.FeedingLemmas.{feedings_join}

@@ -13,7 +13,7 @@ use Rattle.collect_laws.specs.Laws.{OneRun, IsFit}
 use Rattle.collect_laws.proofs.OneReading.{one_reading as one_datagram}
 use Rattle.dcp_collect.proofs.Decoded.{one_decoding}
 use Rattle.collect_laws.proofs.Unique.{one_run}
-use Rattle.drm_timeline.specs.Tracker.{TrackerState, new_tracker}
+use Rattle.drm_switches.specs.Tracker.{TrackerState, new_tracker}
 use Rattle.mod_feed.specs.Feeding.{FeedStep, Feeds}
 use Rattle.drm_show.specs.declared.report.EndWord.TheVariants as word
 use Rattle.mod_receiver.specs.declared.rules.Rules.{Rules}

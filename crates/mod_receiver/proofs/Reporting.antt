@@ -9,7 +9,7 @@ use Rattle.drm_links.proofs.ToldLemmas.{Outputs-then, Outputs-weaker}
 use Rattle.dcp_collect.specs.declared.taken.Taken.{Taken}
 use Rattle.dcp_collect.specs.State.{State, made, after_finish}
 use Rattle.dcp_collect.specs.Runs.{Item as Given, Run, up_to}
-use Rattle.drm_timeline.specs.Tracker.{TrackerState, new_tracker}
+use Rattle.drm_switches.specs.Tracker.{TrackerState, new_tracker}
 use Rattle.mod_feed.specs.Items.{Item, Frame, Missing, Bad}
 use Rattle.mod_feed.specs.Feeding.{FeedStep, Feeds}
 use Rattle.drm_show.specs.declared.report.EndWord.{EndWord}

@@ -16,7 +16,7 @@ use Rattle.dcp_collect.specs.Reading.{Read, Unread, Brings, IsRead}
 use Rattle.dcp_collect.specs.State.{State, answer, answer_at, answer_among, answer_by, is_late, number_of}
 use Rattle.dcp_collect.specs.Runs.{Takes}
 use Rattle.collect_laws.proofs.Stays.{take_next, take_end}
-use Rattle.drm_timeline.specs.Tracker.{TrackerState}
+use Rattle.drm_switches.specs.Tracker.{TrackerState}
 use Rattle.drm_show.specs.FaultWords.{IsTold}
 use Rattle.mod_receiver.specs.Reports.{is_refused}
 use Rattle.mod_receiver.specs.Tallies.{Tallied, noted}

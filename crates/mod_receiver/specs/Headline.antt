@@ -5,7 +5,7 @@ use Rattle.drm_schedule.specs.Valid.{IsSchedule}
 use Rattle.drm_links.specs.Told.{WhileTold}
 use Rattle.drm_links.specs.Link.{Answer, Traffic}
 use Rattle.drm_links.specs.Sink.{Output, Outputs}
-use Rattle.drm_timeline.specs.declared.tracker.Before.TheVariants.{Switch, Resumed}
+use Rattle.drm_switches.specs.declared.tracker.Before.TheVariants.{Switch, Resumed}
 use Rattle.drm_timeline.specs.Starts.{later_starts}
 use Rattle.mod_feed.specs.Feeding.{FeedStep, told_before}
 use Rattle.mod_delivery.specs.Sent.{IsFollowed, IsInTime}

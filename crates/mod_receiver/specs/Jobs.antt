@@ -3,7 +3,7 @@ use Rattle.std.specs.Prelude.{ℕ, ◌≡◌, ◌≤◌, ◌<◌, ◌+◌, IsTru
 use Rattle.drm_links.specs.Told.{HasCause}
 use Rattle.drm_links.specs.Link.{Traffic}
 use Rattle.dcp_collect.specs.State.{made}
-use Rattle.drm_timeline.specs.Tracker.{new_tracker}
+use Rattle.drm_switches.specs.Tracker.{new_tracker}
 use Rattle.mod_receiver.specs.declared.rules.Rules.{Rules}
 use Rattle.mod_receiver.specs.Texts.{text_tells}
 use Rattle.mod_receiver.specs.Received.{IsReasonable, EndsAs, rules_of}

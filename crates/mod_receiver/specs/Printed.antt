@@ -7,7 +7,7 @@ use Rattle.dcp_collect.specs.declared.taken.Taken.{Taken}
 use Rattle.dcp_collect.specs.State.{State}
 use Rattle.dcp_collect.specs.Runs.{Item, Takes, Gives, up_to}
 use Rattle.collect_laws.specs.Laws.{IsFit}
-use Rattle.drm_timeline.specs.Tracker.{TrackerState, new_tracker}
+use Rattle.drm_switches.specs.Tracker.{TrackerState, new_tracker}
 use Rattle.mod_feed.specs.Feeding.{FeedStep, Feeds}
 use Rattle.drm_show.specs.declared.report.EndWord.{EndWord}
 use Rattle.drm_show.specs.declared.report.Sums.{Sums}

@@ -5,7 +5,7 @@ use Rattle.drm_links.specs.Sink.{Output, Outputs, IsFront}
 use Rattle.dcp_collect.specs.declared.taken.Taken.{Taken}
 use Rattle.dcp_collect.specs.State.{State, ready, after_item, after_finish}
 use Rattle.dcp_collect.specs.Runs.{Item, IsItem, Takes, Run, up_to}
-use Rattle.drm_timeline.specs.Tracker.{TrackerState, new_tracker}
+use Rattle.drm_switches.specs.Tracker.{TrackerState, new_tracker}
 use Rattle.mod_feed.specs.Feeding.{FeedStep, Feeds}
 use Rattle.drm_show.specs.declared.report.EndWord.{EndWord}
 use Rattle.drm_show.specs.Report.{feed_line}

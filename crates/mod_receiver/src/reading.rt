@@ -2,7 +2,7 @@
 
 ghost use Rattle.std.specs.Prelude.{◌≡◌, ◌≤◌, ◌<◌, ◌^◌, length, false, None, Err, IfOk, IfErr, OnOk, OnErr, IsErr, IfSome};
 ghost use Rattle.dcp_collect.specs.State.{made, ready as is_ready};
-ghost use Rattle.drm_timeline.specs.Tracker.{new_tracker};
+ghost use Rattle.drm_switches.specs.Tracker.{new_tracker};
 ghost use Rattle.drm_links.specs.Told.{HasCause};
 ghost use Rattle.mod_receiver.specs.Received.{rules_of, IsReasonable, Reported, Broken, Stopped};
 ghost use Rattle.collect_laws.specs.Laws.{IsFit};

@@ -3,14 +3,11 @@
 
 ghost use Rattle.std.specs.Prelude.{◌≡◌, ◌+◌, ◌≤◌, ◌<◌, ◌^◌, ◌↔◌, IsTrue, OnOk, OnErr, IsErr, IfOk, IfSome, length};
 ghost use Rattle.std.specs.List.{AllByRecursion};
-ghost use Rattle.drm_bits.specs.Description.{IsDescription, FitsWidths};
-ghost use Rattle.drm_mux.specs.Frame.{EndBy, HaveTheirLengths};
-ghost use Rattle.dcp_tag.specs.Tag.{bytes_for};
 ghost use Rattle.drm_links.specs.Told.{HasCause};
 ghost use Rattle.drm_links.specs.Sink.{Outputs, IsFront};
 ghost use Rattle.drm_show.specs.FaultWords.{IsTold};
 ghost use Rattle.drm_show.specs.Report.{end_line, step_text};
-ghost use Rattle.mod_feed.specs.Items.{item_of, IfFrame, IfBad, IsOfReading};
+ghost use Rattle.mod_feed.specs.Items.{item_of, IsRead};
 ghost use Rattle.mod_feed.specs.Feeding.{step_of};
 ghost use Rattle.mod_receiver.specs.Reports.{refused_text};
 ghost use Rattle.mod_receiver.specs.Tallies.{new_tally, noted, counted};
@@ -119,12 +116,7 @@ impl Tally {
     /// Writes the lines of a step. They are gathered first, so that they go out in one call; what doesn't fit there goes out
     /// piece by piece.
     pub fn write_item<O: Sink>(&mut self, out: &mut O, step: &Step<'_>) -> Result<(), WriteFault>
-        requires inside { IfFrame step.now.item (λ v. EndBy (length v.payload.now) v.streams) }
-        requires block_inside { IfFrame step.now.item (λ v. IfSome v.sdc (λ s. s.at + bytes_for s.bits ≤ length v.payload.now)) }
-        requires lengths { IfFrame step.now.item (λ v. HaveTheirLengths v.mux v.streams) }
-        requires description { IfFrame step.now.item (λ v. IsDescription v.mux) }
-        requires mux_fits { IfFrame step.now.item (λ v. FitsWidths v.mux) }
-        requires of_reading { IfBad step.now.item IsOfReading }
+        requires { IsRead step.now.item }
         ensures same { self.new ≡ self.old }
         ensures whole { OnOk result (Outputs (O.tells out.old) (O.tells out.new) (λ text. text ≡ step_text (step_of step.now))) }
         ensures front { OnErr result (Outputs (O.tells out.old) (O.tells out.new) (IsFront (step_text (step_of step.now)))) }

@@ -10,6 +10,7 @@ use Rattle.drm_schedule.specs.declared.carry.Carry.{Carry}
 use Rattle.drm_schedule.specs.declared.carry.Carry.TheVariants.{Plain, Pft}
 use Rattle.drm_fac.specs.declared.mode.Mode.{Mode}
 use Rattle.drm_fac.specs.declared.mode.Mode.TheVariants.{A, B, C, D}
+use Rattle.drm_fac.specs.Mode.{mode_letter}
 use Rattle.drm_schedule.specs.declared.stream.Content.{Content}
 use Rattle.drm_schedule.specs.declared.stream.Content.TheVariants.{Fill, File}
 use Rattle.drm_schedule.specs.Ranges.{CarryInLines, ContentInLines, AppInLines, BodyInLines, IsLabel}
@@ -23,7 +24,7 @@ use Rattle.line_forms.specs.declared.first_word.Keyword.TheVariants as keywords
 use Rattle.line_forms.specs.declared.line.Line.{Line}
 use Rattle.line_forms.specs.declared.line.Line.TheVariants as lines
 use Rattle.line_forms.specs.Keywords.{keyword_text}
-use Rattle.line_forms.specs.Said.{keyword_said, carry_words, mode_word, depth_word, kind_word, content_words, app_words, config_words, bytes_word, parts_said, canonical, line_text, words_said, LineInLines}
+use Rattle.line_forms.specs.Said.{keyword_said, carry_words, depth_word, kind_word, content_words, app_words, config_words, bytes_word, parts_said, canonical, line_text, words_said, LineInLines}
 use Rattle.plan_laws.proofs.EntitiesAgain.{fit_all}
 use Rattle.plan_laws.proofs.SaidAgain.{raw_small, said_again}
 use Rattle.plan_laws.proofs.Tokens.{IsToken, cut_again, joined_line, lacks_from, keyword_token, number_token, bit_token, hex_token, hex6_token, hex4_token, optional_token, bytes_token, name_token, channels_token}
@@ -44,7 +45,7 @@ carry_tokens : (carry : Carry) → CarryInLines carry → AllByRecursion IsToken
 carry_tokens Plain fits = (record { word = record { some = refl; whole = refl }; line = refl }, tt)
 carry_tokens (Pft m mtu) fits = (record { word = record { some = refl; whole = refl }; line = refl }, (number_token m (omega (arith, fits.0)), (number_token mtu (omega (arith, fits.2)), tt)))
 
-mode_token : (mode : Mode) → IsToken (mode_word mode)
+mode_token : (mode : Mode) → IsToken (mode_letter mode)
 mode_token A = record { word = record { some = refl; whole = refl }; line = refl }
 mode_token B = record { word = record { some = refl; whole = refl }; line = refl }
 mode_token C = record { word = record { some = refl; whole = refl }; line = refl }

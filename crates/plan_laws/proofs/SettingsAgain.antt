@@ -11,6 +11,7 @@ use Rattle.drm_schedule.specs.declared.carry.Carry.TheVariants.{Plain, Pft}
 use Rattle.drm_schedule.specs.declared.config.Clock.{Clock}
 use Rattle.drm_fac.specs.declared.mode.Mode.{Mode}
 use Rattle.drm_fac.specs.declared.mode.Mode.TheVariants.{A, B, C, D}
+use Rattle.drm_fac.specs.Mode.{mode_letter}
 use Rattle.drm_schedule.specs.declared.stream.Content.{Content}
 use Rattle.drm_schedule.specs.declared.stream.Content.TheVariants.{Fill, File}
 use Rattle.drm_schedule.specs.declared.stream.Stream.{Stream}
@@ -20,7 +21,7 @@ use Rattle.line_forms.specs.declared.line.Line.{Line}
 use Rattle.line_forms.specs.declared.line.Line.TheVariants as lines
 use Rattle.line_forms.specs.Shape.{Part, number, value, bit, flag, hex, hex_value, byte_value, name, some_of, reading}
 use Rattle.line_forms.specs.Settings.{version_line, carry_line, first_line, length_line, config_line, mode_line, occupancy_line, depth_line, msc_line, sdc_line, protection_line, room_line, service_line, stream_line, clock_line}
-use Rattle.line_forms.specs.Said.{carry_words, mode_word, depth_word, bit_word, kind_word, service_words, content_words, hex6, detached}
+use Rattle.line_forms.specs.Said.{carry_words, depth_word, bit_word, kind_word, service_words, content_words, hex6, detached}
 use Rattle.plan_laws.proofs.Parts.{Good, read_as, number_good, bit_good, flag_again, hex6_good, hex6_value, byte_good, byte_again}
 
 pub version_again : reading (version_line (codes "1" ∷ [])) ≡ Ok lines.Version
@@ -55,7 +56,7 @@ config_again s c fits_s fits_c =
     (number_good 0 999999 s (omega arith) (omega arith) (omega arith), (number_good 0 7 c (omega arith) (omega arith) (omega arith), tt))
     (rw (decimal_value s (omega arith), decimal_value c (omega arith)) refl)
 
-pub mode_again : (mode : Mode) → reading (mode_line (mode_word mode ∷ [])) ≡ Ok (lines.Mode mode)
+pub mode_again : (mode : Mode) → reading (mode_line (mode_letter mode ∷ [])) ≡ Ok (lines.Mode mode)
 unfolding mode_line
 mode_again A = refl
 mode_again B = refl

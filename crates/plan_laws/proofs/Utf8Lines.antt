@@ -20,6 +20,7 @@ use Rattle.drm_schedule.specs.declared.carry.Carry.{Carry}
 use Rattle.drm_schedule.specs.declared.carry.Carry.TheVariants.{Plain, Pft}
 use Rattle.drm_fac.specs.declared.mode.Mode.{Mode}
 use Rattle.drm_fac.specs.declared.mode.Mode.TheVariants.{A, B, C, D}
+use Rattle.drm_fac.specs.Mode.{mode_letter}
 use Rattle.drm_schedule.specs.declared.stream.Content.{Content}
 use Rattle.drm_schedule.specs.declared.stream.Content.TheVariants.{Fill, File}
 use Rattle.drm_schedule.specs.Ranges.{CarryInLines, ContentInLines, AppInLines, BodyInLines}
@@ -28,7 +29,7 @@ use Rattle.line_forms.specs.declared.first_word.Keyword.TheVariants as keywords
 use Rattle.line_forms.specs.declared.line.Line.{Line}
 use Rattle.line_forms.specs.declared.line.Line.TheVariants as lines
 use Rattle.line_forms.specs.Keywords.{keyword_text}
-use Rattle.line_forms.specs.Said.{keyword_said, carry_words, mode_word, depth_word, kind_word, content_words, app_words, config_words, bit_word, optional_byte_word, bytes_word, channel_word, channels_word, parts_said, canonical, LineInLines}
+use Rattle.line_forms.specs.Said.{keyword_said, carry_words, depth_word, kind_word, content_words, app_words, config_words, bit_word, optional_byte_word, bytes_word, channel_word, channels_word, parts_said, canonical, LineInLines}
 use Rattle.plan_laws.proofs.SaidAgain.{raw_small}
 
 abbrev is_low : List ℕ → Bool
@@ -93,7 +94,7 @@ carry : (carry : Carry) → CarryInLines carry → AllByRecursion IsUtf8 (carry_
 carry Plain fits = (low _ refl, tt)
 carry (Pft m mtu) fits = (low _ refl, (number m (omega (arith, fits.0)), (number mtu (omega (arith, fits.2)), tt)))
 
-mode : (mode : Mode) → IsUtf8 (mode_word mode)
+mode : (mode : Mode) → IsUtf8 (mode_letter mode)
 mode A = low _ refl
 mode B = low _ refl
 mode C = low _ refl

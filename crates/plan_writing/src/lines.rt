@@ -3,12 +3,12 @@
 ghost use Rattle.std.specs.Prelude.{◌≡◌, ◌++◌, [], OnOk, IfOk, string_bytes};
 ghost use Rattle.drm_schedule.specs.declared.carry.Carry.TheVariants.{Pft};
 ghost use Rattle.drm_schedule.specs.declared.stream.Content.TheVariants.{Fill, File};
-ghost use Rattle.line_forms.specs.Said.{line_text, IsSetting, depth_word, kind_word, mode_word};
+ghost use Rattle.line_forms.specs.Said.{line_text, IsSetting, depth_word, kind_word};
 
 use crate::entities::write_entity;
 use crate::words_out::{bit, number, six_digits, write_words};
 use drm_fac::Service;
-use drm_schedule::{Carry, Clock, Content, Mode, Stream};
+use drm_schedule::{Carry, Clock, Content, Stream};
 use line_forms::Line;
 use std::alloc::{AllocError, Global};
 
@@ -22,17 +22,6 @@ fn kind(is_data: bool) -> &'static str
     ensures { result.now ≡ kind_word is_data }
 {
     if is_data { "data" } else { "audio" }
-}
-
-fn mode_letter(mode: Mode) -> &'static str
-    ensures { result.now ≡ mode_word mode }
-{
-    match mode {
-        Mode::A => "A",
-        Mode::B => "B",
-        Mode::C => "C",
-        Mode::D => "D",
-    }
 }
 
 fn pft_line(alloc: Global, m: u8, mtu: u16) -> Result<String, AllocError>
@@ -101,7 +90,7 @@ fn setting_line(alloc: Global, line: &Line) -> Result<String, AllocError>
         Line::First { seq, dlfc } => format!(in alloc; "first {seq} {dlfc}\n")?,
         Line::Length(n) => format!(in alloc; "length {n}\n")?,
         Line::Config { start, countdown } => format!(in alloc; "config {start} {countdown}\n")?,
-        Line::Mode(mode) => format!(in alloc; "mode {}\n", mode_letter(*mode))?,
+        Line::Mode(mode) => format!(in alloc; "mode {}\n", mode.letter())?,
         Line::Occupancy(n) => format!(in alloc; "occupancy {n}\n")?,
         Line::Depth { short } => format!(in alloc; "depth {}\n", depth(*short))?,
         Line::Msc(n) => format!(in alloc; "msc {n}\n")?,

@@ -5,11 +5,11 @@ use Rattle.drm_schedule.specs.Ranges.{EntityInLines}
 use Rattle.drm_schedule.proofs.Fitting.{all_fit, total_is_small}
 use Rattle.drm_schedule.proofs.sizes.told_len.Goals as goal
 
-in_lines : (c : goal.After-as_slice) → All EntityInLines c.as_slice.result.now
-in_lines c = let P : List Entity → Type 0 = λ es. All EntityInLines es in subst P (sym c.as_slice.ensures) c.requires.each_entity
+in_lines : (c : goal.After-entities_in_force) → All EntityInLines c.entities_in_force.result.now
+in_lines c = let P : List Entity → Type 0 = λ es. All EntityInLines es in subst P (sym c.entities_in_force.ensures) c.requires.each_entity
 
-few : (c : goal.After-as_slice) → length c.as_slice.result.now ≤ 64
-few c = rw c.as_slice.ensures c.requires.few_entities
+few : (c : goal.After-entities_in_force) → length c.entities_in_force.result.now ≤ 64
+few c = rw c.entities_in_force.ensures c.requires.few_entities
 
 pub total_size-requires-clause-fit : goal.total_size-requires-clause-fit
 total_size-requires-clause-fit c = all_fit _ (in_lines c)
@@ -19,8 +19,8 @@ total_size-requires-clause-small c = omega (arith, few c, total_is_small _ (in_l
 
 small : (c : goal.After-total_size) → c.total_size.result ≤ 129 * 64
 small c =
-    let fact : total_size c.as_slice.result.now ≤ 129 * length c.as_slice.result.now = total_is_small _ (let P : List Entity → Type 0 = λ es. All EntityInLines es in subst P (sym c.as_slice.ensures) c.requires.each_entity) in
-    let size : length c.as_slice.result.now ≤ 64 = rw c.as_slice.ensures c.requires.few_entities in
+    let fact : total_size c.entities_in_force.result.now ≤ 129 * length c.entities_in_force.result.now = total_is_small _ (let P : List Entity → Type 0 = λ es. All EntityInLines es in subst P (sym c.entities_in_force.ensures) c.requires.each_entity) in
+    let size : length c.entities_in_force.result.now ≤ 64 = rw c.entities_in_force.ensures c.requires.few_entities in
     omega arith
 
 pub overflow_add-result-2 : goal.overflow_add-result-2

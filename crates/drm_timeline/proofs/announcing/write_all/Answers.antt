@@ -11,7 +11,7 @@ use Rattle.drm_timeline.proofs.announcing.write_all.Goals as goal
 pub loop-left-init : goal.loop-left-init
 loop-left-init c =
     subst (λ (left : List Entity). Packs c.args.frame c.args.free.now c.args.from (map as_next (repeated_of c.args.repeated c.args.config.now)) c.args.from (map as_next (filter (λ (e : Entity). is_of c.args.repeated e.body) left)) c.args.sink.now c.args.sink.now × All EntityInLines left)
-    (sym c.as_slice-left.ensures)
+    (sym c.first_entities-left.ensures)
     (packs_start c.args.frame c.args.free.now c.args.from (repeated_of c.args.repeated c.args.config.now) c.args.sink.now c.requires.packs, c.requires.each)
 
 pub write_repeated-spot-requires-clause-packs : goal.write_repeated-spot-requires-clause-packs

@@ -2,6 +2,7 @@ use Rattle.std.proofs.Common.{sym, subst, All, false}
 use Rattle.drm_bits.specs.declared.description.MuxDesc.{MuxDesc}
 use Rattle.drm_sdc.specs.declared.body.Body.TheVariants.{Mux}
 use Rattle.drm_sdc.specs.Entity.{EntityFits}
+use Rattle.drm_schedule.specs.InForce.{entities_in_force}
 use Rattle.drm_timeline.specs.Blocks.{current}
 use Rattle.drm_timeline.proofs.ToldLemmas.{description_fits, lines_fit, wrote_told}
 use Rattle.drm_timeline.proofs.block.write_told.Goals as goal
@@ -11,9 +12,9 @@ write_entity-requires-clause-fits c =
     subst (λ (d : MuxDesc). EntityFits (current (Mux d))) (sym c.description-desc.ensures) (description_fits c.args.config.now false c.requires.fits)
 
 pub write_entities-requires-clause-fit : goal.write_entities-requires-clause-fit
-write_entities-requires-clause-fit c = subst (All EntityFits) (sym c.as_slice.ensures) (lines_fit c.args.config.now.entities c.requires.fits.each_entity)
+write_entities-requires-clause-fit c = subst (All EntityFits) (sym c.entities_in_force.ensures) (lines_fit (entities_in_force c.args.config.now c.args.sf) c.requires.fits.each_entity)
 
 pub returns : goal.returns
 returns c =
-    wrote_told c.args.config.now c.args.sf c.description-desc.result c.as_slice.result.now c.args.sink.now c.write_entity.new.sink c.write_entities.new.sink c.write_clock.new.sink
-    c.requires.fits c.description-desc.ensures c.as_slice.ensures c.write_entity.ensures.wrote c.write_entity.ensures.left c.write_entities.ensures.wrote c.write_entities.ensures.left c.write_clock.ensures
+    wrote_told c.args.config.now c.args.sf c.description-desc.result c.entities_in_force.result.now c.args.sink.now c.write_entity.new.sink c.write_entities.new.sink c.write_clock.new.sink
+    c.requires.fits c.description-desc.ensures c.entities_in_force.ensures c.write_entity.ensures.wrote c.write_entity.ensures.left c.write_entities.ensures.wrote c.write_entities.ensures.left c.write_clock.ensures

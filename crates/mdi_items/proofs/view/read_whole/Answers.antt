@@ -68,11 +68,12 @@ returns-clause-read c =
       streams = c.spans.ensures;
     })
 
-pub returns-clause-inside : goal.returns-clause-inside
-returns-clause-inside c = rw c.spans.ensures (spans_inside _ c.in_ok-known.known c.in_ok-known.ensures.inside)
-
-pub returns-clause-block_inside : goal.returns-clause-block_inside
-returns-clause-block_inside c = span_inside c.args.payload.now c.in_ok-known.known _ c.in_ok-sdc.sdc c.in_ok-known.ensures.inside c.in_ok-sdc.ensures.value
-
-pub returns-clause-lengths : goal.returns-clause-lengths
-returns-clause-lengths c = rw c.spans.ensures (right_lengths c.in_ok-known.known c.in_ok-mux.mux c.in_ok-mux.ensures.value.2.description c.in_ok-check_streams.ensures.right)
+pub returns-clause-whole : goal.returns-clause-whole
+returns-clause-whole c = record {
+  fac_fits = c.in_ok-fac_bytes.ensures.fits;
+  description = c.in_ok-mux.ensures.value.2.description;
+  mux_fits = c.in_ok-mux.ensures.fits;
+  inside = rw c.spans.ensures (spans_inside _ c.in_ok-known.known c.in_ok-known.ensures.inside);
+  block_inside = span_inside c.args.payload.now c.in_ok-known.known _ c.in_ok-sdc.sdc c.in_ok-known.ensures.inside c.in_ok-sdc.ensures.value;
+  lengths = rw c.spans.ensures (right_lengths c.in_ok-known.known c.in_ok-mux.mux c.in_ok-mux.ensures.value.2.description c.in_ok-check_streams.ensures.right);
+}

@@ -1,11 +1,10 @@
 //! What a receiver sees of a logical frame.
 
 ghost use Rattle.std.specs.Prelude.{◌≡◌, ◌+◌, ◌*◌, ◌<◌, ◌^◌};
-ghost use Rattle.drm_timeline.specs.Seen.{signature_of, named_by, IsInRange};
+ghost use Rattle.drm_switches.specs.Seen.{signature_of, named_by, IsInRange};
 
 use drm_bits::MuxDesc;
-use drm_fac::Channel;
-use drm_schedule::Mode;
+use drm_fac::{Channel, Mode};
 
 /// What stays the same from a reconfiguration of the multiplex to the next one (ES 201 980): of the channel parameters
 /// all but the identity, the reconfiguration index and the last two bits, which are 0 here.

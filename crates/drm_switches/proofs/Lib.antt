@@ -1,0 +1,4 @@
+pub mod SignatureLemmas
+pub mod SwitchesLemmas
+pub mod TrackerLemmas
+pub mod AnnouncedLemmas

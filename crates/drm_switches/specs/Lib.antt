@@ -1,0 +1,4 @@
+pub mod Seen
+pub mod Switches
+pub mod Tracker
+pub mod Announced
