@@ -3,8 +3,8 @@
 ghost use Rattle.std.specs.Prelude.{ℕ, ◌≡◌, ◌+◌, ◌-◌, ◌*◌, ◌/◌, ◌%◌, ◌^◌, ◌==◌, ◌<◌, ◌≤◌, ◌++◌, [], length, take, option_map, if◌then◌else◌, Option, Some};
 ghost use Rattle.drm_fac.specs.declared.fac.Fac.{Fac};
 ghost use Rattle.drm_schedule.specs.Ranges.{ConfigInLines};
-ghost use Rattle.drm_schedule.specs.Sizes as sizes;
 ghost use Rattle.drm_timeline.specs.Standing.{config_of};
+ghost use Rattle.drm_timeline.specs.Numbers.{frame_count, packet_size};
 ghost use Rattle.drm_timeline.specs.FastAccess.{fac_of};
 ghost use Rattle.drm_timeline.specs.Description.{description_of};
 ghost use Rattle.mdi_items.specs.Names.{sdc_, str};
@@ -12,17 +12,16 @@ ghost use Rattle.mdi_items.specs.Written.{written, behind, next, lender, spelled
 ghost use Rattle.mdi_items.specs.RoundTrip.{Parts, BlockBytes, block_pieces, IsWrittenOf};
 ghost use Rattle.drm_server.specs.Frames.{IsBlockAt, HasBlockWhere, IsFrameAt};
 
-use crate::configuration::config_of_frame;
 use crate::stream::write_streams;
 use drm_schedule::{Config, Schedule};
-use drm_timeline::{block_into, description, fac_at, packet_len};
+use drm_timeline::{block_into, config_of_frame, description, fac_at, packet_len};
 use mdi_items::MdiWriter;
 
 /// Writes the payload of the packet of frame `t`, and gives its length.
 pub fn write_payload(plan: &Schedule, t: u32, into: &mut [u8; 8180]) -> usize
-    requires { t < 3 * plan.now.length }
+    requires { t < frame_count plan.now }
     ensures written { (parts : Parts) × IsFrameAt plan.now t parts × IsWrittenOf parts (take result into.new) }
-    ensures len { Some (result + 12) ≡ option_map (λ c. sizes.packet_len c (t % 3 == 0)) (config_of plan.now (t / 3)) }
+    ensures len { result + 12 ≡ packet_size plan.now t }
     ensures small { result ≤ 8180 }
     ensures long { length into.new ≡ 8180 }
 {
@@ -63,7 +62,7 @@ fn write_head(writer: &mut MdiWriter<'_>, plan: &Schedule, t: u32, config: &Conf
 
 // Writes the block, which the first frame of a super frame has.
 fn write_block_where(writer: &mut MdiWriter<'_>, plan: &Schedule, t: u32, config: &Config)
-    requires frame { t < 3 * plan.now.length }
+    requires frame { t < frame_count plan.now }
     requires config { config_of plan.now (t / 3) ≡ Some config.now }
     requires fits { ConfigInLines config.now }
     requires order { next writer.old ≡ sdc_ }

@@ -3,6 +3,7 @@
 ghost use Rattle.std.specs.Prelude.{◌≡◌, ◌+◌, ◌≤◌, ◌<◌, ◌++◌, ℕ, length, take, IfOk, OnOk, OnErr, IsErr};
 ghost use Rattle.drm_links.specs.Told.{HasCause};
 ghost use Rattle.drm_links.specs.Sink.{Outputs, IsFront};
+ghost use Rattle.dcp_pft.specs.Limits.{most_packet};
 ghost use Rattle.drm_server.specs.Datagrams.{HasDatagrams};
 ghost use Rattle.drm_server.specs.Capture.{IsCapture, IsFrontOfCapture, IsCount};
 ghost use Rattle.drm_server.specs.Gathering.{GathersDatagram, IsFrontWithDatagram, GathersFrame, IsFrontOfFrame};
@@ -12,9 +13,6 @@ use drm_links::{Sink, WriteFault, write_all};
 
 // Room in which datagrams wait for those behind them.
 const ROOM: usize = 32_768;
-
-// The most bytes of a datagram that waits: the packet of a frame, whole.
-const MOST: usize = 8192;
 
 /// Writes the datagrams of all frames, in order from the first one on, and gives their number.
 pub fn serve_sink<O: Sink>(server: &mut Server<'_>, out: &mut O) -> Result<u64, WriteFault>
@@ -43,12 +41,12 @@ fn gather_frame<O: Sink>(
     waiting: usize,
     out: &mut O,
 ) -> Result<usize, WriteFault>
-    requires room { waiting + 8192 ≤ length room.old }
+    requires room { waiting + most_packet server.now.plan.carry ≤ length room.old }
     ensures gathered { IfOk result (λ n. GathersFrame server.now.plan server.now.frame
         (take waiting room.old) (take n room.new) (O.tells out.old) (O.tells out.new)) }
     ensures front { OnErr result (Outputs (O.tells out.old) (O.tells out.new)
         (IsFrontOfFrame server.now.plan server.now.frame (take waiting room.old))) }
-    ensures left { IfOk result (λ n. n + 8192 ≤ length room.new) }
+    ensures left { IfOk result (λ n. n + most_packet server.now.plan.carry ≤ length room.new) }
     ensures long { length room.new ≡ length room.old }
     ensures cause { HasCause (O.faults out.old) (O.faults out.new) (IsErr result) }
 {
@@ -68,30 +66,36 @@ fn gather<O: Sink>(
     out: &mut O,
 ) -> Result<usize, WriteFault>
     requires within { (count : ℕ) × HasDatagrams server.now.plan server.now.frame count × (i < count) }
-    requires room { waiting + 8192 ≤ length room.old }
+    requires room { waiting + most_packet server.now.plan.carry ≤ length room.old }
     ensures gathered { IfOk result (λ n. GathersDatagram server.now.plan server.now.frame i
         (take waiting room.old) (take n room.new) (O.tells out.old) (O.tells out.new)) }
     ensures front { OnErr result (Outputs (O.tells out.old) (O.tells out.new)
         (IsFrontWithDatagram server.now.plan server.now.frame i (take waiting room.old))) }
-    ensures left { IfOk result (λ n. n + 8192 ≤ length room.new) }
+    ensures left { IfOk result (λ n. n + most_packet server.now.plan.carry ≤ length room.new) }
     ensures long { length room.new ≡ length room.old }
     ensures cause { HasCause (O.faults out.old) (O.faults out.new) (IsErr result) }
 {
     let waiting = waiting + server.write_datagram(i, &mut room[waiting..]);
-    pass_on(room, waiting, out)
+    pass_on(room, waiting, server.most(), out)
 }
 
-// Writes what waits where the room may be too small for the next datagram, and gives how many bytes wait then.
-fn pass_on<O: Sink>(room: &[u8], waiting: usize, out: &mut O) -> Result<usize, WriteFault>
+// Writes what waits where the room may be too small for the next datagram, which has at most so many bytes, and gives how
+// many wait then.
+fn pass_on<O: Sink>(
+    room: &[u8],
+    waiting: usize,
+    most: usize,
+    out: &mut O,
+) -> Result<usize, WriteFault>
     requires within { waiting ≤ length room.now }
-    requires room { 8192 ≤ length room.now }
+    requires room { most ≤ length room.now }
     ensures whole { IfOk result (λ n. Outputs (O.tells out.old) (O.tells out.new)
         (λ text. take waiting room.now ≡ text ++ take n room.now)) }
     ensures front { OnErr result (Outputs (O.tells out.old) (O.tells out.new) (IsFront (take waiting room.now))) }
-    ensures left { IfOk result (λ n. n + 8192 ≤ length room.now) }
+    ensures left { IfOk result (λ n. n + most ≤ length room.now) }
     ensures cause { HasCause (O.faults out.old) (O.faults out.new) (IsErr result) }
 {
-    if room.len() - waiting >= MOST {
+    if room.len() - waiting >= most {
         return Ok(waiting);
     }
     write_all(out, &room[..waiting])?;

@@ -2,27 +2,21 @@
 
 ghost use Rattle.std.specs.Prelude.{ℕ, ◌≡◌, ◌*◌, ◌<◌, ◌≤◌, length, take, IfOk};
 ghost use Rattle.std.specs.Borrow.{sem};
+ghost use Rattle.dcp_pft.specs.Limits.{most_packet, most_fragments};
+ghost use Rattle.drm_timeline.specs.Numbers as numbers;
+ghost use Rattle.drm_timeline.specs.Numbers.{packet_size};
 ghost use Rattle.drm_server.specs.Frames.{IsPacketAt};
 ghost use Rattle.drm_server.specs.Datagrams.{HasDatagrams, IsDatagramAt};
 ghost use Rattle.drm_server.specs.Lending.{Stays};
-ghost use Rattle.drm_server.specs.Serving.{IsPacketLength};
 
-use crate::cut::{cut_for, write_cut, write_parity};
-use crate::packet::{sequence_number, write_packet};
-use dcp_pft::{Shape, all_taken};
+use crate::cut::{write_cut, write_parity};
+use crate::packet::write_packet;
+use dcp_pft::{MOST_FRAGMENT, MOST_PARITY, Shape, all_taken, cut_for, datagrams, most_packet};
 use drm_bits::NoMemory;
 use drm_schedule::Schedule;
+use drm_timeline::{frame_count, sequence_number};
 use std::alloc::Global;
 use std::marker::Model;
-
-// The most bytes that a packet of a valid schedule has.
-const MOST: usize = 8192;
-
-// The parity of the 40 chunks of such a packet.
-const MOST_PARITY: usize = 40 * 48;
-
-// The most bytes of a fragment.
-const MOST_FRAGMENT: usize = 1500;
 
 /// Gives the packets of a schedule and the datagrams that carry them, one frame at a time. Frames are counted from 0 at the
 /// schedule's start.
@@ -42,25 +36,28 @@ pub struct Server<'a> {
 
 impl<'a> Model for Server<'a> {
     ghost use Rattle.std.specs.Prelude.{◌≡◌, ◌*◌, ◌<◌, ◌≤◌, length, take, IfSome};
+    ghost use Rattle.dcp_pft.specs.Limits.{most_packet, most_parity, most_fragment};
     ghost use Rattle.dcp_pft.specs.Cutting.{IsShapeOf};
+    ghost use Rattle.dcp_pft.specs.Carrying.{cut_of};
+    ghost use Rattle.drm_timeline.specs.Numbers.{frame_count, packet_size};
     ghost use Rattle.drm_server.specs.Frames.{IsPacketAt};
-    ghost use Rattle.drm_server.specs.Serving.{Serving, IsPacketLength, IsCutOf, HoldsParity};
+    ghost use Rattle.drm_server.specs.Serving.{Serving, HoldsParity};
 
     ghost Value = { Serving };
 
     ghost view = { λ s. record { plan = s.plan.now; frame = s.frame } };
 
-    ghost invariant = { λ s. (s.frame < 3 * s.plan.now.length)
-        × (length s.buffer.items ≡ 8192)
-        × (s.len ≤ 8192)
+    ghost invariant = { λ s. (s.frame < frame_count s.plan.now)
+        × (length s.buffer.items ≡ most_packet s.plan.now.carry)
+        × (s.len ≤ most_packet s.plan.now.carry)
         × (1 ≤ s.len)
         × IsPacketAt s.plan.now s.frame (take s.len s.buffer.items)
-        × IsPacketLength s.plan.now s.frame s.len
-        × IsCutOf s.plan.now.carry s.len s.cut
+        × (s.len ≡ packet_size s.plan.now s.frame)
+        × (s.cut ≡ cut_of s.plan.now.carry s.len)
         × IfSome s.cut (IsShapeOf s.len)
-        × (length s.parity.items ≡ 1920)
+        × (length s.parity.items ≡ most_parity)
         × HoldsParity s.cut (take s.len s.buffer.items) s.parity.items
-        × (length s.fragment.items ≡ 1500) };
+        × (length s.fragment.items ≡ most_fragment) };
 }
 
 impl<'a> Server<'a> {
@@ -69,7 +66,7 @@ impl<'a> Server<'a> {
         ensures { IfOk result (λ server. server ≡ record { plan = plan.now; frame = 0 }) }
     {
         plan.always_valid();
-        let mut buffer = zeros(alloc, MOST)?;
+        let mut buffer = zeros(alloc, most_packet(plan.carry()))?;
         let mut parity = zeros(alloc, MOST_PARITY)?;
         let fragment = zeros(alloc, MOST_FRAGMENT)?;
         let len = write_packet(plan, 0, &mut buffer);
@@ -88,12 +85,18 @@ impl<'a> Server<'a> {
 
     /// How many frames there are.
     pub fn frames(&self) -> u32
-        ensures frames { result ≡ 3 * self.now.plan.length }
+        ensures frames { result ≡ numbers.frame_count self.now.plan }
         ensures some { 1 ≤ result }
         ensures few { result ≤ 3000000 }
     {
-        self.plan.always_valid();
-        3 * self.plan.length()
+        frame_count(self.plan)
+    }
+
+    /// The most bytes of a datagram.
+    pub(crate) fn most(&self) -> usize
+        ensures { result ≡ most_packet self.now.plan.carry }
+    {
+        most_packet(self.plan.carry())
     }
 
     /// The frame that is loaded.
@@ -105,7 +108,7 @@ impl<'a> Server<'a> {
 
     /// Loads frame `t`.
     pub fn load(&mut self, t: u32)
-        requires { t < 3 * self.old.plan.length }
+        requires { t < numbers.frame_count self.old.plan }
         ensures { self.new ≡ record self.old { frame = t } }
     {
         self.plan.always_valid();
@@ -118,8 +121,8 @@ impl<'a> Server<'a> {
     /// The packet of the frame that is loaded.
     pub fn packet(&self) -> &[u8]
         ensures packet { IsPacketAt self.now.plan self.now.frame result.now }
-        ensures len { IsPacketLength self.now.plan self.now.frame (length result.now) }
-        ensures small { length result.now ≤ 8192 }
+        ensures len { length result.now ≡ packet_size self.now.plan self.now.frame }
+        ensures small { length result.now ≤ most_packet self.now.plan.carry }
     {
         &self.buffer[..self.len]
     }
@@ -128,21 +131,18 @@ impl<'a> Server<'a> {
     pub fn fragments(&self) -> u32
         ensures datagrams { HasDatagrams self.now.plan self.now.frame result }
         ensures some { 1 ≤ result }
-        ensures few { result ≤ 1024 }
+        ensures few { result ≤ most_fragments }
     {
         all_taken();
-        match self.cut {
-            None => 1,
-            Some(shape) => shape.count,
-        }
+        datagrams(self.cut)
     }
 
     /// Writes the datagram with this number, from 0, of the frame that is loaded to the front, and gives its length.
     pub(crate) fn write_datagram(&self, i: u32, into: &mut [u8]) -> usize
         requires within { (count : ℕ) × HasDatagrams self.now.plan self.now.frame count × (i < count) }
-        requires room { 8192 ≤ length into.old }
+        requires room { most_packet self.now.plan.carry ≤ length into.old }
         ensures datagram { IsDatagramAt self.now.plan self.now.frame i (take result into.new) }
-        ensures small { result ≤ 8192 }
+        ensures small { result ≤ most_packet self.now.plan.carry }
         ensures long { length into.new ≡ length into.old }
     {
         let packet = &self.buffer[..self.len];
@@ -160,7 +160,7 @@ impl<'a> Server<'a> {
         requires within { (count : ℕ) × HasDatagrams self.old.plan self.old.frame count × (i < count) }
         ensures* after { sem 𝓛 (Stays self.entry) }
         ensures datagram { IsDatagramAt self.old.plan self.old.frame i result.now }
-        ensures small { length result.now ≤ 8192 }
+        ensures small { length result.now ≤ most_packet self.old.plan.carry }
     {
         match self.cut {
             None => &self.buffer[..self.len],

@@ -12,3 +12,5 @@ pub mod AnnouncedLemmas
 pub mod StartsLemmas
 pub mod SignatureAtLemmas
 pub mod ScheduleLaws
+pub mod FilesReach
+pub mod PacketSizes

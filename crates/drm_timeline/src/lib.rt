@@ -6,6 +6,7 @@ mod announced;
 mod announcing;
 mod block;
 mod fast_access;
+mod numbers;
 mod schedule_laws;
 mod seen;
 mod standing;
@@ -14,7 +15,8 @@ mod tracker;
 
 pub use announced::{none_is_resumed, switches_at_all_starts, switches_only_at_starts};
 pub use block::block_into;
-pub use fast_access::{fac_at, packet_len};
+pub use fast_access::fac_at;
+pub use numbers::{config_of_frame, frame_count, packet_len, sequence_number};
 pub use schedule_laws::{starts_are_announced, switches_are_at_starts};
 pub use seen::{Seen, Signature};
 pub use standing::{config_at, index_at};

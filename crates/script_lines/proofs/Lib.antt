@@ -8,4 +8,3 @@ pub mod EndLemmas
 pub mod SaidLemmas
 pub mod KeptLemmas
 pub mod CountLemmas
-pub mod SizeLaw

@@ -2,6 +2,7 @@ use Rattle.std.proofs.Common.{◌≡◌, ◌∙◌, ◌+◌, ◌*◌, ℕ, List,
 use Rattle.std.proofs.lemmas.Result.{err_from_is_err_and}
 use Rattle.drm_schedule.specs.declared.plan.Plan.{Plan}
 use Rattle.drm_links.specs.Sink.{Outputs}
+use Rattle.drm_timeline.specs.Numbers.{frame_count}
 use Rattle.drm_server.specs.Serving.{Serving}
 use Rattle.drm_server.specs.Datagrams.{AreOfFrames, HasDatagrams}
 use Rattle.drm_server.specs.Gathering.{GathersFrame, IsFrontOfFrame}
@@ -51,7 +52,7 @@ pub returns-in_err-write_all-clause-front : goal.returns-in_err-write_all-clause
 returns-in_err-write_all-clause-front g c =
     let i = c.loop-t.invariant in
     let plan : Plan = c.args.server.now.plan in
-    let all : c.loop-t.t ≡ 3 * plan.length = omega (arith, c.loop-t-test.false, c.loop-t.auto.t-end, c.frames-t-end.ensures.frames) in
+    let all : c.loop-t.t ≡ frame_count plan = omega (arith, c.loop-t-test.false, c.loop-t.auto.t-end, c.frames-t-end.ensures.frames) in
     let p = err_from_is_err_and c.from_residual-in_err-write_all.result c.from_residual-in_err-write_all.ensures.1 in
     rw p.1 (end_written plan c.loop-t.t i.0 (take c.loop-t.waiting c.loop-t.room) (g.O.Sink.tells c.args.out.now) (g.O.Sink.tells c.loop-t.out) (g.O.Sink.tells c.write_all.new.out)
     (omega (arith, all)) i.1 (i.3 (omega (arith, all, c.frames-t-end.ensures.frames, c.frames-t-end.ensures.some))) i.2 c.in_err-write_all.ensures.front)
@@ -60,7 +61,7 @@ pub returns-clause-whole : goal.returns-clause-whole
 returns-clause-whole g c =
     let i = c.loop-t.invariant in
     let plan : Plan = c.args.server.now.plan in
-    let all : c.loop-t.t ≡ 3 * plan.length = omega (arith, c.loop-t-test.false, c.loop-t.auto.t-end, c.frames-t-end.ensures.frames) in
+    let all : c.loop-t.t ≡ frame_count plan = omega (arith, c.loop-t-test.false, c.loop-t.auto.t-end, c.frames-t-end.ensures.frames) in
     all_written plan i.0 (take c.loop-t.waiting c.loop-t.room) (g.O.Sink.tells c.args.out.now) (g.O.Sink.tells c.loop-t.out) (g.O.Sink.tells c.write_all.new.out)
     (subst (λ k. AreOfFrames plan k i.0) all i.1) i.2 c.in_ok-write_all.ensures.whole
 
@@ -68,5 +69,5 @@ pub returns-clause-count : goal.returns-clause-count
 returns-clause-count g c =
     let i = c.loop-t.invariant in
     let plan : Plan = c.args.server.now.plan in
-    let all : c.loop-t.t ≡ 3 * plan.length = omega (arith, c.loop-t-test.false, c.loop-t.auto.t-end, c.frames-t-end.ensures.frames) in
+    let all : c.loop-t.t ≡ frame_count plan = omega (arith, c.loop-t-test.false, c.loop-t.auto.t-end, c.frames-t-end.ensures.frames) in
     (i.0, subst (λ k. AreOfFrames plan k i.0) all i.1, i.8)

@@ -1,5 +1,6 @@
 use Rattle.std.proofs.Common.{◌≡◌, ◌+◌, ◌*◌, ◌<◌, ◌≤◌, ℕ, List, [], length, take}
 use Rattle.std.specs.List.{concat}
+use Rattle.dcp_pft.specs.Limits.{most_packet}
 use Rattle.drm_server.specs.Datagrams.{AreOfFrames}
 use Rattle.drm_server.specs.Capture.{IsFrontOfCapture}
 use Rattle.drm_server.specs.Gathering.{Gathers}
@@ -11,7 +12,7 @@ invariant-loop-t g l =
     (datagrams : List (List ℕ)) × AreOfFrames l.fn.server.plan l.t datagrams
     × Gathers [] (concat datagrams) (take l.waiting l.room) (g.O.Sink.tells l.fn.out) (g.O.Sink.tells l.out)
     × (0 < l.t → IsFrontOfCapture l.fn.server.plan (concat datagrams))
-    × (l.waiting + 8192 ≤ length l.room)
+    × (l.waiting + most_packet l.fn.server.plan.carry ≤ length l.room)
     × (length l.room ≡ 32768)
     × (g.O.Sink.faults l.fn.out ≤ g.O.Sink.faults l.out)
     × (l.server.plan ≡ l.fn.server.plan)
