@@ -1,5 +1,5 @@
 -- A frame has one packet.
-use Rattle.std.proofs.Common.{◌≡◌, ◌+◌, ◌-◌, ◌*◌, ◌/◌, ◌%◌, ◌^◌, ◌==◌, ◌≤◌, ℕ, Bool, true, false, List, ◌++◌, map, length, arith, Option, Some, None, refl, sym, ap, subst, ◌∙◌}
+use Rattle.std.proofs.Common.{◌≡◌, ◌-◌, ◌*◌, ◌/◌, ◌%◌, ◌==◌, ◌≤◌, ℕ, Bool, true, false, List, ◌++◌, map, length, arith, Option, Some, None, refl, sym, ap, subst, ◌∙◌}
 use Rattle.std.specs.Int.{w16, to_be_bytes}
 use Rattle.drm_bits.specs.Bits.{IsBytes}
 use Rattle.drm_bits.specs.declared.description.MuxDesc.{MuxDesc}

@@ -1,5 +1,5 @@
 -- What is sent of a schedule, datagram by datagram and frame by frame.
-use Rattle.std.proofs.Common.{◌<◌, ◌*◌, ℕ, List, [], ◌++◌, Option, refl, subst}
+use Rattle.std.proofs.Common.{◌<◌, ℕ, List, [], ◌++◌, Option, refl, subst}
 use Rattle.std.proofs.lemmas.List.{append-nil}
 use Rattle.drm_schedule.specs.declared.plan.Plan.{Plan}
 use Rattle.drm_links.specs.Link.{Traffic}

@@ -1,5 +1,5 @@
 -- The datagrams of a schedule: the packet of each frame, whole or cut into fragments (TS 102 821).
-use Rattle.std.specs.Prelude.{ℕ, zero, suc, ◌≡◌, ◌+◌, ◌*◌, ◌%◌, ◌^◌, ◌<◌, List, [], ◌∷◌, ◌++◌, length}
+use Rattle.std.specs.Prelude.{ℕ, zero, suc, ◌≡◌, ◌<◌, List, [], ◌∷◌, ◌++◌, length}
 use Rattle.drm_schedule.specs.declared.plan.Plan.{Plan}
 use Rattle.drm_timeline.specs.Numbers.{frame_count, sequence_number}
 use Rattle.dcp_pft.specs.Carrying.{datagram_count, Carries}
@@ -10,6 +10,10 @@ pub record HasDatagrams (plan : Plan) (t count : ℕ) : Type 0 where
   pub packet : List ℕ
   pub is_packet : IsPacketAt plan t packet
   pub is : count ≡ datagram_count plan.carry (length packet)
+
+-- the packet of frame t is carried by more than i datagrams
+abbrev pub HasDatagram : Plan → ℕ → ℕ → Type 0
+HasDatagram plan t i = (count : ℕ) × HasDatagrams plan t count × (i < count)
 
 -- datagram i of frame t
 pub record IsDatagramAt (plan : Plan) (t i : ℕ) (datagram : List ℕ) : Type 0 where

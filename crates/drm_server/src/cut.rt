@@ -5,7 +5,7 @@ ghost use Rattle.dcp_pft.specs.Limits.{most_fragment, most_parity};
 ghost use Rattle.dcp_pft.specs.Cutting.{chunks_of, IsShapeOf};
 ghost use Rattle.dcp_pft.specs.Coding.{IsParityOf};
 ghost use Rattle.dcp_pft.specs.Head.{IsFragmentOf};
-ghost use Rattle.drm_server.specs.Serving.{HoldsParity};
+ghost use Rattle.drm_server.specs.Serving.{HoldsParity, IsCoded};
 
 use dcp_pft::{MOST_FRAGMENT, Shape, all_taken, chunks, code, write_fragment};
 
@@ -53,9 +53,7 @@ pub fn write_cut(
     i: u32,
     into: &mut [u8],
 ) -> usize
-    requires shape { IsShapeOf (length packet.now) shape.now }
-    requires all { length parity.now ≡ most_parity }
-    requires parity { HoldsParity (Some shape.now) packet.now parity.now }
+    requires coded { IsCoded shape.now packet.now parity.now }
     requires within { i < shape.now.count }
     requires room { most_fragment ≤ length into.old }
     ensures fragment { IsFragmentOf shape.now seq packet.now i (take result into.new) }
@@ -77,9 +75,7 @@ fn write_in(
     i: u32,
     room: &mut [u8; MOST_FRAGMENT],
 ) -> usize
-    requires shape { IsShapeOf (length packet.now) shape.now }
-    requires all { length parity.now ≡ most_parity }
-    requires parity { HoldsParity (Some shape.now) packet.now parity.now }
+    requires coded { IsCoded shape.now packet.now parity.now }
     requires within { i < shape.now.count }
     ensures fragment { IsFragmentOf shape.now seq packet.now i (take result room.new) }
     ensures small { result ≤ most_fragment }

@@ -3,6 +3,7 @@
 
 mod cut;
 mod laws;
+mod loaded;
 mod packet;
 mod payload;
 mod send;

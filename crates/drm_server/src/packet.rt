@@ -1,6 +1,6 @@
 //! The packet of a frame.
 
-ghost use Rattle.std.specs.Prelude.{◌≡◌, ◌+◌, ◌*◌, ◌/◌, ◌%◌, ◌^◌, ◌==◌, ◌<◌, ◌≤◌, length, take, option_map, Some};
+ghost use Rattle.std.specs.Prelude.{◌≡◌, ◌+◌, ◌<◌, ◌≤◌, length, take};
 ghost use Rattle.dcp_pft.specs.Limits.{most_packet};
 ghost use Rattle.drm_timeline.specs.Numbers.{frame_count, packet_size};
 ghost use Rattle.mdi_items.specs.RoundTrip.{Parts, IsWrittenOf};
@@ -14,8 +14,13 @@ use drm_timeline::sequence_number;
 // The bytes of a packet before its payload.
 const HEAD: usize = 10;
 
-/// Writes the packet of frame `t`, and gives its length.
-pub fn write_packet(plan: &Schedule, t: u32, into: &mut [u8]) -> usize
+/// Writes the packet of frame `t`, and gives its length. Its block is written to `block` first.
+pub fn write_packet(
+    plan: &Schedule,
+    t: u32,
+    into: &mut [u8],
+    block: &mut [u8; 1026],
+) -> usize
     requires frame { t < frame_count plan.now }
     requires room { length into.old ≡ most_packet plan.now.carry }
     ensures packet { IsPacketAt plan.now t (take result into.new) }
@@ -23,12 +28,12 @@ pub fn write_packet(plan: &Schedule, t: u32, into: &mut [u8]) -> usize
     ensures small { result ≤ most_packet plan.now.carry }
     ensures some { 1 ≤ result }
 {
-    let len = write_first(plan, t, &mut into[HEAD..]);
+    let len = write_first(plan, t, &mut into[HEAD..], block);
     write_af(sequence_number(plan, t), into, len)
 }
 
 // Writes the payload of frame `t` to the front of the room for it, and gives its length.
-fn write_first(plan: &Schedule, t: u32, room: &mut [u8]) -> usize
+fn write_first(plan: &Schedule, t: u32, room: &mut [u8], block: &mut [u8; 1026]) -> usize
     requires frame { t < frame_count plan.now }
     requires room { 8180 ≤ length room.old }
     ensures written { (parts : Parts) × IsFrameAt plan.now t parts × IsWrittenOf parts (take result room.new) }
@@ -37,7 +42,7 @@ fn write_first(plan: &Schedule, t: u32, room: &mut [u8]) -> usize
     ensures room { length room.new ≡ length room.old }
 {
     match room.first_chunk_mut() {
-        Some(payload) => write_payload(plan, t, payload),
+        Some(payload) => write_payload(plan, t, payload, block),
         None => unreachable!(),
     }
 }

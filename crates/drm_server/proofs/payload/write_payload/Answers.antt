@@ -1,4 +1,4 @@
-use Rattle.std.proofs.Common.{◌≡◌, ◌+◌, ◌/◌, ◌%◌, ◌==◌, length, sum_by, ap, ◌∙◌, arith}
+use Rattle.std.proofs.Common.{◌≡◌, ◌+◌, ◌%◌, ◌==◌, length, sum_by, ap, ◌∙◌, arith}
 use Rattle.drm_schedule.specs.declared.stream.Stream.{Stream}
 use Rattle.drm_schedule.specs.Sizes.{packet_len, stream_size}
 use Rattle.drm_timeline.proofs.PacketSizes.{size_is}
@@ -20,9 +20,13 @@ returns-clause-len c =
     let streams : sum_by (λ (s : Stream). 8 + stream_size s) c.as_slice.result.now ≡ sum_by (λ (s : Stream). 8 + stream_size s) config.result.now.streams = ap (sum_by (λ (s : Stream). 8 + stream_size s)) c.as_slice.ensures in
     omega (arith, len, streams, c.packet_len.ensures.len, c.packet_len.ensures.small, ap length c.new-writer.ensures.behind, c.told-into, c.write_head.ensures.left, c.write_block_where.ensures.left, c.write_streams.ensures.left, c.room-room.ensures, c.total.ensures.known)
 
-pub write_streams-requires-clause-room : goal.write_streams-requires-clause-room
-write_streams-requires-clause-room c =
+pub write_streams-requires-clause-place : goal.write_streams-requires-clause-place
+write_streams-requires-clause-place c =
     let config = c.config_of_frame-config in
     let len : c.packet_len.result ≡ packet_len config.result.now (c.args.t % 3 == 0) = c.packet_len.ensures.len ∙ size_is c.args.plan.now c.args.t config.result.now config.ensures.config in
     let streams : sum_by (λ (s : Stream). 8 + stream_size s) c.as_slice.result.now ≡ sum_by (λ (s : Stream). 8 + stream_size s) config.result.now.streams = ap (sum_by (λ (s : Stream). 8 + stream_size s)) c.as_slice.ensures in
-    omega (arith, len, streams, c.packet_len.ensures.small, ap length c.new-writer.ensures.behind, c.told-into, c.write_head.ensures.left, c.write_block_where.ensures.left)
+    record {
+      head = c.write_block_where.ensures.from;
+      order = c.write_block_where.ensures.to;
+      room = omega (arith, len, streams, c.packet_len.ensures.small, ap length c.new-writer.ensures.behind, c.told-into, c.write_head.ensures.left, c.write_block_where.ensures.left);
+    }

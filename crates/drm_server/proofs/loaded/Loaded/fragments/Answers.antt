@@ -2,7 +2,7 @@ use Rattle.std.proofs.Common.{◌≡◌, ◌∙◌, ap, sym, take, length, arith
 use Rattle.std.proofs.lemmas.List.{length-take-le}
 use Rattle.drm_schedule.specs.declared.plan.Plan.{Plan}
 use Rattle.dcp_pft.specs.Carrying.{datagram_count}
-use Rattle.drm_server.proofs.server.Server.fragments.Goals as goal
+use Rattle.drm_server.proofs.loaded.Loaded.fragments.Goals as goal
 
 pub returns-clause-datagrams : goal.returns-clause-datagrams
 returns-clause-datagrams c =

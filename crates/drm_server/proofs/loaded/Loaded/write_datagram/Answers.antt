@@ -1,16 +1,16 @@
-use Rattle.std.proofs.Common.{ℕ, List, ◌≡◌, ◌+◌, ◌%◌, ◌^◌, ◌<◌, ◌∙◌, ap, sym, subst, take, length, arith, None, Some}
+use Rattle.std.proofs.Common.{ℕ, List, ◌≡◌, ◌∙◌, ap, sym, subst, take, length, arith, None, Some}
 use Rattle.std.proofs.lemmas.List.{length-take-le}
 use Rattle.drm_schedule.specs.declared.plan.Plan.{Plan}
 use Rattle.dcp_pft.specs.Head.{IsFragmentOf}
 use Rattle.drm_timeline.specs.Numbers.{sequence_number}
 use Rattle.dcp_pft.specs.Carrying.{cut_of}
-use Rattle.drm_server.specs.Datagrams.{HasDatagrams}
+use Rattle.drm_server.specs.Datagrams.{HasDatagram}
 use Rattle.drm_server.specs.Serving.{Serving}
 use Rattle.drm_server.proofs.CutLemmas.{below_cut, cut_datagram, whole_datagram}
-use Rattle.drm_server.proofs.server.Server.write_datagram.Goals as goal
+use Rattle.drm_server.proofs.loaded.Loaded.write_datagram.Goals as goal
 
 abbrev Within : ℕ → Serving → Type 0
-Within i s = (count : ℕ) × HasDatagrams s.plan s.frame count × (i < count)
+Within i s = HasDatagram s.plan s.frame i
 
 pub write_cut-requires-clause-within : goal.write_cut-requires-clause-within
 write_cut-requires-clause-within c =
