@@ -28,19 +28,18 @@ pub fn write_parity(packet: &[u8], cut: Option<Shape>, into: &mut [u8])
     ensures all { length into.new ≡ most_parity }
 {
     if let Some(shape) = cut {
-        let len = parity_len(&shape, packet.len());
-        write_front(packet, &shape, into, len);
+        write_front(packet, &shape, into);
     }
 }
 
 // Writes the parity into the first bytes.
-fn write_front(packet: &[u8], shape: &Shape, into: &mut [u8], len: usize)
+fn write_front(packet: &[u8], shape: &Shape, into: &mut [u8])
     requires shape { IsShapeOf (length packet.now) shape.now }
-    requires len { len ≡ 48 * chunks_of shape.now }
-    requires room { len ≤ length into.old }
-    ensures parity { IsParityOf shape.now packet.now (take len into.new) }
+    requires room { length into.old ≡ most_parity }
+    ensures parity { IsParityOf shape.now packet.now (take (48 * chunks_of shape.now) into.new) }
     ensures all { length into.new ≡ length into.old }
 {
+    let len = parity_len(shape, packet.len());
     code(packet, shape, &mut into[..len]);
 }
 

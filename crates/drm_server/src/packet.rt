@@ -15,12 +15,7 @@ use drm_timeline::sequence_number;
 const HEAD: usize = 10;
 
 /// Writes the packet of frame `t`, and gives its length. Its block is written to `block` first.
-pub fn write_packet(
-    plan: &Schedule,
-    t: u32,
-    into: &mut [u8],
-    block: &mut [u8; 1026],
-) -> usize
+pub fn write_packet(plan: &Schedule, t: u32, into: &mut [u8], block: &mut [u8; 1026]) -> usize
     requires frame { t < frame_count plan.now }
     requires room { length into.old ≡ most_packet plan.now.carry }
     ensures packet { IsPacketAt plan.now t (take result into.new) }

@@ -52,9 +52,8 @@ fn total(bytes: &[u8; 8180]) -> usize
 
 // Writes what stands at the front of each frame.
 fn write_head(writer: &mut MdiWriter<'_>, plan: &Schedule, t: u32, config: &Config)
-    requires new { IsNew writer.old }
+    requires new { IsNew (head_length (length config.now.streams)) writer.old }
     requires fits { ConfigInLines config.now }
-    requires room { head_length (length config.now.streams) ≤ length (behind writer.old) }
     ensures written { (fac : Fac) × (fac_of plan.now t ≡ Some fac)
         × IsHead ((plan.now.dlfc + t) % 2 ^ 32) fac (description_of config.now) config.now.mode (written writer.new) }
     ensures left { length (behind writer.new) + head_length (length config.now.streams) ≡ length (behind writer.old) }

@@ -5,7 +5,7 @@ ghost use Rattle.mdi_items.specs.Names.{sdc_, str};
 ghost use Rattle.mdi_items.specs.Written.{written, behind, next, lender, spelled, spelling, whole, stream_pieces};
 ghost use Rattle.drm_schedule.specs.Sizes.{stream_size};
 ghost use Rattle.drm_server.specs.Frames.{stream_bytes};
-ghost use Rattle.drm_server.specs.Placing.{IsBefore, IsReady, AreReady};
+ghost use Rattle.drm_server.specs.Placing.{IsBefore, IsBeforeStream, IsReady, AreReady};
 
 use drm_schedule::{Content, Stream};
 use mdi_items::MdiWriter;
@@ -28,8 +28,7 @@ pub fn write_streams(writer: &mut MdiWriter<'_>, streams: &[Stream], frame: u32)
 
 // Writes the bytes of stream `k`.
 fn write_stream(writer: &mut MdiWriter<'_>, k: u8, stream: &Stream, frame: u32)
-    requires stream { k < 4 }
-    requires place { IsBefore (str k) (8 + stream_size stream.now) writer.old }
+    requires place { IsBeforeStream k (8 + stream_size stream.now) writer.old }
     requires ready { IsReady frame stream.now }
     ensures written { written writer.new ≡ written writer.old ++ spelled (whole (str k) (stream_bytes frame stream.now)) }
     ensures left { length (behind writer.new) + (8 + stream_size stream.now) ≡ length (behind writer.old) }
@@ -47,9 +46,8 @@ fn write_stream(writer: &mut MdiWriter<'_>, k: u8, stream: &Stream, frame: u32)
 
 // Writes one byte so many times.
 fn write_fill(writer: &mut MdiWriter<'_>, k: u8, byte: u8, size: usize)
-    requires stream { k < 4 }
     requires few { size ≤ 8190 }
-    requires place { IsBefore (str k) (8 + size) writer.old }
+    requires place { IsBeforeStream k (8 + size) writer.old }
     ensures written { written writer.new ≡ written writer.old ++ spelled (whole (str k) (replicate size byte)) }
     ensures left { length (behind writer.new) + (8 + size) ≡ length (behind writer.old) }
     ensures next { next writer.new ≡ str k + 1 }
