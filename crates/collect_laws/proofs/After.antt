@@ -6,7 +6,8 @@ use Rattle.std.proofs.lemmas.Bool.{eqb-true}
 use Rattle.dcp_pft.specs.Loss.{size}
 use Rattle.dcp_collect.specs.Fragments.{Fragment, has_index, suffice, of_packet}
 use Rattle.dcp_collect.specs.State.{State, reached}
-use Rattle.collect_laws.specs.Delivery.{Carriage, packet_at, got, newest_of}
+use Rattle.dcp_pft.specs.declared.carry.Carry.{Carry}
+use Rattle.collect_laws.specs.Delivery.{packet_at, got, newest_of}
 use Rattle.collect_laws.proofs.Sent.{datagrams_of}
 use Rattle.dcp_collect.proofs.Lists.{all_filter, all_weaker}
 use Rattle.collect_laws.proofs.Ordered.{IsOrdered}
@@ -14,14 +15,14 @@ use Rattle.collect_laws.proofs.Got.{closed, got_more, closed_is}
 use Rattle.collect_laws.proofs.Packets.{IsSent}
 
 -- a kept fragment was sent, its number is yet to be given, and is no more than the newest
-abbrev pub IsKept : Carriage → List (List ℕ) → ℤ → ℕ → Option ℕ → Fragment → Type 0
-IsKept carriage packets base next newest f = IsSent carriage packets base f × (next ≤ f.number) × (reached newest f.number ≡ true)
+abbrev pub IsKept : Carry → List (List ℕ) → ℤ → ℕ → Option ℕ → Fragment → Type 0
+IsKept carry packets base next newest f = IsSent carry packets base f × (next ≤ f.number) × (reached newest f.number ≡ true)
 
 -- the collector after these pairs
-pub record IsAfter (carriage : Carriage) (packets : List (List ℕ)) (window : ℕ) (base : ℤ) (pairs : List (ℕ × ℕ)) (c : State) : Type 0 where
+pub record IsAfter (carry : Carry) (packets : List (List ℕ)) (window : ℕ) (base : ℤ) (pairs : List (ℕ × ℕ)) (c : State) : Type 0 where
   pub window_is : c.window ≡ window
   pub newest_is : c.newest ≡ newest_of base None pairs
-  pub sent : AllByRecursion (IsKept carriage packets base c.next c.newest) c.kept
+  pub sent : AllByRecursion (IsKept carry packets base c.next c.newest) c.kept
   pub ordered : IsOrdered c.kept
   -- what is kept of a packet that is yet to be given was got
   pub held : (q i : ℕ) → c.next ≤ q → has_index (of_packet q c.kept) i ≡ true → got window base pairs q i ≡ true
@@ -30,7 +31,7 @@ pub record IsAfter (carriage : Carriage) (packets : List (List ℕ)) (window : �
       (suffice (of_packet q c.kept) ≡ true) ⊎ ((i : ℕ) → got window base pairs q i ≡ true → has_index (of_packet q c.kept) i ≡ true)
   -- no index is kept twice
   pub counted : (q : ℕ) (packet : List ℕ) → c.next ≤ q → packet_at packets (base +ℤ pos q) ≡ Some packet →
-      length (of_packet q c.kept) ≡ size (datagrams_of carriage packet) (has_index (of_packet q c.kept))
+      length (of_packet q c.kept) ≡ size (datagrams_of carry packet) (has_index (of_packet q c.kept))
 
 numbered : (P : Fragment → Type 0) (newest : Option ℕ) (n : ℕ) (fs : List Fragment)
     → ((f : Fragment) → P f → reached newest f.number ≡ true)
@@ -39,15 +40,15 @@ numbered P newest n [] r all some = ⊎_elim (λ h. let e : false ≡ true = h i
 numbered P newest n (f ∷ fs) r all some =
     subst (λ k. reached newest k ≡ true) (eqb-true f.number n all.0.1) (r f all.0.0)
 
-module _ (carriage : Carriage) (packets : List (List ℕ)) (window : ℕ) (base : ℤ) (pairs : List (ℕ × ℕ)) (c : State) (h : IsAfter carriage packets window base pairs c) where
+module _ (carry : Carry) (packets : List (List ℕ)) (window : ℕ) (base : ℤ) (pairs : List (ℕ × ℕ)) (c : State) (h : IsAfter carry packets window base pairs c) where
   -- a number of which something is kept is no more than the newest
   pub reached_by : (n : ℕ) → (suffice (of_packet n c.kept) ≡ true) ⊎ ((i : ℕ) × (has_index (of_packet n c.kept) i ≡ true)) → reached c.newest n ≡ true
   reached_by n some =
-      numbered (IsKept carriage packets base c.next c.newest) c.newest n (of_packet n c.kept) (λ f k. k.2)
-      (all_filter (IsKept carriage packets base c.next c.newest) (λ f. eqb f.number n) c.kept h.sent) some
+      numbered (IsKept carry packets base c.next c.newest) c.newest n (of_packet n c.kept) (λ f k. k.2)
+      (all_filter (IsKept carry packets base c.next c.newest) (λ f. eqb f.number n) c.kept h.sent) some
 
-  pub sent_all : AllByRecursion (IsSent carriage packets base) c.kept
-  sent_all = all_weaker (IsKept carriage packets base c.next c.newest) (IsSent carriage packets base) (λ f k. k.0) c.kept h.sent
+  pub sent_all : AllByRecursion (IsSent carry packets base) c.kept
+  sent_all = all_weaker (IsKept carry packets base c.next c.newest) (IsSent carry packets base) (λ f k. k.0) c.kept h.sent
 
   -- the newest number closes n exactly where a pair does
   pub closed_same : (n : ℕ) → reached c.newest (n + c.window) ≡ closed window base pairs n
@@ -56,7 +57,7 @@ module _ (carriage : Carriage) (packets : List (List ℕ)) (window : ℕ) (base 
   pub unchanged : (pair : ℕ × ℕ) → newest_of base None (pairs ++ pair ∷ []) ≡ newest_of base None pairs
       → ((q : ℕ) → c.next ≤ q →
       (suffice (of_packet q c.kept) ≡ true) ⊎ ((i : ℕ) → got window base (pairs ++ pair ∷ []) q i ≡ true → got window base pairs q i ≡ true))
-      → IsAfter carriage packets window base (pairs ++ pair ∷ []) c
+      → IsAfter carry packets window base (pairs ++ pair ∷ []) c
   unchanged pair e old = record {
     window_is = h.window_is;
     newest_is = h.newest_is ∙ sym e;

@@ -9,7 +9,8 @@ use Rattle.dcp_collect.specs.declared.taken.Taken.TheVariants.{Kept}
 use Rattle.dcp_collect.specs.Fragments.{Fragment}
 use Rattle.dcp_collect.specs.Reading.{Incoming}
 use Rattle.dcp_collect.specs.State.{State, reached, number_of, answer_at, after_answer}
-use Rattle.collect_laws.specs.Delivery.{Carriage, sequence_at, number, newest_of, IsWithinSpan, IsBase}
+use Rattle.dcp_pft.specs.declared.carry.Carry.{Carry}
+use Rattle.collect_laws.specs.Delivery.{sequence_at, number, newest_of, IsWithinSpan, IsBase}
 use Rattle.collect_laws.proofs.Numbers.{nearest_is}
 use Rattle.collect_laws.proofs.Stays.{first_stays}
 use Rattle.collect_laws.proofs.After.{IsKept, IsAfter}
@@ -18,10 +19,10 @@ use Rattle.collect_laws.proofs.After.{IsKept, IsAfter}
 pub kept_first : (c : State) (head : Head) → c.newest ≡ None → c.next ≡ 0 → c.kept ≡ [] → answer_at c (pos 0) head ≡ Kept
 kept_first c head a b d = rw (a, b, d)
 
-pub nothing_kept : (carriage : Carriage) (packets : List (List ℕ)) (base : ℤ) (next : ℕ) (m : Option ℕ) (fs : List Fragment) → m ≡ None
-    → AllByRecursion (IsKept carriage packets base next m) fs → fs ≡ []
-nothing_kept carriage packets base next m [] e all = refl
-nothing_kept carriage packets base next m (f ∷ fs) e all =
+pub nothing_kept : (carry : Carry) (packets : List (List ℕ)) (base : ℤ) (next : ℕ) (m : Option ℕ) (fs : List Fragment) → m ≡ None
+    → AllByRecursion (IsKept carry packets base next m) fs → fs ≡ []
+nothing_kept carry packets base next m [] e all = refl
+nothing_kept carry packets base next m (f ∷ fs) e all =
     absurd (let x : false ≡ true = subst (λ o. reached o f.number ≡ true) e all.0.2 in cc)
 
 first_number : (sequence0 : ℕ) (o : Option ℕ) (pair : ℕ × ℕ) (rest : List (ℕ × ℕ)) (base : ℤ) → IsBase sequence0 o (pair ∷ rest) base
@@ -44,11 +45,11 @@ base_after sequence0 c incoming pair rest base n a None e b s k =
     (pos ((sequence0 + pair.0) / 65536), omega (arith, ints, b))
 
 -- within the span the collector counts as the delivery does
-pub number_is : (carriage : Carriage) (packets : List (List ℕ)) (sequence0 window : ℕ) (base : ℤ) (c : State) (pairs : List (ℕ × ℕ)) (pair : ℕ × ℕ) (rest : List (ℕ × ℕ)) (incoming : Incoming)
-    → IsAfter carriage packets window base pairs c
+pub number_is : (carry : Carry) (packets : List (List ℕ)) (sequence0 window : ℕ) (base : ℤ) (c : State) (pairs : List (ℕ × ℕ)) (pair : ℕ × ℕ) (rest : List (ℕ × ℕ)) (incoming : Incoming)
+    → IsAfter carry packets window base pairs c
     → IsBase sequence0 c.first (pair ∷ rest) base → IsWithinSpan base (newest_of base None pairs) (pair ∷ rest)
     → incoming.sequence ≡ sequence_at sequence0 pair.0 → number_of c incoming ≡ number base pair
-number_is carriage packets sequence0 window base c pairs pair rest incoming h b span s =
+number_is carry packets sequence0 window base c pairs pair rest incoming h b span s =
     let k = first_number sequence0 c.first pair rest base b in
     let e : (pos (unwrap_or c.first incoming.sequence) +ℤ number base pair) ≡ (pos incoming.sequence +ℤ (k.0 *ℤ pos 65536))
     = subst (λ x. (pos (unwrap_or c.first x) +ℤ number base pair) ≡ (pos x +ℤ (k.0 *ℤ pos 65536))) (sym s) k.1 in

@@ -10,10 +10,12 @@ use Rattle.dcp_pft.specs.Reading.{IsPft}
 use Rattle.dcp_pft.proofs.Fragments.{with_rs}
 use Rattle.dcp_pft.proofs.Payloads.{coded_payload_length, plain_payload_length, is_read_as_written}
 use Rattle.dcp_collect.specs.Reading.{Brings, IsRead, whole_packet, fragment_of}
-use Rattle.collect_laws.specs.Delivery.{Carriage, Whole, Cut, IsPacketWith, AreSent, sequence_at, IsDatagramAt, AreDelivered}
+use Rattle.dcp_pft.specs.declared.carry.Carry.{Carry}
+use Rattle.dcp_pft.specs.declared.carry.Carry.TheVariants.{Plain, Pft}
+use Rattle.collect_laws.specs.Delivery.{IsPacketWith, AreSent, sequence_at, IsDatagramAt, AreDelivered}
 use Rattle.collect_laws.proofs.Sent.{payload_size, head_of, BringsPair}
 use Rattle.collect_laws.proofs.Heads.{cut_head}
-use Rattle.collect_laws.proofs.SentCuts.{is_shape}
+use Rattle.collect_laws.proofs.SentCuts.{shape_is}
 
 -- a fragment carries as many bytes as its head tells
 size_by : (shape : Shape) (o : Option Rs) (packet parity : List ℕ) (i : ℕ) → shape.rs ≡ o
@@ -32,8 +34,8 @@ sequence_small : (sequence0 p : ℕ) → sequence_at sequence0 p < 2 ^ 16
 sequence_small sequence0 p = omega arith
 
 module _ (sequence0 : ℕ) (packets : List (List ℕ)) (pair : ℕ × ℕ) (datagram : List ℕ) where
-  brought_whole : (is : IsDatagramAt Whole sequence0 packets pair datagram) → IsPacketWith (sequence_at sequence0 pair.0) is.packet
-      → BringsPair Whole sequence0 packets pair datagram
+  brought_whole : (is : IsDatagramAt Plain sequence0 packets pair datagram) → IsPacketWith Plain (sequence_at sequence0 pair.0) is.packet
+      → BringsPair Plain sequence0 packets pair datagram
   brought_whole is packet =
       let first : 0 ≡ pair.1 = omega (arith, is.within) in
       record {
@@ -43,12 +45,12 @@ module _ (sequence0 : ℕ) (packets : List (List ℕ)) (pair : ℕ × ℕ) (data
         incoming = whole_packet packet.af is.packet;
         is_read = subst (λ d. IsRead (Brings (whole_packet packet.af is.packet)) d) (sym is.carries) (inl (packet.af, packet.is_af, omega (arith, packet.small), refl));
         sequence = packet.seq;
-        head = ap (head_of Whole is.packet) first;
+        head = ap (head_of Plain is.packet) first;
         payload = refl;
       }
 
-  brought_cut : (m mtu : ℕ) (is : IsDatagramAt (Cut m mtu) sequence0 packets pair datagram)
-      → IsShapeOf (length is.packet) (shape_of (length is.packet) m mtu) → BringsPair (Cut m mtu) sequence0 packets pair datagram
+  brought_cut : (m mtu : ℕ) (is : IsDatagramAt (Pft m mtu) sequence0 packets pair datagram)
+      → IsShapeOf (length is.packet) (shape_of (length is.packet) m mtu) → BringsPair (Pft m mtu) sequence0 packets pair datagram
   brought_cut m mtu is shaped =
       let shape : Shape = shape_of (length is.packet) m mtu in
       let sequence : ℕ = sequence_at sequence0 pair.0 in
@@ -67,20 +69,20 @@ module _ (sequence0 : ℕ) (packets : List (List ℕ)) (pair : ℕ × ℕ) (data
         payload = (parity, is.carries.is_parity, refl);
       }
 
-pub brought : (carriage : Carriage) (sequence0 : ℕ) (packets : List (List ℕ)) → AreSent carriage sequence0 packets
-    → (pair : ℕ × ℕ) (datagram : List ℕ) → IsDatagramAt carriage sequence0 packets pair datagram → BringsPair carriage sequence0 packets pair datagram
-brought Whole sequence0 packets sent pair datagram is =
+pub brought : (carry : Carry) (sequence0 : ℕ) (packets : List (List ℕ)) → AreSent carry sequence0 packets
+    → (pair : ℕ × ℕ) (datagram : List ℕ) → IsDatagramAt carry sequence0 packets pair datagram → BringsPair carry sequence0 packets pair datagram
+brought Plain sequence0 packets sent pair datagram is =
     brought_whole sequence0 packets pair datagram is (sent.each pair.0 is.packet is.at)
-brought (Cut m mtu) sequence0 packets sent pair datagram is =
+brought (Pft m mtu) sequence0 packets sent pair datagram is =
     brought_cut sequence0 packets pair datagram m mtu is
-    (is_shape m mtu (sequence_at sequence0 pair.0) is.packet sent.carried (sent.each pair.0 is.packet is.at))
+    (shape_is m mtu (sequence_at sequence0 pair.0) is.packet sent.carried (sent.each pair.0 is.packet is.at))
 
 -- all of a delivery
-pub all_brought : (carriage : Carriage) (sequence0 : ℕ) (packets : List (List ℕ)) → AreSent carriage sequence0 packets
-    → (pairs : List (ℕ × ℕ)) (datagrams : List (List ℕ)) → AreDelivered carriage sequence0 packets pairs datagrams
-    → AllZip (BringsPair carriage sequence0 packets) pairs datagrams
-all_brought carriage sequence0 packets sent [] [] are = tt
-all_brought carriage sequence0 packets sent [] (datagram ∷ datagrams) are = absurd are
-all_brought carriage sequence0 packets sent (pair ∷ pairs) [] are = absurd are
-all_brought carriage sequence0 packets sent (pair ∷ pairs) (datagram ∷ datagrams) are =
-    (brought carriage sequence0 packets sent pair datagram are.0, all_brought carriage sequence0 packets sent pairs datagrams are.1)
+pub all_brought : (carry : Carry) (sequence0 : ℕ) (packets : List (List ℕ)) → AreSent carry sequence0 packets
+    → (pairs : List (ℕ × ℕ)) (datagrams : List (List ℕ)) → AreDelivered carry sequence0 packets pairs datagrams
+    → AllZip (BringsPair carry sequence0 packets) pairs datagrams
+all_brought carry sequence0 packets sent [] [] are = tt
+all_brought carry sequence0 packets sent [] (datagram ∷ datagrams) are = absurd are
+all_brought carry sequence0 packets sent (pair ∷ pairs) [] are = absurd are
+all_brought carry sequence0 packets sent (pair ∷ pairs) (datagram ∷ datagrams) are =
+    (brought carry sequence0 packets sent pair datagram are.0, all_brought carry sequence0 packets sent pairs datagrams are.1)

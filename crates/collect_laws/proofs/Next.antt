@@ -7,7 +7,9 @@ use Rattle.dcp_pft.specs.Loss.{size, is_recoverable}
 use Rattle.dcp_collect.specs.Fragments.{Fragment, has_index, suffice, of_packet}
 use Rattle.dcp_collect.specs.State.{State, after_item, count_of}
 use Rattle.dcp_collect.specs.Runs.{Item, Packet, Lost, Damaged, IsItem}
-use Rattle.collect_laws.specs.Delivery.{Carriage, shape_under, packet_at, got, item, item_by}
+use Rattle.dcp_pft.specs.declared.carry.Carry.{Carry}
+use Rattle.dcp_pft.specs.Carrying.{shape_under}
+use Rattle.collect_laws.specs.Delivery.{packet_at, got, item, item_by}
 use Rattle.collect_laws.proofs.Sent.{datagrams_of, IsOf, IsCut}
 use Rattle.dcp_collect.proofs.Sets.{size_same, recoverable_same, recoverable_more, same_test}
 use Rattle.dcp_collect.proofs.Lists.{all_filter, all_weaker, filter_filter}
@@ -27,19 +29,19 @@ above_next n m l t =
     let ne : m ≢ n = λ e. let x : true ≡ false = sym (eq-eqb m n e) ∙ not-true (eqb m n) t in cc in
     omega arith
 
-pub item_after : (carriage : Carriage) (packets : List (List ℕ)) (window : ℕ) (base : ℤ) (pairs : List (ℕ × ℕ)) (c : State)
-    → IsAfter carriage packets window base pairs c → IsAfter carriage packets window base pairs (after_item c)
-item_after carriage packets window base pairs c h = record {
+pub item_after : (carry : Carry) (packets : List (List ℕ)) (window : ℕ) (base : ℤ) (pairs : List (ℕ × ℕ)) (c : State)
+    → IsAfter carry packets window base pairs c → IsAfter carry packets window base pairs (after_item c)
+item_after carry packets window base pairs c h = record {
   window_is = h.window_is;
   newest_is = h.newest_is;
-  sent = all_weaker (λ f. IsKept carriage packets base c.next c.newest f × (not (eqb f.number c.next) ≡ true)) (IsKept carriage packets base (c.next + 1) c.newest)
+  sent = all_weaker (λ f. IsKept carry packets base c.next c.newest f × (not (eqb f.number c.next) ≡ true)) (IsKept carry packets base (c.next + 1) c.newest)
       (λ f k. (k.0.0, above_next c.next f.number k.0.1 k.1, k.0.2)) (filter (λ f. not (eqb f.number c.next)) c.kept)
-      (all_filter (IsKept carriage packets base c.next c.newest) (λ f. not (eqb f.number c.next)) c.kept h.sent);
+      (all_filter (IsKept carry packets base c.next c.newest) (λ f. not (eqb f.number c.next)) c.kept h.sent);
   ordered = ordered_filter (λ f. not (eqb f.number c.next)) c.kept h.ordered;
   held = λ q i l t. h.held q i (omega arith) (ap (λ fs. has_index fs i) (sym (others_left c.next q c.kept (omega arith))) ∙ t);
   complete = λ q l. subst (λ fs. (suffice fs ≡ true) ⊎ ((i : ℕ) → got window base pairs q i ≡ true → has_index fs i ≡ true))
       (sym (others_left c.next q c.kept (omega arith))) (h.complete q (omega arith));
-  counted = λ q packet l at. subst (λ fs. length fs ≡ size (datagrams_of carriage packet) (has_index fs))
+  counted = λ q packet l at. subst (λ fs. length fs ≡ size (datagrams_of carry packet) (has_index fs))
       (sym (others_left c.next q c.kept (omega arith))) (h.counted q packet (omega arith) at);
 }
 
@@ -49,20 +51,20 @@ lost_by q had total count [] e f g = ap (λ t. Lost q had t) (f ∙ sym (cond-tr
 lost_by q had total count (x ∷ xs) e f g =
     ap (λ t. Lost q had t) (f ∙ g (omega arith) ∙ sym (cond-false (eqb had 0) 0 count (ne_eqb had 0 (λ z. omega arith))))
 
-module _ (carriage : Carriage) (packets : List (List ℕ)) (window : ℕ) (base : ℤ) (pairs : List (ℕ × ℕ)) (c : State)
-    (cut : (q : ℕ) (packet : List ℕ) → packet_at packets (base +ℤ pos q) ≡ Some packet → IsCut carriage packet)
-    (h : IsAfter carriage packets window base pairs c) (all : List (ℕ × ℕ))
+module _ (carry : Carry) (packets : List (List ℕ)) (window : ℕ) (base : ℤ) (pairs : List (ℕ × ℕ)) (c : State)
+    (cut : (q : ℕ) (packet : List ℕ) → packet_at packets (base +ℤ pos q) ≡ Some packet → IsCut carry packet)
+    (h : IsAfter carry packets window base pairs c) (all : List (ℕ × ℕ))
     (more : (i : ℕ) → got window base pairs c.next i ≡ true → got window base all c.next i ≡ true)
     (same : suffice (of_packet c.next c.kept) ≡ false → (i : ℕ) → got window base all c.next i ≡ got window base pairs c.next i) where
-  those_sent : (packet : List ℕ) → packet_at packets (base +ℤ pos c.next) ≡ Some packet → AllByRecursion (IsOf carriage packet) (of_packet c.next c.kept)
-  those_sent packet at = those_of carriage packets base c.next packet at c.kept (sent_all carriage packets window base pairs c h)
+  those_sent : (packet : List ℕ) → packet_at packets (base +ℤ pos c.next) ≡ Some packet → AllByRecursion (IsOf carry packet) (of_packet c.next c.kept)
+  those_sent packet at = those_of carry packets base c.next packet at c.kept (sent_all carry packets window base pairs c h)
 
   given_is : (packet : List ℕ) → packet_at packets (base +ℤ pos c.next) ≡ Some packet → suffice (of_packet c.next c.kept) ≡ true
-      → is_recoverable (shape_under carriage (length packet)) (got window base all c.next) ≡ true
+      → is_recoverable (shape_under carry (length packet)) (got window base all c.next) ≡ true
   given_is packet at t =
-      recoverable_more (shape_under carriage (length packet)) (has_index (of_packet c.next c.kept)) (got window base all c.next)
+      recoverable_more (shape_under carry (length packet)) (has_index (of_packet c.next c.kept)) (got window base all c.next)
       (λ i k. more i (h.held c.next i (omega arith) k))
-      (sym (suffice_is carriage packet (cut c.next packet at) (of_packet c.next c.kept) (those_sent packet at)) ∙ t)
+      (sym (suffice_is carry packet (cut c.next packet at) (of_packet c.next c.kept) (those_sent packet at)) ∙ t)
 
   got_is : suffice (of_packet c.next c.kept) ≡ false → (i : ℕ) → got window base all c.next i ≡ has_index (of_packet c.next c.kept) i
   got_is f i =
@@ -71,17 +73,17 @@ module _ (carriage : Carriage) (packets : List (List ℕ)) (window : ℕ) (base 
       (h.held c.next i (omega arith))
 
   lost_is : (packet : List ℕ) → packet_at packets (base +ℤ pos c.next) ≡ Some packet → suffice (of_packet c.next c.kept) ≡ false
-      → is_recoverable (shape_under carriage (length packet)) (got window base all c.next) ≡ false
+      → is_recoverable (shape_under carry (length packet)) (got window base all c.next) ≡ false
   lost_is packet at f =
-      recoverable_same (shape_under carriage (length packet)) (got window base all c.next) (has_index (of_packet c.next c.kept)) (got_is f)
-      ∙ sym (suffice_is carriage packet (cut c.next packet at) (of_packet c.next c.kept) (those_sent packet at)) ∙ f
+      recoverable_same (shape_under carry (length packet)) (got window base all c.next) (has_index (of_packet c.next c.kept)) (got_is f)
+      ∙ sym (suffice_is carry packet (cut c.next packet at) (of_packet c.next c.kept) (those_sent packet at)) ∙ f
 
   -- nothing is kept of a number without a packet
   nothing : packet_at packets (base +ℤ pos c.next) ≡ None → of_packet c.next c.kept ≡ []
-  nothing at = none_of carriage packets base c.next at c.kept (sent_all carriage packets window base pairs c h)
+  nothing at = none_of carry packets base c.next at c.kept (sent_all carry packets window base pairs c h)
 
   given_by : (o : Option (List ℕ)) → packet_at packets (base +ℤ pos c.next) ≡ o → (given : Item) → IsItem c given
-      → given ≡ item_by carriage o c.next (got window base all c.next)
+      → given ≡ item_by carry o c.next (got window base all c.next)
   given_by None at (Packet q bytes) is = absurd (let e : false ≡ true = sym (ap suffice (nothing at)) ∙ is.1 in cc)
   given_by None at (Damaged q) is = absurd (let e : false ≡ true = sym (ap suffice (nothing at)) ∙ is.1 in cc)
   given_by None at (Lost q had total) is =
@@ -92,19 +94,19 @@ module _ (carriage : Carriage) (packets : List (List ℕ)) (window : ℕ) (base 
       let p = is.0 in
       let b : bytes ≡ packet = (cut c.next packet at).decoded_only (of_packet c.next c.kept) bytes (those_sent packet at) (ascending c.next c.kept h.ordered) is.1 is.2 in
       let e : Packet q bytes ≡ Packet c.next packet = cc in
-      e ∙ sym (cond-true (is_recoverable (shape_under carriage (length packet)) (got window base all c.next)) _ _ (given_is packet at is.1))
+      e ∙ sym (cond-true (is_recoverable (shape_under carry (length packet)) (got window base all c.next)) _ _ (given_is packet at is.1))
   given_by (Some packet) at (Damaged q) is =
       absurd (is.2 packet ((cut c.next packet at).decoded (of_packet c.next c.kept) (those_sent packet at) (ascending c.next c.kept h.ordered) is.1))
   given_by (Some packet) at (Lost q had total) is =
-      let count = datagrams_of carriage packet in
-      let z : size (datagrams_of carriage packet) (got window base all c.next) ≡ had
-      = size_same (datagrams_of carriage packet) (got window base all c.next) (has_index (of_packet c.next c.kept)) (λ i l. got_is is.1 i)
+      let count = datagrams_of carry packet in
+      let z : size (datagrams_of carry packet) (got window base all c.next) ≡ had
+      = size_same (datagrams_of carry packet) (got window base all c.next) (has_index (of_packet c.next c.kept)) (λ i l. got_is is.1 i)
       ∙ sym (h.counted c.next packet (omega arith) at) ∙ sym is.2 in
       ap (λ k. Lost k had total) is.0
-      ∙ lost_by c.next had total count (of_packet c.next c.kept) is.2 is.3 (count_of_is carriage packet (cut c.next packet at) (of_packet c.next c.kept) (those_sent packet at))
+      ∙ lost_by c.next had total count (of_packet c.next c.kept) is.2 is.3 (count_of_is carry packet (cut c.next packet at) (of_packet c.next c.kept) (those_sent packet at))
       ∙ ap (λ k. Lost c.next k (cond (eqb k 0) 0 count)) (sym z)
-      ∙ sym (cond-false (is_recoverable (shape_under carriage (length packet)) (got window base all c.next)) _ _ (lost_is packet at is.1))
+      ∙ sym (cond-false (is_recoverable (shape_under carry (length packet)) (got window base all c.next)) _ _ (lost_is packet at is.1))
 
   -- what is given is the item
-  pub item_is : (given : Item) → IsItem c given → given ≡ item carriage packets window base all c.next
+  pub item_is : (given : Item) → IsItem c given → given ≡ item carry packets window base all c.next
   item_is given is = given_by (packet_at packets (base +ℤ pos c.next)) refl given is

@@ -9,7 +9,10 @@ use Rattle.dcp_collect.specs.declared.head.Head.{Head}
 use Rattle.dcp_collect.specs.Fragments.{Fragment, agree, shape_by, suffice, IsAscending}
 use Rattle.dcp_collect.specs.Reading.{Incoming, Brings, IsRead}
 use Rattle.dcp_collect.specs.Decoding.{IsDecoded}
-use Rattle.collect_laws.specs.Delivery.{Carriage, Whole, Cut, shape_under, sequence_at}
+use Rattle.dcp_pft.specs.declared.carry.Carry.{Carry}
+use Rattle.dcp_pft.specs.declared.carry.Carry.TheVariants.{Plain, Pft}
+use Rattle.dcp_pft.specs.Carrying.{shape_under}
+use Rattle.collect_laws.specs.Delivery.{sequence_at}
 
 -- how many bytes fragment i carries of a packet of so many bytes
 abbrev pub payload_size : Shape → ℕ → ℕ → ℕ
@@ -20,50 +23,50 @@ payload_size shape len i = by shape.rs
     by (Some rs) = shape.piece
 
 -- the head of datagram i of a packet
-abbrev pub head_of : Carriage → List ℕ → ℕ → Head
-head_of Whole packet i = record { whole = true; count = 1; index = i; len = length packet; rs = None }
-head_of (Cut m mtu) packet i =
-    let shape = shape_under (Cut m mtu) (length packet) in
+abbrev pub head_of : Carry → List ℕ → ℕ → Head
+head_of Plain packet i = record { whole = true; count = 1; index = i; len = length packet; rs = None }
+head_of (Pft m mtu) packet i =
+    let shape = shape_under (Pft m mtu) (length packet) in
     record { whole = false; count = shape.count; index = i; len = payload_size shape (length packet) i; rs = shape.rs }
 
 -- the bytes are the payload of datagram i of a packet
-abbrev pub IsPayload : Carriage → List ℕ → ℕ → List ℕ → Type 0
-IsPayload Whole packet i payload = payload ≡ packet
-IsPayload (Cut m mtu) packet i payload =
-    let shape = shape_under (Cut m mtu) (length packet) in
+abbrev pub IsPayload : Carry → List ℕ → ℕ → List ℕ → Type 0
+IsPayload Plain packet i payload = payload ≡ packet
+IsPayload (Pft m mtu) packet i payload =
+    let shape = shape_under (Pft m mtu) (length packet) in
     (parity : List ℕ) × IsParityOf shape packet parity × (payload ≡ payload_of shape packet parity i)
 
 -- how many datagrams a packet is
-abbrev pub datagrams_of : Carriage → List ℕ → ℕ
-datagrams_of carriage packet = (shape_under carriage (length packet)).count
+abbrev pub datagrams_of : Carry → List ℕ → ℕ
+datagrams_of carry packet = (shape_under carry (length packet)).count
 
 -- a fragment of this packet
-abbrev pub IsOf : Carriage → List ℕ → Fragment → Type 0
-IsOf carriage packet f =
-    (f.head.index < datagrams_of carriage packet)
-    × (f.head ≡ head_of carriage packet f.head.index)
-    × IsPayload carriage packet f.head.index f.payload
+abbrev pub IsOf : Carry → List ℕ → Fragment → Type 0
+IsOf carry packet f =
+    (f.head.index < datagrams_of carry packet)
+    × (f.head ≡ head_of carry packet f.head.index)
+    × IsPayload carry packet f.head.index f.payload
 
 -- what cutting and the code promise of a packet
-pub record IsCut (carriage : Carriage) (packet : List ℕ) : Type 0 where
-  pub counts : (i : ℕ) → i < datagrams_of carriage packet → (head_of carriage packet i).count ≡ datagrams_of carriage packet
-  pub indices : (i : ℕ) → i < datagrams_of carriage packet → (head_of carriage packet i).index ≡ i
-  pub agrees : (i j : ℕ) → i < datagrams_of carriage packet → j < datagrams_of carriage packet
-      → agree (head_of carriage packet i) (head_of carriage packet j) ≡ true
-  pub same_shape : (i : ℕ) (kept : ℕ → Bool) → i < datagrams_of carriage packet
-      → is_recoverable (shape_by (head_of carriage packet i)) kept ≡ is_recoverable (shape_under carriage (length packet)) kept
-  pub some_needed : is_recoverable (shape_under carriage (length packet)) (λ i. false) ≡ false
-  pub decoded : (fs : List Fragment) → AllByRecursion (IsOf carriage packet) fs → IsAscending fs → suffice fs ≡ true → IsDecoded fs packet
-  pub decoded_only : (fs : List Fragment) (bytes : List ℕ) → AllByRecursion (IsOf carriage packet) fs → IsAscending fs → suffice fs ≡ true
+pub record IsCut (carry : Carry) (packet : List ℕ) : Type 0 where
+  pub counts : (i : ℕ) → i < datagrams_of carry packet → (head_of carry packet i).count ≡ datagrams_of carry packet
+  pub indices : (i : ℕ) → i < datagrams_of carry packet → (head_of carry packet i).index ≡ i
+  pub agrees : (i j : ℕ) → i < datagrams_of carry packet → j < datagrams_of carry packet
+      → agree (head_of carry packet i) (head_of carry packet j) ≡ true
+  pub same_shape : (i : ℕ) (kept : ℕ → Bool) → i < datagrams_of carry packet
+      → is_recoverable (shape_by (head_of carry packet i)) kept ≡ is_recoverable (shape_under carry (length packet)) kept
+  pub some_needed : is_recoverable (shape_under carry (length packet)) (λ i. false) ≡ false
+  pub decoded : (fs : List Fragment) → AllByRecursion (IsOf carry packet) fs → IsAscending fs → suffice fs ≡ true → IsDecoded fs packet
+  pub decoded_only : (fs : List Fragment) (bytes : List ℕ) → AllByRecursion (IsOf carry packet) fs → IsAscending fs → suffice fs ≡ true
       → IsDecoded fs bytes → bytes ≡ packet
 
 -- a pair's datagram, as it is read
-pub record BringsPair (carriage : Carriage) (sequence0 : ℕ) (packets : List (List ℕ)) (pair : ℕ × ℕ) (datagram : List ℕ) : Type 0 where
+pub record BringsPair (carry : Carry) (sequence0 : ℕ) (packets : List (List ℕ)) (pair : ℕ × ℕ) (datagram : List ℕ) : Type 0 where
   pub packet : List ℕ
   pub at : slice_get packets pair.0 ≡ Some packet
-  pub within : pair.1 < datagrams_of carriage packet
+  pub within : pair.1 < datagrams_of carry packet
   pub incoming : Incoming
   pub is_read : IsRead (Brings incoming) datagram
   pub sequence : incoming.sequence ≡ sequence_at sequence0 pair.0
-  pub head : incoming.head ≡ head_of carriage packet pair.1
-  pub payload : IsPayload carriage packet pair.1 incoming.payload
+  pub head : incoming.head ≡ head_of carry packet pair.1
+  pub payload : IsPayload carry packet pair.1 incoming.payload

@@ -6,9 +6,13 @@ use Rattle.dcp_af.proofs.Spellings.{placed}
 use Rattle.dcp_pft.specs.declared.shape.Shape.{Shape}
 use Rattle.dcp_pft.specs.Cutting.{shape_of, IsShapeOf}
 use Rattle.dcp_pft.specs.Loss.{is_recoverable}
+use Rattle.dcp_pft.proofs.Carried.{is_shape}
 use Rattle.dcp_pft.proofs.Payloads.{shape_is_taken}
 use Rattle.dcp_collect.specs.Fragments.{agree}
-use Rattle.collect_laws.specs.Delivery.{Carriage, Whole, Cut, IsCarriage, shape_under, IsPacketWith}
+use Rattle.dcp_pft.specs.declared.carry.Carry.{Carry}
+use Rattle.dcp_pft.specs.declared.carry.Carry.TheVariants.{Plain, Pft}
+use Rattle.dcp_pft.specs.Carrying.{CarryFits, shape_under}
+use Rattle.collect_laws.specs.Delivery.{IsPacketWith}
 use Rattle.collect_laws.proofs.Sent.{head_of, IsCut}
 use Rattle.collect_laws.proofs.Unique.{OneDecoding}
 use Rattle.collect_laws.proofs.Heads.{cut_agree, cut_needed, cut_same_shape, is_full, none_all}
@@ -19,28 +23,19 @@ pub packet_long : (af : AfPacket) (packet : List ℕ) → IsAf af packet → 12 
 packet_long af packet is = (placed af is.0 packet is.1).kind.0.0.0.1
 
 -- its length can be cut
-pub is_shape : (m mtu sequence : ℕ) (packet : List ℕ) → IsCarriage (Cut m mtu) → IsPacketWith sequence packet
+pub shape_is : (m mtu sequence : ℕ) (packet : List ℕ) → CarryFits (Pft m mtu) → IsPacketWith (Pft m mtu) sequence packet
     → IsShapeOf (length packet) (shape_of (length packet) m mtu)
-is_shape m mtu sequence packet (few, least, most) is = record {
-  some = omega (arith, packet_long is.af packet is.is_af);
-  small = is.small;
-  m = m;
-  few = few;
-  mtu = mtu;
-  least = least;
-  most = most;
-  is = refl;
-}
+shape_is m mtu sequence packet fits is = is_shape m mtu (length packet) fits (omega (arith, packet_long is.af packet is.is_af)) is.small
 
-whole_agree : (packet : List ℕ) (i j : ℕ) → i ≡ j → agree (head_of Whole packet i) (head_of Whole packet j) ≡ true
+whole_agree : (packet : List ℕ) (i j : ℕ) → i ≡ j → agree (head_of Plain packet i) (head_of Plain packet j) ≡ true
 unfolding agree
 whole_agree packet i j same = rw (same, eq-eqb j j refl, eq-eqb (length packet) (length packet) refl)
 
-whole_needed : (packet : List ℕ) → is_recoverable (shape_under Whole (length packet)) (λ i. false) ≡ false
+whole_needed : (packet : List ℕ) → is_recoverable (shape_under Plain (length packet)) (λ i. false) ≡ false
 unfolding is_recoverable
 whole_needed packet = none_all 1 (omega arith)
 
-whole_cut : (one_decoding : OneDecoding) (packet : List ℕ) → IsCut Whole packet
+whole_cut : (one_decoding : OneDecoding) (packet : List ℕ) → IsCut Plain packet
 whole_cut one_decoding packet = record {
   counts = λ i below. refl;
   indices = λ i below. refl;
@@ -51,7 +46,7 @@ whole_cut one_decoding packet = record {
   decoded_only = λ fs bytes are rise enough is. one_decoding fs packet bytes enough (whole_decoded packet fs are rise enough) is;
 }
 
-shape_cut : (one_decoding : OneDecoding) (m mtu : ℕ) (packet : List ℕ) → IsShapeOf (length packet) (shape_of (length packet) m mtu) → IsCut (Cut m mtu) packet
+shape_cut : (one_decoding : OneDecoding) (m mtu : ℕ) (packet : List ℕ) → IsShapeOf (length packet) (shape_of (length packet) m mtu) → IsCut (Pft m mtu) packet
 shape_cut one_decoding m mtu packet is =
     let shape : Shape = shape_of (length packet) m mtu in
     let decoded = cut_decoded shape packet is in
@@ -65,7 +60,7 @@ shape_cut one_decoding m mtu packet is =
       decoded_only = λ fs bytes are rise enough h. one_decoding fs packet bytes enough (decoded fs are rise enough) h;
     }
 
-pub sent_cut : (one_decoding : OneDecoding) (carriage : Carriage) (sequence : ℕ) (packet : List ℕ) → IsCarriage carriage → IsPacketWith sequence packet
-    → IsCut carriage packet
-sent_cut one_decoding Whole sequence packet carried is = whole_cut one_decoding packet
-sent_cut one_decoding (Cut m mtu) sequence packet carried is = shape_cut one_decoding m mtu packet (is_shape m mtu sequence packet carried is)
+pub sent_cut : (one_decoding : OneDecoding) (carry : Carry) (sequence : ℕ) (packet : List ℕ) → CarryFits carry → IsPacketWith carry sequence packet
+    → IsCut carry packet
+sent_cut one_decoding Plain sequence packet carried is = whole_cut one_decoding packet
+sent_cut one_decoding (Pft m mtu) sequence packet carried is = shape_cut one_decoding m mtu packet (shape_is m mtu sequence packet carried is)

@@ -14,7 +14,7 @@ use Rattle.dcp_pft.proofs.OneFragment.{HasShortChunks, one_parity_of}
 use Rattle.dcp_collect.specs.declared.head.Head.{Head}
 use Rattle.dcp_collect.specs.Fragments.{Fragment, has_index, shape_by, suffice, IsAscending}
 use Rattle.dcp_collect.specs.Decoding.{IsDecoded, HasItsBytes, joined}
-use Rattle.collect_laws.specs.Delivery.{Whole}
+use Rattle.dcp_pft.specs.declared.carry.Carry.TheVariants.{Plain}
 use Rattle.collect_laws.proofs.Sent.{IsOf}
 use Rattle.dcp_collect.proofs.Lists.{all_weaker}
 use Rattle.collect_laws.proofs.Heads.{cut_head, cut_same_shape}
@@ -115,7 +115,7 @@ pub cut_decoded : (shape : Shape) (packet : List ℕ) → IsShapeOf (length pack
 cut_decoded shape packet is = decoded_by shape shape.rs packet is refl
 
 -- a packet that was not cut
-pub whole_decoded : (packet : List ℕ) (fs : List Fragment) → AllByRecursion (IsOf Whole packet) fs → IsAscending fs → suffice fs ≡ true → IsDecoded fs packet
+pub whole_decoded : (packet : List ℕ) (fs : List Fragment) → AllByRecursion (IsOf Plain packet) fs → IsAscending fs → suffice fs ≡ true → IsDecoded fs packet
 whole_decoded packet [] are rise enough = absurd (let e : false ≡ true = enough in cc)
 whole_decoded packet (f ∷ []) are rise enough =
     let P : Head → Type 0 = λ h. IsDecoded (headed f h ∷ []) packet in

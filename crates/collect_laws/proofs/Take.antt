@@ -8,7 +8,8 @@ use Rattle.dcp_collect.specs.declared.taken.Taken.TheVariants.{Repeated, Late}
 use Rattle.dcp_collect.specs.Fragments.{Fragment, agree, has_index, suffice, of_packet}
 use Rattle.dcp_collect.specs.Reading.{Incoming}
 use Rattle.dcp_collect.specs.State.{State, reached, is_late, answer_by, answer_at, insert_kept, newer, kept_at, after_answer, end_of}
-use Rattle.collect_laws.specs.Delivery.{Carriage, packet_at, number, is_number, got, newer_number, newest_of}
+use Rattle.dcp_pft.specs.declared.carry.Carry.{Carry}
+use Rattle.collect_laws.specs.Delivery.{packet_at, number, is_number, got, newer_number, newest_of}
 use Rattle.collect_laws.specs.Laws.{IsRight}
 use Rattle.collect_laws.proofs.Sent.{datagrams_of, head_of, IsPayload, IsOf, IsCut}
 use Rattle.dcp_collect.proofs.Sets.{size_more}
@@ -36,20 +37,20 @@ no_pair base pair n q i e t =
     cc
 
 -- a pair before number 0
-pub before_all : (carriage : Carriage) (packets : List (List ℕ)) (window : ℕ) (base : ℤ) (pairs : List (ℕ × ℕ)) (c : State) (h : IsAfter carriage packets window base pairs c)
-    (pair : ℕ × ℕ) (n : ℕ) → number base pair ≡ negsuc n → IsAfter carriage packets window base (pairs ++ pair ∷ []) c
-before_all carriage packets window base pairs c h pair n e =
-    unchanged carriage packets window base pairs c h pair
+pub before_all : (carry : Carry) (packets : List (List ℕ)) (window : ℕ) (base : ℤ) (pairs : List (ℕ × ℕ)) (c : State) (h : IsAfter carry packets window base pairs c)
+    (pair : ℕ × ℕ) (n : ℕ) → number base pair ≡ negsuc n → IsAfter carry packets window base (pairs ++ pair ∷ []) c
+before_all carry packets window base pairs c h pair n e =
+    unchanged carry packets window base pairs c h pair
     (newest_last base None pairs pair ∙ ap (newer_number (newest_of base None pairs)) e)
     (λ q l. inr (λ i t. ⊎_elim (λ g. g) (λ k. absurd (no_pair base pair n q i e k.1)) (got_last window base pairs pair q i t)))
 
 -- a pair whose number isn't above the newest, and that adds nothing to what was got of it
-old_number : (carriage : Carriage) (packets : List (List ℕ)) (window : ℕ) (base : ℤ) (pairs : List (ℕ × ℕ)) (c : State) (h : IsAfter carriage packets window base pairs c)
+old_number : (carry : Carry) (packets : List (List ℕ)) (window : ℕ) (base : ℤ) (pairs : List (ℕ × ℕ)) (c : State) (h : IsAfter carry packets window base pairs c)
     (pair : ℕ × ℕ) (n : ℕ) → number base pair ≡ pos n → reached c.newest n ≡ true
     → (c.next ≤ n → (suffice (of_packet n c.kept) ≡ true) ⊎ ((closed window base pairs n ≡ true) ⊎ (got window base pairs n pair.1 ≡ true)))
-    → IsAfter carriage packets window base (pairs ++ pair ∷ []) c
-old_number carriage packets window base pairs c h pair n e r why =
-    unchanged carriage packets window base pairs c h pair
+    → IsAfter carry packets window base (pairs ++ pair ∷ []) c
+old_number carry packets window base pairs c h pair n e r why =
+    unchanged carry packets window base pairs c h pair
     (newest_last base None pairs pair ∙ ap (newer_number (newest_of base None pairs)) e
     ∙ newer_same (newest_of base None pairs) n (subst (λ m. reached m n ≡ true) h.newest_is r))
     (λ q l. ⊎_elim
@@ -67,25 +68,25 @@ old_number carriage packets window base pairs c h pair n e r why =
 abbrev pub fragment : ℕ → Incoming → Fragment
 fragment n incoming = record { number = n; head = incoming.head; payload = incoming.payload }
 
-module _ (carriage : Carriage) (packets : List (List ℕ)) (window : ℕ) (base : ℤ) (pairs : List (ℕ × ℕ)) (c : State)
-    (h : IsAfter carriage packets window base pairs c) (pair : ℕ × ℕ) (incoming : Incoming) (n : ℕ) (packet : List ℕ) (cut : IsCut carriage packet) (w : 1 ≤ window) (below : c.next ≤ end_of None c.newest)
-    (num : number base pair ≡ pos n) (there : packet_at packets (base +ℤ pos n) ≡ Some packet) (in' : pair.1 < datagrams_of carriage packet)
-    (head_is : incoming.head ≡ head_of carriage packet pair.1) (payload_is : IsPayload carriage packet pair.1 incoming.payload) where
+module _ (carry : Carry) (packets : List (List ℕ)) (window : ℕ) (base : ℤ) (pairs : List (ℕ × ℕ)) (c : State)
+    (h : IsAfter carry packets window base pairs c) (pair : ℕ × ℕ) (incoming : Incoming) (n : ℕ) (packet : List ℕ) (cut : IsCut carry packet) (w : 1 ≤ window) (below : c.next ≤ end_of None c.newest)
+    (num : number base pair ≡ pos n) (there : packet_at packets (base +ℤ pos n) ≡ Some packet) (in' : pair.1 < datagrams_of carry packet)
+    (head_is : incoming.head ≡ head_of carry packet pair.1) (payload_is : IsPayload carry packet pair.1 incoming.payload) where
   index_is : incoming.head.index ≡ pair.1
   index_is = ap (λ x. x.index) head_is ∙ cut.indices pair.1 in'
 
-  is_fragment : IsOf carriage packet (fragment n incoming)
+  is_fragment : IsOf carry packet (fragment n incoming)
   is_fragment = (
-    subst (λ i. i < datagrams_of carriage packet) (sym index_is) in',
-    head_is ∙ ap (head_of carriage packet) (sym index_is),
-    subst (λ i. IsPayload carriage packet i incoming.payload) (sym index_is) payload_is,
+    subst (λ i. i < datagrams_of carry packet) (sym index_is) in',
+    head_is ∙ ap (head_of carry packet) (sym index_is),
+    subst (λ i. IsPayload carry packet i incoming.payload) (sym index_is) payload_is,
   )
 
-  is_sent : IsSent carriage packets base (fragment n incoming)
+  is_sent : IsSent carry packets base (fragment n incoming)
   is_sent = (packet, there, is_fragment)
 
-  those_sent : AllByRecursion (IsOf carriage packet) (of_packet n c.kept)
-  those_sent = those_of carriage packets base n packet there c.kept (sent_all carriage packets window base pairs c h)
+  those_sent : AllByRecursion (IsOf carry packet) (of_packet n c.kept)
+  those_sent = those_of carry packets base n packet there c.kept (sent_all carry packets window base pairs c h)
 
   -- the datagram is kept, since its number isn't closed, the packet isn't recoverable yet, and the index isn't there
   module _ (open' : closed window base pairs n ≡ false) (next : c.next ≤ n) (few : suffice (of_packet n c.kept) ≡ false) (fresh : has_index (of_packet n c.kept) incoming.head.index ≡ false) where
@@ -131,9 +132,9 @@ module _ (carriage : Carriage) (packets : List (List ℕ)) (window : ℕ) (base 
         (h.complete q l))
         (cases_eq n q)
 
-    size_new : size (datagrams_of carriage packet) (has_index (of_packet n (insert_kept (fragment n incoming) c.kept))) ≡ size (datagrams_of carriage packet) (has_index (of_packet n c.kept)) + 1
+    size_new : size (datagrams_of carry packet) (has_index (of_packet n (insert_kept (fragment n incoming) c.kept))) ≡ size (datagrams_of carry packet) (has_index (of_packet n c.kept)) + 1
     size_new =
-        size_more (datagrams_of carriage packet) pair.1 (has_index (of_packet n c.kept)) (has_index (of_packet n (insert_kept (fragment n incoming) c.kept)))
+        size_more (datagrams_of carry packet) pair.1 (has_index (of_packet n c.kept)) (has_index (of_packet n (insert_kept (fragment n incoming) c.kept)))
         (λ j ne. has_inserted (fragment n incoming) c.kept n j
         ∙ ap (λ x. (eqb n n && x) || has_index (of_packet n c.kept) j) (ne_eqb incoming.head.index j (λ e. ne (sym e ∙ index_is)))
         ∙ ap (λ x. x || has_index (of_packet n c.kept) j) (and_right (eqb n n) false refl))
@@ -141,26 +142,26 @@ module _ (carriage : Carriage) (packets : List (List ℕ)) (window : ℕ) (base 
         (has_new pair.1 refl) in'
 
     counted_new : (q : ℕ) (x : List ℕ) → c.next ≤ q → packet_at packets (base +ℤ pos q) ≡ Some x →
-        length (of_packet q (insert_kept (fragment n incoming) c.kept)) ≡ size (datagrams_of carriage x) (has_index (of_packet q (insert_kept (fragment n incoming) c.kept)))
+        length (of_packet q (insert_kept (fragment n incoming) c.kept)) ≡ size (datagrams_of carry x) (has_index (of_packet q (insert_kept (fragment n incoming) c.kept)))
     counted_new q x l at =
         ⊎_elim
         (λ same. let e : packet_at packets (base +ℤ pos n) ≡ Some x = subst (λ k. packet_at packets (base +ℤ pos k) ≡ Some x) (sym same) at in
         let xs : packet ≡ x = cc in
-        subst (λ k. length (of_packet k (insert_kept (fragment n incoming) c.kept)) ≡ size (datagrams_of carriage x) (has_index (of_packet k (insert_kept (fragment n incoming) c.kept)))) same
-        (subst (λ y. length (of_packet n (insert_kept (fragment n incoming) c.kept)) ≡ size (datagrams_of carriage y) (has_index (of_packet n (insert_kept (fragment n incoming) c.kept)))) xs
+        subst (λ k. length (of_packet k (insert_kept (fragment n incoming) c.kept)) ≡ size (datagrams_of carry x) (has_index (of_packet k (insert_kept (fragment n incoming) c.kept)))) same
+        (subst (λ y. length (of_packet n (insert_kept (fragment n incoming) c.kept)) ≡ size (datagrams_of carry y) (has_index (of_packet n (insert_kept (fragment n incoming) c.kept)))) xs
         (count_insert (λ f. eqb f.number n) (fragment n incoming) c.kept
         ∙ ap (λ b. length (of_packet n c.kept) + cond b 1 0) (eq-eqb n n refl)
         ∙ ap (λ k. k + 1) (h.counted n packet next there) ∙ sym size_new)))
-        (λ other. subst (λ fs. length fs ≡ size (datagrams_of carriage x) (has_index fs)) (sym (insert_other (λ f. eqb f.number q) (fragment n incoming) c.kept (ne_eqb n q other))) (h.counted q x l at))
+        (λ other. subst (λ fs. length fs ≡ size (datagrams_of carry x) (has_index fs)) (sym (insert_other (λ f. eqb f.number q) (fragment n incoming) c.kept (ne_eqb n q other))) (h.counted q x l at))
         (cases_eq n q)
 
-    kept_new : IsAfter carriage packets window base (pairs ++ pair ∷ []) (kept_at c (pos n) incoming)
+    kept_new : IsAfter carry packets window base (pairs ++ pair ∷ []) (kept_at c (pos n) incoming)
     kept_new = record {
       window_is = h.window_is;
       newest_is = ap (λ m. newer m n) h.newest_is ∙ sym (newest_last base None pairs pair ∙ ap (newer_number (newest_of base None pairs)) num);
-      sent = all_insert (IsKept carriage packets base c.next (newer c.newest n)) (fragment n incoming) c.kept
+      sent = all_insert (IsKept carry packets base c.next (newer c.newest n)) (fragment n incoming) c.kept
           (is_sent, next, reached_now c.newest n)
-          (all_weaker (IsKept carriage packets base c.next c.newest) (IsKept carriage packets base c.next (newer c.newest n))
+          (all_weaker (IsKept carry packets base c.next c.newest) (IsKept carry packets base c.next (newer c.newest n))
           (λ f k. (k.0, k.1, reached_more c.newest n f.number k.2)) c.kept h.sent);
       ordered = ordered_insert (fragment n incoming) c.kept (others_of (fragment n incoming) c.kept fresh) h.ordered;
       held = held_new;
@@ -168,13 +169,13 @@ module _ (carriage : Carriage) (packets : List (List ℕ)) (window : ℕ) (base 
       counted = counted_new;
     }
 
-  is_old : n < 2 ^ 62 → is_late c n ≡ true → IsAfter carriage packets window base (pairs ++ pair ∷ []) c
+  is_old : n < 2 ^ 62 → is_late c n ≡ true → IsAfter carry packets window base (pairs ++ pair ∷ []) c
   is_old small l =
       ⊎_elim
-      (λ r. old_number carriage packets window base pairs c h pair n num (reached_less c.newest n c.window r) (λ m. inr (inl (sym (closed_same carriage packets window base pairs c h n) ∙ r))))
+      (λ r. old_number carry packets window base pairs c h pair n num (reached_less c.newest n c.window r) (λ m. inr (inl (sym (closed_same carry packets window base pairs c h n) ∙ r))))
       (λ r. ⊎_elim
       (λ g. let less : n < c.next = ltb-true n c.next g in
-      old_number carriage packets window base pairs c h pair n num (below_end c.newest n c.next less below) (λ m. absurd (omega arith)))
+      old_number carry packets window base pairs c h pair n num (below_end c.newest n c.next less below) (λ m. absurd (omega arith)))
       (λ g. let less : 2 ^ 62 ≤ n = leb-true (2 ^ 62) n g in absurd (omega arith))
       (or_cases (ltb n c.next) (leb (2 ^ 62) n) r))
       (or_cases (reached c.newest (n + c.window)) (ltb n c.next || leb (2 ^ 62) n) l)
@@ -182,28 +183,28 @@ module _ (carriage : Carriage) (packets : List (List ℕ)) (window : ℕ) (base 
   by_tests : (late done again : Bool) (odd : Option Fragment) → n < 2 ^ 62
       → late ≡ is_late c n → done ≡ suffice (of_packet n c.kept)
       → odd ≡ find (λ f. not (agree f.head incoming.head)) (of_packet n c.kept) → again ≡ has_index (of_packet n c.kept) incoming.head.index
-      → IsAfter carriage packets window base (pairs ++ pair ∷ []) (after_answer c (pos n) incoming (cond late Late (cond done Repeated (answer_by odd again incoming.head))))
+      → IsAfter carry packets window base (pairs ++ pair ∷ []) (after_answer c (pos n) incoming (cond late Late (cond done Repeated (answer_by odd again incoming.head))))
       × IsRight (cond late Late (cond done Repeated (answer_by odd again incoming.head)))
   by_tests true done again odd small l d o a = (is_old small (sym l), tt)
   by_tests false true again odd small l d o a =
-      (old_number carriage packets window base pairs c h pair n num (reached_by carriage packets window base pairs c h n (inl (sym d))) (λ m. inl (sym d)), tt)
+      (old_number carry packets window base pairs c h pair n num (reached_by carry packets window base pairs c h n (inl (sym d))) (λ m. inl (sym d)), tt)
   by_tests false false again (Some f) small l d o a =
       let none : find (λ f. not (agree f.head incoming.head)) (of_packet n c.kept) ≡ None
-      = ap (λ x. find (λ f. not (agree f.head x)) (of_packet n c.kept)) head_is ∙ none_disagrees carriage packet cut pair.1 in' (of_packet n c.kept) those_sent in
+      = ap (λ x. find (λ f. not (agree f.head x)) (of_packet n c.kept)) head_is ∙ none_disagrees carry packet cut pair.1 in' (of_packet n c.kept) those_sent in
       absurd (let e : Some f ≡ None = o ∙ none in cc)
   by_tests false false true None small l d o a = (
-    old_number carriage packets window base pairs c h pair n num (reached_by carriage packets window base pairs c h n (inr (incoming.head.index, sym a)))
+    old_number carry packets window base pairs c h pair n num (reached_by carry packets window base pairs c h n (inr (incoming.head.index, sym a)))
         (λ m. inr (inr (h.held n pair.1 m (subst (λ i. has_index (of_packet n c.kept) i ≡ true) index_is (sym a))))),
     tt,
   )
   by_tests false false false None small l d o a =
       let p = or_parts (reached c.newest (n + c.window)) (ltb n c.next || leb (2 ^ 62) n) (sym l) in
       let r = or_parts (ltb n c.next) (leb (2 ^ 62) n) p.1 in
-      (kept_new (sym (closed_same carriage packets window base pairs c h n) ∙ p.0) (ltb-false n c.next r.0) (sym d) (sym a), tt)
+      (kept_new (sym (closed_same carry packets window base pairs c h n) ∙ p.0) (ltb-false n c.next r.0) (sym d) (sym a), tt)
 
   -- a datagram that is taken: the collector is that of one pair more, and its fragment was consistent
   pub take_pos : n < 2 ^ 62
-      → IsAfter carriage packets window base (pairs ++ pair ∷ []) (after_answer c (pos n) incoming (answer_at c (pos n) incoming.head)) × IsRight (answer_at c (pos n) incoming.head)
+      → IsAfter carry packets window base (pairs ++ pair ∷ []) (after_answer c (pos n) incoming (answer_at c (pos n) incoming.head)) × IsRight (answer_at c (pos n) incoming.head)
   take_pos small =
       by_tests (is_late c n) (suffice (of_packet n c.kept)) (has_index (of_packet n c.kept) incoming.head.index)
       (find (λ f. not (agree f.head incoming.head)) (of_packet n c.kept)) small refl refl refl refl

@@ -12,7 +12,8 @@ use Rattle.dcp_collect.specs.declared.taken.Taken.TheVariants.{Kept}
 use Rattle.dcp_collect.specs.Reading.{Incoming, Brings}
 use Rattle.dcp_collect.specs.State.{State, made, number_of, answer, answer_at, after_answer, after_take, after_finish, end_of}
 use Rattle.dcp_collect.specs.Runs.{Item, Takes, Gives, Steps, Run, up_to}
-use Rattle.collect_laws.specs.Delivery.{Carriage, packet_at, number, newest_of, item, items, IsWithinSpan, IsBase}
+use Rattle.dcp_pft.specs.declared.carry.Carry.{Carry}
+use Rattle.collect_laws.specs.Delivery.{packet_at, number, newest_of, item, items, IsWithinSpan, IsBase}
 use Rattle.collect_laws.specs.Laws.{OneReading, IsRight}
 use Rattle.collect_laws.proofs.Sent.{datagrams_of, head_of, IsPayload, IsCut, BringsPair}
 use Rattle.collect_laws.proofs.Got.{newest_last}
@@ -23,31 +24,31 @@ use Rattle.collect_laws.proofs.Going.{first_items, IsOpen, gives_during, gives_t
 use Rattle.collect_laws.proofs.Based.{kept_first, nothing_kept, base_after, number_is}
 
 -- each packet is cut as it is to be
-abbrev AreCut : Carriage → List (List ℕ) → Type 0
-AreCut carriage packets = (p : ℕ) (packet : List ℕ) → slice_get packets p ≡ Some packet → IsCut carriage packet
+abbrev AreCut : Carry → List (List ℕ) → Type 0
+AreCut carry packets = (p : ℕ) (packet : List ℕ) → slice_get packets p ≡ Some packet → IsCut carry packet
 
-cut_at : (carriage : Carriage) (packets : List (List ℕ)) (z : ℤ) (packet : List ℕ) → AreCut carriage packets
-    → packet_at packets z ≡ Some packet → IsCut carriage packet
-cut_at carriage packets (pos p) packet cuts e = cuts p packet e
-cut_at carriage packets (negsuc p) packet cuts e = absurd (let x : None ≡ Some packet = e in cc)
+cut_at : (carry : Carry) (packets : List (List ℕ)) (z : ℤ) (packet : List ℕ) → AreCut carry packets
+    → packet_at packets z ≡ Some packet → IsCut carry packet
+cut_at carry packets (pos p) packet cuts e = cuts p packet e
+cut_at carry packets (negsuc p) packet cuts e = absurd (let x : None ≡ Some packet = e in cc)
 
-module _ (carriage : Carriage) (packets : List (List ℕ)) (sequence0 window : ℕ) (base : ℤ) (some : 1 ≤ window)
-    (few : length packets ≤ 3000000) (cuts : AreCut carriage packets) (low : pos 0 <ℤ (base +ℤ pos 32768)) where
-  taken : (c : State) (pairs : List (ℕ × ℕ)) (pair : ℕ × ℕ) (incoming : Incoming) (packet : List ℕ) → IsOpen carriage packets window base pairs c
-      → slice_get packets pair.0 ≡ Some packet → pair.1 < datagrams_of carriage packet
-      → incoming.head ≡ head_of carriage packet pair.1 → IsPayload carriage packet pair.1 incoming.payload
+module _ (carry : Carry) (packets : List (List ℕ)) (sequence0 window : ℕ) (base : ℤ) (some : 1 ≤ window)
+    (few : length packets ≤ 3000000) (cuts : AreCut carry packets) (low : pos 0 <ℤ (base +ℤ pos 32768)) where
+  taken : (c : State) (pairs : List (ℕ × ℕ)) (pair : ℕ × ℕ) (incoming : Incoming) (packet : List ℕ) → IsOpen carry packets window base pairs c
+      → slice_get packets pair.0 ≡ Some packet → pair.1 < datagrams_of carry packet
+      → incoming.head ≡ head_of carry packet pair.1 → IsPayload carry packet pair.1 incoming.payload
       → (z : ℤ) → number base pair ≡ z
-      → IsAfter carriage packets window base (pairs ++ pair ∷ []) (after_answer c z incoming (answer_at c z incoming.head)) × IsRight (answer_at c z incoming.head)
-  taken c pairs pair incoming packet o at in' head_is payload_is (negsuc n) e = (before_all carriage packets window base pairs c o.is_after pair n e, tt)
+      → IsAfter carry packets window base (pairs ++ pair ∷ []) (after_answer c z incoming (answer_at c z incoming.head)) × IsRight (answer_at c z incoming.head)
+  taken c pairs pair incoming packet o at in' head_is payload_is (negsuc n) e = (before_all carry packets window base pairs c o.is_after pair n e, tt)
   taken c pairs pair incoming packet o at in' head_is payload_is (pos n) e =
       let place : (base +ℤ pos n) ≡ pos pair.0 = omega (arith, ints, e) in
       let there : packet_at packets (base +ℤ pos n) ≡ Some packet = ap (packet_at packets) place ∙ at in
       let p : pair.0 < length packets = slice_get_within packets pair.0 packet at in
-      take_pos carriage packets window base pairs c o.is_after pair incoming n packet (cuts pair.0 packet at) some o.below e there in' head_is payload_is
+      take_pos carry packets window base pairs c o.is_after pair incoming n packet (cuts pair.0 packet at) some o.below e there in' head_is payload_is
       (omega (arith, ints, e, low))
 
   -- where no sequence number is known yet, the datagram is kept under number 0
-  first_kept : (c : State) (pairs : List (ℕ × ℕ)) (pair : ℕ × ℕ) (rest : List (ℕ × ℕ)) (incoming : Incoming) → IsOpen carriage packets window base pairs c
+  first_kept : (c : State) (pairs : List (ℕ × ℕ)) (pair : ℕ × ℕ) (rest : List (ℕ × ℕ)) (incoming : Incoming) → IsOpen carry packets window base pairs c
       → IsBase sequence0 c.first (pair ∷ rest) base → number_of c incoming ≡ number base pair
       → c.first ≡ None → (number_of c incoming ≡ pos 0) × (answer c (Brings incoming) ≡ Kept)
   first_kept c pairs pair rest incoming o b num e =
@@ -56,18 +57,18 @@ module _ (carriage : Carriage) (packets : List (List ℕ)) (sequence0 window : �
       let m : c.newest ≡ None = o.fresh e in
       let l : c.next ≤ end_of None None = subst (λ x. c.next ≤ end_of None x) m o.below in
       let next : c.next ≡ 0 = omega (arith, l) in
-      (none, ap (λ z. answer_at c z incoming.head) none ∙ kept_first c incoming.head m next (nothing_kept carriage packets base c.next c.newest c.kept m o.is_after.sent))
+      (none, ap (λ z. answer_at c z incoming.head) none ∙ kept_first c incoming.head m next (nothing_kept carry packets base c.next c.newest c.kept m o.is_after.sent))
 
   -- the collector after one datagram more
-  step : (c : State) (pairs : List (ℕ × ℕ)) (pair : ℕ × ℕ) (rest : List (ℕ × ℕ)) (datagram : List ℕ) → IsOpen carriage packets window base pairs c
-      → (brings : BringsPair carriage sequence0 packets pair datagram) → IsBase sequence0 c.first (pair ∷ rest) base → IsWithinSpan base (newest_of base None pairs) (pair ∷ rest)
-      → IsOpen carriage packets window base (pairs ++ pair ∷ []) (after_take c (Brings brings.incoming))
+  step : (c : State) (pairs : List (ℕ × ℕ)) (pair : ℕ × ℕ) (rest : List (ℕ × ℕ)) (datagram : List ℕ) → IsOpen carry packets window base pairs c
+      → (brings : BringsPair carry sequence0 packets pair datagram) → IsBase sequence0 c.first (pair ∷ rest) base → IsWithinSpan base (newest_of base None pairs) (pair ∷ rest)
+      → IsOpen carry packets window base (pairs ++ pair ∷ []) (after_take c (Brings brings.incoming))
       × IsRight (answer c (Brings brings.incoming))
       × IsBase sequence0 (after_take c (Brings brings.incoming)).first rest base
       × ((after_take c (Brings brings.incoming)).next ≡ c.next)
   step c pairs pair rest datagram o brings b span =
       let v = brings.incoming in
-      let num : number_of c v ≡ number base pair = number_is carriage packets sequence0 window base c pairs pair rest v o.is_after b span brings.sequence in
+      let num : number_of c v ≡ number base pair = number_is carry packets sequence0 window base c pairs pair rest v o.is_after b span brings.sequence in
       let t = taken c pairs pair v brings.packet o brings.at brings.within brings.head brings.payload (number_of c v) (sym num) in (
         record {
           is_after = t.0;
@@ -83,45 +84,45 @@ module _ (carriage : Carriage) (packets : List (List ℕ)) (sequence0 window : �
   module _ (one_reading : OneReading) where
     -- however it was read
     step_by : (c d : State) (a : Taken) (pairs : List (ℕ × ℕ)) (pair : ℕ × ℕ) (rest : List (ℕ × ℕ)) (datagram : List ℕ) → Takes c datagram a d
-        → IsOpen carriage packets window base pairs c → BringsPair carriage sequence0 packets pair datagram
+        → IsOpen carry packets window base pairs c → BringsPair carry sequence0 packets pair datagram
         → IsBase sequence0 c.first (pair ∷ rest) base → IsWithinSpan base (newest_of base None pairs) (pair ∷ rest)
-        → IsOpen carriage packets window base (pairs ++ pair ∷ []) d × IsRight a × IsBase sequence0 d.first rest base × (d.next ≡ c.next)
+        → IsOpen carry packets window base (pairs ++ pair ∷ []) d × IsRight a × IsBase sequence0 d.first rest base × (d.next ≡ c.next)
     step_by c d a pairs pair rest datagram takes o brings b span =
         let e : takes.read ≡ Brings brings.incoming = one_reading datagram (Brings brings.incoming) takes.read brings.is_read takes.is_read in
         let now : d ≡ after_take c (Brings brings.incoming) = takes.after_is ∙ ap (after_take c) e in
         let told : a ≡ answer c (Brings brings.incoming) = takes.taken_is ∙ ap (answer c) e in
         let s = step c pairs pair rest datagram o brings b span in
-        subst (λ x. IsOpen carriage packets window base (pairs ++ pair ∷ []) x × IsRight a × IsBase sequence0 x.first rest base × (x.next ≡ c.next)) (sym now)
+        subst (λ x. IsOpen carry packets window base (pairs ++ pair ∷ []) x × IsRight a × IsBase sequence0 x.first rest base × (x.next ≡ c.next)) (sym now)
         (s.0, subst IsRight (sym told) s.1, s.2, s.3)
 
     steps_are : (rest pairs all : List (ℕ × ℕ)) (datagrams : List (List ℕ)) (c d : State) (answers : List Taken) (given : List Item)
-        → pairs ++ rest ≡ all → IsOpen carriage packets window base pairs c → AllZip (BringsPair carriage sequence0 packets) rest datagrams
+        → pairs ++ rest ≡ all → IsOpen carry packets window base pairs c → AllZip (BringsPair carry sequence0 packets) rest datagrams
         → IsBase sequence0 c.first rest base → IsWithinSpan base (newest_of base None pairs) rest → Steps c datagrams answers given d
-        → IsOpen carriage packets window base all d × AllByRecursion IsRight answers
-        × (first_items (item carriage packets window base all) c.next ++ given ≡ first_items (item carriage packets window base all) d.next)
+        → IsOpen carry packets window base all d × AllByRecursion IsRight answers
+        × (first_items (item carry packets window base all) c.next ++ given ≡ first_items (item carry packets window base all) d.next)
     steps_are [] pairs all [] c d [] given e o z b span run =
         let same : pairs ≡ all = sym (append-nil pairs) ∙ e in (
-          subst (λ x. IsOpen carriage packets window base x d) same (subst (λ x. IsOpen carriage packets window base pairs x) (sym run.1) o),
+          subst (λ x. IsOpen carry packets window base x d) same (subst (λ x. IsOpen carry packets window base pairs x) (sym run.1) o),
           tt,
-          ap (λ x. first_items (item carriage packets window base all) c.next ++ x) run.0
-              ∙ append-nil (first_items (item carriage packets window base all) c.next)
-              ∙ ap (λ x. first_items (item carriage packets window base all) x.next) (sym run.1),
+          ap (λ x. first_items (item carry packets window base all) c.next ++ x) run.0
+              ∙ append-nil (first_items (item carry packets window base all) c.next)
+              ∙ ap (λ x. first_items (item carry packets window base all) x.next) (sym run.1),
         )
     steps_are [] pairs all [] c d (a ∷ answers) given e o z b span run = absurd run
     steps_are [] pairs all (datagram ∷ datagrams) c d answers given e o z b span run = absurd z
     steps_are (pair ∷ rest) pairs all [] c d answers given e o z b span run = absurd z
     steps_are (pair ∷ rest) pairs all (datagram ∷ datagrams) c d [] given e o z b span run = absurd run
     steps_are (pair ∷ rest) pairs all (datagram ∷ datagrams) c d (a ∷ answers) given e o z b span (now, later, kept, mid, takes, gives, steps, are) =
-        let I : ℕ → Item = item carriage packets window base all in
+        let I : ℕ → Item = item carry packets window base all in
         let st = step_by c kept a pairs pair rest datagram takes o z.0 b span in
-        let during = gives_during carriage packets window base (λ q packet at. cut_at carriage packets (base +ℤ pos q) packet cuts at) (pairs ++ pair ∷ []) rest now kept mid st.0 gives in
+        let during = gives_during carry packets window base (λ q packet at. cut_at carry packets (base +ℤ pos q) packet cuts at) (pairs ++ pair ∷ []) rest now kept mid st.0 gives in
         let joined : (pairs ++ pair ∷ []) ++ rest ≡ all = append_assoc pairs (pair ∷ []) rest ∙ e in
         let more = steps_are rest (pairs ++ pair ∷ []) all datagrams mid d answers later joined during.0 z.1
         (subst (λ f. IsBase sequence0 f rest base) (sym during.1) st.2)
         (subst (λ m. IsWithinSpan base m rest) (sym (newest_last base None pairs pair)) span.2) steps in
         let given_now : first_items I c.next ++ now ≡ first_items I mid.next
         = subst (λ n. first_items I n ++ now ≡ first_items I mid.next) st.3
-        (subst (λ xs. first_items (item carriage packets window base xs) kept.next ++ now ≡ first_items (item carriage packets window base xs) mid.next) joined during.2) in (
+        (subst (λ xs. first_items (item carry packets window base xs) kept.next ++ now ≡ first_items (item carry packets window base xs) mid.next) joined during.2) in (
           more.0,
           (st.1, more.1),
           ap (λ x. first_items I c.next ++ x) are ∙ sym (append_assoc (first_items I c.next) now later) ∙ ap (λ x. x ++ later) given_now ∙ more.2,
@@ -132,8 +133,8 @@ unfolding size
 size_none zero = refl
 size_none (suc n) = omega (arith, size_none n)
 
-open_made : (carriage : Carriage) (packets : List (List ℕ)) (window : ℕ) (base : ℤ) (first : Option ℕ) → IsOpen carriage packets window base [] (made window first)
-open_made carriage packets window base first = record {
+open_made : (carry : Carry) (packets : List (List ℕ)) (window : ℕ) (base : ℤ) (first : Option ℕ) → IsOpen carry packets window base [] (made window first)
+open_made carry packets window base first = record {
   is_after = record {
     window_is = refl;
     newest_is = refl;
@@ -141,16 +142,16 @@ open_made carriage packets window base first = record {
     ordered = tt;
     held = λ q i l t. t;
     complete = λ q l. inr (λ i t. t);
-    counted = λ q packet l at. sym (size_none (datagrams_of carriage packet));
+    counted = λ q packet l at. sym (size_none (datagrams_of carry packet));
   };
   no_end = refl;
   below = omega arith;
   fresh = λ e. refl;
 }
 
-finish_after : (carriage : Carriage) (packets : List (List ℕ)) (window : ℕ) (base : ℤ) (pairs : List (ℕ × ℕ)) (c : State) (told : Option ℕ)
-    → IsAfter carriage packets window base pairs c → IsAfter carriage packets window base pairs (after_finish c told)
-finish_after carriage packets window base pairs c told h =
+finish_after : (carry : Carry) (packets : List (List ℕ)) (window : ℕ) (base : ℤ) (pairs : List (ℕ × ℕ)) (c : State) (told : Option ℕ)
+    → IsAfter carry packets window base pairs c → IsAfter carry packets window base pairs (after_finish c told)
+finish_after carry packets window base pairs c told h =
     record { window_is = h.window_is; newest_is = h.newest_is; sent = h.sent; ordered = h.ordered; held = h.held; complete = h.complete; counted = h.counted }
 
 up_to_is : (I : ℕ → Item) (told newest : Option ℕ) (m : ℕ) → end_of told newest ≤ m → (told ≡ None → m ≡ end_of told newest)
@@ -159,38 +160,38 @@ up_to_is I None newest m l e = ap (first_items I) (e refl)
 up_to_is I (Some n) newest m l e = take-map-range_with_len I 0 m n l
 
 -- the end of a run
-ended : (carriage : Carriage) (packets : List (List ℕ)) (window : ℕ) (told : Option ℕ) (base : ℤ) (cuts : AreCut carriage packets)
+ended : (carry : Carry) (packets : List (List ℕ)) (window : ℕ) (told : Option ℕ) (base : ℤ) (cuts : AreCut carry packets)
     (pairs : List (ℕ × ℕ)) (before rest given : List Item) (mid after : State)
-    → IsOpen carriage packets window base pairs mid → before ≡ first_items (item carriage packets window base pairs) mid.next
-    → Gives (after_finish mid told) rest after → given ≡ up_to told (before ++ rest) → given ≡ items carriage packets window base told pairs
-ended carriage packets window told base cuts pairs before rest given mid after o before_is g e =
-    let last = gives_to_end carriage packets window base (λ q packet at. cut_at carriage packets (base +ℤ pos q) packet cuts at) pairs (end_of told mid.newest) rest (after_finish mid told) after
-    (finish_after carriage packets window base pairs mid told o.is_after) refl g in
-    let all : before ++ rest ≡ first_items (item carriage packets window base pairs) last.0 = ap (λ x. x ++ rest) before_is ∙ last.3 in
+    → IsOpen carry packets window base pairs mid → before ≡ first_items (item carry packets window base pairs) mid.next
+    → Gives (after_finish mid told) rest after → given ≡ up_to told (before ++ rest) → given ≡ items carry packets window base told pairs
+ended carry packets window told base cuts pairs before rest given mid after o before_is g e =
+    let last = gives_to_end carry packets window base (λ q packet at. cut_at carry packets (base +ℤ pos q) packet cuts at) pairs (end_of told mid.newest) rest (after_finish mid told) after
+    (finish_after carry packets window base pairs mid told o.is_after) refl g in
+    let all : before ++ rest ≡ first_items (item carry packets window base pairs) last.0 = ap (λ x. x ++ rest) before_is ∙ last.3 in
     e ∙ ap (up_to told) all
-    ∙ up_to_is (item carriage packets window base pairs) told mid.newest last.0 last.1
+    ∙ up_to_is (item carry packets window base pairs) told mid.newest last.0 last.1
     (λ t. last.2 (subst (λ x. mid.next ≤ end_of x mid.newest) (sym t) o.below))
-    ∙ ap (λ m. first_items (item carriage packets window base pairs) (end_of told m)) o.is_after.newest_is
+    ∙ ap (λ m. first_items (item carry packets window base pairs) (end_of told m)) o.is_after.newest_is
 
 -- Every run over the datagrams of a delivery gives its items, and finds no datagram refused or inconsistent.
-pub collecting_by : (one_reading : OneReading) (carriage : Carriage) (sequence0 window : ℕ) (packets : List (List ℕ)) (first told : Option ℕ) (base : ℤ)
+pub collecting_by : (one_reading : OneReading) (carry : Carry) (sequence0 window : ℕ) (packets : List (List ℕ)) (first told : Option ℕ) (base : ℤ)
     (pairs : List (ℕ × ℕ)) (datagrams : List (List ℕ)) (answers : List Taken) (given : List Item)
     → 1 ≤ window → length packets ≤ 3000000
-    → ((p : ℕ) (packet : List ℕ) → slice_get packets p ≡ Some packet → IsCut carriage packet)
-    → AllZip (BringsPair carriage sequence0 packets) pairs datagrams → IsBase sequence0 first pairs base → IsWithinSpan base None pairs
+    → ((p : ℕ) (packet : List ℕ) → slice_get packets p ≡ Some packet → IsCut carry packet)
+    → AllZip (BringsPair carry sequence0 packets) pairs datagrams → IsBase sequence0 first pairs base → IsWithinSpan base None pairs
     → Run window first told datagrams answers given
-    → (given ≡ items carriage packets window base told pairs) × AllByRecursion IsRight answers
-collecting_by one_reading carriage sequence0 window packets first told base [] [] [] given some few cuts z b span run = (
-  ended carriage packets window told base cuts [] run.during run.rest given run.mid run.after
-      (subst (λ c. IsOpen carriage packets window base [] c) (sym run.steps.1) (open_made carriage packets window base first))
-      (run.steps.0 ∙ ap (λ c. first_items (item carriage packets window base []) c.next) (sym run.steps.1)) run.gives run.are,
+    → (given ≡ items carry packets window base told pairs) × AllByRecursion IsRight answers
+collecting_by one_reading carry sequence0 window packets first told base [] [] [] given some few cuts z b span run = (
+  ended carry packets window told base cuts [] run.during run.rest given run.mid run.after
+      (subst (λ c. IsOpen carry packets window base [] c) (sym run.steps.1) (open_made carry packets window base first))
+      (run.steps.0 ∙ ap (λ c. first_items (item carry packets window base []) c.next) (sym run.steps.1)) run.gives run.are,
   tt,
 )
-collecting_by one_reading carriage sequence0 window packets first told base [] [] (a ∷ answers) given some few cuts z b span run = absurd run.steps
-collecting_by one_reading carriage sequence0 window packets first told base [] (datagram ∷ datagrams) answers given some few cuts z b span run = absurd z
-collecting_by one_reading carriage sequence0 window packets first told base (pair ∷ pairs) datagrams answers given some few cuts z b span run =
+collecting_by one_reading carry sequence0 window packets first told base [] [] (a ∷ answers) given some few cuts z b span run = absurd run.steps
+collecting_by one_reading carry sequence0 window packets first told base [] (datagram ∷ datagrams) answers given some few cuts z b span run = absurd z
+collecting_by one_reading carry sequence0 window packets first told base (pair ∷ pairs) datagrams answers given some few cuts z b span run =
     let p = span.0 in
     let low : pos 0 <ℤ (base +ℤ pos 32768) = omega (arith, ints, p) in
-    let st = steps_are carriage packets sequence0 window base some few cuts low one_reading (pair ∷ pairs) [] (pair ∷ pairs) datagrams (made window first) run.mid answers run.during refl
-    (open_made carriage packets window base first) z b span run.steps in
-    (ended carriage packets window told base cuts (pair ∷ pairs) run.during run.rest given run.mid run.after st.0 st.2 run.gives run.are, st.1)
+    let st = steps_are carry packets sequence0 window base some few cuts low one_reading (pair ∷ pairs) [] (pair ∷ pairs) datagrams (made window first) run.mid answers run.during refl
+    (open_made carry packets window base first) z b span run.steps in
+    (ended carry packets window told base cuts (pair ∷ pairs) run.during run.rest given run.mid run.after st.0 st.2 run.gives run.are, st.1)

@@ -8,7 +8,9 @@ use Rattle.dcp_collect.specs.declared.taken.Taken.TheVariants.{Kept, Repeated, L
 use Rattle.dcp_collect.specs.Reading.{Read, IsRead}
 use Rattle.dcp_collect.specs.State.{State, nearest}
 use Rattle.dcp_collect.specs.Runs.{Item, Packet, Gives, Steps, Run}
-use Rattle.collect_laws.specs.Delivery.{Carriage, shape_under, losses, AreSent, AreDelivered, packet_at, got, item, items, IsWithinSpan, IsBase}
+use Rattle.dcp_pft.specs.declared.carry.Carry.{Carry}
+use Rattle.dcp_pft.specs.Carrying.{shape_under, losses}
+use Rattle.collect_laws.specs.Delivery.{AreSent, AreDelivered, packet_at, got, item, items, IsWithinSpan, IsBase}
 
 -- a datagram is read as one thing
 abbrev pub OneReading : Type 0
@@ -38,30 +40,30 @@ IsRight Late = Unit {0}
 IsRight other = ⊥
 
 -- a delivery of sent packets, within the span
-pub record IsHeard (carriage : Carriage) (sequence0 : ℕ) (packets : List (List ℕ)) (first : Option ℕ) (base : ℤ) (pairs : List (ℕ × ℕ)) (datagrams : List (List ℕ)) : Type 0 where
-  pub sent : AreSent carriage sequence0 packets
-  pub delivered : AreDelivered carriage sequence0 packets pairs datagrams
+pub record IsHeard (carry : Carry) (sequence0 : ℕ) (packets : List (List ℕ)) (first : Option ℕ) (base : ℤ) (pairs : List (ℕ × ℕ)) (datagrams : List (List ℕ)) : Type 0 where
+  pub sent : AreSent carry sequence0 packets
+  pub delivered : AreDelivered carry sequence0 packets pairs datagrams
   pub based : IsBase sequence0 first pairs base
   pub within_span : IsWithinSpan base None pairs
 
 -- Every run over a delivery gives its items, each once and in order, and finds no datagram refused or inconsistent.
 abbrev pub Collecting : Type 0
 Collecting =
-    (carriage : Carriage) (sequence0 window : ℕ) (packets : List (List ℕ)) (first told : Option ℕ) (base : ℤ)
+    (carry : Carry) (sequence0 window : ℕ) (packets : List (List ℕ)) (first told : Option ℕ) (base : ℤ)
     (pairs : List (ℕ × ℕ)) (datagrams : List (List ℕ)) (answers : List Taken) (given : List Item)
-    → 1 ≤ window → IsHeard carriage sequence0 packets first base pairs datagrams
+    → 1 ≤ window → IsHeard carry sequence0 packets first base pairs datagrams
     → Run window first told datagrams answers given
-    → (given ≡ items carriage packets window base told pairs) × AllByRecursion IsRight answers
+    → (given ≡ items carry packets window base told pairs) × AllByRecursion IsRight answers
 
 -- The item of a packet that lost no more datagrams than it was cut for, and whose others came within the window, is the
 -- packet.
 abbrev pub InTime : Type 0
 InTime =
-    (carriage : Carriage) (sequence0 window : ℕ) (packets : List (List ℕ)) (base : ℤ) (pairs : List (ℕ × ℕ)) (q : ℕ) (packet : List ℕ)
-    → AreSent carriage sequence0 packets → packet_at packets (base +ℤ pos q) ≡ Some packet
-    → let count = (shape_under carriage (length packet)).count in
-    count ≤ size count (got window base pairs q) + losses carriage
-    → item carriage packets window base pairs q ≡ Packet q packet
+    (carry : Carry) (sequence0 window : ℕ) (packets : List (List ℕ)) (base : ℤ) (pairs : List (ℕ × ℕ)) (q : ℕ) (packet : List ℕ)
+    → AreSent carry sequence0 packets → packet_at packets (base +ℤ pos q) ≡ Some packet
+    → let count = (shape_under carry (length packet)).count in
+    count ≤ size count (got window base pairs q) + losses carry
+    → item carry packets window base pairs q ≡ Packet q packet
 
 -- a collector answers and gives in one way
 abbrev pub OneRun : Type 0

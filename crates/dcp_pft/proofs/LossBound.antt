@@ -5,7 +5,9 @@ use Rattle.std.proofs.Math.Nat.{mul-le-mul_left}
 use Rattle.std.proofs.lemmas.Bool.{cases_lt}
 use Rattle.std.proofs.lemmas.Grind.{div_ceil_times}
 use Rattle.dcp_pft.specs.Cutting.{chunk_count, chunk_size, coded_size, most_bytes, coded_shape, plain_shape, chunks_of, shape_of}
-use Rattle.dcp_pft.specs.Loss.{size, is_recoverable, AnyMayBeLost}
+use Rattle.dcp_pft.specs.declared.carry.Carry.TheVariants.{Pft}
+use Rattle.dcp_pft.specs.Limits.{most_packet, most_losses, least_fragment, most_fragment}
+use Rattle.dcp_pft.specs.Loss.{size, is_recoverable}
 use Rattle.dcp_pft.proofs.Sizes.{chunks_are, most_is, coded_is}
 use Rattle.dcp_pft.proofs.Erased.{erased_few, all_stand, all_kept}
 
@@ -65,7 +67,8 @@ plain_bound : (len mtu : ℕ) (kept : ℕ → Bool) → (plain_shape len mtu).co
 unfolding is_recoverable
 plain_bound len mtu kept enough = all_kept (plain_shape len mtu).count kept enough
 
-pub loss_bound : AnyMayBeLost
+pub loss_bound : (len m mtu : ℕ) (kept : ℕ → Bool) → 1 ≤ len → len ≤ most_packet (Pft m mtu) → m ≤ most_losses → least_fragment ≤ mtu → mtu ≤ most_fragment
+    → (shape_of len m mtu).count ≤ size (shape_of len m mtu).count kept + m → is_recoverable (shape_of len m mtu) kept ≡ true
 unfolding shape_of
 loss_bound len zero mtu kept some small few least most enough = plain_bound len mtu kept (omega arith)
 loss_bound len (suc m) mtu kept some small few least most enough = coded_bound len (suc m) mtu kept some small (omega arith) few least enough

@@ -1,8 +1,10 @@
 -- How a packet is cut into fragments (TS 102 821; the numbers of fragments and bytes are this profile's).
 use Rattle.std.specs.Prelude.{ℕ, zero, suc, ◌≡◌, ◌+◌, ◌-◌, ◌*◌, ◌/◌, ◌≤◌, min, Option, None, Some}
 use Rattle.std.specs.Int.{div_ceil}
+use Rattle.dcp_pft.specs.declared.carry.Carry.TheVariants.{Pft}
 use Rattle.dcp_pft.specs.declared.shape.Rs.{Rs}
 use Rattle.dcp_pft.specs.declared.shape.Shape.{Shape}
+use Rattle.dcp_pft.specs.Limits.{most_packet, most_losses, least_fragment, most_fragment}
 
 -- the chunks of a packet of so many bytes: as few as hold 207 bytes each
 unfoldable pub chunk_count : ℕ → ℕ
@@ -50,10 +52,10 @@ chunks_of shape = of shape.rs
 -- the shape of a packet with so many bytes, in this profile
 pub record IsShapeOf (len : ℕ) (shape : Shape) : Type 0 where
   pub some : 1 ≤ len
-  pub small : len ≤ 8192
   pub m : ℕ
-  pub few : m ≤ 5
+  pub few : m ≤ most_losses
   pub mtu : ℕ
-  pub least : 128 ≤ mtu
-  pub most : mtu ≤ 1500
+  pub least : least_fragment ≤ mtu
+  pub most : mtu ≤ most_fragment
+  pub small : len ≤ most_packet (Pft m mtu)
   pub is : shape ≡ shape_of len m mtu

@@ -7,6 +7,7 @@ use Rattle.dcp_pft.specs.declared.fragment.Addr.{Addr}
 use Rattle.dcp_pft.specs.declared.fault.PftFault.{PftFault}
 use Rattle.dcp_pft.specs.declared.fault.PftFault.TheVariants.{Sync, HeadCut, HeadCrc, Count, Index, PlenMismatch, RsK, RsZ, TooMany, TooLarge, Chunks}
 use Rattle.drm_bits.specs.Crc.{IsCheckOf}
+use Rattle.dcp_pft.specs.Limits.{most_fragments, most_carried}
 use Rattle.dcp_pft.specs.Head.{sync}
 
 -- the numbers at their places
@@ -73,8 +74,8 @@ Row Index bytes = fragment_count bytes ≤ fragment_index bytes
 Row PlenMismatch bytes = described bytes ≢ length (payload bytes)
 Row RsK bytes = IsSomeAnd (code bytes) (λ rs. (rs.k ≡ 0) ⊎ (207 < rs.k))
 Row RsZ bytes = IsSomeAnd (code bytes) (λ rs. rs.k ≤ rs.z)
-Row TooMany bytes = 1024 < fragment_count bytes
-Row TooLarge bytes = 12288 < fragment_count bytes * described bytes
+Row TooMany bytes = most_fragments < fragment_count bytes
+Row TooLarge bytes = most_carried < fragment_count bytes * described bytes
 Row Chunks bytes = IsSomeAnd (code bytes) (λ rs. fragment_count bytes * described bytes / (rs.k + 48) ≡ 0)
 
 -- the rows in their order

@@ -1,6 +1,8 @@
+pub mod Limits
 pub mod Cutting
 pub mod Coding
 pub mod Head
+pub mod Carrying
 pub mod Laws
 pub mod Writing
 pub mod Loss

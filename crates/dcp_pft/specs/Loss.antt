@@ -2,7 +2,7 @@
 use Rattle.std.specs.Prelude.{ℕ, zero, suc, ◌≡◌, ◌+◌, ◌*◌, ◌%◌, ◌≤◌, nat_le, Bool, true, ◌&&◌, if◌then◌else◌, Option, Some, None}
 use Rattle.dcp_pft.specs.declared.shape.Rs.{Rs}
 use Rattle.dcp_pft.specs.declared.shape.Shape.{Shape}
-use Rattle.dcp_pft.specs.Cutting.{chunks_of, shape_of}
+use Rattle.dcp_pft.specs.Cutting.{chunks_of}
 
 -- how many of the indices below n are in the set
 unfoldable pub size : ℕ → (ℕ → Bool) → ℕ
@@ -33,10 +33,3 @@ is_recoverable shape kept = of shape.rs
     of : Option Rs → Bool
     of None = has_all shape.count kept
     of (Some rs) = chunks_stand shape.count kept (rs.k + 48) (chunks_of shape)
-
--- all fragments but m are enough
-abbrev pub AnyMayBeLost : Type 0
-AnyMayBeLost =
-    (len m mtu : ℕ) (kept : ℕ → Bool) → 1 ≤ len → len ≤ 8192 → m ≤ 5 → 128 ≤ mtu → mtu ≤ 1500
-    → (shape_of len m mtu).count ≤ size (shape_of len m mtu).count kept + m
-    → is_recoverable (shape_of len m mtu) kept ≡ true

@@ -5,6 +5,7 @@ use Rattle.dcp_pft.specs.declared.fragment.Fragment.{Fragment}
 use Rattle.dcp_pft.specs.declared.head.Head.{Head}
 use Rattle.dcp_pft.specs.declared.fault.PftFault.{PftFault}
 use Rattle.dcp_pft.specs.declared.fault.PftFault.TheVariants.{Sync, HeadCut, HeadCrc, Count, Index, PlenMismatch, RsK, RsZ, TooMany, TooLarge, Chunks}
+use Rattle.dcp_pft.specs.Limits.{most_fragments, most_carried}
 use Rattle.dcp_pft.specs.Head.{PftFragment, Spells}
 use Rattle.dcp_pft.specs.Faults.{sequence_number, fragment_index, fragment_count, described, code, addresses}
 
@@ -26,8 +27,8 @@ pub record IsPft (f : PftFragment) (bytes : List ℕ) : Type 0 where
   pub addr : IfSome f.addr (λ addr. (addr.source < 2 ^ 16) × (addr.dest < 2 ^ 16))
   pub some : 1 ≤ f.count
   pub index : f.index < f.count
-  pub few : f.count ≤ 1024
-  pub size : f.count * length f.payload ≤ 12288
+  pub few : f.count ≤ most_fragments
+  pub size : f.count * length f.payload ≤ most_carried
   pub code : IfSome f.rs (λ rs. IsCodeFor (f.count * length f.payload) rs)
 
 -- the fields of the header of these bytes

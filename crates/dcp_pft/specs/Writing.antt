@@ -3,6 +3,7 @@ use Rattle.std.specs.Prelude.{ℕ, ◌≡◌, ◌+◌, ◌≤◌, List, ◌++◌
 use Rattle.std.specs.Int.{w16, to_be_bytes}
 use Rattle.drm_bits.specs.Bits.{IsBytes}
 use Rattle.drm_bits.specs.Crc.{IsCheckOf}
+use Rattle.dcp_pft.specs.Limits.{most_fragment}
 use Rattle.dcp_pft.specs.Head.{PftFragment, Spells}
 
 -- these bytes with their check value are written to the front
@@ -14,7 +15,7 @@ pub record PutsHead (head old new : List ℕ) : Type 0 where
 
 -- a fragment of so many bytes is written to the front
 pub record Writes (f : PftFragment) (size : ℕ) (old new : List ℕ) : Type 0 where
-  pub small : size ≤ 1500
+  pub small : size ≤ most_fragment
   pub spells : Spells f (take size new)
   pub bytes : IsBytes (take size new)
   pub behind : drop size new ≡ drop size old

@@ -1,7 +1,6 @@
 //! The laws of cutting and reading, each on a function that does nothing.
 
-ghost use Rattle.dcp_pft.specs.Laws.{ChunksAgree, AllTaken, OneFragment, ReadAsWritten};
-ghost use Rattle.dcp_pft.specs.Loss.{AnyMayBeLost};
+ghost use Rattle.dcp_pft.specs.Laws.{ChunksAgree, AllTaken, AnyMayBeLost, OneFragment, ReadAsWritten, DatagramsHaveTheirSize};
 
 /// A receiver counts the chunks that the sender made.
 pub fn chunks_agree()
@@ -13,7 +12,7 @@ pub fn all_taken()
     ensures { AllTaken }
 {}
 
-/// As many fragments as a packet was cut for may be lost, whichever they are.
+/// As many datagrams as a packet was cut for may be lost, whichever they are.
 pub fn any_may_be_lost()
     ensures { AnyMayBeLost }
 {}
@@ -21,6 +20,11 @@ pub fn any_may_be_lost()
 /// A packet's fragment is one datagram.
 pub fn one_fragment()
     ensures { OneFragment }
+{}
+
+/// The bytes that are counted for a datagram are those that it has.
+pub fn datagrams_have_their_size()
+    ensures { DatagramsHaveTheirSize }
 {}
 
 /// A fragment that was written is read, as it was written.

@@ -7,13 +7,8 @@ ghost use Rattle.dcp_pft.specs.Faults.{IsFault, IsFirst, NoneOf, table, payload,
 ghost use Rattle.dcp_pft.specs.Reading.{pft_of, IsPft, IsHeadOf, size_rows, check_rows, number_rows, JudgesCode};
 
 use crate::head::{CHECK_BYTES, Head, LEAST_HEAD, head_of, size_of_head};
-use crate::{Fragment, PftFault, Rs};
+use crate::{Fragment, MOST_CARRIED, MOST_FRAGMENTS, PftFault, Rs};
 use drm_bits::compare_crc16;
-
-const MOST_FRAGMENTS: u32 = 1024;
-
-/// Of all fragments of a packet.
-const MOST_BYTES: u32 = 12288;
 
 /// Of a chunk without its parity.
 const MOST_CHUNK: u8 = 207;
@@ -115,7 +110,7 @@ fn judge(head: &Head, datagram: &[u8]) -> Result<(), PftFault>
         return Err(PftFault::TooMany);
     }
     let size = head.count * u32::from(head.len);
-    if size > MOST_BYTES {
+    if size > MOST_CARRIED {
         return Err(PftFault::TooLarge);
     }
     if has_no_chunk(size, head.rs) {

@@ -1,6 +1,8 @@
 //! Into how many fragments a packet is cut, and of how many bytes.
 
 ghost use Rattle.std.specs.Prelude.{◌≡◌, ◌+◌, ◌*◌, ◌^◌, ◌<◌, ◌≤◌, Option};
+ghost use Rattle.dcp_pft.specs.declared.carry.Carry.TheVariants.{Pft};
+ghost use Rattle.dcp_pft.specs.Limits.{most_packet, most_losses, least_fragment, most_fragment, most_fragments, most_carried, most_chunks};
 ghost use Rattle.dcp_pft.specs.Cutting.{IsShapeOf, shape_of, coded_shape, plain_shape, cut, chunks_of};
 
 /// How a packet is coded (TS 102 821).
@@ -36,17 +38,17 @@ pub(crate) const PLAIN_HEAD: u32 = 14;
 /// How a packet of so many bytes is cut so that m fragments may be lost and no datagram is longer than `mtu` bytes.
 pub fn shape_for(len: usize, m: u8, mtu: u16) -> Shape
     requires some { 1 ≤ len }
-    requires small { len ≤ 8192 }
-    requires few { m ≤ 5 }
-    requires least { 128 ≤ mtu }
-    requires most { mtu ≤ 1500 }
+    requires small { len ≤ most_packet (Pft m mtu) }
+    requires few { m ≤ most_losses }
+    requires least { least_fragment ≤ mtu }
+    requires most { mtu ≤ most_fragment }
     ensures shape { result ≡ shape_of len m mtu }
     ensures is { IsShapeOf len result }
     ensures some { 0 < result.count }
     // No limit of a receiver is passed.
-    ensures few { result.count ≤ 1024 }
-    ensures bytes { result.count * result.piece ≤ 12288 }
-    ensures chunks { chunks_of result ≤ 40 }
+    ensures few { result.count ≤ most_fragments }
+    ensures bytes { result.count * result.piece ≤ most_carried }
+    ensures chunks { chunks_of result ≤ most_chunks }
 {
     if m == 0 {
         plain(len as u32, mtu)
@@ -58,8 +60,8 @@ pub fn shape_for(len: usize, m: u8, mtu: u16) -> Shape
 // Without a code.
 fn plain(len: u32, mtu: u16) -> Shape
     requires some { 1 ≤ len }
-    requires small { len ≤ 8192 }
-    requires least { 128 ≤ mtu }
+    requires small { len ≤ most_packet (Pft 0 mtu) }
+    requires least { least_fragment ≤ mtu }
     ensures { result ≡ plain_shape len mtu }
 {
     equal_pieces(len, u32::from(mtu) - PLAIN_HEAD, None)
@@ -69,10 +71,10 @@ fn plain(len: u32, mtu: u16) -> Shape
 #[tactic(auto, unfolding(crate::specs::Cutting::chunk_count, crate::specs::Cutting::chunk_size, crate::specs::Cutting::coded_size, crate::specs::Cutting::most_bytes))]
 fn coded(len: u32, m: u8, mtu: u16) -> Shape
     requires some { 1 ≤ len }
-    requires small { len ≤ 8192 }
+    requires small { len ≤ most_packet (Pft m mtu) }
     requires kept { 1 ≤ m }
-    requires few { m ≤ 5 }
-    requires least { 128 ≤ mtu }
+    requires few { m ≤ most_losses }
+    requires least { least_fragment ≤ mtu }
     ensures { result ≡ coded_shape len m mtu }
 {
     let chunks = len.div_ceil(CHUNK_BYTES);

@@ -3,11 +3,13 @@
 ghost use Rattle.std.specs.Prelude.{◌≡◌, ◌+◌, ◌*◌, ◌-◌, ◌^◌, ◌<◌, ◌≤◌, ◌++◌, ◌∷◌, [], ℕ, List, length, take, drop, Some, None, replicate};
 ghost use Rattle.std.specs.Int.{w16, to_be_bytes};
 ghost use Rattle.drm_bits.specs.Bits.{IsBytes};
+ghost use Rattle.dcp_pft.specs.Limits.{most_fragment, most_fragments};
 ghost use Rattle.dcp_pft.specs.Cutting.{IsShapeOf, chunks_of};
 ghost use Rattle.dcp_pft.specs.Coding.{IsParityOf, byte_or_zero, coded, every};
 ghost use Rattle.dcp_pft.specs.Head.{Spells, IsFragmentOf, fragment_of, sync, three_bytes};
 ghost use Rattle.dcp_pft.specs.Writing.{PutsHead, Writes};
 
+use crate::limits::MOST_FRAGMENT;
 use crate::parts::part;
 use crate::place::Place;
 use crate::shape::{CODED_HEAD, PARITY_BYTES, PLAIN_HEAD, Rs, Shape};
@@ -23,14 +25,14 @@ pub fn write_fragment(
     index: u32,
     packet: &[u8],
     parity: &[u8],
-    into: &mut [u8; 1500],
+    into: &mut [u8; MOST_FRAGMENT],
 ) -> usize
     requires shape { IsShapeOf (length packet.now) shape.now }
     requires parity { IsParityOf shape.now packet.now parity.now }
     requires index { index < shape.now.count }
     ensures fragment { Spells (fragment_of shape.now seq packet.now parity.now index) (take result into.new) }
     ensures is { IsFragmentOf shape.now seq packet.now index (take result into.new) }
-    ensures small { result ≤ 1500 }
+    ensures small { result ≤ most_fragment }
     ensures bytes { IsBytes (take result into.new) }
     ensures behind { drop result into.new ≡ drop result into.old }
 {
@@ -48,7 +50,7 @@ fn write_coded(
     index: u32,
     packet: &[u8],
     parity: &[u8],
-    into: &mut [u8; 1500],
+    into: &mut [u8; MOST_FRAGMENT],
 ) -> usize
     requires shape { IsShapeOf (length packet.now) shape.now }
     requires code { shape.now.rs ≡ Some rs }
@@ -69,7 +71,13 @@ fn write_coded(
 }
 
 // A fragment without a code.
-fn write_plain(shape: &Shape, seq: u16, index: u32, packet: &[u8], into: &mut [u8; 1500]) -> usize
+fn write_plain(
+    shape: &Shape,
+    seq: u16,
+    index: u32,
+    packet: &[u8],
+    into: &mut [u8; MOST_FRAGMENT],
+) -> usize
     requires shape { IsShapeOf (length packet.now) shape.now }
     requires code { shape.now.rs ≡ None }
     ensures { (parity : List ℕ) → Writes (fragment_of shape.now seq packet.now parity index) result into.old into.new }
@@ -125,8 +133,8 @@ fn put_head(head: &[u8], into: &mut [u8])
 
 // Writes every count-th byte of the coded chunks of k bytes, from the first one on.
 fn interleave(packet: &[u8], parity: &[u8], k: u8, count: u32, first: u32, into: &mut [u8])
-    requires count { count ≤ 1024 }
-    requires room { length into.old ≤ 1500 }
+    requires count { count ≤ most_fragments }
+    requires room { length into.old ≤ most_fragment }
     requires some { 0 < k }
     ensures bytes { IsBytes into.new }
     ensures every { (c z : ℕ) → c * k ≡ length packet.now + z → length parity.now ≡ 48 * c

@@ -7,7 +7,8 @@ use Rattle.std.proofs.lemmas.List.{length-append, length-map}
 use Rattle.std.proofs.lemmas.List.Elements.{All-nil, All-cons, All-head, All-tail, All-append}
 use Rattle.drm_sdc.specs.declared.body.Body.{Body}
 use Rattle.drm_sdc.specs.declared.body.Body.TheVariants as bodies
-use Rattle.drm_schedule.specs.Ranges.{CarryInLines, StreamInLines, ServiceInLines, ClockInLines, EntityInLines, ConfigInLines, InLines}
+use Rattle.dcp_pft.specs.Carrying.{CarryFits}
+use Rattle.drm_schedule.specs.Ranges.{StreamInLines, ServiceInLines, ClockInLines, EntityInLines, ConfigInLines, InLines}
 use Rattle.line_forms.specs.declared.line.Line.{Line}
 use Rattle.line_forms.specs.declared.line.Line.TheVariants as lines
 use Rattle.line_forms.specs.declared.first_word.Keyword.{Keyword}
@@ -81,11 +82,11 @@ clock_fits (Some s) fits = by s.line s.says fits
     by n (lines.Clock clock) fits = fits
     by n _ fits = tt
 
-carry_fits : (o : Option Said) → IfSome o (λ s. LineInLines s.says) → CarryInLines (carry_in o)
+carry_fits : (o : Option Said) → IfSome o (λ s. LineInLines s.says) → CarryFits (carry_in o)
 carry_fits None fits = tt
 carry_fits (Some s) fits = by s.line s.says fits
   where
-    by : (n : ℕ) (l : Line) → LineInLines l → CarryInLines (carry_in (Some (record { line = n; says = l })))
+    by : (n : ℕ) (l : Line) → LineInLines l → CarryFits (carry_in (Some (record { line = n; says = l })))
     by n (lines.Carry carry) fits = fits
     by n _ fits = tt
 

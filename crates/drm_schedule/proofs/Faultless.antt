@@ -3,6 +3,7 @@ use Rattle.std.proofs.Common.{◌≡◌, ℕ, zero, suc, ◌+◌, ◌-◌, ◌*�
 use Rattle.std.proofs.lemmas.Bool.{ltb-false}
 use Rattle.drm_schedule.specs.declared.invalid.Invalid.{Invalid}
 use Rattle.drm_schedule.specs.declared.stream.Stream.{Stream}
+use Rattle.drm_schedule.specs.declared.plan.Plan.{Plan}
 use Rattle.drm_schedule.specs.declared.config.Config.{Config}
 use Rattle.drm_schedule.specs.Valid.{rows, content_rows, first_fault, first_of, end_before, is_short, first_invalid_from, IsFaultless, AreFaultless}
 
@@ -24,8 +25,8 @@ long_enough k j frames [] none n d within = absurd (omega (arith, within))
 long_enough k j frames (s ∷ streams) none zero d within = none.0
 long_enough k j frames (s ∷ streams) none (suc n) d within = long_enough k (j + 1) frames streams none.1 n d (omega (arith, within))
 
-one : (len k end : ℕ) (before : Option Config) (c : Config) → NoneHolds (rows len k before c end) → IsFaultless len before end c
-one len k end before c none = record {
+one : (plan : Plan) (k end : ℕ) (before : Option Config) (c : Config) → NoneHolds (rows plan k before c end) → IsFaultless plan before end c
+one plan k end before c none = record {
   order = none.0;
   countdown_fits = none.1.0;
   occupancy_fits = none.1.1.0;
@@ -41,9 +42,9 @@ neither : (a b : Option Invalid) → first_of a b ≡ None → (a ≡ None) × (
 neither None b none = (refl, none)
 neither (Some x) b none = absurd cc
 
-pub all_faultless : (len k : ℕ) (before : Option Config) (configs : List Config) → first_invalid_from len k before configs ≡ None → AreFaultless len before configs
+pub all_faultless : (plan : Plan) (k : ℕ) (before : Option Config) (configs : List Config) → first_invalid_from plan k before configs ≡ None → AreFaultless plan before configs
 unfolding first_invalid_from
-all_faultless len k before [] none = tt
-all_faultless len k before (c ∷ more) none =
-    let parts = neither (first_fault (rows len k before c (end_before len more))) (first_invalid_from len (k + 1) (Some c) more) none in
-    (one len k (end_before len more) before c (none_holds (rows len k before c (end_before len more)) parts.0), all_faultless len (k + 1) (Some c) more parts.1)
+all_faultless plan k before [] none = tt
+all_faultless plan k before (c ∷ more) none =
+    let parts = neither (first_fault (rows plan k before c (end_before plan.length more))) (first_invalid_from plan (k + 1) (Some c) more) none in
+    (one plan k (end_before plan.length more) before c (none_holds (rows plan k before c (end_before plan.length more)) parts.0), all_faultless plan (k + 1) (Some c) more parts.1)

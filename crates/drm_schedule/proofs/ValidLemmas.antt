@@ -10,7 +10,7 @@ use Rattle.drm_schedule.specs.Valid.{first_invalid, first_invalid_from}
 
 -- The fault of the plan is that of the configurations that are left, from the k-th on and behind `before`.
 pub record Left (plan : Plan) (k : ℕ) (before : Option Config) (left : List Config) : Type 0 where
-  pub same : first_invalid_from plan.length k before left ≡ first_invalid plan
+  pub same : first_invalid_from plan k before left ≡ first_invalid plan
   pub count : k + length left ≡ length plan.configs
   pub behind : IfSome before ConfigInLines
   pub each : All ConfigInLines left

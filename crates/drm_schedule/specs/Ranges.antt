@@ -9,19 +9,13 @@ use Rattle.drm_sdc.specs.declared.body.AppMode.TheVariants.{Sync, Packet}
 use Rattle.drm_sdc.specs.declared.body.Body.{Body}
 use Rattle.drm_sdc.specs.declared.body.Body.TheVariants.{Mux, Label, Freq, When, App, Time, Audio, Next, Language, Raw}
 use Rattle.drm_sdc.specs.declared.entity.Entity.{Entity}
-use Rattle.drm_schedule.specs.declared.carry.Carry.{Carry}
-use Rattle.drm_schedule.specs.declared.carry.Carry.TheVariants.{Plain, Pft}
+use Rattle.dcp_pft.specs.Carrying.{CarryFits}
 use Rattle.drm_schedule.specs.declared.stream.Content.{Content}
 use Rattle.drm_schedule.specs.declared.stream.Content.TheVariants.{Fill, File}
 use Rattle.drm_schedule.specs.declared.stream.Stream.{Stream}
 use Rattle.drm_schedule.specs.declared.config.Clock.{Clock}
 use Rattle.drm_schedule.specs.declared.config.Config.{Config}
 use Rattle.drm_schedule.specs.declared.plan.Plan.{Plan}
-
--- FEC with m from 0, which is none, to 5, and fragments of 128 to 1,500 bytes
-abbrev pub CarryInLines : Carry → Type 0
-CarryInLines Plain = Unit {0}
-CarryInLines (Pft m mtu) = (m ≤ 5) × (128 ≤ mtu) × (mtu ≤ 1500)
 
 -- A word of a line, in UTF-8: neither a space nor a line feed is in it.
 pub record IsName (name : List ℕ) : Type 0 where
@@ -118,7 +112,7 @@ pub record ConfigInLines (c : Config) : Type 0 where
 
 -- The lines of a text, and the files that it names, can give this plan.
 pub record InLines (plan : Plan) : Type 0 where
-  pub carry_fits : CarryInLines plan.carry
+  pub carry_fits : CarryFits plan.carry
   pub seq_fits : plan.seq < 2 ^ 16
   pub dlfc_fits : plan.dlfc < 2 ^ 32
   pub some_frames : 1 ≤ plan.length

@@ -1,5 +1,6 @@
 -- Which plans are schedules, and the first fault of one that isn't.
 use Rattle.std.specs.Prelude.{ℕ, ◌≡◌, ◌+◌, ◌-◌, ◌*◌, ◌==◌, ◌&&◌, ◌||◌, ◌≤◌, nat_le, nat_lt, not, min, All, Bool, true, false, if◌then◌else◌, List, [], ◌∷◌, ◌++◌, length, Option, Some, None}
+use Rattle.dcp_pft.specs.Limits.{most_packet}
 use Rattle.drm_schedule.specs.declared.invalid.Invalid.{Invalid}
 use Rattle.drm_schedule.specs.declared.invalid.Place.{Place}
 use Rattle.drm_schedule.specs.declared.invalid.Place.TheVariants as place
@@ -62,15 +63,15 @@ abbrev pub block_rows : ℕ → Config → List (Bool × Invalid)
 block_rows k c = row (services_disagree c) k place.Config reason.Services ∷ row (has_no_room c) k place.Config reason.Fit ∷ []
 
 -- what can be wrong with the k-th configuration, behind the one before it and up to `end`
-abbrev pub rows : ℕ → ℕ → Option Config → Config → ℕ → List (Bool × Invalid)
-rows len k before c end =
-    row (starts_wrongly len before c) k place.Config reason.Order
+abbrev pub rows : Plan → ℕ → Option Config → Config → ℕ → List (Bool × Invalid)
+rows plan k before c end =
+    row (starts_wrongly plan.length before c) k place.Config reason.Order
     ∷ row (counts_wrongly before c) k place.Config reason.Countdown
     ∷ row (has_no_such_occupancy c) k place.Occupancy reason.Occupancy
     ∷ row (is_hierarchical c) k place.Msc reason.Hierarchical
     ∷ block_rows k c
     ++ row (lacks_announcement before c) k place.Config reason.Fit
-    ∷ row (nat_lt 8192 (packet_len c true)) k place.Config reason.PacketSize
+    ∷ row (nat_lt (most_packet plan.carry) (packet_len c true)) k place.Config reason.PacketSize
     ∷ content_rows k 0 (3 * (end - c.start)) c.streams
 
 -- the fault of the first row that holds
@@ -88,13 +89,13 @@ first_of None other = other
 first_of (Some fault) other = Some fault
 
 -- configuration by configuration, from the k-th on
-unfoldable pub first_invalid_from : ℕ → ℕ → Option Config → List Config → Option Invalid
-first_invalid_from len k before [] = None
-first_invalid_from len k before (c ∷ more) =
-    first_of (first_fault (rows len k before c (end_before len more))) (first_invalid_from len (k + 1) (Some c) more)
+unfoldable pub first_invalid_from : Plan → ℕ → Option Config → List Config → Option Invalid
+first_invalid_from plan k before [] = None
+first_invalid_from plan k before (c ∷ more) =
+    first_of (first_fault (rows plan k before c (end_before plan.length more))) (first_invalid_from plan (k + 1) (Some c) more)
 
 abbrev pub first_invalid : Plan → Option Invalid
-first_invalid plan = first_invalid_from plan.length 0 None plan.configs
+first_invalid plan = first_invalid_from plan 0 None plan.configs
 
 -- A plan that is valid, of what the lines of a text can give.
 pub record IsSchedule (plan : Plan) : Type 0 where
@@ -102,18 +103,18 @@ pub record IsSchedule (plan : Plan) : Type 0 where
   pub valid : first_invalid plan ≡ None
 
 -- A configuration, behind the one before it and up to `end`, to which no row of the table applies.
-pub record IsFaultless (len : ℕ) (before : Option Config) (end : ℕ) (c : Config) : Type 0 where
-  pub order : starts_wrongly len before c ≡ false
+pub record IsFaultless (plan : Plan) (before : Option Config) (end : ℕ) (c : Config) : Type 0 where
+  pub order : starts_wrongly plan.length before c ≡ false
   pub countdown_fits : counts_wrongly before c ≡ false
   pub occupancy_fits : has_no_such_occupancy c ≡ false
   pub not_hierarchical : is_hierarchical c ≡ false
   pub services_agree : services_disagree c ≡ false
   pub has_room : has_no_room c ≡ false
   pub announced : lacks_announcement before c ≡ false
-  pub packet : packet_len c true ≤ 8192
+  pub packet : packet_len c true ≤ most_packet plan.carry
   pub files : All (λ (s : Stream). is_short (3 * (end - c.start)) s ≡ false) c.streams
 
 -- each configuration is without fault in its place
-abbrev pub AreFaultless : ℕ → Option Config → List Config → Type 0
-AreFaultless len before [] = Unit {0}
-AreFaultless len before (c ∷ more) = IsFaultless len before (end_before len more) c × AreFaultless len (Some c) more
+abbrev pub AreFaultless : Plan → Option Config → List Config → Type 0
+AreFaultless plan before [] = Unit {0}
+AreFaultless plan before (c ∷ more) = IsFaultless plan before (end_before plan.length more) c × AreFaultless plan (Some c) more

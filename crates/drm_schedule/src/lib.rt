@@ -2,7 +2,6 @@
 #![tactic(auto)]
 
 mod announcement;
-mod carry;
 mod config;
 mod invalid;
 mod laws;
@@ -15,8 +14,8 @@ mod valid;
 
 pub use announcement::{Repeated, free_in_countdown};
 pub use block_packing::{Spot, can_be_packed};
-pub use carry::Carry;
 pub use config::{Clock, Config, Configs, Services, Streams};
+pub use dcp_pft::Carry;
 pub use drm_fac::{Mode, Service};
 pub use drm_sdc::{AppMode, Body, Channel15, Channels, Entities, Entity, MuxDesc, Octets, Part};
 pub use invalid::{Invalid, Place, Reason};

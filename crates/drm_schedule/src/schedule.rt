@@ -79,7 +79,7 @@ impl Schedule {
     /// A law: each schedule is valid, and none of its configurations has a fault. The call does nothing.
     pub fn always_valid(&self)
         ensures schedule { IsSchedule self.now }
-        ensures faultless { AreFaultless self.now.length None self.now.configs }
+        ensures faultless { AreFaultless self.now None self.now.configs }
     {
         let _ = &self.plan;
     }

@@ -11,6 +11,7 @@ use crate::announcement::can_be_announced;
 use crate::service_rules::disagree;
 use crate::sizes::{is_too_small, packet_len, stream_len};
 use crate::{Config, Content, Invalid, Mode, Place, Plan, Reason, Stream};
+use dcp_pft::most_packet;
 
 fn starts_wrongly(length: u32, before: Option<&Config>, config: &Config) -> bool
     ensures { result ≡ valid.starts_wrongly length (option_copied before.entry) config.now }
@@ -106,7 +107,7 @@ fn fault(config: usize, place: Place, reason: Reason) -> Option<Invalid>
 
 // What is wrong with the configuration of this number, behind another and up to `end`.
 fn config_fault(
-    length: u32,
+    plan: &Plan,
     k: usize,
     before: Option<&Config>,
     config: &Config,
@@ -114,9 +115,9 @@ fn config_fault(
 ) -> Option<Invalid>
     requires before { IfSome (option_copied before) ConfigInLines }
     requires config { ConfigInLines config.now }
-    ensures { result ≡ first_fault (rows length k (option_copied before.entry) config.now end) }
+    ensures { result ≡ first_fault (rows plan.now k (option_copied before.entry) config.now end) }
 {
-    if starts_wrongly(length, before, config) {
+    if starts_wrongly(plan.length, before, config) {
         return fault(k, Place::Config, Reason::Order);
     }
     if counts_wrongly(before, config) {
@@ -134,7 +135,7 @@ fn config_fault(
     if is_too_small(config) || lacks_announcement(before, config) {
         return fault(k, Place::Config, Reason::Fit);
     }
-    if packet_len(config, true) > 8192 {
+    if packet_len(config, true) as usize > most_packet(plan.carry) {
         return fault(k, Place::Config, Reason::PacketSize);
     }
     let frames = 3 * u64::from(end.saturating_sub(config.start));
@@ -161,7 +162,7 @@ pub fn first_invalid(plan: &Plan) -> Option<Invalid>
     let mut k = 0;
     while let [config, more @ ..] = left {
         let end = end_before(plan.length, more);
-        let found = config_fault(plan.length, k, before, config, end);
+        let found = config_fault(plan, k, before, config, end);
         if found.is_some() {
             return found;
         }

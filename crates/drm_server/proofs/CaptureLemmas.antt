@@ -1,5 +1,5 @@
 -- What is written of a schedule, datagram by datagram and frame by frame, where some of it waits.
-use Rattle.std.proofs.Common.{◌≡◌, ◌<◌, ◌≤◌, ◌+◌, ◌*◌, ℕ, zero, suc, List, [], ◌∷◌, ◌++◌, Option, ◌⊎◌, inl, inr, ⊎_elim, refl, sym, ap, ap₂, subst, ◌∙◌, append_assoc, length, take, arith}
+use Rattle.std.proofs.Common.{◌≡◌, ◌<◌, ◌≤◌, ◌+◌, ℕ, zero, suc, List, [], ◌∷◌, ◌++◌, Option, ◌⊎◌, inl, inr, ⊎_elim, refl, sym, ap, ap₂, subst, ◌∙◌, append_assoc, length, take, arith}
 use Rattle.std.proofs.lemmas.List.{append-nil, take-append-le, length-take-le}
 use Rattle.std.proofs.Math.Seq.{take-append-add}
 use borrow.Rule.Slice.PartMut.{put_mid, post_of}
@@ -7,6 +7,7 @@ use Rattle.std.specs.List.{concat}
 use Rattle.drm_schedule.specs.declared.plan.Plan.{Plan}
 use Rattle.drm_links.specs.Sink.{Output, Outputs, IsFront}
 use Rattle.drm_links.proofs.ToldLemmas.{Outputs-then}
+use Rattle.drm_timeline.specs.Numbers.{frame_count}
 use Rattle.drm_server.specs.Datagrams.{IsDatagramAt, AreFirst, AreOfFrames, AreDatagrams}
 use Rattle.drm_server.specs.Capture.{IsCapture, IsFrontOfCapture}
 use Rattle.drm_server.specs.Gathering.{Gathers, IsFrontOfFrame, IsFrontWithDatagram}
@@ -43,7 +44,7 @@ nothing_before (x ∷ part) rest is = cc
 
 module _ (plan : Plan) where
   -- datagrams of the frames before, some first ones of this frame, and a front of the next one
-  ends_in : (t i : ℕ) → t < 3 * plan.length → (before first : List (List ℕ)) → AreOfFrames plan t before → AreFirst plan t i first
+  ends_in : (t i : ℕ) → t < frame_count plan → (before first : List (List ℕ)) → AreOfFrames plan t before → AreFirst plan t i first
       → (next front : List ℕ) → IsDatagramAt plan t i next → IsFront next front → IsFrontOfCapture plan (concat before ++ (concat first ++ front))
   ends_in t i within before first are are_first next front is is_front = (
     next,
@@ -55,7 +56,7 @@ module _ (plan : Plan) where
   )
 
   -- a front of some first datagrams and one more: it ends in that one, or where `early` says
-  in_next : (t i : ℕ) → t < 3 * plan.length → (before others : List (List ℕ)) (datagram : List ℕ) → AreOfFrames plan t before → AreFirst plan t i others → IsDatagramAt plan t i datagram
+  in_next : (t i : ℕ) → t < frame_count plan → (before others : List (List ℕ)) (datagram : List ℕ) → AreOfFrames plan t before → AreFirst plan t i others → IsDatagramAt plan t i datagram
       → (part : List ℕ) → (IsFront (concat others) part → IsFrontOfCapture plan (concat before ++ part)) → IsFront (concat (others ++ datagram ∷ [])) part
       → IsFrontOfCapture plan (concat before ++ part)
   in_next t i within before others datagram are are_others is part early (rest, front) =
@@ -67,7 +68,7 @@ module _ (plan : Plan) where
       ]
 
   -- a front of one or more first datagrams of a frame, behind all of the frames before it
-  front_in_frame : (t i : ℕ) → t < 3 * plan.length → (before first : List (List ℕ)) → AreOfFrames plan t before → AreFirst plan t (suc i) first
+  front_in_frame : (t i : ℕ) → t < frame_count plan → (before first : List (List ℕ)) → AreOfFrames plan t before → AreFirst plan t (suc i) first
       → (part : List ℕ) → IsFront (concat first) part → IsFrontOfCapture plan (concat before ++ part)
   front_in_frame t zero within before first are (others, datagram, none, is, same) part front =
       in_next t zero within before others datagram are none is part
@@ -81,7 +82,7 @@ module _ (plan : Plan) where
       (subst (λ l. IsFront (concat l) part) same front)
 
   -- a front of the datagrams of some first frames: it ends in one of them, or there are none and nothing else
-  front_in_frames : (t : ℕ) → t ≤ 3 * plan.length → (before : List (List ℕ)) → AreOfFrames plan t before
+  front_in_frames : (t : ℕ) → t ≤ frame_count plan → (before : List (List ℕ)) → AreOfFrames plan t before
       → (text : List ℕ) → IsFront (concat before) text → IsFrontOfCapture plan text ⊎ (text ≡ concat before)
   front_in_frames zero within before none text (rest, is) =
       inr (nothing_before text rest (sym (ap concat none) ∙ is) ∙ sym (ap concat none))
@@ -105,19 +106,19 @@ module _ (plan : Plan) where
           inl (subst (IsFrontOfCapture plan) (sym is) (front_in_frame t i (omega (arith, within)) others of_frame are first part front))
 
   -- All datagrams of one frame or more are a front too: the last of them is whole.
-  all_are_front : (t i : ℕ) → t < 3 * plan.length → (before first : List (List ℕ)) → AreOfFrames plan t before → AreFirst plan t (suc i) first
+  all_are_front : (t i : ℕ) → t < frame_count plan → (before first : List (List ℕ)) → AreOfFrames plan t before → AreFirst plan t (suc i) first
       → IsFrontOfCapture plan (concat (before ++ first))
   all_are_front t i within before first are are_first =
       subst (IsFrontOfCapture plan) (sym (concat_append before first))
       (front_in_frame t i within before first are are_first (concat first) ([], sym (append-nil (concat first))))
 
-  pub one_or_more : (t count : ℕ) → t < 3 * plan.length → 1 ≤ count → (before first : List (List ℕ)) → AreOfFrames plan t before → AreFirst plan t count first
+  pub one_or_more : (t count : ℕ) → t < frame_count plan → 1 ≤ count → (before first : List (List ℕ)) → AreOfFrames plan t before → AreFirst plan t count first
       → IsFrontOfCapture plan (concat (before ++ first))
   one_or_more t zero within some before first are are_first = absurd (omega (arith, some))
   one_or_more t (suc i) within some before first are are_first = all_are_front t i within before first are are_first
 
   -- a front of all frames before, and of one or more first datagrams of this frame
-  front_so_far : (t i : ℕ) → t < 3 * plan.length → (before first : List (List ℕ)) → AreOfFrames plan t before → AreFirst plan t (suc i) first
+  front_so_far : (t i : ℕ) → t < frame_count plan → (before first : List (List ℕ)) → AreOfFrames plan t before → AreFirst plan t (suc i) first
       → (text : List ℕ) → IsFront (concat before ++ concat first) text → IsFrontOfCapture plan text
   front_so_far t i within before first are are_first text front =
       elim (front_of_two (concat before) (concat first) text front) [
@@ -176,7 +177,7 @@ gathers_frame before of_frame then_waits waits a b c first second =
 
 module _ (plan : Plan) where
   -- a part of the next frame
-  pub part_written : (t : ℕ) (datagrams : List (List ℕ)) (waits : List ℕ) (a b c : Option Output) → t < 3 * plan.length → AreOfFrames plan t datagrams
+  pub part_written : (t : ℕ) (datagrams : List (List ℕ)) (waits : List ℕ) (a b c : Option Output) → t < frame_count plan → AreOfFrames plan t datagrams
       → Gathers [] (concat datagrams) waits a b → Outputs b c (IsFrontOfFrame plan t waits) → Outputs a c (IsFrontOfCapture plan)
   part_written t datagrams waits a b c within are first second =
       Outputs-then (λ s. concat datagrams ≡ s ++ waits) (IsFrontOfFrame plan t waits) (IsFrontOfCapture plan) a b c first second
@@ -185,7 +186,7 @@ module _ (plan : Plan) where
       (rest, ap (λ l. l ++ concat of_frame) is ∙ (append_assoc s waits (concat of_frame) ∙ (ap (λ l. s ++ l) front ∙ sym (append_assoc s u rest)))))
 
   -- a front of what waits at the end
-  pub end_written : (t : ℕ) (datagrams : List (List ℕ)) (waits : List ℕ) (a b c : Option Output) → t ≤ 3 * plan.length → AreOfFrames plan t datagrams → IsFrontOfCapture plan (concat datagrams)
+  pub end_written : (t : ℕ) (datagrams : List (List ℕ)) (waits : List ℕ) (a b c : Option Output) → t ≤ frame_count plan → AreOfFrames plan t datagrams → IsFrontOfCapture plan (concat datagrams)
       → Gathers [] (concat datagrams) waits a b → Outputs b c (IsFront waits) → Outputs a c (IsFrontOfCapture plan)
   end_written t datagrams waits a b c within are all first second =
       Outputs-then (λ s. concat datagrams ≡ s ++ waits) (IsFront waits) (IsFrontOfCapture plan) a b c first second

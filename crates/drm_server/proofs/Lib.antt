@@ -1,6 +1,5 @@
 pub mod ByteLemmas
 pub mod BlockLemmas
-pub mod ConfigurationLemmas
 pub mod PacketLemmas
 pub mod PayloadLemmas
 pub mod StreamLemmas

@@ -1,13 +1,15 @@
 -- A schedule has one list of datagrams, of which those before a certain one are the front.
-use Rattle.std.proofs.Common.{◌≡◌, ◌<◌, ◌≤◌, ◌+◌, ◌*◌, ◌%◌, ◌^◌, ℕ, zero, suc, List, [], ◌∷◌, ◌++◌, length, refl, sym, ap, subst, ◌∙◌, ⊎_elim, arith, append_assoc}
+use Rattle.std.proofs.Common.{◌≡◌, ◌<◌, ◌≤◌, ℕ, zero, suc, List, [], ◌∷◌, ◌++◌, length, refl, sym, ap, subst, ◌∙◌, ⊎_elim, arith, append_assoc}
 use Rattle.std.proofs.lemmas.Bool.{cases_lt}
 use Rattle.std.proofs.lemmas.List.{append-nil}
 use Rattle.std.specs.List.{concat}
-use Rattle.drm_schedule.specs.declared.carry.Carry.{Carry}
-use Rattle.drm_schedule.specs.declared.carry.Carry.TheVariants.{Plain, Pft}
+use Rattle.dcp_pft.specs.declared.carry.Carry.{Carry}
+use Rattle.dcp_pft.specs.declared.carry.Carry.TheVariants.{Plain, Pft}
 use Rattle.drm_schedule.specs.declared.plan.Plan.{Plan}
 use Rattle.dcp_pft.specs.Laws.{OneFragment}
-use Rattle.drm_server.specs.Datagrams.{Carries, datagram_count, HasDatagrams, IsDatagramAt, AreFirst, AreOfFrame, AreOfFrames, AreDatagrams, AreBefore}
+use Rattle.drm_timeline.specs.Numbers.{frame_count, sequence_number}
+use Rattle.dcp_pft.specs.Carrying.{Carries, datagram_count}
+use Rattle.drm_server.specs.Datagrams.{HasDatagrams, IsDatagramAt, AreFirst, AreOfFrame, AreOfFrames, AreDatagrams, AreBefore}
 use Rattle.drm_server.specs.Capture.{IsCapture}
 use Rattle.drm_server.proofs.OnePacket.{one_packet, some_bytes}
 
@@ -59,7 +61,7 @@ module _ (one_fragment : OneFragment) where
 
   one_datagram : (plan : Plan) (t i : ℕ) (datagram other : List ℕ) → IsDatagramAt plan t i datagram → IsDatagramAt plan t i other → datagram ≡ other
   one_datagram plan t i datagram other x y =
-      let seq : ℕ = (plan.seq + t) % 2 ^ 16 in
+      let seq : ℕ = sequence_number plan t in
       let same : x.packet ≡ y.packet = one_packet plan t x.packet y.packet x.is_packet y.is_packet in
       one_carried plan.carry seq i y.packet datagram other (some_bytes plan t y.packet y.is_packet) (subst (λ (p : List ℕ). Carries plan.carry seq p i datagram) same x.is) y.is
 
@@ -79,7 +81,7 @@ module _ (one_fragment : OneFragment) where
       same ∙ (ap (λ l. l ++ of_frame) (one_of_frames plan n before before' are are') ∙ (ap (λ l. before' ++ l) (one_of_frame plan n of_frame of_frame' is is') ∙ sym same'))
 
   pub one_delivery : (plan : Plan) (datagrams others : List (List ℕ)) → AreDatagrams plan datagrams → AreDatagrams plan others → datagrams ≡ others
-  one_delivery plan datagrams others x y = one_of_frames plan (3 * plan.length) datagrams others x y
+  one_delivery plan datagrams others x y = one_of_frames plan (frame_count plan) datagrams others x y
 
   pub one_capture : (plan : Plan) (bytes others : List ℕ) → IsCapture plan bytes → IsCapture plan others → bytes ≡ others
   one_capture plan bytes others (datagrams, are, same) (datagrams', are', same') =
@@ -88,7 +90,7 @@ module _ (one_fragment : OneFragment) where
   pub first_ones_are_front : (plan : Plan) (datagrams first : List (List ℕ)) (next : List ℕ) → AreDatagrams plan datagrams → AreBefore plan next first
       → (behind : List (List ℕ)) × (datagrams ≡ first ++ next ∷ behind)
   first_ones_are_front plan datagrams first next are x =
-      let f = frames_split plan x.t (3 * plan.length) datagrams x.within are in
+      let f = frames_split plan x.t (frame_count plan) datagrams x.within are in
       let g = first_split plan x.t x.i f.4.0 f.1 (below_count plan x.t x.i f.4.0 next x.is_next f.4.1) f.4.2 in
       let same_frames : f.0 ≡ x.of_frames = one_of_frames plan x.t f.0 x.of_frames f.3 x.are_of_frames in
       let same_first : g.0 ≡ x.of_frame = one_first plan x.t x.i g.0 x.of_frame g.3 x.are_first in

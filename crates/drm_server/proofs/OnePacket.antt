@@ -1,5 +1,5 @@
 -- A frame has one packet.
-use Rattle.std.proofs.Common.{◌≡◌, ◌+◌, ◌-◌, ◌*◌, ◌/◌, ◌%◌, ◌^◌, ◌==◌, ◌≤◌, ℕ, Bool, true, false, List, ◌++◌, map, length, arith, Option, Some, None, refl, sym, ap, subst, ◌∙◌}
+use Rattle.std.proofs.Common.{◌≡◌, ◌-◌, ◌*◌, ◌/◌, ◌%◌, ◌==◌, ◌≤◌, ℕ, Bool, true, false, List, ◌++◌, map, length, arith, Option, Some, None, refl, sym, ap, subst, ◌∙◌}
 use Rattle.std.specs.Int.{w16, to_be_bytes}
 use Rattle.drm_bits.specs.Bits.{IsBytes}
 use Rattle.drm_bits.specs.declared.description.MuxDesc.{MuxDesc}
@@ -15,6 +15,7 @@ use Rattle.mdi_items.specs.Names.{name_at, sdc_}
 use Rattle.mdi_items.specs.Written.{spelling, stream_pieces}
 use Rattle.mdi_items.specs.RoundTrip.{Parts, BlockBytes, IsWrittenOf}
 use Rattle.mdi_items.proofs.SpellingLemmas as spellings
+use Rattle.drm_timeline.specs.Numbers.{sequence_number}
 use Rattle.drm_server.specs.Frames.{stream_bytes, HasBlockWhere, IsFrameAt, IsPacketAt}
 use Rattle.drm_server.proofs.ByteLemmas.{bytes_before, bytes_behind}
 use Rattle.drm_server.proofs.OneBlock.{one_block}
@@ -75,7 +76,7 @@ one_af p packet other checked (m, ends_m, checks_m) (n, ends_n, checks_n) =
 
 pub one_packet : (plan : Plan) (t : ℕ) (packet other : List ℕ) → IsPacketAt plan t packet → IsPacketAt plan t other → packet ≡ other
 one_packet plan t packet other x y =
-    let af : List ℕ → AfPacket = λ payload. record { seq = (plan.seq + t) % 2 ^ 16; checked = true; minor = 0; payload = payload } in
+    let af : List ℕ → AfPacket = λ payload. record { seq = sequence_number plan t; checked = true; minor = 0; payload = payload } in
     let small_x : IsBytes x.payload = payload_bytes (af x.payload) packet x.is x.octets in
     let small_y : IsBytes y.payload = payload_bytes (af y.payload) other y.is y.octets in
     let parts : x.parts ≡ y.parts =
@@ -86,7 +87,7 @@ one_packet plan t packet other x y =
 -- it has a head
 pub some_bytes : (plan : Plan) (t : ℕ) (packet : List ℕ) → IsPacketAt plan t packet → 1 ≤ length packet
 some_bytes plan t packet x =
-    let af : AfPacket = record { seq = (plan.seq + t) % 2 ^ 16; checked = true; minor = 0; payload = x.payload } in
+    let af : AfPacket = record { seq = sequence_number plan t; checked = true; minor = 0; payload = x.payload } in
     some_of af packet x.is
   where
     some_of : (p : AfPacket) (packet : List ℕ) → IsAf p packet → 1 ≤ length packet

@@ -1,5 +1,5 @@
 -- A packet, made around its payload.
-use Rattle.std.proofs.Common.{◌≡◌, ◌≤◌, ◌+◌, ◌-◌, ◌%◌, ◌^◌, ℕ, true, List, ◌++◌, length, take, drop, sym, ap, subst, ◌∙◌, arith}
+use Rattle.std.proofs.Common.{◌≡◌, ◌≤◌, ◌+◌, ◌-◌, ℕ, true, List, ◌++◌, length, take, drop, sym, ap, subst, ◌∙◌, arith}
 use Rattle.std.specs.List.{slice_range}
 use Rattle.std.proofs.lemmas.List.{length-take-le, take-append-le}
 use Rattle.std.proofs.Math.Seq.{drop-append_seam}
@@ -7,10 +7,11 @@ use Rattle.drm_schedule.specs.declared.plan.Plan.{Plan}
 use Rattle.drm_bits.specs.Bits.{IsBytes}
 use Rattle.dcp_af.specs.Packet.{IsAf}
 use Rattle.mdi_items.specs.RoundTrip.{Parts, IsWrittenOf}
+use Rattle.drm_timeline.specs.Numbers.{sequence_number}
 use Rattle.drm_server.specs.Frames.{IsFrameAt, IsPacketAt}
 
 pub packet_is : (plan : Plan) (t seq : ℕ) (payload stands packet : List ℕ) → ((parts : Parts) × IsFrameAt plan t parts × IsWrittenOf parts payload)
-    → stands ≡ payload → seq ≡ (plan.seq + t) % 2 ^ 16
+    → stands ≡ payload → seq ≡ sequence_number plan t
     → IsAf (record { seq = seq; checked = true; minor = 0; payload = stands }) packet → IsBytes packet → IsPacketAt plan t packet
 packet_is plan t seq payload stands packet (parts, frame, written) same number is small = record {
   parts = parts;

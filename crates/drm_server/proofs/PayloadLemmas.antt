@@ -1,10 +1,9 @@
 -- A payload, put together.
-use Rattle.std.proofs.Common.{◌≡◌, ◌+◌, ◌-◌, ◌*◌, ◌/◌, ◌%◌, ◌^◌, ◌==◌, ℕ, List, ◌++◌, length, take, map, Bool, Option, Some, option_map, refl, sym, ap, ◌∙◌, arith, append_assoc, length-drop}
+use Rattle.std.proofs.Common.{◌≡◌, ◌+◌, ◌-◌, ◌*◌, ◌/◌, ◌%◌, ◌^◌, ◌==◌, ℕ, List, ◌++◌, length, take, map, Option, Some, refl, sym, ap, ◌∙◌, arith, append_assoc, length-drop}
 use Rattle.drm_fac.specs.declared.fac.Fac.{Fac}
 use Rattle.drm_schedule.specs.declared.config.Config.{Config}
 use Rattle.drm_schedule.specs.declared.plan.Plan.{Plan}
 use Rattle.drm_schedule.specs.declared.stream.Stream.{Stream}
-use Rattle.drm_schedule.specs.Sizes.{packet_len}
 use Rattle.drm_timeline.specs.Standing.{config_of}
 use Rattle.drm_timeline.specs.FastAccess.{fac_of}
 use Rattle.drm_timeline.specs.Description.{description_of}
@@ -13,16 +12,6 @@ use Rattle.mdi_items.specs.Written.{written, behind, IsHead, spelling, stream_pi
 use Rattle.mdi_items.specs.RoundTrip.{Parts, BlockBytes, block_pieces, IsWrittenOf}
 use Rattle.mdi_items.proofs.RoundTripLemmas.{spelling-append}
 use Rattle.drm_server.specs.Frames.{HasBlockWhere, IsFrameAt, stream_bytes}
-
--- the length of a frame's packet, by its configuration
-pub packet_of : (n : ℕ) (first : Bool) (o : Option Config) (c : Config) → Some n ≡ option_map (λ (x : Config). packet_len x first) o → o ≡ Some c → n ≡ packet_len c first
-packet_of n first o c is same = some_is (is ∙ ap (λ (x : Option Config). option_map (λ (y : Config). packet_len y first) x) same)
-  where
-    some_is : Some n ≡ Some (packet_len c first) → n ≡ packet_len c first
-    some_is eq = cc
-
-pub of_packet : (n : ℕ) (first : Bool) (o : Option Config) (c : Config) → n ≡ packet_len c first → o ≡ Some c → Some n ≡ option_map (λ (x : Config). packet_len x first) o
-of_packet n first o c is same = ap (λ k. Some k) is ∙ sym (ap (λ (x : Option Config). option_map (λ (y : Config). packet_len y first) x) same)
 
 -- all that was written
 pub front : (w : MdiWriter) (all room : ℕ) → all ≡ length w.into.now → room ≡ length (behind w) → take (all - room) w.into.now ≡ written w

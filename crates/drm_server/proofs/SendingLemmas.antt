@@ -1,10 +1,11 @@
 -- What is sent of a schedule, datagram by datagram and frame by frame.
-use Rattle.std.proofs.Common.{◌<◌, ◌*◌, ℕ, List, [], ◌++◌, Option, refl, subst}
+use Rattle.std.proofs.Common.{◌<◌, ℕ, List, [], ◌++◌, Option, refl, subst}
 use Rattle.std.proofs.lemmas.List.{append-nil}
 use Rattle.drm_schedule.specs.declared.plan.Plan.{Plan}
 use Rattle.drm_links.specs.Link.{Traffic}
 use Rattle.drm_links.specs.Transmission.{Transmits, SendsAll, SendsNoMore}
 use Rattle.drm_links.proofs.TransmissionLemmas.{Transmits-then, Transmits-weaker, SendsAll-then, SendsAll-no_more}
+use Rattle.drm_timeline.specs.Numbers.{frame_count}
 use Rattle.drm_server.specs.Datagrams.{IsDatagramAt, AreFirst, AreOfFrames, AreDatagrams}
 use Rattle.drm_server.specs.Sending.{SendsSchedule, SendsPart}
 use Rattle.drm_server.specs.OneFrame.{SendsPartOfFrame}
@@ -25,7 +26,7 @@ no_more_sent plan t i next datagrams a b c is are first second =
     (λ x y z all none. (i, next, datagrams, (is, are), subst (λ l. SendsNoMore l x z) (append-nil datagrams) (SendsAll-no_more datagrams [] x y z all none)))
 
 -- a part of the next frame
-pub part_sent : (plan : Plan) (t : ℕ) (datagrams : List (List ℕ)) (a b c : Option Traffic) → t < 3 * plan.length → AreOfFrames plan t datagrams → Transmits a b (SendsAll datagrams) → Transmits b c (SendsPartOfFrame plan t)
+pub part_sent : (plan : Plan) (t : ℕ) (datagrams : List (List ℕ)) (a b c : Option Traffic) → t < frame_count plan → AreOfFrames plan t datagrams → Transmits a b (SendsAll datagrams) → Transmits b c (SendsPartOfFrame plan t)
     → Transmits a c (SendsPart plan)
 part_sent plan t datagrams a b c within are first second =
     Transmits-then (SendsAll datagrams) (SendsPartOfFrame plan t) (SendsPart plan) a b c first second

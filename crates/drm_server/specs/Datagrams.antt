@@ -1,21 +1,9 @@
 -- The datagrams of a schedule: the packet of each frame, whole or cut into fragments (TS 102 821).
-use Rattle.std.specs.Prelude.{ℕ, zero, suc, ◌≡◌, ◌+◌, ◌*◌, ◌%◌, ◌^◌, ◌<◌, List, [], ◌∷◌, ◌++◌, length}
-use Rattle.drm_schedule.specs.declared.carry.Carry.{Carry}
-use Rattle.drm_schedule.specs.declared.carry.Carry.TheVariants.{Plain, Pft}
+use Rattle.std.specs.Prelude.{ℕ, zero, suc, ◌≡◌, ◌<◌, List, [], ◌∷◌, ◌++◌, length}
 use Rattle.drm_schedule.specs.declared.plan.Plan.{Plan}
-use Rattle.dcp_pft.specs.Cutting.{shape_of}
-use Rattle.dcp_pft.specs.Head.{IsFragmentOf}
+use Rattle.drm_timeline.specs.Numbers.{frame_count, sequence_number}
+use Rattle.dcp_pft.specs.Carrying.{datagram_count, Carries}
 use Rattle.drm_server.specs.Frames.{IsPacketAt}
-
--- how many datagrams carry a packet of so many bytes
-abbrev pub datagram_count : Carry → ℕ → ℕ
-datagram_count Plain len = 1
-datagram_count (Pft m mtu) len = (shape_of len m mtu).count
-
--- datagram i of a packet with this number: the packet itself, or its fragment i
-abbrev pub Carries : Carry → ℕ → List ℕ → ℕ → List ℕ → Type 0
-Carries Plain seq packet i datagram = datagram ≡ packet
-Carries (Pft m mtu) seq packet i datagram = IsFragmentOf (shape_of (length packet) m mtu) seq packet i datagram
 
 -- The packet of frame t is carried by so many datagrams.
 pub record HasDatagrams (plan : Plan) (t count : ℕ) : Type 0 where
@@ -23,12 +11,16 @@ pub record HasDatagrams (plan : Plan) (t count : ℕ) : Type 0 where
   pub is_packet : IsPacketAt plan t packet
   pub is : count ≡ datagram_count plan.carry (length packet)
 
+-- the packet of frame t is carried by more than i datagrams
+abbrev pub HasDatagram : Plan → ℕ → ℕ → Type 0
+HasDatagram plan t i = (count : ℕ) × HasDatagrams plan t count × (i < count)
+
 -- datagram i of frame t
 pub record IsDatagramAt (plan : Plan) (t i : ℕ) (datagram : List ℕ) : Type 0 where
   pub packet : List ℕ
   pub is_packet : IsPacketAt plan t packet
   pub within : i < datagram_count plan.carry (length packet)
-  pub is : Carries plan.carry ((plan.seq + t) % 2 ^ 16) packet i datagram
+  pub is : Carries plan.carry (sequence_number plan t) packet i datagram
 
 -- the first i datagrams of frame t
 abbrev pub AreFirst : Plan → ℕ → ℕ → List (List ℕ) → Type 0
@@ -48,13 +40,13 @@ AreOfFrames plan (suc n) datagrams =
 
 -- the datagrams of a schedule
 abbrev pub AreDatagrams : Plan → List (List ℕ) → Type 0
-AreDatagrams plan datagrams = AreOfFrames plan (3 * plan.length) datagrams
+AreDatagrams plan datagrams = AreOfFrames plan (frame_count plan) datagrams
 
 -- The datagrams of a schedule that stand before a certain one: those of the frames before its frame, and those of its
 -- frame before it.
 pub record AreBefore (plan : Plan) (next : List ℕ) (datagrams : List (List ℕ)) : Type 0 where
   pub t : ℕ
-  pub within : t < 3 * plan.length
+  pub within : t < frame_count plan
   pub i : ℕ
   pub is_next : IsDatagramAt plan t i next
   pub of_frames : List (List ℕ)

@@ -13,6 +13,7 @@ use Rattle.drm_schedule.specs.declared.stream.Content.TheVariants.{Fill, File}
 use Rattle.drm_schedule.specs.declared.stream.Stream.{Stream}
 use Rattle.drm_schedule.specs.Sizes.{stream_size}
 use Rattle.drm_timeline.specs.Standing.{config_of}
+use Rattle.drm_timeline.specs.Numbers.{sequence_number}
 use Rattle.drm_timeline.specs.FastAccess.{fac_of}
 use Rattle.drm_timeline.specs.Description.{description_of}
 use Rattle.drm_timeline.specs.Blocks.{block_of}
@@ -56,5 +57,5 @@ pub record IsPacketAt (plan : Plan) (t : ℕ) (packet : List ℕ) : Type 0 where
   pub frame : IsFrameAt plan t parts
   pub payload : List ℕ
   pub written : IsWrittenOf parts payload
-  pub is : IsAf (record { seq = (plan.seq + t) % 2 ^ 16; checked = true; minor = 0; payload = payload }) packet
+  pub is : IsAf (record { seq = sequence_number plan t; checked = true; minor = 0; payload = payload }) packet
   pub octets : IsBytes packet

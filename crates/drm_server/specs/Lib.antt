@@ -1,4 +1,5 @@
 pub mod Frames
+pub mod Placing
 pub mod Serving
 pub mod Lending
 pub mod Datagrams

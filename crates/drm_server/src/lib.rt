@@ -1,9 +1,9 @@
 //! The packets of a schedule and the datagrams that carry them, one frame at a time: to a sink, or over a link.
 #![tactic(auto)]
 
-mod configuration;
 mod cut;
 mod laws;
+mod loaded;
 mod packet;
 mod payload;
 mod send;

@@ -3,26 +3,31 @@
 ghost use Rattle.std.specs.Prelude.{ℕ, ◌≡◌, ◌+◌, ◌-◌, ◌*◌, ◌/◌, ◌%◌, ◌^◌, ◌==◌, ◌<◌, ◌≤◌, ◌++◌, [], length, take, option_map, if◌then◌else◌, Option, Some};
 ghost use Rattle.drm_fac.specs.declared.fac.Fac.{Fac};
 ghost use Rattle.drm_schedule.specs.Ranges.{ConfigInLines};
-ghost use Rattle.drm_schedule.specs.Sizes as sizes;
 ghost use Rattle.drm_timeline.specs.Standing.{config_of};
+ghost use Rattle.drm_timeline.specs.Numbers.{frame_count, packet_size};
 ghost use Rattle.drm_timeline.specs.FastAccess.{fac_of};
 ghost use Rattle.drm_timeline.specs.Description.{description_of};
 ghost use Rattle.mdi_items.specs.Names.{sdc_, str};
 ghost use Rattle.mdi_items.specs.Written.{written, behind, next, lender, spelled, spelling, block_piece, IsHead, head_length};
 ghost use Rattle.mdi_items.specs.RoundTrip.{Parts, BlockBytes, block_pieces, IsWrittenOf};
 ghost use Rattle.drm_server.specs.Frames.{IsBlockAt, HasBlockWhere, IsFrameAt};
+ghost use Rattle.drm_server.specs.Placing.{IsNew, IsBefore, HoldsIn};
 
-use crate::configuration::config_of_frame;
 use crate::stream::write_streams;
 use drm_schedule::{Config, Schedule};
-use drm_timeline::{block_into, description, fac_at, packet_len};
+use drm_timeline::{block_into, config_of_frame, description, fac_at, packet_len};
 use mdi_items::MdiWriter;
 
 /// Writes the payload of the packet of frame `t`, and gives its length.
-pub fn write_payload(plan: &Schedule, t: u32, into: &mut [u8; 8180]) -> usize
-    requires { t < 3 * plan.now.length }
+pub fn write_payload(
+    plan: &Schedule,
+    t: u32,
+    into: &mut [u8; 8180],
+    block: &mut [u8; 1026],
+) -> usize
+    requires { t < frame_count plan.now }
     ensures written { (parts : Parts) × IsFrameAt plan.now t parts × IsWrittenOf parts (take result into.new) }
-    ensures len { Some (result + 12) ≡ option_map (λ c. sizes.packet_len c (t % 3 == 0)) (config_of plan.now (t / 3)) }
+    ensures len { result + 12 ≡ packet_size plan.now t }
     ensures small { result ≤ 8180 }
     ensures long { length into.new ≡ 8180 }
 {
@@ -31,7 +36,7 @@ pub fn write_payload(plan: &Schedule, t: u32, into: &mut [u8; 8180]) -> usize
     let _ = packet_len(plan, t);
     let mut writer = MdiWriter::new(into);
     write_head(&mut writer, plan, t, config);
-    write_block_where(&mut writer, plan, t, config);
+    write_block_where(&mut writer, plan, t, config, block);
     write_streams(&mut writer, config.streams.as_slice(), t - 3 * config.start);
     let room = writer.room();
     total(into) - room
@@ -47,10 +52,8 @@ fn total(bytes: &[u8; 8180]) -> usize
 
 // Writes what stands at the front of each frame.
 fn write_head(writer: &mut MdiWriter<'_>, plan: &Schedule, t: u32, config: &Config)
-    requires first { next writer.old ≡ 0 }
-    requires empty { written writer.old ≡ [] }
+    requires new { IsNew (head_length (length config.now.streams)) writer.old }
     requires fits { ConfigInLines config.now }
-    requires room { head_length (length config.now.streams) ≤ length (behind writer.old) }
     ensures written { (fac : Fac) × (fac_of plan.now t ≡ Some fac)
         × IsHead ((plan.now.dlfc + t) % 2 ^ 32) fac (description_of config.now) config.now.mode (written writer.new) }
     ensures left { length (behind writer.new) + head_length (length config.now.streams) ≡ length (behind writer.old) }
@@ -62,12 +65,15 @@ fn write_head(writer: &mut MdiWriter<'_>, plan: &Schedule, t: u32, config: &Conf
 }
 
 // Writes the block, which the first frame of a super frame has.
-fn write_block_where(writer: &mut MdiWriter<'_>, plan: &Schedule, t: u32, config: &Config)
-    requires frame { t < 3 * plan.now.length }
-    requires config { config_of plan.now (t / 3) ≡ Some config.now }
-    requires fits { ConfigInLines config.now }
-    requires order { next writer.old ≡ sdc_ }
-    requires room { (if t % 3 == 0 then config.now.room + 11 else 0) ≤ length (behind writer.old) }
+fn write_block_where(
+    writer: &mut MdiWriter<'_>,
+    plan: &Schedule,
+    t: u32,
+    config: &Config,
+    room: &mut [u8; 1026],
+)
+    requires config { HoldsIn plan.now (t / 3) config.now }
+    requires place { IsBefore sdc_ (if t % 3 == 0 then config.now.room + 11 else 0) writer.old }
     ensures written { (block : Option BlockBytes) × HasBlockWhere (t % 3 == 0) plan.now (t / 3) config.now.room block
         × (written writer.new ≡ written writer.old ++ spelling (block_pieces block)) }
     ensures left { length (behind writer.new) + (if t % 3 == 0 then config.now.room + 11 else 0) ≡ length (behind writer.old) }
@@ -76,24 +82,26 @@ fn write_block_where(writer: &mut MdiWriter<'_>, plan: &Schedule, t: u32, config
     ensures same_reference { lender writer.new ≡ lender writer.old }
 {
     if t % 3 == 0 {
-        write_block(writer, plan, t / 3, config);
+        write_block(writer, plan, t / 3, config, room);
     }
 }
 
-// Writes the block of a super frame.
-fn write_block(writer: &mut MdiWriter<'_>, plan: &Schedule, sf: u32, config: &Config)
-    requires frame { sf < plan.now.length }
-    requires config { config_of plan.now sf ≡ Some config.now }
-    requires fits { ConfigInLines config.now }
-    requires order { next writer.old ≡ sdc_ }
-    requires room { config.now.room + 11 ≤ length (behind writer.old) }
+// Writes the block of a super frame, by way of this room.
+fn write_block(
+    writer: &mut MdiWriter<'_>,
+    plan: &Schedule,
+    sf: u32,
+    config: &Config,
+    room: &mut [u8; 1026],
+)
+    requires config { HoldsIn plan.now sf config.now }
+    requires place { IsBefore sdc_ (config.now.room + 11) writer.old }
     ensures written { (block : BlockBytes) × IsBlockAt plan.now sf config.now.room block
         × (written writer.new ≡ written writer.old ++ spelled (block_piece block.bits block.value)) }
     ensures left { length (behind writer.new) + (config.now.room + 11) ≡ length (behind writer.old) }
     ensures next { next writer.new ≡ sdc_ + 1 }
     ensures same_reference { lender writer.new ≡ lender writer.old }
 {
-    let mut bytes = [0; 1026];
-    let bits = block_into(plan, sf, &mut bytes);
-    writer.block(&bytes[..usize::from(config.room) + 3], bits);
+    let bits = block_into(plan, sf, room);
+    writer.block(&room[..usize::from(config.room) + 3], bits);
 }

@@ -5,6 +5,7 @@ ghost use Rattle.drm_links.specs.Told.{HasCause};
 ghost use Rattle.drm_links.specs.Link.{longest_told};
 ghost use Rattle.drm_links.specs.ManyCalls.{MakesCalls};
 ghost use Rattle.drm_links.specs.Transmission.{Transmits, SendsAll, SendsNoMore};
+ghost use Rattle.drm_timeline.specs.Numbers.{frame_count};
 ghost use Rattle.drm_server.specs.Capture.{IsCount};
 ghost use Rattle.drm_server.specs.Sending.{SendsSchedule, SendsPart};
 ghost use Rattle.drm_server.specs.Rests.{MadeCalls, rests_before, rests_between};
@@ -27,9 +28,9 @@ pub fn serve_link<L: Link>(
     ensures idle { L.idles link.new ≡ L.idles link.old }
     // One call for each datagram and, where there is a pace, for each rest between two frames.
     ensures rests { IfOk result (λ n. Transmits (L.tells link.old) (L.tells link.new)
-        (MadeCalls (n + rests_between pace (3 * server.old.plan.length)))) }
+        (MadeCalls (n + rests_between pace (frame_count server.old.plan)))) }
     // At most 1,025 calls a frame, so a link that tells will tell at the end.
-    ensures calls { MakesCalls (λ traffic. traffic.calls) (1025 * (3 * server.old.plan.length))
+    ensures calls { MakesCalls (λ traffic. traffic.calls) (1025 * frame_count server.old.plan)
         (L.tells link.old) (L.tells link.new) }
     ensures schedule { server.new.plan ≡ server.old.plan }
 {

@@ -1,20 +1,16 @@
 //! A schedule to a sink, which is called once for some KiB.
 
-ghost use Rattle.std.specs.Prelude.{◌≡◌, ◌+◌, ◌≤◌, ◌<◌, ◌++◌, ℕ, length, take, IfOk, OnOk, OnErr, IsErr};
+ghost use Rattle.std.specs.Prelude.{◌≡◌, ◌+◌, ◌≤◌, ◌++◌, ℕ, length, take, IfOk, OnOk, OnErr, IsErr};
 ghost use Rattle.drm_links.specs.Told.{HasCause};
 ghost use Rattle.drm_links.specs.Sink.{Outputs, IsFront};
-ghost use Rattle.drm_server.specs.Datagrams.{HasDatagrams};
+ghost use Rattle.dcp_pft.specs.Limits.{most_packet};
+ghost use Rattle.drm_server.specs.Datagrams.{HasDatagram};
 ghost use Rattle.drm_server.specs.Capture.{IsCapture, IsFrontOfCapture, IsCount};
 ghost use Rattle.drm_server.specs.Gathering.{GathersDatagram, IsFrontWithDatagram, GathersFrame, IsFrontOfFrame};
 
 use crate::Server;
+use crate::loaded::Loaded;
 use drm_links::{Sink, WriteFault, write_all};
-
-// Room in which datagrams wait for those behind them.
-const ROOM: usize = 32_768;
-
-// The most bytes of a datagram that waits: the packet of a frame, whole.
-const MOST: usize = 8192;
 
 /// Writes the datagrams of all frames, in order from the first one on, and gives their number.
 pub fn serve_sink<O: Sink>(server: &mut Server<'_>, out: &mut O) -> Result<u64, WriteFault>
@@ -24,13 +20,25 @@ pub fn serve_sink<O: Sink>(server: &mut Server<'_>, out: &mut O) -> Result<u64, 
     ensures cause { HasCause (O.faults out.old) (O.faults out.new) (IsErr result) }
     ensures schedule { server.new.plan ≡ server.old.plan }
 {
-    let mut room = [0; ROOM];
+    serve(&mut server.loaded, &mut server.waiting, out)
+}
+
+// Writes them by way of this room.
+fn serve<O: Sink>(loaded: &mut Loaded<'_>, room: &mut [u8], out: &mut O) -> Result<u64, WriteFault>
+    requires room { most_packet loaded.old.plan.carry ≤ length room.old }
+    ensures whole { OnOk result (Outputs (O.tells out.old) (O.tells out.new) (IsCapture loaded.old.plan)) }
+    ensures count { IfOk result (IsCount loaded.old.plan) }
+    ensures front { OnErr result (Outputs (O.tells out.old) (O.tells out.new) (IsFrontOfCapture loaded.old.plan)) }
+    ensures cause { HasCause (O.faults out.old) (O.faults out.new) (IsErr result) }
+    ensures schedule { loaded.new.plan ≡ loaded.old.plan }
+    ensures long { length room.new ≡ length room.old }
+{
     let mut waiting = 0;
     let mut written = 0;
-    for t in 0..server.frames() {
-        server.load(t);
-        waiting = gather_frame(server, &mut room, waiting, out)?;
-        written += u64::from(server.fragments());
+    for t in 0..loaded.frames() {
+        loaded.load(t);
+        waiting = gather_frame(loaded, room, waiting, out)?;
+        written += u64::from(loaded.fragments());
     }
     write_all(out, &room[..waiting])?;
     Ok(written)
@@ -38,60 +46,66 @@ pub fn serve_sink<O: Sink>(server: &mut Server<'_>, out: &mut O) -> Result<u64, 
 
 // Puts the datagrams of the frame that is loaded behind the bytes that wait in the room, and gives how many wait then.
 fn gather_frame<O: Sink>(
-    server: &Server<'_>,
+    loaded: &Loaded<'_>,
     room: &mut [u8],
     waiting: usize,
     out: &mut O,
 ) -> Result<usize, WriteFault>
-    requires room { waiting + 8192 ≤ length room.old }
-    ensures gathered { IfOk result (λ n. GathersFrame server.now.plan server.now.frame
+    requires room { waiting + most_packet loaded.now.plan.carry ≤ length room.old }
+    ensures gathered { IfOk result (λ n. GathersFrame loaded.now.plan loaded.now.frame
         (take waiting room.old) (take n room.new) (O.tells out.old) (O.tells out.new)) }
     ensures front { OnErr result (Outputs (O.tells out.old) (O.tells out.new)
-        (IsFrontOfFrame server.now.plan server.now.frame (take waiting room.old))) }
-    ensures left { IfOk result (λ n. n + 8192 ≤ length room.new) }
+        (IsFrontOfFrame loaded.now.plan loaded.now.frame (take waiting room.old))) }
+    ensures left { IfOk result (λ n. n + most_packet loaded.now.plan.carry ≤ length room.new) }
     ensures long { length room.new ≡ length room.old }
     ensures cause { HasCause (O.faults out.old) (O.faults out.new) (IsErr result) }
 {
     let mut waiting = waiting;
-    for i in 0..server.fragments() {
-        waiting = gather(server, i, room, waiting, out)?;
+    for i in 0..loaded.fragments() {
+        waiting = gather(loaded, i, room, waiting, out)?;
     }
     Ok(waiting)
 }
 
 // Puts one datagram behind the bytes that wait.
 fn gather<O: Sink>(
-    server: &Server<'_>,
+    loaded: &Loaded<'_>,
     i: u32,
     room: &mut [u8],
     waiting: usize,
     out: &mut O,
 ) -> Result<usize, WriteFault>
-    requires within { (count : ℕ) × HasDatagrams server.now.plan server.now.frame count × (i < count) }
-    requires room { waiting + 8192 ≤ length room.old }
-    ensures gathered { IfOk result (λ n. GathersDatagram server.now.plan server.now.frame i
+    requires within { HasDatagram loaded.now.plan loaded.now.frame i }
+    requires room { waiting + most_packet loaded.now.plan.carry ≤ length room.old }
+    ensures gathered { IfOk result (λ n. GathersDatagram loaded.now.plan loaded.now.frame i
         (take waiting room.old) (take n room.new) (O.tells out.old) (O.tells out.new)) }
     ensures front { OnErr result (Outputs (O.tells out.old) (O.tells out.new)
-        (IsFrontWithDatagram server.now.plan server.now.frame i (take waiting room.old))) }
-    ensures left { IfOk result (λ n. n + 8192 ≤ length room.new) }
+        (IsFrontWithDatagram loaded.now.plan loaded.now.frame i (take waiting room.old))) }
+    ensures left { IfOk result (λ n. n + most_packet loaded.now.plan.carry ≤ length room.new) }
     ensures long { length room.new ≡ length room.old }
     ensures cause { HasCause (O.faults out.old) (O.faults out.new) (IsErr result) }
 {
-    let waiting = waiting + server.write_datagram(i, &mut room[waiting..]);
-    pass_on(room, waiting, out)
+    let waiting = waiting + loaded.write_datagram(i, &mut room[waiting..]);
+    pass_on(room, waiting, loaded.most(), out)
 }
 
-// Writes what waits where the room may be too small for the next datagram, and gives how many bytes wait then.
-fn pass_on<O: Sink>(room: &[u8], waiting: usize, out: &mut O) -> Result<usize, WriteFault>
+// Writes what waits where the room may be too small for the next datagram, which has at most so many bytes, and gives how
+// many wait then.
+fn pass_on<O: Sink>(
+    room: &[u8],
+    waiting: usize,
+    most: usize,
+    out: &mut O,
+) -> Result<usize, WriteFault>
     requires within { waiting ≤ length room.now }
-    requires room { 8192 ≤ length room.now }
+    requires room { most ≤ length room.now }
     ensures whole { IfOk result (λ n. Outputs (O.tells out.old) (O.tells out.new)
         (λ text. take waiting room.now ≡ text ++ take n room.now)) }
     ensures front { OnErr result (Outputs (O.tells out.old) (O.tells out.new) (IsFront (take waiting room.now))) }
-    ensures left { IfOk result (λ n. n + 8192 ≤ length room.now) }
+    ensures left { IfOk result (λ n. n + most ≤ length room.now) }
     ensures cause { HasCause (O.faults out.old) (O.faults out.new) (IsErr result) }
 {
-    if room.len() - waiting >= MOST {
+    if room.len() - waiting >= most {
         return Ok(waiting);
     }
     write_all(out, &room[..waiting])?;

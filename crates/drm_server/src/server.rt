@@ -1,66 +1,45 @@
 //! The server of a schedule.
 
-ghost use Rattle.std.specs.Prelude.{ℕ, ◌≡◌, ◌*◌, ◌<◌, ◌≤◌, length, take, IfOk};
+ghost use Rattle.std.specs.Prelude.{◌≡◌, ◌<◌, ◌≤◌, length, IfOk, OnOk, OnErr, IsErr};
 ghost use Rattle.std.specs.Borrow.{sem};
+ghost use Rattle.dcp_pft.specs.Limits.{most_packet, most_fragments};
+ghost use Rattle.drm_timeline.specs.Numbers.{frame_count, packet_size};
 ghost use Rattle.drm_server.specs.Frames.{IsPacketAt};
-ghost use Rattle.drm_server.specs.Datagrams.{HasDatagrams, IsDatagramAt};
+ghost use Rattle.drm_server.specs.Datagrams.{HasDatagrams, HasDatagram, IsDatagramAt};
 ghost use Rattle.drm_server.specs.Lending.{Stays};
-ghost use Rattle.drm_server.specs.Serving.{IsPacketLength};
 
-use crate::cut::{cut_for, write_cut, write_parity};
-use crate::packet::{sequence_number, write_packet};
-use dcp_pft::{Shape, all_taken};
-use drm_bits::NoMemory;
+use crate::loaded::Loaded;
+use dcp_pft::most_packet;
+use drm_bits::{NoMemory, zeros};
 use drm_schedule::Schedule;
 use std::alloc::Global;
 use std::marker::Model;
 
-// The most bytes that a packet of a valid schedule has.
-const MOST: usize = 8192;
-
-// The parity of the 40 chunks of such a packet.
-const MOST_PARITY: usize = 40 * 48;
-
-// The most bytes of a fragment.
-const MOST_FRAGMENT: usize = 1500;
+// Room in which datagrams wait for those behind them.
+const WAITING: usize = 32_768;
 
 /// Gives the packets of a schedule and the datagrams that carry them, one frame at a time. Frames are counted from 0 at the
-/// schedule's start.
+/// schedule's start. All memory is taken when it is made.
 #[derive(Drop)]
 pub struct Server<'a> {
-    plan: &'a Schedule,
-    frame: u32,
-    // The packet stands at the front.
-    buffer: Vec<u8>,
-    len: usize,
-    // How it is cut, where it isn't carried whole, and the parity of its chunks, at the front.
-    cut: Option<Shape>,
-    parity: Vec<u8>,
-    // The fragment that was asked for last stands at the front.
-    fragment: Vec<u8>,
+    pub(crate) loaded: Loaded<'a>,
+    // The datagram that was asked for last stands at the front, where it isn't the packet.
+    datagram: Vec<u8>,
+    // Where datagrams wait until a sink is called once for many.
+    pub(crate) waiting: Vec<u8>,
 }
 
 impl<'a> Model for Server<'a> {
-    ghost use Rattle.std.specs.Prelude.{◌≡◌, ◌*◌, ◌<◌, ◌≤◌, length, take, IfSome};
-    ghost use Rattle.dcp_pft.specs.Cutting.{IsShapeOf};
-    ghost use Rattle.drm_server.specs.Frames.{IsPacketAt};
-    ghost use Rattle.drm_server.specs.Serving.{Serving, IsPacketLength, IsCutOf, HoldsParity};
+    ghost use Rattle.std.specs.Prelude.{◌≡◌, ◌≤◌, length};
+    ghost use Rattle.dcp_pft.specs.Limits.{most_packet};
+    ghost use Rattle.drm_server.specs.Serving.{Serving};
 
     ghost Value = { Serving };
 
-    ghost view = { λ s. record { plan = s.plan.now; frame = s.frame } };
+    ghost view = { λ s. s.loaded };
 
-    ghost invariant = { λ s. (s.frame < 3 * s.plan.now.length)
-        × (length s.buffer.items ≡ 8192)
-        × (s.len ≤ 8192)
-        × (1 ≤ s.len)
-        × IsPacketAt s.plan.now s.frame (take s.len s.buffer.items)
-        × IsPacketLength s.plan.now s.frame s.len
-        × IsCutOf s.plan.now.carry s.len s.cut
-        × IfSome s.cut (IsShapeOf s.len)
-        × (length s.parity.items ≡ 1920)
-        × HoldsParity s.cut (take s.len s.buffer.items) s.parity.items
-        × (length s.fragment.items ≡ 1500) };
+    ghost invariant = { λ s. (most_packet s.loaded.plan.carry ≤ length s.datagram.items)
+        × (most_packet s.loaded.plan.carry ≤ length s.waiting.items) };
 }
 
 impl<'a> Server<'a> {
@@ -68,126 +47,69 @@ impl<'a> Server<'a> {
     pub fn make(alloc: Global, plan: &'a Schedule) -> Result<Server<'a>, NoMemory>
         ensures { IfOk result (λ server. server ≡ record { plan = plan.now; frame = 0 }) }
     {
-        plan.always_valid();
-        let mut buffer = zeros(alloc, MOST)?;
-        let mut parity = zeros(alloc, MOST_PARITY)?;
-        let fragment = zeros(alloc, MOST_FRAGMENT)?;
-        let len = write_packet(plan, 0, &mut buffer);
-        let cut = cut_for(plan.carry(), len);
-        write_parity(&buffer[..len], cut, &mut parity);
+        let loaded = Loaded::first(alloc, plan)?;
+        let datagram = zeros(alloc, most_packet(plan.carry()))?;
+        let waiting = zeros(alloc, WAITING)?;
         Ok(Server {
-            plan,
-            frame: 0,
-            buffer,
-            len,
-            cut,
-            parity,
-            fragment,
+            loaded,
+            datagram,
+            waiting,
         })
     }
 
     /// How many frames there are.
     pub fn frames(&self) -> u32
-        ensures frames { result ≡ 3 * self.now.plan.length }
+        ensures frames { result ≡ frame_count self.now.plan }
         ensures some { 1 ≤ result }
         ensures few { result ≤ 3000000 }
     {
-        self.plan.always_valid();
-        3 * self.plan.length()
+        self.loaded.frames()
     }
 
     /// The frame that is loaded.
     pub fn frame(&self) -> u32
         ensures { result ≡ self.now.frame }
     {
-        self.frame
+        self.loaded.frame()
     }
 
     /// Loads frame `t`.
     pub fn load(&mut self, t: u32)
-        requires { t < 3 * self.old.plan.length }
+        requires { t < frame_count self.old.plan }
         ensures { self.new ≡ record self.old { frame = t } }
     {
-        self.plan.always_valid();
-        self.len = write_packet(self.plan, t, &mut self.buffer);
-        self.cut = cut_for(self.plan.carry(), self.len);
-        write_parity(&self.buffer[..self.len], self.cut, &mut self.parity);
-        self.frame = t;
+        self.loaded.load(t);
     }
 
     /// The packet of the frame that is loaded.
     pub fn packet(&self) -> &[u8]
         ensures packet { IsPacketAt self.now.plan self.now.frame result.now }
-        ensures len { IsPacketLength self.now.plan self.now.frame (length result.now) }
-        ensures small { length result.now ≤ 8192 }
+        ensures len { length result.now ≡ packet_size self.now.plan self.now.frame }
+        ensures small { length result.now ≤ most_packet self.now.plan.carry }
     {
-        &self.buffer[..self.len]
+        self.loaded.packet()
     }
 
     /// How many datagrams carry the packet: one, where it is carried whole, else its fragments.
     pub fn fragments(&self) -> u32
         ensures datagrams { HasDatagrams self.now.plan self.now.frame result }
         ensures some { 1 ≤ result }
-        ensures few { result ≤ 1024 }
+        ensures few { result ≤ most_fragments }
     {
-        all_taken();
-        match self.cut {
-            None => 1,
-            Some(shape) => shape.count,
-        }
-    }
-
-    /// Writes the datagram with this number, from 0, of the frame that is loaded to the front, and gives its length.
-    pub(crate) fn write_datagram(&self, i: u32, into: &mut [u8]) -> usize
-        requires within { (count : ℕ) × HasDatagrams self.now.plan self.now.frame count × (i < count) }
-        requires room { 8192 ≤ length into.old }
-        ensures datagram { IsDatagramAt self.now.plan self.now.frame i (take result into.new) }
-        ensures small { result ≤ 8192 }
-        ensures long { length into.new ≡ length into.old }
-    {
-        let packet = &self.buffer[..self.len];
-        match self.cut {
-            None => write_whole(packet, into),
-            Some(shape) => {
-                let seq = sequence_number(self.plan, self.frame);
-                write_cut(packet, &shape, &self.parity, seq, i, into)
-            }
-        }
+        self.loaded.fragments()
     }
 
     /// The datagram with this number, from 0, of the frame that is loaded.
     pub fn datagram(&mut self, i: u32) -> &[u8]
-        requires within { (count : ℕ) × HasDatagrams self.old.plan self.old.frame count × (i < count) }
+        requires within { HasDatagram self.old.plan self.old.frame i }
         ensures* after { sem 𝓛 (Stays self.entry) }
         ensures datagram { IsDatagramAt self.old.plan self.old.frame i result.now }
-        ensures small { length result.now ≤ 8192 }
+        ensures small { length result.now ≤ most_packet self.old.plan.carry }
     {
-        match self.cut {
-            None => &self.buffer[..self.len],
-            Some(shape) => {
-                let seq = sequence_number(self.plan, self.frame);
-                let packet = &self.buffer[..self.len];
-                let len = write_cut(packet, &shape, &self.parity, seq, i, &mut self.fragment);
-                &self.fragment[..len]
-            }
+        if self.loaded.is_whole() {
+            return self.loaded.packet();
         }
+        let len = self.loaded.write_datagram(i, &mut self.datagram);
+        &self.datagram[..len]
     }
-}
-
-// Writes a packet to the front, and gives its length.
-fn write_whole(packet: &[u8], into: &mut [u8]) -> usize
-    requires { length packet.now ≤ length into.old }
-    ensures packet { take result into.new ≡ packet.now }
-    ensures len { result ≡ length packet.now }
-    ensures long { length into.new ≡ length into.old }
-{
-    into[..packet.len()].copy_from_slice(packet);
-    packet.len()
-}
-
-// So many zeros.
-fn zeros(alloc: Global, len: usize) -> Result<Vec<u8>, NoMemory>
-    ensures { IfOk result (λ bytes. length bytes.items ≡ len) }
-{
-    Ok(vec![in alloc; 0u8; len]?)
 }

@@ -3,11 +3,9 @@
 ghost use Rattle.std.specs.Prelude.{◌≡◌, ◌+◌, ◌*◌, ◌<◌, ◌≤◌, ◌++◌, All, length, take, drop, map, replicate, sum_by, false};
 ghost use Rattle.mdi_items.specs.Names.{sdc_, str};
 ghost use Rattle.mdi_items.specs.Written.{written, behind, next, lender, spelled, spelling, whole, stream_pieces};
-ghost use Rattle.drm_schedule.specs.Ranges.{StreamInLines};
 ghost use Rattle.drm_schedule.specs.Sizes.{stream_size};
-ghost use Rattle.drm_schedule.specs.Valid.{is_short};
-ghost use Rattle.drm_schedule.specs.declared.stream.Stream.{Stream};
 ghost use Rattle.drm_server.specs.Frames.{stream_bytes};
+ghost use Rattle.drm_server.specs.Placing.{IsBefore, IsBeforeStream, IsReady, AreReady};
 
 use drm_schedule::{Content, Stream};
 use mdi_items::MdiWriter;
@@ -17,12 +15,8 @@ const MOST: usize = 2 * 4095;
 
 /// Writes the streams of a configuration in the frame of it that has this number, from 0.
 pub fn write_streams(writer: &mut MdiWriter<'_>, streams: &[Stream], frame: u32)
-    requires head { sdc_ ≤ next writer.old }
-    requires order { next writer.old ≤ str 0 }
-    requires few { length streams.now ≤ 4 }
-    requires fit { All StreamInLines streams.now }
-    requires enough { All (λ (s : Stream). is_short (frame + 1) s ≡ false) streams.now }
-    requires room { sum_by (λ s. 8 + stream_size s) streams.now ≤ length (behind writer.old) }
+    requires place { IsBefore (str 0) (sum_by (λ s. 8 + stream_size s) streams.now) writer.old }
+    requires ready { AreReady frame streams.now }
     ensures written { written writer.new ≡ written writer.old ++ spelling (stream_pieces 0 (map (stream_bytes frame) streams.now)) }
     ensures left { length (behind writer.new) + sum_by (λ s. 8 + stream_size s) streams.now ≡ length (behind writer.old) }
     ensures same_reference { lender writer.new ≡ lender writer.old }
@@ -34,12 +28,8 @@ pub fn write_streams(writer: &mut MdiWriter<'_>, streams: &[Stream], frame: u32)
 
 // Writes the bytes of stream `k`.
 fn write_stream(writer: &mut MdiWriter<'_>, k: u8, stream: &Stream, frame: u32)
-    requires stream { k < 4 }
-    requires head { sdc_ ≤ next writer.old }
-    requires order { next writer.old ≤ str k }
-    requires fits { StreamInLines stream.now }
-    requires enough { is_short (frame + 1) stream.now ≡ false }
-    requires room { 8 + stream_size stream.now ≤ length (behind writer.old) }
+    requires place { IsBeforeStream k (8 + stream_size stream.now) writer.old }
+    requires ready { IsReady frame stream.now }
     ensures written { written writer.new ≡ written writer.old ++ spelled (whole (str k) (stream_bytes frame stream.now)) }
     ensures left { length (behind writer.new) + (8 + stream_size stream.now) ≡ length (behind writer.old) }
     ensures next { next writer.new ≡ str k + 1 }
@@ -56,11 +46,8 @@ fn write_stream(writer: &mut MdiWriter<'_>, k: u8, stream: &Stream, frame: u32)
 
 // Writes one byte so many times.
 fn write_fill(writer: &mut MdiWriter<'_>, k: u8, byte: u8, size: usize)
-    requires stream { k < 4 }
-    requires head { sdc_ ≤ next writer.old }
-    requires order { next writer.old ≤ str k }
     requires few { size ≤ 8190 }
-    requires room { 8 + size ≤ length (behind writer.old) }
+    requires place { IsBeforeStream k (8 + size) writer.old }
     ensures written { written writer.new ≡ written writer.old ++ spelled (whole (str k) (replicate size byte)) }
     ensures left { length (behind writer.new) + (8 + size) ≡ length (behind writer.old) }
     ensures next { next writer.new ≡ str k + 1 }

@@ -8,3 +8,5 @@ pub mod BlockLemmas
 pub mod StartsLemmas
 pub mod SignatureAtLemmas
 pub mod ScheduleLaws
+pub mod FilesReach
+pub mod PacketSizes

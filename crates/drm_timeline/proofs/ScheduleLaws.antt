@@ -16,31 +16,31 @@ use Rattle.drm_timeline.proofs.SignatureAtLemmas.{IsThere, there, signed_in, cha
 use Rattle.drm_timeline.proofs.StartsLemmas.{from_map, not_the_first, is_later, all_within, HasCountdown, all_have_countdown, IsAnnouncedIn, all_announced, named_in, small_in}
 
 -- in the super frames of its countdown, the index counts down to the start of a configuration
-counts_in : (plan : Plan) → AreFaultless plan.length None plan.configs → (c : Config) → Contains plan.configs c → (ahead : ℕ) → 1 ≤ ahead → ahead ≤ c.countdown → index_of plan (c.start - ahead) ≡ ahead
+counts_in : (plan : Plan) → AreFaultless plan None plan.configs → (c : Config) → Contains plan.configs c → (ahead : ℕ) → 1 ≤ ahead → ahead ≤ c.countdown → index_of plan (c.start - ahead) ≡ ahead
 counts_in plan are c is ahead some within =
-    let has : HasCountdown c = All-contains HasCountdown plan.configs c (all_have_countdown plan.length plan.configs are) is in
-    let announced : IsAnnouncedIn plan.configs c = All-contains (IsAnnouncedIn plan.configs) plan.configs c (all_announced plan.length None plan.configs are) is in
+    let has : HasCountdown c = All-contains HasCountdown plan.configs c (all_have_countdown plan plan.configs are) is in
+    let announced : IsAnnouncedIn plan.configs c = All-contains (IsAnnouncedIn plan.configs) plan.configs c (all_announced plan None plan.configs are) is in
     let sf : ℕ = c.start - ahead in
     let reaches : c.countdown ≤ c.start = has.1 in
     ap (frames_before sf) (announced sf (omega (arith, within)) (omega (arith, some, within, reaches))) ∙ omega (arith, within, reaches)
 
-before_in : (plan : Plan) → AreFaultless plan.length None plan.configs → (start : ℕ) → Contains (later_starts plan) start → index_of plan (start - 1) ≡ 1
+before_in : (plan : Plan) → AreFaultless plan None plan.configs → (start : ℕ) → Contains (later_starts plan) start → index_of plan (start - 1) ≡ 1
 before_in plan are start is =
     let from = from_map (λ (c : Config). c.start) (drop 1 plan.configs) is.0 start is.1 is.2 in
     let c : Config = from.0 in
     let there : Contains plan.configs c = not_the_first plan.configs c from.1 in
     let same : c.start ≡ start = from.2 in
-    let above : 0 < start = (All-contains (λ start. (0 < start) × (start < plan.length)) (later_starts plan) start (all_within plan.length plan.configs are) is).0 in
-    let has : HasCountdown c = All-contains HasCountdown plan.configs c (all_have_countdown plan.length plan.configs are) there in
+    let above : 0 < start = (All-contains (λ start. (0 < start) × (start < plan.length)) (later_starts plan) start (all_within plan plan.configs are) is).0 in
+    let has : HasCountdown c = All-contains HasCountdown plan.configs c (all_have_countdown plan plan.configs are) there in
     subst (λ n. index_of plan (n - 1) ≡ 1) same (counts_in plan are c there 1 (omega arith) (has.0 (omega (arith, same, above))))
 
-pub announces_starts : (plan : Plan) → IsSchedule plan → AreFaultless plan.length None plan.configs → AnnouncesStarts plan
+pub announces_starts : (plan : Plan) → IsSchedule plan → AreFaultless plan None plan.configs → AnnouncesStarts plan
 announces_starts plan is are =
     let lines = is.in_lines in
     let here : (sf : ℕ) → IsThere plan sf = λ sf. there plan sf lines.some_config are lines.each_config in
     record {
-      within = all_within plan.length plan.configs are;
-      named = λ sf above. is_later plan.length plan.configs (sf + index_of plan sf) are (omega (arith, above)) (named_in sf plan.configs above);
+      within = all_within plan plan.configs are;
+      named = λ sf above. is_later plan plan.configs (sf + index_of plan sf) are (omega (arith, above)) (named_in sf plan.configs above);
       before = before_in plan are;
       counts = counts_in plan are;
       small = λ sf. small_in sf plan.configs lines.each_config;

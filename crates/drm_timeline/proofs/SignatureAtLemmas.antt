@@ -49,20 +49,20 @@ pub record IsThere (plan : Plan) (sf : ℕ) : Type 0 where
   pub services : ℕ
   pub code : services_of config ≡ Some services
 
-pub there : (plan : Plan) (sf : ℕ) → 1 ≤ length plan.configs → AreFaultless plan.length None plan.configs → All ConfigInLines plan.configs → IsThere plan sf
+pub there : (plan : Plan) (sf : ℕ) → 1 ≤ length plan.configs → AreFaultless plan None plan.configs → All ConfigInLines plan.configs → IsThere plan sf
 there plan sf some are fit = by (config_of plan sf) refl
   where
     have : IfSome (config_of plan sf) (λ c. IsSome (services_of c))
     have =
         last_passing_has (has_started sf) (λ c. IsSome (services_of c)) plan.configs
-        (λ k d within. sound_services (get_or plan.configs k d) (fit k d within) (all_sound plan.length None plan.configs are k d within))
+        (λ k d within. sound_services (get_or plan.configs k d) (fit k d within) (all_sound plan None plan.configs are k d within))
 
     code_of : (c : Config) → config_of plan sf ≡ Some c → (o : Option ℕ) → services_of c ≡ o → IsSome o → IsThere plan sf
     code_of c is None none has = absurd cc
     code_of c is (Some services) code has = record { config = c; holds = is; services = services; code = code }
 
     by : (o : Option Config) → config_of plan sf ≡ o → IsThere plan sf
-    by None none = absurd (some_config plan.length sf plan.configs some are none)
+    by None none = absurd (some_config plan sf plan.configs some are none)
     by (Some c) is = code_of c is (services_of c) refl (subst (λ (o : Option Config). IfSome o (λ c. IsSome (services_of c))) is have)
 
 -- the signature of the frames of a configuration
@@ -86,13 +86,13 @@ next_frame : (t : ℕ) → ((t + 1) / 3 ≡ t / 3) ⊎ (((t + 1) / 3 ≡ t / 3 +
 next_frame t = grind arith
 
 -- so signatures change only with the first frame of a later configuration
-pub changes_in : (plan : Plan) (t : ℕ) → AreFaultless plan.length None plan.configs → IsThere plan (t / 3) → signature_at plan t ≢ signature_at plan (t + 1) → IsFirstFrame plan (t + 1)
+pub changes_in : (plan : Plan) (t : ℕ) → AreFaultless plan None plan.configs → IsThere plan (t / 3) → signature_at plan t ≢ signature_at plan (t + 1) → IsFirstFrame plan (t + 1)
 changes_in plan t are is differ =
     elim (next_frame t) [
       | inl same ↦ absurd (differ (same_signature plan t (t + 1) is (ap (config_of plan) (sym same))))
       | inr next ↦
           elim (stays_or_starts (t / 3) None plan.configs) [
             | inl same ↦ absurd (differ (same_signature plan t (t + 1) is (same ∙ ap (config_of plan) (sym next.0))))
-            | inr start ↦ (t / 3 + 1, is_later plan.length plan.configs (t / 3 + 1) are (omega arith) start, next.1)
+            | inr start ↦ (t / 3 + 1, is_later plan plan.configs (t / 3 + 1) are (omega arith) start, next.1)
           ]
     ]

@@ -4,6 +4,7 @@ use Rattle.std.specs.List.{last_or, find}
 use Rattle.std.proofs.lemmas.Bool.{true≢false, cond-true, cond-false, and_parts, or_parts, leb-true, leb-false, le-leb, lt-ltb, le-ltb, eqb-true}
 use Rattle.std.proofs.lemmas.List.Elements.{All-nil, All-cons, All-head, All-tail, All-weaker, All-map}
 use Rattle.drm_schedule.specs.declared.config.Config.{Config}
+use Rattle.drm_schedule.specs.declared.plan.Plan.{Plan}
 use Rattle.drm_schedule.specs.Ranges.{ConfigInLines}
 use Rattle.drm_schedule.specs.Announcement.{countdown_start}
 use Rattle.drm_schedule.specs.Valid.{end_before, IsFaultless, AreFaultless}
@@ -28,31 +29,31 @@ not_the_first [] x is = is
 not_the_first (y ∷ xs) x is = contains_later xs y x is
 
 -- a start above 0 is a later one
-pub is_later : (len : ℕ) (cs : List Config) (start : ℕ) → AreFaultless len None cs → 0 < start → Contains (starts cs) start → Contains (starts (drop 1 cs)) start
-is_later len [] start are above is = is
-is_later len (c ∷ more) start are above is = by is.0 is.1 is.2
+pub is_later : (plan : Plan) (cs : List Config) (start : ℕ) → AreFaultless plan None cs → 0 < start → Contains (starts cs) start → Contains (starts (drop 1 cs)) start
+is_later plan [] start are above is = is
+is_later plan (c ∷ more) start are above is = by is.0 is.1 is.2
   where
     by : (k : ℕ) → k < length (c.start ∷ starts more) → get_or (c.start ∷ starts more) k start ≡ start → Contains (starts more) start
-    by zero within is = absurd (omega (arith, above, is, first_start len (end_before len more) c are.0))
+    by zero within is = absurd (omega (arith, above, is, first_start plan (end_before plan.length more) c are.0))
     by (suc k) within is = (k, omega (arith, within), is)
 
 -- later starts are in the schedule
 abbrev IsWithin : ℕ → Config → Type 0
 IsWithin len c = (0 < c.start) × (c.start < len)
 
-all_behind : (len : ℕ) (before : Config) (cs : List Config) → AreFaultless len (Some before) cs → All (IsWithin len) cs
-all_behind len before [] are = All-nil (IsWithin len)
-all_behind len before (c ∷ more) are =
-    let order = or_parts (nat_le c.start before.start) (nat_le len c.start) are.0.order in
-    All-cons (IsWithin len) c more (omega (arith, leb-false c.start before.start order.0), leb-false len c.start order.1) (all_behind len c more are.1)
+all_behind : (plan : Plan) (before : Config) (cs : List Config) → AreFaultless plan (Some before) cs → All (IsWithin plan.length) cs
+all_behind plan before [] are = All-nil (IsWithin plan.length)
+all_behind plan before (c ∷ more) are =
+    let order = or_parts (nat_le c.start before.start) (nat_le plan.length c.start) are.0.order in
+    All-cons (IsWithin plan.length) c more (omega (arith, leb-false c.start before.start order.0), leb-false plan.length c.start order.1) (all_behind plan c more are.1)
 
-pub all_within : (len : ℕ) (cs : List Config) → AreFaultless len None cs → All (λ start. (0 < start) × (start < len)) (starts (drop 1 cs))
-all_within len [] are = All-nil (λ start. (0 < start) × (start < len))
-all_within len (c ∷ more) are = All-map (λ start. (0 < start) × (start < len)) (λ (c : Config). c.start) more (all_behind len c more are.1)
+pub all_within : (plan : Plan) (cs : List Config) → AreFaultless plan None cs → All (λ start. (0 < start) × (start < plan.length)) (starts (drop 1 cs))
+all_within plan [] are = All-nil (λ start. (0 < start) × (start < plan.length))
+all_within plan (c ∷ more) are = All-map (λ start. (0 < start) × (start < plan.length)) (λ (c : Config). c.start) more (all_behind plan c more are.1)
 
 -- the first configuration has no countdown
-no_countdown : (len end : ℕ) (c : Config) → IsFaultless len None end c → c.countdown ≡ 0
-no_countdown len end c is = by (c.countdown == 0) refl is.countdown_fits
+no_countdown : (plan : Plan) (end : ℕ) (c : Config) → IsFaultless plan None end c → c.countdown ≡ 0
+no_countdown plan end c is = by (c.countdown == 0) refl is.countdown_fits
   where
     by : (b : Bool) → (c.countdown == 0) ≡ b → not b ≡ false → c.countdown ≡ 0
     by true test wrong = eqb-true c.countdown 0 test
@@ -62,23 +63,23 @@ no_countdown len end c is = by (c.countdown == 0) refl is.countdown_fits
 abbrev IsApart : Config → Config → Type 0
 IsApart before c = (1 ≤ c.countdown) × (before.start + c.countdown ≤ c.start)
 
-all_apart : (len : ℕ) (before : Config) (cs : List Config) → AreFaultless len (Some before) cs → All (IsApart before) cs
-all_apart len before [] are = All-nil (IsApart before)
-all_apart len before (c ∷ more) are =
-    let f = follows len (end_before len more) before c are.0 in
+all_apart : (plan : Plan) (before : Config) (cs : List Config) → AreFaultless plan (Some before) cs → All (IsApart before) cs
+all_apart plan before [] are = All-nil (IsApart before)
+all_apart plan before (c ∷ more) are =
+    let f = follows plan (end_before plan.length more) before c are.0 in
     All-cons (IsApart before) c more (f.counts, f.apart)
-    (All-weaker (IsApart c) (IsApart before) (λ d apart. (apart.0, omega (arith, apart.1, f.later))) more (all_apart len c more are.1))
+    (All-weaker (IsApart c) (IsApart before) (λ d apart. (apart.0, omega (arith, apart.1, f.later))) more (all_apart plan c more are.1))
 
 -- a countdown begins with the schedule or later, and each configuration but one that starts with the schedule has one
 abbrev pub HasCountdown : Config → Type 0
 HasCountdown c = (0 < c.start → 1 ≤ c.countdown) × (c.countdown ≤ c.start)
 
-pub all_have_countdown : (len : ℕ) (cs : List Config) → AreFaultless len None cs → All HasCountdown cs
-all_have_countdown len [] are = All-nil HasCountdown
-all_have_countdown len (c ∷ more) are =
+pub all_have_countdown : (plan : Plan) (cs : List Config) → AreFaultless plan None cs → All HasCountdown cs
+all_have_countdown plan [] are = All-nil HasCountdown
+all_have_countdown plan (c ∷ more) are =
     All-cons HasCountdown c more
-    ((λ above. absurd (omega (arith, above, first_start len (end_before len more) c are.0))), omega (arith, no_countdown len (end_before len more) c are.0))
-    (All-weaker (IsApart c) HasCountdown (λ d apart. ((λ above. apart.0), omega (arith, apart.1))) more (all_apart len c more are.1))
+    ((λ above. absurd (omega (arith, above, first_start plan (end_before plan.length more) c are.0))), omega (arith, no_countdown plan (end_before plan.length more) c are.0))
+    (All-weaker (IsApart c) HasCountdown (λ d apart. ((λ above. apart.0), omega (arith, apart.1))) more (all_apart plan c more are.1))
 
 counting : (sf : ℕ) (c : Config) → countdown_start c ≤ sf → sf < c.start → is_counting sf c ≡ true
 counting sf c low high = ap (λ b. b && nat_lt sf c.start) (le-leb (countdown_start c) sf low) ∙ lt-ltb sf c.start high
@@ -94,11 +95,11 @@ not_counting sf c past = by (nat_le (countdown_start c) sf)
 abbrev pub IsAnnouncedIn : List Config → Config → Type 0
 IsAnnouncedIn cs c = (sf : ℕ) → countdown_start c ≤ sf → sf < c.start → find (is_counting sf) cs ≡ Some c
 
-pub all_announced : (len : ℕ) (before : Option Config) (cs : List Config) → AreFaultless len before cs → All (IsAnnouncedIn cs) cs
-all_announced len before [] are = All-nil (IsAnnouncedIn [])
-all_announced len before (x ∷ more) are =
+pub all_announced : (plan : Plan) (before : Option Config) (cs : List Config) → AreFaultless plan before cs → All (IsAnnouncedIn cs) cs
+all_announced plan before [] are = All-nil (IsAnnouncedIn [])
+all_announced plan before (x ∷ more) are =
     All-cons (IsAnnouncedIn (x ∷ more)) x more (λ sf low high. cond-true (is_counting sf x) (Some x) (find (is_counting sf) more) (counting sf x low high))
-    (λ k d within. later (get_or more k d) (all_apart len x more are.1 k d within) (all_announced len (Some x) more are.1 k d within))
+    (λ k d within. later (get_or more k d) (all_apart plan x more are.1 k d within) (all_announced plan (Some x) more are.1 k d within))
   where
     later : (c : Config) → IsApart x c → IsAnnouncedIn more c → IsAnnouncedIn (x ∷ more) c
     later c apart announced sf low high =

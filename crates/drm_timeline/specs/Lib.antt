@@ -1,4 +1,5 @@
 pub mod Standing
+pub mod Numbers
 pub mod FastAccess
 pub mod Description
 pub mod Announcing

@@ -5,7 +5,6 @@ ghost use Rattle.drm_fac.specs.Fac.{FacFits};
 ghost use Rattle.drm_fac.specs.Pattern.{service_at};
 ghost use Rattle.drm_schedule.specs.Ranges.{ConfigInLines, ServiceInLines};
 ghost use Rattle.block_packing.specs.Packing.{chain};
-ghost use Rattle.drm_schedule.specs.Sizes as sizes;
 ghost use Rattle.drm_timeline.specs.Standing.{config_of};
 ghost use Rattle.drm_timeline.specs.FastAccess as fast_access;
 ghost use Rattle.drm_timeline.specs.FastAccess.{audio_services, data_services, is_of_kind, services_of, service_of, service_in, channel_of, fac_of, fac_under};
@@ -134,13 +133,4 @@ fn channel(config: &Config, services: u8, index: u8, position: u8) -> Channel
         index,
         last: 0,
     }
-}
-
-/// How many bytes the AF packet of a frame has.
-pub fn packet_len(plan: &Schedule, t: u32) -> usize
-    ensures len { Some result ≡ option_map (λ c. sizes.packet_len c (t % 3 == 0)) (config_of plan.now (t / 3)) }
-    // The limit that a valid schedule keeps.
-    ensures small { result ≤ 8192 }
-{
-    drm_schedule::packet_len(standing(plan, t / 3), t % 3 == 0) as usize
 }

@@ -5,6 +5,7 @@
 mod announcing;
 mod block;
 mod fast_access;
+mod numbers;
 mod schedule_laws;
 mod standing;
 mod told;
@@ -14,7 +15,8 @@ pub use drm_switches::{
     Before, Seen, Signature, Tracker, none_is_resumed, switches_at_all_starts,
     switches_only_at_starts, the_tracker_tells_the_switches,
 };
-pub use fast_access::{fac_at, packet_len};
+pub use fast_access::fac_at;
+pub use numbers::{config_of_frame, frame_count, packet_len, sequence_number};
 pub use schedule_laws::{starts_are_announced, switches_are_at_starts};
 pub use standing::{config_at, index_at};
 pub use told::description;

@@ -3,6 +3,7 @@
 ghost use Rattle.std.specs.Prelude.{◌≡◌, ◌<◌, ◌≤◌, length, All, IfSome, slice_get, filter, true, false, IsSome, Option, None, Some};
 ghost use Rattle.std.specs.List.{find, last_or};
 ghost use Rattle.std.specs.Option.{option_copied};
+ghost use Rattle.dcp_pft.specs.Limits.{most_packet};
 ghost use Rattle.drm_schedule.specs.Ranges.{ConfigInLines};
 ghost use Rattle.block_packing.specs.Packing.{chain};
 ghost use Rattle.drm_schedule.specs.declared.config.Config.{Config};
@@ -33,7 +34,7 @@ pub fn standing(plan: &Schedule, sf: u32) -> &Config
     ensures started { result.now.start ≤ sf }
     ensures services { IsSome (services_of result.now) }
     ensures room { has_no_room result.now ≡ false }
-    ensures packet { packet_len result.now true ≤ 8192 }
+    ensures packet { packet_len result.now true ≤ most_packet plan.now.carry }
 {
     plan.always_valid();
     plan.configs().get(config_at(plan, sf))

@@ -11,6 +11,7 @@ use Rattle.drm_schedule.specs.declared.plan.Plan.{Plan}
 use Rattle.drm_schedule.specs.Valid.{IsSchedule}
 use Rattle.mod_feed.specs.Feeding.{Feeds}
 use Rattle.drm_switches.specs.Tracker.{new_tracker}
+use Rattle.drm_timeline.specs.Numbers.{frame_count}
 use Rattle.mod_delivery.specs.Sent.{AreSent, IsFollowed, IsInTime}
 use Rattle.mod_delivery.specs.Given.{AreGiven}
 use Rattle.mod_delivery.specs.Laws.{Delivering, DeliveringEarly}
@@ -156,7 +157,7 @@ early : (one_run : OneRun) (delivering : Delivering) (delivering_early : Deliver
     → AreNext (map Datagram brought) answers rest → (is : IsReport (air_rules plan window) number answers text clean) → Holds (air_rules plan window) answers word.Frames
     → Modulates plan (air_rules plan window) number base pairs text clean
 early one_run delivering delivering_early laws plan window number base pairs brought answers rest text clean valid some followed next is holds =
-    let n : ℕ = 3 * plan.length in
+    let n : ℕ = frame_count plan in
     let came = front_came brought answers rest next in
     let whole : IsFollowed plan (Some plan.seq) base pairs (datagrams answers ++ came.0) = subst (λ l. IsFollowed plan (Some plan.seq) base pairs l) came.1 followed in
     let front = front_followed plan plan.seq base pairs (datagrams answers) came.0 whole in
@@ -205,7 +206,7 @@ headline one_run delivering delivering_early laws plan window number base pairs 
 
 pub complete : (plan : Plan) (window number : ℕ) (pairs : List (ℕ × ℕ)) (brought : List (List ℕ)) (r : Report)
     → IsSchedule plan → length brought < 4294967295 → IsReportOf (air_rules plan window) number (map Datagram brought) r
-    → IsFollowed plan (Some plan.seq) (pos 0) pairs brought → ((q : ℕ) → q < 3 * plan.length → IsInTime plan window (pos 0) pairs q)
+    → IsFollowed plan (Some plan.seq) (pos 0) pairs brought → ((q : ℕ) → q < frame_count plan → IsInTime plan window (pos 0) pairs q)
     → ModulatesAll plan number r.text r.clean
 complete plan window number pairs brought r valid few of followed in_time =
     of.complete plan pairs (all_answers brought) valid (would_be_read (air_rules plan window) brought refl few)

@@ -8,6 +8,7 @@ use Rattle.drm_links.specs.Told.{HasCause}
 use Rattle.drm_links.specs.Shelf.{Files}
 use Rattle.drm_links.specs.Link.{Datagram}
 use Rattle.drm_links.specs.Sink.{Output}
+use Rattle.drm_timeline.specs.Numbers.{frame_count}
 use Rattle.mod_delivery.specs.Sent.{AreSent, IsFollowed, IsInTime}
 use Rattle.mod_receiver.specs.declared.rules.Rules.{Rules}
 use Rattle.mod_receiver.specs.Headline.{Modulates, ModulatesAll}
@@ -23,7 +24,7 @@ use Rattle.drm_faults.specs.declared.fault.Fault.TheVariants as faults
 
 -- a feed is read by the schedule's first sequence number and all its frames, and ends where nothing is left
 abbrev pub air_rules : Plan → ℕ → Rules
-air_rules plan window = record { window = window; first = Some plan.seq; frames = Some (3 * plan.length); idle = 1; limit = 4294967295 }
+air_rules plan window = record { window = window; first = Some plan.seq; frames = Some (frame_count plan); idle = 1; limit = 4294967295 }
 
 -- the pairs that a feed delivers
 abbrev pub pairs_of : List Delivery → List (ℕ × ℕ)
@@ -37,7 +38,7 @@ pub record IsAired (plan : Plan) (window feed : ℕ) (deliveries : List Delivery
   pub headline : (base : ℤ) → IsFollowed plan (Some plan.seq) base (pairs_of deliveries) datagrams
       → Modulates plan (air_rules plan window) feed base (pairs_of deliveries) r.text r.clean
   pub complete : IsFollowed plan (Some plan.seq) (pos 0) (pairs_of deliveries) datagrams
-      → ((q : ℕ) → q < 3 * plan.length → IsInTime plan window (pos 0) (pairs_of deliveries) q)
+      → ((q : ℕ) → q < frame_count plan → IsInTime plan window (pos 0) (pairs_of deliveries) q)
       → ModulatesAll plan feed r.text r.clean
 
 -- a report for each feed, in their order

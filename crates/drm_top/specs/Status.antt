@@ -7,6 +7,7 @@ use Rattle.drm_links.specs.Link.{Answer}
 use Rattle.drm_links.specs.Sink.{Output, Outputs}
 use Rattle.drm_links.specs.Dock.{DockContents, LinkStart}
 use Rattle.drm_links.specs.declared.dock.Address.{Address}
+use Rattle.drm_timeline.specs.Numbers.{frame_count}
 use Rattle.mod_delivery.specs.Sent.{AreSent, IsFollowed, IsInTime}
 use Rattle.mod_receiver.specs.declared.rules.Rules.{Rules}
 use Rattle.mod_receiver.specs.Reading.{datagrams}
@@ -35,8 +36,8 @@ pub record IsInTimeAhead (rules : Rules) (ahead : List Answer) : Type 0 where
   pub answers : List Answer
   pub read : WouldBeRead rules ahead answers
   pub followed : IsFollowed plan rules.first (pos 0) pairs (datagrams answers)
-  pub frames : (rules.frames ≡ None) ⊎ (rules.frames ≡ Some (3 * plan.length))
-  pub in_time : (q : ℕ) → q < 3 * plan.length → IsInTime plan rules.window (pos 0) pairs q
+  pub frames : (rules.frames ≡ None) ⊎ (rules.frames ≡ Some (frame_count plan))
+  pub in_time : (q : ℕ) → q < frame_count plan → IsInTime plan rules.window (pos 0) pairs q
 
 -- so is that of the link at each address
 abbrev pub AreInTime : Rules → DockContents → List Address → Type 0
@@ -57,4 +58,4 @@ FeedsAreInTime plan window feeds =
     (k : ℕ) (feed : List Delivery) (datagrams : List (List ℕ)) → k < length feeds
     → let pairs = pairs_of (slice_index_or feeds k feed) in
     AreSent plan pairs datagrams
-    → IsFollowed plan (Some plan.seq) (pos 0) pairs datagrams × ((q : ℕ) → q < 3 * plan.length → IsInTime plan window (pos 0) pairs q)
+    → IsFollowed plan (Some plan.seq) (pos 0) pairs datagrams × ((q : ℕ) → q < frame_count plan → IsInTime plan window (pos 0) pairs q)

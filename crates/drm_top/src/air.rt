@@ -16,6 +16,7 @@ use drm_links::{MemLink, Shelf, Sink};
 use drm_load::{read_schedule, read_script_named, script_fault};
 use drm_schedule::Schedule;
 use drm_server::Server;
+use drm_timeline::frame_count;
 use mod_receiver::{Job, Rules, job_for, laws_of_deliveries, reports_follow, run_all, settle};
 use script_lines::{Delivery, Script};
 use std::alloc::Global;
@@ -81,11 +82,10 @@ fn feed_all(
 fn rules_for(plan: &Schedule, window: u8) -> Rules
     ensures { result ≡ air_rules plan.now window }
 {
-    plan.always_valid();
     Rules {
         window,
         first: Some(plan.seq()),
-        frames: Some(3 * u64::from(plan.length())),
+        frames: Some(u64::from(frame_count(plan))),
         idle: 1,
         limit: u32::MAX,
     }

@@ -14,6 +14,7 @@ use Rattle.drm_links.proofs.TransmissionLemmas.{Transmits-weaker, Transmits-noth
 use Rattle.drm_links.proofs.ManyCallsLemmas.{no_calls, at_most}
 use Rattle.drm_schedule.specs.declared.plan.Plan.{Plan}
 use Rattle.drm_schedule.specs.Valid.{IsSchedule}
+use Rattle.drm_timeline.specs.Numbers.{frame_count}
 use Rattle.drm_server.specs.Sending.{SendsSchedule, SendsPart}
 use Rattle.drm_faults.specs.declared.fault.Fault.{Fault}
 use Rattle.drm_faults.specs.declared.fault.Fault.TheVariants.{Link}
@@ -31,8 +32,8 @@ not_link schedule.NoMemory is = cc
 not_link (schedule.Line l r) is = cc
 not_link schedule.Read is = cc
 
-few_calls : (plan : Plan) (a b : Option Traffic) → plan.length ≤ 1000000 → MakesCalls (λ (t : Traffic). t.calls) (1025 * (3 * plan.length)) a b → MakesCalls (λ (t : Traffic). t.calls) most_calls a b
-few_calls plan a b few made = at_most (λ (t : Traffic). t.calls) (1025 * (3 * plan.length)) most_calls a b (omega (arith, few)) made
+few_calls : (plan : Plan) (a b : Option Traffic) → plan.length ≤ 1000000 → MakesCalls (λ (t : Traffic). t.calls) (1025 * frame_count plan) a b → MakesCalls (λ (t : Traffic). t.calls) most_calls a b
+few_calls plan a b few made = at_most (λ (t : Traffic). t.calls) (1025 * frame_count plan) most_calls a b (omega (arith, few)) made
 
 module _ {S L : Type 0} (name : List ℕ) (shelf_faults : S → ℕ) (shelf_tells : S → Option Files) (shelf shelf' : S) (link_faults : L → ℕ) (link_tells : L → Option Traffic) where
   -- no schedule came, and nothing was sent
@@ -51,7 +52,7 @@ module _ {S L : Type 0} (name : List ℕ) (shelf_faults : S → ℕ) (shelf_tell
   }
 
   module _ (plan : Plan) (valid : IsSchedule plan) (comes : ReadBy (schedule_named name) (Ok plan) (shelf_tells shelf) (shelf_tells shelf')) (later : shelf_faults shelf ≤ shelf_faults shelf') (link link' : L) (later' : link_faults link ≤ link_faults link')
-      (calls : MakesCalls (λ (t : Traffic). t.calls) (1025 * (3 * plan.length)) (link_tells link) (link_tells link')) where
+      (calls : MakesCalls (λ (t : Traffic). t.calls) (1025 * frame_count plan) (link_tells link) (link_tells link')) where
     pub all_sent : Transmits (link_tells link) (link_tells link') (SendsSchedule plan) → OverLink name (Ok tt) shelf_faults shelf_tells shelf shelf' link_faults link_tells link link'
     all_sent sent = record {
       came = Ok plan;

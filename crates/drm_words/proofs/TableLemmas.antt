@@ -7,7 +7,7 @@ use Rattle.std.proofs.lemmas.List.{nil_from_length}
 use Rattle.std.proofs.lemmas.Bool.Decides.{nat_tests}
 use Rattle.std.proofs.lemmas.Slice.Eq.{bytes_eq-Decides}
 use Rattle.drm_links.specs.declared.dock.Address.{Address}
-use Rattle.drm_schedule.specs.declared.carry.Carry.{Carry}
+use Rattle.dcp_pft.specs.declared.carry.Carry.{Carry}
 use Rattle.drm_words.specs.declared.request.Request.{Request}
 use Rattle.drm_words.specs.declared.request.Request.TheVariants.{Fac, Check, Serve, Receive, Air, Show, Convert, Exercise}
 use Rattle.word_forms.specs.Reading.{within}

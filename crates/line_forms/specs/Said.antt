@@ -9,12 +9,13 @@ use Rattle.drm_sdc.specs.declared.body.AppMode.TheVariants as modes
 use Rattle.drm_sdc.specs.declared.body.Body.{Body}
 use Rattle.drm_sdc.specs.declared.body.Body.TheVariants as bodies
 use Rattle.drm_sdc.specs.declared.channels.Channel15.{Channel15}
-use Rattle.drm_schedule.specs.declared.carry.Carry.{Carry}
-use Rattle.drm_schedule.specs.declared.carry.Carry.TheVariants.{Plain, Pft}
+use Rattle.dcp_pft.specs.declared.carry.Carry.{Carry}
+use Rattle.dcp_pft.specs.declared.carry.Carry.TheVariants.{Plain, Pft}
 use Rattle.drm_fac.specs.Mode.{mode_letter}
 use Rattle.drm_schedule.specs.declared.stream.Content.{Content}
 use Rattle.drm_schedule.specs.declared.stream.Content.TheVariants.{Fill, File}
-use Rattle.drm_schedule.specs.Ranges.{CarryInLines, StreamInLines, ServiceInLines, ClockInLines, EntityInLines}
+use Rattle.dcp_pft.specs.Carrying.{CarryFits}
+use Rattle.drm_schedule.specs.Ranges.{StreamInLines, ServiceInLines, ClockInLines, EntityInLines}
 use Rattle.text_lines.specs.Lines.{words_of}
 use Rattle.line_forms.specs.declared.first_word.Keyword.{Keyword}
 use Rattle.line_forms.specs.declared.first_word.Keyword.TheVariants as keywords
@@ -194,7 +195,7 @@ detached line = line
 -- what a line can say
 abbrev pub LineInLines : Line → Type 0
 LineInLines lines.Version = Unit {0}
-LineInLines (lines.Carry carry) = CarryInLines carry
+LineInLines (lines.Carry carry) = CarryFits carry
 LineInLines (lines.First seq dlfc) = (seq < 2 ^ 16) × (dlfc < 2 ^ 32)
 LineInLines (lines.Length n) = (1 ≤ n) × (n ≤ 1000000)
 LineInLines (lines.Config start countdown) = (start < 1000000) × (countdown < 2 ^ 3)

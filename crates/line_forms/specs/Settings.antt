@@ -2,7 +2,8 @@
 use Rattle.std.specs.Prelude.{ℕ, List, [], ◌∷◌, Option, Some, None, Bool, true, false, codes, if◌then◌else◌}
 use Rattle.std.specs.Int.{from_be_bytes, w32}
 use Rattle.std.specs.Str.{bytes_eq}
-use Rattle.drm_schedule.specs.declared.carry.Carry.TheVariants.{Plain, Pft}
+use Rattle.dcp_pft.specs.Limits.{most_losses, least_fragment, most_fragment}
+use Rattle.dcp_pft.specs.declared.carry.Carry.TheVariants.{Plain, Pft}
 use Rattle.drm_fac.specs.declared.mode.Mode.{Mode}
 use Rattle.drm_fac.specs.Mode.{mode_of_letter}
 use Rattle.drm_schedule.specs.declared.stream.Content.TheVariants.{Fill, File}
@@ -21,7 +22,7 @@ plain_carry form = if bytes_eq form (codes "plain") then shape [] (lines.Carry P
 -- carry pft M MTU
 abbrev pub pft_carry : List ℕ → List ℕ → List ℕ → Option Shape
 pft_carry form m mtu =
-    if bytes_eq form (codes "pft") then shape (number 0 5 m ∷ number 128 1500 mtu ∷ []) (lines.Carry (Pft (value m) (value mtu))) else None
+    if bytes_eq form (codes "pft") then shape (number 0 most_losses m ∷ number least_fragment most_fragment mtu ∷ []) (lines.Carry (Pft (value m) (value mtu))) else None
 
 unfoldable pub carry_line : List (List ℕ) → Option Shape
 carry_line (form ∷ []) = plain_carry form

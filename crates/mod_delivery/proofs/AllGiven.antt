@@ -10,6 +10,7 @@ use Rattle.drm_schedule.specs.Valid.{IsSchedule}
 use Rattle.dcp_collect.specs.State.{reached, end_of}
 use Rattle.collect_laws.specs.Delivery.{number, is_number, is_at_least, got, newest_of}
 use Rattle.collect_laws.proofs.Got.{reached_is}
+use Rattle.drm_timeline.specs.Numbers.{frame_count}
 use Rattle.mod_delivery.specs.Sent.{AreSent, IsFollowed, IsInTime}
 use Rattle.mod_delivery.specs.Laws.{AllFrames}
 use Rattle.mod_delivery.proofs.InTime.{given_in_time}
@@ -43,14 +44,14 @@ from_first pair = omega (arith, ints)
 
 -- no pair is beyond the schedule
 none_beyond : (plan : Plan) (pairs : List (ℕ × ℕ)) (datagrams : List (List ℕ)) → AreSent plan pairs datagrams
-    → list_any (λ pair. is_at_least (number (pos 0) pair) (3 * plan.length)) pairs ≡ false
+    → list_any (λ pair. is_at_least (number (pos 0) pair) (frame_count plan)) pairs ≡ false
 none_beyond plan [] datagrams are = refl
 none_beyond plan (pair ∷ pairs) [] are = absurd are
 none_beyond plan (pair ∷ pairs) (datagram ∷ datagrams) are =
-    let within : pair.0 < 3 * plan.length = are.0.within in
-    let here : is_at_least (number (pos 0) pair) (3 * plan.length) ≡ false =
-    ap (λ (z : ℤ). is_at_least z (3 * plan.length)) (from_first pair) ∙ lt-leb (3 * plan.length) pair.0 within in
-    ap (λ (b : Bool). b || list_any (λ (p : ℕ × ℕ). is_at_least (number (pos 0) p) (3 * plan.length)) pairs) here ∙ none_beyond plan pairs datagrams are.1
+    let within : pair.0 < frame_count plan = are.0.within in
+    let here : is_at_least (number (pos 0) pair) (frame_count plan) ≡ false =
+    ap (λ (z : ℤ). is_at_least z (frame_count plan)) (from_first pair) ∙ lt-leb (frame_count plan) pair.0 within in
+    ap (λ (b : Bool). b || list_any (λ (p : ℕ × ℕ). is_at_least (number (pos 0) p) (frame_count plan)) pairs) here ∙ none_beyond plan pairs datagrams are.1
 
 ends_there : (newest : Option ℕ) (n : ℕ) → 1 ≤ n → reached newest (n - 1) ≡ true → reached newest n ≡ false → end_of None newest ≡ n
 ends_there None n some last none = absurd (let e : false ≡ true = last in cc)
@@ -58,12 +59,12 @@ ends_there (Some m) n some last none = let low : n - 1 ≤ m = leb-true (n - 1) 
 
 -- whether the number of items is told or not, they are as many as the schedule's frames
 all_many : (plan : Plan) (window : ℕ) (told : Option ℕ) (pairs : List (ℕ × ℕ)) (datagrams : List (List ℕ)) (first : Option ℕ)
-    → IsSchedule plan → (told ≡ None) ⊎ (told ≡ Some (3 * plan.length)) → IsFollowed plan first (pos 0) pairs datagrams
-    → ((q : ℕ) → q < 3 * plan.length → IsInTime plan window (pos 0) pairs q) → end_of told (newest_of (pos 0) None pairs) ≡ 3 * plan.length
+    → IsSchedule plan → (told ≡ None) ⊎ (told ≡ Some (frame_count plan)) → IsFollowed plan first (pos 0) pairs datagrams
+    → ((q : ℕ) → q < frame_count plan → IsInTime plan window (pos 0) pairs q) → end_of told (newest_of (pos 0) None pairs) ≡ frame_count plan
 all_many plan window told pairs datagrams first is (inr known) followed in_time = ap (λ (o : Option ℕ). end_of o (newest_of (pos 0) None pairs)) known
 all_many plan window told pairs datagrams first is (inl unknown) followed in_time =
-    let n : ℕ = 3 * plan.length in
-    let some : 1 ≤ 3 * plan.length = omega (arith, is.in_lines.some_frames) in
+    let n : ℕ = frame_count plan in
+    let some : 1 ≤ frame_count plan = omega (arith, is.in_lines.some_frames) in
     let last = in_time (n - 1) (omega (arith, some)) in
     let one = some_got plan last.t (got window (pos 0) pairs (n - 1)) is last.enough in
     let came : reached (newest_of (pos 0) None pairs) (n - 1) ≡ true = reached_is (pos 0) None pairs (n - 1) ∙ got_came window (pos 0) pairs (n - 1) one.0 one.1 in
@@ -72,7 +73,7 @@ all_many plan window told pairs datagrams first is (inl unknown) followed in_tim
 
 pub all_frames : AllFrames
 all_frames plan window told pairs datagrams first steps is known followed in_time given =
-    let many : length steps ≡ 3 * plan.length = given.many ∙ all_many plan window told pairs datagrams first is known followed in_time in (
+    let many : length steps ≡ frame_count plan = given.many ∙ all_many plan window told pairs datagrams first is known followed in_time in (
       many,
       λ q step at.
           let within : q < length steps = slice_get_within steps q step at in

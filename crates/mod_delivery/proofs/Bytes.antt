@@ -12,7 +12,8 @@ use Rattle.dcp_pft.specs.declared.shape.Shape.{Shape}
 use Rattle.dcp_pft.specs.Coding.{AreParities, IsParityOf, byte_or_zero, coded, every, filled, payload_of}
 use Rattle.dcp_pft.proofs.Fragments.{with_rs, chunks_by, parities_with}
 use Rattle.dcp_pft.proofs.Written.{IsBytes-append}
-use Rattle.collect_laws.specs.Delivery.{Carriage, Whole, Cut}
+use Rattle.dcp_pft.specs.declared.carry.Carry.{Carry}
+use Rattle.dcp_pft.specs.declared.carry.Carry.TheVariants.{Plain, Pft}
 use Rattle.collect_laws.proofs.Sent.{IsPayload}
 use Rattle.drm_server.proofs.ByteLemmas.{bytes_take, bytes_drop, bytes_behind}
 
@@ -63,6 +64,6 @@ fragment_bytes shape packet parity i are is_parity = by shape.rs refl
         (coded_bytes (chunks_by shape rs) rs.k (filled rs packet) parity chunks (parities_bytes (chunks_by shape rs) rs.k (filled rs packet) parity parities))
 
 -- what a datagram of a packet carries is bytes
-pub carried_bytes : (carriage : Carriage) (packet payload : List ℕ) (i : ℕ) → IsBytes packet → IsPayload carriage packet i payload → IsBytes payload
-carried_bytes Whole packet payload i are is = subst IsBytes (sym is) are
-carried_bytes (Cut m mtu) packet payload i are (parity, is_parity, is) = subst IsBytes (sym is) (fragment_bytes _ packet parity i are is_parity)
+pub carried_bytes : (carry : Carry) (packet payload : List ℕ) (i : ℕ) → IsBytes packet → IsPayload carry packet i payload → IsBytes payload
+carried_bytes Plain packet payload i are is = subst IsBytes (sym is) are
+carried_bytes (Pft m mtu) packet payload i are (parity, is_parity, is) = subst IsBytes (sym is) (fragment_bytes _ packet parity i are is_parity)

@@ -11,12 +11,12 @@ use Rattle.dcp_collect.specs.declared.taken.Taken.{Taken}
 use Rattle.dcp_collect.specs.Reading.{Incoming, Read, Brings, IsRead}
 use Rattle.dcp_collect.specs.State.{State, made, answer, after_take, after_finish}
 use Rattle.dcp_collect.specs.Runs.{Item as Collected, Takes, Steps, Run}
-use Rattle.collect_laws.specs.Delivery.{Carriage}
+use Rattle.dcp_pft.specs.declared.carry.Carry.{Carry}
 use Rattle.collect_laws.specs.Laws.{IsRight, OneReading, StepsJoin, IsFit, GivingEnds}
 use Rattle.collect_laws.proofs.Fit.{fit_after, fit_given}
 use Rattle.collect_laws.proofs.Sent.{BringsPair}
 use Rattle.collect_laws.proofs.Brought.{all_brought}
-use Rattle.mod_delivery.specs.Sent.{carriage_of, AreSent, IsFollowed}
+use Rattle.mod_delivery.specs.Sent.{AreSent, IsFollowed}
 use Rattle.mod_delivery.specs.Laws.{Delivering, DeliveringEarly, NoneRefused}
 use Rattle.mod_delivery.proofs.Bytes.{carried_bytes}
 use Rattle.mod_delivery.proofs.Packets.{IsChosen, ArePackets, some_packets, chosen_at, all_sent, delivered, filler}
@@ -95,14 +95,14 @@ chosen_bytes : (plan : Plan) (pairs : List (ℕ × ℕ)) (p : ℕ) (packet : Lis
 chosen_bytes plan pairs p packet (inl at) = at.octets
 chosen_bytes plan pairs p packet (inr none) = subst IsBytes (sym none.1) (filler_bytes plan p)
 
-all_bytes : (carriage : Carriage) (sequence0 : ℕ) (packets : List (List ℕ)) → ((p : ℕ) (packet : List ℕ) → slice_get packets p ≡ Some packet → IsBytes packet)
-    → (pairs : List (ℕ × ℕ)) (datagrams : List (List ℕ)) → AllZip (BringsPair carriage sequence0 packets) pairs datagrams → AllByRecursion IsBrought datagrams
-all_bytes carriage sequence0 packets bytes [] [] all = tt
-all_bytes carriage sequence0 packets bytes [] (datagram ∷ datagrams) all = absurd all
-all_bytes carriage sequence0 packets bytes (pair ∷ pairs) [] all = absurd all
-all_bytes carriage sequence0 packets bytes (pair ∷ pairs) (datagram ∷ datagrams) (first, rest) = (
-  record { incoming = first.incoming; is_read = first.is_read; bytes = carried_bytes carriage first.packet first.incoming.payload pair.1 (bytes pair.0 first.packet first.at) first.payload },
-  all_bytes carriage sequence0 packets bytes pairs datagrams rest,
+all_bytes : (carry : Carry) (sequence0 : ℕ) (packets : List (List ℕ)) → ((p : ℕ) (packet : List ℕ) → slice_get packets p ≡ Some packet → IsBytes packet)
+    → (pairs : List (ℕ × ℕ)) (datagrams : List (List ℕ)) → AllZip (BringsPair carry sequence0 packets) pairs datagrams → AllByRecursion IsBrought datagrams
+all_bytes carry sequence0 packets bytes [] [] all = tt
+all_bytes carry sequence0 packets bytes [] (datagram ∷ datagrams) all = absurd all
+all_bytes carry sequence0 packets bytes (pair ∷ pairs) [] all = absurd all
+all_bytes carry sequence0 packets bytes (pair ∷ pairs) (datagram ∷ datagrams) (first, rest) = (
+  record { incoming = first.incoming; is_read = first.is_read; bytes = carried_bytes carry first.packet first.incoming.payload pair.1 (bytes pair.0 first.packet first.at) first.payload },
+  all_bytes carry sequence0 packets bytes pairs datagrams rest,
 )
 
 -- some run over the whole delivery gives what was given early
@@ -133,9 +133,9 @@ all_brought_of plan pairs datagrams is sent =
     let found = some_packets plan pairs datagrams sent in
     let packets : List (List ℕ) = found.0 in
     let are : ArePackets plan pairs packets = found.1 in
-    let carriage : Carriage = carriage_of plan.carry in
-    all_bytes carriage plan.seq packets (λ p packet at. chosen_bytes plan pairs p packet (chosen_at plan is pairs packets are p packet at).1) pairs datagrams
-    (all_brought carriage plan.seq packets (all_sent plan is pairs packets are) pairs datagrams (delivered plan is pairs packets are datagrams sent))
+    let carry : Carry = plan.carry in
+    all_bytes carry plan.seq packets (λ p packet at. chosen_bytes plan pairs p packet (chosen_at plan is pairs packets are p packet at).1) pairs datagrams
+    (all_brought carry plan.seq packets (all_sent plan is pairs packets are) pairs datagrams (delivered plan is pairs packets are datagrams sent))
 
 module _ (delivering : Delivering) (one_reading : OneReading) (steps_join : StepsJoin) (giving_ends : GivingEnds) where
   run_on : (plan : Plan) (window n : ℕ) (first : Option ℕ) (base : ℤ) (pairs : List (ℕ × ℕ)) (datagrams later : List (List ℕ)) (answers : List Taken) (collected : List Collected) (mid : State)

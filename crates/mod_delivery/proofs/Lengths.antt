@@ -26,9 +26,10 @@ use Rattle.mdi_items.specs.RoundTrip.{Parts, BlockBytes, IsWrittenOf, block_piec
 use Rattle.mdi_items.proofs.RoundTripLemmas.{spelling-append}
 use Rattle.drm_timeline.specs.Standing.{config_of}
 use Rattle.drm_server.specs.Frames.{stream_bytes, HasBlockWhere, IsFrameAt, IsPacketAt}
-use Rattle.drm_server.proofs.ConfigurationLemmas.{files_reach, frame_reached}
-use Rattle.script_lines.specs.Script.{packet_size}
-use Rattle.mod_delivery.proofs.Configurations.{IsConfig, config_is, faultless, size_is}
+use Rattle.drm_timeline.proofs.FilesReach.{files_reach, frame_reached}
+use Rattle.drm_timeline.specs.Numbers.{frame_count, packet_size, sequence_number}
+use Rattle.drm_timeline.proofs.PacketSizes.{size_is}
+use Rattle.mod_delivery.proofs.Configurations.{IsConfig, config_is, faultless}
 
 -- each stream has its bytes, where its file is long enough
 pub stream_length : (frame : ℕ) (s : Stream) → is_short (frame + 1) s ≡ false → length (stream_bytes frame s) ≡ stream_size s
@@ -41,10 +42,10 @@ stream_length frame s enough = by s.content refl
         rw is (length-take-le (stream_size s) (drop (frame * stream_size s) bytes) (omega (arith, long, length-drop (frame * stream_size s) bytes)))
 
 -- the files of the configuration that holds reach to the end of each frame
-pub are_long : (plan : Plan) (t : ℕ) (c : Config) → IsSchedule plan → t < 3 * plan.length → IsConfig (t / 3) c → (holds : config_of plan (t / 3) ≡ Some c)
+pub are_long : (plan : Plan) (t : ℕ) (c : Config) → IsSchedule plan → t < frame_count plan → IsConfig plan (t / 3) c → (holds : config_of plan (t / 3) ≡ Some c)
     → All (λ (s : Stream). is_short (t - 3 * c.start + 1) s ≡ false) c.streams
 are_long plan t c is within config holds =
-    frame_reached t c (omega (arith, config.started)) (files_reach plan.length (t / 3) plan.configs c (faultless plan is) (omega (arith, within)) holds)
+    frame_reached t c (omega (arith, config.started)) (files_reach plan (t / 3) plan.configs c (faultless plan is) (omega (arith, within)) holds)
 
 name_long : (k : ℕ) → k < 4 → length (name_at (str k)) ≡ 4
 name_long zero lt = refl
@@ -138,11 +139,11 @@ af_long p packet (check, ends, checks) =
     omega (arith, ap length ends.spelled, length-append (af_head p ++ p.payload) (to_be_bytes w16 check), length-append (af_head p) p.payload)
 
 -- the packet of each frame has the bytes that are counted for it
-pub packet_long : (plan : Plan) (t : ℕ) (packet : List ℕ) → IsSchedule plan → t < 3 * plan.length → IsPacketAt plan t packet → length packet ≡ packet_size plan t
+pub packet_long : (plan : Plan) (t : ℕ) (packet : List ℕ) → IsSchedule plan → t < frame_count plan → IsPacketAt plan t packet → length packet ≡ packet_size plan t
 packet_long plan t packet is within packet_is =
     let frame = packet_is.frame in
     let c : Config = frame.config in
     let config = config_is plan is (t / 3) c frame.holds in
     let payload = payload_long plan t packet_is.parts packet_is.payload frame packet_is.written (are_long plan t c is within config frame.holds) config.fits.few_streams in
     let size : packet_size plan t ≡ packet_len c (t % 3 == 0) = size_is plan t c frame.holds in
-    af_long (record { seq = (plan.seq + t) % 2 ^ 16; checked = true; minor = 0; payload = packet_is.payload }) packet packet_is.is ∙ (payload ∙ sym size)
+    af_long (record { seq = sequence_number plan t; checked = true; minor = 0; payload = packet_is.payload }) packet packet_is.is ∙ (payload ∙ sym size)

@@ -6,17 +6,14 @@ use Rattle.std.proofs.lemmas.Bool.{eqb-true, eq-eqb, true≢false}
 use Rattle.std.proofs.lemmas.List.FromFn.{length-map-range_with_len, get_or-map-range_with_len}
 use Rattle.std.proofs.lemmas.Option.{slice_get-get_or, slice_get_within}
 use Rattle.dcp_af.specs.Packet.{AfPacket, IsAf, head}
-use Rattle.collect_laws.specs.Delivery.{shape_under, IsPacketWith, sequence_at, AreSent as AllSent, IsDatagramAt as IsDatagramOf, AreDelivered, Carries as CarriesPart}
-use Rattle.drm_schedule.specs.declared.carry.Carry.{Carry}
-use Rattle.drm_schedule.specs.declared.carry.Carry.TheVariants.{Plain, Pft}
+use Rattle.collect_laws.specs.Delivery.{IsPacketWith, sequence_at, AreSent as AllSent, IsDatagramAt as IsDatagramOf, AreDelivered}
 use Rattle.drm_schedule.specs.declared.plan.Plan.{Plan}
 use Rattle.drm_schedule.specs.Valid.{IsSchedule}
+use Rattle.drm_timeline.specs.Numbers.{frame_count, sequence_number}
 use Rattle.drm_server.specs.Frames.{IsPacketAt}
-use Rattle.drm_server.specs.Datagrams.{Carries, datagram_count}
 use Rattle.drm_server.proofs.OnePacket.{one_packet}
-use Rattle.mod_delivery.specs.Sent.{IsSent, AreSent, carriage_of}
+use Rattle.mod_delivery.specs.Sent.{IsSent, AreSent}
 use Rattle.mod_delivery.proofs.Configurations.{size_fits}
-use Rattle.mod_delivery.proofs.InTime.{carried}
 use Rattle.mod_delivery.proofs.Lengths.{af_long, packet_long}
 
 -- what a function gives for each number, at its place
@@ -31,7 +28,7 @@ has p pairs = list_any (λ pair. eqb pair.0 p) pairs
 
 -- an AF packet with the number of a packet, without a payload and a check value
 abbrev pub filler_af : Plan → ℕ → AfPacket
-filler_af plan p = record { seq = (plan.seq + p) % 65536; checked = false; minor = 0; payload = [] }
+filler_af plan p = record { seq = sequence_number plan p; checked = false; minor = 0; payload = [] }
 
 abbrev pub filler : Plan → ℕ → List ℕ
 filler plan p = head (filler_af plan p) ++ [] ++ to_be_bytes w16 0
@@ -62,17 +59,17 @@ choose plan p (pair ∷ pairs) (datagram ∷ datagrams) are = by (eqb pair.0 p) 
 
 -- A packet for each frame of the schedule.
 pub record ArePackets (plan : Plan) (pairs : List (ℕ × ℕ)) (packets : List (List ℕ)) : Type 0 where
-  pub all : length packets ≡ 3 * plan.length
-  pub each : (p : ℕ) → p < 3 * plan.length → (packet : List ℕ) × (slice_get packets p ≡ Some packet) × IsChosen plan pairs p packet
+  pub all : length packets ≡ frame_count plan
+  pub each : (p : ℕ) → p < frame_count plan → (packet : List ℕ) × (slice_get packets p ≡ Some packet) × IsChosen plan pairs p packet
 
 pub some_packets : (plan : Plan) (pairs : List (ℕ × ℕ)) (datagrams : List (List ℕ)) → AreSent plan pairs datagrams → (packets : List (List ℕ)) × ArePackets plan pairs packets
 some_packets plan pairs datagrams sent =
     let chosen = λ (p : ℕ). choose plan p pairs datagrams sent in
     let packet : ℕ → List ℕ = λ p. (chosen p).0 in (
-      map packet (range_with_len 0 (3 * plan.length)),
+      map packet (range_with_len 0 (frame_count plan)),
       record {
-        all = length-map-range_with_len packet 0 (3 * plan.length);
-        each = λ p lt. (packet p, at_number packet (3 * plan.length) p lt, (chosen p).1);
+        all = length-map-range_with_len packet 0 (frame_count plan);
+        each = λ p lt. (packet p, at_number packet (frame_count plan) p lt, (chosen p).1);
       },
     )
 
@@ -81,18 +78,18 @@ one_there a b same = cc
 
 module _ (plan : Plan) (is : IsSchedule plan) (pairs : List (ℕ × ℕ)) (packets : List (List ℕ)) (are : ArePackets plan pairs packets) where
   -- what stands at a place was chosen for it
-  pub chosen_at : (p : ℕ) (packet : List ℕ) → slice_get packets p ≡ Some packet → (p < 3 * plan.length) × IsChosen plan pairs p packet
+  pub chosen_at : (p : ℕ) (packet : List ℕ) → slice_get packets p ≡ Some packet → (p < frame_count plan) × IsChosen plan pairs p packet
   chosen_at p packet at =
       let within : p < length packets = slice_get_within packets p packet at in
-      let below : p < 3 * plan.length = omega (arith, within, are.all) in
+      let below : p < frame_count plan = omega (arith, within, are.all) in
       let there = are.each p below in
       (below, subst (λ (l : List ℕ). IsChosen plan pairs p l) (one_there there.0 packet (sym there.1 ∙ at)) there.2)
 
-  packet_with : (p : ℕ) (packet : List ℕ) → p < 3 * plan.length → IsChosen plan pairs p packet → IsPacketWith (sequence_at plan.seq p) packet
+  packet_with : (p : ℕ) (packet : List ℕ) → p < frame_count plan → IsChosen plan pairs p packet → IsPacketWith plan.carry (sequence_at plan.seq p) packet
   packet_with p packet below (inl at) =
       let fits = size_fits plan is p in
       record {
-        af = record { seq = (plan.seq + p) % 2 ^ 16; checked = true; minor = 0; payload = at.payload };
+        af = record { seq = sequence_number plan p; checked = true; minor = 0; payload = at.payload };
         is_af = at.is;
         seq = refl;
         small = omega (arith, packet_long plan p packet is below at, fits.1);
@@ -107,37 +104,29 @@ module _ (plan : Plan) (is : IsSchedule plan) (pairs : List (ℕ × ℕ)) (packe
       }
 
   -- they are packets that can be sent
-  pub all_sent : AllSent (carriage_of plan.carry) plan.seq packets
+  pub all_sent : AllSent plan.carry plan.seq packets
   all_sent = record {
     few = omega (arith, are.all, is.in_lines.few_frames);
-    carried = carried plan.carry is.in_lines.carry_fits;
+    carried = is.in_lines.carry_fits;
     each = λ p packet at. let here = chosen_at p packet at in packet_with p packet here.0 here.1;
   }
 
-  within_of : (carry : Carry) (len i : ℕ) → i < datagram_count carry len → i < (shape_under (carriage_of carry) len).count
-  within_of Plain len i lt = lt
-  within_of (Pft m mtu) len i lt = lt
-
-  carries_of : (carry : Carry) (sequence i : ℕ) (packet datagram : List ℕ) → Carries carry sequence packet i datagram → CarriesPart (carriage_of carry) sequence packet i datagram
-  carries_of Plain sequence i packet datagram carries = carries
-  carries_of (Pft m mtu) sequence i packet datagram carries = carries
-
-  datagram_of : (pair : ℕ × ℕ) (datagram : List ℕ) → has pair.0 pairs ≡ true → IsSent plan pair datagram → IsDatagramOf (carriage_of plan.carry) plan.seq packets pair datagram
+  datagram_of : (pair : ℕ × ℕ) (datagram : List ℕ) → has pair.0 pairs ≡ true → IsSent plan pair datagram → IsDatagramOf plan.carry plan.seq packets pair datagram
   datagram_of pair datagram there sent = by (are.each pair.0 sent.within)
     where
-      by : (packet : List ℕ) × (slice_get packets pair.0 ≡ Some packet) × IsChosen plan pairs pair.0 packet → IsDatagramOf (carriage_of plan.carry) plan.seq packets pair datagram
+      by : (packet : List ℕ) × (slice_get packets pair.0 ≡ Some packet) × IsChosen plan pairs pair.0 packet → IsDatagramOf plan.carry plan.seq packets pair datagram
       by (packet, at, inl chosen) =
           let same : packet ≡ sent.is.packet = one_packet plan pair.0 packet sent.is.packet chosen sent.is.is_packet in
           record {
             packet = sent.is.packet;
             at = at ∙ ap (λ (l : List ℕ). Some l) same;
-            within = within_of plan.carry (length sent.is.packet) pair.1 sent.is.within;
-            carries = carries_of plan.carry (sequence_at plan.seq pair.0) pair.1 sent.is.packet datagram sent.is.is;
+            within = sent.is.within;
+            carries = sent.is.is;
           }
       by (packet, at, inr none) = absurd (true≢false (sym there ∙ none.0))
 
   delivered_of : (some : List (ℕ × ℕ)) (datagrams : List (List ℕ)) → ((p : ℕ) → has p some ≡ true → has p pairs ≡ true) → AreSent plan some datagrams
-      → AreDelivered (carriage_of plan.carry) plan.seq packets some datagrams
+      → AreDelivered plan.carry plan.seq packets some datagrams
   delivered_of [] [] sub sent = tt
   delivered_of [] (datagram ∷ datagrams) sub sent = absurd sent
   delivered_of (pair ∷ some) [] sub sent = absurd sent
@@ -151,5 +140,5 @@ module _ (plan : Plan) (is : IsSchedule plan) (pairs : List (ℕ × ℕ)) (packe
       either false b there = there
 
   -- and the delivery is one of them
-  pub delivered : (datagrams : List (List ℕ)) → AreSent plan pairs datagrams → AreDelivered (carriage_of plan.carry) plan.seq packets pairs datagrams
+  pub delivered : (datagrams : List (List ℕ)) → AreSent plan pairs datagrams → AreDelivered plan.carry plan.seq packets pairs datagrams
   delivered datagrams sent = delivered_of pairs datagrams (λ p there. there) sent

@@ -21,6 +21,7 @@ use Rattle.drm_timeline.specs.Starts.{IsSeenOf, signature_at}
 use Rattle.drm_switches.specs.Switches.{IsFrame}
 use Rattle.mod_feed.specs.Items.{Item, Missing, position_of, shown_by, seen_in}
 use Rattle.mod_feed.specs.Feeding.{FeedStep, all_seen}
+use Rattle.drm_timeline.specs.Numbers.{frame_count}
 use Rattle.mod_delivery.specs.Sent.{shape_at, frame_of_number}
 use Rattle.mod_delivery.specs.Given.{IsServed, IsServedWhere, IsItemBy, IsItemAt, AreGiven}
 use Rattle.mod_delivery.proofs.Numbering.{frame_is}
@@ -84,7 +85,7 @@ seen_of plan t q item served =
 pub record IsShown (plan : Plan) (base : ℤ) (q : ℕ) (item : Item) : Type 0 where
   pub t : ℕ
   pub at : (base +ℤ pos q) ≡ pos t
-  pub below : t < 3 * plan.length
+  pub below : t < frame_count plan
   pub served : IsServed plan t q item
 
 missing : {X : Type 0} (item : Item) (seen : Seen) (q had total : ℕ) → item ≡ Missing q had total → seen_in item ≡ Some seen → X
@@ -108,7 +109,7 @@ shown_in plan window base pairs q item seen is some = by (frame_of_number plan b
 -- each frame that is seen among the items is the schedule's
 pub frame_seen : (plan : Plan) (window : ℕ) (base : ℤ) (told : Option ℕ) (pairs : List (ℕ × ℕ)) (steps : List FeedStep) (q : ℕ) (seen : Seen)
     → AreGiven plan window base told pairs steps → IsFrame (all_seen steps) q seen
-    → (t : ℕ) × ((base +ℤ pos q) ≡ pos t) × (t < 3 * plan.length) × IsSeenOf plan t seen
+    → (t : ℕ) × ((base +ℤ pos q) ≡ pos t) × (t < frame_count plan) × IsSeenOf plan t seen
 frame_seen plan window base told pairs steps q seen given frame =
     let from = mapped_at (λ (step : FeedStep). seen_in step.item) steps q (Some seen) frame in
     let shown = shown_in plan window base pairs q from.0.item seen (given.items q from.0 from.1) from.2 in

@@ -22,6 +22,7 @@ use Rattle.mdi_items.specs.RoundTrip.{Parts, BlockBytes, Suit, SuitsBlock}
 use Rattle.mdi_items.proofs.RoundTripLemmas.{written_is_read}
 use Rattle.mod_feed.specs.Items.{Item, Frame, CarriesFrame, IsItemOf}
 use Rattle.mod_feed.proofs.ItemLemmas.{item_is_one}
+use Rattle.drm_timeline.specs.Numbers.{frame_count, sequence_number}
 use Rattle.drm_server.specs.Frames.{stream_bytes, HasBlockWhere, IsFrameAt, IsPacketAt}
 use Rattle.drm_server.proofs.StreamLemmas.{is_description}
 use Rattle.mod_delivery.specs.Given.{IsServed}
@@ -80,7 +81,7 @@ block_suits plan t room fac block few place has = by (t % 3 == 0) refl has
         (λ first. other_identity t later (subst (λ (n : ℕ). (n ≡ 0) ⊎ (n ≡ 3)) place first))
 
 -- the parts of each frame of a schedule are those of a frame that is read
-pub suits : (plan : Plan) (t : ℕ) (parts : Parts) → IsSchedule plan → t < 3 * plan.length → IsFrameAt plan t parts → Suit parts
+pub suits : (plan : Plan) (t : ℕ) (parts : Parts) → IsSchedule plan → t < frame_count plan → IsFrameAt plan t parts → Suit parts
 suits plan t parts is within frame =
     let c : Config = frame.config in
     let config = config_is plan is (t / 3) c frame.holds in
@@ -113,11 +114,11 @@ suits plan t parts is within frame =
     }
 
 -- an item of a frame's packet is the frame, as the server made it
-pub served : (plan : Plan) (t q : ℕ) (packet : List ℕ) (item : Item) → IsSchedule plan → t < 3 * plan.length → IsPacketAt plan t packet → IsItemOf (Packet q packet) item
+pub served : (plan : Plan) (t q : ℕ) (packet : List ℕ) (item : Item) → IsSchedule plan → t < frame_count plan → IsPacketAt plan t packet → IsItemOf (Packet q packet) item
     → IsServed plan t q item
 served plan t q packet item is within packet_is item_is =
     let read = written_is_read packet_is.parts packet_is.payload (suits plan t packet_is.parts is within packet_is.frame) packet_is.written in
-    let af : AfPacket = record { seq = (plan.seq + t) % 2 ^ 16; checked = true; minor = 0; payload = packet_is.payload } in
+    let af : AfPacket = record { seq = sequence_number plan t; checked = true; minor = 0; payload = packet_is.payload } in
     let carries : CarriesFrame read.frame packet_is.payload packet = (af, packet_is.is, refl, read.is_mdi) in
     record {
       parts = packet_is.parts;

@@ -24,7 +24,7 @@ use Rattle.mod_delivery.proofs.Places.{map_at, there_at, length_mapped}
 use Rattle.mod_delivery.proofs.Seeing.{frame_seen, seen_of}
 
 pub announces : (plan : Plan) → IsSchedule plan → AnnouncesStarts plan
-announces plan is = announces_starts plan is (all_faultless plan.length 0 None plan.configs is.valid)
+announces plan is = announces_starts plan is (all_faultless plan 0 None plan.configs is.valid)
 
 -- the frame that an index names
 named_place : (base : ℤ) (by q t index position start : ℕ) → (base +ℤ pos by) ≡ pos t → q ≡ (by + 3 * index) - position → position ≡ t % 3

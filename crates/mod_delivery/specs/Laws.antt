@@ -11,6 +11,7 @@ use Rattle.dcp_collect.specs.State.{State, made}
 use Rattle.dcp_collect.specs.Runs.{Item as Collected, Steps, Run}
 use Rattle.collect_laws.specs.Laws.{IsRight}
 use Rattle.mod_feed.specs.Feeding.{FeedStep, Feeds, told_before}
+use Rattle.drm_timeline.specs.Numbers.{frame_count}
 use Rattle.mod_delivery.specs.Sent.{IsFollowed, IsInTime}
 use Rattle.mod_delivery.specs.Given.{IsServed, AreGiven, IsStart, AreAllServed}
 
@@ -72,7 +73,7 @@ AllSwitches =
 abbrev pub AllFrames : Type 0
 AllFrames =
     (plan : Plan) (window : ℕ) (told : Option ℕ) (pairs : List (ℕ × ℕ)) (datagrams : List (List ℕ)) (first : Option ℕ) (steps : List FeedStep)
-    → IsSchedule plan → (told ≡ None) ⊎ (told ≡ Some (3 * plan.length)) → IsFollowed plan first (pos 0) pairs datagrams
-    → ((q : ℕ) → q < 3 * plan.length → IsInTime plan window (pos 0) pairs q)
+    → IsSchedule plan → (told ≡ None) ⊎ (told ≡ Some (frame_count plan)) → IsFollowed plan first (pos 0) pairs datagrams
+    → ((q : ℕ) → q < frame_count plan → IsInTime plan window (pos 0) pairs q)
     → AreGiven plan window (pos 0) told pairs steps
-    → (length steps ≡ 3 * plan.length) × AreAllServed plan (pos 0) steps
+    → (length steps ≡ frame_count plan) × AreAllServed plan (pos 0) steps

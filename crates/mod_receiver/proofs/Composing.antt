@@ -18,6 +18,7 @@ use Rattle.collect_laws.specs.Delivery.{IsWithinSpan, IsBase, number, newer_numb
 use Rattle.drm_switches.specs.Tracker.{TrackerState, new_tracker}
 use Rattle.mod_feed.specs.Items.{Item}
 use Rattle.mod_feed.specs.Feeding.{FeedStep, Feeds}
+use Rattle.drm_timeline.specs.Numbers.{frame_count}
 use Rattle.mod_delivery.specs.Sent.{IsSent, IsFollowed, IsInTime}
 use Rattle.mod_delivery.specs.Given.{IsServed, AreGiven, AreAllServed}
 use Rattle.mod_delivery.specs.Laws.{Delivering, DeliveringEarly, GivenInTime, SwitchesAtStarts, AllSwitches, AllFrames}
@@ -142,8 +143,8 @@ served_clean plan base steps all = all_given steps (λ q step e. let (t, is, ser
 
 -- what is known of the frames makes the text that of all frames
 modulates_all : AllFrames → ItemLaws → (plan : Plan) (rules : Rules) (told : Option ℕ) (feed : ℕ) (answers : List Answer) (pairs : List (ℕ × ℕ)) (ds : List (List ℕ)) (text : List ℕ) (clean : Bool) (r : IsReport rules feed answers text clean)
-    → IsSchedule plan → (told ≡ None) ⊎ (told ≡ Some (3 * plan.length)) → IsFollowed plan rules.first (pos 0) pairs ds
-    → ((q : ℕ) → q < 3 * plan.length → IsInTime plan rules.window (pos 0) pairs q)
+    → IsSchedule plan → (told ≡ None) ⊎ (told ≡ Some (frame_count plan)) → IsFollowed plan rules.first (pos 0) pairs ds
+    → ((q : ℕ) → q < frame_count plan → IsInTime plan rules.window (pos 0) pairs q)
     → AreGiven plan rules.window (pos 0) told pairs r.steps → refusals r.taken ≡ [] → ModulatesAll plan feed text clean
 modulates_all law laws plan rules told feed answers pairs ds text clean r schedule known followed in_time given none =
     let (many, all) = law plan rules.window told pairs ds rules.first r.steps schedule known followed in_time given in
@@ -202,9 +203,9 @@ take_front n xs ys l = take-append-le n xs ys l
 
 -- where the reading ends by the told number
 complete_early : Delivering → DeliveringEarly → AllFrames → ItemLaws → (rules : Rules) (n feed : ℕ) (answers later : List Answer) (text : List ℕ) (clean : Bool) (plan : Plan) (pairs : List (ℕ × ℕ))
-    → 1 ≤ rules.window → (r : IsReport rules feed answers text clean) → HasGiven rules answers (Some n) → rules.frames ≡ Some n → n ≡ 3 * plan.length
+    → 1 ≤ rules.window → (r : IsReport rules feed answers text clean) → HasGiven rules answers (Some n) → rules.frames ≡ Some n → n ≡ frame_count plan
     → IsSchedule plan → IsFollowed plan rules.first (pos 0) pairs (datagrams answers ++ datagrams later)
-    → ((q : ℕ) → q < 3 * plan.length → IsInTime plan rules.window (pos 0) pairs q) → ModulatesAll plan feed text clean
+    → ((q : ℕ) → q < frame_count plan → IsInTime plan rules.window (pos 0) pairs q) → ModulatesAll plan feed text clean
 complete_early law early frames laws rules n feed answers later text clean plan pairs some r (taken, items, end, gave, enough) told size schedule followed in_time =
     let same : r.run.during ≡ items = (one_way (made rules.window rules.first) end r.run.mid (datagrams answers) taken r.taken items r.run.during gave r.run.steps).1 in
     let long : length r.run.during ≡ length items = ap length same in
@@ -218,27 +219,27 @@ complete_early law early frames laws rules n feed answers later text clean plan 
 
 -- where it ends otherwise
 complete_same : Delivering → AllFrames → ItemLaws → (rules : Rules) (feed : ℕ) (answers : List Answer) (text : List ℕ) (clean : Bool) (plan : Plan) (pairs : List (ℕ × ℕ))
-    → 1 ≤ rules.window → IsReport rules feed answers text clean → (rules.frames ≡ None) ⊎ (rules.frames ≡ Some (3 * plan.length))
+    → 1 ≤ rules.window → IsReport rules feed answers text clean → (rules.frames ≡ None) ⊎ (rules.frames ≡ Some (frame_count plan))
     → IsSchedule plan → IsFollowed plan rules.first (pos 0) pairs (datagrams answers)
-    → ((q : ℕ) → q < 3 * plan.length → IsInTime plan rules.window (pos 0) pairs q) → ModulatesAll plan feed text clean
+    → ((q : ℕ) → q < frame_count plan → IsInTime plan rules.window (pos 0) pairs q) → ModulatesAll plan feed text clean
 complete_same law frames laws rules feed answers text clean plan pairs some r known schedule followed in_time =
     let (given, right) = law plan rules.window rules.first rules.frames (pos 0) pairs (datagrams answers) r.taken r.items r.steps r.after schedule some followed r.run r.feeds in
     modulates_all frames laws plan rules rules.frames feed answers pairs (datagrams answers) text clean r schedule known followed in_time given (none_refused 0 r.taken right)
 
 abbrev IsKnown : Plan → Rules → Type 0
-IsKnown plan rules = (rules.frames ≡ None) ⊎ (rules.frames ≡ Some (3 * plan.length))
+IsKnown plan rules = (rules.frames ≡ None) ⊎ (rules.frames ≡ Some (frame_count plan))
 
 -- by why the reading ends
 complete_by : Delivering → DeliveringEarly → AllFrames → ItemLaws → (rules : Rules) (feed : ℕ) (ahead rest : List Answer) (answers : List Answer) (text : List ℕ) (clean : Bool) (plan : Plan) (pairs : List (ℕ × ℕ)) (others : List Answer) (w : EndWord)
     → 1 ≤ rules.window → AreNext ahead answers rest → (r : IsReport rules feed answers text clean) → IsFinished rules answers w → IsSchedule plan → WouldBeRead rules ahead others
     → IsFollowed plan rules.first (pos 0) pairs (datagrams others) → IsKnown plan rules
-    → ((q : ℕ) → q < 3 * plan.length → IsInTime plan rules.window (pos 0) pairs q) → ModulatesAll plan feed text clean
+    → ((q : ℕ) → q < frame_count plan → IsInTime plan rules.window (pos 0) pairs q) → ModulatesAll plan feed text clean
 complete_by law early frames laws rules feed ahead rest answers text clean plan pairs others word.Frames some next r f schedule would followed (inl none) in_time =
     absurd (subst (HasGiven rules answers) none f.ends)
 complete_by law early frames laws rules feed ahead rest answers text clean plan pairs others word.Frames some next r f schedule would followed (inr told) in_time =
     let (later, are) = rest_of rules ahead rest would.rest answers others word.Frames would.word next would.next f would.reading in
     let joined : datagrams others ≡ datagrams answers ++ datagrams later = ap datagrams are ∙ filter_map-append datagram_of answers later in
-    complete_early law early frames laws rules (3 * plan.length) feed answers later text clean plan pairs some r (subst (HasGiven rules answers) told f.ends) told refl schedule
+    complete_early law early frames laws rules (frame_count plan) feed answers later text clean plan pairs some r (subst (HasGiven rules answers) told f.ends) told refl schedule
     (subst (IsFollowed plan rules.first (pos 0) pairs) joined followed) in_time
 complete_by law early frames laws rules feed ahead rest answers text clean plan pairs others word.Limit some next r f schedule would followed known in_time =
     let same : answers ≡ others = same_untold rules ahead rest would.rest answers others word.Limit would.word next would.next f would.reading f.ends.0 in

@@ -8,6 +8,7 @@ use Rattle.drm_links.specs.Sink.{Output, Outputs}
 use Rattle.drm_switches.specs.declared.tracker.Before.TheVariants.{Switch, Resumed}
 use Rattle.drm_timeline.specs.Starts.{later_starts}
 use Rattle.mod_feed.specs.Feeding.{FeedStep, told_before}
+use Rattle.drm_timeline.specs.Numbers.{frame_count}
 use Rattle.mod_delivery.specs.Sent.{IsFollowed, IsInTime}
 use Rattle.mod_delivery.specs.Given.{IsServed, AreGiven, IsStart, AreAllServed}
 use Rattle.drm_show.specs.declared.report.EndWord.{EndWord}
@@ -61,7 +62,7 @@ pub record WouldBeRead (rules : Rules) (ahead answers : List Answer) : Type 0 wh
 -- All frames of the schedule were given, with its switches, and the text says nothing else.
 pub record ModulatesAll (plan : Plan) (feed : ℕ) (text : List ℕ) (clean : Bool) : Type 0 where
   pub steps : List FeedStep
-  pub many : length steps ≡ 3 * plan.length
+  pub many : length steps ≡ frame_count plan
   pub all : AreAllServed plan (pos 0) steps
   pub switches : TellsSwitches plan (pos 0) steps
   pub word : EndWord
@@ -75,8 +76,8 @@ CompleteOf rules feed ahead text clean =
     (plan : Plan) (pairs : List (ℕ × ℕ)) (answers : List Answer)
     → IsSchedule plan → WouldBeRead rules ahead answers
     → IsFollowed plan rules.first (pos 0) pairs (datagrams answers)
-    → (rules.frames ≡ None) ⊎ (rules.frames ≡ Some (3 * plan.length))
-    → ((q : ℕ) → q < 3 * plan.length → IsInTime plan rules.window (pos 0) pairs q)
+    → (rules.frames ≡ None) ⊎ (rules.frames ≡ Some (frame_count plan))
+    → ((q : ℕ) → q < frame_count plan → IsInTime plan rules.window (pos 0) pairs q)
     → ModulatesAll plan feed text clean
 
 -- These answers came over the link in between.

@@ -6,14 +6,15 @@ use Rattle.drm_sdc.specs.declared.body.AppMode.{AppMode}
 use Rattle.drm_sdc.specs.declared.body.AppMode.TheVariants.{Sync, Packet}
 use Rattle.drm_sdc.specs.declared.body.Body.{Body}
 use Rattle.drm_sdc.specs.declared.body.Body.TheVariants as bodies
-use Rattle.drm_schedule.specs.declared.carry.Carry.{Carry}
-use Rattle.drm_schedule.specs.declared.carry.Carry.TheVariants.{Plain, Pft}
+use Rattle.dcp_pft.specs.declared.carry.Carry.{Carry}
+use Rattle.dcp_pft.specs.declared.carry.Carry.TheVariants.{Plain, Pft}
 use Rattle.drm_fac.specs.declared.mode.Mode.{Mode}
 use Rattle.drm_fac.specs.declared.mode.Mode.TheVariants.{A, B, C, D}
 use Rattle.drm_fac.specs.Mode.{mode_letter}
 use Rattle.drm_schedule.specs.declared.stream.Content.{Content}
 use Rattle.drm_schedule.specs.declared.stream.Content.TheVariants.{Fill, File}
-use Rattle.drm_schedule.specs.Ranges.{CarryInLines, ContentInLines, AppInLines, BodyInLines, IsLabel}
+use Rattle.dcp_pft.specs.Carrying.{CarryFits}
+use Rattle.drm_schedule.specs.Ranges.{ContentInLines, AppInLines, BodyInLines, IsLabel}
 use Rattle.text_lines.specs.Lines.{words_of, lines_of}
 use Rattle.std.proofs.lemmas.List.{append-nil}
 use Rattle.plan_laws.specs.Lines.{IsReadAgain}
@@ -41,7 +42,7 @@ from_parts l same are = record {
   one_line = joined_line (keyword_text (keyword_said l) ∷ parts_said l) (keyword_token (keyword_said l), are);
 }
 
-carry_tokens : (carry : Carry) → CarryInLines carry → AllByRecursion IsToken (carry_words carry)
+carry_tokens : (carry : Carry) → CarryFits carry → AllByRecursion IsToken (carry_words carry)
 carry_tokens Plain fits = (record { word = record { some = refl; whole = refl }; line = refl }, tt)
 carry_tokens (Pft m mtu) fits = (record { word = record { some = refl; whole = refl }; line = refl }, (number_token m (omega (arith, fits.0)), (number_token mtu (omega (arith, fits.2)), tt)))
 

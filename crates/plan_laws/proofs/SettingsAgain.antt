@@ -6,8 +6,8 @@ use Rattle.std.specs.List.{AllByRecursion}
 use Rattle.std.proofs.lemmas.Bool.{le-leb}
 use Rattle.hex.specs.Hex.{encode_lower}
 use Rattle.drm_fac.specs.declared.service.Service.{Service}
-use Rattle.drm_schedule.specs.declared.carry.Carry.{Carry}
-use Rattle.drm_schedule.specs.declared.carry.Carry.TheVariants.{Plain, Pft}
+use Rattle.dcp_pft.specs.declared.carry.Carry.{Carry}
+use Rattle.dcp_pft.specs.declared.carry.Carry.TheVariants.{Plain, Pft}
 use Rattle.drm_schedule.specs.declared.config.Clock.{Clock}
 use Rattle.drm_fac.specs.declared.mode.Mode.{Mode}
 use Rattle.drm_fac.specs.declared.mode.Mode.TheVariants.{A, B, C, D}
@@ -15,7 +15,8 @@ use Rattle.drm_fac.specs.Mode.{mode_letter}
 use Rattle.drm_schedule.specs.declared.stream.Content.{Content}
 use Rattle.drm_schedule.specs.declared.stream.Content.TheVariants.{Fill, File}
 use Rattle.drm_schedule.specs.declared.stream.Stream.{Stream}
-use Rattle.drm_schedule.specs.Ranges.{CarryInLines, ServiceInLines, StreamInLines, ContentInLines, ClockInLines}
+use Rattle.dcp_pft.specs.Carrying.{CarryFits}
+use Rattle.drm_schedule.specs.Ranges.{ServiceInLines, StreamInLines, ContentInLines, ClockInLines}
 use Rattle.text_lines.proofs.SpellingLaws.{decimal_value}
 use Rattle.line_forms.specs.declared.line.Line.{Line}
 use Rattle.line_forms.specs.declared.line.Line.TheVariants as lines
@@ -28,7 +29,7 @@ pub version_again : reading (version_line (codes "1" ∷ [])) ≡ Ok lines.Versi
 unfolding version_line
 version_again = refl
 
-pub carry_again : (carry : Carry) → CarryInLines carry → reading (carry_line (carry_words carry)) ≡ Ok (lines.Carry carry)
+pub carry_again : (carry : Carry) → CarryFits carry → reading (carry_line (carry_words carry)) ≡ Ok (lines.Carry carry)
 unfolding carry_line
 carry_again Plain fits = refl
 carry_again (Pft m mtu) fits =

@@ -16,14 +16,15 @@ use Rattle.drm_sdc.specs.declared.body.AppMode.TheVariants.{Sync, Packet}
 use Rattle.drm_sdc.specs.declared.body.Body.{Body}
 use Rattle.drm_sdc.specs.declared.body.Body.TheVariants as bodies
 use Rattle.drm_sdc.specs.declared.channels.Channel15.{Channel15}
-use Rattle.drm_schedule.specs.declared.carry.Carry.{Carry}
-use Rattle.drm_schedule.specs.declared.carry.Carry.TheVariants.{Plain, Pft}
+use Rattle.dcp_pft.specs.declared.carry.Carry.{Carry}
+use Rattle.dcp_pft.specs.declared.carry.Carry.TheVariants.{Plain, Pft}
 use Rattle.drm_fac.specs.declared.mode.Mode.{Mode}
 use Rattle.drm_fac.specs.declared.mode.Mode.TheVariants.{A, B, C, D}
 use Rattle.drm_fac.specs.Mode.{mode_letter}
 use Rattle.drm_schedule.specs.declared.stream.Content.{Content}
 use Rattle.drm_schedule.specs.declared.stream.Content.TheVariants.{Fill, File}
-use Rattle.drm_schedule.specs.Ranges.{CarryInLines, ContentInLines, AppInLines, BodyInLines}
+use Rattle.dcp_pft.specs.Carrying.{CarryFits}
+use Rattle.drm_schedule.specs.Ranges.{ContentInLines, AppInLines, BodyInLines}
 use Rattle.line_forms.specs.declared.first_word.Keyword.{Keyword}
 use Rattle.line_forms.specs.declared.first_word.Keyword.TheVariants as keywords
 use Rattle.line_forms.specs.declared.line.Line.{Line}
@@ -90,7 +91,7 @@ channels (c ∷ d ∷ cs) fit =
     IsUtf8-append (channel_word c) (44 ∷ channels_word (d ∷ cs)) (channel c (All-head (λ (x : Channel15). x.number < 2 ^ 15) c (d ∷ cs) fit))
     (behind 44 (channels_word (d ∷ cs)) refl (channels (d ∷ cs) (All-tail (λ (x : Channel15). x.number < 2 ^ 15) c (d ∷ cs) fit)))
 
-carry : (carry : Carry) → CarryInLines carry → AllByRecursion IsUtf8 (carry_words carry)
+carry : (carry : Carry) → CarryFits carry → AllByRecursion IsUtf8 (carry_words carry)
 carry Plain fits = (low _ refl, tt)
 carry (Pft m mtu) fits = (low _ refl, (number m (omega (arith, fits.0)), (number mtu (omega (arith, fits.2)), tt)))
 

@@ -1,7 +1,7 @@
 //! The canonical lines but those of entities.
 
 ghost use Rattle.std.specs.Prelude.{◌≡◌, ◌++◌, [], OnOk, IfOk, string_bytes};
-ghost use Rattle.drm_schedule.specs.declared.carry.Carry.TheVariants.{Pft};
+ghost use Rattle.dcp_pft.specs.declared.carry.Carry.TheVariants.{Pft};
 ghost use Rattle.drm_schedule.specs.declared.stream.Content.TheVariants.{Fill, File};
 ghost use Rattle.line_forms.specs.Said.{line_text, IsSetting, depth_word, kind_word};
 

@@ -17,7 +17,8 @@ use Rattle.script_lines.specs.declared.line.Line.TheVariants as lines
 use Rattle.script_lines.specs.declared.line.Delivers.{Delivers}
 use Rattle.script_lines.specs.declared.line.Delivers.TheVariants as delivers
 use Rattle.text_lines.specs.Faults.{fault, first_fault, ok_unless, ◌>>=◌, lines_say}
-use Rattle.script_lines.specs.Script.{Form, Fault, IsDelivery, IsScript, packet_count, fragment_count, delivery_size, delivery, all_of, delivered, has_packet, in_schedule, in_range, is_feed, is_too_long, form_of, ended, script_of}
+use Rattle.drm_timeline.specs.Numbers.{frame_count}
+use Rattle.script_lines.specs.Script.{Form, Fault, IsDelivery, IsScript, fragment_count, delivery_size, delivery, all_of, delivered, has_packet, in_schedule, in_range, is_feed, is_too_long, form_of, ended, script_of}
 use Rattle.script_lines.specs.Steps.{Reads, to_last, with_line, form_after, words_after, lines_after}
 use Rattle.script_lines.proofs.SaidLemmas.{script_is}
 
@@ -27,16 +28,16 @@ AreOf plan ds = All (IsDelivery plan) ds
 below : (a b : ℕ) → nat_lt a b ≡ true → a < b
 below a b e = grind (arith, nat_tests)
 
-fragments_of : (plan : Plan) (p a n : ℕ) → p < packet_count plan → a + n ≤ fragment_count plan p → AreOf plan (map (delivery p) (range_with_len a n))
+fragments_of : (plan : Plan) (p a n : ℕ) → p < frame_count plan → a + n ≤ fragment_count plan p → AreOf plan (map (delivery p) (range_with_len a n))
 fragments_of plan p a zero lt le = All-nil (IsDelivery plan)
 fragments_of plan p a (suc n) lt le =
     All-cons (IsDelivery plan) (delivery p a) (map (delivery p) (range_with_len (a + 1) n)) (record { packet = lt; fragment = omega (arith, le) }) (fragments_of plan p (a + 1) n lt (omega (arith, le)))
 
-all_of_packet : (plan : Plan) (p : ℕ) → p < packet_count plan → AreOf plan (all_of plan p)
+all_of_packet : (plan : Plan) (p : ℕ) → p < frame_count plan → AreOf plan (all_of plan p)
 unfolding all_of
 all_of_packet plan p lt = fragments_of plan p 0 (fragment_count plan p) lt (omega arith)
 
-packets_of : (plan : Plan) (p n : ℕ) → p + n ≤ packet_count plan → AreOf plan (flat_map (all_of plan) (range_with_len p n))
+packets_of : (plan : Plan) (p n : ℕ) → p + n ≤ frame_count plan → AreOf plan (flat_map (all_of plan) (range_with_len p n))
 packets_of plan p zero le = All-nil (IsDelivery plan)
 packets_of plan p (suc n) le =
     All-append (IsDelivery plan) (all_of plan p) (flat_map (all_of plan) (range_with_len (p + 1) n)) (all_of_packet plan p (omega (arith, le))) (packets_of plan (p + 1) n (omega (arith, le)))
@@ -50,13 +51,13 @@ line_of_schedule : (plan : Plan) (d : Delivers) → in_schedule plan d ≡ true 
 unfolding delivered in_schedule
 line_of_schedule plan (delivers.Take p i) e =
     let parts = and_parts (has_packet plan p) (nat_lt i (fragment_count plan p)) e in
-    All-cons (IsDelivery plan) (delivery p i) [] (record { packet = below p (packet_count plan) parts.0; fragment = below i (fragment_count plan p) parts.1 }) (All-nil (IsDelivery plan))
-line_of_schedule plan (delivers.Packet p) e = all_of_packet plan p (below p (packet_count plan) e)
+    All-cons (IsDelivery plan) (delivery p i) [] (record { packet = below p (frame_count plan) parts.0; fragment = below i (fragment_count plan p) parts.1 }) (All-nil (IsDelivery plan))
+line_of_schedule plan (delivers.Packet p) e = all_of_packet plan p (below p (frame_count plan) e)
 line_of_schedule plan (delivers.Packets first last) e =
     let parts = and_parts (nat_le first last) (has_packet plan last) e in
     let order : first ≤ last = grind (arith, nat_tests, parts.0) in
-    packets_of plan first (last + 1 - first) (omega (arith, order, below last (packet_count plan) parts.1))
-line_of_schedule plan (delivers.Back p) e = reversed (IsDelivery plan) (all_of plan p) (all_of_packet plan p (below p (packet_count plan) e))
+    packets_of plan first (last + 1 - first) (omega (arith, order, below last (frame_count plan) parts.1))
+line_of_schedule plan (delivers.Back p) e = reversed (IsDelivery plan) (all_of plan p) (all_of_packet plan p (below p (frame_count plan) e))
 
 more_of : (plan : Plan) (more : List Delivery) (feeds : List (List Delivery)) → AreOf plan more → All (AreOf plan) feeds → All (AreOf plan) (to_last more feeds)
 more_of plan more [] new all = All-nil (AreOf plan)

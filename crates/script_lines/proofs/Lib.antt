@@ -6,4 +6,3 @@ pub mod StepLemmas
 pub mod EndLemmas
 pub mod SaidLemmas
 pub mod KeptLemmas
-pub mod SizeLaw

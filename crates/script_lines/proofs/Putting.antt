@@ -14,6 +14,7 @@ use Rattle.script_lines.specs.declared.delivery.Delivery.{Delivery}
 use Rattle.script_lines.specs.declared.fault.ScriptFault.{ScriptFault}
 use Rattle.script_lines.specs.declared.fault.ScriptFault.TheVariants as faults
 use Rattle.script_lines.specs.declared.feeds.Feeds.{Feeds}
+use Rattle.drm_timeline.specs.Numbers.{frame_count}
 use Rattle.script_lines.specs.Script.{delivery_size, delivery, all_of, fragment_count, has_packet, in_schedule}
 use Rattle.script_lines.specs.Steps.{with_all, is_full, Puts}
 
@@ -111,5 +112,5 @@ pub last_fits : (plan : Plan) (first last : ℕ) (d : Delivers) → IsSchedule p
 unfolding in_schedule
 last_fits plan first last d valid within is =
     let here : in_schedule plan (delivers.Packets first last) ≡ true = rw is at within in
-    let lt = last_by (nat_le first last) (has_packet plan last) last (3 * plan.length) refl here in
+    let lt = last_by (nat_le first last) (has_packet plan last) last (frame_count plan) refl here in
     omega (arith, lt, valid.in_lines.few_frames)

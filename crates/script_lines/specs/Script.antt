@@ -6,48 +6,16 @@ use Rattle.std.specs.Str.Parse.{digits_value}
 use Rattle.text_lines.specs.Faults.{FaultOf, fault, first_fault, ok_unless, words_say, lines_say, ◌>>=◌}
 use Rattle.text_lines.specs.Lines.{words_of}
 use Rattle.text_lines.specs.Numbers.{is_number}
-use Rattle.drm_schedule.specs.declared.carry.Carry.{Carry}
-use Rattle.drm_schedule.specs.declared.carry.Carry.TheVariants.{Plain, Pft}
 use Rattle.drm_schedule.specs.declared.invalid.Reason.{Reason}
 use Rattle.drm_schedule.specs.declared.invalid.Reason.TheVariants.{Word, Number, Range, Missing, TooLong}
 use Rattle.drm_schedule.specs.declared.plan.Plan.{Plan}
-use Rattle.drm_schedule.specs.Sizes.{packet_len}
-use Rattle.drm_timeline.specs.Standing.{config_of}
-use Rattle.dcp_pft.specs.declared.shape.Rs.{Rs}
-use Rattle.dcp_pft.specs.declared.shape.Shape.{Shape}
-use Rattle.dcp_pft.specs.Cutting.{shape_of}
+use Rattle.drm_timeline.specs.Numbers.{frame_count, packet_size}
+use Rattle.dcp_pft.specs.Carrying.{datagram_count, datagram_size}
 use Rattle.script_lines.specs.declared.delivery.Delivery.{Delivery}
 use Rattle.script_lines.specs.declared.line.Line.{Line}
 use Rattle.script_lines.specs.declared.line.Line.TheVariants as lines
 use Rattle.script_lines.specs.declared.line.Delivers.{Delivers}
 use Rattle.script_lines.specs.declared.line.Delivers.TheVariants as delivers
-
--- how many packets a schedule has
-abbrev pub packet_count : Plan → ℕ
-packet_count plan = 3 * plan.length
-
--- the bytes of the packet with this number
-unfoldable pub packet_size : Plan → ℕ → ℕ
-packet_size plan packet = unwrap_or (option_map (λ c. packet_len c (packet % 3 == 0)) (config_of plan (packet / 3))) 0
-
--- how many datagrams carry a packet of so many bytes
-abbrev pub datagram_count : Carry → ℕ → ℕ
-datagram_count Plain len = 1
-datagram_count (Pft m mtu) len = (shape_of len m mtu).count
-
--- The bytes of fragment i of a packet of so many bytes: its header and what it carries, which without a code is less in
--- the last one.
-abbrev pub fragment_size : Shape → ℕ → ℕ → ℕ
-fragment_size shape len i = of shape.rs
-  where
-    of : Option Rs → ℕ
-    of None = 14 + min shape.piece (len - i * shape.piece)
-    of (Some rs) = 16 + shape.piece
-
--- the bytes of datagram i of a packet of so many bytes
-abbrev pub datagram_size : Carry → ℕ → ℕ → ℕ
-datagram_size Plain len i = len
-datagram_size (Pft m mtu) len i = fragment_size (shape_of len m mtu) len i
 
 -- how many fragments this packet of the schedule has; one, where it is carried whole
 unfoldable pub fragment_count : Plan → ℕ → ℕ
@@ -62,7 +30,7 @@ delivery packet i = record { packet = packet; fragment = i }
 
 -- a fragment of the schedule
 pub record IsDelivery (plan : Plan) (d : Delivery) : Type 0 where
-  pub packet : d.packet < packet_count plan
+  pub packet : d.packet < frame_count plan
   pub fragment : d.fragment < fragment_count plan d.packet
 
 -- all fragments of a packet, in their order
@@ -77,7 +45,7 @@ delivered plan (delivers.Packets first last) = flat_map (all_of plan) (range_wit
 delivered plan (delivers.Back packet) = reverse (all_of plan packet)
 
 abbrev pub has_packet : Plan → ℕ → Bool
-has_packet plan packet = nat_lt packet (packet_count plan)
+has_packet plan packet = nat_lt packet (frame_count plan)
 
 -- there are such packets and such a fragment, and the first packet isn't behind the last
 unfoldable pub in_schedule : Plan → Delivers → Bool

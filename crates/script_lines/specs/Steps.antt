@@ -5,13 +5,11 @@ use Rattle.std.specs.Option.{option_to_list}
 use Rattle.text_lines.specs.Faults.{FailsAt, GivesSaid, LeavesSaid, fault, first_fault, ok_unless, words_say, lines_say}
 use Rattle.text_lines.specs.Lines.{words_of}
 use Rattle.text_lines.specs.Numbers.{is_number}
-use Rattle.drm_schedule.specs.declared.carry.Carry.{Carry}
-use Rattle.drm_schedule.specs.declared.carry.Carry.TheVariants.{Plain, Pft}
 use Rattle.drm_schedule.specs.declared.invalid.Reason.{Reason}
 use Rattle.drm_schedule.specs.declared.invalid.Reason.TheVariants.{Word, Number, Range, TooLong}
 use Rattle.drm_schedule.specs.declared.plan.Plan.{Plan}
-use Rattle.dcp_pft.specs.declared.shape.Shape.{Shape}
-use Rattle.dcp_pft.specs.Cutting.{shape_of}
+use Rattle.drm_timeline.specs.Numbers.{packet_size}
+use Rattle.dcp_pft.specs.Carrying.{cut_of}
 use Rattle.script_lines.specs.declared.delivery.Delivery.{Delivery}
 use Rattle.script_lines.specs.declared.fault.ScriptFault.{ScriptFault}
 use Rattle.script_lines.specs.declared.fault.ScriptFault.TheVariants as faults
@@ -19,12 +17,7 @@ use Rattle.script_lines.specs.declared.feeds.Feeds.{Feeds}
 use Rattle.script_lines.specs.declared.line.Line.{Line}
 use Rattle.script_lines.specs.declared.line.Line.TheVariants as lines
 use Rattle.script_lines.specs.declared.packet.Packet.{Packet}
-use Rattle.script_lines.specs.Script.{Form, Fault, packet_size, delivery_size, delivered, in_range, form_of, lacks_feed, is_too_long, rows}
-
--- how a packet of so many bytes is cut, if it is
-abbrev pub cut_of : Carry → ℕ → Option Shape
-cut_of Plain len = None
-cut_of (Pft m mtu) len = Some (shape_of len m mtu)
+use Rattle.script_lines.specs.Script.{Form, Fault, delivery_size, delivered, in_range, form_of, lacks_feed, is_too_long, rows}
 
 -- a packet of the schedule, and how it is cut
 pub record IsPacket (plan : Plan) (packet : Packet) : Type 0 where

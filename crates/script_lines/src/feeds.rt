@@ -109,7 +109,7 @@ impl Feeds {
     // Fragment `i` of a packet.
     fn put_fragment(&mut self, n: u32, packet: &Packet, i: u32) -> Result<(), ScriptFault>
         requires fits { is_full self.old ≡ false }
-        requires small { packet.now.len ≤ 8192 }
+        requires small { packet.now.len < 2 ^ 16 }
         ensures { (plan : Plan) → IsPacket plan packet.now
             → Puts result n self.new (with_all plan (delivery packet.now.number i ∷ []) self.old) }
     {

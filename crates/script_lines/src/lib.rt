@@ -4,7 +4,6 @@
 mod delivery;
 mod fault;
 mod feeds;
-mod laws;
 mod line;
 mod packet;
 mod read_line;
@@ -15,6 +14,5 @@ mod spelling;
 
 pub use delivery::Delivery;
 pub use fault::ScriptFault;
-pub use laws::fragments_have_their_size;
 pub use reading::read_script;
 pub use script::Script;

@@ -4,8 +4,9 @@ ghost use Rattle.std.specs.Prelude.{◌≡◌, ◌<◌, ◌&&◌, nat_le, nat_lt
 ghost use Rattle.text_lines.specs.Numbers.{is_number};
 ghost use Rattle.script_lines.specs.Script.{value, has_packet, fragment_count};
 
-use crate::packet::{Packet, packet_count};
+use crate::packet::Packet;
 use drm_schedule::{Reason, Schedule};
+use drm_timeline::frame_count;
 
 /// The number that a word spells.
 #[tactic(auto, unfolding(text_lines::specs::Numbers::number_of))]
@@ -22,7 +23,7 @@ pub fn number(word: &str) -> Result<u64, Reason>
 pub fn packet(plan: &Schedule, number: u64) -> Result<u32, Reason>
     ensures { MatchResult result (λ n. (has_packet plan.now number ≡ true) × (n ≡ number)) (λ reason. (has_packet plan.now number ≡ false) × (reason ≡ Reason.Range)) }
 {
-    if number < u64::from(packet_count(plan)) {
+    if number < u64::from(frame_count(plan)) {
         Ok(number as u32)
     } else {
         Err(Reason::Range)

@@ -3,8 +3,9 @@ use Rattle.std.specs.Prelude.{ℕ, ◌==◌, ◌&&◌, nat_le, not, Bool, true, 
 use Rattle.std.specs.List.{slice_split, list_any}
 use Rattle.std.specs.Str.{bytes_eq}
 use Rattle.drm_links.specs.declared.dock.Address.{Address}
-use Rattle.drm_schedule.specs.declared.carry.Carry.{Carry}
-use Rattle.drm_schedule.specs.declared.carry.Carry.TheVariants.{Plain, Pft}
+use Rattle.dcp_pft.specs.Limits.{most_losses, least_fragment, most_fragment}
+use Rattle.dcp_pft.specs.declared.carry.Carry.{Carry}
+use Rattle.dcp_pft.specs.declared.carry.Carry.TheVariants.{Plain, Pft}
 use Rattle.word_forms.specs.Reading.{within}
 
 infixl 10 ◌>>=◌
@@ -57,8 +58,8 @@ addresses_of text = if nat_le (length (parts_of text)) 16 then option_and_then i
 unfoldable pub pft_of : List ℕ → Option Carry
 pft_of text = do
   m ← cut 58 text
-  first ← within 0 5 m.0
-  second ← within 128 1500 m.1
+  first ← within 0 most_losses m.0
+  second ← within least_fragment most_fragment m.1
   Some (Pft first second)
 
 abbrev pub pft_after : List ℕ × List ℕ → Option Carry

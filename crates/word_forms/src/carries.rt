@@ -5,6 +5,7 @@ ghost use Rattle.word_forms.specs.Addressing.{pft_of, carry_of};
 
 use crate::cuts::cut;
 use crate::numbers::within;
+use dcp_pft::{LEAST_FRAGMENT, MOST_FRAGMENT, MOST_LOSSES};
 use drm_schedule::Carry;
 
 // M:MTU.
@@ -13,8 +14,8 @@ fn pft(text: &str) -> Option<Carry>
     ensures { result ≡ pft_of text.now }
 {
     let (m, mtu) = cut(text, ':')?;
-    let m = within(m, 0, 5)? as u8;
-    let mtu = within(mtu, 128, 1500)? as u16;
+    let m = within(m, 0, u64::from(MOST_LOSSES))? as u8;
+    let mtu = within(mtu, LEAST_FRAGMENT as u64, MOST_FRAGMENT as u64)? as u16;
     Some(Carry::Pft { m, mtu })
 }
 

@@ -1,8 +1,8 @@
-use Rattle.std.proofs.Common.{◌≡◌, ◌+◌, ◌/◌, ◌%◌, ◌==◌, length, sum_by, ap, ◌∙◌, arith}
+use Rattle.std.proofs.Common.{◌≡◌, ◌+◌, ◌%◌, ◌==◌, length, sum_by, ap, ◌∙◌, arith}
 use Rattle.drm_schedule.specs.declared.stream.Stream.{Stream}
 use Rattle.drm_schedule.specs.Sizes.{packet_len, stream_size}
-use Rattle.drm_timeline.specs.Standing.{config_of}
-use Rattle.drm_server.proofs.PayloadLemmas.{packet_of, of_packet, front, payload_is}
+use Rattle.drm_timeline.proofs.PacketSizes.{size_is}
+use Rattle.drm_server.proofs.PayloadLemmas.{front, payload_is}
 use Rattle.drm_server.proofs.payload.write_payload.Goals as goal
 
 pub returns-clause-written : goal.returns-clause-written
@@ -16,8 +16,17 @@ returns-clause-written c =
 pub returns-clause-len : goal.returns-clause-len
 returns-clause-len c =
     let config = c.config_of_frame-config in
-    let o = config_of c.args.plan.now (c.args.t / 3) in
-    let len : c.packet_len.result ≡ packet_len config.result.now (c.args.t % 3 == 0) = packet_of c.packet_len.result (c.args.t % 3 == 0) o config.result.now c.packet_len.ensures.len config.ensures.config in
+    let len : c.packet_len.result ≡ packet_len config.result.now (c.args.t % 3 == 0) = c.packet_len.ensures.len ∙ size_is c.args.plan.now c.args.t config.result.now config.ensures.config in
     let streams : sum_by (λ (s : Stream). 8 + stream_size s) c.as_slice.result.now ≡ sum_by (λ (s : Stream). 8 + stream_size s) config.result.now.streams = ap (sum_by (λ (s : Stream). 8 + stream_size s)) c.as_slice.ensures in
-    of_packet _ (c.args.t % 3 == 0) o config.result.now
-    (omega (arith, len, streams, c.packet_len.ensures.small, ap length c.new-writer.ensures.behind, c.told-into, c.write_head.ensures.left, c.write_block_where.ensures.left, c.write_streams.ensures.left, c.room-room.ensures, c.total.ensures.known)) config.ensures.config
+    omega (arith, len, streams, c.packet_len.ensures.len, c.packet_len.ensures.small, ap length c.new-writer.ensures.behind, c.told-into, c.write_head.ensures.left, c.write_block_where.ensures.left, c.write_streams.ensures.left, c.room-room.ensures, c.total.ensures.known)
+
+pub write_streams-requires-clause-place : goal.write_streams-requires-clause-place
+write_streams-requires-clause-place c =
+    let config = c.config_of_frame-config in
+    let len : c.packet_len.result ≡ packet_len config.result.now (c.args.t % 3 == 0) = c.packet_len.ensures.len ∙ size_is c.args.plan.now c.args.t config.result.now config.ensures.config in
+    let streams : sum_by (λ (s : Stream). 8 + stream_size s) c.as_slice.result.now ≡ sum_by (λ (s : Stream). 8 + stream_size s) config.result.now.streams = ap (sum_by (λ (s : Stream). 8 + stream_size s)) c.as_slice.ensures in
+    record {
+      head = c.write_block_where.ensures.from;
+      order = c.write_block_where.ensures.to;
+      room = omega (arith, len, streams, c.packet_len.ensures.small, ap length c.new-writer.ensures.behind, c.told-into, c.write_head.ensures.left, c.write_block_where.ensures.left);
+    }

@@ -4,6 +4,7 @@ use Rattle.drm_schedule.specs.declared.plan.Plan.{Plan}
 use Rattle.drm_links.specs.Link.{Traffic}
 use Rattle.drm_links.specs.Transmission.{Transmits, SendsAll}
 use Rattle.drm_links.proofs.ManyCallsLemmas.{more_calls, at_most}
+use Rattle.drm_timeline.specs.Numbers.{frame_count}
 use Rattle.drm_server.specs.Serving.{Serving}
 use Rattle.drm_server.specs.OneFrame.{SentFrame, SendsPartOfFrame}
 use Rattle.drm_server.specs.Datagrams.{AreOfFrames}
@@ -27,8 +28,8 @@ pub returns-in_err-sent-clause-calls : goal.returns-in_err-sent-clause-calls
 returns-in_err-sent-clause-calls g c =
     let calls : Traffic → ℕ = λ t. t.calls in
     let plan : Plan = c.args.server.now.plan in
-    let few : 1025 * c.loop-t.t + 1 + 1024 ≤ 1025 * (3 * plan.length) = omega (arith, c.loop-t-test.true, c.frames-t-end.ensures.frames) in
-    at_most calls (1025 * c.loop-t.t + 1 + 1024) (1025 * (3 * plan.length)) (g.L.Link.tells c.args.link.now) (g.L.Link.tells c.send_frame.new.link) few
+    let few : 1025 * c.loop-t.t + 1 + 1024 ≤ 1025 * frame_count plan = omega (arith, c.loop-t-test.true, c.frames-t-end.ensures.frames) in
+    at_most calls (1025 * c.loop-t.t + 1 + 1024) (1025 * frame_count plan) (g.L.Link.tells c.args.link.now) (g.L.Link.tells c.send_frame.new.link) few
     (more_calls calls (1025 * c.loop-t.t + 1) 1024 (g.L.Link.tells c.args.link.now) (g.L.Link.tells c.rest_between.new.link) (g.L.Link.tells c.send_frame.new.link)
     (more_calls calls (1025 * c.loop-t.t) 1 (g.L.Link.tells c.args.link.now) (g.L.Link.tells c.loop-t.link) (g.L.Link.tells c.rest_between.new.link) c.loop-t.invariant.5 c.rest_between.ensures.calls) c.send_frame.ensures.calls)
 
@@ -65,25 +66,25 @@ pub returns-clause-whole : goal.returns-clause-whole
 returns-clause-whole g c =
     let i = c.loop-t.invariant in
     let plan : Plan = c.args.server.now.plan in
-    let all : c.loop-t.t ≡ 3 * plan.length = omega (arith, c.loop-t-test.false, c.loop-t.auto.t-end, c.frames-t-end.ensures.frames) in
+    let all : c.loop-t.t ≡ frame_count plan = omega (arith, c.loop-t-test.false, c.loop-t.auto.t-end, c.frames-t-end.ensures.frames) in
     all_sent plan i.0 (g.L.Link.tells c.args.link.now) (g.L.Link.tells c.loop-t.link) (subst (λ k. AreOfFrames plan k i.0) all i.1) i.2
 
 pub returns-clause-count : goal.returns-clause-count
 returns-clause-count g c =
     let i = c.loop-t.invariant in
     let plan : Plan = c.args.server.now.plan in
-    let all : c.loop-t.t ≡ 3 * plan.length = omega (arith, c.loop-t-test.false, c.loop-t.auto.t-end, c.frames-t-end.ensures.frames) in
+    let all : c.loop-t.t ≡ frame_count plan = omega (arith, c.loop-t-test.false, c.loop-t.auto.t-end, c.frames-t-end.ensures.frames) in
     (i.0, subst (λ k. AreOfFrames plan k i.0) all i.1, i.7)
 
 pub returns-clause-calls : goal.returns-clause-calls
 returns-clause-calls g c =
     let calls : Traffic → ℕ = λ t. t.calls in
     let plan : Plan = c.args.server.now.plan in
-    let few : 1025 * c.loop-t.t ≤ 1025 * (3 * plan.length) = omega (arith, c.loop-t.auto.t-end, c.frames-t-end.ensures.frames) in
-    at_most calls (1025 * c.loop-t.t) (1025 * (3 * plan.length)) (g.L.Link.tells c.args.link.now) (g.L.Link.tells c.loop-t.link) few c.loop-t.invariant.5
+    let few : 1025 * c.loop-t.t ≤ 1025 * frame_count plan = omega (arith, c.loop-t.auto.t-end, c.frames-t-end.ensures.frames) in
+    at_most calls (1025 * c.loop-t.t) (1025 * frame_count plan) (g.L.Link.tells c.args.link.now) (g.L.Link.tells c.loop-t.link) few c.loop-t.invariant.5
 
 pub returns-clause-rests : goal.returns-clause-rests
 returns-clause-rests g c =
     let plan : Plan = c.args.server.now.plan in
-    let all : c.loop-t.t ≡ 3 * plan.length = omega (arith, c.loop-t-test.false, c.loop-t.auto.t-end, c.frames-t-end.ensures.frames) in
+    let all : c.loop-t.t ≡ frame_count plan = omega (arith, c.loop-t-test.false, c.loop-t.auto.t-end, c.frames-t-end.ensures.frames) in
     subst (λ k. Transmits (g.L.Link.tells c.args.link.now) (g.L.Link.tells c.loop-t.link) (MadeCalls (c.loop-t.sent + rests_between c.args.pace k))) all c.loop-t.invariant.9

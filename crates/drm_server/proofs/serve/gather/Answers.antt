@@ -21,7 +21,7 @@ returns-clause-gathered g c =
     let b = g.O.Sink.tells c.pass_on.new.out in
     IfOk-weaker c.pass_on.result
     (λ (n : ℕ). Outputs a b (λ text. take (at + w.result) room ≡ text ++ take n room))
-    (λ (n : ℕ). GathersDatagram c.args.server.now.plan c.args.server.now.frame c.args.i (take at c.args.room.now) (take n room) a b)
+    (λ (n : ℕ). GathersDatagram c.args.loaded.now.plan c.args.loaded.now.frame c.args.i (take at c.args.room.now) (take n room) a b)
     (λ n written. (
       datagram,
       w.ensures.datagram,

@@ -21,7 +21,7 @@ pub returns-in_err-waiting-clause-front : goal.returns-in_err-waiting-clause-fro
 returns-in_err-waiting-clause-front g c =
     let i = c.loop-i.invariant in
     let p = err_from_is_err_and c.from_residual.result c.from_residual.ensures.1 in
-    rw p.1 (front_of_frame c.args.server.now.plan c.args.server.now.frame c.loop-i.i i.0 (take c.args.waiting c.args.room.now) (take c.loop-i.waiting c.loop-i.room)
+    rw p.1 (front_of_frame c.args.loaded.now.plan c.args.loaded.now.frame c.loop-i.i i.0 (take c.args.waiting c.args.room.now) (take c.loop-i.waiting c.loop-i.room)
     (g.O.Sink.tells c.args.out.now) (g.O.Sink.tells c.loop-i.out) (g.O.Sink.tells c.gather.new.out) i.1 i.2 c.in_err-waiting.ensures.front)
 
 pub loop-i-preserved : goal.loop-i-preserved
@@ -29,7 +29,7 @@ loop-i-preserved g c =
     let i = c.loop-i.invariant in
     let d = c.in_ok-waiting.ensures.gathered in (
       i.0 ++ d.0 ∷ [],
-      next_datagram c.args.server.now.plan c.args.server.now.frame c.loop-i.i i.0 d.0 i.1 d.1,
+      next_datagram c.args.loaded.now.plan c.args.loaded.now.frame c.loop-i.i i.0 d.0 i.1 d.1,
       gathers_datagram (take c.args.waiting c.args.room.now) i.0 d.0 (take c.loop-i.waiting c.loop-i.room) (take c.in_ok-waiting.waiting c.gather.new.room)
           (g.O.Sink.tells c.args.out.now) (g.O.Sink.tells c.loop-i.out) (g.O.Sink.tells c.gather.new.out) i.2 d.2,
       c.in_ok-waiting.ensures.left,
@@ -42,6 +42,6 @@ returns-clause-gathered g c =
     let i = c.loop-i.invariant in
     let all : c.loop-i.i ≡ c.fragments-i-end.result = omega (arith, c.loop-i-test.false, c.loop-i.auto.i-end) in (
       i.0,
-      (c.fragments-i-end.result, c.fragments-i-end.ensures.datagrams, subst (λ k. AreFirst c.args.server.now.plan c.args.server.now.frame k i.0) all i.1),
+      (c.fragments-i-end.result, c.fragments-i-end.ensures.datagrams, subst (λ k. AreFirst c.args.loaded.now.plan c.args.loaded.now.frame k i.0) all i.1),
       i.2,
     )

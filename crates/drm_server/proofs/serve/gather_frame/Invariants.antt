@@ -1,5 +1,6 @@
 use Rattle.std.proofs.Common.{◌≡◌, ◌+◌, ◌≤◌, ℕ, List, length, take}
 use Rattle.std.specs.List.{concat}
+use Rattle.dcp_pft.specs.Limits.{most_packet}
 use Rattle.drm_server.specs.Datagrams.{AreFirst}
 use Rattle.drm_server.specs.Gathering.{Gathers}
 use Rattle.drm_server.proofs.serve.gather_frame.Given as goal
@@ -7,8 +8,8 @@ use Rattle.drm_server.proofs.serve.gather_frame.Given as goal
 -- the datagrams before this one were written, or wait
 abbrev pub invariant-loop-i : goal.invariant-loop-i
 invariant-loop-i g l =
-    (datagrams : List (List ℕ)) × AreFirst l.fn.server.plan l.fn.server.frame l.i datagrams
+    (datagrams : List (List ℕ)) × AreFirst l.fn.loaded.plan l.fn.loaded.frame l.i datagrams
     × Gathers (take l.fn.waiting l.fn.room) (concat datagrams) (take l.waiting l.room) (g.O.Sink.tells l.fn.out) (g.O.Sink.tells l.out)
-    × (l.waiting + 8192 ≤ length l.room)
+    × (l.waiting + most_packet l.fn.loaded.plan.carry ≤ length l.room)
     × (length l.room ≡ length l.fn.room)
     × (g.O.Sink.faults l.fn.out ≤ g.O.Sink.faults l.out)

@@ -13,4 +13,4 @@ returns-clause-written c =
 
 pub returns-clause-left : goal.returns-clause-left
 returns-clause-left c =
-    omega (arith, ap length c.stream.ensures.behind, ap length (cut c), length-replicate c.args.size c.args.byte, length-drop (8 + length (take c.args.size (replicate 8190 c.args.byte))) (behind c.args.writer.now), c.requires.room)
+    omega (arith, ap length c.stream.ensures.behind, ap length (cut c), length-replicate c.args.size c.args.byte, length-drop (8 + length (take c.args.size (replicate 8190 c.args.byte))) (behind c.args.writer.now), c.requires.place.before.room)

@@ -12,7 +12,7 @@ pub loop-left-init : goal.loop-left-init
 loop-left-init c =
     subst (λ (left : List Config). (find (is_counting c.args.sf) left ≡ announced_in c.args.plan.now c.args.sf) × All ConfigInLines left × All IsSound left)
     (sym (c.as_slice-left.ensures ∙ c.configs.ensures))
-    (refl, c.always_valid.ensures.schedule.in_lines.each_config, all_sound c.args.plan.now.length None c.args.plan.now.configs c.always_valid.ensures.faultless)
+    (refl, c.always_valid.ensures.schedule.in_lines.each_config, all_sound c.args.plan.now None c.args.plan.now.configs c.always_valid.ensures.faultless)
 
 pub returns-then-is_counting-clause-services : goal.returns-then-is_counting-clause-services
 returns-then-is_counting-clause-services c =
@@ -22,7 +22,7 @@ returns-then-is_counting-clause-services c =
 pub returns-then-is_counting-clause-can : goal.returns-then-is_counting-clause-can
 returns-then-is_counting-clause-can c =
     λ before stands.
-    can_announce c.args.plan.now.length c.args.sf c.args.plan.now.configs c.config-item.result before c.always_valid.ensures.faultless
+    can_announce c.args.plan.now c.args.sf c.args.plan.now.configs c.config-item.result before c.always_valid.ensures.faultless
     (sym c.loop-left.invariant.0 ∙ found_first c.args.sf c.loop-left.left.now c.config-item.result c.in-len1-up.len_at_least c.config-item.is (sym c.is_counting.ensures ∙ c.if-is_counting.true)) stands
 
 pub loop-left-preserved : goal.loop-left-preserved

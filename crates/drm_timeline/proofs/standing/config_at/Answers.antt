@@ -8,5 +8,5 @@ use Rattle.drm_timeline.proofs.standing.config_at.Goals as goal
 pub unreachable-requires : goal.unreachable-requires
 unreachable-requires c =
     let same = c.as_slice.ensures ∙ c.configs.ensures in
-    some_config c.args.plan.now.length c.args.sf c.args.plan.now.configs c.always_valid.ensures.schedule.in_lines.some_config c.always_valid.ensures.faultless
+    some_config c.args.plan.now c.args.sf c.args.plan.now.configs c.always_valid.ensures.schedule.in_lines.some_config c.always_valid.ensures.faultless
     (ap (λ (l : List Config). last_or None (filter (has_started c.args.sf) l)) (sym same) ∙ sym c.in-None.ensures.config)

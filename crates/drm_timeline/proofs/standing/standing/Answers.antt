@@ -3,9 +3,9 @@ use Rattle.drm_schedule.specs.declared.config.Config.{Config}
 use Rattle.drm_timeline.proofs.ScheduleLemmas.{Holds, holds, sound_services}
 use Rattle.drm_timeline.proofs.standing.standing.Goals as goal
 
-facts : (c : goal.After-get) → Holds c.args.plan.now.length c.args.sf c.args.plan.now.configs c.get.result.now
+facts : (c : goal.After-get) → Holds c.args.plan.now c.args.sf c.args.plan.now.configs c.get.result.now
 facts c =
-    holds c.args.plan.now.length c.args.sf c.config_at.result c.args.plan.now.configs c.get.result.now c.always_valid.ensures.faultless
+    holds c.args.plan.now c.args.sf c.config_at.result c.args.plan.now.configs c.get.result.now c.always_valid.ensures.faultless
     c.always_valid.ensures.schedule.in_lines.each_config c.config_at.ensures.within
     (subst (λ (cs : List Config). c.get.result.now ≡ get_or cs c.config_at.result c.get.result.now) c.configs.ensures c.get.ensures) c.config_at.ensures.config
 
@@ -19,4 +19,4 @@ pub returns-clause-room : goal.returns-clause-room
 returns-clause-room c = (facts c).sound.room
 
 pub returns-clause-packet : goal.returns-clause-packet
-returns-clause-packet c = (facts c).sound.packet
+returns-clause-packet c = (facts c).packet

@@ -9,6 +9,7 @@ use Rattle.drm_server.specs.Sending.{SendsSchedule, SendsPart}
 use Rattle.drm_load.specs.declared.loading.ScheduleFault.TheVariants as schedule
 use Rattle.drm_load.specs.Schedule.{schedule_named}
 use Rattle.drm_load.proofs.ScheduleLemmas.{ran_out}
+use Rattle.drm_timeline.specs.Numbers.{frame_count}
 use Rattle.drm_transmit.proofs.OverLinkLemmas.{unsent, all_sent, part_sent}
 use Rattle.drm_transmit.proofs.send_command.send_over.Goals as goal
 
@@ -31,7 +32,7 @@ returns-in_err-serve_link-clause-run g c =
     let p = err_from_is_err_and c.from_residual-in_err-serve_link.result c.from_residual-in_err-serve_link.ensures.1 in
     let same : c.in_ok-server.server.plan ≡ c.in_ok-schedule.schedule = ap (λ (s : Serving). s.plan) c.in_ok-server.ensures in
     let sent : Transmits (g.L.Link.tells c.args.link.now) (g.L.Link.tells c.serve_link.new.link) (SendsPart c.in_ok-schedule.schedule) = rw (← same) c.in_err-serve_link.ensures.part in
-    let calls : MakesCalls (λ (t : Traffic). t.calls) (1025 * (3 * c.in_ok-schedule.schedule.length)) (g.L.Link.tells c.args.link.now) (g.L.Link.tells c.serve_link.new.link) = rw (← same) c.serve_link.ensures.calls in
+    let calls : MakesCalls (λ (t : Traffic). t.calls) (1025 * frame_count c.in_ok-schedule.schedule) (g.L.Link.tells c.args.link.now) (g.L.Link.tells c.serve_link.new.link) = rw (← same) c.serve_link.ensures.calls in
     let valid : IsSchedule c.in_ok-schedule.schedule = rw (← c.schedule.view_is) c.schedule.invariant in
     rw (p.1 ∙ ap Err p.2)
     (part_sent c.args.name.now g.S.Shelf.faults g.S.Shelf.tells c.args.shelf.now c.read_schedule.new.shelf g.L.Link.faults g.L.Link.tells c.in_ok-schedule.schedule
@@ -41,7 +42,7 @@ pub returns-clause-run : goal.returns-clause-run
 returns-clause-run g c =
     let same : c.in_ok-server.server.plan ≡ c.in_ok-schedule.schedule = ap (λ (s : Serving). s.plan) c.in_ok-server.ensures in
     let sent : Transmits (g.L.Link.tells c.args.link.now) (g.L.Link.tells c.serve_link.new.link) (SendsSchedule c.in_ok-schedule.schedule) = rw (← same) c.in_ok-serve_link.ensures.whole in
-    let calls : MakesCalls (λ (t : Traffic). t.calls) (1025 * (3 * c.in_ok-schedule.schedule.length)) (g.L.Link.tells c.args.link.now) (g.L.Link.tells c.serve_link.new.link) = rw (← same) c.serve_link.ensures.calls in
+    let calls : MakesCalls (λ (t : Traffic). t.calls) (1025 * frame_count c.in_ok-schedule.schedule) (g.L.Link.tells c.args.link.now) (g.L.Link.tells c.serve_link.new.link) = rw (← same) c.serve_link.ensures.calls in
     let valid : IsSchedule c.in_ok-schedule.schedule = rw (← c.schedule.view_is) c.schedule.invariant in
     all_sent c.args.name.now g.S.Shelf.faults g.S.Shelf.tells c.args.shelf.now c.read_schedule.new.shelf g.L.Link.faults g.L.Link.tells c.in_ok-schedule.schedule
     valid c.in_ok-schedule.ensures.reads c.in_ok-schedule.ensures.cause.later c.args.link.now c.serve_link.new.link c.serve_link.ensures.cause.later calls sent

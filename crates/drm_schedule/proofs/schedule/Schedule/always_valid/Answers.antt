@@ -9,4 +9,4 @@ is_schedule c = let P : Plan → Type 0 = λ plan. IsSchedule plan in subst P c.
 
 pub returns : goal.returns
 returns c =
-    record { schedule = is_schedule c; faultless = all_faultless c.args.self.now.length 0 None c.args.self.now.configs (is_schedule c).valid }
+    record { schedule = is_schedule c; faultless = all_faultless c.args.self.now 0 None c.args.self.now.configs (is_schedule c).valid }

@@ -1,19 +1,20 @@
 use Rattle.std.proofs.Common.{◌≡◌, ◌+◌, ◌*◌, ◌<◌, ◌≤◌, ℕ, List, [], length, take}
 use Rattle.std.specs.List.{concat}
+use Rattle.dcp_pft.specs.Limits.{most_packet}
 use Rattle.drm_server.specs.Datagrams.{AreOfFrames}
 use Rattle.drm_server.specs.Capture.{IsFrontOfCapture}
 use Rattle.drm_server.specs.Gathering.{Gathers}
-use Rattle.drm_server.proofs.serve.serve_sink.Given as goal
+use Rattle.drm_server.proofs.serve.serve.Given as goal
 
 -- the datagrams of the frames before this one were written, or wait
 abbrev pub invariant-loop-t : goal.invariant-loop-t
 invariant-loop-t g l =
-    (datagrams : List (List ℕ)) × AreOfFrames l.fn.server.plan l.t datagrams
+    (datagrams : List (List ℕ)) × AreOfFrames l.fn.loaded.plan l.t datagrams
     × Gathers [] (concat datagrams) (take l.waiting l.room) (g.O.Sink.tells l.fn.out) (g.O.Sink.tells l.out)
-    × (0 < l.t → IsFrontOfCapture l.fn.server.plan (concat datagrams))
-    × (l.waiting + 8192 ≤ length l.room)
-    × (length l.room ≡ 32768)
+    × (0 < l.t → IsFrontOfCapture l.fn.loaded.plan (concat datagrams))
+    × (l.waiting + most_packet l.fn.loaded.plan.carry ≤ length l.room)
+    × (length l.room ≡ length l.fn.room)
     × (g.O.Sink.faults l.fn.out ≤ g.O.Sink.faults l.out)
-    × (l.server.plan ≡ l.fn.server.plan)
+    × (l.loaded.plan ≡ l.fn.loaded.plan)
     × (l.written ≡ length datagrams)
     × (l.written ≤ 1024 * l.t)

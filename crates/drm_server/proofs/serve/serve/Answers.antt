@@ -1,34 +1,35 @@
-use Rattle.std.proofs.Common.{◌≡◌, ◌∙◌, ◌+◌, ◌*◌, ℕ, List, ◌++◌, length, take, ap, subst, arith, length-append}
+use Rattle.std.proofs.Common.{◌≡◌, ◌∙◌, ◌+◌, ℕ, List, ◌++◌, length, take, ap, subst, arith, length-append}
 use Rattle.std.proofs.lemmas.Result.{err_from_is_err_and}
 use Rattle.drm_schedule.specs.declared.plan.Plan.{Plan}
 use Rattle.drm_links.specs.Sink.{Outputs}
+use Rattle.drm_timeline.specs.Numbers.{frame_count}
 use Rattle.drm_server.specs.Serving.{Serving}
 use Rattle.drm_server.specs.Datagrams.{AreOfFrames, HasDatagrams}
 use Rattle.drm_server.specs.Gathering.{GathersFrame, IsFrontOfFrame}
 use Rattle.drm_server.proofs.DatagramLemmas.{next_frame, at_frame, first_length}
 use Rattle.drm_server.proofs.OneDelivery.{one_count}
 use Rattle.drm_server.proofs.CaptureLemmas.{gathers_frame, part_written, end_written, all_written, one_or_more}
-use Rattle.drm_server.proofs.serve.serve_sink.Goals as goal
+use Rattle.drm_server.proofs.serve.serve.Goals as goal
 
 pub returns-in_err-waiting-clause-front : goal.returns-in_err-waiting-clause-front
 returns-in_err-waiting-clause-front g c =
     let i = c.loop-t.invariant in
-    let plan : Plan = c.args.server.now.plan in
+    let plan : Plan = c.args.loaded.now.plan in
     let waits : List ℕ = take c.loop-t.waiting c.loop-t.room in
     let p = err_from_is_err_and c.from_residual.result c.from_residual.ensures.1 in
     let P : Serving → Type 0 = λ s. Outputs (g.O.Sink.tells c.loop-t.out) (g.O.Sink.tells c.gather_frame.new.out) (IsFrontOfFrame s.plan s.frame waits) in
-    let part = subst P (at_frame c.loop-t.server c.load.new.self plan c.loop-t.t c.load.ensures i.7) c.in_err-waiting.ensures.front in
+    let part = subst P (at_frame c.loop-t.loaded c.load.new.self plan c.loop-t.t c.load.ensures i.7) c.in_err-waiting.ensures.front in
     rw p.1 (part_written plan c.loop-t.t i.0 waits (g.O.Sink.tells c.args.out.now) (g.O.Sink.tells c.loop-t.out) (g.O.Sink.tells c.gather_frame.new.out)
     (omega (arith, c.loop-t-test.true, c.frames-t-end.ensures.frames)) i.1 i.2 part)
 
 pub loop-t-preserved : goal.loop-t-preserved
 loop-t-preserved g c =
     let i = c.loop-t.invariant in
-    let plan : Plan = c.args.server.now.plan in
+    let plan : Plan = c.args.loaded.now.plan in
     let t : ℕ = c.loop-t.t in
     let then_waits : List ℕ = take c.loop-t.waiting c.loop-t.room in
     let waits : List ℕ = take c.in_ok-waiting.waiting c.gather_frame.new.room in
-    let loaded = at_frame c.loop-t.server c.load.new.self plan t c.load.ensures i.7 in
+    let loaded = at_frame c.loop-t.loaded c.load.new.self plan t c.load.ensures i.7 in
     let P : Serving → Type 0 = λ s. GathersFrame s.plan s.frame then_waits waits (g.O.Sink.tells c.loop-t.out) (g.O.Sink.tells c.gather_frame.new.out) in
     let w = subst P loaded c.in_ok-waiting.ensures.gathered in
     let has : HasDatagrams plan t c.fragments.result = subst (λ (s : Serving). HasDatagrams s.plan s.frame c.fragments.result) loaded c.fragments.ensures.datagrams in
@@ -50,8 +51,8 @@ loop-t-preserved g c =
 pub returns-in_err-write_all-clause-front : goal.returns-in_err-write_all-clause-front
 returns-in_err-write_all-clause-front g c =
     let i = c.loop-t.invariant in
-    let plan : Plan = c.args.server.now.plan in
-    let all : c.loop-t.t ≡ 3 * plan.length = omega (arith, c.loop-t-test.false, c.loop-t.auto.t-end, c.frames-t-end.ensures.frames) in
+    let plan : Plan = c.args.loaded.now.plan in
+    let all : c.loop-t.t ≡ frame_count plan = omega (arith, c.loop-t-test.false, c.loop-t.auto.t-end, c.frames-t-end.ensures.frames) in
     let p = err_from_is_err_and c.from_residual-in_err-write_all.result c.from_residual-in_err-write_all.ensures.1 in
     rw p.1 (end_written plan c.loop-t.t i.0 (take c.loop-t.waiting c.loop-t.room) (g.O.Sink.tells c.args.out.now) (g.O.Sink.tells c.loop-t.out) (g.O.Sink.tells c.write_all.new.out)
     (omega (arith, all)) i.1 (i.3 (omega (arith, all, c.frames-t-end.ensures.frames, c.frames-t-end.ensures.some))) i.2 c.in_err-write_all.ensures.front)
@@ -59,14 +60,14 @@ returns-in_err-write_all-clause-front g c =
 pub returns-clause-whole : goal.returns-clause-whole
 returns-clause-whole g c =
     let i = c.loop-t.invariant in
-    let plan : Plan = c.args.server.now.plan in
-    let all : c.loop-t.t ≡ 3 * plan.length = omega (arith, c.loop-t-test.false, c.loop-t.auto.t-end, c.frames-t-end.ensures.frames) in
+    let plan : Plan = c.args.loaded.now.plan in
+    let all : c.loop-t.t ≡ frame_count plan = omega (arith, c.loop-t-test.false, c.loop-t.auto.t-end, c.frames-t-end.ensures.frames) in
     all_written plan i.0 (take c.loop-t.waiting c.loop-t.room) (g.O.Sink.tells c.args.out.now) (g.O.Sink.tells c.loop-t.out) (g.O.Sink.tells c.write_all.new.out)
     (subst (λ k. AreOfFrames plan k i.0) all i.1) i.2 c.in_ok-write_all.ensures.whole
 
 pub returns-clause-count : goal.returns-clause-count
 returns-clause-count g c =
     let i = c.loop-t.invariant in
-    let plan : Plan = c.args.server.now.plan in
-    let all : c.loop-t.t ≡ 3 * plan.length = omega (arith, c.loop-t-test.false, c.loop-t.auto.t-end, c.frames-t-end.ensures.frames) in
+    let plan : Plan = c.args.loaded.now.plan in
+    let all : c.loop-t.t ≡ frame_count plan = omega (arith, c.loop-t-test.false, c.loop-t.auto.t-end, c.frames-t-end.ensures.frames) in
     (i.0, subst (λ k. AreOfFrames plan k i.0) all i.1, i.8)

@@ -2,6 +2,7 @@
 use Rattle.std.proofs.Common.{◌≡◌, ◌<◌, ◌≤◌, ◌+◌, ◌-◌, ◌*◌, ◌/◌, ℕ, Bool, true, false, cond, List, [], ◌∷◌, length, filter, All, IfSome, Option, Some, None, refl, subst, arith, mul-le-mul_left}
 use Rattle.std.specs.List.{last_or}
 use Rattle.std.proofs.lemmas.Bool.{ltb-false, le-ltb, leb-false}
+use Rattle.drm_schedule.specs.declared.plan.Plan.{Plan}
 use Rattle.drm_schedule.specs.declared.config.Config.{Config}
 use Rattle.drm_schedule.specs.declared.stream.Content.{Content}
 use Rattle.drm_schedule.specs.declared.stream.Content.TheVariants.{Fill, File}
@@ -24,21 +25,21 @@ fewer frames more s le is = by s.content refl
 abbrev pub Reaches : ℕ → Config → Type 0
 Reaches sf c = All (λ (s : Stream). is_short (3 * (sf + 1 - c.start)) s ≡ false) c.streams
 
-reaches : (len sf end : ℕ) (before : Option Config) (c : Config) → IsFaultless len before end c → sf < end → Reaches sf c
-reaches len sf end before c is lt k d within = fewer (3 * (sf + 1 - c.start)) (3 * (end - c.start)) _ (omega (arith, lt)) (is.files k d within)
+reaches : (plan : Plan) (sf end : ℕ) (before : Option Config) (c : Config) → IsFaultless plan before end c → sf < end → Reaches sf c
+reaches plan sf end before c is lt k d within = fewer (3 * (sf + 1 - c.start)) (3 * (end - c.start)) _ (omega (arith, lt)) (is.files k d within)
 
-last_reaches : (len sf : ℕ) (before : Option Config) (cs : List Config) (o : Option Config) → AreFaultless len before cs → sf < len → (sf < end_before len cs → IfSome o (Reaches sf)) → IfSome (last_or o (filter (has_started sf) cs)) (Reaches sf)
-last_reaches len sf before [] o are lt of = of lt
-last_reaches len sf before (c ∷ more) o are lt of = by (λ o first. last_reaches len sf (Some c) more o are.1 lt first) (has_started sf c) refl
+last_reaches : (plan : Plan) (sf : ℕ) (before : Option Config) (cs : List Config) (o : Option Config) → AreFaultless plan before cs → sf < plan.length → (sf < end_before plan.length cs → IfSome o (Reaches sf)) → IfSome (last_or o (filter (has_started sf) cs)) (Reaches sf)
+last_reaches plan sf before [] o are lt of = of lt
+last_reaches plan sf before (c ∷ more) o are lt of = by (λ o first. last_reaches plan sf (Some c) more o are.1 lt first) (has_started sf c) refl
   where
-    by : ((o : Option Config) → (sf < end_before len more → IfSome o (Reaches sf)) → IfSome (last_or o (filter (has_started sf) more)) (Reaches sf)) → (b : Bool) → has_started sf c ≡ b
+    by : ((o : Option Config) → (sf < end_before plan.length more → IfSome o (Reaches sf)) → IfSome (last_or o (filter (has_started sf) more)) (Reaches sf)) → (b : Bool) → has_started sf c ≡ b
         → IfSome (last_or o (cond b (c ∷ filter (has_started sf) more) (filter (has_started sf) more))) (Reaches sf)
-    by rest true is = rest (Some c) (λ within. reaches len sf (end_before len more) before c are.0 within)
+    by rest true is = rest (Some c) (λ within. reaches plan sf (end_before plan.length more) before c are.0 within)
     by rest false is = rest o (λ within. of (omega (arith, leb-false c.start sf is, lt)))
 
 -- and so those of the one that holds
-pub files_reach : (len sf : ℕ) (cs : List Config) (c : Config) → AreFaultless len None cs → sf < len → last_or None (filter (has_started sf) cs) ≡ Some c → Reaches sf c
-files_reach len sf cs c are lt same = subst (λ (o : Option Config). IfSome o (Reaches sf)) same (last_reaches len sf None cs None are lt (λ within. tt))
+pub files_reach : (plan : Plan) (sf : ℕ) (cs : List Config) (c : Config) → AreFaultless plan None cs → sf < plan.length → last_or None (filter (has_started sf) cs) ≡ Some c → Reaches sf c
+files_reach plan sf cs c are lt same = subst (λ (o : Option Config). IfSome o (Reaches sf)) same (last_reaches plan sf None cs None are lt (λ within. tt))
 
 pub frame_reached : (t : ℕ) (c : Config) → 3 * c.start ≤ t → Reaches (t / 3) c → All (λ (s : Stream). is_short (t - 3 * c.start + 1) s ≡ false) c.streams
 frame_reached t c le all k d within = fewer (t - 3 * c.start + 1) (3 * (t / 3 + 1 - c.start)) _ (omega (arith, le)) (all k d within)

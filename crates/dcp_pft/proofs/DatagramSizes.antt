@@ -1,8 +1,9 @@
--- How many bytes a fragment has.
+-- How many bytes a datagram has.
 use Rattle.std.proofs.Common.{ℕ, ◌≡◌, ◌+◌, ◌-◌, ◌*◌, min, Option, None, Some, List, ◌++◌, length, refl, sym, ap, ◌∙◌, arith}
 use Rattle.std.specs.Int.{w16, to_be_bytes}
 use Rattle.std.proofs.lemmas.List.{length-append}
-use Rattle.drm_schedule.specs.declared.carry.Carry.TheVariants.{Pft}
+use Rattle.dcp_pft.specs.declared.carry.Carry.{Carry}
+use Rattle.dcp_pft.specs.declared.carry.Carry.TheVariants.{Plain, Pft}
 use Rattle.dcp_pft.specs.declared.shape.Rs.{Rs}
 use Rattle.dcp_pft.specs.declared.shape.Shape.{Shape}
 use Rattle.dcp_pft.specs.Coding.{payload_of}
@@ -10,8 +11,8 @@ use Rattle.dcp_pft.specs.Cutting.{shape_of}
 use Rattle.dcp_pft.specs.Head.{IsFragmentOf, PftFragment, fragment_of, head, rs_bytes, addr_bytes}
 use Rattle.dcp_pft.proofs.Fragments.{with_rs}
 use Rattle.dcp_pft.proofs.Payloads.{coded_payload_length, plain_payload_length}
-use Rattle.script_lines.specs.Script.{fragment_size}
-use Rattle.script_lines.specs.Laws.{FragmentsHaveTheirSize}
+use Rattle.dcp_pft.specs.Carrying.{fragment_size}
+use Rattle.dcp_pft.specs.Laws.{DatagramsHaveTheirSize}
 
 length-head : (f : PftFragment) → length (head f) ≡ 12 + length (rs_bytes f.rs) + length (addr_bytes f.addr)
 length-head f = omega (arith, length-append (rs_bytes f.rs) (addr_bytes f.addr))
@@ -37,5 +38,6 @@ fragment_length shape seq i packet bytes is = by shape.rs refl (length-spelled s
         let size : fragment_size shape (length packet) i ≡ 16 + shape.piece = ap (λ (o : Option Rs). fragment_size (with_rs shape o) (length packet) i) some in
         omega (arith, all, head, size, coded_payload_length shape rs packet is.parity i some)
 
-pub sizes : FragmentsHaveTheirSize
-sizes = λ m mtu seq i packet fragment is. fragment_length (shape_of (length packet) m mtu) seq i packet fragment is
+pub sizes : DatagramsHaveTheirSize
+sizes Plain seq i packet datagram is = ap (λ (l : List ℕ). length l) is
+sizes (Pft m mtu) seq i packet datagram is = fragment_length (shape_of (length packet) m mtu) seq i packet datagram is

@@ -1,14 +1,16 @@
-use Rattle.std.proofs.Common.{ℕ, List, ◌≡◌, ◌+◌, ◌%◌, ◌^◌, ◌<◌, ◌∙◌, ap, sym, subst, take, length, arith, None, Some}
+use Rattle.std.proofs.Common.{ℕ, List, ◌≡◌, ◌∙◌, ap, sym, subst, take, length, arith, None, Some}
 use Rattle.std.proofs.lemmas.List.{length-take-le}
 use Rattle.drm_schedule.specs.declared.plan.Plan.{Plan}
 use Rattle.dcp_pft.specs.Head.{IsFragmentOf}
-use Rattle.drm_server.specs.Datagrams.{HasDatagrams}
-use Rattle.drm_server.specs.Serving.{Serving, IsCutOf}
+use Rattle.drm_timeline.specs.Numbers.{sequence_number}
+use Rattle.dcp_pft.specs.Carrying.{cut_of}
+use Rattle.drm_server.specs.Datagrams.{HasDatagram}
+use Rattle.drm_server.specs.Serving.{Serving}
 use Rattle.drm_server.proofs.CutLemmas.{below_cut, cut_datagram, whole_datagram}
-use Rattle.drm_server.proofs.server.Server.write_datagram.Goals as goal
+use Rattle.drm_server.proofs.loaded.Loaded.write_datagram.Goals as goal
 
 abbrev Within : ℕ → Serving → Type 0
-Within i s = (count : ℕ) × HasDatagrams s.plan s.frame count × (i < count)
+Within i s = HasDatagram s.plan s.frame i
 
 pub write_cut-requires-clause-within : goal.write_cut-requires-clause-within
 write_cut-requires-clause-within c =
@@ -17,7 +19,7 @@ write_cut-requires-clause-within c =
     let plan : Plan = s.plan.now in
     let packet : List ℕ = take s.len s.buffer.items in
     let long : length packet ≡ s.len = length-take-le s.len s.buffer.items (omega (arith, i.1, i.2)) in
-    let cut : IsCutOf plan.carry (length packet) (Some c.in-Some.shape) = rw (long, ← c.in-Some.is) i.6 in
+    let cut : cut_of plan.carry (length packet) ≡ Some c.in-Some.shape = rw long (sym i.6 ∙ c.in-Some.is) in
     below_cut plan s.frame c.args.i packet c.in-Some.shape i.4 cut (subst (Within c.args.i) (sym c.self.view_is) c.requires.within)
 
 pub returns-in-None-clause-datagram : goal.returns-in-None-clause-datagram
@@ -27,7 +29,7 @@ returns-in-None-clause-datagram c =
     let plan : Plan = s.plan.now in
     let packet : List ℕ = take s.len s.buffer.items in
     let long : length packet ≡ s.len = length-take-le s.len s.buffer.items (omega (arith, i.1, i.2)) in
-    let cut : IsCutOf plan.carry (length packet) None = rw (long, ← c.in-None.is) i.6 in
+    let cut : cut_of plan.carry (length packet) ≡ None = rw long (sym i.6 ∙ c.in-None.is) in
     let within : Within c.args.i (record { plan = plan; frame = s.frame }) = subst (Within c.args.i) (sym c.self.view_is) c.requires.within in
     let is : take c.write_whole.result c.write_whole.new.into ≡ packet = c.write_whole.ensures.packet ∙ ap (take s.len) c.deref.ensures.value in
     rw (← c.self.view_is, is) (whole_datagram plan s.frame c.args.i packet i.4 cut within)
@@ -39,10 +41,10 @@ returns-in-Some-clause-datagram c =
     let plan : Plan = s.plan.now in
     let packet : List ℕ = take s.len s.buffer.items in
     let long : length packet ≡ s.len = length-take-le s.len s.buffer.items (omega (arith, i.1, i.2)) in
-    let cut : IsCutOf plan.carry (length packet) (Some c.in-Some.shape) = rw (long, ← c.in-Some.is) i.6 in
+    let cut : cut_of plan.carry (length packet) ≡ Some c.in-Some.shape = rw long (sym i.6 ∙ c.in-Some.is) in
     let within : Within c.args.i (record { plan = plan; frame = s.frame }) = subst (Within c.args.i) (sym c.self.view_is) c.requires.within in
     let w = c.write_cut in
     let packet_is : take s.len c.deref.result.now ≡ packet = ap (take s.len) c.deref.ensures.value in
-    let seq : ℕ = (plan.seq + s.frame) % 2 ^ 16 in
+    let seq : ℕ = sequence_number plan s.frame in
     let fragment : IsFragmentOf c.in-Some.shape seq packet c.args.i (take w.result w.new.into) = rw (← packet_is, ← c.sequence_number-seq.ensures) w.ensures.fragment in
     rw (← c.self.view_is) (cut_datagram plan s.frame c.args.i packet (take w.result w.new.into) c.in-Some.shape i.4 cut within fragment)

@@ -1,0 +1,177 @@
+//! One frame of a schedule, ready to be sent.
+
+ghost use Rattle.std.specs.Prelude.{ℕ, List, ◌≡◌, ◌<◌, ◌≤◌, length, take, true, IfOk};
+ghost use Rattle.dcp_pft.specs.Limits.{most_packet, most_fragments};
+ghost use Rattle.drm_timeline.specs.Numbers as numbers;
+ghost use Rattle.drm_timeline.specs.Numbers.{packet_size};
+ghost use Rattle.drm_server.specs.Frames.{IsPacketAt};
+ghost use Rattle.drm_server.specs.Datagrams.{HasDatagrams, HasDatagram, IsDatagramAt};
+
+use crate::cut::{write_cut, write_parity};
+use crate::packet::write_packet;
+use dcp_pft::{MOST_PARITY, Shape, all_taken, cut_for, datagrams, most_packet};
+use drm_bits::{NoMemory, zeros};
+use drm_schedule::Schedule;
+use drm_timeline::{frame_count, sequence_number};
+use std::alloc::Global;
+use std::marker::Model;
+
+/// A frame of a schedule: its packet, how that is cut, and the parity of its chunks.
+#[derive(Drop)]
+pub struct Loaded<'a> {
+    plan: &'a Schedule,
+    frame: u32,
+    // The packet stands at the front.
+    buffer: Vec<u8>,
+    len: usize,
+    // How it is cut, where it isn't carried whole, and the parity of its chunks, at the front.
+    cut: Option<Shape>,
+    parity: Vec<u8>,
+    // Room for the block of a frame.
+    block: Box<[u8; 1026]>,
+}
+
+impl<'a> Model for Loaded<'a> {
+    ghost use Rattle.std.specs.Prelude.{◌≡◌, ◌<◌, ◌≤◌, length, take, IfSome};
+    ghost use Rattle.dcp_pft.specs.Limits.{most_packet, most_parity};
+    ghost use Rattle.dcp_pft.specs.Cutting.{IsShapeOf};
+    ghost use Rattle.dcp_pft.specs.Carrying.{cut_of};
+    ghost use Rattle.drm_timeline.specs.Numbers.{frame_count, packet_size};
+    ghost use Rattle.drm_server.specs.Frames.{IsPacketAt};
+    ghost use Rattle.drm_server.specs.Serving.{Serving, HoldsParity};
+
+    ghost Value = { Serving };
+
+    ghost view = { λ s. record { plan = s.plan.now; frame = s.frame } };
+
+    ghost invariant = { λ s. (s.frame < frame_count s.plan.now)
+        × (length s.buffer.items ≡ most_packet s.plan.now.carry)
+        × (s.len ≤ most_packet s.plan.now.carry)
+        × (1 ≤ s.len)
+        × IsPacketAt s.plan.now s.frame (take s.len s.buffer.items)
+        × (s.len ≡ packet_size s.plan.now s.frame)
+        × (s.cut ≡ cut_of s.plan.now.carry s.len)
+        × IfSome s.cut (IsShapeOf s.len)
+        × (length s.parity.items ≡ most_parity)
+        × HoldsParity s.cut (take s.len s.buffer.items) s.parity.items };
+}
+
+impl<'a> Loaded<'a> {
+    /// Frame 0 of this schedule.
+    pub fn first(alloc: Global, plan: &'a Schedule) -> Result<Loaded<'a>, NoMemory>
+        ensures { IfOk result (λ loaded. loaded ≡ record { plan = plan.now; frame = 0 }) }
+    {
+        plan.always_valid();
+        let mut buffer = zeros(alloc, most_packet(plan.carry()))?;
+        let mut parity = zeros(alloc, MOST_PARITY)?;
+        let Ok(mut block) = Box::new(alloc, [0; 1026]) else {
+            return Err(NoMemory);
+        };
+        let len = write_packet(plan, 0, &mut buffer, &mut block);
+        let cut = cut_for(plan.carry(), len);
+        write_parity(&buffer[..len], cut, &mut parity);
+        Ok(Loaded {
+            plan,
+            frame: 0,
+            buffer,
+            len,
+            cut,
+            parity,
+            block,
+        })
+    }
+
+    /// How many frames the schedule has.
+    pub fn frames(&self) -> u32
+        ensures frames { result ≡ numbers.frame_count self.now.plan }
+        ensures some { 1 ≤ result }
+        ensures few { result ≤ 3000000 }
+    {
+        frame_count(self.plan)
+    }
+
+    /// The most bytes of a datagram.
+    pub fn most(&self) -> usize
+        ensures { result ≡ most_packet self.now.plan.carry }
+    {
+        most_packet(self.plan.carry())
+    }
+
+    /// The number of the frame.
+    pub fn frame(&self) -> u32
+        ensures { result ≡ self.now.frame }
+    {
+        self.frame
+    }
+
+    /// Loads frame `t` in its place.
+    pub fn load(&mut self, t: u32)
+        requires { t < numbers.frame_count self.old.plan }
+        ensures { self.new ≡ record self.old { frame = t } }
+    {
+        self.plan.always_valid();
+        self.len = write_packet(self.plan, t, &mut self.buffer, &mut self.block);
+        self.cut = cut_for(self.plan.carry(), self.len);
+        write_parity(&self.buffer[..self.len], self.cut, &mut self.parity);
+        self.frame = t;
+    }
+
+    /// The packet of the frame.
+    pub fn packet(&self) -> &[u8]
+        ensures packet { IsPacketAt self.now.plan self.now.frame result.now }
+        ensures len { length result.now ≡ packet_size self.now.plan self.now.frame }
+        ensures small { length result.now ≤ most_packet self.now.plan.carry }
+    {
+        &self.buffer[..self.len]
+    }
+
+    /// How many datagrams carry the packet: one, where it is carried whole, else its fragments.
+    pub fn fragments(&self) -> u32
+        ensures datagrams { HasDatagrams self.now.plan self.now.frame result }
+        ensures some { 1 ≤ result }
+        ensures few { result ≤ most_fragments }
+    {
+        all_taken();
+        datagrams(self.cut)
+    }
+
+    /// Whether the packet is carried whole: then it is its datagram.
+    pub fn is_whole(&self) -> bool
+        ensures { result ≡ true → (packet : List ℕ) (i : ℕ) → IsPacketAt self.now.plan self.now.frame packet
+            → HasDatagram self.now.plan self.now.frame i → IsDatagramAt self.now.plan self.now.frame i packet }
+    {
+        match self.cut {
+            None => true,
+            Some(_) => false,
+        }
+    }
+
+    /// Writes the datagram with this number, from 0, to the front, and gives its length.
+    pub fn write_datagram(&self, i: u32, into: &mut [u8]) -> usize
+        requires within { HasDatagram self.now.plan self.now.frame i }
+        requires room { most_packet self.now.plan.carry ≤ length into.old }
+        ensures datagram { IsDatagramAt self.now.plan self.now.frame i (take result into.new) }
+        ensures small { result ≤ most_packet self.now.plan.carry }
+        ensures long { length into.new ≡ length into.old }
+    {
+        let packet = &self.buffer[..self.len];
+        match self.cut {
+            None => write_whole(packet, into),
+            Some(shape) => {
+                let seq = sequence_number(self.plan, self.frame);
+                write_cut(packet, &shape, &self.parity, seq, i, into)
+            }
+        }
+    }
+}
+
+// Writes a packet to the front, and gives its length.
+fn write_whole(packet: &[u8], into: &mut [u8]) -> usize
+    requires { length packet.now ≤ length into.old }
+    ensures packet { take result into.new ≡ packet.now }
+    ensures len { result ≡ length packet.now }
+    ensures long { length into.new ≡ length into.old }
+{
+    into[..packet.len()].copy_from_slice(packet);
+    packet.len()
+}
