@@ -1,7 +1,7 @@
 //! The files of the system as a shelf. It tells no contents.
 
 ghost use Rattle.std.specs.Prelude.{◌≡◌, None, IfOk, IfSome, take};
-ghost use Rattle.drm_links.specs.Told.{HasCause};
+ghost use Rattle.drm_links.specs.Told.{Counts};
 ghost use Rattle.drm_links.specs.Shelf.{IsWithin};
 ghost use Rattle.drm_adapt.specs.Files.{Holds, IsCopy};
 
@@ -28,13 +28,11 @@ impl<'a, R: Files> FileShelf<'a, R> {
 }
 
 impl<'a, R: Files> Shelf for FileShelf<'a, R> {
-    ghost faults = { λ shelf. shelf.faults };
-
-    ghost tells = { λ _. None };
+    ghost known = { λ shelf. record { faults = shelf.faults; told = None } };
 
     fn load(&mut self, alloc: Global, name: &str, limit: usize) -> Loaded
         ensures within { IsWithin result limit }
-        ensures cause { HasCause self.old.faults self.new.faults (result ≡ Loaded.Failed) }
+        ensures cause { Counts self.old.faults self.new.faults (result ≡ Loaded.Failed) }
     {
         let loaded = match File::open(self.system, name) {
             Ok(file) => read_within(alloc, file, limit),

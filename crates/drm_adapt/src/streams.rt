@@ -1,7 +1,7 @@
 //! Sources and sinks over std's streams. They tell no contents.
 
 ghost use Rattle.std.specs.Prelude.{◌≡◌, ◌<◌, None, length};
-ghost use Rattle.drm_links.specs.Told.{HasCause};
+ghost use Rattle.drm_links.specs.Told.{Counts};
 ghost use Rattle.drm_links.specs.Source.{ReadsSome};
 ghost use Rattle.drm_links.specs.Sink.{WritesSome};
 ghost use Rattle.drm_adapt.specs.Streams.{StreamReads, StreamWrites};
@@ -25,9 +25,7 @@ impl<R: Read> StreamSource<R> {
 }
 
 impl<R: Read> Source for StreamSource<R> {
-    ghost faults = { λ source. source.faults };
-
-    ghost tells = { λ _. None };
+    ghost known = { λ source. record { faults = source.faults; told = None } };
 
     // Where the stream's bytes are known, the answer is about them.
     fn read(&mut self, buf: &mut [u8]) -> ReadOut
@@ -35,7 +33,7 @@ impl<R: Read> Source for StreamSource<R> {
         ensures some { ReadsSome result buf.old }
         ensures stream { StreamReads result buf.new
             (R.remaining self.old.stream) (R.remaining self.new.stream) }
-        ensures cause { HasCause self.old.faults self.new.faults (result ≡ ReadOut.Failed) }
+        ensures cause { Counts self.old.faults self.new.faults (result ≡ ReadOut.Failed) }
     {
         for _ in 0..u64::MAX {
             match self.stream.read(buf) {
@@ -67,9 +65,7 @@ impl<W: Write> StreamSink<W> {
 }
 
 impl<W: Write> Sink for StreamSink<W> {
-    ghost faults = { λ sink. sink.faults };
-
-    ghost tells = { λ _. None };
+    ghost known = { λ sink. record { faults = sink.faults; told = None } };
 
     // Where the stream's bytes are known, the answer is about them.
     fn write(&mut self, bytes: &[u8]) -> WriteOut
@@ -77,7 +73,7 @@ impl<W: Write> Sink for StreamSink<W> {
         ensures some { WritesSome result bytes.now }
         ensures stream { StreamWrites result bytes.now
             (W.contents self.old.stream) (W.contents self.new.stream) }
-        ensures cause { HasCause self.old.faults self.new.faults (result ≡ WriteOut.Failed) }
+        ensures cause { Counts self.old.faults self.new.faults (result ≡ WriteOut.Failed) }
     {
         for _ in 0..u64::MAX {
             match self.stream.write(bytes) {

@@ -1,7 +1,7 @@
 //! The network of the system as a dock. It tells nothing.
 
 ghost use Rattle.std.specs.Prelude.{◌≡◌, None, IfOk};
-ghost use Rattle.drm_links.specs.Told.{HasCause};
+ghost use Rattle.drm_links.specs.Told.{Counts};
 ghost use Rattle.drm_links.specs.Dock.{IsFresh, IsFailed};
 
 use crate::UdpLink;
@@ -31,8 +31,8 @@ impl<'a, R: Net + Clock> UdpDock<'a, R> {
     }
 
     fn open(&mut self, at: Address, dest: Option<Address>) -> Opened<UdpLink<'a, R>>
-        ensures fresh { IsFresh ⟦<UdpLink<'a, R> as Link>⟧.faults ⟦<UdpLink<'a, R> as Link>⟧.idles result }
-        ensures cause { HasCause self.old.faults self.new.faults (IsFailed result) }
+        ensures fresh { IsFresh ⟦<UdpLink<'a, R> as Link>⟧.known ⟦<UdpLink<'a, R> as Link>⟧.idles result }
+        ensures cause { Counts self.old.faults self.new.faults (IsFailed result) }
     {
         match open_link(self.system, at, dest) {
             Ok(link) => Opened::Link(link),
@@ -47,9 +47,7 @@ impl<'a, R: Net + Clock> UdpDock<'a, R> {
 impl<'a, R: Net + Clock> Dock for UdpDock<'a, R> {
     type L = UdpLink<'a, R>;
 
-    ghost faults = { λ dock. dock.faults };
-
-    ghost tells = { λ _. None };
+    ghost known = { λ dock. record { faults = dock.faults; told = None } };
 
     fn bind(&mut self, at: Address) -> Opened<UdpLink<'a, R>> {
         self.open(at, None)

@@ -63,11 +63,9 @@ impl<'a, R: Clock> UdpLink<'a, R> {
 }
 
 impl<'a, R: Clock> Link for UdpLink<'a, R> {
-    ghost faults = { λ link. link.faults };
+    ghost known = { λ link. record { faults = link.faults; told = None } };
 
     ghost idles = { λ link. link.idles };
-
-    ghost tells = { λ _. None };
 
     fn recv(&mut self, buf: &mut [u8]) -> Came {
         match recv_from(&self.socket, buf) {

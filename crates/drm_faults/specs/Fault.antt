@@ -1,6 +1,6 @@
 -- How a run ends: as it should, or with a fault, which has a status and a line.
-use Rattle.std.specs.Prelude.{ℕ, ◌≡◌, Bool, true, false, List, Option, Result, Ok, Err}
-use Rattle.drm_links.specs.Told.{Rose}
+use Rattle.std.specs.Prelude.{ℕ, ◌≡◌, Bool, true, false, List, Result, Ok, Err}
+use Rattle.drm_links.specs.Told.{Known, HasFailed}
 use Rattle.drm_links.specs.Sink.{Output, Outputs, IsFront}
 use Rattle.drm_faults.specs.Lines.{fault_line}
 use Rattle.drm_faults.specs.declared.fault.Fault.{Fault}
@@ -36,11 +36,11 @@ report_status (Ok clean) = clean_status clean
 report_status (Err fault) = fault_status fault
 
 -- The line is written, or where the count of faults rose a front of it.
-pub record WritesLine {E : Type 0} (line : List ℕ) (faults : E → ℕ) (tells : E → Option Output) (old new : E) : Type 0 where
-  pub front : Outputs (tells old) (tells new) (IsFront line)
-  pub whole : (Rose (faults old) (faults new) → ⊥) → Outputs (tells old) (tells new) (λ text. text ≡ line)
+pub record WritesLine {E : Type 0} (line : List ℕ) (known : E → Known Output) (old new : E) : Type 0 where
+  pub front : Outputs (known old) (known new) (IsFront line)
+  pub whole : (HasFailed (known old) (known new) → ⊥) → Outputs (known old) (known new) (λ text. text ≡ line)
 
 -- What a run writes to err: the line of its fault, and else nothing.
-abbrev pub Reports : {E : Type 0} → Result (Unit {0}) Fault → (E → ℕ) → (E → Option Output) → E → E → Type 0
-Reports (Ok done) faults tells old new = new ≡ old
-Reports (Err fault) faults tells old new = WritesLine (fault_line fault) faults tells old new
+abbrev pub Reports : {E : Type 0} → Result (Unit {0}) Fault → (E → Known Output) → E → E → Type 0
+Reports (Ok done) known old new = new ≡ old
+Reports (Err fault) known old new = WritesLine (fault_line fault) known old new

@@ -1,8 +1,7 @@
 //! Why a run stops early.
 
-ghost use Rattle.std.specs.Prelude.{◌≡◌, OnOk, OnErr, IsErr};
-ghost use Rattle.drm_links.specs.Told.{HasCause};
-ghost use Rattle.drm_links.specs.Sink.{Outputs, IsFront};
+ghost use Rattle.std.specs.Prelude.{◌≡◌};
+ghost use Rattle.drm_links.specs.Sink.{Writes};
 ghost use Rattle.text_pieces.specs.Text.{text_of};
 ghost use Rattle.drm_faults.specs.CrcLine.{crc_line};
 
@@ -80,7 +79,7 @@ impl Fault {
     /// Writes the line of the fault, and answers its status. A failure of `err` changes nothing.
     pub fn report<E: Sink>(self, err: &mut E) -> Status
         ensures status { result.code ≡ fault_status self }
-        ensures line { WritesLine (fault_line self) E.faults E.tells err.old err.new }
+        ensures line { WritesLine (fault_line self) E.known err.old err.new }
     {
         let _ = self.write(err);
         self.status()
@@ -102,11 +101,7 @@ impl Fault {
     }
 
     fn write<E: Sink>(self, err: &mut E) -> Result<(), WriteFault>
-        ensures whole { OnOk result (Outputs (E.tells err.old) (E.tells err.new)
-            (λ text. text ≡ fault_line self)) }
-        ensures front { OnErr result (Outputs (E.tells err.old) (E.tells err.new)
-            (IsFront (fault_line self))) }
-        ensures cause { HasCause (E.faults err.old) (E.faults err.new) (IsErr result) }
+        ensures { Writes result (E.known err.old) (E.known err.new) (fault_line self) }
     {
         match self {
             Fault::NoMemory => write_words(err, "drmcast: no memory\n"),
@@ -134,10 +129,7 @@ impl Fault {
 }
 
 fn write_words<E: Sink>(err: &mut E, line: &str) -> Result<(), WriteFault>
-    ensures whole { OnOk result (Outputs (E.tells err.old) (E.tells err.new)
-        (λ text. text ≡ line.now)) }
-    ensures front { OnErr result (Outputs (E.tells err.old) (E.tells err.new) (IsFront line.now)) }
-    ensures cause { HasCause (E.faults err.old) (E.faults err.new) (IsErr result) }
+    ensures { Writes result (E.known err.old) (E.known err.new) line.now }
 {
     write_all(err, line.as_bytes())
 }

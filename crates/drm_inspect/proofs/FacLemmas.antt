@@ -6,7 +6,7 @@ use Rattle.drm_fac.specs.declared.fac.Fac.{Fac}
 use Rattle.drm_fac.specs.declared.fac.FacFault.TheVariants.{Crc}
 use Rattle.drm_fac.specs.Fac.{IsFac}
 use Rattle.drm_fac.proofs.FacLemmas.{one_fac, fac_or_fault, same_fault}
-use Rattle.drm_links.specs.Told.{Rose}
+use Rattle.drm_links.specs.Told.{HasFailed, Known, Rose}
 use Rattle.drm_links.specs.Source.{Input, Inputs}
 use Rattle.drm_links.specs.Sink.{Output, Outputs, IsFront}
 use Rattle.drm_links.proofs.ToldLemmas.{Inputs-weaker}
@@ -15,7 +15,7 @@ use Rattle.drm_faults.specs.declared.fault.Fault.TheVariants.{NoMemory, Words, F
 use Rattle.drm_inspect.specs.Input.{ReadsHead, FailsWithin}
 use Rattle.drm_show.specs.FacLine.{fac_line}
 use Rattle.drm_faults.specs.Fault.{status_of}
-use Rattle.drm_inspect.specs.Fac.{ComesTo, Reads, Writes, FacRun}
+use Rattle.drm_inspect.specs.Fac.{ComesTo, Reads, WritesCame, FacRun}
 
 -- bytes come to one FAC or one fault
 pub comes_once : (bytes : List ℕ) (v w : Result Fac Fault) → ComesTo bytes v → ComesTo bytes w → v ≡ w
@@ -114,13 +114,13 @@ comes_whole left (Err (Schedule l r)) is = is
 comes_whole left (Err (Script l r)) is = is
 
 -- a head that was read, and what it comes to
-judged : (came : Result Fac Fault) (a b : Option Input) (head : List ℕ) → ReadsHead head a b → ComesTo head came → Inputs a b (λ left rest. ComesTo left came)
+judged : (came : Result Fac Fault) (a b : Known Input) (head : List ℕ) → ReadsHead head a b → ComesTo head came → Inputs a b (λ left rest. ComesTo left came)
 judged came a b head reads is =
     Inputs-weaker (λ left rest. (head ≡ take 10 left) × (rest ≡ drop 10 left)) (λ left rest. ComesTo left came) a b reads.bytes
     (λ left rest p. comes_whole left came (along came head (take 10 left) p.0 is))
 
 -- the input comes to what was read
-pub comes : (came : Result Fac Fault) (a b : Option Input) → (came ≡ Err Read → ⊥) → Reads came a b → Inputs a b (λ left rest. ComesTo left came)
+pub comes : (came : Result Fac Fault) (a b : Known Input) → (came ≡ Err Read → ⊥) → Reads came a b → Inputs a b (λ left rest. ComesTo left came)
 comes (Err Read) a b no_fault reads = absurd (no_fault refl)
 comes (Ok f) a b no_fault (head, reads, is) = judged (Ok f) a b head reads is
 comes (Err NoMemory) a b no_fault (head, reads, is) = judged (Err NoMemory) a b head reads is
@@ -146,11 +146,11 @@ is_read (Err Write) = inr (λ e. cc)
 is_read (Err (Schedule l r)) = inr (λ e. cc)
 is_read (Err (Script l r)) = inr (λ e. cc)
 
-failed_within : (came : Result Fac Fault) (a b : Option Input) → came ≡ Err Read → Reads came a b → (taken : ℕ) × FailsWithin taken a b
+failed_within : (came : Result Fac Fault) (a b : Known Input) → came ≡ Err Read → Reads came a b → (taken : ℕ) × FailsWithin taken a b
 failed_within came a b is reads = let P : Result Fac Fault → Type 0 = λ v. Reads v a b in subst P is reads
 
 -- the input comes to nothing but what was read
-pub comes_only : (came : Result Fac Fault) (a b : Option Input) → Reads came a b → Inputs a b (λ left rest. (other : Result Fac Fault) → ComesTo left other → (came ≡ other) ⊎ (came ≡ Err Read))
+pub comes_only : (came : Result Fac Fault) (a b : Known Input) → Reads came a b → Inputs a b (λ left rest. (other : Result Fac Fault) → ComesTo left other → (came ≡ other) ⊎ (came ≡ Err Read))
 comes_only came a b reads =
     let Only : List ℕ → List ℕ → Type 0 = λ left rest. (other : Result Fac Fault) → ComesTo left other → (came ≡ other) ⊎ (came ≡ Err Read) in
     elim (is_read came) [
@@ -161,153 +161,153 @@ comes_only came a b reads =
 -- ---- runs
 
 -- no reading ends with the fault of a write
-no_write : (a b : Option Input) → Reads (Err Write) a b → ⊥
+no_write : (a b : Known Input) → Reads (Err Write) a b → ⊥
 no_write a b (head, reads, is) = is
 
 -- nothing is written where nothing was read
-pub run_stopped : {I O : Type 0} (fault : Fault) (ending : Result (Unit {0}) Fault) (input_faults : I → ℕ) (input_tells : I → Option Input) (input input' : I) (out_faults : O → ℕ) (out_tells : O → Option Output) (out : O)
-    → ending ≡ Err fault → Reads (Err fault) (input_tells input) (input_tells input')
-    → (input_faults input ≤ input_faults input') × (fault ≡ Read → Rose (input_faults input) (input_faults input'))
-    → FacRun ending input_faults input_tells input input' out_faults out_tells out out
-run_stopped fault ending input_faults input_tells input input' out_faults out_tells out is reads cause = record {
+pub run_stopped : {I O : Type 0} (fault : Fault) (ending : Result (Unit {0}) Fault) (input_known : I → Known Input) (input input' : I) (out_known : O → Known Output) (out : O)
+    → ending ≡ Err fault → Reads (Err fault) (input_known input) (input_known input')
+    → ((input_known input).faults ≤ (input_known input').faults) × (fault ≡ Read → HasFailed (input_known input) (input_known input'))
+    → FacRun ending input_known input input' out_known out out
+run_stopped fault ending input_known input input' out_known out is reads cause = record {
   came = Err fault;
   reads = reads;
   writes = (is, refl);
-  only = comes_only (Err fault) (input_tells input) (input_tells input') reads;
+  only = comes_only (Err fault) (input_known input) (input_known input') reads;
   read_cause = record { later = cause.0; rose = λ e. let same : fault ≡ Read = cc in cause.1 same };
   write_cause = record {
     later = omega arith;
     rose = λ e.
         let same : fault ≡ Write = cc in
-        let P : Fault → Type 0 = λ f. Reads (Err f) (input_tells input) (input_tells input') in
-        absurd (no_write (input_tells input) (input_tells input') (subst P same reads));
+        let P : Fault → Type 0 = λ f. Reads (Err f) (input_known input) (input_known input') in
+        absurd (no_write (input_known input) (input_known input') (subst P same reads));
   };
 }
 
 -- a write failed
-pub run_cut : {I O : Type 0} (fac : Fac) (ending : Result (Unit {0}) Fault) (input_faults : I → ℕ) (input_tells : I → Option Input) (input input' : I) (out_faults : O → ℕ) (out_tells : O → Option Output) (out out' : O)
-    → ending ≡ Err Write → Reads (Ok fac) (input_tells input) (input_tells input') → input_faults input ≤ input_faults input'
-    → Outputs (out_tells out) (out_tells out') (IsFront (fac_line fac)) → (out_faults out ≤ out_faults out') × Rose (out_faults out) (out_faults out')
-    → FacRun ending input_faults input_tells input input' out_faults out_tells out out'
-run_cut fac ending input_faults input_tells input input' out_faults out_tells out out' is reads later front cause =
-    let P : Result (Unit {0}) Fault → Type 0 = λ e. Writes (Ok fac) e out_tells out out' in
+pub run_cut : {I O : Type 0} (fac : Fac) (ending : Result (Unit {0}) Fault) (input_known : I → Known Input) (input input' : I) (out_known : O → Known Output) (out out' : O)
+    → ending ≡ Err Write → Reads (Ok fac) (input_known input) (input_known input') → (input_known input).faults ≤ (input_known input').faults
+    → Outputs (out_known out) (out_known out') (IsFront (fac_line fac)) → ((out_known out).faults ≤ (out_known out').faults) × HasFailed (out_known out) (out_known out')
+    → FacRun ending input_known input input' out_known out out'
+run_cut fac ending input_known input input' out_known out out' is reads later front cause =
+    let P : Result (Unit {0}) Fault → Type 0 = λ e. WritesCame (Ok fac) e out_known out out' in
     record {
       came = Ok fac;
       reads = reads;
       writes = subst P (sym is) front;
-      only = comes_only (Ok fac) (input_tells input) (input_tells input') reads;
+      only = comes_only (Ok fac) (input_known input) (input_known input') reads;
       read_cause = record { later = later; rose = λ e. cc };
       write_cause = record { later = cause.0; rose = λ e. cause.1 };
     }
 
 -- the line was written
-pub run_done : {I O : Type 0} (fac : Fac) (input_faults : I → ℕ) (input_tells : I → Option Input) (input input' : I) (out_faults : O → ℕ) (out_tells : O → Option Output) (out out' : O)
-    → Reads (Ok fac) (input_tells input) (input_tells input') → input_faults input ≤ input_faults input'
-    → Outputs (out_tells out) (out_tells out') (λ text. text ≡ fac_line fac) → out_faults out ≤ out_faults out'
-    → FacRun (Ok tt) input_faults input_tells input input' out_faults out_tells out out'
-run_done fac input_faults input_tells input input' out_faults out_tells out out' reads later whole later' = record {
+pub run_done : {I O : Type 0} (fac : Fac) (input_known : I → Known Input) (input input' : I) (out_known : O → Known Output) (out out' : O)
+    → Reads (Ok fac) (input_known input) (input_known input') → (input_known input).faults ≤ (input_known input').faults
+    → Outputs (out_known out) (out_known out') (λ text. text ≡ fac_line fac) → (out_known out).faults ≤ (out_known out').faults
+    → FacRun (Ok tt) input_known input input' out_known out out'
+run_done fac input_known input input' out_known out out' reads later whole later' = record {
   came = Ok fac;
   reads = reads;
   writes = whole;
-  only = comes_only (Ok fac) (input_tells input) (input_tells input') reads;
+  only = comes_only (Ok fac) (input_known input) (input_known input') reads;
   read_cause = record { later = later; rose = λ e. cc };
   write_cause = record { later = later'; rose = λ e. cc };
 }
 
 -- a run of the command ends with none of the faults that come before it
-pub run_ends : {I O : Type 0} (ending : Result (Unit {0}) Fault) (input_faults : I → ℕ) (input_tells : I → Option Input) (input input' : I) (out_faults : O → ℕ) (out_tells : O → Option Output) (out out' : O)
-    → FacRun ending input_faults input_tells input input' out_faults out_tells out out' → (ending ≡ Err Words → ⊥) × (ending ≡ Err NoMemory → ⊥) × (ending ≡ Err Link → ⊥)
-run_ends ending input_faults input_tells input input' out_faults out_tells out out' run = (
-  λ is. ended run.came Words out_tells out out' (along_ending Words is) run.reads (λ e. cc) (λ r. r.2),
-  λ is. ended run.came NoMemory out_tells out out' (along_ending NoMemory is) run.reads (λ e. cc) (λ r. r.2),
-  λ is. ended run.came Link out_tells out out' (along_ending Link is) run.reads (λ e. cc) (λ r. r.2),
+pub run_ends : {I O : Type 0} (ending : Result (Unit {0}) Fault) (input_known : I → Known Input) (input input' : I) (out_known : O → Known Output) (out out' : O)
+    → FacRun ending input_known input input' out_known out out' → (ending ≡ Err Words → ⊥) × (ending ≡ Err NoMemory → ⊥) × (ending ≡ Err Link → ⊥)
+run_ends ending input_known input input' out_known out out' run = (
+  λ is. ended run.came Words out_known out out' (along_ending Words is) run.reads (λ e. cc) (λ r. r.2),
+  λ is. ended run.came NoMemory out_known out out' (along_ending NoMemory is) run.reads (λ e. cc) (λ r. r.2),
+  λ is. ended run.came Link out_known out out' (along_ending Link is) run.reads (λ e. cc) (λ r. r.2),
 )
   where
-    along_ending : (fault : Fault) → ending ≡ Err fault → Writes run.came (Err fault) out_tells out out'
-    along_ending fault is = let P : Result (Unit {0}) Fault → Type 0 = λ e. Writes run.came e out_tells out out' in subst P is run.writes
+    along_ending : (fault : Fault) → ending ≡ Err fault → WritesCame run.came (Err fault) out_known out out'
+    along_ending fault is = let P : Result (Unit {0}) Fault → Type 0 = λ e. WritesCame run.came e out_known out out' in subst P is run.writes
 
-    ended : {O : Type 0} (came : Result Fac Fault) (fault : Fault) (tells : O → Option Output) (out out' : O) → Writes came (Err fault) tells out out' → Reads came (input_tells input) (input_tells input') → (fault ≡ Write → ⊥) → (Reads (Err fault) (input_tells input) (input_tells input') → ⊥) → ⊥
-    ended (Ok fac) Words tells out out' writes reads no_write none = writes
-    ended (Ok fac) NoMemory tells out out' writes reads no_write none = writes
-    ended (Ok fac) Link tells out out' writes reads no_write none = writes
-    ended (Ok fac) (FacLength n) tells out out' writes reads no_write none = writes
-    ended (Ok fac) FacOver tells out out' writes reads no_write none = writes
-    ended (Ok fac) (FacCrc s c) tells out out' writes reads no_write none = writes
-    ended (Ok fac) (Schedule l r) tells out out' writes reads no_write none = writes
-    ended (Ok fac) (Script l r) tells out out' writes reads no_write none = writes
-    ended (Ok fac) Read tells out out' writes reads no_write none = writes
-    ended (Ok fac) Write tells out out' writes reads no_write none = no_write refl
-    ended (Err other) fault tells out out' writes reads no_write none =
+    ended : {O : Type 0} (came : Result Fac Fault) (fault : Fault) (known : O → Known Output) (out out' : O) → WritesCame came (Err fault) known out out' → Reads came (input_known input) (input_known input') → (fault ≡ Write → ⊥) → (Reads (Err fault) (input_known input) (input_known input') → ⊥) → ⊥
+    ended (Ok fac) Words known out out' writes reads no_write none = writes
+    ended (Ok fac) NoMemory known out out' writes reads no_write none = writes
+    ended (Ok fac) Link known out out' writes reads no_write none = writes
+    ended (Ok fac) (FacLength n) known out out' writes reads no_write none = writes
+    ended (Ok fac) FacOver known out out' writes reads no_write none = writes
+    ended (Ok fac) (FacCrc s c) known out out' writes reads no_write none = writes
+    ended (Ok fac) (Schedule l r) known out out' writes reads no_write none = writes
+    ended (Ok fac) (Script l r) known out out' writes reads no_write none = writes
+    ended (Ok fac) Read known out out' writes reads no_write none = writes
+    ended (Ok fac) Write known out out' writes reads no_write none = no_write refl
+    ended (Err other) fault known out out' writes reads no_write none =
         let same : other ≡ fault = cc in
-        let P : Fault → Type 0 = λ f. Reads (Err f) (input_tells input) (input_tells input') in
+        let P : Fault → Type 0 = λ f. Reads (Err f) (input_known input) (input_known input') in
         none (subst P same reads)
 
 -- ---- what a run says of its status
 
 -- with status 0 or 5 a FAC was read, with status 3 none
-status_of_came : {O : Type 0} (came : Result Fac Fault) (ending : Result (Unit {0}) Fault) (tells : O → Option Output) (out out' : O) → Writes came ending tells out out' → (status_of ending ≡ 4 → ⊥) → (came ≡ Err Read → ⊥)
-status_of_came (Ok fac) ending tells out out' writes none is = cc
-status_of_came (Err fault) ending tells out out' writes none is = let same : fault ≡ Read = cc in none (ap status_of (writes.0 ∙ ap Err same))
+status_of_came : {O : Type 0} (came : Result Fac Fault) (ending : Result (Unit {0}) Fault) (known : O → Known Output) (out out' : O) → WritesCame came ending known out out' → (status_of ending ≡ 4 → ⊥) → (came ≡ Err Read → ⊥)
+status_of_came (Ok fac) ending known out out' writes none is = cc
+status_of_came (Err fault) ending known out out' writes none is = let same : fault ≡ Read = cc in none (ap status_of (writes.0 ∙ ap Err same))
 
-three_exactly : {O : Type 0} (came : Result Fac Fault) (ending : Result (Unit {0}) Fault) (tells : O → Option Output) (out out' : O) (left : List ℕ) → Writes came ending tells out out' → ComesTo left came → (status_of ending ≡ 3) ↔ ((fac : Fac) → IsFac fac left → ⊥)
-three_exactly (Ok fac) (Ok done) tells out out' left writes comes = (λ e. absurd (omega (arith, e)), λ none. absurd (none fac comes))
-three_exactly (Ok fac) (Err Write) tells out out' left writes comes = (λ e. absurd (omega (arith, e)), λ none. absurd (none fac comes))
-three_exactly (Ok fac) (Err NoMemory) tells out out' left writes comes = absurd writes
-three_exactly (Ok fac) (Err Link) tells out out' left writes comes = absurd writes
-three_exactly (Ok fac) (Err Words) tells out out' left writes comes = absurd writes
-three_exactly (Ok fac) (Err (FacLength n)) tells out out' left writes comes = absurd writes
-three_exactly (Ok fac) (Err FacOver) tells out out' left writes comes = absurd writes
-three_exactly (Ok fac) (Err (FacCrc s c)) tells out out' left writes comes = absurd writes
-three_exactly (Ok fac) (Err (Schedule l r)) tells out out' left writes comes = absurd writes
-three_exactly (Ok fac) (Err (Script l r)) tells out out' left writes comes = absurd writes
-three_exactly (Ok fac) (Err Read) tells out out' left writes comes = absurd writes
-three_exactly (Err (FacLength n)) ending tells out out' left writes comes = (λ e fac is. let wrong : Err (FacLength n) ≡ Ok fac = comes_once left (Err (FacLength n)) (Ok fac) comes is in cc, λ none. ap status_of writes.0)
-three_exactly (Err FacOver) ending tells out out' left writes comes = (λ e fac is. let wrong : Err FacOver ≡ Ok fac = comes_once left (Err FacOver) (Ok fac) comes is in cc, λ none. ap status_of writes.0)
-three_exactly (Err (FacCrc s c)) ending tells out out' left writes comes = (λ e fac is. let wrong : Err (FacCrc s c) ≡ Ok fac = comes_once left (Err (FacCrc s c)) (Ok fac) comes is in cc, λ none. ap status_of writes.0)
-three_exactly (Err NoMemory) ending tells out out' left writes comes = absurd comes
-three_exactly (Err Link) ending tells out out' left writes comes = absurd comes
-three_exactly (Err Words) ending tells out out' left writes comes = absurd comes
-three_exactly (Err Read) ending tells out out' left writes comes = absurd comes
-three_exactly (Err Write) ending tells out out' left writes comes = absurd comes
-three_exactly (Err (Schedule l r)) ending tells out out' left writes comes = absurd comes
-three_exactly (Err (Script l r)) ending tells out out' left writes comes = absurd comes
+three_exactly : {O : Type 0} (came : Result Fac Fault) (ending : Result (Unit {0}) Fault) (known : O → Known Output) (out out' : O) (left : List ℕ) → WritesCame came ending known out out' → ComesTo left came → (status_of ending ≡ 3) ↔ ((fac : Fac) → IsFac fac left → ⊥)
+three_exactly (Ok fac) (Ok done) known out out' left writes comes = (λ e. absurd (omega (arith, e)), λ none. absurd (none fac comes))
+three_exactly (Ok fac) (Err Write) known out out' left writes comes = (λ e. absurd (omega (arith, e)), λ none. absurd (none fac comes))
+three_exactly (Ok fac) (Err NoMemory) known out out' left writes comes = absurd writes
+three_exactly (Ok fac) (Err Link) known out out' left writes comes = absurd writes
+three_exactly (Ok fac) (Err Words) known out out' left writes comes = absurd writes
+three_exactly (Ok fac) (Err (FacLength n)) known out out' left writes comes = absurd writes
+three_exactly (Ok fac) (Err FacOver) known out out' left writes comes = absurd writes
+three_exactly (Ok fac) (Err (FacCrc s c)) known out out' left writes comes = absurd writes
+three_exactly (Ok fac) (Err (Schedule l r)) known out out' left writes comes = absurd writes
+three_exactly (Ok fac) (Err (Script l r)) known out out' left writes comes = absurd writes
+three_exactly (Ok fac) (Err Read) known out out' left writes comes = absurd writes
+three_exactly (Err (FacLength n)) ending known out out' left writes comes = (λ e fac is. let wrong : Err (FacLength n) ≡ Ok fac = comes_once left (Err (FacLength n)) (Ok fac) comes is in cc, λ none. ap status_of writes.0)
+three_exactly (Err FacOver) ending known out out' left writes comes = (λ e fac is. let wrong : Err FacOver ≡ Ok fac = comes_once left (Err FacOver) (Ok fac) comes is in cc, λ none. ap status_of writes.0)
+three_exactly (Err (FacCrc s c)) ending known out out' left writes comes = (λ e fac is. let wrong : Err (FacCrc s c) ≡ Ok fac = comes_once left (Err (FacCrc s c)) (Ok fac) comes is in cc, λ none. ap status_of writes.0)
+three_exactly (Err NoMemory) ending known out out' left writes comes = absurd comes
+three_exactly (Err Link) ending known out out' left writes comes = absurd comes
+three_exactly (Err Words) ending known out out' left writes comes = absurd comes
+three_exactly (Err Read) ending known out out' left writes comes = absurd comes
+three_exactly (Err Write) ending known out out' left writes comes = absurd comes
+three_exactly (Err (Schedule l r)) ending known out out' left writes comes = absurd comes
+three_exactly (Err (Script l r)) ending known out out' left writes comes = absurd comes
 
 -- status 3 comes exactly where the input is no FAC
-pub run_refused : {I O : Type 0} (ending : Result (Unit {0}) Fault) (input_faults : I → ℕ) (input_tells : I → Option Input) (input input' : I) (out_faults : O → ℕ) (out_tells : O → Option Output) (out out' : O)
-    → FacRun ending input_faults input_tells input input' out_faults out_tells out out' → (status_of ending ≡ 4 → ⊥)
-    → Inputs (input_tells input) (input_tells input') (λ left rest. (status_of ending ≡ 3) ↔ ((fac : Fac) → IsFac fac left → ⊥))
-run_refused ending input_faults input_tells input input' out_faults out_tells out out' run none =
-    Inputs-weaker (λ left rest. ComesTo left run.came) (λ left rest. (status_of ending ≡ 3) ↔ ((fac : Fac) → IsFac fac left → ⊥)) (input_tells input) (input_tells input')
-    (comes run.came (input_tells input) (input_tells input') (status_of_came run.came ending out_tells out out' run.writes none) run.reads)
-    (λ left rest is. three_exactly run.came ending out_tells out out' left run.writes is)
+pub run_refused : {I O : Type 0} (ending : Result (Unit {0}) Fault) (input_known : I → Known Input) (input input' : I) (out_known : O → Known Output) (out out' : O)
+    → FacRun ending input_known input input' out_known out out' → (status_of ending ≡ 4 → ⊥)
+    → Inputs (input_known input) (input_known input') (λ left rest. (status_of ending ≡ 3) ↔ ((fac : Fac) → IsFac fac left → ⊥))
+run_refused ending input_known input input' out_known out out' run none =
+    Inputs-weaker (λ left rest. ComesTo left run.came) (λ left rest. (status_of ending ≡ 3) ↔ ((fac : Fac) → IsFac fac left → ⊥)) (input_known input) (input_known input')
+    (comes run.came (input_known input) (input_known input') (status_of_came run.came ending out_known out out' run.writes none) run.reads)
+    (λ left rest is. three_exactly run.came ending out_known out out' left run.writes is)
 
-printed : {O : Type 0} (fac : Fac) (ending : Result (Unit {0}) Fault) (tells : O → Option Output) (out out' : O) → Writes (Ok fac) ending tells out out' → (ending ≡ Err Write → ⊥) → (status_of ending ≡ 0) × Outputs (tells out) (tells out') (λ text. text ≡ fac_line fac)
-printed fac (Ok done) tells out out' writes none = (refl, writes)
-printed fac (Err Write) tells out out' writes none = absurd (none refl)
-printed fac (Err NoMemory) tells out out' writes none = absurd writes
-printed fac (Err Link) tells out out' writes none = absurd writes
-printed fac (Err Words) tells out out' writes none = absurd writes
-printed fac (Err (FacLength n)) tells out out' writes none = absurd writes
-printed fac (Err FacOver) tells out out' writes none = absurd writes
-printed fac (Err (FacCrc s c)) tells out out' writes none = absurd writes
-printed fac (Err (Schedule l r)) tells out out' writes none = absurd writes
-printed fac (Err (Script l r)) tells out out' writes none = absurd writes
-printed fac (Err Read) tells out out' writes none = absurd writes
+printed : {O : Type 0} (fac : Fac) (ending : Result (Unit {0}) Fault) (known : O → Known Output) (out out' : O) → WritesCame (Ok fac) ending known out out' → (ending ≡ Err Write → ⊥) → (status_of ending ≡ 0) × Outputs (known out) (known out') (λ text. text ≡ fac_line fac)
+printed fac (Ok done) known out out' writes none = (refl, writes)
+printed fac (Err Write) known out out' writes none = absurd (none refl)
+printed fac (Err NoMemory) known out out' writes none = absurd writes
+printed fac (Err Link) known out out' writes none = absurd writes
+printed fac (Err Words) known out out' writes none = absurd writes
+printed fac (Err (FacLength n)) known out out' writes none = absurd writes
+printed fac (Err FacOver) known out out' writes none = absurd writes
+printed fac (Err (FacCrc s c)) known out out' writes none = absurd writes
+printed fac (Err (Schedule l r)) known out out' writes none = absurd writes
+printed fac (Err (Script l r)) known out out' writes none = absurd writes
+printed fac (Err Read) known out out' writes none = absurd writes
 
 -- where neither side failed a FAC is printed
-pub run_complete : {I O : Type 0} (ending : Result (Unit {0}) Fault) (input_faults : I → ℕ) (input_tells : I → Option Input) (input input' : I) (out_faults : O → ℕ) (out_tells : O → Option Output) (out out' : O)
-    → FacRun ending input_faults input_tells input input' out_faults out_tells out out'
-    → (Rose (input_faults input) (input_faults input') → ⊥) → (Rose (out_faults out) (out_faults out') → ⊥)
-    → Inputs (input_tells input) (input_tells input') (λ left rest. (fac : Fac) → IsFac fac left → (status_of ending ≡ 0) × Outputs (out_tells out) (out_tells out') (λ text. text ≡ fac_line fac))
-run_complete ending input_faults input_tells input input' out_faults out_tells out out' run no_read no_write =
-    let reading : run.came ≡ Err Read → ⊥ = λ e. no_read (run.read_cause.rose (read_ending run.came ending out_tells out out' run.writes e)) in
+pub run_complete : {I O : Type 0} (ending : Result (Unit {0}) Fault) (input_known : I → Known Input) (input input' : I) (out_known : O → Known Output) (out out' : O)
+    → FacRun ending input_known input input' out_known out out'
+    → (HasFailed (input_known input) (input_known input') → ⊥) → (HasFailed (out_known out) (out_known out') → ⊥)
+    → Inputs (input_known input) (input_known input') (λ left rest. (fac : Fac) → IsFac fac left → (status_of ending ≡ 0) × Outputs (out_known out) (out_known out') (λ text. text ≡ fac_line fac))
+run_complete ending input_known input input' out_known out out' run no_read no_write =
+    let reading : run.came ≡ Err Read → ⊥ = λ e. no_read (run.read_cause.rose (read_ending run.came ending out_known out out' run.writes e)) in
     Inputs-weaker (λ left rest. ComesTo left run.came)
-    (λ left rest. (fac : Fac) → IsFac fac left → (status_of ending ≡ 0) × Outputs (out_tells out) (out_tells out') (λ text. text ≡ fac_line fac))
-    (input_tells input) (input_tells input') (comes run.came (input_tells input) (input_tells input') reading run.reads)
+    (λ left rest. (fac : Fac) → IsFac fac left → (status_of ending ≡ 0) × Outputs (out_known out) (out_known out') (λ text. text ≡ fac_line fac))
+    (input_known input) (input_known input') (comes run.came (input_known input) (input_known input') reading run.reads)
     (λ left rest is fac is_fac.
-    let P : Result Fac Fault → Type 0 = λ v. Writes v ending out_tells out out' in
-    printed fac ending out_tells out out' (subst P (comes_once left run.came (Ok fac) is is_fac) run.writes) (λ e. no_write (run.write_cause.rose e)))
+    let P : Result Fac Fault → Type 0 = λ v. WritesCame v ending out_known out out' in
+    printed fac ending out_known out out' (subst P (comes_once left run.came (Ok fac) is is_fac) run.writes) (λ e. no_write (run.write_cause.rose e)))
   where
-    read_ending : {O : Type 0} (came : Result Fac Fault) (ending : Result (Unit {0}) Fault) (tells : O → Option Output) (out out' : O) → Writes came ending tells out out' → came ≡ Err Read → ending ≡ Err Read
-    read_ending (Ok fac) ending tells out out' writes is = cc
-    read_ending (Err fault) ending tells out out' writes is = let same : fault ≡ Read = cc in writes.0 ∙ ap Err same
+    read_ending : {O : Type 0} (came : Result Fac Fault) (ending : Result (Unit {0}) Fault) (known : O → Known Output) (out out' : O) → WritesCame came ending known out out' → came ≡ Err Read → ending ≡ Err Read
+    read_ending (Ok fac) ending known out out' writes is = cc
+    read_ending (Err fault) ending known out out' writes is = let same : fault ≡ Read = cc in writes.0 ∙ ap Err same

@@ -5,10 +5,10 @@ use Rattle.std.proofs.lemmas.List.{append-nil, take-append-le, length-take-le, t
 use Rattle.std.proofs.Math.Seq.{take-append-add}
 use borrow.Rule.Slice.PartMut.{put_mid, post_of}
 use Rattle.drm_links.specs.declared.source.ReadOut.TheVariants.{Got, End, Failed}
-use Rattle.drm_links.specs.Told.{WhileTold, CountsCall}
-use Rattle.drm_links.specs.Source.{Input, Inputs, Takes}
-use Rattle.drm_links.proofs.ToldLemmas.{Inputs-then, Inputs-got, Inputs-end, Inputs-weaker}
-use Rattle.drm_inspect.specs.Input.{ReadsHead, FailsWithin, AsksAtMost}
+use Rattle.drm_links.specs.Told.{Known, WhileTold, CountsCall, CountsTold, ToldThrough}
+use Rattle.drm_links.specs.Source.{Input, Inputs, Takes, LeftBy}
+use Rattle.drm_links.proofs.ToldLemmas.{Inputs-then, Inputs-got, Inputs-end, Inputs-weaker, Tells-weaker, Tells-one}
+use Rattle.drm_inspect.specs.Input.{ReadsHead, FailsWithin, AsksAtMost, AskedAtMost}
 
 -- the front of a buffer after one more read
 front_more : (len n room : ℕ) (bytes buf : List ℕ) → length bytes ≡ len + room → n ≤ length buf → take (len + n) (put_mid len room bytes buf) ≡ take len bytes ++ take n buf
@@ -17,29 +17,30 @@ front_more len n room bytes buf size within =
     ap (λ k. take (k + n) (put_mid len room bytes buf)) (sym front)
     ∙ (take-append-add (take len bytes) (buf ++ post_of len room bytes) n ∙ ap (λ l. take len bytes ++ l) (take-append-le n buf (post_of len room bytes) within))
 
-pub got_more : (a b c : Option Input) (len n room : ℕ) (bytes buf : List ℕ) → length bytes ≡ len + room → n ≤ length buf → Inputs a b (λ left rest. left ≡ take len bytes ++ rest) → WhileTold b c (Takes (Got n) buf) → CountsCall (λ (i : Input). i.calls) b c → Inputs a c (λ left rest. left ≡ take (len + n) (put_mid len room bytes buf) ++ rest)
+pub got_more : (a b c : Known Input) (len n room : ℕ) (bytes buf : List ℕ) → length bytes ≡ len + room → n ≤ length buf → Inputs a b (λ left rest. left ≡ take len bytes ++ rest) → WhileTold b c (Takes (Got n) buf) → CountsCall (λ (i : Input). i.calls) b c → Inputs a c (λ left rest. left ≡ take (len + n) (put_mid len room bytes buf) ++ rest)
 got_more a b c len n room bytes buf size within before told counts =
     Inputs-then (λ left rest. left ≡ take len bytes ++ rest) (λ left rest. left ≡ take n buf ++ rest) (λ left rest. left ≡ take (len + n) (put_mid len room bytes buf) ++ rest) a b c before (Inputs-got n buf b c told counts)
     (λ x y z p q. p ∙ (ap (λ l. take len bytes ++ l) q ∙ (sym (append_assoc (take len bytes) (take n buf) z) ∙ ap (λ l. l ++ z) (sym (front_more len n room bytes buf size within)))))
 
 -- one more call
-pub asks_more : (m n : ℕ) (a b c : Option Input) → m < n → AsksAtMost m a b → CountsCall (λ (i : Input). i.calls) b c → AsksAtMost n a c
-asks_more m n a b None more asks counts = tt
-asks_more m n a None (Some z) more asks counts = cc
-asks_more m n None (Some y) (Some z) more asks counts = absurd asks
-asks_more m n (Some x) (Some y) (Some z) more asks counts = omega (arith, counts.0, asks, more)
+pub asks_more : (m n : ℕ) (a b c : Known Input) → m < n → AsksAtMost m a b → CountsCall (λ (i : Input). i.calls) b c → AsksAtMost n a c
+asks_more m n a b c more = asked a.told b.told c.told
+  where
+    asked : (a b c : Option Input) → ToldThrough a b (AskedAtMost m) → CountsTold (λ (i : Input). i.calls) b c → ToldThrough a c (AskedAtMost n)
+    asked a b None asks counts = tt
+    asked a None (Some z) asks counts = cc
+    asked None (Some y) (Some z) asks counts = absurd asks
+    asked (Some x) (Some y) (Some z) asks counts = omega (arith, counts.0, asks, more)
 
-asks_fewer : (m n : ℕ) (a b : Option Input) → m ≤ n → AsksAtMost m a b → AsksAtMost n a b
-asks_fewer m n a None fewer asks = tt
-asks_fewer m n None (Some y) fewer asks = absurd asks
-asks_fewer m n (Some x) (Some y) fewer asks = omega (arith, asks, fewer)
+asks_fewer : (m n : ℕ) (a b : Known Input) → m ≤ n → AsksAtMost m a b → AsksAtMost n a b
+asks_fewer m n a b fewer asks = Tells-weaker (AskedAtMost m) (AskedAtMost n) a b asks (λ x y asked. omega (arith, asked, fewer))
 
 -- the bytes in front of the rest are the first ten, where they are ten
 first_ten : (head left rest : List ℕ) → length head ≡ 10 → left ≡ head ++ rest → (head ≡ take 10 left) × (rest ≡ drop 10 left)
 first_ten head left rest ten is = (sym (ap (λ l. take 10 l) is ∙ take_at head rest 10 ten), sym (ap (λ l. drop 10 l) is ∙ drop_at head rest 10 ten))
 
 -- the buffer is full
-pub head_full : (a b : Option Input) (len : ℕ) (bytes : List ℕ) → length bytes ≡ 10 → len ≤ 10 → 10 ≤ len → Inputs a b (λ left rest. left ≡ take len bytes ++ rest) → AsksAtMost len a b → ReadsHead (take len bytes) a b
+pub head_full : (a b : Known Input) (len : ℕ) (bytes : List ℕ) → length bytes ≡ 10 → len ≤ 10 → 10 ≤ len → Inputs a b (λ left rest. left ≡ take len bytes ++ rest) → AsksAtMost len a b → ReadsHead (take len bytes) a b
 head_full a b len bytes size within full read asks =
     let ten : length (take len bytes) ≡ 10 = length-take-le len bytes (omega (arith, size, within)) ∙ omega (arith, within, full) in
     record {
@@ -52,7 +53,7 @@ whole_left : (head left : List ℕ) → length head ≤ 10 → left ≡ head →
 whole_left head left within is = (sym (take_all 10 left (omega (arith, ap length is, within)) ∙ is), grind (arith, common_steps, ap length is, within))
 
 -- the input has ended
-pub head_end : (a b c : Option Input) (len : ℕ) (bytes buf : List ℕ) → length bytes ≡ 10 → len < 10 → Inputs a b (λ left rest. left ≡ take len bytes ++ rest) → AsksAtMost len a b → WhileTold b c (Takes End buf) → CountsCall (λ (i : Input). i.calls) b c → ReadsHead (take len bytes) a c
+pub head_end : (a b c : Known Input) (len : ℕ) (bytes buf : List ℕ) → length bytes ≡ 10 → len < 10 → Inputs a b (λ left rest. left ≡ take len bytes ++ rest) → AsksAtMost len a b → WhileTold b c (Takes End buf) → CountsCall (λ (i : Input). i.calls) b c → ReadsHead (take len bytes) a c
 head_end a b c len bytes buf size within before asks told counts =
     let some : length (take len bytes) ≡ len = length-take-le len bytes (omega (arith, size, within)) in
     let P : List ℕ → List ℕ → Type 0 = λ left rest. (take len bytes ≡ take 10 left) × (rest ≡ drop 10 left) in
@@ -64,7 +65,7 @@ head_end a b c len bytes buf size within before asks told counts =
     }
 
 -- a read failed
-pub head_failed : (a b c : Option Input) (len : ℕ) (bytes buf : List ℕ) → length bytes ≡ 10 → len < 10 → Inputs a b (λ left rest. left ≡ take len bytes ++ rest) → AsksAtMost len a b → WhileTold b c (Takes Failed buf) → CountsCall (λ (i : Input). i.calls) b c → FailsWithin len a c
+pub head_failed : (a b c : Known Input) (len : ℕ) (bytes buf : List ℕ) → length bytes ≡ 10 → len < 10 → Inputs a b (λ left rest. left ≡ take len bytes ++ rest) → AsksAtMost len a b → WhileTold b c (Takes Failed buf) → CountsCall (λ (i : Input). i.calls) b c → FailsWithin len a c
 head_failed a b c len bytes buf size within before asks told counts =
     let some : length (take len bytes) ≡ len = length-take-le len bytes (omega (arith, size, within)) in
     record {
@@ -74,7 +75,5 @@ head_failed a b c len bytes buf size within before asks told counts =
       asks = asks_more len (len + 1) a b c (omega arith) asks counts;
     }
   where
-    failed_kept : (buf : List ℕ) (b c : Option Input) → WhileTold b c (Takes Failed buf) → CountsCall (λ (i : Input). i.calls) b c → Inputs b c (λ x y. y ≡ x)
-    failed_kept buf b None told counts = tt
-    failed_kept buf None (Some z) told counts = cc
-    failed_kept buf (Some y) (Some z) told counts = told
+    failed_kept : (buf : List ℕ) (b c : Known Input) → WhileTold b c (Takes Failed buf) → CountsCall (λ (i : Input). i.calls) b c → Inputs b c (λ x y. y ≡ x)
+    failed_kept buf b c told counts = Tells-one (λ (i : Input). i.calls) (LeftBy (λ x y. y ≡ x)) b c counts told

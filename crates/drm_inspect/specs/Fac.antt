@@ -3,7 +3,7 @@ use Rattle.std.specs.Prelude.{ℕ, ◌≡◌, ◌<◌, ◌⊎◌, List, length, 
 use Rattle.drm_fac.specs.declared.fac.Fac.{Fac}
 use Rattle.drm_fac.specs.Fac.{IsFac}
 use Rattle.drm_fac.specs.Fault.{IsCrcFault}
-use Rattle.drm_links.specs.Told.{HasCause}
+use Rattle.drm_links.specs.Told.{Known, HasCause}
 use Rattle.drm_links.specs.Source.{Input, Inputs}
 use Rattle.drm_links.specs.Sink.{Output, Outputs, IsFront}
 use Rattle.drm_inspect.specs.Input.{ReadsHead, FailsWithin}
@@ -20,26 +20,26 @@ ComesTo bytes (Err (FacCrc stands computed)) = IsCrcFault bytes stands computed
 ComesTo bytes (Err fault) = ⊥
 
 -- What is read: unless a read fails, a head of the input, and what it comes to.
-abbrev pub Reads : Result Fac Fault → Option Input → Option Input → Type 0
+abbrev pub Reads : Result Fac Fault → Known Input → Known Input → Type 0
 Reads (Err Read) before after = (taken : ℕ) × FailsWithin taken before after
 Reads came before after = (head : List ℕ) × ReadsHead head before after × ComesTo head came
 
 -- What out gets: the line of the FAC that was read, or after a failed write a front of it; after another fault nothing.
-abbrev pub Writes : {O : Type 0} → Result Fac Fault → Result (Unit {0}) Fault → (O → Option Output) → O → O → Type 0
-Writes (Ok fac) (Ok done) tells old new = Outputs (tells old) (tells new) (λ text. text ≡ fac_line fac)
-Writes (Ok fac) (Err Write) tells old new = Outputs (tells old) (tells new) (IsFront (fac_line fac))
-Writes (Ok fac) (Err fault) tells old new = ⊥
-Writes (Err fault) ending tells old new = (ending ≡ Err fault) × (new ≡ old)
+abbrev pub WritesCame : {O : Type 0} → Result Fac Fault → Result (Unit {0}) Fault → (O → Known Output) → O → O → Type 0
+WritesCame (Ok fac) (Ok done) known old new = Outputs (known old) (known new) (λ text. text ≡ fac_line fac)
+WritesCame (Ok fac) (Err Write) known old new = Outputs (known old) (known new) (IsFront (fac_line fac))
+WritesCame (Ok fac) (Err fault) known old new = ⊥
+WritesCame (Err fault) ending known old new = (ending ≡ Err fault) × (new ≡ old)
 
 -- A run of `fac` with this ending.
 pub record FacRun {I O : Type 0} (ending : Result (Unit {0}) Fault)
-    (input_faults : I → ℕ) (input_tells : I → Option Input) (input input' : I)
-    (out_faults : O → ℕ) (out_tells : O → Option Output) (out out' : O) : Type 0 where
+    (input_known : I → Known Input) (input input' : I)
+    (out_known : O → Known Output) (out out' : O) : Type 0 where
   pub came : Result Fac Fault
-  pub reads : Reads came (input_tells input) (input_tells input')
-  pub writes : Writes came ending out_tells out out'
+  pub reads : Reads came (input_known input) (input_known input')
+  pub writes : WritesCame came ending out_known out out'
   -- What the input comes to is what was read, unless a read failed.
-  pub only : Inputs (input_tells input) (input_tells input') (λ left rest. (other : Result Fac Fault) → ComesTo left other → (came ≡ other) ⊎ (came ≡ Err Read))
+  pub only : Inputs (input_known input) (input_known input') (λ left rest. (other : Result Fac Fault) → ComesTo left other → (came ≡ other) ⊎ (came ≡ Err Read))
   -- The faults of the outside come only where its count of faults rose.
-  pub read_cause : HasCause (input_faults input) (input_faults input') (ending ≡ Err Read)
-  pub write_cause : HasCause (out_faults out) (out_faults out') (ending ≡ Err Write)
+  pub read_cause : HasCause (input_known input) (input_known input') (ending ≡ Err Read)
+  pub write_cause : HasCause (out_known out) (out_known out') (ending ≡ Err Write)

@@ -13,7 +13,7 @@ use drm_show::write_fac;
 
 /// Reads a FAC and writes its line.
 pub fn fac<I: Source, O: Sink>(input: &mut I, out: &mut O) -> Result<(), Fault>
-    ensures run { FacRun result I.faults I.tells input.old input.new O.faults O.tells out.old out.new }
+    ensures run { FacRun result I.known input.old input.new O.known out.old out.new }
     // The words were judged before, and nothing here takes memory or opens a link.
     ensures link { IsErrOf result Fault.Link → ⊥ }
     ensures words { IsErrOf result Fault.Words → ⊥ }
@@ -26,9 +26,9 @@ pub fn fac<I: Source, O: Sink>(input: &mut I, out: &mut O) -> Result<(), Fault>
 
 /// Reads a FAC, all the bytes of the input.
 fn read_fac<I: Source>(input: &mut I) -> Result<Fac, Fault>
-    ensures reads { Reads result (I.tells input.old) (I.tells input.new) }
+    ensures reads { Reads result (I.known input.old) (I.known input.new) }
     ensures fits { IfOk result FacFits }
-    ensures cause { HasCause (I.faults input.old) (I.faults input.new) (result ≡ Err Fault.Read) }
+    ensures cause { HasCause (I.known input.old) (I.known input.new) (result ≡ Err Fault.Read) }
 {
     let head = read_head(input)?;
     match head.nine() {

@@ -66,10 +66,10 @@ impl Head {
 
 /// Reads until the input ends or a tenth byte came.
 pub fn read_head<I: Source>(input: &mut I) -> Result<Head, ReadFault>
-    ensures read { IfOk result (λ head. ReadsHead head (I.tells input.old) (I.tells input.new)) }
+    ensures read { IfOk result (λ head. ReadsHead head (I.known input.old) (I.known input.new)) }
     ensures failed { OnErr result
-        ((taken : ℕ) × FailsWithin taken (I.tells input.old) (I.tells input.new)) }
-    ensures cause { HasCause (I.faults input.old) (I.faults input.new) (IsErr result) }
+        ((taken : ℕ) × FailsWithin taken (I.known input.old) (I.known input.new)) }
+    ensures cause { HasCause (I.known input.old) (I.known input.new) (IsErr result) }
 {
     let mut bytes = [0u8; HEAD_SIZE];
     let mut len = 0;

@@ -14,8 +14,8 @@ use Rattle.std.specs.FinMap as map
 use Rattle.drm_links.specs.Told.{WhileTold, one_more}
 use Rattle.drm_links.specs.Link.{Traffic}
 use Rattle.drm_links.specs.Dock.{DockContents, LinkStart, Opens, Closes, address_key, start_at, first_traffic}
-use Rattle.drm_links.specs.MemoryLink.{LinkState, IsUntouched, link_tells}
-use Rattle.drm_links.specs.MemoryDock.{DockState, Leaves, after_close, link_at, start_of, starts_of, with_gone, contents_of, dock_tells, with_start}
+use Rattle.drm_links.specs.MemoryLink.{LinkState, IsUntouched, link_known}
+use Rattle.drm_links.specs.MemoryDock.{DockState, Leaves, after_close, link_at, start_of, starts_of, with_gone, contents_of, dock_known, with_start}
 use Rattle.drm_links.specs.ClosedLinks.{entries_of}
 use Rattle.drm_links.specs.declared.dock.Address.{Address}
 use Rattle.drm_links.specs.declared.docked_link.Closed.{Closed}
@@ -108,7 +108,7 @@ told_changed : {T : Type 0} (told : Bool) (change : T → T) (contents : T) → 
 told_changed true change contents = refl
 told_changed false change contents = refl
 
-pub put_told : (dock after : DockState) (at : Address) (link : LinkState) → after ≡ record dock { links = map.insert dock.links (address_key at) link } → dock_tells after ≡ option_map (with_start at (start_of link)) (dock_tells dock)
+pub put_told : (dock after : DockState) (at : Address) (link : LinkState) → after ≡ record dock { links = map.insert dock.links (address_key at) link } → (dock_known after).told ≡ option_map (with_start at (start_of link)) (dock_known dock).told
 put_told dock after at link is_after =
     rw (is_after, starts_of-insert)
     (told_changed (nat_le dock.calls (2 ^ 62)) (with_start at (start_of link)) (contents_of dock))
@@ -116,7 +116,7 @@ put_told dock after at link is_after =
 -- ---- a link that leaves
 
 -- a link on which no call was made tells how it starts
-untouched_tells : (link : LinkState) → IsUntouched link → link_tells link ≡ Some (first_traffic (start_of link))
+untouched_tells : (link : LinkState) → IsUntouched link → (link_known link).told ≡ Some (first_traffic (start_of link))
 untouched_tells link untouched = rw (untouched.recvs, untouched.calls, untouched.gone) refl
 
 no_start : (link : Option LinkState) → IsNone link → IsNone (option_map start_of link)
@@ -127,7 +127,7 @@ fails_so : (dock : DockState) (at : Address) → Contains dock.failing dock.open
 fails_so dock at (inl listed) = inl listed
 fails_so dock at (inr none) = inr (rw get-starts_of (no_start (link_at dock at) none))
 
-pub Leaves-opens : (result : Opened LinkState) (at : Address) (before after : DockState) → before.openings ≤ before.calls → Leaves result at before after → before.calls ≤ 2 ^ 62 → Opens link_tells at result (contents_of before) (contents_of after)
+pub Leaves-opens : (result : Opened LinkState) (at : Address) (before after : DockState) → before.openings ≤ before.calls → Leaves result at before after → before.calls ≤ 2 ^ 62 → Opens link_known at result (contents_of before) (contents_of after)
 Leaves-opens (opened.Link link) at before after counts (unlisted, stands, untouched, is_after) told =
     let start : map.get (starts_of before.links) (address_key at) ≡ Some (start_of link) =
     get-starts_of before.links (address_key at) ∙ ap (option_map start_of) stands in
@@ -143,9 +143,9 @@ Leaves-opens opened.Failed at before after counts (reason, is_after) told =
     let openings : one_more before.openings ≡ before.openings + 1 = omega arith in
     rw is_after (fails_so before at reason, rw (calls, openings) refl)
 
-pub leaves_told : (result : Opened LinkState) (at : Address) (before after : DockState) → before.openings ≤ before.calls → Leaves result at before after → WhileTold (dock_tells before) (dock_tells after) (Opens link_tells at result)
+pub leaves_told : (result : Opened LinkState) (at : Address) (before after : DockState) → before.openings ≤ before.calls → Leaves result at before after → WhileTold (dock_known before) (dock_known after) (Opens link_known at result)
 leaves_told result at before after counts leaves =
-    while_told_for before.calls after.calls (contents_of before) (contents_of after) (Opens link_tells at result)
+    while_told_for before.calls after.calls (contents_of before) (contents_of after) (Opens link_known at result)
     (Leaves-opens result at before after counts leaves)
 
 -- ---- a link that is closed
@@ -154,12 +154,12 @@ closes_by : (traffic : Option Traffic) (at : Address) (before after : DockConten
 closes_by None at before after is = is
 closes_by (Some traffic) at before after is = is
 
-pub close_told : (dock after : DockState) (at : Address) (link : LinkState) → after ≡ after_close at link dock → WhileTold (dock_tells dock) (dock_tells after) (Closes (link_tells link) at)
+pub close_told : (dock after : DockState) (at : Address) (link : LinkState) → after ≡ after_close at link dock → WhileTold (dock_known dock) (dock_known after) (Closes (link_known link).told at)
 close_told dock after at link is_after =
     rw is_after
-    (while_told_for dock.calls (one_more dock.calls) _ _ (Closes (link_tells link) at)
+    (while_told_for dock.calls (one_more dock.calls) _ _ (Closes (link_known link).told at)
     (λ told. let calls : one_more dock.calls ≡ dock.calls + 1 = omega arith in
-    closes_by (link_tells link) at _ _ (rw calls refl)))
+    closes_by (link_known link).told at _ _ (rw calls refl)))
 
 -- ---- the links that are kept
 

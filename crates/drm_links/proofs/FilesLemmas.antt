@@ -16,7 +16,7 @@ use Rattle.std.proofs.lemmas.Map.Text.{text_cmp, btree_map_updates_text, is_eq-s
 use Rattle.drm_links.specs.Shelf.{Files, Gives, Loads, file_at}
 use Rattle.drm_links.specs.declared.shelf.Loaded.{Loaded}
 use Rattle.drm_links.specs.declared.shelf.Loaded.TheVariants.{Bytes, TooLong, Failed, NoMemory}
-use Rattle.drm_links.specs.MemoryShelf.{ShelfState, by_name, files_of, with_file}
+use Rattle.drm_links.specs.MemoryShelf.{ShelfState, by_name, shelf_known, with_file}
 
 find-by_name : {A : Type 0} (name : List ℕ) (es : List (String A × List ℕ)) → map.find (slice_cmp nat_cmp) name (list.map (λ e. (string_bytes e.0, e.1)) es) ≡ lookup (is_at (text_cmp name)) es
 find-by_name name [] = refl
@@ -51,5 +51,5 @@ told_changed true change contents = refl
 told_changed false change contents = refl
 
 -- what is told of the shelf, with one file more
-pub files_of-with_file : (shelf : ShelfState) (name bytes : List ℕ) → files_of (record shelf { files = map.insert shelf.files name bytes }) ≡ option_map (with_file name bytes) (files_of shelf)
-files_of-with_file shelf name bytes = told_changed (nat_le shelf.loads (2 ^ 62)) (with_file name bytes) _
+pub told-with_file : (shelf : ShelfState) (name bytes : List ℕ) → (shelf_known (record shelf { files = map.insert shelf.files name bytes })).told ≡ option_map (with_file name bytes) (shelf_known shelf).told
+told-with_file shelf name bytes = told_changed (nat_le shelf.loads (2 ^ 62)) (with_file name bytes) _

@@ -6,3 +6,4 @@ pub mod DockLemmas
 pub mod FilesLemmas
 pub mod LoadLemmas
 pub mod ManyCallsLemmas
+pub mod WritingLemmas

@@ -9,7 +9,7 @@ use Rattle.std.specs.Map.{lookup}
 use Rattle.std.proofs.lemmas.Map.Views.{list_any-from_Contains, Contains-from_any}
 use Rattle.drm_links.specs.Told.{WhileTold, one_more}
 use Rattle.drm_links.specs.Link.{Answer, Datagram, Idle, Failed, Receives, Sends, next_answer, datagram_of, longest_told}
-use Rattle.drm_links.specs.MemoryLink.{LinkState, CameBefore, is_among, first_of, answer_at, left_at, answers_from, after_last, listed_from, answers_ahead, answered_at, answered, taken_from, traffic_of, link_tells, Hears, Carries, IsCounted, Brings}
+use Rattle.drm_links.specs.MemoryLink.{LinkState, CameBefore, is_among, first_of, answer_at, left_at, answers_from, after_last, listed_from, answers_ahead, answered_at, answered, taken_from, traffic_of, link_known, Hears, Carries, IsCounted, Brings}
 use Rattle.drm_links.specs.declared.link.Came.{Came}
 use Rattle.drm_links.specs.declared.link.Came.TheVariants as recv
 use Rattle.drm_links.specs.declared.link.Sent.{Sent}
@@ -102,7 +102,7 @@ datagrams_from failing idling (suc more) number coming =
     (datagrams_from failing idling more (number + 1) (left_at failing idling number coming))
 
 -- a datagram that is brought stands behind the others
-pub bring_told : (link after : LinkState) (bytes : List ℕ) → after ≡ record link { coming = link.coming ++ bytes ∷ [] } → WhileTold (link_tells link) (link_tells after) (Brings bytes)
+pub bring_told : (link after : LinkState) (bytes : List ℕ) → after ≡ record link { coming = link.coming ++ bytes ∷ [] } → WhileTold (link_known link) (link_known after) (Brings bytes)
 bring_told link after bytes is_after =
     rw is_after
     (while_told_for link.calls link.calls _ _ (Brings bytes)
@@ -246,7 +246,7 @@ Hears-receives recv.Failed old new before after counted (listed, same, is_after)
       sends = refl;
     })
 
-pub hears_told : (result : Came) (old new : List ℕ) (before after : LinkState) → IsCounted before → Hears result old new before after → WhileTold (link_tells before) (link_tells after) (Receives result new)
+pub hears_told : (result : Came) (old new : List ℕ) (before after : LinkState) → IsCounted before → Hears result old new before after → WhileTold (link_known before) (link_known after) (Receives result new)
 hears_told result old new before after counted hears =
     while_told_for before.calls after.calls (traffic_of before) (traffic_of after) (Receives result new)
     (Hears-receives result old new before after counted hears)
@@ -317,7 +317,7 @@ Carries-sends send.Sent bytes before after counted (unlisted, room, short, is_af
 Carries-sends send.Failed bytes before after counted (reason, is_after) told =
     rw is_after ((λ short. ap Some (none_taken before bytes reason short)), refl)
 
-pub carries_told : (result : Sent) (bytes : List ℕ) (before after : LinkState) → IsCounted before → Carries result bytes before after → WhileTold (link_tells before) (link_tells after) (Sends result bytes)
+pub carries_told : (result : Sent) (bytes : List ℕ) (before after : LinkState) → IsCounted before → Carries result bytes before after → WhileTold (link_known before) (link_known after) (Sends result bytes)
 carries_told result bytes before after counted carries =
     while_told_for before.calls after.calls (traffic_of before) (traffic_of after) (Sends result bytes)
     (Carries-sends result bytes before after counted carries)

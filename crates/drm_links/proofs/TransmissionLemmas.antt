@@ -1,23 +1,19 @@
 -- What was sent over a link, in one call and in several.
 use Rattle.std.proofs.Common.{◌≡◌, ℕ, ◌+◌, ◌-◌, ◌≤◌, List, [], ◌∷◌, ◌++◌, length, Option, None, Some, refl, sym, ◌∙◌, ap, arith, append_assoc, length-append}
 use Rattle.std.proofs.lemmas.List.{append-nil}
-use Rattle.drm_links.specs.Told.{WhileTold, CountsCall}
+use Rattle.drm_links.specs.Told.{Known, WhileTold, CountsCall, BothTold, CountsTold, ToldThrough}
 use Rattle.drm_links.specs.Link.{Traffic, Sends, KeepsAnswers, KeepsTraffic, one_less, longest_told}
 use Rattle.drm_links.specs.Transmission.{Transmits, SendsAll, SendsNoMore, TakesSends, fewer}
 use Rattle.drm_links.specs.declared.link.Sent.TheVariants as send
+use Rattle.drm_links.proofs.ToldLemmas.{WhileTold-weaker, Tells-nothing, Tells-then, Tells-weaker, Tells-one}
 
 -- ---- over many calls
 
-pub Transmits-then : (P Q R : Traffic → Traffic → Type 0) (a b c : Option Traffic) → Transmits a b P → Transmits b c Q → ((x y z : Traffic) → P x y → Q y z → R x z) → Transmits a c R
-Transmits-then P Q R a b None first second both = tt
-Transmits-then P Q R a None (Some z) first second both = absurd second
-Transmits-then P Q R None (Some y) (Some z) first second both = absurd first
-Transmits-then P Q R (Some x) (Some y) (Some z) first second both = both x y z first second
+pub Transmits-then : (P Q R : Traffic → Traffic → Type 0) (a b c : Known Traffic) → Transmits a b P → Transmits b c Q → ((x y z : Traffic) → P x y → Q y z → R x z) → Transmits a c R
+Transmits-then P Q R a b c = Tells-then P Q R a b c
 
-pub Transmits-weaker : (P Q : Traffic → Traffic → Type 0) (a b : Option Traffic) → Transmits a b P → ((x y : Traffic) → P x y → Q x y) → Transmits a b Q
-Transmits-weaker P Q a None first weaker = tt
-Transmits-weaker P Q None (Some y) first weaker = first
-Transmits-weaker P Q (Some x) (Some y) first weaker = weaker x y first
+pub Transmits-weaker : (P Q : Traffic → Traffic → Type 0) (a b : Known Traffic) → Transmits a b P → ((x y : Traffic) → P x y → Q x y) → Transmits a b Q
+Transmits-weaker P Q a b = Tells-weaker P Q a b
 
 -- ---- how many sends are left
 
@@ -94,22 +90,20 @@ sends_nothing x y kept =
       kept = record { answers = kept.answers; ahead = kept.ahead };
     }
 
-pub Transmits-nothing : (a : Option Traffic) → Transmits a a (SendsAll [])
-Transmits-nothing None = tt
-Transmits-nothing (Some x) =
-    sends_nothing x x (record { answers = refl; ahead = refl; gone = refl; sends = refl })
+pub Transmits-nothing : (a : Known Traffic) → Transmits a a (SendsAll [])
+Transmits-nothing a =
+    Tells-nothing (SendsAll []) a (λ x. sends_nothing x x (record { answers = refl; ahead = refl; gone = refl; sends = refl }))
 
 -- ---- one call
 
-pub Transmits-rest : (a b : Option Traffic) → WhileTold a b KeepsTraffic → CountsCall (λ (t : Traffic). t.calls) a b → Transmits a b (SendsAll [])
-Transmits-rest a None kept counts = tt
-Transmits-rest None (Some y) kept counts = cc
-Transmits-rest (Some x) (Some y) kept counts = sends_nothing x y kept
+pub Transmits-rest : (a b : Known Traffic) → WhileTold a b KeepsTraffic → CountsCall (λ (t : Traffic). t.calls) a b → Transmits a b (SendsAll [])
+Transmits-rest a b kept counts =
+    Tells-one (λ (t : Traffic). t.calls) (SendsAll []) a b counts (WhileTold-weaker KeepsTraffic (SendsAll []) a b kept sends_nothing)
 
-pub Transmits-sent : (bytes : List ℕ) (a b : Option Traffic) → WhileTold a b (Sends send.Sent bytes) → WhileTold a b KeepsAnswers → CountsCall (λ (t : Traffic). t.calls) a b → Transmits a b (SendsAll (bytes ∷ []))
-Transmits-sent bytes a None sent kept counts = tt
-Transmits-sent bytes None (Some y) sent kept counts = cc
-Transmits-sent bytes (Some x) (Some y) sent kept counts =
+sent_one : (bytes : List ℕ) (a b : Option Traffic) → BothTold a b (Sends send.Sent bytes) → BothTold a b KeepsAnswers → CountsTold (λ (t : Traffic). t.calls) a b → ToldThrough a b (SendsAll (bytes ∷ []))
+sent_one bytes a None sent kept counts = tt
+sent_one bytes None (Some y) sent kept counts = cc
+sent_one bytes (Some x) (Some y) sent kept counts =
     record {
       taken = takes_one x.sends sent.0;
       gone = sent.1;
@@ -117,8 +111,14 @@ Transmits-sent bytes (Some x) (Some y) sent kept counts =
       kept = kept;
     }
 
-pub Transmits-failed : (bytes : List ℕ) (a b : Option Traffic) → length bytes ≤ longest_told → WhileTold a b (Sends send.Failed bytes) → WhileTold a b KeepsAnswers → CountsCall (λ (t : Traffic). t.calls) a b → Transmits a b (SendsNoMore [])
-Transmits-failed bytes a None short failed kept counts = tt
-Transmits-failed bytes None (Some y) short failed kept counts = cc
-Transmits-failed bytes (Some x) (Some y) short failed kept counts =
+pub Transmits-sent : (bytes : List ℕ) (a b : Known Traffic) → WhileTold a b (Sends send.Sent bytes) → WhileTold a b KeepsAnswers → CountsCall (λ (t : Traffic). t.calls) a b → Transmits a b (SendsAll (bytes ∷ []))
+Transmits-sent bytes a b = sent_one bytes a.told b.told
+
+failed_one : (bytes : List ℕ) (a b : Option Traffic) → length bytes ≤ longest_told → BothTold a b (Sends send.Failed bytes) → BothTold a b KeepsAnswers → CountsTold (λ (t : Traffic). t.calls) a b → ToldThrough a b (SendsNoMore [])
+failed_one bytes a None short failed kept counts = tt
+failed_one bytes None (Some y) short failed kept counts = cc
+failed_one bytes (Some x) (Some y) short failed kept counts =
     record { no_more = failed.0 short; gone = failed.1 ∙ sym (append-nil x.gone); kept = kept }
+
+pub Transmits-failed : (bytes : List ℕ) (a b : Known Traffic) → length bytes ≤ longest_told → WhileTold a b (Sends send.Failed bytes) → WhileTold a b KeepsAnswers → CountsCall (λ (t : Traffic). t.calls) a b → Transmits a b (SendsNoMore [])
+Transmits-failed bytes a b = failed_one bytes a.told b.told

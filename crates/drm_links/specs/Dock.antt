@@ -3,6 +3,7 @@ use Rattle.std.specs.Prelude.{ℕ, ◌≡◌, ◌+◌, ◌⊎◌, List, [], ◌�
 use Rattle.std.specs.Ordering.{nat_cmp}
 use Rattle.std.specs.Cmp.Lexicographic.{slice_cmp}
 use Rattle.std.specs.FinMap as map
+use Rattle.drm_links.specs.Told.{Known}
 use Rattle.drm_links.specs.Link.{Answer, Traffic}
 use Rattle.drm_links.specs.declared.dock.Address.{Address}
 use Rattle.drm_links.specs.declared.dock.Opened.{Opened}
@@ -36,19 +37,19 @@ first_traffic start = record { answers = []; ahead = start.ahead; gone = []; sen
 
 -- An opening is Failed exactly where its number is to fail or no link stands at its address. The link that it gives
 -- starts as it stood there, and stands there no more. All else stays, but the number of openings and of calls.
-abbrev pub Opens : {L : Type 0} → (L → Option Traffic) → Address → Opened L → DockContents → DockContents → Type 0
-Opens tells at (Link link) before after =
+abbrev pub Opens : {L : Type 0} → (L → Known Traffic) → Address → Opened L → DockContents → DockContents → Type 0
+Opens known at (Link link) before after =
     (Contains before.failing before.openings → ⊥)
-    × MatchOption (start_at before at) ⊥ (λ start. tells link ≡ Some (first_traffic start))
+    × MatchOption (start_at before at) ⊥ (λ start. (known link).told ≡ Some (first_traffic start))
     × (after ≡ record before { openings = before.openings + 1; links = map.remove before.links (address_key at); calls = before.calls + 1 })
-Opens tells at Failed before after =
+Opens known at Failed before after =
     (Contains before.failing before.openings ⊎ IsNone (start_at before at))
     × (after ≡ record before { openings = before.openings + 1; calls = before.calls + 1 })
 
 -- a new link has no faults and no idles
-abbrev pub IsFresh : {L : Type 0} → (L → ℕ) → (L → ℕ) → Opened L → Type 0
-IsFresh faults idles (Link link) = (faults link ≡ 0) × (idles link ≡ 0)
-IsFresh faults idles Failed = Unit {0}
+abbrev pub IsFresh : {L : Type 0} → (L → Known Traffic) → (L → ℕ) → Opened L → Type 0
+IsFresh known idles (Link link) = ((known link).faults ≡ 0) × (idles link ≡ 0)
+IsFresh known idles Failed = Unit {0}
 
 abbrev pub IsFailed : {L : Type 0} → Opened L → Type 0
 IsFailed (Link link) = ⊥

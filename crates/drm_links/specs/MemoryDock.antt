@@ -5,10 +5,10 @@ use Rattle.std.specs.Ordering.{nat_cmp}
 use Rattle.std.specs.Cmp.Lexicographic.{slice_cmp}
 use Rattle.std.specs.FinMap as map
 use Rattle.std.specs.Coded.{Coded, code_by, coded×, coded_ℕ, coded_list}
-use Rattle.drm_links.specs.Told.{one_more, told_for}
+use Rattle.drm_links.specs.Told.{Known, one_more, told_for}
 use Rattle.drm_links.specs.Link.{Traffic}
 use Rattle.drm_links.specs.Dock.{DockContents, LinkStart, address_key}
-use Rattle.drm_links.specs.MemoryLink.{LinkState, IsUntouched, traffic_of, link_tells}
+use Rattle.drm_links.specs.MemoryLink.{LinkState, IsUntouched, traffic_of, link_known}
 use Rattle.drm_links.specs.declared.dock.Address.{Address}
 use Rattle.drm_links.specs.declared.dock.Opened.{Opened}
 use Rattle.drm_links.specs.declared.dock.Opened.TheVariants.{Link, Failed}
@@ -88,14 +88,14 @@ with_gone (Some traffic) key gone = map.insert gone key traffic.gone
 -- what had gone over the links that were closed and still told, the last one at an address
 abbrev pub gone_over : List (List ℕ × LinkState) → map.FinMap (slice_cmp nat_cmp) (List (List ℕ))
 gone_over [] = map.empty
-gone_over (entry ∷ closed) = with_gone (link_tells entry.1) entry.0 (gone_over closed)
+gone_over (entry ∷ closed) = with_gone (link_known entry.1).told entry.0 (gone_over closed)
 
 abbrev pub contents_of : DockState → DockContents
 contents_of dock =
     record { openings = dock.openings; failing = dock.failing; links = starts_of dock.links; gone = gone_over dock.closed; calls = dock.calls }
 
-abbrev pub dock_tells : DockState → Option DockContents
-dock_tells dock = told_for dock.calls (contents_of dock)
+abbrev pub dock_known : DockState → Known DockContents
+dock_known dock = record { faults = dock.faults; told = told_for dock.calls (contents_of dock) }
 
 -- ---- its links
 

@@ -2,7 +2,7 @@
 use Rattle.std.specs.Prelude.{ℕ, ◌≡◌, ◌+◌, ◌-◌, ◌^◌, ◌<◌, ◌≤◌, ◌⊎◌, zero, suc, Bool, List, [], ◌∷◌, ◌++◌, length, map, take, drop, min, max, All, Contains, nat_eq, nat_le, Option, None, Some, if◌then◌else◌}
 use Rattle.std.specs.List.{list_any, filter_map}
 use Rattle.std.specs.Map.{lookup}
-use Rattle.drm_links.specs.Told.{one_more, told_for}
+use Rattle.drm_links.specs.Told.{Known, one_more, told_for}
 use Rattle.drm_links.specs.Link.{Answer, Datagram, Idle, Failed, Traffic, datagram_of, longest_told}
 use Rattle.drm_links.specs.declared.link.Came.{Came}
 use Rattle.drm_links.specs.declared.link.Came.TheVariants as recv
@@ -105,8 +105,8 @@ traffic_of link =
       calls = link.calls;
     }
 
-abbrev pub link_tells : LinkState → Option Traffic
-link_tells link = told_for link.calls (traffic_of link)
+abbrev pub link_known : LinkState → Known Traffic
+link_known link = record { faults = link.faults; told = told_for link.calls (traffic_of link) }
 
 -- ---- its calls
 

@@ -6,7 +6,7 @@ use Rattle.std.specs.Cmp.Lexicographic.{slice_cmp}
 use Rattle.std.specs.BTreeMap.{BTreeMap}
 use Rattle.std.specs.FinMap as map
 use Rattle.std.specs.Coded.{Coded, code_by, coded×, coded_ℕ, coded_list}
-use Rattle.drm_links.specs.Told.{one_more, told_for}
+use Rattle.drm_links.specs.Told.{Known, one_more, told_for}
 use Rattle.drm_links.specs.Shelf.{Files}
 use Rattle.drm_links.specs.declared.shelf.Loaded.{Loaded}
 use Rattle.drm_links.specs.declared.shelf.Loaded.TheVariants.{Bytes, TooLong, Failed, NoMemory}
@@ -36,8 +36,8 @@ shelf_code =
 abbrev pub contents_of : ShelfState → Files
 contents_of shelf = record { files = shelf.files; loads = shelf.loads; failing = shelf.failing }
 
-abbrev pub files_of : ShelfState → Option Files
-files_of shelf = told_for shelf.loads (contents_of shelf)
+abbrev pub shelf_known : ShelfState → Known Files
+shelf_known shelf = record { faults = shelf.faults; told = told_for shelf.loads (contents_of shelf) }
 
 -- these files, and one of this name in place of any other
 abbrev pub with_file : List ℕ → List ℕ → Files → Files

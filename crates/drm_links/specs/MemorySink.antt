@@ -1,6 +1,6 @@
 -- A sink in memory.
-use Rattle.std.specs.Prelude.{ℕ, ◌≡◌, ◌-◌, ◌<◌, ◌≤◌, ◌⊎◌, List, ◌++◌, length, take, min, Contains, Option}
-use Rattle.drm_links.specs.Told.{one_more, told_for}
+use Rattle.std.specs.Prelude.{ℕ, ◌≡◌, ◌-◌, ◌<◌, ◌≤◌, ◌⊎◌, List, ◌++◌, length, take, min, Contains}
+use Rattle.drm_links.specs.Told.{Known, one_more, told_for}
 use Rattle.drm_links.specs.Sink.{Output}
 use Rattle.drm_links.specs.declared.sink.WriteOut.{WriteOut}
 use Rattle.drm_links.specs.declared.sink.WriteOut.TheVariants.{Wrote, Failed}
@@ -15,8 +15,9 @@ pub record SinkState : Type 0 where
   pub calls : ℕ
   pub faults : ℕ
 
-abbrev pub output_of : SinkState → Option Output
-output_of sink = told_for sink.calls (record { written = sink.written; calls = sink.calls })
+abbrev pub sink_known : SinkState → Known Output
+sink_known sink =
+    record { faults = sink.faults; told = told_for sink.calls (record { written = sink.written; calls = sink.calls }) }
 
 -- A call fails exactly where its number is to fail or no room is left, and then writes nothing. Any other call takes
 -- as many bytes from the front as the piece and the room left allow.

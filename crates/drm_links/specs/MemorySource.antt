@@ -1,6 +1,6 @@
 -- A source in memory.
-use Rattle.std.specs.Prelude.{ℕ, ◌≡◌, ◌<◌, List, [], ◌++◌, length, take, drop, min, Contains, Option}
-use Rattle.drm_links.specs.Told.{one_more, told_for}
+use Rattle.std.specs.Prelude.{ℕ, ◌≡◌, ◌<◌, List, [], ◌++◌, length, take, drop, min, Contains}
+use Rattle.drm_links.specs.Told.{Known, one_more, told_for}
 use Rattle.drm_links.specs.Source.{Input}
 use Rattle.drm_links.specs.declared.source.ReadOut.{ReadOut}
 use Rattle.drm_links.specs.declared.source.ReadOut.TheVariants.{Got, End, Failed}
@@ -14,8 +14,9 @@ pub record SourceState : Type 0 where
   pub calls : ℕ
   pub faults : ℕ
 
-abbrev pub input_of : SourceState → Option Input
-input_of source = told_for source.calls (record { left = source.left; calls = source.calls })
+abbrev pub source_known : SourceState → Known Input
+source_known source =
+    record { faults = source.faults; told = told_for source.calls (record { left = source.left; calls = source.calls }) }
 
 -- A call fails exactly where its number is to fail, and then takes nothing. Any other call is the end exactly where
 -- no byte is left. Else it gives as many of the next bytes as the buffer, the piece and what is left allow, and the

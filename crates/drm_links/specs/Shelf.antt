@@ -4,6 +4,7 @@ use Rattle.std.specs.List.{list_any}
 use Rattle.std.specs.Ordering.{nat_cmp}
 use Rattle.std.specs.Cmp.Lexicographic.{slice_cmp}
 use Rattle.std.specs.FinMap as map
+use Rattle.drm_links.specs.Told.{Known, Tells}
 use Rattle.drm_links.specs.declared.shelf.Loaded.{Loaded}
 use Rattle.drm_links.specs.declared.shelf.Loaded.TheVariants.{Bytes, TooLong, Failed, NoMemory}
 
@@ -58,7 +59,5 @@ abbrev pub after_one : Files → Files
 after_one told = record told { loads = told.loads + 1 }
 
 -- Where a shelf tells at the end, it told before, and P holds of what was told before and is told then.
-abbrev pub Supplies : Option Files → Option Files → (Files → Files → Type 0) → Type 0
-Supplies before None P = Unit {0}
-Supplies None (Some after) P = ⊥
-Supplies (Some before) (Some after) P = P before after
+abbrev pub Supplies : Known Files → Known Files → (Files → Files → Type 0) → Type 0
+Supplies before after P = Tells before after P

@@ -1,5 +1,6 @@
 -- What a source tells.
-use Rattle.std.specs.Prelude.{ℕ, ◌≡◌, ◌<◌, ◌≤◌, List, [], ◌++◌, length, take, Option, None, Some}
+use Rattle.std.specs.Prelude.{ℕ, ◌≡◌, ◌<◌, ◌≤◌, List, [], ◌++◌, length, take}
+use Rattle.drm_links.specs.Told.{Known, Tells}
 use Rattle.drm_links.specs.declared.source.ReadOut.{ReadOut}
 use Rattle.drm_links.specs.declared.source.ReadOut.TheVariants.{Got, End, Failed}
 
@@ -20,8 +21,10 @@ Takes (Got n) buf before after = before.left ≡ take n buf ++ after.left
 Takes End buf before after = (before.left ≡ []) × (after.left ≡ [])
 Takes Failed buf before after = after.left ≡ before.left
 
+-- P holds of the bytes that were left and that are left
+abbrev pub LeftBy : (List ℕ → List ℕ → Type 0) → Input → Input → Type 0
+LeftBy P before after = P before.left after.left
+
 -- Where a source tells at the end, it told before, and P holds of the bytes that were left and that are left.
-abbrev pub Inputs : Option Input → Option Input → (List ℕ → List ℕ → Type 0) → Type 0
-Inputs before None P = Unit {0}
-Inputs None (Some after) P = ⊥
-Inputs (Some before) (Some after) P = P before.left after.left
+abbrev pub Inputs : Known Input → Known Input → (List ℕ → List ℕ → Type 0) → Type 0
+Inputs before after P = Tells before after (LeftBy P)

@@ -1,25 +1,61 @@
--- What an object of the outside tells of itself, and its counts of faults and of idles.
+-- What is known of an object of the outside: its count of faults, and what it tells of itself.
 use Rattle.std.specs.Prelude.{ℕ, ◌≡◌, ◌+◌, ◌-◌, ◌^◌, ◌<◌, ◌≤◌, ◌⊎◌, Option, None, Some, IsNone, MatchOption, min, nat_le, if◌then◌else◌}
+
+-- How often a call of it has failed, up to the last value of a u64, and what it tells, where it tells anything.
+pub record Known (T : Type 0) : Type 0 where
+  pub faults : ℕ
+  pub told : Option T
+
+-- ---- counts
 
 -- The count rose: it is greater, or it stands at the last value of a u64.
 abbrev pub Rose : ℕ → ℕ → Type 0
 Rose old new = (old < new) ⊎ (2 ^ 64 - 1 ≤ new)
 
--- A count never falls, and it rose where the call failed.
-pub record HasCause (old new : ℕ) (Failed : Type 0) : Type 0 where
+-- A count never falls, and it rose where this happened.
+pub record Counts (old new : ℕ) (Happened : Type 0) : Type 0 where
   pub later : old ≤ new
-  pub rose : Failed → Rose old new
+  pub rose : Happened → Rose old new
+
+-- A call of the object failed.
+abbrev pub HasFailed : {T : Type 0} → Known T → Known T → Type 0
+HasFailed before after = Rose before.faults after.faults
+
+-- The count of faults never falls, and it rose where the call failed.
+abbrev pub HasCause : {T : Type 0} → Known T → Known T → Type 0 → Type 0
+HasCause before after Failed = Counts before.faults after.faults Failed
+
+-- ---- over one call
 
 -- One more call: it tells exactly where it told before and the raised number of calls is at most 2 ^ 62.
-abbrev pub CountsCall : {T : Type 0} → (T → ℕ) → Option T → Option T → Type 0
-CountsCall calls None new = IsNone new
-CountsCall calls (Some before) new =
+abbrev pub CountsTold : {T : Type 0} → (T → ℕ) → Option T → Option T → Type 0
+CountsTold calls None new = IsNone new
+CountsTold calls (Some before) new =
     MatchOption new (2 ^ 62 ≤ calls before) (λ after. (calls after ≡ calls before + 1) × (calls after ≤ 2 ^ 62))
 
+abbrev pub CountsCall : {T : Type 0} → (T → ℕ) → Known T → Known T → Type 0
+CountsCall calls before after = CountsTold calls before.told after.told
+
 -- P holds of what is told before and after, where both are told.
-abbrev pub WhileTold : {T : Type 0} → Option T → Option T → (T → T → Type 0) → Type 0
-WhileTold (Some before) (Some after) P = P before after
-WhileTold before after P = Unit {0}
+abbrev pub BothTold : {T : Type 0} → Option T → Option T → (T → T → Type 0) → Type 0
+BothTold (Some before) (Some after) P = P before after
+BothTold before after P = Unit {0}
+
+abbrev pub WhileTold : {T : Type 0} → Known T → Known T → (T → T → Type 0) → Type 0
+WhileTold before after P = BothTold before.told after.told P
+
+-- ---- over many calls
+
+-- Where it tells at the end, it told before, and P holds of what it told then and tells now.
+abbrev pub ToldThrough : {T : Type 0} → Option T → Option T → (T → T → Type 0) → Type 0
+ToldThrough before None P = Unit {0}
+ToldThrough None (Some after) P = ⊥
+ToldThrough (Some before) (Some after) P = P before after
+
+abbrev pub Tells : {T : Type 0} → Known T → Known T → (T → T → Type 0) → Type 0
+Tells before after P = ToldThrough before.told after.told P
+
+-- ---- the forms in memory
 
 -- what a form in memory tells: its contents for its first 2 ^ 62 calls, and nothing afterwards
 abbrev pub told_for : {T : Type 0} → ℕ → T → Option T

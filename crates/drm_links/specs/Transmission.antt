@@ -1,5 +1,6 @@
 -- What was sent over a link in several calls.
 use Rattle.std.specs.Prelude.{ℕ, ◌≡◌, ◌-◌, ◌<◌, ◌≤◌, List, ◌++◌, length, Option, None, Some}
+use Rattle.drm_links.specs.Told.{Known, Tells}
 use Rattle.drm_links.specs.Link.{Traffic, KeepsAnswers}
 
 -- how many sends are left after so many that were taken
@@ -31,7 +32,5 @@ pub record SendsNoMore (datagrams : List (List ℕ)) (before after : Traffic) : 
   pub kept : KeepsAnswers before after
 
 -- Over many calls: where a link tells at the end, it told before, and P holds of what it told then and tells now.
-abbrev pub Transmits : Option Traffic → Option Traffic → (Traffic → Traffic → Type 0) → Type 0
-Transmits before None P = Unit {0}
-Transmits None (Some after) P = ⊥
-Transmits (Some before) (Some after) P = P before after
+abbrev pub Transmits : Known Traffic → Known Traffic → (Traffic → Traffic → Type 0) → Type 0
+Transmits before after P = Tells before after P

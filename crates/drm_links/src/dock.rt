@@ -1,7 +1,7 @@
 //! Where links are opened.
 
 ghost use Rattle.std.specs.Prelude.{ℕ, ◌≡◌, Option};
-ghost use Rattle.drm_links.specs.Told.{HasCause, CountsCall, WhileTold};
+ghost use Rattle.drm_links.specs.Told.{Known, HasCause, CountsCall, WhileTold};
 ghost use Rattle.drm_links.specs.Dock.{DockContents, Opens, Closes, IsFresh, IsFailed};
 
 use crate::Link;
@@ -22,29 +22,26 @@ pub enum Opened<L> {
 pub trait Dock {
     type L: Link;
 
-    /// How often an opening has failed, up to the last value of a u64.
-    ghost faults: { Self → ℕ };
-
-    /// The links that stand ready, and what went over closed ones, where the dock tells them.
-    ghost tells: { Self → Option DockContents };
+    /// How often a call has failed, and the links that stand ready, and what went over closed ones, where the dock tells them.
+    ghost known: { Self → Known DockContents };
 
     /// Opens a link that receives at this address.
     fn bind(&mut self, at: Address) -> Opened<Self::L>
-        ensures fresh { IsFresh Self.L.faults Self.L.idles result }
-        ensures opened { WhileTold (tells self.old) (tells self.new) (Opens Self.L.tells at result) }
-        ensures told { CountsCall (λ contents. contents.calls) (tells self.old) (tells self.new) }
-        ensures cause { HasCause (faults self.old) (faults self.new) (IsFailed result) };
+        ensures fresh { IsFresh Self.L.known Self.L.idles result }
+        ensures opened { WhileTold (known self.old) (known self.new) (Opens Self.L.known at result) }
+        ensures told { CountsCall (λ contents. contents.calls) (known self.old) (known self.new) }
+        ensures cause { HasCause (known self.old) (known self.new) (IsFailed result) };
 
     /// Opens a link that sends to this address.
     fn reach(&mut self, at: Address) -> Opened<Self::L>
-        ensures fresh { IsFresh Self.L.faults Self.L.idles result }
-        ensures opened { WhileTold (tells self.old) (tells self.new) (Opens Self.L.tells at result) }
-        ensures told { CountsCall (λ contents. contents.calls) (tells self.old) (tells self.new) }
-        ensures cause { HasCause (faults self.old) (faults self.new) (IsFailed result) };
+        ensures fresh { IsFresh Self.L.known Self.L.idles result }
+        ensures opened { WhileTold (known self.old) (known self.new) (Opens Self.L.known at result) }
+        ensures told { CountsCall (λ contents. contents.calls) (known self.old) (known self.new) }
+        ensures cause { HasCause (known self.old) (known self.new) (IsFailed result) };
 
     /// Takes back the link that was opened at this address.
     fn close(&mut self, at: Address, link: Self::L)
-        ensures gone { WhileTold (tells self.old) (tells self.new) (Closes (Self.L.tells link) at) }
-        ensures told { CountsCall (λ contents. contents.calls) (tells self.old) (tells self.new) }
-        ensures cause { faults self.new ≡ faults self.old };
+        ensures gone { WhileTold (known self.old) (known self.new) (Closes (Self.L.known link).told at) }
+        ensures told { CountsCall (λ contents. contents.calls) (known self.old) (known self.new) }
+        ensures cause { (known self.new).faults ≡ (known self.old).faults };
 }

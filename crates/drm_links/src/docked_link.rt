@@ -1,9 +1,9 @@
 //! The links of a dock in memory.
 
 ghost use Rattle.std.specs.Prelude.{◌≡◌, [], ◌∷◌, ◌≤◌, Some, length, IfOk, IfErr};
-ghost use Rattle.drm_links.specs.Told.{HasCause, CountsCall, WhileTold};
+ghost use Rattle.drm_links.specs.Told.{Counts, HasCause, CountsCall, WhileTold};
 ghost use Rattle.drm_links.specs.Link.{Receives, Sends, KeepsAnswers, KeepsTraffic, FitsBuffer};
-ghost use Rattle.drm_links.specs.MemoryLink.{Hears, Carries, IsUntouched, after_rest, link_tells};
+ghost use Rattle.drm_links.specs.MemoryLink.{Hears, Carries, IsUntouched, after_rest, link_known};
 
 use crate::{Address, Came, Link, MemLink, Sent};
 use std::alloc::Global;
@@ -71,30 +71,28 @@ impl DockedLink {
 }
 
 impl Link for DockedLink {
-    ghost faults = { λ link. link.faults };
-
     ghost idles = { λ link. link.idles };
 
-    ghost tells = { link_tells };
+    ghost known = { link_known };
 
     fn recv(&mut self, buf: &mut [u8]) -> Came
         requires { 65536 ≤ length buf.old }
         ensures exact { Hears result buf.old buf.new self.old self.new }
         ensures front { FitsBuffer result buf.new }
-        ensures answer { WhileTold (link_tells self.old) (link_tells self.new) (Receives result buf.new) }
-        ensures told { CountsCall (λ traffic. traffic.calls) (link_tells self.old) (link_tells self.new) }
-        ensures cause { HasCause self.old.faults self.new.faults (result ≡ Came.Failed) }
-        ensures idle { HasCause self.old.idles self.new.idles (result ≡ Came.Idle) }
+        ensures answer { WhileTold (link_known self.old) (link_known self.new) (Receives result buf.new) }
+        ensures told { CountsCall (λ traffic. traffic.calls) (link_known self.old) (link_known self.new) }
+        ensures cause { HasCause (link_known self.old) (link_known self.new) (result ≡ Came.Failed) }
+        ensures idle { Counts self.old.idles self.new.idles (result ≡ Came.Idle) }
     {
         self.link.recv(buf)
     }
 
     fn send(&mut self, bytes: &[u8]) -> Sent
         ensures exact { Carries result bytes.now self.old self.new }
-        ensures gone { WhileTold (link_tells self.old) (link_tells self.new) (Sends result bytes.now) }
-        ensures kept { WhileTold (link_tells self.old) (link_tells self.new) KeepsAnswers }
-        ensures told { CountsCall (λ traffic. traffic.calls) (link_tells self.old) (link_tells self.new) }
-        ensures cause { HasCause self.old.faults self.new.faults (result ≡ Sent.Failed) }
+        ensures gone { WhileTold (link_known self.old) (link_known self.new) (Sends result bytes.now) }
+        ensures kept { WhileTold (link_known self.old) (link_known self.new) KeepsAnswers }
+        ensures told { CountsCall (λ traffic. traffic.calls) (link_known self.old) (link_known self.new) }
+        ensures cause { HasCause (link_known self.old) (link_known self.new) (result ≡ Sent.Failed) }
         ensures idle { self.new.idles ≡ self.old.idles }
     {
         self.link.send(bytes)
@@ -102,8 +100,8 @@ impl Link for DockedLink {
 
     fn rest(&mut self, millis: u32)
         ensures exact { self.new ≡ after_rest self.old }
-        ensures kept { WhileTold (link_tells self.old) (link_tells self.new) KeepsTraffic }
-        ensures told { CountsCall (λ traffic. traffic.calls) (link_tells self.old) (link_tells self.new) }
+        ensures kept { WhileTold (link_known self.old) (link_known self.new) KeepsTraffic }
+        ensures told { CountsCall (λ traffic. traffic.calls) (link_known self.old) (link_known self.new) }
         ensures cause { self.new.faults ≡ self.old.faults }
         ensures idle { self.new.idles ≡ self.old.idles }
     {

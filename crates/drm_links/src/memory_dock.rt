@@ -5,8 +5,8 @@ ghost use Rattle.std.specs.Option.{option_map, option_copied};
 ghost use Rattle.std.specs.FinMap as map;
 ghost use Rattle.drm_links.specs.Told.{HasCause, CountsCall, WhileTold};
 ghost use Rattle.drm_links.specs.Dock.{Opens, Closes, IsFresh, IsFailed, address_key};
-ghost use Rattle.drm_links.specs.MemoryLink.{IsUntouched, link_tells};
-ghost use Rattle.drm_links.specs.MemoryDock.{Leaves, after_close, link_at, closed_at, dock_tells, start_of, with_start};
+ghost use Rattle.drm_links.specs.MemoryLink.{IsUntouched};
+ghost use Rattle.drm_links.specs.MemoryDock.{Leaves, after_close, link_at, closed_at, dock_known, start_of, with_start};
 
 use crate::docked_link::{Closed, DockedLink, Standing};
 use crate::failing::is_listed;
@@ -86,7 +86,7 @@ impl MemDock {
           calls = 0;
           faults = 0;
         }) }
-        ensures tells { IfOk result (λ dock. ⟦<MemDock as Dock>⟧.tells dock
+        ensures tells { IfOk result (λ dock. (⟦<MemDock as Dock>⟧.known dock).told
             ≡ Some (record {
               openings = 0;
               failing = fail.now;
@@ -94,7 +94,7 @@ impl MemDock {
               gone = map.empty;
               calls = 0;
             })) }
-        ensures faults { IfOk result (λ dock. ⟦<MemDock as Dock>⟧.faults dock ≡ 0) }
+        ensures faults { IfOk result (λ dock. (⟦<MemDock as Dock>⟧.known dock).faults ≡ 0) }
     {
         Ok(MemDock {
             links: BTreeMap::new(alloc),
@@ -112,8 +112,8 @@ impl MemDock {
         requires vacant { IsNone (link_at self.old at) }
         ensures put { OnOk result (self.new
             ≡ record self.old { links = map.insert self.old.links (address_key at) link }) }
-        ensures tells { OnOk result (dock_tells self.new
-            ≡ option_map (with_start at (start_of link)) (dock_tells self.old)) }
+        ensures tells { OnOk result ((dock_known self.new).told
+            ≡ option_map (with_start at (start_of link)) (dock_known self.old).told) }
         ensures returned { IfErr result (λ fault. fault ≡ PutFault.NoMemory link) }
         ensures unchanged { OnErr result (self.new ≡ self.old) }
     {
@@ -163,8 +163,8 @@ impl MemDock {
     // Gives the link that stands at this address.
     fn take_out(&mut self, at: Address) -> Opened<DockedLink>
         ensures exact { Leaves result at self.old self.new }
-        ensures fresh { IsFresh ⟦<DockedLink as Link>⟧.faults ⟦<DockedLink as Link>⟧.idles result }
-        ensures cause { HasCause self.old.faults self.new.faults (IsFailed result) }
+        ensures fresh { IsFresh ⟦<DockedLink as Link>⟧.known ⟦<DockedLink as Link>⟧.idles result }
+        ensures cause { HasCause (dock_known self.old) (dock_known self.new) (IsFailed result) }
     {
         let opening = self.openings;
         self.openings = opening.saturating_add(1);
@@ -184,17 +184,15 @@ impl MemDock {
 impl Dock for MemDock {
     type L = DockedLink;
 
-    ghost faults = { λ dock. dock.faults };
-
-    ghost tells = { dock_tells };
+    ghost known = { dock_known };
 
     fn bind(&mut self, at: Address) -> Opened<DockedLink>
         ensures exact { Leaves result at self.old self.new }
-        ensures fresh { IsFresh ⟦<DockedLink as Link>⟧.faults ⟦<DockedLink as Link>⟧.idles result }
-        ensures opened { WhileTold (dock_tells self.old) (dock_tells self.new)
-            (Opens ⟦<DockedLink as Link>⟧.tells at result) }
-        ensures told { CountsCall (λ contents. contents.calls) (dock_tells self.old) (dock_tells self.new) }
-        ensures cause { HasCause self.old.faults self.new.faults (IsFailed result) }
+        ensures fresh { IsFresh ⟦<DockedLink as Link>⟧.known ⟦<DockedLink as Link>⟧.idles result }
+        ensures opened { WhileTold (dock_known self.old) (dock_known self.new)
+            (Opens ⟦<DockedLink as Link>⟧.known at result) }
+        ensures told { CountsCall (λ contents. contents.calls) (dock_known self.old) (dock_known self.new) }
+        ensures cause { HasCause (dock_known self.old) (dock_known self.new) (IsFailed result) }
     {
         self.counted();
         self.take_out(at)
@@ -202,11 +200,11 @@ impl Dock for MemDock {
 
     fn reach(&mut self, at: Address) -> Opened<DockedLink>
         ensures exact { Leaves result at self.old self.new }
-        ensures fresh { IsFresh ⟦<DockedLink as Link>⟧.faults ⟦<DockedLink as Link>⟧.idles result }
-        ensures opened { WhileTold (dock_tells self.old) (dock_tells self.new)
-            (Opens ⟦<DockedLink as Link>⟧.tells at result) }
-        ensures told { CountsCall (λ contents. contents.calls) (dock_tells self.old) (dock_tells self.new) }
-        ensures cause { HasCause self.old.faults self.new.faults (IsFailed result) }
+        ensures fresh { IsFresh ⟦<DockedLink as Link>⟧.known ⟦<DockedLink as Link>⟧.idles result }
+        ensures opened { WhileTold (dock_known self.old) (dock_known self.new)
+            (Opens ⟦<DockedLink as Link>⟧.known at result) }
+        ensures told { CountsCall (λ contents. contents.calls) (dock_known self.old) (dock_known self.new) }
+        ensures cause { HasCause (dock_known self.old) (dock_known self.new) (IsFailed result) }
     {
         self.counted();
         self.take_out(at)
@@ -214,9 +212,9 @@ impl Dock for MemDock {
 
     fn close(&mut self, at: Address, link: DockedLink)
         ensures exact { length self.old.closed + 1 < 2 ^ 63 → self.new ≡ after_close at link self.old }
-        ensures gone { WhileTold (dock_tells self.old) (dock_tells self.new)
-            (Closes (⟦<DockedLink as Link>⟧.tells link) at) }
-        ensures told { CountsCall (λ contents. contents.calls) (dock_tells self.old) (dock_tells self.new) }
+        ensures gone { WhileTold (dock_known self.old) (dock_known self.new)
+            (Closes (⟦<DockedLink as Link>⟧.known link).told at) }
+        ensures told { CountsCall (λ contents. contents.calls) (dock_known self.old) (dock_known self.new) }
         ensures cause { self.new.faults ≡ self.old.faults }
     {
         self.calls = self.calls.saturating_add(1);

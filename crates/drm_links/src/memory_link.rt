@@ -1,9 +1,9 @@
 //! A link in memory.
 
 ghost use Rattle.std.specs.Prelude.{◌≡◌, ◌<◌, ◌≤◌, ◌++◌, [], ◌∷◌, Some, length, slice_index_or, vec_len, IfOk, OnOk, OnErr, MatchOption};
-ghost use Rattle.drm_links.specs.Told.{HasCause, CountsCall, WhileTold};
+ghost use Rattle.drm_links.specs.Told.{Counts, HasCause, CountsCall, WhileTold};
 ghost use Rattle.drm_links.specs.Link.{Receives, Sends, KeepsAnswers, KeepsTraffic, FitsBuffer};
-ghost use Rattle.drm_links.specs.MemoryLink.{LinkState, Hears, Carries, Brings, IsCounted, longest_brought, answers_ahead, taken_from, after_rest, link_tells};
+ghost use Rattle.drm_links.specs.MemoryLink.{LinkState, Hears, Carries, Brings, IsCounted, longest_brought, answers_ahead, taken_from, after_rest, link_known};
 
 use crate::failing::is_listed;
 use crate::front::fill_front;
@@ -89,14 +89,14 @@ impl MemLink {
           faults = 0;
           idles = 0;
         }) }
-        ensures tells { IfOk result (λ link. ⟦<MemLink as Link>⟧.tells link ≡ Some (record {
+        ensures tells { IfOk result (λ link. (⟦<MemLink as Link>⟧.known link).told ≡ Some (record {
           answers = [];
           ahead = answers_ahead fail.now idle.now 0 [];
           gone = [];
           sends = Some (taken_from fail.now 0 sends);
           calls = 0;
         })) }
-        ensures faults { IfOk result (λ link. ⟦<MemLink as Link>⟧.faults link ≡ 0) }
+        ensures faults { IfOk result (λ link. (⟦<MemLink as Link>⟧.known link).faults ≡ 0) }
         ensures idles { IfOk result (λ link. ⟦<MemLink as Link>⟧.idles link ≡ 0) }
     {
         Ok(MemLink {
@@ -119,7 +119,7 @@ impl MemLink {
         requires { length datagram.now ≤ longest_brought }
         ensures brought { OnOk result (self.new
             ≡ record self.old { coming = self.old.coming ++ datagram.now ∷ [] }) }
-        ensures tells { OnOk result (WhileTold (link_tells self.old) (link_tells self.new) (Brings datagram.now)) }
+        ensures tells { OnOk result (WhileTold (link_known self.old) (link_known self.new) (Brings datagram.now)) }
         ensures unchanged { OnErr result (self.new ≡ self.old) }
     {
         let bytes = Octets::from_slice(alloc, datagram)?;
@@ -153,8 +153,8 @@ impl MemLink {
         requires { 65536 ≤ length buf.old }
         ensures exact { Hears result buf.old buf.new self.old self.new }
         ensures front { FitsBuffer result buf.new }
-        ensures cause { HasCause self.old.faults self.new.faults (result ≡ Came.Failed) }
-        ensures idle { HasCause self.old.idles self.new.idles (result ≡ Came.Idle) }
+        ensures cause { HasCause (link_known self.old) (link_known self.new) (result ≡ Came.Failed) }
+        ensures idle { Counts self.old.idles self.new.idles (result ≡ Came.Idle) }
     {
         let call = self.recvs;
         self.recvs = call.saturating_add(1);
@@ -181,7 +181,7 @@ impl MemLink {
     // Takes one send, where there is room.
     fn carry(&mut self, bytes: &[u8]) -> Sent
         ensures exact { Carries result bytes.now self.old self.new }
-        ensures cause { HasCause self.old.faults self.new.faults (result ≡ Sent.Failed) }
+        ensures cause { HasCause (link_known self.old) (link_known self.new) (result ≡ Sent.Failed) }
     {
         let call = self.sends;
         self.sends = call.saturating_add(1);
@@ -216,20 +216,18 @@ fn make_rooms(alloc: Global, count: usize) -> Result<Vec<Room>, NoMemory>
 }
 
 impl Link for MemLink {
-    ghost faults = { λ link. link.faults };
-
     ghost idles = { λ link. link.idles };
 
-    ghost tells = { link_tells };
+    ghost known = { link_known };
 
     fn recv(&mut self, buf: &mut [u8]) -> Came
         requires { 65536 ≤ length buf.old }
         ensures exact { Hears result buf.old buf.new self.old self.new }
         ensures front { FitsBuffer result buf.new }
-        ensures answer { WhileTold (link_tells self.old) (link_tells self.new) (Receives result buf.new) }
-        ensures told { CountsCall (λ traffic. traffic.calls) (link_tells self.old) (link_tells self.new) }
-        ensures cause { HasCause self.old.faults self.new.faults (result ≡ Came.Failed) }
-        ensures idle { HasCause self.old.idles self.new.idles (result ≡ Came.Idle) }
+        ensures answer { WhileTold (link_known self.old) (link_known self.new) (Receives result buf.new) }
+        ensures told { CountsCall (λ traffic. traffic.calls) (link_known self.old) (link_known self.new) }
+        ensures cause { HasCause (link_known self.old) (link_known self.new) (result ≡ Came.Failed) }
+        ensures idle { Counts self.old.idles self.new.idles (result ≡ Came.Idle) }
     {
         self.counted();
         self.hear(buf)
@@ -237,10 +235,10 @@ impl Link for MemLink {
 
     fn send(&mut self, bytes: &[u8]) -> Sent
         ensures exact { Carries result bytes.now self.old self.new }
-        ensures gone { WhileTold (link_tells self.old) (link_tells self.new) (Sends result bytes.now) }
-        ensures kept { WhileTold (link_tells self.old) (link_tells self.new) KeepsAnswers }
-        ensures told { CountsCall (λ traffic. traffic.calls) (link_tells self.old) (link_tells self.new) }
-        ensures cause { HasCause self.old.faults self.new.faults (result ≡ Sent.Failed) }
+        ensures gone { WhileTold (link_known self.old) (link_known self.new) (Sends result bytes.now) }
+        ensures kept { WhileTold (link_known self.old) (link_known self.new) KeepsAnswers }
+        ensures told { CountsCall (λ traffic. traffic.calls) (link_known self.old) (link_known self.new) }
+        ensures cause { HasCause (link_known self.old) (link_known self.new) (result ≡ Sent.Failed) }
         ensures idle { self.new.idles ≡ self.old.idles }
     {
         self.counted();
@@ -249,8 +247,8 @@ impl Link for MemLink {
 
     fn rest(&mut self, millis: u32)
         ensures exact { self.new ≡ after_rest self.old }
-        ensures kept { WhileTold (link_tells self.old) (link_tells self.new) KeepsTraffic }
-        ensures told { CountsCall (λ traffic. traffic.calls) (link_tells self.old) (link_tells self.new) }
+        ensures kept { WhileTold (link_known self.old) (link_known self.new) KeepsTraffic }
+        ensures told { CountsCall (λ traffic. traffic.calls) (link_known self.old) (link_known self.new) }
         ensures cause { self.new.faults ≡ self.old.faults }
         ensures idle { self.new.idles ≡ self.old.idles }
     {

@@ -5,7 +5,7 @@ ghost use Rattle.std.specs.Option.{option_map, option_copied};
 ghost use Rattle.std.specs.FinMap as map;
 ghost use Rattle.drm_links.specs.Told.{HasCause, CountsCall, WhileTold};
 ghost use Rattle.drm_links.specs.Shelf.{Gives, Loads, KeepsFiles, IsWithin};
-ghost use Rattle.drm_links.specs.MemoryShelf.{contents_of, files_of, with_file, after_load};
+ghost use Rattle.drm_links.specs.MemoryShelf.{contents_of, shelf_known, with_file, after_load};
 
 use crate::failing::is_listed;
 use crate::{Loaded, Shelf};
@@ -43,9 +43,9 @@ impl MemShelf {
     pub fn make(alloc: Global, fail: &[u64]) -> Result<MemShelf, NoMemory>
         ensures made { IfOk result (λ shelf. shelf
             ≡ record { files = map.empty; failing = fail.now; loads = 0; faults = 0 }) }
-        ensures tells { IfOk result (λ shelf. ⟦<MemShelf as Shelf>⟧.tells shelf
+        ensures tells { IfOk result (λ shelf. (⟦<MemShelf as Shelf>⟧.known shelf).told
             ≡ Some (record { files = map.empty; loads = 0; failing = fail.now })) }
-        ensures faults { IfOk result (λ shelf. ⟦<MemShelf as Shelf>⟧.faults shelf ≡ 0) }
+        ensures faults { IfOk result (λ shelf. (⟦<MemShelf as Shelf>⟧.known shelf).faults ≡ 0) }
     {
         Ok(MemShelf {
             files: BTreeMap::new(alloc),
@@ -59,8 +59,8 @@ impl MemShelf {
     pub fn add(&mut self, alloc: Global, name: &str, bytes: &[u8]) -> Result<(), NoMemory>
         ensures added { OnOk result (self.new
             ≡ record self.old { files = map.insert self.old.files name.now bytes.now }) }
-        ensures tells { OnOk result (⟦<MemShelf as Shelf>⟧.tells self.new
-            ≡ option_map (with_file name.now bytes.now) (⟦<MemShelf as Shelf>⟧.tells self.old)) }
+        ensures tells { OnOk result ((⟦<MemShelf as Shelf>⟧.known self.new).told
+            ≡ option_map (with_file name.now bytes.now) (⟦<MemShelf as Shelf>⟧.known self.old).told) }
         ensures unchanged { OnErr result (self.new ≡ self.old) }
     {
         let name = String::from_str(alloc, name)?;
@@ -84,19 +84,17 @@ impl MemShelf {
 }
 
 impl Shelf for MemShelf {
-    ghost faults = { λ shelf. shelf.faults };
-
-    ghost tells = { files_of };
+    ghost known = { shelf_known };
 
     fn load(&mut self, alloc: Global, name: &str, limit: usize) -> Loaded
         ensures loads { Loads result name.now limit (contents_of self.old) }
         ensures exact { self.new ≡ after_load result self.old }
         ensures within { IsWithin result limit }
-        ensures file { WhileTold (files_of self.old) (files_of self.new)
+        ensures file { WhileTold (shelf_known self.old) (shelf_known self.new)
             (λ before _. Loads result name.now limit before) }
-        ensures kept { WhileTold (files_of self.old) (files_of self.new) KeepsFiles }
-        ensures told { CountsCall (λ files. files.loads) (files_of self.old) (files_of self.new) }
-        ensures cause { HasCause self.old.faults self.new.faults (result ≡ Loaded.Failed) }
+        ensures kept { WhileTold (shelf_known self.old) (shelf_known self.new) KeepsFiles }
+        ensures told { CountsCall (λ files. files.loads) (shelf_known self.old) (shelf_known self.new) }
+        ensures cause { HasCause (shelf_known self.old) (shelf_known self.new) (result ≡ Loaded.Failed) }
     {
         let loaded = self.next_load(alloc, name, limit);
         self.loads = self.loads.saturating_add(1);

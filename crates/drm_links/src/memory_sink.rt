@@ -3,7 +3,7 @@
 ghost use Rattle.std.specs.Prelude.{◌≡◌, ◌<◌, [], Some, length, IfOk};
 ghost use Rattle.drm_links.specs.Told.{HasCause, CountsCall, WhileTold};
 ghost use Rattle.drm_links.specs.Sink.{WritesSome, Appends};
-ghost use Rattle.drm_links.specs.MemorySink.{output_of, Writes};
+ghost use Rattle.drm_links.specs.MemorySink.{sink_known, Writes};
 
 use crate::failing::is_listed;
 use crate::{Sink, WriteOut};
@@ -55,9 +55,9 @@ impl MemSink {
           calls = 0;
           faults = 0;
         }) }
-        ensures tells { IfOk result (λ sink. ⟦<MemSink as Sink>⟧.tells sink
+        ensures tells { IfOk result (λ sink. (⟦<MemSink as Sink>⟧.known sink).told
             ≡ Some (record { written = []; calls = 0 })) }
-        ensures faults { IfOk result (λ sink. ⟦<MemSink as Sink>⟧.faults sink ≡ 0) }
+        ensures faults { IfOk result (λ sink. (⟦<MemSink as Sink>⟧.known sink).faults ≡ 0) }
     {
         Ok(MemSink {
             written: Vec::with_capacity(alloc, room)?,
@@ -78,17 +78,15 @@ impl MemSink {
 }
 
 impl Sink for MemSink {
-    ghost faults = { λ sink. sink.faults };
-
-    ghost tells = { output_of };
+    ghost known = { sink_known };
 
     fn write(&mut self, bytes: &[u8]) -> WriteOut
         requires { 0 < length bytes.now }
         ensures exact { Writes result bytes.now self.old self.new }
         ensures some { WritesSome result bytes.now }
-        ensures appended { WhileTold (output_of self.old) (output_of self.new) (Appends result bytes.now) }
-        ensures told { CountsCall (λ output. output.calls) (output_of self.old) (output_of self.new) }
-        ensures cause { HasCause self.old.faults self.new.faults (result ≡ WriteOut.Failed) }
+        ensures appended { WhileTold (sink_known self.old) (sink_known self.new) (Appends result bytes.now) }
+        ensures told { CountsCall (λ output. output.calls) (sink_known self.old) (sink_known self.new) }
+        ensures cause { HasCause (sink_known self.old) (sink_known self.new) (result ≡ WriteOut.Failed) }
     {
         let call = self.calls;
         self.calls = call.saturating_add(1);

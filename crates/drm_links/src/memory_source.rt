@@ -3,7 +3,7 @@
 ghost use Rattle.std.specs.Prelude.{◌≡◌, ◌<◌, Some, length, IfOk};
 ghost use Rattle.drm_links.specs.Told.{HasCause, CountsCall, WhileTold};
 ghost use Rattle.drm_links.specs.Source.{ReadsSome, Takes};
-ghost use Rattle.drm_links.specs.MemorySource.{input_of, Reads};
+ghost use Rattle.drm_links.specs.MemorySource.{source_known, Reads};
 
 use crate::failing::is_listed;
 use crate::front::fill_front;
@@ -56,9 +56,9 @@ impl MemSource {
           calls = 0;
           faults = 0;
         }) }
-        ensures tells { IfOk result (λ source. ⟦<MemSource as Source>⟧.tells source
+        ensures tells { IfOk result (λ source. (⟦<MemSource as Source>⟧.known source).told
             ≡ Some (record { left = bytes.now; calls = 0 })) }
-        ensures faults { IfOk result (λ source. ⟦<MemSource as Source>⟧.faults source ≡ 0) }
+        ensures faults { IfOk result (λ source. (⟦<MemSource as Source>⟧.known source).faults ≡ 0) }
     {
         Ok(MemSource {
             bytes: bytes.to_vec(alloc)?,
@@ -72,17 +72,15 @@ impl MemSource {
 }
 
 impl Source for MemSource {
-    ghost faults = { λ source. source.faults };
-
-    ghost tells = { input_of };
+    ghost known = { source_known };
 
     fn read(&mut self, buf: &mut [u8]) -> ReadOut
         requires { 0 < length buf.old }
         ensures exact { Reads result buf.old buf.new self.old self.new }
         ensures some { ReadsSome result buf.old }
-        ensures bytes { WhileTold (input_of self.old) (input_of self.new) (Takes result buf.new) }
-        ensures told { CountsCall (λ input. input.calls) (input_of self.old) (input_of self.new) }
-        ensures cause { HasCause self.old.faults self.new.faults (result ≡ ReadOut.Failed) }
+        ensures bytes { WhileTold (source_known self.old) (source_known self.new) (Takes result buf.new) }
+        ensures told { CountsCall (λ input. input.calls) (source_known self.old) (source_known self.new) }
+        ensures cause { HasCause (source_known self.old) (source_known self.new) (result ≡ ReadOut.Failed) }
     {
         let call = self.calls;
         self.calls = call.saturating_add(1);

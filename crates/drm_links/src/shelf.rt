@@ -1,7 +1,7 @@
 //! Named files.
 
 ghost use Rattle.std.specs.Prelude.{ℕ, ◌≡◌, Option};
-ghost use Rattle.drm_links.specs.Told.{HasCause, CountsCall, WhileTold};
+ghost use Rattle.drm_links.specs.Told.{Known, HasCause, CountsCall, WhileTold};
 ghost use Rattle.drm_links.specs.Shelf.{Files, Loads, KeepsFiles, IsWithin};
 
 use drm_bits::Octets;
@@ -18,18 +18,15 @@ pub enum Loaded {
 }
 
 pub trait Shelf {
-    /// How often a load has failed, up to the last value of a u64.
-    ghost faults: { Self → ℕ };
-
-    /// The files, where the shelf tells them.
-    ghost tells: { Self → Option Files };
+    /// How often a call has failed, and the files, where the shelf tells them.
+    ghost known: { Self → Known Files };
 
     /// The file of this name, if it has at most `limit` bytes.
     fn load(&mut self, alloc: Global, name: &str, limit: usize) -> Loaded
         ensures within { IsWithin result limit }
-        ensures file { WhileTold (tells self.old) (tells self.new)
+        ensures file { WhileTold (known self.old) (known self.new)
             (λ before _. Loads result name.now limit before) }
-        ensures kept { WhileTold (tells self.old) (tells self.new) KeepsFiles }
-        ensures told { CountsCall (λ files. files.loads) (tells self.old) (tells self.new) }
-        ensures cause { HasCause (faults self.old) (faults self.new) (result ≡ Loaded.Failed) };
+        ensures kept { WhileTold (known self.old) (known self.new) KeepsFiles }
+        ensures told { CountsCall (λ files. files.loads) (known self.old) (known self.new) }
+        ensures cause { HasCause (known self.old) (known self.new) (result ≡ Loaded.Failed) };
 }

@@ -1,7 +1,7 @@
 //! Where bytes are read from.
 
 ghost use Rattle.std.specs.Prelude.{ℕ, ◌≡◌, ◌<◌, Option, length};
-ghost use Rattle.drm_links.specs.Told.{HasCause, CountsCall, WhileTold};
+ghost use Rattle.drm_links.specs.Told.{Known, HasCause, CountsCall, WhileTold};
 ghost use Rattle.drm_links.specs.Source.{Input, ReadsSome, Takes};
 
 #[derive(Clone, Copy, Debug, PartialEq, Eq)]
@@ -15,17 +15,14 @@ pub enum ReadOut {
 }
 
 pub trait Source {
-    /// How often a call has failed, up to the last value of a u64.
-    ghost faults: { Self → ℕ };
-
-    /// The bytes that are left, where the source tells them.
-    ghost tells: { Self → Option Input };
+    /// How often a call has failed, and the bytes that are left, where the source tells them.
+    ghost known: { Self → Known Input };
 
     /// Reads into the front of the buffer.
     fn read(&mut self, buf: &mut [u8]) -> ReadOut
         requires { 0 < length buf.old }
         ensures some { ReadsSome result buf.old }
-        ensures bytes { WhileTold (tells self.old) (tells self.new) (Takes result buf.new) }
-        ensures told { CountsCall (λ input. input.calls) (tells self.old) (tells self.new) }
-        ensures cause { HasCause (faults self.old) (faults self.new) (result ≡ ReadOut.Failed) };
+        ensures bytes { WhileTold (known self.old) (known self.new) (Takes result buf.new) }
+        ensures told { CountsCall (λ input. input.calls) (known self.old) (known self.new) }
+        ensures cause { HasCause (known self.old) (known self.new) (result ≡ ReadOut.Failed) };
 }

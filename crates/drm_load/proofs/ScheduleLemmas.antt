@@ -13,8 +13,9 @@ use Rattle.drm_plan.specs.Projection.{Drafted}
 use Rattle.drm_plan.specs.Text.{lines_give}
 use Rattle.plan_writing.specs.Canonical.{canonical}
 use Rattle.drm_plan.specs.Draft.{name_at, line_at, attached, valid_of}
+use Rattle.drm_links.specs.Told.{Known}
 use Rattle.drm_links.specs.Shelf.{Files, Supplies}
-use Rattle.drm_links.proofs.ToldLemmas.{Supplies-weaker, Supplies-nothing}
+use Rattle.drm_links.proofs.ToldLemmas.{Tells-weaker, Tells-nothing}
 use Rattle.drm_load.specs.declared.loading.ScheduleFault.{ScheduleFault}
 use Rattle.drm_load.specs.declared.loading.ScheduleFault.TheVariants.{NoMemory, Line}
 use Rattle.drm_load.specs.Loading.{Reading, given, ◌>>=◌, load_for, ReadBy, GivesUnlessMemory}
@@ -56,32 +57,32 @@ one_more files k draft line name more line_is name_is =
     let left : files - k ≡ suc (files - (k + 1)) = omega arith in
     ap (λ n. with_files n k draft) left ∙ (λ i. load_for (sym line_is i) (sym name_is i) longest_file >>= behind files k draft)
 
-pub files_next : (whole : Reading Drafted) (files k : ℕ) (draft next : Drafted) (line : ℕ) (name bytes : List ℕ) (a b c : Option Files) → k < files → line ≡ line_at draft k → name ≡ name_at draft k → next ≡ attached draft k bytes
+pub files_next : (whole : Reading Drafted) (files k : ℕ) (draft next : Drafted) (line : ℕ) (name bytes : List ℕ) (a b c : Known Files) → k < files → line ≡ line_at draft k → name ≡ name_at draft k → next ≡ attached draft k bytes
     → Supplies a b (λ x y. whole x ≡ with_files (files - k) k draft y) → ReadBy (load_for line name longest_file) (Ok bytes) b c
     → Supplies a c (λ x y. whole x ≡ with_files (files - (k + 1)) (k + 1) next y)
 files_next whole files k draft next line name bytes a b c more line_is name_is next_is so_far came =
     let step = one_more files k draft line name more line_is name_is in
-    let now : Supplies a b (λ x y. whole x ≡ (load_for line name longest_file >>= behind files k draft) y) = Supplies-weaker _ _ a b so_far (λ x y is. is ∙ (λ i. step i y)) in
-    Supplies-weaker _ _ a c (rest_after whole (load_for line name longest_file) (behind files k draft) bytes a b c now came)
+    let now : Supplies a b (λ x y. whole x ≡ (load_for line name longest_file >>= behind files k draft) y) = Tells-weaker _ _ a b so_far (λ x y is. is ∙ (λ i. step i y)) in
+    Tells-weaker _ _ a c (rest_after whole (load_for line name longest_file) (behind files k draft) bytes a b c now came)
     (λ x y is. is ∙ ap (λ d. with_files (files - (k + 1)) (k + 1) d y) (sym next_is))
 
-pub files_fail : (whole : Reading Drafted) (files k : ℕ) (draft : Drafted) (line : ℕ) (name : List ℕ) (fault : ScheduleFault) (a b c : Option Files) → k < files → line ≡ line_at draft k → name ≡ name_at draft k
+pub files_fail : (whole : Reading Drafted) (files k : ℕ) (draft : Drafted) (line : ℕ) (name : List ℕ) (fault : ScheduleFault) (a b c : Known Files) → k < files → line ≡ line_at draft k → name ≡ name_at draft k
     → Supplies a b (λ x y. whole x ≡ with_files (files - k) k draft y) → ReadBy (load_for line name longest_file) (Err fault) b c → ReadBy whole (Err fault) a c
 files_fail whole files k draft line name fault a b c more line_is name_is so_far came =
     let step = one_more files k draft line name more line_is name_is in
-    let now : Supplies a b (λ x y. whole x ≡ (load_for line name longest_file >>= behind files k draft) y) = Supplies-weaker _ _ a b so_far (λ x y is. is ∙ (λ i. step i y)) in
+    let now : Supplies a b (λ x y. whole x ≡ (load_for line name longest_file >>= behind files k draft) y) = Tells-weaker _ _ a b so_far (λ x y is. is ∙ (λ i. step i y)) in
     ReadBy-rest whole (load_for line name longest_file >>= behind files k draft) (Err fault) a b c now
     (ReadBy-stops (load_for line name longest_file) (behind files k draft) fault b c came)
 
-pub files_done : (whole : Reading Drafted) (files k : ℕ) (draft : Drafted) (a b : Option Files) → files ≤ k → Supplies a b (λ x y. whole x ≡ with_files (files - k) k draft y) → ReadBy whole (Ok draft) a b
+pub files_done : (whole : Reading Drafted) (files k : ℕ) (draft : Drafted) (a b : Known Files) → files ≤ k → Supplies a b (λ x y. whole x ≡ with_files (files - k) k draft y) → ReadBy whole (Ok draft) a b
 files_done whole files k draft a b last so_far =
     let none : files - k ≡ zero = omega arith in
-    Supplies-weaker _ _ a b so_far (λ x y is. inr (is ∙ ap (λ n. with_files n k draft y) none))
+    Tells-weaker _ _ a b so_far (λ x y is. inr (is ∙ ap (λ n. with_files n k draft y) none))
 
-pub files_first : (files : ℕ) (draft : Drafted) (a : Option Files) → files ≡ length draft.files → Supplies a a (λ x y. with_files (length draft.files) 0 draft x ≡ with_files (files - 0) 0 draft y)
+pub files_first : (files : ℕ) (draft : Drafted) (a : Known Files) → files ≡ length draft.files → Supplies a a (λ x y. with_files (length draft.files) 0 draft x ≡ with_files (files - 0) 0 draft y)
 files_first files draft a is =
     let all : length draft.files ≡ files - 0 = omega (arith, is) in
-    Supplies-nothing _ a (λ told. ap (λ n. with_files n 0 draft told) all)
+    Tells-nothing _ a (λ told. ap (λ n. with_files n 0 draft told) all)
 
 -- ---- the whole schedule
 
@@ -91,26 +92,26 @@ from_draft draft = with_files (length draft.files) 0 draft >>= λ whole. given (
 abbrev pub from_text : List ℕ → Reading Plan
 from_text text = given (draft_of text) >>= from_draft
 
-pub text_fails : (name : List ℕ) (fault : ScheduleFault) (a b : Option Files) → ReadBy (load_for 0 name longest_text) (Err fault) a b → ReadBy (schedule_named name) (Err fault) a b
+pub text_fails : (name : List ℕ) (fault : ScheduleFault) (a b : Known Files) → ReadBy (load_for 0 name longest_text) (Err fault) a b → ReadBy (schedule_named name) (Err fault) a b
 text_fails name fault a b loaded = ReadBy-stops (load_for 0 name longest_text) from_text fault a b loaded
 
-pub draft_fails : (name text : List ℕ) (fault : ScheduleFault) (a b : Option Files) → ReadBy (load_for 0 name longest_text) (Ok text) a b → GivesUnlessMemory (Err fault) (draft_of text) → ReadBy (schedule_named name) (Err fault) a b
+pub draft_fails : (name text : List ℕ) (fault : ScheduleFault) (a b : Known Files) → ReadBy (load_for 0 name longest_text) (Ok text) a b → GivesUnlessMemory (Err fault) (draft_of text) → ReadBy (schedule_named name) (Err fault) a b
 draft_fails name text fault a b loaded gives =
     ReadBy-then (load_for 0 name longest_text) from_text text (Err fault) a b b loaded
     (ReadBy-stops (given (draft_of text)) from_draft fault b b (ReadBy-gives (Err fault) (draft_of text) b gives))
 
 -- what comes once the text gave a draft
-draft_came : (name text : List ℕ) (draft : Drafted) (came : Result Plan ScheduleFault) (a b c : Option Files) → ReadBy (load_for 0 name longest_text) (Ok text) a b → GivesUnlessMemory (Ok draft) (draft_of text) → ReadBy (from_draft draft) came b c → ReadBy (schedule_named name) came a c
+draft_came : (name text : List ℕ) (draft : Drafted) (came : Result Plan ScheduleFault) (a b c : Known Files) → ReadBy (load_for 0 name longest_text) (Ok text) a b → GivesUnlessMemory (Ok draft) (draft_of text) → ReadBy (from_draft draft) came b c → ReadBy (schedule_named name) came a c
 draft_came name text draft came a b c loaded gives comes =
     ReadBy-then (load_for 0 name longest_text) from_text text came a b c loaded
     (ReadBy-then (given (draft_of text)) from_draft draft came b b c (ReadBy-gives (Ok draft) (draft_of text) b gives) comes)
 
-pub files_break : (name text : List ℕ) (draft : Drafted) (fault : ScheduleFault) (a b c : Option Files) → ReadBy (load_for 0 name longest_text) (Ok text) a b → GivesUnlessMemory (Ok draft) (draft_of text) → ReadBy (with_files (length draft.files) 0 draft) (Err fault) b c → ReadBy (schedule_named name) (Err fault) a c
+pub files_break : (name text : List ℕ) (draft : Drafted) (fault : ScheduleFault) (a b c : Known Files) → ReadBy (load_for 0 name longest_text) (Ok text) a b → GivesUnlessMemory (Ok draft) (draft_of text) → ReadBy (with_files (length draft.files) 0 draft) (Err fault) b c → ReadBy (schedule_named name) (Err fault) a c
 files_break name text draft fault a b c loaded gives files =
     draft_came name text draft (Err fault) a b c loaded gives
     (ReadBy-stops (with_files (length draft.files) 0 draft) (λ whole. given (by_validity (valid_of whole))) fault b c files)
 
-pub schedule_comes : (name text : List ℕ) (draft whole : Drafted) (came : Result Plan ScheduleFault) (a b c : Option Files) → ReadBy (load_for 0 name longest_text) (Ok text) a b → GivesUnlessMemory (Ok draft) (draft_of text) → ReadBy (with_files (length draft.files) 0 draft) (Ok whole) b c → came ≡ by_validity (valid_of whole) → ReadBy (schedule_named name) came a c
+pub schedule_comes : (name text : List ℕ) (draft whole : Drafted) (came : Result Plan ScheduleFault) (a b c : Known Files) → ReadBy (load_for 0 name longest_text) (Ok text) a b → GivesUnlessMemory (Ok draft) (draft_of text) → ReadBy (with_files (length draft.files) 0 draft) (Ok whole) b c → came ≡ by_validity (valid_of whole) → ReadBy (schedule_named name) came a c
 schedule_comes name text draft whole came a b c loaded gives files is =
     draft_came name text draft came a b c loaded gives
     (ReadBy-then (with_files (length draft.files) 0 draft) (λ d. given (by_validity (valid_of d))) whole came b c c files
@@ -118,16 +119,16 @@ schedule_comes name text draft whole came a b c loaded gives files is =
 
 -- ---- its canonical text
 
-pub checked_fails : (name : List ℕ) (fault : ScheduleFault) (a b : Option Files) → ReadBy (schedule_named name) (Err fault) a b → ReadBy (checked name) (Err fault) a b
+pub checked_fails : (name : List ℕ) (fault : ScheduleFault) (a b : Known Files) → ReadBy (schedule_named name) (Err fault) a b → ReadBy (checked name) (Err fault) a b
 checked_fails name fault a b comes = ReadBy-stops (schedule_named name) (λ schedule. given (Ok (canonical schedule))) fault a b comes
 
-pub checked_unwritten : (name : List ℕ) (schedule : Plan) (a b : Option Files) → ReadBy (schedule_named name) (Ok schedule) a b → ReadBy (checked name) (Err NoMemory) a b
-checked_unwritten name schedule a b comes = Supplies-weaker _ _ a b comes (λ x y is. inl refl)
+pub checked_unwritten : (name : List ℕ) (schedule : Plan) (a b : Known Files) → ReadBy (schedule_named name) (Ok schedule) a b → ReadBy (checked name) (Err NoMemory) a b
+checked_unwritten name schedule a b comes = Tells-weaker _ _ a b comes (λ x y is. inl refl)
 
-pub checked_comes : (name : List ℕ) (schedule : Plan) (a b : Option Files) → ReadBy (schedule_named name) (Ok schedule) a b → ReadBy (checked name) (Ok (canonical schedule)) a b
+pub checked_comes : (name : List ℕ) (schedule : Plan) (a b : Known Files) → ReadBy (schedule_named name) (Ok schedule) a b → ReadBy (checked name) (Ok (canonical schedule)) a b
 checked_comes name schedule a b comes =
     ReadBy-then (schedule_named name) (λ s. given (Ok (canonical s))) schedule (Ok (canonical schedule)) a b b comes (ReadBy-given (Ok (canonical schedule)) b)
 
 -- where memory runs out behind a reading
-pub ran_out : {T : Type 0} (reading : Reading T) (x : T) (a b : Option Files) → ReadBy reading (Ok x) a b → ReadBy reading (Err NoMemory) a b
-ran_out reading x a b comes = Supplies-weaker _ _ a b comes (λ p q is. inl refl)
+pub ran_out : {T : Type 0} (reading : Reading T) (x : T) (a b : Known Files) → ReadBy reading (Ok x) a b → ReadBy reading (Err NoMemory) a b
+ran_out reading x a b comes = Tells-weaker _ _ a b comes (λ p q is. inl refl)

@@ -10,6 +10,7 @@ use Rattle.script_lines.specs.declared.fault.ScriptFault.{ScriptFault}
 use Rattle.script_lines.specs.declared.fault.ScriptFault.TheVariants as script
 use Rattle.script_lines.specs.Script.{Fault, script_of}
 use Rattle.script_lines.specs.Steps.{Reads}
+use Rattle.drm_links.specs.Told.{Known}
 use Rattle.drm_links.specs.Shelf.{Files}
 use Rattle.drm_load.specs.declared.loading.ScheduleFault.{ScheduleFault}
 use Rattle.drm_load.specs.declared.loading.ScheduleFault.TheVariants.{NoMemory, Line, Read}
@@ -37,7 +38,7 @@ by_text came plan text true is wrong right = by_reading came (script_of plan (li
 by_text came plan text false is wrong right =
     inr (ap lifted (wrong (λ utf8. let found : is_utf8 text ≡ true = is_utf8-from_IsUtf8 text utf8 in cc)))
 
-pub script_comes : (came : Result (List (List Delivery)) ScriptFault) (plan : Plan) (name text : List ℕ) (a b : Option Files) → ReadBy (load_for 0 name longest_text) (Ok text) a b
+pub script_comes : (came : Result (List (List Delivery)) ScriptFault) (plan : Plan) (name text : List ℕ) (a b : Known Files) → ReadBy (load_for 0 name longest_text) (Ok text) a b
     → ((IsUtf8 text → ⊥) → came ≡ Err (script.Line (bad_line_of text) reasons.Utf8)) → (IsUtf8 text → Reads came (script_of plan (lines_of text)))
     → ReadBy (script_named plan name) (lifted came) a b
 script_comes came plan name text a b loaded wrong right =

@@ -1,6 +1,7 @@
 -- What is read from a shelf, load by load.
 use Rattle.std.specs.Prelude.{ℕ, ◌≡◌, ◌⊎◌, List, Option, Result, Ok, Err}
 use Rattle.drm_schedule.specs.declared.invalid.Reason.TheVariants as reasons
+use Rattle.drm_links.specs.Told.{Known}
 use Rattle.drm_links.specs.declared.shelf.Loaded.{Loaded}
 use Rattle.drm_links.specs.declared.shelf.Loaded.TheVariants as loads
 use Rattle.drm_links.specs.Shelf.{Files, Supplies, load_of, after_one}
@@ -41,7 +42,7 @@ abbrev pub load_for : ℕ → List ℕ → ℕ → Reading (List ℕ)
 load_for line name limit told = record { came = bytes_or_fault line (load_of told name limit); told = after_one told }
 
 -- Where a shelf tells, this came of it by this reading, unless memory ran out.
-abbrev pub ReadBy : {T : Type 0} → Reading T → Result T ScheduleFault → Option Files → Option Files → Type 0
+abbrev pub ReadBy : {T : Type 0} → Reading T → Result T ScheduleFault → Known Files → Known Files → Type 0
 ReadBy reading came before after = Supplies before after (λ x y. (came ≡ Err NoMemory) ⊎ (reading x ≡ record { came = came; told = y }))
 
 -- it is this, unless memory ran out

@@ -44,9 +44,9 @@ pub fn load<S: Shelf>(
     limit: usize,
 ) -> Result<Octets, ScheduleFault>
     ensures reads { ReadBy (load_for line name.now limit) result
-        (S.tells shelf.old) (S.tells shelf.new) }
+        (S.known shelf.old) (S.known shelf.new) }
     ensures within { IfOk result (λ bytes. length bytes ≤ limit) }
-    ensures cause { HasCause (S.faults shelf.old) (S.faults shelf.new)
+    ensures cause { HasCause (S.known shelf.old) (S.known shelf.new)
         (result ≡ Err ScheduleFault.Read) }
 {
     match shelf.load(alloc, name, limit) {

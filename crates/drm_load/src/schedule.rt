@@ -37,8 +37,8 @@ pub fn read_schedule<S: Shelf>(
     name: &str,
 ) -> Result<Schedule, ScheduleFault>
     ensures reads { ReadBy (schedule_named name.now) result
-        (S.tells shelf.old) (S.tells shelf.new) }
-    ensures cause { HasCause (S.faults shelf.old) (S.faults shelf.new)
+        (S.known shelf.old) (S.known shelf.new) }
+    ensures cause { HasCause (S.known shelf.old) (S.known shelf.new)
         (result ≡ Err ScheduleFault.Read) }
 {
     let text = load(alloc, shelf, 0, name, LONGEST_TEXT)?;
@@ -59,8 +59,8 @@ fn read_draft(alloc: Global, text: &[u8]) -> Result<Draft, ScheduleFault>
 // Loads the files of a draft, in the order of their lines.
 fn read_files<S: Shelf>(alloc: Global, shelf: &mut S, draft: Draft) -> Result<Draft, ScheduleFault>
     ensures reads { ReadBy (with_files (length draft.files) 0 draft) result
-        (S.tells shelf.old) (S.tells shelf.new) }
-    ensures cause { HasCause (S.faults shelf.old) (S.faults shelf.new)
+        (S.known shelf.old) (S.known shelf.new) }
+    ensures cause { HasCause (S.known shelf.old) (S.known shelf.new)
         (result ≡ Err ScheduleFault.Read) }
 {
     let mut draft = draft;

@@ -37,9 +37,9 @@ pub fn read_script_named<S: Shelf>(
     name: &str,
     plan: &Schedule,
 ) -> Result<Script, ScheduleFault>
-    ensures reads { ReadBy (script_named plan.now name.now) result (S.tells shelf.old) (S.tells shelf.new) }
+    ensures reads { ReadBy (script_named plan.now name.now) result (S.known shelf.old) (S.known shelf.new) }
     ensures script { IfOk result (IsScript plan.now) }
-    ensures cause { HasCause (S.faults shelf.old) (S.faults shelf.new) (result ≡ Err ScheduleFault.Read) }
+    ensures cause { HasCause (S.known shelf.old) (S.known shelf.new) (result ≡ Err ScheduleFault.Read) }
 {
     let text = load(alloc, shelf, 0, name, LONGEST_TEXT)?;
     Ok(read_script(alloc, text.as_slice(), plan)?)

@@ -5,6 +5,7 @@ use Rattle.std.proofs.Math.Seq.{take-append-add}
 use borrow.Rule.Slice.PartMut.{put_mid, post_of}
 use Rattle.std.specs.List.{concat}
 use Rattle.drm_schedule.specs.declared.plan.Plan.{Plan}
+use Rattle.drm_links.specs.Told.{Known}
 use Rattle.drm_links.specs.Sink.{Output, Outputs, IsFront}
 use Rattle.drm_links.proofs.ToldLemmas.{Outputs-then}
 use Rattle.drm_timeline.specs.Numbers.{frame_count}
@@ -133,13 +134,13 @@ module _ (plan : Plan) where
       ]
 
 -- what waited, and more behind it, and more again
-pub gathers_then : (waited xs ys then_waits waits : List ℕ) (a b c : Option Output) → Gathers waited xs then_waits a b → Gathers then_waits ys waits b c → Gathers waited (xs ++ ys) waits a c
+pub gathers_then : (waited xs ys then_waits waits : List ℕ) (a b c : Known Output) → Gathers waited xs then_waits a b → Gathers then_waits ys waits b c → Gathers waited (xs ++ ys) waits a c
 gathers_then waited xs ys then_waits waits a b c first second =
     Outputs-then (λ s. waited ++ xs ≡ s ++ then_waits) (λ t. then_waits ++ ys ≡ t ++ waits) (λ text. waited ++ (xs ++ ys) ≡ text ++ waits) a b c first second
     (λ s t is_s is_t. sym (append_assoc waited xs ys) ∙ (ap (λ l. l ++ ys) is_s ∙ (append_assoc s then_waits ys ∙ (ap (λ l. s ++ l) is_t ∙ sym (append_assoc s t waits)))))
 
 -- and then a front of what waits, and of more behind it
-pub gathers_front : (waited xs ys then_waits : List ℕ) (a b c : Option Output) → Gathers waited xs then_waits a b → Outputs b c (IsFront (then_waits ++ ys)) → Outputs a c (IsFront (waited ++ (xs ++ ys)))
+pub gathers_front : (waited xs ys then_waits : List ℕ) (a b c : Known Output) → Gathers waited xs then_waits a b → Outputs b c (IsFront (then_waits ++ ys)) → Outputs a c (IsFront (waited ++ (xs ++ ys)))
 gathers_front waited xs ys then_waits a b c first second =
     Outputs-then (λ s. waited ++ xs ≡ s ++ then_waits) (IsFront (then_waits ++ ys)) (IsFront (waited ++ (xs ++ ys))) a b c first second
     (λ s t is_s front. (
@@ -148,13 +149,13 @@ gathers_front waited xs ys then_waits a b c first second =
     ))
 
 -- one datagram more
-pub gathers_datagram : (waited : List ℕ) (datagrams : List (List ℕ)) (datagram then_waits waits : List ℕ) (a b c : Option Output)
+pub gathers_datagram : (waited : List ℕ) (datagrams : List (List ℕ)) (datagram then_waits waits : List ℕ) (a b c : Known Output)
     → Gathers waited (concat datagrams) then_waits a b → Gathers then_waits datagram waits b c → Gathers waited (concat (datagrams ++ datagram ∷ [])) waits a c
 gathers_datagram waited datagrams datagram then_waits waits a b c first second =
     subst (λ l. Gathers waited l waits a c) (sym (concat_push datagrams datagram)) (gathers_then waited (concat datagrams) datagram then_waits waits a b c first second)
 
 -- a front with one datagram more
-pub front_of_frame : (plan : Plan) (t i : ℕ) (datagrams : List (List ℕ)) (waited then_waits : List ℕ) (a b c : Option Output) → AreFirst plan t i datagrams
+pub front_of_frame : (plan : Plan) (t i : ℕ) (datagrams : List (List ℕ)) (waited then_waits : List ℕ) (a b c : Known Output) → AreFirst plan t i datagrams
     → Gathers waited (concat datagrams) then_waits a b → Outputs b c (IsFrontWithDatagram plan t i then_waits) → Outputs a c (IsFrontOfFrame plan t waited)
 front_of_frame plan t i datagrams waited then_waits a b c are first second =
     Outputs-then (λ s. waited ++ concat datagrams ≡ s ++ then_waits) (IsFrontWithDatagram plan t i then_waits) (IsFrontOfFrame plan t waited) a b c first second
@@ -171,13 +172,13 @@ front_of_frame plan t i datagrams waited then_waits a b c are first second =
     ))
 
 -- the datagrams of one frame more
-pub gathers_frame : (before of_frame : List (List ℕ)) (then_waits waits : List ℕ) (a b c : Option Output) → Gathers [] (concat before) then_waits a b → Gathers then_waits (concat of_frame) waits b c → Gathers [] (concat (before ++ of_frame)) waits a c
+pub gathers_frame : (before of_frame : List (List ℕ)) (then_waits waits : List ℕ) (a b c : Known Output) → Gathers [] (concat before) then_waits a b → Gathers then_waits (concat of_frame) waits b c → Gathers [] (concat (before ++ of_frame)) waits a c
 gathers_frame before of_frame then_waits waits a b c first second =
     subst (λ l. Gathers [] l waits a c) (sym (concat_append before of_frame)) (gathers_then [] (concat before) (concat of_frame) then_waits waits a b c first second)
 
 module _ (plan : Plan) where
   -- a part of the next frame
-  pub part_written : (t : ℕ) (datagrams : List (List ℕ)) (waits : List ℕ) (a b c : Option Output) → t < frame_count plan → AreOfFrames plan t datagrams
+  pub part_written : (t : ℕ) (datagrams : List (List ℕ)) (waits : List ℕ) (a b c : Known Output) → t < frame_count plan → AreOfFrames plan t datagrams
       → Gathers [] (concat datagrams) waits a b → Outputs b c (IsFrontOfFrame plan t waits) → Outputs a c (IsFrontOfCapture plan)
   part_written t datagrams waits a b c within are first second =
       Outputs-then (λ s. concat datagrams ≡ s ++ waits) (IsFrontOfFrame plan t waits) (IsFrontOfCapture plan) a b c first second
@@ -186,7 +187,7 @@ module _ (plan : Plan) where
       (rest, ap (λ l. l ++ concat of_frame) is ∙ (append_assoc s waits (concat of_frame) ∙ (ap (λ l. s ++ l) front ∙ sym (append_assoc s u rest)))))
 
   -- a front of what waits at the end
-  pub end_written : (t : ℕ) (datagrams : List (List ℕ)) (waits : List ℕ) (a b c : Option Output) → t ≤ frame_count plan → AreOfFrames plan t datagrams → IsFrontOfCapture plan (concat datagrams)
+  pub end_written : (t : ℕ) (datagrams : List (List ℕ)) (waits : List ℕ) (a b c : Known Output) → t ≤ frame_count plan → AreOfFrames plan t datagrams → IsFrontOfCapture plan (concat datagrams)
       → Gathers [] (concat datagrams) waits a b → Outputs b c (IsFront waits) → Outputs a c (IsFrontOfCapture plan)
   end_written t datagrams waits a b c within are all first second =
       Outputs-then (λ s. concat datagrams ≡ s ++ waits) (IsFront waits) (IsFrontOfCapture plan) a b c first second
@@ -195,7 +196,7 @@ module _ (plan : Plan) where
       (front_in_frames plan t within datagrams are (s ++ u) (rest, is ∙ (ap (λ l. s ++ l) front ∙ sym (append_assoc s u rest)))))
 
   -- all of what waits at the end
-  pub all_written : (datagrams : List (List ℕ)) (waits : List ℕ) (a b c : Option Output) → AreDatagrams plan datagrams
+  pub all_written : (datagrams : List (List ℕ)) (waits : List ℕ) (a b c : Known Output) → AreDatagrams plan datagrams
       → Gathers [] (concat datagrams) waits a b → Outputs b c (λ text. text ≡ waits) → Outputs a c (IsCapture plan)
   all_written datagrams waits a b c are first second =
       Outputs-then (λ s. concat datagrams ≡ s ++ waits) (λ text. text ≡ waits) (IsCapture plan) a b c first second

@@ -2,15 +2,16 @@
 use Rattle.std.specs.Prelude.{ℕ, suc, ◌≡◌, List, ◌++◌, Option}
 use Rattle.std.specs.List.{concat}
 use Rattle.drm_schedule.specs.declared.plan.Plan.{Plan}
+use Rattle.drm_links.specs.Told.{Known}
 use Rattle.drm_links.specs.Sink.{Output, Outputs, IsFront}
 use Rattle.drm_server.specs.Datagrams.{AreOfFrame, AreFirst, IsDatagramAt}
 
 -- What waited, and these bytes behind it, was written, but for what waits now.
-abbrev pub Gathers : List ℕ → List ℕ → List ℕ → Option Output → Option Output → Type 0
+abbrev pub Gathers : List ℕ → List ℕ → List ℕ → Known Output → Known Output → Type 0
 Gathers waited bytes waits before after = Outputs before after (λ text. waited ++ bytes ≡ text ++ waits)
 
 -- the bytes are datagram i of frame t
-abbrev pub GathersDatagram : Plan → ℕ → ℕ → List ℕ → List ℕ → Option Output → Option Output → Type 0
+abbrev pub GathersDatagram : Plan → ℕ → ℕ → List ℕ → List ℕ → Known Output → Known Output → Type 0
 GathersDatagram plan t i waited waits before after =
     (datagram : List ℕ) × IsDatagramAt plan t i datagram × Gathers waited datagram waits before after
 
@@ -19,7 +20,7 @@ abbrev pub IsFrontWithDatagram : Plan → ℕ → ℕ → List ℕ → List ℕ 
 IsFrontWithDatagram plan t i waited text = (datagram : List ℕ) × IsDatagramAt plan t i datagram × IsFront (waited ++ datagram) text
 
 -- the bytes are the datagrams of frame t
-abbrev pub GathersFrame : Plan → ℕ → List ℕ → List ℕ → Option Output → Option Output → Type 0
+abbrev pub GathersFrame : Plan → ℕ → List ℕ → List ℕ → Known Output → Known Output → Type 0
 GathersFrame plan t waited waits before after =
     (datagrams : List (List ℕ)) × AreOfFrame plan t datagrams × Gathers waited (concat datagrams) waits before after
 

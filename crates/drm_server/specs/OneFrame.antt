@@ -1,6 +1,7 @@
 -- What is sent of one frame.
 use Rattle.std.specs.Prelude.{ℕ, ◌≡◌, List, length, Option}
 use Rattle.drm_schedule.specs.declared.plan.Plan.{Plan}
+use Rattle.drm_links.specs.Told.{Known}
 use Rattle.drm_links.specs.Link.{Traffic}
 use Rattle.drm_links.specs.Transmission.{Transmits, SendsAll, SendsNoMore}
 use Rattle.drm_server.specs.Datagrams.{AreOfFrame, AreFirst, IsDatagramAt}
@@ -10,7 +11,7 @@ abbrev pub StandBefore : Plan → ℕ → ℕ → List ℕ → List (List ℕ) �
 StandBefore plan t i next datagrams = IsDatagramAt plan t i next × AreFirst plan t i datagrams
 
 -- all of its datagrams were sent, and they are n
-abbrev pub SentFrame : Plan → ℕ → ℕ → Option Traffic → Option Traffic → Type 0
+abbrev pub SentFrame : Plan → ℕ → ℕ → Known Traffic → Known Traffic → Type 0
 SentFrame plan t n before after =
     (datagrams : List (List ℕ)) × AreOfFrame plan t datagrams × (n ≡ length datagrams) × Transmits before after (SendsAll datagrams)
 

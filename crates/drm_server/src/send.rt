@@ -21,17 +21,17 @@ pub fn serve_link<L: Link>(
     link: &mut L,
     pace: u32,
 ) -> Result<u64, LinkFault>
-    ensures whole { OnOk result (Transmits (L.tells link.old) (L.tells link.new) (SendsSchedule server.old.plan)) }
+    ensures whole { OnOk result (Transmits (L.known link.old) (L.known link.new) (SendsSchedule server.old.plan)) }
     ensures count { IfOk result (IsCount server.old.plan) }
-    ensures part { OnErr result (Transmits (L.tells link.old) (L.tells link.new) (SendsPart server.old.plan)) }
-    ensures cause { HasCause (L.faults link.old) (L.faults link.new) (IsErr result) }
+    ensures part { OnErr result (Transmits (L.known link.old) (L.known link.new) (SendsPart server.old.plan)) }
+    ensures cause { HasCause (L.known link.old) (L.known link.new) (IsErr result) }
     ensures idle { L.idles link.new ≡ L.idles link.old }
     // One call for each datagram and, where there is a pace, for each rest between two frames.
-    ensures rests { IfOk result (λ n. Transmits (L.tells link.old) (L.tells link.new)
+    ensures rests { IfOk result (λ n. Transmits (L.known link.old) (L.known link.new)
         (MadeCalls (n + rests_between pace (frame_count server.old.plan)))) }
     // At most 1,025 calls a frame, so a link that tells will tell at the end.
     ensures calls { MakesCalls (λ traffic. traffic.calls) (1025 * frame_count server.old.plan)
-        (L.tells link.old) (L.tells link.new) }
+        (L.known link.old) (L.known link.new) }
     ensures schedule { server.new.plan ≡ server.old.plan }
 {
     let mut sent = 0;
@@ -45,10 +45,10 @@ pub fn serve_link<L: Link>(
 
 // Rests before each frame but the first one.
 fn rest_between<L: Link>(link: &mut L, t: u32, pace: u32)
-    ensures none { Transmits (L.tells link.old) (L.tells link.new) (SendsAll []) }
-    ensures rests { Transmits (L.tells link.old) (L.tells link.new) (MadeCalls (rests_before pace t)) }
-    ensures calls { MakesCalls (λ traffic. traffic.calls) 1 (L.tells link.old) (L.tells link.new) }
-    ensures cause { L.faults link.new ≡ L.faults link.old }
+    ensures none { Transmits (L.known link.old) (L.known link.new) (SendsAll []) }
+    ensures rests { Transmits (L.known link.old) (L.known link.new) (MadeCalls (rests_before pace t)) }
+    ensures calls { MakesCalls (λ traffic. traffic.calls) 1 (L.known link.old) (L.known link.new) }
+    ensures cause { (L.known link.new).faults ≡ (L.known link.old).faults }
     ensures idle { L.idles link.new ≡ L.idles link.old }
 {
     if t > 0 && pace > 0 {
@@ -59,14 +59,14 @@ fn rest_between<L: Link>(link: &mut L, t: u32, pace: u32)
 // Sends the datagrams of the frame that is loaded.
 fn send_frame<L: Link>(server: &mut Server<'_>, link: &mut L) -> Result<u64, LinkFault>
     ensures whole { IfOk result (λ n. SentFrame server.old.plan server.old.frame n
-        (L.tells link.old) (L.tells link.new)) }
+        (L.known link.old) (L.known link.new)) }
     ensures few { IfOk result (λ n. n ≤ 1024) }
-    ensures counted { IfOk result (λ n. Transmits (L.tells link.old) (L.tells link.new) (MadeCalls n)) }
-    ensures part { OnErr result (Transmits (L.tells link.old) (L.tells link.new)
+    ensures counted { IfOk result (λ n. Transmits (L.known link.old) (L.known link.new) (MadeCalls n)) }
+    ensures part { OnErr result (Transmits (L.known link.old) (L.known link.new)
         (SendsPartOfFrame server.old.plan server.old.frame)) }
-    ensures cause { HasCause (L.faults link.old) (L.faults link.new) (IsErr result) }
+    ensures cause { HasCause (L.known link.old) (L.known link.new) (IsErr result) }
     ensures idle { L.idles link.new ≡ L.idles link.old }
-    ensures calls { MakesCalls (λ traffic. traffic.calls) 1024 (L.tells link.old) (L.tells link.new) }
+    ensures calls { MakesCalls (λ traffic. traffic.calls) 1024 (L.known link.old) (L.known link.new) }
     ensures server { server.new ≡ server.old }
 {
     let count = server.fragments();
@@ -78,13 +78,13 @@ fn send_frame<L: Link>(server: &mut Server<'_>, link: &mut L) -> Result<u64, Lin
 
 fn send_datagram<L: Link>(link: &mut L, datagram: &[u8]) -> Result<(), LinkFault>
     requires { length datagram.now ≤ longest_told }
-    ensures sent { OnOk result (Transmits (L.tells link.old) (L.tells link.new)
+    ensures sent { OnOk result (Transmits (L.known link.old) (L.known link.new)
         (SendsAll (datagram.now ∷ []))) }
-    ensures none { OnErr result (Transmits (L.tells link.old) (L.tells link.new) (SendsNoMore [])) }
-    ensures counted { Transmits (L.tells link.old) (L.tells link.new) (MadeCalls 1) }
-    ensures cause { HasCause (L.faults link.old) (L.faults link.new) (IsErr result) }
+    ensures none { OnErr result (Transmits (L.known link.old) (L.known link.new) (SendsNoMore [])) }
+    ensures counted { Transmits (L.known link.old) (L.known link.new) (MadeCalls 1) }
+    ensures cause { HasCause (L.known link.old) (L.known link.new) (IsErr result) }
     ensures idle { L.idles link.new ≡ L.idles link.old }
-    ensures calls { MakesCalls (λ traffic. traffic.calls) 1 (L.tells link.old) (L.tells link.new) }
+    ensures calls { MakesCalls (λ traffic. traffic.calls) 1 (L.known link.old) (L.known link.new) }
 {
     match link.send(datagram) {
         Sent::Sent => Ok(()),

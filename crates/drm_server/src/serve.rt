@@ -14,10 +14,10 @@ use drm_links::{Sink, WriteFault, write_all};
 
 /// Writes the datagrams of all frames, in order from the first one on, and gives their number.
 pub fn serve_sink<O: Sink>(server: &mut Server<'_>, out: &mut O) -> Result<u64, WriteFault>
-    ensures whole { OnOk result (Outputs (O.tells out.old) (O.tells out.new) (IsCapture server.old.plan)) }
+    ensures whole { OnOk result (Outputs (O.known out.old) (O.known out.new) (IsCapture server.old.plan)) }
     ensures count { IfOk result (IsCount server.old.plan) }
-    ensures front { OnErr result (Outputs (O.tells out.old) (O.tells out.new) (IsFrontOfCapture server.old.plan)) }
-    ensures cause { HasCause (O.faults out.old) (O.faults out.new) (IsErr result) }
+    ensures front { OnErr result (Outputs (O.known out.old) (O.known out.new) (IsFrontOfCapture server.old.plan)) }
+    ensures cause { HasCause (O.known out.old) (O.known out.new) (IsErr result) }
     ensures schedule { server.new.plan ≡ server.old.plan }
 {
     serve(&mut server.loaded, &mut server.waiting, out)
@@ -26,10 +26,10 @@ pub fn serve_sink<O: Sink>(server: &mut Server<'_>, out: &mut O) -> Result<u64, 
 // Writes them by way of this room.
 fn serve<O: Sink>(loaded: &mut Loaded<'_>, room: &mut [u8], out: &mut O) -> Result<u64, WriteFault>
     requires room { most_packet loaded.old.plan.carry ≤ length room.old }
-    ensures whole { OnOk result (Outputs (O.tells out.old) (O.tells out.new) (IsCapture loaded.old.plan)) }
+    ensures whole { OnOk result (Outputs (O.known out.old) (O.known out.new) (IsCapture loaded.old.plan)) }
     ensures count { IfOk result (IsCount loaded.old.plan) }
-    ensures front { OnErr result (Outputs (O.tells out.old) (O.tells out.new) (IsFrontOfCapture loaded.old.plan)) }
-    ensures cause { HasCause (O.faults out.old) (O.faults out.new) (IsErr result) }
+    ensures front { OnErr result (Outputs (O.known out.old) (O.known out.new) (IsFrontOfCapture loaded.old.plan)) }
+    ensures cause { HasCause (O.known out.old) (O.known out.new) (IsErr result) }
     ensures schedule { loaded.new.plan ≡ loaded.old.plan }
     ensures long { length room.new ≡ length room.old }
 {
@@ -53,12 +53,12 @@ fn gather_frame<O: Sink>(
 ) -> Result<usize, WriteFault>
     requires room { waiting + most_packet loaded.now.plan.carry ≤ length room.old }
     ensures gathered { IfOk result (λ n. GathersFrame loaded.now.plan loaded.now.frame
-        (take waiting room.old) (take n room.new) (O.tells out.old) (O.tells out.new)) }
-    ensures front { OnErr result (Outputs (O.tells out.old) (O.tells out.new)
+        (take waiting room.old) (take n room.new) (O.known out.old) (O.known out.new)) }
+    ensures front { OnErr result (Outputs (O.known out.old) (O.known out.new)
         (IsFrontOfFrame loaded.now.plan loaded.now.frame (take waiting room.old))) }
     ensures left { IfOk result (λ n. n + most_packet loaded.now.plan.carry ≤ length room.new) }
     ensures long { length room.new ≡ length room.old }
-    ensures cause { HasCause (O.faults out.old) (O.faults out.new) (IsErr result) }
+    ensures cause { HasCause (O.known out.old) (O.known out.new) (IsErr result) }
 {
     let mut waiting = waiting;
     for i in 0..loaded.fragments() {
@@ -78,12 +78,12 @@ fn gather<O: Sink>(
     requires within { HasDatagram loaded.now.plan loaded.now.frame i }
     requires room { waiting + most_packet loaded.now.plan.carry ≤ length room.old }
     ensures gathered { IfOk result (λ n. GathersDatagram loaded.now.plan loaded.now.frame i
-        (take waiting room.old) (take n room.new) (O.tells out.old) (O.tells out.new)) }
-    ensures front { OnErr result (Outputs (O.tells out.old) (O.tells out.new)
+        (take waiting room.old) (take n room.new) (O.known out.old) (O.known out.new)) }
+    ensures front { OnErr result (Outputs (O.known out.old) (O.known out.new)
         (IsFrontWithDatagram loaded.now.plan loaded.now.frame i (take waiting room.old))) }
     ensures left { IfOk result (λ n. n + most_packet loaded.now.plan.carry ≤ length room.new) }
     ensures long { length room.new ≡ length room.old }
-    ensures cause { HasCause (O.faults out.old) (O.faults out.new) (IsErr result) }
+    ensures cause { HasCause (O.known out.old) (O.known out.new) (IsErr result) }
 {
     let waiting = waiting + loaded.write_datagram(i, &mut room[waiting..]);
     pass_on(room, waiting, loaded.most(), out)
@@ -99,11 +99,11 @@ fn pass_on<O: Sink>(
 ) -> Result<usize, WriteFault>
     requires within { waiting ≤ length room.now }
     requires room { most ≤ length room.now }
-    ensures whole { IfOk result (λ n. Outputs (O.tells out.old) (O.tells out.new)
+    ensures whole { IfOk result (λ n. Outputs (O.known out.old) (O.known out.new)
         (λ text. take waiting room.now ≡ text ++ take n room.now)) }
-    ensures front { OnErr result (Outputs (O.tells out.old) (O.tells out.new) (IsFront (take waiting room.now))) }
+    ensures front { OnErr result (Outputs (O.known out.old) (O.known out.new) (IsFront (take waiting room.now))) }
     ensures left { IfOk result (λ n. n + most ≤ length room.now) }
-    ensures cause { HasCause (O.faults out.old) (O.faults out.new) (IsErr result) }
+    ensures cause { HasCause (O.known out.old) (O.known out.new) (IsErr result) }
 {
     if room.len() - waiting >= most {
         return Ok(waiting);

@@ -3,8 +3,9 @@ use Rattle.std.proofs.Common.{◌≡◌, ℕ, ◌<◌, ◌≤◌, Bool, List, []
 use Rattle.std.specs.Prelude.{slice_index}
 use Rattle.hex.specs.Hex.{lower_digits}
 use Rattle.drm_bits.specs.Bits.{value}
-use Rattle.drm_links.specs.Sink.{Output, Outputs, IsFront}
-use Rattle.drm_links.proofs.ToldLemmas.{Outputs-then, Outputs-weaker}
+use Rattle.drm_links.specs.Told.{Known}
+use Rattle.drm_links.specs.Sink.{Output, Outputs}
+use Rattle.drm_links.proofs.ToldLemmas.{Outputs-weaker}
 use Rattle.drm_show.specs.HexBits.{hex_of_bits}
 
 -- the digit of the first four bits, and those of the rest
@@ -23,33 +24,13 @@ no_digit (a ∷ b ∷ []) few = refl
 no_digit (a ∷ b ∷ c ∷ []) few = refl
 no_digit (a ∷ b ∷ c ∷ d ∷ bits) few = absurd (omega (arith, few))
 
--- one digit more is written
-pub digit_more : (all bits new : List Bool) (n digit : ℕ) (a b c : Option Output) → 4 ≤ length bits → n ≡ value (take 4 bits) → digit ≡ slice_index lower_digits n → new ≡ drop 4 bits
-    → Outputs a b (λ text. text ++ hex_of_bits bits ≡ hex_of_bits all) → Outputs b c (λ text. text ≡ digit ∷ []) → Outputs a c (λ text. text ++ hex_of_bits new ≡ hex_of_bits all)
-digit_more all bits new n digit a b c enough number is rest done more =
-    Outputs-then (λ text. text ++ hex_of_bits bits ≡ hex_of_bits all) (λ text. text ≡ digit ∷ []) (λ text. text ++ hex_of_bits new ≡ hex_of_bits all) a b c done more
-    (λ s t is_s is_t. append_assoc s t (hex_of_bits new) ∙ (ap (λ l. s ++ l) (ap (λ l. l ++ hex_of_bits new) is_t ∙ sym (next bits new n digit enough number is rest)) ∙ is_s))
-  where
-    next : (bits new : List Bool) (n digit : ℕ) → 4 ≤ length bits → n ≡ value (take 4 bits) → digit ≡ slice_index lower_digits n → new ≡ drop 4 bits → hex_of_bits bits ≡ digit ∷ hex_of_bits new
-    next bits new n digit enough number is rest = rw (is, number, rest) (next_digit bits enough)
-
--- a front of it
-pub digit_front : (all bits : List Bool) (n digit : ℕ) (a b c : Option Output) → 4 ≤ length bits → n ≡ value (take 4 bits) → digit ≡ slice_index lower_digits n
-    → Outputs a b (λ text. text ++ hex_of_bits bits ≡ hex_of_bits all) → Outputs b c (IsFront (digit ∷ [])) → Outputs a c (IsFront (hex_of_bits all))
-digit_front all bits n digit a b c enough number is done front =
-    Outputs-then (λ text. text ++ hex_of_bits bits ≡ hex_of_bits all) (IsFront (digit ∷ [])) (IsFront (hex_of_bits all)) a b c done front
-    (λ s t is_s (rest, is_t). (
-      rest ++ hex_of_bits (drop 4 bits),
-      sym is_s
-          ∙ (ap (λ l. s ++ l) (next bits n digit enough number is ∙ (ap (λ l. l ++ hex_of_bits (drop 4 bits)) is_t ∙ append_assoc t rest (hex_of_bits (drop 4 bits))))
-          ∙ sym (append_assoc s t (rest ++ hex_of_bits (drop 4 bits)))),
-    ))
-  where
-    next : (bits : List Bool) (n digit : ℕ) → 4 ≤ length bits → n ≡ value (take 4 bits) → digit ≡ slice_index lower_digits n → hex_of_bits bits ≡ digit ∷ hex_of_bits (drop 4 bits)
-    next bits n digit enough number is = rw (is, number) (next_digit bits enough)
+-- the digit that was written, and those of the rest
+pub digit_then : (bits new : List Bool) (n digit : ℕ) → 4 ≤ length bits → n ≡ value (take 4 bits) → digit ≡ slice_index lower_digits n → new ≡ drop 4 bits
+    → hex_of_bits bits ≡ (digit ∷ []) ++ hex_of_bits new
+digit_then bits new n digit enough number is rest = rw (is, number, rest) (next_digit bits enough)
 
 -- no digit is left
-pub all_digits : (all bits : List Bool) (a b : Option Output) → length bits < 4 → Outputs a b (λ text. text ++ hex_of_bits bits ≡ hex_of_bits all) → Outputs a b (λ text. text ≡ hex_of_bits all)
+pub all_digits : (all bits : List Bool) (a b : Known Output) → length bits < 4 → Outputs a b (λ text. text ++ hex_of_bits bits ≡ hex_of_bits all) → Outputs a b (λ text. text ≡ hex_of_bits all)
 all_digits all bits a b few done =
     Outputs-weaker (λ text. text ++ hex_of_bits bits ≡ hex_of_bits all) (λ text. text ≡ hex_of_bits all) a b done
     (λ text is. sym (append-nil text) ∙ (ap (λ l. text ++ l) (sym (no_digit bits few)) ∙ is))

@@ -1,3 +1,2 @@
-pub mod SequenceLemmas
 pub mod HexLemmas
 pub mod StreamLemmas

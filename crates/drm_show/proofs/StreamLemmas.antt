@@ -8,7 +8,8 @@ use Rattle.hex.specs.Hex.{encode_with, encode_lower}
 use Rattle.drm_bits.specs.Description.{IsDescription}
 use Rattle.drm_bits.specs.declared.description.Part.{Part}
 use Rattle.drm_bits.specs.declared.description.MuxDesc.{MuxDesc}
-use Rattle.drm_links.specs.Sink.{Output, Outputs, IsFront}
+use Rattle.drm_links.specs.Told.{Known}
+use Rattle.drm_links.specs.Sink.{Output, Outputs, Writes}
 use Rattle.drm_links.proofs.ToldLemmas.{Outputs-weaker}
 use Rattle.drm_mux.specs.declared.frame.Spans.{Spans}
 use Rattle.drm_mux.specs.Frame.{parts_a, parts_b, multiplex_frame, pieces, streams_in, part_length, frame_length, HaveTheirLengths, EndBy}
@@ -50,13 +51,9 @@ some_bytes [] some = absurd (omega (arith, some))
 some_bytes (b ∷ bytes) some = refl
 
 -- without bytes a dash is written
-pub dash_whole : {E : Type 0} (bytes : List ℕ) (a b : Option Output) (r : Result (Unit {0}) E) → length bytes ≡ 0 → OnOk r (Outputs a b (λ text. text ≡ codes "-")) → OnOk r (Outputs a b (λ text. text ≡ bytes_text bytes))
-dash_whole [] a b r none written = written
-dash_whole (x ∷ bytes) a b r none written = absurd (omega (arith, none))
-
-pub dash_front : {E : Type 0} (bytes : List ℕ) (a b : Option Output) (r : Result (Unit {0}) E) → length bytes ≡ 0 → OnErr r (Outputs a b (IsFront (codes "-"))) → OnErr r (Outputs a b (IsFront (bytes_text bytes)))
-dash_front [] a b r none written = written
-dash_front (x ∷ bytes) a b r none written = absurd (omega (arith, none))
+pub dash_written : {E : Type 0} (bytes : List ℕ) (a b : Known Output) (r : Result (Unit {0}) E) → length bytes ≡ 0 → Writes r a b (codes "-") → Writes r a b (bytes_text bytes)
+dash_written [] a b r none written = written
+dash_written (x ∷ bytes) a b r none written = absurd (omega (arith, none))
 
 -- the part with an index, and those behind it
 pub one_part : (payload : List ℕ) (parts : List (ℕ × ℕ)) (index : ℕ) (part : ℕ × ℕ) → index < length parts → part ≡ get_or parts index (0, 0)
@@ -66,7 +63,7 @@ one_part payload parts index part below is =
     ∙ sym (ap (cut payload) (first_range parts index part below is))
 
 -- the digits of all parts
-pub all_parts : (bytes rest : List ℕ) (a b : Option Output) → 0 < length bytes → rest ≡ []
+pub all_parts : (bytes rest : List ℕ) (a b : Known Output) → 0 < length bytes → rest ≡ []
     → Outputs a b (λ text. text ++ encode_lower rest ≡ encode_lower bytes) → Outputs a b (λ text. text ≡ bytes_text bytes)
 unfolding encode_with
 all_parts bytes [] a b some none done =

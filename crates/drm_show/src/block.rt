@@ -1,9 +1,8 @@
 //! The SDC block of a frame, four bits a digit.
 
-ghost use Rattle.std.specs.Prelude.{◌≡◌, ◌+◌, ◌≤◌, length, OnOk, OnErr, IsErr};
+ghost use Rattle.std.specs.Prelude.{◌≡◌, ◌+◌, ◌≤◌, length};
 ghost use Rattle.dcp_tag.specs.Tag.{bytes_for};
-ghost use Rattle.drm_links.specs.Told.{HasCause};
-ghost use Rattle.drm_links.specs.Sink.{Outputs, IsFront};
+ghost use Rattle.drm_links.specs.Sink.{Writes};
 ghost use Rattle.mdi_items.specs.View.{IsWholeView};
 ghost use Rattle.drm_show.specs.FrameLine.{block_bits, block_text};
 
@@ -15,11 +14,7 @@ use mdi_items::{MdiView, SdcSpan};
 /// Writes the digits of the block, where there is one.
 pub(crate) fn write_block<O: Sink>(out: &mut O, view: &MdiView<'_>) -> Result<(), WriteFault>
     requires { IsWholeView view.now }
-    ensures whole { OnOk result (Outputs (O.tells out.old) (O.tells out.new)
-        (λ text. text ≡ block_text view.now.payload.now view.now.sdc)) }
-    ensures front { OnErr result (Outputs (O.tells out.old) (O.tells out.new)
-        (IsFront (block_text view.now.payload.now view.now.sdc))) }
-    ensures cause { HasCause (O.faults out.old) (O.faults out.new) (IsErr result) }
+    ensures { Writes result (O.known out.old) (O.known out.new) (block_text view.now.payload.now view.now.sdc) }
 {
     match &view.sdc {
         None => write_all(out, b"-"),

@@ -1,8 +1,6 @@
 //! The multiplex description of a frame, as the value of its `sdci`.
 
-ghost use Rattle.std.specs.Prelude.{◌≡◌, OnOk, OnErr, IsErr};
-ghost use Rattle.drm_links.specs.Told.{HasCause};
-ghost use Rattle.drm_links.specs.Sink.{Outputs, IsFront};
+ghost use Rattle.drm_links.specs.Sink.{Writes};
 ghost use Rattle.mdi_items.specs.View.{IsWholeView};
 ghost use Rattle.drm_show.specs.FrameLine.{description_text};
 
@@ -15,11 +13,7 @@ use mdi_items::MdiView;
 /// Writes the digits of the description.
 pub(crate) fn write_description<O: Sink>(out: &mut O, view: &MdiView<'_>) -> Result<(), WriteFault>
     requires { IsWholeView view.now }
-    ensures whole { OnOk result (Outputs (O.tells out.old) (O.tells out.new)
-        (λ text. text ≡ description_text view.now.mux)) }
-    ensures front { OnErr result (Outputs (O.tells out.old) (O.tells out.new)
-        (IsFront (description_text view.now.mux))) }
-    ensures cause { HasCause (O.faults out.old) (O.faults out.new) (IsErr result) }
+    ensures { Writes result (O.known out.old) (O.known out.new) (description_text view.now.mux) }
 {
     let mut value = [0; 13];
     let len = write_sdci(&view.mux, &mut value);

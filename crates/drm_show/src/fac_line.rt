@@ -1,10 +1,9 @@
 //! The line of a FAC.
 
-ghost use Rattle.std.specs.Prelude.{◌≡◌, ◌<◌, ◌++◌, OnOk, OnErr, IsErr, [], ◌∷◌, codes, decimal, if◌then◌else◌};
+ghost use Rattle.std.specs.Prelude.{◌≡◌, ◌<◌, ◌++◌, codes, decimal, if◌then◌else◌};
 ghost use Rattle.std.specs.Int.{from_bool};
 ghost use Rattle.hex.specs.Hex.{encode_lower};
-ghost use Rattle.drm_links.specs.Told.{HasCause};
-ghost use Rattle.drm_links.specs.Sink.{Outputs, IsFront};
+ghost use Rattle.drm_links.specs.Sink.{Writes};
 ghost use Rattle.drm_fac.specs.Fac.{FacFits};
 ghost use Rattle.drm_fac.specs.Services.{counts_of};
 ghost use Rattle.text_pieces.specs.Text.{piece_text, text_of};
@@ -18,11 +17,7 @@ use text_pieces::{Piece, write_pieces};
 #[tactic(auto, unfolding(crate::specs::FacLine::id_digits))]
 pub fn write_fac<O: Sink>(out: &mut O, fac: &Fac) -> Result<(), WriteFault>
     requires { FacFits fac.now }
-    ensures whole { OnOk result (Outputs (O.tells out.old) (O.tells out.new)
-        (λ text. text ≡ fac_line fac.now)) }
-    ensures front { OnErr result (Outputs (O.tells out.old) (O.tells out.new)
-        (IsFront (fac_line fac.now))) }
-    ensures cause { HasCause (O.faults out.old) (O.faults out.new) (IsErr result) }
+    ensures { Writes result (O.known out.old) (O.known out.new) (fac_line fac.now) }
 {
     let id = fac.service.id.to_be_bytes();
     write_pieces(out, &pieces(fac, &id[1..]))

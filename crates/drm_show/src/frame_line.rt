@@ -1,9 +1,8 @@
 //! The line of a logical frame.
 
-ghost use Rattle.std.specs.Prelude.{◌≡◌, OnOk, OnErr, IsErr};
+ghost use Rattle.std.specs.Prelude.{◌≡◌};
 ghost use Rattle.std.specs.List.{flat_map};
-ghost use Rattle.drm_links.specs.Told.{HasCause};
-ghost use Rattle.drm_links.specs.Sink.{Outputs, IsFront};
+ghost use Rattle.drm_links.specs.Sink.{Writes};
 ghost use Rattle.mdi_items.specs.Frame.{frame_of};
 ghost use Rattle.mdi_items.specs.View.{IsWholeView};
 ghost use Rattle.drm_show.specs.FrameLine.{frame_line};
@@ -25,9 +24,7 @@ pub(crate) fn write_frame<O: Sink>(
     view: &MdiView<'_>,
 ) -> Result<(), WriteFault>
     requires { IsWholeView view.now }
-    ensures whole { OnOk result (Outputs (O.tells out.old) (O.tells out.new) (λ text. text ≡ frame_line index (frame_of view.now) view.now.payload.now)) }
-    ensures front { OnErr result (Outputs (O.tells out.old) (O.tells out.new) (IsFront (frame_line index (frame_of view.now) view.now.payload.now))) }
-    ensures cause { HasCause (O.faults out.old) (O.faults out.new) (IsErr result) }
+    ensures { Writes result (O.known out.old) (O.known out.new) (frame_line index (frame_of view.now) view.now.payload.now) }
 {
     write_parts(out, view, &parts(index, view))
 }
@@ -73,11 +70,8 @@ fn write_parts<O: Sink>(
     parts: &[Part<'_>],
 ) -> Result<(), WriteFault>
     requires { IsWholeView view.now }
-    ensures whole { OnOk result (Outputs (O.tells out.old) (O.tells out.new)
-        (λ text. text ≡ flat_map (part_text (frame_of view.now) view.now.payload.now) parts.now)) }
-    ensures front { OnErr result (Outputs (O.tells out.old) (O.tells out.new)
-        (IsFront (flat_map (part_text (frame_of view.now) view.now.payload.now) parts.now))) }
-    ensures cause { HasCause (O.faults out.old) (O.faults out.new) (IsErr result) }
+    ensures { Writes result (O.known out.old) (O.known out.new)
+        (flat_map (part_text (frame_of view.now) view.now.payload.now) parts.now) }
 {
     for part in parts {
         write_part(out, view, *part)?;
@@ -87,11 +81,7 @@ fn write_parts<O: Sink>(
 
 fn write_part<O: Sink>(out: &mut O, view: &MdiView<'_>, part: Part<'_>) -> Result<(), WriteFault>
     requires { IsWholeView view.now }
-    ensures whole { OnOk result (Outputs (O.tells out.old) (O.tells out.new)
-        (λ text. text ≡ part_text (frame_of view.now) view.now.payload.now part.entry)) }
-    ensures front { OnErr result (Outputs (O.tells out.old) (O.tells out.new)
-        (IsFront (part_text (frame_of view.now) view.now.payload.now part.entry))) }
-    ensures cause { HasCause (O.faults out.old) (O.faults out.new) (IsErr result) }
+    ensures { Writes result (O.known out.old) (O.known out.new) (part_text (frame_of view.now) view.now.payload.now part.entry) }
 {
     match part {
         Part::Text(piece) => write_piece(out, piece),

@@ -1,9 +1,8 @@
 //! Bits in hex.
 
-ghost use Rattle.std.specs.Prelude.{◌≡◌, ◌<◌, slice_index, OnOk, OnErr, IsErr};
+ghost use Rattle.std.specs.Prelude.{◌≡◌, ◌<◌, slice_index};
 ghost use Rattle.hex.specs.Hex.{lower_digits};
-ghost use Rattle.drm_links.specs.Told.{HasCause};
-ghost use Rattle.drm_links.specs.Sink.{Outputs, IsFront};
+ghost use Rattle.drm_links.specs.Sink.{Writes};
 ghost use Rattle.drm_show.specs.HexBits.{hex_of_bits};
 
 use drm_bits::Bits;
@@ -11,11 +10,7 @@ use drm_links::{Sink, WriteFault, write_all};
 
 /// Writes a digit for each four bits that are left.
 pub(crate) fn write_bits<O: Sink>(out: &mut O, mut bits: Bits<'_>) -> Result<(), WriteFault>
-    ensures whole { OnOk result (Outputs (O.tells out.old) (O.tells out.new)
-        (λ text. text ≡ hex_of_bits bits.entry)) }
-    ensures front { OnErr result (Outputs (O.tells out.old) (O.tells out.new)
-        (IsFront (hex_of_bits bits.entry))) }
-    ensures cause { HasCause (O.faults out.old) (O.faults out.new) (IsErr result) }
+    ensures { Writes result (O.known out.old) (O.known out.new) (hex_of_bits bits.entry) }
 {
     while let Ok(n) = bits.take(4) {
         write_all(out, &[digit(n)])?;

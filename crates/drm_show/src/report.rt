@@ -1,8 +1,7 @@
 //! The first and the last line of a report, and those of refused datagrams.
 
-ghost use Rattle.std.specs.Prelude.{◌≡◌, OnOk, OnErr, IsErr};
-ghost use Rattle.drm_links.specs.Told.{HasCause};
-ghost use Rattle.drm_links.specs.Sink.{Outputs, IsFront};
+ghost use Rattle.std.specs.Prelude.{◌≡◌};
+ghost use Rattle.drm_links.specs.Sink.{Writes};
 ghost use Rattle.drm_show.specs.FaultWords.{IsTold};
 ghost use Rattle.drm_show.specs.Report.{feed_line, refused_line, end_word, end_line};
 
@@ -37,9 +36,7 @@ pub struct Sums {
 
 /// Writes the first line of the report of feed `k`.
 pub fn write_feed<O: Sink>(out: &mut O, k: u8) -> Result<(), WriteFault>
-    ensures whole { OnOk result (Outputs (O.tells out.old) (O.tells out.new) (λ text. text ≡ feed_line k)) }
-    ensures front { OnErr result (Outputs (O.tells out.old) (O.tells out.new) (IsFront (feed_line k))) }
-    ensures cause { HasCause (O.faults out.old) (O.faults out.new) (IsErr result) }
+    ensures { Writes result (O.known out.old) (O.known out.new) (feed_line k) }
 {
     write_pieces(
         out,
@@ -54,9 +51,7 @@ pub fn write_feed<O: Sink>(out: &mut O, k: u8) -> Result<(), WriteFault>
 /// Writes the line of the `n`-th datagram of a link, from 0 on, which was refused or disagreed.
 pub fn write_refused<O: Sink>(out: &mut O, n: u64, taken: &Taken) -> Result<(), WriteFault>
     requires { IsTold taken.now }
-    ensures whole { OnOk result (Outputs (O.tells out.old) (O.tells out.new) (λ text. text ≡ refused_line n taken.now)) }
-    ensures front { OnErr result (Outputs (O.tells out.old) (O.tells out.new) (IsFront (refused_line n taken.now))) }
-    ensures cause { HasCause (O.faults out.old) (O.faults out.new) (IsErr result) }
+    ensures { Writes result (O.known out.old) (O.known out.new) (refused_line n taken.now) }
 {
     write_pieces(
         out,
@@ -72,9 +67,7 @@ pub fn write_refused<O: Sink>(out: &mut O, n: u64, taken: &Taken) -> Result<(), 
 
 /// Writes the last line of a report.
 pub fn write_end<O: Sink>(out: &mut O, word: EndWord, sums: &Sums) -> Result<(), WriteFault>
-    ensures whole { OnOk result (Outputs (O.tells out.old) (O.tells out.new) (λ text. text ≡ end_line word sums.now)) }
-    ensures front { OnErr result (Outputs (O.tells out.old) (O.tells out.new) (IsFront (end_line word sums.now))) }
-    ensures cause { HasCause (O.faults out.old) (O.faults out.new) (IsErr result) }
+    ensures { Writes result (O.known out.old) (O.known out.new) (end_line word sums.now) }
 {
     write_pieces(
         out,

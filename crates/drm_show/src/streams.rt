@@ -1,9 +1,8 @@
 //! The multiplex frame, written part by part out of the streams in the payload.
 
-ghost use Rattle.std.specs.Prelude.{◌≡◌, length, OnOk, OnErr, IsErr};
+ghost use Rattle.std.specs.Prelude.{length};
 ghost use Rattle.drm_bits.specs.Description.{IsDescription};
-ghost use Rattle.drm_links.specs.Told.{HasCause};
-ghost use Rattle.drm_links.specs.Sink.{Outputs, IsFront};
+ghost use Rattle.drm_links.specs.Sink.{Writes};
 ghost use Rattle.drm_mux.specs.Frame.{multiplex_frame, streams_in, EndBy, HaveTheirLengths};
 ghost use Rattle.drm_show.specs.FrameLine.{bytes_text};
 
@@ -21,11 +20,8 @@ pub(crate) fn write_streams<O: Sink>(
     requires description { IsDescription mux.now }
     requires lengths { HaveTheirLengths mux.now streams.now }
     requires inside { EndBy (length payload.now) streams.now }
-    ensures whole { OnOk result (Outputs (O.tells out.old) (O.tells out.new)
-        (λ text. text ≡ bytes_text (multiplex_frame mux.now (streams_in payload.now streams.now)))) }
-    ensures front { OnErr result (Outputs (O.tells out.old) (O.tells out.new)
-        (IsFront (bytes_text (multiplex_frame mux.now (streams_in payload.now streams.now))))) }
-    ensures cause { HasCause (O.faults out.old) (O.faults out.new) (IsErr result) }
+    ensures { Writes result (O.known out.old) (O.known out.new)
+        (bytes_text (multiplex_frame mux.now (streams_in payload.now streams.now))) }
 {
     // What is read of the streams tells how many there are.
     let _places = streams.at;

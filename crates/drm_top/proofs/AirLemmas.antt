@@ -2,12 +2,12 @@
 use Rattle.std.proofs.Common.{◌≡◌, ℕ, zero, suc, ◌+◌, ◌<◌, ◌≤◌, ◌⊎◌, inl, inr, Bool, List, [], ◌∷◌, ◌++◌, length, map, slice_index_or, Option, Some, Result, Ok, Err, refl, sym, ◌∙◌, subst, arith, le_refl, le_trans}
 use Rattle.std.specs.Prelude.{sum_by}
 use Rattle.std.specs.List.{All, AllByRecursion, fold}
-use Rattle.drm_links.specs.Told.{HasCause, Rose}
+use Rattle.drm_links.specs.Told.{HasFailed, Known, HasCause, Rose}
 use Rattle.drm_links.specs.Link.{Answer, Datagram, Failed}
 use Rattle.drm_links.specs.Sink.{Output}
 use Rattle.drm_links.specs.Shelf.{Files}
 use Rattle.drm_links.specs.Dock.{LinkStart}
-use Rattle.drm_links.specs.MemoryLink.{LinkState, link_tells}
+use Rattle.drm_links.specs.MemoryLink.{LinkState, link_known}
 use Rattle.drm_links.proofs.ToldLemmas.{later-Rose}
 use Rattle.collect_laws.specs.Laws.{OneRun}
 use Rattle.drm_schedule.specs.declared.plan.Plan.{Plan}
@@ -82,8 +82,8 @@ never_breaks : (rules : Rules) (brought : List (List ℕ)) → BreaksOff rules (
 never_breaks rules brought breaks =
     not_sound breaks.before (subst (AllByRecursion IsSound) breaks.reading.last (fed.none_failed brought breaks.answers breaks.rest breaks.next))
 
-module _ (link_faults : LinkState → ℕ) (plan : Plan) (window : ℕ) (valid : IsSchedule plan) (some : 1 ≤ window) (few : window ≤ 64) (headlines : HeadlinesFollow) (completes : CompletesFollow) (feeds : List (List Delivery)) (script : IsScript plan feeds) (before after : List (Job LinkState))
-    (ran : Ran link_faults link_tells (air_rules plan window) (length feeds) before after) (brings : BringFeeds plan feeds before) where
+module _ (plan : Plan) (window : ℕ) (valid : IsSchedule plan) (some : 1 ≤ window) (few : window ≤ 64) (headlines : HeadlinesFollow) (completes : CompletesFollow) (feeds : List (List Delivery)) (script : IsScript plan feeds) (before after : List (Job LinkState))
+    (ran : Ran link_known (air_rules plan window) (length feeds) before after) (brings : BringFeeds plan feeds before) where
   in_range : AreInRange (air_rules plan window)
   in_range = air_in_range plan window valid some few
 
@@ -98,7 +98,7 @@ module _ (link_faults : LinkState → ℕ) (plan : Plan) (window : ℕ) (valid :
         let link : BringsFeed plan here (slice_index_or before k d).link = brings k feed d within in
         let start : LinkStart = record { ahead = map Datagram link.datagrams; sends = Some 0 } in
         let report : IsReportOf (air_rules plan window) (k + 1) (map Datagram link.datagrams) (told_of (slice_index_or after k d)) =
-        job_report link_faults link_tells (air_rules plan window) in_range (k + 1) start (slice_index_or before k d) (slice_index_or after k d) (ran.jobs k d within) link.told (ran.ended k d first) headlines completes (done k d last) in
+        job_report link_known (air_rules plan window) in_range (k + 1) start (slice_index_or before k d) (slice_index_or after k d) (ran.jobs k d within) link.told (ran.ended k d first) headlines completes (done k d last) in
         let many : length link.datagrams < 4294967295 =
         (let sent = fed.sent_many plan (pairs_of here) link.datagrams link.sent in
         let pairs : length (pairs_of here) ≡ length here = map_size (λ (x : Delivery). (x.packet, x.fragment)) here in
@@ -123,7 +123,7 @@ module _ (link_faults : LinkState → ℕ) (plan : Plan) (window : ℕ) (valid :
       let link : BringsFeed plan (slice_index_or feeds failed.0 []) (slice_index_or before failed.0 d).link = brings failed.0 [] d within in
       let start : LinkStart = record { ahead = map Datagram link.datagrams; sends = Some 0 } in
       never_breaks (air_rules plan window) link.datagrams
-      (job_breaks link_faults link_tells (air_rules plan window) in_range (failed.0 + 1) start (slice_index_or before failed.0 d) (slice_index_or after failed.0 d) (ran.jobs failed.0 d within) link.told (ran.ended failed.0 d first) (failed.2 d))
+      (job_breaks link_known (air_rules plan window) in_range (failed.0 + 1) start (slice_index_or before failed.0 d) (slice_index_or after failed.0 d) (ran.jobs failed.0 d within) link.told (ran.ended failed.0 d first) (failed.2 d))
 
   no_link : (NoneFailed after → ⊥) → ⊥
   no_link some_did = elim (some_failed after) [
@@ -131,9 +131,9 @@ module _ (link_faults : LinkState → ℕ) (plan : Plan) (window : ℕ) (valid :
     | inr failed ↦ none_failed failed
   ]
 
-  kind_by : {O : Type 0} (stopped : Result Bool Stop) (tells : O → Option Output) (out out' : O) → Settles after stopped tells out out' → (fault : Fault) → ending_of stopped ≡ Err fault → (fault ≡ faults.NoMemory) ⊎ (fault ≡ faults.Write)
-  kind_by stopped tells out out' settled fault is =
-      elim (ending_kind after stopped tells out out' settled fault is) [
+  kind_by : {O : Type 0} (stopped : Result Bool Stop) (known : O → Known Output) (out out' : O) → Settles after stopped known out out' → (fault : Fault) → ending_of stopped ≡ Err fault → (fault ≡ faults.NoMemory) ⊎ (fault ≡ faults.Write)
+  kind_by stopped known out out' settled fault is =
+      elim (ending_kind after stopped known out out' settled fault is) [
         | inl memory ↦ inl memory
         | inr rest ↦ elim rest [
           | inl link ↦ absurd (no_link link.1)
@@ -141,20 +141,20 @@ module _ (link_faults : LinkState → ℕ) (plan : Plan) (window : ℕ) (valid :
         ]
       ]
 
-  not_read : {O : Type 0} (stopped : Result Bool Stop) (tells : O → Option Output) (out out' : O) → Settles after stopped tells out out' → ending_of stopped ≡ Err faults.Read → ⊥
-  not_read stopped tells out out' settled is =
-      elim (kind_by stopped tells out out' settled faults.Read is) [
+  not_read : {O : Type 0} (stopped : Result Bool Stop) (known : O → Known Output) (out out' : O) → Settles after stopped known out out' → ending_of stopped ≡ Err faults.Read → ⊥
+  not_read stopped known out out' settled is =
+      elim (kind_by stopped known out out' settled faults.Read is) [
         | inl memory ↦ cc
         | inr write ↦ cc
       ]
 
-  pub settled_air : OneRun → Delivering → DeliveringEarly → ItemLaws → {S O : Type 0} (name text : List ℕ) (stopped : Result Bool Stop) (shelf_faults : S → ℕ) (shelf_tells : S → Option Files) (shelf between shelf' : S)
-      (out_faults : O → ℕ) (out_tells : O → Option Output) (out out' : O)
-      → ReadBy (schedule_named name) (Ok plan) (shelf_tells shelf) (shelf_tells between) → ReadBy (script_named plan text) (Ok feeds) (shelf_tells between) (shelf_tells shelf')
-      → shelf_faults shelf ≤ shelf_faults between → shelf_faults between ≤ shelf_faults shelf'
-      → Settles after stopped out_tells out out' → HasCause (out_faults out) (out_faults out') (stopped ≡ Err stops.Write)
-      → AirRun name text window (ending_of stopped) shelf_faults shelf_tells shelf shelf' out_faults out_tells out out'
-  settled_air one_run delivering early laws name text stopped shelf_faults shelf_tells shelf between shelf' out_faults out_tells out out' loads script_loads later later' settled cause = record {
+  pub settled_air : OneRun → Delivering → DeliveringEarly → ItemLaws → {S O : Type 0} (name text : List ℕ) (stopped : Result Bool Stop) (shelf_known : S → Known Files) (shelf between shelf' : S)
+      (out_known : O → Known Output) (out out' : O)
+      → ReadBy (schedule_named name) (Ok plan) (shelf_known shelf) (shelf_known between) → ReadBy (script_named plan text) (Ok feeds) (shelf_known between) (shelf_known shelf')
+      → (shelf_known shelf).faults ≤ (shelf_known between).faults → (shelf_known between).faults ≤ (shelf_known shelf').faults
+      → Settles after stopped out_known out out' → HasCause (out_known out) (out_known out') (stopped ≡ Err stops.Write)
+      → AirRun name text window (ending_of stopped) shelf_known shelf shelf' out_known out out'
+  settled_air one_run delivering early laws name text stopped shelf_known shelf between shelf' out_known out out' loads script_loads later later' settled cause = record {
     came = Ok plan;
     between = between;
     loads = loads;
@@ -164,11 +164,11 @@ module _ (link_faults : LinkState → ℕ) (plan : Plan) (window : ℕ) (valid :
       loads = script_loads;
       writes = (
         script,
-        reports_written after stopped (AreAired plan window feeds) out_tells out out' (are_aired one_run delivering early laws) settled,
-        kind_by stopped out_tells out out' settled,
+        reports_written after stopped (AreAired plan window feeds) out_known out out' (are_aired one_run delivering early laws) settled,
+        kind_by stopped out_known out out' settled,
       );
     };
-    read_cause = record { later = le_trans later later'; rose = λ is. absurd (not_read stopped out_tells out out' settled is) };
+    read_cause = record { later = le_trans later later'; rose = λ is. absurd (not_read stopped out_known out out' settled is) };
     write_cause = record { later = cause.later; rose = λ is. cause.rose (write_is stopped is) };
   }
 
@@ -180,10 +180,10 @@ of_fault fault = Err fault
 inner : (fault other : Fault) → of_fault fault ≡ of_fault other → fault ≡ other
 inner fault other is = cc
 
-module _ {S O : Type 0} (name text : List ℕ) (window : ℕ) (shelf_faults : S → ℕ) (shelf_tells : S → Option Files) (out_faults : O → ℕ) (out_tells : O → Option Output) (out : O) where
-  pub no_schedule : (fault : ScheduleFault) (shelf shelf' : S) → ReadBy (schedule_named name) (Err fault) (shelf_tells shelf) (shelf_tells shelf')
-      → shelf_faults shelf ≤ shelf_faults shelf' → (fault ≡ schedule.Read → Rose (shelf_faults shelf) (shelf_faults shelf'))
-      → AirRun name text window (Err (fault_of_schedule fault)) shelf_faults shelf_tells shelf shelf' out_faults out_tells out out
+module _ {S O : Type 0} (name text : List ℕ) (window : ℕ) (shelf_known : S → Known Files) (out_known : O → Known Output) (out : O) where
+  pub no_schedule : (fault : ScheduleFault) (shelf shelf' : S) → ReadBy (schedule_named name) (Err fault) (shelf_known shelf) (shelf_known shelf')
+      → (shelf_known shelf).faults ≤ (shelf_known shelf').faults → (fault ≡ schedule.Read → HasFailed (shelf_known shelf) (shelf_known shelf'))
+      → AirRun name text window (Err (fault_of_schedule fault)) shelf_known shelf shelf' out_known out out
   no_schedule fault shelf shelf' loads later rose = record {
     came = Err fault;
     between = shelf';
@@ -193,10 +193,10 @@ module _ {S O : Type 0} (name text : List ℕ) (window : ℕ) (shelf_faults : S 
     write_cause = record { later = le_refl _; rose = λ is. absurd (write_schedule fault (inner (fault_of_schedule fault) faults.Write is)) };
   }
 
-  pub no_script : (plan : Plan) (fault : ScheduleFault) (shelf between shelf' : S) → IsSchedule plan → ReadBy (schedule_named name) (Ok plan) (shelf_tells shelf) (shelf_tells between)
-      → ReadBy (script_named plan text) (Err fault) (shelf_tells between) (shelf_tells shelf') → shelf_faults shelf ≤ shelf_faults between → shelf_faults between ≤ shelf_faults shelf'
-      → (fault ≡ schedule.Read → Rose (shelf_faults between) (shelf_faults shelf'))
-      → AirRun name text window (Err (fault_of_script fault)) shelf_faults shelf_tells shelf shelf' out_faults out_tells out out
+  pub no_script : (plan : Plan) (fault : ScheduleFault) (shelf between shelf' : S) → IsSchedule plan → ReadBy (schedule_named name) (Ok plan) (shelf_known shelf) (shelf_known between)
+      → ReadBy (script_named plan text) (Err fault) (shelf_known between) (shelf_known shelf') → (shelf_known shelf).faults ≤ (shelf_known between).faults → (shelf_known between).faults ≤ (shelf_known shelf').faults
+      → (fault ≡ schedule.Read → HasFailed (shelf_known between) (shelf_known shelf'))
+      → AirRun name text window (Err (fault_of_script fault)) shelf_known shelf shelf' out_known out out
   no_script plan fault shelf between shelf' valid loads script_loads later later' rose = record {
     came = Ok plan;
     between = between;
@@ -206,9 +206,9 @@ module _ {S O : Type 0} (name text : List ℕ) (window : ℕ) (shelf_faults : S 
     write_cause = record { later = le_refl _; rose = λ is. absurd (write_script fault (inner (fault_of_script fault) faults.Write is)) };
   }
 
-  pub no_jobs : (plan : Plan) (feeds : List (List Delivery)) (shelf between shelf' : S) → IsSchedule plan → IsScript plan feeds → ReadBy (schedule_named name) (Ok plan) (shelf_tells shelf) (shelf_tells between)
-      → ReadBy (script_named plan text) (Ok feeds) (shelf_tells between) (shelf_tells shelf') → shelf_faults shelf ≤ shelf_faults between → shelf_faults between ≤ shelf_faults shelf'
-      → AirRun name text window (Err faults.NoMemory) shelf_faults shelf_tells shelf shelf' out_faults out_tells out out
+  pub no_jobs : (plan : Plan) (feeds : List (List Delivery)) (shelf between shelf' : S) → IsSchedule plan → IsScript plan feeds → ReadBy (schedule_named name) (Ok plan) (shelf_known shelf) (shelf_known between)
+      → ReadBy (script_named plan text) (Ok feeds) (shelf_known between) (shelf_known shelf') → (shelf_known shelf).faults ≤ (shelf_known between).faults → (shelf_known between).faults ≤ (shelf_known shelf').faults
+      → AirRun name text window (Err faults.NoMemory) shelf_known shelf shelf' out_known out out
   no_jobs plan feeds shelf between shelf' valid script loads script_loads later later' = record {
     came = Ok plan;
     between = between;

@@ -2,10 +2,10 @@
 use Rattle.std.proofs.Common.{◌≡◌, ℕ, ◌<◌, ◌⊎◌, ◌↔◌, inl, inr, Bool, true, false, IsTrue, List, [], length, Option, Result, Ok, Err, refl, sym, ◌∙◌, ap, subst, arith}
 use Rattle.drm_schedule.specs.declared.plan.Plan.{Plan}
 use Rattle.script_lines.specs.declared.delivery.Delivery.{Delivery}
-use Rattle.drm_links.specs.Told.{Rose}
+use Rattle.drm_links.specs.Told.{HasFailed, Known, Rose}
 use Rattle.drm_links.specs.Shelf.{Files, Supplies}
 use Rattle.drm_links.specs.Sink.{Output}
-use Rattle.drm_links.proofs.ToldLemmas.{Supplies-weaker}
+use Rattle.drm_links.proofs.ToldLemmas.{Tells-weaker}
 use Rattle.drm_load.specs.declared.loading.ScheduleFault.{ScheduleFault}
 use Rattle.drm_load.specs.declared.loading.ScheduleFault.TheVariants as loads
 use Rattle.drm_faults.specs.declared.fault.Fault.{Fault}
@@ -40,15 +40,15 @@ script_status (loads.Line line reason) = refl
 script_status loads.Read = refl
 
 -- what comes of a schedule and its script, or of their fault
-abbrev Comes : {O : Type 0} → ℕ → Result (Plan × List (List Delivery)) ScheduleFault → Result Bool Fault → (O → Option Output) → O → O → Type 0
-Comes window (Ok both) ending tells out out' =
-    WritesReports (AreAired both.0 window both.1) ending tells out out' × ((fault : Fault) → ending ≡ Err fault → (fault ≡ faults.NoMemory) ⊎ (fault ≡ faults.Write))
-Comes window (Err fault) ending tells out out' = report_status ending ≡ text_status fault
+abbrev Comes : {O : Type 0} → ℕ → Result (Plan × List (List Delivery)) ScheduleFault → Result Bool Fault → (O → Known Output) → O → O → Type 0
+Comes window (Ok both) ending known out out' =
+    WritesReports (AreAired both.0 window both.1) ending known out out' × ((fault : Fault) → ending ≡ Err fault → (fault ≡ faults.NoMemory) ⊎ (fault ≡ faults.Write))
+Comes window (Err fault) ending known out out' = report_status ending ≡ text_status fault
 
-record Came {S O : Type 0} (name script : List ℕ) (window : ℕ) (ending : Result Bool Fault) (shelf_tells : S → Option Files) (shelf shelf' : S) (out_tells : O → Option Output) (out out' : O) : Type 0 where
+record Came {S O : Type 0} (name script : List ℕ) (window : ℕ) (ending : Result Bool Fault) (shelf_known : S → Known Files) (shelf shelf' : S) (out_known : O → Known Output) (out out' : O) : Type 0 where
   pub both : Result (Plan × List (List Delivery)) ScheduleFault
-  pub loads : ReadBy (schedule_and_script name script) both (shelf_tells shelf) (shelf_tells shelf')
-  pub comes : Comes window both ending out_tells out out'
+  pub loads : ReadBy (schedule_and_script name script) both (shelf_known shelf) (shelf_known shelf')
+  pub comes : Comes window both ending out_known out out'
 
 -- what is read behind the schedule
 abbrev behind : List ℕ → Plan → Reading (Plan × List (List Delivery))
@@ -56,38 +56,38 @@ behind script plan = do
   feeds ← script_named plan script
   given (Ok (plan, feeds))
 
-module _ {S O : Type 0} (name script : List ℕ) (window : ℕ) (shelf_tells : S → Option Files) (out_tells : O → Option Output) where
-  over : (ending : Result Bool Fault) (shelf between shelf' : S) (out out' : O) (plan : Plan) → ReadBy (schedule_named name) (Ok plan) (shelf_tells shelf) (shelf_tells between)
-      → (came : Result (List (List Delivery)) ScheduleFault) → ReadBy (script_named plan script) came (shelf_tells between) (shelf_tells shelf') → ByScript plan window came ending out_tells out out'
-      → Came name script window ending shelf_tells shelf shelf' out_tells out out'
+module _ {S O : Type 0} (name script : List ℕ) (window : ℕ) (shelf_known : S → Known Files) (out_known : O → Known Output) where
+  over : (ending : Result Bool Fault) (shelf between shelf' : S) (out out' : O) (plan : Plan) → ReadBy (schedule_named name) (Ok plan) (shelf_known shelf) (shelf_known between)
+      → (came : Result (List (List Delivery)) ScheduleFault) → ReadBy (script_named plan script) came (shelf_known between) (shelf_known shelf') → ByScript plan window came ending out_known out out'
+      → Came name script window ending shelf_known shelf shelf' out_known out out'
   over ending shelf between shelf' out out' plan first (Ok feeds) second by = record {
     both = Ok (plan, feeds);
-    loads = ReadBy-then (schedule_named name) (behind script) plan (Ok (plan, feeds)) (shelf_tells shelf) (shelf_tells between) (shelf_tells shelf') first
-        (ReadBy-then (script_named plan script) (λ all. given (Ok (plan, all))) feeds (Ok (plan, feeds)) (shelf_tells between) (shelf_tells shelf') (shelf_tells shelf') second (ReadBy-given (Ok (plan, feeds)) (shelf_tells shelf')));
+    loads = ReadBy-then (schedule_named name) (behind script) plan (Ok (plan, feeds)) (shelf_known shelf) (shelf_known between) (shelf_known shelf') first
+        (ReadBy-then (script_named plan script) (λ all. given (Ok (plan, all))) feeds (Ok (plan, feeds)) (shelf_known between) (shelf_known shelf') (shelf_known shelf') second (ReadBy-given (Ok (plan, feeds)) (shelf_known shelf')));
     comes = (by.1, by.2);
   }
   over ending shelf between shelf' out out' plan first (Err fault) second by = record {
     both = Err fault;
-    loads = ReadBy-then (schedule_named name) (behind script) plan (Err fault) (shelf_tells shelf) (shelf_tells between) (shelf_tells shelf') first
-        (ReadBy-stops (script_named plan script) (λ all. given (Ok (plan, all))) fault (shelf_tells between) (shelf_tells shelf') second);
+    loads = ReadBy-then (schedule_named name) (behind script) plan (Err fault) (shelf_known shelf) (shelf_known between) (shelf_known shelf') first
+        (ReadBy-stops (script_named plan script) (λ all. given (Ok (plan, all))) fault (shelf_known between) (shelf_known shelf') second);
     comes = ap report_status by.0 ∙ script_status fault;
   }
 
-  came_by : (ending : Result Bool Fault) (shelf between shelf' : S) (out out' : O) (came : Result Plan ScheduleFault) → ReadBy (schedule_named name) came (shelf_tells shelf) (shelf_tells between)
-      → BySchedule script window came ending shelf_tells between shelf' out_tells out out' → Came name script window ending shelf_tells shelf shelf' out_tells out out'
+  came_by : (ending : Result Bool Fault) (shelf between shelf' : S) (out out' : O) (came : Result Plan ScheduleFault) → ReadBy (schedule_named name) came (shelf_known shelf) (shelf_known between)
+      → BySchedule script window came ending shelf_known between shelf' out_known out out' → Came name script window ending shelf_known shelf shelf' out_known out out'
   came_by ending shelf between shelf' out out' (Ok plan) first by = over ending shelf between shelf' out out' plan first by.came by.loads by.writes
   came_by ending shelf between shelf' out out' (Err fault) first by = record {
     both = Err fault;
-    loads = subst (λ s. ReadBy (schedule_and_script name script) (Err fault) (shelf_tells shelf) (shelf_tells s)) (sym by.1)
-        (ReadBy-stops (schedule_named name) (behind script) fault (shelf_tells shelf) (shelf_tells between) first);
+    loads = subst (λ s. ReadBy (schedule_and_script name script) (Err fault) (shelf_known shelf) (shelf_known s)) (sym by.1)
+        (ReadBy-stops (schedule_named name) (behind script) fault (shelf_known shelf) (shelf_known between) first);
     comes = ap report_status by.0 ∙ schedule_status fault;
   }
 
   -- unless memory ran out, what came is what the files come to
-  came_is : (both : Result (Plan × List (List Delivery)) ScheduleFault) (ending : Result Bool Fault) (out out' : O) (x y : Files) → Comes window both ending out_tells out out' → (report_status ending ≡ 1 → ⊥)
+  came_is : (both : Result (Plan × List (List Delivery)) ScheduleFault) (ending : Result Bool Fault) (out out' : O) (x y : Files) → Comes window both ending out_known out out' → (report_status ending ≡ 1 → ⊥)
       → (both ≡ Err loads.NoMemory) ⊎ (schedule_and_script name script x ≡ record { came = both; told = y }) → both ≡ (schedule_and_script name script x).came
   came_is both ending out out' x y comes memory (inl is) =
-      let P : Result (Plan × List (List Delivery)) ScheduleFault → Type 0 = λ v. Comes window v ending out_tells out out' in
+      let P : Result (Plan × List (List Delivery)) ScheduleFault → Type 0 = λ v. Comes window v ending out_known out out' in
       let one : report_status ending ≡ 1 = subst P is comes in
       absurd (memory one)
   came_is both ending out out' x y comes memory (inr is) = sym (ap (λ (step : Step (Plan × List (List Delivery))). step.came) is)
@@ -103,50 +103,50 @@ module _ {S O : Type 0} (name script : List ℕ) (window : ℕ) (shelf_tells : S
     | inr is ↦ let five : report_status (Err fault) ≡ 5 = ap (λ f. report_status (Err f)) is in ((λ e. omega (arith, e, five)), λ e. omega (arith, e, five))
   ]
 
-  three : (both : Result (Plan × List (List Delivery)) ScheduleFault) (ending : Result Bool Fault) (out out' : O) → Comes window both ending out_tells out out' → (report_status ending ≡ 3) ↔ IsRefused both
+  three : (both : Result (Plan × List (List Delivery)) ScheduleFault) (ending : Result Bool Fault) (out out' : O) → Comes window both ending out_known out out' → (report_status ending ≡ 3) ↔ IsRefused both
   three (Ok both) ending out out' comes = (λ e. absurd ((neither ending comes.1).0 e), λ refused. absurd refused)
   three (Err loads.NoMemory) ending out out' comes = (λ e. absurd (let one : report_status ending ≡ 1 = comes in omega (arith, e, one)), λ refused. absurd refused)
   three (Err (loads.Line line reason)) ending out out' comes = (λ e. tt, λ refused. comes)
   three (Err loads.Read) ending out out' comes = (λ e. absurd (let four : report_status ending ≡ 4 = comes in omega (arith, e, four)), λ refused. absurd refused)
 
-  four : (both : Result (Plan × List (List Delivery)) ScheduleFault) (ending : Result Bool Fault) (out out' : O) → Comes window both ending out_tells out out' → (report_status ending ≡ 4) ↔ (both ≡ Err loads.Read)
+  four : (both : Result (Plan × List (List Delivery)) ScheduleFault) (ending : Result Bool Fault) (out out' : O) → Comes window both ending out_known out out' → (report_status ending ≡ 4) ↔ (both ≡ Err loads.Read)
   four (Ok both) ending out out' comes = (λ e. absurd ((neither ending comes.1).1 e), λ read. cc)
   four (Err loads.NoMemory) ending out out' comes = (λ e. absurd (let one : report_status ending ≡ 1 = comes in omega (arith, e, one)), λ read. cc)
   four (Err (loads.Line line reason)) ending out out' comes = (λ e. absurd (let three : report_status ending ≡ 3 = comes in omega (arith, e, three)), λ read. cc)
   four (Err loads.Read) ending out out' comes = (λ e. refl, λ read. comes)
 
-  wrote_by : (both : Plan × List (List Delivery)) (ending : Result Bool Fault) (out out' : O) → Comes window (Ok both) ending out_tells out out' → (report_status ending ≡ 1 → ⊥) → (ending ≡ Err faults.Write → ⊥)
-      → WroteReports (report_status ending) (AreAired both.0 window both.1) out_tells out out'
-  wrote_by both (Ok clean) out out' comes memory none = wrote (AreAired both.0 window both.1) clean out_tells out out' comes.0
+  wrote_by : (both : Plan × List (List Delivery)) (ending : Result Bool Fault) (out out' : O) → Comes window (Ok both) ending out_known out out' → (report_status ending ≡ 1 → ⊥) → (ending ≡ Err faults.Write → ⊥)
+      → WroteReports (report_status ending) (AreAired both.0 window both.1) out_known out out'
+  wrote_by both (Ok clean) out out' comes memory none = wrote (AreAired both.0 window both.1) clean out_known out out' comes.0
   wrote_by both (Err fault) out out' comes memory none = elim (comes.1 fault refl) [
     | inl is ↦ absurd (memory (ap (λ f. report_status (Err f)) is))
     | inr is ↦ absurd (none (ap Err is))
   ]
 
-  module _ (ending : Result Bool Fault) (shelf_faults : S → ℕ) (shelf shelf' : S) (out_faults : O → ℕ) (out out' : O)
-      (run : AirRun name script window ending shelf_faults shelf_tells shelf shelf' out_faults out_tells out out') (memory : report_status ending ≡ 1 → ⊥) where
-    came : Came name script window ending shelf_tells shelf shelf' out_tells out out'
+  module _ (ending : Result Bool Fault) (shelf shelf' : S) (out out' : O)
+      (run : AirRun name script window ending shelf_known shelf shelf' out_known out out') (memory : report_status ending ≡ 1 → ⊥) where
+    came : Came name script window ending shelf_known shelf shelf' out_known out out'
     came = came_by ending shelf run.between shelf' out out' run.came run.loads run.runs
 
-    pub refused_exactly : Supplies (shelf_tells shelf) (shelf_tells shelf') (λ before after. (report_status ending ≡ 3) ↔ IsRefused (schedule_and_script name script before).came)
+    pub refused_exactly : Supplies (shelf_known shelf) (shelf_known shelf') (λ before after. (report_status ending ≡ 3) ↔ IsRefused (schedule_and_script name script before).came)
     refused_exactly =
-        Supplies-weaker _ _ (shelf_tells shelf) (shelf_tells shelf') came.loads
+        Tells-weaker _ _ (shelf_known shelf) (shelf_known shelf') came.loads
         (λ x y is. let P : Result (Plan × List (List Delivery)) ScheduleFault → Type 0 = λ v. (report_status ending ≡ 3) ↔ IsRefused v in
         subst P (came_is came.both ending out out' x y came.comes memory is) (three came.both ending out out' came.comes))
 
-    pub unread_exactly : Supplies (shelf_tells shelf) (shelf_tells shelf') (λ before after. (report_status ending ≡ 4) ↔ ((schedule_and_script name script before).came ≡ Err loads.Read))
+    pub unread_exactly : Supplies (shelf_known shelf) (shelf_known shelf') (λ before after. (report_status ending ≡ 4) ↔ ((schedule_and_script name script before).came ≡ Err loads.Read))
     unread_exactly =
-        Supplies-weaker _ _ (shelf_tells shelf) (shelf_tells shelf') came.loads
+        Tells-weaker _ _ (shelf_known shelf) (shelf_known shelf') came.loads
         (λ x y is. let P : Result (Plan × List (List Delivery)) ScheduleFault → Type 0 = λ v. (report_status ending ≡ 4) ↔ (v ≡ Err loads.Read) in
         subst P (came_is came.both ending out out' x y came.comes memory is) (four came.both ending out out' came.comes))
 
-    pub complete : (Rose (out_faults out) (out_faults out') → ⊥)
-        → Supplies (shelf_tells shelf) (shelf_tells shelf') (λ before after. (plan : Plan) (feeds : List (List Delivery)) → (schedule_and_script name script before).came ≡ Ok (plan, feeds)
-        → WroteReports (report_status ending) (AreAired plan window feeds) out_tells out out')
+    pub complete : (HasFailed (out_known out) (out_known out') → ⊥)
+        → Supplies (shelf_known shelf) (shelf_known shelf') (λ before after. (plan : Plan) (feeds : List (List Delivery)) → (schedule_and_script name script before).came ≡ Ok (plan, feeds)
+        → WroteReports (report_status ending) (AreAired plan window feeds) out_known out out')
     complete no_write =
-        Supplies-weaker _ _ (shelf_tells shelf) (shelf_tells shelf') came.loads
+        Tells-weaker _ _ (shelf_known shelf) (shelf_known shelf') came.loads
         (λ p q is plan feeds gives.
-        let P : Result (Plan × List (List Delivery)) ScheduleFault → Type 0 = λ v. Comes window v ending out_tells out out' in
+        let P : Result (Plan × List (List Delivery)) ScheduleFault → Type 0 = λ v. Comes window v ending out_known out out' in
         wrote_by (plan, feeds) ending out out' (subst P (came_is came.both ending out out' p q came.comes memory is ∙ gives) came.comes) memory (λ e. no_write (run.write_cause.rose e)))
 
 -- where each frame is in time in each feed, the reports are clean
@@ -159,8 +159,8 @@ all_clean plan window feeds reports are time k d within =
     let all = aired.complete followed each in
     subst IsTrue (sym all.clean_is) is_true
 
-pub in_time : {O : Type 0} (code : ℕ) (name script : List ℕ) (window : ℕ) (a b : Option Files) (tells : O → Option Output) (out out' : O)
-    → Supplies a b (λ before after. (plan : Plan) (feeds : List (List Delivery)) → (schedule_and_script name script before).came ≡ Ok (plan, feeds) → WroteReports code (AreAired plan window feeds) tells out out')
+pub in_time : {O : Type 0} (code : ℕ) (name script : List ℕ) (window : ℕ) (a b : Known Files) (known : O → Known Output) (out out' : O)
+    → Supplies a b (λ before after. (plan : Plan) (feeds : List (List Delivery)) → (schedule_and_script name script before).came ≡ Ok (plan, feeds) → WroteReports code (AreAired plan window feeds) known out out')
     → Supplies a b (λ before after. (plan : Plan) (feeds : List (List Delivery)) → (schedule_and_script name script before).came ≡ Ok (plan, feeds) → FeedsAreInTime plan window feeds → code ≡ 0)
-in_time code name script window a b tells out out' complete =
-    Supplies-weaker _ _ a b complete (λ p q wrote plan feeds gives time. let w = wrote plan feeds gives in w.clean.1 (all_clean plan window feeds w.reports w.are_reports time))
+in_time code name script window a b known out out' complete =
+    Tells-weaker _ _ a b complete (λ p q wrote plan feeds gives time. let w = wrote plan feeds gives in w.clean.1 (all_clean plan window feeds w.reports w.are_reports time))

@@ -1,6 +1,6 @@
 -- From the receiver of one link that ended to the whole command.
 use Rattle.std.proofs.Common.{◌≡◌, ℕ, zero, suc, ◌<◌, ◌≤◌, ◌⊎◌, inl, inr, List, [], ◌∷◌, length, slice_index_or, Option, Err, refl, sym, ap, subst, arith}
-use Rattle.drm_links.specs.Told.{HasCause, WhileTold}
+use Rattle.drm_links.specs.Told.{Known, HasCause, WhileTold}
 use Rattle.drm_links.specs.Link.{Traffic}
 use Rattle.drm_links.specs.Sink.{Output}
 use Rattle.drm_links.specs.Dock.{DockContents, LinkStart}
@@ -63,52 +63,52 @@ fails_first : (rules : Rules) (told : DockContents) (at : Address) → FailsSome
 fails_first rules told at some = first_by rules told at some.k some.within (some.fails at)
 
 module _ {D L O : Type 0} (rules : Rules) (valid : AreInRange rules) (headlines : HeadlinesFollow) (completes : CompletesFollow) (at : Address)
-    (dock_faults : D → ℕ) (dock_tells : D → Option DockContents) (dock dock' : D) (link_faults : L → ℕ) (link_tells : L → Option Traffic) (link link' : L)
-    (out_faults : O → ℕ) (out_tells : O → Option Output) (out out' : O)
-    (found : Docked (dock_tells dock) (dock_tells dock') (λ told. HasLink link_tells told 0 at link)) where
+    (dock_known : D → Known DockContents) (dock dock' : D) (link_known : L → Known Traffic) (link link' : L)
+    (out_known : O → Known Output) (out out' : O)
+    (found : Docked (dock_known dock) (dock_known dock') (λ told. HasLink link_known told 0 at link)) where
   abbrev Ends : Ended → Type 0
-  Ends ended = EndsAs rules 1 (link_tells link) (link_tells link') (out_tells out) (out_tells out') ended
+  Ends ended = EndsAs rules 1 (link_known link) (link_known link') (out_known out) (out_known out') ended
 
-  written : (ended : Ended) → Ends ended → (ended ≡ NoMemory → out' ≡ out) → (told : DockContents) → HasLink link_tells told 0 at link → WritesLive rules told at (ending_live ended) out_tells out out'
+  written : (ended : Ended) → Ends ended → (ended ≡ NoMemory → out' ≡ out) → (told : DockContents) → HasLink link_known told 0 at link → WritesLive rules told at (ending_live ended) out_known out out'
   written (Done clean) ends memory told has =
-      (has.0, has.1, live_report rules valid 1 has.0 (link_tells link) (link_tells link') (out_tells out) (out_tells out') has.2 headlines completes clean ends)
+      (has.0, has.1, live_report rules valid 1 has.0 (link_known link) (link_known link') (out_known out) (out_known out') has.2 headlines completes clean ends)
   written LinkFailed ends memory told has =
-      inr (has.0, has.1, live_given rules valid 1 has.0 (link_tells link) (link_tells link') (out_tells out) (out_tells out') has.2 ends)
+      inr (has.0, has.1, live_given rules valid 1 has.0 (link_known link) (link_known link') (out_known out) (out_known out') has.2 ends)
   written WriteFailed ends memory told has =
-      (has.0, has.1, live_front rules valid 1 has.0 (link_tells link) (link_tells link') (out_tells out) (out_tells out') has.2 ends)
+      (has.0, has.1, live_front rules valid 1 has.0 (link_known link) (link_known link') (out_known out) (out_known out') has.2 ends)
   written NoMemory ends memory told has = memory refl
 
-  breaks : (ended : Ended) → Ends ended → ended ≡ LinkFailed → (told : DockContents) → HasLink link_tells told 0 at link → FailsSome rules told (at ∷ [])
+  breaks : (ended : Ended) → Ends ended → ended ≡ LinkFailed → (told : DockContents) → HasLink link_known told 0 at link → FailsSome rules told (at ∷ [])
   breaks ended ends is told has = record {
     k = 0;
     within = omega arith;
-    fails = λ d. inr (has.0, has.1, live_breaks rules valid 1 has.0 (link_tells link) (link_tells link') (out_tells out) (out_tells out') has.2 (subst Ends is ends));
+    fails = λ d. inr (has.0, has.1, live_breaks rules valid 1 has.0 (link_known link) (link_known link') (out_known out) (out_known out') has.2 (subst Ends is ends));
   }
 
   whole : (ended : Ended) → Ends ended → (ending_live ended ≡ Err faults.Link → ⊥) → (ending_live ended ≡ Err faults.NoMemory → ⊥) → (ending_live ended ≡ Err faults.Write → ⊥)
-      → (told : DockContents) → HasLink link_tells told 0 at link → FailsSome rules told (at ∷ []) → ⊥
+      → (told : DockContents) → HasLink link_known told 0 at link → FailsSome rules told (at ∷ []) → ⊥
   whole (Done clean) ends no_link no_memory no_write told has fails =
-      let live = live_report rules valid 1 has.0 (link_tells link) (link_tells link') (out_tells out) (out_tells out') has.2 headlines completes clean ends in
+      let live = live_report rules valid 1 has.0 (link_known link) (link_known link') (out_known out) (out_known out') has.2 headlines completes clean ends in
       report_whole rules told 0 1 at has.0 live.0 has.1 live.1 (fails_first rules told at fails)
   whole LinkFailed ends no_link no_memory no_write told has fails = no_link refl
   whole WriteFailed ends no_link no_memory no_write told has fails = no_write refl
   whole NoMemory ends no_link no_memory no_write told has fails = no_memory refl
 
-  pub live_run : (ended : Ended) → Ends ended → (ended ≡ NoMemory → out' ≡ out) → link_faults link ≡ 0
-      → WhileTold (dock_tells dock) (dock_tells dock') (λ x y. y.gone ≡ x.gone) → dock_faults dock ≤ dock_faults dock'
-      → HasCause (link_faults link) (link_faults link') (ended ≡ LinkFailed) → HasCause (out_faults out) (out_faults out') (ended ≡ WriteFailed)
-      → ReceiveRun rules (at ∷ []) (ending_live ended) dock_faults dock_tells dock dock' link_faults out_faults out_tells out out'
+  pub live_run : (ended : Ended) → Ends ended → (ended ≡ NoMemory → out' ≡ out) → (link_known link).faults ≡ 0
+      → WhileTold (dock_known dock) (dock_known dock') (λ x y. y.gone ≡ x.gone) → (dock_known dock).faults ≤ (dock_known dock').faults
+      → HasCause (link_known link) (link_known link') (ended ≡ LinkFailed) → HasCause (out_known out) (out_known out') (ended ≡ WriteFailed)
+      → ReceiveRun rules (at ∷ []) (ending_live ended) dock_known dock dock' link_known out_known out out'
   live_run ended ends memory fresh unsent later link_cause write_cause = record {
     kind = ended_kind ended;
-    writes = docked_weaker (λ told. HasLink link_tells told 0 at link) (λ told. WritesLive rules told at (ending_live ended) out_tells out out') (dock_tells dock) (dock_tells dock') found
+    writes = docked_weaker (λ told. HasLink link_known told 0 at link) (λ told. WritesLive rules told at (ending_live ended) out_known out out') (dock_known dock) (dock_known dock') found
         (written ended ends memory);
     unwritten = λ any. elim any [
       | inl is ↦ memory (ended_memory ended is)
       | inr several ↦ absurd (several.1 refl)
     ];
-    link = λ is. docked_weaker (λ told. HasLink link_tells told 0 at link) (λ told. FailsSome rules told (at ∷ [])) (dock_tells dock) (dock_tells dock') found
+    link = λ is. docked_weaker (λ told. HasLink link_known told 0 at link) (λ told. FailsSome rules told (at ∷ [])) (dock_known dock) (dock_known dock') found
         (breaks ended ends (ended_link ended is));
-    linked = λ no_link no_memory no_write. docked_weaker (λ told. HasLink link_tells told 0 at link) (λ told. FailsSome rules told (at ∷ []) → ⊥) (dock_tells dock) (dock_tells dock') found
+    linked = λ no_link no_memory no_write. docked_weaker (λ told. HasLink link_known told 0 at link) (λ told. FailsSome rules told (at ∷ []) → ⊥) (dock_known dock) (dock_known dock') found
         (whole ended ends no_link no_memory (no_write refl));
     unsent = unsent;
     later = later;
@@ -123,27 +123,27 @@ one_of (at ∷ (other ∷ addresses)) is = absurd (omega (arith, is))
 
 -- the only one of the receivers that were opened ended
 pub only_run : {D L O : Type 0} (rules : Rules) (valid : AreInRange rules) (headlines : HeadlinesFollow) (completes : CompletesFollow) (addresses : List Address) (jobs : List (Job L)) (job job' : Job L) (ended : Ended)
-    (dock_faults : D → ℕ) (dock_tells : D → Option DockContents) (dock dock' : D) (link_faults : L → ℕ) (link_tells : L → Option Traffic)
-    (out_faults : O → ℕ) (out_tells : O → Option Output) (out out' : O)
-    → length addresses ≡ 1 → slice_index_or jobs 0 job ≡ job → AreJobs rules (length addresses) jobs → AreFresh link_faults (length addresses) jobs
-    → Docked (dock_tells dock) (dock_tells dock') (λ told. HaveLinks link_tells told addresses jobs)
-    → WhileTold (dock_tells dock) (dock_tells dock') (λ x y. y.gone ≡ x.gone) → dock_faults dock ≤ dock_faults dock'
-    → EndsAs (job_rules job) job.options.feed (link_tells job.link) (link_tells job'.link) (out_tells out) (out_tells out') ended → (ended ≡ NoMemory → out' ≡ out)
-    → HasCause (link_faults job.link) (link_faults job'.link) (ended ≡ LinkFailed) → HasCause (out_faults out) (out_faults out') (ended ≡ WriteFailed)
-    → ReceiveRun rules addresses (ending_live ended) dock_faults dock_tells dock dock' link_faults out_faults out_tells out out'
-only_run {D} {L} {O} rules valid headlines completes addresses jobs job job' ended dock_faults dock_tells dock dock' link_faults link_tells out_faults out_tells out out' one first are fresh links unsent later ends memory link_cause write_cause =
+    (dock_known : D → Known DockContents) (dock dock' : D) (link_known : L → Known Traffic)
+    (out_known : O → Known Output) (out out' : O)
+    → length addresses ≡ 1 → slice_index_or jobs 0 job ≡ job → AreJobs rules (length addresses) jobs → AreFresh link_known (length addresses) jobs
+    → Docked (dock_known dock) (dock_known dock') (λ told. HaveLinks link_known told addresses jobs)
+    → WhileTold (dock_known dock) (dock_known dock') (λ x y. y.gone ≡ x.gone) → (dock_known dock).faults ≤ (dock_known dock').faults
+    → EndsAs (job_rules job) job.options.feed (link_known job.link) (link_known job'.link) (out_known out) (out_known out') ended → (ended ≡ NoMemory → out' ≡ out)
+    → HasCause (link_known job.link) (link_known job'.link) (ended ≡ LinkFailed) → HasCause (out_known out) (out_known out') (ended ≡ WriteFailed)
+    → ReceiveRun rules addresses (ending_live ended) dock_known dock dock' link_known out_known out out'
+only_run {D} {L} {O} rules valid headlines completes addresses jobs job job' ended dock_known dock dock' link_known out_known out out' one first are fresh links unsent later ends memory link_cause write_cause =
     let (at, only) = one_of addresses one in
     let within : 0 < length addresses = omega (arith, one) in
     let is : IsJob rules 1 job = subst (λ (j : Job L). IsJob rules 1 j) first (are 0 job within) in
-    let found : Docked (dock_tells dock) (dock_tells dock') (λ told. HasLink link_tells told 0 at job.link) =
-    docked_weaker (λ told. HaveLinks link_tells told addresses jobs) (λ told. HasLink link_tells told 0 at job.link) (dock_tells dock) (dock_tells dock') links
-    (λ told has. subst (λ (j : Job L). HasLink link_tells told 0 at j.link) first
-    (subst (λ xs. HasLink link_tells told 0 (slice_index_or xs 0 at) (slice_index_or jobs 0 job).link) only (has 0 at job within))) in
+    let found : Docked (dock_known dock) (dock_known dock') (λ told. HasLink link_known told 0 at job.link) =
+    docked_weaker (λ told. HaveLinks link_known told addresses jobs) (λ told. HasLink link_known told 0 at job.link) (dock_known dock) (dock_known dock') links
+    (λ told has. subst (λ (j : Job L). HasLink link_known told 0 at j.link) first
+    (subst (λ xs. HasLink link_known told 0 (slice_index_or xs 0 at) (slice_index_or jobs 0 job).link) only (has 0 at job within))) in
     let rules_is = rules_are rules 1 job.collector job.options is.collector is.options in
-    let raw : EndsAs rules job.options.feed (link_tells job.link) (link_tells job'.link) (out_tells out) (out_tells out') ended =
-    subst (λ r. EndsAs r job.options.feed (link_tells job.link) (link_tells job'.link) (out_tells out) (out_tells out') ended) rules_is ends in
-    let named : EndsAs rules 1 (link_tells job.link) (link_tells job'.link) (out_tells out) (out_tells out') ended =
-    subst (λ n. EndsAs rules n (link_tells job.link) (link_tells job'.link) (out_tells out) (out_tells out') ended) (ap (λ (o : Options). o.feed) is.options) raw in
-    subst (λ xs. ReceiveRun rules xs (ending_live ended) dock_faults dock_tells dock dock' link_faults out_faults out_tells out out') (sym only)
-    (live_run rules valid headlines completes at dock_faults dock_tells dock dock' link_faults link_tells job.link job'.link out_faults out_tells out out' found
-    ended named memory (subst (λ (j : Job L). link_faults j.link ≡ 0) first (fresh 0 job within)) unsent later link_cause write_cause)
+    let raw : EndsAs rules job.options.feed (link_known job.link) (link_known job'.link) (out_known out) (out_known out') ended =
+    subst (λ r. EndsAs r job.options.feed (link_known job.link) (link_known job'.link) (out_known out) (out_known out') ended) rules_is ends in
+    let named : EndsAs rules 1 (link_known job.link) (link_known job'.link) (out_known out) (out_known out') ended =
+    subst (λ n. EndsAs rules n (link_known job.link) (link_known job'.link) (out_known out) (out_known out') ended) (ap (λ (o : Options). o.feed) is.options) raw in
+    subst (λ xs. ReceiveRun rules xs (ending_live ended) dock_known dock dock' link_known out_known out out') (sym only)
+    (live_run rules valid headlines completes at dock_known dock dock' link_known job.link job'.link out_known out out' found
+    ended named memory (subst (λ (j : Job L). (link_known j.link).faults ≡ 0) first (fresh 0 job within)) unsent later link_cause write_cause)

@@ -7,12 +7,12 @@ use Rattle.std.specs.FinMap.{get-remove}
 use Rattle.std.specs.Ordering.{nat_cmp, eq_by_cmp}
 use Rattle.std.specs.Cmp.Lexicographic.{slice_cmp, nat_list_cmp_total}
 use Rattle.std.proofs.lemmas.Map.Views.{tells_apart}
-use Rattle.drm_links.specs.Told.{WhileTold, CountsCall}
+use Rattle.drm_links.specs.Told.{Known, WhileTold, CountsCall, BothTold, CountsTold, ToldThrough, Tells}
 use Rattle.drm_links.specs.Link.{Traffic}
 use Rattle.drm_links.specs.Dock.{DockContents, Opens, address_key}
 use Rattle.drm_links.specs.declared.dock.Address.{Address}
 use Rattle.drm_links.specs.declared.dock.Opened.TheVariants as opened
-use Rattle.drm_links.proofs.ToldLemmas.{Opens-started}
+use Rattle.drm_links.proofs.ToldLemmas.{Opens-started, Tells-then, Tells-weaker, Tells-one, Tells-nothing}
 use Rattle.word_forms.specs.Addresses.{AreDifferent}
 use Rattle.drm_top.specs.Receive.{Docked}
 use Rattle.drm_top.specs.Opening.{HasLink, HaveLinks, FailsOpening}
@@ -53,44 +53,39 @@ apart (a ∷ others) different (suc i) (suc j) d e before within is = apart othe
 
 -- ---- what a dock tells, over several calls
 
--- where it tells at the end it told before, and P holds of both
-abbrev pub Docks : Option DockContents → Option DockContents → (DockContents → DockContents → Type 0) → Type 0
-Docks before None P = Unit {0}
-Docks None (Some after) P = ⊥
-Docks (Some before) (Some after) P = P before after
+pub docks_more : (P S Q : DockContents → DockContents → Type 0) (a b c : Known DockContents) → Tells a b P → WhileTold b c S → CountsCall (λ (d : DockContents). d.calls) b c
+    → ((x y z : DockContents) → P x y → S y z → Q x z) → Tells a c Q
+docks_more P S Q a b c first second counts both =
+    Tells-then P S Q a b c first (Tells-one (λ (d : DockContents). d.calls) S b c counts second) both
 
-pub docks_none : (a : Option DockContents) (P : DockContents → DockContents → Type 0) → ((told : DockContents) → P told told) → Docks a a P
-docks_none None P same = tt
-docks_none (Some told) P same = same told
+while_told : (P Q : DockContents → DockContents → Type 0) (a b : Option DockContents) → ToldThrough a b P → ((x y : DockContents) → P x y → Q x y) → BothTold a b Q
+while_told P Q None b first weaker = tt
+while_told P Q (Some x) None first weaker = tt
+while_told P Q (Some x) (Some y) first weaker = weaker x y first
 
-pub docks_more : (P S Q : DockContents → DockContents → Type 0) (a b c : Option DockContents) → Docks a b P → WhileTold b c S → CountsCall (λ (d : DockContents). d.calls) b c
-    → ((x y z : DockContents) → P x y → S y z → Q x z) → Docks a c Q
-docks_more P S Q a b None first second counts both = tt
-docks_more P S Q a None (Some z) first second counts both = cc
-docks_more P S Q None (Some y) (Some z) first second counts both = absurd first
-docks_more P S Q (Some x) (Some y) (Some z) first second counts both = both x y z first second
+pub docks_while : (P Q : DockContents → DockContents → Type 0) (a b : Known DockContents) → Tells a b P → ((x y : DockContents) → P x y → Q x y) → WhileTold a b Q
+docks_while P Q a b = while_told P Q a.told b.told
 
-pub docks_docked : (P : DockContents → DockContents → Type 0) (Q : DockContents → Type 0) (a b : Option DockContents) → Docks a b P → ((x y : DockContents) → P x y → Q x) → Docked a b Q
-docks_docked P Q a None first weaker = tt
-docks_docked P Q None (Some y) first weaker = first
-docks_docked P Q (Some x) (Some y) first weaker = weaker x y first
+pub docked_weaker : (P Q : DockContents → Type 0) (a b : Known DockContents) → Docked a b P → ((x : DockContents) → P x → Q x) → Docked a b Q
+docked_weaker P Q a b first weaker = Tells-weaker (λ x _. P x) (λ x _. Q x) a b first (λ x y. weaker x)
 
-pub docks_while : (P Q : DockContents → DockContents → Type 0) (a b : Option DockContents) → Docks a b P → ((x y : DockContents) → P x y → Q x y) → WhileTold a b Q
-docks_while P Q None b first weaker = tt
-docks_while P Q (Some x) None first weaker = tt
-docks_while P Q (Some x) (Some y) first weaker = weaker x y first
-
-pub docked_weaker : (P Q : DockContents → Type 0) (a b : Option DockContents) → Docked a b P → ((x : DockContents) → P x → Q x) → Docked a b Q
-docked_weaker P Q a None first weaker = tt
-docked_weaker P Q None (Some y) first weaker = first
-docked_weaker P Q (Some x) (Some y) first weaker = weaker x first
+pub docked_both : (P Q : DockContents → Type 0) (a b : Known DockContents) → Docked a b P → Docked a b Q → Docked a b (λ told. P told × Q told)
+docked_both P Q a b = both_docked a.told b.told
+  where
+    both_docked : (a b : Option DockContents) → ToldThrough a b (λ x _. P x) → ToldThrough a b (λ x _. Q x) → ToldThrough a b (λ x _. P x × Q x)
+    both_docked a None p q = tt
+    both_docked None (Some after) p q = p
+    both_docked (Some before) (Some after) p q = (p, q)
 
 -- what held, after one more call
-pub docked_still : (P : DockContents → Type 0) (a b c : Option DockContents) → Docked a b P → CountsCall (λ (d : DockContents). d.calls) b c → Docked a c P
-docked_still P a b None first counts = tt
-docked_still P a None (Some z) first counts = cc
-docked_still P None (Some y) (Some z) first counts = absurd first
-docked_still P (Some x) (Some y) (Some z) first counts = first
+pub docked_still : (P : DockContents → Type 0) (a b c : Known DockContents) → Docked a b P → CountsCall (λ (d : DockContents). d.calls) b c → Docked a c P
+docked_still P a b c = still a.told b.told c.told
+  where
+    still : (a b c : Option DockContents) → ToldThrough a b (λ x _. P x) → CountsTold (λ (d : DockContents). d.calls) b c → ToldThrough a c (λ x _. P x)
+    still a b None first counts = tt
+    still a None (Some z) first counts = cc
+    still None (Some y) (Some z) first counts = absurd first
+    still (Some x) (Some y) (Some z) first counts = first
 
 -- ---- the dock after the openings at the first k addresses
 
@@ -116,9 +111,9 @@ module _ (addresses : List Address) (k : ℕ) (at : Address) (within : k < lengt
   not_before different i e before same =
       apart addresses different i k e at before within (one_address (slice_index_or addresses i e) at same ∙ is)
 
-  pub opened_more : {L : Type 0} (tells : L → Option Traffic) (link : L) (x y z : DockContents)
-      → AreOpened addresses k x y → Opens tells at (opened.Link link) y z → AreOpened addresses (k + 1) x z
-  opened_more tells link x y z before now = record {
+  pub opened_more : {L : Type 0} (known : L → Known Traffic) (link : L) (x y z : DockContents)
+      → AreOpened addresses k x y → Opens known at (opened.Link link) y z → AreOpened addresses (k + 1) x z
+  opened_more known link x y z before now = record {
     openings = (let a = ap (λ (d : DockContents). d.openings) now.2 in let b = before.openings in omega (arith, a, b));
     failing = ap (λ (d : DockContents). d.failing) now.2 ∙ before.failing;
     links = λ q none.
@@ -133,10 +128,10 @@ module _ (addresses : List Address) (k : ℕ) (at : Address) (within : k < lengt
   same_at : (d : Address) → slice_index_or addresses k d ≡ at
   same_at d = same_index addresses k d at within ∙ sym is
 
-  pub found : {L : Type 0} (tells : L → Option Traffic) (link : L) (x y z : DockContents) → AreDifferent addresses
-      → AreOpened addresses k x y → Opens tells at (opened.Link link) y z → (d : Address) → HasLink tells x k (slice_index_or addresses k d) link
-  found tells link x y z different before now d =
-      let started = Opens-started tells at link y z now in (
+  pub found : {L : Type 0} (known : L → Known Traffic) (link : L) (x y z : DockContents) → AreDifferent addresses
+      → AreOpened addresses k x y → Opens known at (opened.Link link) y z → (d : Address) → HasLink known x k (slice_index_or addresses k d) link
+  found known link x y z different before now d =
+      let started = Opens-started known at link y z now in (
         started.0,
         record {
           allowed = λ fails.
@@ -146,9 +141,9 @@ module _ (addresses : List Address) (k : ℕ) (at : Address) (within : k < lengt
         started.2,
       )
 
-  pub not_found : {L : Type 0} (tells : L → Option Traffic) (x y z : DockContents) → AreDifferent addresses
-      → AreOpened addresses k x y → Opens tells at opened.Failed y z → FailsOpening x addresses
-  not_found tells x y z different before now = record {
+  pub not_found : {L : Type 0} (known : L → Known Traffic) (x y z : DockContents) → AreDifferent addresses
+      → AreOpened addresses k x y → Opens known at opened.Failed y z → FailsOpening x addresses
+  not_found known x y z different before now = record {
     k = k;
     within = within;
     fails = λ d. elim now.0 [
@@ -157,43 +152,43 @@ module _ (addresses : List Address) (k : ℕ) (at : Address) (within : k < lengt
     ];
   }
 
-  pub found_now : {L : Type 0} (tells : L → Option Traffic) (link : L) (a b c : Option DockContents) → AreDifferent addresses
-      → Docks a b (AreOpened addresses k) → WhileTold b c (Opens tells at (opened.Link link)) → CountsCall (λ (d : DockContents). d.calls) b c
-      → (d : Address) → Docked a c (λ told. HasLink tells told k (slice_index_or addresses k d) link)
-  found_now tells link a b c different before now counts d =
-      docks_docked (λ x _. HasLink tells x k (slice_index_or addresses k d) link) (λ told. HasLink tells told k (slice_index_or addresses k d) link) a c
-      (docks_more (AreOpened addresses k) (Opens tells at (opened.Link link)) (λ x _. HasLink tells x k (slice_index_or addresses k d) link) a b c before now counts
-      (λ x y z p q. found tells link x y z different p q d))
+  pub found_now : {L : Type 0} (known : L → Known Traffic) (link : L) (a b c : Known DockContents) → AreDifferent addresses
+      → Tells a b (AreOpened addresses k) → WhileTold b c (Opens known at (opened.Link link)) → CountsCall (λ (d : DockContents). d.calls) b c
+      → (d : Address) → Docked a c (λ told. HasLink known told k (slice_index_or addresses k d) link)
+  found_now known link a b c different before now counts d =
+      Tells-weaker (λ x _. HasLink known x k (slice_index_or addresses k d) link) (λ x _. ((λ told. HasLink known told k (slice_index_or addresses k d) link)) x) a c
+      (docks_more (AreOpened addresses k) (Opens known at (opened.Link link)) (λ x _. HasLink known x k (slice_index_or addresses k d) link) a b c before now counts
+      (λ x y z p q. found known link x y z different p q d))
       (λ x y has. has)
 
-  pub opened_now : {L : Type 0} (tells : L → Option Traffic) (link : L) (a b c : Option DockContents)
-      → Docks a b (AreOpened addresses k) → WhileTold b c (Opens tells at (opened.Link link)) → CountsCall (λ (d : DockContents). d.calls) b c
-      → Docks a c (AreOpened addresses (k + 1))
-  opened_now tells link a b c before now counts =
-      docks_more (AreOpened addresses k) (Opens tells at (opened.Link link)) (AreOpened addresses (k + 1)) a b c before now counts
-      (λ x y z p q. opened_more tells link x y z p q)
+  pub opened_now : {L : Type 0} (known : L → Known Traffic) (link : L) (a b c : Known DockContents)
+      → Tells a b (AreOpened addresses k) → WhileTold b c (Opens known at (opened.Link link)) → CountsCall (λ (d : DockContents). d.calls) b c
+      → Tells a c (AreOpened addresses (k + 1))
+  opened_now known link a b c before now counts =
+      docks_more (AreOpened addresses k) (Opens known at (opened.Link link)) (AreOpened addresses (k + 1)) a b c before now counts
+      (λ x y z p q. opened_more known link x y z p q)
 
-  pub failed_now : {L : Type 0} (tells : L → Option Traffic) (a b c : Option DockContents) → AreDifferent addresses
-      → Docks a b (AreOpened addresses k) → WhileTold b c (Opens tells at opened.Failed) → CountsCall (λ (d : DockContents). d.calls) b c
+  pub failed_now : {L : Type 0} (known : L → Known Traffic) (a b c : Known DockContents) → AreDifferent addresses
+      → Tells a b (AreOpened addresses k) → WhileTold b c (Opens known at opened.Failed) → CountsCall (λ (d : DockContents). d.calls) b c
       → Docked a c (λ told. FailsOpening told addresses)
-  failed_now tells a b c different before now counts =
-      docks_docked (λ x _. FailsOpening x addresses) (λ told. FailsOpening told addresses) a c
-      (docks_more (AreOpened addresses k) (Opens tells at opened.Failed) (λ x _. FailsOpening x addresses) a b c before now counts
-      (λ x y z p q. not_found tells x y z different p q))
+  failed_now known a b c different before now counts =
+      Tells-weaker (λ x _. FailsOpening x addresses) (λ x _. ((λ told. FailsOpening told addresses)) x) a c
+      (docks_more (AreOpened addresses k) (Opens known at opened.Failed) (λ x _. FailsOpening x addresses) a b c before now counts
+      (λ x y z p q. not_found known x y z different p q))
       (λ x y fails. fails)
 
 -- nothing is sent by openings, nor by one more call that sends nothing
-pub unsent_now : (addresses : List Address) (k : ℕ) (a b c : Option DockContents) → Docks a b (AreOpened addresses k)
+pub unsent_now : (addresses : List Address) (k : ℕ) (a b c : Known DockContents) → Tells a b (AreOpened addresses k)
     → WhileTold b c (λ x y. y.gone ≡ x.gone) → CountsCall (λ (d : DockContents). d.calls) b c → WhileTold a c (λ x y. y.gone ≡ x.gone)
 unsent_now addresses k a b c before now counts =
     docks_while (λ x y. y.gone ≡ x.gone) (λ x y. y.gone ≡ x.gone) a c
     (docks_more (AreOpened addresses k) (λ x y. y.gone ≡ x.gone) (λ x y. y.gone ≡ x.gone) a b c before now counts (λ x y z p q. q ∙ p.gone))
     (λ x y same. same)
 
-pub docked_now : (addresses : List Address) (k : ℕ) (a b c : Option DockContents) → Docks a b (AreOpened addresses k)
+pub docked_now : (addresses : List Address) (k : ℕ) (a b c : Known DockContents) → Tells a b (AreOpened addresses k)
     → WhileTold b c (λ x y. y.gone ≡ x.gone) → CountsCall (λ (d : DockContents). d.calls) b c → Docked a c (λ _. Unit {0})
 docked_now addresses k a b c before now counts =
-    docks_docked (λ _ _. Unit {0}) (λ _. Unit {0}) a c
+    Tells-weaker (λ _ _. Unit {0}) (λ x _. ((λ _. Unit {0})) x) a c
     (docks_more (AreOpened addresses k) (λ x y. y.gone ≡ x.gone) (λ _ _. Unit {0}) a b c before now counts (λ x y z p q. tt))
     (λ x y any. tt)
 
@@ -223,17 +218,22 @@ each_more P xs ys x n size is each one k d within =
     ]
 
 -- all links at once
-pub all_links : {L : Type 0} (tells : L → Option Traffic) (addresses : List Address) (jobs : List (Job L)) (n : ℕ) (a b : Option DockContents) → length addresses ≤ n → Docked a b (λ _. Unit {0})
-    → ((k : ℕ) (d : Job L) → k < n → (at : Address) → Docked a b (λ told. HasLink tells told k (slice_index_or addresses k at) (slice_index_or jobs k d).link))
-    → Docked a b (λ told. HaveLinks tells told addresses jobs)
-all_links tells addresses jobs n a None all any each = tt
-all_links tells addresses jobs n None (Some y) all any each = any
-all_links tells addresses jobs n (Some x) (Some y) all any each = λ k at d within. each k d (omega (arith, within, all)) at
+pub all_links : {L : Type 0} (known : L → Known Traffic) (addresses : List Address) (jobs : List (Job L)) (n : ℕ) (a b : Known DockContents) → length addresses ≤ n → Docked a b (λ _. Unit {0})
+    → ((k : ℕ) (d : Job L) → k < n → (at : Address) → Docked a b (λ told. HasLink known told k (slice_index_or addresses k at) (slice_index_or jobs k d).link))
+    → Docked a b (λ told. HaveLinks known told addresses jobs)
+all_links {L} known addresses jobs n a b all = linked a.told b.told
+  where
+    linked : (a b : Option DockContents) → ToldThrough a b (λ _ _. Unit {0})
+        → ((k : ℕ) (d : Job L) → k < n → (at : Address) → ToldThrough a b (λ told _. HasLink known told k (slice_index_or addresses k at) (slice_index_or jobs k d).link))
+        → ToldThrough a b (λ told _. HaveLinks known told addresses jobs)
+    linked a None any each = tt
+    linked None (Some y) any each = any
+    linked (Some x) (Some y) any each = λ k at d within. each k d (omega (arith, within, all)) at
 
-pub opened_any : (addresses : List Address) (k : ℕ) (a b : Option DockContents) → Docks a b (AreOpened addresses k) → Docked a b (λ _. Unit {0})
-opened_any addresses k a b opened = docks_docked (AreOpened addresses k) (λ _. Unit {0}) a b opened (λ x y o. tt)
+pub opened_any : (addresses : List Address) (k : ℕ) (a b : Known DockContents) → Tells a b (AreOpened addresses k) → Docked a b (λ _. Unit {0})
+opened_any addresses k a b opened = Tells-weaker (AreOpened addresses k) (λ x _. ((λ _. Unit {0})) x) a b opened (λ x y o. tt)
 
-pub opened_unsent : (addresses : List Address) (k : ℕ) (a b : Option DockContents) → Docks a b (AreOpened addresses k) → WhileTold a b (λ x y. y.gone ≡ x.gone)
+pub opened_unsent : (addresses : List Address) (k : ℕ) (a b : Known DockContents) → Tells a b (AreOpened addresses k) → WhileTold a b (λ x y. y.gone ≡ x.gone)
 opened_unsent addresses k a b opened = docks_while (AreOpened addresses k) (λ x y. y.gone ≡ x.gone) a b opened (λ x y o. o.gone)
 
 -- the fault with which a call returned early

@@ -2,7 +2,7 @@
 use Rattle.std.proofs.Common.{◌≡◌, ℕ, zero, suc, ◌+◌, ◌<◌, ◌≤◌, ◌⊎◌, inl, inr, Bool, false, List, [], ◌∷◌, ◌++◌, length, map, slice_index_or, take, drop, Option, Result, Ok, Err, refl, sym, ◌∙◌, ap, subst, arith, le_refl}
 use Rattle.std.specs.List.{All}
 use Rattle.std.proofs.lemmas.List.{take_at}
-use Rattle.drm_links.specs.Told.{HasCause, Rose, WhileTold}
+use Rattle.drm_links.specs.Told.{HasFailed, Known, HasCause, Rose, WhileTold}
 use Rattle.drm_links.specs.Link.{Traffic}
 use Rattle.drm_links.specs.Sink.{Output, Outputs, IsFront}
 use Rattle.drm_links.specs.Dock.{DockContents}
@@ -32,21 +32,21 @@ texts_told : {L : Type 0} (jobs : List (Job L)) → job_texts jobs ≡ all_texts
 texts_told jobs = sym (flat_map_map told_of (λ (r : Report). r.text) jobs)
 
 -- where all are done their reports are written
-pub reports_written : {L O : Type 0} (jobs : List (Job L)) (stopped : Result Bool Stop) (are : List Report → Type 0) (tells : O → Option Output) (out out' : O)
-    → (All IsDone jobs → are (map told_of jobs)) → Settles jobs stopped tells out out' → WritesReports are (ending_of stopped) tells out out'
-reports_written jobs (Ok clean) are tells out out' reports settled = (
+pub reports_written : {L O : Type 0} (jobs : List (Job L)) (stopped : Result Bool Stop) (are : List Report → Type 0) (known : O → Known Output) (out out' : O)
+    → (All IsDone jobs → are (map told_of jobs)) → Settles jobs stopped known out out' → WritesReports are (ending_of stopped) known out out'
+reports_written jobs (Ok clean) are known out out' reports settled = (
   map told_of jobs,
   reports settled.0,
-  Outputs-weaker (λ text. text ≡ job_texts jobs) (λ text. text ≡ all_texts (map told_of jobs)) (tells out) (tells out') settled.1 (λ t is. is ∙ texts_told jobs),
+  Outputs-weaker (λ text. text ≡ job_texts jobs) (λ text. text ≡ all_texts (map told_of jobs)) (known out) (known out') settled.1 (λ t is. is ∙ texts_told jobs),
   ((λ clean_is. (all_told jobs).0 (settled.2.0 clean_is)), (λ all. settled.2.1 ((all_told jobs).1 all))),
 )
-reports_written jobs (Err stops.Write) are tells out out' reports settled = (
+reports_written jobs (Err stops.Write) are known out out' reports settled = (
   map told_of jobs,
   reports settled.0,
-  subst (λ t. Outputs (tells out) (tells out') (IsFront t)) (texts_told jobs) settled.1,
+  subst (λ t. Outputs (known out) (known out') (IsFront t)) (texts_told jobs) settled.1,
 )
-reports_written jobs (Err stops.Link) are tells out out' reports settled = settled.1
-reports_written jobs (Err stops.NoMemory) are tells out out' reports settled = settled
+reports_written jobs (Err stops.Link) are known out out' reports settled = settled.1
+reports_written jobs (Err stops.NoMemory) are known out out' reports settled = settled
 
 abbrev of_fault : Fault → Result Bool Fault
 of_fault fault = Err fault
@@ -61,12 +61,12 @@ pub no_fault : (clean : Bool) (fault : Fault) → of_clean clean ≡ of_fault fa
 no_fault clean fault is = cc
 
 -- how it ends
-pub ending_kind : {L O : Type 0} (jobs : List (Job L)) (stopped : Result Bool Stop) (tells : O → Option Output) (out out' : O) → Settles jobs stopped tells out out' → (fault : Fault) → ending_of stopped ≡ Err fault
+pub ending_kind : {L O : Type 0} (jobs : List (Job L)) (stopped : Result Bool Stop) (known : O → Known Output) (out out' : O) → Settles jobs stopped known out out' → (fault : Fault) → ending_of stopped ≡ Err fault
     → (fault ≡ faults.NoMemory) ⊎ ((fault ≡ faults.Link) × (NoneFailed jobs → ⊥)) ⊎ (fault ≡ faults.Write)
-ending_kind jobs (Ok clean) tells out out' settled fault is = absurd (no_fault clean fault is)
-ending_kind jobs (Err stops.Write) tells out out' settled fault is = inr (inr (sym (inner faults.Write fault is)))
-ending_kind jobs (Err stops.Link) tells out out' settled fault is = inr (inl (sym (inner faults.Link fault is), settled.0))
-ending_kind jobs (Err stops.NoMemory) tells out out' settled fault is = inl (sym (inner faults.NoMemory fault is))
+ending_kind jobs (Ok clean) known out out' settled fault is = absurd (no_fault clean fault is)
+ending_kind jobs (Err stops.Write) known out out' settled fault is = inr (inr (sym (inner faults.Write fault is)))
+ending_kind jobs (Err stops.Link) known out out' settled fault is = inr (inl (sym (inner faults.Link fault is), settled.0))
+ending_kind jobs (Err stops.NoMemory) known out out' settled fault is = inl (sym (inner faults.NoMemory fault is))
 
 -- a failed write is one of the run
 pub write_is : (stopped : Result Bool Stop) → ending_of stopped ≡ Err faults.Write → stopped ≡ Err stops.Write
@@ -75,9 +75,9 @@ write_is (Err stops.Write) is = refl
 write_is (Err stops.Link) is = let one : faults.Link ≡ faults.Write = inner faults.Link faults.Write is in absurd cc
 write_is (Err stops.NoMemory) is = let one : faults.NoMemory ≡ faults.Write = inner faults.NoMemory faults.Write is in absurd cc
 
-settled_link : {L O : Type 0} (jobs : List (Job L)) (stopped : Result Bool Stop) (tells : O → Option Output) (out out' : O) → Settles jobs stopped tells out out' → ending_of stopped ≡ Err faults.Link → NoneFailed jobs → ⊥
-settled_link jobs stopped tells out out' settled is =
-    elim (ending_kind jobs stopped tells out out' settled faults.Link is) [
+settled_link : {L O : Type 0} (jobs : List (Job L)) (stopped : Result Bool Stop) (known : O → Known Output) (out out' : O) → Settles jobs stopped known out out' → ending_of stopped ≡ Err faults.Link → NoneFailed jobs → ⊥
+settled_link jobs stopped known out out' settled is =
+    elim (ending_kind jobs stopped known out out' settled faults.Link is) [
       | inl memory ↦ absurd cc
       | inr rest ↦ elim rest [
         | inl link ↦ link.1
@@ -85,44 +85,44 @@ settled_link jobs stopped tells out out' settled is =
       ]
     ]
 
-settled_unwritten : {L O : Type 0} (jobs : List (Job L)) (stopped : Result Bool Stop) (tells : O → Option Output) (out out' : O) → Settles jobs stopped tells out out'
+settled_unwritten : {L O : Type 0} (jobs : List (Job L)) (stopped : Result Bool Stop) (known : O → Known Output) (out out' : O) → Settles jobs stopped known out out'
     → (ending_of stopped ≡ Err faults.NoMemory) ⊎ (ending_of stopped ≡ Err faults.Link) → out' ≡ out
-settled_unwritten jobs (Ok clean) tells out out' settled (inl is) = absurd (no_fault clean faults.NoMemory is)
-settled_unwritten jobs (Ok clean) tells out out' settled (inr is) = absurd (no_fault clean faults.Link is)
-settled_unwritten jobs (Err stops.Write) tells out out' settled (inl is) = let one : faults.Write ≡ faults.NoMemory = inner faults.Write faults.NoMemory is in absurd cc
-settled_unwritten jobs (Err stops.Write) tells out out' settled (inr is) = let one : faults.Write ≡ faults.Link = inner faults.Write faults.Link is in absurd cc
-settled_unwritten jobs (Err stops.Link) tells out out' settled any = settled.1
-settled_unwritten jobs (Err stops.NoMemory) tells out out' settled any = settled
+settled_unwritten jobs (Ok clean) known out out' settled (inl is) = absurd (no_fault clean faults.NoMemory is)
+settled_unwritten jobs (Ok clean) known out out' settled (inr is) = absurd (no_fault clean faults.Link is)
+settled_unwritten jobs (Err stops.Write) known out out' settled (inl is) = let one : faults.Write ≡ faults.NoMemory = inner faults.Write faults.NoMemory is in absurd cc
+settled_unwritten jobs (Err stops.Write) known out out' settled (inr is) = let one : faults.Write ≡ faults.Link = inner faults.Write faults.Link is in absurd cc
+settled_unwritten jobs (Err stops.Link) known out out' settled any = settled.1
+settled_unwritten jobs (Err stops.NoMemory) known out out' settled any = settled
 
 either : {P Q R : Type 0} → P ⊎ (Q × R) → P ⊎ Q
 either (inl p) = inl p
 either (inr q) = inr q.0
 
 -- what is written of several links
-all_several : {O : Type 0} (rules : Rules) (told : DockContents) (addresses : List Address) (ending : Result Bool Fault) (tells : O → Option Output) (out out' : O) → (IsLive addresses → ⊥)
-    → WritesReports (AreReports rules told addresses) ending tells out out' → WritesAll rules told addresses ending tells out out'
-all_several rules told [] ending tells out out' several writes = writes
-all_several rules told (at ∷ []) ending tells out out' several writes = absurd (several refl)
-all_several rules told (at ∷ (other ∷ addresses)) ending tells out out' several writes = writes
+all_several : {O : Type 0} (rules : Rules) (told : DockContents) (addresses : List Address) (ending : Result Bool Fault) (known : O → Known Output) (out out' : O) → (IsLive addresses → ⊥)
+    → WritesReports (AreReports rules told addresses) ending known out out' → WritesAll rules told addresses ending known out out'
+all_several rules told [] ending known out out' several writes = writes
+all_several rules told (at ∷ []) ending known out out' several writes = absurd (several refl)
+all_several rules told (at ∷ (other ∷ addresses)) ending known out out' several writes = writes
 
 -- all are done, where the texts are written
-all_done : {L O : Type 0} (jobs : List (Job L)) (stopped : Result Bool Stop) (tells : O → Option Output) (out out' : O) → Settles jobs stopped tells out out'
+all_done : {L O : Type 0} (jobs : List (Job L)) (stopped : Result Bool Stop) (known : O → Known Output) (out out' : O) → Settles jobs stopped known out out'
     → (ending_of stopped ≡ Err faults.Link → ⊥) → (ending_of stopped ≡ Err faults.NoMemory → ⊥) → All IsDone jobs
-all_done jobs (Ok clean) tells out out' settled link memory = settled.0
-all_done jobs (Err stops.Write) tells out out' settled link memory = settled.0
-all_done jobs (Err stops.Link) tells out out' settled link memory = absurd (link refl)
-all_done jobs (Err stops.NoMemory) tells out out' settled link memory = absurd (memory refl)
+all_done jobs (Ok clean) known out out' settled link memory = settled.0
+all_done jobs (Err stops.Write) known out out' settled link memory = settled.0
+all_done jobs (Err stops.Link) known out out' settled link memory = absurd (link refl)
+all_done jobs (Err stops.NoMemory) known out out' settled link memory = absurd (memory refl)
 
 -- ---- receivers that were opened and ran
 
-pub record Ran {L : Type 0} (link_faults : L → ℕ) (link_tells : L → Option Traffic) (rules : Rules) (many : ℕ) (before after : List (Job L)) : Type 0 where
+pub record Ran {L : Type 0} (link_known : L → Known Traffic) (rules : Rules) (many : ℕ) (before after : List (Job L)) : Type 0 where
   pub size : length before ≡ many
   pub still : length after ≡ length before
   pub jobs : AreJobs rules many before
-  pub ended : (k : ℕ) (d : Job L) → k < length before → HasEnded link_faults link_tells (slice_index_or before k d) (slice_index_or after k d)
+  pub ended : (k : ℕ) (d : Job L) → k < length before → HasEnded link_known (slice_index_or before k d) (slice_index_or after k d)
 
-module _ {L : Type 0} (link_faults : L → ℕ) (link_tells : L → Option Traffic) (rules : Rules) (valid : AreInRange rules) (headlines : HeadlinesFollow) (completes : CompletesFollow) (addresses : List Address) (before after : List (Job L)) (ran : Ran link_faults link_tells rules (length addresses) before after) where
-  are_reports : (told : DockContents) → HaveLinks link_tells told addresses before → All IsDone after → AreReports rules told addresses (map told_of after)
+module _ {L : Type 0} (link_known : L → Known Traffic) (rules : Rules) (valid : AreInRange rules) (headlines : HeadlinesFollow) (completes : CompletesFollow) (addresses : List Address) (before after : List (Job L)) (ran : Ran link_known rules (length addresses) before after) where
+  are_reports : (told : DockContents) → HaveLinks link_known told addresses before → All IsDone after → AreReports rules told addresses (map told_of after)
   are_reports told links done = record {
     as_many = map_size told_of after ∙ ran.still ∙ ran.size;
     each = λ k at none within.
@@ -131,7 +131,7 @@ module _ {L : Type 0} (link_faults : L → ℕ) (link_tells : L → Option Traff
         let d : Job L = (index_of after k last).0 in
         let link = links k at d within in
         let report : IsReportOf rules (k + 1) link.0.ahead (told_of (slice_index_or after k d)) =
-        job_report link_faults link_tells rules valid (k + 1) link.0 (slice_index_or before k d) (slice_index_or after k d) (ran.jobs k d within) link.2 (ran.ended k d first) headlines completes (done k d last) in
+        job_report link_known rules valid (k + 1) link.0 (slice_index_or before k d) (slice_index_or after k d) (ran.jobs k d within) link.2 (ran.ended k d first) headlines completes (done k d last) in
         (link.0, link.1, subst (λ r. IsReportOf rules (k + 1) link.0.ahead r) (sym (map_at told_of after k d none last)) report);
   }
 
@@ -142,7 +142,7 @@ module _ {L : Type 0} (link_faults : L → ℕ) (link_tells : L → Option Traff
       let each = are.each fails.k at none fails.within in
       report_whole rules told fails.k (fails.k + 1) (slice_index_or addresses fails.k at) each.0 (slice_index_or reports fails.k none) each.1 each.2 (fails.fails at)
 
-  fails_some : (told : DockContents) → HaveLinks link_tells told addresses before → SomeFailed after → FailsSome rules told addresses
+  fails_some : (told : DockContents) → HaveLinks link_known told addresses before → SomeFailed after → FailsSome rules told addresses
   fails_some told links some =
       let last : some.0 < length after = some.1 in
       let first : some.0 < length before = (let still = ran.still in omega (arith, still, last)) in
@@ -156,11 +156,11 @@ module _ {L : Type 0} (link_faults : L → ℕ) (link_tells : L → Option Traff
             inr (
               link.0,
               link.1,
-              job_breaks link_faults link_tells rules valid (some.0 + 1) link.0 (slice_index_or before some.0 d) (slice_index_or after some.0 d) (ran.jobs some.0 d within) link.2 (ran.ended some.0 d first) (some.2 d),
+              job_breaks link_known rules valid (some.0 + 1) link.0 (slice_index_or before some.0 d) (slice_index_or after some.0 d) (ran.jobs some.0 d within) link.2 (ran.ended some.0 d first) (some.2 d),
             );
       }
 
-  some_rose : AreFresh link_faults (length addresses) before → SomeFailed after → SomeLinkRose link_faults
+  some_rose : AreFresh link_known (length addresses) before → SomeFailed after → SomeLinkRose link_known
   some_rose fresh some =
       let last : some.0 < length after = some.1 in
       let first : some.0 < length before = (let still = ran.still in omega (arith, still, last)) in
@@ -169,7 +169,7 @@ module _ {L : Type 0} (link_faults : L → ℕ) (link_tells : L → Option Traff
         (slice_index_or before some.0 d).link,
         (slice_index_or after some.0 d).link,
         fresh some.0 d within,
-        job_rose link_faults link_tells (slice_index_or before some.0 d) (slice_index_or after some.0 d) (ran.ended some.0 d first) (some.2 d),
+        job_rose link_known (slice_index_or before some.0 d) (slice_index_or after some.0 d) (ran.ended some.0 d first) (some.2 d),
       )
 
   failed_where : (NoneFailed after → ⊥) → SomeFailed after
@@ -178,31 +178,31 @@ module _ {L : Type 0} (link_faults : L → ℕ) (link_tells : L → Option Traff
     | inr failed ↦ failed
   ]
 
-  pub settled_run : {D O : Type 0} (stopped : Result Bool Stop) (dock_faults : D → ℕ) (dock_tells : D → Option DockContents) (dock dock' : D)
-      (out_faults : O → ℕ) (out_tells : O → Option Output) (out out' : O)
-      → AreFresh link_faults (length addresses) before → Docked (dock_tells dock) (dock_tells dock') (λ told. HaveLinks link_tells told addresses before)
-      → WhileTold (dock_tells dock) (dock_tells dock') (λ x y. y.gone ≡ x.gone) → dock_faults dock ≤ dock_faults dock'
-      → (IsLive addresses → ⊥) → Settles after stopped out_tells out out' → HasCause (out_faults out) (out_faults out') (stopped ≡ Err stops.Write)
-      → ReceiveRun rules addresses (ending_of stopped) dock_faults dock_tells dock dock' link_faults out_faults out_tells out out'
-  settled_run stopped dock_faults dock_tells dock dock' out_faults out_tells out out' fresh links unsent later several settled cause = record {
+  pub settled_run : {D O : Type 0} (stopped : Result Bool Stop) (dock_known : D → Known DockContents) (dock dock' : D)
+      (out_known : O → Known Output) (out out' : O)
+      → AreFresh link_known (length addresses) before → Docked (dock_known dock) (dock_known dock') (λ told. HaveLinks link_known told addresses before)
+      → WhileTold (dock_known dock) (dock_known dock') (λ x y. y.gone ≡ x.gone) → (dock_known dock).faults ≤ (dock_known dock').faults
+      → (IsLive addresses → ⊥) → Settles after stopped out_known out out' → HasCause (out_known out) (out_known out') (stopped ≡ Err stops.Write)
+      → ReceiveRun rules addresses (ending_of stopped) dock_known dock dock' link_known out_known out out'
+  settled_run stopped dock_known dock dock' out_known out out' fresh links unsent later several settled cause = record {
     kind = λ fault is.
-        elim (ending_kind after stopped out_tells out out' settled fault is) [
+        elim (ending_kind after stopped out_known out out' settled fault is) [
           | inl memory ↦ inl memory
           | inr rest ↦ elim rest [
             | inl link ↦ inr (inl link.0)
             | inr write ↦ inr (inr write)
           ]
         ];
-    writes = docked_weaker (λ told. HaveLinks link_tells told addresses before) (λ told. WritesAll rules told addresses (ending_of stopped) out_tells out out') (dock_tells dock) (dock_tells dock') links
-        (λ told has. all_several rules told addresses (ending_of stopped) out_tells out out' several (reports_written after stopped (AreReports rules told addresses) out_tells out out' (are_reports told has) settled));
-    unwritten = λ any. settled_unwritten after stopped out_tells out out' settled (either any);
-    link = λ is. docked_weaker (λ told. HaveLinks link_tells told addresses before) (λ told. FailsSome rules told addresses) (dock_tells dock) (dock_tells dock') links
-        (λ told has. fails_some told has (failed_where (settled_link after stopped out_tells out out' settled is)));
-    linked = λ no_link no_want no_write. docked_weaker (λ told. HaveLinks link_tells told addresses before) (λ told. FailsSome rules told addresses → ⊥) (dock_tells dock) (dock_tells dock') links
-        (λ told has fails. none_fails told (map told_of after) (are_reports told has (all_done after stopped out_tells out out' settled no_link no_want)) fails);
+    writes = docked_weaker (λ told. HaveLinks link_known told addresses before) (λ told. WritesAll rules told addresses (ending_of stopped) out_known out out') (dock_known dock) (dock_known dock') links
+        (λ told has. all_several rules told addresses (ending_of stopped) out_known out out' several (reports_written after stopped (AreReports rules told addresses) out_known out out' (are_reports told has) settled));
+    unwritten = λ any. settled_unwritten after stopped out_known out out' settled (either any);
+    link = λ is. docked_weaker (λ told. HaveLinks link_known told addresses before) (λ told. FailsSome rules told addresses) (dock_known dock) (dock_known dock') links
+        (λ told has. fails_some told has (failed_where (settled_link after stopped out_known out out' settled is)));
+    linked = λ no_link no_want no_write. docked_weaker (λ told. HaveLinks link_known told addresses before) (λ told. FailsSome rules told addresses → ⊥) (dock_known dock) (dock_known dock') links
+        (λ told has fails. none_fails told (map told_of after) (are_reports told has (all_done after stopped out_known out out' settled no_link no_want)) fails);
     unsent = unsent;
     later = later;
-    link_cause = λ is. inr (some_rose fresh (failed_where (settled_link after stopped out_tells out out' settled is)));
+    link_cause = λ is. inr (some_rose fresh (failed_where (settled_link after stopped out_known out out' settled is)));
     write_cause = record { later = cause.later; rose = λ is. cause.rose (write_is stopped is) };
   }
 
@@ -212,27 +212,27 @@ none_found : (told : DockContents) (at : Address) (k : ℕ) → k < 1 → FindsN
 none_found told at zero within none = none
 none_found told at (suc k) within none = absurd (omega (arith, within))
 
-unwritten_memory : {O : Type 0} (rules : Rules) (told : DockContents) (addresses : List Address) (tells : O → Option Output) (out : O) → WritesAll rules told addresses (Err faults.NoMemory) tells out out
-unwritten_memory rules told [] tells out = refl
-unwritten_memory rules told (at ∷ []) tells out = refl
-unwritten_memory rules told (at ∷ (other ∷ addresses)) tells out = refl
+unwritten_memory : {O : Type 0} (rules : Rules) (told : DockContents) (addresses : List Address) (known : O → Known Output) (out : O) → WritesAll rules told addresses (Err faults.NoMemory) known out out
+unwritten_memory rules told [] known out = refl
+unwritten_memory rules told (at ∷ []) known out = refl
+unwritten_memory rules told (at ∷ (other ∷ addresses)) known out = refl
 
-unwritten_link : {O : Type 0} (rules : Rules) (told : DockContents) (addresses : List Address) (tells : O → Option Output) (out : O) → FailsOpening told addresses → WritesAll rules told addresses (Err faults.Link) tells out out
-unwritten_link rules told [] tells out fails = refl
-unwritten_link rules told (at ∷ []) tells out fails = inl (none_found told at fails.k fails.within (fails.fails at), refl)
-unwritten_link rules told (at ∷ (other ∷ addresses)) tells out fails = refl
+unwritten_link : {O : Type 0} (rules : Rules) (told : DockContents) (addresses : List Address) (known : O → Known Output) (out : O) → FailsOpening told addresses → WritesAll rules told addresses (Err faults.Link) known out out
+unwritten_link rules told [] known out fails = refl
+unwritten_link rules told (at ∷ []) known out fails = inl (none_found told at fails.k fails.within (fails.fails at), refl)
+unwritten_link rules told (at ∷ (other ∷ addresses)) known out fails = refl
 
 not_write : (fault : Fault) → EndsOpening fault → of_fault fault ≡ Err faults.Write → ⊥
 not_write fault (inl memory) is = let one : faults.NoMemory ≡ faults.Write = sym memory ∙ inner fault faults.Write is in cc
 not_write fault (inr link) is = let one : faults.Link ≡ faults.Write = sym link ∙ inner fault faults.Write is in cc
 
-pub opening_failed : {D O L : Type 0} (rules : Rules) (addresses : List Address) (fault : Fault) (dock_faults : D → ℕ) (dock_tells : D → Option DockContents) (dock dock' : D) (link_faults : L → ℕ)
-    (out_faults : O → ℕ) (out_tells : O → Option Output) (out : O)
-    → EndsOpening fault → (fault ≡ faults.Link → Docked (dock_tells dock) (dock_tells dock') (λ told. FailsOpening told addresses))
-    → Docked (dock_tells dock) (dock_tells dock') (λ _. Unit {0})
-    → WhileTold (dock_tells dock) (dock_tells dock') (λ x y. y.gone ≡ x.gone) → dock_faults dock ≤ dock_faults dock' → (fault ≡ faults.Link → Rose (dock_faults dock) (dock_faults dock'))
-    → ReceiveRun rules addresses (Err fault) dock_faults dock_tells dock dock' link_faults out_faults out_tells out out
-opening_failed rules addresses fault dock_faults dock_tells dock dock' link_faults out_faults out_tells out ends failed told unsent later rose = record {
+pub opening_failed : {D O L : Type 0} (rules : Rules) (addresses : List Address) (fault : Fault) (dock_known : D → Known DockContents) (dock dock' : D) (link_known : L → Known Traffic)
+    (out_known : O → Known Output) (out : O)
+    → EndsOpening fault → (fault ≡ faults.Link → Docked (dock_known dock) (dock_known dock') (λ told. FailsOpening told addresses))
+    → Docked (dock_known dock) (dock_known dock') (λ _. Unit {0})
+    → WhileTold (dock_known dock) (dock_known dock') (λ x y. y.gone ≡ x.gone) → (dock_known dock).faults ≤ (dock_known dock').faults → (fault ≡ faults.Link → HasFailed (dock_known dock) (dock_known dock'))
+    → ReceiveRun rules addresses (Err fault) dock_known dock dock' link_known out_known out out
+opening_failed rules addresses fault dock_known dock dock' link_known out_known out ends failed told unsent later rose = record {
   kind = λ other is.
       let same : fault ≡ other = inner fault other is in
       elim ends [
@@ -240,13 +240,13 @@ opening_failed rules addresses fault dock_faults dock_tells dock dock' link_faul
         | inr link ↦ inr (inl (sym same ∙ link))
       ];
   writes = elim ends [
-    | inl memory ↦ docked_weaker (λ _. Unit {0}) (λ x. WritesAll rules x addresses (Err fault) out_tells out out) (dock_tells dock) (dock_tells dock') told
-        (λ x any. subst (λ f. WritesAll rules x addresses (Err f) out_tells out out) (sym memory) (unwritten_memory rules x addresses out_tells out))
-    | inr link ↦ docked_weaker (λ x. FailsOpening x addresses) (λ x. WritesAll rules x addresses (Err fault) out_tells out out) (dock_tells dock) (dock_tells dock') (failed link)
-        (λ x fails. subst (λ f. WritesAll rules x addresses (Err f) out_tells out out) (sym link) (unwritten_link rules x addresses out_tells out fails))
+    | inl memory ↦ docked_weaker (λ _. Unit {0}) (λ x. WritesAll rules x addresses (Err fault) out_known out out) (dock_known dock) (dock_known dock') told
+        (λ x any. subst (λ f. WritesAll rules x addresses (Err f) out_known out out) (sym memory) (unwritten_memory rules x addresses out_known out))
+    | inr link ↦ docked_weaker (λ x. FailsOpening x addresses) (λ x. WritesAll rules x addresses (Err fault) out_known out out) (dock_known dock) (dock_known dock') (failed link)
+        (λ x fails. subst (λ f. WritesAll rules x addresses (Err f) out_known out out) (sym link) (unwritten_link rules x addresses out_known out fails))
   ];
   unwritten = λ any. refl;
-  link = λ is. docked_weaker (λ x. FailsOpening x addresses) (λ x. FailsSome rules x addresses) (dock_tells dock) (dock_tells dock') (failed (inner fault faults.Link is))
+  link = λ is. docked_weaker (λ x. FailsOpening x addresses) (λ x. FailsSome rules x addresses) (dock_known dock) (dock_known dock') (failed (inner fault faults.Link is))
       (λ x opening. record { k = opening.k; within = opening.within; fails = λ at. inl (opening.fails at) });
   linked = λ no_link no_memory no_write. elim ends [
     | inl memory ↦ absurd (no_memory (ap Err memory))

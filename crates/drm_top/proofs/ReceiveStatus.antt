@@ -1,6 +1,6 @@
 -- What the status of `receive` says.
 use Rattle.std.proofs.Common.{◌≡◌, ℕ, zero, suc, ◌<◌, ◌+◌, ◌⊎◌, ◌↔◌, inl, inr, Bool, true, false, IsTrue, List, [], ◌∷◌, length, slice_index_or, Option, None, Some, Result, Ok, Err, refl, sym, ◌∙◌, ap, subst, arith}
-use Rattle.drm_links.specs.Told.{Rose}
+use Rattle.drm_links.specs.Told.{HasFailed, Known, Rose}
 use Rattle.drm_links.specs.Link.{Answer}
 use Rattle.drm_links.specs.Sink.{Output}
 use Rattle.drm_links.proofs.ToldLemmas.{Outputs-weaker}
@@ -13,17 +13,8 @@ use Rattle.drm_faults.specs.declared.fault.Fault.TheVariants as faults
 use Rattle.drm_faults.specs.Fault.{report_status, clean_status}
 use Rattle.drm_top.specs.Receive.{Docked, Finds, AreReports, AreClean, all_texts, FailsSome, WritesReports, WritesAll, IsLive, ReceiveRun}
 use Rattle.mod_receiver.specs.Ahead.{Report, IsReportOf}
+use Rattle.drm_top.proofs.OpeningLemmas.{docked_weaker, docked_both}
 use Rattle.drm_top.specs.Status.{WroteReports, IsInTimeAhead, AreInTime}
-
-pub docked_weaker : (P Q : DockContents → Type 0) (a b : Option DockContents) → Docked a b P → ((told : DockContents) → P told → Q told) → Docked a b Q
-docked_weaker P Q a None p w = tt
-docked_weaker P Q None (Some after) p w = p
-docked_weaker P Q (Some before) (Some after) p w = w before p
-
-docked_both : (P Q : DockContents → Type 0) (a b : Option DockContents) → Docked a b P → Docked a b Q → Docked a b (λ told. P told × Q told)
-docked_both P Q a None p q = tt
-docked_both P Q None (Some after) p q = p
-docked_both P Q (Some before) (Some after) p q = (p, q)
 
 pub is_true : IsTrue true
 is_true = refl
@@ -32,15 +23,15 @@ is_not_false : IsTrue false → ⊥
 is_not_false e = cc
 
 -- all reports of these were written, and the status is that of whether they are clean
-pub wrote : {O : Type 0} (are : List Report → Type 0) (clean : Bool) (tells : O → Option Output) (out out' : O) → WritesReports are (Ok clean) tells out out' → WroteReports (clean_status clean) are tells out out'
-wrote are true tells out out' (reports, is, text, iff) = record {
+pub wrote : {O : Type 0} (are : List Report → Type 0) (clean : Bool) (known : O → Known Output) (out out' : O) → WritesReports are (Ok clean) known out out' → WroteReports (clean_status clean) are known out out'
+wrote are true known out out' (reports, is, text, iff) = record {
   reports = reports;
   are_reports = is;
   text = text;
   clean = (λ e. iff.0 is_true, λ all. refl);
   lacking = (λ e. absurd (omega (arith, e)), λ none. absurd (none (iff.0 is_true)));
 }
-wrote are false tells out out' (reports, is, text, iff) = record {
+wrote are false known out out' (reports, is, text, iff) = record {
   reports = reports;
   are_reports = is;
   text = text;
@@ -66,18 +57,18 @@ one_clean clean r is = (
     each is_clean (suc k) d within = absurd (omega (arith, within))
 
 -- where the run ends well the reports of all links are written, whether there is one or are several
-all_reports : {O : Type 0} (rules : Rules) (told : DockContents) (addresses : List Address) (clean : Bool) (tells : O → Option Output) (out out' : O)
-    → WritesAll rules told addresses (Ok clean) tells out out' → WritesReports (AreReports rules told addresses) (Ok clean) tells out out'
-all_reports rules told [] clean tells out out' writes = writes
-all_reports rules told (at ∷ []) clean tells out out' (start, finds, (r, report, text, is)) = (
+all_reports : {O : Type 0} (rules : Rules) (told : DockContents) (addresses : List Address) (clean : Bool) (known : O → Known Output) (out out' : O)
+    → WritesAll rules told addresses (Ok clean) known out out' → WritesReports (AreReports rules told addresses) (Ok clean) known out out'
+all_reports rules told [] clean known out out' writes = writes
+all_reports rules told (at ∷ []) clean known out out' (start, finds, (r, report, text, is)) = (
   r ∷ [],
   record { as_many = refl; each = one_report rules told at start r finds report },
-  Outputs-weaker (λ t. t ≡ r.text) (λ t. t ≡ all_texts (r ∷ [])) (tells out) (tells out') text (λ t e. e ∙ sym (append-nil r.text)),
+  Outputs-weaker (λ t. t ≡ r.text) (λ t. t ≡ all_texts (r ∷ [])) (known out) (known out') text (λ t e. e ∙ sym (append-nil r.text)),
   one_clean clean r is,
 )
-all_reports rules told (at ∷ (other ∷ addresses)) clean tells out out' writes = writes
+all_reports rules told (at ∷ (other ∷ addresses)) clean known out out' writes = writes
 
-module _ {D L O : Type 0} (rules : Rules) (addresses : List Address) (dock_faults : D → ℕ) (dock_tells : D → Option DockContents) (dock dock' : D) (link_faults : L → ℕ) (out_faults : O → ℕ) (out_tells : O → Option Output) (out out' : O) where
+module _ {D L O : Type 0} (rules : Rules) (addresses : List Address) (dock_known : D → Known DockContents) (dock dock' : D) (link_known : L → Known Traffic) (out_known : O → Known Output) (out out' : O) where
   not_six : (clean : Bool) → clean_status clean ≡ 6 → ⊥
   not_six true e = omega (arith, e)
   not_six false e = omega (arith, e)
@@ -96,29 +87,29 @@ module _ {D L O : Type 0} (rules : Rules) (addresses : List Address) (dock_fault
   write_five : (ending : Result Bool Fault) → ending ≡ Err faults.Write → report_status ending ≡ 5
   write_five ending is = ap report_status is
 
-  module _ (ending : Result Bool Fault) (run : ReceiveRun rules addresses ending dock_faults dock_tells dock dock' link_faults out_faults out_tells out out') (memory : report_status ending ≡ 1 → ⊥)
+  module _ (ending : Result Bool Fault) (run : ReceiveRun rules addresses ending dock_known dock dock' link_known out_known out out') (memory : report_status ending ≡ 1 → ⊥)
       (unless : IsLive addresses → report_status ending ≡ 5 → ⊥) where
-    pub linked : Docked (dock_tells dock) (dock_tells dock') (λ told. (report_status ending ≡ 6) ↔ FailsSome rules told addresses)
+    pub linked : Docked (dock_known dock) (dock_known dock') (λ told. (report_status ending ≡ 6) ↔ FailsSome rules told addresses)
     linked = elim (linked_by ending run.kind memory) [
-      | inl (six, is) ↦ docked_weaker _ _ (dock_tells dock) (dock_tells dock') (run.link is) (λ told fails. (λ e. fails, λ f. six))
-      | inr (other, not_link, not_memory) ↦ docked_weaker _ _ (dock_tells dock) (dock_tells dock') (run.linked not_link not_memory (λ live is. unless live (write_five ending is))) (λ told none. (λ e. absurd (other e), λ f. absurd (none f)))
+      | inl (six, is) ↦ docked_weaker _ _ (dock_known dock) (dock_known dock') (run.link is) (λ told fails. (λ e. fails, λ f. six))
+      | inr (other, not_link, not_memory) ↦ docked_weaker _ _ (dock_known dock) (dock_known dock') (run.linked not_link not_memory (λ live is. unless live (write_five ending is))) (λ told none. (λ e. absurd (other e), λ f. absurd (none f)))
     ]
 
-  complete_by : (ending : Result Bool Fault) (run : ReceiveRun rules addresses ending dock_faults dock_tells dock dock' link_faults out_faults out_tells out out') → (report_status ending ≡ 1 → ⊥)
-      → (Rose (out_faults out) (out_faults out') → ⊥)
-      → Docked (dock_tells dock) (dock_tells dock') (λ told. (FailsSome rules told addresses → ⊥) → WroteReports (report_status ending) (AreReports rules told addresses) out_tells out out')
+  complete_by : (ending : Result Bool Fault) (run : ReceiveRun rules addresses ending dock_known dock dock' link_known out_known out out') → (report_status ending ≡ 1 → ⊥)
+      → (HasFailed (out_known out) (out_known out') → ⊥)
+      → Docked (dock_known dock) (dock_known dock') (λ told. (FailsSome rules told addresses → ⊥) → WroteReports (report_status ending) (AreReports rules told addresses) out_known out out')
   complete_by (Ok clean) run memory no_write =
-      docked_weaker _ _ (dock_tells dock) (dock_tells dock') run.writes
-      (λ told writes none. wrote (AreReports rules told addresses) clean out_tells out out' (all_reports rules told addresses clean out_tells out out' writes))
+      docked_weaker _ _ (dock_known dock) (dock_known dock') run.writes
+      (λ told writes none. wrote (AreReports rules told addresses) clean out_known out out' (all_reports rules told addresses clean out_known out out' writes))
   complete_by (Err fault) run memory no_write = elim (run.kind fault refl) [
     | inl is ↦ absurd (memory (ap (λ f. report_status (Err f)) is))
-    | inr (inl is) ↦ docked_weaker _ _ (dock_tells dock) (dock_tells dock') (run.link (ap Err is)) (λ told fails none. absurd (none fails))
+    | inr (inl is) ↦ docked_weaker _ _ (dock_known dock) (dock_known dock') (run.link (ap Err is)) (λ told fails none. absurd (none fails))
     | inr (inr is) ↦ absurd (no_write (run.write_cause.rose (ap Err is)))
   ]
 
-  pub complete : (ending : Result Bool Fault) (run : ReceiveRun rules addresses ending dock_faults dock_tells dock dock' link_faults out_faults out_tells out out') → (report_status ending ≡ 1 → ⊥)
-      → (Rose (out_faults out) (out_faults out') → ⊥)
-      → Docked (dock_tells dock) (dock_tells dock') (λ told. (FailsSome rules told addresses → ⊥) → WroteReports (report_status ending) (AreReports rules told addresses) out_tells out out')
+  pub complete : (ending : Result Bool Fault) (run : ReceiveRun rules addresses ending dock_known dock dock' link_known out_known out out') → (report_status ending ≡ 1 → ⊥)
+      → (HasFailed (out_known out) (out_known out') → ⊥)
+      → Docked (dock_known dock) (dock_known dock') (λ told. (FailsSome rules told addresses → ⊥) → WroteReports (report_status ending) (AreReports rules told addresses) out_known out out')
   complete = complete_by
 
 -- the report of a link that brings each frame in time is clean
@@ -137,8 +128,8 @@ all_clean rules told addresses reports are time k d within =
     let starts : start' ≡ start = cc in
     clean_in_time rules (k + 1) start.ahead (slice_index_or reports k d) report (subst (λ (s : LinkStart). IsInTimeAhead rules s.ahead) starts ahead)
 
-pub in_time : {O : Type 0} (code : ℕ) (rules : Rules) (addresses : List Address) (a b : Option DockContents) (tells : O → Option Output) (out out' : O)
-    → Docked a b (λ told. (FailsSome rules told addresses → ⊥) → WroteReports code (AreReports rules told addresses) tells out out')
+pub in_time : {O : Type 0} (code : ℕ) (rules : Rules) (addresses : List Address) (a b : Known DockContents) (known : O → Known Output) (out out' : O)
+    → Docked a b (λ told. (FailsSome rules told addresses → ⊥) → WroteReports code (AreReports rules told addresses) known out out')
     → Docked a b (λ told. (FailsSome rules told addresses → ⊥) → AreInTime rules told addresses → code ≡ 0)
-in_time code rules addresses a b tells out out' complete =
+in_time code rules addresses a b known out out' complete =
     docked_weaker _ _ a b complete (λ told wrote none time. let w = wrote none in w.clean.1 (all_clean rules told addresses w.reports w.are_reports time))

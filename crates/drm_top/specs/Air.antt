@@ -4,7 +4,7 @@ use Rattle.drm_schedule.specs.declared.plan.Plan.{Plan}
 use Rattle.drm_schedule.specs.Valid.{IsSchedule}
 use Rattle.script_lines.specs.declared.delivery.Delivery.{Delivery}
 use Rattle.script_lines.specs.Script.{IsScript}
-use Rattle.drm_links.specs.Told.{HasCause}
+use Rattle.drm_links.specs.Told.{Known, HasCause}
 use Rattle.drm_links.specs.Shelf.{Files}
 use Rattle.drm_links.specs.Link.{Datagram}
 use Rattle.drm_links.specs.Sink.{Output}
@@ -48,35 +48,35 @@ pub record AreAired (plan : Plan) (window : ℕ) (feeds : List (List Delivery)) 
       → IsAired plan window (k + 1) (slice_index_or feeds k feed) (slice_index_or reports k none)
 
 -- What comes of a script that was read, or not.
-abbrev pub ByScript : {O : Type 0} → Plan → ℕ → Result (List (List Delivery)) ScheduleFault → Result Bool Fault → (O → Option Output) → O → O → Type 0
-ByScript plan window (Ok feeds) ending tells out out' =
-    IsScript plan feeds × WritesReports (AreAired plan window feeds) ending tells out out'
+abbrev pub ByScript : {O : Type 0} → Plan → ℕ → Result (List (List Delivery)) ScheduleFault → Result Bool Fault → (O → Known Output) → O → O → Type 0
+ByScript plan window (Ok feeds) ending known out out' =
+    IsScript plan feeds × WritesReports (AreAired plan window feeds) ending known out out'
     × ((fault : Fault) → ending ≡ Err fault → (fault ≡ faults.NoMemory) ⊎ (fault ≡ faults.Write))
-ByScript plan window (Err fault) ending tells out out' = (ending ≡ Err (fault_of_script fault)) × (out' ≡ out)
+ByScript plan window (Err fault) ending known out out' = (ending ≡ Err (fault_of_script fault)) × (out' ≡ out)
 
 -- A run over a schedule that came: its script is read, and its feeds are received.
 pub record OverSchedule {S O : Type 0} (plan : Plan) (script : List ℕ) (window : ℕ) (ending : Result Bool Fault)
-    (shelf_tells : S → Option Files) (shelf shelf' : S) (out_tells : O → Option Output) (out out' : O) : Type 0 where
+    (shelf_known : S → Known Files) (shelf shelf' : S) (out_known : O → Known Output) (out out' : O) : Type 0 where
   pub valid : IsSchedule plan
   pub came : Result (List (List Delivery)) ScheduleFault
-  pub loads : ReadBy (script_named plan script) came (shelf_tells shelf) (shelf_tells shelf')
-  pub writes : ByScript plan window came ending out_tells out out'
+  pub loads : ReadBy (script_named plan script) came (shelf_known shelf) (shelf_known shelf')
+  pub writes : ByScript plan window came ending out_known out out'
 
 abbrev pub BySchedule : {S O : Type 0} → List ℕ → ℕ → Result Plan ScheduleFault → Result Bool Fault
-    → (S → Option Files) → S → S → (O → Option Output) → O → O → Type 0
-BySchedule script window (Ok plan) ending shelf_tells shelf shelf' out_tells out out' =
-    OverSchedule plan script window ending shelf_tells shelf shelf' out_tells out out'
-BySchedule script window (Err fault) ending shelf_tells shelf shelf' out_tells out out' =
+    → (S → Known Files) → S → S → (O → Known Output) → O → O → Type 0
+BySchedule script window (Ok plan) ending shelf_known shelf shelf' out_known out out' =
+    OverSchedule plan script window ending shelf_known shelf shelf' out_known out out'
+BySchedule script window (Err fault) ending shelf_known shelf shelf' out_known out out' =
     (ending ≡ Err (fault_of_schedule fault)) × (shelf' ≡ shelf) × (out' ≡ out)
 
 -- A run of `air`: the schedule is read, then the script, and then the feeds are received.
 pub record AirRun {S O : Type 0} (name script : List ℕ) (window : ℕ) (ending : Result Bool Fault)
-    (shelf_faults : S → ℕ) (shelf_tells : S → Option Files) (shelf shelf' : S)
-    (out_faults : O → ℕ) (out_tells : O → Option Output) (out out' : O) : Type 0 where
+    (shelf_known : S → Known Files) (shelf shelf' : S)
+    (out_known : O → Known Output) (out out' : O) : Type 0 where
   pub came : Result Plan ScheduleFault
   pub between : S
-  pub loads : ReadBy (schedule_named name) came (shelf_tells shelf) (shelf_tells between)
-  pub runs : BySchedule script window came ending shelf_tells between shelf' out_tells out out'
+  pub loads : ReadBy (schedule_named name) came (shelf_known shelf) (shelf_known between)
+  pub runs : BySchedule script window came ending shelf_known between shelf' out_known out out'
   -- The faults of the outside come only where its count of faults rose.
-  pub read_cause : HasCause (shelf_faults shelf) (shelf_faults shelf') (ending ≡ Err faults.Read)
-  pub write_cause : HasCause (out_faults out) (out_faults out') (ending ≡ Err faults.Write)
+  pub read_cause : HasCause (shelf_known shelf) (shelf_known shelf') (ending ≡ Err faults.Read)
+  pub write_cause : HasCause (out_known out) (out_known out') (ending ≡ Err faults.Write)

@@ -1,5 +1,6 @@
 -- The runs of the commands.
 use Rattle.std.specs.Prelude.{ℕ, ◌≡◌, Bool, Option, Result}
+use Rattle.drm_links.specs.Told.{Known}
 use Rattle.drm_links.specs.Shelf.{Files}
 use Rattle.drm_links.specs.Source.{Input}
 use Rattle.drm_links.specs.Sink.{Output}
@@ -17,22 +18,22 @@ use Rattle.drm_top.specs.declared.words.Command.TheVariants.{Fac, Check, Serve, 
 
 -- A run of this command with this ending: what it doesn't use stays as it is.
 abbrev pub CommandRun : {S I O D L : Type 0} → Command → Result Bool Fault
-    → (S → ℕ) → (S → Option Files) → S → S
-    → (I → ℕ) → (I → Option Input) → I → I
-    → (O → ℕ) → (O → Option Output) → O → O
-    → (D → ℕ) → (D → Option DockContents) → D → D → (L → ℕ) → Type 0
-CommandRun Fac ending shelf_faults shelf_tells shelf shelf' input_faults input_tells input input' out_faults out_tells out out' dock_faults dock_tells dock dock' link_faults =
-    FacRun (done_of ending) input_faults input_tells input input' out_faults out_tells out out' × (shelf' ≡ shelf) × (dock' ≡ dock)
-CommandRun (Check name) ending shelf_faults shelf_tells shelf shelf' input_faults input_tells input input' out_faults out_tells out out' dock_faults dock_tells dock dock' link_faults =
-    CheckRun name (done_of ending) shelf_faults shelf_tells shelf shelf' out_faults out_tells out out' × (input' ≡ input) × (dock' ≡ dock)
-CommandRun (Serve name pace) ending shelf_faults shelf_tells shelf shelf' input_faults input_tells input input' out_faults out_tells out out' dock_faults dock_tells dock dock' link_faults =
-    ServeRun name (done_of ending) shelf_faults shelf_tells shelf shelf' out_faults out_tells out out' × (input' ≡ input) × (dock' ≡ dock)
-CommandRun (Send name to pace) ending shelf_faults shelf_tells shelf shelf' input_faults input_tells input input' out_faults out_tells out out' dock_faults dock_tells dock dock' link_faults =
-    SendRun name to (done_of ending) shelf_faults shelf_tells shelf shelf' dock_faults dock_tells dock dock' link_faults × (input' ≡ input) × (out' ≡ out)
-CommandRun (Receive addresses rules) ending shelf_faults shelf_tells shelf shelf' input_faults input_tells input input' out_faults out_tells out out' dock_faults dock_tells dock dock' link_faults =
-    ReceiveRun rules addresses ending dock_faults dock_tells dock dock' link_faults out_faults out_tells out out' × (shelf' ≡ shelf) × (input' ≡ input)
-CommandRun (Air name script window) ending shelf_faults shelf_tells shelf shelf' input_faults input_tells input input' out_faults out_tells out out' dock_faults dock_tells dock dock' link_faults =
-    AirRun name script window ending shelf_faults shelf_tells shelf shelf' out_faults out_tells out out' × (input' ≡ input) × (dock' ≡ dock)
+    → (S → Known Files) → S → S
+    → (I → Known Input) → I → I
+    → (O → Known Output) → O → O
+    → (D → Known DockContents) → D → D → (L → ℕ) → Type 0
+CommandRun Fac ending shelf_known shelf shelf' input_known input input' out_known out out' dock_known dock dock' link_known =
+    FacRun (done_of ending) input_known input input' out_known out out' × (shelf' ≡ shelf) × (dock' ≡ dock)
+CommandRun (Check name) ending shelf_known shelf shelf' input_known input input' out_known out out' dock_known dock dock' link_known =
+    CheckRun name (done_of ending) shelf_known shelf shelf' out_known out out' × (input' ≡ input) × (dock' ≡ dock)
+CommandRun (Serve name pace) ending shelf_known shelf shelf' input_known input input' out_known out out' dock_known dock dock' link_known =
+    ServeRun name (done_of ending) shelf_known shelf shelf' out_known out out' × (input' ≡ input) × (dock' ≡ dock)
+CommandRun (Send name to pace) ending shelf_known shelf shelf' input_known input input' out_known out out' dock_known dock dock' link_known =
+    SendRun name to (done_of ending) shelf_known shelf shelf' dock_known dock dock' link_known × (input' ≡ input) × (out' ≡ out)
+CommandRun (Receive addresses rules) ending shelf_known shelf shelf' input_known input input' out_known out out' dock_known dock dock' link_known =
+    ReceiveRun rules addresses ending dock_known dock dock' link_known out_known out out' × (shelf' ≡ shelf) × (input' ≡ input)
+CommandRun (Air name script window) ending shelf_known shelf shelf' input_known input input' out_known out out' dock_known dock dock' link_known =
+    AirRun name script window ending shelf_known shelf shelf' out_known out out' × (input' ≡ input) × (dock' ≡ dock)
 
 -- a command that opens a link
 abbrev pub OpensALink : Command → Type 0

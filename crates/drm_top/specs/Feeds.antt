@@ -4,7 +4,7 @@ use Rattle.drm_schedule.specs.declared.plan.Plan.{Plan}
 use Rattle.script_lines.specs.declared.delivery.Delivery.{Delivery}
 use Rattle.drm_links.specs.Link.{Datagram}
 use Rattle.drm_links.specs.Dock.{first_traffic}
-use Rattle.drm_links.specs.MemoryLink.{LinkState, link_tells}
+use Rattle.drm_links.specs.MemoryLink.{LinkState, link_known}
 use Rattle.mod_delivery.specs.Sent.{AreSent}
 use Rattle.mod_receiver.specs.declared.job.Job.{Job}
 use Rattle.drm_top.specs.Air.{pairs_of}
@@ -13,7 +13,7 @@ use Rattle.drm_top.specs.Air.{pairs_of}
 pub record BringsFeed (plan : Plan) (deliveries : List Delivery) (link : LinkState) : Type 0 where
   pub datagrams : List (List ℕ)
   pub sent : AreSent plan (pairs_of deliveries) datagrams
-  pub told : link_tells link ≡ Some (first_traffic (record { ahead = map Datagram datagrams; sends = Some 0 }))
+  pub told : (link_known link).told ≡ Some (first_traffic (record { ahead = map Datagram datagrams; sends = Some 0 }))
 
 -- each receiver's link brings its feed
 abbrev pub BringFeeds : Plan → List (List Delivery) → List (Job LinkState) → Type 0

@@ -1,5 +1,6 @@
 -- Links that are opened, for receivers.
 use Rattle.std.specs.Prelude.{ℕ, ◌≡◌, ◌<◌, ◌⊎◌, List, length, slice_index_or, Option, Some}
+use Rattle.drm_links.specs.Told.{Known}
 use Rattle.drm_links.specs.Link.{Traffic}
 use Rattle.drm_links.specs.Dock.{DockContents, LinkStart, first_traffic}
 use Rattle.drm_links.specs.declared.dock.Address.{Address}
@@ -9,18 +10,18 @@ use Rattle.mod_receiver.specs.declared.job.Job.{Job}
 use Rattle.drm_top.specs.Receive.{Finds, FindsNone}
 
 -- the link of the k-th opening from here starts with what stood at its address
-abbrev pub HasLink : {L : Type 0} → (L → Option Traffic) → DockContents → ℕ → Address → L → Type 0
-HasLink tells told k at link = (start : LinkStart) × Finds told k at start × (tells link ≡ Some (first_traffic start))
+abbrev pub HasLink : {L : Type 0} → (L → Known Traffic) → DockContents → ℕ → Address → L → Type 0
+HasLink known told k at link = (start : LinkStart) × Finds told k at start × ((known link).told ≡ Some (first_traffic start))
 
 -- the receivers have the links of these addresses, in their order
-abbrev pub HaveLinks : {L : Type 0} → (L → Option Traffic) → DockContents → List Address → List (Job L) → Type 0
-HaveLinks {L} tells told addresses jobs =
+abbrev pub HaveLinks : {L : Type 0} → (L → Known Traffic) → DockContents → List Address → List (Job L) → Type 0
+HaveLinks {L} known told addresses jobs =
     (k : ℕ) (at : Address) (none : Job L) → k < length addresses
-    → HasLink tells told k (slice_index_or addresses k at) (slice_index_or jobs k none).link
+    → HasLink known told k (slice_index_or addresses k at) (slice_index_or jobs k none).link
 
 -- no link of these receivers has failed yet
-abbrev pub AreFresh : {L : Type 0} → (L → ℕ) → ℕ → List (Job L) → Type 0
-AreFresh {L} faults many jobs = (k : ℕ) (none : Job L) → k < many → faults (slice_index_or jobs k none).link ≡ 0
+abbrev pub AreFresh : {L : Type 0} → (L → Known Traffic) → ℕ → List (Job L) → Type 0
+AreFresh {L} known many jobs = (k : ℕ) (none : Job L) → k < many → (known (slice_index_or jobs k none).link).faults ≡ 0
 
 -- opening some address fails
 pub record FailsOpening (told : DockContents) (addresses : List Address) : Type 0 where

@@ -2,7 +2,7 @@
 -- together at their end.
 use Rattle.std.specs.Prelude.{ℕ, ◌≡◌, ◌+◌, ◌<◌, ◌≤◌, ◌⊎◌, ◌↔◌, IsTrue, Contains, IsNone, Bool, List, [], ◌∷◌, length, slice_index_or, Option, None, Some, Result, Ok, Err}
 use Rattle.std.specs.List.{flat_map, All}
-use Rattle.drm_links.specs.Told.{HasCause, Rose, WhileTold}
+use Rattle.drm_links.specs.Told.{Known, HasCause, Rose, WhileTold, Tells}
 use Rattle.drm_links.specs.Link.{Answer}
 use Rattle.drm_links.specs.Sink.{Output, Outputs, IsFront}
 use Rattle.drm_links.specs.Dock.{DockContents, LinkStart, start_at}
@@ -22,10 +22,8 @@ abbrev pub FindsNone : DockContents → ℕ → Address → Type 0
 FindsNone told k at = Contains told.failing (told.openings + k) ⊎ IsNone (start_at told at)
 
 -- where a dock tells at the end, it told before, and P holds of what it told then
-abbrev pub Docked : Option DockContents → Option DockContents → (DockContents → Type 0) → Type 0
-Docked before None P = Unit {0}
-Docked None (Some after) P = ⊥
-Docked (Some before) (Some after) P = P before
+abbrev pub Docked : Known DockContents → Known DockContents → (DockContents → Type 0) → Type 0
+Docked before after P = Tells before after (λ told _. P told)
 
 -- a report for each address, in their order
 pub record AreReports (rules : Rules) (told : DockContents) (addresses : List Address) (reports : List Report) : Type 0 where
@@ -50,12 +48,12 @@ pub record FailsSome (rules : Rules) (told : DockContents) (addresses : List Add
 
 -- What is written: the reports of all links, and whether they are clean; after a failed write a front of them; after
 -- another fault nothing.
-abbrev pub WritesReports : {O : Type 0} → (List Report → Type 0) → Result Bool Fault → (O → Option Output) → O → O → Type 0
-WritesReports are (Ok clean) tells out out' =
-    (reports : List Report) × are reports × Outputs (tells out) (tells out') (λ text. text ≡ all_texts reports) × (IsTrue clean ↔ AreClean reports)
-WritesReports are (Err faults.Write) tells out out' =
-    (reports : List Report) × are reports × Outputs (tells out) (tells out') (IsFront (all_texts reports))
-WritesReports are (Err fault) tells out out' = out' ≡ out
+abbrev pub WritesReports : {O : Type 0} → (List Report → Type 0) → Result Bool Fault → (O → Known Output) → O → O → Type 0
+WritesReports are (Ok clean) known out out' =
+    (reports : List Report) × are reports × Outputs (known out) (known out') (λ text. text ≡ all_texts reports) × (IsTrue clean ↔ AreClean reports)
+WritesReports are (Err faults.Write) known out out' =
+    (reports : List Report) × are reports × Outputs (known out) (known out') (IsFront (all_texts reports))
+WritesReports are (Err fault) known out out' = out' ≡ out
 
 -- P holds of what is ahead of the link that the first opening from here finds at this address
 abbrev pub Ahead : DockContents → Address → (List Answer → Type 0) → Type 0
@@ -63,19 +61,19 @@ Ahead told at P = (start : LinkStart) × Finds told 0 at start × P start.ahead
 
 -- What is written of one link: the report of what is ahead of it; after a failed write a front of that; where it breaks off,
 -- what is given before it does; where it can't be opened, or memory is wanting, nothing.
-abbrev pub WritesLive : {O : Type 0} → Rules → DockContents → Address → Result Bool Fault → (O → Option Output) → O → O → Type 0
-WritesLive rules told at (Ok clean) tells out out' =
-    Ahead told at (λ ahead. (r : Report) × IsReportOf rules 1 ahead r × Outputs (tells out) (tells out') (λ text. text ≡ r.text) × (clean ≡ r.clean))
-WritesLive rules told at (Err faults.Write) tells out out' = Ahead told at (λ ahead. Outputs (tells out) (tells out') (IsFrontOf rules 1 ahead))
-WritesLive rules told at (Err faults.Link) tells out out' =
+abbrev pub WritesLive : {O : Type 0} → Rules → DockContents → Address → Result Bool Fault → (O → Known Output) → O → O → Type 0
+WritesLive rules told at (Ok clean) known out out' =
+    Ahead told at (λ ahead. (r : Report) × IsReportOf rules 1 ahead r × Outputs (known out) (known out') (λ text. text ≡ r.text) × (clean ≡ r.clean))
+WritesLive rules told at (Err faults.Write) known out out' = Ahead told at (λ ahead. Outputs (known out) (known out') (IsFrontOf rules 1 ahead))
+WritesLive rules told at (Err faults.Link) known out out' =
     (FindsNone told 0 at × (out' ≡ out))
-    ⊎ Ahead told at (λ ahead. (given : List ℕ) × IsGivenOf rules 1 ahead given × Outputs (tells out) (tells out') (λ text. text ≡ given))
-WritesLive rules told at (Err fault) tells out out' = out' ≡ out
+    ⊎ Ahead told at (λ ahead. (given : List ℕ) × IsGivenOf rules 1 ahead given × Outputs (known out) (known out') (λ text. text ≡ given))
+WritesLive rules told at (Err fault) known out out' = out' ≡ out
 
 -- what is written of the links at these addresses
-abbrev pub WritesAll : {O : Type 0} → Rules → DockContents → List Address → Result Bool Fault → (O → Option Output) → O → O → Type 0
-WritesAll rules told (at ∷ []) ending tells out out' = WritesLive rules told at ending tells out out'
-WritesAll rules told addresses ending tells out out' = WritesReports (AreReports rules told addresses) ending tells out out'
+abbrev pub WritesAll : {O : Type 0} → Rules → DockContents → List Address → Result Bool Fault → (O → Known Output) → O → O → Type 0
+WritesAll rules told (at ∷ []) ending known out out' = WritesLive rules told at ending known out out'
+WritesAll rules told addresses ending known out out' = WritesReports (AreReports rules told addresses) ending known out out'
 
 -- the report is written as it is read: there is one link
 abbrev pub IsLive : List Address → Type 0
@@ -83,26 +81,26 @@ IsLive addresses = length addresses ≡ 1
 
 -- a count of faults rose that was 0 where the link was opened
 abbrev pub SomeLinkRose : {L : Type 0} → (L → ℕ) → Type 0
-SomeLinkRose {L} faults = (opened : L) × (closed : L) × (faults opened ≡ 0) × Rose (faults opened) (faults closed)
+SomeLinkRose {L} faults = (opened : L) × (closed : L) × ((known opened).faults ≡ 0) × HasFailed (known opened) (known closed)
 
 -- A run of `receive` with addresses.
 pub record ReceiveRun {D L O : Type 0} (rules : Rules) (addresses : List Address) (ending : Result Bool Fault)
-    (dock_faults : D → ℕ) (dock_tells : D → Option DockContents) (dock dock' : D) (link_faults : L → ℕ)
-    (out_faults : O → ℕ) (out_tells : O → Option Output) (out out' : O) : Type 0 where
+    (dock_known : D → Known DockContents) (dock dock' : D) (link_known : L → Known Traffic)
+    (out_known : O → Known Output) (out out' : O) : Type 0 where
   -- It ends well, or for want of memory, by a failed link or by a failed write.
   pub kind : (fault : Fault) → ending ≡ Err fault → (fault ≡ faults.NoMemory) ⊎ (fault ≡ faults.Link) ⊎ (fault ≡ faults.Write)
   -- Where the dock tells: the reports are those of what was ahead of the links that it opened. Nothing else is written.
-  pub writes : Docked (dock_tells dock) (dock_tells dock') (λ told. WritesAll rules told addresses ending out_tells out out')
+  pub writes : Docked (dock_known dock) (dock_known dock') (λ told. WritesAll rules told addresses ending out_known out out')
   -- After want of memory nothing is written, and where one of several links failed.
   pub unwritten : (ending ≡ Err faults.NoMemory) ⊎ ((ending ≡ Err faults.Link) × (IsLive addresses → ⊥)) → out' ≡ out
   -- It fails by a link exactly where an opening fails, or what is read of some link ends in `Failed`; where there is one link,
   -- unless a write failed before.
-  pub link : ending ≡ Err faults.Link → Docked (dock_tells dock) (dock_tells dock') (λ told. FailsSome rules told addresses)
+  pub link : ending ≡ Err faults.Link → Docked (dock_known dock) (dock_known dock') (λ told. FailsSome rules told addresses)
   pub linked : (ending ≡ Err faults.Link → ⊥) → (ending ≡ Err faults.NoMemory → ⊥) → (IsLive addresses → ending ≡ Err faults.Write → ⊥)
-      → Docked (dock_tells dock) (dock_tells dock') (λ told. FailsSome rules told addresses → ⊥)
+      → Docked (dock_known dock) (dock_known dock') (λ told. FailsSome rules told addresses → ⊥)
   -- Nothing is sent.
-  pub unsent : WhileTold (dock_tells dock) (dock_tells dock') (λ before after. after.gone ≡ before.gone)
+  pub unsent : WhileTold (dock_known dock) (dock_known dock') (λ before after. after.gone ≡ before.gone)
   -- The faults of the outside come only where its count of faults rose.
-  pub later : dock_faults dock ≤ dock_faults dock'
-  pub link_cause : ending ≡ Err faults.Link → Rose (dock_faults dock) (dock_faults dock') ⊎ SomeLinkRose link_faults
-  pub write_cause : HasCause (out_faults out) (out_faults out') (ending ≡ Err faults.Write)
+  pub later : (dock_known dock).faults ≤ (dock_known dock').faults
+  pub link_cause : ending ≡ Err faults.Link → HasFailed (dock_known dock) (dock_known dock') ⊎ SomeLinkRose link_known
+  pub write_cause : HasCause (out_known out) (out_known out') (ending ≡ Err faults.Write)

@@ -3,6 +3,7 @@ use Rattle.std.specs.Prelude.{ℕ, pos, ◌≡◌, ◌*◌, ◌<◌, ◌⊎◌, 
 use Rattle.drm_schedule.specs.declared.plan.Plan.{Plan}
 use Rattle.drm_schedule.specs.Valid.{IsSchedule}
 use Rattle.script_lines.specs.declared.delivery.Delivery.{Delivery}
+use Rattle.drm_links.specs.Told.{Known}
 use Rattle.drm_links.specs.Link.{Answer}
 use Rattle.drm_links.specs.Sink.{Output, Outputs}
 use Rattle.drm_links.specs.Dock.{DockContents, LinkStart}
@@ -20,10 +21,10 @@ use Rattle.drm_load.specs.Schedule.{schedule_named}
 use Rattle.drm_load.specs.Scripts.{script_named}
 
 -- The reports were written, all of them, and the status is 0 exactly where no line of them is missing or bad, and else 7.
-pub record WroteReports {O : Type 0} (code : ℕ) (are : List Report → Type 0) (tells : O → Option Output) (out out' : O) : Type 0 where
+pub record WroteReports {O : Type 0} (code : ℕ) (are : List Report → Type 0) (known : O → Known Output) (out out' : O) : Type 0 where
   pub reports : List Report
   pub are_reports : are reports
-  pub text : Outputs (tells out) (tells out') (λ text. text ≡ all_texts reports)
+  pub text : Outputs (known out) (known out') (λ text. text ≡ all_texts reports)
   pub clean : (code ≡ 0) ↔ AreClean reports
   pub lacking : (code ≡ 7) ↔ (AreClean reports → ⊥)
 

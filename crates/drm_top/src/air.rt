@@ -36,7 +36,7 @@ pub(crate) fn air<R: Threads + Sync, S: Shelf, O: Sink>(
     requires some { 1 ≤ window }
     requires few { window ≤ 64 }
     ensures run { AirRun name.now script.now window result
-        S.faults S.tells shelf.old shelf.new O.faults O.tells out.old out.new }
+        S.known shelf.old shelf.new O.known out.old out.new }
 {
     reports_follow();
     laws_of_deliveries();

@@ -1,7 +1,7 @@
 //! The top call.
 
 ghost use Rattle.std.specs.Prelude.{◌≡◌, ◌≢◌, ◌≤◌, ◌↔◌, ◌⊎◌, ℕ, List, length, Some, Bool, false, Result, Ok, IsErrOf, map, string_bytes};
-ghost use Rattle.drm_links.specs.Told.{HasCause, Rose, WhileTold};
+ghost use Rattle.drm_links.specs.Told.{HasCause, WhileTold};
 ghost use Rattle.drm_links.specs.Dock.{LinkStart, address_key};
 ghost use Rattle.drm_links.specs.Transmission.{TakesSends};
 ghost use Rattle.drm_server.specs.Datagrams.{AreDatagrams};
@@ -74,101 +74,101 @@ where
         → (result.code ≡ 2) ⊎ (result.code ≡ 1) }
     ensures refuses { result.code ≡ 2
         → (shelf.new ≡ shelf.old) × (input.new ≡ input.old) × (out.new ≡ out.old)
-        × WritesLine (fault_line Fault.Words) E.faults E.tells err.old err.new }
+        × WritesLine (fault_line Fault.Words) E.known err.old err.new }
     ensures memory { result.code ≡ 1 → (input.new ≡ input.old) × (out.new ≡ out.old)
-        × WritesLine (fault_line Fault.NoMemory) E.faults E.tells err.old err.new }
+        × WritesLine (fault_line Fault.NoMemory) E.known err.old err.new }
 
     // The command `fac`, which leaves the files alone.
     ensures fac { AsksFor Command.Fac (map string_bytes words.now) → result.code ≢ 1
         → (ending : Result (Unit {0}) Fault) × (result.code ≡ status_of ending)
-        × FacRun ending I.faults I.tells input.old input.new O.faults O.tells out.old out.new
-        × (shelf.new ≡ shelf.old) × Reports ending E.faults E.tells err.old err.new }
+        × FacRun ending I.known input.old input.new O.known out.old out.new
+        × (shelf.new ≡ shelf.old) × Reports ending E.known err.old err.new }
 
     // Its status 3 comes exactly where the input is no FAC, unless a read failed. Where the input is
     // a FAC and neither side failed, its line is written.
     ensures refused { AsksFor Command.Fac (map string_bytes words.now) → result.code ≢ 4
-        → result.code ≢ 1 → Inputs (I.tells input.old) (I.tells input.new)
+        → result.code ≢ 1 → Inputs (I.known input.old) (I.known input.new)
         (λ left _. (result.code ≡ 3) ↔ ((fac : Fac) → IsFac fac left → ⊥)) }
     ensures complete { AsksFor Command.Fac (map string_bytes words.now) → result.code ≢ 1
-        → (Rose (I.faults input.old) (I.faults input.new) → ⊥)
-        → (Rose (O.faults out.old) (O.faults out.new) → ⊥)
-        → Inputs (I.tells input.old) (I.tells input.new) (λ left _. (fac : Fac) → IsFac fac left
+        → (HasFailed (I.known input.old) (I.known input.new) → ⊥)
+        → (HasFailed (O.known out.old) (O.known out.new) → ⊥)
+        → Inputs (I.known input.old) (I.known input.new) (λ left _. (fac : Fac) → IsFac fac left
         → (result.code ≡ 0)
-        × Outputs (O.tells out.old) (O.tells out.new) (λ text. text ≡ fac_line fac)) }
+        × Outputs (O.known out.old) (O.known out.new) (λ text. text ≡ fac_line fac)) }
 
     // The command `check`, which leaves the input alone.
     ensures check { (name : List ℕ) → AsksFor (Command.Check name) (map string_bytes words.now)
         → result.code ≢ 1
         → (ending : Result (Unit {0}) Fault) × (result.code ≡ status_of ending)
-        × CheckRun name ending S.faults S.tells shelf.old shelf.new O.faults O.tells out.old out.new
-        × (input.new ≡ input.old) × Reports ending E.faults E.tells err.old err.new }
+        × CheckRun name ending S.known shelf.old shelf.new O.known out.old out.new
+        × (input.new ≡ input.old) × Reports ending E.known err.old err.new }
 
     // Its status 3 comes exactly where a line of the schedule is wrong, 4 exactly where a load fails.
     // Where the files are a schedule and no write failed, its canonical text is written.
     ensures check_refused { (name : List ℕ)
         → AsksFor (Command.Check name) (map string_bytes words.now) → result.code ≢ 1
-        → Supplies (S.tells shelf.old) (S.tells shelf.new)
+        → Supplies (S.known shelf.old) (S.known shelf.new)
         (λ before _. (result.code ≡ 3) ↔ IsRefused (checked name before).came) }
     ensures check_unread { (name : List ℕ)
         → AsksFor (Command.Check name) (map string_bytes words.now) → result.code ≢ 1
-        → Supplies (S.tells shelf.old) (S.tells shelf.new)
+        → Supplies (S.known shelf.old) (S.known shelf.new)
         (λ before _. (result.code ≡ 4) ↔ ((checked name before).came ≡ Err ScheduleFault.Read)) }
     ensures check_complete { (name : List ℕ)
         → AsksFor (Command.Check name) (map string_bytes words.now) → result.code ≢ 1
-        → (Rose (O.faults out.old) (O.faults out.new) → ⊥)
-        → Supplies (S.tells shelf.old) (S.tells shelf.new)
+        → (HasFailed (O.known out.old) (O.known out.new) → ⊥)
+        → Supplies (S.known shelf.old) (S.known shelf.new)
         (λ before _. (text : List ℕ) → (checked name before).came ≡ Ok text → (result.code ≡ 0)
-        × Outputs (O.tells out.old) (O.tells out.new) (λ written. written ≡ text)) }
+        × Outputs (O.known out.old) (O.known out.new) (λ written. written ≡ text)) }
 
     // The command `serve` without an address, which leaves the input alone.
     ensures serve { (name : List ℕ) → (pace : ℕ)
         → AsksFor (Command.Serve name pace) (map string_bytes words.now) → result.code ≢ 1
         → (ending : Result (Unit {0}) Fault) × (result.code ≡ status_of ending)
-        × ServeRun name ending S.faults S.tells shelf.old shelf.new O.faults O.tells out.old out.new
-        × (input.new ≡ input.old) × Reports ending E.faults E.tells err.old err.new }
+        × ServeRun name ending S.known shelf.old shelf.new O.known out.old out.new
+        × (input.new ≡ input.old) × Reports ending E.known err.old err.new }
 
     // Its status 3 comes exactly where a line of the schedule is wrong, 4 exactly where a load fails.
     // Where the files are a schedule and no write failed, a capture of it is written.
     ensures serve_refused { (name : List ℕ) → (pace : ℕ)
         → AsksFor (Command.Serve name pace) (map string_bytes words.now) → result.code ≢ 1
-        → Supplies (S.tells shelf.old) (S.tells shelf.new)
+        → Supplies (S.known shelf.old) (S.known shelf.new)
         (λ before _. (result.code ≡ 3) ↔ IsRefused (schedule_named name before).came) }
     ensures serve_unread { (name : List ℕ) → (pace : ℕ)
         → AsksFor (Command.Serve name pace) (map string_bytes words.now) → result.code ≢ 1
-        → Supplies (S.tells shelf.old) (S.tells shelf.new)
+        → Supplies (S.known shelf.old) (S.known shelf.new)
         (λ before _. (result.code ≡ 4) ↔ ((schedule_named name before).came ≡ Err ScheduleFault.Read)) }
     ensures serve_complete { (name : List ℕ) → (pace : ℕ)
         → AsksFor (Command.Serve name pace) (map string_bytes words.now) → result.code ≢ 1
-        → (Rose (O.faults out.old) (O.faults out.new) → ⊥)
-        → Supplies (S.tells shelf.old) (S.tells shelf.new)
+        → (HasFailed (O.known out.old) (O.known out.new) → ⊥)
+        → Supplies (S.known shelf.old) (S.known shelf.new)
         (λ before _. (schedule : Plan) → (schedule_named name before).came ≡ Ok schedule → (result.code ≡ 0)
-        × Outputs (O.tells out.old) (O.tells out.new) (IsCapture schedule)) }
+        × Outputs (O.known out.old) (O.known out.new) (IsCapture schedule)) }
 
     // The command `serve` to an address, which leaves input and out alone.
     ensures send { (name : List ℕ) → (to : Address) → (pace : ℕ)
         → AsksFor (Command.Send name to pace) (map string_bytes words.now) → result.code ≢ 1
         → (ending : Result (Unit {0}) Fault) × (result.code ≡ status_of ending)
-        × SendRun name to ending S.faults S.tells shelf.old shelf.new
-        D.faults D.tells dock.old dock.new D.L.faults
-        × (input.new ≡ input.old) × (out.new ≡ out.old) × Reports ending E.faults E.tells err.old err.new }
+        × SendRun name to ending S.known shelf.old shelf.new
+        D.known dock.old dock.new D.L.known
+        × (input.new ≡ input.old) × (out.new ≡ out.old) × Reports ending E.known err.old err.new }
 
     // Its status 6 comes where the opening fails, and where the link takes fewer sends than the
     // schedule has datagrams; nowhere else.
     ensures send_unopened { (name : List ℕ) → (to : Address) → (pace : ℕ)
         → AsksFor (Command.Send name to pace) (map string_bytes words.now) → result.code ≢ 1
-        → WhileTold (D.tells dock.old) (D.tells dock.new)
+        → WhileTold (D.known dock.old) (D.known dock.new)
         (λ before _. OpeningFails to before → result.code ≡ 6) }
     ensures send_cut { (name : List ℕ) → (to : Address) → (pace : ℕ)
         → AsksFor (Command.Send name to pace) (map string_bytes words.now) → result.code ≢ 1
-        → WhileTold (D.tells dock.old) (D.tells dock.new) (λ before _. (start : LinkStart)
-        → OpensLink to before start → Supplies (S.tells shelf.old) (S.tells shelf.new) (λ files _.
+        → WhileTold (D.known dock.old) (D.known dock.new) (λ before _. (start : LinkStart)
+        → OpensLink to before start → Supplies (S.known shelf.old) (S.known shelf.new) (λ files _.
         (result.code ≡ 6) ↔ LacksSends (schedule_named name files).came start.sends)) }
 
     // Where the link takes them all, they have gone at its address.
     ensures send_complete { (name : List ℕ) → (to : Address) → (pace : ℕ)
         → AsksFor (Command.Send name to pace) (map string_bytes words.now) → result.code ≢ 1
-        → WhileTold (D.tells dock.old) (D.tells dock.new) (λ before after. (start : LinkStart)
-        → OpensLink to before start → Supplies (S.tells shelf.old) (S.tells shelf.new) (λ files _.
+        → WhileTold (D.known dock.old) (D.known dock.new) (λ before after. (start : LinkStart)
+        → OpensLink to before start → Supplies (S.known shelf.old) (S.known shelf.new) (λ files _.
         (schedule : Plan) → (datagrams : List (List ℕ))
         → (schedule_named name files).came ≡ Ok schedule → AreDatagrams schedule datagrams
         → TakesSends start.sends (length datagrams)
@@ -178,11 +178,11 @@ where
     // unless the link failed.
     ensures send_refused { (name : List ℕ) → (to : Address) → (pace : ℕ)
         → AsksFor (Command.Send name to pace) (map string_bytes words.now) → result.code ≢ 1
-        → result.code ≢ 6 → Supplies (S.tells shelf.old) (S.tells shelf.new)
+        → result.code ≢ 6 → Supplies (S.known shelf.old) (S.known shelf.new)
         (λ before _. (result.code ≡ 3) ↔ IsRefused (schedule_named name before).came) }
     ensures send_unread { (name : List ℕ) → (to : Address) → (pace : ℕ)
         → AsksFor (Command.Send name to pace) (map string_bytes words.now) → result.code ≢ 1
-        → result.code ≢ 6 → Supplies (S.tells shelf.old) (S.tells shelf.new)
+        → result.code ≢ 6 → Supplies (S.known shelf.old) (S.known shelf.new)
         (λ before _. (result.code ≡ 4)
         ↔ ((schedule_named name before).came ≡ Err ScheduleFault.Read)) }
 
@@ -190,16 +190,16 @@ where
     ensures receive { (addresses : List Address) → (rules : Rules)
         → AsksFor (Command.Receive addresses rules) (map string_bytes words.now) → result.code ≢ 1
         → (ending : Result Bool Fault) × (result.code ≡ report_status ending)
-        × ReceiveRun rules addresses ending D.faults D.tells dock.old dock.new D.L.faults
-        O.faults O.tells out.old out.new
+        × ReceiveRun rules addresses ending D.known dock.old dock.new D.L.known
+        O.known out.old out.new
         × (shelf.new ≡ shelf.old) × (input.new ≡ input.old)
-        × Reports (done_of ending) E.faults E.tells err.old err.new }
+        × Reports (done_of ending) E.known err.old err.new }
 
     // Its status 6 comes exactly where an opening fails, or what is read of some link ends in a failure;
     // of one link, whose report is written as it is read, unless a write failed before.
     ensures receive_linked { (addresses : List Address) → (rules : Rules)
         → AsksFor (Command.Receive addresses rules) (map string_bytes words.now) → result.code ≢ 1
-        → (IsLive addresses → result.code ≢ 5) → Docked (D.tells dock.old) (D.tells dock.new)
+        → (IsLive addresses → result.code ≢ 5) → Docked (D.known dock.old) (D.known dock.new)
         (λ told. (result.code ≡ 6) ↔ FailsSome rules told addresses) }
 
     // Where no link and no write failed, the report of each link is written, in the order of the
@@ -207,35 +207,35 @@ where
     // the delivery. The status is 7 exactly where a line of them is missing or bad.
     ensures receive_complete { (addresses : List Address) → (rules : Rules)
         → AsksFor (Command.Receive addresses rules) (map string_bytes words.now) → result.code ≢ 1
-        → (Rose (O.faults out.old) (O.faults out.new) → ⊥)
-        → Docked (D.tells dock.old) (D.tells dock.new) (λ told. (FailsSome rules told addresses → ⊥)
-        → WroteReports result.code (AreReports rules told addresses) O.tells out.old out.new) }
+        → (HasFailed (O.known out.old) (O.known out.new) → ⊥)
+        → Docked (D.known dock.old) (D.known dock.new) (λ told. (FailsSome rules told addresses → ⊥)
+        → WroteReports result.code (AreReports rules told addresses) O.known out.old out.new) }
 
     // Where each link brings each frame of a schedule in time, none is missing.
     ensures receive_in_time { (addresses : List Address) → (rules : Rules)
         → AsksFor (Command.Receive addresses rules) (map string_bytes words.now) → result.code ≢ 1
-        → (Rose (O.faults out.old) (O.faults out.new) → ⊥)
-        → Docked (D.tells dock.old) (D.tells dock.new) (λ told. (FailsSome rules told addresses → ⊥)
+        → (HasFailed (O.known out.old) (O.known out.new) → ⊥)
+        → Docked (D.known dock.old) (D.known dock.new) (λ told. (FailsSome rules told addresses → ⊥)
         → AreInTime rules told addresses → result.code ≡ 0) }
 
     // The command `air`, which leaves input and dock alone.
     ensures air { (name : List ℕ) → (script : List ℕ) → (window : ℕ)
         → AsksFor (Command.Air name script window) (map string_bytes words.now) → result.code ≢ 1
         → (ending : Result Bool Fault) × (result.code ≡ report_status ending)
-        × AirRun name script window ending S.faults S.tells shelf.old shelf.new
-        O.faults O.tells out.old out.new
+        × AirRun name script window ending S.known shelf.old shelf.new
+        O.known out.old out.new
         × (input.new ≡ input.old) × (dock.new ≡ dock.old)
-        × Reports (done_of ending) E.faults E.tells err.old err.new }
+        × Reports (done_of ending) E.known err.old err.new }
 
     // Its status 3 comes exactly where a line of the schedule or of the script is wrong, 4 exactly
     // where a load fails.
     ensures air_refused { (name : List ℕ) → (script : List ℕ) → (window : ℕ)
         → AsksFor (Command.Air name script window) (map string_bytes words.now) → result.code ≢ 1
-        → Supplies (S.tells shelf.old) (S.tells shelf.new)
+        → Supplies (S.known shelf.old) (S.known shelf.new)
         (λ before _. (result.code ≡ 3) ↔ IsRefused (schedule_and_script name script before).came) }
     ensures air_unread { (name : List ℕ) → (script : List ℕ) → (window : ℕ)
         → AsksFor (Command.Air name script window) (map string_bytes words.now) → result.code ≢ 1
-        → Supplies (S.tells shelf.old) (S.tells shelf.new)
+        → Supplies (S.known shelf.old) (S.known shelf.new)
         (λ before _. (result.code ≡ 4)
         ↔ ((schedule_and_script name script before).came ≡ Err ScheduleFault.Read)) }
 
@@ -244,26 +244,26 @@ where
     // exactly where a line of them is missing or bad.
     ensures air_complete { (name : List ℕ) → (script : List ℕ) → (window : ℕ)
         → AsksFor (Command.Air name script window) (map string_bytes words.now) → result.code ≢ 1
-        → (Rose (O.faults out.old) (O.faults out.new) → ⊥)
-        → Supplies (S.tells shelf.old) (S.tells shelf.new)
+        → (HasFailed (O.known out.old) (O.known out.new) → ⊥)
+        → Supplies (S.known shelf.old) (S.known shelf.new)
         (λ before _. (plan : Plan) → (feeds : List (List Delivery))
         → (schedule_and_script name script before).came ≡ Ok (plan, feeds)
-        → WroteReports result.code (AreAired plan window feeds) O.tells out.old out.new) }
+        → WroteReports result.code (AreAired plan window feeds) O.known out.old out.new) }
 
     // Where each feed has each frame in time, none is missing.
     ensures air_in_time { (name : List ℕ) → (script : List ℕ) → (window : ℕ)
         → AsksFor (Command.Air name script window) (map string_bytes words.now) → result.code ≢ 1
-        → (Rose (O.faults out.old) (O.faults out.new) → ⊥)
-        → Supplies (S.tells shelf.old) (S.tells shelf.new)
+        → (HasFailed (O.known out.old) (O.known out.new) → ⊥)
+        → Supplies (S.known shelf.old) (S.known shelf.new)
         (λ before _. (plan : Plan) → (feeds : List (List Delivery))
         → (schedule_and_script name script before).came ≡ Ok (plan, feeds)
         → FeedsAreInTime plan window feeds → result.code ≡ 0) }
 
     // The statuses 4 and 5 come only where the count of faults of input or shelf, or of out rose; 6 only
     // where a link was to be opened. There are no others.
-    ensures read { result.code ≡ 4 → Rose (I.faults input.old) (I.faults input.new)
-        ⊎ Rose (S.faults shelf.old) (S.faults shelf.new) }
-    ensures write { result.code ≡ 5 → Rose (O.faults out.old) (O.faults out.new) }
+    ensures read { result.code ≡ 4 → HasFailed (I.known input.old) (I.known input.new)
+        ⊎ HasFailed (S.known shelf.old) (S.known shelf.new) }
+    ensures write { result.code ≡ 5 → HasFailed (O.known out.old) (O.known out.new) }
     ensures link { result.code ≡ 6 → (command : Command) × OpensALink command
         × AsksFor command (map string_bytes words.now) }
     ensures known { result.code ≤ 7 }
@@ -272,7 +272,7 @@ where
 
     // After want of memory nothing was sent. Where no link is to be opened, the dock is left alone.
     ensures unsent { result.code ≡ 1
-        → WhileTold (D.tells dock.old) (D.tells dock.new) SendsNothing }
+        → WhileTold (D.known dock.old) (D.known dock.new) SendsNothing }
     ensures dock { ((command : Command) → OpensALink command
         → AsksFor command (map string_bytes words.now) → ⊥) → dock.new ≡ dock.old }
 {
@@ -290,7 +290,7 @@ where
 /// status.
 pub fn no_memory<E: Sink>(err: &mut E) -> Status
     ensures status { result.code ≡ 1 }
-    ensures line { WritesLine (fault_line Fault.NoMemory) E.faults E.tells err.old err.new }
+    ensures line { WritesLine (fault_line Fault.NoMemory) E.known err.old err.new }
 {
     Fault::NoMemory.report(err)
 }
@@ -314,12 +314,12 @@ where
     ensures memory { IsErrOf result Fault.NoMemory → (input.new ≡ input.old) × (out.new ≡ out.old) }
     ensures runs { (command : Command) → AsksFor command (map string_bytes words.now)
         → ¬ (IsErrOf result Fault.NoMemory)
-        → CommandRun command result S.faults S.tells shelf.old shelf.new
-        I.faults I.tells input.old input.new O.faults O.tells out.old out.new
-        D.faults D.tells dock.old dock.new D.L.faults }
-    ensures read { IsErrOf result Fault.Read → Rose (I.faults input.old) (I.faults input.new)
-        ⊎ Rose (S.faults shelf.old) (S.faults shelf.new) }
-    ensures write { HasCause (O.faults out.old) (O.faults out.new) (IsErrOf result Fault.Write) }
+        → CommandRun command result S.known shelf.old shelf.new
+        I.known input.old input.new O.known out.old out.new
+        D.known dock.old dock.new D.L.known }
+    ensures read { IsErrOf result Fault.Read → HasFailed (I.known input.old) (I.known input.new)
+        ⊎ HasFailed (S.known shelf.old) (S.known shelf.new) }
+    ensures write { HasCause (O.known out.old) (O.known out.new) (IsErrOf result Fault.Write) }
     ensures link { IsErrOf result Fault.Link → (command : Command) × OpensALink command
         × AsksFor command (map string_bytes words.now) }
     ensures lacking { result ≡ Ok false → (command : Command) × WritesReport command
@@ -327,7 +327,7 @@ where
     ensures reports { result ≡ Ok false → (command : Command)
         → AsksFor command (map string_bytes words.now) → WritesReport command }
     ensures unsent { IsErrOf result Fault.NoMemory
-        → WhileTold (D.tells dock.old) (D.tells dock.new) SendsNothing }
+        → WhileTold (D.known dock.old) (D.known dock.new) SendsNothing }
     ensures dock { ((command : Command) → OpensALink command
         → AsksFor command (map string_bytes words.now) → ⊥) → dock.new ≡ dock.old }
 {
@@ -352,16 +352,16 @@ where
     requires { IsInRange command.now }
     ensures words { IsErrOf result Fault.Words → ⊥ }
     ensures memory { IsErrOf result Fault.NoMemory → (input.new ≡ input.old) × (out.new ≡ out.old) }
-    ensures run { CommandRun command.now result S.faults S.tells shelf.old shelf.new
-        I.faults I.tells input.old input.new O.faults O.tells out.old out.new
-        D.faults D.tells dock.old dock.new D.L.faults }
-    ensures read { IsErrOf result Fault.Read → Rose (I.faults input.old) (I.faults input.new)
-        ⊎ Rose (S.faults shelf.old) (S.faults shelf.new) }
-    ensures write { HasCause (O.faults out.old) (O.faults out.new) (IsErrOf result Fault.Write) }
+    ensures run { CommandRun command.now result S.known shelf.old shelf.new
+        I.known input.old input.new O.known out.old out.new
+        D.known dock.old dock.new D.L.known }
+    ensures read { IsErrOf result Fault.Read → HasFailed (I.known input.old) (I.known input.new)
+        ⊎ HasFailed (S.known shelf.old) (S.known shelf.new) }
+    ensures write { HasCause (O.known out.old) (O.known out.new) (IsErrOf result Fault.Write) }
     ensures link { IsErrOf result Fault.Link → OpensALink command.now }
     ensures lacking { result ≡ Ok false → WritesReport command.now }
     ensures unsent { IsErrOf result Fault.NoMemory
-        → WhileTold (D.tells dock.old) (D.tells dock.new) SendsNothing }
+        → WhileTold (D.known dock.old) (D.known dock.new) SendsNothing }
     ensures dock { (OpensALink command.now → ⊥) → dock.new ≡ dock.old }
 {
     match command {

@@ -1,6 +1,6 @@
 //! The command `receive` with addresses.
 
-ghost use Rattle.std.specs.Prelude.{◌≡◌, ◌≤◌, length, vec_len, IfOk, IfErr, Err};
+ghost use Rattle.std.specs.Prelude.{◌≡◌, length, vec_len, IfOk, IfErr, Err};
 ghost use Rattle.drm_links.specs.Told.{HasCause, CountsCall, WhileTold};
 ghost use Rattle.drm_links.specs.Dock.{Opens};
 ghost use Rattle.mod_receiver.specs.Ranges.{AreInRange};
@@ -33,7 +33,7 @@ where
     requires rules { AreInRange rules.now }
     requires listed { AreListed addresses.now }
     ensures run { ReceiveRun rules.now addresses.now result
-        D.faults D.tells dock.old dock.new D.L.faults O.faults O.tells out.old out.new }
+        D.known dock.old dock.new D.L.known O.known out.old out.new }
 {
     reports_follow();
     let mut jobs = open_all(alloc, rules, addresses, dock)?;
@@ -55,15 +55,15 @@ fn open_all<D: Dock>(
     requires listed { AreListed addresses.now }
     ensures many { IfOk result (λ jobs. vec_len jobs ≡ length addresses.now) }
     ensures jobs { IfOk result (λ jobs. AreJobs rules.now (length addresses.now) jobs.items) }
-    ensures fresh { IfOk result (λ jobs. AreFresh D.L.faults (length addresses.now) jobs.items) }
-    ensures links { IfOk result (λ jobs. Docked (D.tells dock.old) (D.tells dock.new) (λ told.
-        HaveLinks D.L.tells told addresses.now jobs.items)) }
+    ensures fresh { IfOk result (λ jobs. AreFresh D.L.known (length addresses.now) jobs.items) }
+    ensures links { IfOk result (λ jobs. Docked (D.known dock.old) (D.known dock.new) (λ told.
+        HaveLinks D.L.known told addresses.now jobs.items)) }
     ensures failed { result ≡ Err Fault.Link
-        → Docked (D.tells dock.old) (D.tells dock.new) (λ told. FailsOpening told addresses.now) }
+        → Docked (D.known dock.old) (D.known dock.new) (λ told. FailsOpening told addresses.now) }
     ensures ends { IfErr result EndsOpening }
-    ensures unsent { WhileTold (D.tells dock.old) (D.tells dock.new) (λ before after. after.gone ≡ before.gone) }
-    ensures docked { Docked (D.tells dock.old) (D.tells dock.new) (λ _. Unit {0}) }
-    ensures cause { HasCause (D.faults dock.old) (D.faults dock.new) (result ≡ Err Fault.Link) }
+    ensures unsent { WhileTold (D.known dock.old) (D.known dock.new) (λ before after. after.gone ≡ before.gone) }
+    ensures docked { Docked (D.known dock.old) (D.known dock.new) (λ _. Unit {0}) }
+    ensures cause { HasCause (D.known dock.old) (D.known dock.new) (result ≡ Err Fault.Link) }
 {
     let mut jobs = Vec::new(alloc);
     for k in 0..addresses.len() {
@@ -85,15 +85,15 @@ fn open_one<D: Dock>(
 ) -> Result<Job<D::L>, Fault>
     requires rules { AreInRange rules.now }
     ensures job { IfOk result (IsJob rules.now feed) }
-    ensures fresh { IfOk result (λ job. D.L.faults job.link ≡ 0) }
+    ensures fresh { IfOk result (λ job. (D.L.known job.link).faults ≡ 0) }
     ensures opened { IfOk result (λ job.
-        WhileTold (D.tells dock.old) (D.tells dock.new) (Opens D.L.tells at (Opened.Link job.link))) }
+        WhileTold (D.known dock.old) (D.known dock.new) (Opens D.L.known at (Opened.Link job.link))) }
     ensures failed { result ≡ Err Fault.Link
-        → WhileTold (D.tells dock.old) (D.tells dock.new) (Opens D.L.tells at Opened.Failed) }
-    ensures told { CountsCall (λ contents. contents.calls) (D.tells dock.old) (D.tells dock.new) }
+        → WhileTold (D.known dock.old) (D.known dock.new) (Opens D.L.known at Opened.Failed) }
+    ensures told { CountsCall (λ contents. contents.calls) (D.known dock.old) (D.known dock.new) }
     ensures ends { IfErr result EndsOpening }
-    ensures unsent { WhileTold (D.tells dock.old) (D.tells dock.new) (λ before after. after.gone ≡ before.gone) }
-    ensures cause { HasCause (D.faults dock.old) (D.faults dock.new) (result ≡ Err Fault.Link) }
+    ensures unsent { WhileTold (D.known dock.old) (D.known dock.new) (λ before after. after.gone ≡ before.gone) }
+    ensures cause { HasCause (D.known dock.old) (D.known dock.new) (result ≡ Err Fault.Link) }
 {
     match dock.bind(at) {
         Opened::Link(link) => Ok(job_for(alloc, rules, feed, link)?),

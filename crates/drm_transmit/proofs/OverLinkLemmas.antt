@@ -1,14 +1,14 @@
 -- A run over a link, by how it ends.
 use Rattle.std.proofs.Common.{◌≡◌, ℕ, ◌+◌, ◌*◌, ◌≤◌, List, [], ◌++◌, Option, None, Some, Result, Ok, Err, refl, ◌∙◌, ap, subst, arith}
 use Rattle.std.specs.FinMap as map
-use Rattle.drm_links.specs.Told.{Rose, WhileTold, CountsCall}
+use Rattle.drm_links.specs.Told.{HasFailed, Rose, WhileTold, CountsCall, Known, ToldThrough}
 use Rattle.drm_links.specs.Dock.{DockContents, LinkStart, Opens, Closes, address_key, first_traffic}
 use Rattle.drm_links.specs.declared.dock.Address.{Address}
 use Rattle.drm_links.specs.declared.dock.Opened.TheVariants as opened
 use Rattle.drm_links.proofs.ToldLemmas.{WhileTold-then, Opens-started}
 use Rattle.drm_links.specs.Link.{Traffic}
 use Rattle.drm_links.specs.Shelf.{Files}
-use Rattle.drm_links.specs.ManyCalls.{MakesCalls}
+use Rattle.drm_links.specs.ManyCalls.{MakesCalls, CountsMany}
 use Rattle.drm_links.specs.Transmission.{Transmits, SendsAll}
 use Rattle.drm_links.proofs.TransmissionLemmas.{Transmits-weaker, Transmits-nothing}
 use Rattle.drm_links.proofs.ManyCallsLemmas.{no_calls, at_most}
@@ -32,47 +32,47 @@ not_link schedule.NoMemory is = cc
 not_link (schedule.Line l r) is = cc
 not_link schedule.Read is = cc
 
-few_calls : (plan : Plan) (a b : Option Traffic) → plan.length ≤ 1000000 → MakesCalls (λ (t : Traffic). t.calls) (1025 * frame_count plan) a b → MakesCalls (λ (t : Traffic). t.calls) most_calls a b
+few_calls : (plan : Plan) (a b : Known Traffic) → plan.length ≤ 1000000 → MakesCalls (λ (t : Traffic). t.calls) (1025 * frame_count plan) a b → MakesCalls (λ (t : Traffic). t.calls) most_calls a b
 few_calls plan a b few made = at_most (λ (t : Traffic). t.calls) (1025 * frame_count plan) most_calls a b (omega (arith, few)) made
 
-module _ {S L : Type 0} (name : List ℕ) (shelf_faults : S → ℕ) (shelf_tells : S → Option Files) (shelf shelf' : S) (link_faults : L → ℕ) (link_tells : L → Option Traffic) where
+module _ {S L : Type 0} (name : List ℕ) (shelf_known : S → Known Files) (shelf shelf' : S) (link_known : L → Known Traffic) where
   -- no schedule came, and nothing was sent
-  pub unsent : (fault : ScheduleFault) (link : L) → ReadBy (schedule_named name) (Err fault) (shelf_tells shelf) (shelf_tells shelf')
-      → shelf_faults shelf ≤ shelf_faults shelf' → (fault ≡ schedule.Read → Rose (shelf_faults shelf) (shelf_faults shelf'))
-      → OverLink name (Err (fault_of_schedule fault)) shelf_faults shelf_tells shelf shelf' link_faults link_tells link link
+  pub unsent : (fault : ScheduleFault) (link : L) → ReadBy (schedule_named name) (Err fault) (shelf_known shelf) (shelf_known shelf')
+      → (shelf_known shelf).faults ≤ (shelf_known shelf').faults → (fault ≡ schedule.Read → HasFailed (shelf_known shelf) (shelf_known shelf'))
+      → OverLink name (Err (fault_of_schedule fault)) shelf_known shelf shelf' link_known link link
   unsent fault link comes later rose = record {
     came = Err fault;
     loads = comes;
     sound = tt;
     ends = refl;
-    sent = Transmits-weaker (SendsAll []) _ (link_tells link) (link_tells link) (Transmits-nothing (link_tells link)) (λ x y all. ([], refl, all.gone));
-    calls = at_most (λ (t : Traffic). t.calls) 0 most_calls (link_tells link) (link_tells link) (omega arith) (no_calls (λ (t : Traffic). t.calls) (link_tells link));
+    sent = Transmits-weaker (SendsAll []) _ (link_known link) (link_known link) (Transmits-nothing (link_known link)) (λ x y all. ([], refl, all.gone));
+    calls = at_most (λ (t : Traffic). t.calls) 0 most_calls (link_known link) (link_known link) (omega arith) (no_calls (λ (t : Traffic). t.calls) (link_known link));
     read_cause = record { later = later; rose = λ is. rose (is_read fault is) };
     link_cause = record { later = omega arith; rose = λ is. absurd (not_link fault is) };
   }
 
-  module _ (plan : Plan) (valid : IsSchedule plan) (comes : ReadBy (schedule_named name) (Ok plan) (shelf_tells shelf) (shelf_tells shelf')) (later : shelf_faults shelf ≤ shelf_faults shelf') (link link' : L) (later' : link_faults link ≤ link_faults link')
-      (calls : MakesCalls (λ (t : Traffic). t.calls) (1025 * frame_count plan) (link_tells link) (link_tells link')) where
-    pub all_sent : Transmits (link_tells link) (link_tells link') (SendsSchedule plan) → OverLink name (Ok tt) shelf_faults shelf_tells shelf shelf' link_faults link_tells link link'
+  module _ (plan : Plan) (valid : IsSchedule plan) (comes : ReadBy (schedule_named name) (Ok plan) (shelf_known shelf) (shelf_known shelf')) (later : (shelf_known shelf).faults ≤ (shelf_known shelf').faults) (link link' : L) (later' : link_known link ≤ link_known link')
+      (calls : MakesCalls (λ (t : Traffic). t.calls) (1025 * frame_count plan) (link_known link) (link_known link')) where
+    pub all_sent : Transmits (link_known link) (link_known link') (SendsSchedule plan) → OverLink name (Ok tt) shelf_known shelf shelf' link_known link link'
     all_sent sent = record {
       came = Ok plan;
       loads = comes;
       sound = valid;
       ends = tt;
-      sent = Transmits-weaker (SendsSchedule plan) _ (link_tells link) (link_tells link') sent (λ x y all. (all.0, (all.1, all.2.taken), all.2.gone));
-      calls = few_calls plan (link_tells link) (link_tells link') valid.in_lines.few_frames calls;
+      sent = Transmits-weaker (SendsSchedule plan) _ (link_known link) (link_known link') sent (λ x y all. (all.0, (all.1, all.2.taken), all.2.gone));
+      calls = few_calls plan (link_known link) (link_known link') valid.in_lines.few_frames calls;
       read_cause = record { later = later; rose = λ is. cc };
       link_cause = record { later = later'; rose = λ is. cc };
     }
 
-    pub part_sent : Transmits (link_tells link) (link_tells link') (SendsPart plan) → Rose (link_faults link) (link_faults link') → OverLink name (Err Link) shelf_faults shelf_tells shelf shelf' link_faults link_tells link link'
+    pub part_sent : Transmits (link_known link) (link_known link') (SendsPart plan) → HasFailed (link_known link) (link_known link') → OverLink name (Err Link) shelf_known shelf shelf' link_known link link'
     part_sent sent rose = record {
       came = Ok plan;
       loads = comes;
       sound = valid;
       ends = refl;
-      sent = Transmits-weaker (SendsPart plan) _ (link_tells link) (link_tells link') sent (λ x y part. (part.1, (part.0, part.2, part.3.no_more), part.3.gone));
-      calls = few_calls plan (link_tells link) (link_tells link') valid.in_lines.few_frames calls;
+      sent = Transmits-weaker (SendsPart plan) _ (link_known link) (link_known link') sent (λ x y part. (part.1, (part.0, part.2, part.3.no_more), part.3.gone));
+      calls = few_calls plan (link_known link) (link_known link') valid.in_lines.few_frames calls;
       read_cause = record { later = later; rose = λ is. cc };
       link_cause = record { later = later'; rose = λ is. rose };
     }
@@ -81,7 +81,7 @@ module _ {S L : Type 0} (name : List ℕ) (shelf_faults : S → ℕ) (shelf_tell
 
 module _ (came : Result Plan ScheduleFault) (ending : Result (Unit {0}) Fault) (at : Address) where
   closed_after : (start : LinkStart) (x y z : DockContents) (last : Option Traffic) → y ≡ record x { openings = x.openings + 1; links = map.remove x.links (address_key at); calls = x.calls + 1 } → Closes last at y z
-      → Transmits (Some (first_traffic start)) last (λ before after. (gone : List (List ℕ)) × Go came ending before.sends gone × (after.gone ≡ before.gone ++ gone)) → MakesCalls (λ (t : Traffic). t.calls) most_calls (Some (first_traffic start)) last
+      → ToldThrough (Some (first_traffic start)) last (λ before after. (gone : List (List ℕ)) × Go came ending before.sends gone × (after.gone ≡ before.gone ++ gone)) → CountsMany (λ (t : Traffic). t.calls) most_calls (Some (first_traffic start)) last
       → (gone : List (List ℕ)) × Go came ending start.sends gone × (z ≡ after_link at gone x)
   closed_after start x y z None opened closed sent calls = absurd (omega (arith, calls))
   closed_after start x y z (Some traffic) opened closed sent calls =
@@ -90,14 +90,14 @@ module _ (came : Result Plan ScheduleFault) (ending : Result (Unit {0}) Fault) (
       after : DockContents → List (List ℕ) → DockContents
       after told gone = after_link at gone told
 
-  pub link_told : {L : Type 0} (tells : L → Option Traffic) (first last : L) (a b c : Option DockContents) → WhileTold a b (Opens tells at (opened.Link first)) → CountsCall (λ (d : DockContents). d.calls) b c → WhileTold b c (Closes (tells last) at)
-      → Transmits (tells first) (tells last) (λ before after. (gone : List (List ℕ)) × Go came ending before.sends gone × (after.gone ≡ before.gone ++ gone)) → MakesCalls (λ (t : Traffic). t.calls) most_calls (tells first) (tells last)
+  pub link_told : {L : Type 0} (known : L → Known Traffic) (first last : L) (a b c : Known DockContents) → WhileTold a b (Opens known at (opened.Link first)) → CountsCall (λ (d : DockContents). d.calls) b c → WhileTold b c (Closes (known last).told at)
+      → Transmits (known first) (known last) (λ before after. (gone : List (List ℕ)) × Go came ending before.sends gone × (after.gone ≡ before.gone ++ gone)) → MakesCalls (λ (t : Traffic). t.calls) most_calls (known first) (known last)
       → WhileTold a c (λ before after. (start : LinkStart) × OpensLink at before start × (gone : List (List ℕ)) × Go came ending start.sends gone × (after ≡ after_link at gone before))
-  link_told tells first last a b c opens counts closes sent calls =
-      WhileTold-then (λ (d : DockContents). d.calls) (Opens tells at (opened.Link first)) (Closes (tells last) at) _ a b c counts opens closes
+  link_told known first last a b c opens counts closes sent calls =
+      WhileTold-then (λ (d : DockContents). d.calls) (Opens known at (opened.Link first)) (Closes (known last).told at) _ a b c counts opens closes
       (λ x y z opening closing.
-      let s = Opens-started tells at first x y opening in
-      let P : Option Traffic → Type 0 = λ t. Transmits t (tells last) (λ before after. (gone : List (List ℕ)) × Go came ending before.sends gone × (after.gone ≡ before.gone ++ gone)) in
-      let Q : Option Traffic → Type 0 = λ t. MakesCalls (λ (t : Traffic). t.calls) most_calls t (tells last) in
-      let done = closed_after s.0 x y z (tells last) opening.2 closing (subst P s.2 sent) (subst Q s.2 calls) in
+      let s = Opens-started known at first x y opening in
+      let P : Option Traffic → Type 0 = λ t. ToldThrough t (known last).told (λ before after. (gone : List (List ℕ)) × Go came ending before.sends gone × (after.gone ≡ before.gone ++ gone)) in
+      let Q : Option Traffic → Type 0 = λ t. CountsMany (λ (t : Traffic). t.calls) most_calls t (known last).told in
+      let done = closed_after s.0 x y z (known last).told opening.2 closing (subst P s.2 sent) (subst Q s.2 calls) in
       (s.0, (opening.0, s.1), done.0, done.1, done.2))

@@ -3,12 +3,12 @@ use Rattle.std.proofs.Common.{◌≡◌, ℕ, ◌+◌, ◌<◌, ◌⊎◌, ◌�
 use Rattle.std.specs.FinMap as map
 use Rattle.std.specs.FinMap.{gets}
 use Rattle.std.proofs.lemmas.Grind.{common_steps}
-use Rattle.drm_links.specs.Told.{WhileTold}
+use Rattle.drm_links.specs.Told.{Known, WhileTold}
 use Rattle.drm_links.specs.Shelf.{Files, Supplies}
 use Rattle.drm_links.specs.Dock.{DockContents, LinkStart, address_key, start_at}
 use Rattle.drm_links.specs.Transmission.{TakesSends, TakesFewer}
 use Rattle.drm_links.specs.declared.dock.Address.{Address}
-use Rattle.drm_links.proofs.ToldLemmas.{WhileTold-weaker, Supplies-weaker}
+use Rattle.drm_links.proofs.ToldLemmas.{WhileTold-weaker, Tells-weaker}
 use Rattle.drm_schedule.specs.declared.plan.Plan.{Plan}
 use Rattle.drm_server.specs.Datagrams.{AreDatagrams, AreBefore}
 use Rattle.drm_server.specs.Laws.{HasOneDelivery, FirstOnesAreFront}
@@ -91,49 +91,49 @@ came_by came ending reading x y ends memory (inl is) =
     absurd (memory (ap status_of ran_out))
 came_by came ending reading x y ends memory (inr is) = sym (ap (λ (step : Step Plan). step.came) is)
 
-module _ {S D L : Type 0} (name : List ℕ) (at : Address) (ending : Result (Unit {0}) Fault) (shelf_faults : S → ℕ) (shelf_tells : S → Option Files) (shelf shelf' : S) (dock_faults : D → ℕ) (dock_tells : D → Option DockContents) (dock dock' : D) (link_faults : L → ℕ) where
-  pub unopened : SendRun name at ending shelf_faults shelf_tells shelf shelf' dock_faults dock_tells dock dock' link_faults → WhileTold (dock_tells dock) (dock_tells dock') (λ before after. OpeningFails at before → status_of ending ≡ 6)
-  unopened (inl run) = WhileTold-weaker _ _ (dock_tells dock) (dock_tells dock') run.told (λ before after told fails. ap status_of run.fault)
-  unopened (inr run) = WhileTold-weaker _ _ (dock_tells dock) (dock_tells dock') run.told (λ before after told fails. both at before told.0 fails told.1)
+module _ {S D L : Type 0} (name : List ℕ) (at : Address) (ending : Result (Unit {0}) Fault) (shelf_known : S → Known Files) (shelf shelf' : S) (dock_known : D → Known DockContents) (dock dock' : D) (link_known : L → Known Traffic) where
+  pub unopened : SendRun name at ending shelf_known shelf shelf' dock_known dock dock' link_known → WhileTold (dock_known dock) (dock_known dock') (λ before after. OpeningFails at before → status_of ending ≡ 6)
+  unopened (inl run) = WhileTold-weaker _ _ (dock_known dock) (dock_known dock') run.told (λ before after told fails. ap status_of run.fault)
+  unopened (inr run) = WhileTold-weaker _ _ (dock_known dock) (dock_known dock') run.told (λ before after told fails. both at before told.0 fails told.1)
 
-  pub refused_where : SendRun name at ending shelf_faults shelf_tells shelf shelf' dock_faults dock_tells dock dock' link_faults → (status_of ending ≡ 1 → ⊥) → (status_of ending ≡ 6 → ⊥) → Supplies (shelf_tells shelf) (shelf_tells shelf') (λ before after. (status_of ending ≡ 3) ↔ IsRefused (schedule_named name before).came)
+  pub refused_where : SendRun name at ending shelf_known shelf shelf' dock_known dock dock' link_known → (status_of ending ≡ 1 → ⊥) → (status_of ending ≡ 6 → ⊥) → Supplies (shelf_known shelf) (shelf_known shelf') (λ before after. (status_of ending ≡ 3) ↔ IsRefused (schedule_named name before).came)
   refused_where (inl run) memory link = absurd (link (ap status_of run.fault))
   refused_where (inr run) memory link =
-      Supplies-weaker _ _ (shelf_tells shelf) (shelf_tells shelf') run.loads
+      Tells-weaker _ _ (shelf_known shelf) (shelf_known shelf') run.loads
       (λ x y is. let P : Result Plan ScheduleFault → Type 0 = λ v. (status_of ending ≡ 3) ↔ IsRefused v in
       subst P (came_by run.came ending (schedule_named name) x y run.ends memory is) (three_by run.came ending run.ends))
 
-  pub unread_where : SendRun name at ending shelf_faults shelf_tells shelf shelf' dock_faults dock_tells dock dock' link_faults → (status_of ending ≡ 1 → ⊥) → (status_of ending ≡ 6 → ⊥) → Supplies (shelf_tells shelf) (shelf_tells shelf') (λ before after. (status_of ending ≡ 4) ↔ ((schedule_named name before).came ≡ Err schedule.Read))
+  pub unread_where : SendRun name at ending shelf_known shelf shelf' dock_known dock dock' link_known → (status_of ending ≡ 1 → ⊥) → (status_of ending ≡ 6 → ⊥) → Supplies (shelf_known shelf) (shelf_known shelf') (λ before after. (status_of ending ≡ 4) ↔ ((schedule_named name before).came ≡ Err schedule.Read))
   unread_where (inl run) memory link = absurd (link (ap status_of run.fault))
   unread_where (inr run) memory link =
-      Supplies-weaker _ _ (shelf_tells shelf) (shelf_tells shelf') run.loads
+      Tells-weaker _ _ (shelf_known shelf) (shelf_known shelf') run.loads
       (λ x y is. let P : Result Plan ScheduleFault → Type 0 = λ v. (status_of ending ≡ 4) ↔ (v ≡ Err schedule.Read) in
       subst P (came_by run.came ending (schedule_named name) x y run.ends memory is) (four_by run.came ending run.ends))
 
-  pub cut_where : FirstOnesAreFront → SendRun name at ending shelf_faults shelf_tells shelf shelf' dock_faults dock_tells dock dock' link_faults → (status_of ending ≡ 1 → ⊥)
-      → WhileTold (dock_tells dock) (dock_tells dock') (λ before after. (start : LinkStart) → OpensLink at before start
-      → Supplies (shelf_tells shelf) (shelf_tells shelf') (λ files files'. (status_of ending ≡ 6) ↔ LacksSends (schedule_named name files).came start.sends))
-  cut_where front (inl run) memory = WhileTold-weaker _ _ (dock_tells dock) (dock_tells dock') run.told (λ before after told start opens. both at before start told.0 opens)
+  pub cut_where : FirstOnesAreFront → SendRun name at ending shelf_known shelf shelf' dock_known dock dock' link_known → (status_of ending ≡ 1 → ⊥)
+      → WhileTold (dock_known dock) (dock_known dock') (λ before after. (start : LinkStart) → OpensLink at before start
+      → Supplies (shelf_known shelf) (shelf_known shelf') (λ files files'. (status_of ending ≡ 6) ↔ LacksSends (schedule_named name files).came start.sends))
+  cut_where front (inl run) memory = WhileTold-weaker _ _ (dock_known dock) (dock_known dock') run.told (λ before after told start opens. both at before start told.0 opens)
   cut_where front (inr run) memory =
-      WhileTold-weaker _ _ (dock_tells dock) (dock_tells dock') run.told
+      WhileTold-weaker _ _ (dock_known dock) (dock_known dock') run.told
       (λ before after told start opens.
       let same : told.0 ≡ start = one_start at before told.0 start told.1 opens in
-      Supplies-weaker _ _ (shelf_tells shelf) (shelf_tells shelf') run.loads
+      Tells-weaker _ _ (shelf_known shelf) (shelf_known shelf') run.loads
       (λ x y is.
       let P : Result Plan ScheduleFault → Type 0 = λ v. (status_of ending ≡ 6) ↔ LacksSends v start.sends in
       let Q : LinkStart → Type 0 = λ s. (status_of ending ≡ 6) ↔ LacksSends run.came s.sends in
       subst P (came_by run.came ending (schedule_named name) x y run.ends memory is) (subst Q same (six_by front run.came ending told.0.sends told.2 run.ends told.3))))
 
-  pub all_where : HasOneDelivery → FirstOnesAreFront → SendRun name at ending shelf_faults shelf_tells shelf shelf' dock_faults dock_tells dock dock' link_faults → (status_of ending ≡ 1 → ⊥)
-      → WhileTold (dock_tells dock) (dock_tells dock') (λ before after. (start : LinkStart) → OpensLink at before start
-      → Supplies (shelf_tells shelf) (shelf_tells shelf') (λ files files'. (plan : Plan) (datagrams : List (List ℕ)) → (schedule_named name files).came ≡ Ok plan → AreDatagrams plan datagrams → TakesSends start.sends (length datagrams)
+  pub all_where : HasOneDelivery → FirstOnesAreFront → SendRun name at ending shelf_known shelf shelf' dock_known dock dock' link_known → (status_of ending ≡ 1 → ⊥)
+      → WhileTold (dock_known dock) (dock_known dock') (λ before after. (start : LinkStart) → OpensLink at before start
+      → Supplies (shelf_known shelf) (shelf_known shelf') (λ files files'. (plan : Plan) (datagrams : List (List ℕ)) → (schedule_named name files).came ≡ Ok plan → AreDatagrams plan datagrams → TakesSends start.sends (length datagrams)
       → (status_of ending ≡ 0) × (map.get after.gone (address_key at) ≡ Some datagrams)))
-  all_where one front (inl run) memory = WhileTold-weaker _ _ (dock_tells dock) (dock_tells dock') run.told (λ before after told start opens. both at before start told.0 opens)
+  all_where one front (inl run) memory = WhileTold-weaker _ _ (dock_known dock) (dock_known dock') run.told (λ before after told start opens. both at before start told.0 opens)
   all_where one front (inr run) memory =
-      WhileTold-weaker _ _ (dock_tells dock) (dock_tells dock') run.told
+      WhileTold-weaker _ _ (dock_known dock) (dock_known dock') run.told
       (λ before after told start opens.
       let same : told.0 ≡ start = one_start at before told.0 start told.1 opens in
-      Supplies-weaker _ _ (shelf_tells shelf) (shelf_tells shelf') run.loads
+      Tells-weaker _ _ (shelf_known shelf) (shelf_known shelf') run.loads
       (λ x y is plan datagrams gives are takes.
       let came : run.came ≡ Ok plan = came_by run.came ending (schedule_named name) x y run.ends memory is ∙ gives in
       let P : Result Plan ScheduleFault → Type 0 = λ v. EndsBy v ending in
@@ -145,8 +145,8 @@ module _ {S D L : Type 0} (name : List ℕ) (at : Address) (ending : Result (Uni
       gone_at : (before after : DockContents) (gone : List (List ℕ)) → after ≡ after_link at gone before → map.get after.gone (address_key at) ≡ Some gone
       gone_at before after gone is = rw is (grind (arith, gets, common_steps))
 
-  pub nothing_sent : SendRun name at ending shelf_faults shelf_tells shelf shelf' dock_faults dock_tells dock dock' link_faults → status_of ending ≡ 1 → WhileTold (dock_tells dock) (dock_tells dock') SendsNothing
+  pub nothing_sent : SendRun name at ending shelf_known shelf shelf' dock_known dock dock' link_known → status_of ending ≡ 1 → WhileTold (dock_known dock) (dock_known dock') SendsNothing
   nothing_sent (inl run) one = let is = ap status_of run.fault in absurd (omega (arith, is, one))
   nothing_sent (inr run) one =
-      WhileTold-weaker _ _ (dock_tells dock) (dock_tells dock') run.told
+      WhileTold-weaker _ _ (dock_known dock) (dock_known dock') run.told
       (λ before after told. inr (at, ap (λ (d : DockContents). d.gone) told.4 ∙ ap (λ l. map.insert before.gone (address_key at) l) (none_by run.came ending told.0.sends told.2 run.ends told.3 one)))

@@ -1,5 +1,6 @@
 -- The command `check`: a schedule becomes its canonical text.
 use Rattle.std.specs.Prelude.{ℕ, ◌≡◌, List, Option, Result}
+use Rattle.drm_links.specs.Told.{Known}
 use Rattle.drm_links.specs.Shelf.{Files}
 use Rattle.drm_links.specs.Sink.{Output, IsFront}
 use Rattle.drm_schedule.specs.declared.plan.Plan.{Plan}
@@ -14,6 +15,6 @@ abbrev pub IsCanonical : List ℕ → Type 0
 IsCanonical text = (schedule : Plan) × IsSchedule schedule × (text ≡ canonical schedule)
 
 -- A run of `check`: it writes the text that came.
-abbrev pub CheckRun : {S O : Type 0} → List ℕ → Result (Unit {0}) Fault → (S → ℕ) → (S → Option Files) → S → S → (O → ℕ) → (O → Option Output) → O → O → Type 0
-CheckRun name ending shelf_faults shelf_tells shelf shelf' out_faults out_tells out out' =
-    ScheduleRun (checked name) IsCanonical (λ text written. written ≡ text) IsFront ending shelf_faults shelf_tells shelf shelf' out_faults out_tells out out'
+abbrev pub CheckRun : {S O : Type 0} → List ℕ → Result (Unit {0}) Fault → (S → Known Files) → S → S → (O → Known Output) → O → O → Type 0
+CheckRun name ending shelf_known shelf shelf' out_known out out' =
+    ScheduleRun (checked name) IsCanonical (λ text written. written ≡ text) IsFront ending shelf_known shelf shelf' out_known out out'

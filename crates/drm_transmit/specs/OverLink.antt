@@ -1,6 +1,6 @@
 -- A run over a link that was opened.
 use Rattle.std.specs.Prelude.{ℕ, ◌≡◌, ◌++◌, List, Option, Result, Err, IfOk}
-use Rattle.drm_links.specs.Told.{HasCause}
+use Rattle.drm_links.specs.Told.{Known, HasCause}
 use Rattle.drm_links.specs.Shelf.{Files}
 use Rattle.drm_links.specs.Link.{Traffic}
 use Rattle.drm_links.specs.ManyCalls.{MakesCalls}
@@ -19,14 +19,14 @@ abbrev pub most_calls : ℕ
 most_calls = 3075000000
 
 pub record OverLink {S L : Type 0} (name : List ℕ) (ending : Result (Unit {0}) Fault)
-    (shelf_faults : S → ℕ) (shelf_tells : S → Option Files) (shelf shelf' : S)
-    (link_faults : L → ℕ) (link_tells : L → Option Traffic) (link link' : L) : Type 0 where
+    (shelf_known : S → Known Files) (shelf shelf' : S)
+    (link_known : L → Known Traffic) (link link' : L) : Type 0 where
   pub came : Result Plan ScheduleFault
-  pub loads : ReadBy (schedule_named name) came (shelf_tells shelf) (shelf_tells shelf')
+  pub loads : ReadBy (schedule_named name) came (shelf_known shelf) (shelf_known shelf')
   pub sound : IfOk came IsSchedule
   pub ends : EndsBy came ending
-  pub sent : Transmits (link_tells link) (link_tells link') (λ before after.
+  pub sent : Transmits (link_known link) (link_known link') (λ before after.
       (gone : List (List ℕ)) × Go came ending before.sends gone × (after.gone ≡ before.gone ++ gone))
-  pub calls : MakesCalls (λ (t : Traffic). t.calls) most_calls (link_tells link) (link_tells link')
-  pub read_cause : HasCause (shelf_faults shelf) (shelf_faults shelf') (ending ≡ Err faults.Read)
-  pub link_cause : HasCause (link_faults link) (link_faults link') (ending ≡ Err faults.Link)
+  pub calls : MakesCalls (λ (t : Traffic). t.calls) most_calls (link_known link) (link_known link')
+  pub read_cause : HasCause (shelf_known shelf) (shelf_known shelf') (ending ≡ Err faults.Read)
+  pub link_cause : HasCause (link_known link) (link_known link') (ending ≡ Err faults.Link)

@@ -1,7 +1,7 @@
 -- The command `serve --to`: a schedule becomes datagrams over a link.
 use Rattle.std.specs.Prelude.{ℕ, ◌≡◌, ◌+◌, ◌≤◌, ◌⊎◌, List, [], length, Contains, Option, Some, IsNone, Result, Ok, Err, IfOk}
 use Rattle.std.specs.FinMap as map
-use Rattle.drm_links.specs.Told.{HasCause, Rose, WhileTold}
+use Rattle.drm_links.specs.Told.{HasFailed, Known, HasCause, Rose, WhileTold}
 use Rattle.drm_links.specs.Shelf.{Files}
 use Rattle.drm_links.specs.Dock.{DockContents, LinkStart, address_key, start_at}
 use Rattle.drm_links.specs.Transmission.{TakesSends, TakesFewer}
@@ -24,11 +24,11 @@ OpeningFails at told = Contains told.failing told.openings ⊎ IsNone (start_at 
 abbrev pub OpensLink : Address → DockContents → LinkStart → Type 0
 OpensLink at told start = (Contains told.failing told.openings → ⊥) × (start_at told at ≡ Some start)
 
--- what the dock tells after an opening that failed
+-- what the dock known after an opening that failed
 abbrev pub after_failure : DockContents → DockContents
 after_failure told = record told { openings = told.openings + 1; calls = told.calls + 1 }
 
--- what it tells after a link was opened and closed over which these datagrams had gone
+-- what it known after a link was opened and closed over which these datagrams had gone
 abbrev pub after_link : Address → List (List ℕ) → DockContents → DockContents
 after_link at gone told = record told {
   openings = told.openings + 1;
@@ -55,43 +55,43 @@ abbrev pub LacksSends : Result Plan ScheduleFault → Option ℕ → Type 0
 LacksSends (Ok schedule) sends = (datagrams : List (List ℕ)) → AreDatagrams schedule datagrams → TakesFewer sends (length datagrams)
 LacksSends (Err fault) sends = ⊥
 
--- what a dock tells where nothing was sent: what had gone is as before, but for a link that was closed with nothing gone
+-- what a dock known where nothing was sent: what had gone is as before, but for a link that was closed with nothing gone
 abbrev pub SendsNothing : DockContents → DockContents → Type 0
 SendsNothing before after = (after.gone ≡ before.gone) ⊎ ((at : Address) × (after.gone ≡ map.insert before.gone (address_key at) []))
 
 -- A run whose opening failed: nothing is read.
 pub record ClosedRun {S D : Type 0} (at : Address) (ending : Result (Unit {0}) Fault) (shelf shelf' : S)
-    (dock_faults : D → ℕ) (dock_tells : D → Option DockContents) (dock dock' : D) : Type 0 where
+    (dock_known : D → Known DockContents) (dock dock' : D) : Type 0 where
   pub fault : ending ≡ Err faults.Link
   pub unread : shelf' ≡ shelf
-  pub told : WhileTold (dock_tells dock) (dock_tells dock') (λ before after. OpeningFails at before × (after ≡ after_failure before))
-  pub rose : Rose (dock_faults dock) (dock_faults dock')
+  pub told : WhileTold (dock_known dock) (dock_known dock') (λ before after. OpeningFails at before × (after ≡ after_failure before))
+  pub rose : HasFailed (dock_known dock) (dock_known dock')
 
 -- A run whose link was opened, before the schedule of this name was read, and closed at the end.
 pub record LinkRun {S D L : Type 0} (name : List ℕ) (at : Address) (ending : Result (Unit {0}) Fault)
-    (shelf_faults : S → ℕ) (shelf_tells : S → Option Files) (shelf shelf' : S)
-    (dock_faults : D → ℕ) (dock_tells : D → Option DockContents) (dock dock' : D) (link_faults : L → ℕ) : Type 0 where
+    (shelf_known : S → Known Files) (shelf shelf' : S)
+    (dock_known : D → Known DockContents) (dock dock' : D) (link_known : L → Known Traffic) : Type 0 where
   -- the schedule, or why there is none
   pub came : Result Plan ScheduleFault
-  -- Where the shelf tells, that is what its files come to, and these loads were made.
-  pub loads : ReadBy (schedule_named name) came (shelf_tells shelf) (shelf_tells shelf')
-  -- Whatever it tells, what came is valid.
+  -- Where the shelf known, that is what its files come to, and these loads were made.
+  pub loads : ReadBy (schedule_named name) came (shelf_known shelf) (shelf_known shelf')
+  -- Whatever it known, what came is valid.
   pub sound : IfOk came IsSchedule
   pub ends : EndsBy came ending
-  pub told : WhileTold (dock_tells dock) (dock_tells dock') (λ before after.
+  pub told : WhileTold (dock_known dock) (dock_known dock') (λ before after.
       (start : LinkStart) × OpensLink at before start
       × (gone : List (List ℕ)) × Go came ending start.sends gone × (after ≡ after_link at gone before))
-  pub later : dock_faults dock ≤ dock_faults dock'
+  pub later : (dock_known dock).faults ≤ (dock_known dock').faults
   -- The faults of the outside come only where its count of faults rose.
-  pub read_cause : HasCause (shelf_faults shelf) (shelf_faults shelf') (ending ≡ Err faults.Read)
+  pub read_cause : HasCause (shelf_known shelf) (shelf_known shelf') (ending ≡ Err faults.Read)
   pub opened : L
   pub closed : L
-  pub fresh : link_faults opened ≡ 0
-  pub link_cause : HasCause (link_faults opened) (link_faults closed) (ending ≡ Err faults.Link)
+  pub fresh : (link_known opened).faults ≡ 0
+  pub link_cause : HasCause (link_known opened) (link_known closed) (ending ≡ Err faults.Link)
 
 -- A run of `serve --to`.
 abbrev pub SendRun : {S D L : Type 0} → List ℕ → Address → Result (Unit {0}) Fault
-    → (S → ℕ) → (S → Option Files) → S → S → (D → ℕ) → (D → Option DockContents) → D → D → (L → ℕ) → Type 0
-SendRun name at ending shelf_faults shelf_tells shelf shelf' dock_faults dock_tells dock dock' link_faults =
-    ClosedRun at ending shelf shelf' dock_faults dock_tells dock dock'
-    ⊎ LinkRun name at ending shelf_faults shelf_tells shelf shelf' dock_faults dock_tells dock dock' link_faults
+    → (S → Known Files) → S → S → (D → Known DockContents) → D → D → (L → ℕ) → Type 0
+SendRun name at ending shelf_known shelf shelf' dock_known dock dock' link_known =
+    ClosedRun at ending shelf shelf' dock_known dock dock'
+    ⊎ LinkRun name at ending shelf_known shelf shelf' dock_known dock dock' link_known

@@ -1,5 +1,6 @@
 -- The command `serve` without an address: a schedule becomes a capture of its datagrams.
 use Rattle.std.specs.Prelude.{ℕ, List, Option, Result}
+use Rattle.drm_links.specs.Told.{Known}
 use Rattle.drm_links.specs.Shelf.{Files}
 use Rattle.drm_links.specs.Sink.{Output}
 use Rattle.drm_schedule.specs.Valid.{IsSchedule}
@@ -9,6 +10,6 @@ use Rattle.drm_transmit.specs.ScheduleRun.{ScheduleRun}
 use Rattle.drm_faults.specs.declared.fault.Fault.{Fault}
 
 -- A run of `serve`: it writes a capture of the schedule that came.
-abbrev pub ServeRun : {S O : Type 0} → List ℕ → Result (Unit {0}) Fault → (S → ℕ) → (S → Option Files) → S → S → (O → ℕ) → (O → Option Output) → O → O → Type 0
-ServeRun name ending shelf_faults shelf_tells shelf shelf' out_faults out_tells out out' =
-    ScheduleRun (schedule_named name) IsSchedule IsCapture IsFrontOfCapture ending shelf_faults shelf_tells shelf shelf' out_faults out_tells out out'
+abbrev pub ServeRun : {S O : Type 0} → List ℕ → Result (Unit {0}) Fault → (S → Known Files) → S → S → (O → Known Output) → O → O → Type 0
+ServeRun name ending shelf_known shelf shelf' out_known out out' =
+    ScheduleRun (schedule_named name) IsSchedule IsCapture IsFrontOfCapture ending shelf_known shelf shelf' out_known out out'

@@ -1,7 +1,7 @@
 //! The command `serve` to an address.
 
-ghost use Rattle.std.specs.Prelude.{◌≡◌, IsErrOf};
-ghost use Rattle.drm_links.specs.Told.{Rose, WhileTold};
+ghost use Rattle.std.specs.Prelude.{IsErrOf};
+ghost use Rattle.drm_links.specs.Told.{WhileTold};
 ghost use Rattle.drm_transmit.specs.Send.{SendRun, SendsNothing};
 ghost use Rattle.drm_transmit.specs.OverLink.{OverLink};
 
@@ -21,12 +21,12 @@ pub fn send<S: Shelf, D: Dock>(
     shelf: &mut S,
     dock: &mut D,
 ) -> Result<(), Fault>
-    ensures run { SendRun name.now to result S.faults S.tells shelf.old shelf.new
-        D.faults D.tells dock.old dock.new D.L.faults }
+    ensures run { SendRun name.now to result S.known shelf.old shelf.new
+        D.known dock.old dock.new D.L.known }
     // After want of memory nothing was sent. The words were judged before, and nothing is written.
     ensures unsent { IsErrOf result Fault.NoMemory
-        → WhileTold (D.tells dock.old) (D.tells dock.new) SendsNothing }
-    ensures read { IsErrOf result Fault.Read → Rose (S.faults shelf.old) (S.faults shelf.new) }
+        → WhileTold (D.known dock.old) (D.known dock.new) SendsNothing }
+    ensures read { IsErrOf result Fault.Read → HasFailed (S.known shelf.old) (S.known shelf.new) }
     ensures words { IsErrOf result Fault.Words → ⊥ }
     ensures write { IsErrOf result Fault.Write → ⊥ }
 {
@@ -48,8 +48,8 @@ fn send_over<S: Shelf, L: Link>(
     shelf: &mut S,
     link: &mut L,
 ) -> Result<(), Fault>
-    ensures run { OverLink name.now result S.faults S.tells shelf.old shelf.new
-        L.faults L.tells link.old link.new }
+    ensures run { OverLink name.now result S.known shelf.old shelf.new
+        L.known link.old link.new }
     ensures words { IsErrOf result Fault.Words → ⊥ }
     ensures write { IsErrOf result Fault.Write → ⊥ }
 {

@@ -16,8 +16,8 @@ pub fn serve<S: Shelf, O: Sink>(
     shelf: &mut S,
     out: &mut O,
 ) -> Result<(), Fault>
-    ensures run { ServeRun name.now result S.faults S.tells shelf.old shelf.new
-        O.faults O.tells out.old out.new }
+    ensures run { ServeRun name.now result S.known shelf.old shelf.new
+        O.known out.old out.new }
     // The words were judged before, and memory is taken before the first write.
     ensures link { IsErrOf result Fault.Link → ⊥ }
     ensures words { IsErrOf result Fault.Words → ⊥ }

@@ -6,6 +6,7 @@ use Rattle.std.proofs.lemmas.List.{take-append-drop, take-append-le}
 use Rattle.std.proofs.lemmas.List.Elements.{filter_map-append}
 use Rattle.drm_schedule.specs.declared.plan.Plan.{Plan}
 use Rattle.drm_schedule.specs.Valid.{IsSchedule}
+use Rattle.drm_links.specs.Told.{Known}
 use Rattle.drm_links.specs.Link.{Answer, Traffic, datagram_of}
 use Rattle.drm_links.specs.Sink.{Output}
 use Rattle.drm_links.proofs.ToldLemmas.{Outputs-weaker}
@@ -262,7 +263,7 @@ append_same : {X : Type 0} (xs ys zs : List X) → xs ++ ys ≡ xs ++ zs → ys 
 append_same [] ys zs e = e
 append_same (x ∷ xs) ys zs e = append_same xs ys zs (let f : x ∷ (xs ++ ys) ≡ x ∷ (xs ++ zs) = e in cc)
 
-pub receives_headline : HeadlinesFollow → (rules : Rules) (feed : ℕ) (before after : Option Traffic) (a b : Option Output) (clean : Bool) → 1 ≤ rules.window
+pub receives_headline : HeadlinesFollow → (rules : Rules) (feed : ℕ) (before after : Known Traffic) (a b : Known Output) (clean : Bool) → 1 ≤ rules.window
     → Reported rules feed before after a b clean → Headline rules feed before after a b clean
 receives_headline law rules feed None after a b clean some r = tt
 receives_headline law rules feed (Some x) None a b clean some r = tt
@@ -271,7 +272,7 @@ receives_headline law rules feed (Some x) (Some y) a b clean some r = λ answers
     Outputs-weaker (λ t. t ≡ r.whole) (λ t. HeadlineOf rules feed answers t clean) a b r.text
     (λ t e. subst (λ l. HeadlineOf rules feed l t clean) (sym same) (subst (λ l. HeadlineOf rules feed r.answers l clean) (sym e) (law rules feed r.answers r.whole clean some r.is)))
 
-pub receives_complete : CompletesFollow → (rules : Rules) (feed : ℕ) (before after : Option Traffic) (a b : Option Output) (clean : Bool) → 1 ≤ rules.window
+pub receives_complete : CompletesFollow → (rules : Rules) (feed : ℕ) (before after : Known Traffic) (a b : Known Output) (clean : Bool) → 1 ≤ rules.window
     → Reported rules feed before after a b clean → Complete rules feed before after a b clean
 receives_complete law rules feed None after a b clean some r = tt
 receives_complete law rules feed (Some x) None a b clean some r = tt

@@ -3,17 +3,17 @@ use Rattle.std.proofs.Common.{◌≡◌, ℕ, zero, suc, ◌+◌, ◌*◌, ◌<�
 use Rattle.std.specs.Prelude.{not}
 use Rattle.std.specs.List.{flat_map, All}
 use Rattle.std.proofs.Math.Nat.{mul-le-mul_right}
-use Rattle.drm_links.specs.Told.{Rose}
+use Rattle.drm_links.specs.Told.{Known, Rose, ToldThrough, HasFailed}
 use Rattle.drm_links.specs.Link.{Answer, Traffic}
-use Rattle.drm_links.specs.Sink.{Output, Outputs}
+use Rattle.drm_links.specs.Sink.{Output, Outputs, WritesText}
 use Rattle.drm_links.proofs.ToldLemmas.{Outputs-weaker}
 use Rattle.drm_links.specs.Dock.{LinkStart, first_traffic}
 use Rattle.dcp_collect.specs.State.{State, made}
-use Rattle.mod_receiver.specs.Hearing.{AreNext, Heard}
+use Rattle.mod_receiver.specs.Hearing.{AreNext, Heard, HeardTold}
 use Rattle.mod_receiver.specs.declared.rules.Rules.{Rules}
 use Rattle.mod_receiver.specs.Reading.{most_answers}
 use Rattle.mod_receiver.specs.Received.{Reported, Broken, Stopped, IsReportFront, IsReasonable, rules_of}
-use Rattle.mod_receiver.specs.Texts.{text_tells}
+use Rattle.mod_receiver.specs.Texts.{text_known}
 use Rattle.mod_receiver.specs.Ranges.{AreInRange}
 use Rattle.mod_receiver.specs.Jobs.{IsReady, EndedAs, HasEnded, job_rules, text_of, is_failed, clean_of, IsDone, options_for, IsJob, AreJobs, NoneFailed}
 use Rattle.mod_receiver.specs.Ahead.{Report, IsReportOf, BreaksOff, IsGivenOf, IsFrontOf}
@@ -33,7 +33,7 @@ few_answers rules valid =
     omega (arith, m, i)
 
 -- what was heard of a new link stood ahead of it
-heard_next : (a b : Option Traffic) (start : LinkStart) (answers : List Answer) → Heard answers a b → a ≡ Some (first_traffic start) → length answers ≤ 2 ^ 62
+heard_next : (a b : Option Traffic) (start : LinkStart) (answers : List Answer) → HeardTold answers a b → a ≡ Some (first_traffic start) → length answers ≤ 2 ^ 62
     → (rest : List Answer) × AreNext start.ahead answers rest
 heard_next None b start answers heard is few = absurd (cc)
 heard_next (Some x) None start answers heard is few =
@@ -44,7 +44,7 @@ heard_next (Some x) (Some y) start answers heard is few =
     let same : x ≡ first_traffic start = cc in
     (y.ahead, subst (λ (t : Traffic). AreNext t.ahead answers y.ahead) same heard.ahead)
 
-text_if : (P : List ℕ → Type 0) (first : Option Output) (told : Bool) (o : Output) → Outputs first (if told then Some o else None) P → first ≡ Some (record { written = []; calls = 0 })
+text_if : (P : List ℕ → Type 0) (first : Option Output) (told : Bool) (o : Output) → ToldThrough first (if told then Some o else None) (WritesText P) → first ≡ Some (record { written = []; calls = 0 })
     → IsSome (if told then Some o else None) → P o.written
 text_if P None true o writes is some = absurd (cc)
 text_if P (Some x) true o writes is some =
@@ -53,9 +53,9 @@ text_if P (Some x) true o writes is some =
     subst P (sym written) writes.2
 text_if P first false o writes is some = absurd (cc)
 
-text_written : (P : List ℕ → Type 0) (first : Option Output) (text : Text) → Outputs first (text_tells text) P → first ≡ Some (record { written = []; calls = 0 })
-    → IsSome (text_tells text) → P text.bytes.items
-text_written P first text writes is some = text_if P first (nat_le text.calls (2 ^ 62)) (record { written = text.bytes.items; calls = text.calls }) writes is some
+text_written : (P : List ℕ → Type 0) (first : Known Output) (text : Text) → Outputs first (text_known text) P → first.told ≡ Some (record { written = []; calls = 0 })
+    → IsSome (text_known text).told → P text.bytes.items
+text_written P first text writes is some = text_if P first.told (nat_le text.calls (2 ^ 62)) (record { written = text.bytes.items; calls = text.calls }) writes is some
 
 abbrev pub told_of : {L : Type 0} → Job L → Report
 told_of job = record { text = text_of job; clean = clean_of job }
@@ -98,9 +98,9 @@ jobs_ready rules jobs many valid size are k none within = job_ready rules k (sli
 
 -- ---- what a receiver has written, and what was ahead of its link
 
-module _ (rules : Rules) (valid : AreInRange rules) (number : ℕ) (start : LinkStart) (a b : Option Traffic) (u v : Option Output) (told : a ≡ Some (first_traffic start)) where
+module _ (rules : Rules) (valid : AreInRange rules) (number : ℕ) (start : LinkStart) (a b : Known Traffic) (u v : Known Output) (told : a.told ≡ Some (first_traffic start)) where
   answers_ahead : (answers : List Answer) → Heard answers a b → length answers ≤ most_answers rules → (rest : List Answer) × AreNext start.ahead answers rest
-  answers_ahead answers heard few = heard_next a b start answers heard told (let most = few_answers rules valid in omega (arith, few, most))
+  answers_ahead answers heard few = heard_next a.told b.told start answers heard told (let most = few_answers rules valid in omega (arith, few, most))
 
   -- its report is that of what was ahead of its link
   pub live_report : HeadlinesFollow → CompletesFollow → (clean : Bool) → Reported rules number a b u v clean
@@ -140,9 +140,9 @@ module _ (rules : Rules) (valid : AreInRange rules) (number : ℕ) (start : Link
 
 -- ---- receivers side by side
 
-module _ {L : Type 0} (faults : L → ℕ) (tells : L → Option Traffic) (rules : Rules) (valid : AreInRange rules) (number : ℕ) (start : LinkStart) (before after : Job L) (is : IsJob rules number before) (told : tells before.link ≡ Some (first_traffic start)) (ended : HasEnded faults tells before after) where
+module _ {L : Type 0} (known : L → Known Traffic) (rules : Rules) (valid : AreInRange rules) (number : ℕ) (start : LinkStart) (before after : Job L) (is : IsJob rules number before) (told : (known before.link).told ≡ Some (first_traffic start)) (ended : HasEnded known before after) where
   abbrev Was : Option Ended → Type 0
-  Was o = MatchOption o ⊥ (EndedAs faults tells before after)
+  Was o = MatchOption o ⊥ (EndedAs known before after)
 
   same_rules : job_rules before ≡ rules
   same_rules = rules_are rules number before.collector before.options is.collector is.options
@@ -153,28 +153,28 @@ module _ {L : Type 0} (faults : L → ℕ) (tells : L → Option Traffic) (rules
   -- the report of one that is done is that of what was ahead of its link
   pub job_report : HeadlinesFollow → CompletesFollow → IsDone after → IsReportOf rules number start.ahead (told_of after)
   job_report headlines completes done =
-      let was : EndedAs faults tells before after (Done (clean_of after)) = subst Was done.0 ended in
-      let raw : Reported (job_rules before) before.options.feed (tells before.link) (tells after.link) (text_tells before.text) (text_tells after.text) (clean_of after) = was.ends in
-      let reported : Reported rules number (tells before.link) (tells after.link) (text_tells before.text) (text_tells after.text) (clean_of after) =
-      subst (λ n. Reported rules n (tells before.link) (tells after.link) (text_tells before.text) (text_tells after.text) (clean_of after)) same_number
-      (subst (λ r. Reported r before.options.feed (tells before.link) (tells after.link) (text_tells before.text) (text_tells after.text) (clean_of after)) same_rules raw) in
-      let live = live_report rules valid number start (tells before.link) (tells after.link) (text_tells before.text) (text_tells after.text) told headlines completes (clean_of after) reported in
-      let text : text_of after ≡ live.0.text = text_written (λ t. t ≡ live.0.text) (text_tells before.text) after.text live.2 is.text done.1 in
+      let was : EndedAs known before after (Done (clean_of after)) = subst Was done.0 ended in
+      let raw : Reported (job_rules before) before.options.feed (known before.link) (known after.link) (text_known before.text) (text_known after.text) (clean_of after) = was.ends in
+      let reported : Reported rules number (known before.link) (known after.link) (text_known before.text) (text_known after.text) (clean_of after) =
+      subst (λ n. Reported rules n (known before.link) (known after.link) (text_known before.text) (text_known after.text) (clean_of after)) same_number
+      (subst (λ r. Reported r before.options.feed (known before.link) (known after.link) (text_known before.text) (text_known after.text) (clean_of after)) same_rules raw) in
+      let live = live_report rules valid number start (known before.link) (known after.link) (text_known before.text) (text_known after.text) told headlines completes (clean_of after) reported in
+      let text : text_of after ≡ live.0.text = text_written (λ t. t ≡ live.0.text) (text_known before.text) after.text live.2 is.text done.1 in
       subst (λ r. IsReportOf rules number start.ahead r) (λ i. record { text = sym text i; clean = sym live.3 i }) live.1
 
   -- what is ahead of the link of one that failed breaks off
   pub job_breaks : is_failed after.ended ≡ true → BreaksOff rules start.ahead
   job_breaks failed =
-      let was : EndedAs faults tells before after LinkFailed = subst Was (failed_is after.ended failed) ended in
-      let raw : Broken (job_rules before) before.options.feed (tells before.link) (tells after.link) (text_tells before.text) (text_tells after.text) = was.ends in
-      live_breaks rules valid before.options.feed start (tells before.link) (tells after.link) (text_tells before.text) (text_tells after.text) told
-      (subst (λ r. Broken r before.options.feed (tells before.link) (tells after.link) (text_tells before.text) (text_tells after.text)) same_rules raw)
+      let was : EndedAs known before after LinkFailed = subst Was (failed_is after.ended failed) ended in
+      let raw : Broken (job_rules before) before.options.feed (known before.link) (known after.link) (text_known before.text) (text_known after.text) = was.ends in
+      live_breaks rules valid before.options.feed start (known before.link) (known after.link) (text_known before.text) (text_known after.text) told
+      (subst (λ r. Broken r before.options.feed (known before.link) (known after.link) (text_known before.text) (text_known after.text)) same_rules raw)
 
 -- the count of faults of the link of one that failed rose
-pub job_rose : {L : Type 0} (faults : L → ℕ) (tells : L → Option Traffic) (before after : Job L) → HasEnded faults tells before after → is_failed after.ended ≡ true → Rose (faults before.link) (faults after.link)
-job_rose {L} faults tells before after ended failed =
-    let P : Option Ended → Type 0 = λ o. MatchOption o ⊥ (EndedAs faults tells before after) in
-    let was : EndedAs faults tells before after LinkFailed = subst P (failed_is after.ended failed) ended in
+pub job_rose : {L : Type 0} (known : L → Known Traffic) (before after : Job L) → HasEnded known before after → is_failed after.ended ≡ true → HasFailed (known before.link) (known after.link)
+job_rose {L} known before after ended failed =
+    let P : Option Ended → Type 0 = λ o. MatchOption o ⊥ (EndedAs known before after) in
+    let was : EndedAs known before after LinkFailed = subst P (failed_is after.ended failed) ended in
     was.link.rose refl
 
 -- ---- by place

@@ -2,6 +2,7 @@
 use Rattle.std.proofs.Common.{◌≡◌, ℕ, zero, suc, ◌+◌, ◌-◌, ◌<◌, ◌≤◌, nat_le, min, Bool, true, false, if◌then◌else◌, List, [], ◌∷◌, ◌++◌, length, take, Option, None, Some, refl, sym, ◌∙◌, ap, subst, arith, append_assoc}
 use Rattle.std.proofs.lemmas.List.{append-nil}
 use Rattle.std.proofs.lemmas.List.Concat.{flat_map-append}
+use Rattle.drm_links.specs.Told.{Known}
 use Rattle.drm_links.specs.Sink.{Output, Outputs, IsFront}
 use Rattle.drm_links.proofs.ToldLemmas.{Outputs-then, Outputs-nothing, Outputs-weaker}
 use Rattle.dcp_collect.specs.State.{State, ready, after_item, after_next, after_finish}
@@ -92,7 +93,7 @@ text_more ss ts = flat_map-append step_text ss ts
 
 -- ---- what is printed
 
-pub prints_none : (told : Option ℕ) (f : TrackerState) (t : Tallied) (a : Option Output) → Prints told f f t t a a []
+pub prints_none : (told : Option ℕ) (f : TrackerState) (t : Tallied) (a : Known Output) → Prints told f f t t a a []
 prints_none None f t a = record { steps = []; feeds = refl; tally = refl; text = Outputs-nothing a (λ x. x ≡ []) refl }
 prints_none (Some told) f t a = record { steps = []; feeds = take_nothing f (told - f.calls); tally = refl; text = Outputs-nothing a (λ x. x ≡ []) refl }
   where
@@ -100,7 +101,7 @@ prints_none (Some told) f t a = record { steps = []; feeds = take_nothing f (tol
     take_nothing f zero = refl
     take_nothing f (suc n) = refl
 
-pub prints_then : (told : Option ℕ) (f g h : TrackerState) (t u v : Tallied) (a b d : Option Output) (xs ys : List Item)
+pub prints_then : (told : Option ℕ) (f g h : TrackerState) (t u v : Tallied) (a b d : Known Output) (xs ys : List Item)
     → Prints told f g t u a b xs → Prints told g h u v b d ys → Prints told f h t v a d (xs ++ ys)
 prints_then told f g h t u v a b d xs ys p q = record {
   steps = p.steps ++ q.steps;
@@ -126,7 +127,7 @@ none_below None n items full = absurd (let e : false ≡ true = full in cc)
 none_below (Some told) n items full = ap (λ k. take k items) (none_left told n full) ∙ take_none items
 
 -- items past the told number
-pub prints_full : (told : Option ℕ) (f : TrackerState) (t : Tallied) (a : Option Output) (items : List Item)
+pub prints_full : (told : Option ℕ) (f : TrackerState) (t : Tallied) (a : Known Output) (items : List Item)
     → is_full told f.calls ≡ true → Prints told f f t t a a items
 prints_full told f t a items full = record {
   steps = [];
@@ -136,7 +137,7 @@ prints_full told f t a items full = record {
 }
 
 -- past the told number it is one which items there are
-pub prints_any : (told : Option ℕ) (f g : TrackerState) (t u : Tallied) (a b : Option Output) (items others : List Item)
+pub prints_any : (told : Option ℕ) (f g : TrackerState) (t u : Tallied) (a b : Known Output) (items others : List Item)
     → is_full told f.calls ≡ true → Prints told f g t u a b items → Prints told f g t u a b others
 prints_any told f g t u a b items others full p = record {
   steps = p.steps;
@@ -163,7 +164,7 @@ feeds_one told f item step room is =
 one_text : (step : FeedStep) → step_text step ≡ steps_text (step ∷ [])
 one_text step = sym (append-nil (step_text step))
 
-pub prints_one : (told : Option ℕ) (f f' : TrackerState) (t t' : Tallied) (a b : Option Output) (item : Item) (step : FeedStep)
+pub prints_one : (told : Option ℕ) (f f' : TrackerState) (t t' : Tallied) (a b : Known Output) (item : Item) (step : FeedStep)
     → is_full told f.calls ≡ false → IsStep f item step → f' ≡ after_step f step → t' ≡ counted t step.item → Outputs a b (λ x. x ≡ step_text step)
     → Prints told f f' t t' a b (item ∷ [])
 prints_one told f f' t t' a b item step room is after counts text = record {
@@ -178,16 +179,16 @@ prints_one told f f' t t' a b item step room is after counts text = record {
 pub front_more : (xs ys t : List ℕ) → IsFront xs t → IsFront (xs ++ ys) t
 front_more xs ys t (rest, e) = (rest ++ ys, ap (λ l. l ++ ys) e ∙ append_assoc t rest ys)
 
-pub front_then : (xs ys : List ℕ) (a b c : Option Output) → Outputs a b (λ t. t ≡ xs) → Outputs b c (IsFront ys) → Outputs a c (IsFront (xs ++ ys))
+pub front_then : (xs ys : List ℕ) (a b c : Known Output) → Outputs a b (λ t. t ≡ xs) → Outputs b c (IsFront ys) → Outputs a c (IsFront (xs ++ ys))
 front_then xs ys a b c p q = Outputs-then (λ t. t ≡ xs) (IsFront ys) (IsFront (xs ++ ys)) a b c p q
     (λ s t e (rest, f). (rest, ap (λ l. l ++ ys) (sym e) ∙ ap (λ l. s ++ l) f ∙ sym (append_assoc s t rest)))
 
-pub nothing_front : (xs : List ℕ) (a : Option Output) → Outputs a a (IsFront xs)
+pub nothing_front : (xs : List ℕ) (a : Known Output) → Outputs a a (IsFront xs)
 nothing_front xs a = Outputs-nothing a (IsFront xs) (xs, refl)
 
 -- ---- what a loop over the ready items keeps
 
-pub record Drained (told : Option ℕ) (c d : State) (f g : TrackerState) (t u : Tallied) (a b : Option Output) (items : List Item) : Type 0 where
+pub record Drained (told : Option ℕ) (c d : State) (f g : TrackerState) (t u : Tallied) (a b : Known Output) (items : List Item) : Type 0 where
   pub given : Given c items d
   pub prints : Prints told f g t u a b items
   pub pace : KeepsPace told d g u
@@ -227,7 +228,7 @@ pace_one : (told : Option ℕ) (next n m : ℕ) → n ≡ steps_before told next
 pace_one None next n m e room f = let p : n ≡ next = e in omega (arith, p, f)
 pace_one (Some told) next n m e room f = let l : n < told = is_left told n room in let p : n ≡ min next told = e in omega (arith, l, p, f)
 
-pub drained_none : (told : Option ℕ) (c : State) (f : TrackerState) (t : Tallied) (a : Option Output) → KeepsPace told c f t → Drained told c c f f t t a a []
+pub drained_none : (told : Option ℕ) (c : State) (f : TrackerState) (t : Tallied) (a : Known Output) → KeepsPace told c f t → Drained told c c f f t t a a []
 drained_none told c f t a pace = record { given = refl; prints = prints_none told f t a; pace = pace }
 
 is_next : (d e : State) → ready d ≡ true → e ≡ after_next d → e ≡ after_item d
@@ -242,7 +243,7 @@ pub next_end : (c : State) → (after_next c).end ≡ c.end
 next_end c = end_by (ready c) c (after_item c) refl
 
 -- an item was given and written
-pub drained_one : (told : Option ℕ) (c d e : State) (f g h : TrackerState) (t u v : Tallied) (a b b' : Option Output) (items : List Item) (item : Item) (step : FeedStep)
+pub drained_one : (told : Option ℕ) (c d e : State) (f g h : TrackerState) (t u v : Tallied) (a b b' : Known Output) (items : List Item) (item : Item) (step : FeedStep)
     → Drained told c d f g t u a b items → ready d ≡ true → IsItem d item → e ≡ after_next d → is_full told (items_in u.sums) ≡ false
     → IsStep g item step → h ≡ after_step g step → v ≡ counted u step.item → Outputs b b' (λ x. x ≡ step_text step)
     → Drained told c e f h t v a b' (items ++ item ∷ [])
@@ -260,7 +261,7 @@ drained_one told c d e f g h t u v a b b' items item step i r is n room stepping
     }
 
 -- nothing more is ready
-pub drained_all : (told : Option ℕ) (c d e : State) (f g : TrackerState) (t u : Tallied) (a b : Option Output) (items : List Item)
+pub drained_all : (told : Option ℕ) (c d e : State) (f g : TrackerState) (t u : Tallied) (a b : Known Output) (items : List Item)
     → Drained told c d f g t u a b items → IsFit d → ready d ≡ false → e ≡ after_next d → PrintsReady told c e f g t u a b
 drained_all told c d e f g t u a b items i fit r n =
     let same : e ≡ d = n ∙ rw r refl in
@@ -278,7 +279,7 @@ given_then [] more c d e given gives = subst (λ m. Gives m more e) given gives
 given_then (item ∷ items) more c d e given gives = (given.0, given.1, given_then items more (after_item c) d e given.2 gives)
 
 -- the told number was given: what else is ready isn't written
-pub drained_full : (told : Option ℕ) (c d : State) (f g : TrackerState) (t u : Tallied) (a b : Option Output) (items : List Item)
+pub drained_full : (told : Option ℕ) (c d : State) (f g : TrackerState) (t u : Tallied) (a b : Known Output) (items : List Item)
     → Drained told c d f g t u a b items → IsFit d → is_full told (items_in u.sums) ≡ true → PrintsReady told c d f g t u a b
 drained_full told c d f g t u a b items i fit full =
     let more = ends d fit.0 fit.1 in
@@ -293,7 +294,7 @@ drained_full told c d f g t u a b items i fit full =
     }
 
 -- a front of an item's line was written
-pub drained_front : (told : Option ℕ) (c d : State) (f g : TrackerState) (t u : Tallied) (a b b' : Option Output) (items : List Item) (item : Item) (step : FeedStep)
+pub drained_front : (told : Option ℕ) (c d : State) (f g : TrackerState) (t u : Tallied) (a b b' : Known Output) (items : List Item) (item : Item) (step : FeedStep)
     → Drained told c d f g t u a b items → ready d ≡ true → IsItem d item → is_full told (items_in u.sums) ≡ false
     → IsStep g item step → Outputs b b' (IsFront (step_text step)) → PrintsFront told c f a b'
 drained_front told c d f g t u a b b' items item step i r is room stepping text =
@@ -312,7 +313,7 @@ drained_front told c d f g t u a b b' items item step i r is room stepping text 
 -- ---- what is ready behind a state that nothing more is taken out of
 
 -- what is left to write behind the end of a reading, which left nothing ready but where the told number was given
-pub record Rest (told : Option ℕ) (c : State) (f g : TrackerState) (t u : Tallied) (a b : Option Output) : Type 0 where
+pub record Rest (told : Option ℕ) (c : State) (f g : TrackerState) (t u : Tallied) (a b : Known Output) : Type 0 where
   pub items : List Item
   pub last : State
   pub gives : Gives c items last
@@ -323,16 +324,16 @@ module _ (told : Option ℕ) (mid c d : State) (f : TrackerState) (t : Tallied) 
   all_taken : is_full told (items_in t.sums) ≡ false → d ≡ after_finish mid told
   all_taken room = finished ∙ ap (λ m. after_finish m told) (drained room)
 
-  rest_by : (full : Bool) → is_full told (items_in t.sums) ≡ full → (e : State) (g : TrackerState) (u : Tallied) (a b : Option Output) → PrintsReady told d e f g t u a b → Rest told (after_finish mid told) f g t u a b
+  rest_by : (full : Bool) → is_full told (items_in t.sums) ≡ full → (e : State) (g : TrackerState) (u : Tallied) (a b : Known Output) → PrintsReady told d e f g t u a b → Rest told (after_finish mid told) f g t u a b
   rest_by false room e g u a b p = record { items = p.items; last = p.last; gives = subst (λ m. Gives m p.items p.last) (all_taken room) p.gives; prints = p.prints }
   rest_by true full e g u a b p =
       let more = ends (after_finish mid told) fit.0 fit.1 in
       record { items = more.0; last = more.1; gives = more.2; prints = prints_any told f g t u a b p.items more.0 (ap (is_full told) (sym counted) ∙ full) p.prints }
 
-  pub the_rest : (e : State) (g : TrackerState) (u : Tallied) (a b : Option Output) → PrintsReady told d e f g t u a b → Rest told (after_finish mid told) f g t u a b
+  pub the_rest : (e : State) (g : TrackerState) (u : Tallied) (a b : Known Output) → PrintsReady told d e f g t u a b → Rest told (after_finish mid told) f g t u a b
   the_rest e g u a b p = rest_by (is_full told (items_in t.sums)) refl e g u a b p
 
-  front_by : (full : Bool) → is_full told (items_in t.sums) ≡ full → (a b : Option Output) → PrintsFront told d f a b → PrintsFront told (after_finish mid told) f a b
+  front_by : (full : Bool) → is_full told (items_in t.sums) ≡ full → (a b : Known Output) → PrintsFront told d f a b → PrintsFront told (after_finish mid told) f a b
   front_by false room a b p = subst (λ m. PrintsFront told m f a b) (all_taken room) p
   front_by true full a b p =
       let full' : is_full told f.calls ≡ true = ap (is_full told) (sym counted) ∙ full in
@@ -345,5 +346,5 @@ module _ (told : Option ℕ) (mid c d : State) (f : TrackerState) (t : Tallied) 
         text = p.text;
       }
 
-  pub the_front : (a b : Option Output) → PrintsFront told d f a b → PrintsFront told (after_finish mid told) f a b
+  pub the_front : (a b : Known Output) → PrintsFront told d f a b → PrintsFront told (after_finish mid told) f a b
   the_front a b p = front_by (is_full told (items_in t.sums)) refl a b p

@@ -3,7 +3,7 @@ use Rattle.std.proofs.Common.{◌≡◌, ℕ, zero, suc, ◌+◌, ◌-◌, ◌*�
 use Rattle.std.proofs.Math.Nat.{mul-le-mul_right, suc-mul}
 use Rattle.drm_links.specs.declared.link.Came.TheVariants as recv
 use Rattle.drm_links.specs.Link.{Answer, Traffic, Receives, Datagram, Idle, Failed}
-use Rattle.drm_links.specs.Told.{WhileTold, CountsCall}
+use Rattle.drm_links.specs.Told.{Known, WhileTold, CountsCall}
 use Rattle.drm_links.specs.Sink.{Output, Outputs, IsFront}
 use Rattle.drm_links.proofs.ToldLemmas.{Outputs-then, Outputs-nothing}
 use Rattle.dcp_collect.specs.declared.taken.Taken.{Taken}
@@ -43,17 +43,17 @@ feeds_more told f g xs ys ss ts p q =
     subst (λ l. Feeds new_tracker l (ss ++ ts) g) (up_to_new told (xs ++ ys))
     (feeds_left told new_tracker f g xs ys ss ts (subst (λ l. Feeds new_tracker l ss f) (sym (up_to_new told xs)) p) q)
 
-pub texts_join : (ss ts : List FeedStep) (a b d : Option Output) → Outputs a b (λ x. x ≡ steps_text ss) → Outputs b d (λ x. x ≡ steps_text ts) → Outputs a d (λ x. x ≡ steps_text (ss ++ ts))
+pub texts_join : (ss ts : List FeedStep) (a b d : Known Output) → Outputs a b (λ x. x ≡ steps_text ss) → Outputs b d (λ x. x ≡ steps_text ts) → Outputs a d (λ x. x ≡ steps_text (ss ++ ts))
 texts_join ss ts a b d p q =
     Outputs-then (λ x. x ≡ steps_text ss) (λ x. x ≡ steps_text ts) (λ x. x ≡ steps_text (ss ++ ts)) a b d p q
     (λ x y e g. ap (λ l. l ++ y) e ∙ ap (λ l. steps_text ss ++ l) g ∙ sym (text_more ss ts))
 
-pub front_joins : (ss ts : List FeedStep) (a b d : Option Output) → Outputs a b (λ x. x ≡ steps_text ss) → Outputs b d (IsFront (steps_text ts)) → Outputs a d (IsFront (steps_text (ss ++ ts)))
+pub front_joins : (ss ts : List FeedStep) (a b d : Known Output) → Outputs a b (λ x. x ≡ steps_text ss) → Outputs b d (IsFront (steps_text ts)) → Outputs a d (IsFront (steps_text (ss ++ ts)))
 front_joins ss ts a b d p q = subst (λ l. Outputs a d (IsFront l)) (sym (text_more ss ts)) (front_then (steps_text ss) (steps_text ts) a b d p q)
 
 -- ---- what the loop keeps: nothing is finished yet
 
-pub record Reaches (rules : Rules) (before after : Option Traffic) (a b : Option Output) (c : State) (f : TrackerState) (t : Tallied) (taken idles : ℕ) : Type 0 where
+pub record Reaches (rules : Rules) (before after : Known Traffic) (a b : Known Output) (c : State) (f : TrackerState) (t : Tallied) (taken idles : ℕ) : Type 0 where
   pub answers : List Answer
   pub so_far : SoFar rules before after a b c f t answers
   pub taken_is : length (datagrams answers) ≡ taken
@@ -75,7 +75,7 @@ pace_new : (told : Option ℕ) (window : ℕ) (first : Option ℕ) → KeepsPace
 pace_new None window first = record { calls = refl; items = omega arith }
 pace_new (Some n) window first = record { calls = omega arith; items = omega arith }
 
-starts : (rules : Rules) (before : Option Traffic) (a : Option Output)
+starts : (rules : Rules) (before : Known Traffic) (a : Known Output)
     → 1 ≤ rules.window → 0 < rules.limit → 0 < rules.idle → IfSome rules.frames (λ n. 0 < n) → Reaches rules before before a a (made rules.window rules.first) new_tracker new_tally 0 0
 starts rules before a window limit idle some = record {
   answers = [];
@@ -107,7 +107,7 @@ starts rules before a window limit idle some = record {
     none_fed (Some zero) = refl
     none_fed (Some (suc n)) = refl
 
-pub at_start : (rules : Rules) (before : Option Traffic) (a : Option Output) (c : State) (f : TrackerState) (t : Tallied)
+pub at_start : (rules : Rules) (before : Known Traffic) (a : Known Output) (c : State) (f : TrackerState) (t : Tallied)
     → c ≡ made rules.window rules.first → f ≡ new_tracker → t ≡ new_tally
     → 1 ≤ rules.window → 0 < rules.limit → 0 < rules.idle → IfSome rules.frames (λ n. 0 < n) → Reaches rules before before a a c f t 0 0
 at_start rules before a c f t is_made is_new is_empty window limit idle some =
@@ -142,13 +142,13 @@ enough_given rules (Some m) answers c f sum taken items steps gave feeds is full
     let l : m ≤ sum = le_yes m sum full in
     (taken, items, c, gave, omega (arith, g, l, size, is))
 
-not_given : (rules : Rules) (before after : Option Traffic) (a b : Option Output) (c : State) (f : TrackerState) (t : Tallied) (answers : List Answer)
+not_given : (rules : Rules) (before after : Known Traffic) (a b : Known Output) (c : State) (f : TrackerState) (t : Tallied) (answers : List Answer)
     → SoFar rules before after a b c f t answers → items_in t.sums ≡ f.calls → is_full rules.frames (items_in t.sums) ≡ false → HasGiven rules answers rules.frames → ⊥
 not_given rules before after a b c f t answers s counted room =
     none_given rules answers rules.frames s.taken s.items c one_way s.gave (few_given rules.frames f (items_in t.sums) s.items s.steps s.feeds counted room)
 
 -- a reading that is so far is open
-so_far_open : (rules : Rules) (before after : Option Traffic) (a b : Option Output) (c : State) (f : TrackerState) (t : Tallied) (taken idles : ℕ)
+so_far_open : (rules : Rules) (before after : Known Traffic) (a b : Known Output) (c : State) (f : TrackerState) (t : Tallied) (taken idles : ℕ)
     (r : Reaches rules before after a b c f t taken idles) → IsOpen rules r.answers
 so_far_open rules before after a b c f t taken idles r =
     let d : length (datagrams r.answers) ≡ taken = r.taken_is in
@@ -158,7 +158,7 @@ so_far_open rules before after a b c f t taken idles r =
     is_open rules r.answers (not_given rules before after a b c f t r.answers r.so_far r.pace.items r.not_full) (omega (arith, d, dl)) (omega (arith, i, il))
 
 -- how many refusals there are
-pub refused_few : (rules : Rules) (before after : Option Traffic) (a b : Option Output) (c : State) (f : TrackerState) (t : Tallied) (taken idles : ℕ)
+pub refused_few : (rules : Rules) (before after : Known Traffic) (a b : Known Output) (c : State) (f : TrackerState) (t : Tallied) (taken idles : ℕ)
     → Reaches rules before after a b c f t taken idles → t.sums.refused ≤ taken
 refused_few rules before after a b c f t taken idles r =
     let s = r.so_far in
@@ -186,7 +186,7 @@ one_turn size taken idles idle h l =
     omega (arith, h, l, e)
 
 -- the next answer is a datagram
-pub record OnDatagram (rules : Rules) (before after : Option Traffic) (a b : Option Output) (c : State) (f : TrackerState) (t : Tallied) (taken : ℕ) : Type 0 where
+pub record OnDatagram (rules : Rules) (before after : Known Traffic) (a b : Known Output) (c : State) (f : TrackerState) (t : Tallied) (taken : ℕ) : Type 0 where
   pub answers : List Answer
   pub mid : State
   pub so_far : SoFar rules before after a b mid f t answers
@@ -198,7 +198,7 @@ pub record OnDatagram (rules : Rules) (before after : Option Traffic) (a b : Opt
   pub none_ready : ready mid ≡ false
   pub unfinished : c.end ≡ None
 
-pub on_datagram : (rules : Rules) (before after next : Option Traffic) (a b d : Option Output) (c c' : State) (f f' : TrackerState) (t t' : Tallied) (taken idles number n : ℕ) (buf : List ℕ)
+pub on_datagram : (rules : Rules) (before after next : Known Traffic) (a b d : Known Output) (c c' : State) (f f' : TrackerState) (t t' : Tallied) (taken idles number n : ℕ) (buf : List ℕ)
     → Reaches rules before after a b c f t taken idles → WhileTold after next (Receives (recv.Datagram n) buf) → CountsCall (λ (x : Traffic). x.calls) after next
     → number ≡ taken → PrintsTaken rules.frames number (take n buf) c c' f f' t t' b d → c'.end ≡ c.end
     → OnDatagram rules before next a d c' f' t' taken
@@ -234,7 +234,7 @@ on_datagram rules before after next a b d c c' f f' t t' taken idles number n bu
     }
 
 -- and nothing is finished yet
-pub datagram_more : (rules : Rules) (before after : Option Traffic) (a b : Option Output) (c : State) (f : TrackerState) (t : Tallied) (taken : ℕ)
+pub datagram_more : (rules : Rules) (before after : Known Traffic) (a b : Known Output) (c : State) (f : TrackerState) (t : Tallied) (taken : ℕ)
     → OnDatagram rules before after a b c f t taken → KeepsPace rules.frames c f t → is_full rules.frames (items_in t.sums) ≡ false → taken + 1 < rules.limit → 0 < rules.idle
     → Reaches rules before after a b c f t (taken + 1) 0
 datagram_more rules before after a b c f t taken o pace room more idle = record {
@@ -258,7 +258,7 @@ short_enough rules size taken more few =
     omega (arith, m, few)
 
 -- finished by the told number
-pub by_frames : (rules : Rules) (before after : Option Traffic) (a b : Option Output) (c : State) (f : TrackerState) (t : Tallied) (taken : ℕ)
+pub by_frames : (rules : Rules) (before after : Known Traffic) (a b : Known Output) (c : State) (f : TrackerState) (t : Tallied) (taken : ℕ)
     → OnDatagram rules before after a b c f t taken → KeepsPace rules.frames c f t → is_full rules.frames (items_in t.sums) ≡ true → taken < rules.limit
     → ReadsTo rules before after a b c f t word.Frames
 by_frames rules before after a b c f t taken o pace full more = record {
@@ -272,7 +272,7 @@ by_frames rules before after a b c f t taken o pace full more = record {
 }
 
 -- finished by the number of datagrams
-pub by_limit : (rules : Rules) (before after : Option Traffic) (a b : Option Output) (c : State) (f : TrackerState) (t : Tallied) (taken : ℕ)
+pub by_limit : (rules : Rules) (before after : Known Traffic) (a b : Known Output) (c : State) (f : TrackerState) (t : Tallied) (taken : ℕ)
     → OnDatagram rules before after a b c f t taken → KeepsPace rules.frames c f t → is_full rules.frames (items_in t.sums) ≡ false → taken < rules.limit → taken + 1 ≡ rules.limit
     → ReadsTo rules before after a b c f t word.Limit
 by_limit rules before after a b c f t taken o pace room more all = record {
@@ -286,14 +286,14 @@ by_limit rules before after a b c f t taken o pace room more all = record {
 }
 
 -- the next answer is `Idle`
-pub record OnIdle (rules : Rules) (before after : Option Traffic) (a b : Option Output) (c : State) (f : TrackerState) (t : Tallied) (taken idles : ℕ) : Type 0 where
+pub record OnIdle (rules : Rules) (before after : Known Traffic) (a b : Known Output) (c : State) (f : TrackerState) (t : Tallied) (taken idles : ℕ) : Type 0 where
   pub answers : List Answer
   pub so_far : SoFar rules before after a b c f t answers
   pub taken_is : length (datagrams answers) ≡ taken
   pub idles_is : idles_at_end answers ≡ idles + 1
   pub few : length answers ≤ taken * rules.idle + (idles + 1)
 
-pub on_idle : (rules : Rules) (before after next : Option Traffic) (a b : Option Output) (c : State) (f : TrackerState) (t : Tallied) (taken idles : ℕ) (buf : List ℕ)
+pub on_idle : (rules : Rules) (before after next : Known Traffic) (a b : Known Output) (c : State) (f : TrackerState) (t : Tallied) (taken idles : ℕ) (buf : List ℕ)
     → Reaches rules before after a b c f t taken idles → WhileTold after next (Receives recv.Idle buf) → CountsCall (λ (x : Traffic). x.calls) after next
     → OnIdle rules before next a b c f t taken idles
 on_idle rules before after next a b c f t taken idles buf r told counts =
@@ -317,7 +317,7 @@ on_idle rules before after next a b c f t taken idles buf r told counts =
       few = omega (arith, l);
     }
 
-pub idle_more : (rules : Rules) (before after next : Option Traffic) (a b : Option Output) (c : State) (f : TrackerState) (t : Tallied) (taken idles : ℕ)
+pub idle_more : (rules : Rules) (before after next : Known Traffic) (a b : Known Output) (c : State) (f : TrackerState) (t : Tallied) (taken idles : ℕ)
     → Reaches rules before after a b c f t taken idles → OnIdle rules before next a b c f t taken idles → idles + 1 < rules.idle
     → Reaches rules before next a b c f t taken (idles + 1)
 idle_more rules before after next a b c f t taken idles r o fewer = record {
@@ -336,7 +336,7 @@ idle_more rules before after next a b c f t taken idles r o fewer = record {
 }
 
 -- finished by idles
-pub by_idle : (rules : Rules) (before after next : Option Traffic) (a b : Option Output) (c : State) (f : TrackerState) (t : Tallied) (taken idles : ℕ)
+pub by_idle : (rules : Rules) (before after next : Known Traffic) (a b : Known Output) (c : State) (f : TrackerState) (t : Tallied) (taken idles : ℕ)
     → Reaches rules before after a b c f t taken idles → OnIdle rules before next a b c f t taken idles → idles + 1 ≡ rules.idle
     → ReadsTo rules before next a b c f t word.Idle
 by_idle rules before after next a b c f t taken idles r o all =
@@ -360,7 +360,7 @@ by_idle rules before after next a b c f t taken idles r o all =
     }
 
 -- the next answer is `Failed`
-pub on_failed : (rules : Rules) (before after next : Option Traffic) (a b : Option Output) (c : State) (f : TrackerState) (t : Tallied) (taken idles : ℕ) (buf : List ℕ)
+pub on_failed : (rules : Rules) (before after next : Known Traffic) (a b : Known Output) (c : State) (f : TrackerState) (t : Tallied) (taken idles : ℕ) (buf : List ℕ)
     → Reaches rules before after a b c f t taken idles → WhileTold after next (Receives recv.Failed buf) → CountsCall (λ (x : Traffic). x.calls) after next
     → ReadsBroken rules before next a b
 on_failed rules before after next a b c f t taken idles buf r told counts =
@@ -385,7 +385,7 @@ on_failed rules before after next a b c f t taken idles buf r told counts =
     }
 
 -- a datagram came, and not all that it made ready was written
-pub on_stop : (rules : Rules) (before after next : Option Traffic) (a b d : Option Output) (c : State) (f : TrackerState) (t : Tallied) (taken idles n : ℕ) (buf : List ℕ)
+pub on_stop : (rules : Rules) (before after next : Known Traffic) (a b d : Known Output) (c : State) (f : TrackerState) (t : Tallied) (taken idles n : ℕ) (buf : List ℕ)
     → Reaches rules before after a b c f t taken idles → WhileTold after next (Receives (recv.Datagram n) buf) → CountsCall (λ (x : Traffic). x.calls) after next
     → TakesFront rules.frames (take n buf) c f b d → ReadsFront rules before next a d
 on_stop rules before after next a b d c f t taken idles n buf r told counts stops =

@@ -1,6 +1,7 @@
 -- The lines of refusals, one after another.
 use Rattle.std.proofs.Common.{◌≡◌, ℕ, List, [], ◌∷◌, ◌++◌, Option, sym, ◌∙◌, ap, subst, append_assoc}
 use Rattle.std.specs.List.{AllByRecursion}
+use Rattle.drm_links.specs.Told.{Known}
 use Rattle.drm_links.specs.Sink.{Output, Outputs, IsFront}
 use Rattle.drm_links.proofs.ToldLemmas.{Outputs-then, Outputs-nothing, Outputs-weaker}
 use Rattle.std.proofs.lemmas.List.{append-nil}
@@ -19,19 +20,19 @@ AreTold refused = AllByRecursion (λ r. IsTold r.taken) refused
 abbrev pub line_of : Refusal → List ℕ
 line_of r = refused_line r.number r.taken
 
-pub none_refused : (all left : List Refusal) (a : Option Output) → left ≡ all → Outputs a a (IsSoFar all left)
+pub none_refused : (all left : List Refusal) (a : Known Output) → left ≡ all → Outputs a a (IsSoFar all left)
 none_refused all left a is = Outputs-nothing a (IsSoFar all left) (ap refused_text is)
 
 pub all_told : (all left : List Refusal) → left ≡ all → AreTold all → AreTold left
 all_told all left is told = subst AreTold (sym is) told
 
-pub one_refused : (all left more : List Refusal) (r : Refusal) (a b d : Option Output) → left ≡ r ∷ more
+pub one_refused : (all left more : List Refusal) (r : Refusal) (a b d : Known Output) → left ≡ r ∷ more
     → Outputs a b (IsSoFar all left) → Outputs b d (λ t. t ≡ line_of r) → Outputs a d (IsSoFar all more)
 one_refused all left more r a b d is so_far line =
     Outputs-then (IsSoFar all left) (λ t. t ≡ line_of r) (IsSoFar all more) a b d so_far line
     (λ x y e f. append_assoc x y (refused_text more) ∙ ap (λ l. x ++ (l ++ refused_text more)) f ∙ ap (λ l. x ++ refused_text l) (sym is) ∙ e)
 
-pub front_refused : (all left more : List Refusal) (r : Refusal) (a b d : Option Output) → left ≡ r ∷ more
+pub front_refused : (all left more : List Refusal) (r : Refusal) (a b d : Known Output) → left ≡ r ∷ more
     → Outputs a b (IsSoFar all left) → Outputs b d (IsFront (line_of r)) → Outputs a d (IsFront (refused_text all))
 front_refused all left more r a b d is so_far line =
     Outputs-then (IsSoFar all left) (IsFront (line_of r)) (IsFront (refused_text all)) a b d so_far line
@@ -41,7 +42,7 @@ front_refused all left more r a b d is so_far line =
           ∙ ap (λ l. x ++ l) (append_assoc y rest (refused_text more)) ∙ sym (append_assoc x y (rest ++ refused_text more)),
     ))
 
-pub all_refused : (all left : List Refusal) (a b : Option Output) → left ≡ [] → Outputs a b (IsSoFar all left) → Outputs a b (λ t. t ≡ refused_text all)
+pub all_refused : (all left : List Refusal) (a b : Known Output) → left ≡ [] → Outputs a b (IsSoFar all left) → Outputs a b (λ t. t ≡ refused_text all)
 all_refused all left a b is so_far =
     Outputs-weaker (IsSoFar all left) (λ t. t ≡ refused_text all) a b so_far (λ t e. sym (append-nil t) ∙ ap (λ l. t ++ refused_text l) (sym is) ∙ e)
 

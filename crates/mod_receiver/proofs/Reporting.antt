@@ -3,6 +3,7 @@ use Rattle.std.proofs.Common.{◌≡◌, ℕ, zero, suc, ◌≤◌, inl, inr, Bo
 use Rattle.std.specs.List.{filter}
 use Rattle.std.proofs.lemmas.List.{append-nil}
 use Rattle.circular_buffer.specs.Buffer.{keep_last}
+use Rattle.drm_links.specs.Told.{Known}
 use Rattle.drm_links.specs.Link.{Answer, Traffic}
 use Rattle.drm_links.specs.Sink.{Output, Outputs, IsFront}
 use Rattle.drm_links.proofs.ToldLemmas.{Outputs-then, Outputs-weaker}
@@ -33,7 +34,7 @@ use Rattle.mod_receiver.proofs.Reaching.{feeds_more, texts_join, front_joins}
 
 -- ---- texts behind one another
 
-pub text_then : (xs ys : List ℕ) (a b d : Option Output) → Outputs a b (λ x. x ≡ xs) → Outputs b d (λ x. x ≡ ys) → Outputs a d (λ x. x ≡ xs ++ ys)
+pub text_then : (xs ys : List ℕ) (a b d : Known Output) → Outputs a b (λ x. x ≡ xs) → Outputs b d (λ x. x ≡ ys) → Outputs a d (λ x. x ≡ xs ++ ys)
 text_then xs ys a b d p q =
     Outputs-then (λ x. x ≡ xs) (λ x. x ≡ ys) (λ x. x ≡ xs ++ ys) a b d p q (λ x y e f. ap (λ l. l ++ y) e ∙ ap (λ l. xs ++ l) f)
 
@@ -65,7 +66,7 @@ clean_is clean t steps taken h is =
 
 -- ---- all items were written
 
-pub record WroteItems (rules : Rules) (feed : ℕ) (before after : Option Traffic) (a b : Option Output) (t : Tallied) (word : EndWord) : Type 0 where
+pub record WroteItems (rules : Rules) (feed : ℕ) (before after : Known Traffic) (a b : Known Output) (t : Tallied) (word : EndWord) : Type 0 where
   pub answers : List Answer
   pub heard : Heard answers before after
   pub few : length answers ≤ most_answers rules
@@ -79,7 +80,7 @@ pub record WroteItems (rules : Rules) (feed : ℕ) (before after : Option Traffi
   pub tally : t ≡ tally_of steps taken
   pub text : Outputs a b (λ text. text ≡ feed_line feed ++ steps_text steps)
 
-pub wrote_items : (rules : Rules) (feed : ℕ) (before after : Option Traffic) (a0 a b d : Option Output) (c c' e : State) (f g : TrackerState) (t u : Tallied) (word : EndWord)
+pub wrote_items : (rules : Rules) (feed : ℕ) (before after : Known Traffic) (a0 a b d : Known Output) (c c' e : State) (f g : TrackerState) (t u : Tallied) (word : EndWord)
     → Outputs a0 a (λ x. x ≡ feed_line feed) → ReadsTo rules before after a b c f t word → items_in t.sums ≡ f.calls → c' ≡ after_finish c rules.frames
     → PrintsReady rules.frames c' e f g t u b d → WroteItems rules feed before after a0 d u word
 wrote_items rules feed before after a0 a b d c c' e f g t u word first read counted finished ready =
@@ -110,7 +111,7 @@ wrote_items rules feed before after a0 a b d c c' e f g t u word first read coun
     }
 
 -- the refusals that are shown are told of
-pub shown_told : (rules : Rules) (feed : ℕ) (before after : Option Traffic) (a b : Option Output) (t : Tallied) (word : EndWord)
+pub shown_told : (rules : Rules) (feed : ℕ) (before after : Known Traffic) (a b : Known Output) (t : Tallied) (word : EndWord)
     → WroteItems rules feed before after a b t word → AreTold t.refused
 shown_told rules feed before after a b t word w =
     subst (λ (u : Tallied). AreTold u.refused) (sym w.tally)
@@ -127,7 +128,7 @@ whole_is : (feed : ℕ) (steps : List FeedStep) (taken : List Taken) (word : End
     → ((feed_line feed ++ steps_text steps) ++ tail_of steps taken word) ≡ report feed steps (refusals taken) word
 whole_is feed steps taken word = append_assoc (feed_line feed) (steps_text steps) (tail_of steps taken word)
 
-report_of : (rules : Rules) (feed : ℕ) (before after : Option Traffic) (a b : Option Output) (t : Tallied) (word : EndWord) (w : WroteItems rules feed before after a b t word)
+report_of : (rules : Rules) (feed : ℕ) (before after : Known Traffic) (a b : Known Output) (t : Tallied) (word : EndWord) (w : WroteItems rules feed before after a b t word)
     → IsReport rules feed w.answers (report feed w.steps (refusals w.taken) word) (is_clean w.steps)
 report_of rules feed before after a b t word w = record {
   word = word;
@@ -142,7 +143,7 @@ report_of rules feed before after a b t word w = record {
   clean_is = refl;
 }
 
-pub reported : (rules : Rules) (feed : ℕ) (before after : Option Traffic) (a b d e : Option Output) (t : Tallied) (word : EndWord) (clean : Bool)
+pub reported : (rules : Rules) (feed : ℕ) (before after : Known Traffic) (a b d e : Known Output) (t : Tallied) (word : EndWord) (clean : Bool)
     → WroteItems rules feed before after a b t word → Outputs b d (λ x. x ≡ refused_text t.refused) → Outputs d e (λ x. x ≡ end_line word t.sums)
     → IsTrue clean ↔ ((t.sums.missing ≡ 0) × (t.sums.bad ≡ 0)) → Reported rules feed before after a e clean
 reported rules feed before after a b d e t word clean w refused last is =
@@ -162,7 +163,7 @@ reported rules feed before after a b d e t word clean w refused last is =
 -- ---- where it stops
 
 -- a front of the whole report was written
-front_of_whole : (rules : Rules) (feed : ℕ) (before after : Option Traffic) (a b e : Option Output) (t : Tallied) (word : EndWord) (w : WroteItems rules feed before after a b t word)
+front_of_whole : (rules : Rules) (feed : ℕ) (before after : Known Traffic) (a b e : Known Output) (t : Tallied) (word : EndWord) (w : WroteItems rules feed before after a b t word)
     → Outputs b e (IsFront (tail_of w.steps w.taken word)) → Stopped rules feed before after a e
 front_of_whole rules feed before after a b e t word w tail = record {
   answers = w.answers;
@@ -179,7 +180,7 @@ front_of_whole rules feed before after a b e t word w tail = record {
       ));
 }
 
-pub refused_front : (rules : Rules) (feed : ℕ) (before after : Option Traffic) (a b d : Option Output) (t : Tallied) (word : EndWord)
+pub refused_front : (rules : Rules) (feed : ℕ) (before after : Known Traffic) (a b d : Known Output) (t : Tallied) (word : EndWord)
     → WroteItems rules feed before after a b t word → Outputs b d (IsFront (refused_text t.refused)) → Stopped rules feed before after a d
 refused_front rules feed before after a b d t word w refused =
     front_of_whole rules feed before after a b d t word w
@@ -187,7 +188,7 @@ refused_front rules feed before after a b d t word w refused =
     (subst (λ (u : Tallied). Outputs b d (IsFront (refused_text u.refused))) w.tally refused)
     (λ x f. front_more (refused_text (keep_last 16 (refusals w.taken))) (end_line word (sums_of w.steps (refusals w.taken))) x f))
 
-pub end_front : (rules : Rules) (feed : ℕ) (before after : Option Traffic) (a b d e : Option Output) (t : Tallied) (word : EndWord)
+pub end_front : (rules : Rules) (feed : ℕ) (before after : Known Traffic) (a b d e : Known Output) (t : Tallied) (word : EndWord)
     → WroteItems rules feed before after a b t word → Outputs b d (λ x. x ≡ refused_text t.refused) → Outputs d e (IsFront (end_line word t.sums)) → Stopped rules feed before after a e
 end_front rules feed before after a b d e t word w refused last =
     front_of_whole rules feed before after a b e t word w
@@ -217,7 +218,7 @@ none_fed (Some zero) = refl
 none_fed (Some (suc n)) = refl
 
 -- nothing was read yet
-pub first_front : (rules : Rules) (feed : ℕ) (u : Option Traffic) (a b : Option Output) → Outputs a b (IsFront (feed_line feed)) → Stopped rules feed u u a b
+pub first_front : (rules : Rules) (feed : ℕ) (u : Known Traffic) (a b : Known Output) → Outputs a b (IsFront (feed_line feed)) → Stopped rules feed u u a b
 first_front rules feed u a b text = record {
   answers = [];
   heard = heard_none u;
@@ -227,7 +228,7 @@ first_front rules feed u a b text = record {
       (λ x f. inl (up_to rules.frames [], none_given rules, [], new_tracker, none_fed rules.frames, front_more (feed_line feed) [] x f));
 }
 
-reading_front : (rules : Rules) (feed : ℕ) (u v : Option Traffic) (a0 a b : Option Output) → Outputs a0 a (λ x. x ≡ feed_line feed) → ReadsFront rules u v a b → Stopped rules feed u v a0 b
+reading_front : (rules : Rules) (feed : ℕ) (u v : Known Traffic) (a0 a b : Known Output) → Outputs a0 a (λ x. x ≡ feed_line feed) → ReadsFront rules u v a b → Stopped rules feed u v a0 b
 reading_front rules feed u v a0 a b first read = record {
   answers = read.answers;
   heard = read.heard;
@@ -239,20 +240,20 @@ reading_front rules feed u v a0 a b first read = record {
 }
 
 -- the reading stopped by a write
-pub reading_stopped : (rules : Rules) (feed : ℕ) (u v : Option Traffic) (a0 a b : Option Output) (r : Result Bool Stop) (why : Stop)
+pub reading_stopped : (rules : Rules) (feed : ℕ) (u v : Known Traffic) (a0 a b : Known Output) (r : Result Bool Stop) (why : Stop)
     → r ≡ Err why → r ≡ Err stop.Write → Outputs a0 a (λ x. x ≡ feed_line feed) → StopsReading rules u v a b why → Stopped rules feed u v a0 b
 reading_stopped rules feed u v a0 a b r stop.Write is e first read = reading_front rules feed u v a0 a b first read
 reading_stopped rules feed u v a0 a b r stop.Link is e first read = absurd (let x : Err stop.Link ≡ Err stop.Write = sym is ∙ e in cc)
 reading_stopped rules feed u v a0 a b r stop.NoMemory is e first read = absurd read
 
 -- nothing that a reading wants is memory
-pub reading_takes_none : (rules : Rules) (u v : Option Traffic) (a b : Option Output) (r : Result Bool Stop) (why : Stop)
+pub reading_takes_none : (rules : Rules) (u v : Known Traffic) (a b : Known Output) (r : Result Bool Stop) (why : Stop)
     → r ≡ Err why → r ≡ Err stop.NoMemory → StopsReading rules u v a b why → ⊥
 reading_takes_none rules u v a b r stop.NoMemory is e read = read
 reading_takes_none rules u v a b r stop.Write is e read = let x : Err stop.Write ≡ Err stop.NoMemory = sym is ∙ e in cc
 reading_takes_none rules u v a b r stop.Link is e read = let x : Err stop.Link ≡ Err stop.NoMemory = sym is ∙ e in cc
 
-broken : (rules : Rules) (feed : ℕ) (u v : Option Traffic) (a0 a b : Option Output) → Outputs a0 a (λ x. x ≡ feed_line feed) → ReadsBroken rules u v a b → Broken rules feed u v a0 b
+broken : (rules : Rules) (feed : ℕ) (u v : Known Traffic) (a0 a b : Known Output) → Outputs a0 a (λ x. x ≡ feed_line feed) → ReadsBroken rules u v a b → Broken rules feed u v a0 b
 broken rules feed u v a0 a b first read = record {
   answers = read.answers;
   heard = read.heard;
@@ -274,14 +275,14 @@ broken rules feed u v a0 a b first read = record {
 }
 
 -- the reading stopped by the link
-pub reading_broken : (rules : Rules) (feed : ℕ) (u v : Option Traffic) (a0 a b : Option Output) (r : Result Bool Stop) (why : Stop)
+pub reading_broken : (rules : Rules) (feed : ℕ) (u v : Known Traffic) (a0 a b : Known Output) (r : Result Bool Stop) (why : Stop)
     → r ≡ Err why → r ≡ Err stop.Link → Outputs a0 a (λ x. x ≡ feed_line feed) → StopsReading rules u v a b why → Broken rules feed u v a0 b
 reading_broken rules feed u v a0 a b r stop.Link is e first read = broken rules feed u v a0 a b first read
 reading_broken rules feed u v a0 a b r stop.Write is e first read = absurd (let x : Err stop.Write ≡ Err stop.Link = sym is ∙ e in cc)
 reading_broken rules feed u v a0 a b r stop.NoMemory is e first read = absurd read
 
 -- what was ready at the end wasn't all written
-pub rest_front : (rules : Rules) (feed : ℕ) (u v : Option Traffic) (a0 a b d : Option Output) (c c' : State) (f : TrackerState) (t : Tallied) (word : EndWord)
+pub rest_front : (rules : Rules) (feed : ℕ) (u v : Known Traffic) (a0 a b d : Known Output) (c c' : State) (f : TrackerState) (t : Tallied) (word : EndWord)
     → Outputs a0 a (λ x. x ≡ feed_line feed) → ReadsTo rules u v a b c f t word → items_in t.sums ≡ f.calls → c' ≡ after_finish c rules.frames → PrintsFront rules.frames c' f b d → Stopped rules feed u v a0 d
 rest_front rules feed u v a0 a b d c c' f t word first read counted finished front =
     let s = read.so_far in

@@ -2,7 +2,7 @@
 use Rattle.std.specs.Prelude.{ℕ, ℤ, pos, ◌+ℤ◌, ◌≡◌, ◌*◌, ◌<◌, ◌⊎◌, Bool, true, List, [], ◌++◌, length, slice_get, Contains, Option, None, Some}
 use Rattle.drm_schedule.specs.declared.plan.Plan.{Plan}
 use Rattle.drm_schedule.specs.Valid.{IsSchedule}
-use Rattle.drm_links.specs.Told.{WhileTold}
+use Rattle.drm_links.specs.Told.{Known, WhileTold}
 use Rattle.drm_links.specs.Link.{Answer, Traffic}
 use Rattle.drm_links.specs.Sink.{Output, Outputs}
 use Rattle.drm_switches.specs.declared.tracker.Before.TheVariants.{Switch, Resumed}
@@ -85,12 +85,12 @@ abbrev pub Came : List Answer → Traffic → Traffic → Type 0
 Came answers before after = after.answers ≡ before.answers ++ answers
 
 -- THE HEADLINE for one link: whatever delivery of whatever valid schedule came over it, its report was written.
-abbrev pub Headline : Rules → ℕ → Option Traffic → Option Traffic → Option Output → Option Output → Bool → Type 0
+abbrev pub Headline : Rules → ℕ → Known Traffic → Known Traffic → Known Output → Known Output → Bool → Type 0
 Headline rules feed before after a b clean =
     WhileTold before after (λ x y. (answers : List Answer) → Came answers x y
     → Outputs a b (λ text. HeadlineOf rules feed answers text clean))
 
 -- Whatever was ahead of the link: where it held each frame in time, all of them were given.
-abbrev pub Complete : Rules → ℕ → Option Traffic → Option Traffic → Option Output → Option Output → Bool → Type 0
+abbrev pub Complete : Rules → ℕ → Known Traffic → Known Traffic → Known Output → Known Output → Bool → Type 0
 Complete rules feed before after a b clean =
     WhileTold before after (λ x y. Outputs a b (λ text. CompleteOf rules feed x.ahead text clean))

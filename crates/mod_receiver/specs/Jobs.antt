@@ -1,11 +1,11 @@
 -- Receivers side by side.
 use Rattle.std.specs.Prelude.{ℕ, ◌≡◌, ◌≤◌, ◌<◌, ◌+◌, IsTrue, not, All, Bool, true, false, List, [], slice_index_or, vec_len, Option, Some, IsSome, MatchOption}
-use Rattle.drm_links.specs.Told.{HasCause}
+use Rattle.drm_links.specs.Told.{Known, HasCause}
 use Rattle.drm_links.specs.Link.{Traffic}
 use Rattle.dcp_collect.specs.State.{made}
 use Rattle.drm_switches.specs.Tracker.{new_tracker}
 use Rattle.mod_receiver.specs.declared.rules.Rules.{Rules}
-use Rattle.mod_receiver.specs.Texts.{text_tells}
+use Rattle.mod_receiver.specs.Texts.{text_known}
 use Rattle.mod_receiver.specs.Received.{IsReasonable, EndsAs, rules_of}
 use Rattle.mod_receiver.specs.declared.receiver.Options.{Options}
 use Rattle.mod_receiver.specs.declared.receiver.Ended.{Ended}
@@ -22,7 +22,7 @@ pub record IsJob {L : Type 0} (rules : Rules) (number : ℕ) (job : Job L) : Typ
   pub options : job.options ≡ options_for rules number
   pub collector : job.collector ≡ made rules.window rules.first
   pub feed : job.feed ≡ new_tracker
-  pub text : text_tells job.text ≡ Some (record { written = []; calls = 0 })
+  pub text : (text_known job.text).told ≡ Some (record { written = []; calls = 0 })
 
 -- receivers with the numbers from 1 on
 abbrev pub AreJobs : {L : Type 0} → Rules → ℕ → List (Job L) → Type 0
@@ -41,12 +41,12 @@ abbrev pub job_rules : {L : Type 0} → Job L → Rules
 job_rules job = rules_of job.collector job.options
 
 -- The receiver ended as this says: its link, its text and the cause of its end are those of `receive_one`.
-pub record EndedAs {L : Type 0} (faults : L → ℕ) (tells : L → Option Traffic) (before after : Job L) (ended : Ended) : Type 0 where
-  pub ends : EndsAs (job_rules before) before.options.feed (tells before.link) (tells after.link) (text_tells before.text) (text_tells after.text) ended
-  pub link : HasCause (faults before.link) (faults after.link) (ended ≡ LinkFailed)
+pub record EndedAs {L : Type 0} (known : L → Known Traffic) (before after : Job L) (ended : Ended) : Type 0 where
+  pub ends : EndsAs (job_rules before) before.options.feed (known before.link) (known after.link) (text_known before.text) (text_known after.text) ended
+  pub link : HasCause (known before.link) (known after.link) (ended ≡ LinkFailed)
 
-abbrev pub HasEnded : {L : Type 0} → (L → ℕ) → (L → Option Traffic) → Job L → Job L → Type 0
-HasEnded faults tells before after = MatchOption after.ended ⊥ (EndedAs faults tells before after)
+abbrev pub HasEnded : {L : Type 0} → (L → Known Traffic) → Job L → Job L → Type 0
+HasEnded known before after = MatchOption after.ended ⊥ (EndedAs known before after)
 
 -- the text of a receiver
 abbrev pub text_of : {L : Type 0} → Job L → List ℕ
@@ -65,7 +65,7 @@ clean_of job = clean_by job.ended
 
 -- its report is whole, and its text is told
 abbrev pub IsDone : {L : Type 0} → Job L → Type 0
-IsDone job = (job.ended ≡ Some (Done (clean_of job))) × IsSome (text_tells job.text)
+IsDone job = (job.ended ≡ Some (Done (clean_of job))) × IsSome (text_known job.text).told
 
 -- no receiver's link failed
 abbrev pub NoneFailed : {L : Type 0} → List (Job L) → Type 0

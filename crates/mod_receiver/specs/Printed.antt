@@ -1,6 +1,7 @@
 -- What a receiver has written of what came so far.
 use Rattle.std.specs.Prelude.{ℕ, ◌≡◌, ◌≤◌, ◌+◌, ◌-◌, Bool, false, min, nat_le, List, [], ◌∷◌, length, Option, None, Some}
 use Rattle.circular_buffer.specs.Buffer.{keep_last}
+use Rattle.drm_links.specs.Told.{Known}
 use Rattle.drm_links.specs.Link.{Answer, Traffic}
 use Rattle.drm_links.specs.Sink.{Output, Outputs, IsFront}
 use Rattle.dcp_collect.specs.declared.taken.Taken.{Taken}
@@ -53,14 +54,14 @@ pub record KeepsPace (told : Option ℕ) (c : State) (f : TrackerState) (t : Tal
   pub items : items_in t.sums ≡ f.calls
 
 -- the items were given to the feed and counted, up to the told number, and their lines were written
-pub record Prints (told : Option ℕ) (f f' : TrackerState) (t t' : Tallied) (a b : Option Output) (items : List Item) : Type 0 where
+pub record Prints (told : Option ℕ) (f f' : TrackerState) (t t' : Tallied) (a b : Known Output) (items : List Item) : Type 0 where
   pub steps : List FeedStep
   pub feeds : Feeds f (up_to (left_of told f.calls) items) steps f'
   pub tally : t' ≡ with_steps t steps
   pub text : Outputs a b (λ text. text ≡ steps_text steps)
 
 -- What is ready was written, up to the told number. Where that isn't reached, nothing more is ready.
-pub record PrintsReady (told : Option ℕ) (c d : State) (f f' : TrackerState) (t t' : Tallied) (a b : Option Output) : Type 0 where
+pub record PrintsReady (told : Option ℕ) (c d : State) (f f' : TrackerState) (t t' : Tallied) (a b : Known Output) : Type 0 where
   pub items : List Item
   pub last : State
   pub gives : Gives c items last
@@ -69,7 +70,7 @@ pub record PrintsReady (told : Option ℕ) (c d : State) (f f' : TrackerState) (
   pub drained : is_full told (items_in t'.sums) ≡ false → d ≡ last
 
 -- a front of the lines of some first items that are ready was written
-pub record PrintsFront (told : Option ℕ) (c : State) (f : TrackerState) (a b : Option Output) : Type 0 where
+pub record PrintsFront (told : Option ℕ) (c : State) (f : TrackerState) (a b : Known Output) : Type 0 where
   pub items : List Item
   pub gives : GivesFirst c items
   pub steps : List FeedStep
@@ -78,21 +79,21 @@ pub record PrintsFront (told : Option ℕ) (c : State) (f : TrackerState) (a b :
   pub text : Outputs a b (IsFront (steps_text steps))
 
 -- a datagram was taken and noted, and what it made ready was written
-pub record PrintsTaken (told : Option ℕ) (number : ℕ) (bytes : List ℕ) (c d : State) (f f' : TrackerState) (t t' : Tallied) (a b : Option Output) : Type 0 where
+pub record PrintsTaken (told : Option ℕ) (number : ℕ) (bytes : List ℕ) (c d : State) (f f' : TrackerState) (t t' : Tallied) (a b : Known Output) : Type 0 where
   pub answer : Taken
   pub kept : State
   pub takes : Takes c bytes answer kept
   pub ready : PrintsReady told kept d f f' (noted t number answer) t' a b
 
 -- a datagram was taken, and a front of what it made ready was written
-pub record TakesFront (told : Option ℕ) (bytes : List ℕ) (c : State) (f : TrackerState) (a b : Option Output) : Type 0 where
+pub record TakesFront (told : Option ℕ) (bytes : List ℕ) (c : State) (f : TrackerState) (a b : Known Output) : Type 0 where
   pub answer : Taken
   pub kept : State
   pub takes : Takes c bytes answer kept
   pub front : PrintsFront told kept f a b
 
 -- The reading has come so far: these answers came, and what was ready was written.
-pub record SoFar (rules : Rules) (before after : Option Traffic) (a b : Option Output) (c : State) (f : TrackerState) (t : Tallied) (answers : List Answer) : Type 0 where
+pub record SoFar (rules : Rules) (before after : Known Traffic) (a b : Known Output) (c : State) (f : TrackerState) (t : Tallied) (answers : List Answer) : Type 0 where
   pub heard : Heard answers before after
   pub goes_on : GoesOn rules answers
   pub taken : List Taken
@@ -104,7 +105,7 @@ pub record SoFar (rules : Rules) (before after : Option Traffic) (a b : Option O
   pub text : Outputs a b (λ text. text ≡ steps_text steps)
 
 -- The reading is finished, for this reason. Where the told number isn't reached, nothing more is ready.
-pub record ReadsTo (rules : Rules) (before after : Option Traffic) (a b : Option Output) (c : State) (f : TrackerState) (t : Tallied) (word : EndWord) : Type 0 where
+pub record ReadsTo (rules : Rules) (before after : Known Traffic) (a b : Known Output) (c : State) (f : TrackerState) (t : Tallied) (word : EndWord) : Type 0 where
   pub answers : List Answer
   pub mid : State
   pub so_far : SoFar rules before after a b mid f t answers
@@ -114,7 +115,7 @@ pub record ReadsTo (rules : Rules) (before after : Option Traffic) (a b : Option
   pub ends : EndsBy rules answers word
 
 -- the reading ended in `Failed`, and what was given before was written
-pub record ReadsBroken (rules : Rules) (before after : Option Traffic) (a b : Option Output) : Type 0 where
+pub record ReadsBroken (rules : Rules) (before after : Known Traffic) (a b : Known Output) : Type 0 where
   pub answers : List Answer
   pub heard : Heard answers before after
   pub few : length answers ≤ most_answers rules
@@ -130,7 +131,7 @@ pub record ReadsBroken (rules : Rules) (before after : Option Traffic) (a b : Op
   pub text : Outputs a b (λ text. text ≡ steps_text steps)
 
 -- the reading stopped, and a front of the lines of some first items was written
-pub record ReadsFront (rules : Rules) (before after : Option Traffic) (a b : Option Output) : Type 0 where
+pub record ReadsFront (rules : Rules) (before after : Known Traffic) (a b : Known Output) : Type 0 where
   pub answers : List Answer
   pub heard : Heard answers before after
   pub few : length answers ≤ most_answers rules
@@ -143,7 +144,7 @@ pub record ReadsFront (rules : Rules) (before after : Option Traffic) (a b : Opt
   pub text : Outputs a b (IsFront (steps_text steps))
 
 -- what stops a reading
-abbrev pub StopsReading : Rules → Option Traffic → Option Traffic → Option Output → Option Output → Stop → Type 0
+abbrev pub StopsReading : Rules → Known Traffic → Known Traffic → Known Output → Known Output → Stop → Type 0
 StopsReading rules before after a b stop.Link = ReadsBroken rules before after a b
 StopsReading rules before after a b stop.Write = ReadsFront rules before after a b
 StopsReading rules before after a b stop.NoMemory = ⊥

@@ -1,5 +1,6 @@
 -- What a receiver does.
 use Rattle.std.specs.Prelude.{ℕ, ◌≡◌, ◌≤◌, ◌<◌, ◌⊎◌, Bool, true, IfSome, List, [], ◌∷◌, ◌++◌, length, Option}
+use Rattle.drm_links.specs.Told.{Known}
 use Rattle.drm_links.specs.Link.{Answer, Datagram, Traffic}
 use Rattle.drm_links.specs.Sink.{Output, Outputs, IsFront}
 use Rattle.dcp_collect.specs.declared.taken.Taken.{Taken}
@@ -79,7 +80,7 @@ IsReportFront rules feed answers text =
     ⊎ ((whole : List ℕ) × (clean : Bool) × IsReport rules feed answers whole clean × IsFront whole text)
 
 -- The reading was finished, and the report of what was read was written.
-pub record Reported (rules : Rules) (feed : ℕ) (before after : Option Traffic) (a b : Option Output) (clean : Bool) : Type 0 where
+pub record Reported (rules : Rules) (feed : ℕ) (before after : Known Traffic) (a b : Known Output) (clean : Bool) : Type 0 where
   pub answers : List Answer
   pub heard : Heard answers before after
   pub few : length answers ≤ most_answers rules
@@ -88,7 +89,7 @@ pub record Reported (rules : Rules) (feed : ℕ) (before after : Option Traffic)
   pub text : Outputs a b (λ text. text ≡ whole)
 
 -- The reading ended in `Failed`, and what was given before was written.
-pub record Broken (rules : Rules) (feed : ℕ) (before after : Option Traffic) (a b : Option Output) : Type 0 where
+pub record Broken (rules : Rules) (feed : ℕ) (before after : Known Traffic) (a b : Known Output) : Type 0 where
   pub answers : List Answer
   pub heard : Heard answers before after
   pub few : length answers ≤ most_answers rules
@@ -97,7 +98,7 @@ pub record Broken (rules : Rules) (feed : ℕ) (before after : Option Traffic) (
   pub text : Outputs a b (λ text. text ≡ whole)
 
 -- A write failed: nothing shorter than what was read is finished, and a front of its report was written.
-pub record Stopped (rules : Rules) (feed : ℕ) (before after : Option Traffic) (a b : Option Output) : Type 0 where
+pub record Stopped (rules : Rules) (feed : ℕ) (before after : Known Traffic) (a b : Known Output) : Type 0 where
   pub answers : List Answer
   pub heard : Heard answers before after
   pub few : length answers ≤ most_answers rules
@@ -117,7 +118,7 @@ pub record IsReasonable (options : Options) : Type 0 where
   pub few_frames : IfSome options.frames (λ n. n ≤ 3000000)
 
 -- what each ending says; memory is wanted before anything is read or written
-abbrev pub EndsAs : Rules → ℕ → Option Traffic → Option Traffic → Option Output → Option Output → Ended → Type 0
+abbrev pub EndsAs : Rules → ℕ → Known Traffic → Known Traffic → Known Output → Known Output → Ended → Type 0
 EndsAs rules feed before after a b (Done clean) = Reported rules feed before after a b clean
 EndsAs rules feed before after a b LinkFailed = Broken rules feed before after a b
 EndsAs rules feed before after a b WriteFailed = Stopped rules feed before after a b

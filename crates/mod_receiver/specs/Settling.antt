@@ -1,6 +1,7 @@
 -- What becomes of receivers that ended.
 use Rattle.std.specs.Prelude.{ℕ, ◌≡◌, ◌↔◌, IsTrue, All, Bool, List, Option, Result, Ok, Err}
 use Rattle.std.specs.List.{flat_map}
+use Rattle.drm_links.specs.Told.{Known}
 use Rattle.drm_links.specs.Sink.{Output, Outputs, IsFront}
 use Rattle.mod_receiver.specs.declared.stop.Stop.{Stop}
 use Rattle.mod_receiver.specs.declared.stop.Stop.TheVariants as stops
@@ -12,10 +13,10 @@ abbrev pub job_texts : {L : Type 0} → List (Job L) → List ℕ
 job_texts jobs = flat_map (λ job. text_of job) jobs
 
 -- Where all are done their texts are written, or a front of them; where a link failed or memory ran out, nothing.
-abbrev pub Settles : {L O : Type 0} → List (Job L) → Result Bool Stop → (O → Option Output) → O → O → Type 0
-Settles jobs (Ok clean) tells out out' =
-    All IsDone jobs × Outputs (tells out) (tells out') (λ text. text ≡ job_texts jobs)
+abbrev pub Settles : {L O : Type 0} → List (Job L) → Result Bool Stop → (O → Known Output) → O → O → Type 0
+Settles jobs (Ok clean) known out out' =
+    All IsDone jobs × Outputs (known out) (known out') (λ text. text ≡ job_texts jobs)
     × (IsTrue clean ↔ All (λ job. IsTrue (clean_of job)) jobs)
-Settles jobs (Err stops.Write) tells out out' = All IsDone jobs × Outputs (tells out) (tells out') (IsFront (job_texts jobs))
-Settles jobs (Err stops.Link) tells out out' = (NoneFailed jobs → ⊥) × (out' ≡ out)
-Settles jobs (Err stops.NoMemory) tells out out' = out' ≡ out
+Settles jobs (Err stops.Write) known out out' = All IsDone jobs × Outputs (known out) (known out') (IsFront (job_texts jobs))
+Settles jobs (Err stops.Link) known out out' = (NoneFailed jobs → ⊥) × (out' ≡ out)
+Settles jobs (Err stops.NoMemory) known out out' = out' ≡ out

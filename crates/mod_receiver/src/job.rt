@@ -1,9 +1,9 @@
 //! Receivers side by side.
 
-ghost use Rattle.std.specs.Prelude.{ℕ, ◌≡◌, ◌<◌, ◌≤◌, ◌↔◌, IsTrue, not, length, vec_len, slice_index_or, All, IfOk, OnOk, OnErr, IsErr};
+ghost use Rattle.std.specs.Prelude.{ℕ, ◌≡◌, ◌<◌, ◌≤◌, ◌↔◌, IsTrue, not, length, vec_len, slice_index_or, All, IfOk};
 ghost use Rattle.std.specs.List.{flat_map};
 ghost use Rattle.drm_links.specs.Told.{HasCause};
-ghost use Rattle.drm_links.specs.Sink.{Outputs, IsFront};
+ghost use Rattle.drm_links.specs.Sink.{Writes};
 ghost use Rattle.mod_receiver.specs.Jobs.{IsJob, IsReady, HasEnded, IsDone, is_failed, clean_of, text_of, job_rules};
 ghost use Rattle.mod_receiver.specs.Received.{EndsAs};
 
@@ -70,7 +70,7 @@ fn room(alloc: Global, len: usize) -> Result<Vec<u8>, NoMemory>
 
 fn run_one<L: Link>(alloc: Global, job: &mut Job<L>)
     requires { IsReady job.old }
-    ensures { HasEnded L.faults L.tells job.old job.new }
+    ensures { HasEnded L.known job.old job.new }
 {
     let ended = receive_one(
         alloc,
@@ -88,10 +88,10 @@ fn run_one<L: Link>(alloc: Global, job: &mut Job<L>)
 pub fn run_live<L: Link, O: Sink>(alloc: Global, job: &mut Job<L>, out: &mut O) -> Ended
     requires { IsReady job.old }
     ensures ended { EndsAs (job_rules job.old) job.old.options.feed
-        (L.tells job.old.link) (L.tells job.new.link) (O.tells out.old) (O.tells out.new) result }
+        (L.known job.old.link) (L.known job.new.link) (O.known out.old) (O.known out.new) result }
     ensures memory { result ≡ Ended.NoMemory → out.new ≡ out.old }
-    ensures link { HasCause (L.faults job.old.link) (L.faults job.new.link) (result ≡ Ended.LinkFailed) }
-    ensures write { HasCause (O.faults out.old) (O.faults out.new) (result ≡ Ended.WriteFailed) }
+    ensures link { HasCause (L.known job.old.link) (L.known job.new.link) (result ≡ Ended.LinkFailed) }
+    ensures write { HasCause (O.known out.old) (O.known out.new) (result ≡ Ended.WriteFailed) }
 {
     receive_one(
         alloc,
@@ -107,7 +107,7 @@ pub fn run_live<L: Link, O: Sink>(alloc: Global, job: &mut Job<L>, out: &mut O) 
 /// Runs all receivers, in threads.
 pub fn run_all<R: Threads + Sync, L: Link + Send>(rt: &R, alloc: Global, jobs: &mut [Job<L>])
     requires { All IsReady jobs.old }
-    ensures { (k : ℕ) (d : _) → k < length jobs.old → HasEnded L.faults L.tells (slice_index_or jobs.old k d) (slice_index_or jobs.new k d) }
+    ensures { (k : ℕ) (d : _) → k < length jobs.old → HasEnded L.known (slice_index_or jobs.old k d) (slice_index_or jobs.new k d) }
 {
     thread::for_each_mut(rt, jobs, MOST_THREADS, &|_, job| run_one(alloc, job));
 }
@@ -159,9 +159,7 @@ fn is_clean<L: Link>(job: &Job<L>) -> bool
 
 /// Writes the texts of all receivers, in their order.
 pub(crate) fn write_texts<L: Link, O: Sink>(jobs: &[Job<L>], out: &mut O) -> Result<(), WriteFault>
-    ensures whole { OnOk result (Outputs (O.tells out.old) (O.tells out.new) (λ text. text ≡ flat_map (λ job. text_of job) jobs.now)) }
-    ensures front { OnErr result (Outputs (O.tells out.old) (O.tells out.new) (IsFront (flat_map (λ job. text_of job) jobs.now))) }
-    ensures cause { HasCause (O.faults out.old) (O.faults out.new) (IsErr result) }
+    ensures { Writes result (O.known out.old) (O.known out.new) (flat_map (λ job. text_of job) jobs.now) }
 {
     for job in jobs {
         write_all(out, job.text.bytes())?;

@@ -1,7 +1,7 @@
 //! Room for the lines of an item, as a sink.
 
 ghost use Rattle.std.specs.Prelude.{◌≡◌, ◌↔◌, [], Some, IsSome, IfSome};
-ghost use Rattle.mod_receiver.specs.Texts.{lines_tell};
+ghost use Rattle.mod_receiver.specs.Texts.{lines_known};
 
 use crate::text::MOST_CALLS;
 use drm_bits::NoMemory;
@@ -43,7 +43,7 @@ impl Lines {
 
     /// Takes out what lies in it.
     pub fn clear(&mut self)
-        ensures { lines_tell self.new ≡ Some (record { written = []; calls = 0 }) }
+        ensures { (lines_known self.new).told ≡ Some (record { written = []; calls = 0 }) }
     {
         self.bytes.clear();
         self.calls = 0;
@@ -51,7 +51,7 @@ impl Lines {
 
     /// What lies in it, where it still tells that.
     pub fn text(&self) -> Option<&[u8]>
-        ensures told { IsSome result ↔ IsSome (lines_tell self.now) }
+        ensures told { IsSome result ↔ IsSome (lines_known self.now).told }
         ensures text { IfSome result (λ text. text.now ≡ self.now.bytes) }
     {
         if self.calls <= MOST_CALLS {
@@ -63,9 +63,7 @@ impl Lines {
 }
 
 impl Sink for Lines {
-    ghost faults = { λ lines. lines.faults };
-
-    ghost tells = { lines_tell };
+    ghost known = { lines_known };
 
     fn write(&mut self, bytes: &[u8]) -> WriteOut {
         self.calls = self.calls.saturating_add(1);

@@ -33,11 +33,11 @@ fn drain<O: Sink>(
     ensures fit { OnOk result (IsFit collector.new) }
     ensures pace { OnOk result (KeepsPace told collector.new feed.new tally.new) }
     ensures ready { OnOk result (PrintsReady told collector.old collector.new feed.old feed.new
-        tally.old tally.new (O.tells out.old) (O.tells out.new)) }
+        tally.old tally.new (O.known out.old) (O.known out.new)) }
     ensures front { OnErr result (PrintsFront told collector.old feed.old
-        (O.tells out.old) (O.tells out.new)) }
+        (O.known out.old) (O.known out.new)) }
     ensures end { collector.new.end ≡ collector.old.end }
-    ensures cause { HasCause (O.faults out.old) (O.faults out.new) (IsErr result) }
+    ensures cause { HasCause (O.known out.old) (O.known out.new) (IsErr result) }
 {
     while !is_full(tally, told) {
         let Some(given) = collector.next() else {
@@ -80,11 +80,11 @@ fn take<O: Sink>(
     ensures fit { OnOk result (IsFit collector.new) }
     ensures pace { OnOk result (KeepsPace told collector.new feed.new tally.new) }
     ensures taken { OnOk result (PrintsTaken told number datagram.now collector.old collector.new
-        feed.old feed.new tally.old tally.new (O.tells out.old) (O.tells out.new)) }
+        feed.old feed.new tally.old tally.new (O.known out.old) (O.known out.new)) }
     ensures end { collector.new.end ≡ collector.old.end }
     ensures front { OnErr result (TakesFront told datagram.now collector.old feed.old
-        (O.tells out.old) (O.tells out.new)) }
-    ensures cause { HasCause (O.faults out.old) (O.faults out.new) (IsErr result) }
+        (O.known out.old) (O.known out.new)) }
+    ensures cause { HasCause (O.known out.old) (O.known out.new) (IsErr result) }
 {
     let taken = collector.take(datagram);
     tally.note(number, taken);
@@ -111,12 +111,12 @@ fn read_all<L: Link, O: Sink>(
     ensures pace { IfOk result (λ _. KeepsPace options.now.frames collector.new feed.new tally.new) }
     ensures end { IfOk result (λ _. collector.new.end ≡ None) }
     ensures finished { IfOk result (ReadsTo (rules_of collector.old options.now)
-        (L.tells link.old) (L.tells link.new) (O.tells out.old) (O.tells out.new)
+        (L.known link.old) (L.known link.new) (O.known out.old) (O.known out.new)
         collector.new feed.new tally.new) }
     ensures stopped { IfErr result (StopsReading (rules_of collector.old options.now)
-        (L.tells link.old) (L.tells link.new) (O.tells out.old) (O.tells out.new)) }
-    ensures link { HasCause (L.faults link.old) (L.faults link.new) (result ≡ Err Stop.Link) }
-    ensures write { HasCause (O.faults out.old) (O.faults out.new) (result ≡ Err Stop.Write) }
+        (L.known link.old) (L.known link.new) (O.known out.old) (O.known out.new)) }
+    ensures link { HasCause (L.known link.old) (L.known link.new) (result ≡ Err Stop.Link) }
+    ensures write { HasCause (O.known out.old) (O.known out.new) (result ≡ Err Stop.Write) }
 {
     let mut taken = 0u32;
     let mut idles = 0u32;
@@ -169,14 +169,14 @@ pub(crate) fn write_report<L: Link, O: Sink>(
     requires collector { collector.old ≡ made collector.old.window collector.old.first }
     requires feed { feed.old ≡ new_tracker }
     ensures finished { IfOk result (Reported (rules_of collector.old options.now) options.now.feed
-        (L.tells link.old) (L.tells link.new) (O.tells out.old) (O.tells out.new)) }
+        (L.known link.old) (L.known link.new) (O.known out.old) (O.known out.new)) }
     ensures broken { result ≡ Err Stop.Link → Broken (rules_of collector.old options.now) options.now.feed
-        (L.tells link.old) (L.tells link.new) (O.tells out.old) (O.tells out.new) }
+        (L.known link.old) (L.known link.new) (O.known out.old) (O.known out.new) }
     ensures front { result ≡ Err Stop.Write → Stopped (rules_of collector.old options.now) options.now.feed
-        (L.tells link.old) (L.tells link.new) (O.tells out.old) (O.tells out.new) }
+        (L.known link.old) (L.known link.new) (O.known out.old) (O.known out.new) }
     ensures memory { result ≡ Err Stop.NoMemory → (link.new ≡ link.old) × (out.new ≡ out.old) }
-    ensures link { HasCause (L.faults link.old) (L.faults link.new) (result ≡ Err Stop.Link) }
-    ensures write { HasCause (O.faults out.old) (O.faults out.new) (result ≡ Err Stop.Write) }
+    ensures link { HasCause (L.known link.old) (L.known link.new) (result ≡ Err Stop.Link) }
+    ensures write { HasCause (O.known out.old) (O.known out.new) (result ≡ Err Stop.Write) }
 {
     let mut tally = Tally::new(alloc)?;
     write_feed(out, options.feed)?;

@@ -56,17 +56,17 @@ pub fn receive_one<L: Link, O: Sink>(
     requires feed { feed.old ≡ new_tracker }
     // What was read of the link, and what was written of it.
     ensures ended { EndsAs (rules_of collector.old options.now) options.now.feed
-        (L.tells link.old) (L.tells link.new) (O.tells out.old) (O.tells out.new) result }
+        (L.known link.old) (L.known link.new) (O.known out.old) (O.known out.new) result }
     // Whatever delivery of whatever valid schedule came, its report was written; and where each frame was in time, all
     // frames were given.
     ensures headline { IfDone (Headline (rules_of collector.old options.now) options.now.feed
-        (L.tells link.old) (L.tells link.new) (O.tells out.old) (O.tells out.new)) result }
+        (L.known link.old) (L.known link.new) (O.known out.old) (O.known out.new)) result }
     ensures complete { IfDone (Complete (rules_of collector.old options.now) options.now.feed
-        (L.tells link.old) (L.tells link.new) (O.tells out.old) (O.tells out.new)) result }
+        (L.known link.old) (L.known link.new) (O.known out.old) (O.known out.new)) result }
     // All memory is taken before anything is read or written.
     ensures memory { result ≡ Ended.NoMemory → (link.new ≡ link.old) × (out.new ≡ out.old) }
-    ensures link { HasCause (L.faults link.old) (L.faults link.new) (result ≡ Ended.LinkFailed) }
-    ensures write { HasCause (O.faults out.old) (O.faults out.new) (result ≡ Ended.WriteFailed) }
+    ensures link { HasCause (L.known link.old) (L.known link.new) (result ≡ Ended.LinkFailed) }
+    ensures write { HasCause (O.known out.old) (O.known out.new) (result ≡ Ended.WriteFailed) }
 {
     reports_follow();
     match write_report(alloc, collector, feed, link, options, buffer, out) {

@@ -10,8 +10,8 @@ use drm_links::{Link, Sink};
 
 /// Writes the reports of receivers that ended, unless one of them failed.
 pub fn settle<L: Link, O: Sink>(jobs: &[Job<L>], out: &mut O) -> Result<bool, Stop>
-    ensures settles { Settles jobs.now result O.tells out.old out.new }
-    ensures cause { HasCause (O.faults out.old) (O.faults out.new) (result ≡ Err Stop.Write) }
+    ensures settles { Settles jobs.now result O.known out.old out.new }
+    ensures cause { HasCause (O.known out.old) (O.known out.new) (result ≡ Err Stop.Write) }
 {
     if !none_failed(jobs) {
         return Err(Stop::Link);

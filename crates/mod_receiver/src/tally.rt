@@ -1,10 +1,9 @@
 //! What a report tells behind its items: how many there were of each kind, and which datagrams were refused; and the
 //! writing of an item.
 
-ghost use Rattle.std.specs.Prelude.{◌≡◌, ◌+◌, ◌≤◌, ◌<◌, ◌^◌, ◌↔◌, IsTrue, OnOk, OnErr, IsErr, IfOk, IfSome, length};
+ghost use Rattle.std.specs.Prelude.{◌≡◌, ◌+◌, ◌<◌, ◌^◌, ◌↔◌, IsTrue, IfOk};
 ghost use Rattle.std.specs.List.{AllByRecursion};
-ghost use Rattle.drm_links.specs.Told.{HasCause};
-ghost use Rattle.drm_links.specs.Sink.{Outputs, IsFront};
+ghost use Rattle.drm_links.specs.Sink.{Writes};
 ghost use Rattle.drm_show.specs.FaultWords.{IsTold};
 ghost use Rattle.drm_show.specs.Report.{end_line, step_text};
 ghost use Rattle.mod_feed.specs.Items.{item_of, IsRead};
@@ -118,9 +117,7 @@ impl Tally {
     pub fn write_item<O: Sink>(&mut self, out: &mut O, step: &Step<'_>) -> Result<(), WriteFault>
         requires { IsRead step.now.item }
         ensures same { self.new ≡ self.old }
-        ensures whole { OnOk result (Outputs (O.tells out.old) (O.tells out.new) (λ text. text ≡ step_text (step_of step.now))) }
-        ensures front { OnErr result (Outputs (O.tells out.old) (O.tells out.new) (IsFront (step_text (step_of step.now)))) }
-        ensures cause { HasCause (O.faults out.old) (O.faults out.new) (IsErr result) }
+        ensures writes { Writes result (O.known out.old) (O.known out.new) (step_text (step_of step.now)) }
     {
         self.lines.clear();
         let Ok(()) = write_step(&mut self.lines, step) else {
@@ -135,9 +132,7 @@ impl Tally {
     /// Writes the lines of the last refusals.
     pub fn write_refused<O: Sink>(&self, out: &mut O) -> Result<(), WriteFault>
         requires { AllByRecursion (λ r. IsTold r.taken) self.now.refused }
-        ensures whole { OnOk result (Outputs (O.tells out.old) (O.tells out.new) (λ text. text ≡ refused_text self.now.refused)) }
-        ensures front { OnErr result (Outputs (O.tells out.old) (O.tells out.new) (IsFront (refused_text self.now.refused))) }
-        ensures cause { HasCause (O.faults out.old) (O.faults out.new) (IsErr result) }
+        ensures { Writes result (O.known out.old) (O.known out.new) (refused_text self.now.refused) }
     {
         for refusal in &self.refused {
             write_refused(out, refusal.number, &refusal.taken)?;
@@ -147,9 +142,7 @@ impl Tally {
 
     /// Writes the last line.
     pub fn write_end<O: Sink>(&self, out: &mut O, word: EndWord) -> Result<(), WriteFault>
-        ensures whole { OnOk result (Outputs (O.tells out.old) (O.tells out.new) (λ text. text ≡ end_line word self.now.sums)) }
-        ensures front { OnErr result (Outputs (O.tells out.old) (O.tells out.new) (IsFront (end_line word self.now.sums))) }
-        ensures cause { HasCause (O.faults out.old) (O.faults out.new) (IsErr result) }
+        ensures { Writes result (O.known out.old) (O.known out.new) (end_line word self.now.sums) }
     {
         write_end(out, word, &self.sums)
     }

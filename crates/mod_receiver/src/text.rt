@@ -1,7 +1,7 @@
 //! A text that grows, as a sink.
 
 ghost use Rattle.std.specs.Prelude.{◌≡◌, ◌↔◌, [], Some, IsTrue, IsSome};
-ghost use Rattle.mod_receiver.specs.Texts.{text_tells};
+ghost use Rattle.mod_receiver.specs.Texts.{text_known};
 
 use drm_links::{Sink, WriteOut};
 use std::alloc::Global;
@@ -19,7 +19,7 @@ pub(crate) const MOST_CALLS: u64 = 1 << 62;
 
 impl Text {
     pub fn new(alloc: Global) -> Text
-        ensures { text_tells result ≡ Some (record { written = []; calls = 0 }) }
+        ensures { (text_known result).told ≡ Some (record { written = []; calls = 0 }) }
     {
         Text {
             bytes: Vec::new(alloc),
@@ -30,7 +30,7 @@ impl Text {
 
     /// Whether it still tells what was written.
     pub fn is_told(&self) -> bool
-        ensures { IsTrue result ↔ IsSome (text_tells self.now) }
+        ensures { IsTrue result ↔ IsSome (text_known self.now).told }
     {
         self.calls <= MOST_CALLS
     }
@@ -43,9 +43,7 @@ impl Text {
 }
 
 impl Sink for Text {
-    ghost faults = { λ text. text.faults };
-
-    ghost tells = { text_tells };
+    ghost known = { text_known };
 
     fn write(&mut self, bytes: &[u8]) -> WriteOut {
         self.calls = self.calls.saturating_add(1);

@@ -1,9 +1,8 @@
 //! Texts in pieces to a sink.
 
-ghost use Rattle.std.specs.Prelude.{◌≡◌, ◌≤◌, length, OnOk, OnErr, IsErr};
+ghost use Rattle.std.specs.Prelude.{◌≤◌, length};
 ghost use Rattle.hex.specs.Hex.{encode_lower};
-ghost use Rattle.drm_links.specs.Told.{HasCause};
-ghost use Rattle.drm_links.specs.Sink.{Outputs, IsFront};
+ghost use Rattle.drm_links.specs.Sink.{Writes};
 ghost use Rattle.text_pieces.specs.Text.{piece_text, text_of};
 
 use crate::piece::Piece;
@@ -15,11 +14,7 @@ const AT_ONCE: usize = 64;
 
 /// Writes the texts of the pieces, one after another.
 pub fn write_pieces<O: Sink>(out: &mut O, pieces: &[Piece<'_>]) -> Result<(), WriteFault>
-    ensures whole { OnOk result (Outputs (O.tells out.old) (O.tells out.new)
-        (λ text. text ≡ text_of pieces.now)) }
-    ensures front { OnErr result (Outputs (O.tells out.old) (O.tells out.new)
-        (IsFront (text_of pieces.now))) }
-    ensures cause { HasCause (O.faults out.old) (O.faults out.new) (IsErr result) }
+    ensures { Writes result (O.known out.old) (O.known out.new) (text_of pieces.now) }
 {
     for piece in pieces {
         write_piece(out, *piece)?;
@@ -29,11 +24,7 @@ pub fn write_pieces<O: Sink>(out: &mut O, pieces: &[Piece<'_>]) -> Result<(), Wr
 
 /// Writes the text of a piece.
 pub fn write_piece<O: Sink>(out: &mut O, piece: Piece<'_>) -> Result<(), WriteFault>
-    ensures whole { OnOk result (Outputs (O.tells out.old) (O.tells out.new)
-        (λ text. text ≡ piece_text piece.entry)) }
-    ensures front { OnErr result (Outputs (O.tells out.old) (O.tells out.new)
-        (IsFront (piece_text piece.entry))) }
-    ensures cause { HasCause (O.faults out.old) (O.faults out.new) (IsErr result) }
+    ensures { Writes result (O.known out.old) (O.known out.new) (piece_text piece.entry) }
 {
     match piece {
         Piece::Words(text) => write_all(out, text.as_bytes()),
@@ -45,11 +36,7 @@ pub fn write_piece<O: Sink>(out: &mut O, piece: Piece<'_>) -> Result<(), WriteFa
 
 /// Writes bytes in hex, two digits each.
 pub fn write_hex<O: Sink>(out: &mut O, bytes: &[u8]) -> Result<(), WriteFault>
-    ensures whole { OnOk result (Outputs (O.tells out.old) (O.tells out.new)
-        (λ text. text ≡ encode_lower bytes.now)) }
-    ensures front { OnErr result (Outputs (O.tells out.old) (O.tells out.new)
-        (IsFront (encode_lower bytes.now))) }
-    ensures cause { HasCause (O.faults out.old) (O.faults out.new) (IsErr result) }
+    ensures { Writes result (O.known out.old) (O.known out.new) (encode_lower bytes.now) }
 {
     let mut rest = bytes;
     while !rest.is_empty() {
@@ -63,11 +50,7 @@ pub fn write_hex<O: Sink>(out: &mut O, bytes: &[u8]) -> Result<(), WriteFault>
 // Writes the digits of a few bytes in one call.
 fn write_digits<O: Sink>(out: &mut O, bytes: &[u8]) -> Result<(), WriteFault>
     requires { length bytes.now ≤ 64 }
-    ensures whole { OnOk result (Outputs (O.tells out.old) (O.tells out.new)
-        (λ text. text ≡ encode_lower bytes.now)) }
-    ensures front { OnErr result (Outputs (O.tells out.old) (O.tells out.new)
-        (IsFront (encode_lower bytes.now))) }
-    ensures cause { HasCause (O.faults out.old) (O.faults out.new) (IsErr result) }
+    ensures { Writes result (O.known out.old) (O.known out.new) (encode_lower bytes.now) }
 {
     let mut room = [0; 2 * AT_ONCE];
     let digits = &mut room[..2 * bytes.len()];

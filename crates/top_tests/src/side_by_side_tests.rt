@@ -1,7 +1,7 @@
 //! Receivers work side by side: the first of two links brings nothing before the second one was asked.
 
 ghost use Rattle.std.specs.Prelude.{◌≡◌, None, IfOk};
-ghost use Rattle.drm_links.specs.Told.{HasCause};
+ghost use Rattle.drm_links.specs.Told.{Counts};
 ghost use Rattle.drm_links.specs.Dock.{IsFresh, IsFailed};
 
 use crate::small::{REPORTS, bring_all};
@@ -39,11 +39,9 @@ impl<'a> Gated<'a> {
 }
 
 impl<'a> Link for Gated<'a> {
-    ghost faults = { λ link. link.inner.faults };
+    ghost known = { λ link. record { faults = link.inner.faults; told = None } };
 
     ghost idles = { λ link. link.idles };
-
-    ghost tells = { λ _. None };
 
     fn recv(&mut self, buf: &mut [u8]) -> Came {
         if self.waits && self.asked.load(SeqCst) == 0 {
@@ -81,8 +79,8 @@ struct Pair<'a> {
 
 impl<'a> Pair<'a> {
     fn open(&mut self, at: Address) -> Opened<Gated<'a>>
-        ensures fresh { IsFresh ⟦<Gated<'a> as Link>⟧.faults ⟦<Gated<'a> as Link>⟧.idles result }
-        ensures cause { HasCause self.old.faults self.new.faults (IsFailed result) }
+        ensures fresh { IsFresh ⟦<Gated<'a> as Link>⟧.known ⟦<Gated<'a> as Link>⟧.idles result }
+        ensures cause { Counts self.old.faults self.new.faults (IsFailed result) }
     {
         match Gated::make(self.alloc, at.port == 5001, self.asked) {
             Ok(link) => Opened::Link(link),
@@ -97,9 +95,7 @@ impl<'a> Pair<'a> {
 impl<'a> Dock for Pair<'a> {
     type L = Gated<'a>;
 
-    ghost faults = { λ dock. dock.faults };
-
-    ghost tells = { λ _. None };
+    ghost known = { λ dock. record { faults = dock.faults; told = None } };
 
     fn bind(&mut self, at: Address) -> Opened<Gated<'a>> {
         self.open(at)

@@ -6,11 +6,11 @@ use Rattle.drm_inspect.proofs.head.read_head.Given as goal
 -- the bytes read so far stand in front of those left
 abbrev pub invariant-loop-len : goal.invariant-loop-len
 invariant-loop-len g l =
-    Inputs (g.I.Source.tells l.fn.input) (g.I.Source.tells l.input) (λ left rest. left ≡ take l.len l.bytes ++ rest)
+    Inputs (g.I.Source.known l.fn.input) (g.I.Source.known l.input) (λ left rest. left ≡ take l.len l.bytes ++ rest)
     × (length l.bytes ≡ 10)
     × (l.len ≤ 10)
-    × (g.I.Source.faults l.fn.input ≤ g.I.Source.faults l.input)
-    × AsksAtMost l.len (g.I.Source.tells l.fn.input) (g.I.Source.tells l.input)
+    × ((g.I.Source.known l.fn.input).faults ≤ (g.I.Source.known l.input).faults)
+    × AsksAtMost l.len (g.I.Source.known l.fn.input) (g.I.Source.known l.input)
 
 abbrev pub decreases-loop-len : goal.decreases-loop-len
 decreases-loop-len g l = 10 - l.len

@@ -4,12 +4,12 @@ use Rattle.drm_load.proofs.loading.load.Goals as goal
 
 pub returns-in-Bytes-clause-reads : goal.returns-in-Bytes-clause-reads
 returns-in-Bytes-clause-reads g c =
-    ReadBy-load (loads.Bytes c.in-Bytes.bytes) c.args.line c.args.name.now c.args.limit (g.S.Shelf.tells c.args.shelf.now) (g.S.Shelf.tells c.load.new.self) c.in-Bytes.ensures.file c.in-Bytes.ensures.kept c.in-Bytes.ensures.told
+    ReadBy-load (loads.Bytes c.in-Bytes.bytes) c.args.line c.args.name.now c.args.limit (g.S.Shelf.known c.args.shelf.now) (g.S.Shelf.known c.load.new.self) c.in-Bytes.ensures.file c.in-Bytes.ensures.kept c.in-Bytes.ensures.told
 
 pub returns-in-TooLong-clause-reads : goal.returns-in-TooLong-clause-reads
 returns-in-TooLong-clause-reads g c =
-    ReadBy-load loads.TooLong c.args.line c.args.name.now c.args.limit (g.S.Shelf.tells c.args.shelf.now) (g.S.Shelf.tells c.load.new.self) c.in-TooLong.ensures.file c.in-TooLong.ensures.kept c.in-TooLong.ensures.told
+    ReadBy-load loads.TooLong c.args.line c.args.name.now c.args.limit (g.S.Shelf.known c.args.shelf.now) (g.S.Shelf.known c.load.new.self) c.in-TooLong.ensures.file c.in-TooLong.ensures.kept c.in-TooLong.ensures.told
 
 pub returns-in-Failed-clause-reads : goal.returns-in-Failed-clause-reads
 returns-in-Failed-clause-reads g c =
-    ReadBy-load loads.Failed c.args.line c.args.name.now c.args.limit (g.S.Shelf.tells c.args.shelf.now) (g.S.Shelf.tells c.load.new.self) c.in-Failed.ensures.file c.in-Failed.ensures.kept c.in-Failed.ensures.told
+    ReadBy-load loads.Failed c.args.line c.args.name.now c.args.limit (g.S.Shelf.known c.args.shelf.now) (g.S.Shelf.known c.load.new.self) c.in-Failed.ensures.file c.in-Failed.ensures.kept c.in-Failed.ensures.told

@@ -20,14 +20,14 @@ returns-in_err-send_datagram-clause-part g c =
     let old : Serving = c.args.server.now in
     let p = err_from_is_err_and c.from_residual.result c.from_residual.ensures.1 in
     let is : IsDatagramAt old.plan old.frame c.loop-i.i c.datagram.result.now = rw (← i.6) c.datagram.ensures.datagram in
-    rw p.1 (no_more_sent old.plan old.frame c.loop-i.i c.datagram.result.now i.0 (g.L.Link.tells c.args.link.now) (g.L.Link.tells c.loop-i.link) (g.L.Link.tells c.send_datagram.new.link) is i.1 i.2 c.in_err-send_datagram.ensures.none)
+    rw p.1 (no_more_sent old.plan old.frame c.loop-i.i c.datagram.result.now i.0 (g.L.Link.known c.args.link.now) (g.L.Link.known c.loop-i.link) (g.L.Link.known c.send_datagram.new.link) is i.1 i.2 c.in_err-send_datagram.ensures.none)
 
 pub returns-in_err-send_datagram-clause-calls : goal.returns-in_err-send_datagram-clause-calls
 returns-in_err-send_datagram-clause-calls g c =
     let calls : Traffic → ℕ = λ t. t.calls in
     let some : c.loop-i.i + 1 ≤ 1024 = omega (arith, c.loop-i-test.true, c.fragments-count.ensures.few) in
-    at_most calls (c.loop-i.i + 1) 1024 (g.L.Link.tells c.args.link.now) (g.L.Link.tells c.send_datagram.new.link) some
-    (more_calls calls c.loop-i.i 1 (g.L.Link.tells c.args.link.now) (g.L.Link.tells c.loop-i.link) (g.L.Link.tells c.send_datagram.new.link) c.loop-i.invariant.5 c.send_datagram.ensures.calls)
+    at_most calls (c.loop-i.i + 1) 1024 (g.L.Link.known c.args.link.now) (g.L.Link.known c.send_datagram.new.link) some
+    (more_calls calls c.loop-i.i 1 (g.L.Link.known c.args.link.now) (g.L.Link.known c.loop-i.link) (g.L.Link.known c.send_datagram.new.link) c.loop-i.invariant.5 c.send_datagram.ensures.calls)
 
 pub loop-i-preserved : goal.loop-i-preserved
 loop-i-preserved g c =
@@ -37,12 +37,12 @@ loop-i-preserved g c =
     let is : IsDatagramAt old.plan old.frame c.loop-i.i c.datagram.result.now = rw (← i.6) c.datagram.ensures.datagram in (
       i.0 ++ c.datagram.result.now ∷ [],
       next_datagram old.plan old.frame c.loop-i.i i.0 c.datagram.result.now i.1 is,
-      then_sent i.0 (c.datagram.result.now ∷ []) (g.L.Link.tells c.args.link.now) (g.L.Link.tells c.loop-i.link) (g.L.Link.tells c.send_datagram.new.link) i.2 c.in_ok-send_datagram.ensures.sent,
+      then_sent i.0 (c.datagram.result.now ∷ []) (g.L.Link.known c.args.link.now) (g.L.Link.known c.loop-i.link) (g.L.Link.known c.send_datagram.new.link) i.2 c.in_ok-send_datagram.ensures.sent,
       omega (arith, i.3, c.send_datagram.ensures.cause.later),
       c.send_datagram.ensures.idle ∙ i.4,
-      more_calls calls c.loop-i.i 1 (g.L.Link.tells c.args.link.now) (g.L.Link.tells c.loop-i.link) (g.L.Link.tells c.send_datagram.new.link) i.5 c.send_datagram.ensures.calls,
+      more_calls calls c.loop-i.i 1 (g.L.Link.known c.args.link.now) (g.L.Link.known c.loop-i.link) (g.L.Link.known c.send_datagram.new.link) i.5 c.send_datagram.ensures.calls,
       c.datagram.follows.holds-at-none ∙ i.6,
-      made_then c.loop-i.i 1 (c.loop-i.i + 1) (g.L.Link.tells c.args.link.now) (g.L.Link.tells c.loop-i.link) (g.L.Link.tells c.send_datagram.new.link) refl i.7 c.send_datagram.ensures.counted,
+      made_then c.loop-i.i 1 (c.loop-i.i + 1) (g.L.Link.known c.args.link.now) (g.L.Link.known c.loop-i.link) (g.L.Link.known c.send_datagram.new.link) refl i.7 c.send_datagram.ensures.counted,
     )
 
 pub returns-clause-whole : goal.returns-clause-whole
@@ -60,9 +60,9 @@ pub returns-clause-calls : goal.returns-clause-calls
 returns-clause-calls g c =
     let calls : Traffic → ℕ = λ t. t.calls in
     let some : c.loop-i.i ≤ 1024 = omega (arith, c.loop-i.auto.i-end, c.fragments-count.ensures.few) in
-    at_most calls c.loop-i.i 1024 (g.L.Link.tells c.args.link.now) (g.L.Link.tells c.loop-i.link) some c.loop-i.invariant.5
+    at_most calls c.loop-i.i 1024 (g.L.Link.known c.args.link.now) (g.L.Link.known c.loop-i.link) some c.loop-i.invariant.5
 
 pub returns-clause-counted : goal.returns-clause-counted
 returns-clause-counted g c =
     let all : c.loop-i.i ≡ c.from.result = omega (arith, c.loop-i-test.false, c.loop-i.auto.i-end, c.from.ensures) in
-    subst (λ k. Transmits (g.L.Link.tells c.args.link.now) (g.L.Link.tells c.loop-i.link) (MadeCalls k)) all c.loop-i.invariant.7
+    subst (λ k. Transmits (g.L.Link.known c.args.link.now) (g.L.Link.known c.loop-i.link) (MadeCalls k)) all c.loop-i.invariant.7

@@ -10,9 +10,9 @@ use Rattle.drm_server.proofs.send.send_frame.Given as goal
 abbrev pub invariant-loop-i : goal.invariant-loop-i
 invariant-loop-i g l =
     (datagrams : List (List ℕ)) × AreFirst l.fn.server.plan l.fn.server.frame l.i datagrams
-    × Transmits (g.L.Link.tells l.fn.link) (g.L.Link.tells l.link) (SendsAll datagrams)
-    × (g.L.Link.faults l.fn.link ≤ g.L.Link.faults l.link)
+    × Transmits (g.L.Link.known l.fn.link) (g.L.Link.known l.link) (SendsAll datagrams)
+    × ((g.L.Link.known l.fn.link).faults ≤ (g.L.Link.known l.link).faults)
     × (g.L.Link.idles l.link ≡ g.L.Link.idles l.fn.link)
-    × MakesCalls (λ (t : Traffic). t.calls) l.i (g.L.Link.tells l.fn.link) (g.L.Link.tells l.link)
+    × MakesCalls (λ (t : Traffic). t.calls) l.i (g.L.Link.known l.fn.link) (g.L.Link.known l.link)
     × (l.server ≡ l.fn.server)
-    × Transmits (g.L.Link.tells l.fn.link) (g.L.Link.tells l.link) (MadeCalls l.i)
+    × Transmits (g.L.Link.known l.fn.link) (g.L.Link.known l.link) (MadeCalls l.i)

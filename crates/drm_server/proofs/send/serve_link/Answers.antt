@@ -19,46 +19,46 @@ returns-in_err-sent-clause-part g c =
     let i = c.loop-t.invariant in
     let plan : Plan = c.args.server.now.plan in
     let p = err_from_is_err_and c.from_residual.result c.from_residual.ensures.1 in
-    let P : Serving → Type 0 = λ s. Transmits (g.L.Link.tells c.rest_between.new.link) (g.L.Link.tells c.send_frame.new.link) (SendsPartOfFrame s.plan s.frame) in
+    let P : Serving → Type 0 = λ s. Transmits (g.L.Link.known c.rest_between.new.link) (g.L.Link.known c.send_frame.new.link) (SendsPartOfFrame s.plan s.frame) in
     let part = subst P (at_frame c.loop-t.server c.load.new.self plan c.loop-t.t c.load.ensures i.6) c.in_err-sent.ensures.part in
-    let rested : Transmits (g.L.Link.tells c.args.link.now) (g.L.Link.tells c.rest_between.new.link) (SendsAll i.0) = then_rested i.0 (g.L.Link.tells c.args.link.now) (g.L.Link.tells c.loop-t.link) (g.L.Link.tells c.rest_between.new.link) i.2 c.rest_between.ensures.none in
-    rw p.1 (part_sent plan c.loop-t.t i.0 (g.L.Link.tells c.args.link.now) (g.L.Link.tells c.rest_between.new.link) (g.L.Link.tells c.send_frame.new.link) (omega (arith, c.loop-t-test.true, c.frames-t-end.ensures.frames)) i.1 rested part)
+    let rested : Transmits (g.L.Link.known c.args.link.now) (g.L.Link.known c.rest_between.new.link) (SendsAll i.0) = then_rested i.0 (g.L.Link.known c.args.link.now) (g.L.Link.known c.loop-t.link) (g.L.Link.known c.rest_between.new.link) i.2 c.rest_between.ensures.none in
+    rw p.1 (part_sent plan c.loop-t.t i.0 (g.L.Link.known c.args.link.now) (g.L.Link.known c.rest_between.new.link) (g.L.Link.known c.send_frame.new.link) (omega (arith, c.loop-t-test.true, c.frames-t-end.ensures.frames)) i.1 rested part)
 
 pub returns-in_err-sent-clause-calls : goal.returns-in_err-sent-clause-calls
 returns-in_err-sent-clause-calls g c =
     let calls : Traffic → ℕ = λ t. t.calls in
     let plan : Plan = c.args.server.now.plan in
     let few : 1025 * c.loop-t.t + 1 + 1024 ≤ 1025 * frame_count plan = omega (arith, c.loop-t-test.true, c.frames-t-end.ensures.frames) in
-    at_most calls (1025 * c.loop-t.t + 1 + 1024) (1025 * frame_count plan) (g.L.Link.tells c.args.link.now) (g.L.Link.tells c.send_frame.new.link) few
-    (more_calls calls (1025 * c.loop-t.t + 1) 1024 (g.L.Link.tells c.args.link.now) (g.L.Link.tells c.rest_between.new.link) (g.L.Link.tells c.send_frame.new.link)
-    (more_calls calls (1025 * c.loop-t.t) 1 (g.L.Link.tells c.args.link.now) (g.L.Link.tells c.loop-t.link) (g.L.Link.tells c.rest_between.new.link) c.loop-t.invariant.5 c.rest_between.ensures.calls) c.send_frame.ensures.calls)
+    at_most calls (1025 * c.loop-t.t + 1 + 1024) (1025 * frame_count plan) (g.L.Link.known c.args.link.now) (g.L.Link.known c.send_frame.new.link) few
+    (more_calls calls (1025 * c.loop-t.t + 1) 1024 (g.L.Link.known c.args.link.now) (g.L.Link.known c.rest_between.new.link) (g.L.Link.known c.send_frame.new.link)
+    (more_calls calls (1025 * c.loop-t.t) 1 (g.L.Link.known c.args.link.now) (g.L.Link.known c.loop-t.link) (g.L.Link.known c.rest_between.new.link) c.loop-t.invariant.5 c.rest_between.ensures.calls) c.send_frame.ensures.calls)
 
 pub loop-t-preserved : goal.loop-t-preserved
 loop-t-preserved g c =
     let i = c.loop-t.invariant in
     let plan : Plan = c.args.server.now.plan in
     let calls : Traffic → ℕ = λ t. t.calls in
-    let P : Serving → Type 0 = λ s. SentFrame s.plan s.frame c.in_ok-sent.field-0 (g.L.Link.tells c.rest_between.new.link) (g.L.Link.tells c.send_frame.new.link) in
+    let P : Serving → Type 0 = λ s. SentFrame s.plan s.frame c.in_ok-sent.field-0 (g.L.Link.known c.rest_between.new.link) (g.L.Link.known c.send_frame.new.link) in
     let w = subst P (at_frame c.loop-t.server c.load.new.self plan c.loop-t.t c.load.ensures i.6) c.in_ok-sent.ensures.whole in
     let long : length (i.0 ++ w.0) ≡ length i.0 + length w.0 = length-append i.0 w.0 in
-    let rested : Transmits (g.L.Link.tells c.args.link.now) (g.L.Link.tells c.rest_between.new.link) (SendsAll i.0) = then_rested i.0 (g.L.Link.tells c.args.link.now) (g.L.Link.tells c.loop-t.link) (g.L.Link.tells c.rest_between.new.link) i.2 c.rest_between.ensures.none in
+    let rested : Transmits (g.L.Link.known c.args.link.now) (g.L.Link.known c.rest_between.new.link) (SendsAll i.0) = then_rested i.0 (g.L.Link.known c.args.link.now) (g.L.Link.known c.loop-t.link) (g.L.Link.known c.rest_between.new.link) i.2 c.rest_between.ensures.none in
     let pace = c.args.pace in
     let t = c.loop-t.t in
     let n = c.in_ok-sent.field-0 in
-    let rested_calls = made_then (c.loop-t.sent + rests_between pace t) (rests_before pace t) (c.loop-t.sent + rests_between pace t + rests_before pace t) (g.L.Link.tells c.args.link.now) (g.L.Link.tells c.loop-t.link) (g.L.Link.tells c.rest_between.new.link) refl i.9 c.rest_between.ensures.rests in
+    let rested_calls = made_then (c.loop-t.sent + rests_between pace t) (rests_before pace t) (c.loop-t.sent + rests_between pace t + rests_before pace t) (g.L.Link.known c.args.link.now) (g.L.Link.known c.loop-t.link) (g.L.Link.known c.rest_between.new.link) refl i.9 c.rest_between.ensures.rests in
     let few : 1025 * c.loop-t.t + 1 + 1024 ≤ 1025 * (c.loop-t.t + 1) = omega arith in (
       i.0 ++ w.0,
       next_frame plan c.loop-t.t i.0 w.0 i.1 w.1,
-      then_sent i.0 w.0 (g.L.Link.tells c.args.link.now) (g.L.Link.tells c.rest_between.new.link) (g.L.Link.tells c.send_frame.new.link) rested w.3,
+      then_sent i.0 w.0 (g.L.Link.known c.args.link.now) (g.L.Link.known c.rest_between.new.link) (g.L.Link.known c.send_frame.new.link) rested w.3,
       omega (arith, i.3, c.rest_between.ensures.cause, c.send_frame.ensures.cause.later),
       c.send_frame.ensures.idle ∙ (c.rest_between.ensures.idle ∙ i.4),
-      at_most calls (1025 * c.loop-t.t + 1 + 1024) (1025 * (c.loop-t.t + 1)) (g.L.Link.tells c.args.link.now) (g.L.Link.tells c.send_frame.new.link) few
-          (more_calls calls (1025 * c.loop-t.t + 1) 1024 (g.L.Link.tells c.args.link.now) (g.L.Link.tells c.rest_between.new.link) (g.L.Link.tells c.send_frame.new.link)
-          (more_calls calls (1025 * c.loop-t.t) 1 (g.L.Link.tells c.args.link.now) (g.L.Link.tells c.loop-t.link) (g.L.Link.tells c.rest_between.new.link) i.5 c.rest_between.ensures.calls) c.send_frame.ensures.calls),
+      at_most calls (1025 * c.loop-t.t + 1 + 1024) (1025 * (c.loop-t.t + 1)) (g.L.Link.known c.args.link.now) (g.L.Link.known c.send_frame.new.link) few
+          (more_calls calls (1025 * c.loop-t.t + 1) 1024 (g.L.Link.known c.args.link.now) (g.L.Link.known c.rest_between.new.link) (g.L.Link.known c.send_frame.new.link)
+          (more_calls calls (1025 * c.loop-t.t) 1 (g.L.Link.known c.args.link.now) (g.L.Link.known c.loop-t.link) (g.L.Link.known c.rest_between.new.link) i.5 c.rest_between.ensures.calls) c.send_frame.ensures.calls),
       ap (λ (s : Serving). s.plan) (c.send_frame.ensures.server ∙ c.load.ensures) ∙ i.6,
       omega (arith, i.7, w.2, long),
       omega (arith, i.8, c.in_ok-sent.ensures.few),
-      made_then (c.loop-t.sent + rests_between pace t + rests_before pace t) n (c.loop-t.sent + n + rests_between pace (t + 1)) (g.L.Link.tells c.args.link.now) (g.L.Link.tells c.rest_between.new.link) (g.L.Link.tells c.send_frame.new.link)
+      made_then (c.loop-t.sent + rests_between pace t + rests_before pace t) n (c.loop-t.sent + n + rests_between pace (t + 1)) (g.L.Link.known c.args.link.now) (g.L.Link.known c.rest_between.new.link) (g.L.Link.known c.send_frame.new.link)
           (omega (arith, one_more_rest pace t)) rested_calls c.in_ok-sent.ensures.counted,
     )
 
@@ -67,7 +67,7 @@ returns-clause-whole g c =
     let i = c.loop-t.invariant in
     let plan : Plan = c.args.server.now.plan in
     let all : c.loop-t.t ≡ frame_count plan = omega (arith, c.loop-t-test.false, c.loop-t.auto.t-end, c.frames-t-end.ensures.frames) in
-    all_sent plan i.0 (g.L.Link.tells c.args.link.now) (g.L.Link.tells c.loop-t.link) (subst (λ k. AreOfFrames plan k i.0) all i.1) i.2
+    all_sent plan i.0 (g.L.Link.known c.args.link.now) (g.L.Link.known c.loop-t.link) (subst (λ k. AreOfFrames plan k i.0) all i.1) i.2
 
 pub returns-clause-count : goal.returns-clause-count
 returns-clause-count g c =
@@ -81,10 +81,10 @@ returns-clause-calls g c =
     let calls : Traffic → ℕ = λ t. t.calls in
     let plan : Plan = c.args.server.now.plan in
     let few : 1025 * c.loop-t.t ≤ 1025 * frame_count plan = omega (arith, c.loop-t.auto.t-end, c.frames-t-end.ensures.frames) in
-    at_most calls (1025 * c.loop-t.t) (1025 * frame_count plan) (g.L.Link.tells c.args.link.now) (g.L.Link.tells c.loop-t.link) few c.loop-t.invariant.5
+    at_most calls (1025 * c.loop-t.t) (1025 * frame_count plan) (g.L.Link.known c.args.link.now) (g.L.Link.known c.loop-t.link) few c.loop-t.invariant.5
 
 pub returns-clause-rests : goal.returns-clause-rests
 returns-clause-rests g c =
     let plan : Plan = c.args.server.now.plan in
     let all : c.loop-t.t ≡ frame_count plan = omega (arith, c.loop-t-test.false, c.loop-t.auto.t-end, c.frames-t-end.ensures.frames) in
-    subst (λ k. Transmits (g.L.Link.tells c.args.link.now) (g.L.Link.tells c.loop-t.link) (MadeCalls (c.loop-t.sent + rests_between c.args.pace k))) all c.loop-t.invariant.9
+    subst (λ k. Transmits (g.L.Link.known c.args.link.now) (g.L.Link.known c.loop-t.link) (MadeCalls (c.loop-t.sent + rests_between c.args.pace k))) all c.loop-t.invariant.9

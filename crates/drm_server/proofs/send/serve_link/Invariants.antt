@@ -10,11 +10,11 @@ use Rattle.drm_server.proofs.send.serve_link.Given as goal
 abbrev pub invariant-loop-t : goal.invariant-loop-t
 invariant-loop-t g l =
     (datagrams : List (List ℕ)) × AreOfFrames l.fn.server.plan l.t datagrams
-    × Transmits (g.L.Link.tells l.fn.link) (g.L.Link.tells l.link) (SendsAll datagrams)
-    × (g.L.Link.faults l.fn.link ≤ g.L.Link.faults l.link)
+    × Transmits (g.L.Link.known l.fn.link) (g.L.Link.known l.link) (SendsAll datagrams)
+    × ((g.L.Link.known l.fn.link).faults ≤ (g.L.Link.known l.link).faults)
     × (g.L.Link.idles l.link ≡ g.L.Link.idles l.fn.link)
-    × MakesCalls (λ (t : Traffic). t.calls) (1025 * l.t) (g.L.Link.tells l.fn.link) (g.L.Link.tells l.link)
+    × MakesCalls (λ (t : Traffic). t.calls) (1025 * l.t) (g.L.Link.known l.fn.link) (g.L.Link.known l.link)
     × (l.server.plan ≡ l.fn.server.plan)
     × (l.sent ≡ length datagrams)
     × (l.sent ≤ 1024 * l.t)
-    × Transmits (g.L.Link.tells l.fn.link) (g.L.Link.tells l.link) (MadeCalls (l.sent + rests_between l.fn.pace l.t))
+    × Transmits (g.L.Link.known l.fn.link) (g.L.Link.known l.link) (MadeCalls (l.sent + rests_between l.fn.pace l.t))

@@ -17,8 +17,8 @@ returns-clause-gathered g c =
     let datagram : List ℕ = take w.result w.new.into in
     let waits : take (at + w.result) room ≡ take at c.args.room.now ++ datagram =
     front_more at w.result more c.args.room.now w.new.into (omega (arith, c.requires.room)) (omega (arith, w.ensures.small, w.ensures.long, c.requires.room)) in
-    let a = g.O.Sink.tells c.args.out.now in
-    let b = g.O.Sink.tells c.pass_on.new.out in
+    let a = g.O.Sink.known c.args.out.now in
+    let b = g.O.Sink.known c.pass_on.new.out in
     IfOk-weaker c.pass_on.result
     (λ (n : ℕ). Outputs a b (λ text. take (at + w.result) room ≡ text ++ take n room))
     (λ (n : ℕ). GathersDatagram c.args.loaded.now.plan c.args.loaded.now.frame c.args.i (take at c.args.room.now) (take n room) a b)
@@ -38,8 +38,8 @@ returns-clause-front g c =
     let datagram : List ℕ = take w.result w.new.into in
     let waits : take (at + w.result) room ≡ take at c.args.room.now ++ datagram =
     front_more at w.result more c.args.room.now w.new.into (omega (arith, c.requires.room)) (omega (arith, w.ensures.small, w.ensures.long, c.requires.room)) in
-    let a = g.O.Sink.tells c.args.out.now in
-    let b = g.O.Sink.tells c.pass_on.new.out in
+    let a = g.O.Sink.known c.args.out.now in
+    let b = g.O.Sink.known c.pass_on.new.out in
     on_err_weaker c.pass_on.result
     (λ (front : Outputs a b (IsFront (take (at + w.result) room))).
     Outputs-weaker (IsFront (take (at + w.result) room)) _ a b front (λ text is. (datagram, w.ensures.datagram, subst (λ l. IsFront l text) waits is)))

@@ -11,7 +11,7 @@ pub loop-i-init : goal.loop-i-init
 loop-i-init g c = (
   [],
   refl,
-  Outputs-nothing (g.O.Sink.tells c.args.out.now) (λ text. take c.args.waiting c.args.room.now ++ [] ≡ text ++ take c.args.waiting c.args.room.now) (append-nil (take c.args.waiting c.args.room.now)),
+  Outputs-nothing (g.O.Sink.known c.args.out.now) (λ text. take c.args.waiting c.args.room.now ++ [] ≡ text ++ take c.args.waiting c.args.room.now) (append-nil (take c.args.waiting c.args.room.now)),
   c.requires.room,
   refl,
   omega arith,
@@ -22,7 +22,7 @@ returns-in_err-waiting-clause-front g c =
     let i = c.loop-i.invariant in
     let p = err_from_is_err_and c.from_residual.result c.from_residual.ensures.1 in
     rw p.1 (front_of_frame c.args.loaded.now.plan c.args.loaded.now.frame c.loop-i.i i.0 (take c.args.waiting c.args.room.now) (take c.loop-i.waiting c.loop-i.room)
-    (g.O.Sink.tells c.args.out.now) (g.O.Sink.tells c.loop-i.out) (g.O.Sink.tells c.gather.new.out) i.1 i.2 c.in_err-waiting.ensures.front)
+    (g.O.Sink.known c.args.out.now) (g.O.Sink.known c.loop-i.out) (g.O.Sink.known c.gather.new.out) i.1 i.2 c.in_err-waiting.ensures.front)
 
 pub loop-i-preserved : goal.loop-i-preserved
 loop-i-preserved g c =
@@ -31,7 +31,7 @@ loop-i-preserved g c =
       i.0 ++ d.0 ∷ [],
       next_datagram c.args.loaded.now.plan c.args.loaded.now.frame c.loop-i.i i.0 d.0 i.1 d.1,
       gathers_datagram (take c.args.waiting c.args.room.now) i.0 d.0 (take c.loop-i.waiting c.loop-i.room) (take c.in_ok-waiting.waiting c.gather.new.room)
-          (g.O.Sink.tells c.args.out.now) (g.O.Sink.tells c.loop-i.out) (g.O.Sink.tells c.gather.new.out) i.2 d.2,
+          (g.O.Sink.known c.args.out.now) (g.O.Sink.known c.loop-i.out) (g.O.Sink.known c.gather.new.out) i.2 d.2,
       c.in_ok-waiting.ensures.left,
       c.gather.ensures.long ∙ i.4,
       omega (arith, i.5, c.gather.ensures.cause.later),

@@ -17,9 +17,9 @@ returns-in_err-waiting-clause-front g c =
     let plan : Plan = c.args.loaded.now.plan in
     let waits : List ℕ = take c.loop-t.waiting c.loop-t.room in
     let p = err_from_is_err_and c.from_residual.result c.from_residual.ensures.1 in
-    let P : Serving → Type 0 = λ s. Outputs (g.O.Sink.tells c.loop-t.out) (g.O.Sink.tells c.gather_frame.new.out) (IsFrontOfFrame s.plan s.frame waits) in
+    let P : Serving → Type 0 = λ s. Outputs (g.O.Sink.known c.loop-t.out) (g.O.Sink.known c.gather_frame.new.out) (IsFrontOfFrame s.plan s.frame waits) in
     let part = subst P (at_frame c.loop-t.loaded c.load.new.self plan c.loop-t.t c.load.ensures i.7) c.in_err-waiting.ensures.front in
-    rw p.1 (part_written plan c.loop-t.t i.0 waits (g.O.Sink.tells c.args.out.now) (g.O.Sink.tells c.loop-t.out) (g.O.Sink.tells c.gather_frame.new.out)
+    rw p.1 (part_written plan c.loop-t.t i.0 waits (g.O.Sink.known c.args.out.now) (g.O.Sink.known c.loop-t.out) (g.O.Sink.known c.gather_frame.new.out)
     (omega (arith, c.loop-t-test.true, c.frames-t-end.ensures.frames)) i.1 i.2 part)
 
 pub loop-t-preserved : goal.loop-t-preserved
@@ -30,7 +30,7 @@ loop-t-preserved g c =
     let then_waits : List ℕ = take c.loop-t.waiting c.loop-t.room in
     let waits : List ℕ = take c.in_ok-waiting.waiting c.gather_frame.new.room in
     let loaded = at_frame c.loop-t.loaded c.load.new.self plan t c.load.ensures i.7 in
-    let P : Serving → Type 0 = λ s. GathersFrame s.plan s.frame then_waits waits (g.O.Sink.tells c.loop-t.out) (g.O.Sink.tells c.gather_frame.new.out) in
+    let P : Serving → Type 0 = λ s. GathersFrame s.plan s.frame then_waits waits (g.O.Sink.known c.loop-t.out) (g.O.Sink.known c.gather_frame.new.out) in
     let w = subst P loaded c.in_ok-waiting.ensures.gathered in
     let has : HasDatagrams plan t c.fragments.result = subst (λ (s : Serving). HasDatagrams s.plan s.frame c.fragments.result) loaded c.fragments.ensures.datagrams in
     let count : w.1.0 ≡ c.fragments.result = one_count plan t w.1.0 c.fragments.result w.1.1 has in
@@ -38,7 +38,7 @@ loop-t-preserved g c =
     let long : length (i.0 ++ w.0) ≡ length i.0 + length w.0 = length-append i.0 w.0 in (
       i.0 ++ w.0,
       next_frame plan t i.0 w.0 i.1 w.1,
-      gathers_frame i.0 w.0 then_waits waits (g.O.Sink.tells c.args.out.now) (g.O.Sink.tells c.loop-t.out) (g.O.Sink.tells c.gather_frame.new.out) i.2 w.2,
+      gathers_frame i.0 w.0 then_waits waits (g.O.Sink.known c.args.out.now) (g.O.Sink.known c.loop-t.out) (g.O.Sink.known c.gather_frame.new.out) i.2 w.2,
       (λ some. one_or_more plan t w.1.0 (omega (arith, c.loop-t-test.true, c.frames-t-end.ensures.frames)) (omega (arith, count, c.fragments.ensures.some)) i.0 w.0 i.1 w.1.2),
       c.in_ok-waiting.ensures.left,
       c.gather_frame.ensures.long ∙ i.5,
@@ -54,7 +54,7 @@ returns-in_err-write_all-clause-front g c =
     let plan : Plan = c.args.loaded.now.plan in
     let all : c.loop-t.t ≡ frame_count plan = omega (arith, c.loop-t-test.false, c.loop-t.auto.t-end, c.frames-t-end.ensures.frames) in
     let p = err_from_is_err_and c.from_residual-in_err-write_all.result c.from_residual-in_err-write_all.ensures.1 in
-    rw p.1 (end_written plan c.loop-t.t i.0 (take c.loop-t.waiting c.loop-t.room) (g.O.Sink.tells c.args.out.now) (g.O.Sink.tells c.loop-t.out) (g.O.Sink.tells c.write_all.new.out)
+    rw p.1 (end_written plan c.loop-t.t i.0 (take c.loop-t.waiting c.loop-t.room) (g.O.Sink.known c.args.out.now) (g.O.Sink.known c.loop-t.out) (g.O.Sink.known c.write_all.new.out)
     (omega (arith, all)) i.1 (i.3 (omega (arith, all, c.frames-t-end.ensures.frames, c.frames-t-end.ensures.some))) i.2 c.in_err-write_all.ensures.front)
 
 pub returns-clause-whole : goal.returns-clause-whole
@@ -62,7 +62,7 @@ returns-clause-whole g c =
     let i = c.loop-t.invariant in
     let plan : Plan = c.args.loaded.now.plan in
     let all : c.loop-t.t ≡ frame_count plan = omega (arith, c.loop-t-test.false, c.loop-t.auto.t-end, c.frames-t-end.ensures.frames) in
-    all_written plan i.0 (take c.loop-t.waiting c.loop-t.room) (g.O.Sink.tells c.args.out.now) (g.O.Sink.tells c.loop-t.out) (g.O.Sink.tells c.write_all.new.out)
+    all_written plan i.0 (take c.loop-t.waiting c.loop-t.room) (g.O.Sink.known c.args.out.now) (g.O.Sink.known c.loop-t.out) (g.O.Sink.known c.write_all.new.out)
     (subst (λ k. AreOfFrames plan k i.0) all i.1) i.2 c.in_ok-write_all.ensures.whole
 
 pub returns-clause-count : goal.returns-clause-count

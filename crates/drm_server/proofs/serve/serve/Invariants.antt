@@ -10,11 +10,11 @@ use Rattle.drm_server.proofs.serve.serve.Given as goal
 abbrev pub invariant-loop-t : goal.invariant-loop-t
 invariant-loop-t g l =
     (datagrams : List (List ℕ)) × AreOfFrames l.fn.loaded.plan l.t datagrams
-    × Gathers [] (concat datagrams) (take l.waiting l.room) (g.O.Sink.tells l.fn.out) (g.O.Sink.tells l.out)
+    × Gathers [] (concat datagrams) (take l.waiting l.room) (g.O.Sink.known l.fn.out) (g.O.Sink.known l.out)
     × (0 < l.t → IsFrontOfCapture l.fn.loaded.plan (concat datagrams))
     × (l.waiting + most_packet l.fn.loaded.plan.carry ≤ length l.room)
     × (length l.room ≡ length l.fn.room)
-    × (g.O.Sink.faults l.fn.out ≤ g.O.Sink.faults l.out)
+    × ((g.O.Sink.known l.fn.out).faults ≤ (g.O.Sink.known l.out).faults)
     × (l.loaded.plan ≡ l.fn.loaded.plan)
     × (l.written ≡ length datagrams)
     × (l.written ≤ 1024 * l.t)

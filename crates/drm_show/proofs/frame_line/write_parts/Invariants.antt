@@ -8,5 +8,5 @@ use Rattle.drm_show.proofs.frame_line.write_parts.Given as goal
 -- the parts before this one were written
 abbrev pub invariant-loop-part : goal.invariant-loop-part
 invariant-loop-part g l =
-    Outputs (g.O.Sink.tells l.fn.out) (g.O.Sink.tells l.out) (λ text. text ≡ flat_map (part_text (frame_of l.view) l.view.payload.now) (take l.part-index l.parts))
-    × (g.O.Sink.faults l.fn.out ≤ g.O.Sink.faults l.out)
+    Outputs (g.O.Sink.known l.fn.out) (g.O.Sink.known l.out) (λ text. text ≡ flat_map (part_text (frame_of l.view) l.view.payload.now) (take l.part-index l.parts))
+    × ((g.O.Sink.known l.fn.out).faults ≤ (g.O.Sink.known l.out).faults)

@@ -9,6 +9,6 @@ use Rattle.drm_show.proofs.streams.write_streams.Given as goal
 -- what was written so far, and the digits of the parts from this one on, are those of the frame
 abbrev pub invariant-loop-index : goal.invariant-loop-index
 invariant-loop-index g l =
-    Outputs (g.O.Sink.tells l.fn.out) (g.O.Sink.tells l.out) (λ text.
+    Outputs (g.O.Sink.known l.fn.out) (g.O.Sink.known l.out) (λ text.
     text ++ encode_lower (cut l.payload (drop l.index (ranges l.mux l.streams))) ≡ encode_lower (multiplex_frame l.mux (streams_in l.payload l.streams)))
-    × (g.O.Sink.faults l.fn.out ≤ g.O.Sink.faults l.out)
+    × ((g.O.Sink.known l.fn.out).faults ≤ (g.O.Sink.known l.out).faults)

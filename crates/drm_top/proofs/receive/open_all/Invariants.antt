@@ -4,16 +4,17 @@ use Rattle.mod_receiver.specs.declared.job.Job.{Job}
 use Rattle.drm_top.specs.Receive.{Docked}
 use Rattle.drm_top.specs.Opening.{HasLink}
 use Rattle.mod_receiver.specs.Jobs.{IsJob}
-use Rattle.drm_top.proofs.OpeningLemmas.{Docks, AreOpened}
+use Rattle.drm_links.specs.Told.{Tells}
+use Rattle.drm_top.proofs.OpeningLemmas.{AreOpened}
 use Rattle.drm_top.proofs.receive.open_all.Given as goal
 
 -- each receiver so far has the link of its address
 abbrev pub invariant-loop-k : goal.invariant-loop-k
 invariant-loop-k g l =
     (vec_len l.jobs ≡ l.k) × (length l.jobs.items ≡ l.k)
-    × (g.D.Dock.faults l.fn.dock ≤ g.D.Dock.faults l.dock)
-    × Docks (g.D.Dock.tells l.fn.dock) (g.D.Dock.tells l.dock) (AreOpened l.addresses l.k)
+    × ((g.D.Dock.known l.fn.dock).faults ≤ (g.D.Dock.known l.dock).faults)
+    × Tells (g.D.Dock.known l.fn.dock) (g.D.Dock.known l.dock) (AreOpened l.addresses l.k)
     × ((k : ℕ) (d : Job g.row.D-L.Denot) → k < l.k → IsJob l.rules (k + 1) (slice_index_or l.jobs.items k d))
-    × ((k : ℕ) (d : Job g.row.D-L.Denot) → k < l.k → g.D.L.Link.faults (slice_index_or l.jobs.items k d).link ≡ 0)
+    × ((k : ℕ) (d : Job g.row.D-L.Denot) → k < l.k → g.D.L.Link.known (slice_index_or l.jobs.items k d).link ≡ 0)
     × ((k : ℕ) (d : Job g.row.D-L.Denot) → k < l.k → (at : Address)
-    → Docked (g.D.Dock.tells l.fn.dock) (g.D.Dock.tells l.dock) (λ told. HasLink g.D.L.Link.tells told k (slice_index_or l.addresses k at) (slice_index_or l.jobs.items k d).link))
+    → Docked (g.D.Dock.known l.fn.dock) (g.D.Dock.known l.dock) (λ told. HasLink g.D.L.Link.known told k (slice_index_or l.addresses k at) (slice_index_or l.jobs.items k d).link))

@@ -15,13 +15,13 @@ pub returns-in_err-server-clause-run : goal.returns-in_err-server-clause-run
 returns-in_err-server-clause-run g c =
     let p = err_from_is_err_and c.from_residual-in_err-server.result c.from_residual-in_err-server.ensures.1 in
     rw (p.1 ∙ ap Err p.2)
-    (refused_run (schedule_named c.args.name.now) IsSchedule IsCapture IsFrontOfCapture g.S.Shelf.faults g.S.Shelf.tells c.args.shelf.now c.read_schedule.new.shelf g.O.Sink.faults g.O.Sink.tells schedule.NoMemory c.args.out.now
+    (refused_run (schedule_named c.args.name.now) IsSchedule IsCapture IsFrontOfCapture g.S.Shelf.known c.args.shelf.now c.read_schedule.new.shelf g.O.Sink.known schedule.NoMemory c.args.out.now
     (ran_out (schedule_named c.args.name.now) c.in_ok-schedule.schedule _ _ c.in_ok-schedule.ensures.reads) c.in_ok-schedule.ensures.cause.later (λ is. cc))
 
 pub returns-clause-run : goal.returns-clause-run
 returns-clause-run g c =
     let same : c.in_ok-server.server.plan ≡ c.in_ok-schedule.schedule = ap (λ (s : Serving). s.plan) c.in_ok-server.ensures in
-    let whole : Outputs (g.O.Sink.tells c.args.out.now) (g.O.Sink.tells c.serve_sink.new.out) (IsCapture c.in_ok-schedule.schedule) =
-    subst (λ (plan : Plan). Outputs (g.O.Sink.tells c.args.out.now) (g.O.Sink.tells c.serve_sink.new.out) (IsCapture plan)) same c.in_ok-serve_sink.ensures.whole in
-    whole_run (schedule_named c.args.name.now) IsSchedule IsCapture IsFrontOfCapture g.S.Shelf.faults g.S.Shelf.tells c.args.shelf.now c.read_schedule.new.shelf g.O.Sink.faults g.O.Sink.tells c.in_ok-schedule.schedule
+    let whole : Outputs (g.O.Sink.known c.args.out.now) (g.O.Sink.known c.serve_sink.new.out) (IsCapture c.in_ok-schedule.schedule) =
+    subst (λ (plan : Plan). Outputs (g.O.Sink.known c.args.out.now) (g.O.Sink.known c.serve_sink.new.out) (IsCapture plan)) same c.in_ok-serve_sink.ensures.whole in
+    whole_run (schedule_named c.args.name.now) IsSchedule IsCapture IsFrontOfCapture g.S.Shelf.known c.args.shelf.now c.read_schedule.new.shelf g.O.Sink.known c.in_ok-schedule.schedule
     (rw (← c.schedule.view_is) c.schedule.invariant) c.in_ok-schedule.ensures.reads c.in_ok-schedule.ensures.cause.later c.args.out.now c.serve_sink.new.out c.in_ok-serve_sink.ensures.cause.later whole

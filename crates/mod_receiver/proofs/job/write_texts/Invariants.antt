@@ -7,5 +7,5 @@ use Rattle.mod_receiver.proofs.job.write_texts.Given as goal
 -- the texts before this one were written
 abbrev pub invariant-loop-job : goal.invariant-loop-job
 invariant-loop-job g l =
-    Outputs (g.O.Sink.tells l.fn.out) (g.O.Sink.tells l.out) (λ text. text ≡ flat_map (λ job. text_of job) (take l.job-index l.jobs))
-    × (g.O.Sink.faults l.fn.out ≤ g.O.Sink.faults l.out)
+    Outputs (g.O.Sink.known l.fn.out) (g.O.Sink.known l.out) (λ text. text ≡ flat_map (λ job. text_of job) (take l.job-index l.jobs))
+    × ((g.O.Sink.known l.fn.out).faults ≤ (g.O.Sink.known l.out).faults)

@@ -25,15 +25,15 @@ pub returns-in_err-take-in-Datagram-clause-stopped : goal.returns-in_err-take-in
 returns-in_err-take-in-Datagram-clause-stopped g c =
     let p = err_from_is_err_and c.from_residual.result c.from_residual.ensures.1 in
     rw (p.1 ∙ ap Err p.2)
-    (on_stop (rules_of c.args.collector.now c.args.options.now) (g.L.Link.tells c.args.link.now) (g.L.Link.tells c.answers.link) (g.L.Link.tells c.recv.new.self) (g.O.Sink.tells c.args.out.now) (g.O.Sink.tells c.answers.out) (g.O.Sink.tells c.take.new.out)
+    (on_stop (rules_of c.args.collector.now c.args.options.now) (g.L.Link.known c.args.link.now) (g.L.Link.known c.answers.link) (g.L.Link.known c.recv.new.self) (g.O.Sink.known c.args.out.now) (g.O.Sink.known c.answers.out) (g.O.Sink.known c.take.new.out)
     c.answers.collector c.answers.feed c.answers.tally c.answers.taken c.answers.idles c.in-Datagram.len c.recv.new.buf
     c.answers.invariant.0 c.in-Datagram.ensures.answer c.in-Datagram.ensures.told c.in_err-take-in-Datagram.ensures.front)
 
 pub returns-then-is_full-clause-finished : goal.returns-then-is_full-clause-finished
 returns-then-is_full-clause-finished g c =
     let rules : Rules = rules_of c.args.collector.now c.args.options.now in
-    let step : OnDatagram rules (g.L.Link.tells c.args.link.now) (g.L.Link.tells c.recv.new.self) (g.O.Sink.tells c.args.out.now) (g.O.Sink.tells c.take.new.out) c.take.new.collector c.take.new.feed c.take.new.tally c.answers.taken =
-    on_datagram rules (g.L.Link.tells c.args.link.now) (g.L.Link.tells c.answers.link) (g.L.Link.tells c.recv.new.self) (g.O.Sink.tells c.args.out.now) (g.O.Sink.tells c.answers.out) (g.O.Sink.tells c.take.new.out)
+    let step : OnDatagram rules (g.L.Link.known c.args.link.now) (g.L.Link.known c.recv.new.self) (g.O.Sink.known c.args.out.now) (g.O.Sink.known c.take.new.out) c.take.new.collector c.take.new.feed c.take.new.tally c.answers.taken =
+    on_datagram rules (g.L.Link.known c.args.link.now) (g.L.Link.known c.answers.link) (g.L.Link.known c.recv.new.self) (g.O.Sink.known c.args.out.now) (g.O.Sink.known c.answers.out) (g.O.Sink.known c.take.new.out)
     c.answers.collector c.take.new.collector c.answers.feed c.take.new.feed c.answers.tally c.take.new.tally c.answers.taken c.answers.idles c.from.result c.in-Datagram.len c.recv.new.buf
     c.answers.invariant.0 c.in-Datagram.ensures.answer c.in-Datagram.ensures.told c.from.ensures c.in_ok-take-in-Datagram.ensures.taken c.in_ok-take-in-Datagram.ensures.end in
     by_frames rules _ _ _ _ c.take.new.collector c.take.new.feed c.take.new.tally c.answers.taken step c.in_ok-take-in-Datagram.ensures.pace (sym c.is_full.ensures ∙ c.if-is_full.true) c.answers.invariant.0.more
@@ -41,8 +41,8 @@ returns-then-is_full-clause-finished g c =
 pub returns-then-taken-options-clause-finished : goal.returns-then-taken-options-clause-finished
 returns-then-taken-options-clause-finished g c =
     let rules : Rules = rules_of c.args.collector.now c.args.options.now in
-    let step : OnDatagram rules (g.L.Link.tells c.args.link.now) (g.L.Link.tells c.recv.new.self) (g.O.Sink.tells c.args.out.now) (g.O.Sink.tells c.take.new.out) c.take.new.collector c.take.new.feed c.take.new.tally c.answers.taken =
-    on_datagram rules (g.L.Link.tells c.args.link.now) (g.L.Link.tells c.answers.link) (g.L.Link.tells c.recv.new.self) (g.O.Sink.tells c.args.out.now) (g.O.Sink.tells c.answers.out) (g.O.Sink.tells c.take.new.out)
+    let step : OnDatagram rules (g.L.Link.known c.args.link.now) (g.L.Link.known c.recv.new.self) (g.O.Sink.known c.args.out.now) (g.O.Sink.known c.take.new.out) c.take.new.collector c.take.new.feed c.take.new.tally c.answers.taken =
+    on_datagram rules (g.L.Link.known c.args.link.now) (g.L.Link.known c.answers.link) (g.L.Link.known c.recv.new.self) (g.O.Sink.known c.args.out.now) (g.O.Sink.known c.answers.out) (g.O.Sink.known c.take.new.out)
     c.answers.collector c.take.new.collector c.answers.feed c.take.new.feed c.answers.tally c.take.new.tally c.answers.taken c.answers.idles c.from.result c.in-Datagram.len c.recv.new.buf
     c.answers.invariant.0 c.in-Datagram.ensures.answer c.in-Datagram.ensures.told c.from.ensures c.in_ok-take-in-Datagram.ensures.taken c.in_ok-take-in-Datagram.ensures.end in
     by_limit rules _ _ _ _ c.take.new.collector c.take.new.feed c.take.new.tally c.answers.taken step c.in_ok-take-in-Datagram.ensures.pace (sym c.is_full.ensures ∙ c.if-is_full.false) c.answers.invariant.0.more c.if-taken-options.true
@@ -50,8 +50,8 @@ returns-then-taken-options-clause-finished g c =
 pub answers-preserved-else-taken-options : goal.answers-preserved-else-taken-options
 answers-preserved-else-taken-options g c =
     let rules : Rules = rules_of c.args.collector.now c.args.options.now in
-    let step : OnDatagram rules (g.L.Link.tells c.args.link.now) (g.L.Link.tells c.recv.new.self) (g.O.Sink.tells c.args.out.now) (g.O.Sink.tells c.take.new.out) c.take.new.collector c.take.new.feed c.take.new.tally c.answers.taken =
-    on_datagram rules (g.L.Link.tells c.args.link.now) (g.L.Link.tells c.answers.link) (g.L.Link.tells c.recv.new.self) (g.O.Sink.tells c.args.out.now) (g.O.Sink.tells c.answers.out) (g.O.Sink.tells c.take.new.out)
+    let step : OnDatagram rules (g.L.Link.known c.args.link.now) (g.L.Link.known c.recv.new.self) (g.O.Sink.known c.args.out.now) (g.O.Sink.known c.take.new.out) c.take.new.collector c.take.new.feed c.take.new.tally c.answers.taken =
+    on_datagram rules (g.L.Link.known c.args.link.now) (g.L.Link.known c.answers.link) (g.L.Link.known c.recv.new.self) (g.O.Sink.known c.args.out.now) (g.O.Sink.known c.answers.out) (g.O.Sink.known c.take.new.out)
     c.answers.collector c.take.new.collector c.answers.feed c.take.new.feed c.answers.tally c.take.new.tally c.answers.taken c.answers.idles c.from.result c.in-Datagram.len c.recv.new.buf
     c.answers.invariant.0 c.in-Datagram.ensures.answer c.in-Datagram.ensures.told c.from.ensures c.in_ok-take-in-Datagram.ensures.taken c.in_ok-take-in-Datagram.ensures.end in
     let more = c.answers.invariant.0.more in
@@ -66,20 +66,20 @@ answers-preserved-else-taken-options g c =
 pub returns-then-idles-options-clause-finished : goal.returns-then-idles-options-clause-finished
 returns-then-idles-options-clause-finished g c =
     let rules : Rules = rules_of c.args.collector.now c.args.options.now in
-    let step : OnIdle rules (g.L.Link.tells c.args.link.now) (g.L.Link.tells c.recv.new.self) (g.O.Sink.tells c.args.out.now) (g.O.Sink.tells c.answers.out) c.answers.collector c.answers.feed c.answers.tally c.answers.taken c.answers.idles =
-    on_idle rules (g.L.Link.tells c.args.link.now) (g.L.Link.tells c.answers.link) (g.L.Link.tells c.recv.new.self) (g.O.Sink.tells c.args.out.now) (g.O.Sink.tells c.answers.out)
+    let step : OnIdle rules (g.L.Link.known c.args.link.now) (g.L.Link.known c.recv.new.self) (g.O.Sink.known c.args.out.now) (g.O.Sink.known c.answers.out) c.answers.collector c.answers.feed c.answers.tally c.answers.taken c.answers.idles =
+    on_idle rules (g.L.Link.known c.args.link.now) (g.L.Link.known c.answers.link) (g.L.Link.known c.recv.new.self) (g.O.Sink.known c.args.out.now) (g.O.Sink.known c.answers.out)
     c.answers.collector c.answers.feed c.answers.tally c.answers.taken c.answers.idles c.recv.new.buf c.answers.invariant.0 c.in-Idle.ensures.answer c.in-Idle.ensures.told in
-    by_idle rules _ (g.L.Link.tells c.answers.link) _ _ _ c.answers.collector c.answers.feed c.answers.tally c.answers.taken c.answers.idles c.answers.invariant.0 step c.if-idles-options.true
+    by_idle rules _ (g.L.Link.known c.answers.link) _ _ _ c.answers.collector c.answers.feed c.answers.tally c.answers.taken c.answers.idles c.answers.invariant.0 step c.if-idles-options.true
 
 pub answers-preserved : goal.answers-preserved
 answers-preserved g c =
     let rules : Rules = rules_of c.args.collector.now c.args.options.now in
-    let step : OnIdle rules (g.L.Link.tells c.args.link.now) (g.L.Link.tells c.recv.new.self) (g.O.Sink.tells c.args.out.now) (g.O.Sink.tells c.answers.out) c.answers.collector c.answers.feed c.answers.tally c.answers.taken c.answers.idles =
-    on_idle rules (g.L.Link.tells c.args.link.now) (g.L.Link.tells c.answers.link) (g.L.Link.tells c.recv.new.self) (g.O.Sink.tells c.args.out.now) (g.O.Sink.tells c.answers.out)
+    let step : OnIdle rules (g.L.Link.known c.args.link.now) (g.L.Link.known c.recv.new.self) (g.O.Sink.known c.args.out.now) (g.O.Sink.known c.answers.out) c.answers.collector c.answers.feed c.answers.tally c.answers.taken c.answers.idles =
+    on_idle rules (g.L.Link.known c.args.link.now) (g.L.Link.known c.answers.link) (g.L.Link.known c.recv.new.self) (g.O.Sink.known c.args.out.now) (g.O.Sink.known c.answers.out)
     c.answers.collector c.answers.feed c.answers.tally c.answers.taken c.answers.idles c.recv.new.buf c.answers.invariant.0 c.in-Idle.ensures.answer c.in-Idle.ensures.told in
     let fewer = c.answers.invariant.0.fewer in
     let other = c.if-idles-options.false in (
-      idle_more rules _ (g.L.Link.tells c.answers.link) _ _ _ c.answers.collector c.answers.feed c.answers.tally c.answers.taken c.answers.idles c.answers.invariant.0 step (omega (arith, fewer, other)),
+      idle_more rules _ (g.L.Link.known c.answers.link) _ _ _ c.answers.collector c.answers.feed c.answers.tally c.answers.taken c.answers.idles c.answers.invariant.0 step (omega (arith, fewer, other)),
       le_trans c.answers.invariant.1 c.in-Idle.ensures.cause.later,
       c.answers.invariant.2,
       c.recv.auto.buf ∙ c.answers.invariant.3,
@@ -87,5 +87,5 @@ answers-preserved g c =
 
 pub returns-in-Failed-clause-stopped : goal.returns-in-Failed-clause-stopped
 returns-in-Failed-clause-stopped g c =
-    on_failed (rules_of c.args.collector.now c.args.options.now) (g.L.Link.tells c.args.link.now) (g.L.Link.tells c.answers.link) (g.L.Link.tells c.recv.new.self) (g.O.Sink.tells c.args.out.now) (g.O.Sink.tells c.answers.out)
+    on_failed (rules_of c.args.collector.now c.args.options.now) (g.L.Link.known c.args.link.now) (g.L.Link.known c.answers.link) (g.L.Link.known c.recv.new.self) (g.O.Sink.known c.args.out.now) (g.O.Sink.known c.answers.out)
     c.answers.collector c.answers.feed c.answers.tally c.answers.taken c.answers.idles c.recv.new.buf c.answers.invariant.0 c.in-Failed.ensures.answer c.in-Failed.ensures.told

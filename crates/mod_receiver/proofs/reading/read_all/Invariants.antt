@@ -6,9 +6,9 @@ use Rattle.mod_receiver.proofs.reading.read_all.Given as goal
 -- nothing is finished yet
 abbrev pub invariant-answers : goal.invariant-answers
 invariant-answers g l =
-    Reaches (rules_of l.fn.collector l.options) (g.L.Link.tells l.fn.link) (g.L.Link.tells l.link) (g.O.Sink.tells l.fn.out) (g.O.Sink.tells l.out) l.collector l.feed l.tally l.taken l.idles
-    × (g.L.Link.faults l.fn.link ≤ g.L.Link.faults l.link)
-    × (g.O.Sink.faults l.fn.out ≤ g.O.Sink.faults l.out)
+    Reaches (rules_of l.fn.collector l.options) (g.L.Link.known l.fn.link) (g.L.Link.known l.link) (g.O.Sink.known l.fn.out) (g.O.Sink.known l.out) l.collector l.feed l.tally l.taken l.idles
+    × ((g.L.Link.known l.fn.link).faults ≤ (g.L.Link.known l.link).faults)
+    × ((g.O.Sink.known l.fn.out).faults ≤ (g.O.Sink.known l.out).faults)
     × (length l.buffer ≡ length l.fn.buffer)
 
 abbrev pub decreases-answers : goal.decreases-answers

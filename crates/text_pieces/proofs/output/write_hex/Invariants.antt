@@ -6,8 +6,8 @@ use Rattle.text_pieces.proofs.output.write_hex.Given as goal
 -- what was written so far, and the digits of the rest, are those of the bytes
 abbrev pub invariant-loop-rest : goal.invariant-loop-rest
 invariant-loop-rest g l =
-    Outputs (g.O.Sink.tells l.fn.out) (g.O.Sink.tells l.out) (λ text. text ++ encode_lower l.rest ≡ encode_lower l.bytes)
-    × (g.O.Sink.faults l.fn.out ≤ g.O.Sink.faults l.out)
+    Outputs (g.O.Sink.known l.fn.out) (g.O.Sink.known l.out) (λ text. text ++ encode_lower l.rest ≡ encode_lower l.bytes)
+    × ((g.O.Sink.known l.fn.out).faults ≤ (g.O.Sink.known l.out).faults)
 
 abbrev pub decreases-loop-rest : goal.decreases-loop-rest
 decreases-loop-rest g l = length l.rest

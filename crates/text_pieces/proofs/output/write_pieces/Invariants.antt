@@ -6,5 +6,5 @@ use Rattle.text_pieces.proofs.output.write_pieces.Given as goal
 -- the pieces before this one were written
 abbrev pub invariant-loop-piece : goal.invariant-loop-piece
 invariant-loop-piece g l =
-    Outputs (g.O.Sink.tells l.fn.out) (g.O.Sink.tells l.out) (λ text. text ≡ text_of (take l.piece-index l.pieces))
-    × (g.O.Sink.faults l.fn.out ≤ g.O.Sink.faults l.out)
+    Outputs (g.O.Sink.known l.fn.out) (g.O.Sink.known l.out) (λ text. text ≡ text_of (take l.piece-index l.pieces))
+    × ((g.O.Sink.known l.fn.out).faults ≤ (g.O.Sink.known l.out).faults)

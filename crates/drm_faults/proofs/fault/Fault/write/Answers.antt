@@ -1,28 +1,28 @@
 use Rattle.drm_faults.proofs.fault.Fault.write.Goals as goal
 
-pub returns-in-NoMemory-clause-whole : goal.returns-in-NoMemory-clause-whole
-returns-in-NoMemory-clause-whole g c = rw c.in-NoMemory.is c.write_words.ensures.whole
+pub returns-in-NoMemory : goal.returns-in-NoMemory
+returns-in-NoMemory g c = rw c.in-NoMemory.is c.write_words.ensures
 
-pub returns-in-Words-clause-whole : goal.returns-in-Words-clause-whole
-returns-in-Words-clause-whole g c = rw c.in-Words.is c.write_words-in-Words.ensures.whole
+pub returns-in-Words : goal.returns-in-Words
+returns-in-Words g c = rw c.in-Words.is c.write_words-in-Words.ensures
 
-pub returns-in-FacLength-clause-whole : goal.returns-in-FacLength-clause-whole
-returns-in-FacLength-clause-whole g c = rw c.in-FacLength.is c.write_pieces.ensures.whole
+pub returns-in-FacLength : goal.returns-in-FacLength
+returns-in-FacLength g c = rw c.in-FacLength.is c.write_pieces.ensures
 
-pub returns-in-FacOver-clause-whole : goal.returns-in-FacOver-clause-whole
-returns-in-FacOver-clause-whole g c = rw c.in-FacOver.is c.write_words-in-FacOver.ensures.whole
+pub returns-in-FacOver : goal.returns-in-FacOver
+returns-in-FacOver g c = rw c.in-FacOver.is c.write_words-in-FacOver.ensures
 
-pub returns-in-Schedule-clause-whole : goal.returns-in-Schedule-clause-whole
-returns-in-Schedule-clause-whole g c = rw (c.in-Schedule.is, ← c.schedule_pieces.ensures) c.write_pieces-in-Schedule.ensures.whole
+pub returns-in-Schedule : goal.returns-in-Schedule
+returns-in-Schedule g c = rw (c.in-Schedule.is, ← c.schedule_pieces.ensures) c.write_pieces-in-Schedule.ensures
 
-pub returns-in-Read-clause-whole : goal.returns-in-Read-clause-whole
-returns-in-Read-clause-whole g c = rw c.in-Read.is c.write_words-in-Read.ensures.whole
+pub returns-in-Read : goal.returns-in-Read
+returns-in-Read g c = rw c.in-Read.is c.write_words-in-Read.ensures
 
-pub returns-in-Write-clause-whole : goal.returns-in-Write-clause-whole
-returns-in-Write-clause-whole g c = rw c.in-Write.is c.write_words-in-Write.ensures.whole
+pub returns-in-Write : goal.returns-in-Write
+returns-in-Write g c = rw c.in-Write.is c.write_words-in-Write.ensures
 
-pub returns-in-Link-clause-whole : goal.returns-in-Link-clause-whole
-returns-in-Link-clause-whole g c = rw c.in-Link.is c.write_words-in-Link.ensures.whole
+pub returns-in-Link : goal.returns-in-Link
+returns-in-Link g c = rw c.in-Link.is c.write_words-in-Link.ensures
 
-pub returns-in-Script-clause-whole : goal.returns-in-Script-clause-whole
-returns-in-Script-clause-whole g c = rw (c.in-Script.is, ← c.script_pieces.ensures) c.write_pieces-in-Script.ensures.whole
+pub returns-in-Script : goal.returns-in-Script
+returns-in-Script g c = rw (c.in-Script.is, ← c.script_pieces.ensures) c.write_pieces-in-Script.ensures

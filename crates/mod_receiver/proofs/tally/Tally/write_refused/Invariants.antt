@@ -6,6 +6,6 @@ use Rattle.mod_receiver.proofs.tally.Tally.write_refused.Given as goal
 -- the lines before those that are left were written
 abbrev pub invariant-loop-refusal : goal.invariant-loop-refusal
 invariant-loop-refusal g l =
-    Outputs (g.O.Sink.tells l.fn.out) (g.O.Sink.tells l.out) (IsSoFar l.self.refused l.refusal-iterator)
+    Outputs (g.O.Sink.known l.fn.out) (g.O.Sink.known l.out) (IsSoFar l.self.refused l.refusal-iterator)
     × AreTold l.refusal-iterator
-    × (g.O.Sink.faults l.fn.out ≤ g.O.Sink.faults l.out)
+    × ((g.O.Sink.known l.fn.out).faults ≤ (g.O.Sink.known l.out).faults)

@@ -1,0 +1,99 @@
+-- Texts that are written one after another.
+use Rattle.std.proofs.Common.{◌≡◌, ℕ, ◌≤◌, List, [], ◌++◌, Result, Ok, Err, IsErr, refl, sym, ◌∙◌, ap, arith, append_assoc}
+use Rattle.drm_links.specs.Told.{Known, HasCause}
+use Rattle.drm_links.specs.Sink.{Output, Outputs, IsFront, Writes}
+use Rattle.drm_links.proofs.ToldLemmas.{later-Rose, Outputs-then, Outputs-weaker}
+
+-- all of the text was written
+pub Writes-whole : {E : Type 0} (text : List ℕ) (a b : Known Output) → Outputs a b (λ t. t ≡ text) → a.faults ≤ b.faults
+    → (let done : Result (Unit {0}) E = Ok tt in Writes done a b text)
+Writes-whole text a b written later = record { whole = written; front = tt; cause = record { later = later; rose = λ failed. cc } }
+
+-- a front of the first text is a front of both
+pub Writes-cut : {E F : Type 0} (s t : List ℕ) (a b : Known Output) (r : Result (Unit {0}) E) (other : E) (fault : F) → r ≡ Err other → Writes r a b s
+    → (let cut : Result (Unit {0}) F = Err fault in Writes cut a b (s ++ t))
+Writes-cut s t a b (Ok done) other fault is writes = cc
+Writes-cut s t a b (Err same) other fault is writes =
+    record {
+      whole = tt;
+      front =
+          Outputs-weaker (IsFront s) (IsFront (s ++ t)) a b writes.front
+          (λ text (rest, is_t). (rest ++ t, ap (λ l. l ++ t) is_t ∙ append_assoc text rest t));
+      cause = record { later = writes.cause.later; rose = λ failed. writes.cause.rose refl };
+    }
+
+-- the second text behind the first one, which was written whole
+pub Writes-then : {E F : Type 0} (s t : List ℕ) (a b c : Known Output) (first : Result (Unit {0}) F) (r : Result (Unit {0}) E) (done : Unit {0}) → first ≡ Ok done → Writes first a b s
+    → Writes r b c t → Writes r a c (s ++ t)
+Writes-then s t a b c (Err fault) r done is writes second = cc
+Writes-then s t a b c (Ok so) (Ok done) _ is writes second =
+    record {
+      whole =
+          Outputs-then (λ text. text ≡ s) (λ text. text ≡ t) (λ text. text ≡ s ++ t) a b c writes.whole second.whole
+          (λ x y is_x is_y. ap (λ l. l ++ y) is_x ∙ ap (λ l. s ++ l) is_y);
+      front = tt;
+      cause = record { later = omega (arith, writes.cause.later, second.cause.later); rose = λ failed. cc };
+    }
+Writes-then s t a b c (Ok so) (Err fault) done is writes second =
+    record {
+      whole = tt;
+      front =
+          Outputs-then (λ text. text ≡ s) (IsFront t) (IsFront (s ++ t)) a b c writes.whole second.front
+          (λ x y is_x (rest, is_y). (rest, ap (λ l. l ++ t) (sym is_x) ∙ (ap (λ l. x ++ l) is_y ∙ sym (append_assoc x y rest))));
+      cause = record {
+        later = omega (arith, writes.cause.later, second.cause.later);
+        rose = λ failed. later-Rose a.faults b.faults c.faults writes.cause.later (second.cause.rose failed);
+      };
+    }
+
+-- what was written, and a front of what is left
+pub Writes-broken : {E F : Type 0} (whole s rest : List ℕ) (a b c : Known Output) (r : Result (Unit {0}) E) (other : E) (fault : F) → Outputs a b (λ text. text ++ (s ++ rest) ≡ whole)
+    → a.faults ≤ b.faults → r ≡ Err other → Writes r b c s → (let broken : Result (Unit {0}) F = Err fault in Writes broken a c whole)
+Writes-broken whole s rest a b c (Ok done) other fault first later is second = cc
+Writes-broken whole s rest a b c (Err same) other fault first later is second =
+    record {
+      whole = tt;
+      front =
+          Outputs-then (λ text. text ++ (s ++ rest) ≡ whole) (IsFront s) (IsFront whole) a b c first second.front
+          (λ x y is_x (left, is_y). (
+            left ++ rest,
+            sym is_x
+                ∙ (ap (λ l. x ++ (l ++ rest)) is_y
+                ∙ (ap (λ l. x ++ l) (append_assoc y left rest) ∙ sym (append_assoc x y (left ++ rest)))),
+          ));
+      cause = record {
+        later = omega (arith, later, second.cause.later);
+        rose = λ failed. later-Rose a.faults b.faults c.faults later (second.cause.rose refl);
+      };
+    }
+
+-- what was written, and the next part of what is left
+pub Writes-more : {E : Type 0} (whole s rest : List ℕ) (a b c : Known Output) (r : Result (Unit {0}) E) (done : Unit {0}) → Outputs a b (λ text. text ++ (s ++ rest) ≡ whole)
+    → r ≡ Ok done → Writes r b c s → Outputs a c (λ text. text ++ rest ≡ whole)
+Writes-more whole s rest a b c (Err fault) done first is second = cc
+Writes-more whole s rest a b c (Ok same) done first is second =
+    Outputs-then (λ text. text ++ (s ++ rest) ≡ whole) (λ text. text ≡ s) (λ text. text ++ rest ≡ whole) a b c first second.whole
+    (λ x y is_x is_y. append_assoc x y rest ∙ (ap (λ l. x ++ (l ++ rest)) is_y ∙ is_x))
+
+-- what was written, by how the call ended
+pub Writes-done : {E : Type 0} {text : List ℕ} {a b : Known Output} {r : Result (Unit {0}) E} {done : Unit {0}} → r ≡ Ok done → Writes r a b text → Outputs a b (λ t. t ≡ text)
+Writes-done {r = Ok same} is writes = writes.whole
+Writes-done {r = Err fault} is writes = cc
+
+pub Writes-front : {E : Type 0} {text : List ℕ} {a b : Known Output} {r : Result (Unit {0}) E} {fault : E} → r ≡ Err fault → Writes r a b text → Outputs a b (IsFront text)
+Writes-front {r = Ok done} is writes = cc
+Writes-front {r = Err same} is writes = writes.front
+
+-- a front of a text, where the call failed
+pub Writes-part : {E F : Type 0} (text : List ℕ) (a b c : Known Output) (r : Result (Unit {0}) E) (other : E) (fault : F) → Outputs a c (IsFront text) → a.faults ≤ b.faults → r ≡ Err other
+    → HasCause b c (IsErr r) → (let broken : Result (Unit {0}) F = Err fault in Writes broken a c text)
+Writes-part text a b c (Ok done) other fault front later is cause = cc
+Writes-part text a b c (Err same) other fault front later is cause =
+    record {
+      whole = tt;
+      front = front;
+      cause = record {
+        later = omega (arith, later, cause.later);
+        rose = λ failed. later-Rose a.faults b.faults c.faults later (cause.rose refl);
+      };
+    }
