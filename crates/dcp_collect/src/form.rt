@@ -2,7 +2,7 @@
 
 ghost use Rattle.std.specs.Prelude.{◌≡◌, ◌≢◌, ◌<◌, ℕ, true};
 ghost use Rattle.dcp_collect.specs.Fragments.{agree};
-ghost use Rattle.dcp_collect.specs.Slots.{IsFormOf, head_at, start_at, step_at};
+ghost use Rattle.dcp_collect.specs.Slots.{IsFormOf, head_at, start_at, step_at, IsOfForm, IsIndexOf};
 ghost use Rattle.dcp_collect.specs.Sizes.{most_fragments};
 
 use crate::Head;
@@ -24,8 +24,7 @@ pub(crate) struct Form {
 impl Form {
     // The form with the length that this head says.
     pub(crate) fn with(self, head: Head) -> Form
-        requires small { head.index < most_fragments }
-        requires form { IsFormOf self head }
+        requires { IsOfForm self head }
         ensures form { IsFormOf result head }
         ensures head { head_at result head.index ≡ head }
         ensures others { (i : ℕ) → i ≢ head.index → agree (head_at self i) head ≡ true → head_at result i ≡ head_at self i }
@@ -73,8 +72,7 @@ impl Form {
 
     // Where the first byte of the fragment with this index stands.
     pub(crate) fn start(self, index: u32) -> usize
-        requires some { 0 < self.count }
-        requires few { index < most_fragments }
+        requires { IsIndexOf self index }
         ensures { result ≡ start_at self index }
     {
         match self.rs {

@@ -1,8 +1,9 @@
 //! The payloads of a packet without a code, put together where they stand.
 
-ghost use Rattle.std.specs.Prelude.{◌≡◌, ◌+◌, ◌*◌, ◌<◌, ◌≤◌, ◌++◌, ℕ, false, length, is_some, take, drop};
-ghost use Rattle.dcp_collect.specs.Slots.{joined_to, len_at};
-ghost use Rattle.dcp_collect.specs.Sizes.{most_bytes, most_fragments};
+ghost use Rattle.std.specs.Prelude.{◌≡◌, ◌+◌, ◌*◌, ◌≤◌, ◌++◌, length, take, drop};
+ghost use Rattle.dcp_collect.specs.Slots.{joined_to, AreJoinable};
+ghost use Rattle.dcp_collect.specs.Sizes.{most_bytes};
+ghost use Rattle.dcp_collect.specs.Counters.{IsEarlier};
 
 use crate::form::Form;
 use crate::sizes::MOST_BYTES;
@@ -10,11 +11,7 @@ use crate::sizes::MOST_BYTES;
 // Puts the payloads of all fragments of a packet without a code one after another to the front, and answers how many bytes
 // they have.
 pub(crate) fn join(bytes: &mut [u8], form: Form) -> usize
-    requires room { length bytes.old ≡ most_bytes }
-    requires some { 0 < form.count }
-    requires few { form.count ≤ most_fragments }
-    requires plain { is_some form.rs ≡ false }
-    requires sizes { (i : ℕ) → i < form.count → form.count * len_at form i ≤ most_bytes }
+    requires { AreJoinable form bytes.old }
     ensures joined { take result bytes.new ≡ joined_to form bytes.old form.count }
     ensures few { result ≤ most_bytes }
     ensures long { length bytes.new ≡ length bytes.old }
@@ -31,8 +28,7 @@ pub(crate) fn join(bytes: &mut [u8], form: Form) -> usize
 
 // Moves so many bytes to an earlier place.
 fn shift(bytes: &mut [u8], from: usize, len: usize, to: usize)
-    requires room { from + len ≤ length bytes.old }
-    requires earlier { to ≤ from }
+    requires { IsEarlier from len to bytes.old }
     ensures { bytes.new ≡ take to bytes.old ++ take len (drop from bytes.old) ++ drop (to + len) bytes.old }
 {
     bytes.copy_within(from..from + len, to);

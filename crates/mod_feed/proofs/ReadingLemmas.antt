@@ -73,7 +73,7 @@ of_items : (before items : List TagItem) (bytes : List ℕ) (f : MdiFault) → A
 of_items before [] bytes f h = of_next before bytes f h
 of_items before (item ∷ items) bytes f (rest, begins, new, h) = of_items _ items rest f h
 
-of_payload : (payload : List ℕ) (f : MdiFault) → IsMdiFault payload f → Reads f
+pub of_payload : (payload : List ℕ) (f : MdiFault) → IsMdiFault payload f → Reads f
 of_payload payload f (inl (items, h)) = of_items [] items payload f h
 of_payload payload f (inr (items, are, h)) = of_rows payload _ table f h
 

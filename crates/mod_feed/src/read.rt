@@ -1,17 +1,16 @@
 //! The item of what a collector gives.
 
-ghost use Rattle.std.specs.Prelude.{◌≡◌, true, IfOk, IfErr};
+ghost use Rattle.std.specs.Prelude.{ℕ, ◌≡◌, List, true, IfOk, IfErr};
 ghost use Rattle.dcp_af.specs.Packet.{AfPacket, IsAf};
 ghost use Rattle.dcp_collect.specs.WholePackets.{IsAfIfWhole};
 ghost use Rattle.dcp_collect.specs.View.{item_of as given_of};
-ghost use Rattle.mdi_items.specs.Frame.{frame_of};
-ghost use Rattle.mdi_items.specs.View.{IsWholeView};
-ghost use Rattle.mod_feed.specs.Items.{item_of, CarriesFrame, CarriesNone, IsItemOf, IsRead};
+ghost use Rattle.dcp_collect.specs.Runs.{Packet};
+ghost use Rattle.mod_feed.specs.Items.{item_of, CarriesNone, IsItemOf, IsRead};
 
 use crate::{BadFault, FeedItem};
 use dcp_af::{payload_of, read_af};
 use dcp_collect::Out;
-use mdi_items::{MdiView, read_mdi};
+use mdi_items::read_mdi;
 
 /// The item of what a collector gives.
 pub(crate) fn read_item<'a>(out: Out<'a>) -> FeedItem<'a>
@@ -24,8 +23,8 @@ pub(crate) fn read_item<'a>(out: Out<'a>) -> FeedItem<'a>
             index,
             bytes,
             whole,
-        } => match read_frame(bytes, whole) {
-            Ok(view) => FeedItem::Frame { index, view },
+        } => match read_payload(bytes, whole) {
+            Ok(payload) => item_of_payload(index, payload),
             Err(fault) => FeedItem::Bad { index, fault },
         },
         Out::Lost { index, had, of } => FeedItem::Missing { index, had, of },
@@ -36,20 +35,18 @@ pub(crate) fn read_item<'a>(out: Out<'a>) -> FeedItem<'a>
     }
 }
 
-// The frame that a packet carries.
-fn read_frame(packet: &[u8], whole: bool) -> Result<MdiView<'_>, BadFault>
-    requires known { whole ≡ true → (af : AfPacket) × IsAf af packet.now }
-    ensures frame { IfOk result (λ v. CarriesFrame (frame_of v) v.payload.now packet.now) }
-    ensures none { IfErr result (λ fault. CarriesNone fault packet.now) }
-    ensures whole { IfOk result IsWholeView }
+// The item of a packet with this payload.
+fn item_of_payload(index: u64, payload: &[u8]) -> FeedItem<'_>
+    ensures item { (packet : List ℕ) → (af : AfPacket) → IsAf af packet → af.payload ≡ payload.now
+        → IsItemOf (Packet index packet) (item_of result) }
+    ensures read { IsRead result }
 {
-    let payload = match read_payload(packet, whole) {
-        Ok(payload) => payload,
-        Err(fault) => return Err(fault),
-    };
     match read_mdi(payload) {
-        Ok(view) => Ok(view),
-        Err(fault) => Err(BadFault::Mdi(fault)),
+        Ok(view) => FeedItem::Frame { index, view },
+        Err(fault) => FeedItem::Bad {
+            index,
+            fault: BadFault::Mdi(fault),
+        },
     }
 }
 

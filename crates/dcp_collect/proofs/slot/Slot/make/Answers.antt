@@ -7,7 +7,7 @@ use Rattle.dcp_collect.proofs.slot.Slot.make.Goals as goal
 
 pub returns : goal.returns
 returns c = record {
-  bytes = c.in_ok-bytes.ensures;
+  bytes = c.in_ok-bytes.ensures.length;
   marks = ap length c.in_ok-kept.ensures ∙ length-replicate most_fragments false;
   counters = c.in_ok-covered.ensures;
   few = omega arith;
