@@ -1,10 +1,11 @@
 -- What becomes of datagrams that wait in a room for those behind them, so that a sink is called once for many.
-use Rattle.std.specs.Prelude.{ℕ, suc, ◌≡◌, List, ◌++◌, Option}
+use Rattle.std.specs.Prelude.{ℕ, suc, ◌≡◌, ◌+◌, ◌≤◌, List, ◌++◌, length}
 use Rattle.std.specs.List.{concat}
 use Rattle.drm_schedule.specs.declared.plan.Plan.{Plan}
 use Rattle.drm_links.specs.Told.{Known}
 use Rattle.drm_links.specs.Sink.{Output, Outputs, IsFront}
-use Rattle.drm_server.specs.Datagrams.{AreOfFrame, AreFirst, IsDatagramAt}
+use Rattle.dcp_pft.specs.Limits.{most_packet}
+use Rattle.drm_server.specs.Datagrams.{AreOfFrame, AreFirst, HasDatagram, IsDatagramAt}
 
 -- What waited, and these bytes behind it, was written, but for what waits now.
 abbrev pub Gathers : List ℕ → List ℕ → List ℕ → Known Output → Known Output → Type 0
@@ -28,3 +29,13 @@ GathersFrame plan t waited waits before after =
 abbrev pub IsFrontOfFrame : Plan → ℕ → List ℕ → List ℕ → Type 0
 IsFrontOfFrame plan t waited text =
     (i : ℕ) × (datagrams : List (List ℕ)) × AreFirst plan t (suc i) datagrams × IsFront (waited ++ concat datagrams) text
+
+-- There is a datagram with this number, and so much room behind what waits that any fits.
+pub record HasPlace (plan : Plan) (t i waiting : ℕ) (bytes : List ℕ) : Type 0 where
+  pub within : HasDatagram plan t i
+  pub room : waiting + most_packet plan.carry ≤ length bytes
+
+-- so many bytes wait in a room that has the longest datagram
+pub record Waits (waiting most : ℕ) (bytes : List ℕ) : Type 0 where
+  pub within : waiting ≤ length bytes
+  pub room : most ≤ length bytes

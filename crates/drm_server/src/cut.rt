@@ -52,8 +52,7 @@ pub fn write_cut(
     i: u32,
     into: &mut [u8],
 ) -> usize
-    requires coded { IsCoded shape.now packet.now parity.now }
-    requires within { i < shape.now.count }
+    requires coded { IsCoded shape.now packet.now parity.now i }
     requires room { most_fragment ≤ length into.old }
     ensures fragment { IsFragmentOf shape.now seq packet.now i (take result into.new) }
     ensures small { result ≤ most_fragment }
@@ -74,8 +73,7 @@ fn write_in(
     i: u32,
     room: &mut [u8; MOST_FRAGMENT],
 ) -> usize
-    requires coded { IsCoded shape.now packet.now parity.now }
-    requires within { i < shape.now.count }
+    requires { IsCoded shape.now packet.now parity.now i }
     ensures fragment { IsFragmentOf shape.now seq packet.now i (take result room.new) }
     ensures small { result ≤ most_fragment }
     ensures long { length room.new ≡ most_fragment }

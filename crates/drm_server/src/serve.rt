@@ -4,9 +4,8 @@ ghost use Rattle.std.specs.Prelude.{◌≡◌, ◌+◌, ◌≤◌, ◌++◌, ℕ
 ghost use Rattle.drm_links.specs.Told.{HasCause};
 ghost use Rattle.drm_links.specs.Sink.{Outputs, IsFront};
 ghost use Rattle.dcp_pft.specs.Limits.{most_packet};
-ghost use Rattle.drm_server.specs.Datagrams.{HasDatagram};
 ghost use Rattle.drm_server.specs.Capture.{IsCapture, IsFrontOfCapture, IsCount};
-ghost use Rattle.drm_server.specs.Gathering.{GathersDatagram, IsFrontWithDatagram, GathersFrame, IsFrontOfFrame};
+ghost use Rattle.drm_server.specs.Gathering.{HasPlace, Waits, GathersDatagram, IsFrontWithDatagram, GathersFrame, IsFrontOfFrame};
 
 use crate::Server;
 use crate::loaded::Loaded;
@@ -75,8 +74,7 @@ fn gather<O: Sink>(
     waiting: usize,
     out: &mut O,
 ) -> Result<usize, WriteFault>
-    requires within { HasDatagram loaded.now.plan loaded.now.frame i }
-    requires room { waiting + most_packet loaded.now.plan.carry ≤ length room.old }
+    requires { HasPlace loaded.now.plan loaded.now.frame i waiting room.old }
     ensures gathered { IfOk result (λ n. GathersDatagram loaded.now.plan loaded.now.frame i
         (take waiting room.old) (take n room.new) (O.known out.old) (O.known out.new)) }
     ensures front { OnErr result (Outputs (O.known out.old) (O.known out.new)
@@ -97,8 +95,7 @@ fn pass_on<O: Sink>(
     most: usize,
     out: &mut O,
 ) -> Result<usize, WriteFault>
-    requires within { waiting ≤ length room.now }
-    requires room { most ≤ length room.now }
+    requires { Waits waiting most room.now }
     ensures whole { IfOk result (λ n. Outputs (O.known out.old) (O.known out.new)
         (λ text. take waiting room.now ≡ text ++ take n room.now)) }
     ensures front { OnErr result (Outputs (O.known out.old) (O.known out.new) (IsFront (take waiting room.now))) }

@@ -1,4 +1,4 @@
-use Rattle.std.proofs.Common.{ℕ, List, ◌≡◌, ◌∙◌, ap, sym, subst, take, length, arith, None, Some}
+use Rattle.std.proofs.Common.{ℕ, List, ◌≡◌, ◌∙◌, ap, sym, subst, take, length, arith, rules, None, Some}
 use Rattle.std.proofs.lemmas.List.{length-take-le}
 use Rattle.drm_schedule.specs.declared.plan.Plan.{Plan}
 use Rattle.dcp_pft.specs.Head.{IsFragmentOf}
@@ -12,15 +12,20 @@ use Rattle.drm_server.proofs.loaded.Loaded.write_datagram.Goals as goal
 abbrev Within : ℕ → Serving → Type 0
 Within i s = HasDatagram s.plan s.frame i
 
-pub write_cut-requires-clause-within : goal.write_cut-requires-clause-within
-write_cut-requires-clause-within c =
+pub write_cut-requires-clause-coded : goal.write_cut-requires-clause-coded
+write_cut-requires-clause-coded c =
     let s = c.self.inside in
     let i = c.self.invariant in
     let plan : Plan = s.plan.now in
     let packet : List ℕ = take s.len s.buffer.items in
     let long : length packet ≡ s.len = length-take-le s.len s.buffer.items (omega (arith, i.1, i.2)) in
     let cut : cut_of plan.carry (length packet) ≡ Some c.in-Some.shape = rw long (sym i.6 ∙ c.in-Some.is) in
-    below_cut plan s.frame c.args.i packet c.in-Some.shape i.4 cut (subst (Within c.args.i) (sym c.self.view_is) c.requires.within)
+    record {
+      shaped = search rules;
+      all = search rules;
+      stands = search rules;
+      within = below_cut plan s.frame c.args.i packet c.in-Some.shape i.4 cut (subst (Within c.args.i) (sym c.self.view_is) c.requires.within);
+    }
 
 pub returns-in-None-clause-datagram : goal.returns-in-None-clause-datagram
 returns-in-None-clause-datagram c =
