@@ -4,7 +4,7 @@ use Rattle.std.specs.List.{AllByRecursion}
 use Rattle.std.proofs.lemmas.Bool.{false≢true}
 use Rattle.std.proofs.lemmas.List.{append-nil}
 use Rattle.dcp_af.specs.Packet.{AfPacket, IsAf}
-use Rattle.dcp_collect.specs.declared.found.Found.TheVariants.{Made}
+use Rattle.dcp_collect.specs.declared.made.Found.TheVariants.{Made}
 use Rattle.dcp_collect.specs.Fragments.{Fragment, of_packet}
 use Rattle.dcp_collect.specs.Decoding.{joined}
 use Rattle.dcp_collect.specs.Reading.{Incoming, IsIncoming}

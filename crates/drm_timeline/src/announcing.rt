@@ -20,8 +20,8 @@ ghost use Rattle.drm_timeline.specs.Description.{description_of, parameters_of};
 ghost use Rattle.drm_timeline.specs.Announcing.{next, as_next, announcement_of, packed_in, left_in};
 ghost use Rattle.drm_timeline.specs.Telling.{WroteEntities, Tells};
 
+use crate::block_contents::description;
 use crate::fast_access::code;
-use crate::told::description;
 use drm_bits::BitSink;
 use drm_schedule::{Body, Config, Entity, Repeated, Spot, entity_len, free_in_countdown};
 use drm_sdc::write_entity;

@@ -16,8 +16,8 @@ ghost use Rattle.drm_timeline.specs.Blocks.{block_of, entities_of, told_in, cloc
 ghost use Rattle.drm_timeline.specs.Telling.{WroteEntities, Tells};
 
 use crate::announcing::write_announcement;
-use crate::standing::{announced, standing};
-use crate::told::{description, moment};
+use crate::block_contents::{description, moment};
+use crate::configuration::{announced, standing};
 use drm_bits::BitSink;
 use drm_schedule::{Body, Config, Schedule};
 use drm_sdc::{frame_field, put_zeros, write_entities, write_entity};

@@ -9,7 +9,7 @@ ghost use Rattle.drm_timeline.specs.Standing.{config_of};
 ghost use Rattle.drm_timeline.specs.FastAccess as fast_access;
 ghost use Rattle.drm_timeline.specs.FastAccess.{audio_services, data_services, is_of_kind, services_of, service_of, service_in, channel_of, fac_of, fac_under};
 
-use crate::standing::{index_at, standing};
+use crate::configuration::{index_at, standing};
 use drm_fac::{Channel, Fac, Slot, pattern, services_code};
 use drm_schedule::{Config, Schedule, Service};
 

@@ -4,13 +4,15 @@
 
 mod announcing;
 mod block;
+mod block_contents;
+mod configuration;
 mod fast_access;
 mod numbers;
 mod schedule_laws;
-mod standing;
-mod told;
 
 pub use block::block_into;
+pub use block_contents::description;
+pub use configuration::{config_at, index_at};
 pub use drm_switches::{
     Before, Seen, Signature, Tracker, none_is_resumed, switches_at_all_starts,
     switches_only_at_starts, the_tracker_tells_the_switches,
@@ -18,5 +20,3 @@ pub use drm_switches::{
 pub use fast_access::fac_at;
 pub use numbers::{config_of_frame, frame_count, packet_len, sequence_number};
 pub use schedule_laws::{starts_are_announced, switches_are_at_starts};
-pub use standing::{config_at, index_at};
-pub use told::description;

@@ -9,7 +9,7 @@ ghost use Rattle.drm_timeline.specs.Standing.{config_of};
 ghost use Rattle.drm_timeline.specs.Numbers as numbers;
 ghost use Rattle.drm_timeline.specs.Numbers.{packet_size};
 
-use crate::standing::standing;
+use crate::configuration::standing;
 use drm_schedule::{Config, Schedule};
 
 /// How many frames a schedule has.

@@ -8,7 +8,7 @@ ghost use Rattle.mod_feed.specs.Items.{Item, item_of, IsItemOf, seen_in, IsRead}
 
 use crate::FeedItem;
 use crate::read::read_item;
-use crate::shown::seen_in;
+use crate::seen::seen_in;
 use dcp_collect::Out;
 use drm_switches::{Before, Tracker};
 use std::marker::Model;

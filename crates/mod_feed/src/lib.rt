@@ -6,7 +6,7 @@ mod feed;
 mod item;
 mod laws;
 mod read;
-mod shown;
+mod seen;
 
 pub use feed::{Feed, Step};
 pub use item::{BadFault, FeedItem};

@@ -1,22 +1,22 @@
 //! Receivers: each reads a link until it has read enough, and writes the report of what came; several side by side.
 #![tactic(auto)]
 
-mod follow;
 mod job;
 mod lines;
 mod reading;
 mod reading_laws;
 mod receiver;
+mod report_laws;
 mod rules;
 mod settling;
 mod stop;
 mod tally;
 mod text;
 
-pub use follow::{laws_of_deliveries, reports_follow};
 pub use job::{Job, job_for, run_all, run_live};
 pub use reading_laws::{one_reading_of_a_link, one_report};
 pub use receiver::{Ended, Options, receive_one};
+pub use report_laws::{laws_of_deliveries, reports_follow};
 pub use rules::Rules;
 pub use settling::settle;
 pub use stop::Stop;

@@ -7,8 +7,8 @@ ghost use Rattle.drm_links.specs.Told.{HasCause};
 ghost use Rattle.mod_receiver.specs.Received.{rules_of, IsReasonable, EndsAs, IfDone};
 ghost use Rattle.mod_receiver.specs.Headline.{Headline, Complete};
 
-use crate::follow::reports_follow;
 use crate::reading::write_report;
+use crate::report_laws::reports_follow;
 use crate::stop::Stop;
 use dcp_collect::Collector;
 use drm_links::{Link, Sink};

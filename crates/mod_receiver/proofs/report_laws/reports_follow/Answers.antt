@@ -1,5 +1,5 @@
 use Rattle.mod_receiver.proofs.Composing.{headline, complete}
-use Rattle.mod_receiver.proofs.follow.reports_follow.Goals as goal
+use Rattle.mod_receiver.proofs.report_laws.reports_follow.Goals as goal
 
 pub returns-clause-headlines : goal.returns-clause-headlines
 returns-clause-headlines c =

@@ -3,7 +3,7 @@ use Rattle.std.specs.List.{find}
 use Rattle.drm_schedule.specs.Ranges.{ConfigInLines}
 use Rattle.drm_timeline.specs.Standing.{is_counting, announced_in}
 use Rattle.drm_timeline.proofs.ScheduleLemmas.{IsSound}
-use Rattle.drm_timeline.proofs.standing.announced.Given as goal
+use Rattle.drm_timeline.proofs.configuration.announced.Given as goal
 
 -- the configuration that is announced is one of those left
 abbrev pub invariant-loop-left : goal.invariant-loop-left

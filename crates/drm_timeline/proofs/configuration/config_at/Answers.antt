@@ -3,7 +3,7 @@ use Rattle.std.specs.List.{last_or}
 use Rattle.drm_schedule.specs.declared.config.Config.{Config}
 use Rattle.drm_timeline.specs.Standing.{has_started}
 use Rattle.drm_timeline.proofs.ScheduleLemmas.{some_config}
-use Rattle.drm_timeline.proofs.standing.config_at.Goals as goal
+use Rattle.drm_timeline.proofs.configuration.config_at.Goals as goal
 
 pub unreachable-requires : goal.unreachable-requires
 unreachable-requires c =

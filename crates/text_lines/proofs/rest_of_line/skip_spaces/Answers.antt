@@ -1,7 +1,7 @@
 use Rattle.std.proofs.Common.{None, lit<, sym, ◌∙◌}
 use Rattle.std.proofs.lemmas.Str.Pattern.{strip_prefix_char}
 use Rattle.text_lines.proofs.BehindLemmas.{no_spaces}
-use Rattle.text_lines.proofs.behind.skip_spaces.Goals as goal
+use Rattle.text_lines.proofs.rest_of_line.skip_spaces.Goals as goal
 
 pub returns : goal.returns
 returns c =

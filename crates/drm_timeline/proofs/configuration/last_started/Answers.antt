@@ -1,7 +1,7 @@
 use Rattle.std.proofs.lemmas.Bool.{le-leb}
 use Rattle.drm_timeline.specs.Standing.{has_started}
 use Rattle.drm_timeline.proofs.StandingLemmas.{is_last}
-use Rattle.drm_timeline.proofs.standing.last_started.Goals as goal
+use Rattle.drm_timeline.proofs.configuration.last_started.Goals as goal
 
 pub returns-then-config-sf-clause-config : goal.returns-then-config-sf-clause-config
 returns-then-config-sf-clause-config c =

@@ -1,7 +1,7 @@
 use Rattle.std.proofs.Common.{◌≡◌, subst, List, get_or}
 use Rattle.drm_schedule.specs.declared.config.Config.{Config}
 use Rattle.drm_timeline.proofs.ScheduleLemmas.{Holds, holds, sound_services}
-use Rattle.drm_timeline.proofs.standing.standing.Goals as goal
+use Rattle.drm_timeline.proofs.configuration.standing.Goals as goal
 
 facts : (c : goal.After-get) → Holds c.args.plan.now c.args.sf c.args.plan.now.configs c.get.result.now
 facts c =

@@ -6,7 +6,7 @@ use Rattle.drm_schedule.specs.declared.config.Config.{Config}
 use Rattle.drm_schedule.specs.Ranges.{ConfigInLines}
 use Rattle.drm_timeline.specs.Standing.{is_counting, announced_in}
 use Rattle.drm_timeline.proofs.ScheduleLemmas.{IsSound, all_sound, sound_services, found_first, first_has, not_first, can_announce}
-use Rattle.drm_timeline.proofs.standing.announced.Goals as goal
+use Rattle.drm_timeline.proofs.configuration.announced.Goals as goal
 
 pub loop-left-init : goal.loop-left-init
 loop-left-init c =

@@ -1,7 +1,7 @@
 use Rattle.std.proofs.Common.{◌≡◌, length, take, filter, None}
 use Rattle.std.specs.List.{last_or}
 use Rattle.drm_timeline.specs.Standing.{has_started}
-use Rattle.drm_timeline.proofs.standing.last_started.Given as goal
+use Rattle.drm_timeline.proofs.configuration.last_started.Given as goal
 
 -- the last configuration that has started is one of those left
 abbrev pub invariant-loop-left : goal.invariant-loop-left
