@@ -159,11 +159,11 @@ module _ (options : Options) where
       let first = stepped (first_of options) _ s window.rest in
       let frames = stepped (frames_of options) _ s first.rest in
       subst (λ (x : Stretch). IsStretch options x.window x.first x.frames) (same_Some (record { window = window.value; first = first.value; frames = frames.value }) s frames.rest)
-      (record { window = window_fits window.value window.is; first = first_fits first.value first.is; frames = frames_fit frames.value frames.is })
+      (record { has_window = window_fits window.value window.is; has_first = first_fits first.value first.is; has_frames = frames_fit frames.value frames.is })
 
   pub stretch_is : (window : ℕ) (first frames : Option ℕ) → IsStretch options window first frames → stretch_of options ≡ Some (record { window = window; first = first; frames = frames })
   unfolding stretch_of
-  stretch_is window first frames h = rw (window_is window h.window, first_is first h.first, frames_are frames h.frames) refl
+  stretch_is window first frames h = rw (window_is window h.has_window, first_is first h.has_first, frames_are frames h.has_frames) refl
 
   pub reading_fits : (r : Reading) → reading_of options ≡ Some r → IsReading options r.stretch.window r.stretch.first r.stretch.frames r.idle r.limit
   unfolding reading_of
@@ -173,12 +173,12 @@ module _ (options : Options) where
       let limit = stepped (limit_of options) _ r idle.rest in
       subst (λ (x : Reading). IsReading options x.stretch.window x.stretch.first x.stretch.frames x.idle x.limit)
       (same_Some (record { stretch = stretch.value; idle = idle.value; limit = limit.value }) r limit.rest)
-      (record { stretch = stretch_fits stretch.value stretch.is; idle = idle_fits idle.value idle.is; limit = limit_fits limit.value limit.is })
+      (record { stretch = stretch_fits stretch.value stretch.is; has_idle = idle_fits idle.value idle.is; has_limit = limit_fits limit.value limit.is })
 
   pub reading_is : (window : ℕ) (first frames : Option ℕ) (idle limit : ℕ) → IsReading options window first frames idle limit
       → reading_of options ≡ Some (record { stretch = record { window = window; first = first; frames = frames }; idle = idle; limit = limit })
   unfolding reading_of
-  reading_is window first frames idle limit h = rw (stretch_is window first frames h.stretch, idle_is idle h.idle, limit_is limit h.limit) refl
+  reading_is window first frames idle limit h = rw (stretch_is window first frames h.stretch, idle_is idle h.has_idle, limit_is limit h.has_limit) refl
 
   pub pace_fits : (n : ℕ) → pace_of options ≡ Some n → IsNumberOr 0 0 10000 (told (codes "pace") options) n
   unfolding pace_of

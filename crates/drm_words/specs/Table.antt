@@ -52,9 +52,9 @@ abbrev pub stretch_names : List (List ℕ)
 stretch_names = codes "window" ∷ codes "first" ∷ codes "frames" ∷ []
 
 pub record IsStretch (options : Options) (window : ℕ) (first frames : Option ℕ) : Type 0 where
-  pub window : IsNumberOr 8 1 64 (told (codes "window") options) window
-  pub first : IsNumberOrNone 0 65535 (told (codes "first") options) first
-  pub frames : IsNumberOrNone 1 3000000 (told (codes "frames") options) frames
+  pub has_window : IsNumberOr 8 1 64 (told (codes "window") options) window
+  pub has_first : IsNumberOrNone 0 65535 (told (codes "first") options) first
+  pub has_frames : IsNumberOrNone 1 3000000 (told (codes "frames") options) frames
 
 -- the same with [--idle K] [--limit L]: when a link has brought enough
 abbrev pub reading_names : List (List ℕ)
@@ -62,8 +62,8 @@ reading_names = stretch_names ++ codes "idle" ∷ codes "limit" ∷ []
 
 pub record IsReading (options : Options) (window : ℕ) (first frames : Option ℕ) (idle limit : ℕ) : Type 0 where
   pub stretch : IsStretch options window first frames
-  pub idle : IsNumberOr 50 1 1000000 (told (codes "idle") options) idle
-  pub limit : IsNumberOr 4294967295 1 4294967295 (told (codes "limit") options) limit
+  pub has_idle : IsNumberOr 50 1 1000000 (told (codes "idle") options) idle
+  pub has_limit : IsNumberOr 4294967295 1 4294967295 (told (codes "limit") options) limit
 
 -- The request of a command with these plain words and these options, a row for each command. Where an option has a
 -- default it stands before the option's range.
