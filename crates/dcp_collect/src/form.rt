@@ -3,7 +3,7 @@
 ghost use Rattle.std.specs.Prelude.{◌≡◌, ◌≢◌, ◌<◌, ℕ, true};
 ghost use Rattle.dcp_collect.specs.Fragments.{agree};
 ghost use Rattle.dcp_collect.specs.Slots.{IsFormOf, head_at, start_at, step_at, IsOfForm, IsIndexOf};
-ghost use Rattle.dcp_collect.specs.Sizes.{most_fragments};
+ghost use Rattle.dcp_pft.specs.Limits.{most_fragments};
 
 use crate::Head;
 use crate::sizes::MOST_BYTES;

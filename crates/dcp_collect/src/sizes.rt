@@ -1,10 +1,9 @@
 //! The sizes of a packet.
 
-/// The most bytes of a packet, with its parity.
-pub(crate) const MOST_BYTES: usize = 12288;
+use dcp_pft::MOST_CARRIED;
 
-/// The most fragments of a packet.
-pub(crate) const MOST_FRAGMENTS: usize = 1024;
+/// The most bytes of a packet, with its parity.
+pub(crate) const MOST_BYTES: usize = MOST_CARRIED as usize;
 
 /// The most chunks of a packet: each has a byte at least, and its parity.
 pub(crate) const MOST_CHUNKS: usize = MOST_BYTES / (PARITY_BYTES + 1);

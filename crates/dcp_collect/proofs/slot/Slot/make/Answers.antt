@@ -1,7 +1,7 @@
 use Rattle.std.proofs.Common.{◌∙◌, false, length, get_or, sym, ap, arith}
 use Rattle.std.proofs.lemmas.Bool.{false≢true}
 use Rattle.std.proofs.lemmas.List.{length-replicate}
-use Rattle.dcp_collect.specs.Sizes.{most_fragments}
+use Rattle.dcp_pft.specs.Limits.{most_fragments}
 use Rattle.dcp_collect.proofs.SlotAnswers.{no_marks}
 use Rattle.dcp_collect.proofs.slot.Slot.make.Goals as goal
 
