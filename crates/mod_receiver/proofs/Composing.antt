@@ -6,9 +6,9 @@ use Rattle.std.proofs.lemmas.List.{take-append-drop, take-append-le}
 use Rattle.std.proofs.lemmas.List.Elements.{filter_map-append}
 use Rattle.drm_schedule.specs.declared.plan.Plan.{Plan}
 use Rattle.drm_schedule.specs.Valid.{IsSchedule}
-use Rattle.drm_links.specs.Told.{Known}
+use Rattle.drm_links.specs.Told.{Known, BothTold}
 use Rattle.drm_links.specs.Link.{Answer, Traffic, datagram_of}
-use Rattle.drm_links.specs.Sink.{Output}
+use Rattle.drm_links.specs.Sink.{Output, Outputs}
 use Rattle.drm_links.proofs.ToldLemmas.{Outputs-weaker}
 use Rattle.dcp_collect.specs.declared.taken.Taken.{Taken}
 use Rattle.dcp_collect.specs.declared.taken.Taken.TheVariants.{Kept, Repeated, Late, Refused, Inconsistent}
@@ -26,11 +26,11 @@ use Rattle.mod_delivery.specs.Laws.{Delivering, DeliveringEarly, GivenInTime, Sw
 use Rattle.drm_show.specs.declared.report.EndWord.{EndWord}
 use Rattle.drm_show.specs.declared.report.EndWord.TheVariants as word
 use Rattle.mod_receiver.specs.declared.rules.Rules.{Rules}
-use Rattle.mod_receiver.specs.Hearing.{AreNext}
+use Rattle.mod_receiver.specs.Hearing.{AreNext, HeardTold}
 use Rattle.mod_receiver.specs.Reading.{datagrams, HasGiven, Holds, EndsBy, IsFinished}
 use Rattle.mod_receiver.specs.Reports.{is_given, refusals_from, refusals, report, is_clean}
 use Rattle.mod_receiver.specs.Received.{IsReport, Reported}
-use Rattle.mod_receiver.specs.Headline.{TellsSwitches, GivesInTime, HeadlineOf, untold, WouldBeRead, ModulatesAll, CompleteOf, Headline, Complete}
+use Rattle.mod_receiver.specs.Headline.{TellsSwitches, GivesInTime, HeadlineOf, untold, WouldBeRead, ModulatesAll, Came, CompleteOf, Headline, Complete}
 use Rattle.mod_receiver.specs.Following.{HeadlinesFollow, CompletesFollow}
 use Rattle.mod_receiver.proofs.Reaching.{one_way}
 use Rattle.mod_receiver.proofs.OneReading.{next_front, not_shorter, same_answers, three}
@@ -263,19 +263,31 @@ append_same : {X : Type 0} (xs ys zs : List X) → xs ++ ys ≡ xs ++ zs → ys 
 append_same [] ys zs e = e
 append_same (x ∷ xs) ys zs e = append_same xs ys zs (let f : x ∷ (xs ++ ys) ≡ x ∷ (xs ++ zs) = e in cc)
 
+headline_told : HeadlinesFollow → (rules : Rules) (feed : ℕ) (before after : Option Traffic) (a b : Known Output) (clean : Bool) (heard : List Answer) (whole : List ℕ) → 1 ≤ rules.window
+    → HeardTold heard before after → IsReport rules feed heard whole clean → Outputs a b (λ t. t ≡ whole)
+    → BothTold before after (λ x y. (answers : List Answer) → Came answers x y → Outputs a b (λ t. HeadlineOf rules feed answers t clean))
+headline_told law rules feed None after a b clean heard whole some h is text = tt
+headline_told law rules feed (Some x) None a b clean heard whole some h is text = tt
+headline_told law rules feed (Some x) (Some y) a b clean heard whole some h is text = λ answers came.
+    let same : answers ≡ heard = append_same x.answers answers heard (sym came ∙ h.given) in
+    Outputs-weaker (λ t. t ≡ whole) (λ t. HeadlineOf rules feed answers t clean) a b text
+    (λ t e. subst (λ l. HeadlineOf rules feed l t clean) (sym same) (subst (λ l. HeadlineOf rules feed heard l clean) (sym e) (law rules feed heard whole clean some is)))
+
 pub receives_headline : HeadlinesFollow → (rules : Rules) (feed : ℕ) (before after : Known Traffic) (a b : Known Output) (clean : Bool) → 1 ≤ rules.window
     → Reported rules feed before after a b clean → Headline rules feed before after a b clean
-receives_headline law rules feed None after a b clean some r = tt
-receives_headline law rules feed (Some x) None a b clean some r = tt
-receives_headline law rules feed (Some x) (Some y) a b clean some r = λ answers came.
-    let same : answers ≡ r.answers = append_same x.answers answers r.answers (sym came ∙ r.heard.given) in
-    Outputs-weaker (λ t. t ≡ r.whole) (λ t. HeadlineOf rules feed answers t clean) a b r.text
-    (λ t e. subst (λ l. HeadlineOf rules feed l t clean) (sym same) (subst (λ l. HeadlineOf rules feed r.answers l clean) (sym e) (law rules feed r.answers r.whole clean some r.is)))
+receives_headline law rules feed before after a b clean some r =
+    headline_told law rules feed before.told after.told a b clean r.answers r.whole some r.heard r.is r.text
+
+complete_told : CompletesFollow → (rules : Rules) (feed : ℕ) (before after : Option Traffic) (a b : Known Output) (clean : Bool) (heard : List Answer) (whole : List ℕ) → 1 ≤ rules.window
+    → HeardTold heard before after → IsReport rules feed heard whole clean → Outputs a b (λ t. t ≡ whole)
+    → BothTold before after (λ x y. Outputs a b (λ t. CompleteOf rules feed x.ahead t clean))
+complete_told law rules feed None after a b clean heard whole some h is text = tt
+complete_told law rules feed (Some x) None a b clean heard whole some h is text = tt
+complete_told law rules feed (Some x) (Some y) a b clean heard whole some h is text =
+    Outputs-weaker (λ t. t ≡ whole) (λ t. CompleteOf rules feed x.ahead t clean) a b text
+    (λ t e. subst (λ l. CompleteOf rules feed x.ahead l clean) (sym e) (law rules feed x.ahead heard y.ahead whole clean some h.ahead is))
 
 pub receives_complete : CompletesFollow → (rules : Rules) (feed : ℕ) (before after : Known Traffic) (a b : Known Output) (clean : Bool) → 1 ≤ rules.window
     → Reported rules feed before after a b clean → Complete rules feed before after a b clean
-receives_complete law rules feed None after a b clean some r = tt
-receives_complete law rules feed (Some x) None a b clean some r = tt
-receives_complete law rules feed (Some x) (Some y) a b clean some r =
-    Outputs-weaker (λ t. t ≡ r.whole) (λ t. CompleteOf rules feed x.ahead t clean) a b r.text
-    (λ t e. subst (λ l. CompleteOf rules feed x.ahead l clean) (sym e) (law rules feed x.ahead r.answers y.ahead r.whole clean some r.heard.ahead r.is))
+receives_complete law rules feed before after a b clean some r =
+    complete_told law rules feed before.told after.told a b clean r.answers r.whole some r.heard r.is r.text

@@ -1,6 +1,6 @@
 //! Receivers side by side.
 
-ghost use Rattle.std.specs.Prelude.{ℕ, ◌≡◌, ◌<◌, ◌≤◌, ◌↔◌, IsTrue, not, length, vec_len, slice_index_or, All, IfOk};
+ghost use Rattle.std.specs.Prelude.{ℕ, ◌≡◌, ◌<◌, ◌≤◌, ◌↔◌, IsTrue, not, length, slice_index_or, All, IfOk};
 ghost use Rattle.std.specs.List.{flat_map};
 ghost use Rattle.drm_links.specs.Told.{HasCause};
 ghost use Rattle.drm_links.specs.Sink.{Writes};
@@ -11,7 +11,7 @@ use crate::receiver::{Ended, Options, receive_one};
 use crate::rules::Rules;
 use crate::text::Text;
 use dcp_collect::Collector;
-use drm_bits::NoMemory;
+use drm_bits::{NoMemory, zeros};
 use drm_links::{Link, Sink, WriteFault, write_all};
 use mod_feed::Feed;
 use std::alloc::Global;
@@ -44,7 +44,7 @@ pub fn job_for<L: Link>(alloc: Global, rules: &Rules, feed: u8, link: L) -> Resu
     ensures link { IfOk result (λ job. job.link ≡ link) }
 {
     let collector = Collector::make(alloc, rules.window, rules.first)?;
-    let buffer = room(alloc, MOST_BYTES)?;
+    let buffer = zeros(alloc, MOST_BYTES)?;
     Ok(Job {
         link,
         collector,
@@ -59,13 +59,6 @@ pub fn job_for<L: Link>(alloc: Global, rules: &Rules, feed: u8, link: L) -> Resu
         text: Text::new(alloc),
         ended: None,
     })
-}
-
-// Room for so many bytes.
-fn room(alloc: Global, len: usize) -> Result<Vec<u8>, NoMemory>
-    ensures { IfOk result (λ bytes. vec_len bytes ≡ len) }
-{
-    Ok(vec![in alloc; 0u8; len]?)
 }
 
 fn run_one<L: Link>(alloc: Global, job: &mut Job<L>)
