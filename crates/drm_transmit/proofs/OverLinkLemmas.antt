@@ -51,7 +51,7 @@ module _ {S L : Type 0} (name : List ℕ) (shelf_known : S → Known Files) (she
     link_cause = record { later = omega arith; rose = λ is. absurd (not_link fault is) };
   }
 
-  module _ (plan : Plan) (valid : IsSchedule plan) (comes : ReadBy (schedule_named name) (Ok plan) (shelf_known shelf) (shelf_known shelf')) (later : (shelf_known shelf).faults ≤ (shelf_known shelf').faults) (link link' : L) (later' : link_known link ≤ link_known link')
+  module _ (plan : Plan) (valid : IsSchedule plan) (comes : ReadBy (schedule_named name) (Ok plan) (shelf_known shelf) (shelf_known shelf')) (later : (shelf_known shelf).faults ≤ (shelf_known shelf').faults) (link link' : L) (later' : (link_known link).faults ≤ (link_known link').faults)
       (calls : MakesCalls (λ (t : Traffic). t.calls) (1025 * frame_count plan) (link_known link) (link_known link')) where
     pub all_sent : Transmits (link_known link) (link_known link') (SendsSchedule plan) → OverLink name (Ok tt) shelf_known shelf shelf' link_known link link'
     all_sent sent = record {

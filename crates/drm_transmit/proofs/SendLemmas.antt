@@ -4,6 +4,7 @@ use Rattle.std.specs.FinMap as map
 use Rattle.std.specs.FinMap.{gets}
 use Rattle.std.proofs.lemmas.Grind.{common_steps}
 use Rattle.drm_links.specs.Told.{Known, WhileTold}
+use Rattle.drm_links.specs.Link.{Traffic}
 use Rattle.drm_links.specs.Shelf.{Files, Supplies}
 use Rattle.drm_links.specs.Dock.{DockContents, LinkStart, address_key, start_at}
 use Rattle.drm_links.specs.Transmission.{TakesSends, TakesFewer}

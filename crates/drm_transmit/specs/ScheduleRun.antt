@@ -24,9 +24,9 @@ pub record ScheduleRun {T S O : Type 0} (reading : Reading T) (is_sound : T → 
     (out_known : O → Known Output) (out out' : O) : Type 0 where
   -- what is read, or why nothing is
   pub came : Result T ScheduleFault
-  -- Where the shelf known, that is what its files come to, and these loads were made.
+  -- Where the shelf tells, that is what its files come to, and these loads were made.
   pub loads : ReadBy reading came (shelf_known shelf) (shelf_known shelf')
-  -- Whatever it known, what came is sound.
+  -- Whatever it tells, what came is sound.
   pub sound : IfOk came is_sound
   pub writes : WritesCame whole front came ending out_known out out'
   -- The faults of the outside come only where its count of faults rose.

@@ -2,6 +2,7 @@
 use Rattle.std.specs.Prelude.{ℕ, ◌≡◌, ◌+◌, ◌≤◌, ◌⊎◌, List, [], length, Contains, Option, Some, IsNone, Result, Ok, Err, IfOk}
 use Rattle.std.specs.FinMap as map
 use Rattle.drm_links.specs.Told.{HasFailed, Known, HasCause, Rose, WhileTold}
+use Rattle.drm_links.specs.Link.{Traffic}
 use Rattle.drm_links.specs.Shelf.{Files}
 use Rattle.drm_links.specs.Dock.{DockContents, LinkStart, address_key, start_at}
 use Rattle.drm_links.specs.Transmission.{TakesSends, TakesFewer}
@@ -24,11 +25,11 @@ OpeningFails at told = Contains told.failing told.openings ⊎ IsNone (start_at 
 abbrev pub OpensLink : Address → DockContents → LinkStart → Type 0
 OpensLink at told start = (Contains told.failing told.openings → ⊥) × (start_at told at ≡ Some start)
 
--- what the dock known after an opening that failed
+-- what the dock tells after an opening that failed
 abbrev pub after_failure : DockContents → DockContents
 after_failure told = record told { openings = told.openings + 1; calls = told.calls + 1 }
 
--- what it known after a link was opened and closed over which these datagrams had gone
+-- what it tells after a link was opened and closed over which these datagrams had gone
 abbrev pub after_link : Address → List (List ℕ) → DockContents → DockContents
 after_link at gone told = record told {
   openings = told.openings + 1;
@@ -55,7 +56,7 @@ abbrev pub LacksSends : Result Plan ScheduleFault → Option ℕ → Type 0
 LacksSends (Ok schedule) sends = (datagrams : List (List ℕ)) → AreDatagrams schedule datagrams → TakesFewer sends (length datagrams)
 LacksSends (Err fault) sends = ⊥
 
--- what a dock known where nothing was sent: what had gone is as before, but for a link that was closed with nothing gone
+-- what a dock tells where nothing was sent: what had gone is as before, but for a link that was closed with nothing gone
 abbrev pub SendsNothing : DockContents → DockContents → Type 0
 SendsNothing before after = (after.gone ≡ before.gone) ⊎ ((at : Address) × (after.gone ≡ map.insert before.gone (address_key at) []))
 
@@ -73,9 +74,9 @@ pub record LinkRun {S D L : Type 0} (name : List ℕ) (at : Address) (ending : R
     (dock_known : D → Known DockContents) (dock dock' : D) (link_known : L → Known Traffic) : Type 0 where
   -- the schedule, or why there is none
   pub came : Result Plan ScheduleFault
-  -- Where the shelf known, that is what its files come to, and these loads were made.
+  -- Where the shelf tells, that is what its files come to, and these loads were made.
   pub loads : ReadBy (schedule_named name) came (shelf_known shelf) (shelf_known shelf')
-  -- Whatever it known, what came is valid.
+  -- Whatever it tells, what came is valid.
   pub sound : IfOk came IsSchedule
   pub ends : EndsBy came ending
   pub told : WhileTold (dock_known dock) (dock_known dock') (λ before after.
@@ -91,7 +92,7 @@ pub record LinkRun {S D L : Type 0} (name : List ℕ) (at : Address) (ending : R
 
 -- A run of `serve --to`.
 abbrev pub SendRun : {S D L : Type 0} → List ℕ → Address → Result (Unit {0}) Fault
-    → (S → Known Files) → S → S → (D → Known DockContents) → D → D → (L → ℕ) → Type 0
+    → (S → Known Files) → S → S → (D → Known DockContents) → D → D → (L → Known Traffic) → Type 0
 SendRun name at ending shelf_known shelf shelf' dock_known dock dock' link_known =
     ClosedRun at ending shelf shelf' dock_known dock dock'
     ⊎ LinkRun name at ending shelf_known shelf shelf' dock_known dock dock' link_known

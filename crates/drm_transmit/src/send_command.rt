@@ -1,7 +1,7 @@
 //! The command `serve` to an address.
 
 ghost use Rattle.std.specs.Prelude.{IsErrOf};
-ghost use Rattle.drm_links.specs.Told.{WhileTold};
+ghost use Rattle.drm_links.specs.Told.{HasFailed, WhileTold};
 ghost use Rattle.drm_transmit.specs.Send.{SendRun, SendsNothing};
 ghost use Rattle.drm_transmit.specs.OverLink.{OverLink};
 
