@@ -156,7 +156,7 @@ module _ (addresses : List Address) (k : ℕ) (at : Address) (within : k < lengt
       → Tells a b (AreOpened addresses k) → WhileTold b c (Opens known at (opened.Link link)) → CountsCall (λ (d : DockContents). d.calls) b c
       → (d : Address) → Docked a c (λ told. HasLink known told k (slice_index_or addresses k d) link)
   found_now known link a b c different before now counts d =
-      Tells-weaker (λ x _. HasLink known x k (slice_index_or addresses k d) link) (λ x _. ((λ told. HasLink known told k (slice_index_or addresses k d) link)) x) a c
+      Tells-weaker (λ x _. HasLink known x k (slice_index_or addresses k d) link) (λ x _. HasLink known x k (slice_index_or addresses k d) link) a c
       (docks_more (AreOpened addresses k) (Opens known at (opened.Link link)) (λ x _. HasLink known x k (slice_index_or addresses k d) link) a b c before now counts
       (λ x y z p q. found known link x y z different p q d))
       (λ x y has. has)
@@ -172,7 +172,7 @@ module _ (addresses : List Address) (k : ℕ) (at : Address) (within : k < lengt
       → Tells a b (AreOpened addresses k) → WhileTold b c (Opens known at opened.Failed) → CountsCall (λ (d : DockContents). d.calls) b c
       → Docked a c (λ told. FailsOpening told addresses)
   failed_now known a b c different before now counts =
-      Tells-weaker (λ x _. FailsOpening x addresses) (λ x _. ((λ told. FailsOpening told addresses)) x) a c
+      Tells-weaker (λ x _. FailsOpening x addresses) (λ x _. FailsOpening x addresses) a c
       (docks_more (AreOpened addresses k) (Opens known at opened.Failed) (λ x _. FailsOpening x addresses) a b c before now counts
       (λ x y z p q. not_found known x y z different p q))
       (λ x y fails. fails)
@@ -188,7 +188,7 @@ unsent_now addresses k a b c before now counts =
 pub docked_now : (addresses : List Address) (k : ℕ) (a b c : Known DockContents) → Tells a b (AreOpened addresses k)
     → WhileTold b c (λ x y. y.gone ≡ x.gone) → CountsCall (λ (d : DockContents). d.calls) b c → Docked a c (λ _. Unit {0})
 docked_now addresses k a b c before now counts =
-    Tells-weaker (λ _ _. Unit {0}) (λ x _. ((λ _. Unit {0})) x) a c
+    Tells-weaker (λ _ _. Unit {0}) (λ _ _. Unit {0}) a c
     (docks_more (AreOpened addresses k) (λ x y. y.gone ≡ x.gone) (λ _ _. Unit {0}) a b c before now counts (λ x y z p q. tt))
     (λ x y any. tt)
 
@@ -231,7 +231,7 @@ all_links {L} known addresses jobs n a b all = linked a.told b.told
     linked (Some x) (Some y) any each = λ k at d within. each k d (omega (arith, within, all)) at
 
 pub opened_any : (addresses : List Address) (k : ℕ) (a b : Known DockContents) → Tells a b (AreOpened addresses k) → Docked a b (λ _. Unit {0})
-opened_any addresses k a b opened = Tells-weaker (AreOpened addresses k) (λ x _. ((λ _. Unit {0})) x) a b opened (λ x y o. tt)
+opened_any addresses k a b opened = Tells-weaker (AreOpened addresses k) (λ _ _. Unit {0}) a b opened (λ x y o. tt)
 
 pub opened_unsent : (addresses : List Address) (k : ℕ) (a b : Known DockContents) → Tells a b (AreOpened addresses k) → WhileTold a b (λ x y. y.gone ≡ x.gone)
 opened_unsent addresses k a b opened = docks_while (AreOpened addresses k) (λ x y. y.gone ≡ x.gone) a b opened (λ x y o. o.gone)

@@ -1,7 +1,7 @@
 -- What the status of `receive` says.
 use Rattle.std.proofs.Common.{◌≡◌, ℕ, zero, suc, ◌<◌, ◌+◌, ◌⊎◌, ◌↔◌, inl, inr, Bool, true, false, IsTrue, List, [], ◌∷◌, length, slice_index_or, Option, None, Some, Result, Ok, Err, refl, sym, ◌∙◌, ap, subst, arith}
 use Rattle.drm_links.specs.Told.{HasFailed, Known, Rose}
-use Rattle.drm_links.specs.Link.{Answer}
+use Rattle.drm_links.specs.Link.{Answer, Traffic}
 use Rattle.drm_links.specs.Sink.{Output}
 use Rattle.drm_links.proofs.ToldLemmas.{Outputs-weaker}
 use Rattle.std.proofs.lemmas.List.{append-nil}

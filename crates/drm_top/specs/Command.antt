@@ -1,6 +1,7 @@
 -- The runs of the commands.
 use Rattle.std.specs.Prelude.{ℕ, ◌≡◌, Bool, Option, Result}
 use Rattle.drm_links.specs.Told.{Known}
+use Rattle.drm_links.specs.Link.{Traffic}
 use Rattle.drm_links.specs.Shelf.{Files}
 use Rattle.drm_links.specs.Source.{Input}
 use Rattle.drm_links.specs.Sink.{Output}
@@ -21,7 +22,7 @@ abbrev pub CommandRun : {S I O D L : Type 0} → Command → Result Bool Fault
     → (S → Known Files) → S → S
     → (I → Known Input) → I → I
     → (O → Known Output) → O → O
-    → (D → Known DockContents) → D → D → (L → ℕ) → Type 0
+    → (D → Known DockContents) → D → D → (L → Known Traffic) → Type 0
 CommandRun Fac ending shelf_known shelf shelf' input_known input input' out_known out out' dock_known dock dock' link_known =
     FacRun (done_of ending) input_known input input' out_known out out' × (shelf' ≡ shelf) × (dock' ≡ dock)
 CommandRun (Check name) ending shelf_known shelf shelf' input_known input input' out_known out out' dock_known dock dock' link_known =

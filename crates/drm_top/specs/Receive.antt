@@ -2,8 +2,8 @@
 -- together at their end.
 use Rattle.std.specs.Prelude.{ℕ, ◌≡◌, ◌+◌, ◌<◌, ◌≤◌, ◌⊎◌, ◌↔◌, IsTrue, Contains, IsNone, Bool, List, [], ◌∷◌, length, slice_index_or, Option, None, Some, Result, Ok, Err}
 use Rattle.std.specs.List.{flat_map, All}
-use Rattle.drm_links.specs.Told.{Known, HasCause, Rose, WhileTold, Tells}
-use Rattle.drm_links.specs.Link.{Answer}
+use Rattle.drm_links.specs.Told.{HasFailed, Known, HasCause, Rose, WhileTold, Tells}
+use Rattle.drm_links.specs.Link.{Answer, Traffic}
 use Rattle.drm_links.specs.Sink.{Output, Outputs, IsFront}
 use Rattle.drm_links.specs.Dock.{DockContents, LinkStart, start_at}
 use Rattle.drm_links.specs.declared.dock.Address.{Address}
@@ -80,8 +80,8 @@ abbrev pub IsLive : List Address → Type 0
 IsLive addresses = length addresses ≡ 1
 
 -- a count of faults rose that was 0 where the link was opened
-abbrev pub SomeLinkRose : {L : Type 0} → (L → ℕ) → Type 0
-SomeLinkRose {L} faults = (opened : L) × (closed : L) × ((known opened).faults ≡ 0) × HasFailed (known opened) (known closed)
+abbrev pub SomeLinkRose : {L : Type 0} → (L → Known Traffic) → Type 0
+SomeLinkRose {L} known = (opened : L) × (closed : L) × ((known opened).faults ≡ 0) × HasFailed (known opened) (known closed)
 
 -- A run of `receive` with addresses.
 pub record ReceiveRun {D L O : Type 0} (rules : Rules) (addresses : List Address) (ending : Result Bool Fault)

@@ -1,7 +1,7 @@
 //! The top call.
 
 ghost use Rattle.std.specs.Prelude.{◌≡◌, ◌≢◌, ◌≤◌, ◌↔◌, ◌⊎◌, ℕ, List, length, Some, Bool, false, Result, Ok, IsErrOf, map, string_bytes};
-ghost use Rattle.drm_links.specs.Told.{HasCause, WhileTold};
+ghost use Rattle.drm_links.specs.Told.{HasCause, HasFailed, WhileTold};
 ghost use Rattle.drm_links.specs.Dock.{LinkStart, address_key};
 ghost use Rattle.drm_links.specs.Transmission.{TakesSends};
 ghost use Rattle.drm_server.specs.Datagrams.{AreDatagrams};

@@ -15,6 +15,6 @@ invariant-loop-k g l =
     × ((g.D.Dock.known l.fn.dock).faults ≤ (g.D.Dock.known l.dock).faults)
     × Tells (g.D.Dock.known l.fn.dock) (g.D.Dock.known l.dock) (AreOpened l.addresses l.k)
     × ((k : ℕ) (d : Job g.row.D-L.Denot) → k < l.k → IsJob l.rules (k + 1) (slice_index_or l.jobs.items k d))
-    × ((k : ℕ) (d : Job g.row.D-L.Denot) → k < l.k → g.D.L.Link.known (slice_index_or l.jobs.items k d).link ≡ 0)
+    × ((k : ℕ) (d : Job g.row.D-L.Denot) → k < l.k → (g.D.L.Link.known (slice_index_or l.jobs.items k d).link).faults ≡ 0)
     × ((k : ℕ) (d : Job g.row.D-L.Denot) → k < l.k → (at : Address)
     → Docked (g.D.Dock.known l.fn.dock) (g.D.Dock.known l.dock) (λ told. HasLink g.D.L.Link.known told k (slice_index_or l.addresses k at) (slice_index_or l.jobs.items k d).link))
