@@ -31,10 +31,10 @@ listed (text ∷ other ∷ texts) addresses is = absurd is
 receives : (words : List (List ℕ)) (addresses : List Address) (rules : Rules) → IsLine words (request_of (Receive addresses rules)) → AreInRange rules × AreListed addresses
 receives words addresses rules line =
     let asks = line.asks in
-    let window = within 8 1 64 rules.window _ (omega arith) (omega arith) asks.3.stretch.window in
-    let frames = within_or_none 1 3000000 _ rules.frames asks.3.stretch.frames in
-    let idle = within 50 1 1000000 rules.idle _ (omega arith) (omega arith) asks.3.idle in
-    let limit = within 4294967295 1 4294967295 rules.limit _ (omega arith) (omega arith) asks.3.limit in
+    let window = within 8 1 64 rules.window _ (omega arith) (omega arith) asks.3.stretch.has_window in
+    let frames = within_or_none 1 3000000 _ rules.frames asks.3.stretch.has_frames in
+    let idle = within 50 1 1000000 rules.idle _ (omega arith) (omega arith) asks.3.has_idle in
+    let limit = within 4294967295 1 4294967295 rules.limit _ (omega arith) (omega arith) asks.3.has_limit in
     let less : rules.limit ≤ 4294967295 = limit.1 in (
       record {
         some_window = window.0;

@@ -2,7 +2,7 @@ use Rattle.std.proofs.Common.{◌≡◌, ◌∙◌, ℕ, inl, inr, sym, ap, refl
 use Rattle.drm_faults.specs.declared.fault.Fault.{Fault}
 use Rattle.drm_faults.specs.declared.fault.Fault.TheVariants.{NoMemory}
 use Rattle.drm_top.specs.declared.words.Command.TheVariants as commands
-use Rattle.drm_faults.specs.Fault.{fault_status, clean_status}
+use Rattle.drm_faults.specs.Fault.{fault_status, clean_status, report_status}
 use Rattle.drm_inspect.proofs.FacLemmas.{run_refused, run_complete}
 use Rattle.drm_transmit.proofs.ScheduleRunLemmas.{refused_exactly, unread_exactly, complete}
 use Rattle.drm_transmit.proofs.SendLemmas.{unopened, cut_where, all_where, refused_where, unread_where}
@@ -12,28 +12,28 @@ use Rattle.drm_faults.proofs.StatusLemmas.{two_is_words, words_is_two, memory_is
 use Rattle.drm_top.proofs.command.run.Goals as goal
 
 pub returns-in-Ok-true-clause-refused : goal.returns-in-Ok-true-clause-refused
-returns-in-Ok-true-clause-refused g c = λ words other free. run_refused _ _ _ _ _ _ _ _ _ (c.in-Ok-true.ensures.runs commands.Fac words (λ e. cc)).0 other
+returns-in-Ok-true-clause-refused g c = λ words other free. run_refused _ _ _ _ _ _ _ (c.in-Ok-true.ensures.runs commands.Fac words (λ e. cc)).0 other
 
 pub returns-in-Ok-true-clause-complete : goal.returns-in-Ok-true-clause-complete
-returns-in-Ok-true-clause-complete g c = λ words free no_read no_write. run_complete _ _ _ _ _ _ _ _ _ (c.in-Ok-true.ensures.runs commands.Fac words (λ e. cc)).0 no_read no_write
+returns-in-Ok-true-clause-complete g c = λ words free no_read no_write. run_complete _ _ _ _ _ _ _ (c.in-Ok-true.ensures.runs commands.Fac words (λ e. cc)).0 no_read no_write
 
 pub returns-in-Ok-true-clause-check_refused : goal.returns-in-Ok-true-clause-check_refused
-returns-in-Ok-true-clause-check_refused g c = λ name words free. refused_exactly _ _ _ _ _ _ _ _ _ _ _ _ _ (c.in-Ok-true.ensures.runs (commands.Check name) words (λ e. cc)).0 free
+returns-in-Ok-true-clause-check_refused g c = λ name words free. refused_exactly _ _ _ _ _ _ _ _ _ _ _ (c.in-Ok-true.ensures.runs (commands.Check name) words (λ e. cc)).0 free
 
 pub returns-in-Ok-true-clause-serve_refused : goal.returns-in-Ok-true-clause-serve_refused
-returns-in-Ok-true-clause-serve_refused g c = λ name pace words free. refused_exactly _ _ _ _ _ _ _ _ _ _ _ _ _ (c.in-Ok-true.ensures.runs (commands.Serve name pace) words (λ e. cc)).0 free
+returns-in-Ok-true-clause-serve_refused g c = λ name pace words free. refused_exactly _ _ _ _ _ _ _ _ _ _ _ (c.in-Ok-true.ensures.runs (commands.Serve name pace) words (λ e. cc)).0 free
 
 pub returns-in-Ok-true-clause-check_unread : goal.returns-in-Ok-true-clause-check_unread
-returns-in-Ok-true-clause-check_unread g c = λ name words free. unread_exactly _ _ _ _ _ _ _ _ _ _ _ _ _ (c.in-Ok-true.ensures.runs (commands.Check name) words (λ e. cc)).0 free
+returns-in-Ok-true-clause-check_unread g c = λ name words free. unread_exactly _ _ _ _ _ _ _ _ _ _ _ (c.in-Ok-true.ensures.runs (commands.Check name) words (λ e. cc)).0 free
 
 pub returns-in-Ok-true-clause-serve_unread : goal.returns-in-Ok-true-clause-serve_unread
-returns-in-Ok-true-clause-serve_unread g c = λ name pace words free. unread_exactly _ _ _ _ _ _ _ _ _ _ _ _ _ (c.in-Ok-true.ensures.runs (commands.Serve name pace) words (λ e. cc)).0 free
+returns-in-Ok-true-clause-serve_unread g c = λ name pace words free. unread_exactly _ _ _ _ _ _ _ _ _ _ _ (c.in-Ok-true.ensures.runs (commands.Serve name pace) words (λ e. cc)).0 free
 
 pub returns-in-Ok-true-clause-check_complete : goal.returns-in-Ok-true-clause-check_complete
-returns-in-Ok-true-clause-check_complete g c = λ name words free no_write. complete _ _ _ _ _ _ _ _ _ _ _ _ _ (c.in-Ok-true.ensures.runs (commands.Check name) words (λ e. cc)).0 free no_write
+returns-in-Ok-true-clause-check_complete g c = λ name words free no_write. complete _ _ _ _ _ _ _ _ _ _ _ (c.in-Ok-true.ensures.runs (commands.Check name) words (λ e. cc)).0 free no_write
 
 pub returns-in-Ok-true-clause-serve_complete : goal.returns-in-Ok-true-clause-serve_complete
-returns-in-Ok-true-clause-serve_complete g c = λ name pace words free no_write. complete _ _ _ _ _ _ _ _ _ _ _ _ _ (c.in-Ok-true.ensures.runs (commands.Serve name pace) words (λ e. cc)).0 free no_write
+returns-in-Ok-true-clause-serve_complete g c = λ name pace words free no_write. complete _ _ _ _ _ _ _ _ _ _ _ (c.in-Ok-true.ensures.runs (commands.Serve name pace) words (λ e. cc)).0 free no_write
 
 pub returns-in-Ok-true-clause-fac : goal.returns-in-Ok-true-clause-fac
 returns-in-Ok-true-clause-fac g c = λ words free.
@@ -56,19 +56,19 @@ returns-in-Ok-true-clause-send g c = λ name to pace words free.
     (Ok tt, refl, run.0, run.1, run.2, refl)
 
 pub returns-in-Ok-true-clause-send_unopened : goal.returns-in-Ok-true-clause-send_unopened
-returns-in-Ok-true-clause-send_unopened g c = λ name to pace words free. unopened _ _ _ _ _ _ _ _ _ _ _ _ (c.in-Ok-true.ensures.runs (commands.Send name to pace) words (λ e. cc)).0
+returns-in-Ok-true-clause-send_unopened g c = λ name to pace words free. unopened _ _ _ _ _ _ _ _ _ _ (c.in-Ok-true.ensures.runs (commands.Send name to pace) words (λ e. cc)).0
 
 pub returns-in-Ok-true-clause-send_cut : goal.returns-in-Ok-true-clause-send_cut
-returns-in-Ok-true-clause-send_cut g c = λ name to pace words free. cut_where _ _ _ _ _ _ _ _ _ _ _ _ c.first_ones_are_front.ensures (c.in-Ok-true.ensures.runs (commands.Send name to pace) words (λ e. cc)).0 free
+returns-in-Ok-true-clause-send_cut g c = λ name to pace words free. cut_where _ _ _ _ _ _ _ _ _ _ c.first_ones_are_front.ensures (c.in-Ok-true.ensures.runs (commands.Send name to pace) words (λ e. cc)).0 free
 
 pub returns-in-Ok-true-clause-send_complete : goal.returns-in-Ok-true-clause-send_complete
-returns-in-Ok-true-clause-send_complete g c = λ name to pace words free. all_where _ _ _ _ _ _ _ _ _ _ _ _ c.one_delivery.ensures c.first_ones_are_front.ensures (c.in-Ok-true.ensures.runs (commands.Send name to pace) words (λ e. cc)).0 free
+returns-in-Ok-true-clause-send_complete g c = λ name to pace words free. all_where _ _ _ _ _ _ _ _ _ _ c.one_delivery.ensures c.first_ones_are_front.ensures (c.in-Ok-true.ensures.runs (commands.Send name to pace) words (λ e. cc)).0 free
 
 pub returns-in-Ok-true-clause-send_refused : goal.returns-in-Ok-true-clause-send_refused
-returns-in-Ok-true-clause-send_refused g c = λ name to pace words free link. refused_where _ _ _ _ _ _ _ _ _ _ _ _ (c.in-Ok-true.ensures.runs (commands.Send name to pace) words (λ e. cc)).0 free link
+returns-in-Ok-true-clause-send_refused g c = λ name to pace words free link. refused_where _ _ _ _ _ _ _ _ _ _ (c.in-Ok-true.ensures.runs (commands.Send name to pace) words (λ e. cc)).0 free link
 
 pub returns-in-Ok-true-clause-send_unread : goal.returns-in-Ok-true-clause-send_unread
-returns-in-Ok-true-clause-send_unread g c = λ name to pace words free link. unread_where _ _ _ _ _ _ _ _ _ _ _ _ (c.in-Ok-true.ensures.runs (commands.Send name to pace) words (λ e. cc)).0 free link
+returns-in-Ok-true-clause-send_unread g c = λ name to pace words free link. unread_where _ _ _ _ _ _ _ _ _ _ (c.in-Ok-true.ensures.runs (commands.Send name to pace) words (λ e. cc)).0 free link
 
 -- a fault that is want of memory has status 1
 free_of_memory : (fault : Fault) (code : ℕ) → code ≡ fault_status fault → (code ≡ 1 → ⊥) → (let ended : Result Bool Fault = Err fault in ended ≡ Err NoMemory) → ⊥
@@ -85,35 +85,35 @@ returns-in-Err-clause-others g c = λ none. elim (c.in-Err.ensures.others none) 
 
 pub returns-in-Err-clause-refused : goal.returns-in-Err-clause-refused
 returns-in-Err-clause-refused g c = λ words other free.
-    rw c.report.ensures.status (run_refused _ _ _ _ _ _ _ _ _ (c.in-Err.ensures.runs commands.Fac words (free_of_memory c.in-Err.fault c.report.result.code c.report.ensures.status free)).0 (λ four. other (c.report.ensures.status ∙ four)))
+    rw c.report.ensures.status (run_refused _ _ _ _ _ _ _ (c.in-Err.ensures.runs commands.Fac words (free_of_memory c.in-Err.fault c.report.result.code c.report.ensures.status free)).0 (λ four. other (c.report.ensures.status ∙ four)))
 
 pub returns-in-Err-clause-complete : goal.returns-in-Err-clause-complete
 returns-in-Err-clause-complete g c = λ words free no_read no_write.
-    rw c.report.ensures.status (run_complete _ _ _ _ _ _ _ _ _ (c.in-Err.ensures.runs commands.Fac words (free_of_memory c.in-Err.fault c.report.result.code c.report.ensures.status free)).0 no_read no_write)
+    rw c.report.ensures.status (run_complete _ _ _ _ _ _ _ (c.in-Err.ensures.runs commands.Fac words (free_of_memory c.in-Err.fault c.report.result.code c.report.ensures.status free)).0 no_read no_write)
 
 pub returns-in-Err-clause-check_refused : goal.returns-in-Err-clause-check_refused
 returns-in-Err-clause-check_refused g c = λ name words free.
-    rw c.report.ensures.status (refused_exactly _ _ _ _ _ _ _ _ _ _ _ _ _ (c.in-Err.ensures.runs (commands.Check name) words (free_of_memory c.in-Err.fault c.report.result.code c.report.ensures.status free)).0 (λ one. free (c.report.ensures.status ∙ one)))
+    rw c.report.ensures.status (refused_exactly _ _ _ _ _ _ _ _ _ _ _ (c.in-Err.ensures.runs (commands.Check name) words (free_of_memory c.in-Err.fault c.report.result.code c.report.ensures.status free)).0 (λ one. free (c.report.ensures.status ∙ one)))
 
 pub returns-in-Err-clause-serve_refused : goal.returns-in-Err-clause-serve_refused
 returns-in-Err-clause-serve_refused g c = λ name pace words free.
-    rw c.report.ensures.status (refused_exactly _ _ _ _ _ _ _ _ _ _ _ _ _ (c.in-Err.ensures.runs (commands.Serve name pace) words (free_of_memory c.in-Err.fault c.report.result.code c.report.ensures.status free)).0 (λ one. free (c.report.ensures.status ∙ one)))
+    rw c.report.ensures.status (refused_exactly _ _ _ _ _ _ _ _ _ _ _ (c.in-Err.ensures.runs (commands.Serve name pace) words (free_of_memory c.in-Err.fault c.report.result.code c.report.ensures.status free)).0 (λ one. free (c.report.ensures.status ∙ one)))
 
 pub returns-in-Err-clause-check_unread : goal.returns-in-Err-clause-check_unread
 returns-in-Err-clause-check_unread g c = λ name words free.
-    rw c.report.ensures.status (unread_exactly _ _ _ _ _ _ _ _ _ _ _ _ _ (c.in-Err.ensures.runs (commands.Check name) words (free_of_memory c.in-Err.fault c.report.result.code c.report.ensures.status free)).0 (λ one. free (c.report.ensures.status ∙ one)))
+    rw c.report.ensures.status (unread_exactly _ _ _ _ _ _ _ _ _ _ _ (c.in-Err.ensures.runs (commands.Check name) words (free_of_memory c.in-Err.fault c.report.result.code c.report.ensures.status free)).0 (λ one. free (c.report.ensures.status ∙ one)))
 
 pub returns-in-Err-clause-serve_unread : goal.returns-in-Err-clause-serve_unread
 returns-in-Err-clause-serve_unread g c = λ name pace words free.
-    rw c.report.ensures.status (unread_exactly _ _ _ _ _ _ _ _ _ _ _ _ _ (c.in-Err.ensures.runs (commands.Serve name pace) words (free_of_memory c.in-Err.fault c.report.result.code c.report.ensures.status free)).0 (λ one. free (c.report.ensures.status ∙ one)))
+    rw c.report.ensures.status (unread_exactly _ _ _ _ _ _ _ _ _ _ _ (c.in-Err.ensures.runs (commands.Serve name pace) words (free_of_memory c.in-Err.fault c.report.result.code c.report.ensures.status free)).0 (λ one. free (c.report.ensures.status ∙ one)))
 
 pub returns-in-Err-clause-check_complete : goal.returns-in-Err-clause-check_complete
 returns-in-Err-clause-check_complete g c = λ name words free no_write.
-    rw c.report.ensures.status (complete _ _ _ _ _ _ _ _ _ _ _ _ _ (c.in-Err.ensures.runs (commands.Check name) words (free_of_memory c.in-Err.fault c.report.result.code c.report.ensures.status free)).0 (λ one. free (c.report.ensures.status ∙ one)) no_write)
+    rw c.report.ensures.status (complete _ _ _ _ _ _ _ _ _ _ _ (c.in-Err.ensures.runs (commands.Check name) words (free_of_memory c.in-Err.fault c.report.result.code c.report.ensures.status free)).0 (λ one. free (c.report.ensures.status ∙ one)) no_write)
 
 pub returns-in-Err-clause-serve_complete : goal.returns-in-Err-clause-serve_complete
 returns-in-Err-clause-serve_complete g c = λ name pace words free no_write.
-    rw c.report.ensures.status (complete _ _ _ _ _ _ _ _ _ _ _ _ _ (c.in-Err.ensures.runs (commands.Serve name pace) words (free_of_memory c.in-Err.fault c.report.result.code c.report.ensures.status free)).0 (λ one. free (c.report.ensures.status ∙ one)) no_write)
+    rw c.report.ensures.status (complete _ _ _ _ _ _ _ _ _ _ _ (c.in-Err.ensures.runs (commands.Serve name pace) words (free_of_memory c.in-Err.fault c.report.result.code c.report.ensures.status free)).0 (λ one. free (c.report.ensures.status ∙ one)) no_write)
 
 pub returns-in-Err-clause-read : goal.returns-in-Err-clause-read
 returns-in-Err-clause-read g c = λ four. c.in-Err.ensures.read (ap Err (four_is_read c.in-Err.fault (sym c.report.ensures.status ∙ four)))
@@ -143,23 +143,23 @@ returns-in-Err-clause-send g c = λ name to pace words free.
 
 pub returns-in-Err-clause-send_unopened : goal.returns-in-Err-clause-send_unopened
 returns-in-Err-clause-send_unopened g c = λ name to pace words free.
-    rw c.report.ensures.status (unopened _ _ _ _ _ _ _ _ _ _ _ _ (c.in-Err.ensures.runs (commands.Send name to pace) words (free_of_memory c.in-Err.fault c.report.result.code c.report.ensures.status free)).0)
+    rw c.report.ensures.status (unopened _ _ _ _ _ _ _ _ _ _ (c.in-Err.ensures.runs (commands.Send name to pace) words (free_of_memory c.in-Err.fault c.report.result.code c.report.ensures.status free)).0)
 
 pub returns-in-Err-clause-send_cut : goal.returns-in-Err-clause-send_cut
 returns-in-Err-clause-send_cut g c = λ name to pace words free.
-    rw c.report.ensures.status (cut_where _ _ _ _ _ _ _ _ _ _ _ _ c.first_ones_are_front.ensures (c.in-Err.ensures.runs (commands.Send name to pace) words (free_of_memory c.in-Err.fault c.report.result.code c.report.ensures.status free)).0 (λ one. free (c.report.ensures.status ∙ one)))
+    rw c.report.ensures.status (cut_where _ _ _ _ _ _ _ _ _ _ c.first_ones_are_front.ensures (c.in-Err.ensures.runs (commands.Send name to pace) words (free_of_memory c.in-Err.fault c.report.result.code c.report.ensures.status free)).0 (λ one. free (c.report.ensures.status ∙ one)))
 
 pub returns-in-Err-clause-send_complete : goal.returns-in-Err-clause-send_complete
 returns-in-Err-clause-send_complete g c = λ name to pace words free.
-    rw c.report.ensures.status (all_where _ _ _ _ _ _ _ _ _ _ _ _ c.one_delivery.ensures c.first_ones_are_front.ensures (c.in-Err.ensures.runs (commands.Send name to pace) words (free_of_memory c.in-Err.fault c.report.result.code c.report.ensures.status free)).0 (λ one. free (c.report.ensures.status ∙ one)))
+    rw c.report.ensures.status (all_where _ _ _ _ _ _ _ _ _ _ c.one_delivery.ensures c.first_ones_are_front.ensures (c.in-Err.ensures.runs (commands.Send name to pace) words (free_of_memory c.in-Err.fault c.report.result.code c.report.ensures.status free)).0 (λ one. free (c.report.ensures.status ∙ one)))
 
 pub returns-in-Err-clause-send_refused : goal.returns-in-Err-clause-send_refused
 returns-in-Err-clause-send_refused g c = λ name to pace words free link.
-    rw c.report.ensures.status (refused_where _ _ _ _ _ _ _ _ _ _ _ _ (c.in-Err.ensures.runs (commands.Send name to pace) words (free_of_memory c.in-Err.fault c.report.result.code c.report.ensures.status free)).0 (λ one. free (c.report.ensures.status ∙ one)) (λ six. link (c.report.ensures.status ∙ six)))
+    rw c.report.ensures.status (refused_where _ _ _ _ _ _ _ _ _ _ (c.in-Err.ensures.runs (commands.Send name to pace) words (free_of_memory c.in-Err.fault c.report.result.code c.report.ensures.status free)).0 (λ one. free (c.report.ensures.status ∙ one)) (λ six. link (c.report.ensures.status ∙ six)))
 
 pub returns-in-Err-clause-send_unread : goal.returns-in-Err-clause-send_unread
 returns-in-Err-clause-send_unread g c = λ name to pace words free link.
-    rw c.report.ensures.status (unread_where _ _ _ _ _ _ _ _ _ _ _ _ (c.in-Err.ensures.runs (commands.Send name to pace) words (free_of_memory c.in-Err.fault c.report.result.code c.report.ensures.status free)).0 (λ one. free (c.report.ensures.status ∙ one)) (λ six. link (c.report.ensures.status ∙ six)))
+    rw c.report.ensures.status (unread_where _ _ _ _ _ _ _ _ _ _ (c.in-Err.ensures.runs (commands.Send name to pace) words (free_of_memory c.in-Err.fault c.report.result.code c.report.ensures.status free)).0 (λ one. free (c.report.ensures.status ∙ one)) (λ six. link (c.report.ensures.status ∙ six)))
 
 pub returns-in-Err-clause-link : goal.returns-in-Err-clause-link
 returns-in-Err-clause-link g c = λ six. c.in-Err.ensures.link (ap Err (six_is_link c.in-Err.fault (sym c.report.ensures.status ∙ six)))
@@ -229,16 +229,16 @@ returns-in-Ok-true-clause-receive g c = λ addresses rules words free.
 
 pub returns-in-Ok-true-clause-receive_linked : goal.returns-in-Ok-true-clause-receive_linked
 returns-in-Ok-true-clause-receive_linked g c = λ addresses rules words free unless.
-    rw c.in-Ok-true.field-0-test at (linked _ _ _ _ _ _ _ _ _ _ _ (Ok c.in-Ok-true.field-0) (c.in-Ok-true.ensures.runs (commands.Receive addresses rules) words (λ e. cc)).0 (λ one. free (sym (ap clean_status c.in-Ok-true.field-0-test) ∙ one))
+    rw c.in-Ok-true.field-0-test at (linked _ _ _ _ _ _ _ _ _ (Ok c.in-Ok-true.field-0) (c.in-Ok-true.ensures.runs (commands.Receive addresses rules) words (λ e. cc)).0 (λ one. free (sym (ap clean_status c.in-Ok-true.field-0-test) ∙ one))
     (λ live five. unless live (sym (ap clean_status c.in-Ok-true.field-0-test) ∙ five)))
 
 pub returns-in-Ok-true-clause-receive_complete : goal.returns-in-Ok-true-clause-receive_complete
 returns-in-Ok-true-clause-receive_complete g c = λ addresses rules words free no_write.
-    rw c.in-Ok-true.field-0-test at (receive_complete _ _ _ _ _ _ _ _ _ _ _ (Ok c.in-Ok-true.field-0) (c.in-Ok-true.ensures.runs (commands.Receive addresses rules) words (λ e. cc)).0 (λ one. free (sym (ap clean_status c.in-Ok-true.field-0-test) ∙ one)) no_write)
+    rw c.in-Ok-true.field-0-test at (receive_complete _ _ _ _ _ _ _ _ _ (Ok c.in-Ok-true.field-0) (c.in-Ok-true.ensures.runs (commands.Receive addresses rules) words (λ e. cc)).0 (λ one. free (sym (ap clean_status c.in-Ok-true.field-0-test) ∙ one)) no_write)
 
 pub returns-in-Ok-true-clause-receive_in_time : goal.returns-in-Ok-true-clause-receive_in_time
 returns-in-Ok-true-clause-receive_in_time g c = λ addresses rules words free no_write.
-    rw c.in-Ok-true.field-0-test at (receive_in_time _ _ _ _ _ _ _ _ (receive_complete _ _ _ _ _ _ _ _ _ _ _ (Ok c.in-Ok-true.field-0) (c.in-Ok-true.ensures.runs (commands.Receive addresses rules) words (λ e. cc)).0 (λ one. free (sym (ap clean_status c.in-Ok-true.field-0-test) ∙ one)) no_write))
+    rw c.in-Ok-true.field-0-test at (receive_in_time (report_status (Ok c.in-Ok-true.field-0)) rules addresses (g.D.Dock.known c.args.dock.now) (g.D.Dock.known c.execute.new.dock) g.O.Sink.known c.args.out.now c.execute.new.out (receive_complete _ _ _ _ _ _ _ _ _ (Ok c.in-Ok-true.field-0) (c.in-Ok-true.ensures.runs (commands.Receive addresses rules) words (λ e. cc)).0 (λ one. free (sym (ap clean_status c.in-Ok-true.field-0-test) ∙ one)) no_write))
 
 pub returns-in-Ok-true-clause-air : goal.returns-in-Ok-true-clause-air
 returns-in-Ok-true-clause-air g c = λ name script window words free.
@@ -247,19 +247,19 @@ returns-in-Ok-true-clause-air g c = λ name script window words free.
 
 pub returns-in-Ok-true-clause-air_refused : goal.returns-in-Ok-true-clause-air_refused
 returns-in-Ok-true-clause-air_refused g c = λ name script window words free.
-    rw c.in-Ok-true.field-0-test at (air_refused _ _ _ _ _ (Ok c.in-Ok-true.field-0) _ _ _ _ _ _ (c.in-Ok-true.ensures.runs (commands.Air name script window) words (λ e. cc)).0 (λ one. free (sym (ap clean_status c.in-Ok-true.field-0-test) ∙ one)))
+    rw c.in-Ok-true.field-0-test at (air_refused _ _ _ _ _ (Ok c.in-Ok-true.field-0) _ _ _ _ (c.in-Ok-true.ensures.runs (commands.Air name script window) words (λ e. cc)).0 (λ one. free (sym (ap clean_status c.in-Ok-true.field-0-test) ∙ one)))
 
 pub returns-in-Ok-true-clause-air_unread : goal.returns-in-Ok-true-clause-air_unread
 returns-in-Ok-true-clause-air_unread g c = λ name script window words free.
-    rw c.in-Ok-true.field-0-test at (air_unread _ _ _ _ _ (Ok c.in-Ok-true.field-0) _ _ _ _ _ _ (c.in-Ok-true.ensures.runs (commands.Air name script window) words (λ e. cc)).0 (λ one. free (sym (ap clean_status c.in-Ok-true.field-0-test) ∙ one)))
+    rw c.in-Ok-true.field-0-test at (air_unread _ _ _ _ _ (Ok c.in-Ok-true.field-0) _ _ _ _ (c.in-Ok-true.ensures.runs (commands.Air name script window) words (λ e. cc)).0 (λ one. free (sym (ap clean_status c.in-Ok-true.field-0-test) ∙ one)))
 
 pub returns-in-Ok-true-clause-air_complete : goal.returns-in-Ok-true-clause-air_complete
 returns-in-Ok-true-clause-air_complete g c = λ name script window words free no_write.
-    rw c.in-Ok-true.field-0-test at (air_complete _ _ _ _ _ (Ok c.in-Ok-true.field-0) _ _ _ _ _ _ (c.in-Ok-true.ensures.runs (commands.Air name script window) words (λ e. cc)).0 (λ one. free (sym (ap clean_status c.in-Ok-true.field-0-test) ∙ one)) no_write)
+    rw c.in-Ok-true.field-0-test at (air_complete _ _ _ _ _ (Ok c.in-Ok-true.field-0) _ _ _ _ (c.in-Ok-true.ensures.runs (commands.Air name script window) words (λ e. cc)).0 (λ one. free (sym (ap clean_status c.in-Ok-true.field-0-test) ∙ one)) no_write)
 
 pub returns-in-Ok-true-clause-air_in_time : goal.returns-in-Ok-true-clause-air_in_time
 returns-in-Ok-true-clause-air_in_time g c = λ name script window words free no_write.
-    rw c.in-Ok-true.field-0-test at (air_in_time _ _ _ _ _ _ _ _ _ (air_complete _ _ _ _ _ (Ok c.in-Ok-true.field-0) _ _ _ _ _ _ (c.in-Ok-true.ensures.runs (commands.Air name script window) words (λ e. cc)).0 (λ one. free (sym (ap clean_status c.in-Ok-true.field-0-test) ∙ one)) no_write))
+    rw c.in-Ok-true.field-0-test at (air_in_time (report_status (Ok c.in-Ok-true.field-0)) name script window (g.S.Shelf.known c.args.shelf.now) (g.S.Shelf.known c.execute.new.shelf) g.O.Sink.known c.args.out.now c.execute.new.out (air_complete _ _ _ _ _ (Ok c.in-Ok-true.field-0) _ _ _ _ (c.in-Ok-true.ensures.runs (commands.Air name script window) words (λ e. cc)).0 (λ one. free (sym (ap clean_status c.in-Ok-true.field-0-test) ∙ one)) no_write))
 
 pub returns-in-Ok-false-clause-receive : goal.returns-in-Ok-false-clause-receive
 returns-in-Ok-false-clause-receive g c = λ addresses rules words free.
@@ -268,16 +268,16 @@ returns-in-Ok-false-clause-receive g c = λ addresses rules words free.
 
 pub returns-in-Ok-false-clause-receive_linked : goal.returns-in-Ok-false-clause-receive_linked
 returns-in-Ok-false-clause-receive_linked g c = λ addresses rules words free unless.
-    rw c.in-Ok-false.field-0-test at (linked _ _ _ _ _ _ _ _ _ _ _ (Ok c.in-Ok-false.field-0) (c.in-Ok-false.ensures.runs (commands.Receive addresses rules) words (λ e. cc)).0 (λ one. free (sym (ap clean_status c.in-Ok-false.field-0-test) ∙ one))
+    rw c.in-Ok-false.field-0-test at (linked _ _ _ _ _ _ _ _ _ (Ok c.in-Ok-false.field-0) (c.in-Ok-false.ensures.runs (commands.Receive addresses rules) words (λ e. cc)).0 (λ one. free (sym (ap clean_status c.in-Ok-false.field-0-test) ∙ one))
     (λ live five. unless live (sym (ap clean_status c.in-Ok-false.field-0-test) ∙ five)))
 
 pub returns-in-Ok-false-clause-receive_complete : goal.returns-in-Ok-false-clause-receive_complete
 returns-in-Ok-false-clause-receive_complete g c = λ addresses rules words free no_write.
-    rw c.in-Ok-false.field-0-test at (receive_complete _ _ _ _ _ _ _ _ _ _ _ (Ok c.in-Ok-false.field-0) (c.in-Ok-false.ensures.runs (commands.Receive addresses rules) words (λ e. cc)).0 (λ one. free (sym (ap clean_status c.in-Ok-false.field-0-test) ∙ one)) no_write)
+    rw c.in-Ok-false.field-0-test at (receive_complete _ _ _ _ _ _ _ _ _ (Ok c.in-Ok-false.field-0) (c.in-Ok-false.ensures.runs (commands.Receive addresses rules) words (λ e. cc)).0 (λ one. free (sym (ap clean_status c.in-Ok-false.field-0-test) ∙ one)) no_write)
 
 pub returns-in-Ok-false-clause-receive_in_time : goal.returns-in-Ok-false-clause-receive_in_time
 returns-in-Ok-false-clause-receive_in_time g c = λ addresses rules words free no_write.
-    rw c.in-Ok-false.field-0-test at (receive_in_time _ _ _ _ _ _ _ _ (receive_complete _ _ _ _ _ _ _ _ _ _ _ (Ok c.in-Ok-false.field-0) (c.in-Ok-false.ensures.runs (commands.Receive addresses rules) words (λ e. cc)).0 (λ one. free (sym (ap clean_status c.in-Ok-false.field-0-test) ∙ one)) no_write))
+    rw c.in-Ok-false.field-0-test at (receive_in_time (report_status (Ok c.in-Ok-false.field-0)) rules addresses (g.D.Dock.known c.args.dock.now) (g.D.Dock.known c.execute.new.dock) g.O.Sink.known c.args.out.now c.execute.new.out (receive_complete _ _ _ _ _ _ _ _ _ (Ok c.in-Ok-false.field-0) (c.in-Ok-false.ensures.runs (commands.Receive addresses rules) words (λ e. cc)).0 (λ one. free (sym (ap clean_status c.in-Ok-false.field-0-test) ∙ one)) no_write))
 
 pub returns-in-Ok-false-clause-air : goal.returns-in-Ok-false-clause-air
 returns-in-Ok-false-clause-air g c = λ name script window words free.
@@ -286,19 +286,19 @@ returns-in-Ok-false-clause-air g c = λ name script window words free.
 
 pub returns-in-Ok-false-clause-air_refused : goal.returns-in-Ok-false-clause-air_refused
 returns-in-Ok-false-clause-air_refused g c = λ name script window words free.
-    rw c.in-Ok-false.field-0-test at (air_refused _ _ _ _ _ (Ok c.in-Ok-false.field-0) _ _ _ _ _ _ (c.in-Ok-false.ensures.runs (commands.Air name script window) words (λ e. cc)).0 (λ one. free (sym (ap clean_status c.in-Ok-false.field-0-test) ∙ one)))
+    rw c.in-Ok-false.field-0-test at (air_refused _ _ _ _ _ (Ok c.in-Ok-false.field-0) _ _ _ _ (c.in-Ok-false.ensures.runs (commands.Air name script window) words (λ e. cc)).0 (λ one. free (sym (ap clean_status c.in-Ok-false.field-0-test) ∙ one)))
 
 pub returns-in-Ok-false-clause-air_unread : goal.returns-in-Ok-false-clause-air_unread
 returns-in-Ok-false-clause-air_unread g c = λ name script window words free.
-    rw c.in-Ok-false.field-0-test at (air_unread _ _ _ _ _ (Ok c.in-Ok-false.field-0) _ _ _ _ _ _ (c.in-Ok-false.ensures.runs (commands.Air name script window) words (λ e. cc)).0 (λ one. free (sym (ap clean_status c.in-Ok-false.field-0-test) ∙ one)))
+    rw c.in-Ok-false.field-0-test at (air_unread _ _ _ _ _ (Ok c.in-Ok-false.field-0) _ _ _ _ (c.in-Ok-false.ensures.runs (commands.Air name script window) words (λ e. cc)).0 (λ one. free (sym (ap clean_status c.in-Ok-false.field-0-test) ∙ one)))
 
 pub returns-in-Ok-false-clause-air_complete : goal.returns-in-Ok-false-clause-air_complete
 returns-in-Ok-false-clause-air_complete g c = λ name script window words free no_write.
-    rw c.in-Ok-false.field-0-test at (air_complete _ _ _ _ _ (Ok c.in-Ok-false.field-0) _ _ _ _ _ _ (c.in-Ok-false.ensures.runs (commands.Air name script window) words (λ e. cc)).0 (λ one. free (sym (ap clean_status c.in-Ok-false.field-0-test) ∙ one)) no_write)
+    rw c.in-Ok-false.field-0-test at (air_complete _ _ _ _ _ (Ok c.in-Ok-false.field-0) _ _ _ _ (c.in-Ok-false.ensures.runs (commands.Air name script window) words (λ e. cc)).0 (λ one. free (sym (ap clean_status c.in-Ok-false.field-0-test) ∙ one)) no_write)
 
 pub returns-in-Ok-false-clause-air_in_time : goal.returns-in-Ok-false-clause-air_in_time
 returns-in-Ok-false-clause-air_in_time g c = λ name script window words free no_write.
-    rw c.in-Ok-false.field-0-test at (air_in_time _ _ _ _ _ _ _ _ _ (air_complete _ _ _ _ _ (Ok c.in-Ok-false.field-0) _ _ _ _ _ _ (c.in-Ok-false.ensures.runs (commands.Air name script window) words (λ e. cc)).0 (λ one. free (sym (ap clean_status c.in-Ok-false.field-0-test) ∙ one)) no_write))
+    rw c.in-Ok-false.field-0-test at (air_in_time (report_status (Ok c.in-Ok-false.field-0)) name script window (g.S.Shelf.known c.args.shelf.now) (g.S.Shelf.known c.execute.new.shelf) g.O.Sink.known c.args.out.now c.execute.new.out (air_complete _ _ _ _ _ (Ok c.in-Ok-false.field-0) _ _ _ _ (c.in-Ok-false.ensures.runs (commands.Air name script window) words (λ e. cc)).0 (λ one. free (sym (ap clean_status c.in-Ok-false.field-0-test) ∙ one)) no_write))
 
 pub returns-in-Err-clause-receive : goal.returns-in-Err-clause-receive
 returns-in-Err-clause-receive g c = λ addresses rules words free.
@@ -307,16 +307,16 @@ returns-in-Err-clause-receive g c = λ addresses rules words free.
 
 pub returns-in-Err-clause-receive_linked : goal.returns-in-Err-clause-receive_linked
 returns-in-Err-clause-receive_linked g c = λ addresses rules words free unless.
-    rw c.report.ensures.status (linked _ _ _ _ _ _ _ _ _ _ _ (Err c.in-Err.fault) (c.in-Err.ensures.runs (commands.Receive addresses rules) words (free_of_memory c.in-Err.fault c.report.result.code c.report.ensures.status free)).0 (λ one. free (c.report.ensures.status ∙ one))
+    rw c.report.ensures.status (linked _ _ _ _ _ _ _ _ _ (Err c.in-Err.fault) (c.in-Err.ensures.runs (commands.Receive addresses rules) words (free_of_memory c.in-Err.fault c.report.result.code c.report.ensures.status free)).0 (λ one. free (c.report.ensures.status ∙ one))
     (λ live five. unless live (c.report.ensures.status ∙ five)))
 
 pub returns-in-Err-clause-receive_complete : goal.returns-in-Err-clause-receive_complete
 returns-in-Err-clause-receive_complete g c = λ addresses rules words free no_write.
-    rw c.report.ensures.status (receive_complete _ _ _ _ _ _ _ _ _ _ _ (Err c.in-Err.fault) (c.in-Err.ensures.runs (commands.Receive addresses rules) words (free_of_memory c.in-Err.fault c.report.result.code c.report.ensures.status free)).0 (λ one. free (c.report.ensures.status ∙ one)) no_write)
+    rw c.report.ensures.status (receive_complete _ _ _ _ _ _ _ _ _ (Err c.in-Err.fault) (c.in-Err.ensures.runs (commands.Receive addresses rules) words (free_of_memory c.in-Err.fault c.report.result.code c.report.ensures.status free)).0 (λ one. free (c.report.ensures.status ∙ one)) no_write)
 
 pub returns-in-Err-clause-receive_in_time : goal.returns-in-Err-clause-receive_in_time
 returns-in-Err-clause-receive_in_time g c = λ addresses rules words free no_write.
-    rw c.report.ensures.status (receive_in_time _ _ _ _ _ _ _ _ (receive_complete _ _ _ _ _ _ _ _ _ _ _ (Err c.in-Err.fault) (c.in-Err.ensures.runs (commands.Receive addresses rules) words (free_of_memory c.in-Err.fault c.report.result.code c.report.ensures.status free)).0 (λ one. free (c.report.ensures.status ∙ one)) no_write))
+    rw c.report.ensures.status (receive_in_time (report_status (Err c.in-Err.fault)) rules addresses (g.D.Dock.known c.args.dock.now) (g.D.Dock.known c.execute.new.dock) g.O.Sink.known c.args.out.now c.execute.new.out (receive_complete _ _ _ _ _ _ _ _ _ (Err c.in-Err.fault) (c.in-Err.ensures.runs (commands.Receive addresses rules) words (free_of_memory c.in-Err.fault c.report.result.code c.report.ensures.status free)).0 (λ one. free (c.report.ensures.status ∙ one)) no_write))
 
 pub returns-in-Err-clause-air : goal.returns-in-Err-clause-air
 returns-in-Err-clause-air g c = λ name script window words free.
@@ -325,16 +325,16 @@ returns-in-Err-clause-air g c = λ name script window words free.
 
 pub returns-in-Err-clause-air_refused : goal.returns-in-Err-clause-air_refused
 returns-in-Err-clause-air_refused g c = λ name script window words free.
-    rw c.report.ensures.status (air_refused _ _ _ _ _ (Err c.in-Err.fault) _ _ _ _ _ _ (c.in-Err.ensures.runs (commands.Air name script window) words (free_of_memory c.in-Err.fault c.report.result.code c.report.ensures.status free)).0 (λ one. free (c.report.ensures.status ∙ one)))
+    rw c.report.ensures.status (air_refused _ _ _ _ _ (Err c.in-Err.fault) _ _ _ _ (c.in-Err.ensures.runs (commands.Air name script window) words (free_of_memory c.in-Err.fault c.report.result.code c.report.ensures.status free)).0 (λ one. free (c.report.ensures.status ∙ one)))
 
 pub returns-in-Err-clause-air_unread : goal.returns-in-Err-clause-air_unread
 returns-in-Err-clause-air_unread g c = λ name script window words free.
-    rw c.report.ensures.status (air_unread _ _ _ _ _ (Err c.in-Err.fault) _ _ _ _ _ _ (c.in-Err.ensures.runs (commands.Air name script window) words (free_of_memory c.in-Err.fault c.report.result.code c.report.ensures.status free)).0 (λ one. free (c.report.ensures.status ∙ one)))
+    rw c.report.ensures.status (air_unread _ _ _ _ _ (Err c.in-Err.fault) _ _ _ _ (c.in-Err.ensures.runs (commands.Air name script window) words (free_of_memory c.in-Err.fault c.report.result.code c.report.ensures.status free)).0 (λ one. free (c.report.ensures.status ∙ one)))
 
 pub returns-in-Err-clause-air_complete : goal.returns-in-Err-clause-air_complete
 returns-in-Err-clause-air_complete g c = λ name script window words free no_write.
-    rw c.report.ensures.status (air_complete _ _ _ _ _ (Err c.in-Err.fault) _ _ _ _ _ _ (c.in-Err.ensures.runs (commands.Air name script window) words (free_of_memory c.in-Err.fault c.report.result.code c.report.ensures.status free)).0 (λ one. free (c.report.ensures.status ∙ one)) no_write)
+    rw c.report.ensures.status (air_complete _ _ _ _ _ (Err c.in-Err.fault) _ _ _ _ (c.in-Err.ensures.runs (commands.Air name script window) words (free_of_memory c.in-Err.fault c.report.result.code c.report.ensures.status free)).0 (λ one. free (c.report.ensures.status ∙ one)) no_write)
 
 pub returns-in-Err-clause-air_in_time : goal.returns-in-Err-clause-air_in_time
 returns-in-Err-clause-air_in_time g c = λ name script window words free no_write.
-    rw c.report.ensures.status (air_in_time _ _ _ _ _ _ _ _ _ (air_complete _ _ _ _ _ (Err c.in-Err.fault) _ _ _ _ _ _ (c.in-Err.ensures.runs (commands.Air name script window) words (free_of_memory c.in-Err.fault c.report.result.code c.report.ensures.status free)).0 (λ one. free (c.report.ensures.status ∙ one)) no_write))
+    rw c.report.ensures.status (air_in_time (report_status (Err c.in-Err.fault)) name script window (g.S.Shelf.known c.args.shelf.now) (g.S.Shelf.known c.execute.new.shelf) g.O.Sink.known c.args.out.now c.execute.new.out (air_complete _ _ _ _ _ (Err c.in-Err.fault) _ _ _ _ (c.in-Err.ensures.runs (commands.Air name script window) words (free_of_memory c.in-Err.fault c.report.result.code c.report.ensures.status free)).0 (λ one. free (c.report.ensures.status ∙ one)) no_write))

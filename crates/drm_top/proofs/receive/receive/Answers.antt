@@ -26,15 +26,15 @@ returns g c =
     let value : c.as_mut_slice.result.now ≡ before = c.as_mut_slice.ensures.value in
     let size : length before ≡ length c.args.addresses.now = ap length (sym value) ∙ c.as_mut_slice.ensures.len ∙ c.in_ok-jobs.ensures.many in
     let still : length after ≡ length before = c.run_all.auto.jobs ∙ ap length value in
-    let E : List (Job g.row.D-L.Denot) → Type 0 = λ xs. (k : ℕ) (d : Job g.row.D-L.Denot) → k < length xs → HasEnded g.D.L.Link.known g.D.L.Link.known (slice_index_or xs k d) (slice_index_or after k d) in
-    let ran : Ran g.D.L.Link.known g.D.L.Link.known c.args.rules.now (length c.args.addresses.now) before after =
+    let E : List (Job g.row.D-L.Denot) → Type 0 = λ xs. (k : ℕ) (d : Job g.row.D-L.Denot) → k < length xs → HasEnded g.D.L.Link.known (slice_index_or xs k d) (slice_index_or after k d) in
+    let ran : Ran g.D.L.Link.known c.args.rules.now (length c.args.addresses.now) before after =
     record { size = size; still = still; jobs = c.in_ok-jobs.ensures.jobs; ended = subst E value c.run_all.ensures } in
     let same : c.as_slice.result.now ≡ after = written_back c.in_ok-jobs.jobs.len after before c.as_slice.result.now (sym (still ∙ ap length (sym value) ∙ c.as_mut_slice.ensures.len)) c.as_slice.ensures.value in
     let settled : Settles after c.settle.result g.O.Sink.known c.args.out.now c.settle.new.out =
     subst (λ (jobs : List (Job g.row.D-L.Denot)). Settles jobs c.settle.result g.O.Sink.known c.args.out.now c.settle.new.out) same c.settle.ensures.settles in
     record {
       run = rw c.ending.ensures
-          (settled_run g.D.L.Link.known g.D.L.Link.known c.args.rules.now c.requires.rules c.reports_follow.ensures.headlines c.reports_follow.ensures.completes c.args.addresses.now before after ran
+          (settled_run g.D.L.Link.known c.args.rules.now c.requires.rules c.reports_follow.ensures.headlines c.reports_follow.ensures.completes c.args.addresses.now before after ran
           c.settle.result g.D.Dock.known c.args.dock.now c.open_all.new.dock g.O.Sink.known c.args.out.now c.settle.new.out
           c.in_ok-jobs.ensures.fresh c.in_ok-jobs.ensures.links c.in_ok-jobs.ensures.unsent c.in_ok-jobs.ensures.cause.later (λ one. c.if-len-eq1.false (c.len.ensures ∙ one)) settled c.settle.ensures.cause);
     }
@@ -45,7 +45,7 @@ returns-then-len-eq1 g c =
     record {
       run = rw c.live_ending.ensures
           (only_run c.args.rules.now c.requires.rules c.reports_follow.ensures.headlines c.reports_follow.ensures.completes c.args.addresses.now jobs c.index_mut.result.now c.run_live.new.job c.run_live.result
-          g.D.Dock.known c.args.dock.now c.open_all.new.dock g.D.L.Link.known g.D.L.Link.known g.O.Sink.known c.args.out.now c.run_live.new.out
+          g.D.Dock.known c.args.dock.now c.open_all.new.dock g.D.L.Link.known g.O.Sink.known c.args.out.now c.run_live.new.out
           (sym c.len.ensures ∙ c.if-len-eq1.true) (sym c.index_mut.ensures.value) c.in_ok-jobs.ensures.jobs c.in_ok-jobs.ensures.fresh c.in_ok-jobs.ensures.links
           c.in_ok-jobs.ensures.unsent c.in_ok-jobs.ensures.cause.later c.run_live.ensures.ended c.run_live.ensures.memory c.run_live.ensures.link c.run_live.ensures.write);
     }
