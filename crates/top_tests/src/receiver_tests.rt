@@ -1,9 +1,7 @@
 //! A receiver whose link or sink fails in the middle.
 
-ghost use Rattle.std.specs.Prelude.{◌≡◌, length, IfOk};
-
 use dcp_collect::Collector;
-use drm_bits::NoMemory;
+use drm_bits::{NoMemory, zeros};
 use drm_links::{MemLink, MemSink};
 use drm_top::{Ended, Options, receive_one};
 use mod_feed::Feed;
@@ -25,12 +23,6 @@ struct Case<'a> {
     sink: &'a [u64],
     ended: Ended,
     text: &'a str,
-}
-
-fn zeros(alloc: Global, count: usize) -> Result<Vec<u8>, NoMemory>
-    ensures { IfOk result (λ bytes. length bytes.items ≡ count) }
-{
-    Ok(vec![in alloc; 0u8; count]?)
 }
 
 fn receives<R: Abort + AllocGlobal>(rt: &R, case: Case<'_>) -> Result<(), Fail> {

@@ -11,4 +11,4 @@ pub returns-in-Ok-clause-item : goal.returns-in-Ok-clause-item
 returns-in-Ok-clause-item c =
     let carried = c.in-Ok.ensures.carried in
     subst (λ out. IsItemOf (given_of out) (item_of c.item_of_payload.result)) (sym c.in-Packet.is)
-        (c.item_of_payload.ensures.item c.in-Packet.bytes.now carried.0 carried.1 carried.2)
+    (c.item_of_payload.ensures.item c.in-Packet.bytes.now carried.0 carried.1 carried.2)
