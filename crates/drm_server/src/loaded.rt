@@ -9,6 +9,7 @@ ghost use Rattle.drm_server.specs.Datagrams.{HasDatagrams, HasDatagram, IsDatagr
 
 use crate::cut::{write_cut, write_parity};
 use crate::packet::write_packet;
+use crate::payload::Rooms;
 use dcp_pft::{MOST_PARITY, Shape, all_taken, cut_for, datagrams, most_packet};
 use drm_bits::{NoMemory, zeros};
 use drm_schedule::Schedule;
@@ -27,8 +28,7 @@ pub struct Loaded<'a> {
     // How it is cut, where it isn't carried whole, and the parity of its chunks, at the front.
     cut: Option<Shape>,
     parity: Vec<u8>,
-    // Room for the block of a frame.
-    block: Box<[u8; 1026]>,
+    rooms: Box<Rooms>,
 }
 
 impl<'a> Model for Loaded<'a> {
@@ -64,10 +64,10 @@ impl<'a> Loaded<'a> {
         plan.always_valid();
         let mut buffer = zeros(alloc, most_packet(plan.carry()))?;
         let mut parity = zeros(alloc, MOST_PARITY)?;
-        let Ok(mut block) = Box::new(alloc, [0; 1026]) else {
+        let Ok(mut rooms) = Box::new(alloc, Rooms::new()) else {
             return Err(NoMemory);
         };
-        let len = write_packet(plan, 0, &mut buffer, &mut block);
+        let len = write_packet(plan, 0, &mut buffer, &mut rooms);
         let cut = cut_for(plan.carry(), len);
         write_parity(&buffer[..len], cut, &mut parity);
         Ok(Loaded {
@@ -77,7 +77,7 @@ impl<'a> Loaded<'a> {
             len,
             cut,
             parity,
-            block,
+            rooms,
         })
     }
 
@@ -110,7 +110,7 @@ impl<'a> Loaded<'a> {
         ensures { self.new ≡ record self.old { frame = t } }
     {
         self.plan.always_valid();
-        self.len = write_packet(self.plan, t, &mut self.buffer, &mut self.block);
+        self.len = write_packet(self.plan, t, &mut self.buffer, &mut self.rooms);
         self.cut = cut_for(self.plan.carry(), self.len);
         write_parity(&self.buffer[..self.len], self.cut, &mut self.parity);
         self.frame = t;

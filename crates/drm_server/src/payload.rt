@@ -13,18 +13,32 @@ ghost use Rattle.mdi_items.specs.RoundTrip.{Parts, BlockBytes, block_pieces, IsW
 ghost use Rattle.drm_server.specs.Frames.{IsBlockAt, HasBlockWhere, IsFrameAt};
 ghost use Rattle.drm_server.specs.Placing.{IsNew, IsBefore, HoldsIn};
 
-use crate::stream::write_streams;
+use crate::stream::{MOST, write_streams};
 use drm_schedule::{Config, Schedule};
 use drm_timeline::{block_into, config_of_frame, description, fac_at, packet_len};
 use mdi_items::MdiWriter;
 
+/// Room for what is written on its way into a payload.
+#[derive(Drop)]
+pub struct Rooms {
+    // The block of a super frame.
+    block: [u8; 1026],
+    // A stream of one byte over and over.
+    fill: [u8; MOST],
+}
+
+impl Rooms {
+    /// New rooms.
+    pub fn new() -> Rooms {
+        Rooms {
+            block: [0; 1026],
+            fill: [0; MOST],
+        }
+    }
+}
+
 /// Writes the payload of the packet of frame `t`, and gives its length.
-pub fn write_payload(
-    plan: &Schedule,
-    t: u32,
-    into: &mut [u8; 8180],
-    block: &mut [u8; 1026],
-) -> usize
+pub fn write_payload(plan: &Schedule, t: u32, into: &mut [u8; 8180], rooms: &mut Rooms) -> usize
     requires { t < frame_count plan.now }
     ensures written { (parts : Parts) × IsFrameAt plan.now t parts × IsWrittenOf parts (take result into.new) }
     ensures len { result + 12 ≡ packet_size plan.now t }
@@ -36,8 +50,14 @@ pub fn write_payload(
     let _ = packet_len(plan, t);
     let mut writer = MdiWriter::new(into);
     write_head(&mut writer, plan, t, config);
-    write_block_where(&mut writer, plan, t, config, block);
-    write_streams(&mut writer, config.streams.as_slice(), t - 3 * config.start);
+    write_block_where(&mut writer, plan, t, config, &mut rooms.block);
+    let frame = t - 3 * config.start;
+    write_streams(
+        &mut writer,
+        config.streams.as_slice(),
+        frame,
+        &mut rooms.fill,
+    );
     let room = writer.room();
     total(into) - room
 }

@@ -10,11 +10,16 @@ ghost use Rattle.drm_server.specs.Placing.{IsBefore, IsBeforeStream, IsReady, Ar
 use drm_schedule::{Content, Stream};
 use mdi_items::MdiWriter;
 
-// The most bytes that the parts of a stream have in a frame.
-const MOST: usize = 2 * 4095;
+/// The most bytes that the parts of a stream have in a frame.
+pub const MOST: usize = 2 * 4095;
 
-/// Writes the streams of a configuration in the frame of it that has this number, from 0.
-pub fn write_streams(writer: &mut MdiWriter<'_>, streams: &[Stream], frame: u32)
+/// Writes the streams of a configuration in the frame of it that has this number, from 0, by way of this room.
+pub fn write_streams(
+    writer: &mut MdiWriter<'_>,
+    streams: &[Stream],
+    frame: u32,
+    room: &mut [u8; MOST],
+)
     requires place { IsBefore (str 0) (sum_by (λ s. 8 + stream_size s) streams.now) writer.old }
     requires ready { AreReady frame streams.now }
     ensures written { written writer.new ≡ written writer.old ++ spelling (stream_pieces 0 (map (stream_bytes frame) streams.now)) }
@@ -22,12 +27,18 @@ pub fn write_streams(writer: &mut MdiWriter<'_>, streams: &[Stream], frame: u32)
     ensures same_reference { lender writer.new ≡ lender writer.old }
 {
     for (k, stream) in streams.iter().enumerate() {
-        write_stream(writer, k as u8, stream, frame);
+        write_stream(writer, k as u8, stream, frame, room);
     }
 }
 
 // Writes the bytes of stream `k`.
-fn write_stream(writer: &mut MdiWriter<'_>, k: u8, stream: &Stream, frame: u32)
+fn write_stream(
+    writer: &mut MdiWriter<'_>,
+    k: u8,
+    stream: &Stream,
+    frame: u32,
+    room: &mut [u8; MOST],
+)
     requires place { IsBeforeStream k (8 + stream_size stream.now) writer.old }
     requires ready { IsReady frame stream.now }
     ensures written { written writer.new ≡ written writer.old ++ spelled (whole (str k) (stream_bytes frame stream.now)) }
@@ -37,7 +48,7 @@ fn write_stream(writer: &mut MdiWriter<'_>, k: u8, stream: &Stream, frame: u32)
 {
     let size = usize::from(stream.a) + usize::from(stream.b);
     match &stream.content {
-        Content::Fill(byte) => write_fill(writer, k, *byte, size),
+        Content::Fill(byte) => write_fill(writer, k, *byte, size, room),
         Content::File { bytes, .. } => {
             writer.stream(k, part(bytes.as_slice(), frame as usize, size));
         }
@@ -45,7 +56,7 @@ fn write_stream(writer: &mut MdiWriter<'_>, k: u8, stream: &Stream, frame: u32)
 }
 
 // Writes one byte so many times.
-fn write_fill(writer: &mut MdiWriter<'_>, k: u8, byte: u8, size: usize)
+fn write_fill(writer: &mut MdiWriter<'_>, k: u8, byte: u8, size: usize, room: &mut [u8; MOST])
     requires few { size ≤ 8190 }
     requires place { IsBeforeStream k (8 + size) writer.old }
     ensures written { written writer.new ≡ written writer.old ++ spelled (whole (str k) (replicate size byte)) }
@@ -53,8 +64,8 @@ fn write_fill(writer: &mut MdiWriter<'_>, k: u8, byte: u8, size: usize)
     ensures next { next writer.new ≡ str k + 1 }
     ensures same_reference { lender writer.new ≡ lender writer.old }
 {
-    let bytes = [byte; MOST];
-    writer.stream(k, &bytes[..size]);
+    room.fill(byte);
+    writer.stream(k, &room[..size]);
 }
 
 // The part of a file with this number, where each one has `size` bytes.

@@ -4,8 +4,8 @@ use Rattle.mdi_items.specs.Names.{str}
 use Rattle.mdi_items.specs.Written.{written, behind, spelled, whole}
 use Rattle.drm_server.proofs.stream.write_fill.Goals as goal
 
-cut : (c : goal.After-stream) → take c.args.size (replicate 8190 c.args.byte) ≡ replicate c.args.size c.args.byte
-cut c = take-replicate c.args.size 8190 c.args.byte c.requires.few
+cut : (c : goal.After-stream) → take c.args.size c.fill.new.self ≡ replicate c.args.size c.args.byte
+cut c = ap (take c.args.size) (c.fill.ensures.after (λ y same. same)) ∙ take-replicate c.args.size (length c.args.room.now) c.args.byte (omega (arith, c.requires.few, c.told-room))
 
 pub returns-clause-written : goal.returns-clause-written
 returns-clause-written c =
@@ -13,4 +13,4 @@ returns-clause-written c =
 
 pub returns-clause-left : goal.returns-clause-left
 returns-clause-left c =
-    omega (arith, ap length c.stream.ensures.behind, ap length (cut c), length-replicate c.args.size c.args.byte, length-drop (8 + length (take c.args.size (replicate 8190 c.args.byte))) (behind c.args.writer.now), c.requires.place.before.room)
+    omega (arith, ap length c.stream.ensures.behind, ap length (cut c), length-replicate c.args.size c.args.byte, length-drop (8 + length (take c.args.size c.fill.new.self)) (behind c.args.writer.now), c.requires.place.before.room)
