@@ -64,8 +64,9 @@ fn write_fill(writer: &mut MdiWriter<'_>, k: u8, byte: u8, size: usize, room: &m
     ensures next { next writer.new ≡ str k + 1 }
     ensures same_reference { lender writer.new ≡ lender writer.old }
 {
-    room.fill(byte);
-    writer.stream(k, &room[..size]);
+    let bytes = &mut room[..size];
+    bytes.fill(byte);
+    writer.stream(k, bytes);
 }
 
 // The part of a file with this number, where each one has `size` bytes.
