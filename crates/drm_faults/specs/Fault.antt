@@ -1,5 +1,5 @@
 -- How a run ends: as it should, or with a fault, which has a status and a line.
-use Rattle.std.specs.Prelude.{ℕ, ◌≡◌, Bool, true, false, List, Result, Ok, Err}
+use Rattle.std.specs.Prelude.{ℕ, ◌≡◌, ◌⊎◌, Bool, true, false, List, Result, Ok, Err}
 use Rattle.drm_links.specs.Told.{Known, HasFailed}
 use Rattle.drm_links.specs.Sink.{Output, Outputs, IsFront}
 use Rattle.drm_faults.specs.Lines.{fault_line}
@@ -22,10 +22,19 @@ abbrev pub status_of : Result (Unit {0}) Fault → ℕ
 status_of (Ok done) = 0
 status_of (Err fault) = fault_status fault
 
--- done, and whether each frame that the run tells of was given
+-- done, whether each frame that the run tells of was given or not
 abbrev pub done_of : Result Bool Fault → Result (Unit {0}) Fault
 done_of (Ok clean) = Ok tt
 done_of (Err fault) = Err fault
+
+-- the end of a run that tells of no frames
+abbrev pub whole_of : Result (Unit {0}) Fault → Result Bool Fault
+whole_of (Ok done) = Ok true
+whole_of (Err fault) = Err fault
+
+-- P, unless the run ends for want of memory
+abbrev pub UnlessMemory : {T : Type 0} → Result T Fault → Type 0 → Type 0
+UnlessMemory ending P = (ending ≡ Err NoMemory) ⊎ P
 
 abbrev pub clean_status : Bool → ℕ
 clean_status true = 0

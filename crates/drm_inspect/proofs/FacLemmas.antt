@@ -6,7 +6,7 @@ use Rattle.drm_fac.specs.declared.fac.Fac.{Fac}
 use Rattle.drm_fac.specs.declared.fac.FacFault.TheVariants.{Crc}
 use Rattle.drm_fac.specs.Fac.{IsFac}
 use Rattle.drm_fac.proofs.FacLemmas.{one_fac, fac_or_fault, same_fault}
-use Rattle.drm_links.specs.Told.{HasFailed, Known, Rose}
+use Rattle.drm_links.specs.Told.{HasFailed, Known, HasCause, Rose}
 use Rattle.drm_links.specs.Source.{Input, Inputs}
 use Rattle.drm_links.specs.Sink.{Output, Outputs, IsFront}
 use Rattle.drm_links.proofs.ToldLemmas.{Inputs-weaker}
@@ -158,91 +158,7 @@ comes_only came a b reads =
       | inr another ↦ Inputs-weaker (λ left rest. ComesTo left came) Only a b (comes came a b another reads) (λ left rest is other o. inl (comes_once left came other is o))
     ]
 
--- ---- runs
-
--- no reading ends with the fault of a write
-no_write : (a b : Known Input) → Reads (Err Write) a b → ⊥
-no_write a b (head, reads, is) = is
-
--- nothing is written where nothing was read
-pub run_stopped : {I O : Type 0} (fault : Fault) (ending : Result (Unit {0}) Fault) (input_known : I → Known Input) (input input' : I) (out_known : O → Known Output) (out : O)
-    → ending ≡ Err fault → Reads (Err fault) (input_known input) (input_known input')
-    → ((input_known input).faults ≤ (input_known input').faults) × (fault ≡ Read → HasFailed (input_known input) (input_known input'))
-    → FacRun ending input_known input input' out_known out out
-run_stopped fault ending input_known input input' out_known out is reads cause = record {
-  came = Err fault;
-  reads = reads;
-  writes = (is, refl);
-  only = comes_only (Err fault) (input_known input) (input_known input') reads;
-  read_cause = record { later = cause.0; rose = λ e. let same : fault ≡ Read = cc in cause.1 same };
-  write_cause = record {
-    later = omega arith;
-    rose = λ e.
-        let same : fault ≡ Write = cc in
-        let P : Fault → Type 0 = λ f. Reads (Err f) (input_known input) (input_known input') in
-        absurd (no_write (input_known input) (input_known input') (subst P same reads));
-  };
-}
-
--- a write failed
-pub run_cut : {I O : Type 0} (fac : Fac) (ending : Result (Unit {0}) Fault) (input_known : I → Known Input) (input input' : I) (out_known : O → Known Output) (out out' : O)
-    → ending ≡ Err Write → Reads (Ok fac) (input_known input) (input_known input') → (input_known input).faults ≤ (input_known input').faults
-    → Outputs (out_known out) (out_known out') (IsFront (fac_line fac)) → ((out_known out).faults ≤ (out_known out').faults) × HasFailed (out_known out) (out_known out')
-    → FacRun ending input_known input input' out_known out out'
-run_cut fac ending input_known input input' out_known out out' is reads later front cause =
-    let P : Result (Unit {0}) Fault → Type 0 = λ e. WritesCame (Ok fac) e out_known out out' in
-    record {
-      came = Ok fac;
-      reads = reads;
-      writes = subst P (sym is) front;
-      only = comes_only (Ok fac) (input_known input) (input_known input') reads;
-      read_cause = record { later = later; rose = λ e. cc };
-      write_cause = record { later = cause.0; rose = λ e. cause.1 };
-    }
-
--- the line was written
-pub run_done : {I O : Type 0} (fac : Fac) (input_known : I → Known Input) (input input' : I) (out_known : O → Known Output) (out out' : O)
-    → Reads (Ok fac) (input_known input) (input_known input') → (input_known input).faults ≤ (input_known input').faults
-    → Outputs (out_known out) (out_known out') (λ text. text ≡ fac_line fac) → (out_known out).faults ≤ (out_known out').faults
-    → FacRun (Ok tt) input_known input input' out_known out out'
-run_done fac input_known input input' out_known out out' reads later whole later' = record {
-  came = Ok fac;
-  reads = reads;
-  writes = whole;
-  only = comes_only (Ok fac) (input_known input) (input_known input') reads;
-  read_cause = record { later = later; rose = λ e. cc };
-  write_cause = record { later = later'; rose = λ e. cc };
-}
-
--- a run of the command ends with none of the faults that come before it
-pub run_ends : {I O : Type 0} (ending : Result (Unit {0}) Fault) (input_known : I → Known Input) (input input' : I) (out_known : O → Known Output) (out out' : O)
-    → FacRun ending input_known input input' out_known out out' → (ending ≡ Err Words → ⊥) × (ending ≡ Err NoMemory → ⊥) × (ending ≡ Err Link → ⊥)
-run_ends ending input_known input input' out_known out out' run = (
-  λ is. ended run.came Words out_known out out' (along_ending Words is) run.reads (λ e. cc) (λ r. r.2),
-  λ is. ended run.came NoMemory out_known out out' (along_ending NoMemory is) run.reads (λ e. cc) (λ r. r.2),
-  λ is. ended run.came Link out_known out out' (along_ending Link is) run.reads (λ e. cc) (λ r. r.2),
-)
-  where
-    along_ending : (fault : Fault) → ending ≡ Err fault → WritesCame run.came (Err fault) out_known out out'
-    along_ending fault is = let P : Result (Unit {0}) Fault → Type 0 = λ e. WritesCame run.came e out_known out out' in subst P is run.writes
-
-    ended : {O : Type 0} (came : Result Fac Fault) (fault : Fault) (known : O → Known Output) (out out' : O) → WritesCame came (Err fault) known out out' → Reads came (input_known input) (input_known input') → (fault ≡ Write → ⊥) → (Reads (Err fault) (input_known input) (input_known input') → ⊥) → ⊥
-    ended (Ok fac) Words known out out' writes reads no_write none = writes
-    ended (Ok fac) NoMemory known out out' writes reads no_write none = writes
-    ended (Ok fac) Link known out out' writes reads no_write none = writes
-    ended (Ok fac) (FacLength n) known out out' writes reads no_write none = writes
-    ended (Ok fac) FacOver known out out' writes reads no_write none = writes
-    ended (Ok fac) (FacCrc s c) known out out' writes reads no_write none = writes
-    ended (Ok fac) (Schedule l r) known out out' writes reads no_write none = writes
-    ended (Ok fac) (Script l r) known out out' writes reads no_write none = writes
-    ended (Ok fac) Read known out out' writes reads no_write none = writes
-    ended (Ok fac) Write known out out' writes reads no_write none = no_write refl
-    ended (Err other) fault known out out' writes reads no_write none =
-        let same : other ≡ fault = cc in
-        let P : Fault → Type 0 = λ f. Reads (Err f) (input_known input) (input_known input') in
-        none (subst P same reads)
-
--- ---- what a run says of its status
+-- ---- what is said of how a run ends
 
 -- with status 0 or 5 a FAC was read, with status 3 none
 status_of_came : {O : Type 0} (came : Result Fac Fault) (ending : Result (Unit {0}) Fault) (known : O → Known Output) (out out' : O) → WritesCame came ending known out out' → (status_of ending ≡ 4 → ⊥) → (came ≡ Err Read → ⊥)
@@ -273,15 +189,15 @@ three_exactly (Err (Schedule l r)) ending known out out' left writes comes = abs
 three_exactly (Err (Script l r)) ending known out out' left writes comes = absurd comes
 
 -- status 3 comes exactly where the input is no FAC
-pub run_refused : {I O : Type 0} (ending : Result (Unit {0}) Fault) (input_known : I → Known Input) (input input' : I) (out_known : O → Known Output) (out out' : O)
-    → FacRun ending input_known input input' out_known out out' → (status_of ending ≡ 4 → ⊥)
-    → Inputs (input_known input) (input_known input') (λ left rest. (status_of ending ≡ 3) ↔ ((fac : Fac) → IsFac fac left → ⊥))
-run_refused ending input_known input input' out_known out out' run none =
-    Inputs-weaker (λ left rest. ComesTo left run.came) (λ left rest. (status_of ending ≡ 3) ↔ ((fac : Fac) → IsFac fac left → ⊥)) (input_known input) (input_known input')
-    (comes run.came (input_known input) (input_known input') (status_of_came run.came ending out_known out out' run.writes none) run.reads)
-    (λ left rest is. three_exactly run.came ending out_known out out' left run.writes is)
+run_refused : {O : Type 0} (came : Result Fac Fault) (ending : Result (Unit {0}) Fault) (a b : Known Input) (out_known : O → Known Output) (out out' : O)
+    → Reads came a b → WritesCame came ending out_known out out' → (status_of ending ≡ 4 → ⊥)
+    → Inputs a b (λ left rest. (status_of ending ≡ 3) ↔ ((fac : Fac) → IsFac fac left → ⊥))
+run_refused came ending a b out_known out out' reads writes none =
+    Inputs-weaker (λ left rest. ComesTo left came) (λ left rest. (status_of ending ≡ 3) ↔ ((fac : Fac) → IsFac fac left → ⊥)) a b
+    (comes came a b (status_of_came came ending out_known out out' writes none) reads)
+    (λ left rest is. three_exactly came ending out_known out out' left writes is)
 
-printed : {O : Type 0} (fac : Fac) (ending : Result (Unit {0}) Fault) (known : O → Known Output) (out out' : O) → WritesCame (Ok fac) ending known out out' → (ending ≡ Err Write → ⊥) → (status_of ending ≡ 0) × Outputs (known out) (known out') (λ text. text ≡ fac_line fac)
+printed : {O : Type 0} (fac : Fac) (ending : Result (Unit {0}) Fault) (known : O → Known Output) (out out' : O) → WritesCame (Ok fac) ending known out out' → (ending ≡ Err Write → ⊥) → (ending ≡ Ok tt) × Outputs (known out) (known out') (λ text. text ≡ fac_line fac)
 printed fac (Ok done) known out out' writes none = (refl, writes)
 printed fac (Err Write) known out out' writes none = absurd (none refl)
 printed fac (Err NoMemory) known out out' writes none = absurd writes
@@ -295,19 +211,103 @@ printed fac (Err (Script l r)) known out out' writes none = absurd writes
 printed fac (Err Read) known out out' writes none = absurd writes
 
 -- where neither side failed a FAC is printed
-pub run_complete : {I O : Type 0} (ending : Result (Unit {0}) Fault) (input_known : I → Known Input) (input input' : I) (out_known : O → Known Output) (out out' : O)
-    → FacRun ending input_known input input' out_known out out'
-    → (HasFailed (input_known input) (input_known input') → ⊥) → (HasFailed (out_known out) (out_known out') → ⊥)
-    → Inputs (input_known input) (input_known input') (λ left rest. (fac : Fac) → IsFac fac left → (status_of ending ≡ 0) × Outputs (out_known out) (out_known out') (λ text. text ≡ fac_line fac))
-run_complete ending input_known input input' out_known out out' run no_read no_write =
-    let reading : run.came ≡ Err Read → ⊥ = λ e. no_read (run.read_cause.rose (read_ending run.came ending out_known out out' run.writes e)) in
-    Inputs-weaker (λ left rest. ComesTo left run.came)
-    (λ left rest. (fac : Fac) → IsFac fac left → (status_of ending ≡ 0) × Outputs (out_known out) (out_known out') (λ text. text ≡ fac_line fac))
-    (input_known input) (input_known input') (comes run.came (input_known input) (input_known input') reading run.reads)
+run_complete : {O : Type 0} (came : Result Fac Fault) (ending : Result (Unit {0}) Fault) (a b : Known Input) (out_known : O → Known Output) (out out' : O)
+    → Reads came a b → WritesCame came ending out_known out out' → (ending ≡ Err Read → HasFailed a b) → (ending ≡ Err Write → HasFailed (out_known out) (out_known out'))
+    → (HasFailed a b → ⊥) → (HasFailed (out_known out) (out_known out') → ⊥)
+    → Inputs a b (λ left rest. (fac : Fac) → IsFac fac left → (ending ≡ Ok tt) × Outputs (out_known out) (out_known out') (λ text. text ≡ fac_line fac))
+run_complete came ending a b out_known out out' reads writes read_rose write_rose no_read no_write =
+    let reading : came ≡ Err Read → ⊥ = λ e. no_read (read_rose (read_ending came ending out_known out out' writes e)) in
+    Inputs-weaker (λ left rest. ComesTo left came)
+    (λ left rest. (fac : Fac) → IsFac fac left → (ending ≡ Ok tt) × Outputs (out_known out) (out_known out') (λ text. text ≡ fac_line fac))
+    a b (comes came a b reading reads)
     (λ left rest is fac is_fac.
     let P : Result Fac Fault → Type 0 = λ v. WritesCame v ending out_known out out' in
-    printed fac ending out_known out out' (subst P (comes_once left run.came (Ok fac) is is_fac) run.writes) (λ e. no_write (run.write_cause.rose e)))
+    printed fac ending out_known out out' (subst P (comes_once left came (Ok fac) is is_fac) writes) (λ e. no_write (write_rose e)))
   where
     read_ending : {O : Type 0} (came : Result Fac Fault) (ending : Result (Unit {0}) Fault) (known : O → Known Output) (out out' : O) → WritesCame came ending known out out' → came ≡ Err Read → ending ≡ Err Read
     read_ending (Ok fac) ending known out out' writes is = cc
     read_ending (Err fault) ending known out out' writes is = let same : fault ≡ Read = cc in writes.0 ∙ ap Err same
+
+-- ---- runs
+
+-- no reading ends with the fault of a write
+no_write : (a b : Known Input) → Reads (Err Write) a b → ⊥
+no_write a b (head, reads, is) = is
+
+-- a run, by what was read and what was written
+run_by : {I O : Type 0} (came : Result Fac Fault) (ending : Result (Unit {0}) Fault) (input_known : I → Known Input) (input input' : I) (out_known : O → Known Output) (out out' : O)
+    → Reads came (input_known input) (input_known input') → WritesCame came ending out_known out out'
+    → HasCause (input_known input) (input_known input') (ending ≡ Err Read) → HasCause (out_known out) (out_known out') (ending ≡ Err Write)
+    → FacRun ending input_known input input' out_known out out'
+run_by came ending input_known input input' out_known out out' reads writes read_cause write_cause = record {
+  came = came;
+  reads = reads;
+  writes = writes;
+  only = comes_only came (input_known input) (input_known input') reads;
+  refused = run_refused came ending (input_known input) (input_known input') out_known out out' reads writes;
+  complete = run_complete came ending (input_known input) (input_known input') out_known out out' reads writes read_cause.rose write_cause.rose;
+  read_cause = read_cause;
+  write_cause = write_cause;
+}
+
+-- nothing is written where nothing was read
+pub run_stopped : {I O : Type 0} (fault : Fault) (ending : Result (Unit {0}) Fault) (input_known : I → Known Input) (input input' : I) (out_known : O → Known Output) (out : O)
+    → ending ≡ Err fault → Reads (Err fault) (input_known input) (input_known input')
+    → ((input_known input).faults ≤ (input_known input').faults) × (fault ≡ Read → HasFailed (input_known input) (input_known input'))
+    → FacRun ending input_known input input' out_known out out
+run_stopped fault ending input_known input input' out_known out is reads cause =
+    run_by (Err fault) ending input_known input input' out_known out out reads (is, refl)
+    (record { later = cause.0; rose = λ e. let same : fault ≡ Read = cc in cause.1 same })
+    (record {
+      later = omega arith;
+      rose = λ e.
+          let same : fault ≡ Write = cc in
+          let P : Fault → Type 0 = λ f. Reads (Err f) (input_known input) (input_known input') in
+          absurd (no_write (input_known input) (input_known input') (subst P same reads));
+    })
+
+-- a write failed
+pub run_cut : {I O : Type 0} (fac : Fac) (ending : Result (Unit {0}) Fault) (input_known : I → Known Input) (input input' : I) (out_known : O → Known Output) (out out' : O)
+    → ending ≡ Err Write → Reads (Ok fac) (input_known input) (input_known input') → (input_known input).faults ≤ (input_known input').faults
+    → Outputs (out_known out) (out_known out') (IsFront (fac_line fac)) → ((out_known out).faults ≤ (out_known out').faults) × HasFailed (out_known out) (out_known out')
+    → FacRun ending input_known input input' out_known out out'
+run_cut fac ending input_known input input' out_known out out' is reads later front cause =
+    let P : Result (Unit {0}) Fault → Type 0 = λ e. WritesCame (Ok fac) e out_known out out' in
+    run_by (Ok fac) ending input_known input input' out_known out out' reads (subst P (sym is) front)
+    (record { later = later; rose = λ e. cc }) (record { later = cause.0; rose = λ e. cause.1 })
+
+-- the line was written
+pub run_done : {I O : Type 0} (fac : Fac) (input_known : I → Known Input) (input input' : I) (out_known : O → Known Output) (out out' : O)
+    → Reads (Ok fac) (input_known input) (input_known input') → (input_known input).faults ≤ (input_known input').faults
+    → Outputs (out_known out) (out_known out') (λ text. text ≡ fac_line fac) → (out_known out).faults ≤ (out_known out').faults
+    → FacRun (Ok tt) input_known input input' out_known out out'
+run_done fac input_known input input' out_known out out' reads later whole later' =
+    run_by (Ok fac) (Ok tt) input_known input input' out_known out out' reads whole (record { later = later; rose = λ e. cc }) (record { later = later'; rose = λ e. cc })
+
+-- a run of the command ends with none of the faults that come before it
+pub run_ends : {I O : Type 0} (ending : Result (Unit {0}) Fault) (input_known : I → Known Input) (input input' : I) (out_known : O → Known Output) (out out' : O)
+    → FacRun ending input_known input input' out_known out out' → (ending ≡ Err Words → ⊥) × (ending ≡ Err NoMemory → ⊥) × (ending ≡ Err Link → ⊥)
+run_ends ending input_known input input' out_known out out' run = (
+  λ is. ended run.came Words out_known out out' (along_ending Words is) run.reads (λ e. cc) (λ r. r.2),
+  λ is. ended run.came NoMemory out_known out out' (along_ending NoMemory is) run.reads (λ e. cc) (λ r. r.2),
+  λ is. ended run.came Link out_known out out' (along_ending Link is) run.reads (λ e. cc) (λ r. r.2),
+)
+  where
+    along_ending : (fault : Fault) → ending ≡ Err fault → WritesCame run.came (Err fault) out_known out out'
+    along_ending fault is = let P : Result (Unit {0}) Fault → Type 0 = λ e. WritesCame run.came e out_known out out' in subst P is run.writes
+
+    ended : {O : Type 0} (came : Result Fac Fault) (fault : Fault) (known : O → Known Output) (out out' : O) → WritesCame came (Err fault) known out out' → Reads came (input_known input) (input_known input') → (fault ≡ Write → ⊥) → (Reads (Err fault) (input_known input) (input_known input') → ⊥) → ⊥
+    ended (Ok fac) Words known out out' writes reads no_write none = writes
+    ended (Ok fac) NoMemory known out out' writes reads no_write none = writes
+    ended (Ok fac) Link known out out' writes reads no_write none = writes
+    ended (Ok fac) (FacLength n) known out out' writes reads no_write none = writes
+    ended (Ok fac) FacOver known out out' writes reads no_write none = writes
+    ended (Ok fac) (FacCrc s c) known out out' writes reads no_write none = writes
+    ended (Ok fac) (Schedule l r) known out out' writes reads no_write none = writes
+    ended (Ok fac) (Script l r) known out out' writes reads no_write none = writes
+    ended (Ok fac) Read known out out' writes reads no_write none = writes
+    ended (Ok fac) Write known out out' writes reads no_write none = no_write refl
+    ended (Err other) fault known out out' writes reads no_write none =
+        let same : other ≡ fault = cc in
+        let P : Fault → Type 0 = λ f. Reads (Err f) (input_known input) (input_known input') in
+        none (subst P same reads)

@@ -1,13 +1,14 @@
 -- The command `fac`: the nine bytes of a FAC become one line.
-use Rattle.std.specs.Prelude.{ℕ, ◌≡◌, ◌<◌, ◌⊎◌, List, length, Option, Result, Ok, Err}
+use Rattle.std.specs.Prelude.{ℕ, ◌≡◌, ◌<◌, ◌⊎◌, ◌↔◌, List, length, Option, Result, Ok, Err}
 use Rattle.drm_fac.specs.declared.fac.Fac.{Fac}
 use Rattle.drm_fac.specs.Fac.{IsFac}
 use Rattle.drm_fac.specs.Fault.{IsCrcFault}
-use Rattle.drm_links.specs.Told.{Known, HasCause}
+use Rattle.drm_links.specs.Told.{HasFailed, Known, HasCause, Rose}
 use Rattle.drm_links.specs.Source.{Input, Inputs}
 use Rattle.drm_links.specs.Sink.{Output, Outputs, IsFront}
 use Rattle.drm_inspect.specs.Input.{ReadsHead, FailsWithin}
 use Rattle.drm_show.specs.FacLine.{fac_line}
+use Rattle.drm_faults.specs.Fault.{status_of}
 use Rattle.drm_faults.specs.declared.fault.Fault.{Fault}
 use Rattle.drm_faults.specs.declared.fault.Fault.TheVariants.{FacLength, FacOver, FacCrc, Read, Write}
 
@@ -40,6 +41,13 @@ pub record FacRun {I O : Type 0} (ending : Result (Unit {0}) Fault)
   pub writes : WritesCame came ending out_known out out'
   -- What the input comes to is what was read, unless a read failed.
   pub only : Inputs (input_known input) (input_known input') (λ left rest. (other : Result Fac Fault) → ComesTo left other → (came ≡ other) ⊎ (came ≡ Err Read))
+  -- It is refused exactly where the input is no FAC, unless a read failed.
+  pub refused : (status_of ending ≡ 4 → ⊥)
+      → Inputs (input_known input) (input_known input') (λ left _. (status_of ending ≡ 3) ↔ ((fac : Fac) → IsFac fac left → ⊥))
+  -- Where the input is a FAC and neither side failed, its line is written.
+  pub complete : (HasFailed (input_known input) (input_known input') → ⊥) → (HasFailed (out_known out) (out_known out') → ⊥)
+      → Inputs (input_known input) (input_known input') (λ left _. (fac : Fac) → IsFac fac left
+      → (ending ≡ Ok tt) × Outputs (out_known out) (out_known out') (λ text. text ≡ fac_line fac))
   -- The faults of the outside come only where its count of faults rose.
   pub read_cause : HasCause (input_known input) (input_known input') (ending ≡ Err Read)
   pub write_cause : HasCause (out_known out) (out_known out') (ending ≡ Err Write)

@@ -1,5 +1,5 @@
 -- Readings from a shelf, one after another.
-use Rattle.std.proofs.Common.{◌≡◌, ℕ, ◌⊎◌, inl, inr, List, Option, Result, Ok, Err, refl, sym, ◌∙◌, ap}
+use Rattle.std.proofs.Common.{◌≡◌, ℕ, ◌+◌, ◌≤◌, ◌⊎◌, inl, inr, List, Option, Result, Ok, Err, refl, sym, ◌∙◌, ap, subst, arith}
 use Rattle.drm_links.specs.declared.shelf.Loaded.{Loaded}
 use Rattle.drm_links.specs.declared.shelf.Loaded.TheVariants as loads
 use Rattle.drm_links.specs.Told.{Known, WhileTold, CountsCall}
@@ -8,58 +8,151 @@ use Rattle.drm_links.proofs.ToldLemmas.{Tells-nothing, Tells-then, Tells-weaker,
 use Rattle.drm_links.proofs.LoadLemmas.{Loads-is}
 use Rattle.drm_load.specs.declared.loading.ScheduleFault.{ScheduleFault}
 use Rattle.drm_load.specs.declared.loading.ScheduleFault.TheVariants.{NoMemory}
-use Rattle.drm_load.specs.Loading.{Step, Reading, given, after, ◌>>=◌, bytes_or_fault, load_for, ReadBy, GivesUnlessMemory}
+use Rattle.drm_load.specs.Loading.{Step, Reading, given, after, ◌>>=◌, bytes_or_fault, load_for, MadeSome, ReadBy, GivesUnlessMemory}
+
+-- ---- a reading makes loads, and the shelf tells nothing else anew
+
+abbrev pub LoadsMore : Files → Files → Type 0
+LoadsMore x y = (n : ℕ) × (y ≡ record x { loads = x.loads + n })
+
+abbrev pub LoadsOnly : {T : Type 0} → Reading T → Type 0
+LoadsOnly reading = (x : Files) → LoadsMore x (reading x).told
+
+none_more : (x : Files) → LoadsMore x x
+none_more x = (0, ap (λ n. record x { loads = n }) (omega arith))
+
+more_then : (x y z : Files) → LoadsMore x y → LoadsMore y z → LoadsMore x z
+more_then x y z (m, first) (n, second) = (
+  m + n,
+  second ∙ ap (λ (f : Files). record f { loads = f.loads + n }) first ∙ ap (λ k. record x { loads = k }) (omega arith),
+)
+
+more_least : (x y : Files) → LoadsMore x y → x.loads ≤ y.loads
+more_least x y (n, is) = let loads = ap (λ (f : Files). f.loads) is in omega (arith, loads)
+
+pub given_only : {T : Type 0} (came : Result T ScheduleFault) → LoadsOnly (given came)
+given_only came x = none_more x
+
+pub load_only : (line : ℕ) (name : List ℕ) (limit : ℕ) → LoadsOnly (load_for line name limit)
+load_only line name limit x = (1, refl)
+
+after_only : {A B : Type 0} (came : Result A ScheduleFault) (next : A → Reading B) → ((a : A) → LoadsOnly (next a)) → (x : Files) → LoadsMore x (after came next x).told
+after_only (Ok a) next later x = later a x
+after_only (Err fault) next later x = none_more x
+
+pub then_only : {A B : Type 0} (reading : Reading A) (next : A → Reading B) → LoadsOnly reading → ((a : A) → LoadsOnly (next a)) → LoadsOnly (reading >>= next)
+then_only reading next first later x =
+    more_then x (reading x).told ((reading >>= next) x).told (first x) (after_only (reading x).came next later (reading x).told)
+
+-- ---- some of the loads of a reading
+
+abbrev pub Comes : {T : Type 0} → Reading T → Result T ScheduleFault → Files → Files → Type 0
+Comes reading came x y = (reading x ≡ record { came = came; told = y }) ⊎ ((came ≡ Err NoMemory) × MadeSome (reading x).told x y)
+
+some_of : (last x y : Files) → LoadsMore x y → y.loads ≤ last.loads → MadeSome last x y
+some_of last x y (n, is) few = record { made = n; few = (let loads = ap (λ (f : Files). f.loads) is in omega (arith, loads, few)); told = is }
+
+made_more : (last x y : Files) → MadeSome last x y → LoadsMore x y
+made_more last x y some = (some.made, some.told)
+
+made_least : (last x y : Files) → MadeSome last x y → y.loads ≤ last.loads
+made_least last x y some = let loads = ap (λ (f : Files). f.loads) some.told in let few = some.few in omega (arith, loads, few)
 
 -- what came, where memory didn't run out
-came_by : {T : Type 0} (reading : Reading T) (x : T) (p q : Files) → (let came : Result T ScheduleFault = Ok x in (came ≡ Err NoMemory) ⊎ (reading p ≡ record { came = came; told = q })) → reading p ≡ record { came = Ok x; told = q }
-came_by reading x p q (inl memory) = cc
-came_by reading x p q (inr is) = is
+pub came_by : {T : Type 0} (reading : Reading T) (x : T) (p q : Files) → Comes reading (Ok x) p q → reading p ≡ record { came = Ok x; told = q }
+came_by reading x p q (inl is) = is
+came_by reading x p q (inr memory) = cc (memory.0)
 
-pub ReadBy-then : {A B : Type 0} (reading : Reading A) (next : A → Reading B) (x : A) (came : Result B ScheduleFault) (a b c : Known Files) → ReadBy reading (Ok x) a b → ReadBy (next x) came b c → ReadBy (reading >>= next) came a c
-ReadBy-then {A} {B} reading next x came a b c first second =
+told_by : {T : Type 0} (reading : Reading T) (x : T) (p q : Files) → LoadsOnly reading → reading p ≡ record { came = Ok x; told = q } → LoadsMore p q
+told_by {T} reading x p q only is = subst (λ (step : Step T). LoadsMore p step.told) is (only p)
+
+-- ---- readings one after another
+
+pub ReadBy-then : {A B : Type 0} (reading : Reading A) (next : A → Reading B) (x : A) (came : Result B ScheduleFault) (a b c : Known Files) → LoadsOnly reading
+    → ReadBy reading (Ok x) a b → ReadBy (next x) came b c → ReadBy (reading >>= next) came a c
+ReadBy-then {A} {B} reading next x came a b c only first second =
     Tells-then _ _ _ a b c first second
     (λ p q r is_first is_second. joined p q r (came_by reading x p q is_first) is_second)
   where
-    joined : (p q r : Files) → reading p ≡ record { came = Ok x; told = q } → (came ≡ Err NoMemory) ⊎ (next x q ≡ record { came = came; told = r }) → (came ≡ Err NoMemory) ⊎ ((reading >>= next) p ≡ record { came = came; told = r })
-    joined p q r is_first (inl memory) = inl memory
-    joined p q r is_first (inr is_second) = inr (ap (λ (step : Step A). after step.came next step.told) is_first ∙ is_second)
+    joined : (p q r : Files) → reading p ≡ record { came = Ok x; told = q } → Comes (next x) came q r → Comes (reading >>= next) came p r
+    joined p q r is_first (inl is_second) = inl (ap (λ (step : Step A). after step.came next step.told) is_first ∙ is_second)
+    joined p q r is_first (inr (memory, some)) =
+        let same : (reading >>= next) p ≡ next x q = ap (λ (step : Step A). after step.came next step.told) is_first in
+        inr (
+          memory,
+          subst (λ (step : Step B). MadeSome step.told p r) (sym same)
+              (some_of (next x q).told p r (more_then p q r (told_by reading x p q only is_first) (made_more (next x q).told q r some)) (made_least (next x q).told q r some)),
+        )
 
-pub ReadBy-stops : {A B : Type 0} (reading : Reading A) (next : A → Reading B) (fault : ScheduleFault) (a b : Known Files) → ReadBy reading (Err fault) a b → ReadBy (reading >>= next) (Err fault) a b
-ReadBy-stops {A} {B} reading next fault a b stops =
+pub ReadBy-stops : {A B : Type 0} (reading : Reading A) (next : A → Reading B) (fault : ScheduleFault) (a b : Known Files) → ((x : A) → LoadsOnly (next x))
+    → ReadBy reading (Err fault) a b → ReadBy (reading >>= next) (Err fault) a b
+ReadBy-stops {A} {B} reading next fault a b only stops =
     Tells-weaker _ _ a b stops (λ p q is. stopped p q is)
   where
-    stopped : (p q : Files) → (let came : Result A ScheduleFault = Err fault in (came ≡ Err NoMemory) ⊎ (reading p ≡ record { came = came; told = q })) → (let came : Result B ScheduleFault = Err fault in (came ≡ Err NoMemory) ⊎ ((reading >>= next) p ≡ record { came = came; told = q }))
-    stopped p q (inl memory) = inl (let same : fault ≡ NoMemory = cc in ap Err same)
-    stopped p q (inr is) = inr (ap (λ (step : Step A). after step.came next step.told) is)
+    stopped : (p q : Files) → Comes reading (Err fault) p q → Comes (reading >>= next) (Err fault) p q
+    stopped p q (inl is) = inl (ap (λ (step : Step A). after step.came next step.told) is)
+    stopped p q (inr (memory, some)) =
+        let same : fault ≡ NoMemory = cc in
+        let later = more_least (reading p).told ((reading >>= next) p).told (after_only (reading p).came next only (reading p).told) in
+        let so_far = made_least (reading p).told p q some in
+        inr (ap Err same, some_of ((reading >>= next) p).told p q (made_more (reading p).told p q some) (omega (arith, so_far, later)))
 
--- what is left of a reading, and what comes of it
-pub ReadBy-rest : {T : Type 0} (whole rest : Reading T) (came : Result T ScheduleFault) (a b c : Known Files) → Supplies a b (λ x y. whole x ≡ rest y) → ReadBy rest came b c → ReadBy whole came a c
+-- what is left of a reading, after some loads
+abbrev pub Reached : {T : Type 0} → Reading T → Reading T → Files → Files → Type 0
+Reached whole rest x y = (whole x ≡ rest y) × LoadsMore x y
+
+-- and what comes of it
+pub ReadBy-rest : {T : Type 0} (whole rest : Reading T) (came : Result T ScheduleFault) (a b c : Known Files) → Supplies a b (Reached whole rest) → ReadBy rest came b c → ReadBy whole came a c
 ReadBy-rest {T} whole rest came a b c so_far comes =
-    Tells-then _ _ _ a b c so_far comes (λ p q r same is. of p q r same is)
+    Tells-then _ _ _ a b c so_far comes (λ p q r reached is. of p q r reached is)
   where
-    of : (p q r : Files) → whole p ≡ rest q → (came ≡ Err NoMemory) ⊎ (rest q ≡ record { came = came; told = r }) → (came ≡ Err NoMemory) ⊎ (whole p ≡ record { came = came; told = r })
-    of p q r same (inl memory) = inl memory
-    of p q r same (inr is) = inr (same ∙ is)
+    of : (p q r : Files) → Reached whole rest p q → Comes rest came q r → Comes whole came p r
+    of p q r reached (inl is) = inl (reached.0 ∙ is)
+    of p q r reached (inr (memory, some)) = inr (
+      memory,
+      subst (λ (step : Step T). MadeSome step.told p r) (sym reached.0)
+          (some_of (rest q).told p r (more_then p q r reached.1 (made_more (rest q).told q r some)) (made_least (rest q).told q r some)),
+    )
 
 -- what is left once the next part came
-pub rest_after : {A B : Type 0} (whole : Reading B) (reading : Reading A) (next : A → Reading B) (x : A) (a b c : Known Files) → Supplies a b (λ p q. whole p ≡ (reading >>= next) q) → ReadBy reading (Ok x) b c → Supplies a c (λ p q. whole p ≡ next x q)
-rest_after {A} {B} whole reading next x a b c so_far came =
+pub rest_after : {A B : Type 0} (whole : Reading B) (reading : Reading A) (next : A → Reading B) (x : A) (a b c : Known Files) → LoadsOnly reading
+    → Supplies a b (Reached whole (reading >>= next)) → ReadBy reading (Ok x) b c → Supplies a c (Reached whole (next x))
+rest_after {A} {B} whole reading next x a b c only so_far came =
     Tells-then _ _ _ a b c so_far came
-    (λ p q r same is. same ∙ ap (λ (step : Step A). after step.came next step.told) (came_by reading x q r is))
+    (λ p q r reached is.
+    let came_is = came_by reading x q r is in (
+      reached.0 ∙ ap (λ (step : Step A). after step.came next step.told) came_is,
+      more_then p q r reached.1 (told_by reading x q r only came_is),
+    ))
 
--- what came without a load
+pub nothing_left : {T : Type 0} (whole rest : Reading T) (a : Known Files) → whole ≡ rest → Supplies a a (Reached whole rest)
+nothing_left whole rest a same = Tells-nothing _ a (λ told. ((λ i. same i told), none_more told))
+
+-- ---- what came without a load
+
 pub ReadBy-given : {T : Type 0} (came : Result T ScheduleFault) (a : Known Files) → ReadBy (given came) came a a
-ReadBy-given came a = Tells-nothing _ a (λ told. inr refl)
+ReadBy-given came a = Tells-nothing _ a (λ told. inl refl)
 
 pub ReadBy-gives : {T : Type 0} (came is : Result T ScheduleFault) (a : Known Files) → GivesUnlessMemory came is → ReadBy (given is) came a a
-ReadBy-gives {T} came is a (inl memory) = Tells-nothing _ a (λ told. inl memory)
-ReadBy-gives {T} came is a (inr same) = Tells-nothing _ a (λ told. inr (λ i. record { came = sym same i; told = told }))
+ReadBy-gives {T} came is a (inl memory) = Tells-nothing _ a (λ told. inr (memory, some_of told told told (none_more told) (omega arith)))
+ReadBy-gives {T} came is a (inr same) = Tells-nothing _ a (λ told. inl (λ i. record { came = sym same i; told = told }))
 
--- one load
+-- where memory runs out behind a reading
+pub ran_out : {A : Type 0} (reading : Reading A) (x : A) (a b : Known Files) → LoadsOnly reading → ReadBy reading (Ok x) a b → ReadBy reading (Err NoMemory) a b
+ran_out {A} reading x a b only comes =
+    Tells-weaker _ _ a b comes
+    (λ p q is.
+    let came_is = came_by reading x p q is in
+    let same : (reading p).told ≡ q = ap (λ (step : Step A). step.told) came_is in
+    let last = ap (λ (f : Files). f.loads) same in
+    inr (refl, some_of (reading p).told p q (told_by reading x p q only came_is) (omega (arith, last))))
+
+-- ---- one load
+
 pub ReadBy-load : (answer : Loaded) (line : ℕ) (name : List ℕ) (limit : ℕ) (a b : Known Files) → WhileTold a b (λ x _. Loads answer name limit x) → WhileTold a b KeepsFiles → CountsCall (λ (f : Files). f.loads) a b → ReadBy (load_for line name limit) (bytes_or_fault line answer) a b
 ReadBy-load answer line name limit a b loaded kept counts =
     Tells-weaker _ _ a b (Supplies-load answer name limit a b loaded kept counts) (λ p q is. of p q (Loads-is answer name limit p is.0) is.1)
   where
-    of : (p q : Files) → (answer ≡ loads.NoMemory) ⊎ (answer ≡ load_of p name limit) → q ≡ after_one p → (bytes_or_fault line answer ≡ Err NoMemory) ⊎ (load_for line name limit p ≡ record { came = bytes_or_fault line answer; told = q })
-    of p q (inl memory) told = inl (ap (bytes_or_fault line) memory)
-    of p q (inr is) told = inr (λ i. record { came = bytes_or_fault line (sym is i); told = sym told i })
+    of : (p q : Files) → (answer ≡ loads.NoMemory) ⊎ (answer ≡ load_of p name limit) → q ≡ after_one p → Comes (load_for line name limit) (bytes_or_fault line answer) p q
+    of p q (inl memory) told = inr (ap (bytes_or_fault line) memory, record { made = 1; few = omega arith; told = told })
+    of p q (inr is) told = inl (λ i. record { came = bytes_or_fault line (sym is i); told = sym told i })

@@ -21,7 +21,7 @@ use Rattle.drm_load.specs.declared.loading.ScheduleFault.TheVariants.{NoMemory, 
 use Rattle.drm_load.specs.Loading.{Reading, given, ◌>>=◌, load_for, ReadBy, GivesUnlessMemory}
 use Rattle.drm_load.specs.PlanFaults.{schedule_fault_of}
 use Rattle.drm_load.specs.Schedule.{longest_text, longest_file, by_lines, draft_of, by_validity, with_files, schedule_named, checked}
-use Rattle.drm_load.proofs.LoadingLemmas.{ReadBy-then, ReadBy-stops, ReadBy-rest, rest_after, ReadBy-gives, ReadBy-given}
+use Rattle.drm_load.proofs.LoadingLemmas.{LoadsOnly, given_only, load_only, then_only, Reached, ReadBy-then, ReadBy-stops, ReadBy-rest, rest_after, nothing_left, ReadBy-gives, ReadBy-given, came_by, ran_out}
 
 -- ---- a text by its lines alone
 
@@ -48,6 +48,12 @@ draft_given came text wrong right = by_text came text (is_utf8 text) refl wrong 
 
 -- ---- the files of a draft
 
+pub files_only : (n k : ℕ) (draft : Drafted) → LoadsOnly (with_files n k draft)
+files_only zero k draft = given_only (Ok draft)
+files_only (suc n) k draft =
+    then_only (load_for (line_at draft k) (name_at draft k) longest_file) (λ bytes. with_files n (k + 1) (attached draft k bytes))
+    (load_only (line_at draft k) (name_at draft k) longest_file) (λ bytes. files_only n (k + 1) (attached draft k bytes))
+
 -- what follows the k-th file of so many
 abbrev pub behind : ℕ → ℕ → Drafted → List ℕ → Reading Drafted
 behind files k draft bytes = with_files (files - (k + 1)) (k + 1) (attached draft k bytes)
@@ -57,78 +63,105 @@ one_more files k draft line name more line_is name_is =
     let left : files - k ≡ suc (files - (k + 1)) = omega arith in
     ap (λ n. with_files n k draft) left ∙ (λ i. load_for (sym line_is i) (sym name_is i) longest_file >>= behind files k draft)
 
-pub files_next : (whole : Reading Drafted) (files k : ℕ) (draft next : Drafted) (line : ℕ) (name bytes : List ℕ) (a b c : Known Files) → k < files → line ≡ line_at draft k → name ≡ name_at draft k → next ≡ attached draft k bytes
-    → Supplies a b (λ x y. whole x ≡ with_files (files - k) k draft y) → ReadBy (load_for line name longest_file) (Ok bytes) b c
-    → Supplies a c (λ x y. whole x ≡ with_files (files - (k + 1)) (k + 1) next y)
-files_next whole files k draft next line name bytes a b c more line_is name_is next_is so_far came =
+reached_more : (whole : Reading Drafted) (files k : ℕ) (draft : Drafted) (line : ℕ) (name : List ℕ) (a b : Known Files) → k < files → line ≡ line_at draft k → name ≡ name_at draft k
+    → Supplies a b (Reached whole (with_files (files - k) k draft)) → Supplies a b (Reached whole (load_for line name longest_file >>= behind files k draft))
+reached_more whole files k draft line name a b more line_is name_is so_far =
     let step = one_more files k draft line name more line_is name_is in
-    let now : Supplies a b (λ x y. whole x ≡ (load_for line name longest_file >>= behind files k draft) y) = Tells-weaker _ _ a b so_far (λ x y is. is ∙ (λ i. step i y)) in
-    Tells-weaker _ _ a c (rest_after whole (load_for line name longest_file) (behind files k draft) bytes a b c now came)
-    (λ x y is. is ∙ ap (λ d. with_files (files - (k + 1)) (k + 1) d y) (sym next_is))
+    Tells-weaker _ _ a b so_far (λ x y reached. (reached.0 ∙ (λ i. step i y), reached.1))
+
+pub files_next : (whole : Reading Drafted) (files k : ℕ) (draft next : Drafted) (line : ℕ) (name bytes : List ℕ) (a b c : Known Files) → k < files → line ≡ line_at draft k → name ≡ name_at draft k → next ≡ attached draft k bytes
+    → Supplies a b (Reached whole (with_files (files - k) k draft)) → ReadBy (load_for line name longest_file) (Ok bytes) b c
+    → Supplies a c (Reached whole (with_files (files - (k + 1)) (k + 1) next))
+files_next whole files k draft next line name bytes a b c more line_is name_is next_is so_far came =
+    Tells-weaker _ _ a c
+    (rest_after whole (load_for line name longest_file) (behind files k draft) bytes a b c (load_only line name longest_file) (reached_more whole files k draft line name a b more line_is name_is so_far) came)
+    (λ x y reached. (reached.0 ∙ ap (λ d. with_files (files - (k + 1)) (k + 1) d y) (sym next_is), reached.1))
 
 pub files_fail : (whole : Reading Drafted) (files k : ℕ) (draft : Drafted) (line : ℕ) (name : List ℕ) (fault : ScheduleFault) (a b c : Known Files) → k < files → line ≡ line_at draft k → name ≡ name_at draft k
-    → Supplies a b (λ x y. whole x ≡ with_files (files - k) k draft y) → ReadBy (load_for line name longest_file) (Err fault) b c → ReadBy whole (Err fault) a c
+    → Supplies a b (Reached whole (with_files (files - k) k draft)) → ReadBy (load_for line name longest_file) (Err fault) b c → ReadBy whole (Err fault) a c
 files_fail whole files k draft line name fault a b c more line_is name_is so_far came =
-    let step = one_more files k draft line name more line_is name_is in
-    let now : Supplies a b (λ x y. whole x ≡ (load_for line name longest_file >>= behind files k draft) y) = Tells-weaker _ _ a b so_far (λ x y is. is ∙ (λ i. step i y)) in
-    ReadBy-rest whole (load_for line name longest_file >>= behind files k draft) (Err fault) a b c now
-    (ReadBy-stops (load_for line name longest_file) (behind files k draft) fault b c came)
+    ReadBy-rest whole (load_for line name longest_file >>= behind files k draft) (Err fault) a b c (reached_more whole files k draft line name a b more line_is name_is so_far)
+    (ReadBy-stops (load_for line name longest_file) (behind files k draft) fault b c (λ bytes. files_only (files - (k + 1)) (k + 1) (attached draft k bytes)) came)
 
-pub files_done : (whole : Reading Drafted) (files k : ℕ) (draft : Drafted) (a b : Known Files) → files ≤ k → Supplies a b (λ x y. whole x ≡ with_files (files - k) k draft y) → ReadBy whole (Ok draft) a b
+pub files_done : (whole : Reading Drafted) (files k : ℕ) (draft : Drafted) (a b : Known Files) → files ≤ k → Supplies a b (Reached whole (with_files (files - k) k draft)) → ReadBy whole (Ok draft) a b
 files_done whole files k draft a b last so_far =
     let none : files - k ≡ zero = omega arith in
-    Tells-weaker _ _ a b so_far (λ x y is. inr (is ∙ ap (λ n. with_files n k draft y) none))
+    Tells-weaker _ _ a b so_far (λ x y reached. inl (reached.0 ∙ ap (λ n. with_files n k draft y) none))
 
-pub files_first : (files : ℕ) (draft : Drafted) (a : Known Files) → files ≡ length draft.files → Supplies a a (λ x y. with_files (length draft.files) 0 draft x ≡ with_files (files - 0) 0 draft y)
+pub files_first : (files : ℕ) (draft : Drafted) (a : Known Files) → files ≡ length draft.files → Supplies a a (Reached (with_files (length draft.files) 0 draft) (with_files (files - 0) 0 draft))
 files_first files draft a is =
     let all : length draft.files ≡ files - 0 = omega (arith, is) in
-    Tells-nothing _ a (λ told. ap (λ n. with_files n 0 draft told) all)
+    nothing_left (with_files (length draft.files) 0 draft) (with_files (files - 0) 0 draft) a (ap (λ n. with_files n 0 draft) all)
 
 -- ---- the whole schedule
 
+abbrev pub from_whole : Drafted → Reading Plan
+from_whole whole = given (by_validity (valid_of whole))
+
 abbrev pub from_draft : Drafted → Reading Plan
-from_draft draft = with_files (length draft.files) 0 draft >>= λ whole. given (by_validity (valid_of whole))
+from_draft draft = with_files (length draft.files) 0 draft >>= from_whole
 
 abbrev pub from_text : List ℕ → Reading Plan
 from_text text = given (draft_of text) >>= from_draft
 
+whole_only : (whole : Drafted) → LoadsOnly (from_whole whole)
+whole_only whole = given_only (by_validity (valid_of whole))
+
+draft_only : (draft : Drafted) → LoadsOnly (from_draft draft)
+draft_only draft = then_only (with_files (length draft.files) 0 draft) from_whole (files_only (length draft.files) 0 draft) whole_only
+
+text_only : (text : List ℕ) → LoadsOnly (from_text text)
+text_only text = then_only (given (draft_of text)) from_draft (given_only (draft_of text)) draft_only
+
+pub schedule_only : (name : List ℕ) → LoadsOnly (schedule_named name)
+schedule_only name = then_only (load_for 0 name longest_text) from_text (load_only 0 name longest_text) text_only
+
 pub text_fails : (name : List ℕ) (fault : ScheduleFault) (a b : Known Files) → ReadBy (load_for 0 name longest_text) (Err fault) a b → ReadBy (schedule_named name) (Err fault) a b
-text_fails name fault a b loaded = ReadBy-stops (load_for 0 name longest_text) from_text fault a b loaded
+text_fails name fault a b loaded = ReadBy-stops (load_for 0 name longest_text) from_text fault a b text_only loaded
 
 pub draft_fails : (name text : List ℕ) (fault : ScheduleFault) (a b : Known Files) → ReadBy (load_for 0 name longest_text) (Ok text) a b → GivesUnlessMemory (Err fault) (draft_of text) → ReadBy (schedule_named name) (Err fault) a b
 draft_fails name text fault a b loaded gives =
-    ReadBy-then (load_for 0 name longest_text) from_text text (Err fault) a b b loaded
-    (ReadBy-stops (given (draft_of text)) from_draft fault b b (ReadBy-gives (Err fault) (draft_of text) b gives))
+    ReadBy-then (load_for 0 name longest_text) from_text text (Err fault) a b b (load_only 0 name longest_text) loaded
+    (ReadBy-stops (given (draft_of text)) from_draft fault b b draft_only (ReadBy-gives (Err fault) (draft_of text) b gives))
 
 -- what comes once the text gave a draft
 draft_came : (name text : List ℕ) (draft : Drafted) (came : Result Plan ScheduleFault) (a b c : Known Files) → ReadBy (load_for 0 name longest_text) (Ok text) a b → GivesUnlessMemory (Ok draft) (draft_of text) → ReadBy (from_draft draft) came b c → ReadBy (schedule_named name) came a c
 draft_came name text draft came a b c loaded gives comes =
-    ReadBy-then (load_for 0 name longest_text) from_text text came a b c loaded
-    (ReadBy-then (given (draft_of text)) from_draft draft came b b c (ReadBy-gives (Ok draft) (draft_of text) b gives) comes)
+    ReadBy-then (load_for 0 name longest_text) from_text text came a b c (load_only 0 name longest_text) loaded
+    (ReadBy-then (given (draft_of text)) from_draft draft came b b c (given_only (draft_of text)) (ReadBy-gives (Ok draft) (draft_of text) b gives) comes)
 
 pub files_break : (name text : List ℕ) (draft : Drafted) (fault : ScheduleFault) (a b c : Known Files) → ReadBy (load_for 0 name longest_text) (Ok text) a b → GivesUnlessMemory (Ok draft) (draft_of text) → ReadBy (with_files (length draft.files) 0 draft) (Err fault) b c → ReadBy (schedule_named name) (Err fault) a c
 files_break name text draft fault a b c loaded gives files =
     draft_came name text draft (Err fault) a b c loaded gives
-    (ReadBy-stops (with_files (length draft.files) 0 draft) (λ whole. given (by_validity (valid_of whole))) fault b c files)
+    (ReadBy-stops (with_files (length draft.files) 0 draft) from_whole fault b c whole_only files)
 
 pub schedule_comes : (name text : List ℕ) (draft whole : Drafted) (came : Result Plan ScheduleFault) (a b c : Known Files) → ReadBy (load_for 0 name longest_text) (Ok text) a b → GivesUnlessMemory (Ok draft) (draft_of text) → ReadBy (with_files (length draft.files) 0 draft) (Ok whole) b c → came ≡ by_validity (valid_of whole) → ReadBy (schedule_named name) came a c
 schedule_comes name text draft whole came a b c loaded gives files is =
     draft_came name text draft came a b c loaded gives
-    (ReadBy-then (with_files (length draft.files) 0 draft) (λ d. given (by_validity (valid_of d))) whole came b c c files
+    (ReadBy-then (with_files (length draft.files) 0 draft) from_whole whole came b c c (files_only (length draft.files) 0 draft) files
     (ReadBy-gives came (by_validity (valid_of whole)) c (inr is)))
 
 -- ---- its canonical text
 
-pub checked_fails : (name : List ℕ) (fault : ScheduleFault) (a b : Known Files) → ReadBy (schedule_named name) (Err fault) a b → ReadBy (checked name) (Err fault) a b
-checked_fails name fault a b comes = ReadBy-stops (schedule_named name) (λ schedule. given (Ok (canonical schedule))) fault a b comes
+abbrev written : Plan → Reading (List ℕ)
+written schedule = given (Ok (canonical schedule))
 
-pub checked_unwritten : (name : List ℕ) (schedule : Plan) (a b : Known Files) → ReadBy (schedule_named name) (Ok schedule) a b → ReadBy (checked name) (Err NoMemory) a b
-checked_unwritten name schedule a b comes = Tells-weaker _ _ a b comes (λ x y is. inl refl)
+written_only : (schedule : Plan) → LoadsOnly (written schedule)
+written_only schedule = given_only (Ok (canonical schedule))
+
+checked_only : (name : List ℕ) → LoadsOnly (checked name)
+checked_only name = then_only (schedule_named name) written (schedule_only name) written_only
+
+pub checked_fails : (name : List ℕ) (fault : ScheduleFault) (a b : Known Files) → ReadBy (schedule_named name) (Err fault) a b → ReadBy (checked name) (Err fault) a b
+checked_fails name fault a b comes = ReadBy-stops (schedule_named name) written fault a b written_only comes
 
 pub checked_comes : (name : List ℕ) (schedule : Plan) (a b : Known Files) → ReadBy (schedule_named name) (Ok schedule) a b → ReadBy (checked name) (Ok (canonical schedule)) a b
 checked_comes name schedule a b comes =
-    ReadBy-then (schedule_named name) (λ s. given (Ok (canonical s))) schedule (Ok (canonical schedule)) a b b comes (ReadBy-given (Ok (canonical schedule)) b)
+    ReadBy-then (schedule_named name) written schedule (Ok (canonical schedule)) a b b (schedule_only name) comes (ReadBy-given (Ok (canonical schedule)) b)
 
--- where memory runs out behind a reading
-pub ran_out : {T : Type 0} (reading : Reading T) (x : T) (a b : Known Files) → ReadBy reading (Ok x) a b → ReadBy reading (Err NoMemory) a b
-ran_out reading x a b comes = Tells-weaker _ _ a b comes (λ p q is. inl refl)
+pub checked_unwritten : (name : List ℕ) (schedule : Plan) (a b : Known Files) → ReadBy (schedule_named name) (Ok schedule) a b → ReadBy (checked name) (Err NoMemory) a b
+checked_unwritten name schedule a b comes = ran_out (checked name) (canonical schedule) a b (checked_only name) (checked_comes name schedule a b comes)
+
+-- memory runs out behind a schedule
+pub schedule_ran_out : (name : List ℕ) (schedule : Plan) (a b : Known Files) → ReadBy (schedule_named name) (Ok schedule) a b → ReadBy (schedule_named name) (Err NoMemory) a b
+schedule_ran_out name schedule a b comes = ran_out (schedule_named name) schedule a b (schedule_only name) comes

@@ -20,7 +20,7 @@ use Rattle.drm_load.specs.Loading.{given, load_for, ReadBy, GivesUnlessMemory}
 use Rattle.drm_load.specs.Schedule.{longest_text}
 use Rattle.drm_load.specs.ScriptFaults.{text_fault_of}
 use Rattle.drm_load.specs.Scripts.{by_script, script_in, script_named}
-use Rattle.drm_load.proofs.LoadingLemmas.{ReadBy-then, ReadBy-gives}
+use Rattle.drm_load.proofs.LoadingLemmas.{LoadsOnly, given_only, load_only, then_only, ReadBy-then, ReadBy-gives}
 
 abbrev pub lifted : {T : Type 0} → Result T ScriptFault → Result T ScheduleFault
 lifted (Ok x) = Ok x
@@ -38,11 +38,14 @@ by_text came plan text true is wrong right = by_reading came (script_of plan (li
 by_text came plan text false is wrong right =
     inr (ap lifted (wrong (λ utf8. let found : is_utf8 text ≡ true = is_utf8-from_IsUtf8 text utf8 in cc)))
 
+pub script_only : (plan : Plan) (name : List ℕ) → LoadsOnly (script_named plan name)
+script_only plan name = then_only (load_for 0 name longest_text) (λ t. given (script_in plan t)) (load_only 0 name longest_text) (λ t. given_only (script_in plan t))
+
 pub script_comes : (came : Result (List (List Delivery)) ScriptFault) (plan : Plan) (name text : List ℕ) (a b : Known Files) → ReadBy (load_for 0 name longest_text) (Ok text) a b
     → ((IsUtf8 text → ⊥) → came ≡ Err (script.Line (bad_line_of text) reasons.Utf8)) → (IsUtf8 text → Reads came (script_of plan (lines_of text)))
     → ReadBy (script_named plan name) (lifted came) a b
 script_comes came plan name text a b loaded wrong right =
-    ReadBy-then (load_for 0 name longest_text) (λ t. given (script_in plan t)) text (lifted came) a b b loaded
+    ReadBy-then (load_for 0 name longest_text) (λ t. given (script_in plan t)) text (lifted came) a b b (load_only 0 name longest_text) loaded
     (ReadBy-gives (lifted came) (script_in plan text) b (by_text came plan text (is_utf8 text) refl wrong right))
 
 -- ---- which faults are those of a load

@@ -1,5 +1,5 @@
 -- What is read from a shelf, load by load.
-use Rattle.std.specs.Prelude.{ℕ, ◌≡◌, ◌⊎◌, List, Option, Result, Ok, Err}
+use Rattle.std.specs.Prelude.{ℕ, ◌≡◌, ◌+◌, ◌≤◌, ◌⊎◌, List, Option, Result, Ok, Err}
 use Rattle.drm_schedule.specs.declared.invalid.Reason.TheVariants as reasons
 use Rattle.drm_links.specs.Told.{Known}
 use Rattle.drm_links.specs.declared.shelf.Loaded.{Loaded}
@@ -41,9 +41,16 @@ bytes_or_fault line loads.NoMemory = Err NoMemory
 abbrev pub load_for : ℕ → List ℕ → ℕ → Reading (List ℕ)
 load_for line name limit told = record { came = bytes_or_fault line (load_of told name limit); told = after_one told }
 
--- Where a shelf tells, this came of it by this reading, unless memory ran out.
+-- So many loads were made, no more than up to `last`, and the shelf tells nothing else anew.
+pub record MadeSome (last before after : Files) : Type 0 where
+  pub made : ℕ
+  pub few : before.loads + made ≤ last.loads
+  pub told : after ≡ record before { loads = before.loads + made }
+
+-- Where a shelf tells, this came of it by this reading, or memory ran out; then no more loads were made than the reading makes.
 abbrev pub ReadBy : {T : Type 0} → Reading T → Result T ScheduleFault → Known Files → Known Files → Type 0
-ReadBy reading came before after = Supplies before after (λ x y. (came ≡ Err NoMemory) ⊎ (reading x ≡ record { came = came; told = y }))
+ReadBy reading came before after =
+    Supplies before after (λ x y. (reading x ≡ record { came = came; told = y }) ⊎ ((came ≡ Err NoMemory) × MadeSome (reading x).told x y))
 
 -- it is this, unless memory ran out
 abbrev pub GivesUnlessMemory : {T : Type 0} → Result T ScheduleFault → Result T ScheduleFault → Type 0

@@ -1,7 +1,6 @@
 -- The runs of the commands.
-use Rattle.std.specs.Prelude.{ℕ, ◌≡◌, Bool, Option, Result}
+use Rattle.std.specs.Prelude.{ℕ, ◌≡◌, ◌⊎◌, Bool, Option, Result, Err}
 use Rattle.drm_links.specs.Told.{Known}
-use Rattle.drm_links.specs.Link.{Traffic}
 use Rattle.drm_links.specs.Shelf.{Files}
 use Rattle.drm_links.specs.Source.{Input}
 use Rattle.drm_links.specs.Sink.{Output}
@@ -12,29 +11,46 @@ use Rattle.drm_transmit.specs.Serve.{ServeRun}
 use Rattle.drm_transmit.specs.Send.{SendRun}
 use Rattle.drm_top.specs.Receive.{ReceiveRun}
 use Rattle.drm_top.specs.Air.{AirRun}
-use Rattle.drm_faults.specs.Fault.{done_of}
+use Rattle.drm_faults.specs.Fault.{done_of, whole_of, report_status, Reports}
 use Rattle.drm_faults.specs.declared.fault.Fault.{Fault}
+use Rattle.drm_faults.specs.declared.fault.Fault.TheVariants.{NoMemory}
 use Rattle.drm_top.specs.declared.words.Command.{Command}
 use Rattle.drm_top.specs.declared.words.Command.TheVariants.{Fac, Check, Serve, Send, Receive, Air}
 
+-- a run that tells of no frames
+abbrev pub Whole : Result Bool Fault → (Result (Unit {0}) Fault → Type 0) → Type 0
+Whole ending P = (done : Result (Unit {0}) Fault) × (ending ≡ whole_of done) × P done
+
 -- A run of this command with this ending: what it doesn't use stays as it is.
-abbrev pub CommandRun : {S I O D L : Type 0} → Command → Result Bool Fault
-    → (S → Known Files) → S → S
-    → (I → Known Input) → I → I
-    → (O → Known Output) → O → O
-    → (D → Known DockContents) → D → D → (L → Known Traffic) → Type 0
-CommandRun Fac ending shelf_known shelf shelf' input_known input input' out_known out out' dock_known dock dock' link_known =
-    FacRun (done_of ending) input_known input input' out_known out out' × (shelf' ≡ shelf) × (dock' ≡ dock)
-CommandRun (Check name) ending shelf_known shelf shelf' input_known input input' out_known out out' dock_known dock dock' link_known =
-    CheckRun name (done_of ending) shelf_known shelf shelf' out_known out out' × (input' ≡ input) × (dock' ≡ dock)
-CommandRun (Serve name pace) ending shelf_known shelf shelf' input_known input input' out_known out out' dock_known dock dock' link_known =
-    ServeRun name (done_of ending) shelf_known shelf shelf' out_known out out' × (input' ≡ input) × (dock' ≡ dock)
-CommandRun (Send name to pace) ending shelf_known shelf shelf' input_known input input' out_known out out' dock_known dock dock' link_known =
-    SendRun name to (done_of ending) shelf_known shelf shelf' dock_known dock dock' link_known × (input' ≡ input) × (out' ≡ out)
-CommandRun (Receive addresses rules) ending shelf_known shelf shelf' input_known input input' out_known out out' dock_known dock dock' link_known =
-    ReceiveRun rules addresses ending dock_known dock dock' link_known out_known out out' × (shelf' ≡ shelf) × (input' ≡ input)
-CommandRun (Air name script window) ending shelf_known shelf shelf' input_known input input' out_known out out' dock_known dock dock' link_known =
+abbrev pub CommandRun : {S I O D : Type 0} → Command → Result Bool Fault
+    → (S → Known Files) → S → S → (I → Known Input) → I → I → (O → Known Output) → O → O → (D → Known DockContents) → D → D → Type 0
+CommandRun Fac ending shelf_known shelf shelf' input_known input input' out_known out out' dock_known dock dock' =
+    Whole ending (λ done. FacRun done input_known input input' out_known out out') × (shelf' ≡ shelf) × (dock' ≡ dock)
+CommandRun (Check name) ending shelf_known shelf shelf' input_known input input' out_known out out' dock_known dock dock' =
+    Whole ending (λ done. CheckRun name done shelf_known shelf shelf' out_known out out') × (input' ≡ input) × (dock' ≡ dock)
+CommandRun (Serve name pace) ending shelf_known shelf shelf' input_known input input' out_known out out' dock_known dock dock' =
+    Whole ending (λ done. ServeRun name done shelf_known shelf shelf' out_known out out') × (input' ≡ input) × (dock' ≡ dock)
+CommandRun (Send name to pace) ending shelf_known shelf shelf' input_known input input' out_known out out' dock_known dock dock' =
+    Whole ending (λ done. SendRun name to pace done shelf_known shelf shelf' dock_known dock dock') × (input' ≡ input) × (out' ≡ out)
+CommandRun (Receive addresses rules) ending shelf_known shelf shelf' input_known input input' out_known out out' dock_known dock dock' =
+    ReceiveRun rules addresses ending dock_known dock dock' out_known out out' × (shelf' ≡ shelf) × (input' ≡ input)
+CommandRun (Air name script window) ending shelf_known shelf shelf' input_known input input' out_known out out' dock_known dock dock' =
     AirRun name script window ending shelf_known shelf shelf' out_known out out' × (input' ≡ input) × (dock' ≡ dock)
+
+-- nothing of the outside was touched
+abbrev pub IsUntouched : {S I O D : Type 0} → S → S → I → I → O → O → D → D → Type 0
+IsUntouched shelf shelf' input input' out out' dock dock' = (shelf' ≡ shelf) × (input' ≡ input) × (out' ≡ out) × (dock' ≡ dock)
+
+-- What comes of words that ask for this command: a run of it; or memory ran out while they were read, and nothing was touched.
+abbrev pub Runs : {S I O D : Type 0} → Command → Result Bool Fault
+    → (S → Known Files) → S → S → (I → Known Input) → I → I → (O → Known Output) → O → O → (D → Known DockContents) → D → D → Type 0
+Runs command ending shelf_known shelf shelf' input_known input input' out_known out out' dock_known dock dock' =
+    CommandRun command ending shelf_known shelf shelf' input_known input input' out_known out out' dock_known dock dock'
+    ⊎ ((ending ≡ Err NoMemory) × IsUntouched shelf shelf' input input' out out' dock dock')
+
+-- How a run ends: its status, and the line of its fault on err.
+abbrev pub Ends : {E : Type 0} → Result Bool Fault → ℕ → (E → Known Output) → E → E → Type 0
+Ends ending code known err err' = (code ≡ report_status ending) × Reports (done_of ending) known err err'
 
 -- a command that opens a link
 abbrev pub OpensALink : Command → Type 0

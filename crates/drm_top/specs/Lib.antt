@@ -5,5 +5,4 @@ pub mod Air
 pub mod Opening
 pub mod Stopping
 pub mod Feeds
-pub mod Status
 pub mod Command

@@ -7,7 +7,7 @@ use Rattle.drm_links.specs.declared.dock.Address.{Address}
 use Rattle.drm_faults.specs.declared.fault.Fault.{Fault}
 use Rattle.drm_faults.specs.declared.fault.Fault.TheVariants as faults
 use Rattle.mod_receiver.specs.declared.job.Job.{Job}
-use Rattle.drm_top.specs.Receive.{Finds, FindsNone}
+use Rattle.drm_top.specs.Receive.{Finds, FailsAfter, StopsAfter}
 
 -- the link of the k-th opening from here starts with what stood at its address
 abbrev pub HasLink : {L : Type 0} → (L → Known Traffic) → DockContents → ℕ → Address → L → Type 0
@@ -19,16 +19,7 @@ HaveLinks {L} known told addresses jobs =
     (k : ℕ) (at : Address) (none : Job L) → k < length addresses
     → HasLink known told k (slice_index_or addresses k at) (slice_index_or jobs k none).link
 
--- no link of these receivers has failed yet
-abbrev pub AreFresh : {L : Type 0} → (L → Known Traffic) → ℕ → List (Job L) → Type 0
-AreFresh {L} known many jobs = (k : ℕ) (none : Job L) → k < many → (known (slice_index_or jobs k none).link).faults ≡ 0
-
--- opening some address fails
-pub record FailsOpening (told : DockContents) (addresses : List Address) : Type 0 where
-  pub k : ℕ
-  pub within : k < length addresses
-  pub fails : (at : Address) → FindsNone told k (slice_index_or addresses k at)
-
--- Opening ends for want of memory, or by a link that failed.
-abbrev pub EndsOpening : Fault → Type 0
-EndsOpening fault = (fault ≡ faults.NoMemory) ⊎ (fault ≡ faults.Link)
+-- Opening ends for want of memory, or by an opening that failed.
+abbrev pub EndsOpening : List Address → Fault → DockContents → DockContents → Type 0
+EndsOpening addresses fault before after =
+    ((fault ≡ faults.NoMemory) × StopsAfter addresses before after) ⊎ ((fault ≡ faults.Link) × FailsAfter addresses before after)

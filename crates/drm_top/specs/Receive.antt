@@ -1,14 +1,23 @@
 -- The command `receive` with addresses: a report for each link. That of one link is written as it is read, those of several
 -- together at their end.
-use Rattle.std.specs.Prelude.{ℕ, ◌≡◌, ◌+◌, ◌<◌, ◌≤◌, ◌⊎◌, ◌↔◌, IsTrue, Contains, IsNone, Bool, List, [], ◌∷◌, length, slice_index_or, Option, None, Some, Result, Ok, Err}
+use Rattle.std.specs.Prelude.{ℕ, pos, ◌≡◌, ◌+◌, ◌<◌, ◌≤◌, ◌⊎◌, ◌↔◌, IsTrue, Contains, IsNone, Bool, true, List, [], ◌∷◌, length, take, slice_index_or, Option, None, Some, Result, Ok, Err}
 use Rattle.std.specs.List.{flat_map, All}
-use Rattle.drm_links.specs.Told.{HasFailed, Known, HasCause, Rose, WhileTold, Tells}
-use Rattle.drm_links.specs.Link.{Answer, Traffic}
+use Rattle.std.specs.FinMap as map
+use Rattle.drm_schedule.specs.declared.plan.Plan.{Plan}
+use Rattle.drm_schedule.specs.Valid.{IsSchedule}
+use Rattle.drm_timeline.specs.Numbers.{frame_count}
+use Rattle.mod_delivery.specs.Sent.{IsFollowed, IsInTime}
+use Rattle.drm_links.specs.Told.{HasFailed, Known, HasCause, Rose, Tells}
+use Rattle.drm_links.specs.Link.{Answer}
 use Rattle.drm_links.specs.Sink.{Output, Outputs, IsFront}
-use Rattle.drm_links.specs.Dock.{DockContents, LinkStart, start_at}
+use Rattle.drm_links.specs.Dock.{DockContents, LinkStart, address_key, start_at}
 use Rattle.drm_links.specs.declared.dock.Address.{Address}
 use Rattle.mod_receiver.specs.declared.rules.Rules.{Rules}
+use Rattle.mod_receiver.specs.Reading.{datagrams}
+use Rattle.mod_receiver.specs.Headline.{WouldBeRead}
 use Rattle.mod_receiver.specs.Ahead.{Report, IsReportOf, BreaksOff, IsGivenOf, IsFrontOf}
+use Rattle.drm_transmit.specs.Send.{after_failure}
+use Rattle.drm_faults.specs.Fault.{UnlessMemory}
 use Rattle.drm_faults.specs.declared.fault.Fault.{Fault}
 use Rattle.drm_faults.specs.declared.fault.Fault.TheVariants as faults
 
@@ -79,28 +88,82 @@ WritesAll rules told addresses ending known out out' = WritesReports (AreReports
 abbrev pub IsLive : List Address → Type 0
 IsLive addresses = length addresses ≡ 1
 
--- a count of faults rose that was 0 where the link was opened
-abbrev pub SomeLinkRose : {L : Type 0} → (L → Known Traffic) → Type 0
-SomeLinkRose {L} known = (opened : L) × (closed : L) × ((known opened).faults ≡ 0) × HasFailed (known opened) (known closed)
+-- what a dock tells after a link was opened at this address, to receive over it
+abbrev pub after_opening : Address → DockContents → DockContents
+after_opening at told = record told { openings = told.openings + 1; links = map.remove told.links (address_key at); calls = told.calls + 1 }
+
+-- and after links were opened at these addresses, one after another
+abbrev pub after_openings : List Address → DockContents → DockContents
+after_openings [] told = told
+after_openings (at ∷ addresses) told = after_openings addresses (after_opening at told)
+
+-- The openings at the first k addresses were made, and the next one failed.
+pub record FailsAfter (addresses : List Address) (before after : DockContents) : Type 0 where
+  pub k : ℕ
+  pub within : k < length addresses
+  pub fails : (at : Address) → FindsNone before k (slice_index_or addresses k at)
+  pub told : after ≡ after_failure (after_openings (take k addresses) before)
+
+-- Some first openings were made.
+pub record StopsAfter (addresses : List Address) (before after : DockContents) : Type 0 where
+  pub k : ℕ
+  pub within : k ≤ length addresses
+  pub told : after ≡ after_openings (take k addresses) before
+
+-- Each address is opened once, in their order, to receive; up to one that fails, or up to want of memory. Nothing else is
+-- asked of the dock.
+abbrev pub OpensEach : List Address → Result Bool Fault → DockContents → DockContents → Type 0
+OpensEach addresses ending before after =
+    (after ≡ after_openings addresses before)
+    ⊎ ((ending ≡ Err faults.Link) × FailsAfter addresses before after)
+    ⊎ ((ending ≡ Err faults.NoMemory) × StopsAfter addresses before after)
+
+-- The run is done: the reports are written, all of them, and it is clean exactly where no line of them is missing or bad.
+abbrev pub WroteReports : {O : Type 0} → Result Bool Fault → (List Report → Type 0) → (O → Known Output) → O → O → Type 0
+WroteReports ending are known out out' = (clean : Bool) × (ending ≡ Ok clean) × WritesReports are (Ok clean) known out out'
+
+-- What is ahead of a link is a delivery of a valid schedule, from its first frame on, in which each frame is in time; the
+-- number of frames is the schedule's, or isn't told.
+pub record IsInTimeAhead (rules : Rules) (ahead : List Answer) : Type 0 where
+  pub plan : Plan
+  pub valid : IsSchedule plan
+  pub pairs : List (ℕ × ℕ)
+  pub answers : List Answer
+  pub read : WouldBeRead rules ahead answers
+  pub followed : IsFollowed plan rules.first (pos 0) pairs (datagrams answers)
+  pub frames : (rules.frames ≡ None) ⊎ (rules.frames ≡ Some (frame_count plan))
+  pub in_time : (q : ℕ) → q < frame_count plan → IsInTime plan rules.window (pos 0) pairs q
+
+-- so is that of the link at each address
+abbrev pub AreInTime : Rules → DockContents → List Address → Type 0
+AreInTime rules told addresses =
+    (k : ℕ) (at : Address) → k < length addresses
+    → (start : LinkStart) × Finds told k (slice_index_or addresses k at) start × IsInTimeAhead rules start.ahead
 
 -- A run of `receive` with addresses.
-pub record ReceiveRun {D L O : Type 0} (rules : Rules) (addresses : List Address) (ending : Result Bool Fault)
-    (dock_known : D → Known DockContents) (dock dock' : D) (link_known : L → Known Traffic)
+pub record ReceiveRun {D O : Type 0} (rules : Rules) (addresses : List Address) (ending : Result Bool Fault)
+    (dock_known : D → Known DockContents) (dock dock' : D)
     (out_known : O → Known Output) (out out' : O) : Type 0 where
   -- It ends well, or for want of memory, by a failed link or by a failed write.
   pub kind : (fault : Fault) → ending ≡ Err fault → (fault ≡ faults.NoMemory) ⊎ (fault ≡ faults.Link) ⊎ (fault ≡ faults.Write)
+  pub opens : Tells (dock_known dock) (dock_known dock') (OpensEach addresses ending)
   -- Where the dock tells: the reports are those of what was ahead of the links that it opened. Nothing else is written.
   pub writes : Docked (dock_known dock) (dock_known dock') (λ told. WritesAll rules told addresses ending out_known out out')
   -- After want of memory nothing is written, and where one of several links failed.
   pub unwritten : (ending ≡ Err faults.NoMemory) ⊎ ((ending ≡ Err faults.Link) × (IsLive addresses → ⊥)) → out' ≡ out
-  -- It fails by a link exactly where an opening fails, or what is read of some link ends in `Failed`; where there is one link,
-  -- unless a write failed before.
-  pub link : ending ≡ Err faults.Link → Docked (dock_known dock) (dock_known dock') (λ told. FailsSome rules told addresses)
-  pub linked : (ending ≡ Err faults.Link → ⊥) → (ending ≡ Err faults.NoMemory → ⊥) → (IsLive addresses → ending ≡ Err faults.Write → ⊥)
-      → Docked (dock_known dock) (dock_known dock') (λ told. FailsSome rules told addresses → ⊥)
-  -- Nothing is sent.
-  pub unsent : WhileTold (dock_known dock) (dock_known dock') (λ before after. after.gone ≡ before.gone)
-  -- The faults of the outside come only where its count of faults rose.
+  -- It fails by a link exactly where an opening fails, or what is read of some link ends in `Failed`; of one link, whose report
+  -- is written as it is read, unless a write failed before.
+  pub exactly : (IsLive addresses → ending ≡ Err faults.Write → ⊥)
+      → Docked (dock_known dock) (dock_known dock') (λ told. UnlessMemory ending ((ending ≡ Err faults.Link) ↔ FailsSome rules told addresses))
+  -- Where no link and no write failed the report of each link is written, in the order of the addresses: whatever delivery of
+  -- whatever valid schedule came over a link, its report is that of the delivery.
+  pub complete : (HasFailed (out_known out) (out_known out') → ⊥)
+      → Docked (dock_known dock) (dock_known dock') (λ told. (FailsSome rules told addresses → ⊥)
+      → UnlessMemory ending (WroteReports ending (AreReports rules told addresses) out_known out out'))
+  -- Where each link brings each frame of a schedule in time, none is missing.
+  pub in_time : (HasFailed (out_known out) (out_known out') → ⊥)
+      → Docked (dock_known dock) (dock_known dock') (λ told. (FailsSome rules told addresses → ⊥)
+      → AreInTime rules told addresses → UnlessMemory ending (ending ≡ Ok true))
+  -- The counts of faults never fall, and a write failed only where out's rose.
   pub later : (dock_known dock).faults ≤ (dock_known dock').faults
-  pub link_cause : ending ≡ Err faults.Link → HasFailed (dock_known dock) (dock_known dock') ⊎ SomeLinkRose link_known
   pub write_cause : HasCause (out_known out) (out_known out') (ending ≡ Err faults.Write)

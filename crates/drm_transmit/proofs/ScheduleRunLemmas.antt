@@ -1,6 +1,6 @@
--- What a run over a schedule says of its status.
-use Rattle.std.proofs.Common.{◌≡◌, ℕ, ◌≤◌, ◌⊎◌, ◌↔◌, inl, inr, List, Option, Result, Ok, Err, refl, sym, ◌∙◌, ap, subst, arith}
-use Rattle.drm_links.specs.Told.{HasFailed, Known, Rose}
+-- What a run over a schedule says of how it ends.
+use Rattle.std.proofs.Common.{◌≡◌, ℕ, ◌≤◌, ◌⊎◌, inl, inr, List, Option, Result, Ok, Err, IfOk, refl, sym, ◌∙◌, ap, subst, arith}
+use Rattle.drm_links.specs.Told.{HasFailed, Known, HasCause, Rose}
 use Rattle.drm_links.specs.Shelf.{Files, Supplies}
 use Rattle.drm_links.specs.Sink.{Output, Outputs}
 use Rattle.drm_links.proofs.ToldLemmas.{Tells-weaker}
@@ -8,45 +8,29 @@ use Rattle.drm_faults.specs.declared.fault.Fault.{Fault}
 use Rattle.drm_faults.specs.declared.fault.Fault.TheVariants.{NoMemory, Words, FacLength, FacOver, FacCrc, Schedule, Script, Read, Write, Link}
 use Rattle.drm_load.specs.declared.loading.ScheduleFault.{ScheduleFault}
 use Rattle.drm_load.specs.declared.loading.ScheduleFault.TheVariants as schedule
-use Rattle.drm_faults.specs.Fault.{status_of}
 use Rattle.drm_load.specs.Faults.{fault_of_schedule}
 use Rattle.drm_load.specs.Loading.{Reading, Step, ReadBy}
-use Rattle.drm_transmit.specs.ScheduleRun.{WritesCame, ScheduleRun, IsRefused}
+use Rattle.drm_load.proofs.LoadingLemmas.{Comes}
+use Rattle.drm_transmit.specs.ScheduleRun.{WritesCame, EndsBy, ScheduleRun}
+use Rattle.drm_faults.specs.Fault.{UnlessMemory}
 
 module _ {T O : Type 0} (whole front : T → List ℕ → Type 0) where
-  three_exactly : (came : Result T ScheduleFault) (ending : Result (Unit {0}) Fault) (known : O → Known Output) (out out' : O) → WritesCame whole front came ending known out out' → (status_of ending ≡ 3) ↔ IsRefused came
-  three_exactly (Ok x) (Ok done) known out out' writes = (λ e. absurd (omega (arith, e)), λ refused. absurd refused)
-  three_exactly (Ok x) (Err Write) known out out' writes = (λ e. absurd (omega (arith, e)), λ refused. absurd refused)
-  three_exactly (Ok x) (Err NoMemory) known out out' writes = absurd writes
-  three_exactly (Ok x) (Err Link) known out out' writes = absurd writes
-  three_exactly (Ok x) (Err Words) known out out' writes = absurd writes
-  three_exactly (Ok x) (Err (FacLength n)) known out out' writes = absurd writes
-  three_exactly (Ok x) (Err FacOver) known out out' writes = absurd writes
-  three_exactly (Ok x) (Err (FacCrc s c)) known out out' writes = absurd writes
-  three_exactly (Ok x) (Err (Schedule l r)) known out out' writes = absurd writes
-  three_exactly (Ok x) (Err (Script l r)) known out out' writes = absurd writes
-  three_exactly (Ok x) (Err Read) known out out' writes = absurd writes
-  three_exactly (Err schedule.NoMemory) ending known out out' writes = (λ e. let is = ap status_of writes.0 in absurd (omega (arith, e, is)), λ refused. absurd refused)
-  three_exactly (Err (schedule.Line l r)) ending known out out' writes = (λ e. tt, λ refused. ap status_of writes.0)
-  three_exactly (Err schedule.Read) ending known out out' writes = (λ e. let is = ap status_of writes.0 in absurd (omega (arith, e, is)), λ refused. absurd refused)
+  -- it ends by what came
+  ends_by : (came : Result T ScheduleFault) (ending : Result (Unit {0}) Fault) (known : O → Known Output) (out out' : O) → WritesCame whole front came ending known out out' → EndsBy Write came ending
+  ends_by (Ok x) (Ok done) known out out' writes = inl refl
+  ends_by (Ok x) (Err Write) known out out' writes = inr refl
+  ends_by (Ok x) (Err NoMemory) known out out' writes = absurd writes
+  ends_by (Ok x) (Err Link) known out out' writes = absurd writes
+  ends_by (Ok x) (Err Words) known out out' writes = absurd writes
+  ends_by (Ok x) (Err (FacLength n)) known out out' writes = absurd writes
+  ends_by (Ok x) (Err FacOver) known out out' writes = absurd writes
+  ends_by (Ok x) (Err (FacCrc s c)) known out out' writes = absurd writes
+  ends_by (Ok x) (Err (Schedule l r)) known out out' writes = absurd writes
+  ends_by (Ok x) (Err (Script l r)) known out out' writes = absurd writes
+  ends_by (Ok x) (Err Read) known out out' writes = absurd writes
+  ends_by (Err fault) ending known out out' writes = writes.0
 
-  four_exactly : (came : Result T ScheduleFault) (ending : Result (Unit {0}) Fault) (known : O → Known Output) (out out' : O) → WritesCame whole front came ending known out out' → (status_of ending ≡ 4) ↔ (came ≡ Err schedule.Read)
-  four_exactly (Ok x) (Ok done) known out out' writes = (λ e. absurd (omega (arith, e)), λ read. cc)
-  four_exactly (Ok x) (Err Write) known out out' writes = (λ e. absurd (omega (arith, e)), λ read. cc)
-  four_exactly (Ok x) (Err NoMemory) known out out' writes = absurd writes
-  four_exactly (Ok x) (Err Link) known out out' writes = absurd writes
-  four_exactly (Ok x) (Err Words) known out out' writes = absurd writes
-  four_exactly (Ok x) (Err (FacLength n)) known out out' writes = absurd writes
-  four_exactly (Ok x) (Err FacOver) known out out' writes = absurd writes
-  four_exactly (Ok x) (Err (FacCrc s c)) known out out' writes = absurd writes
-  four_exactly (Ok x) (Err (Schedule l r)) known out out' writes = absurd writes
-  four_exactly (Ok x) (Err (Script l r)) known out out' writes = absurd writes
-  four_exactly (Ok x) (Err Read) known out out' writes = absurd writes
-  four_exactly (Err schedule.NoMemory) ending known out out' writes = (λ e. let is = ap status_of writes.0 in absurd (omega (arith, e, is)), λ read. cc)
-  four_exactly (Err (schedule.Line l r)) ending known out out' writes = (λ e. let is = ap status_of writes.0 in absurd (omega (arith, e, is)), λ read. cc)
-  four_exactly (Err schedule.Read) ending known out out' writes = (λ e. refl, λ read. ap status_of writes.0)
-
-  all_written : (x : T) (ending : Result (Unit {0}) Fault) (known : O → Known Output) (out out' : O) → WritesCame whole front (Ok x) ending known out out' → (ending ≡ Err Write → ⊥) → (status_of ending ≡ 0) × Outputs (known out) (known out') (whole x)
+  all_written : (x : T) (ending : Result (Unit {0}) Fault) (known : O → Known Output) (out out' : O) → WritesCame whole front (Ok x) ending known out out' → (ending ≡ Err Write → ⊥) → (ending ≡ Ok tt) × Outputs (known out) (known out') (whole x)
   all_written x (Ok done) known out out' writes none = (refl, writes)
   all_written x (Err Write) known out out' writes none = absurd (none refl)
   all_written x (Err NoMemory) known out out' writes none = absurd writes
@@ -59,34 +43,42 @@ module _ {T O : Type 0} (whole front : T → List ℕ → Type 0) where
   all_written x (Err (Script l r)) known out out' writes none = absurd writes
   all_written x (Err Read) known out out' writes none = absurd writes
 
-  -- unless memory ran out, what came is what the files come to
-  came_of : (reading : Reading T) (came : Result T ScheduleFault) (ending : Result (Unit {0}) Fault) (known : O → Known Output) (out out' : O) (x y : Files) → WritesCame whole front came ending known out out' → (status_of ending ≡ 1 → ⊥) → (came ≡ Err schedule.NoMemory) ⊎ (reading x ≡ record { came = came; told = y }) → came ≡ (reading x).came
-  came_of reading came ending known out out' x y writes memory (inl is) =
-      let P : Result T ScheduleFault → Type 0 = λ v. WritesCame whole front v ending known out out' in
-      let ran_out : WritesCame whole front (Err schedule.NoMemory) ending known out out' = subst P is writes in
-      absurd (memory (ap status_of ran_out.0))
-  came_of reading came ending known out out' x y writes memory (inr is) = sym (ap (λ (step : Step T). step.came) is)
+-- what comes of a reading where memory didn't run out is what the files come to
+pub came_or_memory : {T : Type 0} (reading : Reading T) (came : Result T ScheduleFault) (x y : Files) → Comes reading came x y → (came ≡ Err schedule.NoMemory) ⊎ (came ≡ (reading x).came)
+came_or_memory {T} reading came x y (inl is) = inr (sym (ap (λ (step : Step T). step.came) is))
+came_or_memory reading came x y (inr memory) = inl memory.0
+
+-- memory ran out while it was read
+pub ends_memory : {T : Type 0} (outside : Fault) (came : Result T ScheduleFault) (ending : Result (Unit {0}) Fault) → EndsBy outside came ending → came ≡ Err schedule.NoMemory → ending ≡ Err NoMemory
+ends_memory {T} outside came ending ends is = let P : Result T ScheduleFault → Type 0 = λ v. EndsBy outside v ending in subst P is ends
+
+pub ends_exactly : {T : Type 0} (outside : Fault) (reading : Reading T) (came : Result T ScheduleFault) (ending : Result (Unit {0}) Fault) (a b : Known Files) → ReadBy reading came a b → EndsBy outside came ending
+    → Supplies a b (λ before _. UnlessMemory ending (EndsBy outside (reading before).came ending))
+ends_exactly {T} outside reading came ending a b loads ends =
+    Tells-weaker _ _ a b loads
+    (λ x y is. elim (came_or_memory reading came x y is) [
+      | inl memory ↦ inl (ends_memory outside came ending ends memory)
+      | inr same ↦ inr (let P : Result T ScheduleFault → Type 0 = λ v. EndsBy outside v ending in subst P same ends)
+    ])
 
 module _ {T S O : Type 0} (reading : Reading T) (is_sound : T → Type 0) (whole front : T → List ℕ → Type 0) (ending : Result (Unit {0}) Fault) (shelf_known : S → Known Files) (shelf shelf' : S) (out_known : O → Known Output) (out out' : O)
-    (run : ScheduleRun reading is_sound whole front ending shelf_known shelf shelf' out_known out out') (memory : status_of ending ≡ 1 → ⊥) where
-  pub refused_exactly : Supplies (shelf_known shelf) (shelf_known shelf') (λ before after. (status_of ending ≡ 3) ↔ IsRefused (reading before).came)
-  refused_exactly =
-      Tells-weaker _ _ (shelf_known shelf) (shelf_known shelf') run.loads
-      (λ x y is. let P : Result T ScheduleFault → Type 0 = λ v. (status_of ending ≡ 3) ↔ IsRefused v in
-      subst P (came_of whole front reading run.came ending out_known out out' x y run.writes memory is) (three_exactly whole front run.came ending out_known out out' run.writes))
+    (came : Result T ScheduleFault) (loads : ReadBy reading came (shelf_known shelf) (shelf_known shelf')) (writes : WritesCame whole front came ending out_known out out') (write_cause : HasCause (out_known out) (out_known out') (ending ≡ Err Write)) where
+  ends : EndsBy Write came ending
+  ends = ends_by whole front came ending out_known out out' writes
 
-  pub unread_exactly : Supplies (shelf_known shelf) (shelf_known shelf') (λ before after. (status_of ending ≡ 4) ↔ ((reading before).came ≡ Err schedule.Read))
-  unread_exactly =
-      Tells-weaker _ _ (shelf_known shelf) (shelf_known shelf') run.loads
-      (λ x y is. let P : Result T ScheduleFault → Type 0 = λ v. (status_of ending ≡ 4) ↔ (v ≡ Err schedule.Read) in
-      subst P (came_of whole front reading run.came ending out_known out out' x y run.writes memory is) (four_exactly whole front run.came ending out_known out out' run.writes))
+  pub exactly : Supplies (shelf_known shelf) (shelf_known shelf') (λ before _. UnlessMemory ending (EndsBy Write (reading before).came ending))
+  exactly = ends_exactly Write reading came ending (shelf_known shelf) (shelf_known shelf') loads ends
 
-  pub complete : (HasFailed (out_known out) (out_known out') → ⊥) → Supplies (shelf_known shelf) (shelf_known shelf') (λ before after. (x : T) → (reading before).came ≡ Ok x → (status_of ending ≡ 0) × Outputs (out_known out) (out_known out') (whole x))
+  pub complete : (HasFailed (out_known out) (out_known out') → ⊥)
+      → Supplies (shelf_known shelf) (shelf_known shelf') (λ before _. (x : T) → (reading before).came ≡ Ok x → UnlessMemory ending ((ending ≡ Ok tt) × Outputs (out_known out) (out_known out') (whole x)))
   complete no_write =
-      Tells-weaker _ _ (shelf_known shelf) (shelf_known shelf') run.loads
-      (λ p q is x gives.
-      let P : Result T ScheduleFault → Type 0 = λ v. WritesCame whole front v ending out_known out out' in
-      all_written whole front x ending out_known out out' (subst P (came_of whole front reading run.came ending out_known out out' p q run.writes memory is ∙ gives) run.writes) (λ e. no_write (run.write_cause.rose e)))
+      Tells-weaker _ _ (shelf_known shelf) (shelf_known shelf') loads
+      (λ p q is x gives. elim (came_or_memory reading came p q is) [
+        | inl memory ↦ inl (ends_memory Write came ending ends memory)
+        | inr same ↦ inr (
+          let P : Result T ScheduleFault → Type 0 = λ v. WritesCame whole front v ending out_known out out' in
+          all_written whole front x ending out_known out out' (subst P (same ∙ gives) writes) (λ e. no_write (write_cause.rose e)))
+      ])
 
 -- ---- the run, by how it ends
 
@@ -101,37 +93,33 @@ not_write (schedule.Line l r) is = cc
 not_write schedule.Read is = cc
 
 module _ {T S O : Type 0} (reading : Reading T) (is_sound : T → Type 0) (whole front : T → List ℕ → Type 0) (shelf_known : S → Known Files) (shelf shelf' : S) (out_known : O → Known Output) where
+  -- a run, by what came of it and what it wrote
+  run_by : (ending : Result (Unit {0}) Fault) (out out' : O) (came : Result T ScheduleFault) → ReadBy reading came (shelf_known shelf) (shelf_known shelf') → IfOk came is_sound → WritesCame whole front came ending out_known out out'
+      → HasCause (shelf_known shelf) (shelf_known shelf') (ending ≡ Err Read) → HasCause (out_known out) (out_known out') (ending ≡ Err Write)
+      → ScheduleRun reading is_sound whole front ending shelf_known shelf shelf' out_known out out'
+  run_by ending out out' came loads sound writes read_cause write_cause = record {
+    came = came;
+    loads = loads;
+    sound = sound;
+    writes = writes;
+    exactly = exactly reading is_sound whole front ending shelf_known shelf shelf' out_known out out' came loads writes write_cause;
+    complete = complete reading is_sound whole front ending shelf_known shelf shelf' out_known out out' came loads writes write_cause;
+    read_cause = read_cause;
+    write_cause = write_cause;
+  }
+
   -- nothing was read, and nothing is written
   pub refused_run : (fault : ScheduleFault) (out : O) → ReadBy reading (Err fault) (shelf_known shelf) (shelf_known shelf')
       → (shelf_known shelf).faults ≤ (shelf_known shelf').faults → (fault ≡ schedule.Read → HasFailed (shelf_known shelf) (shelf_known shelf'))
       → ScheduleRun reading is_sound whole front (Err (fault_of_schedule fault)) shelf_known shelf shelf' out_known out out
-  refused_run fault out comes later rose = record {
-    came = Err fault;
-    loads = comes;
-    sound = tt;
-    writes = (refl, refl);
-    read_cause = record { later = later; rose = λ is. rose (is_read fault is) };
-    write_cause = record { later = omega arith; rose = λ is. absurd (not_write fault is) };
-  }
+  refused_run fault out comes later rose =
+      run_by (Err (fault_of_schedule fault)) out out (Err fault) comes tt (refl, refl)
+      (record { later = later; rose = λ is. rose (is_read fault is) }) (record { later = omega arith; rose = λ is. absurd (not_write fault is) })
 
   module _ (x : T) (sound : is_sound x) (comes : ReadBy reading (Ok x) (shelf_known shelf) (shelf_known shelf')) (later : (shelf_known shelf).faults ≤ (shelf_known shelf').faults) (out out' : O) (later' : (out_known out).faults ≤ (out_known out').faults) where
     -- a write failed
     pub cut_run : Outputs (out_known out) (out_known out') (front x) → HasFailed (out_known out) (out_known out') → ScheduleRun reading is_sound whole front (Err Write) shelf_known shelf shelf' out_known out out'
-    cut_run written rose = record {
-      came = Ok x;
-      loads = comes;
-      sound = sound;
-      writes = written;
-      read_cause = record { later = later; rose = λ is. cc };
-      write_cause = record { later = later'; rose = λ is. rose };
-    }
+    cut_run written rose = run_by (Err Write) out out' (Ok x) comes sound written (record { later = later; rose = λ is. cc }) (record { later = later'; rose = λ is. rose })
 
     pub whole_run : Outputs (out_known out) (out_known out') (whole x) → ScheduleRun reading is_sound whole front (Ok tt) shelf_known shelf shelf' out_known out out'
-    whole_run written = record {
-      came = Ok x;
-      loads = comes;
-      sound = sound;
-      writes = written;
-      read_cause = record { later = later; rose = λ is. cc };
-      write_cause = record { later = later'; rose = λ is. cc };
-    }
+    whole_run written = run_by (Ok tt) out out' (Ok x) comes sound written (record { later = later; rose = λ is. cc }) (record { later = later'; rose = λ is. cc })

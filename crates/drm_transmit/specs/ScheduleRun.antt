@@ -1,12 +1,12 @@
 -- A run that reads a schedule from the shelf and writes what becomes of it.
-use Rattle.std.specs.Prelude.{ℕ, ◌≡◌, List, Option, Result, Ok, Err, IfOk}
-use Rattle.drm_links.specs.Told.{Known, HasCause}
-use Rattle.drm_links.specs.Shelf.{Files}
+use Rattle.std.specs.Prelude.{ℕ, ◌≡◌, ◌⊎◌, List, Option, Result, Ok, Err, IfOk}
+use Rattle.drm_links.specs.Told.{HasFailed, Known, HasCause, Rose}
+use Rattle.drm_links.specs.Shelf.{Files, Supplies}
 use Rattle.drm_links.specs.Sink.{Output, Outputs}
 use Rattle.drm_load.specs.Loading.{Reading, ReadBy}
 use Rattle.drm_load.specs.Faults.{fault_of_schedule}
 use Rattle.drm_load.specs.declared.loading.ScheduleFault.{ScheduleFault}
-use Rattle.drm_load.specs.declared.loading.ScheduleFault.TheVariants as schedule
+use Rattle.drm_faults.specs.Fault.{UnlessMemory}
 use Rattle.drm_faults.specs.declared.fault.Fault.{Fault}
 use Rattle.drm_faults.specs.declared.fault.Fault.TheVariants.{Read, Write}
 
@@ -16,6 +16,11 @@ WritesCame whole front (Ok x) (Ok done) known old new = Outputs (known old) (kno
 WritesCame whole front (Ok x) (Err Write) known old new = Outputs (known old) (known new) (front x)
 WritesCame whole front (Ok x) (Err fault) known old new = ⊥
 WritesCame whole front (Err fault) ending known old new = (ending ≡ Err (fault_of_schedule fault)) × (new ≡ old)
+
+-- A run ends by what came: done, or with this fault of the outside; or refused, with the fault that came.
+abbrev pub EndsBy : {T : Type 0} → Fault → Result T ScheduleFault → Result (Unit {0}) Fault → Type 0
+EndsBy outside (Ok x) ending = (ending ≡ Ok tt) ⊎ (ending ≡ Err outside)
+EndsBy outside (Err fault) ending = ending ≡ Err (fault_of_schedule fault)
 
 -- A run with this ending, by what is read, of which `is_sound` holds, and its whole text and the fronts of it.
 pub record ScheduleRun {T S O : Type 0} (reading : Reading T) (is_sound : T → Type 0) (whole front : T → List ℕ → Type 0)
@@ -29,11 +34,12 @@ pub record ScheduleRun {T S O : Type 0} (reading : Reading T) (is_sound : T → 
   -- Whatever it tells, what came is sound.
   pub sound : IfOk came is_sound
   pub writes : WritesCame whole front came ending out_known out out'
+  -- It is refused exactly where its files are, with the line and the reason; a load fails exactly where one is to fail.
+  pub exactly : Supplies (shelf_known shelf) (shelf_known shelf') (λ before _. UnlessMemory ending (EndsBy Write (reading before).came ending))
+  -- Where its files come to something and no write failed, the whole text of that is written.
+  pub complete : (HasFailed (out_known out) (out_known out') → ⊥)
+      → Supplies (shelf_known shelf) (shelf_known shelf') (λ before _. (x : T) → (reading before).came ≡ Ok x
+      → UnlessMemory ending ((ending ≡ Ok tt) × Outputs (out_known out) (out_known out') (whole x)))
   -- The faults of the outside come only where its count of faults rose.
   pub read_cause : HasCause (shelf_known shelf) (shelf_known shelf') (ending ≡ Err Read)
   pub write_cause : HasCause (out_known out) (out_known out') (ending ≡ Err Write)
-
--- a line of the schedule is wrong
-abbrev pub IsRefused : {T : Type 0} → Result T ScheduleFault → Type 0
-IsRefused (Err (schedule.Line line reason)) = Unit {0}
-IsRefused came = ⊥

@@ -8,7 +8,7 @@ use Rattle.drm_server.specs.Serving.{Serving}
 use Rattle.drm_server.specs.Sending.{SendsSchedule, SendsPart}
 use Rattle.drm_load.specs.declared.loading.ScheduleFault.TheVariants as schedule
 use Rattle.drm_load.specs.Schedule.{schedule_named}
-use Rattle.drm_load.proofs.ScheduleLemmas.{ran_out}
+use Rattle.drm_load.proofs.ScheduleLemmas.{schedule_ran_out}
 use Rattle.drm_timeline.specs.Numbers.{frame_count}
 use Rattle.drm_transmit.proofs.OverLinkLemmas.{unsent, all_sent, part_sent}
 use Rattle.drm_transmit.proofs.send_command.send_over.Goals as goal
@@ -25,7 +25,7 @@ returns-in_err-server-clause-run g c =
     let p = err_from_is_err_and c.from_residual-in_err-server.result c.from_residual-in_err-server.ensures.1 in
     rw (p.1 ∙ ap Err p.2)
     (unsent c.args.name.now g.S.Shelf.known c.args.shelf.now c.read_schedule.new.shelf g.L.Link.known schedule.NoMemory c.args.link.now
-    (ran_out (schedule_named c.args.name.now) c.in_ok-schedule.schedule (g.S.Shelf.known c.args.shelf.now) (g.S.Shelf.known c.read_schedule.new.shelf) c.in_ok-schedule.ensures.reads) c.in_ok-schedule.ensures.cause.later (λ is. cc))
+    (schedule_ran_out c.args.name.now c.in_ok-schedule.schedule (g.S.Shelf.known c.args.shelf.now) (g.S.Shelf.known c.read_schedule.new.shelf) c.in_ok-schedule.ensures.reads) c.in_ok-schedule.ensures.cause.later (λ is. cc))
 
 pub returns-in_err-serve_link-clause-run : goal.returns-in_err-serve_link-clause-run
 returns-in_err-serve_link-clause-run g c =

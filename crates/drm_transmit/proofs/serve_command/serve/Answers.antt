@@ -7,7 +7,7 @@ use Rattle.drm_server.specs.Capture.{IsCapture, IsFrontOfCapture}
 use Rattle.drm_server.specs.Serving.{Serving}
 use Rattle.drm_load.specs.declared.loading.ScheduleFault.TheVariants as schedule
 use Rattle.drm_load.specs.Schedule.{schedule_named}
-use Rattle.drm_load.proofs.ScheduleLemmas.{ran_out}
+use Rattle.drm_load.proofs.ScheduleLemmas.{schedule_ran_out}
 use Rattle.drm_transmit.proofs.ScheduleRunLemmas.{refused_run, whole_run}
 use Rattle.drm_transmit.proofs.serve_command.serve.Goals as goal
 
@@ -16,7 +16,7 @@ returns-in_err-server-clause-run g c =
     let p = err_from_is_err_and c.from_residual-in_err-server.result c.from_residual-in_err-server.ensures.1 in
     rw (p.1 ∙ ap Err p.2)
     (refused_run (schedule_named c.args.name.now) IsSchedule IsCapture IsFrontOfCapture g.S.Shelf.known c.args.shelf.now c.read_schedule.new.shelf g.O.Sink.known schedule.NoMemory c.args.out.now
-    (ran_out (schedule_named c.args.name.now) c.in_ok-schedule.schedule (g.S.Shelf.known c.args.shelf.now) (g.S.Shelf.known c.read_schedule.new.shelf) c.in_ok-schedule.ensures.reads) c.in_ok-schedule.ensures.cause.later (λ is. cc))
+    (schedule_ran_out c.args.name.now c.in_ok-schedule.schedule (g.S.Shelf.known c.args.shelf.now) (g.S.Shelf.known c.read_schedule.new.shelf) c.in_ok-schedule.ensures.reads) c.in_ok-schedule.ensures.cause.later (λ is. cc))
 
 pub returns-clause-run : goal.returns-clause-run
 returns-clause-run g c =
