@@ -40,6 +40,7 @@ use Rattle.mod_receiver.proofs.JobLemmas.{told_of, job_report, job_breaks, index
 use Rattle.drm_top.proofs.ReceiveLemmas.{Ran, reports_written, ending_kind, write_is}
 use Rattle.drm_load.proofs.ScriptLemmas.{read_schedule, read_script, write_schedule, write_script}
 use Rattle.mod_receiver.proofs.Composing.{ItemLaws}
+use Rattle.drm_top.proofs.AirStatus.{air_run}
 use Rattle.drm_top.proofs.FedLemmas as fed
 
 -- the rules of a feed are in their range
@@ -154,23 +155,20 @@ module _ (plan : Plan) (window : ℕ) (valid : IsSchedule plan) (some : 1 ≤ wi
       → (shelf_known shelf).faults ≤ (shelf_known between).faults → (shelf_known between).faults ≤ (shelf_known shelf').faults
       → Settles after stopped out_known out out' → HasCause (out_known out) (out_known out') (stopped ≡ Err stops.Write)
       → AirRun name text window (ending_of stopped) shelf_known shelf shelf' out_known out out'
-  settled_air one_run delivering early laws name text stopped shelf_known shelf between shelf' out_known out out' loads script_loads later later' settled cause = record {
-    came = Ok plan;
-    between = between;
-    loads = loads;
-    runs = record {
-      valid = valid;
-      came = Ok feeds;
-      loads = script_loads;
-      writes = (
-        script,
-        reports_written after stopped (AreAired plan window feeds) out_known out out' (are_aired one_run delivering early laws) settled,
-        kind_by stopped out_known out out' settled,
-      );
-    };
-    read_cause = record { later = le_trans later later'; rose = λ is. absurd (not_read stopped out_known out out' settled is) };
-    write_cause = record { later = cause.later; rose = λ is. cause.rose (write_is stopped is) };
-  }
+  settled_air one_run delivering early laws name text stopped shelf_known shelf between shelf' out_known out out' loads script_loads later later' settled cause =
+      air_run name text window (ending_of stopped) shelf_known shelf between shelf' out_known out out' (Ok plan) loads
+      (record {
+        valid = valid;
+        came = Ok feeds;
+        loads = script_loads;
+        writes = (
+          script,
+          reports_written after stopped (AreAired plan window feeds) out_known out out' (are_aired one_run delivering early laws) settled,
+          kind_by stopped out_known out out' settled,
+        );
+      })
+      (record { later = le_trans later later'; rose = λ is. absurd (not_read stopped out_known out out' settled is) })
+      (record { later = cause.later; rose = λ is. cause.rose (write_is stopped is) })
 
 -- ---- a run that ends before
 
@@ -184,36 +182,26 @@ module _ {S O : Type 0} (name text : List ℕ) (window : ℕ) (shelf_known : S �
   pub no_schedule : (fault : ScheduleFault) (shelf shelf' : S) → ReadBy (schedule_named name) (Err fault) (shelf_known shelf) (shelf_known shelf')
       → (shelf_known shelf).faults ≤ (shelf_known shelf').faults → (fault ≡ schedule.Read → HasFailed (shelf_known shelf) (shelf_known shelf'))
       → AirRun name text window (Err (fault_of_schedule fault)) shelf_known shelf shelf' out_known out out
-  no_schedule fault shelf shelf' loads later rose = record {
-    came = Err fault;
-    between = shelf';
-    loads = loads;
-    runs = (refl, refl, refl);
-    read_cause = record { later = later; rose = λ is. rose (read_schedule fault (inner (fault_of_schedule fault) faults.Read is)) };
-    write_cause = record { later = le_refl _; rose = λ is. absurd (write_schedule fault (inner (fault_of_schedule fault) faults.Write is)) };
-  }
+  no_schedule fault shelf shelf' loads later rose =
+      air_run name text window (Err (fault_of_schedule fault)) shelf_known shelf shelf' shelf' out_known out out (Err fault) loads (refl, refl, refl)
+      (record { later = later; rose = λ is. rose (read_schedule fault (inner (fault_of_schedule fault) faults.Read is)) })
+      (record { later = le_refl _; rose = λ is. absurd (write_schedule fault (inner (fault_of_schedule fault) faults.Write is)) })
 
   pub no_script : (plan : Plan) (fault : ScheduleFault) (shelf between shelf' : S) → IsSchedule plan → ReadBy (schedule_named name) (Ok plan) (shelf_known shelf) (shelf_known between)
       → ReadBy (script_named plan text) (Err fault) (shelf_known between) (shelf_known shelf') → (shelf_known shelf).faults ≤ (shelf_known between).faults → (shelf_known between).faults ≤ (shelf_known shelf').faults
       → (fault ≡ schedule.Read → HasFailed (shelf_known between) (shelf_known shelf'))
       → AirRun name text window (Err (fault_of_script fault)) shelf_known shelf shelf' out_known out out
-  no_script plan fault shelf between shelf' valid loads script_loads later later' rose = record {
-    came = Ok plan;
-    between = between;
-    loads = loads;
-    runs = record { valid = valid; came = Err fault; loads = script_loads; writes = (refl, refl) };
-    read_cause = record { later = le_trans later later'; rose = λ is. later-Rose _ _ _ later (rose (read_script fault (inner (fault_of_script fault) faults.Read is))) };
-    write_cause = record { later = le_refl _; rose = λ is. absurd (write_script fault (inner (fault_of_script fault) faults.Write is)) };
-  }
+  no_script plan fault shelf between shelf' valid loads script_loads later later' rose =
+      air_run name text window (Err (fault_of_script fault)) shelf_known shelf between shelf' out_known out out (Ok plan) loads
+      (record { valid = valid; came = Err fault; loads = script_loads; writes = (refl, refl) })
+      (record { later = le_trans later later'; rose = λ is. later-Rose _ _ _ later (rose (read_script fault (inner (fault_of_script fault) faults.Read is))) })
+      (record { later = le_refl _; rose = λ is. absurd (write_script fault (inner (fault_of_script fault) faults.Write is)) })
 
   pub no_jobs : (plan : Plan) (feeds : List (List Delivery)) (shelf between shelf' : S) → IsSchedule plan → IsScript plan feeds → ReadBy (schedule_named name) (Ok plan) (shelf_known shelf) (shelf_known between)
       → ReadBy (script_named plan text) (Ok feeds) (shelf_known between) (shelf_known shelf') → (shelf_known shelf).faults ≤ (shelf_known between).faults → (shelf_known between).faults ≤ (shelf_known shelf').faults
       → AirRun name text window (Err faults.NoMemory) shelf_known shelf shelf' out_known out out
-  no_jobs plan feeds shelf between shelf' valid script loads script_loads later later' = record {
-    came = Ok plan;
-    between = between;
-    loads = loads;
-    runs = record { valid = valid; came = Ok feeds; loads = script_loads; writes = (script, refl, λ fault is. inl (sym (inner faults.NoMemory fault is))) };
-    read_cause = record { later = le_trans later later'; rose = λ is. absurd (let same : faults.NoMemory ≡ faults.Read = inner faults.NoMemory faults.Read is in cc) };
-    write_cause = record { later = le_refl _; rose = λ is. absurd (let same : faults.NoMemory ≡ faults.Write = inner faults.NoMemory faults.Write is in cc) };
-  }
+  no_jobs plan feeds shelf between shelf' valid script loads script_loads later later' =
+      air_run name text window (Err faults.NoMemory) shelf_known shelf between shelf' out_known out out (Ok plan) loads
+      (record { valid = valid; came = Ok feeds; loads = script_loads; writes = (script, refl, λ fault is. inl (sym (inner faults.NoMemory fault is))) })
+      (record { later = le_trans later later'; rose = λ is. absurd (let same : faults.NoMemory ≡ faults.Read = inner faults.NoMemory faults.Read is in cc) })
+      (record { later = le_refl _; rose = λ is. absurd (let same : faults.NoMemory ≡ faults.Write = inner faults.NoMemory faults.Write is in cc) })

@@ -1,6 +1,8 @@
 -- From the receiver of one link that ended to the whole command.
-use Rattle.std.proofs.Common.{◌≡◌, ℕ, zero, suc, ◌<◌, ◌≤◌, ◌⊎◌, inl, inr, List, [], ◌∷◌, length, slice_index_or, Option, Err, refl, sym, ap, subst, arith}
-use Rattle.drm_links.specs.Told.{Known, HasCause, WhileTold}
+use Rattle.std.proofs.Common.{◌≡◌, ℕ, zero, suc, ◌<◌, ◌≤◌, ◌⊎◌, ◌↔◌, inl, inr, List, [], ◌∷◌, length, slice_index_or, Option, Err, refl, sym, ap, subst, arith}
+use Rattle.drm_links.specs.Told.{Known, HasCause, Tells}
+use Rattle.drm_links.proofs.ToldLemmas.{Tells-weaker}
+use Rattle.drm_faults.specs.Fault.{UnlessMemory}
 use Rattle.drm_links.specs.Link.{Traffic}
 use Rattle.drm_links.specs.Sink.{Output}
 use Rattle.drm_links.specs.Dock.{DockContents, LinkStart}
@@ -19,19 +21,14 @@ use Rattle.mod_receiver.proofs.JobLemmas.{rules_are, live_report, live_given, li
 use Rattle.drm_faults.specs.declared.fault.Fault.{Fault}
 use Rattle.drm_faults.specs.declared.fault.Fault.TheVariants as faults
 use Rattle.drm_top.specs.Stopping.{ending_live}
-use Rattle.drm_top.specs.Opening.{HasLink, HaveLinks, AreFresh}
-use Rattle.drm_top.specs.Receive.{Docked, Finds, FindsNone, FailsSome, WritesLive, ReceiveRun}
+use Rattle.drm_top.specs.Opening.{HasLink, HaveLinks}
+use Rattle.drm_top.specs.Receive.{Docked, Finds, FindsNone, FailsSome, OpensEach, after_openings, WritesLive, ReceiveRun}
 use Rattle.drm_top.proofs.OpeningLemmas.{docked_weaker}
 use Rattle.drm_top.proofs.BreakingOff.{report_whole}
+use Rattle.drm_top.proofs.ReceiveStatus.{receive_run}
 use Rattle.drm_top.proofs.ReceiveLemmas.{inner, no_fault}
 
 -- the receiver ended by this
-ended_link : (ended : Ended) → ending_live ended ≡ Err faults.Link → ended ≡ LinkFailed
-ended_link (Done clean) is = absurd (no_fault clean faults.Link is)
-ended_link LinkFailed is = refl
-ended_link WriteFailed is = let one : faults.Write ≡ faults.Link = inner faults.Write faults.Link is in absurd cc
-ended_link NoMemory is = let one : faults.NoMemory ≡ faults.Link = inner faults.NoMemory faults.Link is in absurd cc
-
 ended_write : (ended : Ended) → ending_live ended ≡ Err faults.Write → ended ≡ WriteFailed
 ended_write (Done clean) is = absurd (no_fault clean faults.Write is)
 ended_write LinkFailed is = let one : faults.Link ≡ faults.Write = inner faults.Link faults.Write is in absurd cc
@@ -78,43 +75,44 @@ module _ {D L O : Type 0} (rules : Rules) (valid : AreInRange rules) (headlines 
       (has.0, has.1, live_front rules valid 1 has.0 (link_known link) (link_known link') (out_known out) (out_known out') has.2 ends)
   written NoMemory ends memory told has = memory refl
 
-  breaks : (ended : Ended) → Ends ended → ended ≡ LinkFailed → (told : DockContents) → HasLink link_known told 0 at link → FailsSome rules told (at ∷ [])
-  breaks ended ends is told has = record {
+  breaks : Ends LinkFailed → (told : DockContents) → HasLink link_known told 0 at link → FailsSome rules told (at ∷ [])
+  breaks ends told has = record {
     k = 0;
     within = omega arith;
-    fails = λ d. inr (has.0, has.1, live_breaks rules valid 1 has.0 (link_known link) (link_known link') (out_known out) (out_known out') has.2 (subst Ends is ends));
+    fails = λ d. inr (has.0, has.1, live_breaks rules valid 1 has.0 (link_known link) (link_known link') (out_known out) (out_known out') has.2 ends);
   }
 
-  whole : (ended : Ended) → Ends ended → (ending_live ended ≡ Err faults.Link → ⊥) → (ending_live ended ≡ Err faults.NoMemory → ⊥) → (ending_live ended ≡ Err faults.Write → ⊥)
-      → (told : DockContents) → HasLink link_known told 0 at link → FailsSome rules told (at ∷ []) → ⊥
-  whole (Done clean) ends no_link no_memory no_write told has fails =
+  whole : (clean : Bool) → Ends (Done clean) → (told : DockContents) → HasLink link_known told 0 at link → FailsSome rules told (at ∷ []) → ⊥
+  whole clean ends told has fails =
       let live = live_report rules valid 1 has.0 (link_known link) (link_known link') (out_known out) (out_known out') has.2 headlines completes clean ends in
       report_whole rules told 0 1 at has.0 live.0 has.1 live.1 (fails_first rules told at fails)
-  whole LinkFailed ends no_link no_memory no_write told has fails = no_link refl
-  whole WriteFailed ends no_link no_memory no_write told has fails = no_write refl
-  whole NoMemory ends no_link no_memory no_write told has fails = no_memory refl
 
-  pub live_run : (ended : Ended) → Ends ended → (ended ≡ NoMemory → out' ≡ out) → (link_known link).faults ≡ 0
-      → WhileTold (dock_known dock) (dock_known dock') (λ x y. y.gone ≡ x.gone) → (dock_known dock).faults ≤ (dock_known dock').faults
-      → HasCause (link_known link) (link_known link') (ended ≡ LinkFailed) → HasCause (out_known out) (out_known out') (ended ≡ WriteFailed)
-      → ReceiveRun rules (at ∷ []) (ending_live ended) dock_known dock dock' link_known out_known out out'
-  live_run ended ends memory fresh unsent later link_cause write_cause = record {
-    kind = ended_kind ended;
-    writes = docked_weaker (λ told. HasLink link_known told 0 at link) (λ told. WritesLive rules told at (ending_live ended) out_known out out') (dock_known dock) (dock_known dock') found
-        (written ended ends memory);
-    unwritten = λ any. elim any [
-      | inl is ↦ memory (ended_memory ended is)
-      | inr several ↦ absurd (several.1 refl)
-    ];
-    link = λ is. docked_weaker (λ told. HasLink link_known told 0 at link) (λ told. FailsSome rules told (at ∷ [])) (dock_known dock) (dock_known dock') found
-        (breaks ended ends (ended_link ended is));
-    linked = λ no_link no_memory no_write. docked_weaker (λ told. HasLink link_known told 0 at link) (λ told. FailsSome rules told (at ∷ []) → ⊥) (dock_known dock) (dock_known dock') found
-        (whole ended ends no_link no_memory (no_write refl));
-    unsent = unsent;
-    later = later;
-    link_cause = λ is. inr (link, link', fresh, link_cause.rose (ended_link ended is));
-    write_cause = record { later = write_cause.later; rose = λ is. write_cause.rose (ended_write ended is) };
-  }
+  -- it fails by the link exactly where the link fails, unless a write failed
+  live_exactly : (ended : Ended) → Ends ended → (ending_live ended ≡ Err faults.Write → ⊥) → (told : DockContents) → HasLink link_known told 0 at link
+      → UnlessMemory (ending_live ended) ((ending_live ended ≡ Err faults.Link) ↔ FailsSome rules told (at ∷ []))
+  live_exactly (Done clean) ends no_write told has = inr (λ is. absurd (no_fault clean faults.Link is), λ fails. absurd (whole clean ends told has fails))
+  live_exactly LinkFailed ends no_write told has = inr (λ is. breaks ends told has, λ fails. refl)
+  live_exactly WriteFailed ends no_write told has = absurd (no_write refl)
+  live_exactly NoMemory ends no_write told has = inl refl
+
+  pub live_run : (ended : Ended) → Ends ended → (ended ≡ NoMemory → out' ≡ out)
+      → Tells (dock_known dock) (dock_known dock') (λ x y. y ≡ after_openings (at ∷ []) x) → (dock_known dock).faults ≤ (dock_known dock').faults
+      → HasCause (out_known out) (out_known out') (ended ≡ WriteFailed)
+      → ReceiveRun rules (at ∷ []) (ending_live ended) dock_known dock dock' out_known out out'
+  live_run ended ends memory opened later write_cause =
+      receive_run rules (at ∷ []) (ending_live ended) dock_known dock dock' out_known out out'
+      (ended_kind ended)
+      (Tells-weaker (λ x y. y ≡ after_openings (at ∷ []) x) (OpensEach (at ∷ []) (ending_live ended)) (dock_known dock) (dock_known dock') opened (λ x y is. inl is))
+      (docked_weaker (λ told. HasLink link_known told 0 at link) (λ told. WritesLive rules told at (ending_live ended) out_known out out') (dock_known dock) (dock_known dock') found
+      (written ended ends memory))
+      (λ any. elim any [
+        | inl is ↦ memory (ended_memory ended is)
+        | inr several ↦ absurd (several.1 refl)
+      ])
+      (λ unless. docked_weaker (λ told. HasLink link_known told 0 at link) (λ told. UnlessMemory (ending_live ended) ((ending_live ended ≡ Err faults.Link) ↔ FailsSome rules told (at ∷ []))) (dock_known dock) (dock_known dock') found
+      (live_exactly ended ends (unless refl)))
+      later
+      (record { later = write_cause.later; rose = λ is. write_cause.rose (ended_write ended is) })
 
 one_of : (addresses : List Address) → length addresses ≡ 1 → (at : Address) × (addresses ≡ at ∷ [])
 one_of [] is = absurd (omega (arith, is))
@@ -125,13 +123,13 @@ one_of (at ∷ (other ∷ addresses)) is = absurd (omega (arith, is))
 pub only_run : {D L O : Type 0} (rules : Rules) (valid : AreInRange rules) (headlines : HeadlinesFollow) (completes : CompletesFollow) (addresses : List Address) (jobs : List (Job L)) (job job' : Job L) (ended : Ended)
     (dock_known : D → Known DockContents) (dock dock' : D) (link_known : L → Known Traffic)
     (out_known : O → Known Output) (out out' : O)
-    → length addresses ≡ 1 → slice_index_or jobs 0 job ≡ job → AreJobs rules (length addresses) jobs → AreFresh link_known (length addresses) jobs
+    → length addresses ≡ 1 → slice_index_or jobs 0 job ≡ job → AreJobs rules (length addresses) jobs
     → Docked (dock_known dock) (dock_known dock') (λ told. HaveLinks link_known told addresses jobs)
-    → WhileTold (dock_known dock) (dock_known dock') (λ x y. y.gone ≡ x.gone) → (dock_known dock).faults ≤ (dock_known dock').faults
+    → Tells (dock_known dock) (dock_known dock') (λ x y. y ≡ after_openings addresses x) → (dock_known dock).faults ≤ (dock_known dock').faults
     → EndsAs (job_rules job) job.options.feed (link_known job.link) (link_known job'.link) (out_known out) (out_known out') ended → (ended ≡ NoMemory → out' ≡ out)
-    → HasCause (link_known job.link) (link_known job'.link) (ended ≡ LinkFailed) → HasCause (out_known out) (out_known out') (ended ≡ WriteFailed)
-    → ReceiveRun rules addresses (ending_live ended) dock_known dock dock' link_known out_known out out'
-only_run {D} {L} {O} rules valid headlines completes addresses jobs job job' ended dock_known dock dock' link_known out_known out out' one first are fresh links unsent later ends memory link_cause write_cause =
+    → HasCause (out_known out) (out_known out') (ended ≡ WriteFailed)
+    → ReceiveRun rules addresses (ending_live ended) dock_known dock dock' out_known out out'
+only_run {D} {L} {O} rules valid headlines completes addresses jobs job job' ended dock_known dock dock' link_known out_known out out' one first are links opened later ends memory write_cause =
     let (at, only) = one_of addresses one in
     let within : 0 < length addresses = omega (arith, one) in
     let is : IsJob rules 1 job = subst (λ (j : Job L). IsJob rules 1 j) first (are 0 job within) in
@@ -144,6 +142,6 @@ only_run {D} {L} {O} rules valid headlines completes addresses jobs job job' end
     subst (λ r. EndsAs r job.options.feed (link_known job.link) (link_known job'.link) (out_known out) (out_known out') ended) rules_is ends in
     let named : EndsAs rules 1 (link_known job.link) (link_known job'.link) (out_known out) (out_known out') ended =
     subst (λ n. EndsAs rules n (link_known job.link) (link_known job'.link) (out_known out) (out_known out') ended) (ap (λ (o : Options). o.feed) is.options) raw in
-    subst (λ xs. ReceiveRun rules xs (ending_live ended) dock_known dock dock' link_known out_known out out') (sym only)
+    subst (λ xs. ReceiveRun rules xs (ending_live ended) dock_known dock dock' out_known out out') (sym only)
     (live_run rules valid headlines completes at dock_known dock dock' link_known job.link job'.link out_known out out' found
-    ended named memory (subst (λ (j : Job L). (link_known j.link).faults ≡ 0) first (fresh 0 job within)) unsent later link_cause write_cause)
+    ended named memory (subst (λ xs. Tells (dock_known dock) (dock_known dock') (λ x y. y ≡ after_openings xs x)) only opened) later write_cause)

@@ -1,30 +1,32 @@
 -- From receivers that ended to the whole command.
-use Rattle.std.proofs.Common.{◌≡◌, ℕ, zero, suc, ◌+◌, ◌<◌, ◌≤◌, ◌⊎◌, inl, inr, Bool, false, List, [], ◌∷◌, ◌++◌, length, map, slice_index_or, take, drop, Option, Result, Ok, Err, refl, sym, ◌∙◌, ap, subst, arith, le_refl}
+use Rattle.std.proofs.Common.{◌≡◌, ℕ, zero, suc, ◌+◌, ◌<◌, ◌≤◌, ◌⊎◌, ◌↔◌, inl, inr, Bool, false, List, [], ◌∷◌, ◌++◌, length, map, slice_index_or, take, drop, Option, Result, Ok, Err, refl, sym, ◌∙◌, ap, subst, arith, le_refl}
 use Rattle.std.specs.List.{All}
 use Rattle.std.proofs.lemmas.List.{take_at}
-use Rattle.drm_links.specs.Told.{HasFailed, Known, HasCause, Rose, WhileTold}
+use Rattle.drm_links.specs.Told.{Known, HasCause, Tells}
 use Rattle.drm_links.specs.Link.{Traffic}
 use Rattle.drm_links.specs.Sink.{Output, Outputs, IsFront}
 use Rattle.drm_links.specs.Dock.{DockContents}
 use Rattle.drm_links.specs.declared.dock.Address.{Address}
-use Rattle.drm_links.proofs.ToldLemmas.{Outputs-weaker}
+use Rattle.drm_links.proofs.ToldLemmas.{Outputs-weaker, Tells-weaker}
 use Rattle.mod_receiver.specs.declared.rules.Rules.{Rules}
 use Rattle.drm_faults.specs.declared.fault.Fault.{Fault}
 use Rattle.drm_faults.specs.declared.fault.Fault.TheVariants as faults
 use Rattle.mod_receiver.specs.declared.job.Job.{Job}
 use Rattle.mod_receiver.specs.Ranges.{AreInRange}
 use Rattle.mod_receiver.specs.Jobs.{HasEnded, IsDone, AreJobs, NoneFailed}
-use Rattle.drm_top.specs.Opening.{HaveLinks, AreFresh, FailsOpening, EndsOpening}
+use Rattle.drm_top.specs.Opening.{HaveLinks, EndsOpening, StopsOpening}
 use Rattle.mod_receiver.specs.Settling.{job_texts, Settles}
 use Rattle.mod_receiver.specs.declared.stop.Stop.{Stop}
 use Rattle.mod_receiver.specs.declared.stop.Stop.TheVariants as stops
 use Rattle.drm_top.specs.Stopping.{ending_of}
 use Rattle.mod_receiver.specs.Following.{HeadlinesFollow, CompletesFollow}
-use Rattle.drm_top.specs.Receive.{Docked, FindsNone, AreReports, all_texts, FailsSome, WritesReports, WritesAll, IsLive, SomeLinkRose, ReceiveRun}
+use Rattle.drm_faults.specs.Fault.{UnlessMemory}
+use Rattle.drm_top.specs.Receive.{Docked, FindsNone, AreReports, all_texts, FailsSome, FailsAfter, OpensEach, after_openings, WritesReports, WritesAll, IsLive, ReceiveRun}
+use Rattle.drm_top.proofs.ReceiveStatus.{receive_run}
 use Rattle.mod_receiver.specs.Ahead.{Report, IsReportOf}
 use Rattle.drm_top.proofs.OpeningLemmas.{docked_weaker}
 use Rattle.drm_top.proofs.BreakingOff.{report_whole}
-use Rattle.mod_receiver.proofs.JobLemmas.{told_of, job_report, job_breaks, job_rose, index_of, map_at, map_size, flat_map_map, all_told, SomeFailed, some_failed}
+use Rattle.mod_receiver.proofs.JobLemmas.{told_of, job_report, job_breaks, index_of, map_at, map_size, flat_map_map, all_told, SomeFailed, some_failed}
 
 -- ---- what is written
 
@@ -46,7 +48,7 @@ reports_written jobs (Err stops.Write) are known out out' reports settled = (
   subst (λ t. Outputs (known out) (known out') (IsFront t)) (texts_told jobs) settled.1,
 )
 reports_written jobs (Err stops.Link) are known out out' reports settled = settled.1
-reports_written jobs (Err stops.NoMemory) are known out out' reports settled = settled
+reports_written jobs (Err stops.NoMemory) are known out out' reports settled = settled.2
 
 abbrev of_fault : Fault → Result Bool Fault
 of_fault fault = Err fault
@@ -92,7 +94,7 @@ settled_unwritten jobs (Ok clean) known out out' settled (inr is) = absurd (no_f
 settled_unwritten jobs (Err stops.Write) known out out' settled (inl is) = let one : faults.Write ≡ faults.NoMemory = inner faults.Write faults.NoMemory is in absurd cc
 settled_unwritten jobs (Err stops.Write) known out out' settled (inr is) = let one : faults.Write ≡ faults.Link = inner faults.Write faults.Link is in absurd cc
 settled_unwritten jobs (Err stops.Link) known out out' settled any = settled.1
-settled_unwritten jobs (Err stops.NoMemory) known out out' settled any = settled
+settled_unwritten jobs (Err stops.NoMemory) known out out' settled any = settled.2
 
 either : {P Q R : Type 0} → P ⊎ (Q × R) → P ⊎ Q
 either (inl p) = inl p
@@ -160,51 +162,50 @@ module _ {L : Type 0} (link_known : L → Known Traffic) (rules : Rules) (valid 
             );
       }
 
-  some_rose : AreFresh link_known (length addresses) before → SomeFailed after → SomeLinkRose link_known
-  some_rose fresh some =
-      let last : some.0 < length after = some.1 in
-      let first : some.0 < length before = (let still = ran.still in omega (arith, still, last)) in
-      let within : some.0 < length addresses = (let size = ran.size in omega (arith, size, first)) in
-      let d : Job L = (index_of after some.0 last).0 in (
-        (slice_index_or before some.0 d).link,
-        (slice_index_or after some.0 d).link,
-        fresh some.0 d within,
-        job_rose link_known (slice_index_or before some.0 d) (slice_index_or after some.0 d) (ran.ended some.0 d first) (some.2 d),
-      )
-
   failed_where : (NoneFailed after → ⊥) → SomeFailed after
   failed_where some = elim (some_failed after) [
     | inl none ↦ absurd (some none)
     | inr failed ↦ failed
   ]
 
+  -- it fails by a link exactly where one fails
+  settled_exactly : {O : Type 0} (stopped : Result Bool Stop) (known : O → Known Output) (out out' : O) → Settles after stopped known out out' → (told : DockContents) → HaveLinks link_known told addresses before
+      → UnlessMemory (ending_of stopped) ((ending_of stopped ≡ Err faults.Link) ↔ FailsSome rules told addresses)
+  settled_exactly (Ok clean) known out out' settled told has = inr (
+    λ is. absurd (no_fault clean faults.Link is),
+    λ fails. absurd (none_fails told (map told_of after) (are_reports told has settled.0) fails),
+  )
+  settled_exactly (Err stops.Write) known out out' settled told has = inr (
+    λ is. absurd (let one : faults.Write ≡ faults.Link = inner faults.Write faults.Link is in cc),
+    λ fails. absurd (none_fails told (map told_of after) (are_reports told has settled.0) fails),
+  )
+  settled_exactly (Err stops.Link) known out out' settled told has = inr (λ is. fails_some told has (failed_where settled.0), λ fails. refl)
+  settled_exactly (Err stops.NoMemory) known out out' settled told has = inl refl
+
   pub settled_run : {D O : Type 0} (stopped : Result Bool Stop) (dock_known : D → Known DockContents) (dock dock' : D)
       (out_known : O → Known Output) (out out' : O)
-      → AreFresh link_known (length addresses) before → Docked (dock_known dock) (dock_known dock') (λ told. HaveLinks link_known told addresses before)
-      → WhileTold (dock_known dock) (dock_known dock') (λ x y. y.gone ≡ x.gone) → (dock_known dock).faults ≤ (dock_known dock').faults
+      → Docked (dock_known dock) (dock_known dock') (λ told. HaveLinks link_known told addresses before)
+      → Tells (dock_known dock) (dock_known dock') (λ x y. y ≡ after_openings addresses x) → (dock_known dock).faults ≤ (dock_known dock').faults
       → (IsLive addresses → ⊥) → Settles after stopped out_known out out' → HasCause (out_known out) (out_known out') (stopped ≡ Err stops.Write)
-      → ReceiveRun rules addresses (ending_of stopped) dock_known dock dock' link_known out_known out out'
-  settled_run stopped dock_known dock dock' out_known out out' fresh links unsent later several settled cause = record {
-    kind = λ fault is.
-        elim (ending_kind after stopped out_known out out' settled fault is) [
-          | inl memory ↦ inl memory
-          | inr rest ↦ elim rest [
-            | inl link ↦ inr (inl link.0)
-            | inr write ↦ inr (inr write)
-          ]
-        ];
-    writes = docked_weaker (λ told. HaveLinks link_known told addresses before) (λ told. WritesAll rules told addresses (ending_of stopped) out_known out out') (dock_known dock) (dock_known dock') links
-        (λ told has. all_several rules told addresses (ending_of stopped) out_known out out' several (reports_written after stopped (AreReports rules told addresses) out_known out out' (are_reports told has) settled));
-    unwritten = λ any. settled_unwritten after stopped out_known out out' settled (either any);
-    link = λ is. docked_weaker (λ told. HaveLinks link_known told addresses before) (λ told. FailsSome rules told addresses) (dock_known dock) (dock_known dock') links
-        (λ told has. fails_some told has (failed_where (settled_link after stopped out_known out out' settled is)));
-    linked = λ no_link no_want no_write. docked_weaker (λ told. HaveLinks link_known told addresses before) (λ told. FailsSome rules told addresses → ⊥) (dock_known dock) (dock_known dock') links
-        (λ told has fails. none_fails told (map told_of after) (are_reports told has (all_done after stopped out_known out out' settled no_link no_want)) fails);
-    unsent = unsent;
-    later = later;
-    link_cause = λ is. inr (some_rose fresh (failed_where (settled_link after stopped out_known out out' settled is)));
-    write_cause = record { later = cause.later; rose = λ is. cause.rose (write_is stopped is) };
-  }
+      → ReceiveRun rules addresses (ending_of stopped) dock_known dock dock' out_known out out'
+  settled_run stopped dock_known dock dock' out_known out out' links opened later several settled cause =
+      receive_run rules addresses (ending_of stopped) dock_known dock dock' out_known out out'
+      (λ fault is.
+      elim (ending_kind after stopped out_known out out' settled fault is) [
+        | inl memory ↦ inl memory
+        | inr rest ↦ elim rest [
+          | inl link ↦ inr (inl link.0)
+          | inr write ↦ inr (inr write)
+        ]
+      ])
+      (Tells-weaker (λ x y. y ≡ after_openings addresses x) (OpensEach addresses (ending_of stopped)) (dock_known dock) (dock_known dock') opened (λ x y is. inl is))
+      (docked_weaker (λ told. HaveLinks link_known told addresses before) (λ told. WritesAll rules told addresses (ending_of stopped) out_known out out') (dock_known dock) (dock_known dock') links
+      (λ told has. all_several rules told addresses (ending_of stopped) out_known out out' several (reports_written after stopped (AreReports rules told addresses) out_known out out' (are_reports told has) settled)))
+      (λ any. settled_unwritten after stopped out_known out out' settled (either any))
+      (λ unless. docked_weaker (λ told. HaveLinks link_known told addresses before) (λ told. UnlessMemory (ending_of stopped) ((ending_of stopped ≡ Err faults.Link) ↔ FailsSome rules told addresses)) (dock_known dock) (dock_known dock') links
+      (settled_exactly stopped out_known out out' settled))
+      later
+      (record { later = cause.later; rose = λ is. cause.rose (write_is stopped is) })
 
 -- ---- a run that ends while links are opened
 
@@ -217,46 +218,47 @@ unwritten_memory rules told [] known out = refl
 unwritten_memory rules told (at ∷ []) known out = refl
 unwritten_memory rules told (at ∷ (other ∷ addresses)) known out = refl
 
-unwritten_link : {O : Type 0} (rules : Rules) (told : DockContents) (addresses : List Address) (known : O → Known Output) (out : O) → FailsOpening told addresses → WritesAll rules told addresses (Err faults.Link) known out out
-unwritten_link rules told [] known out fails = refl
-unwritten_link rules told (at ∷ []) known out fails = inl (none_found told at fails.k fails.within (fails.fails at), refl)
-unwritten_link rules told (at ∷ (other ∷ addresses)) known out fails = refl
+unwritten_link : {O : Type 0} (rules : Rules) (told after : DockContents) (addresses : List Address) (known : O → Known Output) (out : O) → FailsAfter addresses told after → WritesAll rules told addresses (Err faults.Link) known out out
+unwritten_link rules told after [] known out fails = refl
+unwritten_link rules told after (at ∷ []) known out fails = inl (none_found told at fails.k fails.within (fails.fails at), refl)
+unwritten_link rules told after (at ∷ (other ∷ addresses)) known out fails = refl
 
 not_write : (fault : Fault) → EndsOpening fault → of_fault fault ≡ Err faults.Write → ⊥
 not_write fault (inl memory) is = let one : faults.NoMemory ≡ faults.Write = sym memory ∙ inner fault faults.Write is in cc
 not_write fault (inr link) is = let one : faults.Link ≡ faults.Write = sym link ∙ inner fault faults.Write is in cc
 
-pub opening_failed : {D O L : Type 0} (rules : Rules) (addresses : List Address) (fault : Fault) (dock_known : D → Known DockContents) (dock dock' : D) (link_known : L → Known Traffic)
+opening_kind : (fault other : Fault) → EndsOpening fault → of_fault fault ≡ Err other → (other ≡ faults.NoMemory) ⊎ (other ≡ faults.Link) ⊎ (other ≡ faults.Write)
+opening_kind fault other (inl memory) is = inl (sym (inner fault other is) ∙ memory)
+opening_kind fault other (inr link) is = inr (inl (sym (inner fault other is) ∙ link))
+
+module _ {O : Type 0} (rules : Rules) (addresses : List Address) (fault : Fault) (out_known : O → Known Output) (out : O) (told after : DockContents) where
+  opens_each : StopsOpening addresses fault told after → OpensEach addresses (Err fault) told after
+  opens_each (inl (memory, stops)) = inr (inr (ap Err memory, stops))
+  opens_each (inr (link, fails)) = inr (inl (ap Err link, fails))
+
+  nothing_written : StopsOpening addresses fault told after → WritesAll rules told addresses (Err fault) out_known out out
+  nothing_written (inl (memory, stops)) = subst (λ f. WritesAll rules told addresses (Err f) out_known out out) (sym memory) (unwritten_memory rules told addresses out_known out)
+  nothing_written (inr (link, fails)) = subst (λ f. WritesAll rules told addresses (Err f) out_known out out) (sym link) (unwritten_link rules told after addresses out_known out fails)
+
+  fails_exactly : StopsOpening addresses fault told after → UnlessMemory (of_fault fault) ((of_fault fault ≡ Err faults.Link) ↔ FailsSome rules told addresses)
+  fails_exactly (inl (memory, stops)) = inl (ap Err memory)
+  fails_exactly (inr (link, fails)) = inr (λ is. record { k = fails.k; within = fails.within; fails = λ at. inl (fails.fails at) }, λ any. ap Err link)
+
+pub opening_failed : {D O : Type 0} (rules : Rules) (addresses : List Address) (fault : Fault) (dock_known : D → Known DockContents) (dock dock' : D)
     (out_known : O → Known Output) (out : O)
-    → EndsOpening fault → (fault ≡ faults.Link → Docked (dock_known dock) (dock_known dock') (λ told. FailsOpening told addresses))
-    → Docked (dock_known dock) (dock_known dock') (λ _. Unit {0})
-    → WhileTold (dock_known dock) (dock_known dock') (λ x y. y.gone ≡ x.gone) → (dock_known dock).faults ≤ (dock_known dock').faults → (fault ≡ faults.Link → HasFailed (dock_known dock) (dock_known dock'))
-    → ReceiveRun rules addresses (Err fault) dock_known dock dock' link_known out_known out out
-opening_failed rules addresses fault dock_known dock dock' link_known out_known out ends failed told unsent later rose = record {
-  kind = λ other is.
-      let same : fault ≡ other = inner fault other is in
-      elim ends [
-        | inl memory ↦ inl (sym same ∙ memory)
-        | inr link ↦ inr (inl (sym same ∙ link))
-      ];
-  writes = elim ends [
-    | inl memory ↦ docked_weaker (λ _. Unit {0}) (λ x. WritesAll rules x addresses (Err fault) out_known out out) (dock_known dock) (dock_known dock') told
-        (λ x any. subst (λ f. WritesAll rules x addresses (Err f) out_known out out) (sym memory) (unwritten_memory rules x addresses out_known out))
-    | inr link ↦ docked_weaker (λ x. FailsOpening x addresses) (λ x. WritesAll rules x addresses (Err fault) out_known out out) (dock_known dock) (dock_known dock') (failed link)
-        (λ x fails. subst (λ f. WritesAll rules x addresses (Err f) out_known out out) (sym link) (unwritten_link rules x addresses out_known out fails))
-  ];
-  unwritten = λ any. refl;
-  link = λ is. docked_weaker (λ x. FailsOpening x addresses) (λ x. FailsSome rules x addresses) (dock_known dock) (dock_known dock') (failed (inner fault faults.Link is))
-      (λ x opening. record { k = opening.k; within = opening.within; fails = λ at. inl (opening.fails at) });
-  linked = λ no_link no_memory no_write. elim ends [
-    | inl memory ↦ absurd (no_memory (ap Err memory))
-    | inr link ↦ absurd (no_link (ap Err link))
-  ];
-  unsent = unsent;
-  later = later;
-  link_cause = λ is. inl (rose (inner fault faults.Link is));
-  write_cause = record { later = le_refl _; rose = λ is. absurd (not_write fault ends is) };
-}
+    → EndsOpening fault → Tells (dock_known dock) (dock_known dock') (StopsOpening addresses fault) → (dock_known dock).faults ≤ (dock_known dock').faults
+    → ReceiveRun rules addresses (Err fault) dock_known dock dock' out_known out out
+opening_failed rules addresses fault dock_known dock dock' out_known out ends stopped later =
+    let a = dock_known dock in
+    let b = dock_known dock' in
+    receive_run rules addresses (Err fault) dock_known dock dock' out_known out out
+    (λ other is. opening_kind fault other ends is)
+    (Tells-weaker (StopsOpening addresses fault) (OpensEach addresses (Err fault)) a b stopped (opens_each rules addresses fault out_known out))
+    (Tells-weaker (StopsOpening addresses fault) (λ told _. WritesAll rules told addresses (Err fault) out_known out out) a b stopped (nothing_written rules addresses fault out_known out))
+    (λ any. refl)
+    (λ unless. Tells-weaker (StopsOpening addresses fault) (λ told _. UnlessMemory (of_fault fault) ((of_fault fault ≡ Err faults.Link) ↔ FailsSome rules told addresses)) a b stopped (fails_exactly rules addresses fault out_known out))
+    later
+    (record { later = le_refl _; rose = λ is. absurd (not_write fault ends is) })
 
 -- what a vector holds after its slice was lent
 pub written_back : {X : Type 0} (n : ℕ) (xs ys zs : List X) → n ≡ length xs → zs ≡ take n (xs ++ drop (length xs) ys) → zs ≡ xs

@@ -1,7 +1,7 @@
--- What the status of `receive` says.
-use Rattle.std.proofs.Common.{◌≡◌, ℕ, zero, suc, ◌<◌, ◌+◌, ◌⊎◌, ◌↔◌, inl, inr, Bool, true, false, IsTrue, List, [], ◌∷◌, length, slice_index_or, Option, None, Some, Result, Ok, Err, refl, sym, ◌∙◌, ap, subst, arith}
-use Rattle.drm_links.specs.Told.{HasFailed, Known, Rose}
-use Rattle.drm_links.specs.Link.{Answer, Traffic}
+-- What is said of how a run of `receive` ends.
+use Rattle.std.proofs.Common.{◌≡◌, ℕ, zero, suc, ◌<◌, ◌+◌, ◌≤◌, ◌⊎◌, ◌↔◌, inl, inr, Bool, true, false, IsTrue, List, [], ◌∷◌, length, slice_index_or, Option, None, Some, Result, Ok, Err, refl, sym, ◌∙◌, ap, subst, arith}
+use Rattle.drm_links.specs.Told.{HasFailed, HasCause, Known, Rose, Tells}
+use Rattle.drm_links.specs.Link.{Answer}
 use Rattle.drm_links.specs.Sink.{Output}
 use Rattle.drm_links.proofs.ToldLemmas.{Outputs-weaker}
 use Rattle.std.proofs.lemmas.List.{append-nil}
@@ -10,34 +10,13 @@ use Rattle.drm_links.specs.declared.dock.Address.{Address}
 use Rattle.mod_receiver.specs.declared.rules.Rules.{Rules}
 use Rattle.drm_faults.specs.declared.fault.Fault.{Fault}
 use Rattle.drm_faults.specs.declared.fault.Fault.TheVariants as faults
-use Rattle.drm_faults.specs.Fault.{report_status, clean_status}
-use Rattle.drm_top.specs.Receive.{Docked, Finds, AreReports, AreClean, all_texts, FailsSome, WritesReports, WritesAll, IsLive, ReceiveRun}
+use Rattle.drm_faults.specs.Fault.{UnlessMemory}
+use Rattle.drm_top.specs.Receive.{Docked, Finds, AreReports, AreClean, all_texts, FailsSome, OpensEach, WritesReports, WritesAll, WroteReports, IsInTimeAhead, AreInTime, IsLive, ReceiveRun}
 use Rattle.mod_receiver.specs.Ahead.{Report, IsReportOf}
 use Rattle.drm_top.proofs.OpeningLemmas.{docked_weaker, docked_both}
-use Rattle.drm_top.specs.Status.{WroteReports, IsInTimeAhead, AreInTime}
 
 pub is_true : IsTrue true
 is_true = refl
-
-is_not_false : IsTrue false → ⊥
-is_not_false e = cc
-
--- all reports of these were written, and the status is that of whether they are clean
-pub wrote : {O : Type 0} (are : List Report → Type 0) (clean : Bool) (known : O → Known Output) (out out' : O) → WritesReports are (Ok clean) known out out' → WroteReports (clean_status clean) are known out out'
-wrote are true known out out' (reports, is, text, iff) = record {
-  reports = reports;
-  are_reports = is;
-  text = text;
-  clean = (λ e. iff.0 is_true, λ all. refl);
-  lacking = (λ e. absurd (omega (arith, e)), λ none. absurd (none (iff.0 is_true)));
-}
-wrote are false known out out' (reports, is, text, iff) = record {
-  reports = reports;
-  are_reports = is;
-  text = text;
-  clean = (λ e. absurd (omega (arith, e)), λ all. absurd (is_not_false (iff.1 all)));
-  lacking = (λ e all. is_not_false (iff.1 all), λ none. refl);
-}
 
 -- the report of one link is all there are
 one_report : (rules : Rules) (told : DockContents) (at : Address) (start : LinkStart) (r : Report) → Finds told 0 at start → IsReportOf rules 1 start.ahead r
@@ -68,49 +47,18 @@ all_reports rules told (at ∷ []) clean known out out' (start, finds, (r, repor
 )
 all_reports rules told (at ∷ (other ∷ addresses)) clean known out out' writes = writes
 
-module _ {D L O : Type 0} (rules : Rules) (addresses : List Address) (dock_known : D → Known DockContents) (dock dock' : D) (link_known : L → Known Traffic) (out_known : O → Known Output) (out out' : O) where
-  not_six : (clean : Bool) → clean_status clean ≡ 6 → ⊥
-  not_six true e = omega (arith, e)
-  not_six false e = omega (arith, e)
-
-  linked_by : (ending : Result Bool Fault) → ((fault : Fault) → ending ≡ Err fault → (fault ≡ faults.NoMemory) ⊎ (fault ≡ faults.Link) ⊎ (fault ≡ faults.Write)) → (report_status ending ≡ 1 → ⊥)
-      → ((report_status ending ≡ 6) × (ending ≡ Err faults.Link)) ⊎ ((report_status ending ≡ 6 → ⊥) × (ending ≡ Err faults.Link → ⊥) × (ending ≡ Err faults.NoMemory → ⊥))
-  linked_by (Ok clean) kind memory = inr (not_six clean, (λ e. cc), (λ e. cc))
-  linked_by (Err fault) kind memory = elim (kind fault refl) [
-    | inl is ↦ absurd (memory (ap (λ f. report_status (Err f)) is))
-    | inr (inl is) ↦ inl (ap (λ f. report_status (Err f)) is, ap Err is)
-    | inr (inr is) ↦
-        let five : report_status (Err fault) ≡ 5 = ap (λ f. report_status (Err f)) is in
-        inr ((λ e. omega (arith, e, five)), (λ e. let same : fault ≡ faults.Link = cc in let other : faults.Link ≡ faults.Write = sym same ∙ is in cc), (λ e. let same : fault ≡ faults.NoMemory = cc in let other : faults.NoMemory ≡ faults.Write = sym same ∙ is in cc))
+-- where it ends well, the reports are written
+module _ {O : Type 0} (rules : Rules) (told : DockContents) (addresses : List Address) (known : O → Known Output) (out out' : O) where
+  wrote_by : (ending : Result Bool Fault) → ((fault : Fault) → ending ≡ Err fault → (fault ≡ faults.NoMemory) ⊎ (fault ≡ faults.Link) ⊎ (fault ≡ faults.Write))
+      → (ending ≡ Err faults.Write → ⊥) → WritesAll rules told addresses ending known out out' → UnlessMemory ending ((ending ≡ Err faults.Link) ↔ FailsSome rules told addresses) → (FailsSome rules told addresses → ⊥)
+      → UnlessMemory ending (WroteReports ending (AreReports rules told addresses) known out out')
+  wrote_by (Ok clean) kind no_write writes exactly none = inr (clean, refl, all_reports rules told addresses clean known out out' writes)
+  wrote_by (Err fault) kind no_write writes (inl memory) none = inl memory
+  wrote_by (Err fault) kind no_write writes (inr fails) none = elim (kind fault refl) [
+    | inl memory ↦ inl (ap Err memory)
+    | inr (inl link) ↦ absurd (none (fails.0 (ap Err link)))
+    | inr (inr write) ↦ absurd (no_write (ap Err write))
   ]
-
-  write_five : (ending : Result Bool Fault) → ending ≡ Err faults.Write → report_status ending ≡ 5
-  write_five ending is = ap report_status is
-
-  module _ (ending : Result Bool Fault) (run : ReceiveRun rules addresses ending dock_known dock dock' link_known out_known out out') (memory : report_status ending ≡ 1 → ⊥)
-      (unless : IsLive addresses → report_status ending ≡ 5 → ⊥) where
-    pub linked : Docked (dock_known dock) (dock_known dock') (λ told. (report_status ending ≡ 6) ↔ FailsSome rules told addresses)
-    linked = elim (linked_by ending run.kind memory) [
-      | inl (six, is) ↦ docked_weaker _ _ (dock_known dock) (dock_known dock') (run.link is) (λ told fails. (λ e. fails, λ f. six))
-      | inr (other, not_link, not_memory) ↦ docked_weaker _ _ (dock_known dock) (dock_known dock') (run.linked not_link not_memory (λ live is. unless live (write_five ending is))) (λ told none. (λ e. absurd (other e), λ f. absurd (none f)))
-    ]
-
-  complete_by : (ending : Result Bool Fault) (run : ReceiveRun rules addresses ending dock_known dock dock' link_known out_known out out') → (report_status ending ≡ 1 → ⊥)
-      → (HasFailed (out_known out) (out_known out') → ⊥)
-      → Docked (dock_known dock) (dock_known dock') (λ told. (FailsSome rules told addresses → ⊥) → WroteReports (report_status ending) (AreReports rules told addresses) out_known out out')
-  complete_by (Ok clean) run memory no_write =
-      docked_weaker _ _ (dock_known dock) (dock_known dock') run.writes
-      (λ told writes none. wrote (AreReports rules told addresses) clean out_known out out' (all_reports rules told addresses clean out_known out out' writes))
-  complete_by (Err fault) run memory no_write = elim (run.kind fault refl) [
-    | inl is ↦ absurd (memory (ap (λ f. report_status (Err f)) is))
-    | inr (inl is) ↦ docked_weaker _ _ (dock_known dock) (dock_known dock') (run.link (ap Err is)) (λ told fails none. absurd (none fails))
-    | inr (inr is) ↦ absurd (no_write (run.write_cause.rose (ap Err is)))
-  ]
-
-  pub complete : (ending : Result Bool Fault) (run : ReceiveRun rules addresses ending dock_known dock dock' link_known out_known out out') → (report_status ending ≡ 1 → ⊥)
-      → (HasFailed (out_known out) (out_known out') → ⊥)
-      → Docked (dock_known dock) (dock_known dock') (λ told. (FailsSome rules told addresses → ⊥) → WroteReports (report_status ending) (AreReports rules told addresses) out_known out out')
-  complete = complete_by
 
 -- the report of a link that brings each frame in time is clean
 clean_in_time : (rules : Rules) (feed : ℕ) (ahead : List Answer) (r : Report) → IsReportOf rules feed ahead r → IsInTimeAhead rules ahead → IsTrue r.clean
@@ -128,8 +76,46 @@ all_clean rules told addresses reports are time k d within =
     let starts : start' ≡ start = cc in
     clean_in_time rules (k + 1) start.ahead (slice_index_or reports k d) report (subst (λ (s : LinkStart). IsInTimeAhead rules s.ahead) starts ahead)
 
-pub in_time : {O : Type 0} (code : ℕ) (rules : Rules) (addresses : List Address) (a b : Known DockContents) (known : O → Known Output) (out out' : O)
-    → Docked a b (λ told. (FailsSome rules told addresses → ⊥) → WroteReports code (AreReports rules told addresses) known out out')
-    → Docked a b (λ told. (FailsSome rules told addresses → ⊥) → AreInTime rules told addresses → code ≡ 0)
-in_time code rules addresses a b known out out' complete =
-    docked_weaker _ _ a b complete (λ told wrote none time. let w = wrote none in w.clean.1 (all_clean rules told addresses w.reports w.are_reports time))
+all_given : {O : Type 0} (rules : Rules) (told : DockContents) (addresses : List Address) (ending : Result Bool Fault) (known : O → Known Output) (out out' : O)
+    → UnlessMemory ending (WroteReports ending (AreReports rules told addresses) known out out') → AreInTime rules told addresses → UnlessMemory ending (ending ≡ Ok true)
+all_given rules told addresses ending known out out' (inl memory) time = inl memory
+all_given rules told addresses ending known out out' (inr (clean, is, (reports, are, text, iff))) time =
+    let all : IsTrue clean = iff.1 (all_clean rules told addresses reports are time) in
+    inr (is ∙ ap Ok (clean_is clean all))
+  where
+    clean_is : (clean : Bool) → IsTrue clean → clean ≡ true
+    clean_is clean all = all
+
+-- ---- the whole run
+
+pub receive_run : {D O : Type 0} (rules : Rules) (addresses : List Address) (ending : Result Bool Fault) (dock_known : D → Known DockContents) (dock dock' : D) (out_known : O → Known Output) (out out' : O)
+    → ((fault : Fault) → ending ≡ Err fault → (fault ≡ faults.NoMemory) ⊎ (fault ≡ faults.Link) ⊎ (fault ≡ faults.Write))
+    → Tells (dock_known dock) (dock_known dock') (OpensEach addresses ending)
+    → Docked (dock_known dock) (dock_known dock') (λ told. WritesAll rules told addresses ending out_known out out')
+    → ((ending ≡ Err faults.NoMemory) ⊎ ((ending ≡ Err faults.Link) × (IsLive addresses → ⊥)) → out' ≡ out)
+    → ((IsLive addresses → ending ≡ Err faults.Write → ⊥) → Docked (dock_known dock) (dock_known dock') (λ told. UnlessMemory ending ((ending ≡ Err faults.Link) ↔ FailsSome rules told addresses)))
+    → (dock_known dock).faults ≤ (dock_known dock').faults
+    → HasCause (out_known out) (out_known out') (ending ≡ Err faults.Write)
+    → ReceiveRun rules addresses ending dock_known dock dock' out_known out out'
+receive_run {D} {O} rules addresses ending dock_known dock dock' out_known out out' kind opens writes unwritten exactly later write_cause = record {
+  kind = kind;
+  opens = opens;
+  writes = writes;
+  unwritten = unwritten;
+  exactly = exactly;
+  complete = all_wrote;
+  in_time = λ no_write.
+      docked_weaker (λ told. (FailsSome rules told addresses → ⊥) → UnlessMemory ending (WroteReports ending (AreReports rules told addresses) out_known out out'))
+      (λ told. (FailsSome rules told addresses → ⊥) → AreInTime rules told addresses → UnlessMemory ending (ending ≡ Ok true)) (dock_known dock) (dock_known dock') (all_wrote no_write)
+      (λ told wrote none time. all_given rules told addresses ending out_known out out' (wrote none) time);
+  later = later;
+  write_cause = write_cause;
+}
+  where
+    all_wrote : (HasFailed (out_known out) (out_known out') → ⊥) → Docked (dock_known dock) (dock_known dock') (λ told. (FailsSome rules told addresses → ⊥) → UnlessMemory ending (WroteReports ending (AreReports rules told addresses) out_known out out'))
+    all_wrote no_write =
+        let none : ending ≡ Err faults.Write → ⊥ = λ is. no_write (write_cause.rose is) in
+        docked_weaker (λ told. WritesAll rules told addresses ending out_known out out' × UnlessMemory ending ((ending ≡ Err faults.Link) ↔ FailsSome rules told addresses))
+        (λ told. (FailsSome rules told addresses → ⊥) → UnlessMemory ending (WroteReports ending (AreReports rules told addresses) out_known out out')) (dock_known dock) (dock_known dock')
+        (docked_both (λ told. WritesAll rules told addresses ending out_known out out') (λ told. UnlessMemory ending ((ending ≡ Err faults.Link) ↔ FailsSome rules told addresses)) (dock_known dock) (dock_known dock') writes (exactly (λ live is. none is)))
+        (λ told both fails. wrote_by rules told addresses out_known out out' ending kind none both.0 both.1 fails)

@@ -20,6 +20,10 @@ HaveLinks {L} known told addresses jobs =
     → HasLink known told k (slice_index_or addresses k at) (slice_index_or jobs k none).link
 
 -- Opening ends for want of memory, or by an opening that failed.
-abbrev pub EndsOpening : List Address → Fault → DockContents → DockContents → Type 0
-EndsOpening addresses fault before after =
+abbrev pub EndsOpening : Fault → Type 0
+EndsOpening fault = (fault ≡ faults.NoMemory) ⊎ (fault ≡ faults.Link)
+
+-- what the dock tells then
+abbrev pub StopsOpening : List Address → Fault → DockContents → DockContents → Type 0
+StopsOpening addresses fault before after =
     ((fault ≡ faults.NoMemory) × StopsAfter addresses before after) ⊎ ((fault ≡ faults.Link) × FailsAfter addresses before after)

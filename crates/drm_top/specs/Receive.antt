@@ -16,7 +16,6 @@ use Rattle.mod_receiver.specs.declared.rules.Rules.{Rules}
 use Rattle.mod_receiver.specs.Reading.{datagrams}
 use Rattle.mod_receiver.specs.Headline.{WouldBeRead}
 use Rattle.mod_receiver.specs.Ahead.{Report, IsReportOf, BreaksOff, IsGivenOf, IsFrontOf}
-use Rattle.drm_transmit.specs.Send.{after_failure}
 use Rattle.drm_faults.specs.Fault.{UnlessMemory}
 use Rattle.drm_faults.specs.declared.fault.Fault.{Fault}
 use Rattle.drm_faults.specs.declared.fault.Fault.TheVariants as faults
@@ -96,6 +95,10 @@ after_opening at told = record told { openings = told.openings + 1; links = map.
 abbrev pub after_openings : List Address → DockContents → DockContents
 after_openings [] told = told
 after_openings (at ∷ addresses) told = after_openings addresses (after_opening at told)
+
+-- and after an opening that failed
+abbrev pub after_failure : DockContents → DockContents
+after_failure told = record told { openings = told.openings + 1; calls = told.calls + 1 }
 
 -- The openings at the first k addresses were made, and the next one failed.
 pub record FailsAfter (addresses : List Address) (before after : DockContents) : Type 0 where

@@ -1,13 +1,13 @@
 //! The command `receive` with addresses.
 
-ghost use Rattle.std.specs.Prelude.{◌≡◌, length, vec_len, IfOk, IfErr, Err};
-ghost use Rattle.drm_links.specs.Told.{HasCause, CountsCall, WhileTold};
+ghost use Rattle.std.specs.Prelude.{◌≡◌, ◌≤◌, length, vec_len, IfOk, IfErr, Err};
+ghost use Rattle.drm_links.specs.Told.{CountsCall, Tells, WhileTold};
 ghost use Rattle.drm_links.specs.Dock.{Opens};
 ghost use Rattle.mod_receiver.specs.Ranges.{AreInRange};
 ghost use Rattle.drm_top.specs.Terms.{AreListed};
-ghost use Rattle.drm_top.specs.Receive.{ReceiveRun, Docked};
+ghost use Rattle.drm_top.specs.Receive.{ReceiveRun, Docked, after_opening, after_openings};
 ghost use Rattle.mod_receiver.specs.Jobs.{IsJob, AreJobs};
-ghost use Rattle.drm_top.specs.Opening.{HaveLinks, AreFresh, FailsOpening, EndsOpening};
+ghost use Rattle.drm_top.specs.Opening.{HaveLinks, EndsOpening, StopsOpening};
 ghost use Rattle.drm_top.specs.Stopping.{ending_of, ending_live};
 
 use drm_faults::Fault;
@@ -33,7 +33,7 @@ where
     requires rules { AreInRange rules.now }
     requires listed { AreListed addresses.now }
     ensures run { ReceiveRun rules.now addresses.now result
-        D.known dock.old dock.new D.L.known O.known out.old out.new }
+        D.known dock.old dock.new O.known out.old out.new }
 {
     reports_follow();
     let mut jobs = open_all(alloc, rules, addresses, dock)?;
@@ -55,15 +55,14 @@ fn open_all<D: Dock>(
     requires listed { AreListed addresses.now }
     ensures many { IfOk result (λ jobs. vec_len jobs ≡ length addresses.now) }
     ensures jobs { IfOk result (λ jobs. AreJobs rules.now (length addresses.now) jobs.items) }
-    ensures fresh { IfOk result (λ jobs. AreFresh D.L.known (length addresses.now) jobs.items) }
+    ensures opened { IfOk result (λ _. Tells (D.known dock.old) (D.known dock.new)
+        (λ before after. after ≡ after_openings addresses.now before)) }
     ensures links { IfOk result (λ jobs. Docked (D.known dock.old) (D.known dock.new) (λ told.
         HaveLinks D.L.known told addresses.now jobs.items)) }
-    ensures failed { result ≡ Err Fault.Link
-        → Docked (D.known dock.old) (D.known dock.new) (λ told. FailsOpening told addresses.now) }
     ensures ends { IfErr result EndsOpening }
-    ensures unsent { WhileTold (D.known dock.old) (D.known dock.new) (λ before after. after.gone ≡ before.gone) }
-    ensures docked { Docked (D.known dock.old) (D.known dock.new) (λ _. Unit {0}) }
-    ensures cause { HasCause (D.known dock.old) (D.known dock.new) (result ≡ Err Fault.Link) }
+    ensures stopped { IfErr result (λ fault. Tells (D.known dock.old) (D.known dock.new)
+        (StopsOpening addresses.now fault)) }
+    ensures later { (D.known dock.old).faults ≤ (D.known dock.new).faults }
 {
     let mut jobs = Vec::new(alloc);
     for k in 0..addresses.len() {
@@ -85,15 +84,15 @@ fn open_one<D: Dock>(
 ) -> Result<Job<D::L>, Fault>
     requires rules { AreInRange rules.now }
     ensures job { IfOk result (IsJob rules.now feed) }
-    ensures fresh { IfOk result (λ job. (D.L.known job.link).faults ≡ 0) }
     ensures opened { IfOk result (λ job.
         WhileTold (D.known dock.old) (D.known dock.new) (Opens D.L.known at (Opened.Link job.link))) }
     ensures failed { result ≡ Err Fault.Link
         → WhileTold (D.known dock.old) (D.known dock.new) (Opens D.L.known at Opened.Failed) }
+    ensures stopped { result ≡ Err Fault.NoMemory → WhileTold (D.known dock.old) (D.known dock.new)
+        (λ before after. after ≡ after_opening at before) }
     ensures told { CountsCall (λ contents. contents.calls) (D.known dock.old) (D.known dock.new) }
     ensures ends { IfErr result EndsOpening }
-    ensures unsent { WhileTold (D.known dock.old) (D.known dock.new) (λ before after. after.gone ≡ before.gone) }
-    ensures cause { HasCause (D.known dock.old) (D.known dock.new) (result ≡ Err Fault.Link) }
+    ensures later { (D.known dock.old).faults ≤ (D.known dock.new).faults }
 {
     match dock.bind(at) {
         Opened::Link(link) => Ok(job_for(alloc, rules, feed, link)?),

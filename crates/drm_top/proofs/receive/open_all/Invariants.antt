@@ -5,7 +5,7 @@ use Rattle.drm_top.specs.Receive.{Docked}
 use Rattle.drm_top.specs.Opening.{HasLink}
 use Rattle.mod_receiver.specs.Jobs.{IsJob}
 use Rattle.drm_links.specs.Told.{Tells}
-use Rattle.drm_top.proofs.OpeningLemmas.{AreOpened}
+use Rattle.drm_top.proofs.OpeningLemmas.{Opened}
 use Rattle.drm_top.proofs.receive.open_all.Given as goal
 
 -- each receiver so far has the link of its address
@@ -13,8 +13,7 @@ abbrev pub invariant-loop-k : goal.invariant-loop-k
 invariant-loop-k g l =
     (vec_len l.jobs ≡ l.k) × (length l.jobs.items ≡ l.k)
     × ((g.D.Dock.known l.fn.dock).faults ≤ (g.D.Dock.known l.dock).faults)
-    × Tells (g.D.Dock.known l.fn.dock) (g.D.Dock.known l.dock) (AreOpened l.addresses l.k)
+    × Tells (g.D.Dock.known l.fn.dock) (g.D.Dock.known l.dock) (Opened l.addresses l.k)
     × ((k : ℕ) (d : Job g.row.D-L.Denot) → k < l.k → IsJob l.rules (k + 1) (slice_index_or l.jobs.items k d))
-    × ((k : ℕ) (d : Job g.row.D-L.Denot) → k < l.k → (g.D.L.Link.known (slice_index_or l.jobs.items k d).link).faults ≡ 0)
     × ((k : ℕ) (d : Job g.row.D-L.Denot) → k < l.k → (at : Address)
     → Docked (g.D.Dock.known l.fn.dock) (g.D.Dock.known l.dock) (λ told. HasLink g.D.L.Link.known told k (slice_index_or l.addresses k at) (slice_index_or l.jobs.items k d).link))
