@@ -1,5 +1,5 @@
 -- The command `serve --to`: a schedule becomes datagrams over a link.
-use Rattle.std.specs.Prelude.{ℕ, ◌≡◌, ◌+◌, ◌≤◌, ◌⊎◌, List, [], length, Contains, Option, Some, IsNone, Result, Ok, Err, IfOk}
+use Rattle.std.specs.Prelude.{ℕ, ◌≡◌, ◌+◌, ◌≤◌, ◌⊎◌, List, [], ◌∷◌, ◌++◌, length, Contains, Option, Some, IsNone, Result, Ok, Err, IfOk}
 use Rattle.std.specs.FinMap as map
 use Rattle.drm_links.specs.Told.{HasFailed, Known, HasCause, Rose, WhileTold}
 use Rattle.drm_links.specs.Link.{Traffic}
@@ -10,6 +10,7 @@ use Rattle.drm_links.specs.declared.dock.Address.{Address}
 use Rattle.drm_schedule.specs.declared.plan.Plan.{Plan}
 use Rattle.drm_schedule.specs.Valid.{IsSchedule}
 use Rattle.drm_server.specs.Datagrams.{AreDatagrams, AreBefore}
+use Rattle.drm_server.specs.Rests.{ArePaced}
 use Rattle.drm_load.specs.Loading.{ReadBy}
 use Rattle.drm_load.specs.Schedule.{schedule_named}
 use Rattle.drm_load.specs.Faults.{fault_of_schedule}
@@ -27,14 +28,17 @@ OpensLink at told start = (Contains told.failing told.openings → ⊥) × (star
 
 -- what the dock tells after an opening that failed
 abbrev pub after_failure : DockContents → DockContents
-after_failure told = record told { openings = told.openings + 1; calls = told.calls + 1 }
+after_failure told = record told { openings = told.openings + 1; reaches = told.reaches + 1; calls = told.calls + 1 }
 
--- what it tells after a link was opened and closed over which these datagrams had gone
-abbrev pub after_link : Address → List (List ℕ) → DockContents → DockContents
-after_link at gone told = record told {
+-- what it tells after a link was opened and closed over which these datagrams had gone, with these rests before each and
+-- after the last
+abbrev pub after_link : Address → List (List ℕ) → List ℕ → DockContents → DockContents
+after_link at gone rests told = record told {
   openings = told.openings + 1;
+  reaches = told.reaches + 1;
   links = map.remove told.links (address_key at);
   gone = map.insert told.gone (address_key at) gone;
+  rests = map.insert told.rests (address_key at) rests;
   calls = told.calls + 1 + 1;
 }
 
@@ -44,12 +48,17 @@ EndsBy (Ok schedule) (Ok done) = Unit {0}
 EndsBy (Ok schedule) (Err fault) = fault ≡ faults.Link
 EndsBy (Err fault) ending = ending ≡ Err (fault_of_schedule fault)
 
--- The datagrams that go over a link that takes so many sends: all of the schedule that came, or some first ones, after
--- which no more are taken. Where no schedule came, none.
-abbrev pub Go : Result Plan ScheduleFault → Result (Unit {0}) Fault → Option ℕ → List (List ℕ) → Type 0
-Go (Ok schedule) (Ok done) sends gone = AreDatagrams schedule gone × TakesSends sends (length gone)
-Go (Ok schedule) (Err fault) sends gone = (next : List ℕ) × AreBefore schedule next gone × (sends ≡ Some (length gone))
-Go (Err fault) ending sends gone = gone ≡ []
+-- The datagrams that go over a link that takes so many sends, and the rests before each and after the last: all of the
+-- schedule that came, at this pace, without a rest after the last; or some first ones, after which no more are taken, with the
+-- rest before the next one. Where no schedule came, none, without a rest.
+abbrev pub Go : ℕ → Result Plan ScheduleFault → Result (Unit {0}) Fault → Option ℕ → List (List ℕ) → List ℕ → Type 0
+Go pace (Ok schedule) (Ok done) sends gone rests =
+    AreDatagrams schedule gone × TakesSends sends (length gone)
+    × (waits : List ℕ) × ArePaced pace schedule gone waits × (rests ≡ waits ++ 0 ∷ [])
+Go pace (Ok schedule) (Err fault) sends gone rests =
+    (next : List ℕ) × AreBefore schedule next gone × (sends ≡ Some (length gone))
+    × ArePaced pace schedule (gone ++ next ∷ []) rests
+Go pace (Err fault) ending sends gone rests = (gone ≡ []) × (rests ≡ 0 ∷ [])
 
 -- The link takes fewer sends than the schedule that came has datagrams.
 abbrev pub LacksSends : Result Plan ScheduleFault → Option ℕ → Type 0
@@ -69,7 +78,7 @@ pub record ClosedRun {S D : Type 0} (at : Address) (ending : Result (Unit {0}) F
   pub rose : HasFailed (dock_known dock) (dock_known dock')
 
 -- A run whose link was opened, before the schedule of this name was read, and closed at the end.
-pub record LinkRun {S D L : Type 0} (name : List ℕ) (at : Address) (ending : Result (Unit {0}) Fault)
+pub record LinkRun {S D L : Type 0} (name : List ℕ) (at : Address) (pace : ℕ) (ending : Result (Unit {0}) Fault)
     (shelf_known : S → Known Files) (shelf shelf' : S)
     (dock_known : D → Known DockContents) (dock dock' : D) (link_known : L → Known Traffic) : Type 0 where
   -- the schedule, or why there is none
@@ -81,7 +90,7 @@ pub record LinkRun {S D L : Type 0} (name : List ℕ) (at : Address) (ending : R
   pub ends : EndsBy came ending
   pub told : WhileTold (dock_known dock) (dock_known dock') (λ before after.
       (start : LinkStart) × OpensLink at before start
-      × (gone : List (List ℕ)) × Go came ending start.sends gone × (after ≡ after_link at gone before))
+      × (gone : List (List ℕ)) × (rests : List ℕ) × Go pace came ending start.sends gone rests × (after ≡ after_link at gone rests before))
   pub later : (dock_known dock).faults ≤ (dock_known dock').faults
   -- The faults of the outside come only where its count of faults rose.
   pub read_cause : HasCause (shelf_known shelf) (shelf_known shelf') (ending ≡ Err faults.Read)
@@ -90,9 +99,9 @@ pub record LinkRun {S D L : Type 0} (name : List ℕ) (at : Address) (ending : R
   pub fresh : (link_known opened).faults ≡ 0
   pub link_cause : HasCause (link_known opened) (link_known closed) (ending ≡ Err faults.Link)
 
--- A run of `serve --to`.
-abbrev pub SendRun : {S D L : Type 0} → List ℕ → Address → Result (Unit {0}) Fault
+-- A run of `serve --to`, with this pace.
+abbrev pub SendRun : {S D L : Type 0} → List ℕ → Address → ℕ → Result (Unit {0}) Fault
     → (S → Known Files) → S → S → (D → Known DockContents) → D → D → (L → Known Traffic) → Type 0
-SendRun name at ending shelf_known shelf shelf' dock_known dock dock' link_known =
+SendRun name at pace ending shelf_known shelf shelf' dock_known dock dock' link_known =
     ClosedRun at ending shelf shelf' dock_known dock dock'
-    ⊎ LinkRun name at ending shelf_known shelf shelf' dock_known dock dock' link_known
+    ⊎ LinkRun name at pace ending shelf_known shelf shelf' dock_known dock dock' link_known

@@ -11,8 +11,8 @@ use drm_load::read_schedule;
 use drm_server::{Server, serve_link};
 use std::alloc::Global;
 
-/// Opens a link to the address, reads a schedule and sends its datagrams, and closes the link. Between frames it rests for
-/// `pace` milliseconds.
+/// Opens a link to the address, reads a schedule and sends its datagrams, and closes the link. Between the datagrams of two
+/// frames it rests for `pace` milliseconds.
 pub fn send<S: Shelf, D: Dock>(
     alloc: Global,
     name: &str,
@@ -21,7 +21,7 @@ pub fn send<S: Shelf, D: Dock>(
     shelf: &mut S,
     dock: &mut D,
 ) -> Result<(), Fault>
-    ensures run { SendRun name.now to result S.known shelf.old shelf.new
+    ensures run { SendRun name.now to pace result S.known shelf.old shelf.new
         D.known dock.old dock.new D.L.known }
     // After want of memory nothing was sent. The words were judged before, and nothing is written.
     ensures unsent { IsErrOf result Fault.NoMemory
@@ -48,7 +48,7 @@ fn send_over<S: Shelf, L: Link>(
     shelf: &mut S,
     link: &mut L,
 ) -> Result<(), Fault>
-    ensures run { OverLink name.now result S.known shelf.old shelf.new
+    ensures run { OverLink name.now pace result S.known shelf.old shelf.new
         L.known link.old link.new }
     ensures words { IsErrOf result Fault.Words → ⊥ }
     ensures write { IsErrOf result Fault.Write → ⊥ }

@@ -10,7 +10,7 @@ returns-in-Link-clause-run g c =
       loads = run.loads;
       sound = run.sound;
       ends = run.ends;
-      told = link_told run.came c.send_over-sent.result c.args.to g.D.L.Link.known c.in-Link.link c.send_over-sent.new.link (g.D.Dock.known c.args.dock.now) (g.D.Dock.known c.reach.new.self) (g.D.Dock.known c.close.new.self)
+      told = link_told c.args.pace run.came c.send_over-sent.result c.args.to g.D.L.Link.known c.in-Link.link c.send_over-sent.new.link (g.D.Dock.known c.args.dock.now) (g.D.Dock.known c.reach.new.self) (g.D.Dock.known c.close.new.self)
           c.in-Link.ensures.opened c.close.ensures.told c.close.ensures.gone run.sent run.calls;
       later = omega (arith, c.in-Link.ensures.cause.later, c.close.ensures.cause);
       read_cause = run.read_cause;
