@@ -1,5 +1,5 @@
 -- The links of a dock in memory, and what it tells before and after a call.
-use Rattle.std.proofs.Common.{◌≡◌, ℕ, ◌+◌, ◌^◌, ◌≤◌, ◌⊎◌, inl, inr, Bool, true, false, cond, List, [], ◌∷◌, nat_le, Contains, Option, None, Some, IsNone, if◌then◌else◌, refl, sym, ◌∙◌, ap, arith}
+use Rattle.std.proofs.Common.{◌≡◌, ℕ, ◌+◌, ◌^◌, ◌≤◌, ◌⊎◌, inl, inr, Bool, true, false, cond, List, [], ◌∷◌, nat_le, Contains, Option, None, Some, IsNone, if◌then◌else◌, refl, sym, ◌∙◌, ap, subst, arith}
 use Rattle.std.specs.Prelude as list
 use Rattle.std.specs.Ordering.{nat_cmp, is_eq, eq_by_cmp}
 use Rattle.std.specs.Cmp.{eq_by_cmp_equiv}
@@ -12,10 +12,10 @@ use Rattle.std.specs.BTreeMap as tree
 use Rattle.std.specs.BTreeMap.{BTreeMap, is_at}
 use Rattle.std.specs.FinMap as map
 use Rattle.drm_links.specs.Told.{WhileTold, one_more}
-use Rattle.drm_links.specs.Link.{Traffic}
-use Rattle.drm_links.specs.Dock.{DockContents, LinkStart, Opens, Closes, address_key, start_at, first_traffic}
+use Rattle.drm_links.specs.Link.{Traffic, rests_of}
+use Rattle.drm_links.specs.Dock.{DockContents, LinkStart, Opens, Reaches, Closes, address_key, start_at, first_traffic, with_reach}
 use Rattle.drm_links.specs.MemoryLink.{LinkState, IsUntouched, link_known}
-use Rattle.drm_links.specs.MemoryDock.{DockState, Leaves, after_close, link_at, start_of, starts_of, with_gone, contents_of, dock_known, with_start}
+use Rattle.drm_links.specs.MemoryDock.{DockState, Leaves, reached, after_close, link_at, start_of, starts_of, with_told, contents_of, dock_known, with_start}
 use Rattle.drm_links.specs.ClosedLinks.{entries_of}
 use Rattle.drm_links.specs.declared.dock.Address.{Address}
 use Rattle.drm_links.specs.declared.docked_link.Closed.{Closed}
@@ -117,7 +117,7 @@ put_told dock after at link is_after =
 
 -- a link on which no call was made tells how it starts
 untouched_tells : (link : LinkState) → IsUntouched link → (link_known link).told ≡ Some (first_traffic (start_of link))
-untouched_tells link untouched = rw (untouched.recvs, untouched.calls, untouched.gone) refl
+untouched_tells link untouched = rw (untouched.recvs, untouched.calls, untouched.gone) (rw (untouched.waits, untouched.waiting) refl)
 
 no_start : (link : Option LinkState) → IsNone link → IsNone (option_map start_of link)
 no_start None none = refl
@@ -148,9 +148,33 @@ leaves_told result at before after counts leaves =
     while_told_for before.calls after.calls (contents_of before) (contents_of after) (Opens link_known at result)
     (Leaves-opens result at before after counts leaves)
 
+-- ---- a link that leaves by `reach`
+
+-- there is one call more than there were, so the reaches, with one more, are still among them
+pub reach_fits : (result : Opened LinkState) (at : Address) (before after : DockState) → before.reaches ≤ before.calls → Leaves result at before after → one_more after.reaches ≤ after.calls
+reach_fits (opened.Link link) at before after counts (unlisted, stands, untouched, is_after) = rw is_after (omega arith)
+reach_fits opened.Failed at before after counts (reason, is_after) = rw is_after (omega arith)
+
+pub reached_leaves : (result : Opened LinkState) (at : Address) (before between after : DockState) → Leaves result at before between → after ≡ reached between → Leaves result at (reached before) after
+reached_leaves (opened.Link link) at before between after (unlisted, stands, untouched, is_between) is_after =
+    (unlisted, stands, untouched, is_after ∙ ap reached is_between)
+reached_leaves opened.Failed at before between after (reason, is_between) is_after = (reason, is_after ∙ ap reached is_between)
+
+pub reached_told : (result : Opened LinkState) (at : Address) (before after : DockState) → before.openings ≤ before.calls → before.reaches ≤ before.calls → Leaves result at (reached before) after
+    → WhileTold (dock_known before) (dock_known after) (Reaches link_known at result)
+reached_told result at before after counts reaches leaves =
+    while_told_for before.calls after.calls (contents_of before) (contents_of after) (Reaches link_known at result)
+    (λ told. let one : contents_of (reached before) ≡ with_reach (contents_of before) = one_reach before reaches told in
+    subst (λ c. Opens link_known at result c (contents_of after)) one (Leaves-opens result at (reached before) after counts leaves told))
+  where
+    one_reach : (dock : DockState) → dock.reaches ≤ dock.calls → dock.calls ≤ 2 ^ 62 → contents_of (reached dock) ≡ with_reach (contents_of dock)
+    one_reach dock reaches told = let one : one_more dock.reaches ≡ dock.reaches + 1 = omega arith in rw one refl
+
 -- ---- a link that is closed
 
-closes_by : (traffic : Option Traffic) (at : Address) (before after : DockContents) → after ≡ record before { gone = with_gone traffic (address_key at) before.gone; calls = before.calls + 1 } → Closes traffic at before after
+closes_by : (traffic : Option Traffic) (at : Address) (before after : DockContents)
+    → after ≡ record before { gone = with_told (λ t. t.gone) traffic (address_key at) before.gone; rests = with_told rests_of traffic (address_key at) before.rests; calls = before.calls + 1 }
+    → Closes traffic at before after
 closes_by None at before after is = is
 closes_by (Some traffic) at before after is = is
 

@@ -1,5 +1,5 @@
 -- What a link in memory tells before and after a call.
-use Rattle.std.proofs.Common.{◌≡◌, ℕ, zero, suc, ◌+◌, ◌-◌, ◌^◌, ◌<◌, ◌≤◌, ◌⊎◌, inl, inr, Bool, true, false, cond, ◌||◌, List, [], ◌∷◌, ◌++◌, length, map, take, drop, get_or, min, Contains, nat_eq, nat_le, None, Some, if◌then◌else◌, refl, sym, ◌∙◌, ap, arith}
+use Rattle.std.proofs.Common.{◌≡◌, ℕ, zero, suc, ◌+◌, ◌-◌, ◌*◌, ◌^◌, ◌<◌, ◌≤◌, ◌⊎◌, inl, inr, Bool, true, false, cond, ◌||◌, List, [], ◌∷◌, ◌++◌, length, map, take, drop, get_or, min, Contains, nat_eq, nat_le, None, Some, if◌then◌else◌, refl, sym, ◌∙◌, ap, arith}
 use Rattle.std.proofs.lemmas.Bool.{cases_lt}
 use Rattle.std.proofs.lemmas.Bool.Decides.{nat_tests}
 use Rattle.std.proofs.lemmas.List.Elements.{All-head, All-tail, All-push}
@@ -8,8 +8,8 @@ use Rattle.std.specs.List.{filter_map}
 use Rattle.std.specs.Map.{lookup}
 use Rattle.std.proofs.lemmas.Map.Views.{list_any-from_Contains, Contains-from_any}
 use Rattle.drm_links.specs.Told.{WhileTold, one_more}
-use Rattle.drm_links.specs.Link.{Answer, Datagram, Idle, Failed, Receives, Sends, next_answer, datagram_of, longest_told}
-use Rattle.drm_links.specs.MemoryLink.{LinkState, CameBefore, is_among, first_of, answer_at, left_at, answers_from, after_last, listed_from, answers_ahead, answered_at, answered, taken_from, traffic_of, link_known, Hears, Carries, IsCounted, Brings}
+use Rattle.drm_links.specs.Link.{Answer, Datagram, Idle, Failed, Receives, Sends, Rests, next_answer, datagram_of, longest_told}
+use Rattle.drm_links.specs.MemoryLink.{LinkState, CameBefore, is_among, first_of, answer_at, left_at, answers_from, after_last, listed_from, answers_ahead, answered_at, answered, taken_from, traffic_of, link_known, Hears, Carries, after_rest, longest_wait, IsCounted, Brings}
 use Rattle.drm_links.specs.declared.link.Came.{Came}
 use Rattle.drm_links.specs.declared.link.Came.TheVariants as recv
 use Rattle.drm_links.specs.declared.link.Sent.{Sent}
@@ -112,6 +112,8 @@ bring_told link after bytes is_after =
           datagrams_from link.failing link.idling _ link.recvs (link.coming ++ bytes ∷ [])
           ∙ ap (λ l. l ++ bytes ∷ []) (sym (datagrams_from link.failing link.idling _ link.recvs link.coming));
       gone = refl;
+      waits = refl;
+      waiting = refl;
       sends = refl;
       calls = refl;
     }))
@@ -214,6 +216,8 @@ Hears-receives (recv.Datagram n) old new before after counted (unlisted, unidle,
           ∙ ap (λ a. answered before.failing before.came before.recvs ++ a ∷ []) (sym next);
       ahead = then_ahead before.failing before.idling before.recvs before.calls before.coming _ counted.recvs told left;
       gone = refl;
+      waits = refl;
+      waiting = refl;
       sends = refl;
     })
 Hears-receives recv.Idle old new before after counted (unlisted, nothing, same, is_after) told =
@@ -228,6 +232,8 @@ Hears-receives recv.Idle old new before after counted (unlisted, nothing, same, 
           ∙ ap (λ a. answered before.failing before.came before.recvs ++ a ∷ []) (sym next);
       ahead = then_ahead before.failing before.idling before.recvs before.calls before.coming _ counted.recvs told both.1;
       gone = refl;
+      waits = refl;
+      waiting = refl;
       sends = refl;
     })
 Hears-receives recv.Failed old new before after counted (listed, same, is_after) told =
@@ -243,6 +249,8 @@ Hears-receives recv.Failed old new before after counted (listed, same, is_after)
           ∙ ap (λ a. answered before.failing before.came before.recvs ++ a ∷ []) (sym next);
       ahead = then_ahead before.failing before.idling before.recvs before.calls before.coming _ counted.recvs told left;
       gone = refl;
+      waits = refl;
+      waiting = refl;
       sends = refl;
     })
 
@@ -312,12 +320,33 @@ Carries-sends send.Sent bytes before after counted (unlisted, room, short, is_af
     rw is_after (
       (λ none. let zero_taken : taken_from before.failing before.sends before.room ≡ 0 = cc in omega arith),
       refl,
+      refl,
+      refl,
       rw next (ap Some (taken_then before.failing before.sends before.room fails)),
     )
 Carries-sends send.Failed bytes before after counted (reason, is_after) told =
-    rw is_after ((λ short. ap Some (none_taken before bytes reason short)), refl)
+    rw is_after ((λ short. ap Some (none_taken before bytes reason short)), refl, refl, refl)
 
 pub carries_told : (result : Sent) (bytes : List ℕ) (before after : LinkState) → IsCounted before → Carries result bytes before after → WhileTold (link_known before) (link_known after) (Sends result bytes)
 carries_told result bytes before after counted carries =
     while_told_for before.calls after.calls (traffic_of before) (traffic_of after) (Sends result bytes)
     (Carries-sends result bytes before after counted carries)
+
+-- ---- rests
+
+-- a link that tells didn't rest so long that a wait isn't counted
+whole_wait : (wait calls millis : ℕ) → wait ≤ calls * 4294967295 → calls ≤ 2 ^ 62 → millis < 2 ^ 32 → min (wait + millis) longest_wait ≡ wait + millis
+whole_wait wait calls millis within told short = omega arith
+
+pub rest_told : (millis : ℕ) (before after : LinkState) → IsCounted before → millis < 2 ^ 32 → after ≡ after_rest millis before → WhileTold (link_known before) (link_known after) (Rests millis)
+rest_told millis before after counted short is_after =
+    rw is_after
+    (while_told_for before.calls (one_more before.calls) (traffic_of before) (traffic_of (after_rest millis before)) (Rests millis)
+    (λ told. record {
+      waiting = whole_wait before.waiting before.calls millis counted.waiting told short;
+      answers = refl;
+      ahead = refl;
+      gone = refl;
+      waits = refl;
+      sends = refl;
+    }))

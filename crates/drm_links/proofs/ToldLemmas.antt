@@ -8,7 +8,7 @@ use Rattle.drm_links.specs.Sink.{Output, WritesText, Outputs, Appends}
 use Rattle.drm_links.specs.Source.{Input, LeftBy, Inputs, Takes}
 use Rattle.drm_links.specs.Shelf.{Files, Supplies, Loads, KeepsFiles, after_one}
 use Rattle.drm_links.specs.declared.shelf.Loaded.{Loaded}
-use Rattle.drm_links.specs.Link.{Traffic}
+use Rattle.drm_links.specs.Link.{Traffic, rests_of}
 use Rattle.drm_links.specs.Dock.{DockContents, LinkStart, Opens, Closes, address_key, start_at, first_traffic}
 use Rattle.drm_links.specs.declared.dock.Address.{Address}
 use Rattle.drm_links.specs.declared.dock.Opened.TheVariants as opened
@@ -159,6 +159,9 @@ started (Some s) traffic starts = (s, refl, starts)
 pub Opens-started : {L : Type 0} (known : L → Known Traffic) (at : Address) (link : L) (before after : DockContents) → Opens known at (opened.Link link) before after → (s : LinkStart) × (start_at before at ≡ Some s) × ((known link).told ≡ Some (first_traffic s))
 Opens-started known at link before after opens = started (start_at before at) (known link).told opens.1
 
--- What had gone over a link that still told stands at its address once it was closed.
+-- What had gone over a link that still told stands at its address once it was closed, and how long it had rested.
 pub Closes-gone : (traffic : Traffic) (at : Address) (before after : DockContents) → Closes (Some traffic) at before after → map.get after.gone (address_key at) ≡ Some traffic.gone
 Closes-gone traffic at before after closes = rw closes (grind (arith, gets, common_steps))
+
+pub Closes-rests : (traffic : Traffic) (at : Address) (before after : DockContents) → Closes (Some traffic) at before after → map.get after.rests (address_key at) ≡ Some (rests_of traffic)
+Closes-rests traffic at before after closes = rw closes (grind (arith, gets, common_steps))

@@ -1,5 +1,5 @@
 -- Texts that are written one after another.
-use Rattle.std.proofs.Common.{◌≡◌, ℕ, ◌≤◌, List, [], ◌++◌, Result, Ok, Err, IsErr, refl, sym, ◌∙◌, ap, arith, append_assoc}
+use Rattle.std.proofs.Common.{◌≡◌, ℕ, ◌≤◌, List, ◌++◌, Result, Ok, Err, IsErr, refl, sym, ◌∙◌, ap, arith, append_assoc}
 use Rattle.drm_links.specs.Told.{Known, HasCause}
 use Rattle.drm_links.specs.Sink.{Output, Outputs, IsFront, Writes}
 use Rattle.drm_links.proofs.ToldLemmas.{later-Rose, Outputs-then, Outputs-weaker}

@@ -1,5 +1,5 @@
 -- What a link tells.
-use Rattle.std.specs.Prelude.{ℕ, ◌≡◌, ◌-◌, ◌≤◌, List, [], ◌∷◌, ◌++◌, length, take, drop, Option, None, Some}
+use Rattle.std.specs.Prelude.{ℕ, ◌≡◌, ◌+◌, ◌-◌, ◌≤◌, List, [], ◌∷◌, ◌++◌, length, take, drop, Option, None, Some}
 use Rattle.std.specs.List.{filter_map}
 use Rattle.drm_links.specs.declared.link.Came.{Came}
 use Rattle.drm_links.specs.declared.link.Came.TheVariants as recv
@@ -12,12 +12,15 @@ pub data Answer : Type 0 where
   Idle : Answer
   Failed : Answer
 
--- the answers so far and those still ahead, the datagrams gone, how many sends are taken before one fails (or
--- none fails), and the number of calls so far
+-- The answers so far and those still ahead; the datagrams gone, for how many milliseconds the link rested before each of
+-- them, and for how many since the last; how many sends are taken before one fails (or none fails), and the number of
+-- calls so far.
 pub record Traffic : Type 0 where
   pub answers : List Answer
   pub ahead : List Answer
   pub gone : List (List ℕ)
+  pub waits : List ℕ
+  pub waiting : ℕ
   pub sends : Option ℕ
   pub calls : ℕ
 
@@ -47,6 +50,8 @@ pub record Receives (result : Came) (buf : List ℕ) (before after : Traffic) : 
   pub answers : after.answers ≡ before.answers ++ next_answer before.ahead ∷ []
   pub ahead : after.ahead ≡ drop 1 before.ahead
   pub gone : after.gone ≡ before.gone
+  pub waits : after.waits ≡ before.waits
+  pub waiting : after.waiting ≡ before.waiting
   pub sends : after.sends ≡ before.sends
 
 -- how many sends are left after one that was taken
@@ -59,27 +64,46 @@ abbrev pub longest_told : ℕ
 longest_told = 32780
 
 -- A send of such a datagram fails exactly where no send is taken any more; a longer one may also fail elsewhere. One
--- that is taken is appended to those gone, a failed one isn't. How many are taken after a failed one is told anew.
+-- that is taken is appended to those gone, with how long the link has rested since the last; a failed one isn't. How many
+-- are taken after a failed one is told anew.
 abbrev pub Sends : Sent → List ℕ → Traffic → Traffic → Type 0
 Sends send.Sent bytes before after =
     (before.sends ≡ Some 0 → ⊥)
     × (after.gone ≡ before.gone ++ bytes ∷ [])
+    × (after.waits ≡ before.waits ++ before.waiting ∷ [])
+    × (after.waiting ≡ 0)
     × (after.sends ≡ one_less before.sends)
 Sends send.Failed bytes before after =
     (length bytes ≤ longest_told → before.sends ≡ Some 0)
     × (after.gone ≡ before.gone)
+    × (after.waits ≡ before.waits)
+    × (after.waiting ≡ before.waiting)
 
 -- what came, and what is ahead, is as before
 pub record KeepsAnswers (before after : Traffic) : Type 0 where
   pub answers : after.answers ≡ before.answers
   pub ahead : after.ahead ≡ before.ahead
 
--- all is as before, but the number of calls
-pub record KeepsTraffic (before after : Traffic) : Type 0 where
+-- The link rested for so many milliseconds. All else is as before, but the number of calls.
+pub record Rests (millis : ℕ) (before after : Traffic) : Type 0 where
+  pub waiting : after.waiting ≡ before.waiting + millis
   pub answers : after.answers ≡ before.answers
   pub ahead : after.ahead ≡ before.ahead
   pub gone : after.gone ≡ before.gone
+  pub waits : after.waits ≡ before.waits
   pub sends : after.sends ≡ before.sends
+
+-- No call was made on the link: nothing came or went, and it didn't rest.
+pub record IsUnused (traffic : Traffic) : Type 0 where
+  pub answers : traffic.answers ≡ []
+  pub gone : traffic.gone ≡ []
+  pub waits : traffic.waits ≡ []
+  pub waiting : traffic.waiting ≡ 0
+  pub calls : traffic.calls ≡ 0
+
+-- how long the link rested before each datagram that went, and since the last one
+abbrev pub rests_of : Traffic → List ℕ
+rests_of traffic = traffic.waits ++ traffic.waiting ∷ []
 
 -- a datagram lies in the front of the buffer
 abbrev pub FitsBuffer : Came → List ℕ → Type 0

@@ -6,7 +6,7 @@ use Rattle.std.specs.Cmp.Lexicographic.{slice_cmp}
 use Rattle.std.specs.FinMap as map
 use Rattle.std.specs.Coded.{Coded, code_by, coded×, coded_ℕ, coded_list}
 use Rattle.drm_links.specs.Told.{Known, one_more, told_for}
-use Rattle.drm_links.specs.Link.{Traffic}
+use Rattle.drm_links.specs.Link.{Traffic, rests_of}
 use Rattle.drm_links.specs.Dock.{DockContents, LinkStart, address_key}
 use Rattle.drm_links.specs.MemoryLink.{LinkState, IsUntouched, traffic_of, link_known}
 use Rattle.drm_links.specs.declared.dock.Address.{Address}
@@ -14,12 +14,14 @@ use Rattle.drm_links.specs.declared.dock.Opened.{Opened}
 use Rattle.drm_links.specs.declared.dock.Opened.TheVariants.{Link, Failed}
 
 -- The links that stand at addresses, and those that were closed at addresses, the last one first; the numbers of the
--- openings, from 0, that are to fail, the number of openings and of calls so far, and how many openings failed.
+-- openings, from 0, that are to fail, the number of openings, of those by `reach` and of calls so far, and how many
+-- openings failed.
 pub record DockState : Type 0 where
   pub links : map.FinMap (slice_cmp nat_cmp) LinkState
   pub closed : List (List ℕ × LinkState)
   pub failing : List ℕ
   pub openings : ℕ
+  pub reaches : ℕ
   pub calls : ℕ
   pub faults : ℕ
 
@@ -31,42 +33,46 @@ numbers_code = coded_list coded_ℕ
 abbrev pub link_code : Coded LinkState
 link_code =
     code_by
-    (List (ℕ × List ℕ) × (List (List ℕ) × (List ℕ × (List ℕ × (List (List ℕ) × (ℕ × (ℕ × (ℕ × (ℕ × (ℕ × ℕ))))))))))
+    (List (ℕ × List ℕ) × (List (List ℕ) × (List ℕ × (List ℕ × (List (List ℕ) × (List ℕ × (ℕ × (ℕ × (ℕ × (ℕ × (ℕ × (ℕ × ℕ))))))))))))
     (coded× (coded_list (coded× coded_ℕ numbers_code))
     (coded× (coded_list numbers_code)
     (coded× numbers_code
     (coded× numbers_code
-    (coded× (coded_list numbers_code) (coded× coded_ℕ (coded× coded_ℕ (coded× coded_ℕ (coded× coded_ℕ (coded× coded_ℕ coded_ℕ))))))))))
-    (λ link. (link.came, (link.coming, (link.failing, (link.idling, (link.gone, (link.room, (link.recvs, (link.sends, (link.calls, (link.faults, link.idles)))))))))))
+    (coded× (coded_list numbers_code)
+    (coded× numbers_code (coded× coded_ℕ (coded× coded_ℕ (coded× coded_ℕ (coded× coded_ℕ (coded× coded_ℕ (coded× coded_ℕ coded_ℕ))))))))))))
+    (λ link. (link.came, (link.coming, (link.failing, (link.idling, (link.gone, (link.waits, (link.waiting, (link.room, (link.recvs, (link.sends, (link.calls, (link.faults, link.idles)))))))))))))
     (λ parts. record {
       came = parts.0;
       coming = parts.1.0;
       failing = parts.1.1.0;
       idling = parts.1.1.1.0;
       gone = parts.1.1.1.1.0;
-      room = parts.1.1.1.1.1.0;
-      recvs = parts.1.1.1.1.1.1.0;
-      sends = parts.1.1.1.1.1.1.1.0;
-      calls = parts.1.1.1.1.1.1.1.1.0;
-      faults = parts.1.1.1.1.1.1.1.1.1.0;
-      idles = parts.1.1.1.1.1.1.1.1.1.1;
+      waits = parts.1.1.1.1.1.0;
+      waiting = parts.1.1.1.1.1.1.0;
+      room = parts.1.1.1.1.1.1.1.0;
+      recvs = parts.1.1.1.1.1.1.1.1.0;
+      sends = parts.1.1.1.1.1.1.1.1.1.0;
+      calls = parts.1.1.1.1.1.1.1.1.1.1.0;
+      faults = parts.1.1.1.1.1.1.1.1.1.1.1.0;
+      idles = parts.1.1.1.1.1.1.1.1.1.1.1.1;
     })
     (λ _. refl)
 
 abbrev pub dock_code : Coded DockState
 dock_code =
     code_by
-    (map.FinMap (slice_cmp nat_cmp) LinkState × (List (List ℕ × LinkState) × (List ℕ × (ℕ × (ℕ × ℕ)))))
+    (map.FinMap (slice_cmp nat_cmp) LinkState × (List (List ℕ × LinkState) × (List ℕ × (ℕ × (ℕ × (ℕ × ℕ))))))
     (coded× (map.code numbers_code link_code)
-    (coded× (coded_list (coded× numbers_code link_code)) (coded× numbers_code (coded× coded_ℕ (coded× coded_ℕ coded_ℕ)))))
-    (λ dock. (dock.links, (dock.closed, (dock.failing, (dock.openings, (dock.calls, dock.faults))))))
+    (coded× (coded_list (coded× numbers_code link_code)) (coded× numbers_code (coded× coded_ℕ (coded× coded_ℕ (coded× coded_ℕ coded_ℕ))))))
+    (λ dock. (dock.links, (dock.closed, (dock.failing, (dock.openings, (dock.reaches, (dock.calls, dock.faults)))))))
     (λ parts. record {
       links = parts.0;
       closed = parts.1.0;
       failing = parts.1.1.0;
       openings = parts.1.1.1.0;
-      calls = parts.1.1.1.1.0;
-      faults = parts.1.1.1.1.1;
+      reaches = parts.1.1.1.1.0;
+      calls = parts.1.1.1.1.1.0;
+      faults = parts.1.1.1.1.1.1;
     })
     (λ _. refl)
 
@@ -80,19 +86,27 @@ start_of link = record { ahead = (traffic_of link).ahead; sends = (traffic_of li
 abbrev pub starts_of : map.FinMap (slice_cmp nat_cmp) LinkState → map.FinMap (slice_cmp nat_cmp) LinkStart
 starts_of links = map.from_entries (list.map (λ entry. (entry.0, start_of entry.1)) (map.entries links))
 
--- what had gone over a link that was closed at this address, if it still told, beside what had gone over others
-abbrev pub with_gone : Option Traffic → List ℕ → map.FinMap (slice_cmp nat_cmp) (List (List ℕ)) → map.FinMap (slice_cmp nat_cmp) (List (List ℕ))
-with_gone None key gone = gone
-with_gone (Some traffic) key gone = map.insert gone key traffic.gone
+-- this of a link that was closed at this address, if it still told, beside what is kept of others
+abbrev pub with_told : {X : Type 0} → (Traffic → X) → Option Traffic → List ℕ → map.FinMap (slice_cmp nat_cmp) X → map.FinMap (slice_cmp nat_cmp) X
+with_told what None key kept = kept
+with_told what (Some traffic) key kept = map.insert kept key (what traffic)
 
--- what had gone over the links that were closed and still told, the last one at an address
-abbrev pub gone_over : List (List ℕ × LinkState) → map.FinMap (slice_cmp nat_cmp) (List (List ℕ))
-gone_over [] = map.empty
-gone_over (entry ∷ closed) = with_gone (link_known entry.1).told entry.0 (gone_over closed)
+-- this of the links that were closed and still told, the last one at an address
+abbrev pub kept_of : {X : Type 0} → (Traffic → X) → List (List ℕ × LinkState) → map.FinMap (slice_cmp nat_cmp) X
+kept_of what [] = map.empty
+kept_of what (entry ∷ closed) = with_told what (link_known entry.1).told entry.0 (kept_of what closed)
 
 abbrev pub contents_of : DockState → DockContents
 contents_of dock =
-    record { openings = dock.openings; failing = dock.failing; links = starts_of dock.links; gone = gone_over dock.closed; calls = dock.calls }
+    record {
+      openings = dock.openings;
+      reaches = dock.reaches;
+      failing = dock.failing;
+      links = starts_of dock.links;
+      gone = kept_of (λ traffic. traffic.gone) dock.closed;
+      rests = kept_of rests_of dock.closed;
+      calls = dock.calls;
+    }
 
 abbrev pub dock_known : DockState → Known DockContents
 dock_known dock = record { faults = dock.faults; told = told_for dock.calls (contents_of dock) }
@@ -112,6 +126,10 @@ abbrev pub with_start : Address → LinkStart → DockContents → DockContents
 with_start at start contents = record contents { links = map.insert contents.links (address_key at) start }
 
 -- ---- its calls
+
+-- the dock once one more opening by `reach` is counted
+abbrev pub reached : DockState → DockState
+reached dock = record dock { reaches = one_more dock.reaches }
 
 -- An opening fails exactly where its number is to fail or no link stands at its address. Else the link that stood
 -- there, on which no call was made, leaves the dock.

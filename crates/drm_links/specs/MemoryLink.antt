@@ -1,5 +1,5 @@
 -- A link in memory.
-use Rattle.std.specs.Prelude.{ℕ, ◌≡◌, ◌+◌, ◌-◌, ◌^◌, ◌<◌, ◌≤◌, ◌⊎◌, zero, suc, Bool, List, [], ◌∷◌, ◌++◌, length, map, take, drop, min, max, All, Contains, nat_eq, nat_le, Option, None, Some, if◌then◌else◌}
+use Rattle.std.specs.Prelude.{ℕ, ◌≡◌, ◌+◌, ◌-◌, ◌*◌, ◌^◌, ◌<◌, ◌≤◌, ◌⊎◌, zero, suc, Bool, List, [], ◌∷◌, ◌++◌, length, map, take, drop, min, max, All, Contains, nat_eq, nat_le, Option, None, Some, if◌then◌else◌}
 use Rattle.std.specs.List.{list_any, filter_map}
 use Rattle.std.specs.Map.{lookup}
 use Rattle.drm_links.specs.Told.{Known, one_more, told_for}
@@ -10,15 +10,17 @@ use Rattle.drm_links.specs.declared.link.Sent.{Sent}
 use Rattle.drm_links.specs.declared.link.Sent.TheVariants as send
 
 -- The datagrams that came, each with the number of its recv, and those that are still to come. The numbers, from 0, of
--- the recvs and of the sends that are to fail, and of the recvs that are to be idle. The datagrams gone, and how many
--- more there is room for. How many recvs, sends and calls there were so far, how many of them failed and how many
--- recvs were idle.
+-- the recvs and of the sends that are to fail, and of the recvs that are to be idle. The datagrams gone, for how many
+-- milliseconds the link rested before each of them and for how many since the last, and how many more there is room for.
+-- How many recvs, sends and calls there were so far, how many of them failed and how many recvs were idle.
 pub record LinkState : Type 0 where
   pub came : List (ℕ × List ℕ)
   pub coming : List (List ℕ)
   pub failing : List ℕ
   pub idling : List ℕ
   pub gone : List (List ℕ)
+  pub waits : List ℕ
+  pub waiting : ℕ
   pub room : ℕ
   pub recvs : ℕ
   pub sends : ℕ
@@ -101,6 +103,8 @@ traffic_of link =
       answers = answered link.failing link.came link.recvs;
       ahead = answers_ahead link.failing link.idling link.recvs link.coming;
       gone = link.gone;
+      waits = link.waits;
+      waiting = link.waiting;
       sends = Some (taken_from link.failing link.sends link.room);
       calls = link.calls;
     }
@@ -131,20 +135,24 @@ Hears recv.Failed old new before after =
     × (after ≡ record before { recvs = one_more before.recvs; calls = one_more before.calls; faults = one_more before.faults })
 
 -- A send fails exactly where its number is to fail, no room is left, or the datagram is longer than the room for one.
--- Any other datagram is gone.
+-- Any other datagram is gone, after the wait so far.
 abbrev pub Carries : Sent → List ℕ → LinkState → LinkState → Type 0
 Carries send.Sent bytes before after =
     (Contains before.failing before.sends → ⊥)
     × (0 < before.room)
     × (length bytes ≤ longest_told)
-    × (after ≡ record before { gone = before.gone ++ bytes ∷ []; room = before.room - 1; sends = one_more before.sends; calls = one_more before.calls })
+    × (after ≡ record before { gone = before.gone ++ bytes ∷ []; waits = before.waits ++ before.waiting ∷ []; waiting = 0; room = before.room - 1; sends = one_more before.sends; calls = one_more before.calls })
 Carries send.Failed bytes before after =
     (Contains before.failing before.sends ⊎ (before.room ≡ 0) ⊎ (longest_told < length bytes))
     × (after ≡ record before { sends = one_more before.sends; calls = one_more before.calls; faults = one_more before.faults })
 
--- the link after a rest
-abbrev pub after_rest : LinkState → LinkState
-after_rest link = record link { calls = one_more link.calls }
+-- the longest wait that is counted, in milliseconds: 2 ^ 64 - 1 rests of 2 ^ 32 - 1
+abbrev pub longest_wait : ℕ
+longest_wait = 79228162495817593515539431425
+
+-- the link after a rest of so many milliseconds
+abbrev pub after_rest : ℕ → LinkState → LinkState
+after_rest millis link = record link { waiting = min (link.waiting + millis) longest_wait; calls = one_more link.calls }
 
 -- ---- what holds of each link
 
@@ -156,16 +164,19 @@ longest_brought = 65536
 abbrev pub CameBefore : List (ℕ × List ℕ) → ℕ → ℕ → Type 0
 CameBefore came recvs calls = All (λ (heard : ℕ × List ℕ). (heard.0 < recvs) ⊎ (2 ^ 62 < calls)) came
 
--- The recvs and the sends are among the calls, and what came did so before now.
+-- The recvs and the sends are among the calls, what came did so before now, and no rest was longer than 2 ^ 32 - 1.
 pub record IsCounted (link : LinkState) : Type 0 where
   pub recvs : link.recvs ≤ link.calls
   pub sends : link.sends ≤ link.calls
   pub came : CameBefore link.came link.recvs link.calls
+  pub waiting : link.waiting ≤ link.calls * 4294967295
 
 -- No call was made on the link.
 pub record IsUntouched (link : LinkState) : Type 0 where
   pub came : link.came ≡ []
   pub gone : link.gone ≡ []
+  pub waits : link.waits ≡ []
+  pub waiting : link.waiting ≡ 0
   pub recvs : link.recvs ≡ 0
   pub sends : link.sends ≡ 0
   pub calls : link.calls ≡ 0
@@ -177,5 +188,7 @@ pub record Brings (bytes : List ℕ) (before after : Traffic) : Type 0 where
   pub answers : after.answers ≡ before.answers
   pub ahead : filter_map datagram_of after.ahead ≡ filter_map datagram_of before.ahead ++ bytes ∷ []
   pub gone : after.gone ≡ before.gone
+  pub waits : after.waits ≡ before.waits
+  pub waiting : after.waiting ≡ before.waiting
   pub sends : after.sends ≡ before.sends
   pub calls : after.calls ≡ before.calls

@@ -2,7 +2,7 @@
 
 ghost use Rattle.std.specs.Prelude.{ℕ, ◌≡◌, Option};
 ghost use Rattle.drm_links.specs.Told.{Known, HasCause, CountsCall, WhileTold};
-ghost use Rattle.drm_links.specs.Dock.{DockContents, Opens, Closes, IsFresh, IsFailed};
+ghost use Rattle.drm_links.specs.Dock.{DockContents, Binds, Reaches, Closes, IsFresh, IsFailed};
 
 use crate::Link;
 
@@ -22,20 +22,21 @@ pub enum Opened<L> {
 pub trait Dock {
     type L: Link;
 
-    /// How often a call has failed, and the links that stand ready, and what went over closed ones, where the dock tells them.
+    /// How often a call has failed, and the openings so far, the links that stand ready, and what went over closed ones, where
+    /// the dock tells them.
     ghost known: { Self → Known DockContents };
 
     /// Opens a link that receives at this address.
     fn bind(&mut self, at: Address) -> Opened<Self::L>
         ensures fresh { IsFresh Self.L.known Self.L.idles result }
-        ensures opened { WhileTold (known self.old) (known self.new) (Opens Self.L.known at result) }
+        ensures opened { WhileTold (known self.old) (known self.new) (Binds Self.L.known at result) }
         ensures told { CountsCall (λ contents. contents.calls) (known self.old) (known self.new) }
         ensures cause { HasCause (known self.old) (known self.new) (IsFailed result) };
 
     /// Opens a link that sends to this address.
     fn reach(&mut self, at: Address) -> Opened<Self::L>
         ensures fresh { IsFresh Self.L.known Self.L.idles result }
-        ensures opened { WhileTold (known self.old) (known self.new) (Opens Self.L.known at result) }
+        ensures opened { WhileTold (known self.old) (known self.new) (Reaches Self.L.known at result) }
         ensures told { CountsCall (λ contents. contents.calls) (known self.old) (known self.new) }
         ensures cause { HasCause (known self.old) (known self.new) (IsFailed result) };
 

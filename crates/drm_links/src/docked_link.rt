@@ -2,7 +2,7 @@
 
 ghost use Rattle.std.specs.Prelude.{◌≡◌, [], ◌∷◌, ◌≤◌, Some, length, IfOk, IfErr};
 ghost use Rattle.drm_links.specs.Told.{Counts, HasCause, CountsCall, WhileTold};
-ghost use Rattle.drm_links.specs.Link.{Receives, Sends, KeepsAnswers, KeepsTraffic, FitsBuffer};
+ghost use Rattle.drm_links.specs.Link.{Receives, Sends, Rests, KeepsAnswers, FitsBuffer};
 ghost use Rattle.drm_links.specs.MemoryLink.{Hears, Carries, IsUntouched, after_rest, link_known};
 
 use crate::{Address, Came, Link, MemLink, Sent};
@@ -99,8 +99,8 @@ impl Link for DockedLink {
     }
 
     fn rest(&mut self, millis: u32)
-        ensures exact { self.new ≡ after_rest self.old }
-        ensures kept { WhileTold (link_known self.old) (link_known self.new) KeepsTraffic }
+        ensures exact { self.new ≡ after_rest millis self.old }
+        ensures rested { WhileTold (link_known self.old) (link_known self.new) (Rests millis) }
         ensures told { CountsCall (λ traffic. traffic.calls) (link_known self.old) (link_known self.new) }
         ensures cause { self.new.faults ≡ self.old.faults }
         ensures idle { self.new.idles ≡ self.old.idles }

@@ -2,7 +2,7 @@
 
 ghost use Rattle.std.specs.Prelude.{ℕ, ◌≡◌, ◌≤◌, Option, length};
 ghost use Rattle.drm_links.specs.Told.{Known, Counts, HasCause, CountsCall, WhileTold};
-ghost use Rattle.drm_links.specs.Link.{Traffic, Receives, Sends, KeepsAnswers, KeepsTraffic, FitsBuffer};
+ghost use Rattle.drm_links.specs.Link.{Traffic, Receives, Sends, Rests, KeepsAnswers, FitsBuffer};
 
 #[derive(Clone, Copy, Debug, PartialEq, Eq)]
 pub enum Came {
@@ -27,7 +27,7 @@ pub trait Link: Drop {
     /// How often a recv answered that nothing came, up to the last value of a u64.
     ghost idles: { Self → ℕ };
 
-    /// How often a call has failed, and what came, what is ahead and what is gone, where the link tells it.
+    /// How often a call has failed, and what came, what is ahead, what is gone and how long it rested, where the link tells it.
     ghost known: { Self → Known Traffic };
 
     /// The next datagram, in the front of the buffer.
@@ -49,7 +49,7 @@ pub trait Link: Drop {
 
     /// Waits for about this many milliseconds. What comes in that time may be lost.
     fn rest(&mut self, millis: u32)
-        ensures kept { WhileTold (known self.old) (known self.new) KeepsTraffic }
+        ensures rested { WhileTold (known self.old) (known self.new) (Rests millis) }
         ensures told { CountsCall (λ traffic. traffic.calls) (known self.old) (known self.new) }
         ensures cause { (known self.new).faults ≡ (known self.old).faults }
         ensures idle { idles self.new ≡ idles self.old };

@@ -3,10 +3,10 @@
 ghost use Rattle.std.specs.Prelude.{◌≡◌, ◌+◌, ◌^◌, ◌<◌, ◌≤◌, [], ◌∷◌, Some, IsNone, is_some, length, IfOk, IfErr, OnOk, OnErr};
 ghost use Rattle.std.specs.Option.{option_map, option_copied};
 ghost use Rattle.std.specs.FinMap as map;
-ghost use Rattle.drm_links.specs.Told.{HasCause, CountsCall, WhileTold};
-ghost use Rattle.drm_links.specs.Dock.{Opens, Closes, IsFresh, IsFailed, address_key};
+ghost use Rattle.drm_links.specs.Told.{HasCause, CountsCall, WhileTold, one_more};
+ghost use Rattle.drm_links.specs.Dock.{Binds, Reaches, Closes, IsFresh, IsFailed, address_key};
 ghost use Rattle.drm_links.specs.MemoryLink.{IsUntouched};
-ghost use Rattle.drm_links.specs.MemoryDock.{Leaves, after_close, link_at, closed_at, dock_known, start_of, with_start};
+ghost use Rattle.drm_links.specs.MemoryDock.{Leaves, reached, after_close, link_at, closed_at, dock_known, start_of, with_start};
 
 use crate::docked_link::{Closed, DockedLink, Standing};
 use crate::failing::is_listed;
@@ -29,6 +29,7 @@ pub struct MemDock {
     closed: LinkedList<Option<Closed>>,
     failing: Vec<u64>,
     openings: u64,
+    reaches: u64,
     calls: u64,
     faults: u64,
 }
@@ -49,11 +50,13 @@ impl Model for MemDock {
       closed = entries_of dock.closed;
       failing = dock.failing.items;
       openings = dock.openings;
+      reaches = dock.reaches;
       calls = dock.calls;
       faults = dock.faults;
     } };
 
     ghost invariant = { λ dock. (dock.openings ≤ dock.calls)
+        × (dock.reaches ≤ dock.calls)
         × (length dock.closed ≤ dock.calls)
         × (length (entries_of dock.closed) ≡ length dock.closed) };
 }
@@ -83,15 +86,18 @@ impl MemDock {
           closed = [];
           failing = fail.now;
           openings = 0;
+          reaches = 0;
           calls = 0;
           faults = 0;
         }) }
         ensures tells { IfOk result (λ dock. (⟦<MemDock as Dock>⟧.known dock).told
             ≡ Some (record {
               openings = 0;
+              reaches = 0;
               failing = fail.now;
               links = map.empty;
               gone = map.empty;
+              rests = map.empty;
               calls = 0;
             })) }
         ensures faults { IfOk result (λ dock. (⟦<MemDock as Dock>⟧.known dock).faults ≡ 0) }
@@ -101,6 +107,7 @@ impl MemDock {
             closed: LinkedList::new(alloc),
             failing: fail.to_vec(alloc)?,
             openings: 0,
+            reaches: 0,
             calls: 0,
             faults: 0,
         })
@@ -155,9 +162,18 @@ impl MemDock {
 
     // What is known of the dock between its calls.
     fn counted(&self)
-        ensures { self.now.openings ≤ self.now.calls }
+        ensures openings { self.now.openings ≤ self.now.calls }
+        ensures reaches { self.now.reaches ≤ self.now.calls }
     {
         let _ = &self.calls;
+    }
+
+    // Counts an opening by `reach`.
+    fn count_reach(&mut self)
+        requires { one_more self.old.reaches ≤ self.old.calls }
+        ensures { self.new ≡ reached self.old }
+    {
+        self.reaches = self.reaches.saturating_add(1);
     }
 
     // Gives the link that stands at this address.
@@ -190,7 +206,7 @@ impl Dock for MemDock {
         ensures exact { Leaves result at self.old self.new }
         ensures fresh { IsFresh ⟦<DockedLink as Link>⟧.known ⟦<DockedLink as Link>⟧.idles result }
         ensures opened { WhileTold (dock_known self.old) (dock_known self.new)
-            (Opens ⟦<DockedLink as Link>⟧.known at result) }
+            (Binds ⟦<DockedLink as Link>⟧.known at result) }
         ensures told { CountsCall (λ contents. contents.calls) (dock_known self.old) (dock_known self.new) }
         ensures cause { HasCause (dock_known self.old) (dock_known self.new) (IsFailed result) }
     {
@@ -199,15 +215,17 @@ impl Dock for MemDock {
     }
 
     fn reach(&mut self, at: Address) -> Opened<DockedLink>
-        ensures exact { Leaves result at self.old self.new }
+        ensures exact { Leaves result at (reached self.old) self.new }
         ensures fresh { IsFresh ⟦<DockedLink as Link>⟧.known ⟦<DockedLink as Link>⟧.idles result }
         ensures opened { WhileTold (dock_known self.old) (dock_known self.new)
-            (Opens ⟦<DockedLink as Link>⟧.known at result) }
+            (Reaches ⟦<DockedLink as Link>⟧.known at result) }
         ensures told { CountsCall (λ contents. contents.calls) (dock_known self.old) (dock_known self.new) }
         ensures cause { HasCause (dock_known self.old) (dock_known self.new) (IsFailed result) }
     {
         self.counted();
-        self.take_out(at)
+        let opened = self.take_out(at);
+        self.count_reach();
+        opened
     }
 
     fn close(&mut self, at: Address, link: DockedLink)

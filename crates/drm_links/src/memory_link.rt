@@ -2,7 +2,7 @@
 
 ghost use Rattle.std.specs.Prelude.{◌≡◌, ◌<◌, ◌≤◌, ◌++◌, [], ◌∷◌, Some, length, slice_index_or, vec_len, IfOk, OnOk, OnErr, MatchOption};
 ghost use Rattle.drm_links.specs.Told.{Counts, HasCause, CountsCall, WhileTold};
-ghost use Rattle.drm_links.specs.Link.{Receives, Sends, KeepsAnswers, KeepsTraffic, FitsBuffer};
+ghost use Rattle.drm_links.specs.Link.{Receives, Sends, Rests, KeepsAnswers, FitsBuffer};
 ghost use Rattle.drm_links.specs.MemoryLink.{LinkState, Hears, Carries, Brings, IsCounted, longest_brought, answers_ahead, taken_from, after_rest, link_known};
 
 use crate::failing::is_listed;
@@ -21,7 +21,11 @@ struct Heard {
     bytes: Octets,
 }
 
-/// A link that gives the datagrams that were brought, keeps those that are sent, and fails or is idle where told.
+// The longest wait that is counted: as many rests as a u64 counts, each of them the longest.
+const LONGEST_WAIT: u128 = 79_228_162_495_817_593_515_539_431_425;
+
+/// A link that gives the datagrams that were brought, keeps those that are sent and how long it rested before each, and
+/// fails or is idle where told.
 #[derive(Drop)]
 pub struct MemLink {
     came: Vec<Heard>,
@@ -29,6 +33,8 @@ pub struct MemLink {
     failing: Vec<u64>,
     idling: Vec<u64>,
     gone: Vec<Room>,
+    waits: Vec<u128>,
+    waiting: u128,
     rooms: Vec<Room>,
     recvs: u64,
     sends: u64,
@@ -38,7 +44,7 @@ pub struct MemLink {
 }
 
 impl Model for MemLink {
-    ghost use Rattle.std.specs.Prelude.{◌+◌, ◌≤◌, map, length, vec_len, vec_capacity, All};
+    ghost use Rattle.std.specs.Prelude.{◌+◌, ◌*◌, ◌≤◌, map, length, vec_len, vec_capacity, All};
     ghost use Rattle.std.specs.VecDeque.{deque_len};
     ghost use Rattle.drm_links.specs.MemoryLink.{LinkState, CameBefore, longest_brought};
 
@@ -50,6 +56,8 @@ impl Model for MemLink {
       failing = link.failing.items;
       idling = link.idling.items;
       gone = link.gone.items;
+      waits = link.waits.items;
+      waiting = link.waiting;
       room = vec_len link.rooms;
       recvs = link.recvs;
       sends = link.sends;
@@ -60,6 +68,8 @@ impl Model for MemLink {
 
     ghost invariant = { λ link. (vec_len link.came + deque_len link.coming ≤ vec_capacity link.came)
         × (vec_len link.gone + vec_len link.rooms ≤ vec_capacity link.gone)
+        × (vec_len link.waits + vec_len link.rooms ≤ vec_capacity link.waits)
+        × (link.waiting ≤ link.calls * 4294967295)
         × All (λ bytes. length bytes ≤ longest_brought) link.coming.items
         × (link.recvs ≤ link.calls)
         × (link.sends ≤ link.calls)
@@ -82,6 +92,8 @@ impl MemLink {
           failing = fail.now;
           idling = idle.now;
           gone = [];
+          waits = [];
+          waiting = 0;
           room = sends;
           recvs = 0;
           sends = 0;
@@ -93,6 +105,8 @@ impl MemLink {
           answers = [];
           ahead = answers_ahead fail.now idle.now 0 [];
           gone = [];
+          waits = [];
+          waiting = 0;
           sends = Some (taken_from fail.now 0 sends);
           calls = 0;
         })) }
@@ -105,6 +119,8 @@ impl MemLink {
             failing: fail.to_vec(alloc)?,
             idling: idle.to_vec(alloc)?,
             gone: Vec::with_capacity(alloc, sends)?,
+            waits: Vec::with_capacity(alloc, sends)?,
+            waiting: 0,
             rooms: make_rooms(alloc, sends)?,
             recvs: 0,
             sends: 0,
@@ -178,6 +194,15 @@ impl MemLink {
         Came::Datagram(length)
     }
 
+    // Counts a rest.
+    fn wait(&mut self, millis: u32)
+        ensures { self.new ≡ after_rest millis self.old }
+    {
+        let wait = self.waiting.saturating_add(u128::from(millis));
+        self.waiting = wait.min(LONGEST_WAIT);
+        self.calls = self.calls.saturating_add(1);
+    }
+
     // Takes one send, where there is room.
     fn carry(&mut self, bytes: &[u8]) -> Sent
         ensures exact { Carries result bytes.now self.old self.new }
@@ -197,6 +222,10 @@ impl MemLink {
         let Ok(()) = self.gone.push(room) else {
             unreachable!()
         };
+        let Ok(()) = self.waits.push(self.waiting) else {
+            unreachable!()
+        };
+        self.waiting = 0;
         Sent::Sent
     }
 }
@@ -246,12 +275,13 @@ impl Link for MemLink {
     }
 
     fn rest(&mut self, millis: u32)
-        ensures exact { self.new ≡ after_rest self.old }
-        ensures kept { WhileTold (link_known self.old) (link_known self.new) KeepsTraffic }
+        ensures exact { self.new ≡ after_rest millis self.old }
+        ensures rested { WhileTold (link_known self.old) (link_known self.new) (Rests millis) }
         ensures told { CountsCall (λ traffic. traffic.calls) (link_known self.old) (link_known self.new) }
         ensures cause { self.new.faults ≡ self.old.faults }
         ensures idle { self.new.idles ≡ self.old.idles }
     {
-        self.calls = self.calls.saturating_add(1);
+        self.counted();
+        self.wait(millis);
     }
 }

@@ -11,3 +11,4 @@ pub mod CutLemmas
 pub mod CaptureLemmas
 pub mod SendingLemmas
 pub mod RestLemmas
+pub mod PaceLemmas

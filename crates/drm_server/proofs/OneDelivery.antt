@@ -41,7 +41,7 @@ first_split plan t i (suc k) datagrams l (before, datagram, are, is, same) =
     (cases_lt i k)
 
 -- the datagrams of frame t, and those before them
-frames_split : (plan : Plan) (t n : ℕ) (datagrams : List (List ℕ)) → t < n → AreOfFrames plan n datagrams
+pub frames_split : (plan : Plan) (t n : ℕ) (datagrams : List (List ℕ)) → t < n → AreOfFrames plan n datagrams
     → (before : List (List ℕ)) × (of_frame : List (List ℕ)) × (behind : List (List ℕ)) × AreOfFrames plan t before × AreOfFrame plan t of_frame × (datagrams ≡ before ++ (of_frame ++ behind))
 frames_split plan t zero datagrams l are = absurd (omega arith)
 frames_split plan t (suc n) datagrams l (before, of_frame, are, is, same) =

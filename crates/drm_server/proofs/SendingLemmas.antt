@@ -1,15 +1,17 @@
 -- What is sent of a schedule, datagram by datagram and frame by frame.
-use Rattle.std.proofs.Common.{◌<◌, ℕ, List, [], ◌++◌, Option, refl, subst}
+use Rattle.std.proofs.Common.{◌≡◌, ◌+◌, ◌<◌, ◌≤◌, ℕ, suc, List, [], ◌∷◌, ◌++◌, replicate, refl, sym, subst, arith, append_assoc}
 use Rattle.std.proofs.lemmas.List.{append-nil}
 use Rattle.drm_schedule.specs.declared.plan.Plan.{Plan}
 use Rattle.drm_links.specs.Told.{Known}
 use Rattle.drm_links.specs.Link.{Traffic}
-use Rattle.drm_links.specs.Transmission.{Transmits, SendsAll, SendsNoMore}
-use Rattle.drm_links.proofs.TransmissionLemmas.{Transmits-then, Transmits-weaker, SendsAll-then, SendsAll-no_more}
+use Rattle.drm_links.specs.Transmission.{Transmits, SendsAll, SendsNoMore, Waits, since, still}
+use Rattle.drm_links.proofs.TransmissionLemmas.{Transmits-then, Transmits-weaker, Transmits-both, SendsAll-then, SendsAll-no_more, Waits-then}
 use Rattle.drm_timeline.specs.Numbers.{frame_count}
 use Rattle.drm_server.specs.Datagrams.{IsDatagramAt, AreFirst, AreOfFrames, AreDatagrams}
 use Rattle.drm_server.specs.Sending.{SendsSchedule, SendsPart}
 use Rattle.drm_server.specs.OneFrame.{SendsPartOfFrame}
+use Rattle.drm_server.specs.Rests.{ArePaced, pause}
+use Rattle.drm_server.proofs.PaceLemmas.{wait_at, waits_in, waits_after, wait_after, zeros_then, paced_frame}
 
 -- some, and then others
 pub then_sent : (xs ys : List (List ℕ)) (a b c : Known Traffic) → Transmits a b (SendsAll xs) → Transmits b c (SendsAll ys) → Transmits a c (SendsAll (xs ++ ys))
@@ -19,25 +21,86 @@ then_sent xs ys a b c first second = Transmits-then (SendsAll xs) (SendsAll ys) 
 pub then_rested : (xs : List (List ℕ)) (a b c : Known Traffic) → Transmits a b (SendsAll xs) → Transmits b c (SendsAll []) → Transmits a c (SendsAll xs)
 then_rested xs a b c first second = subst (λ l. Transmits a c (SendsAll l)) (append-nil xs) (then_sent xs [] a b c first second)
 
+-- ---- waits
+
+pub then_waited : (xs : List ℕ) (last : ℕ) (ys : List ℕ) (end : ℕ) (a b c : Known Traffic) → Transmits a b (Waits xs last) → Transmits b c (Waits ys end) → Transmits a c (Waits (xs ++ since last ys) (still last ys end))
+then_waited xs last ys end a b c first second =
+    Transmits-then (Waits xs last) (Waits ys end) (Waits (xs ++ since last ys) (still last ys end)) a b c first second (λ x y z. Waits-then xs last ys end x y z)
+
+-- some waits, and then a rest
+pub then_paused : (waits : List ℕ) (rest : ℕ) (a b c : Known Traffic) → Transmits a b (Waits waits 0) → Transmits b c (Waits [] rest) → Transmits a c (Waits waits rest)
+then_paused waits rest a b c first second =
+    let none : 0 + rest ≡ rest = omega arith in
+    subst (λ w. Transmits a c (Waits waits w)) none (subst (λ l. Transmits a c (Waits l (0 + rest))) (append-nil waits) (then_waited waits 0 [] rest a b c first second))
+
+-- one more datagram without a rest
+pub one_more_sent : (i : ℕ) (a b c : Known Traffic) → Transmits a b (Waits (replicate i 0) 0) → Transmits b c (Waits (0 ∷ []) 0) → Transmits a c (Waits (replicate (i + 1) 0) 0)
+one_more_sent i a b c first second =
+    subst (λ l. Transmits a c (Waits l 0)) (zeros_then i) (then_waited (replicate i 0) 0 (0 ∷ []) 0 a b c first second)
+
+-- the datagrams of a frame, after the rest before it
+pub frame_waited : (pace t n : ℕ) (waits : List ℕ) (a b c : Known Traffic) → Transmits a b (Waits waits (pause pace t)) → Transmits b c (Waits (replicate n 0) 0)
+    → Transmits a c (Waits (waits ++ waits_in pace t n) (wait_at pace t n))
+frame_waited pace t n waits a b c first second =
+    subst (λ w. Transmits a c (Waits (waits ++ waits_in pace t n) w)) (wait_after pace t n)
+    (subst (λ l. Transmits a c (Waits (waits ++ l) (still (pause pace t) (replicate n 0) 0))) (waits_after pace t n)
+    (then_waited waits (pause pace t) (replicate n 0) 0 a b c first second))
+
+no_wait_after : (pace t n : ℕ) → 1 ≤ n → wait_at pace t n ≡ 0
+no_wait_after pace t n some = grind arith
+
+-- a frame has datagrams, so nothing waits after them
+pub whole_frame_waited : (pace t n : ℕ) (waits : List ℕ) (a b c : Known Traffic) → 1 ≤ n → Transmits a b (Waits waits (pause pace t)) → Transmits b c (Waits (replicate n 0) 0)
+    → Transmits a c (Waits (waits ++ waits_in pace t n) 0)
+whole_frame_waited pace t n waits a b c some first second =
+    subst (λ w. Transmits a c (Waits (waits ++ waits_in pace t n) w)) (no_wait_after pace t n some) (frame_waited pace t n waits a b c first second)
+
+-- ---- parts, and all
+
 -- the next one isn't taken
-pub no_more_sent : (plan : Plan) (t i : ℕ) (next : List ℕ) (datagrams : List (List ℕ)) (a b c : Known Traffic) → IsDatagramAt plan t i next → AreFirst plan t i datagrams → Transmits a b (SendsAll datagrams) → Transmits b c (SendsNoMore [])
+pub no_more_sent : (plan : Plan) (t i : ℕ) (next : List ℕ) (datagrams : List (List ℕ)) (a b c : Known Traffic) → IsDatagramAt plan t i next → AreFirst plan t i datagrams
+    → Transmits a b (SendsAll datagrams) → Transmits b c (SendsNoMore []) → Transmits a b (Waits (replicate i 0) 0) → Transmits b c (Waits [] 0)
     → Transmits a c (SendsPartOfFrame plan t)
-no_more_sent plan t i next datagrams a b c is are first second =
-    Transmits-then (SendsAll datagrams) (SendsNoMore []) (SendsPartOfFrame plan t) a b c first second
-    (λ x y z all none. (i, next, datagrams, (is, are), subst (λ l. SendsNoMore l x z) (append-nil datagrams) (SendsAll-no_more datagrams [] x y z all none)))
+no_more_sent plan t i next datagrams a b c is are first second waited none =
+    let sent : Transmits a c (SendsNoMore datagrams) =
+    Transmits-then (SendsAll datagrams) (SendsNoMore []) (SendsNoMore datagrams) a b c first second
+    (λ x y z all no. subst (λ l. SendsNoMore l x z) (append-nil datagrams) (SendsAll-no_more datagrams [] x y z all no)) in
+    let waits : Transmits a c (Waits (replicate i 0) 0) = then_paused (replicate i 0) 0 a b c waited none in
+    Transmits-weaker (λ x y. SendsNoMore datagrams x y × Waits (replicate i 0) 0 x y) (SendsPartOfFrame plan t) a c
+    (Transmits-both (SendsNoMore datagrams) (Waits (replicate i 0) 0) a c sent waits)
+    (λ x y both. (i, next, datagrams, (is, are), both.0, both.1))
 
 -- a part of the next frame
-pub part_sent : (plan : Plan) (t : ℕ) (datagrams : List (List ℕ)) (a b c : Known Traffic) → t < frame_count plan → AreOfFrames plan t datagrams → Transmits a b (SendsAll datagrams) → Transmits b c (SendsPartOfFrame plan t)
-    → Transmits a c (SendsPart plan)
-part_sent plan t datagrams a b c within are first second =
-    Transmits-then (SendsAll datagrams) (SendsPartOfFrame plan t) (SendsPart plan) a b c first second
-    (λ x y z all part. (
-      part.1,
-      datagrams ++ part.2,
-      record { t = t; within = within; i = part.0; is_next = part.3.0; of_frames = datagrams; are_of_frames = are; of_frame = part.2; are_first = part.3.1; are = refl },
-      SendsAll-no_more datagrams part.2 x y z all part.4,
+pub part_sent : (plan : Plan) (pace t : ℕ) (datagrams : List (List ℕ)) (waits : List ℕ) (a b c : Known Traffic) → t < frame_count plan → AreOfFrames plan t datagrams → ArePaced pace plan datagrams waits
+    → Transmits a b (SendsAll datagrams) → Transmits a b (Waits waits (pause pace t)) → Transmits b c (SendsPartOfFrame plan t)
+    → Transmits a c (SendsPart plan pace)
+part_sent plan pace t datagrams waits a b c within are paced first waited second =
+    Transmits-then (λ x y. SendsAll datagrams x y × Waits waits (pause pace t) x y) (SendsPartOfFrame plan t) (SendsPart plan pace) a b c
+    (Transmits-both (SendsAll datagrams) (Waits waits (pause pace t)) a b first waited) second
+    (λ x y z all part.
+    let i = part.0 in
+    let next = part.1 in
+    let of_frame = part.2 in
+    let with_next : AreFirst plan t (suc i) (of_frame ++ next ∷ []) = (of_frame, next, part.3.1, part.3.0, refl) in
+    let so_paced = paced_frame pace plan t datagrams waits are paced (suc i) (of_frame ++ next ∷ []) with_next in
+    let P : List (List ℕ) → Type 0 = λ l. ArePaced pace plan l (waits ++ (waits_in pace t i ++ wait_at pace t i ∷ [])) in
+    let Q : List ℕ → Type 0 = λ l. ArePaced pace plan ((datagrams ++ of_frame) ++ next ∷ []) l in
+    let V : List ℕ → Type 0 = λ l. Waits (waits ++ l) (still (pause pace t) (replicate i 0) 0) x z in
+    let W : ℕ → Type 0 = λ w. Waits (waits ++ waits_in pace t i) w x z in (
+      next,
+      datagrams ++ of_frame,
+      record { t = t; within = within; i = i; is_next = part.3.0; of_frames = datagrams; are_of_frames = are; of_frame = of_frame; are_first = part.3.1; are = refl },
+      SendsAll-no_more datagrams of_frame x y z all.0 part.4,
+      waits ++ waits_in pace t i,
+      wait_at pace t i,
+      subst Q (sym (append_assoc waits (waits_in pace t i) (wait_at pace t i ∷ []))) (subst P (sym (append_assoc datagrams of_frame (next ∷ []))) so_paced),
+      subst W (wait_after pace t i) (subst V (waits_after pace t i) (Waits-then waits (pause pace t) (replicate i 0) 0 x y z all.1 part.5)),
     ))
 
 -- all
-pub all_sent : (plan : Plan) (datagrams : List (List ℕ)) (a b : Known Traffic) → AreDatagrams plan datagrams → Transmits a b (SendsAll datagrams) → Transmits a b (SendsSchedule plan)
-all_sent plan datagrams a b are sent = Transmits-weaker (SendsAll datagrams) (SendsSchedule plan) a b sent (λ x y all. (datagrams, are, all))
+pub all_sent : (plan : Plan) (pace : ℕ) (datagrams : List (List ℕ)) (waits : List ℕ) (a b : Known Traffic) → AreDatagrams plan datagrams → ArePaced pace plan datagrams waits
+    → Transmits a b (SendsAll datagrams) → Transmits a b (Waits waits 0) → Transmits a b (SendsSchedule plan pace)
+all_sent plan pace datagrams waits a b are paced sent waited =
+    Transmits-weaker (λ x y. SendsAll datagrams x y × Waits waits 0 x y) (SendsSchedule plan pace) a b
+    (Transmits-both (SendsAll datagrams) (Waits waits 0) a b sent waited)
+    (λ x y both. (datagrams, are, both.0, waits, paced, both.1))

@@ -1,9 +1,9 @@
 -- What is sent of one frame.
-use Rattle.std.specs.Prelude.{ℕ, ◌≡◌, List, length, Option}
+use Rattle.std.specs.Prelude.{ℕ, ◌≡◌, List, length, replicate}
 use Rattle.drm_schedule.specs.declared.plan.Plan.{Plan}
 use Rattle.drm_links.specs.Told.{Known}
 use Rattle.drm_links.specs.Link.{Traffic}
-use Rattle.drm_links.specs.Transmission.{Transmits, SendsAll, SendsNoMore}
+use Rattle.drm_links.specs.Transmission.{Transmits, SendsAll, SendsNoMore, Waits}
 use Rattle.drm_server.specs.Datagrams.{AreOfFrame, AreFirst, IsDatagramAt}
 
 -- the first i datagrams of frame t, and the next one
@@ -15,7 +15,8 @@ abbrev pub SentFrame : Plan → ℕ → ℕ → Known Traffic → Known Traffic 
 SentFrame plan t n before after =
     (datagrams : List (List ℕ)) × AreOfFrame plan t datagrams × (n ≡ length datagrams) × Transmits before after (SendsAll datagrams)
 
--- some first ones were sent, and no more were taken
+-- Some first ones were sent, without a rest between them, and no more were taken.
 abbrev pub SendsPartOfFrame : Plan → ℕ → Traffic → Traffic → Type 0
 SendsPartOfFrame plan t before after =
-    (i : ℕ) × (next : List ℕ) × (datagrams : List (List ℕ)) × StandBefore plan t i next datagrams × SendsNoMore datagrams before after
+    (i : ℕ) × (next : List ℕ) × (datagrams : List (List ℕ)) × StandBefore plan t i next datagrams
+    × SendsNoMore datagrams before after × Waits (replicate i 0) 0 before after

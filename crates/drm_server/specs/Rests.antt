@@ -1,6 +1,10 @@
--- How many calls a link gets: one for each datagram, and one for each rest.
-use Rattle.std.specs.Prelude.{ℕ, ◌≡◌, ◌+◌, ◌-◌, ◌==◌, if◌then◌else◌}
+-- How many calls a link gets, and how long it rests before each datagram.
+use Rattle.std.specs.Prelude.{ℕ, ◌≡◌, ◌+◌, ◌-◌, ◌<◌, ◌==◌, List, length, take, slice_get, Some, if◌then◌else◌}
+use Rattle.drm_schedule.specs.declared.plan.Plan.{Plan}
 use Rattle.drm_links.specs.Link.{Traffic}
+use Rattle.drm_server.specs.Datagrams.{AreOfFrames}
+
+-- ---- calls: one for each datagram, and one for each rest
 
 -- so many calls were made
 abbrev pub MadeCalls : ℕ → Traffic → Traffic → Type 0
@@ -13,3 +17,20 @@ rests_before pace t = if pace == 0 then 0 else (if t == 0 then 0 else 1)
 -- the rests between so many frames
 abbrev pub rests_between : ℕ → ℕ → ℕ
 rests_between pace frames = if pace == 0 then 0 else frames - 1
+
+-- ---- how long it rests
+
+-- for how many milliseconds it rests directly before frame t: for the pace, but not before the first frame
+abbrev pub pause : ℕ → ℕ → ℕ
+pause pace t = if t == 0 then 0 else pace
+
+-- A frame but the first begins behind these datagrams: they are all those of some frames, from the first one on.
+abbrev pub BeginsFrame : Plan → List (List ℕ) → Type 0
+BeginsFrame plan before = (t : ℕ) × (0 < t) × AreOfFrames plan t before
+
+-- The waits before these datagrams of a schedule: the pace before the first one of each frame but the first, and none before
+-- any other.
+pub record ArePaced (pace : ℕ) (plan : Plan) (datagrams : List (List ℕ)) (waits : List ℕ) : Type 0 where
+  pub as_many : length waits ≡ length datagrams
+  pub paced : (k : ℕ) → k < length datagrams → BeginsFrame plan (take k datagrams) → slice_get waits k ≡ Some pace
+  pub unpaced : (k : ℕ) → k < length datagrams → (BeginsFrame plan (take k datagrams) → ⊥) → slice_get waits k ≡ Some 0

@@ -1,15 +1,19 @@
 -- What is sent of a schedule.
-use Rattle.std.specs.Prelude.{ℕ, List}
+use Rattle.std.specs.Prelude.{ℕ, List, [], ◌∷◌, ◌++◌}
 use Rattle.drm_schedule.specs.declared.plan.Plan.{Plan}
 use Rattle.drm_links.specs.Link.{Traffic}
-use Rattle.drm_links.specs.Transmission.{SendsAll, SendsNoMore}
+use Rattle.drm_links.specs.Transmission.{SendsAll, SendsNoMore, Waits}
 use Rattle.drm_server.specs.Datagrams.{AreDatagrams, AreBefore}
+use Rattle.drm_server.specs.Rests.{ArePaced}
 
--- all of its datagrams were sent
-abbrev pub SendsSchedule : Plan → Traffic → Traffic → Type 0
-SendsSchedule plan before after = (datagrams : List (List ℕ)) × AreDatagrams plan datagrams × SendsAll datagrams before after
+-- All of its datagrams were sent at this pace, and the link didn't rest after the last one.
+abbrev pub SendsSchedule : Plan → ℕ → Traffic → Traffic → Type 0
+SendsSchedule plan pace before after =
+    (datagrams : List (List ℕ)) × AreDatagrams plan datagrams × SendsAll datagrams before after
+    × (waits : List ℕ) × ArePaced pace plan datagrams waits × Waits waits 0 before after
 
--- some first ones were sent, and then the link took no more
-abbrev pub SendsPart : Plan → Traffic → Traffic → Type 0
-SendsPart plan before after =
+-- Some first ones were sent at this pace, and then the link took no more. It had rested before the next one as before those.
+abbrev pub SendsPart : Plan → ℕ → Traffic → Traffic → Type 0
+SendsPart plan pace before after =
     (next : List ℕ) × (datagrams : List (List ℕ)) × AreBefore plan next datagrams × SendsNoMore datagrams before after
+    × (waits : List ℕ) × (last : ℕ) × ArePaced pace plan (datagrams ++ next ∷ []) (waits ++ last ∷ []) × Waits waits last before after

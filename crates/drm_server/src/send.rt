@@ -1,29 +1,29 @@
 //! A schedule over a link.
 
-ghost use Rattle.std.specs.Prelude.{[], ◌∷◌, ◌≡◌, ◌+◌, ◌*◌, ◌≤◌, length, IfOk, OnOk, OnErr, IsErr};
+ghost use Rattle.std.specs.Prelude.{[], ◌∷◌, ◌≡◌, ◌+◌, ◌*◌, ◌≤◌, length, replicate, IfOk, OnOk, OnErr, IsErr};
 ghost use Rattle.drm_links.specs.Told.{HasCause};
 ghost use Rattle.drm_links.specs.Link.{longest_told};
 ghost use Rattle.drm_links.specs.ManyCalls.{MakesCalls};
-ghost use Rattle.drm_links.specs.Transmission.{Transmits, SendsAll, SendsNoMore};
+ghost use Rattle.drm_links.specs.Transmission.{Transmits, SendsAll, SendsNoMore, Waits};
 ghost use Rattle.drm_timeline.specs.Numbers.{frame_count};
 ghost use Rattle.drm_server.specs.Capture.{IsCount};
 ghost use Rattle.drm_server.specs.Sending.{SendsSchedule, SendsPart};
-ghost use Rattle.drm_server.specs.Rests.{MadeCalls, rests_before, rests_between};
+ghost use Rattle.drm_server.specs.Rests.{MadeCalls, rests_before, rests_between, pause};
 ghost use Rattle.drm_server.specs.OneFrame.{SentFrame, SendsPartOfFrame};
 
 use crate::Server;
 use drm_links::{Link, LinkFault, Sent};
 
-/// Sends the datagrams of all frames, in order from the first one on, and gives their number. Between the frames it rests
-/// for so many milliseconds.
+/// Sends the datagrams of all frames, in order from the first one on, and gives their number. Between the datagrams of two
+/// frames it rests for `pace` milliseconds, and nowhere else.
 pub fn serve_link<L: Link>(
     server: &mut Server<'_>,
     link: &mut L,
     pace: u32,
 ) -> Result<u64, LinkFault>
-    ensures whole { OnOk result (Transmits (L.known link.old) (L.known link.new) (SendsSchedule server.old.plan)) }
+    ensures whole { OnOk result (Transmits (L.known link.old) (L.known link.new) (SendsSchedule server.old.plan pace)) }
     ensures count { IfOk result (IsCount server.old.plan) }
-    ensures part { OnErr result (Transmits (L.known link.old) (L.known link.new) (SendsPart server.old.plan)) }
+    ensures part { OnErr result (Transmits (L.known link.old) (L.known link.new) (SendsPart server.old.plan pace)) }
     ensures cause { HasCause (L.known link.old) (L.known link.new) (IsErr result) }
     ensures idle { L.idles link.new ≡ L.idles link.old }
     // One call for each datagram and, where there is a pace, for each rest between two frames.
@@ -46,6 +46,7 @@ pub fn serve_link<L: Link>(
 // Rests before each frame but the first one.
 fn rest_between<L: Link>(link: &mut L, t: u32, pace: u32)
     ensures none { Transmits (L.known link.old) (L.known link.new) (SendsAll []) }
+    ensures waits { Transmits (L.known link.old) (L.known link.new) (Waits [] (pause pace t)) }
     ensures rests { Transmits (L.known link.old) (L.known link.new) (MadeCalls (rests_before pace t)) }
     ensures calls { MakesCalls (λ traffic. traffic.calls) 1 (L.known link.old) (L.known link.new) }
     ensures cause { (L.known link.new).faults ≡ (L.known link.old).faults }
@@ -60,6 +61,8 @@ fn rest_between<L: Link>(link: &mut L, t: u32, pace: u32)
 fn send_frame<L: Link>(server: &mut Server<'_>, link: &mut L) -> Result<u64, LinkFault>
     ensures whole { IfOk result (λ n. SentFrame server.old.plan server.old.frame n
         (L.known link.old) (L.known link.new)) }
+    ensures waits { IfOk result (λ n. Transmits (L.known link.old) (L.known link.new) (Waits (replicate n 0) 0)) }
+    ensures some { IfOk result (λ n. 1 ≤ n) }
     ensures few { IfOk result (λ n. n ≤ 1024) }
     ensures counted { IfOk result (λ n. Transmits (L.known link.old) (L.known link.new) (MadeCalls n)) }
     ensures part { OnErr result (Transmits (L.known link.old) (L.known link.new)
@@ -81,6 +84,8 @@ fn send_datagram<L: Link>(link: &mut L, datagram: &[u8]) -> Result<(), LinkFault
     ensures sent { OnOk result (Transmits (L.known link.old) (L.known link.new)
         (SendsAll (datagram.now ∷ []))) }
     ensures none { OnErr result (Transmits (L.known link.old) (L.known link.new) (SendsNoMore [])) }
+    ensures waited { OnOk result (Transmits (L.known link.old) (L.known link.new) (Waits (0 ∷ []) 0)) }
+    ensures waits { OnErr result (Transmits (L.known link.old) (L.known link.new) (Waits [] 0)) }
     ensures counted { Transmits (L.known link.old) (L.known link.new) (MadeCalls 1) }
     ensures cause { HasCause (L.known link.old) (L.known link.new) (IsErr result) }
     ensures idle { L.idles link.new ≡ L.idles link.old }

@@ -1,10 +1,9 @@
--- What a run over a link says of its status and of what has gone.
-use Rattle.std.proofs.Common.{◌≡◌, ℕ, ◌+◌, ◌<◌, ◌⊎◌, ◌↔◌, inl, inr, List, [], ◌∷◌, length, Option, None, Some, IsNone, Result, Ok, Err, refl, sym, ◌∙◌, ap, subst, arith, length-append}
+-- What a run over a link says of how it ends and of what has gone.
+use Rattle.std.proofs.Common.{◌≡◌, ℕ, ◌+◌, ◌<◌, ◌≤◌, ◌⊎◌, ◌↔◌, inl, inr, List, [], ◌∷◌, length, Option, None, Some, IsNone, Result, Ok, Err, refl, sym, ◌∙◌, ap, subst, arith, length-append}
 use Rattle.std.specs.FinMap as map
 use Rattle.std.specs.FinMap.{gets}
 use Rattle.std.proofs.lemmas.Grind.{common_steps}
 use Rattle.drm_links.specs.Told.{Known, WhileTold}
-use Rattle.drm_links.specs.Link.{Traffic}
 use Rattle.drm_links.specs.Shelf.{Files, Supplies}
 use Rattle.drm_links.specs.Dock.{DockContents, LinkStart, address_key, start_at}
 use Rattle.drm_links.specs.Transmission.{TakesSends, TakesFewer}
@@ -13,14 +12,15 @@ use Rattle.drm_links.proofs.ToldLemmas.{WhileTold-weaker, Tells-weaker}
 use Rattle.drm_schedule.specs.declared.plan.Plan.{Plan}
 use Rattle.drm_server.specs.Datagrams.{AreDatagrams, AreBefore}
 use Rattle.drm_server.specs.Laws.{HasOneDelivery, FirstOnesAreFront}
-use Rattle.drm_faults.specs.Fault.{status_of}
-use Rattle.drm_load.specs.Loading.{Reading, Step}
 use Rattle.drm_load.specs.Schedule.{schedule_named}
-use Rattle.drm_transmit.specs.ScheduleRun.{IsRefused}
-use Rattle.drm_transmit.specs.Send.{OpeningFails, OpensLink, EndsBy, Go, LacksSends, SendsNothing, SendRun, after_link}
+use Rattle.drm_faults.specs.Fault.{UnlessMemory}
 use Rattle.drm_faults.specs.declared.fault.Fault.{Fault}
+use Rattle.drm_faults.specs.declared.fault.Fault.TheVariants as faults
 use Rattle.drm_load.specs.declared.loading.ScheduleFault.{ScheduleFault}
 use Rattle.drm_load.specs.declared.loading.ScheduleFault.TheVariants as schedule
+use Rattle.drm_transmit.specs.ScheduleRun.{EndsBy}
+use Rattle.drm_transmit.specs.Send.{OpeningFails, OpensLink, Go, LacksSends, SendsNothing, ClosedRun, LinkRun, SendRun, after_link}
+use Rattle.drm_transmit.proofs.ScheduleRunLemmas.{came_or_memory, ends_memory, ends_exactly}
 
 -- an opening doesn't both fail and not
 both : {A : Type 0} (at : Address) (told : DockContents) (start : LinkStart) → OpeningFails at told → OpensLink at told start → A
@@ -30,21 +30,7 @@ both at told start (inr none) opens = let p : IsNone (start_at told at) = none i
 one_start : (at : Address) (told : DockContents) (a b : LinkStart) → OpensLink at told a → OpensLink at told b → a ≡ b
 one_start at told a b x y = let s : start_at told at ≡ Some a = x.1 in let t : start_at told at ≡ Some b = y.1 in cc
 
--- ---- the status, by what came
-
-three_by : (came : Result Plan ScheduleFault) (ending : Result (Unit {0}) Fault) → EndsBy came ending → (status_of ending ≡ 3) ↔ IsRefused came
-three_by (Ok x) (Ok done) ends = (λ e. absurd (omega (arith, e)), λ refused. absurd refused)
-three_by (Ok x) (Err fault) ends = (λ e. let is = ap (λ f. status_of (Err f)) ends in absurd (omega (arith, e, is)), λ refused. absurd refused)
-three_by (Err schedule.NoMemory) ending ends = (λ e. let is = ap status_of ends in absurd (omega (arith, e, is)), λ refused. absurd refused)
-three_by (Err (schedule.Line l r)) ending ends = (λ e. tt, λ refused. ap status_of ends)
-three_by (Err schedule.Read) ending ends = (λ e. let is = ap status_of ends in absurd (omega (arith, e, is)), λ refused. absurd refused)
-
-four_by : (came : Result Plan ScheduleFault) (ending : Result (Unit {0}) Fault) → EndsBy came ending → (status_of ending ≡ 4) ↔ (came ≡ Err schedule.Read)
-four_by (Ok x) (Ok done) ends = (λ e. absurd (omega (arith, e)), λ read. cc)
-four_by (Ok x) (Err fault) ends = (λ e. let is = ap (λ f. status_of (Err f)) ends in absurd (omega (arith, e, is)), λ read. cc)
-four_by (Err schedule.NoMemory) ending ends = (λ e. let is = ap status_of ends in absurd (omega (arith, e, is)), λ read. cc)
-four_by (Err (schedule.Line l r)) ending ends = (λ e. let is = ap status_of ends in absurd (omega (arith, e, is)), λ read. cc)
-four_by (Err schedule.Read) ending ends = (λ e. refl, λ read. ap status_of ends)
+-- ---- how it ends, by what came
 
 -- a front that lacks a datagram is shorter than the whole
 shorter : FirstOnesAreFront → (plan : Plan) (datagrams first : List (List ℕ)) (next : List ℕ) → AreDatagrams plan datagrams → AreBefore plan next first → length first < length datagrams
@@ -61,93 +47,98 @@ not_both : (sends : Option ℕ) (n : ℕ) → TakesFewer sends n → TakesSends 
 not_both None n few takes = few
 not_both (Some k) n few takes = omega (arith, few, takes)
 
-six_by : FirstOnesAreFront → (came : Result Plan ScheduleFault) (ending : Result (Unit {0}) Fault) (sends : Option ℕ) (gone : List (List ℕ)) → EndsBy came ending → Go came ending sends gone → (status_of ending ≡ 6) ↔ LacksSends came sends
-six_by front (Ok x) (Ok done) sends gone ends go = (λ e. absurd (omega (arith, e)), λ lacks. absurd (not_both sends (length gone) (lacks gone go.0) go.1))
-six_by front (Ok x) (Err fault) sends gone ends go = (
+abbrev Ending : Type 0
+Ending = Result (Unit {0}) Fault
+
+abbrev failed : Fault → Ending
+failed fault = Err fault
+
+inner : (fault other : Fault) → failed fault ≡ failed other → fault ≡ other
+inner fault other is = cc
+
+-- a run over a schedule that came fails by the link alone
+by_link : (fault : Fault) → (failed fault ≡ Ok tt) ⊎ (failed fault ≡ Err faults.Link) → failed fault ≡ Err faults.Link
+by_link fault (inl is) = cc
+by_link fault (inr is) = is
+
+-- it fails by the link exactly where the link takes too few sends
+link_by : FirstOnesAreFront → (pace : ℕ) (came : Result Plan ScheduleFault) (ending : Ending) (sends : Option ℕ) (gone : List (List ℕ)) (rests : List ℕ) → EndsBy faults.Link came ending → Go pace came ending sends gone rests
+    → UnlessMemory ending ((ending ≡ Err faults.Link) ↔ LacksSends came sends)
+link_by front pace (Ok x) (Ok done) sends gone rests ends go = inr (λ e. cc, λ lacks. absurd (not_both sends (length gone) (lacks gone go.0) go.1))
+link_by front pace (Ok x) (Err fault) sends gone rests ends go = inr (
   λ e datagrams are. fewer_by sends (length gone) (length datagrams) go.2 (shorter front x datagrams gone go.0 are go.1),
-  λ lacks. ap (λ f. status_of (Err f)) ends,
+  λ lacks. by_link fault ends,
 )
-six_by front (Err schedule.NoMemory) ending sends gone ends go = (λ e. let is = ap status_of ends in absurd (omega (arith, e, is)), λ lacks. absurd lacks)
-six_by front (Err (schedule.Line l r)) ending sends gone ends go = (λ e. let is = ap status_of ends in absurd (omega (arith, e, is)), λ lacks. absurd lacks)
-six_by front (Err schedule.Read) ending sends gone ends go = (λ e. let is = ap status_of ends in absurd (omega (arith, e, is)), λ lacks. absurd lacks)
+link_by front pace (Err schedule.NoMemory) ending sends gone rests ends go = inl ends
+link_by front pace (Err (schedule.Line l r)) ending sends gone rests ends go =
+    inr (λ e. let other : faults.Schedule l r ≡ faults.Link = inner (faults.Schedule l r) faults.Link (sym ends ∙ e) in absurd cc, λ lacks. absurd lacks)
+link_by front pace (Err schedule.Read) ending sends gone rests ends go =
+    inr (λ e. let other : faults.Read ≡ faults.Link = inner faults.Read faults.Link (sym ends ∙ e) in absurd cc, λ lacks. absurd lacks)
 
 -- all were sent, where the link takes all
-all_by : HasOneDelivery → FirstOnesAreFront → (plan : Plan) (ending : Result (Unit {0}) Fault) (sends : Option ℕ) (gone datagrams : List (List ℕ)) → EndsBy (Ok plan) ending → Go (Ok plan) ending sends gone → AreDatagrams plan datagrams → TakesSends sends (length datagrams)
-    → (status_of ending ≡ 0) × (gone ≡ datagrams)
-all_by one front plan (Ok done) sends gone datagrams ends go are takes = (refl, one plan gone datagrams go.0 are)
-all_by one front plan (Err fault) sends gone datagrams ends go are takes =
+all_by : HasOneDelivery → FirstOnesAreFront → (pace : ℕ) (plan : Plan) (ending : Ending) (sends : Option ℕ) (gone datagrams : List (List ℕ)) (rests : List ℕ) → Go pace (Ok plan) ending sends gone rests → AreDatagrams plan datagrams → TakesSends sends (length datagrams)
+    → (ending ≡ Ok tt) × (gone ≡ datagrams)
+all_by one front pace plan (Ok done) sends gone datagrams rests go are takes = (refl, one plan gone datagrams go.0 are)
+all_by one front pace plan (Err fault) sends gone datagrams rests go are takes =
     absurd (not_both sends (length datagrams) (fewer_by sends (length gone) (length datagrams) go.2 (shorter front plan datagrams gone go.0 are go.1)) takes)
 
-none_by : (came : Result Plan ScheduleFault) (ending : Result (Unit {0}) Fault) (sends : Option ℕ) (gone : List (List ℕ)) → EndsBy came ending → Go came ending sends gone → status_of ending ≡ 1 → gone ≡ []
-none_by (Ok x) (Ok done) sends gone ends go e = absurd (omega (arith, e))
-none_by (Ok x) (Err fault) sends gone ends go e = let is = ap (λ f. status_of (Err f)) ends in absurd (omega (arith, e, is))
-none_by (Err fault) ending sends gone ends go e = go
+none_by : (pace : ℕ) (came : Result Plan ScheduleFault) (ending : Ending) (sends : Option ℕ) (gone : List (List ℕ)) (rests : List ℕ) → EndsBy faults.Link came ending → Go pace came ending sends gone rests → ending ≡ Err faults.NoMemory → gone ≡ []
+none_by pace (Ok x) (Ok done) sends gone rests ends go e = cc
+none_by pace (Ok x) (Err fault) sends gone rests ends go e =
+    let other : faults.Link ≡ faults.NoMemory = inner faults.Link faults.NoMemory (sym (by_link fault ends) ∙ e) in absurd cc
+none_by pace (Err fault) ending sends gone rests ends go e = go.0
 
--- ---- unless memory ran out, what came is what the files come to
+gone_at : (at : Address) (before after : DockContents) (gone : List (List ℕ)) (rests : List ℕ) → after ≡ after_link at gone rests before → map.get after.gone (address_key at) ≡ Some gone
+gone_at at before after gone rests is = rw is (grind (arith, gets, common_steps))
 
-came_by : (came : Result Plan ScheduleFault) (ending : Result (Unit {0}) Fault) (reading : Reading Plan) (x y : Files) → EndsBy came ending → (status_of ending ≡ 1 → ⊥) → (came ≡ Err schedule.NoMemory) ⊎ (reading x ≡ record { came = came; told = y }) → came ≡ (reading x).came
-came_by came ending reading x y ends memory (inl is) =
-    let P : Result Plan ScheduleFault → Type 0 = λ v. EndsBy v ending in
-    let ran_out : EndsBy (Err schedule.NoMemory) ending = subst P is ends in
-    absurd (memory (ap status_of ran_out))
-came_by came ending reading x y ends memory (inr is) = sym (ap (λ (step : Step Plan). step.came) is)
+-- ---- the whole run
 
-module _ {S D L : Type 0} (name : List ℕ) (at : Address) (ending : Result (Unit {0}) Fault) (shelf_known : S → Known Files) (shelf shelf' : S) (dock_known : D → Known DockContents) (dock dock' : D) (link_known : L → Known Traffic) where
-  pub unopened : SendRun name at ending shelf_known shelf shelf' dock_known dock dock' link_known → WhileTold (dock_known dock) (dock_known dock') (λ before after. OpeningFails at before → status_of ending ≡ 6)
-  unopened (inl run) = WhileTold-weaker _ _ (dock_known dock) (dock_known dock') run.told (λ before after told fails. ap status_of run.fault)
-  unopened (inr run) = WhileTold-weaker _ _ (dock_known dock) (dock_known dock') run.told (λ before after told fails. both at before told.0 fails told.1)
+module _ {S D : Type 0} (one : HasOneDelivery) (front : FirstOnesAreFront) (name : List ℕ) (at : Address) (pace : ℕ) (ending : Ending) (shelf_known : S → Known Files) (shelf shelf' : S) (dock_known : D → Known DockContents) (dock dock' : D) where
+  pub closed : ClosedRun at ending shelf shelf' dock_known dock dock' → SendRun name at pace ending shelf_known shelf shelf' dock_known dock dock'
+  closed run = record {
+    run = inl run;
+    unopened = WhileTold-weaker _ _ (dock_known dock) (dock_known dock') run.told (λ before after told fails. run.fault);
+    cut = WhileTold-weaker _ _ (dock_known dock) (dock_known dock') run.told (λ before after told start opens. both at before start told.0 opens);
+    complete = WhileTold-weaker _ _ (dock_known dock) (dock_known dock') run.told (λ before after told start opens. both at before start told.0 opens);
+    exactly = λ none. absurd (none run.fault);
+  }
 
-  pub refused_where : SendRun name at ending shelf_known shelf shelf' dock_known dock dock' link_known → (status_of ending ≡ 1 → ⊥) → (status_of ending ≡ 6 → ⊥) → Supplies (shelf_known shelf) (shelf_known shelf') (λ before after. (status_of ending ≡ 3) ↔ IsRefused (schedule_named name before).came)
-  refused_where (inl run) memory link = absurd (link (ap status_of run.fault))
-  refused_where (inr run) memory link =
-      Tells-weaker _ _ (shelf_known shelf) (shelf_known shelf') run.loads
-      (λ x y is. let P : Result Plan ScheduleFault → Type 0 = λ v. (status_of ending ≡ 3) ↔ IsRefused v in
-      subst P (came_by run.came ending (schedule_named name) x y run.ends memory is) (three_by run.came ending run.ends))
+  pub over_link : LinkRun name at pace ending shelf_known shelf shelf' dock_known dock dock' → SendRun name at pace ending shelf_known shelf shelf' dock_known dock dock'
+  over_link run = record {
+    run = inr run;
+    unopened = WhileTold-weaker _ _ (dock_known dock) (dock_known dock') run.told (λ before after told fails. both at before told.0 fails told.1);
+    cut = WhileTold-weaker _ _ (dock_known dock) (dock_known dock') run.told
+        (λ before after told start opens.
+        let same : told.0 ≡ start = one_start at before told.0 start told.1 opens in
+        Tells-weaker _ _ (shelf_known shelf) (shelf_known shelf') run.loads
+        (λ x y is. elim (came_or_memory (schedule_named name) run.came x y is) [
+          | inl memory ↦ inl (ends_memory faults.Link run.came ending run.ends memory)
+          | inr came ↦
+              let P : Result Plan ScheduleFault → Type 0 = λ v. UnlessMemory ending ((ending ≡ Err faults.Link) ↔ LacksSends v start.sends) in
+              let Q : LinkStart → Type 0 = λ s. UnlessMemory ending ((ending ≡ Err faults.Link) ↔ LacksSends run.came s.sends) in
+              subst P came (subst Q same (link_by front pace run.came ending told.0.sends told.2 told.3 run.ends told.4))
+        ]));
+    complete = WhileTold-weaker _ _ (dock_known dock) (dock_known dock') run.told
+        (λ before after told start opens.
+        let same : told.0 ≡ start = one_start at before told.0 start told.1 opens in
+        Tells-weaker _ _ (shelf_known shelf) (shelf_known shelf') run.loads
+        (λ x y is plan datagrams gives are takes. elim (came_or_memory (schedule_named name) run.came x y is) [
+          | inl memory ↦ inl (ends_memory faults.Link run.came ending run.ends memory)
+          | inr came ↦
+              let Q : Result Plan ScheduleFault → Type 0 = λ v. Go pace v ending told.0.sends told.2 told.3 in
+              let R : LinkStart → Type 0 = λ s. TakesSends s.sends (length datagrams) in
+              let all = all_by one front pace plan ending told.0.sends told.2 datagrams told.3 (subst Q (came ∙ gives) told.4) are (subst R (sym same) takes) in
+              inr (all.0, gone_at at before after told.2 told.3 told.5 ∙ ap Some all.1)
+        ]));
+    exactly = λ none. ends_exactly faults.Link (schedule_named name) run.came ending (shelf_known shelf) (shelf_known shelf') run.loads run.ends;
+  }
 
-  pub unread_where : SendRun name at ending shelf_known shelf shelf' dock_known dock dock' link_known → (status_of ending ≡ 1 → ⊥) → (status_of ending ≡ 6 → ⊥) → Supplies (shelf_known shelf) (shelf_known shelf') (λ before after. (status_of ending ≡ 4) ↔ ((schedule_named name before).came ≡ Err schedule.Read))
-  unread_where (inl run) memory link = absurd (link (ap status_of run.fault))
-  unread_where (inr run) memory link =
-      Tells-weaker _ _ (shelf_known shelf) (shelf_known shelf') run.loads
-      (λ x y is. let P : Result Plan ScheduleFault → Type 0 = λ v. (status_of ending ≡ 4) ↔ (v ≡ Err schedule.Read) in
-      subst P (came_by run.came ending (schedule_named name) x y run.ends memory is) (four_by run.came ending run.ends))
-
-  pub cut_where : FirstOnesAreFront → SendRun name at ending shelf_known shelf shelf' dock_known dock dock' link_known → (status_of ending ≡ 1 → ⊥)
-      → WhileTold (dock_known dock) (dock_known dock') (λ before after. (start : LinkStart) → OpensLink at before start
-      → Supplies (shelf_known shelf) (shelf_known shelf') (λ files files'. (status_of ending ≡ 6) ↔ LacksSends (schedule_named name files).came start.sends))
-  cut_where front (inl run) memory = WhileTold-weaker _ _ (dock_known dock) (dock_known dock') run.told (λ before after told start opens. both at before start told.0 opens)
-  cut_where front (inr run) memory =
-      WhileTold-weaker _ _ (dock_known dock) (dock_known dock') run.told
-      (λ before after told start opens.
-      let same : told.0 ≡ start = one_start at before told.0 start told.1 opens in
-      Tells-weaker _ _ (shelf_known shelf) (shelf_known shelf') run.loads
-      (λ x y is.
-      let P : Result Plan ScheduleFault → Type 0 = λ v. (status_of ending ≡ 6) ↔ LacksSends v start.sends in
-      let Q : LinkStart → Type 0 = λ s. (status_of ending ≡ 6) ↔ LacksSends run.came s.sends in
-      subst P (came_by run.came ending (schedule_named name) x y run.ends memory is) (subst Q same (six_by front run.came ending told.0.sends told.2 run.ends told.3))))
-
-  pub all_where : HasOneDelivery → FirstOnesAreFront → SendRun name at ending shelf_known shelf shelf' dock_known dock dock' link_known → (status_of ending ≡ 1 → ⊥)
-      → WhileTold (dock_known dock) (dock_known dock') (λ before after. (start : LinkStart) → OpensLink at before start
-      → Supplies (shelf_known shelf) (shelf_known shelf') (λ files files'. (plan : Plan) (datagrams : List (List ℕ)) → (schedule_named name files).came ≡ Ok plan → AreDatagrams plan datagrams → TakesSends start.sends (length datagrams)
-      → (status_of ending ≡ 0) × (map.get after.gone (address_key at) ≡ Some datagrams)))
-  all_where one front (inl run) memory = WhileTold-weaker _ _ (dock_known dock) (dock_known dock') run.told (λ before after told start opens. both at before start told.0 opens)
-  all_where one front (inr run) memory =
-      WhileTold-weaker _ _ (dock_known dock) (dock_known dock') run.told
-      (λ before after told start opens.
-      let same : told.0 ≡ start = one_start at before told.0 start told.1 opens in
-      Tells-weaker _ _ (shelf_known shelf) (shelf_known shelf') run.loads
-      (λ x y is plan datagrams gives are takes.
-      let came : run.came ≡ Ok plan = came_by run.came ending (schedule_named name) x y run.ends memory is ∙ gives in
-      let P : Result Plan ScheduleFault → Type 0 = λ v. EndsBy v ending in
-      let Q : Result Plan ScheduleFault → Type 0 = λ v. Go v ending told.0.sends told.2 in
-      let R : LinkStart → Type 0 = λ s. TakesSends s.sends (length datagrams) in
-      let all = all_by one front plan ending told.0.sends told.2 datagrams (subst P came run.ends) (subst Q came told.3) are (subst R (sym same) takes) in
-      (all.0, gone_at before after told.2 told.4 ∙ ap Some all.1)))
+  pub nothing_sent : SendRun name at pace ending shelf_known shelf shelf' dock_known dock dock' → ending ≡ Err faults.NoMemory → WhileTold (dock_known dock) (dock_known dock') SendsNothing
+  nothing_sent sent = by_run sent.run
     where
-      gone_at : (before after : DockContents) (gone : List (List ℕ)) → after ≡ after_link at gone before → map.get after.gone (address_key at) ≡ Some gone
-      gone_at before after gone is = rw is (grind (arith, gets, common_steps))
-
-  pub nothing_sent : SendRun name at ending shelf_known shelf shelf' dock_known dock dock' link_known → status_of ending ≡ 1 → WhileTold (dock_known dock) (dock_known dock') SendsNothing
-  nothing_sent (inl run) one = let is = ap status_of run.fault in absurd (omega (arith, is, one))
-  nothing_sent (inr run) one =
-      WhileTold-weaker _ _ (dock_known dock) (dock_known dock') run.told
-      (λ before after told. inr (at, ap (λ (d : DockContents). d.gone) told.4 ∙ ap (λ l. map.insert before.gone (address_key at) l) (none_by run.came ending told.0.sends told.2 run.ends told.3 one)))
+      by_run : ClosedRun at ending shelf shelf' dock_known dock dock' ⊎ LinkRun name at pace ending shelf_known shelf shelf' dock_known dock dock' → ending ≡ Err faults.NoMemory → WhileTold (dock_known dock) (dock_known dock') SendsNothing
+      by_run (inl run) memory = let other : faults.Link ≡ faults.NoMemory = inner faults.Link faults.NoMemory (sym run.fault ∙ memory) in absurd cc
+      by_run (inr run) memory =
+          WhileTold-weaker _ _ (dock_known dock) (dock_known dock') run.told
+          (λ before after told.
+          inr (at, ap (λ (d : DockContents). d.gone) told.5 ∙ ap (λ l. map.insert before.gone (address_key at) l) (none_by pace run.came ending told.0.sends told.2 told.3 run.ends told.4 memory)))

@@ -1,18 +1,20 @@
 -- The command `serve --to`: a schedule becomes datagrams over a link.
-use Rattle.std.specs.Prelude.{ℕ, ◌≡◌, ◌+◌, ◌≤◌, ◌⊎◌, List, [], length, Contains, Option, Some, IsNone, Result, Ok, Err, IfOk}
+use Rattle.std.specs.Prelude.{ℕ, ◌≡◌, ◌+◌, ◌≤◌, ◌⊎◌, ◌↔◌, List, [], ◌∷◌, ◌++◌, length, Contains, Option, Some, IsNone, Result, Ok, Err, IfOk}
 use Rattle.std.specs.FinMap as map
 use Rattle.drm_links.specs.Told.{HasFailed, Known, HasCause, Rose, WhileTold}
 use Rattle.drm_links.specs.Link.{Traffic}
-use Rattle.drm_links.specs.Shelf.{Files}
+use Rattle.drm_links.specs.Shelf.{Files, Supplies}
 use Rattle.drm_links.specs.Dock.{DockContents, LinkStart, address_key, start_at}
 use Rattle.drm_links.specs.Transmission.{TakesSends, TakesFewer}
 use Rattle.drm_links.specs.declared.dock.Address.{Address}
 use Rattle.drm_schedule.specs.declared.plan.Plan.{Plan}
 use Rattle.drm_schedule.specs.Valid.{IsSchedule}
 use Rattle.drm_server.specs.Datagrams.{AreDatagrams, AreBefore}
+use Rattle.drm_server.specs.Rests.{ArePaced}
 use Rattle.drm_load.specs.Loading.{ReadBy}
 use Rattle.drm_load.specs.Schedule.{schedule_named}
-use Rattle.drm_load.specs.Faults.{fault_of_schedule}
+use Rattle.drm_transmit.specs.ScheduleRun.{EndsBy}
+use Rattle.drm_faults.specs.Fault.{UnlessMemory}
 use Rattle.drm_load.specs.declared.loading.ScheduleFault.{ScheduleFault}
 use Rattle.drm_faults.specs.declared.fault.Fault.{Fault}
 use Rattle.drm_faults.specs.declared.fault.Fault.TheVariants as faults
@@ -27,29 +29,31 @@ OpensLink at told start = (Contains told.failing told.openings → ⊥) × (star
 
 -- what the dock tells after an opening that failed
 abbrev pub after_failure : DockContents → DockContents
-after_failure told = record told { openings = told.openings + 1; calls = told.calls + 1 }
+after_failure told = record told { openings = told.openings + 1; reaches = told.reaches + 1; calls = told.calls + 1 }
 
--- what it tells after a link was opened and closed over which these datagrams had gone
-abbrev pub after_link : Address → List (List ℕ) → DockContents → DockContents
-after_link at gone told = record told {
+-- what it tells after a link was opened and closed over which these datagrams had gone, with these rests before each and
+-- after the last
+abbrev pub after_link : Address → List (List ℕ) → List ℕ → DockContents → DockContents
+after_link at gone rests told = record told {
   openings = told.openings + 1;
+  reaches = told.reaches + 1;
   links = map.remove told.links (address_key at);
   gone = map.insert told.gone (address_key at) gone;
+  rests = map.insert told.rests (address_key at) rests;
   calls = told.calls + 1 + 1;
 }
 
--- how a run ends whose link was opened: by what came of the schedule, or with a fault of the link
-abbrev pub EndsBy : Result Plan ScheduleFault → Result (Unit {0}) Fault → Type 0
-EndsBy (Ok schedule) (Ok done) = Unit {0}
-EndsBy (Ok schedule) (Err fault) = fault ≡ faults.Link
-EndsBy (Err fault) ending = ending ≡ Err (fault_of_schedule fault)
-
--- The datagrams that go over a link that takes so many sends: all of the schedule that came, or some first ones, after
--- which no more are taken. Where no schedule came, none.
-abbrev pub Go : Result Plan ScheduleFault → Result (Unit {0}) Fault → Option ℕ → List (List ℕ) → Type 0
-Go (Ok schedule) (Ok done) sends gone = AreDatagrams schedule gone × TakesSends sends (length gone)
-Go (Ok schedule) (Err fault) sends gone = (next : List ℕ) × AreBefore schedule next gone × (sends ≡ Some (length gone))
-Go (Err fault) ending sends gone = gone ≡ []
+-- The datagrams that go over a link that takes so many sends, and the rests before each and after the last: all of the
+-- schedule that came, at this pace, without a rest after the last; or some first ones, after which no more are taken, with the
+-- rest before the next one. Where no schedule came, none, without a rest.
+abbrev pub Go : ℕ → Result Plan ScheduleFault → Result (Unit {0}) Fault → Option ℕ → List (List ℕ) → List ℕ → Type 0
+Go pace (Ok schedule) (Ok done) sends gone rests =
+    AreDatagrams schedule gone × TakesSends sends (length gone)
+    × (waits : List ℕ) × ArePaced pace schedule gone waits × (rests ≡ waits ++ 0 ∷ [])
+Go pace (Ok schedule) (Err fault) sends gone rests =
+    (next : List ℕ) × AreBefore schedule next gone × (sends ≡ Some (length gone))
+    × ArePaced pace schedule (gone ++ next ∷ []) rests
+Go pace (Err fault) ending sends gone rests = (gone ≡ []) × (rests ≡ 0 ∷ [])
 
 -- The link takes fewer sends than the schedule that came has datagrams.
 abbrev pub LacksSends : Result Plan ScheduleFault → Option ℕ → Type 0
@@ -69,30 +73,40 @@ pub record ClosedRun {S D : Type 0} (at : Address) (ending : Result (Unit {0}) F
   pub rose : HasFailed (dock_known dock) (dock_known dock')
 
 -- A run whose link was opened, before the schedule of this name was read, and closed at the end.
-pub record LinkRun {S D L : Type 0} (name : List ℕ) (at : Address) (ending : Result (Unit {0}) Fault)
+pub record LinkRun {S D : Type 0} (name : List ℕ) (at : Address) (pace : ℕ) (ending : Result (Unit {0}) Fault)
     (shelf_known : S → Known Files) (shelf shelf' : S)
-    (dock_known : D → Known DockContents) (dock dock' : D) (link_known : L → Known Traffic) : Type 0 where
+    (dock_known : D → Known DockContents) (dock dock' : D) : Type 0 where
   -- the schedule, or why there is none
   pub came : Result Plan ScheduleFault
   -- Where the shelf tells, that is what its files come to, and these loads were made.
   pub loads : ReadBy (schedule_named name) came (shelf_known shelf) (shelf_known shelf')
   -- Whatever it tells, what came is valid.
   pub sound : IfOk came IsSchedule
-  pub ends : EndsBy came ending
+  pub ends : EndsBy faults.Link came ending
   pub told : WhileTold (dock_known dock) (dock_known dock') (λ before after.
       (start : LinkStart) × OpensLink at before start
-      × (gone : List (List ℕ)) × Go came ending start.sends gone × (after ≡ after_link at gone before))
+      × (gone : List (List ℕ)) × (rests : List ℕ) × Go pace came ending start.sends gone rests × (after ≡ after_link at gone rests before))
   pub later : (dock_known dock).faults ≤ (dock_known dock').faults
-  -- The faults of the outside come only where its count of faults rose.
+  -- A load fails only where the shelf's count of faults rose.
   pub read_cause : HasCause (shelf_known shelf) (shelf_known shelf') (ending ≡ Err faults.Read)
-  pub opened : L
-  pub closed : L
-  pub fresh : (link_known opened).faults ≡ 0
-  pub link_cause : HasCause (link_known opened) (link_known closed) (ending ≡ Err faults.Link)
 
--- A run of `serve --to`.
-abbrev pub SendRun : {S D L : Type 0} → List ℕ → Address → Result (Unit {0}) Fault
-    → (S → Known Files) → S → S → (D → Known DockContents) → D → D → (L → Known Traffic) → Type 0
-SendRun name at ending shelf_known shelf shelf' dock_known dock dock' link_known =
-    ClosedRun at ending shelf shelf' dock_known dock dock'
-    ⊎ LinkRun name at ending shelf_known shelf shelf' dock_known dock dock' link_known
+-- A run of `serve --to`, with this pace.
+pub record SendRun {S D : Type 0} (name : List ℕ) (at : Address) (pace : ℕ) (ending : Result (Unit {0}) Fault)
+    (shelf_known : S → Known Files) (shelf shelf' : S)
+    (dock_known : D → Known DockContents) (dock dock' : D) : Type 0 where
+  pub run : ClosedRun at ending shelf shelf' dock_known dock dock' ⊎ LinkRun name at pace ending shelf_known shelf shelf' dock_known dock dock'
+  -- It fails by the link where the opening fails, and where the link takes fewer sends than the schedule has datagrams; nowhere
+  -- else.
+  pub unopened : WhileTold (dock_known dock) (dock_known dock') (λ before _. OpeningFails at before → ending ≡ Err faults.Link)
+  pub cut : WhileTold (dock_known dock) (dock_known dock') (λ before _. (start : LinkStart) → OpensLink at before start
+      → Supplies (shelf_known shelf) (shelf_known shelf') (λ files _.
+      UnlessMemory ending ((ending ≡ Err faults.Link) ↔ LacksSends (schedule_named name files).came start.sends)))
+  -- Where the link takes them all, they have gone at its address.
+  pub complete : WhileTold (dock_known dock) (dock_known dock') (λ before after. (start : LinkStart) → OpensLink at before start
+      → Supplies (shelf_known shelf) (shelf_known shelf') (λ files _. (schedule : Plan) (datagrams : List (List ℕ))
+      → (schedule_named name files).came ≡ Ok schedule → AreDatagrams schedule datagrams → TakesSends start.sends (length datagrams)
+      → UnlessMemory ending ((ending ≡ Ok tt) × (map.get after.gone (address_key at) ≡ Some datagrams))))
+  -- Unless the link failed it is refused exactly where its files are, with the line and the reason; a load fails exactly where
+  -- one is to fail.
+  pub exactly : (ending ≡ Err faults.Link → ⊥)
+      → Supplies (shelf_known shelf) (shelf_known shelf') (λ files _. UnlessMemory ending (EndsBy faults.Link (schedule_named name files).came ending))

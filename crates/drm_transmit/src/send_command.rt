@@ -8,11 +8,11 @@ ghost use Rattle.drm_transmit.specs.OverLink.{OverLink};
 use drm_faults::Fault;
 use drm_links::{Address, Dock, Link, Opened, Shelf};
 use drm_load::read_schedule;
-use drm_server::{Server, serve_link};
+use drm_server::{Server, first_ones_are_front, one_delivery, serve_link};
 use std::alloc::Global;
 
-/// Opens a link to the address, reads a schedule and sends its datagrams, and closes the link. Between frames it rests for
-/// `pace` milliseconds.
+/// Opens a link to the address, reads a schedule and sends its datagrams, and closes the link. Between the datagrams of two
+/// frames it rests for `pace` milliseconds.
 pub fn send<S: Shelf, D: Dock>(
     alloc: Global,
     name: &str,
@@ -21,8 +21,8 @@ pub fn send<S: Shelf, D: Dock>(
     shelf: &mut S,
     dock: &mut D,
 ) -> Result<(), Fault>
-    ensures run { SendRun name.now to result S.known shelf.old shelf.new
-        D.known dock.old dock.new D.L.known }
+    ensures run { SendRun name.now to pace result S.known shelf.old shelf.new
+        D.known dock.old dock.new }
     // After want of memory nothing was sent. The words were judged before, and nothing is written.
     ensures unsent { IsErrOf result Fault.NoMemory
         → WhileTold (D.known dock.old) (D.known dock.new) SendsNothing }
@@ -30,6 +30,8 @@ pub fn send<S: Shelf, D: Dock>(
     ensures words { IsErrOf result Fault.Words → ⊥ }
     ensures write { IsErrOf result Fault.Write → ⊥ }
 {
+    one_delivery();
+    first_ones_are_front();
     match dock.reach(to) {
         Opened::Link(mut link) => {
             let sent = send_over(alloc, name, pace, shelf, &mut link);
@@ -48,7 +50,7 @@ fn send_over<S: Shelf, L: Link>(
     shelf: &mut S,
     link: &mut L,
 ) -> Result<(), Fault>
-    ensures run { OverLink name.now result S.known shelf.old shelf.new
+    ensures run { OverLink name.now pace result S.known shelf.old shelf.new
         L.known link.old link.new }
     ensures words { IsErrOf result Fault.Words → ⊥ }
     ensures write { IsErrOf result Fault.Write → ⊥ }

@@ -1,14 +1,14 @@
-use Rattle.std.proofs.Common.{◌≡◌, ◌∙◌, ◌+◌, ℕ, ◌∷◌, [], ◌++◌, ◌≤◌, refl, subst, arith}
+use Rattle.std.proofs.Common.{◌≡◌, ◌∙◌, ◌+◌, ℕ, ◌∷◌, [], ◌++◌, ◌≤◌, replicate, refl, subst, arith}
 use Rattle.std.proofs.lemmas.Result.{err_from_is_err_and}
 use Rattle.drm_links.specs.Link.{Traffic}
-use Rattle.drm_links.specs.Transmission.{Transmits}
+use Rattle.drm_links.specs.Transmission.{Transmits, Waits}
 use Rattle.drm_links.proofs.ManyCallsLemmas.{more_calls, at_most}
 use Rattle.drm_server.specs.Serving.{Serving}
 use Rattle.drm_server.specs.Datagrams.{IsDatagramAt, AreFirst}
 use Rattle.drm_server.proofs.DatagramLemmas.{next_datagram, first_length}
 use Rattle.drm_server.specs.Rests.{MadeCalls}
 use Rattle.drm_server.proofs.RestLemmas.{made_then}
-use Rattle.drm_server.proofs.SendingLemmas.{then_sent, no_more_sent}
+use Rattle.drm_server.proofs.SendingLemmas.{then_sent, no_more_sent, one_more_sent}
 use Rattle.drm_server.proofs.send.send_frame.Goals as goal
 
 pub datagram-requires : goal.datagram-requires
@@ -20,7 +20,7 @@ returns-in_err-send_datagram-clause-part g c =
     let old : Serving = c.args.server.now in
     let p = err_from_is_err_and c.from_residual.result c.from_residual.ensures.1 in
     let is : IsDatagramAt old.plan old.frame c.loop-i.i c.datagram.result.now = rw (← i.6) c.datagram.ensures.datagram in
-    rw p.1 (no_more_sent old.plan old.frame c.loop-i.i c.datagram.result.now i.0 (g.L.Link.known c.args.link.now) (g.L.Link.known c.loop-i.link) (g.L.Link.known c.send_datagram.new.link) is i.1 i.2 c.in_err-send_datagram.ensures.none)
+    rw p.1 (no_more_sent old.plan old.frame c.loop-i.i c.datagram.result.now i.0 (g.L.Link.known c.args.link.now) (g.L.Link.known c.loop-i.link) (g.L.Link.known c.send_datagram.new.link) is i.1 i.2 c.in_err-send_datagram.ensures.none i.8 c.in_err-send_datagram.ensures.waits)
 
 pub returns-in_err-send_datagram-clause-calls : goal.returns-in_err-send_datagram-clause-calls
 returns-in_err-send_datagram-clause-calls g c =
@@ -43,6 +43,7 @@ loop-i-preserved g c =
       more_calls calls c.loop-i.i 1 (g.L.Link.known c.args.link.now) (g.L.Link.known c.loop-i.link) (g.L.Link.known c.send_datagram.new.link) i.5 c.send_datagram.ensures.calls,
       c.datagram.follows.holds-at-none ∙ i.6,
       made_then c.loop-i.i 1 (c.loop-i.i + 1) (g.L.Link.known c.args.link.now) (g.L.Link.known c.loop-i.link) (g.L.Link.known c.send_datagram.new.link) refl i.7 c.send_datagram.ensures.counted,
+      one_more_sent c.loop-i.i (g.L.Link.known c.args.link.now) (g.L.Link.known c.loop-i.link) (g.L.Link.known c.send_datagram.new.link) i.8 c.in_ok-send_datagram.ensures.waited,
     )
 
 pub returns-clause-whole : goal.returns-clause-whole
@@ -66,3 +67,8 @@ pub returns-clause-counted : goal.returns-clause-counted
 returns-clause-counted g c =
     let all : c.loop-i.i ≡ c.from.result = omega (arith, c.loop-i-test.false, c.loop-i.auto.i-end, c.from.ensures) in
     subst (λ k. Transmits (g.L.Link.known c.args.link.now) (g.L.Link.known c.loop-i.link) (MadeCalls k)) all c.loop-i.invariant.7
+
+pub returns-clause-waits : goal.returns-clause-waits
+returns-clause-waits g c =
+    let all : c.loop-i.i ≡ c.from.result = omega (arith, c.loop-i-test.false, c.loop-i.auto.i-end, c.from.ensures) in
+    subst (λ k. Transmits (g.L.Link.known c.args.link.now) (g.L.Link.known c.loop-i.link) (Waits (replicate k 0) 0)) all c.loop-i.invariant.8

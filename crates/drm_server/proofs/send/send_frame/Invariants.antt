@@ -1,7 +1,7 @@
-use Rattle.std.proofs.Common.{◌≡◌, ◌≤◌, ℕ, List}
+use Rattle.std.proofs.Common.{◌≡◌, ◌≤◌, ℕ, List, replicate}
 use Rattle.drm_links.specs.Link.{Traffic}
 use Rattle.drm_links.specs.ManyCalls.{MakesCalls}
-use Rattle.drm_links.specs.Transmission.{Transmits, SendsAll}
+use Rattle.drm_links.specs.Transmission.{Transmits, SendsAll, Waits}
 use Rattle.drm_server.specs.Datagrams.{AreFirst}
 use Rattle.drm_server.specs.Rests.{MadeCalls}
 use Rattle.drm_server.proofs.send.send_frame.Given as goal
@@ -16,3 +16,4 @@ invariant-loop-i g l =
     × MakesCalls (λ (t : Traffic). t.calls) l.i (g.L.Link.known l.fn.link) (g.L.Link.known l.link)
     × (l.server ≡ l.fn.server)
     × Transmits (g.L.Link.known l.fn.link) (g.L.Link.known l.link) (MadeCalls l.i)
+    × Transmits (g.L.Link.known l.fn.link) (g.L.Link.known l.link) (Waits (replicate l.i 0) 0)

@@ -1,4 +1,4 @@
-use Rattle.std.proofs.Common.{◌≡◌, ◌∙◌, ◌+◌, ◌*◌, ◌≤◌, ℕ, ◌++◌, length, ap, refl, subst, arith, length-append}
+use Rattle.std.proofs.Common.{◌≡◌, ◌∙◌, ◌+◌, ◌*◌, ◌≤◌, ℕ, ◌++◌, length, ap, sym, refl, subst, arith, length-append}
 use Rattle.std.proofs.lemmas.Result.{err_from_is_err_and}
 use Rattle.drm_schedule.specs.declared.plan.Plan.{Plan}
 use Rattle.drm_links.specs.Link.{Traffic}
@@ -7,11 +7,12 @@ use Rattle.drm_links.proofs.ManyCallsLemmas.{more_calls, at_most}
 use Rattle.drm_timeline.specs.Numbers.{frame_count}
 use Rattle.drm_server.specs.Serving.{Serving}
 use Rattle.drm_server.specs.OneFrame.{SentFrame, SendsPartOfFrame}
-use Rattle.drm_server.specs.Datagrams.{AreOfFrames}
-use Rattle.drm_server.proofs.DatagramLemmas.{next_frame, at_frame}
-use Rattle.drm_server.specs.Rests.{MadeCalls, rests_before, rests_between}
+use Rattle.drm_server.specs.Datagrams.{AreFirst, AreOfFrames}
+use Rattle.drm_server.proofs.DatagramLemmas.{next_frame, first_length, at_frame}
+use Rattle.drm_server.specs.Rests.{MadeCalls, rests_before, rests_between, pause}
 use Rattle.drm_server.proofs.RestLemmas.{made_then, one_more_rest}
-use Rattle.drm_server.proofs.SendingLemmas.{then_sent, then_rested, part_sent, all_sent}
+use Rattle.drm_server.proofs.SendingLemmas.{then_sent, then_rested, then_paused, whole_frame_waited, part_sent, all_sent}
+use Rattle.drm_server.proofs.PaceLemmas.{waits_in, paced_frame}
 use Rattle.drm_server.proofs.send.serve_link.Goals as goal
 
 pub returns-in_err-sent-clause-part : goal.returns-in_err-sent-clause-part
@@ -22,7 +23,8 @@ returns-in_err-sent-clause-part g c =
     let P : Serving → Type 0 = λ s. Transmits (g.L.Link.known c.rest_between.new.link) (g.L.Link.known c.send_frame.new.link) (SendsPartOfFrame s.plan s.frame) in
     let part = subst P (at_frame c.loop-t.server c.load.new.self plan c.loop-t.t c.load.ensures i.6) c.in_err-sent.ensures.part in
     let rested : Transmits (g.L.Link.known c.args.link.now) (g.L.Link.known c.rest_between.new.link) (SendsAll i.0) = then_rested i.0 (g.L.Link.known c.args.link.now) (g.L.Link.known c.loop-t.link) (g.L.Link.known c.rest_between.new.link) i.2 c.rest_between.ensures.none in
-    rw p.1 (part_sent plan c.loop-t.t i.0 (g.L.Link.known c.args.link.now) (g.L.Link.known c.rest_between.new.link) (g.L.Link.known c.send_frame.new.link) (omega (arith, c.loop-t-test.true, c.frames-t-end.ensures.frames)) i.1 rested part)
+    let paused = then_paused i.10 (pause c.args.pace c.loop-t.t) (g.L.Link.known c.args.link.now) (g.L.Link.known c.loop-t.link) (g.L.Link.known c.rest_between.new.link) i.12 c.rest_between.ensures.waits in
+    rw p.1 (part_sent plan c.args.pace c.loop-t.t i.0 i.10 (g.L.Link.known c.args.link.now) (g.L.Link.known c.rest_between.new.link) (g.L.Link.known c.send_frame.new.link) (omega (arith, c.loop-t-test.true, c.frames-t-end.ensures.frames)) i.1 i.11 rested paused part)
 
 pub returns-in_err-sent-clause-calls : goal.returns-in_err-sent-clause-calls
 returns-in_err-sent-clause-calls g c =
@@ -45,6 +47,8 @@ loop-t-preserved g c =
     let pace = c.args.pace in
     let t = c.loop-t.t in
     let n = c.in_ok-sent.field-0 in
+    let paused = then_paused i.10 (pause pace t) (g.L.Link.known c.args.link.now) (g.L.Link.known c.loop-t.link) (g.L.Link.known c.rest_between.new.link) i.12 c.rest_between.ensures.waits in
+    let of_frame : AreFirst plan t n w.0 = subst (λ k. AreFirst plan t k w.0) (sym (first_length plan t w.1.0 w.0 w.1.2) ∙ sym w.2) w.1.2 in
     let rested_calls = made_then (c.loop-t.sent + rests_between pace t) (rests_before pace t) (c.loop-t.sent + rests_between pace t + rests_before pace t) (g.L.Link.known c.args.link.now) (g.L.Link.known c.loop-t.link) (g.L.Link.known c.rest_between.new.link) refl i.9 c.rest_between.ensures.rests in
     let few : 1025 * c.loop-t.t + 1 + 1024 ≤ 1025 * (c.loop-t.t + 1) = omega arith in (
       i.0 ++ w.0,
@@ -60,6 +64,9 @@ loop-t-preserved g c =
       omega (arith, i.8, c.in_ok-sent.ensures.few),
       made_then (c.loop-t.sent + rests_between pace t + rests_before pace t) n (c.loop-t.sent + n + rests_between pace (t + 1)) (g.L.Link.known c.args.link.now) (g.L.Link.known c.rest_between.new.link) (g.L.Link.known c.send_frame.new.link)
           (omega (arith, one_more_rest pace t)) rested_calls c.in_ok-sent.ensures.counted,
+      i.10 ++ waits_in pace t n,
+      paced_frame pace plan t i.0 i.10 i.1 i.11 n w.0 of_frame,
+      whole_frame_waited pace t n i.10 (g.L.Link.known c.args.link.now) (g.L.Link.known c.rest_between.new.link) (g.L.Link.known c.send_frame.new.link) c.in_ok-sent.ensures.some paused c.in_ok-sent.ensures.waits,
     )
 
 pub returns-clause-whole : goal.returns-clause-whole
@@ -67,7 +74,7 @@ returns-clause-whole g c =
     let i = c.loop-t.invariant in
     let plan : Plan = c.args.server.now.plan in
     let all : c.loop-t.t ≡ frame_count plan = omega (arith, c.loop-t-test.false, c.loop-t.auto.t-end, c.frames-t-end.ensures.frames) in
-    all_sent plan i.0 (g.L.Link.known c.args.link.now) (g.L.Link.known c.loop-t.link) (subst (λ k. AreOfFrames plan k i.0) all i.1) i.2
+    all_sent plan c.args.pace i.0 i.10 (g.L.Link.known c.args.link.now) (g.L.Link.known c.loop-t.link) (subst (λ k. AreOfFrames plan k i.0) all i.1) i.11 i.2 i.12
 
 pub returns-clause-count : goal.returns-clause-count
 returns-clause-count g c =

@@ -1,9 +1,9 @@
 use Rattle.std.proofs.Common.{◌≡◌, ◌+◌, ◌*◌, ◌≤◌, ℕ, List, length}
 use Rattle.drm_links.specs.Link.{Traffic}
 use Rattle.drm_links.specs.ManyCalls.{MakesCalls}
-use Rattle.drm_links.specs.Transmission.{Transmits, SendsAll}
+use Rattle.drm_links.specs.Transmission.{Transmits, SendsAll, Waits}
 use Rattle.drm_server.specs.Datagrams.{AreOfFrames}
-use Rattle.drm_server.specs.Rests.{MadeCalls, rests_between}
+use Rattle.drm_server.specs.Rests.{MadeCalls, rests_between, ArePaced}
 use Rattle.drm_server.proofs.send.serve_link.Given as goal
 
 -- the datagrams of the frames before this one were sent
@@ -18,3 +18,5 @@ invariant-loop-t g l =
     × (l.sent ≡ length datagrams)
     × (l.sent ≤ 1024 * l.t)
     × Transmits (g.L.Link.known l.fn.link) (g.L.Link.known l.link) (MadeCalls (l.sent + rests_between l.fn.pace l.t))
+    × (waits : List ℕ) × ArePaced l.fn.pace l.fn.server.plan datagrams waits
+    × Transmits (g.L.Link.known l.fn.link) (g.L.Link.known l.link) (Waits waits 0)

@@ -18,6 +18,7 @@ returns-in-Ok-insert-clause-put c =
       closed = entries_of c.self.inside.closed;
       failing = c.self.inside.failing.items;
       openings = c.self.inside.openings;
+      reaches = c.self.inside.reaches;
       calls = c.self.inside.calls;
       faults = c.self.inside.faults;
     })
@@ -31,6 +32,7 @@ returns-in-Ok-insert-clause-tells c =
       closed = entries_of c.self.inside.closed;
       failing = c.self.inside.failing.items;
       openings = c.self.inside.openings;
+      reaches = c.self.inside.reaches;
       calls = c.self.inside.calls;
       faults = c.self.inside.faults;
     } in

@@ -13,6 +13,7 @@ returns-in_default-clause-exact c =
         closed = entries_of c.self.inside.closed;
         failing = c.self.inside.failing.items;
         openings = c.saturating_add-self-inside.ensures i;
+        reaches = c.self.inside.reaches;
         calls = c.saturating_add-self-inside-2.ensures i;
         faults = c.saturating_add-self-inside-in_default.ensures i;
       },
@@ -31,6 +32,7 @@ returns-clause-exact c =
             closed = entries_of c.self.inside.closed;
             failing = c.self.inside.failing.items;
             openings = c.saturating_add-self-inside.ensures i;
+            reaches = c.self.inside.reaches;
             calls = c.saturating_add-self-inside-2.ensures i;
             faults = c.self.inside.faults;
           }),

@@ -3,4 +3,4 @@ use Rattle.drm_links.proofs.memory_dock.MemDockDock.bind.Goals as goal
 
 pub returns-clause-opened : goal.returns-clause-opened
 returns-clause-opened c =
-    leaves_told c.take_out.result c.args.at c.args.self.now c.take_out.new.self c.counted.ensures c.take_out.ensures.exact
+    leaves_told c.take_out.result c.args.at c.args.self.now c.take_out.new.self c.counted.ensures.openings c.take_out.ensures.exact

@@ -23,9 +23,11 @@ pub invariant_of-self-2 : goal.invariant_of-self-2
 invariant_of-self-2 c = (
   omega (arith, c.in-Ok.ensures.len, c.in-Ok.ensures.capacity, c.in-Some.ensures.cases),
   omega arith,
-  rw c.in-Some.ensures.rest (All-drop (λ bytes. length bytes ≤ longest_brought) 1 c.self.inside.coming.items c.self.invariant.2),
+  omega arith,
+  omega arith,
+  rw c.in-Some.ensures.rest (All-drop (λ bytes. length bytes ≤ longest_brought) 1 c.self.inside.coming.items c.self.invariant.4),
   omega arith,
   omega arith,
   rw (c.in-Ok.ensures.items, map-append)
-      (CameBefore-then _ c.self.inside.recvs c.self.inside.calls _ _ c.in-Some.bytes c.self.invariant.5 c.self.invariant.3 (omega arith) c.saturating_add-self-inside.ensures c.saturating_add-self-inside-2.ensures),
+      (CameBefore-then _ c.self.inside.recvs c.self.inside.calls _ _ c.in-Some.bytes c.self.invariant.7 c.self.invariant.5 (omega arith) c.saturating_add-self-inside.ensures c.saturating_add-self-inside-2.ensures),
 )
