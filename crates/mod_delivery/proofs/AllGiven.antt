@@ -7,7 +7,8 @@ use Rattle.std.proofs.lemmas.Bool.{eqb-true, leb-true, leb-false, le-leb, lt-leb
 use Rattle.std.proofs.lemmas.Option.{slice_get_within}
 use Rattle.drm_schedule.specs.declared.plan.Plan.{Plan}
 use Rattle.drm_schedule.specs.Valid.{IsSchedule}
-use Rattle.dcp_collect.specs.State.{reached, end_of}
+use Rattle.dcp_collect.specs.State.{reached}
+use Rattle.dcp_collect.specs.Numbers.{end_of}
 use Rattle.collect_laws.specs.Delivery.{number, is_number, is_at_least, got, newest_of}
 use Rattle.collect_laws.proofs.Got.{reached_is}
 use Rattle.drm_timeline.specs.Numbers.{frame_count}

@@ -8,7 +8,7 @@ use Rattle.std.proofs.lemmas.Option.{slice_get_past, slice_get_within}
 use Rattle.dcp_pft.specs.declared.shape.Shape.{Shape}
 use Rattle.dcp_pft.specs.Loss.{size, is_recoverable}
 use Rattle.dcp_collect.specs.Runs.{Item as Collected, Packet, Lost}
-use Rattle.dcp_collect.specs.State.{end_of}
+use Rattle.dcp_collect.specs.Numbers.{end_of}
 use Rattle.dcp_pft.specs.declared.carry.Carry.{Carry}
 use Rattle.dcp_pft.specs.Carrying.{shape_under}
 use Rattle.collect_laws.specs.Delivery.{got, number, is_number, is_at_least, packet_at, item_by, item, items, newest_of}
