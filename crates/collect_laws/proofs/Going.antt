@@ -6,7 +6,8 @@ use Rattle.std.proofs.lemmas.Bool.{ltb-true, ltb-false, or_cases}
 use Rattle.std.proofs.lemmas.List.{append-nil}
 use Rattle.std.proofs.lemmas.List.FromFn.{map-range_with_len_more}
 use Rattle.dcp_collect.specs.Fragments.{suffice, of_packet}
-use Rattle.dcp_collect.specs.State.{State, ready, ready_by, reached, after_item, end_of}
+use Rattle.dcp_collect.specs.State.{State, ready, ready_by, reached, after_item}
+use Rattle.dcp_collect.specs.Numbers.{end_of}
 use Rattle.dcp_collect.specs.Runs.{Item, Gives}
 use Rattle.dcp_pft.specs.declared.carry.Carry.{Carry}
 use Rattle.collect_laws.specs.Delivery.{packet_at, got, item}

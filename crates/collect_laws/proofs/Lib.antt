@@ -24,3 +24,4 @@ pub mod Brought
 pub mod SentInTime
 pub mod SentCollected
 pub mod Fit
+pub mod Refusals

@@ -4,7 +4,8 @@ use Rattle.std.specs.Prelude.{ℤ, pos, negsuc, unwrap_or}
 use Rattle.dcp_collect.specs.declared.taken.Taken.{Taken}
 use Rattle.dcp_collect.specs.declared.taken.Taken.TheVariants.{Kept, Repeated, Late, Refused, Inconsistent}
 use Rattle.dcp_collect.specs.Reading.{Incoming, Read, Unread, Brings}
-use Rattle.dcp_collect.specs.State.{State, answer, number_of, kept_at, after_answer, after_take, end_of}
+use Rattle.dcp_collect.specs.State.{State, answer, number_of, kept_at, after_answer, after_take}
+use Rattle.dcp_collect.specs.Numbers.{end_of}
 use Rattle.collect_laws.proofs.Reached.{end_more}
 
 -- P holds after an answer where it held before, and where it holds with the fragment kept

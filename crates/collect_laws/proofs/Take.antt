@@ -7,7 +7,8 @@ use Rattle.dcp_pft.specs.Loss.{size}
 use Rattle.dcp_collect.specs.declared.taken.Taken.TheVariants.{Repeated, Late}
 use Rattle.dcp_collect.specs.Fragments.{Fragment, agree, has_index, suffice, of_packet}
 use Rattle.dcp_collect.specs.Reading.{Incoming}
-use Rattle.dcp_collect.specs.State.{State, reached, is_late, answer_by, answer_at, insert_kept, newer, kept_at, after_answer, end_of}
+use Rattle.dcp_collect.specs.State.{State, reached, is_late, answer_by, answer_at, insert_kept, kept_at, after_answer}
+use Rattle.dcp_collect.specs.Numbers.{newer, end_of}
 use Rattle.dcp_pft.specs.declared.carry.Carry.{Carry}
 use Rattle.collect_laws.specs.Delivery.{packet_at, number, is_number, got, newer_number, newest_of}
 use Rattle.collect_laws.specs.Laws.{IsRight}

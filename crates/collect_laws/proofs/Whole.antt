@@ -10,7 +10,8 @@ use Rattle.dcp_pft.specs.Loss.{size}
 use Rattle.dcp_collect.specs.declared.taken.Taken.{Taken}
 use Rattle.dcp_collect.specs.declared.taken.Taken.TheVariants.{Kept}
 use Rattle.dcp_collect.specs.Reading.{Incoming, Brings}
-use Rattle.dcp_collect.specs.State.{State, made, number_of, answer, answer_at, after_answer, after_take, after_finish, end_of}
+use Rattle.dcp_collect.specs.State.{State, made, number_of, answer, answer_at, after_answer, after_take, after_finish}
+use Rattle.dcp_collect.specs.Numbers.{end_of}
 use Rattle.dcp_collect.specs.Runs.{Item, Takes, Gives, Steps, Run, up_to}
 use Rattle.dcp_pft.specs.declared.carry.Carry.{Carry}
 use Rattle.collect_laws.specs.Delivery.{packet_at, number, newest_of, item, items, IsWithinSpan, IsBase}

@@ -1,13 +1,14 @@
 -- The laws of collecting.
-use Rattle.std.specs.Prelude.{ℕ, ℤ, pos, ◌+ℤ◌, ◌*ℤ◌, ◌<ℤ◌, ◌≡◌, ◌+◌, ◌≤◌, List, ◌++◌, length, Option, None, Some}
+use Rattle.std.specs.Prelude.{ℕ, ℤ, pos, ◌+ℤ◌, ◌*ℤ◌, ◌<ℤ◌, ◌≡◌, ◌+◌, ◌≤◌, ◌↔◌, List, ◌++◌, length, Option, None, Some}
 use Rattle.std.specs.List.{AllByRecursion}
 use Rattle.drm_bits.specs.Bits.{IsBytes}
 use Rattle.dcp_pft.specs.Loss.{size}
+use Rattle.dcp_collect.specs.declared.taken.Field.{Field}
 use Rattle.dcp_collect.specs.declared.taken.Taken.{Taken}
-use Rattle.dcp_collect.specs.declared.taken.Taken.TheVariants.{Kept, Repeated, Late}
-use Rattle.dcp_collect.specs.Reading.{Read, IsRead}
+use Rattle.dcp_collect.specs.declared.taken.Taken.TheVariants.{Kept, Repeated, Late, Refused}
+use Rattle.dcp_collect.specs.Reading.{Read, Unread, IsRead}
 use Rattle.dcp_collect.specs.State.{State, nearest}
-use Rattle.dcp_collect.specs.Runs.{Item, Packet, Gives, Steps, Run}
+use Rattle.dcp_collect.specs.Runs.{Item, Packet, Takes, Gives, Steps, Run}
 use Rattle.dcp_pft.specs.declared.carry.Carry.{Carry}
 use Rattle.dcp_pft.specs.Carrying.{shape_under, losses}
 use Rattle.collect_laws.specs.Delivery.{AreSent, AreDelivered, packet_at, got, item, items, IsWithinSpan, IsBase}
@@ -38,6 +39,12 @@ IsRight Kept = Unit {0}
 IsRight Repeated = Unit {0}
 IsRight Late = Unit {0}
 IsRight other = ⊥
+
+-- Whether a datagram is refused, and why, lies in its bytes alone, whatever the collector; and the collector stays as it was.
+abbrev pub Refusing : Type 0
+Refusing =
+    (c after : State) (datagram : List ℕ) (taken : Taken) (cause : Field) → Takes c datagram taken after
+    → (IsRead (Unread cause) datagram ↔ (taken ≡ Refused cause)) × (taken ≡ Refused cause → after ≡ c)
 
 -- a delivery of sent packets, within the span
 pub record IsHeard (carry : Carry) (sequence0 : ℕ) (packets : List (List ℕ)) (first : Option ℕ) (base : ℤ) (pairs : List (ℕ × ℕ)) (datagrams : List (List ℕ)) : Type 0 where

@@ -1,6 +1,6 @@
 //! The laws of collecting, each on a function that does nothing.
 
-ghost use Rattle.collect_laws.specs.Laws.{OneNearest, OneReading, Collecting, InTime, OneRun, OneGiving, StepsJoin, StepsPart, StepsCount, GivingEnds};
+ghost use Rattle.collect_laws.specs.Laws.{OneNearest, OneReading, Refusing, Collecting, InTime, OneRun, OneGiving, StepsJoin, StepsPart, StepsCount, GivingEnds};
 
 /// A datagram is read as one thing.
 pub fn one_reading()
@@ -10,6 +10,11 @@ pub fn one_reading()
 /// A sequence number has one number near the newest.
 pub fn one_nearest()
     ensures { OneNearest }
+{}
+
+/// What one collector refuses, every collector refuses, and stays as it was.
+pub fn refusing()
+    ensures { Refusing }
 {}
 
 /// Every run gives the items of its delivery, each once and in order.

@@ -1,5 +1,6 @@
 pub mod Fragments
 pub mod Reading
+pub mod Numbers
 pub mod State
 pub mod Decoding
 pub mod Runs

@@ -1,5 +1,5 @@
 -- Where each frame is in time, all frames are given.
-use Rattle.std.proofs.Common.{ℕ, ◌≡◌, ◌+◌, ◌-◌, ◌*◌, ◌<◌, ◌≤◌, ◌⊎◌, inl, inr, Bool, true, false, cond, ◌&&◌, ◌||◌, eqb, List, [], ◌∷◌, length, Option, Some, None, refl, ap, ◌∙◌, arith}
+use Rattle.std.proofs.Common.{ℕ, ◌≡◌, ◌+◌, ◌-◌, ◌<◌, ◌≤◌, ◌⊎◌, inl, inr, Bool, true, false, cond, ◌&&◌, ◌||◌, eqb, List, [], ◌∷◌, length, Option, Some, None, refl, ap, ◌∙◌, arith}
 use Rattle.std.specs.Prelude.{ℤ, pos, negsuc}
 use Rattle.std.specs.List.{list_any}
 use Rattle.std.proofs.lemmas.Int.{ints}
@@ -7,16 +7,18 @@ use Rattle.std.proofs.lemmas.Bool.{eqb-true, leb-true, leb-false, le-leb, lt-leb
 use Rattle.std.proofs.lemmas.Option.{slice_get_within}
 use Rattle.drm_schedule.specs.declared.plan.Plan.{Plan}
 use Rattle.drm_schedule.specs.Valid.{IsSchedule}
-use Rattle.dcp_collect.specs.State.{reached, end_of}
+use Rattle.dcp_collect.specs.State.{reached}
+use Rattle.dcp_collect.specs.Numbers.{end_of}
 use Rattle.collect_laws.specs.Delivery.{number, is_number, is_at_least, got, newest_of}
 use Rattle.collect_laws.proofs.Got.{reached_is}
 use Rattle.drm_timeline.specs.Numbers.{frame_count}
-use Rattle.mod_delivery.specs.Sent.{AreSent, IsFollowed, IsInTime}
+use Rattle.std.specs.List.{AllZip}
+use Rattle.mod_delivery.specs.Sent.{Arrival, OfSchedule, Stray, IsArrival, pairs_in, IsFollowed, IsInTime}
 use Rattle.mod_delivery.specs.Laws.{AllFrames}
 use Rattle.mod_delivery.proofs.InTime.{given_in_time}
 use Rattle.mod_delivery.proofs.Needed.{some_got}
 
-number_ahead : (z : ℤ) (q : ℕ) → is_number z q ≡ true → is_at_least z q ≡ true
+pub number_ahead : (z : ℤ) (q : ℕ) → is_number z q ≡ true → is_at_least z q ≡ true
 number_ahead (pos n) q is = let same : n ≡ q = eqb-true n q is in le-leb q n (omega (arith, same))
 number_ahead (negsuc n) q is = is
 
@@ -43,39 +45,40 @@ from_first : (pair : ℕ × ℕ) → number (pos 0) pair ≡ pos pair.0
 from_first pair = omega (arith, ints)
 
 -- no pair is beyond the schedule
-none_beyond : (plan : Plan) (pairs : List (ℕ × ℕ)) (datagrams : List (List ℕ)) → AreSent plan pairs datagrams
-    → list_any (λ pair. is_at_least (number (pos 0) pair) (frame_count plan)) pairs ≡ false
+none_beyond : (plan : Plan) (arrivals : List Arrival) (datagrams : List (List ℕ)) → AllZip (IsArrival plan) arrivals datagrams
+    → list_any (λ pair. is_at_least (number (pos 0) pair) (frame_count plan)) (pairs_in arrivals) ≡ false
 none_beyond plan [] datagrams are = refl
-none_beyond plan (pair ∷ pairs) [] are = absurd are
-none_beyond plan (pair ∷ pairs) (datagram ∷ datagrams) are =
+none_beyond plan (arrival ∷ arrivals) [] are = absurd are
+none_beyond plan (Stray cause ∷ arrivals) (datagram ∷ datagrams) are = none_beyond plan arrivals datagrams are.1
+none_beyond plan (OfSchedule pair ∷ arrivals) (datagram ∷ datagrams) are =
     let within : pair.0 < frame_count plan = are.0.within in
     let here : is_at_least (number (pos 0) pair) (frame_count plan) ≡ false =
     ap (λ (z : ℤ). is_at_least z (frame_count plan)) (from_first pair) ∙ lt-leb (frame_count plan) pair.0 within in
-    ap (λ (b : Bool). b || list_any (λ (p : ℕ × ℕ). is_at_least (number (pos 0) p) (frame_count plan)) pairs) here ∙ none_beyond plan pairs datagrams are.1
+    ap (λ (b : Bool). b || list_any (λ (p : ℕ × ℕ). is_at_least (number (pos 0) p) (frame_count plan)) (pairs_in arrivals)) here ∙ none_beyond plan arrivals datagrams are.1
 
 ends_there : (newest : Option ℕ) (n : ℕ) → 1 ≤ n → reached newest (n - 1) ≡ true → reached newest n ≡ false → end_of None newest ≡ n
 ends_there None n some last none = absurd (let e : false ≡ true = last in cc)
 ends_there (Some m) n some last none = let low : n - 1 ≤ m = leb-true (n - 1) m last in let high : m < n = leb-false n m none in omega (arith, low, high, some)
 
 -- whether the number of items is told or not, they are as many as the schedule's frames
-all_many : (plan : Plan) (window : ℕ) (told : Option ℕ) (pairs : List (ℕ × ℕ)) (datagrams : List (List ℕ)) (first : Option ℕ)
-    → IsSchedule plan → (told ≡ None) ⊎ (told ≡ Some (frame_count plan)) → IsFollowed plan first (pos 0) pairs datagrams
-    → ((q : ℕ) → q < frame_count plan → IsInTime plan window (pos 0) pairs q) → end_of told (newest_of (pos 0) None pairs) ≡ frame_count plan
-all_many plan window told pairs datagrams first is (inr known) followed in_time = ap (λ (o : Option ℕ). end_of o (newest_of (pos 0) None pairs)) known
-all_many plan window told pairs datagrams first is (inl unknown) followed in_time =
+all_many : (plan : Plan) (window : ℕ) (told : Option ℕ) (arrivals : List Arrival) (datagrams : List (List ℕ)) (first : Option ℕ)
+    → IsSchedule plan → (told ≡ None) ⊎ (told ≡ Some (frame_count plan)) → IsFollowed plan first (pos 0) arrivals datagrams
+    → ((q : ℕ) → q < frame_count plan → IsInTime plan window (pos 0) (pairs_in arrivals) q) → end_of told (newest_of (pos 0) None (pairs_in arrivals)) ≡ frame_count plan
+all_many plan window told arrivals datagrams first is (inr known) followed in_time = ap (λ (o : Option ℕ). end_of o (newest_of (pos 0) None (pairs_in arrivals))) known
+all_many plan window told arrivals datagrams first is (inl unknown) followed in_time =
     let n : ℕ = frame_count plan in
     let some : 1 ≤ frame_count plan = omega (arith, is.in_lines.some_frames) in
     let last = in_time (n - 1) (omega (arith, some)) in
-    let one = some_got plan last.t (got window (pos 0) pairs (n - 1)) is last.enough in
-    let came : reached (newest_of (pos 0) None pairs) (n - 1) ≡ true = reached_is (pos 0) None pairs (n - 1) ∙ got_came window (pos 0) pairs (n - 1) one.0 one.1 in
-    let none : reached (newest_of (pos 0) None pairs) n ≡ false = reached_is (pos 0) None pairs n ∙ none_beyond plan pairs datagrams followed.sent in
-    ap (λ (o : Option ℕ). end_of o (newest_of (pos 0) None pairs)) unknown ∙ ends_there (newest_of (pos 0) None pairs) n some came none
+    let one = some_got plan last.t (got window (pos 0) (pairs_in arrivals) (n - 1)) is last.enough in
+    let came : reached (newest_of (pos 0) None (pairs_in arrivals)) (n - 1) ≡ true = reached_is (pos 0) None (pairs_in arrivals) (n - 1) ∙ got_came window (pos 0) (pairs_in arrivals) (n - 1) one.0 one.1 in
+    let none : reached (newest_of (pos 0) None (pairs_in arrivals)) n ≡ false = reached_is (pos 0) None (pairs_in arrivals) n ∙ none_beyond plan arrivals datagrams followed.arrive in
+    ap (λ (o : Option ℕ). end_of o (newest_of (pos 0) None (pairs_in arrivals))) unknown ∙ ends_there (newest_of (pos 0) None (pairs_in arrivals)) n some came none
 
 pub all_frames : AllFrames
-all_frames plan window told pairs datagrams first steps is known followed in_time given =
-    let many : length steps ≡ frame_count plan = given.many ∙ all_many plan window told pairs datagrams first is known followed in_time in (
+all_frames plan window told arrivals datagrams first steps is known followed in_time given =
+    let many : length steps ≡ frame_count plan = given.many ∙ all_many plan window told arrivals datagrams first is known followed in_time in (
       many,
       λ q step at.
           let within : q < length steps = slice_get_within steps q step at in
-          given_in_time plan window (pos 0) told pairs steps q step is given (in_time q (omega (arith, within, many))) at,
+          given_in_time plan window (pos 0) told (pairs_in arrivals) steps q step is given (in_time q (omega (arith, within, many))) at,
     )

@@ -1,5 +1,5 @@
 -- What a modulator gives of a delivery.
-use Rattle.std.proofs.Common.{ℕ, zero, suc, eq-eqb, ◌≡◌, inl, inr, ◌+◌, ◌*◌, ◌<◌, ◌==◌, ◌&&◌, ◌||◌, eqb, Bool, true, false, cond, if◌then◌else◌, List, [], ◌∷◌, length, slice_get, Option, Some, None, refl, sym, ap, subst, ◌∙◌, arith}
+use Rattle.std.proofs.Common.{ℕ, zero, suc, eq-eqb, ◌≡◌, inl, inr, ◌+◌, ◌<◌, ◌==◌, ◌&&◌, ◌||◌, eqb, Bool, true, false, cond, if◌then◌else◌, List, [], ◌∷◌, length, slice_get, Option, Some, None, refl, sym, ap, subst, ◌∙◌, arith}
 use Rattle.std.specs.Prelude.{ℤ, pos, negsuc, ◌+ℤ◌, ◌-ℤ◌}
 use Rattle.std.proofs.lemmas.Bool.{cases_lt, eqb-true, or_parts, le-ltb, true≢false}
 use Rattle.std.proofs.lemmas.Int.{ints}
@@ -8,7 +8,7 @@ use Rattle.std.proofs.lemmas.Option.{slice_get_past, slice_get_within}
 use Rattle.dcp_pft.specs.declared.shape.Shape.{Shape}
 use Rattle.dcp_pft.specs.Loss.{size, is_recoverable}
 use Rattle.dcp_collect.specs.Runs.{Item as Collected, Packet, Lost}
-use Rattle.dcp_collect.specs.State.{end_of}
+use Rattle.dcp_collect.specs.Numbers.{end_of}
 use Rattle.dcp_pft.specs.declared.carry.Carry.{Carry}
 use Rattle.dcp_pft.specs.Carrying.{shape_under}
 use Rattle.collect_laws.specs.Delivery.{got, number, is_number, is_at_least, packet_at, item_by, item, items, newest_of}
@@ -24,7 +24,7 @@ use Rattle.mod_feed.specs.Feeding.{FeedStep, Feeds, FeedTellsTheSwitches, after_
 use Rattle.mod_feed.proofs.ItemLemmas.{item_is_one}
 use Rattle.mod_delivery.specs.Sent.{shape_at, frame_at}
 use Rattle.mod_delivery.specs.Given.{IsServedWhere, IsItemBy, IsItemAt, AreGiven}
-use Rattle.mod_delivery.specs.Laws.{Delivering}
+use Rattle.mod_delivery.proofs.Paired.{DeliveringPairs}
 use Rattle.mod_delivery.proofs.Needed.{needed_of, some_needed, size_none}
 use Rattle.mod_delivery.proofs.Numbering.{frame_within}
 use Rattle.mod_delivery.proofs.Lengths.{af_long, packet_long}
@@ -59,7 +59,7 @@ got_cond false true index rest other none = absurd (other refl)
 got_cond false false index rest other none = none
 
 -- of a packet of which no datagram is among the pairs, none is got
-none_got : (window : ℕ) (base : ℤ) (pairs : List (ℕ × ℕ)) (q i t : ℕ) → (base +ℤ pos q) ≡ pos t → has t pairs ≡ false → got window base pairs q i ≡ false
+pub none_got : (window : ℕ) (base : ℤ) (pairs : List (ℕ × ℕ)) (q i t : ℕ) → (base +ℤ pos q) ≡ pos t → has t pairs ≡ false → got window base pairs q i ≡ false
 none_got window base [] q i t at none = refl
 none_got window base (pair ∷ pairs) q i t at none =
     let parts = or_parts (eqb pair.0 t) (has t pairs) none in
@@ -171,7 +171,7 @@ given_of_items plan window base told pairs packets steps after switches is are f
     }
 
 -- a collector and a feed give what the delivery calls for
-pub delivering : Collecting → FeedTellsTheSwitches → Delivering
+pub delivering : Collecting → FeedTellsTheSwitches → DeliveringPairs
 delivering collecting switches plan window first told base pairs datagrams answers collected steps after is some followed run feeds =
     let made = some_packets plan pairs datagrams followed.sent in
     let packets : List (List ℕ) = made.0 in

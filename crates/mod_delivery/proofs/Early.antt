@@ -16,8 +16,8 @@ use Rattle.collect_laws.specs.Laws.{IsRight, OneReading, StepsJoin, IsFit, Givin
 use Rattle.collect_laws.proofs.Fit.{fit_after, fit_given}
 use Rattle.collect_laws.proofs.Sent.{BringsPair}
 use Rattle.collect_laws.proofs.Brought.{all_brought}
-use Rattle.mod_delivery.specs.Sent.{AreSent, IsFollowed}
-use Rattle.mod_delivery.specs.Laws.{Delivering, DeliveringEarly, NoneRefused}
+use Rattle.mod_delivery.specs.Sent.{AreSent}
+use Rattle.mod_delivery.proofs.Paired.{IsPaired, DeliveringPairs, PairsEarly, PairsRight}
 use Rattle.mod_delivery.proofs.Bytes.{carried_bytes}
 use Rattle.mod_delivery.proofs.Packets.{IsChosen, ArePackets, some_packets, chosen_at, all_sent, delivered, filler}
 
@@ -42,15 +42,15 @@ module _ (one_reading : OneReading) where
       fit_steps mid d datagrams answers later brought.1 steps (fit_given now kept mid gives (fit_taken c kept datagram a brought.0 takes fit))
 
 -- Steps over these datagrams, which there are.
-record GoesOn (c : State) (datagrams : List (List ℕ)) : Type 0 where
-  answers : List Taken
-  given : List Collected
-  after : State
-  steps : Steps c datagrams answers given after
-  fit : IsFit after
+pub record GoesOn (c : State) (datagrams : List (List ℕ)) : Type 0 where
+  pub answers : List Taken
+  pub given : List Collected
+  pub after : State
+  pub steps : Steps c datagrams answers given after
+  pub fit : IsFit after
 
 module _ (giving_ends : GivingEnds) where
-  goes_on : (c : State) (datagrams : List (List ℕ)) → AllByRecursion IsBrought datagrams → IsFit c → GoesOn c datagrams
+  pub goes_on : (c : State) (datagrams : List (List ℕ)) → AllByRecursion IsBrought datagrams → IsFit c → GoesOn c datagrams
   goes_on c [] brought fit = record { answers = []; given = []; after = c; steps = (refl, refl); fit = fit }
   goes_on c (datagram ∷ datagrams) brought fit =
       let read : Read = Brings brought.0.incoming in
@@ -128,7 +128,7 @@ whole_run steps_join giving_ends window n first datagrams later answers collecte
     )
 
 -- the datagrams of a schedule bring bytes
-all_brought_of : (plan : Plan) (pairs : List (ℕ × ℕ)) (datagrams : List (List ℕ)) → IsSchedule plan → AreSent plan pairs datagrams → AllByRecursion IsBrought datagrams
+pub all_brought_of : (plan : Plan) (pairs : List (ℕ × ℕ)) (datagrams : List (List ℕ)) → IsSchedule plan → AreSent plan pairs datagrams → AllByRecursion IsBrought datagrams
 all_brought_of plan pairs datagrams is sent =
     let found = some_packets plan pairs datagrams sent in
     let packets : List (List ℕ) = found.0 in
@@ -137,9 +137,9 @@ all_brought_of plan pairs datagrams is sent =
     all_bytes carry plan.seq packets (λ p packet at. chosen_bytes plan pairs p packet (chosen_at plan is pairs packets are p packet at).1) pairs datagrams
     (all_brought carry plan.seq packets (all_sent plan is pairs packets are) pairs datagrams (delivered plan is pairs packets are datagrams sent))
 
-module _ (delivering : Delivering) (one_reading : OneReading) (steps_join : StepsJoin) (giving_ends : GivingEnds) where
+module _ (delivering : DeliveringPairs) (one_reading : OneReading) (steps_join : StepsJoin) (giving_ends : GivingEnds) where
   run_on : (plan : Plan) (window n : ℕ) (first : Option ℕ) (base : ℤ) (pairs : List (ℕ × ℕ)) (datagrams later : List (List ℕ)) (answers : List Taken) (collected : List Collected) (mid : State)
-      → IsSchedule plan → 1 ≤ window → IsFollowed plan first base pairs (datagrams ++ later) → Steps (made window first) datagrams answers collected mid → n ≤ length collected
+      → IsSchedule plan → 1 ≤ window → IsPaired plan first base pairs (datagrams ++ later) → Steps (made window first) datagrams answers collected mid → n ≤ length collected
       → (more : List Taken) × Run window first (Some n) (datagrams ++ later) (answers ++ more) (take n collected)
   run_on plan window n first base pairs datagrams later answers collected mid is some followed before enough =
       let brought : AllByRecursion IsBrought (datagrams ++ later) = all_brought_of plan pairs (datagrams ++ later) is followed.sent in
@@ -147,14 +147,14 @@ module _ (delivering : Delivering) (one_reading : OneReading) (steps_join : Step
       whole_run steps_join giving_ends window n first datagrams later answers collected mid before enough (all_behind datagrams later brought) fit
 
   -- those that are given early are those of the whole delivery
-  pub delivering_early : DeliveringEarly
-  delivering_early plan window n first base pairs datagrams later answers collected mid steps after is some followed before enough feeds =
+  pub pairs_early : PairsEarly
+  pairs_early plan window n first base pairs datagrams later answers collected mid steps after is some followed before enough feeds =
       let whole = run_on plan window n first base pairs datagrams later answers collected mid is some followed before enough in
       (delivering plan window first (Some n) base pairs (datagrams ++ later) (answers ++ whole.0) (take n collected) steps after is some followed whole.1 feeds).0
 
   -- and no datagram is refused
-  pub none_refused : NoneRefused
-  none_refused plan window first base pairs datagrams later answers collected mid is some followed before =
+  pub pairs_right : PairsRight
+  pairs_right plan window first base pairs datagrams later answers collected mid is some followed before =
       let whole = run_on plan window 0 first base pairs datagrams later answers collected mid is some followed before (omega arith) in
       let law = delivering plan window first (Some 0) base pairs (datagrams ++ later) (answers ++ whole.0) (take 0 collected) [] new_tracker is some followed whole.1 refl in
       all_front IsRight answers whole.0 law.1

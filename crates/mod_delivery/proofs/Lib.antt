@@ -12,3 +12,7 @@ pub mod Packets
 pub mod Delivered
 pub mod Bytes
 pub mod Early
+pub mod Paired
+pub mod Strays
+pub mod ServedFrames
+pub mod AllAtOnce

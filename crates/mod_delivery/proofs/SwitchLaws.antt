@@ -22,6 +22,7 @@ use Rattle.mod_delivery.specs.Laws.{SwitchesAtStarts, AllSwitches}
 use Rattle.mod_delivery.specs.Given.{AreGiven, AreAllServed}
 use Rattle.mod_delivery.proofs.Places.{map_at, there_at, length_mapped}
 use Rattle.mod_delivery.proofs.Seeing.{frame_seen, seen_of}
+use Rattle.mod_delivery.proofs.ServedFrames.{all_served}
 
 pub announces : (plan : Plan) → IsSchedule plan → AnnouncesStarts plan
 announces plan is = announces_starts plan is (all_faultless plan 0 None plan.configs is.valid)
@@ -93,12 +94,14 @@ module _ (plan : Plan) (window b : ℕ) (base : ℤ) (told : Option ℕ) (pairs 
       resumes_nowhere plan (announces plan is) b (all_seen steps) q all_are_seen none_missing (given.before q (Some (Resumed p)) told_is).1
 
 pub all_switches : AllSwitches
-all_switches plan window base told pairs steps is given served = (
+all_switches plan window base told pairs steps is given frames = (
   λ start q contains at above within.
+      let served = all_served plan window base told pairs steps given frames in
       let first = first_place plan base steps served (omega (arith, within)) in
       told_there plan window first.0 base told pairs steps is given served first.1 q within
       (switches_there plan window first.0 base told pairs steps is given served first.1 start q contains at above within),
   λ q p told_is.
+      let served = all_served plan window base told pairs steps given frames in
       let within : q < length (told_before steps) = slice_get_within (told_before steps) q (Some (Resumed p)) told_is in
       let count : length (told_before steps) ≡ length steps = length_mapped (λ (s : FeedStep). s.before) steps in
       let first = first_place plan base steps served (omega (arith, within, count)) in

@@ -6,9 +6,9 @@ use Rattle.drm_switches.specs.Switches.{StandsBefore}
 use Rattle.drm_timeline.specs.Starts.{IsFirstFrame}
 use Rattle.dcp_pft.specs.Loss.{size, is_recoverable}
 use Rattle.mdi_items.specs.RoundTrip.{Parts, IsWrittenOf, IsFrameOf}
-use Rattle.dcp_collect.specs.State.{end_of}
+use Rattle.dcp_collect.specs.Numbers.{end_of}
 use Rattle.collect_laws.specs.Delivery.{got, newest_of}
-use Rattle.mod_feed.specs.Items.{Item, Frame, Missing}
+use Rattle.mod_feed.specs.Items.{Item, Frame, Missing, Bad}
 use Rattle.mod_feed.specs.Feeding.{FeedStep, told_before, all_seen}
 use Rattle.drm_server.specs.Frames.{IsFrameAt}
 use Rattle.mod_delivery.specs.Sent.{shape_at, frame_of_number}
@@ -54,3 +54,12 @@ IsStart plan base q = (t : ℕ) × ((base +ℤ pos q) ≡ pos t) × IsFirstFrame
 abbrev pub AreAllServed : Plan → ℤ → List FeedStep → Type 0
 AreAllServed plan base steps =
     (q : ℕ) (step : FeedStep) → slice_get steps q ≡ Some step → (t : ℕ) × ((base +ℤ pos q) ≡ pos t) × IsServed plan t q step.item
+
+abbrev pub IsAFrame : Item → Type 0
+IsAFrame (Frame q frame payload) = Unit {0}
+IsAFrame (Missing q had total) = ⊥
+IsAFrame (Bad q fault) = ⊥
+
+-- none of these is missing
+abbrev pub AreAllFrames : List FeedStep → Type 0
+AreAllFrames steps = (q : ℕ) (step : FeedStep) → slice_get steps q ≡ Some step → IsAFrame step.item

@@ -1,8 +1,8 @@
 //! Laws from what is sent to what is given, each on a function that does nothing.
 
-ghost use Rattle.mod_delivery.specs.Laws.{Delivering, DeliveringEarly, NoneRefused, GivenInTime, SwitchesAtStarts, AllSwitches, AllFrames};
+ghost use Rattle.mod_delivery.specs.Laws.{Delivering, DeliveringEarly, StraysRefused, GivenInTime, SwitchesAtStarts, AllSwitches, AllFrames, AllAtOnce};
 
-use collect_laws::{collecting, giving_ends, one_reading, steps_join};
+use collect_laws::{collecting, giving_ends, one_reading, refusing, steps_join};
 use mod_feed::the_feed_tells_the_switches;
 
 /// Whatever comes of a schedule's datagrams, a collector and a feed give what the delivery calls for.
@@ -11,23 +11,28 @@ pub fn modulators_give()
 {
     collecting();
     the_feed_tells_the_switches();
+    refusing();
 }
 
 /// What they have given of a front of a delivery is what the whole delivery calls for.
 pub fn modulators_give_early()
     ensures { DeliveringEarly }
 {
-    modulators_give();
+    collecting();
+    the_feed_tells_the_switches();
+    refusing();
     one_reading();
     steps_join();
     giving_ends();
 }
 
-/// Of a front of a delivery no datagram was refused either.
-pub fn no_datagram_is_refused()
-    ensures { NoneRefused }
+/// Of a front of a delivery the strays alone were refused, too.
+pub fn strays_are_refused()
+    ensures { StraysRefused }
 {
-    modulators_give();
+    collecting();
+    the_feed_tells_the_switches();
+    refusing();
     one_reading();
     steps_join();
     giving_ends();
@@ -52,3 +57,11 @@ pub fn all_switches_are_told()
 pub fn all_frames_are_given()
     ensures { AllFrames }
 {}
+
+/// And all of them were given with the last datagram.
+pub fn all_frames_are_given_at_once()
+    ensures { AllAtOnce }
+{
+    collecting();
+    giving_ends();
+}

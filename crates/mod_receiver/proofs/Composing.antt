@@ -1,49 +1,52 @@
 -- From a delivery of a schedule to the report of it, by the laws of deliveries.
-use Rattle.std.proofs.Common.{◌≡◌, ℕ, suc, ◌+◌, ◌*◌, ◌<◌, ◌≤◌, ◌⊎◌, inl, inr, Bool, true, ◌&&◌, List, [], ◌∷◌, ◌++◌, length, take, drop, slice_get, Option, None, Some, refl, sym, ◌∙◌, ap, ap₂, subst, arith}
+use Rattle.std.proofs.Common.{◌≡◌, ℕ, suc, ◌+◌, ◌<◌, ◌≤◌, ◌⊎◌, inl, inr, Bool, true, ◌&&◌, List, [], ◌∷◌, ◌++◌, length, take, drop, slice_get, Option, None, Some, refl, sym, ◌∙◌, ap, ap₂, subst, arith}
 use Rattle.std.specs.Prelude.{ℤ, pos}
-use Rattle.std.specs.List.{AllByRecursion, AllZip}
-use Rattle.std.proofs.lemmas.List.{take-append-drop, take-append-le}
+use Rattle.std.specs.List.{AllZip}
+use Rattle.std.proofs.lemmas.List.{append-nil, append_cancel_right, take-append-drop, take-append-le}
 use Rattle.std.proofs.lemmas.List.Elements.{filter_map-append}
 use Rattle.drm_schedule.specs.declared.plan.Plan.{Plan}
 use Rattle.drm_schedule.specs.Valid.{IsSchedule}
 use Rattle.drm_links.specs.Told.{Known, BothTold}
-use Rattle.drm_links.specs.Link.{Answer, Traffic, datagram_of}
+use Rattle.drm_links.specs.Link.{Answer, Failed, Traffic, datagram_of}
 use Rattle.drm_links.specs.Sink.{Output, Outputs}
 use Rattle.drm_links.proofs.ToldLemmas.{Outputs-weaker}
 use Rattle.dcp_collect.specs.declared.taken.Taken.{Taken}
 use Rattle.dcp_collect.specs.declared.taken.Taken.TheVariants.{Kept, Repeated, Late, Refused, Inconsistent}
-use Rattle.dcp_collect.specs.State.{State, made}
-use Rattle.dcp_collect.specs.Runs.{Item as Given, Steps, Run, up_to}
-use Rattle.collect_laws.specs.Laws.{IsRight}
-use Rattle.collect_laws.specs.Delivery.{IsWithinSpan, IsBase, number, newer_number}
-use Rattle.drm_switches.specs.Tracker.{TrackerState, new_tracker}
+use Rattle.dcp_collect.specs.State.{made}
+use Rattle.dcp_collect.specs.Runs.{Item as Given, up_to}
+use Rattle.drm_switches.specs.Tracker.{new_tracker}
 use Rattle.mod_feed.specs.Items.{Item}
 use Rattle.mod_feed.specs.Feeding.{FeedStep, Feeds}
 use Rattle.drm_timeline.specs.Numbers.{frame_count}
-use Rattle.mod_delivery.specs.Sent.{IsSent, IsFollowed, IsInTime}
+use Rattle.mod_delivery.specs.Sent.{Arrival, OfSchedule, Stray, pairs_in, IsFollowed, IsInTime}
 use Rattle.mod_delivery.specs.Given.{IsServed, AreGiven, AreAllServed}
-use Rattle.mod_delivery.specs.Laws.{Delivering, DeliveringEarly, GivenInTime, SwitchesAtStarts, AllSwitches, AllFrames}
+use Rattle.mod_delivery.specs.Laws.{Suits, Delivering, DeliveringEarly, StraysRefused, GivenInTime, SwitchesAtStarts, AllSwitches, AllFrames}
 use Rattle.drm_show.specs.declared.report.EndWord.{EndWord}
 use Rattle.drm_show.specs.declared.report.EndWord.TheVariants as word
 use Rattle.mod_receiver.specs.declared.rules.Rules.{Rules}
 use Rattle.mod_receiver.specs.Hearing.{AreNext, HeardTold}
-use Rattle.mod_receiver.specs.Reading.{datagrams, HasGiven, Holds, EndsBy, IsFinished}
-use Rattle.mod_receiver.specs.Reports.{is_given, refusals_from, refusals, report, is_clean}
+use Rattle.mod_receiver.specs.Reading.{datagrams, HasGiven, Holds, EndsBy, GoesOn, IsFinished}
+use Rattle.mod_receiver.specs.Reports.{is_given, refusals_from, report, is_clean}
 use Rattle.mod_receiver.specs.Received.{IsReport, Reported}
-use Rattle.mod_receiver.specs.Headline.{TellsSwitches, GivesInTime, HeadlineOf, untold, WouldBeRead, ModulatesAll, Came, CompleteOf, Headline, Complete}
+use Rattle.mod_receiver.specs.Headline.{strays_from, TellsSwitches, GivesInTime, HeadlineOf, untold, WouldBeRead, ModulatesAll, Came, CompleteOf, Headline, Complete}
 use Rattle.mod_receiver.specs.Following.{HeadlinesFollow, CompletesFollow}
 use Rattle.mod_receiver.proofs.Reaching.{one_way}
-use Rattle.mod_receiver.proofs.OneReading.{next_front, not_shorter, same_answers, three}
+use Rattle.mod_receiver.proofs.OneReading.{next_front, not_shorter, same_answers, three, next_split, goes_past}
 
--- ---- no datagram was refused
+-- ---- the strays alone were refused
 
-pub none_refused : (n : ℕ) (taken : List Taken) → AllByRecursion IsRight taken → refusals_from n taken ≡ []
-none_refused n [] right = refl
-none_refused n (Kept ∷ taken) right = none_refused (n + 1) taken right.1
-none_refused n (Repeated ∷ taken) right = none_refused (n + 1) taken right.1
-none_refused n (Late ∷ taken) right = none_refused (n + 1) taken right.1
-none_refused n (Refused field ∷ taken) right = absurd right.0
-none_refused n (Inconsistent kept came ∷ taken) right = absurd right.0
+pub strays_noted : (n : ℕ) (arrivals : List Arrival) (taken : List Taken) → AllZip Suits arrivals taken → refusals_from n taken ≡ strays_from n arrivals
+strays_noted n [] [] suit = refl
+strays_noted n [] (a ∷ taken) suit = absurd suit
+strays_noted n (x ∷ arrivals) [] suit = absurd suit
+strays_noted n (OfSchedule pair ∷ arrivals) (Kept ∷ taken) suit = strays_noted (n + 1) arrivals taken suit.1
+strays_noted n (OfSchedule pair ∷ arrivals) (Repeated ∷ taken) suit = strays_noted (n + 1) arrivals taken suit.1
+strays_noted n (OfSchedule pair ∷ arrivals) (Late ∷ taken) suit = strays_noted (n + 1) arrivals taken suit.1
+strays_noted n (OfSchedule pair ∷ arrivals) (Refused field ∷ taken) suit = absurd suit.0
+strays_noted n (OfSchedule pair ∷ arrivals) (Inconsistent kept came ∷ taken) suit = absurd suit.0
+strays_noted n (Stray cause ∷ arrivals) (a ∷ taken) suit =
+    ap (λ x. refusals_from n (x ∷ taken)) suit.0
+    ∙ ap (λ l. record { number = n; taken = Refused cause } ∷ l) (strays_noted (n + 1) arrivals taken suit.1)
 
 -- ---- the laws of deliveries
 
@@ -71,63 +74,19 @@ gives_in_time laws plan window base told pairs steps schedule given = λ q step 
 -- what is reported of a delivery is what it calls for
 pub headline : Delivering → ItemLaws → (rules : Rules) (feed : ℕ) (answers : List Answer) (text : List ℕ) (clean : Bool) → 1 ≤ rules.window
     → IsReport rules feed answers text clean → HeadlineOf rules feed answers text clean
-headline law laws rules feed answers text clean some r plan base pairs schedule followed =
-    let (given, right) = law plan rules.window rules.first rules.frames base pairs (datagrams answers) r.taken r.items r.steps r.after schedule some followed r.run r.feeds in
+headline law laws rules feed answers text clean some r plan base arrivals schedule followed =
+    let (given, suit) = law plan rules.window rules.first rules.frames base arrivals (datagrams answers) r.taken r.items r.steps r.after schedule some followed r.run r.feeds in
+    let pairs = pairs_in arrivals in
     record {
       steps = r.steps;
       given = given;
       in_time = gives_in_time laws plan rules.window base rules.frames pairs r.steps schedule given;
       switches = tells_switches laws plan rules.window base rules.frames pairs r.steps schedule given;
       word = r.word;
-      text_is = r.text_is ∙ ap (λ l. report feed r.steps l r.word) (none_refused 0 r.taken right);
+      reading = r.reading;
+      text_is = r.text_is ∙ ap (λ l. report feed r.steps l r.word) (strays_noted 0 arrivals r.taken suit);
       clean_is = r.clean_is;
     }
-
--- ---- a front of a delivery
-
-front_sent : (plan : Plan) (ds later : List (List ℕ)) (pairs : List (ℕ × ℕ)) → AllZip (IsSent plan) pairs (ds ++ later)
-    → (front : List (ℕ × ℕ)) × (back : List (ℕ × ℕ)) × (pairs ≡ front ++ back) × AllZip (IsSent plan) front ds
-front_sent plan [] later pairs all = ([], pairs, refl, tt)
-front_sent plan (d ∷ ds) later [] all = absurd all
-front_sent plan (d ∷ ds) later (p ∷ pairs) all =
-    let (front, back, are, sent) = front_sent plan ds later pairs all.1 in
-    (p ∷ front, back, ap (λ l. p ∷ l) are, (all.0, sent))
-
-span_front : (base : ℤ) (newest : Option ℕ) (front back : List (ℕ × ℕ)) → IsWithinSpan base newest (front ++ back) → IsWithinSpan base newest front
-span_front base newest [] back within = tt
-span_front base newest (p ∷ front) back within = (within.0, within.1, span_front base (newer_number newest (number base p)) front back within.2)
-
-base_front : (sequence0 : ℕ) (first : Option ℕ) (p : ℕ × ℕ) (front back : List (ℕ × ℕ)) (base : ℤ) → IsBase sequence0 first ((p ∷ front) ++ back) base → IsBase sequence0 first (p ∷ front) base
-base_front sequence0 (Some first) p front back base is = is
-base_front sequence0 None p front back base is = is
-
--- a front of a delivery that isn't empty is one
-followed_front : (plan : Plan) (first : Option ℕ) (base : ℤ) (pairs : List (ℕ × ℕ)) (d : List ℕ) (ds later : List (List ℕ))
-    → IsFollowed plan first base pairs ((d ∷ ds) ++ later) → (front : List (ℕ × ℕ)) × IsFollowed plan first base front (d ∷ ds)
-followed_front plan first base [] d ds later f = absurd f.sent
-followed_front plan first base (p ∷ pairs) d ds later f =
-    let (front, back, are, sent) = front_sent plan ds later pairs f.sent.1 in
-    let whole : p ∷ pairs ≡ (p ∷ front) ++ back = ap (λ l. p ∷ l) are in (
-      p ∷ front,
-      record {
-        sent = (f.sent.0, sent);
-        based = base_front plan.seq first p front back base (subst (λ l. IsBase plan.seq first l base) whole f.based);
-        within_span = span_front base None (p ∷ front) back (subst (λ l. IsWithinSpan base None l) whole f.within_span);
-      },
-    )
-
-no_steps : (c d : State) (taken : List Taken) (items : List Given) → Steps c [] taken items d → taken ≡ []
-no_steps c d [] items s = refl
-no_steps c d (a ∷ taken) items s = absurd s
-
--- no datagram of a front of a delivery is refused
-front_right : Delivering → (plan : Plan) (window : ℕ) (first told : Option ℕ) (base : ℤ) (pairs : List (ℕ × ℕ)) (ds later : List (List ℕ)) (taken : List Taken) (items : List Given) (steps : List FeedStep) (after : TrackerState)
-    → IsSchedule plan → 1 ≤ window → IsFollowed plan first base pairs (ds ++ later) → Run window first told ds taken items → Feeds new_tracker items steps after → refusals taken ≡ []
-front_right law plan window first told base pairs [] later taken items steps after schedule some f run feeds =
-    ap refusals (no_steps (made window first) run.mid taken run.during run.steps)
-front_right law plan window first told base pairs (d ∷ ds) later taken items steps after schedule some f run feeds =
-    let (front, followed) = followed_front plan first base pairs d ds later f in
-    none_refused 0 taken (law plan window first told base front (d ∷ ds) taken items steps after schedule some followed run feeds).1
 
 -- ---- all frames are given
 
@@ -143,19 +102,23 @@ served_clean : (plan : Plan) (base : ℤ) (steps : List FeedStep) → AreAllServ
 served_clean plan base steps all = all_given steps (λ q step e. let (t, is, served) = all q step e in served_given plan t q step.item served)
 
 -- what is known of the frames makes the text that of all frames
-modulates_all : AllFrames → ItemLaws → (plan : Plan) (rules : Rules) (told : Option ℕ) (feed : ℕ) (answers : List Answer) (pairs : List (ℕ × ℕ)) (ds : List (List ℕ)) (text : List ℕ) (clean : Bool) (r : IsReport rules feed answers text clean)
-    → IsSchedule plan → (told ≡ None) ⊎ (told ≡ Some (frame_count plan)) → IsFollowed plan rules.first (pos 0) pairs ds
-    → ((q : ℕ) → q < frame_count plan → IsInTime plan rules.window (pos 0) pairs q)
-    → AreGiven plan rules.window (pos 0) told pairs r.steps → refusals r.taken ≡ [] → ModulatesAll plan feed text clean
-modulates_all law laws plan rules told feed answers pairs ds text clean r schedule known followed in_time given none =
-    let (many, all) = law plan rules.window told pairs ds rules.first r.steps schedule known followed in_time given in
+modulates_all : AllFrames → ItemLaws → (plan : Plan) (rules : Rules) (told : Option ℕ) (feed : ℕ) (ahead rest answers : List Answer) (arrivals : List Arrival) (ds : List (List ℕ)) (text : List ℕ) (clean : Bool)
+    → AreNext ahead answers rest → (r : IsReport rules feed answers text clean)
+    → IsSchedule plan → (told ≡ None) ⊎ (told ≡ Some (frame_count plan)) → IsFollowed plan rules.first (pos 0) arrivals ds
+    → ((q : ℕ) → q < frame_count plan → IsInTime plan rules.window (pos 0) (pairs_in arrivals) q)
+    → AreGiven plan rules.window (pos 0) told (pairs_in arrivals) r.steps → AllZip Suits (take (length (datagrams answers)) arrivals) r.taken
+    → ModulatesAll plan rules feed arrivals ahead text clean
+modulates_all law laws plan rules told feed ahead rest answers arrivals ds text clean next r schedule known followed in_time given suit =
+    let (many, all) = law plan rules.window told arrivals ds rules.first r.steps schedule known followed in_time given in
     record {
       steps = r.steps;
       many = many;
       all = all;
-      switches = tells_switches laws plan rules.window (pos 0) told pairs r.steps schedule given;
+      switches = tells_switches laws plan rules.window (pos 0) told (pairs_in arrivals) r.steps schedule given;
       word = r.word;
-      text_is = r.text_is ∙ ap (λ l. report feed r.steps l r.word) none;
+      answers = answers;
+      reading = record { rest = rest; next = next; ends = r.reading };
+      text_is = r.text_is ∙ ap (λ l. report feed r.steps l r.word) (strays_noted 0 (take (length (datagrams answers)) arrivals) r.taken suit);
       clean_is = r.clean_is ∙ served_clean plan (pos 0) r.steps all;
     }
 
@@ -184,78 +147,112 @@ same_untold rules ahead r s xs ys v w p q f g h =
       ]
     ]
 
-rest_of : (rules : Rules) (ahead r s : List Answer) (xs ys : List Answer) (v w : EndWord) → AreNext ahead xs r → AreNext ahead ys s → IsFinished rules xs v → IsFinished (untold rules) ys w → (later : List Answer) × (ys ≡ xs ++ later)
-rest_of rules ahead r s xs ys v w p q f g =
-    elim (three (length xs) (length ys)) [
-      | inl l ↦ from (omega (arith, l))
+-- a list of answers that isn't longer than another one is its front
+front_of : (ahead r s : List Answer) (xs ys : List Answer) → AreNext ahead xs r → AreNext ahead ys s → length xs ≤ length ys → (later : List Answer) × (ys ≡ xs ++ later)
+front_of ahead r s xs ys p q l =
+    let e : xs ≡ take (length xs) ys = next_front ahead r s xs ys p q l in
+    (drop (length xs) ys, sym (take-append-drop (length xs) ys) ∙ ap (λ z. z ++ drop (length xs) ys) (sym e))
+
+-- what is read is a front of what would be
+read_front : (rules : Rules) (ahead rest : List Answer) (answers others : List Answer) (w : EndWord) → AreNext ahead answers rest → IsFinished rules answers w → WouldBeRead rules ahead others
+    → (later : List Answer) × (others ≡ answers ++ later)
+read_front rules ahead rest answers others w next f (inl (v, of)) =
+    elim (three (length answers) (length others)) [
+      | inl l ↦ front_of ahead rest of.rest answers others next of.next (omega (arith, l))
       | inr k ↦ elim k [
-        | inl l ↦ absurd (no_longer rules ahead r s xs ys v w p q f g l)
-        | inr e ↦ from (omega (arith, e))
+        | inl l ↦ absurd (no_longer rules ahead rest of.rest answers others w v next of.next f of.ends l)
+        | inr e ↦ front_of ahead rest of.rest answers others next of.next (omega (arith, e))
       ]
     ]
-  where
-    from : length xs ≤ length ys → (later : List Answer) × (ys ≡ xs ++ later)
-    from l =
-        let e : xs ≡ take (length xs) ys = next_front ahead r s xs ys p q l in
-        (drop (length xs) ys, sym (take-append-drop (length xs) ys) ∙ ap (λ z. z ++ drop (length xs) ys) (sym e))
+read_front rules ahead rest answers others w next f (inr (told, of)) =
+    let half = next_split ahead of.rest others (Failed ∷ []) of.next in
+    elim (three (length answers) (length others)) [
+      | inl l ↦ front_of ahead rest half.0 answers others next half.1 (omega (arith, l))
+      | inr k ↦ elim k [
+        | inl l ↦ absurd (goes_past rules ahead rest of.rest answers others next of.next f.goes_on l)
+        | inr e ↦ front_of ahead rest half.0 answers others next half.1 (omega (arith, e))
+      ]
+    ]
+
+-- where it doesn't end by the told number, it is all of that
+read_all : (rules : Rules) (ahead rest : List Answer) (answers others : List Answer) (w : EndWord) → AreNext ahead answers rest → IsFinished rules answers w → WouldBeRead rules ahead others
+    → Holds (untold rules) answers w → answers ≡ others
+read_all rules ahead rest answers others w next f (inl (v, of)) holds = same_untold rules ahead rest of.rest answers others w v next of.next f of.ends holds
+read_all rules ahead rest answers others w next f (inr (told, of)) holds =
+    let half = next_split ahead of.rest others (Failed ∷ []) of.next in
+    let broken = of.ends.1 in
+    let same : others ≡ of.ends.0 = append_cancel_right others of.ends.0 (Failed ∷ []) broken.last in
+    let goes_on : GoesOn (untold rules) others = subst (GoesOn (untold rules)) (sym same) broken.goes_on in
+    elim (three (length answers) (length others)) [
+      | inl l ↦ absurd (not_shorter (untold rules) ahead rest half.0 answers others w next half.1 holds goes_on l)
+      | inr k ↦ elim k [
+        | inl l ↦ absurd (goes_past rules ahead rest of.rest answers others next of.next f.goes_on l)
+        | inr e ↦
+            let equal : answers ≡ of.ends.0 = same_answers ahead rest half.0 answers others next half.1 e ∙ same in
+            absurd (broken.is_open w (subst (λ l. Holds (untold rules) l w) equal holds))
+      ]
+    ]
 
 take_front : (n : ℕ) (xs ys : List Given) → n ≤ length xs → take n (xs ++ ys) ≡ take n xs
 take_front n xs ys l = take-append-le n xs ys l
 
--- where the reading ends by the told number
-complete_early : Delivering → DeliveringEarly → AllFrames → ItemLaws → (rules : Rules) (n feed : ℕ) (answers later : List Answer) (text : List ℕ) (clean : Bool) (plan : Plan) (pairs : List (ℕ × ℕ))
-    → 1 ≤ rules.window → (r : IsReport rules feed answers text clean) → HasGiven rules answers (Some n) → rules.frames ≡ Some n → n ≡ frame_count plan
-    → IsSchedule plan → IsFollowed plan rules.first (pos 0) pairs (datagrams answers ++ datagrams later)
-    → ((q : ℕ) → q < frame_count plan → IsInTime plan rules.window (pos 0) pairs q) → ModulatesAll plan feed text clean
-complete_early law early frames laws rules n feed answers later text clean plan pairs some r (taken, items, end, gave, enough) told size schedule followed in_time =
-    let same : r.run.during ≡ items = (one_way (made rules.window rules.first) end r.run.mid (datagrams answers) taken r.taken items r.run.during gave r.run.steps).1 in
-    let long : length r.run.during ≡ length items = ap length same in
-    let l : n ≤ length r.run.during = omega (arith, long, enough) in
-    let are : r.items ≡ take n r.run.during = r.run.are ∙ ap (λ t. up_to t (r.run.during ++ r.run.rest)) told ∙ take_front n r.run.during r.run.rest l in
-    let feeds : Feeds new_tracker (take n r.run.during) r.steps r.after = subst (λ xs. Feeds new_tracker xs r.steps r.after) are r.feeds in
-    let given : AreGiven plan rules.window (pos 0) (Some n) pairs r.steps =
-    early plan rules.window n rules.first (pos 0) pairs (datagrams answers) (datagrams later) r.taken r.run.during r.run.mid r.steps r.after schedule some followed r.run.steps l feeds in
-    let none : refusals r.taken ≡ [] = front_right law plan rules.window rules.first rules.frames (pos 0) pairs (datagrams answers) (datagrams later) r.taken r.items r.steps r.after schedule some followed r.run r.feeds in
-    modulates_all frames laws plan rules (Some n) feed answers pairs (datagrams answers ++ datagrams later) text clean r schedule (inr (ap Some size)) followed in_time given none
+-- the laws of whole deliveries and of fronts of them
+pub record DeliveryLaws : Type 0 where
+  pub whole : Delivering
+  pub early : DeliveringEarly
+  pub refused : StraysRefused
+  pub all_frames : AllFrames
+  pub items : ItemLaws
 
--- where it ends otherwise
-complete_same : Delivering → AllFrames → ItemLaws → (rules : Rules) (feed : ℕ) (answers : List Answer) (text : List ℕ) (clean : Bool) (plan : Plan) (pairs : List (ℕ × ℕ))
-    → 1 ≤ rules.window → IsReport rules feed answers text clean → (rules.frames ≡ None) ⊎ (rules.frames ≡ Some (frame_count plan))
-    → IsSchedule plan → IsFollowed plan rules.first (pos 0) pairs (datagrams answers)
-    → ((q : ℕ) → q < frame_count plan → IsInTime plan rules.window (pos 0) pairs q) → ModulatesAll plan feed text clean
-complete_same law frames laws rules feed answers text clean plan pairs some r known schedule followed in_time =
-    let (given, right) = law plan rules.window rules.first rules.frames (pos 0) pairs (datagrams answers) r.taken r.items r.steps r.after schedule some followed r.run r.feeds in
-    modulates_all frames laws plan rules rules.frames feed answers pairs (datagrams answers) text clean r schedule known followed in_time given (none_refused 0 r.taken right)
+module _ (laws : DeliveryLaws) (rules : Rules) (feed : ℕ) (ahead rest answers : List Answer) (text : List ℕ) (clean : Bool) (plan : Plan) (arrivals : List Arrival)
+    (some : 1 ≤ rules.window) (next : AreNext ahead answers rest) (r : IsReport rules feed answers text clean) (schedule : IsSchedule plan)
+    (in_time : (q : ℕ) → q < frame_count plan → IsInTime plan rules.window (pos 0) (pairs_in arrivals) q) where
+  suits : (later : List (List ℕ)) → IsFollowed plan rules.first (pos 0) arrivals (datagrams answers ++ later) → AllZip Suits (take (length (datagrams answers)) arrivals) r.taken
+  suits later followed =
+      laws.refused plan rules.window rules.first (pos 0) arrivals (datagrams answers) later r.taken r.run.during r.run.mid schedule some followed r.run.steps
 
-abbrev IsKnown : Plan → Rules → Type 0
-IsKnown plan rules = (rules.frames ≡ None) ⊎ (rules.frames ≡ Some (frame_count plan))
+  -- where the reading ends by the told number
+  complete_early : (n : ℕ) (later : List (List ℕ)) → HasGiven rules answers (Some n) → rules.frames ≡ Some n → n ≡ frame_count plan
+      → IsFollowed plan rules.first (pos 0) arrivals (datagrams answers ++ later) → ModulatesAll plan rules feed arrivals ahead text clean
+  complete_early n later (taken, items, end, gave, enough) told size followed =
+      let same : r.run.during ≡ items = (one_way (made rules.window rules.first) end r.run.mid (datagrams answers) taken r.taken items r.run.during gave r.run.steps).1 in
+      let long : length r.run.during ≡ length items = ap length same in
+      let l : n ≤ length r.run.during = omega (arith, long, enough) in
+      let are : r.items ≡ take n r.run.during = r.run.are ∙ ap (λ t. up_to t (r.run.during ++ r.run.rest)) told ∙ take_front n r.run.during r.run.rest l in
+      let feeds : Feeds new_tracker (take n r.run.during) r.steps r.after = subst (λ xs. Feeds new_tracker xs r.steps r.after) are r.feeds in
+      let given : AreGiven plan rules.window (pos 0) (Some n) (pairs_in arrivals) r.steps =
+      laws.early plan rules.window n rules.first (pos 0) arrivals (datagrams answers) later r.taken r.run.during r.run.mid r.steps r.after schedule some followed r.run.steps l feeds in
+      modulates_all laws.all_frames laws.items plan rules (Some n) feed ahead rest answers arrivals (datagrams answers ++ later) text clean next r schedule (inr (ap Some size)) followed in_time given (suits later followed)
 
--- by why the reading ends
-complete_by : Delivering → DeliveringEarly → AllFrames → ItemLaws → (rules : Rules) (feed : ℕ) (ahead rest : List Answer) (answers : List Answer) (text : List ℕ) (clean : Bool) (plan : Plan) (pairs : List (ℕ × ℕ)) (others : List Answer) (w : EndWord)
-    → 1 ≤ rules.window → AreNext ahead answers rest → (r : IsReport rules feed answers text clean) → IsFinished rules answers w → IsSchedule plan → WouldBeRead rules ahead others
-    → IsFollowed plan rules.first (pos 0) pairs (datagrams others) → IsKnown plan rules
-    → ((q : ℕ) → q < frame_count plan → IsInTime plan rules.window (pos 0) pairs q) → ModulatesAll plan feed text clean
-complete_by law early frames laws rules feed ahead rest answers text clean plan pairs others word.Frames some next r f schedule would followed (inl none) in_time =
-    absurd (subst (HasGiven rules answers) none f.ends)
-complete_by law early frames laws rules feed ahead rest answers text clean plan pairs others word.Frames some next r f schedule would followed (inr told) in_time =
-    let (later, are) = rest_of rules ahead rest would.rest answers others word.Frames would.word next would.next f would.reading in
-    let joined : datagrams others ≡ datagrams answers ++ datagrams later = ap datagrams are ∙ filter_map-append datagram_of answers later in
-    complete_early law early frames laws rules (frame_count plan) feed answers later text clean plan pairs some r (subst (HasGiven rules answers) told f.ends) told refl schedule
-    (subst (IsFollowed plan rules.first (pos 0) pairs) joined followed) in_time
-complete_by law early frames laws rules feed ahead rest answers text clean plan pairs others word.Limit some next r f schedule would followed known in_time =
-    let same : answers ≡ others = same_untold rules ahead rest would.rest answers others word.Limit would.word next would.next f would.reading f.ends.0 in
-    complete_same law frames laws rules feed answers text clean plan pairs some r known schedule (subst (λ l. IsFollowed plan rules.first (pos 0) pairs (datagrams l)) (sym same) followed) in_time
-complete_by law early frames laws rules feed ahead rest answers text clean plan pairs others word.Idle some next r f schedule would followed known in_time =
-    let same : answers ≡ others = same_untold rules ahead rest would.rest answers others word.Idle would.word next would.next f would.reading f.ends.0 in
-    complete_same law frames laws rules feed answers text clean plan pairs some r known schedule (subst (λ l. IsFollowed plan rules.first (pos 0) pairs (datagrams l)) (sym same) followed) in_time
-complete_by law early frames laws rules feed ahead rest answers text clean plan pairs others word.Input some next r f schedule would followed known in_time = absurd f.ends
-complete_by law early frames laws rules feed ahead rest answers text clean plan pairs others word.Paths some next r f schedule would followed known in_time = absurd f.ends
+  -- where it ends otherwise
+  complete_same : (rules.frames ≡ None) ⊎ (rules.frames ≡ Some (frame_count plan)) → IsFollowed plan rules.first (pos 0) arrivals (datagrams answers) → ModulatesAll plan rules feed arrivals ahead text clean
+  complete_same known followed =
+      let given = (laws.whole plan rules.window rules.first rules.frames (pos 0) arrivals (datagrams answers) r.taken r.items r.steps r.after schedule some followed r.run r.feeds).0 in
+      let suit = suits [] (subst (IsFollowed plan rules.first (pos 0) arrivals) (sym (append-nil (datagrams answers))) followed) in
+      modulates_all laws.all_frames laws.items plan rules rules.frames feed ahead rest answers arrivals (datagrams answers) text clean next r schedule known followed in_time given suit
+
+  -- by why the reading ends
+  complete_by : (others : List Answer) (w : EndWord) → IsFinished rules answers w → WouldBeRead rules ahead others
+      → IsFollowed plan rules.first (pos 0) arrivals (datagrams others) → (rules.frames ≡ None) ⊎ (rules.frames ≡ Some (frame_count plan)) → ModulatesAll plan rules feed arrivals ahead text clean
+  complete_by others word.Frames f would followed (inl none) = absurd (subst (HasGiven rules answers) none f.ends)
+  complete_by others word.Frames f would followed (inr told) =
+      let (later, are) = read_front rules ahead rest answers others word.Frames next f would in
+      let joined : datagrams others ≡ datagrams answers ++ datagrams later = ap datagrams are ∙ filter_map-append datagram_of answers later in
+      complete_early (frame_count plan) (datagrams later) (subst (HasGiven rules answers) told f.ends) told refl (subst (IsFollowed plan rules.first (pos 0) arrivals) joined followed)
+  complete_by others word.Limit f would followed known =
+      let same : answers ≡ others = read_all rules ahead rest answers others word.Limit next f would f.ends.0 in
+      complete_same known (subst (λ l. IsFollowed plan rules.first (pos 0) arrivals (datagrams l)) (sym same) followed)
+  complete_by others word.Idle f would followed known =
+      let same : answers ≡ others = read_all rules ahead rest answers others word.Idle next f would f.ends.0 in
+      complete_same known (subst (λ l. IsFollowed plan rules.first (pos 0) arrivals (datagrams l)) (sym same) followed)
+  complete_by others word.Input f would followed known = absurd f.ends
+  complete_by others word.Paths f would followed known = absurd f.ends
 
 -- where each frame is in time, all of them are given
-pub complete : Delivering → DeliveringEarly → AllFrames → ItemLaws → (rules : Rules) (feed : ℕ) (ahead answers rest : List Answer) (text : List ℕ) (clean : Bool) → 1 ≤ rules.window
+pub complete : DeliveryLaws → (rules : Rules) (feed : ℕ) (ahead answers rest : List Answer) (text : List ℕ) (clean : Bool) → 1 ≤ rules.window
     → AreNext ahead answers rest → IsReport rules feed answers text clean → CompleteOf rules feed ahead text clean
-complete law early frames laws rules feed ahead answers rest text clean some next r plan pairs others schedule would followed known in_time =
-    complete_by law early frames laws rules feed ahead rest answers text clean plan pairs others r.word some next r r.reading schedule would followed known in_time
+complete laws rules feed ahead answers rest text clean some next r plan arrivals others schedule would followed known in_time =
+    complete_by laws rules feed ahead rest answers text clean plan arrivals some next r schedule in_time others r.word r.reading would followed known
 
 -- ---- of a link and a sink
 

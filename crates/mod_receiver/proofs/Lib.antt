@@ -10,3 +10,4 @@ pub mod Tallying
 pub mod Refusing
 pub mod Taking
 pub mod JobLemmas
+pub mod Unbroken

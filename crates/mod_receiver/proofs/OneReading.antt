@@ -77,7 +77,7 @@ one_word rules xs word.Limit word.Paths e f = absurd f
 one_word rules xs word.Idle word.Input e f = absurd f
 one_word rules xs word.Idle word.Paths e f = absurd f
 
-next_split : (ahead s : List Answer) (xs ys : List Answer) → AreNext ahead (xs ++ ys) s → (mid : List Answer) × AreNext ahead xs mid
+pub next_split : (ahead s : List Answer) (xs ys : List Answer) → AreNext ahead (xs ++ ys) s → (mid : List Answer) × AreNext ahead xs mid
 next_split ahead s [] ys p = (ahead, refl)
 next_split ahead s (x ∷ xs) ys p = let h = next_split (drop 1 ahead) s xs ys p.1 in (h.0, (p.0, h.1))
 
@@ -92,7 +92,7 @@ has_failed (x ∷ xs) (suc n) [] all e = let f : Failed ≡ x = cc in subst IsSo
 has_failed (x ∷ xs) (suc n) (b ∷ before) all e = has_failed xs n before all.1 cc
 
 -- answers that go on don't break off within themselves
-goes_past : (rules : Rules) (ahead r s : List Answer) (xs before : List Answer) → AreNext ahead xs r → AreNext ahead (before ++ Failed ∷ []) s → GoesOn rules xs → length before < length xs → ⊥
+pub goes_past : (rules : Rules) (ahead r s : List Answer) (xs before : List Answer) → AreNext ahead xs r → AreNext ahead (before ++ Failed ∷ []) s → GoesOn rules xs → length before < length xs → ⊥
 goes_past rules ahead r s xs before p q g l =
     let size : length (before ++ Failed ∷ []) ≡ length before + 1 = length-append before (Failed ∷ []) in
     has_failed xs (length (before ++ Failed ∷ [])) before g.sound (next_front ahead s r (before ++ Failed ∷ []) xs q p (omega (arith, size, l)))
@@ -113,7 +113,7 @@ finished_whole rules ahead r s xs before ys w p q f b =
     ]
 
 -- two that break off are one
-broken_same : (rules : Rules) (ahead r s : List Answer) (before xs before' ys : List Answer) → AreNext ahead xs r → AreNext ahead ys s → IsBroken rules before xs → IsBroken rules before' ys → ys ≡ xs
+pub broken_same : (rules : Rules) (ahead r s : List Answer) (before xs before' ys : List Answer) → AreNext ahead xs r → AreNext ahead ys s → IsBroken rules before xs → IsBroken rules before' ys → ys ≡ xs
 broken_same rules ahead r s before xs before' ys p q b d =
     let p' : AreNext ahead (before ++ Failed ∷ []) r = subst (λ zs. AreNext ahead zs r) b.last p in
     let q' : AreNext ahead (before' ++ Failed ∷ []) s = subst (λ zs. AreNext ahead zs s) d.last q in

@@ -1,11 +1,15 @@
 -- The report of what is ahead of a link.
-use Rattle.std.specs.Prelude.{ℕ, Bool, List}
+use Rattle.std.specs.Prelude.{ℕ, pos, ◌≡◌, ◌<◌, ◌⊎◌, Bool, List, None, Some}
+use Rattle.drm_schedule.specs.declared.plan.Plan.{Plan}
+use Rattle.drm_schedule.specs.Valid.{IsSchedule}
 use Rattle.drm_links.specs.Link.{Answer}
+use Rattle.drm_timeline.specs.Numbers.{frame_count}
+use Rattle.mod_delivery.specs.Sent.{Arrival, pairs_in, IsFollowed, IsInTime}
 use Rattle.mod_receiver.specs.Hearing.{AreNext}
 use Rattle.mod_receiver.specs.declared.rules.Rules.{Rules}
-use Rattle.mod_receiver.specs.Reading.{GoesOn, IsBroken}
+use Rattle.mod_receiver.specs.Reading.{datagrams, GoesOn, IsBroken}
 use Rattle.mod_receiver.specs.Received.{IsReport, IsBrokenOff, IsReportFront}
-use Rattle.mod_receiver.specs.Headline.{HeadlineOf, CompleteOf}
+use Rattle.mod_receiver.specs.Headline.{WouldBeRead, HeadlineOf, CompleteOf}
 
 -- a report: its text, and whether no line of it is missing or bad
 pub record Report : Type 0 where
@@ -29,6 +33,18 @@ pub record BreaksOff (rules : Rules) (ahead : List Answer) : Type 0 where
   pub rest : List Answer
   pub next : AreNext ahead answers rest
   pub reading : IsBroken rules before answers
+
+-- What is ahead of a link is a delivery of a valid schedule, from its first frame on, in which each frame is in time; the
+-- number of frames is the schedule's, or isn't told.
+pub record IsInTimeAhead (rules : Rules) (ahead : List Answer) : Type 0 where
+  pub plan : Plan
+  pub valid : IsSchedule plan
+  pub arrivals : List Arrival
+  pub answers : List Answer
+  pub read : WouldBeRead rules ahead answers
+  pub followed : IsFollowed plan rules.first (pos 0) arrivals (datagrams answers)
+  pub frames : (rules.frames ≡ None) ⊎ (rules.frames ≡ Some (frame_count plan))
+  pub in_time : (q : ℕ) → q < frame_count plan → IsInTime plan rules.window (pos 0) (pairs_in arrivals) q
 
 -- The text is what is given of what is ahead of a link, which breaks off.
 pub record IsGivenOf (rules : Rules) (feed : ℕ) (ahead : List Answer) (text : List ℕ) : Type 0 where

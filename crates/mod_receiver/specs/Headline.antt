@@ -1,29 +1,31 @@
 -- From what a server sends to what a modulator's report says.
-use Rattle.std.specs.Prelude.{ℕ, ℤ, pos, ◌+ℤ◌, ◌≡◌, ◌*◌, ◌<◌, ◌⊎◌, Bool, true, List, [], ◌++◌, length, slice_get, Contains, Option, None, Some}
+use Rattle.std.specs.Prelude.{ℕ, ℤ, pos, ◌+ℤ◌, ◌≡◌, ◌≢◌, ◌+◌, ◌*◌, ◌<◌, ◌⊎◌, Bool, true, List, [], ◌∷◌, ◌++◌, length, take, slice_get, Contains, None, Some}
 use Rattle.drm_schedule.specs.declared.plan.Plan.{Plan}
 use Rattle.drm_schedule.specs.Valid.{IsSchedule}
 use Rattle.drm_links.specs.Told.{Known, WhileTold}
-use Rattle.drm_links.specs.Link.{Answer, Traffic}
+use Rattle.drm_links.specs.Link.{Answer, Failed, Traffic}
 use Rattle.drm_links.specs.Sink.{Output, Outputs}
+use Rattle.dcp_collect.specs.declared.taken.Taken.TheVariants.{Refused}
 use Rattle.drm_switches.specs.declared.tracker.Before.TheVariants.{Switch, Resumed}
 use Rattle.drm_timeline.specs.Starts.{later_starts}
 use Rattle.mod_feed.specs.Feeding.{FeedStep, told_before}
 use Rattle.drm_timeline.specs.Numbers.{frame_count}
-use Rattle.mod_delivery.specs.Sent.{IsFollowed, IsInTime}
-use Rattle.mod_delivery.specs.Given.{IsServed, AreGiven, IsStart, AreAllServed}
+use Rattle.mod_delivery.specs.Sent.{Arrival, OfSchedule, Stray, pairs_in, IsFollowed, IsInTime}
+use Rattle.mod_delivery.specs.Given.{IsServed, AreGiven, IsStart, AreAllServed, AreAllFrames}
 use Rattle.drm_show.specs.declared.report.EndWord.{EndWord}
-use Rattle.mod_receiver.specs.Hearing.{AreNext}
+use Rattle.mod_receiver.specs.declared.tally.Refusal.{Refusal}
 use Rattle.mod_receiver.specs.declared.rules.Rules.{Rules}
 use Rattle.mod_receiver.specs.Reading.{datagrams, IsFinished}
+use Rattle.mod_receiver.specs.OneReading.{IsReadingOf}
 use Rattle.mod_receiver.specs.Reports.{report, is_clean}
 
 -- Whatever is missing, a switch is told only before the first frame of a later configuration of the schedule. Where no frame
 -- is missing one is told before each of these behind the first item, and nothing is resumed.
 pub record TellsSwitches (plan : Plan) (base : ℤ) (steps : List FeedStep) : Type 0 where
   pub only : (q f : ℕ) → slice_get (told_before steps) q ≡ Some (Some (Switch f)) → (f ≡ q) × IsStart plan base q
-  pub each : AreAllServed plan base steps → (start q : ℕ) → Contains (later_starts plan) start → (base +ℤ pos q) ≡ pos (3 * start)
+  pub each : AreAllFrames steps → (start q : ℕ) → Contains (later_starts plan) start → (base +ℤ pos q) ≡ pos (3 * start)
       → 0 < q → q < length steps → slice_get (told_before steps) q ≡ Some (Some (Switch q))
-  pub none_resumed : AreAllServed plan base steps → (q p : ℕ) → slice_get (told_before steps) q ≡ Some (Some (Resumed p)) → ⊥
+  pub none_resumed : AreAllFrames steps → (q p : ℕ) → slice_get (told_before steps) q ≡ Some (Some (Resumed p)) → ⊥
 
 -- Each frame that is in time is given as the server sends it.
 abbrev pub GivesInTime : Plan → ℕ → ℤ → List (ℕ × ℕ) → List FeedStep → Type 0
@@ -31,54 +33,67 @@ GivesInTime plan window base pairs steps =
     (q : ℕ) (step : FeedStep) → IsInTime plan window base pairs q → slice_get steps q ≡ Some step
     → (t : ℕ) × ((base +ℤ pos q) ≡ pos t) × IsServed plan t q step.item
 
--- The text is the report of what a delivery of a schedule calls for: no datagram was refused.
-pub record Modulates (plan : Plan) (rules : Rules) (feed : ℕ) (base : ℤ) (pairs : List (ℕ × ℕ)) (text : List ℕ) (clean : Bool) : Type 0 where
+-- the strays of what arrives, the first of which is datagram n: each is refused for its cause, and nothing else is
+abbrev pub strays_from : ℕ → List Arrival → List Refusal
+strays_from n [] = []
+strays_from n (OfSchedule pair ∷ arrivals) = strays_from (n + 1) arrivals
+strays_from n (Stray cause ∷ arrivals) = record { number = n; taken = Refused cause } ∷ strays_from (n + 1) arrivals
+
+abbrev pub strays : List Arrival → List Refusal
+strays arrivals = strays_from 0 arrivals
+
+-- The text is the report of what a delivery of a schedule calls for, and ends with why the reading of these answers ends.
+pub record Modulates (plan : Plan) (rules : Rules) (feed : ℕ) (base : ℤ) (arrivals : List Arrival) (answers : List Answer) (text : List ℕ) (clean : Bool) : Type 0 where
   pub steps : List FeedStep
-  pub given : AreGiven plan rules.window base rules.frames pairs steps
-  pub in_time : GivesInTime plan rules.window base pairs steps
+  pub given : AreGiven plan rules.window base rules.frames (pairs_in arrivals) steps
+  pub in_time : GivesInTime plan rules.window base (pairs_in arrivals) steps
   pub switches : TellsSwitches plan base steps
   pub word : EndWord
-  pub text_is : text ≡ report feed steps [] word
+  pub reading : IsFinished rules answers word
+  pub text_is : text ≡ report feed steps (strays arrivals) word
   pub clean_is : clean ≡ is_clean steps
 
 -- Whatever delivery of whatever valid schedule these answers are: the text is the report of what it calls for.
 abbrev pub HeadlineOf : Rules → ℕ → List Answer → List ℕ → Bool → Type 0
 HeadlineOf rules feed answers text clean =
-    (plan : Plan) (base : ℤ) (pairs : List (ℕ × ℕ))
-    → IsSchedule plan → IsFollowed plan rules.first base pairs (datagrams answers)
-    → Modulates plan rules feed base pairs text clean
+    (plan : Plan) (base : ℤ) (arrivals : List Arrival)
+    → IsSchedule plan → IsFollowed plan rules.first base arrivals (datagrams answers)
+    → Modulates plan rules feed base arrivals answers text clean
 
 -- without a told number of frames
 abbrev pub untold : Rules → Rules
 untold rules = record rules { frames = None }
 
--- The answers that would be read of those ahead if no number of frames were told.
-pub record WouldBeRead (rules : Rules) (ahead answers : List Answer) : Type 0 where
-  pub rest : List Answer
-  pub next : AreNext ahead answers rest
-  pub word : EndWord
-  pub reading : IsFinished (untold rules) answers word
+-- The answers that would be read of those ahead if no number of frames were told: all up to the end of the reading. Where a
+-- number is told, all before a failure are enough.
+abbrev pub WouldBeRead : Rules → List Answer → List Answer → Type 0
+WouldBeRead rules ahead answers =
+    ((word : EndWord) × IsReadingOf (untold rules) ahead answers (Some word))
+    ⊎ ((rules.frames ≢ None) × IsReadingOf (untold rules) ahead (answers ++ Failed ∷ []) None)
 
--- All frames of the schedule were given, with its switches, and the text says nothing else.
-pub record ModulatesAll (plan : Plan) (feed : ℕ) (text : List ℕ) (clean : Bool) : Type 0 where
+-- All frames of the schedule were given, with its switches; the text says nothing else but the strays among what was read, and
+-- why the reading of what was ahead ends.
+pub record ModulatesAll (plan : Plan) (rules : Rules) (feed : ℕ) (arrivals : List Arrival) (ahead : List Answer) (text : List ℕ) (clean : Bool) : Type 0 where
   pub steps : List FeedStep
   pub many : length steps ≡ frame_count plan
   pub all : AreAllServed plan (pos 0) steps
   pub switches : TellsSwitches plan (pos 0) steps
   pub word : EndWord
-  pub text_is : text ≡ report feed steps [] word
+  pub answers : List Answer
+  pub reading : IsReadingOf rules ahead answers (Some word)
+  pub text_is : text ≡ report feed steps (strays (take (length (datagrams answers)) arrivals)) word
   pub clean_is : clean ≡ true
 
 -- Whatever delivery of whatever valid schedule is ahead, from its first frame on and with each frame in time: all frames are
 -- given, whether their number is told or not.
 abbrev pub CompleteOf : Rules → ℕ → List Answer → List ℕ → Bool → Type 0
 CompleteOf rules feed ahead text clean =
-    (plan : Plan) (pairs : List (ℕ × ℕ)) (answers : List Answer)
+    (plan : Plan) (arrivals : List Arrival) (answers : List Answer)
     → IsSchedule plan → WouldBeRead rules ahead answers
-    → IsFollowed plan rules.first (pos 0) pairs (datagrams answers)
+    → IsFollowed plan rules.first (pos 0) arrivals (datagrams answers)
     → (rules.frames ≡ None) ⊎ (rules.frames ≡ Some (frame_count plan))
-    → ((q : ℕ) → q < frame_count plan → IsInTime plan rules.window (pos 0) pairs q)
-    → ModulatesAll plan feed text clean
+    → ((q : ℕ) → q < frame_count plan → IsInTime plan rules.window (pos 0) (pairs_in arrivals) q)
+    → ModulatesAll plan rules feed arrivals ahead text clean
 
 -- These answers came over the link in between.
 abbrev pub Came : List Answer → Traffic → Traffic → Type 0

@@ -16,7 +16,7 @@ mod text;
 pub use job::{Job, job_for, run_all, run_live};
 pub use reading_laws::{one_reading_of_a_link, one_report};
 pub use receiver::{Ended, Options, receive_one};
-pub use report_laws::{laws_of_deliveries, reports_follow};
+pub use report_laws::{in_time_is_unbroken, laws_of_deliveries, reports_follow};
 pub use rules::Rules;
 pub use settling::settle;
 pub use stop::Stop;

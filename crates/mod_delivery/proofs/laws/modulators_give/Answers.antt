@@ -1,5 +1,6 @@
-use Rattle.mod_delivery.proofs.Delivered.{delivering}
+use Rattle.mod_delivery.proofs.Delivered.{delivering as delivering_pairs}
+use Rattle.mod_delivery.proofs.Strays.{delivering}
 use Rattle.mod_delivery.proofs.laws.modulators_give.Goals as goal
 
 pub returns : goal.returns
-returns c = delivering c.collecting.ensures c.the_feed_tells_the_switches.ensures
+returns c = delivering c.refusing.ensures (delivering_pairs c.collecting.ensures c.the_feed_tells_the_switches.ensures)

@@ -9,4 +9,10 @@ returns-clause-headlines c =
 pub returns-clause-completes : goal.returns-clause-completes
 returns-clause-completes c =
     let laws = c.laws_of_deliveries.ensures in
-    complete laws.delivering laws.early laws.all_frames (record { in_time = laws.in_time; at_starts = laws.at_starts; all_switches = laws.all_switches })
+    complete (record {
+      whole = laws.delivering;
+      early = laws.early;
+      refused = laws.refused;
+      all_frames = laws.all_frames;
+      items = record { in_time = laws.in_time; at_starts = laws.at_starts; all_switches = laws.all_switches };
+    })
