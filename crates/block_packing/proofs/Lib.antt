@@ -1,1 +1,3 @@
 pub mod PackingLemmas
+pub mod PlaceLemmas
+pub mod PackedLemmas
