@@ -28,7 +28,8 @@ use Rattle.mod_receiver.specs.Hearing.{AreNext, HeardTold}
 use Rattle.mod_receiver.specs.Reading.{datagrams, HasGiven, Holds, EndsBy, GoesOn, IsFinished}
 use Rattle.mod_receiver.specs.Reports.{is_given, refusals_from, report, is_clean}
 use Rattle.mod_receiver.specs.Received.{IsReport, Reported}
-use Rattle.mod_receiver.specs.Headline.{strays_from, TellsSwitches, GivesInTime, HeadlineOf, untold, WouldBeRead, ModulatesAll, Came, CompleteOf, Headline, Complete}
+use Rattle.frame_lines.specs.Laws.{ServedLines}
+use Rattle.mod_receiver.specs.Headline.{strays_from, TellsSwitches, GivesInTime, HeadlineOf, untold, WouldBeRead, ModulatesAll, Came, CompleteOf, Headline, Complete, PrintsFrames}
 use Rattle.mod_receiver.specs.Following.{HeadlinesFollow, CompletesFollow}
 use Rattle.mod_receiver.proofs.Reaching.{one_way}
 use Rattle.mod_receiver.proofs.OneReading.{next_front, not_shorter, same_answers, three, next_split, goes_past}
@@ -55,6 +56,7 @@ pub record ItemLaws : Type 0 where
   pub in_time : GivenInTime
   pub at_starts : SwitchesAtStarts
   pub all_switches : AllSwitches
+  pub lines : ServedLines
 
 pub tells_switches : ItemLaws → (plan : Plan) (window : ℕ) (base : ℤ) (told : Option ℕ) (pairs : List (ℕ × ℕ)) (steps : List FeedStep)
     → IsSchedule plan → AreGiven plan window base told pairs steps → TellsSwitches plan base steps
@@ -63,6 +65,9 @@ tells_switches laws plan window base told pairs steps schedule given = record {
   each = λ all start q stands is some within. (laws.all_switches plan window base told pairs steps schedule given all).0 start q stands is some within;
   none_resumed = λ all q p at. (laws.all_switches plan window base told pairs steps schedule given all).1 q p at;
 }
+
+pub prints_frames : ItemLaws → (plan : Plan) (steps : List FeedStep) → PrintsFrames plan steps
+prints_frames laws plan steps = λ q t step at served. laws.lines plan t q step.item served
 
 pub gives_in_time : ItemLaws → (plan : Plan) (window : ℕ) (base : ℤ) (told : Option ℕ) (pairs : List (ℕ × ℕ)) (steps : List FeedStep)
     → IsSchedule plan → AreGiven plan window base told pairs steps → GivesInTime plan window base pairs steps
@@ -81,6 +86,7 @@ headline law laws rules feed answers text clean some r plan base arrivals schedu
       steps = r.steps;
       given = given;
       in_time = gives_in_time laws plan rules.window base rules.frames pairs r.steps schedule given;
+      printed = prints_frames laws plan r.steps;
       switches = tells_switches laws plan rules.window base rules.frames pairs r.steps schedule given;
       word = r.word;
       reading = r.reading;
@@ -114,6 +120,7 @@ modulates_all law laws plan rules told feed ahead rest answers arrivals ds text 
       steps = r.steps;
       many = many;
       all = all;
+      printed = prints_frames laws plan r.steps;
       switches = tells_switches laws plan rules.window (pos 0) told (pairs_in arrivals) r.steps schedule given;
       word = r.word;
       answers = answers;

@@ -12,6 +12,8 @@ use Rattle.mod_feed.specs.Feeding.{FeedStep, told_before}
 use Rattle.drm_timeline.specs.Numbers.{frame_count}
 use Rattle.mod_delivery.specs.Sent.{Arrival, OfSchedule, Stray, pairs_in, IsFollowed, IsInTime}
 use Rattle.mod_delivery.specs.Given.{IsServed, AreGiven, IsStart, AreAllServed, AreAllFrames}
+use Rattle.frame_lines.specs.Line.{IsFrameLine}
+use Rattle.drm_show.specs.Report.{item_line}
 use Rattle.drm_show.specs.declared.report.EndWord.{EndWord}
 use Rattle.mod_receiver.specs.declared.tally.Refusal.{Refusal}
 use Rattle.mod_receiver.specs.declared.rules.Rules.{Rules}
@@ -33,6 +35,11 @@ GivesInTime plan window base pairs steps =
     (q : ℕ) (step : FeedStep) → IsInTime plan window base pairs q → slice_get steps q ≡ Some step
     → (t : ℕ) × ((base +ℤ pos q) ≡ pos t) × IsServed plan t q step.item
 
+-- The line of each item that is a frame of the schedule is that frame's.
+abbrev pub PrintsFrames : Plan → List FeedStep → Type 0
+PrintsFrames plan steps =
+    (q t : ℕ) (step : FeedStep) → slice_get steps q ≡ Some step → IsServed plan t q step.item → IsFrameLine plan t q (item_line step.item)
+
 -- the strays of what arrives, the first of which is datagram n: each is refused for its cause, and nothing else is
 abbrev pub strays_from : ℕ → List Arrival → List Refusal
 strays_from n [] = []
@@ -47,6 +54,7 @@ pub record Modulates (plan : Plan) (rules : Rules) (feed : ℕ) (base : ℤ) (ar
   pub steps : List FeedStep
   pub given : AreGiven plan rules.window base rules.frames (pairs_in arrivals) steps
   pub in_time : GivesInTime plan rules.window base (pairs_in arrivals) steps
+  pub printed : PrintsFrames plan steps
   pub switches : TellsSwitches plan base steps
   pub word : EndWord
   pub reading : IsFinished rules answers word
@@ -77,6 +85,7 @@ pub record ModulatesAll (plan : Plan) (rules : Rules) (feed : ℕ) (arrivals : L
   pub steps : List FeedStep
   pub many : length steps ≡ frame_count plan
   pub all : AreAllServed plan (pos 0) steps
+  pub printed : PrintsFrames plan steps
   pub switches : TellsSwitches plan (pos 0) steps
   pub word : EndWord
   pub answers : List Answer

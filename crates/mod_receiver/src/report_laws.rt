@@ -1,8 +1,10 @@
 //! What the laws of deliveries say of reports.
 
 ghost use Rattle.mod_delivery.specs.Laws.{Delivering, DeliveringEarly, StraysRefused, GivenInTime, SwitchesAtStarts, AllSwitches, AllFrames};
+ghost use Rattle.frame_lines.specs.Laws.{ServedLines};
 ghost use Rattle.mod_receiver.specs.Following.{HeadlinesFollow, CompletesFollow, NoneBreaksOff};
 
+use frame_lines::served_frames_are_printed;
 use mod_delivery::{
     all_frames_are_given, all_frames_are_given_at_once, all_switches_are_told,
     frames_in_time_are_given, modulators_give, modulators_give_early, strays_are_refused,
@@ -33,6 +35,7 @@ pub fn laws_of_deliveries()
     ensures at_starts { SwitchesAtStarts }
     ensures all_switches { AllSwitches }
     ensures all_frames { AllFrames }
+    ensures lines { ServedLines }
 {
     modulators_give();
     modulators_give_early();
@@ -41,4 +44,5 @@ pub fn laws_of_deliveries()
     switches_are_told_at_starts();
     all_switches_are_told();
     all_frames_are_given();
+    served_frames_are_printed();
 }

@@ -4,7 +4,7 @@ use Rattle.mod_receiver.proofs.report_laws.reports_follow.Goals as goal
 pub returns-clause-headlines : goal.returns-clause-headlines
 returns-clause-headlines c =
     let laws = c.laws_of_deliveries.ensures in
-    headline laws.delivering (record { in_time = laws.in_time; at_starts = laws.at_starts; all_switches = laws.all_switches })
+    headline laws.delivering (record { in_time = laws.in_time; at_starts = laws.at_starts; all_switches = laws.all_switches; lines = laws.lines })
 
 pub returns-clause-completes : goal.returns-clause-completes
 returns-clause-completes c =
@@ -14,5 +14,5 @@ returns-clause-completes c =
       early = laws.early;
       refused = laws.refused;
       all_frames = laws.all_frames;
-      items = record { in_time = laws.in_time; at_starts = laws.at_starts; all_switches = laws.all_switches };
+      items = record { in_time = laws.in_time; at_starts = laws.at_starts; all_switches = laws.all_switches; lines = laws.lines };
     })
