@@ -15,7 +15,7 @@ use Rattle.mod_receiver.specs.declared.receiver.Options.{Options}
 use Rattle.mod_receiver.specs.declared.job.Job.{Job}
 use Rattle.mod_receiver.specs.Jobs.{IsJob, AreJobs, job_rules}
 use Rattle.mod_receiver.specs.Received.{EndsAs}
-use Rattle.mod_receiver.specs.Following.{HeadlinesFollow, CompletesFollow}
+use Rattle.mod_receiver.specs.Following.{HeadlinesFollow, CompletesFollow, NoneBreaksOff}
 use Rattle.mod_receiver.specs.Ahead.{BreaksOff}
 use Rattle.mod_receiver.proofs.JobLemmas.{rules_are, live_report, live_given, live_breaks, live_front}
 use Rattle.drm_faults.specs.declared.fault.Fault.{Fault}
@@ -95,12 +95,12 @@ module _ {D L O : Type 0} (rules : Rules) (valid : AreInRange rules) (headlines 
   live_exactly WriteFailed ends no_write told has = absurd (no_write refl)
   live_exactly NoMemory ends no_write told has = inl refl
 
-  pub live_run : (ended : Ended) → Ends ended → (ended ≡ NoMemory → out' ≡ out)
+  pub live_run : NoneBreaksOff → (ended : Ended) → Ends ended → (ended ≡ NoMemory → out' ≡ out)
       → Tells (dock_known dock) (dock_known dock') (λ x y. y ≡ after_openings (at ∷ []) x) → (dock_known dock).faults ≤ (dock_known dock').faults
       → HasCause (out_known out) (out_known out') (ended ≡ WriteFailed)
       → ReceiveRun rules (at ∷ []) (ending_live ended) dock_known dock dock' out_known out out'
-  live_run ended ends memory opened later write_cause =
-      receive_run rules (at ∷ []) (ending_live ended) dock_known dock dock' out_known out out'
+  live_run law ended ends memory opened later write_cause =
+      receive_run law rules (at ∷ []) (ending_live ended) dock_known dock dock' out_known out out'
       (ended_kind ended)
       (Tells-weaker (λ x y. y ≡ after_openings (at ∷ []) x) (OpensEach (at ∷ []) (ending_live ended)) (dock_known dock) (dock_known dock') opened (λ x y is. inl is))
       (docked_weaker (λ told. HasLink link_known told 0 at link) (λ told. WritesLive rules told at (ending_live ended) out_known out out') (dock_known dock) (dock_known dock') found
@@ -120,7 +120,7 @@ one_of (at ∷ []) is = (at, refl)
 one_of (at ∷ (other ∷ addresses)) is = absurd (omega (arith, is))
 
 -- the only one of the receivers that were opened ended
-pub only_run : {D L O : Type 0} (rules : Rules) (valid : AreInRange rules) (headlines : HeadlinesFollow) (completes : CompletesFollow) (addresses : List Address) (jobs : List (Job L)) (job job' : Job L) (ended : Ended)
+pub only_run : NoneBreaksOff → {D L O : Type 0} (rules : Rules) (valid : AreInRange rules) (headlines : HeadlinesFollow) (completes : CompletesFollow) (addresses : List Address) (jobs : List (Job L)) (job job' : Job L) (ended : Ended)
     (dock_known : D → Known DockContents) (dock dock' : D) (link_known : L → Known Traffic)
     (out_known : O → Known Output) (out out' : O)
     → length addresses ≡ 1 → slice_index_or jobs 0 job ≡ job → AreJobs rules (length addresses) jobs
@@ -129,7 +129,7 @@ pub only_run : {D L O : Type 0} (rules : Rules) (valid : AreInRange rules) (head
     → EndsAs (job_rules job) job.options.feed (link_known job.link) (link_known job'.link) (out_known out) (out_known out') ended → (ended ≡ NoMemory → out' ≡ out)
     → HasCause (out_known out) (out_known out') (ended ≡ WriteFailed)
     → ReceiveRun rules addresses (ending_live ended) dock_known dock dock' out_known out out'
-only_run {D} {L} {O} rules valid headlines completes addresses jobs job job' ended dock_known dock dock' link_known out_known out out' one first are links opened later ends memory write_cause =
+only_run law {D} {L} {O} rules valid headlines completes addresses jobs job job' ended dock_known dock dock' link_known out_known out out' one first are links opened later ends memory write_cause =
     let (at, only) = one_of addresses one in
     let within : 0 < length addresses = omega (arith, one) in
     let is : IsJob rules 1 job = subst (λ (j : Job L). IsJob rules 1 j) first (are 0 job within) in
@@ -144,4 +144,4 @@ only_run {D} {L} {O} rules valid headlines completes addresses jobs job job' end
     subst (λ n. EndsAs rules n (link_known job.link) (link_known job'.link) (out_known out) (out_known out') ended) (ap (λ (o : Options). o.feed) is.options) raw in
     subst (λ xs. ReceiveRun rules xs (ending_live ended) dock_known dock dock' out_known out out') (sym only)
     (live_run rules valid headlines completes at dock_known dock dock' link_known job.link job'.link out_known out out' found
-    ended named memory (subst (λ xs. Tells (dock_known dock) (dock_known dock') (λ x y. y ≡ after_openings xs x)) only opened) later write_cause)
+    law ended named memory (subst (λ xs. Tells (dock_known dock) (dock_known dock') (λ x y. y ≡ after_openings xs x)) only opened) later write_cause)

@@ -229,6 +229,11 @@ module _ (addresses : List Address) (k : ℕ) (at : Address) (within : k < lengt
       docks_more (Opened addresses k) (λ x y. y ≡ after_opening at x) (StopsOpening addresses fault) a b c before now counts
       (λ x y z p q. inl (kind, record { k = k + 1; within = omega (arith, within); told = next x y z p q }))
 
+-- memory ran out behind some openings
+pub stopped_behind : (addresses : List Address) (k : ℕ) (fault : Fault) (a b : Known DockContents) → k ≤ length addresses → fault ≡ faults.NoMemory → Tells a b (Opened addresses k) → Tells a b (StopsOpening addresses fault)
+stopped_behind addresses k fault a b within kind opened =
+    Tells-weaker (Opened addresses k) (StopsOpening addresses fault) a b opened (λ x y is. inl (kind, record { k = k; within = within; told = is }))
+
 -- all links were opened
 pub opened_all : (addresses : List Address) (k : ℕ) (a b : Known DockContents) → length addresses ≤ k → Tells a b (Opened addresses k) → Tells a b (λ before after. after ≡ after_openings addresses before)
 opened_all addresses k a b last opened =

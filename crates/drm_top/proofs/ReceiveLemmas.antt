@@ -19,7 +19,7 @@ use Rattle.mod_receiver.specs.Settling.{job_texts, Settles}
 use Rattle.mod_receiver.specs.declared.stop.Stop.{Stop}
 use Rattle.mod_receiver.specs.declared.stop.Stop.TheVariants as stops
 use Rattle.drm_top.specs.Stopping.{ending_of}
-use Rattle.mod_receiver.specs.Following.{HeadlinesFollow, CompletesFollow}
+use Rattle.mod_receiver.specs.Following.{HeadlinesFollow, CompletesFollow, NoneBreaksOff}
 use Rattle.drm_faults.specs.Fault.{UnlessMemory}
 use Rattle.drm_top.specs.Receive.{Docked, FindsNone, AreReports, all_texts, FailsSome, FailsAfter, OpensEach, after_openings, WritesReports, WritesAll, IsLive, ReceiveRun}
 use Rattle.drm_top.proofs.ReceiveStatus.{receive_run}
@@ -182,14 +182,14 @@ module _ {L : Type 0} (link_known : L → Known Traffic) (rules : Rules) (valid 
   settled_exactly (Err stops.Link) known out out' settled told has = inr (λ is. fails_some told has (failed_where settled.0), λ fails. refl)
   settled_exactly (Err stops.NoMemory) known out out' settled told has = inl refl
 
-  pub settled_run : {D O : Type 0} (stopped : Result Bool Stop) (dock_known : D → Known DockContents) (dock dock' : D)
+  pub settled_run : NoneBreaksOff → {D O : Type 0} (stopped : Result Bool Stop) (dock_known : D → Known DockContents) (dock dock' : D)
       (out_known : O → Known Output) (out out' : O)
       → Docked (dock_known dock) (dock_known dock') (λ told. HaveLinks link_known told addresses before)
       → Tells (dock_known dock) (dock_known dock') (λ x y. y ≡ after_openings addresses x) → (dock_known dock).faults ≤ (dock_known dock').faults
       → (IsLive addresses → ⊥) → Settles after stopped out_known out out' → HasCause (out_known out) (out_known out') (stopped ≡ Err stops.Write)
       → ReceiveRun rules addresses (ending_of stopped) dock_known dock dock' out_known out out'
-  settled_run stopped dock_known dock dock' out_known out out' links opened later several settled cause =
-      receive_run rules addresses (ending_of stopped) dock_known dock dock' out_known out out'
+  settled_run law stopped dock_known dock dock' out_known out out' links opened later several settled cause =
+      receive_run law rules addresses (ending_of stopped) dock_known dock dock' out_known out out'
       (λ fault is.
       elim (ending_kind after stopped out_known out out' settled fault is) [
         | inl memory ↦ inl memory
@@ -244,14 +244,14 @@ module _ {O : Type 0} (rules : Rules) (addresses : List Address) (fault : Fault)
   fails_exactly (inl (memory, stops)) = inl (ap Err memory)
   fails_exactly (inr (link, fails)) = inr (λ is. record { k = fails.k; within = fails.within; fails = λ at. inl (fails.fails at) }, λ any. ap Err link)
 
-pub opening_failed : {D O : Type 0} (rules : Rules) (addresses : List Address) (fault : Fault) (dock_known : D → Known DockContents) (dock dock' : D)
+pub opening_failed : NoneBreaksOff → {D O : Type 0} (rules : Rules) (addresses : List Address) (fault : Fault) (dock_known : D → Known DockContents) (dock dock' : D)
     (out_known : O → Known Output) (out : O)
     → EndsOpening fault → Tells (dock_known dock) (dock_known dock') (StopsOpening addresses fault) → (dock_known dock).faults ≤ (dock_known dock').faults
     → ReceiveRun rules addresses (Err fault) dock_known dock dock' out_known out out
-opening_failed rules addresses fault dock_known dock dock' out_known out ends stopped later =
+opening_failed law rules addresses fault dock_known dock dock' out_known out ends stopped later =
     let a = dock_known dock in
     let b = dock_known dock' in
-    receive_run rules addresses (Err fault) dock_known dock dock' out_known out out
+    receive_run law rules addresses (Err fault) dock_known dock dock' out_known out out
     (λ other is. opening_kind fault other ends is)
     (Tells-weaker (StopsOpening addresses fault) (OpensEach addresses (Err fault)) a b stopped (opens_each rules addresses fault out_known out))
     (Tells-weaker (StopsOpening addresses fault) (λ told _. WritesAll rules told addresses (Err fault) out_known out out) a b stopped (nothing_written rules addresses fault out_known out))

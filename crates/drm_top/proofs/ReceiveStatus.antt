@@ -1,5 +1,6 @@
 -- What is said of how a run of `receive` ends.
 use Rattle.std.proofs.Common.{◌≡◌, ℕ, zero, suc, ◌<◌, ◌+◌, ◌≤◌, ◌⊎◌, ◌↔◌, inl, inr, Bool, true, false, IsTrue, List, [], ◌∷◌, length, slice_index_or, Option, None, Some, Result, Ok, Err, refl, sym, ◌∙◌, ap, subst, arith}
+use Rattle.std.specs.Prelude.{IsNone}
 use Rattle.drm_links.specs.Told.{HasFailed, HasCause, Known, Rose, Tells}
 use Rattle.drm_links.specs.Link.{Answer}
 use Rattle.drm_links.specs.Sink.{Output}
@@ -11,8 +12,9 @@ use Rattle.mod_receiver.specs.declared.rules.Rules.{Rules}
 use Rattle.drm_faults.specs.declared.fault.Fault.{Fault}
 use Rattle.drm_faults.specs.declared.fault.Fault.TheVariants as faults
 use Rattle.drm_faults.specs.Fault.{UnlessMemory}
-use Rattle.drm_top.specs.Receive.{Docked, Finds, AreReports, AreClean, all_texts, FailsSome, OpensEach, WritesReports, WritesAll, WroteReports, IsInTimeAhead, AreInTime, IsLive, ReceiveRun}
-use Rattle.mod_receiver.specs.Ahead.{Report, IsReportOf}
+use Rattle.drm_top.specs.Receive.{Docked, Finds, AreReports, AreClean, all_texts, FailsSome, OpensEach, WritesReports, WritesAll, WroteReports, AreInTime, IsLive, ReceiveRun}
+use Rattle.mod_receiver.specs.Ahead.{IsInTimeAhead, Report, IsReportOf, BreaksOff}
+use Rattle.mod_receiver.specs.Following.{NoneBreaksOff}
 use Rattle.drm_top.proofs.OpeningLemmas.{docked_weaker, docked_both}
 
 pub is_true : IsTrue true
@@ -63,7 +65,7 @@ module _ {O : Type 0} (rules : Rules) (told : DockContents) (addresses : List Ad
 -- the report of a link that brings each frame in time is clean
 clean_in_time : (rules : Rules) (feed : ℕ) (ahead : List Answer) (r : Report) → IsReportOf rules feed ahead r → IsInTimeAhead rules ahead → IsTrue r.clean
 clean_in_time rules feed ahead r report time =
-    let all = report.complete time.plan time.pairs time.answers time.valid time.read time.followed time.frames time.in_time in
+    let all = report.complete time.plan time.arrivals time.answers time.valid time.read time.followed time.frames time.in_time in
     subst IsTrue (sym all.clean_is) is_true
 
 all_clean : (rules : Rules) (told : DockContents) (addresses : List Address) (reports : List Report) → AreReports rules told addresses reports → AreInTime rules told addresses → AreClean reports
@@ -86,9 +88,25 @@ all_given rules told addresses ending known out out' (inr (clean, is, (reports, 
     clean_is : (clean : Bool) → IsTrue clean → clean ≡ true
     clean_is clean all = all
 
+-- where each frame is in time, no link fails
+none_fails : NoneBreaksOff → (rules : Rules) (told : DockContents) (addresses : List Address) → AreInTime rules told addresses → FailsSome rules told addresses → ⊥
+none_fails law rules told addresses time some =
+    let at : Address = record { ip = []; port = 0 } in
+    let (start, finds, ahead) = time some.k at some.within in
+    elim (some.fails at) [
+      | inl none ↦ elim none [
+        | inl fails ↦ finds.allowed fails
+        | inr nothing ↦ subst IsNone finds.stands nothing
+      ]
+      | inr breaks ↦
+          let same : Some breaks.0 ≡ Some start = sym breaks.1.stands ∙ finds.stands in
+          let starts : breaks.0 ≡ start = cc in
+          law rules start.ahead ahead (subst (λ (s : LinkStart). BreaksOff rules s.ahead) starts breaks.2)
+    ]
+
 -- ---- the whole run
 
-pub receive_run : {D O : Type 0} (rules : Rules) (addresses : List Address) (ending : Result Bool Fault) (dock_known : D → Known DockContents) (dock dock' : D) (out_known : O → Known Output) (out out' : O)
+pub receive_run : NoneBreaksOff → {D O : Type 0} (rules : Rules) (addresses : List Address) (ending : Result Bool Fault) (dock_known : D → Known DockContents) (dock dock' : D) (out_known : O → Known Output) (out out' : O)
     → ((fault : Fault) → ending ≡ Err fault → (fault ≡ faults.NoMemory) ⊎ (fault ≡ faults.Link) ⊎ (fault ≡ faults.Write))
     → Tells (dock_known dock) (dock_known dock') (OpensEach addresses ending)
     → Docked (dock_known dock) (dock_known dock') (λ told. WritesAll rules told addresses ending out_known out out')
@@ -97,7 +115,7 @@ pub receive_run : {D O : Type 0} (rules : Rules) (addresses : List Address) (end
     → (dock_known dock).faults ≤ (dock_known dock').faults
     → HasCause (out_known out) (out_known out') (ending ≡ Err faults.Write)
     → ReceiveRun rules addresses ending dock_known dock dock' out_known out out'
-receive_run {D} {O} rules addresses ending dock_known dock dock' out_known out out' kind opens writes unwritten exactly later write_cause = record {
+receive_run law {D} {O} rules addresses ending dock_known dock dock' out_known out out' kind opens writes unwritten exactly later write_cause = record {
   kind = kind;
   opens = opens;
   writes = writes;
@@ -106,8 +124,8 @@ receive_run {D} {O} rules addresses ending dock_known dock dock' out_known out o
   complete = all_wrote;
   in_time = λ no_write.
       docked_weaker (λ told. (FailsSome rules told addresses → ⊥) → UnlessMemory ending (WroteReports ending (AreReports rules told addresses) out_known out out'))
-      (λ told. (FailsSome rules told addresses → ⊥) → AreInTime rules told addresses → UnlessMemory ending (ending ≡ Ok true)) (dock_known dock) (dock_known dock') (all_wrote no_write)
-      (λ told wrote none time. all_given rules told addresses ending out_known out out' (wrote none) time);
+      (λ told. AreInTime rules told addresses → UnlessMemory ending (ending ≡ Ok true)) (dock_known dock) (dock_known dock') (all_wrote no_write)
+      (λ told wrote time. all_given rules told addresses ending out_known out out' (wrote (none_fails law rules told addresses time)) time);
   later = later;
   write_cause = write_cause;
 }

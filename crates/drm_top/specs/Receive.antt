@@ -1,21 +1,15 @@
 -- The command `receive` with addresses: a report for each link. That of one link is written as it is read, those of several
 -- together at their end.
-use Rattle.std.specs.Prelude.{ℕ, pos, ◌≡◌, ◌+◌, ◌<◌, ◌≤◌, ◌⊎◌, ◌↔◌, IsTrue, Contains, IsNone, Bool, true, List, [], ◌∷◌, length, take, slice_index_or, Option, None, Some, Result, Ok, Err}
+use Rattle.std.specs.Prelude.{ℕ, ◌≡◌, ◌+◌, ◌<◌, ◌≤◌, ◌⊎◌, ◌↔◌, IsTrue, Contains, IsNone, Bool, true, List, [], ◌∷◌, length, take, slice_index_or, Option, None, Some, Result, Ok, Err}
 use Rattle.std.specs.List.{flat_map, All}
 use Rattle.std.specs.FinMap as map
-use Rattle.drm_schedule.specs.declared.plan.Plan.{Plan}
-use Rattle.drm_schedule.specs.Valid.{IsSchedule}
-use Rattle.drm_timeline.specs.Numbers.{frame_count}
-use Rattle.mod_delivery.specs.Sent.{IsFollowed, IsInTime}
 use Rattle.drm_links.specs.Told.{HasFailed, Known, HasCause, Rose, Tells}
 use Rattle.drm_links.specs.Link.{Answer}
 use Rattle.drm_links.specs.Sink.{Output, Outputs, IsFront}
 use Rattle.drm_links.specs.Dock.{DockContents, LinkStart, address_key, start_at}
 use Rattle.drm_links.specs.declared.dock.Address.{Address}
 use Rattle.mod_receiver.specs.declared.rules.Rules.{Rules}
-use Rattle.mod_receiver.specs.Reading.{datagrams}
-use Rattle.mod_receiver.specs.Headline.{WouldBeRead}
-use Rattle.mod_receiver.specs.Ahead.{Report, IsReportOf, BreaksOff, IsGivenOf, IsFrontOf}
+use Rattle.mod_receiver.specs.Ahead.{IsInTimeAhead, Report, IsReportOf, BreaksOff, IsGivenOf, IsFrontOf}
 use Rattle.drm_faults.specs.Fault.{UnlessMemory}
 use Rattle.drm_faults.specs.declared.fault.Fault.{Fault}
 use Rattle.drm_faults.specs.declared.fault.Fault.TheVariants as faults
@@ -125,19 +119,7 @@ OpensEach addresses ending before after =
 abbrev pub WroteReports : {O : Type 0} → Result Bool Fault → (List Report → Type 0) → (O → Known Output) → O → O → Type 0
 WroteReports ending are known out out' = (clean : Bool) × (ending ≡ Ok clean) × WritesReports are (Ok clean) known out out'
 
--- What is ahead of a link is a delivery of a valid schedule, from its first frame on, in which each frame is in time; the
--- number of frames is the schedule's, or isn't told.
-pub record IsInTimeAhead (rules : Rules) (ahead : List Answer) : Type 0 where
-  pub plan : Plan
-  pub valid : IsSchedule plan
-  pub pairs : List (ℕ × ℕ)
-  pub answers : List Answer
-  pub read : WouldBeRead rules ahead answers
-  pub followed : IsFollowed plan rules.first (pos 0) pairs (datagrams answers)
-  pub frames : (rules.frames ≡ None) ⊎ (rules.frames ≡ Some (frame_count plan))
-  pub in_time : (q : ℕ) → q < frame_count plan → IsInTime plan rules.window (pos 0) pairs q
-
--- so is that of the link at each address
+-- what is ahead of the link at each address has each frame of a schedule in time
 abbrev pub AreInTime : Rules → DockContents → List Address → Type 0
 AreInTime rules told addresses =
     (k : ℕ) (at : Address) → k < length addresses
@@ -163,10 +145,9 @@ pub record ReceiveRun {D O : Type 0} (rules : Rules) (addresses : List Address) 
   pub complete : (HasFailed (out_known out) (out_known out') → ⊥)
       → Docked (dock_known dock) (dock_known dock') (λ told. (FailsSome rules told addresses → ⊥)
       → UnlessMemory ending (WroteReports ending (AreReports rules told addresses) out_known out out'))
-  -- Where each link brings each frame of a schedule in time, none is missing.
+  -- Where each link brings each frame of a schedule in time, none is missing, and none fails.
   pub in_time : (HasFailed (out_known out) (out_known out') → ⊥)
-      → Docked (dock_known dock) (dock_known dock') (λ told. (FailsSome rules told addresses → ⊥)
-      → AreInTime rules told addresses → UnlessMemory ending (ending ≡ Ok true))
+      → Docked (dock_known dock) (dock_known dock') (λ told. AreInTime rules told addresses → UnlessMemory ending (ending ≡ Ok true))
   -- The counts of faults never fall, and a write failed only where out's rose.
   pub later : (dock_known dock).faults ≤ (dock_known dock').faults
   pub write_cause : HasCause (out_known out) (out_known out') (ending ≡ Err faults.Write)

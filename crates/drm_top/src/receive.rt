@@ -13,7 +13,9 @@ ghost use Rattle.drm_top.specs.Stopping.{ending_of, ending_live};
 use drm_faults::Fault;
 use drm_links::{Address, Dock, Link, Opened, Sink};
 use drm_words::Addresses;
-use mod_receiver::{Ended, Job, Rules, Stop, job_for, reports_follow, run_all, run_live, settle};
+use mod_receiver::{
+    Ended, Job, Rules, Stop, in_time_is_unbroken, job_for, reports_follow, run_all, run_live, settle,
+};
 use std::alloc::Global;
 use std::thread::Threads;
 
@@ -36,6 +38,7 @@ where
         D.known dock.old dock.new O.known out.old out.new }
 {
     reports_follow();
+    in_time_is_unbroken();
     let mut jobs = open_all(alloc, rules, addresses, dock)?;
     if addresses.len() == 1 {
         return live_ending(run_live(alloc, &mut jobs[0], out));

@@ -15,7 +15,7 @@ returns-in_err-jobs g c =
     let p = err_from_is_err_and c.from_residual.result c.from_residual.ensures.1 in
     record {
       run = rw (p.1 ∙ ap Err p.2)
-          (opening_failed c.args.rules.now c.args.addresses.now c.in_err-jobs.field-0.0 g.D.Dock.known c.args.dock.now c.open_all.new.dock g.O.Sink.known c.args.out.now
+          (opening_failed c.in_time_is_unbroken.ensures c.args.rules.now c.args.addresses.now c.in_err-jobs.field-0.0 g.D.Dock.known c.args.dock.now c.open_all.new.dock g.O.Sink.known c.args.out.now
           c.in_err-jobs.ensures.ends c.in_err-jobs.ensures.stopped c.in_err-jobs.ensures.later);
     }
 
@@ -35,7 +35,7 @@ returns g c =
     record {
       run = rw c.ending.ensures
           (settled_run g.D.L.Link.known c.args.rules.now c.requires.rules c.reports_follow.ensures.headlines c.reports_follow.ensures.completes c.args.addresses.now before after ran
-          c.settle.result g.D.Dock.known c.args.dock.now c.open_all.new.dock g.O.Sink.known c.args.out.now c.settle.new.out
+          c.in_time_is_unbroken.ensures c.settle.result g.D.Dock.known c.args.dock.now c.open_all.new.dock g.O.Sink.known c.args.out.now c.settle.new.out
           c.in_ok-jobs.ensures.links c.in_ok-jobs.ensures.opened c.in_ok-jobs.ensures.later (λ one. c.if-len-eq1.false (c.len.ensures ∙ one)) settled c.settle.ensures.cause);
     }
 
@@ -44,7 +44,7 @@ returns-then-len-eq1 g c =
     let jobs : List (Job g.row.D-L.Denot) = c.in_ok-jobs.jobs.items in
     record {
       run = rw c.live_ending.ensures
-          (only_run c.args.rules.now c.requires.rules c.reports_follow.ensures.headlines c.reports_follow.ensures.completes c.args.addresses.now jobs c.index_mut.result.now c.run_live.new.job c.run_live.result
+          (only_run c.in_time_is_unbroken.ensures c.args.rules.now c.requires.rules c.reports_follow.ensures.headlines c.reports_follow.ensures.completes c.args.addresses.now jobs c.index_mut.result.now c.run_live.new.job c.run_live.result
           g.D.Dock.known c.args.dock.now c.open_all.new.dock g.D.L.Link.known g.O.Sink.known c.args.out.now c.run_live.new.out
           (sym c.len.ensures ∙ c.if-len-eq1.true) (sym c.index_mut.ensures.value) c.in_ok-jobs.ensures.jobs c.in_ok-jobs.ensures.links
           c.in_ok-jobs.ensures.opened c.in_ok-jobs.ensures.later c.run_live.ensures.ended c.run_live.ensures.memory c.run_live.ensures.write);
