@@ -92,7 +92,7 @@ came_by came ending reading x y ends memory (inl is) =
     absurd (memory (ap status_of ran_out))
 came_by came ending reading x y ends memory (inr is) = sym (ap (λ (step : Step Plan). step.came) is)
 
-module _ {S D L : Type 0} (name : List ℕ) (at : Address) (pace : ℕ) (ending : Result (Unit {0}) Fault) (shelf_known : S → Known Files) (shelf shelf' : S) (dock_known : D → Known DockContents) (dock dock' : D) (link_known : L → Known Traffic) where
+module _ {S D L : Type 0} {pace : ℕ} (name : List ℕ) (at : Address) (ending : Result (Unit {0}) Fault) (shelf_known : S → Known Files) (shelf shelf' : S) (dock_known : D → Known DockContents) (dock dock' : D) (link_known : L → Known Traffic) where
   pub unopened : SendRun name at pace ending shelf_known shelf shelf' dock_known dock dock' link_known → WhileTold (dock_known dock) (dock_known dock') (λ before after. OpeningFails at before → status_of ending ≡ 6)
   unopened (inl run) = WhileTold-weaker _ _ (dock_known dock) (dock_known dock') run.told (λ before after told fails. ap status_of run.fault)
   unopened (inr run) = WhileTold-weaker _ _ (dock_known dock) (dock_known dock') run.told (λ before after told fails. both at before told.0 fails told.1)
