@@ -1,7 +1,7 @@
 -- A run over a link, by how it ends.
 use Rattle.std.proofs.Common.{◌≡◌, ℕ, ◌+◌, ◌*◌, ◌≤◌, List, [], ◌∷◌, ◌++◌, Option, None, Some, Result, Ok, Err, inl, inr, refl, ◌∙◌, ap, subst, arith, append_assoc}
 use Rattle.std.specs.FinMap as map
-use Rattle.drm_links.specs.Told.{HasFailed, Rose, WhileTold, CountsCall, Known, ToldThrough}
+use Rattle.drm_links.specs.Told.{HasFailed, WhileTold, CountsCall, Known, ToldThrough}
 use Rattle.drm_links.specs.Dock.{DockContents, LinkStart, Reaches, Closes, address_key, first_traffic, with_reach}
 use Rattle.drm_links.specs.declared.dock.Address.{Address}
 use Rattle.drm_links.specs.declared.dock.Opened.TheVariants as opened

@@ -1,5 +1,5 @@
 -- The command `check`: a schedule becomes its canonical text.
-use Rattle.std.specs.Prelude.{ℕ, ◌≡◌, List, Option, Result}
+use Rattle.std.specs.Prelude.{ℕ, ◌≡◌, List, Result}
 use Rattle.drm_links.specs.Told.{Known}
 use Rattle.drm_links.specs.Shelf.{Files}
 use Rattle.drm_links.specs.Sink.{Output, IsFront}

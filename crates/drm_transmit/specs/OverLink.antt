@@ -1,5 +1,5 @@
 -- A run over a link that was opened.
-use Rattle.std.specs.Prelude.{ℕ, ◌≡◌, ◌++◌, List, Option, Result, Err, IfOk}
+use Rattle.std.specs.Prelude.{ℕ, ◌≡◌, ◌++◌, List, Result, Err, IfOk}
 use Rattle.drm_links.specs.Told.{Known, HasCause}
 use Rattle.drm_links.specs.Shelf.{Files}
 use Rattle.drm_links.specs.Link.{Traffic, rests_of}

@@ -1,7 +1,7 @@
 -- The command `serve --to`: a schedule becomes datagrams over a link.
 use Rattle.std.specs.Prelude.{ℕ, ◌≡◌, ◌+◌, ◌≤◌, ◌⊎◌, ◌↔◌, List, [], ◌∷◌, ◌++◌, length, Contains, Option, Some, IsNone, Result, Ok, Err, IfOk}
 use Rattle.std.specs.FinMap as map
-use Rattle.drm_links.specs.Told.{HasFailed, Known, HasCause, Rose, WhileTold}
+use Rattle.drm_links.specs.Told.{HasFailed, Known, HasCause, WhileTold}
 use Rattle.drm_links.specs.Link.{Traffic}
 use Rattle.drm_links.specs.Shelf.{Files, Supplies}
 use Rattle.drm_links.specs.Dock.{DockContents, LinkStart, address_key, start_at}
