@@ -14,7 +14,6 @@ use Rattle.drm_schedule.specs.declared.plan.Plan.{Plan}
 use Rattle.drm_schedule.specs.Valid.{IsSchedule}
 use Rattle.script_lines.specs.declared.delivery.Delivery.{Delivery}
 use Rattle.script_lines.specs.Script.{IsScript}
-use Rattle.mod_delivery.specs.Laws.{Delivering, DeliveringEarly}
 use Rattle.mod_receiver.specs.declared.rules.Rules.{Rules}
 use Rattle.mod_receiver.specs.declared.job.Job.{Job}
 use Rattle.drm_faults.specs.declared.fault.Fault.{Fault}
@@ -39,7 +38,7 @@ use Rattle.drm_top.specs.Air.{air_rules, pairs_of, IsAired, AreAired, AirRun}
 use Rattle.mod_receiver.proofs.JobLemmas.{told_of, job_report, job_breaks, index_of, map_at, map_size, SomeFailed, some_failed}
 use Rattle.drm_top.proofs.ReceiveLemmas.{Ran, reports_written, ending_kind, write_is}
 use Rattle.drm_load.proofs.ScriptLemmas.{read_schedule, read_script, write_schedule, write_script}
-use Rattle.mod_receiver.proofs.Composing.{ItemLaws}
+use Rattle.mod_receiver.proofs.Composing.{DeliveryLaws}
 use Rattle.drm_top.proofs.FedLemmas as fed
 
 -- the rules of a feed are in their range
@@ -87,8 +86,8 @@ module _ (plan : Plan) (window : ℕ) (valid : IsSchedule plan) (some : 1 ≤ wi
   in_range : AreInRange (air_rules plan window)
   in_range = air_in_range plan window valid some few
 
-  are_aired : OneRun → Delivering → DeliveringEarly → ItemLaws → All IsDone after → AreAired plan window feeds (map told_of after)
-  are_aired one_run delivering early laws done = record {
+  are_aired : OneRun → DeliveryLaws → All IsDone after → AreAired plan window feeds (map told_of after)
+  are_aired one_run laws done = record {
     as_many = map_size told_of after ∙ ran.still ∙ ran.size;
     each = λ k feed none within.
         let first : k < length before = (let size = ran.size in omega (arith, size, within)) in
@@ -108,7 +107,7 @@ module _ (plan : Plan) (window : ℕ) (valid : IsSchedule plan) (some : 1 ≤ wi
           datagrams = link.datagrams;
           sent = link.sent;
           report = report;
-          headline = λ base followed. fed.headline one_run delivering early laws plan window (k + 1) base (pairs_of here) link.datagrams (told_of (slice_index_or after k d)) valid some many followed report;
+          headline = λ base followed. fed.headline one_run laws plan window (k + 1) base (pairs_of here) link.datagrams (told_of (slice_index_or after k d)) valid some many followed report;
           complete = λ followed in_time. fed.complete plan window (k + 1) (pairs_of here) link.datagrams (told_of (slice_index_or after k d)) valid many report followed in_time;
         } in
         subst (λ r. IsAired plan window (k + 1) here r) (sym (map_at told_of after k d none last)) aired;
@@ -148,13 +147,13 @@ module _ (plan : Plan) (window : ℕ) (valid : IsSchedule plan) (some : 1 ≤ wi
         | inr write ↦ cc
       ]
 
-  pub settled_air : OneRun → Delivering → DeliveringEarly → ItemLaws → {S O : Type 0} (name text : List ℕ) (stopped : Result Bool Stop) (shelf_known : S → Known Files) (shelf between shelf' : S)
+  pub settled_air : OneRun → DeliveryLaws → {S O : Type 0} (name text : List ℕ) (stopped : Result Bool Stop) (shelf_known : S → Known Files) (shelf between shelf' : S)
       (out_known : O → Known Output) (out out' : O)
       → ReadBy (schedule_named name) (Ok plan) (shelf_known shelf) (shelf_known between) → ReadBy (script_named plan text) (Ok feeds) (shelf_known between) (shelf_known shelf')
       → (shelf_known shelf).faults ≤ (shelf_known between).faults → (shelf_known between).faults ≤ (shelf_known shelf').faults
       → Settles after stopped out_known out out' → HasCause (out_known out) (out_known out') (stopped ≡ Err stops.Write)
       → AirRun name text window (ending_of stopped) shelf_known shelf shelf' out_known out out'
-  settled_air one_run delivering early laws name text stopped shelf_known shelf between shelf' out_known out out' loads script_loads later later' settled cause = record {
+  settled_air one_run laws name text stopped shelf_known shelf between shelf' out_known out out' loads script_loads later later' settled cause = record {
     came = Ok plan;
     between = between;
     loads = loads;
@@ -164,7 +163,7 @@ module _ (plan : Plan) (window : ℕ) (valid : IsSchedule plan) (some : 1 ≤ wi
       loads = script_loads;
       writes = (
         script,
-        reports_written after stopped (AreAired plan window feeds) out_known out out' (are_aired one_run delivering early laws) settled,
+        reports_written after stopped (AreAired plan window feeds) out_known out out' (are_aired one_run laws) settled,
         kind_by stopped out_known out out' settled,
       );
     };

@@ -1,5 +1,6 @@
 -- What the status of `receive` says.
 use Rattle.std.proofs.Common.{◌≡◌, ℕ, zero, suc, ◌<◌, ◌+◌, ◌⊎◌, ◌↔◌, inl, inr, Bool, true, false, IsTrue, List, [], ◌∷◌, length, slice_index_or, Option, None, Some, Result, Ok, Err, refl, sym, ◌∙◌, ap, subst, arith}
+use Rattle.std.specs.Prelude.{IsNone}
 use Rattle.drm_links.specs.Told.{HasFailed, Known, Rose}
 use Rattle.drm_links.specs.Link.{Answer, Traffic}
 use Rattle.drm_links.specs.Sink.{Output}
@@ -12,9 +13,10 @@ use Rattle.drm_faults.specs.declared.fault.Fault.{Fault}
 use Rattle.drm_faults.specs.declared.fault.Fault.TheVariants as faults
 use Rattle.drm_faults.specs.Fault.{report_status, clean_status}
 use Rattle.drm_top.specs.Receive.{Docked, Finds, AreReports, AreClean, all_texts, FailsSome, WritesReports, WritesAll, IsLive, ReceiveRun}
-use Rattle.mod_receiver.specs.Ahead.{Report, IsReportOf}
+use Rattle.mod_receiver.specs.Ahead.{IsInTimeAhead, Report, IsReportOf, BreaksOff}
+use Rattle.mod_receiver.specs.Following.{NoneBreaksOff}
 use Rattle.drm_top.proofs.OpeningLemmas.{docked_weaker, docked_both}
-use Rattle.drm_top.specs.Status.{WroteReports, IsInTimeAhead, AreInTime}
+use Rattle.drm_top.specs.Status.{WroteReports, AreInTime}
 
 pub is_true : IsTrue true
 is_true = refl
@@ -115,7 +117,7 @@ module _ {D L O : Type 0} (rules : Rules) (addresses : List Address) (dock_known
 -- the report of a link that brings each frame in time is clean
 clean_in_time : (rules : Rules) (feed : ℕ) (ahead : List Answer) (r : Report) → IsReportOf rules feed ahead r → IsInTimeAhead rules ahead → IsTrue r.clean
 clean_in_time rules feed ahead r report time =
-    let all = report.complete time.plan time.pairs time.answers time.valid time.read time.followed time.frames time.in_time in
+    let all = report.complete time.plan time.arrivals time.answers time.valid time.read time.followed time.frames time.in_time in
     subst IsTrue (sym all.clean_is) is_true
 
 all_clean : (rules : Rules) (told : DockContents) (addresses : List Address) (reports : List Report) → AreReports rules told addresses reports → AreInTime rules told addresses → AreClean reports
@@ -128,8 +130,25 @@ all_clean rules told addresses reports are time k d within =
     let starts : start' ≡ start = cc in
     clean_in_time rules (k + 1) start.ahead (slice_index_or reports k d) report (subst (λ (s : LinkStart). IsInTimeAhead rules s.ahead) starts ahead)
 
-pub in_time : {O : Type 0} (code : ℕ) (rules : Rules) (addresses : List Address) (a b : Known DockContents) (known : O → Known Output) (out out' : O)
+-- and no link fails
+none_fails : NoneBreaksOff → (rules : Rules) (told : DockContents) (addresses : List Address) → AreInTime rules told addresses → FailsSome rules told addresses → ⊥
+none_fails law rules told addresses time some =
+    let at : Address = record { ip = []; port = 0 } in
+    let (start, finds, ahead) = time some.k at some.within in
+    elim (some.fails at) [
+      | inl none ↦ elim none [
+        | inl fails ↦ finds.allowed fails
+        | inr nothing ↦ let clash : true ≡ false = subst IsNone finds.stands nothing in cc
+      ]
+      | inr breaks ↦
+          let same : Some breaks.0 ≡ Some start = sym breaks.1.stands ∙ finds.stands in
+          let starts : breaks.0 ≡ start = cc in
+          law rules start.ahead ahead (subst (λ (s : LinkStart). BreaksOff rules s.ahead) starts breaks.2)
+    ]
+
+pub in_time : NoneBreaksOff → {O : Type 0} (code : ℕ) (rules : Rules) (addresses : List Address) (a b : Known DockContents) (known : O → Known Output) (out out' : O)
     → Docked a b (λ told. (FailsSome rules told addresses → ⊥) → WroteReports code (AreReports rules told addresses) known out out')
-    → Docked a b (λ told. (FailsSome rules told addresses → ⊥) → AreInTime rules told addresses → code ≡ 0)
-in_time code rules addresses a b known out out' complete =
-    docked_weaker _ _ a b complete (λ told wrote none time. let w = wrote none in w.clean.1 (all_clean rules told addresses w.reports w.are_reports time))
+    → Docked a b (λ told. AreInTime rules told addresses → code ≡ 0)
+in_time law code rules addresses a b known out out' complete =
+    docked_weaker _ _ a b complete
+    (λ told wrote time. let w = wrote (none_fails law rules told addresses time) in w.clean.1 (all_clean rules told addresses w.reports w.are_reports time))

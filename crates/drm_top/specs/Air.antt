@@ -9,7 +9,7 @@ use Rattle.drm_links.specs.Shelf.{Files}
 use Rattle.drm_links.specs.Link.{Datagram}
 use Rattle.drm_links.specs.Sink.{Output}
 use Rattle.drm_timeline.specs.Numbers.{frame_count}
-use Rattle.mod_delivery.specs.Sent.{AreSent, IsFollowed, IsInTime}
+use Rattle.mod_delivery.specs.Sent.{AreSent, Arrival, OfSchedule, IsFollowed, IsInTime}
 use Rattle.mod_receiver.specs.declared.rules.Rules.{Rules}
 use Rattle.mod_receiver.specs.Headline.{Modulates, ModulatesAll}
 use Rattle.drm_top.specs.Receive.{WritesReports}
@@ -30,16 +30,20 @@ air_rules plan window = record { window = window; first = Some plan.seq; frames 
 abbrev pub pairs_of : List Delivery → List (ℕ × ℕ)
 pairs_of feed = map (λ d. (d.packet, d.fragment)) feed
 
+-- all that arrives of it: there are no strays
+abbrev pub arrivals_of : List Delivery → List Arrival
+arrivals_of feed = map OfSchedule (pairs_of feed)
+
 -- The report of a feed: that of the datagrams that it delivers.
 pub record IsAired (plan : Plan) (window feed : ℕ) (deliveries : List Delivery) (r : Report) : Type 0 where
   pub datagrams : List (List ℕ)
   pub sent : AreSent plan (pairs_of deliveries) datagrams
   pub report : IsReportOf (air_rules plan window) feed (map Datagram datagrams) r
-  pub headline : (base : ℤ) → IsFollowed plan (Some plan.seq) base (pairs_of deliveries) datagrams
-      → Modulates plan (air_rules plan window) feed base (pairs_of deliveries) r.text r.clean
-  pub complete : IsFollowed plan (Some plan.seq) (pos 0) (pairs_of deliveries) datagrams
+  pub headline : (base : ℤ) → IsFollowed plan (Some plan.seq) base (arrivals_of deliveries) datagrams
+      → Modulates plan (air_rules plan window) feed base (arrivals_of deliveries) report.answers r.text r.clean
+  pub complete : IsFollowed plan (Some plan.seq) (pos 0) (arrivals_of deliveries) datagrams
       → ((q : ℕ) → q < frame_count plan → IsInTime plan window (pos 0) (pairs_of deliveries) q)
-      → ModulatesAll plan feed r.text r.clean
+      → ModulatesAll plan (air_rules plan window) feed (arrivals_of deliveries) (map Datagram datagrams) r.text r.clean
 
 -- a report for each feed, in their order
 pub record AreAired (plan : Plan) (window : ℕ) (feeds : List (List Delivery)) (reports : List Report) : Type 0 where

@@ -1,21 +1,17 @@
 -- What the status of a run that reports says.
-use Rattle.std.specs.Prelude.{ℕ, pos, ◌≡◌, ◌*◌, ◌<◌, ◌⊎◌, ◌↔◌, List, length, slice_index_or, Option, None, Some, Ok}
+use Rattle.std.specs.Prelude.{ℕ, pos, ◌≡◌, ◌*◌, ◌<◌, ◌↔◌, List, length, slice_index_or, Some, Ok}
 use Rattle.drm_schedule.specs.declared.plan.Plan.{Plan}
-use Rattle.drm_schedule.specs.Valid.{IsSchedule}
 use Rattle.script_lines.specs.declared.delivery.Delivery.{Delivery}
 use Rattle.drm_links.specs.Told.{Known}
-use Rattle.drm_links.specs.Link.{Answer}
 use Rattle.drm_links.specs.Sink.{Output, Outputs}
 use Rattle.drm_links.specs.Dock.{DockContents, LinkStart}
 use Rattle.drm_links.specs.declared.dock.Address.{Address}
 use Rattle.drm_timeline.specs.Numbers.{frame_count}
 use Rattle.mod_delivery.specs.Sent.{AreSent, IsFollowed, IsInTime}
 use Rattle.mod_receiver.specs.declared.rules.Rules.{Rules}
-use Rattle.mod_receiver.specs.Reading.{datagrams}
-use Rattle.mod_receiver.specs.Headline.{WouldBeRead}
 use Rattle.drm_top.specs.Receive.{Finds, AreClean, all_texts}
-use Rattle.mod_receiver.specs.Ahead.{Report}
-use Rattle.drm_top.specs.Air.{pairs_of}
+use Rattle.mod_receiver.specs.Ahead.{Report, IsInTimeAhead}
+use Rattle.drm_top.specs.Air.{pairs_of, arrivals_of}
 use Rattle.drm_load.specs.Loading.{Reading, given, ◌>>=◌}
 use Rattle.drm_load.specs.Schedule.{schedule_named}
 use Rattle.drm_load.specs.Scripts.{script_named}
@@ -28,19 +24,7 @@ pub record WroteReports {O : Type 0} (code : ℕ) (are : List Report → Type 0)
   pub clean : (code ≡ 0) ↔ AreClean reports
   pub lacking : (code ≡ 7) ↔ (AreClean reports → ⊥)
 
--- What is ahead of a link is a delivery of a valid schedule, from its first frame on, in which each frame is in time; the
--- number of frames is the schedule's, or isn't told.
-pub record IsInTimeAhead (rules : Rules) (ahead : List Answer) : Type 0 where
-  pub plan : Plan
-  pub valid : IsSchedule plan
-  pub pairs : List (ℕ × ℕ)
-  pub answers : List Answer
-  pub read : WouldBeRead rules ahead answers
-  pub followed : IsFollowed plan rules.first (pos 0) pairs (datagrams answers)
-  pub frames : (rules.frames ≡ None) ⊎ (rules.frames ≡ Some (frame_count plan))
-  pub in_time : (q : ℕ) → q < frame_count plan → IsInTime plan rules.window (pos 0) pairs q
-
--- so is that of the link at each address
+-- What is ahead of the link at each address has each frame of a schedule in time.
 abbrev pub AreInTime : Rules → DockContents → List Address → Type 0
 AreInTime rules told addresses =
     (k : ℕ) (at : Address) → k < length addresses
@@ -57,6 +41,7 @@ schedule_and_script name script = do
 abbrev pub FeedsAreInTime : Plan → ℕ → List (List Delivery) → Type 0
 FeedsAreInTime plan window feeds =
     (k : ℕ) (feed : List Delivery) (datagrams : List (List ℕ)) → k < length feeds
-    → let pairs = pairs_of (slice_index_or feeds k feed) in
-    AreSent plan pairs datagrams
-    → IsFollowed plan (Some plan.seq) (pos 0) pairs datagrams × ((q : ℕ) → q < frame_count plan → IsInTime plan window (pos 0) pairs q)
+    → let here = slice_index_or feeds k feed in
+    AreSent plan (pairs_of here) datagrams
+    → IsFollowed plan (Some plan.seq) (pos 0) (arrivals_of here) datagrams
+    × ((q : ℕ) → q < frame_count plan → IsInTime plan window (pos 0) (pairs_of here) q)

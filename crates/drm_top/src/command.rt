@@ -42,6 +42,7 @@ use drm_load::ScheduleFault;
 use drm_server::{first_ones_are_front, one_delivery};
 use drm_transmit::{check, send, serve};
 use drm_words::WordsFault;
+use mod_receiver::in_time_is_unbroken;
 use std::alloc::Global;
 use std::thread::Threads;
 
@@ -211,12 +212,12 @@ where
         → Docked (D.known dock.old) (D.known dock.new) (λ told. (FailsSome rules told addresses → ⊥)
         → WroteReports result.code (AreReports rules told addresses) O.known out.old out.new) }
 
-    // Where each link brings each frame of a schedule in time, none is missing.
+    // Where each link brings each frame of a schedule in time, none is missing, and none fails.
     ensures receive_in_time { (addresses : List Address) → (rules : Rules)
         → AsksFor (Command.Receive addresses rules) (map string_bytes words.now) → result.code ≢ 1
         → (HasFailed (O.known out.old) (O.known out.new) → ⊥)
-        → Docked (D.known dock.old) (D.known dock.new) (λ told. (FailsSome rules told addresses → ⊥)
-        → AreInTime rules told addresses → result.code ≡ 0) }
+        → Docked (D.known dock.old) (D.known dock.new)
+        (λ told. AreInTime rules told addresses → result.code ≡ 0) }
 
     // The command `air`, which leaves input and dock alone.
     ensures air { (name : List ℕ) → (script : List ℕ) → (window : ℕ)
@@ -279,6 +280,8 @@ where
     // Laws that the clauses of `serve` to an address rest on.
     one_delivery();
     first_ones_are_front();
+    // The law that the clause of `receive` on what is in time rests on.
+    in_time_is_unbroken();
     match execute(rt, alloc, words, shelf, input, out, dock) {
         Ok(true) => Status { code: 0 },
         Ok(false) => Status { code: 7 },

@@ -7,6 +7,7 @@ use Rattle.mod_receiver.specs.Jobs.{HasEnded}
 use Rattle.mod_receiver.specs.Settling.{Settles}
 use Rattle.drm_top.specs.Air.{air_rules}
 use Rattle.drm_top.proofs.ReceiveLemmas.{Ran, written_back}
+use Rattle.mod_receiver.proofs.Composing.{DeliveryLaws}
 use Rattle.drm_top.proofs.AirLemmas.{settled_air, no_schedule, no_script, no_jobs}
 use Rattle.drm_top.proofs.air.air.Goals as goal
 
@@ -41,6 +42,13 @@ returns-in_err-jobs g c =
 pub returns : goal.returns
 returns g c =
     let laws = c.laws_of_deliveries.ensures in
+    let of_deliveries : DeliveryLaws = record {
+      whole = laws.delivering;
+      early = laws.early;
+      refused = laws.refused;
+      all_frames = laws.all_frames;
+      items = record { in_time = laws.in_time; at_starts = laws.at_starts; all_switches = laws.all_switches };
+    } in
     let valid : IsSchedule c.in_ok-plan.plan = rw (← c.plan.view_is) c.plan.invariant in
     let before : List (Job LinkState) = c.in_ok-jobs.jobs.items in
     let after : List (Job LinkState) = c.run_all.new.jobs in
@@ -56,6 +64,6 @@ returns g c =
     record {
       run = rw c.ending.ensures
           (settled_air c.in_ok-plan.plan c.args.window valid c.requires.some c.requires.few c.reports_follow.ensures.headlines c.reports_follow.ensures.completes c.in-Ok.script c.in-Ok.ensures.script before after ran c.in_ok-jobs.ensures.feeds
-          c.one_run.ensures laws.delivering laws.early (record { in_time = laws.in_time; at_starts = laws.at_starts; all_switches = laws.all_switches }) c.args.name.now c.args.script.now c.settle.result g.S.Shelf.known c.args.shelf.now c.read_schedule.new.shelf c.read_script_named.new.shelf
+          c.one_run.ensures of_deliveries c.args.name.now c.args.script.now c.settle.result g.S.Shelf.known c.args.shelf.now c.read_schedule.new.shelf c.read_script_named.new.shelf
           g.O.Sink.known c.args.out.now c.settle.new.out c.in_ok-plan.ensures.reads c.in-Ok.ensures.reads c.in_ok-plan.ensures.cause.later c.in-Ok.ensures.cause.later settled c.settle.ensures.cause);
     }

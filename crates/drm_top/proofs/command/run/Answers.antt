@@ -238,7 +238,7 @@ returns-in-Ok-true-clause-receive_complete g c = λ addresses rules words free n
 
 pub returns-in-Ok-true-clause-receive_in_time : goal.returns-in-Ok-true-clause-receive_in_time
 returns-in-Ok-true-clause-receive_in_time g c = λ addresses rules words free no_write.
-    rw c.in-Ok-true.field-0-test at (receive_in_time (report_status (Ok c.in-Ok-true.field-0)) rules addresses (g.D.Dock.known c.args.dock.now) (g.D.Dock.known c.execute.new.dock) g.O.Sink.known c.args.out.now c.execute.new.out (receive_complete _ _ _ _ _ _ _ _ _ (Ok c.in-Ok-true.field-0) (c.in-Ok-true.ensures.runs (commands.Receive addresses rules) words (λ e. cc)).0 (λ one. free (sym (ap clean_status c.in-Ok-true.field-0-test) ∙ one)) no_write))
+    rw c.in-Ok-true.field-0-test at (receive_in_time c.in_time_is_unbroken.ensures (report_status (Ok c.in-Ok-true.field-0)) rules addresses (g.D.Dock.known c.args.dock.now) (g.D.Dock.known c.execute.new.dock) g.O.Sink.known c.args.out.now c.execute.new.out (receive_complete _ _ _ _ _ _ _ _ _ (Ok c.in-Ok-true.field-0) (c.in-Ok-true.ensures.runs (commands.Receive addresses rules) words (λ e. cc)).0 (λ one. free (sym (ap clean_status c.in-Ok-true.field-0-test) ∙ one)) no_write))
 
 pub returns-in-Ok-true-clause-air : goal.returns-in-Ok-true-clause-air
 returns-in-Ok-true-clause-air g c = λ name script window words free.
@@ -277,7 +277,7 @@ returns-in-Ok-false-clause-receive_complete g c = λ addresses rules words free 
 
 pub returns-in-Ok-false-clause-receive_in_time : goal.returns-in-Ok-false-clause-receive_in_time
 returns-in-Ok-false-clause-receive_in_time g c = λ addresses rules words free no_write.
-    rw c.in-Ok-false.field-0-test at (receive_in_time (report_status (Ok c.in-Ok-false.field-0)) rules addresses (g.D.Dock.known c.args.dock.now) (g.D.Dock.known c.execute.new.dock) g.O.Sink.known c.args.out.now c.execute.new.out (receive_complete _ _ _ _ _ _ _ _ _ (Ok c.in-Ok-false.field-0) (c.in-Ok-false.ensures.runs (commands.Receive addresses rules) words (λ e. cc)).0 (λ one. free (sym (ap clean_status c.in-Ok-false.field-0-test) ∙ one)) no_write))
+    rw c.in-Ok-false.field-0-test at (receive_in_time c.in_time_is_unbroken.ensures (report_status (Ok c.in-Ok-false.field-0)) rules addresses (g.D.Dock.known c.args.dock.now) (g.D.Dock.known c.execute.new.dock) g.O.Sink.known c.args.out.now c.execute.new.out (receive_complete _ _ _ _ _ _ _ _ _ (Ok c.in-Ok-false.field-0) (c.in-Ok-false.ensures.runs (commands.Receive addresses rules) words (λ e. cc)).0 (λ one. free (sym (ap clean_status c.in-Ok-false.field-0-test) ∙ one)) no_write))
 
 pub returns-in-Ok-false-clause-air : goal.returns-in-Ok-false-clause-air
 returns-in-Ok-false-clause-air g c = λ name script window words free.
@@ -316,7 +316,7 @@ returns-in-Err-clause-receive_complete g c = λ addresses rules words free no_wr
 
 pub returns-in-Err-clause-receive_in_time : goal.returns-in-Err-clause-receive_in_time
 returns-in-Err-clause-receive_in_time g c = λ addresses rules words free no_write.
-    rw c.report.ensures.status (receive_in_time (report_status (Err c.in-Err.fault)) rules addresses (g.D.Dock.known c.args.dock.now) (g.D.Dock.known c.execute.new.dock) g.O.Sink.known c.args.out.now c.execute.new.out (receive_complete _ _ _ _ _ _ _ _ _ (Err c.in-Err.fault) (c.in-Err.ensures.runs (commands.Receive addresses rules) words (free_of_memory c.in-Err.fault c.report.result.code c.report.ensures.status free)).0 (λ one. free (c.report.ensures.status ∙ one)) no_write))
+    rw c.report.ensures.status (receive_in_time c.in_time_is_unbroken.ensures (report_status (Err c.in-Err.fault)) rules addresses (g.D.Dock.known c.args.dock.now) (g.D.Dock.known c.execute.new.dock) g.O.Sink.known c.args.out.now c.execute.new.out (receive_complete _ _ _ _ _ _ _ _ _ (Err c.in-Err.fault) (c.in-Err.ensures.runs (commands.Receive addresses rules) words (free_of_memory c.in-Err.fault c.report.result.code c.report.ensures.status free)).0 (λ one. free (c.report.ensures.status ∙ one)) no_write))
 
 pub returns-in-Err-clause-air : goal.returns-in-Err-clause-air
 returns-in-Err-clause-air g c = λ name script window words free.
