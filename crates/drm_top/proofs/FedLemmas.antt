@@ -147,7 +147,7 @@ front_arrives (suc n) (p ∷ pairs) = ap (λ l. OfSchedule p ∷ l) (front_arriv
 module _ (one_run : OneRun) (laws : DeliveryLaws) (plan : Plan) (window number : ℕ) (base : ℤ) (pairs : List (ℕ × ℕ)) (brought : List (List ℕ)) (r : Report)
     (valid : IsSchedule plan) (some : 1 ≤ window) (few : length brought < 4294967295) (followed : IsFollowed plan (Some plan.seq) base (map OfSchedule pairs) brought)
     (of : IsReportOf (air_rules plan window) number (map Datagram brought) r) where
-  arrivals : List Arrival
+  abbrev arrivals : List Arrival
   arrivals = map OfSchedule pairs
 
   -- a reading that ended by the told number

@@ -96,7 +96,7 @@ none_fails law rules told addresses time some =
     elim (some.fails at) [
       | inl none ↦ elim none [
         | inl fails ↦ finds.allowed fails
-        | inr nothing ↦ subst IsNone finds.stands nothing
+        | inr nothing ↦ let clash : true ≡ false = subst IsNone finds.stands nothing in cc
       ]
       | inr breaks ↦
           let same : Some breaks.0 ≡ Some start = sym breaks.1.stands ∙ finds.stands in

@@ -40,7 +40,7 @@ abbrev pub PrintsFrames : Plan → List FeedStep → Type 0
 PrintsFrames plan steps =
     (q t : ℕ) (step : FeedStep) → slice_get steps q ≡ Some step → IsServed plan t q step.item → IsFrameLine plan t q (item_line step.item)
 
--- the strays of what arrives, the first of which is datagram n: each is refused for its cause, and nothing else is
+-- the refusals of the strays among the arrivals, the first of which is datagram n
 abbrev pub strays_from : ℕ → List Arrival → List Refusal
 strays_from n [] = []
 strays_from n (OfSchedule pair ∷ arrivals) = strays_from (n + 1) arrivals
@@ -49,7 +49,8 @@ strays_from n (Stray cause ∷ arrivals) = record { number = n; taken = Refused 
 abbrev pub strays : List Arrival → List Refusal
 strays arrivals = strays_from 0 arrivals
 
--- The text is the report of what a delivery of a schedule calls for, and ends with why the reading of these answers ends.
+-- The text is the report of what a delivery of a schedule calls for: of what was refused it names the strays, and last it says
+-- why the reading of these answers ends.
 pub record Modulates (plan : Plan) (rules : Rules) (feed : ℕ) (base : ℤ) (arrivals : List Arrival) (answers : List Answer) (text : List ℕ) (clean : Bool) : Type 0 where
   pub steps : List FeedStep
   pub given : AreGiven plan rules.window base rules.frames (pairs_in arrivals) steps
@@ -72,15 +73,15 @@ HeadlineOf rules feed answers text clean =
 abbrev pub untold : Rules → Rules
 untold rules = record rules { frames = None }
 
--- The answers that would be read of those ahead if no number of frames were told: all up to the end of the reading. Where a
--- number is told, all before a failure are enough.
+-- The answers that would be read of those ahead if no number of frames were told: all up to the end of the reading; or, where
+-- a number is told, those before its failure.
 abbrev pub WouldBeRead : Rules → List Answer → List Answer → Type 0
 WouldBeRead rules ahead answers =
     ((word : EndWord) × IsReadingOf (untold rules) ahead answers (Some word))
     ⊎ ((rules.frames ≢ None) × IsReadingOf (untold rules) ahead (answers ++ Failed ∷ []) None)
 
--- All frames of the schedule were given, with its switches; the text says nothing else but the strays among what was read, and
--- why the reading of what was ahead ends.
+-- All frames of the schedule were given, with its switches. The text says nothing else, but the strays among what was read of
+-- what was ahead, and why that reading ends.
 pub record ModulatesAll (plan : Plan) (rules : Rules) (feed : ℕ) (arrivals : List Arrival) (ahead : List Answer) (text : List ℕ) (clean : Bool) : Type 0 where
   pub steps : List FeedStep
   pub many : length steps ≡ frame_count plan
