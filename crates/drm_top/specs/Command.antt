@@ -30,7 +30,7 @@ CommandRun (Check name) ending shelf_known shelf shelf' input_known input input'
 CommandRun (Serve name pace) ending shelf_known shelf shelf' input_known input input' out_known out out' dock_known dock dock' link_known =
     ServeRun name (done_of ending) shelf_known shelf shelf' out_known out out' × (input' ≡ input) × (dock' ≡ dock)
 CommandRun (Send name to pace) ending shelf_known shelf shelf' input_known input input' out_known out out' dock_known dock dock' link_known =
-    SendRun name to (done_of ending) shelf_known shelf shelf' dock_known dock dock' link_known × (input' ≡ input) × (out' ≡ out)
+    SendRun name to pace (done_of ending) shelf_known shelf shelf' dock_known dock dock' link_known × (input' ≡ input) × (out' ≡ out)
 CommandRun (Receive addresses rules) ending shelf_known shelf shelf' input_known input input' out_known out out' dock_known dock dock' link_known =
     ReceiveRun rules addresses ending dock_known dock dock' link_known out_known out out' × (shelf' ≡ shelf) × (input' ≡ input)
 CommandRun (Air name script window) ending shelf_known shelf shelf' input_known input input' out_known out out' dock_known dock dock' link_known =

@@ -148,7 +148,7 @@ where
     ensures send { (name : List ℕ) → (to : Address) → (pace : ℕ)
         → AsksFor (Command.Send name to pace) (map string_bytes words.now) → result.code ≢ 1
         → (ending : Result (Unit {0}) Fault) × (result.code ≡ status_of ending)
-        × SendRun name to ending S.known shelf.old shelf.new
+        × SendRun name to pace ending S.known shelf.old shelf.new
         D.known dock.old dock.new D.L.known
         × (input.new ≡ input.old) × (out.new ≡ out.old) × Reports ending E.known err.old err.new }
 
