@@ -1,6 +1,6 @@
 //! A link in memory.
 
-ghost use Rattle.std.specs.Prelude.{◌≡◌, ◌<◌, ◌≤◌, ◌++◌, [], ◌∷◌, Some, length, slice_index_or, vec_len, IfOk, OnOk, OnErr, MatchOption};
+ghost use Rattle.std.specs.Prelude.{◌≡◌, ◌<◌, ◌≤◌, ◌++◌, [], ◌∷◌, Some, length, slice_get, slice_index_or, vec_len, IfOk, OnOk, OnErr, MatchOption};
 ghost use Rattle.drm_links.specs.Told.{Counts, HasCause, CountsCall, WhileTold};
 ghost use Rattle.drm_links.specs.Link.{Receives, Sends, Rests, KeepsAnswers, FitsBuffer};
 ghost use Rattle.drm_links.specs.MemoryLink.{LinkState, Hears, Carries, Brings, IsCounted, longest_brought, answers_ahead, taken_from, after_rest, link_known};
@@ -155,6 +155,13 @@ impl MemLink {
             Some(room) => Some(room.bytes()),
             None => None,
         }
+    }
+
+    /// For how many milliseconds it rested before the datagram that was sent as the k-th, from 0.
+    pub fn waited(&self, k: usize) -> Option<u128>
+        ensures { result ≡ slice_get self.now.waits k }
+    {
+        self.waits.get(k).copied()
     }
 
     // What is known of the link between its calls.

@@ -105,3 +105,29 @@ fn a_datagram_of_the_greatest_length_fits(rt: HostRuntime) -> Result<(), Fail> {
     assert!(rt; buf == longest);
     Ok(())
 }
+
+fn rest<L: Link>(link: &mut L, millis: u32) {
+    link.rest(millis);
+}
+
+#[test]
+fn a_link_keeps_how_long_it_rested_before_each_send(rt: HostRuntime) -> Result<(), Fail> {
+    let mut link = MemLink::make(rt.alloc(), &[2], &[], 3)?;
+    rest(&mut link, u32::MAX);
+    // Each send comes after a rest of one millisecond.
+    for (millis, bytes, answer) in [
+        (6, b"a", Sent::Sent),
+        (0, b"b", Sent::Sent),
+        (4, b"x", Sent::Failed),
+        (2, b"c", Sent::Sent),
+    ] {
+        rest(&mut link, millis);
+        assert_eq!(rt; send(&mut link, bytes), answer);
+    }
+    rest(&mut link, 9);
+    let waits = [Some(4_294_967_302), Some(1), Some(8), None];
+    for (k, wait) in waits.into_iter().enumerate() {
+        assert_eq!(rt; link.waited(k), wait);
+    }
+    Ok(())
+}
