@@ -3,6 +3,7 @@ pub mod BlockLemmas
 pub mod PacketLemmas
 pub mod PayloadLemmas
 pub mod StreamLemmas
+pub mod MultiplexLemmas
 pub mod OneBlock
 pub mod OnePacket
 pub mod OneDelivery

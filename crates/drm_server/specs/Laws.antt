@@ -1,7 +1,11 @@
 -- What is sent and written of a schedule is determined by it.
-use Rattle.std.specs.Prelude.{ℕ, ◌≡◌, List, ◌∷◌, ◌++◌}
+use Rattle.std.specs.Prelude.{ℕ, ◌≡◌, List, ◌∷◌, ◌++◌, Some}
+use Rattle.drm_mux.specs.Frame.{multiplex_frame}
+use Rattle.mdi_items.specs.RoundTrip.{Parts}
 use Rattle.drm_schedule.specs.declared.plan.Plan.{Plan}
-use Rattle.drm_server.specs.Frames.{IsPacketAt}
+use Rattle.drm_schedule.specs.Valid.{IsSchedule}
+use Rattle.drm_server.specs.Frames.{IsFrameAt, IsPacketAt}
+use Rattle.drm_server.specs.Multiplex.{multiplex_at}
 use Rattle.drm_server.specs.Datagrams.{AreDatagrams, AreBefore}
 use Rattle.drm_server.specs.Capture.{IsCapture}
 
@@ -22,3 +26,8 @@ FirstOnesAreFront =
 -- and so is the capture
 abbrev pub HasOneCapture : Type 0
 HasOneCapture = (plan : Plan) (bytes others : List ℕ) → IsCapture plan bytes → IsCapture plan others → bytes ≡ others
+
+-- the streams that a frame is made of make the frame's multiplex frame
+abbrev pub HasMultiplexFrame : Type 0
+HasMultiplexFrame =
+    (plan : Plan) (t : ℕ) (parts : Parts) → IsSchedule plan → IsFrameAt plan t parts → multiplex_at plan t ≡ Some (multiplex_frame parts.mux parts.streams)

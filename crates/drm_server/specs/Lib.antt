@@ -1,4 +1,5 @@
 pub mod Frames
+pub mod Multiplex
 pub mod Placing
 pub mod Serving
 pub mod Lending

@@ -1,6 +1,6 @@
 //! Laws of packets and datagrams, each on a function that does nothing.
 
-ghost use Rattle.drm_server.specs.Laws.{HasOnePacket, HasOneDelivery, FirstOnesAreFront, HasOneCapture};
+ghost use Rattle.drm_server.specs.Laws.{HasOnePacket, HasOneDelivery, FirstOnesAreFront, HasOneCapture, HasMultiplexFrame};
 
 use dcp_pft::one_fragment;
 
@@ -29,3 +29,8 @@ pub fn one_capture()
 {
     one_fragment();
 }
+
+/// The streams of a frame make its multiplex frame: the parts A of all of them, then their parts B.
+pub fn streams_make_the_multiplex_frame()
+    ensures { HasMultiplexFrame }
+{}
