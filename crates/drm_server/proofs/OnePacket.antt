@@ -1,5 +1,5 @@
 -- A frame has one packet.
-use Rattle.std.proofs.Common.{◌≡◌, ◌-◌, ◌*◌, ◌/◌, ◌%◌, ◌==◌, ◌≤◌, ℕ, Bool, true, false, List, ◌++◌, map, length, arith, Option, Some, None, refl, sym, ap, subst, ◌∙◌}
+use Rattle.std.proofs.Common.{◌≡◌, ◌-◌, ◌*◌, ◌/◌, ◌%◌, ◌==◌, ◌≤◌, ℕ, Bool, true, false, List, ◌++◌, map, length, arith, Option, Some, refl, sym, ap, subst, ◌∙◌}
 use Rattle.std.specs.Int.{w16, to_be_bytes}
 use Rattle.drm_bits.specs.Bits.{IsBytes}
 use Rattle.drm_bits.specs.declared.description.MuxDesc.{MuxDesc}
@@ -10,9 +10,6 @@ use Rattle.drm_schedule.specs.declared.plan.Plan.{Plan}
 use Rattle.drm_timeline.specs.Description.{description_of}
 use Rattle.dcp_af.specs.Packet.{AfPacket, IsAf, head}
 use Rattle.drm_bits.proofs.Checks.{one_check}
-use Rattle.dcp_tag.specs.Tag as tag
-use Rattle.mdi_items.specs.Names.{name_at, sdc_}
-use Rattle.mdi_items.specs.Written.{spelling, stream_pieces}
 use Rattle.mdi_items.specs.RoundTrip.{Parts, BlockBytes, IsWrittenOf}
 use Rattle.mdi_items.proofs.SpellingLemmas as spellings
 use Rattle.drm_timeline.specs.Numbers.{sequence_number}
