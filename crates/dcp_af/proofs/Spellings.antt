@@ -1,10 +1,12 @@
 -- A packet's spelling, and the fields at their places.
-use Rattle.std.proofs.Common.{◌≡◌, ℕ, ◌+◌, ◌-◌, ◌/◌, ◌%◌, ◌^◌, ◌<◌, ◌≤◌, Bool, true, false, nat_le, get_or, inl, inr, List, ◌∷◌, ◌++◌, length, take, drop, refl, sym, ap, ◌∙◌, arith, length-append, length-drop}
-use Rattle.std.specs.Int.{w16, w32, to_be_bytes, from_be_bytes}
+use Rattle.std.proofs.Common.{◌≡◌, ℕ, ◌+◌, ◌-◌, ◌*◌, ◌==◌, ◌/◌, ◌%◌, ◌^◌, ◌<◌, ◌≤◌, Bool, true, false, nat_le, get_or, inl, inr, List, ◌∷◌, ◌++◌, length, take, drop, refl, sym, ap, ◌∙◌, arith, length-append, length-drop}
+use Rattle.std.specs.Int.{from_bool, w16, w32, to_be_bytes, from_be_bytes}
 use Rattle.std.proofs.lemmas.Bool.{cases_lt}
 use Rattle.std.proofs.lemmas.Bool.Decides.{nat_tests}
 use Rattle.std.proofs.lemmas.List.{take_at, drop_at, drop_more, drop-drop, take-append-drop, length-take-le, length-take, get_or-take, get_or-drop, get_or_past}
 use Rattle.std.proofs.lemmas.Nat.{be_bytes_2, be_bytes_4, from_be_bytes-to_be_bytes_2, from_be_bytes-to_be_bytes_4}
+use Rattle.drm_bits.specs.Bits.{value, bit, digits}
+use Rattle.drm_bits.proofs.DigitsLemmas.{bit_again, value-mod}
 use Rattle.dcp_af.specs.Packet.{AfPacket, sync, tag_kind, revision, head, EndsWith}
 use Rattle.dcp_af.specs.Faults.{described, sequence_number, is_checked, major, minor, kind, checked_bytes, payload, check_value, HasKind}
 
@@ -21,25 +23,59 @@ IsBytes-take n bytes h i =
       | inr le ↦ rw (get_or_past (take n bytes) i 0 (omega (arith, length-take n bytes))) (omega arith)
     ]
 
+-- the revision by the bits of its byte
+pub major_by_bits : (r : ℕ) → value (take 3 (drop 1 (digits 8 r))) ≡ r / 16 % 8
+unfolding digits
+major_by_bits r =
+    omega (arith, bit_again (r / 64 % 2) (omega arith), bit_again (r / 32 % 2) (omega arith), bit_again (r / 16 % 2) (omega arith))
+
+pub minor_by_bits : (r : ℕ) → value (drop 4 (digits 8 r)) ≡ r % 16
+unfolding digits
+minor_by_bits r = value-mod 4 r
+
+pub checked_by_bits : (r : ℕ) → r < 256 → bit (digits 8 r) ≡ nat_le 128 r
+unfolding digits
+checked_by_bits r small =
+    elim (cases_lt r 128) [
+      | inl lt ↦ let test : nat_le 128 r ≡ false = grind (arith, nat_tests) in rw test (high false (omega (arith, lt)))
+      | inr ge ↦ let test : nat_le 128 r ≡ true = grind (arith, nat_tests) in rw test (high true (omega (arith, ge)))
+    ]
+  where
+    high : (b : Bool) → r / 128 % 2 ≡ from_bool b → bit (digits 8 r) ≡ b
+    high true is = ap (λ n. (from_bool (n == 1) * 1 + 0) == 1) is
+    high false is = ap (λ n. (from_bool (n == 1) * 1 + 0) == 1) is
+
 -- the byte of the revision
-revision_major : (checked : Bool) (m : ℕ) → m < 16 → revision checked 1 m / 16 % 8 ≡ 1
-revision_major true m small = omega arith
-revision_major false m small = omega arith
+revision_major : (checked : Bool) (m : ℕ) → m < 16 → value (take 3 (drop 1 (digits 8 (revision checked 1 m)))) ≡ 1
+revision_major true m small = omega (arith, major_by_bits (revision true 1 m))
+revision_major false m small = omega (arith, major_by_bits (revision false 1 m))
 
-revision_minor : (checked : Bool) (m : ℕ) → m < 16 → revision checked 1 m % 16 ≡ m
-revision_minor true m small = omega arith
-revision_minor false m small = omega arith
+revision_minor : (checked : Bool) (m : ℕ) → m < 16 → value (drop 4 (digits 8 (revision checked 1 m))) ≡ m
+revision_minor true m small = omega (arith, minor_by_bits (revision true 1 m))
+revision_minor false m small = omega (arith, minor_by_bits (revision false 1 m))
 
-revision_checked : (checked : Bool) (m : ℕ) → m < 16 → nat_le 128 (revision checked 1 m) ≡ checked
-revision_checked true m small = grind (arith, nat_tests)
-revision_checked false m small = grind (arith, nat_tests)
+least_of : (checked : Bool) (m : ℕ) → m < 16 → nat_le 128 (revision checked 1 m) ≡ checked
+least_of true m small = grind (arith, nat_tests)
+least_of false m small = grind (arith, nat_tests)
 
-revision_is : (r : ℕ) → r < 256 → r / 16 % 8 ≡ 1 → r ≡ revision (nat_le 128 r) 1 (r % 16)
-revision_is r small is =
+small_revision : (checked : Bool) (m : ℕ) → m < 16 → revision checked 1 m < 256
+small_revision true m small = omega arith
+small_revision false m small = omega arith
+
+revision_checked : (checked : Bool) (m : ℕ) → m < 16 → bit (digits 8 (revision checked 1 m)) ≡ checked
+revision_checked checked m small = checked_by_bits (revision checked 1 m) (small_revision checked m small) ∙ least_of checked m small
+
+revision_of : (r : ℕ) → r < 256 → r / 16 % 8 ≡ 1 → r ≡ revision (nat_le 128 r) 1 (r % 16)
+revision_of r small is =
     elim (cases_lt r 128) [
       | inl lt ↦ let test : nat_le 128 r ≡ false = grind (arith, nat_tests) in rw test (omega (arith, is))
       | inr ge ↦ let test : nat_le 128 r ≡ true = grind (arith, nat_tests) in rw test (omega (arith, is))
     ]
+
+revision_is : (r : ℕ) → r < 256 → value (take 3 (drop 1 (digits 8 r))) ≡ 1 → r ≡ revision (bit (digits 8 r)) 1 (value (drop 4 (digits 8 r)))
+revision_is r small is =
+    revision_of r small (sym (major_by_bits r) ∙ is)
+    ∙ (ap (λ (b : Bool). revision b 1 (r % 16)) (sym (checked_by_bits r small)) ∙ ap (λ (m : ℕ). revision (bit (digits 8 r)) 1 m) (sym (minor_by_bits r)))
 
 -- where the fields stand in a packet's spelling
 pub record IsPlaced (p : AfPacket) (check : ℕ) (bytes : List ℕ) : Type 0 where
@@ -118,7 +154,7 @@ spelled_at bytes fits is =
     let whole : sync ++ (to_be_bytes w32 (length (payload bytes)) ++ (to_be_bytes w16 (sequence_number bytes) ++ (revision (is_checked bytes) 1 (minor bytes) ∷ tag_kind ∷ rest))) ≡ bytes =
     ap (λ (l : List ℕ). sync ++ l) from_two ∙ (ap (λ (l : List ℕ). l ++ drop 2 bytes) (sym is.0.0.0.0) ∙ take-append-drop 2 bytes) in
     record {
-      fits = record { seq = number_2 seq seq_fits; minor = omega arith; payload = omega (arith, size, number_4 len len_fits) };
+      fits = record { seq = number_2 seq seq_fits; minor = omega (arith, minor_by_bits (get_or bytes 8 0)); payload = omega (arith, size, number_4 len len_fits) };
       narrow = number_2 last last_fits;
       spelled = sym whole;
     }

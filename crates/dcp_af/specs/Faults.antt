@@ -1,8 +1,9 @@
 -- What is refused of an AF packet (TS 102 821), and with which numbers: the first of these.
-use Rattle.std.specs.Prelude.{ℕ, ◌≡◌, ◌≢◌, ◌+◌, ◌-◌, ◌/◌, ◌%◌, ◌<◌, ◌≤◌, Bool, true, List, length, take, drop, nat_le, slice_index, slice_range}
+use Rattle.std.specs.Prelude.{ℕ, ◌≡◌, ◌≢◌, ◌+◌, ◌-◌, ◌<◌, ◌≤◌, Bool, true, List, length, take, drop, slice_index, slice_range}
 use Rattle.std.specs.Int.{w16, w32, from_be_bytes}
 use Rattle.dcp_af.specs.declared.fault.AfFault.{AfFault}
 use Rattle.dcp_af.specs.declared.fault.AfFault.TheVariants.{Sync, HeadCut, Length, Version, Kind, Crc}
+use Rattle.drm_bits.specs.Bits.{value, bit, digits}
 use Rattle.drm_bits.specs.Crc.{IsCheckOf}
 use Rattle.dcp_af.specs.Packet.{sync, tag_kind}
 
@@ -13,15 +14,19 @@ described bytes = from_be_bytes w32 (slice_range bytes 2 6) + 12
 abbrev pub sequence_number : List ℕ → ℕ
 sequence_number bytes = from_be_bytes w16 (slice_range bytes 6 8)
 
--- the bits of byte 8: one, three and four
+-- byte 8 in bits: the first says whether the check value counts, the next three the major revision, and the last four the
+-- minor one
+abbrev pub revision_bits : List ℕ → List Bool
+revision_bits bytes = digits 8 (slice_index bytes 8)
+
 abbrev pub is_checked : List ℕ → Bool
-is_checked bytes = nat_le 128 (slice_index bytes 8)
+is_checked bytes = bit (revision_bits bytes)
 
 abbrev pub major : List ℕ → ℕ
-major bytes = slice_index bytes 8 / 16 % 8
+major bytes = value (take 3 (drop 1 (revision_bits bytes)))
 
 abbrev pub minor : List ℕ → ℕ
-minor bytes = slice_index bytes 8 % 16
+minor bytes = value (drop 4 (revision_bits bytes))
 
 abbrev pub kind : List ℕ → ℕ
 kind bytes = slice_index bytes 9

@@ -65,12 +65,12 @@ digits-not width (suc k) n within below =
     let inside : k < bits width = within in
     rw (bit_at_not width n k below inside, bit_turned (bit_at n k) (bit_at-lt n k), digits-not width k n (omega arith) below) refl
 
-bit_again : (x : ℕ) → x < 2 → from_bool (nat_eq x 1) ≡ x
+pub bit_again : (x : ℕ) → x < 2 → from_bool (nat_eq x 1) ≡ x
 bit_again zero h = refl
 bit_again (suc zero) h = refl
 bit_again (suc (suc x)) h = absurd (omega (arith, h))
 
-value-mod : (w n : ℕ) → value (digits w n) ≡ n % 2 ^ w
+pub value-mod : (w n : ℕ) → value (digits w n) ≡ n % 2 ^ w
 unfolding digits
 value-mod zero n = sym (mod-one n)
 value-mod (suc w) n =

@@ -1,4 +1,5 @@
 pub mod Bits
+pub mod Numbers
 pub mod Crc
 pub mod Fields
 pub mod Sink

@@ -9,6 +9,7 @@ mod crc;
 mod crc_run;
 mod description;
 mod fields;
+mod laws;
 mod octets;
 mod remainders;
 
@@ -19,4 +20,5 @@ pub use compared::{WrongCheck, compare_crc16};
 pub use crc::{crc8, crc16};
 pub use crc_run::CrcRun;
 pub use description::{MuxDesc, Part};
+pub use laws::digits_and_numbers;
 pub use octets::{NoMemory, Octets};

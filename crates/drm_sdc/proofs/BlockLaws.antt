@@ -1,5 +1,5 @@
 -- Bits are one block at most, or have one first fault.
-use Rattle.std.proofs.Common.{◌≡◌, ◌≢◌, ◌⊎◌, inl, inr, ℕ, ◌+◌, ◌*◌, ◌%◌, ◌<◌, ◌^◌, Bool, List, [], ◌∷◌, ◌++◌, length, take, drop, get_or, refl, sym, ◌∙◌, ap, subst, arith, length-append, Result, Ok, Err, IfOk, IfErr}
+use Rattle.std.proofs.Common.{◌≡◌, ◌≢◌, ◌⊎◌, inl, inr, ℕ, ◌+◌, ◌-◌, ◌*◌, ◌/◌, ◌%◌, ◌<◌, ◌^◌, Bool, List, [], ◌∷◌, ◌++◌, length, take, drop, get_or, refl, sym, ◌∙◌, ap, subst, arith, length-append, Result, Ok, Err, IfOk, IfErr}
 use Rattle.std.proofs.lemmas.List.{take_at, drop_at}
 use Rattle.drm_bits.specs.Bits.{value, digits, bits_of}
 use Rattle.drm_bits.specs.Crc.{IsCheck, crc16_polynomial, zeros}
@@ -187,10 +187,23 @@ only_fault (Err g) bits read (inl none) f is = inr (ap Err none)
 only_fault (Err g) bits read (inr wrong) f is = inl (ap Err (one_block_fault g f bits wrong is))
 
 abbrev IsTold : List Bool → BlockInfo → Type 0
-IsTold bits i = (block : Block) × IsBlock block bits × (i ≡ info_of block bits)
+IsTold bits i = (block : Block) × (is : IsBlock block bits) × (i ≡ info_of block bits is)
 
-pub only_told : (r : Result BlockInfo SdcFault) (bits : List Bool) → IfOk r (IsTold bits) → IfErr r (IsBlockFault bits) → (b : Block) → IsBlock b bits → r ≡ Ok (info_of b bits)
-only_told (Ok i) bits told fault b is = ap Ok (told.2 ∙ ap (λ (k : Block). info_of k bits) (one_block told.0 b bits told.1 is))
+-- a block has one length of its field
+one_room : (bits : List Bool) (afs : ℕ) (field : List ℕ) (check : List Bool) → IsFramed afs field check bits → length field ≡ (length bits - 20) / 8
+one_room bits afs field check framed =
+    elim (framed_length afs field check bits framed) [ inl e ↦ omega (arith, e) | inr e ↦ omega (arith, e) ]
+
+-- one thing is told of a block
+pub one_told : (a b : Block) (bits others : List Bool) → bits ≡ others → (x : IsBlock a bits) (y : IsBlock b others) → info_of a bits x ≡ info_of b others y
+one_told a b bits others same x y =
+    let blocks : a ≡ b = one_block a b others (subst (IsBlock a) same x) y in
+    let rooms : length x.field ≡ length y.field =
+    one_room bits a.afs x.field x.check x.framed ∙ (ap (λ (l : List Bool). (length l - 20) / 8) same ∙ sym (one_room others b.afs y.field y.check y.framed)) in
+    ap (λ (k : Block). record { afs = k.afs; room = length x.field }) blocks ∙ ap (λ n. record { afs = b.afs; room = n }) rooms
+
+pub only_told : (r : Result BlockInfo SdcFault) (bits : List Bool) → IfOk r (IsTold bits) → IfErr r (IsBlockFault bits) → (b : Block) (is : IsBlock b bits) → r ≡ Ok (info_of b bits is)
+only_told (Ok i) bits told fault b is = ap Ok (told.2 ∙ one_told told.0 b bits bits refl told.1 is)
 only_told (Err f) bits told wrong b is = absurd (block_or_fault b f bits is wrong)
 
 pub only_told_fault : (r : Result BlockInfo SdcFault) (bits : List Bool) → IfOk r (IsTold bits) → IfErr r (IsBlockFault bits) → (f : SdcFault) → IsBlockFault bits f → r ≡ Err f

@@ -1,5 +1,5 @@
 -- SDC blocks (ES 201 980): the AFS index, the data field and their check value.
-use Rattle.std.specs.Prelude.{ℕ, ◌≡◌, ◌≢◌, ◌+◌, ◌-◌, ◌*◌, ◌/◌, ◌%◌, ◌^◌, ◌<◌, ◌≤◌, ◌⊎◌, Bool, List, ◌∷◌, ◌++◌, length, take, slice_index}
+use Rattle.std.specs.Prelude.{ℕ, ◌≡◌, ◌≢◌, ◌+◌, ◌*◌, ◌%◌, ◌^◌, ◌<◌, ◌≤◌, ◌⊎◌, Bool, List, ◌∷◌, ◌++◌, length, take, slice_index}
 use Rattle.drm_bits.specs.Bits.{value, digits, bits_of}
 use Rattle.drm_bits.specs.Crc.{IsCheck, crc16_polynomial, zeros}
 use Rattle.drm_sdc.specs.declared.block.Block.{Block}
@@ -32,9 +32,9 @@ pub record IsBlock (block : Block) (bits : List Bool) : Type 0 where
   pub checked : IsChecked block.afs field check
   pub entities : IsField block.entities block.tail field
 
--- what is told of a block: its index, and the bytes of its field
-abbrev pub info_of : Block → List Bool → BlockInfo
-info_of block bits = record { afs = block.afs; room = (length bits - 20) / 8 }
+-- what is told of a block: its index, and how many bytes its data field has
+abbrev pub info_of : (block : Block) (bits : List Bool) → IsBlock block bits → BlockInfo
+info_of block bits is = record { afs = block.afs; room = length is.field }
 
 -- so many bits are a block's, in one of the forms
 abbrev pub IsBlockLength : ℕ → Type 0

@@ -69,8 +69,8 @@ fn read_whole(alloc: Global, value: &[u8], bits: u32) -> Result<Block, SdcFault>
 pub fn check_block(value: &[u8], bits: u32) -> Result<BlockInfo, SdcFault>
     requires { length value.now ≡ (bits + 7) / 8 }
     // There is a block of which this is told.
-    ensures right { IfOk result (λ i. (block : Block) × IsBlock block (take bits (bits_of value.now)) × (i ≡ info_of block (take bits (bits_of value.now)))) }
-    ensures only { (block : Block) → IsBlock block (take bits (bits_of value.now)) → result ≡ Ok (info_of block (take bits (bits_of value.now))) }
+    ensures right { IfOk result (λ i. (block : Block) × (is : IsBlock block (take bits (bits_of value.now))) × (i ≡ info_of block (take bits (bits_of value.now)) is)) }
+    ensures only { (block : Block) (is : IsBlock block (take bits (bits_of value.now))) → result ≡ Ok (info_of block (take bits (bits_of value.now)) is) }
 
     // Else the fault is the first one.
     ensures fault { IfErr result (IsBlockFault (take bits (bits_of value.now))) }
@@ -81,7 +81,7 @@ pub fn check_block(value: &[u8], bits: u32) -> Result<BlockInfo, SdcFault>
 
 fn check_whole(value: &[u8], bits: u32) -> Result<BlockInfo, SdcFault>
     requires { length value.now ≡ (bits + 7) / 8 }
-    ensures right { IfOk result (λ i. (block : Block) × IsBlock block (take bits (bits_of value.now)) × (i ≡ info_of block (take bits (bits_of value.now)))) }
+    ensures right { IfOk result (λ i. (block : Block) × (is : IsBlock block (take bits (bits_of value.now))) × (i ≡ info_of block (take bits (bits_of value.now)) is)) }
     ensures fault { IfErr result (IsBlockFault (take bits (bits_of value.now))) }
 {
     let room = block_room(value, bits)?;

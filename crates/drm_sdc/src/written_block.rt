@@ -52,6 +52,8 @@ pub fn frame_field(afs: u8, field: &[u8], into: &mut [u8]) -> u32
     requires room { length field.now ≤ 1023 }
     requires into { length field.now + 3 ≤ length into.old }
     ensures bits { result ≡ 8 * length field.now + 20 }
+    // Whatever the field has, it stands between the index and its check value; so the bits are the block of what it has.
+    ensures framed { (check : List Bool) × IsChecked afs field.now check × (take result (bits_of into.new) ≡ first_form afs field.now check) }
     ensures block { (entities : List Entity) (tail : List ℕ) → IsField entities tail field.now → IsBlock (record { afs = afs; entities = entities; tail = tail }) (take result (bits_of into.new)) }
     ensures last { take 4 (drop result (bits_of into.new)) ≡ zeros 4 }
     ensures rest { drop (length field.now + 3) into.new ≡ drop (length field.now + 3) into.old }

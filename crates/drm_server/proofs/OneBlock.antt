@@ -52,16 +52,19 @@ some_is a b same = cc
 bits_size : (plan : Plan) (sf room : ℕ) (b : BlockBytes) → IsBlockAt plan sf room b → length (take b.bits (bits_of b.value)) ≡ 8 * room + 20
 bits_size plan sf room b at = length-take-le b.bits (bits_of b.value) (omega (arith, length-bits_of b.value, at.bits, at.size)) ∙ at.bits
 
-pub one_block : (plan : Plan) (sf room : ℕ) (b c : BlockBytes) → IsBlockAt plan sf room b → IsBlockAt plan sf room c → IsBytes b.value → IsBytes c.value → b ≡ c
-one_block plan sf room b c x y small_b small_c =
+pub same_bits : (plan : Plan) (sf room : ℕ) (b c : BlockBytes) → IsBlockAt plan sf room b → IsBlockAt plan sf room c → take b.bits (bits_of b.value) ≡ take c.bits (bits_of c.value)
+same_bits plan sf room b c x y =
     let block : y.block ≡ x.block = some_is y.block x.block (sym y.is ∙ x.is) in
-    let bits : b.bits ≡ c.bits = x.bits ∙ sym y.bits in
-    let front : take b.bits (bits_of b.value) ≡ take c.bits (bits_of c.value) =
     one_spelling x.block room (take b.bits (bits_of b.value)) (take c.bits (bits_of c.value)) x.spelled (subst (λ (k : Block). IsBlock k (take c.bits (bits_of c.value))) block y.spelled)
-    (bits_size plan sf room b x) (bits_size plan sf room c y) in
+    (bits_size plan sf room b x) (bits_size plan sf room c y)
+
+pub one_block : (plan : Plan) (sf room : ℕ) (b c : BlockBytes) → IsBlockAt plan sf room b → IsBlockAt plan sf room c → b ≡ c
+one_block plan sf room b c x y =
+    let bits : b.bits ≡ c.bits = x.bits ∙ sym y.bits in
+    let front : take b.bits (bits_of b.value) ≡ take c.bits (bits_of c.value) = same_bits plan sf room b c x y in
     let all : bits_of b.value ≡ bits_of c.value =
     sym (take-append-drop b.bits (bits_of b.value))
     ∙ (ap (λ l. l ++ drop b.bits (bits_of b.value)) front
     ∙ (ap (λ l. take c.bits (bits_of c.value) ++ l) (x.padding ∙ sym y.padding) ∙ take-append-drop c.bits (bits_of c.value))) in
-    let value : b.value ≡ c.value = same_bytes b.value c.value small_b small_c all in
+    let value : b.value ≡ c.value = same_bytes b.value c.value x.octets y.octets all in
     ap (λ (n : ℕ). record { bits = n; value = b.value }) bits ∙ ap (λ (l : List ℕ). record { bits = c.bits; value = l }) value

@@ -1,5 +1,5 @@
 -- A frame has one packet.
-use Rattle.std.proofs.Common.{◌≡◌, ◌-◌, ◌*◌, ◌/◌, ◌%◌, ◌==◌, ◌≤◌, ℕ, Bool, true, false, List, ◌++◌, map, length, arith, Option, Some, None, refl, sym, ap, subst, ◌∙◌}
+use Rattle.std.proofs.Common.{◌≡◌, ◌-◌, ◌*◌, ◌/◌, ◌%◌, ◌==◌, ◌≤◌, ℕ, Bool, true, false, List, ◌++◌, map, length, arith, Option, Some, refl, sym, ap, subst, ◌∙◌}
 use Rattle.std.specs.Int.{w16, to_be_bytes}
 use Rattle.drm_bits.specs.Bits.{IsBytes}
 use Rattle.drm_bits.specs.declared.description.MuxDesc.{MuxDesc}
@@ -10,9 +10,6 @@ use Rattle.drm_schedule.specs.declared.plan.Plan.{Plan}
 use Rattle.drm_timeline.specs.Description.{description_of}
 use Rattle.dcp_af.specs.Packet.{AfPacket, IsAf, head}
 use Rattle.drm_bits.proofs.Checks.{one_check}
-use Rattle.dcp_tag.specs.Tag as tag
-use Rattle.mdi_items.specs.Names.{name_at, sdc_}
-use Rattle.mdi_items.specs.Written.{spelling, stream_pieces}
 use Rattle.mdi_items.specs.RoundTrip.{Parts, BlockBytes, IsWrittenOf}
 use Rattle.mdi_items.proofs.SpellingLemmas as spellings
 use Rattle.drm_timeline.specs.Numbers.{sequence_number}
@@ -20,26 +17,11 @@ use Rattle.drm_server.specs.Frames.{stream_bytes, HasBlockWhere, IsFrameAt, IsPa
 use Rattle.drm_server.proofs.ByteLemmas.{bytes_before, bytes_behind}
 use Rattle.drm_server.proofs.OneBlock.{one_block}
 
--- the bytes of a block in a payload
-HasBytes : Option BlockBytes → Type 0
-HasBytes None = Unit {0}
-HasBytes (Some b) = IsBytes b.value
-
-block_bytes : (o : Option BlockBytes) (p : Parts) (payload : List ℕ) → p.block ≡ o → IsWrittenOf p payload → IsBytes payload → HasBytes o
-unfolding HasBytes
-block_bytes None p payload is written small = tt
-block_bytes (Some b) p payload is (front, is_head, same) small =
-    let streams : List ℕ = spelling (stream_pieces 0 p.streams) in
-    let name : List ℕ = tag.head (name_at sdc_) b.bits in
-    let all : payload ≡ front ++ ((name ++ b.value) ++ streams) = rw is at same in
-    bytes_behind name b.value (bytes_before (name ++ b.value) streams (bytes_behind front ((name ++ b.value) ++ streams) (subst IsBytes all small)))
-
-one_where : (first : Bool) (plan : Plan) (sf room : ℕ) (a b : Option BlockBytes) → HasBlockWhere first plan sf room a → HasBlockWhere first plan sf room b → HasBytes a → HasBytes b → a ≡ b
-unfolding HasBytes
-one_where true plan sf room a b (x, is_x, at_x) (y, is_y, at_y) small_a small_b =
-    let same : x ≡ y = one_block plan sf room x y at_x at_y (subst HasBytes is_x small_a) (subst HasBytes is_y small_b) in
+one_where : (first : Bool) (plan : Plan) (sf room : ℕ) (a b : Option BlockBytes) → HasBlockWhere first plan sf room a → HasBlockWhere first plan sf room b → a ≡ b
+one_where true plan sf room a b (x, is_x, at_x) (y, is_y, at_y) =
+    let same : x ≡ y = one_block plan sf room x y at_x at_y in
     is_x ∙ (ap (λ (z : BlockBytes). Some z) same ∙ sym is_y)
-one_where false plan sf room a b x y small_a small_b = x ∙ sym y
+one_where false plan sf room a b x y = x ∙ sym y
 
 some_is : (a b : Config) → Some a ≡ Some b → a ≡ b
 some_is a b same = cc
@@ -56,12 +38,12 @@ same_parts p q count fac mux mode block streams =
     ∙ (ap (λ (o : Option BlockBytes). record p { count = q.count; fac = q.fac; mux = q.mux; mode = q.mode; block = o }) block
     ∙ ap (λ (l : List (List ℕ)). record q { streams = l }) streams))))
 
-one_frame : (plan : Plan) (t : ℕ) (p q : Parts) → IsFrameAt plan t p → IsFrameAt plan t q → HasBytes p.block → HasBytes q.block → p ≡ q
-one_frame plan t p q x y small_p small_q =
+pub one_frame : (plan : Plan) (t : ℕ) (p q : Parts) → IsFrameAt plan t p → IsFrameAt plan t q → p ≡ q
+one_frame plan t p q x y =
     let same : x.config ≡ y.config = some_is x.config y.config (sym x.holds ∙ y.holds) in
     let first : Bool = t % 3 == 0 in
     same_parts p q (x.count ∙ sym y.count) (some_fac p.fac q.fac (sym x.fac ∙ y.fac)) (x.mux ∙ (ap description_of same ∙ sym y.mux)) (x.mode ∙ (ap (λ (c : Config). c.mode) same ∙ sym y.mode))
-    (one_where first plan (t / 3) y.config.room p.block q.block (subst (λ (c : Config). HasBlockWhere first plan (t / 3) c.room p.block) same x.block) y.block small_p small_q)
+    (one_where first plan (t / 3) y.config.room p.block q.block (subst (λ (c : Config). HasBlockWhere first plan (t / 3) c.room p.block) same x.block) y.block)
     (x.streams ∙ (ap (λ (c : Config). map (stream_bytes (t - 3 * c.start)) c.streams) same ∙ sym y.streams))
 
 -- the payload of a packet
@@ -79,8 +61,7 @@ one_packet plan t packet other x y =
     let af : List ℕ → AfPacket = λ payload. record { seq = sequence_number plan t; checked = true; minor = 0; payload = payload } in
     let small_x : IsBytes x.payload = payload_bytes (af x.payload) packet x.is x.octets in
     let small_y : IsBytes y.payload = payload_bytes (af y.payload) other y.is y.octets in
-    let parts : x.parts ≡ y.parts =
-    one_frame plan t x.parts y.parts x.frame y.frame (block_bytes x.parts.block x.parts x.payload refl x.written small_x) (block_bytes y.parts.block y.parts y.payload refl y.written small_y) in
+    let parts : x.parts ≡ y.parts = one_frame plan t x.parts y.parts x.frame y.frame in
     let payload : x.payload ≡ y.payload = spellings.one_spelling y.parts x.payload y.payload (subst (λ (p : Parts). IsWrittenOf p x.payload) parts x.written) y.written small_x small_y in
     one_af (af y.payload) packet other refl (subst (λ (l : List ℕ). IsAf (af l) packet) payload x.is) y.is
 

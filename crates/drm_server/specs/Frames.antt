@@ -32,6 +32,7 @@ pub record IsBlockAt (plan : Plan) (sf : ℕ) (room : ℕ) (b : BlockBytes) : Ty
   pub is : block_of plan sf ≡ Some block
   pub bits : b.bits ≡ 8 * room + 20
   pub size : length b.value ≡ room + 3
+  pub octets : IsBytes b.value
   pub spelled : IsBlock block (take b.bits (bits_of b.value))
   pub padding : drop b.bits (bits_of b.value) ≡ zeros 4
 

@@ -9,6 +9,10 @@ use Rattle.drm_server.specs.Multiplex.{multiplex_at}
 use Rattle.drm_server.specs.Datagrams.{AreDatagrams, AreBefore}
 use Rattle.drm_server.specs.Capture.{IsCapture}
 
+-- what a frame is made of is determined
+abbrev pub HasOneFrame : Type 0
+HasOneFrame = (plan : Plan) (t : ℕ) (parts others : Parts) → IsFrameAt plan t parts → IsFrameAt plan t others → parts ≡ others
+
 -- the packet of a frame is determined
 abbrev pub HasOnePacket : Type 0
 HasOnePacket = (plan : Plan) (t : ℕ) (packet other : List ℕ) → IsPacketAt plan t packet → IsPacketAt plan t other → packet ≡ other

@@ -1,8 +1,13 @@
 //! Laws of packets and datagrams, each on a function that does nothing.
 
-ghost use Rattle.drm_server.specs.Laws.{HasOnePacket, HasOneDelivery, FirstOnesAreFront, HasOneCapture, HasMultiplexFrame};
+ghost use Rattle.drm_server.specs.Laws.{HasOneFrame, HasOnePacket, HasOneDelivery, FirstOnesAreFront, HasOneCapture, HasMultiplexFrame};
 
 use dcp_pft::one_fragment;
+
+/// What a frame is made of is determined by the schedule.
+pub fn one_frame()
+    ensures { HasOneFrame }
+{}
 
 /// The packet of a frame is determined by the schedule.
 pub fn one_packet()

@@ -12,7 +12,8 @@ mod server;
 mod stream;
 
 pub use laws::{
-    first_ones_are_front, one_capture, one_delivery, one_packet, streams_make_the_multiplex_frame,
+    first_ones_are_front, one_capture, one_delivery, one_frame, one_packet,
+    streams_make_the_multiplex_frame,
 };
 pub use send::serve_link;
 pub use serve::serve_sink;

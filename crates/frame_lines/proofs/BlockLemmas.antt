@@ -3,18 +3,14 @@ use Rattle.std.proofs.Common.{◌≡◌, ◌+◌, ◌*◌, ◌%◌, ◌≤◌, �
 use Rattle.std.proofs.lemmas.List.{take-take, length-take-le}
 use Rattle.std.proofs.lemmas.Bool.Decides.{nat_tests}
 use Rattle.drm_bits.specs.Bits.{bits_of}
-use Rattle.drm_bits.proofs.BitsLemmas.{length-bits_of}
 use Rattle.drm_bits.proofs.ByteBits.{bits_of-take}
 use Rattle.dcp_tag.specs.Tag.{bytes_for}
-use Rattle.drm_sdc.specs.declared.block.Block.{Block}
-use Rattle.drm_sdc.specs.Block.{IsBlock}
 use Rattle.drm_schedule.specs.declared.plan.Plan.{Plan}
 use Rattle.mdi_items.specs.declared.view.SdcSpan.{SdcSpan}
 use Rattle.mdi_items.specs.RoundTrip.{BlockBytes, IsBlockOf}
 use Rattle.drm_show.specs.HexBits.{hex_of_bits}
 use Rattle.drm_show.specs.FrameLine.{front_bits, block_text}
-use Rattle.drm_server.specs.Frames.{IsBlockAt, HasBlockWhere}
-use Rattle.drm_server.proofs.OneBlock.{one_spelling}
+use Rattle.drm_server.specs.Frames.{HasBlockWhere}
 use Rattle.frame_lines.specs.Line.{block_digits}
 
 -- the first bits of bytes are those of as many bytes as they need
@@ -55,22 +51,3 @@ read_bits payload room (Some b) (Some span) form (bits, value) =
 -- what is printed of the block that is read is the digits of the schedule's
 pub block_read : (first : Bool) (plan : Plan) (sf room : ℕ) (payload : List ℕ) (o : Option BlockBytes) (read : Option SdcSpan) → HasBlockWhere first plan sf room o → IsBlockOf payload o read → block_text payload read ≡ block_digits o
 block_read first plan sf room payload o read has is = read_bits payload room o read (has_first_form first plan sf room o has) is
-
-some_is : (a b : Block) → Some a ≡ Some b → a ≡ b
-some_is a b same = cc
-
--- a block of a schedule has so many bits
-bits_size : (plan : Plan) (sf room : ℕ) (b : BlockBytes) → IsBlockAt plan sf room b → length (take b.bits (bits_of b.value)) ≡ 8 * room + 20
-bits_size plan sf room b at = length-take-le b.bits (bits_of b.value) (omega (arith, length-bits_of b.value, at.bits, at.size)) ∙ at.bits
-
-same_bits : (plan : Plan) (sf room : ℕ) (b c : BlockBytes) → IsBlockAt plan sf room b → IsBlockAt plan sf room c → take b.bits (bits_of b.value) ≡ take c.bits (bits_of c.value)
-same_bits plan sf room b c x y =
-    let block : y.block ≡ x.block = some_is y.block x.block (sym y.is ∙ x.is) in
-    one_spelling x.block room (take b.bits (bits_of b.value)) (take c.bits (bits_of c.value)) x.spelled (subst (λ (k : Block). IsBlock k (take c.bits (bits_of c.value))) block y.spelled)
-    (bits_size plan sf room b x) (bits_size plan sf room c y)
-
--- a super frame's block has one row of digits
-pub one_row : (first : Bool) (plan : Plan) (sf room : ℕ) (o p : Option BlockBytes) → HasBlockWhere first plan sf room o → HasBlockWhere first plan sf room p → block_digits o ≡ block_digits p
-one_row true plan sf room o p (b, is_b, at_b) (c, is_c, at_c) =
-    ap block_digits is_b ∙ (ap hex_of_bits (same_bits plan sf room b c at_b at_c) ∙ sym (ap block_digits is_c))
-one_row false plan sf room o p none others = ap block_digits (none ∙ sym others)

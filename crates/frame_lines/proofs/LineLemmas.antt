@@ -14,18 +14,18 @@ use Rattle.drm_mux.specs.declared.frame.Spans.{Spans}
 use Rattle.drm_mux.specs.Frame.{multiplex_frame, streams_in}
 use Rattle.drm_schedule.specs.declared.config.Config.{Config}
 use Rattle.drm_schedule.specs.declared.plan.Plan.{Plan}
-use Rattle.drm_timeline.specs.Description.{description_of}
 use Rattle.mdi_items.specs.Frame.{Frame as MdiFrame}
 use Rattle.mdi_items.specs.RoundTrip.{Parts, IsFrameOf}
 use Rattle.mod_feed.specs.Items.{Item}
 use Rattle.mod_delivery.specs.Given.{IsServed}
-use Rattle.drm_server.specs.Frames.{stream_bytes, HasBlockWhere, IsFrameAt}
+use Rattle.drm_server.specs.Frames.{stream_bytes, IsFrameAt}
 use Rattle.drm_server.proofs.MultiplexLemmas.{of_parts}
+use Rattle.drm_server.proofs.OnePacket.{one_frame}
 use Rattle.drm_show.specs.FrameLine.{block_text, description_text, bytes_text, frame_bytes, frame_line}
 use Rattle.drm_show.specs.Report.{item_line}
 use Rattle.frame_lines.specs.Line.{block_digits, line_of, IsFrameLine}
 use Rattle.frame_lines.proofs.StreamLemmas.{same_multiplex, length-pieces, piece_at}
-use Rattle.frame_lines.proofs.BlockLemmas.{block_read, one_row}
+use Rattle.frame_lines.proofs.BlockLemmas.{block_read}
 
 -- a line of its words
 words : ℕ → ℕ → Mode → List ℕ → List ℕ → List ℕ → List ℕ → List ℕ
@@ -87,29 +87,14 @@ served_lines plan t q item is =
           ∙ sym (line_words q p frame.fac_bytes multiplex)));
     }
 
-some_config : (a b : Config) → Some a ≡ Some b → a ≡ b
-some_config a b same = cc
-
-some_fac : (a b : Fac) → Some a ≡ Some b → a ≡ b
-some_fac a b same = cc
-
 some_bytes : (a b : List ℕ) → Some a ≡ Some b → a ≡ b
 some_bytes a b same = cc
 
 pub has_one_line : (plan : Plan) (t q : ℕ) (line other : List ℕ) → IsFrameLine plan t q line → IsFrameLine plan t q other → line ≡ other
 has_one_line plan t q line other x y =
-    let first : Bool = t % 3 == 0 in
-    let same : x.frame.config ≡ y.frame.config = some_config x.frame.config y.frame.config (sym x.frame.holds ∙ y.frame.holds) in
-    let fac : x.parts.fac ≡ y.parts.fac = some_fac x.parts.fac y.parts.fac (sym x.frame.fac ∙ y.frame.fac) in
-    let bytes : x.fac ≡ y.fac = fac_once y.parts.fac x.fac y.fac (subst (λ (f : Fac). IsFac f x.fac) fac x.is_fac) y.is_fac in
-    let mode : x.parts.mode ≡ y.parts.mode = x.frame.mode ∙ (ap (λ (c : Config). c.mode) same ∙ sym y.frame.mode) in
-    let mux : x.parts.mux ≡ y.parts.mux = x.frame.mux ∙ (ap description_of same ∙ sym y.frame.mux) in
-    let block : block_digits x.parts.block ≡ block_digits y.parts.block =
-    one_row first plan (t / 3) y.frame.config.room x.parts.block y.parts.block (subst (λ (c : Config). HasBlockWhere first plan (t / 3) c.room x.parts.block) same x.frame.block) y.frame.block in
+    let parts : x.parts ≡ y.parts = one_frame plan t x.parts y.parts x.frame y.frame in
+    let fac : x.fac ≡ y.fac = fac_once y.parts.fac x.fac y.fac (subst (λ (p : Parts). IsFac p.fac x.fac) parts x.is_fac) y.is_fac in
     let multiplex : x.multiplex ≡ y.multiplex = some_bytes x.multiplex y.multiplex (sym x.is_multiplex ∙ y.is_multiplex) in
     x.line_is
-    ∙ (line_words q x.parts x.fac x.multiplex
-    ∙ (same_words q x.parts.count y.parts.count x.parts.mode y.parts.mode x.fac y.fac (block_digits x.parts.block) (block_digits y.parts.block) (description_text x.parts.mux) (description_text y.parts.mux)
-    (bytes_text x.multiplex) (bytes_text y.multiplex)
-    (x.frame.count ∙ sym y.frame.count) mode bytes block (ap description_text mux) (ap bytes_text multiplex)
-    ∙ (sym (line_words q y.parts y.fac y.multiplex) ∙ sym y.line_is)))
+    ∙ (ap (λ (p : Parts). line_of q p x.fac x.multiplex) parts
+    ∙ (ap (λ (bytes : List ℕ). line_of q y.parts bytes x.multiplex) fac ∙ (ap (λ (bytes : List ℕ). line_of q y.parts y.fac bytes) multiplex ∙ sym y.line_is)))

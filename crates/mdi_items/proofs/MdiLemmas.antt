@@ -9,9 +9,9 @@ use Rattle.drm_mux.specs.declared.frame.Spans.{Spans}
 use Rattle.drm_fac.specs.declared.mode.Mode.{Mode}
 use Rattle.drm_fac.specs.Mode.{mode_code}
 use Rattle.drm_fac.proofs.ModeLemmas.{one_code}
-use Rattle.drm_sdc.specs.declared.block.Block.{Block}
-use Rattle.drm_sdc.specs.Block.{IsBlock, info_of}
-use Rattle.drm_sdc.proofs.BlockLaws.{one_block}
+use Rattle.drm_sdc.specs.declared.block.BlockInfo.{BlockInfo}
+use Rattle.drm_sdc.specs.Block.{info_of}
+use Rattle.drm_sdc.proofs.BlockLaws.{one_told}
 use Rattle.dcp_tag.specs.Tag.{TagItem}
 use Rattle.dcp_tag.proofs.TagLemmas.{payload_once}
 use Rattle.mdi_items.specs.declared.known.Found.{Found}
@@ -39,12 +39,13 @@ one_span payload known None (Some b) h (found, block, at, some, is_block, is) = 
 one_span payload known (Some a) None (found, block, at, some, is_block, is) k = absurd (no_bits known found k at some)
 one_span payload known (Some a) (Some b) (found, block, at, some, is_block, is) (found', block', at', some', is_block', is') =
     let same : found' ≡ found = one_place known sdc_ found' found at' at in
-    let moved : IsBlock block' (block_bits payload found) = subst (λ (x : Found). IsBlock block' (block_bits payload x)) same is_block' in
-    let blocks : block ≡ block' = one_block block block' (block_bits payload found) is_block moved in
+    let told : BlockInfo = info_of block' (block_bits payload found') is_block' in
+    let infos : info_of block (block_bits payload found) is_block ≡ told =
+    one_told block block' (block_bits payload found) (block_bits payload found') (ap (λ (x : Found). block_bits payload x) (sym same)) is_block is_block' in
     let spans : a ≡ b =
     is
-    ∙ (ap (λ (x : Block). record { at = found.at; bits = found.bits; info = info_of x (block_bits payload found) }) blocks
-    ∙ (ap (λ (x : Found). record { at = x.at; bits = x.bits; info = info_of block' (block_bits payload x) }) (sym same) ∙ sym is')) in
+    ∙ (ap (λ (i : BlockInfo). record { at = found.at; bits = found.bits; info = i }) infos
+    ∙ (ap (λ (x : Found). record { at = x.at; bits = x.bits; info = told }) (sym same) ∙ sym is')) in
     ap (λ (s : SdcSpan). Some s) spans
 
 frame_from : ℕ → ℕ → ℕ → List ℕ → Fac → MuxDesc → Mode → Option SdcSpan → Spans → Frame

@@ -272,14 +272,15 @@ block_read : (payload : List ℕ) (known : List (Option Found)) (fac : Fac) (blo
     → (span : Option SdcSpan) × IsBlockSpan payload known span × IsBlockOf payload block span
 block_read payload known fac None none suits = (None, ap bits_there none, tt)
 block_read payload known fac (Some b) h (first, fits, long, (block, is)) =
-    let bits : block_bits payload h.found ≡ take b.bits (bits_of b.value) = block_is payload (get_or known sdc_ None) b h in (
-      Some (record { at = h.found.at; bits = h.found.bits; info = info_of block (block_bits payload h.found) }),
+    let bits : block_bits payload h.found ≡ take b.bits (bits_of b.value) = block_is payload (get_or known sdc_ None) b h in
+    let stands : IsBlock block (block_bits payload h.found) = subst (λ (l : List Bool). IsBlock block l) (sym bits) is in (
+      Some (record { at = h.found.at; bits = h.found.bits; info = info_of block (block_bits payload h.found) stands }),
       (
         h.found,
         block,
         h.there,
         (λ none. block_some b block long is (sym h.bits ∙ none)),
-        subst (λ (l : List Bool). IsBlock block l) (sym bits) is,
+        stands,
         refl,
       ),
       (h.bits, h.bytes),

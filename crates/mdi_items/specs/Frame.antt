@@ -79,8 +79,8 @@ block_bits payload found = take found.bits (bits_of (bytes_at payload found))
 abbrev pub IsBlockSpan : List ℕ → List (Option Found) → Option SdcSpan → Type 0
 IsBlockSpan payload known None = bits_there (slice_index_or known sdc_ None) ≡ 0
 IsBlockSpan payload known (Some span) =
-    (found : Found) × (block : Block) × IsAt known sdc_ found × (found.bits ≢ 0) × IsBlock block (block_bits payload found)
-    × (span ≡ record { at = found.at; bits = found.bits; info = info_of block (block_bits payload found) })
+    (found : Found) × (block : Block) × IsAt known sdc_ found × (found.bits ≢ 0) × (is : IsBlock block (block_bits payload found))
+    × (span ≡ record { at = found.at; bits = found.bits; info = info_of block (block_bits payload found) is })
 
 -- The frame says what the items say.
 pub record Says (payload : List ℕ) (known : List (Option Found)) (frame : Frame) : Type 0 where

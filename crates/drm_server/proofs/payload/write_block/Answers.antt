@@ -15,6 +15,6 @@ returns-clause-written c =
     let b = c.block_into-bits in
     let count : b.result ≡ 8 * c.args.config.now.room + 20 = block_bits b.result (config_of c.args.plan.now c.args.sf) c.args.config.now b.ensures.bits c.requires.config.holds in (
       _,
-      block_at c.args.plan.now c.args.sf c.args.config.now.room c.from.result b.result b.new.into b.array_long c.requires.config.fits.room_fits c.from.ensures count b.ensures.block b.ensures.last,
+      block_at c.args.plan.now c.args.sf c.args.config.now.room c.from.result b.result b.new.into b.array_long c.requires.config.fits.room_fits c.from.ensures count b.ensures.block b.ensures.last b.ensures.octets,
       c.block.ensures.written,
     )
