@@ -10,3 +10,4 @@ pub mod ReceiveStatus
 pub mod AirStatus
 pub mod AirLemmas
 pub mod LiveLemmas
+pub mod CommandLemmas

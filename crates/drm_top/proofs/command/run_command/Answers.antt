@@ -1,0 +1,63 @@
+use Rattle.std.proofs.Common.{◌≡◌, inl, inr, refl, subst, le_refl}
+use Rattle.drm_faults.specs.declared.fault.Fault.TheVariants as faults
+use Rattle.drm_top.proofs.CommandLemmas.{fault_of_whole, whole_lacks_none, dock_still}
+use Rattle.drm_top.proofs.OpeningLemmas.{opens_unsent}
+use Rattle.drm_top.proofs.command.run_command.Goals as goal
+
+pub returns-in-Fac : goal.returns-in-Fac
+returns-in-Fac g c = record {
+  words = λ e. c.fac.ensures.words (fault_of_whole c.whole.result c.fac.result faults.Words c.whole.ensures e);
+  memory = λ e. absurd (c.fac.ensures.memory (fault_of_whole c.whole.result c.fac.result faults.NoMemory c.whole.ensures e));
+  run = rw c.in-Fac.is ((c.fac.result, c.whole.ensures, c.fac.ensures.run), refl, refl);
+  read = λ e. inl (c.fac.ensures.run.read_cause.rose (fault_of_whole c.whole.result c.fac.result faults.Read c.whole.ensures e));
+  write = record { later = c.fac.ensures.run.write_cause.later; rose = λ e. c.fac.ensures.run.write_cause.rose (fault_of_whole c.whole.result c.fac.result faults.Write c.whole.ensures e) };
+  link = λ e. absurd (c.fac.ensures.link (fault_of_whole c.whole.result c.fac.result faults.Link c.whole.ensures e));
+  lacking = λ e. absurd (whole_lacks_none c.whole.result c.fac.result c.whole.ensures e);
+  unsent = λ e. dock_still (g.D.Dock.known c.args.dock.now);
+  dock = λ none. refl;
+}
+
+pub returns-in-Check : goal.returns-in-Check
+returns-in-Check g c = record {
+  words = λ e. c.check.ensures.words (fault_of_whole c.whole-in-Check.result c.check.result faults.Words c.whole-in-Check.ensures e);
+  memory = λ e. (refl, c.check.ensures.memory (fault_of_whole c.whole-in-Check.result c.check.result faults.NoMemory c.whole-in-Check.ensures e));
+  run = rw c.in-Check.is ((c.check.result, c.whole-in-Check.ensures, rw (← c.text.ensures) c.check.ensures.run), refl, refl);
+  read = λ e. inr (c.check.ensures.run.read_cause.rose (fault_of_whole c.whole-in-Check.result c.check.result faults.Read c.whole-in-Check.ensures e));
+  write = record { later = c.check.ensures.run.write_cause.later; rose = λ e. c.check.ensures.run.write_cause.rose (fault_of_whole c.whole-in-Check.result c.check.result faults.Write c.whole-in-Check.ensures e) };
+  link = λ e. absurd (c.check.ensures.link (fault_of_whole c.whole-in-Check.result c.check.result faults.Link c.whole-in-Check.ensures e));
+  lacking = λ e. absurd (whole_lacks_none c.whole-in-Check.result c.check.result c.whole-in-Check.ensures e);
+  unsent = λ e. dock_still (g.D.Dock.known c.args.dock.now);
+  dock = λ none. refl;
+}
+
+pub returns-in-Serve : goal.returns-in-Serve
+returns-in-Serve g c = record {
+  words = λ e. c.serve.ensures.words (fault_of_whole c.whole-in-Serve.result c.serve.result faults.Words c.whole-in-Serve.ensures e);
+  memory = λ e. (refl, c.serve.ensures.memory (fault_of_whole c.whole-in-Serve.result c.serve.result faults.NoMemory c.whole-in-Serve.ensures e));
+  run = rw c.in-Serve.is ((c.serve.result, c.whole-in-Serve.ensures, rw (← c.text-in-Serve.ensures) c.serve.ensures.run), refl, refl);
+  read = λ e. inr (c.serve.ensures.run.read_cause.rose (fault_of_whole c.whole-in-Serve.result c.serve.result faults.Read c.whole-in-Serve.ensures e));
+  write = record { later = c.serve.ensures.run.write_cause.later; rose = λ e. c.serve.ensures.run.write_cause.rose (fault_of_whole c.whole-in-Serve.result c.serve.result faults.Write c.whole-in-Serve.ensures e) };
+  link = λ e. absurd (c.serve.ensures.link (fault_of_whole c.whole-in-Serve.result c.serve.result faults.Link c.whole-in-Serve.ensures e));
+  lacking = λ e. absurd (whole_lacks_none c.whole-in-Serve.result c.serve.result c.whole-in-Serve.ensures e);
+  unsent = λ e. dock_still (g.D.Dock.known c.args.dock.now);
+  dock = λ none. refl;
+}
+
+pub returns-in-Send : goal.returns-in-Send
+returns-in-Send g c = record {
+  words = λ e. c.send.ensures.words (fault_of_whole c.whole-in-Send.result c.send.result faults.Words c.whole-in-Send.ensures e);
+  memory = λ e. (refl, refl);
+  run = rw c.in-Send.is ((c.send.result, c.whole-in-Send.ensures, rw (← c.text-in-Send.ensures) c.send.ensures.run), refl, refl);
+  read = λ e. inr (c.send.ensures.read (fault_of_whole c.whole-in-Send.result c.send.result faults.Read c.whole-in-Send.ensures e));
+  write = record { later = le_refl _; rose = λ e. absurd (c.send.ensures.write (fault_of_whole c.whole-in-Send.result c.send.result faults.Write c.whole-in-Send.ensures e)) };
+  link = λ e. rw c.in-Send.is tt;
+  lacking = λ e. absurd (whole_lacks_none c.whole-in-Send.result c.send.result c.whole-in-Send.ensures e);
+  unsent = λ e. c.send.ensures.unsent (fault_of_whole c.whole-in-Send.result c.send.result faults.NoMemory c.whole-in-Send.ensures e);
+  dock = λ none. absurd (none (rw c.in-Send.is tt));
+}
+
+pub returns-in-Receive-clause-run : goal.returns-in-Receive-clause-run
+returns-in-Receive-clause-run g c = rw c.in-Receive.is (c.receive.ensures.run, refl, refl)
+
+pub returns-in-Receive-clause-unsent : goal.returns-in-Receive-clause-unsent
+returns-in-Receive-clause-unsent g c = λ e. opens_unsent c.in-Receive.addresses c.receive.result (g.D.Dock.known c.args.dock.now) (g.D.Dock.known c.receive.new.dock) c.receive.ensures.run.opens
