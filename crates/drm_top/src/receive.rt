@@ -14,7 +14,8 @@ use drm_faults::Fault;
 use drm_links::{Address, Dock, Link, Opened, Sink};
 use drm_words::Addresses;
 use mod_receiver::{
-    Ended, Job, Rules, Stop, in_time_is_unbroken, job_for, reports_follow, run_all, run_live, settle,
+    Ended, Job, Rules, Stop, in_time_is_unbroken, job_for, reports_follow, run_all, run_live,
+    settle,
 };
 use std::alloc::Global;
 use std::thread::Threads;

@@ -76,8 +76,8 @@ module _ {T S O : Type 0} (reading : Reading T) (is_sound : T → Type 0) (whole
       (λ p q is x gives. elim (came_or_memory reading came p q is) [
         | inl memory ↦ inl (ends_memory Write came ending ends memory)
         | inr same ↦ inr (
-          let P : Result T ScheduleFault → Type 0 = λ v. WritesCame whole front v ending out_known out out' in
-          all_written whole front x ending out_known out out' (subst P (same ∙ gives) writes) (λ e. no_write (write_cause.rose e)))
+            let P : Result T ScheduleFault → Type 0 = λ v. WritesCame whole front v ending out_known out out' in
+            all_written whole front x ending out_known out out' (subst P (same ∙ gives) writes) (λ e. no_write (write_cause.rose e)))
       ])
 
 -- ---- the run, by how it ends
