@@ -16,7 +16,9 @@ pub returns-in-Err-clause-runs : goal.returns-in-Err-clause-runs
 returns-in-Err-clause-runs g c = λ command asked. (Err c.in-Err.fault, (c.report.ensures.status, c.report.ensures.line), c.in-Err.ensures.runs command asked)
 
 pub returns-in-Err-clause-nothing : goal.returns-in-Err-clause-nothing
-returns-in-Err-clause-nothing g c = λ none. (Err c.in-Err.fault, (c.report.ensures.status, c.report.ensures.line), c.in-Err.ensures.nothing none)
+returns-in-Err-clause-nothing g c = λ none.
+    let refused = c.in-Err.ensures.nothing none in
+    (Err c.in-Err.fault, (c.report.ensures.status, c.report.ensures.line), refused.0, refused.1)
 
 -- ---- the statuses
 
