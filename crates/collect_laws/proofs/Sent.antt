@@ -6,7 +6,8 @@ use Rattle.dcp_pft.specs.declared.shape.Shape.{Shape}
 use Rattle.dcp_pft.specs.Coding.{IsParityOf, payload_of}
 use Rattle.dcp_pft.specs.Loss.{is_recoverable}
 use Rattle.dcp_collect.specs.declared.head.Head.{Head}
-use Rattle.dcp_collect.specs.Fragments.{Fragment, agree, shape_by, suffice, IsAscending}
+use Rattle.dcp_collect.specs.Fragments.{Fragment, agree, shape_by, suffice}
+use Rattle.dcp_collect.proofs.Ascending.{IsAscending}
 use Rattle.dcp_collect.specs.Reading.{Incoming, Brings, IsRead}
 use Rattle.dcp_collect.specs.Decoding.{IsDecoded}
 use Rattle.dcp_pft.specs.declared.carry.Carry.{Carry}

@@ -12,7 +12,8 @@ use Rattle.dcp_pft.proofs.Shapes.{HasCode, has_code, has_none}
 use Rattle.dcp_pft.proofs.Fragments.{with_rs, chunks_by, chunks_with, parities_with}
 use Rattle.dcp_pft.proofs.OneFragment.{HasShortChunks, one_parity_of}
 use Rattle.dcp_collect.specs.declared.head.Head.{Head}
-use Rattle.dcp_collect.specs.Fragments.{Fragment, has_index, shape_by, suffice, IsAscending}
+use Rattle.dcp_collect.specs.Fragments.{Fragment, has_index, shape_by, suffice}
+use Rattle.dcp_collect.proofs.Ascending.{IsAscending}
 use Rattle.dcp_collect.specs.Decoding.{IsDecoded, HasItsBytes, joined}
 use Rattle.dcp_pft.specs.declared.carry.Carry.TheVariants.{Plain}
 use Rattle.collect_laws.proofs.Sent.{IsOf}

@@ -22,3 +22,4 @@ pub mod Joining
 pub mod SlotHeld
 pub mod Alone
 pub mod StoredWords
+pub mod Ascending

@@ -1,5 +1,5 @@
 -- The value of an `sdci` item as a whole: how it is spelled, and that it has one description.
-use Rattle.std.proofs.Common.{◌≡◌, ℕ, ◌+◌, ◌*◌, Bool, List, ◌++◌, length, drop, sym, ◌∙◌, ap, arith, length-append}
+use Rattle.std.proofs.Common.{◌≡◌, ℕ, ◌+◌, ◌*◌, Bool, List, length, drop, sym, ◌∙◌, ap, arith, length-append}
 use Rattle.drm_bits.specs.Bits.{digits, bits_of}
 use Rattle.drm_bits.specs.Fields.{Fit, spelled}
 use Rattle.drm_bits.specs.Description.{IsDescription, FitsWidths, description_fields, description_from}

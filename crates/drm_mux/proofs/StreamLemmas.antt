@@ -8,7 +8,12 @@ use Rattle.drm_bits.specs.declared.description.Part.{Part}
 use Rattle.drm_bits.specs.declared.description.MuxDesc.{MuxDesc}
 use Rattle.drm_mux.specs.declared.frame.Spans.{Spans}
 use Rattle.drm_mux.specs.Frame.{parts_a, parts_b, multiplex_frame, pieces, streams_in, part_length, frame_length, starts, AreSideBySide, EndBy}
-use Rattle.drm_mux.specs.Streams.{parts_a_length, streams_of, joined}
+use Rattle.drm_mux.specs.Streams.{parts_a_length, joined}
+
+-- each stream, where the parts A are at from_a and on, and the parts B at from_b and on
+abbrev pub streams_of : List ℕ → List Part → ℕ → ℕ → List (List ℕ)
+streams_of frame [] from_a from_b = []
+streams_of frame (p ∷ parts) from_a from_b = (take p.a (drop from_a frame) ++ take p.b (drop from_b frame)) ∷ streams_of frame parts (from_a + p.a) (from_b + p.b)
 
 abbrev pub parts_b_length : List Part → ℕ
 parts_b_length parts = sum_by (λ (p : Part). p.b) parts

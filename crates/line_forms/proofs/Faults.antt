@@ -7,8 +7,13 @@ use Rattle.drm_schedule.specs.declared.invalid.Reason.{Reason}
 use Rattle.drm_schedule.specs.declared.invalid.Reason.TheVariants.{Number, Range}
 use Rattle.line_forms.specs.declared.line.Line.{Line}
 use Rattle.text_lines.specs.Numbers.{is_number}
-use Rattle.line_forms.specs.Shape.{Part, shape, reading, value}
-use Rattle.line_forms.specs.Asked.{asked, fault, are_within, AreSmall, then_part}
+use Rattle.line_forms.specs.Shape.{Part, shape, reading, value, number}
+use Rattle.line_forms.specs.Asked.{asked, fault, are_within, AreSmall}
+
+-- each word is a number of its range, and this follows
+abbrev pub then_part : List (Bor (List ℕ)) → List (ℕ × ℕ) → Part → List Part
+then_part (w ∷ ws) (r ∷ rs) part = number r.0 r.1 w.now ∷ then_part ws rs part
+then_part _ _ part = part ∷ []
 
 abbrev pub are_numbers : List (Bor (List ℕ)) → Bool
 are_numbers ws = list_all (λ (w : Bor (List ℕ)). is_number w.now) ws

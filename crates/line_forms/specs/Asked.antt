@@ -11,11 +11,6 @@ abbrev pub asked : List (Bor (List ℕ)) → List (ℕ × ℕ) → Bool → List
 asked (w ∷ ws) (r ∷ rs) rest = number r.0 r.1 w.now ∷ asked ws rs rest
 asked _ _ rest = record { is_spelled = true; in_range = rest } ∷ []
 
--- each word is a number of its range, and this follows
-abbrev pub then_part : List (Bor (List ℕ)) → List (ℕ × ℕ) → Part → List Part
-then_part (w ∷ ws) (r ∷ rs) part = number r.0 r.1 w.now ∷ then_part ws rs part
-then_part _ _ part = part ∷ []
-
 -- the first fault of a line of the right words, if any
 abbrev pub fault : List Part → Option Reason
 fault parts = first_row ((not (list_all (λ p. p.is_spelled) parts), Number) ∷ (not (list_all (λ p. p.in_range) parts), Range) ∷ [])

@@ -3,7 +3,6 @@ pub mod Shape
 pub mod Asked
 pub mod Keywords
 pub mod Same
-pub mod Clean
 pub mod Frequencies
 pub mod Settings
 pub mod Entities

@@ -1,5 +1,5 @@
 -- What a line says, as its canonical words: numbers without leading zeros, hex in lower case, one space between words.
-use Rattle.std.specs.Prelude.{ℕ, zero, suc, ◌≡◌, ◌≤◌, ◌<◌, ◌^◌, ◌++◌, Bool, true, false, List, [], ◌∷◌, map, drop, Option, Some, None, codes, decimal}
+use Rattle.std.specs.Prelude.{ℕ, zero, suc, ◌≤◌, ◌<◌, ◌^◌, ◌++◌, Bool, true, false, List, [], ◌∷◌, map, drop, Option, Some, None, codes, decimal}
 use Rattle.std.specs.List.{join_with_byte}
 use Rattle.std.specs.Int.{to_be_bytes, w16, w32}
 use Rattle.hex.specs.Hex.{encode_lower}
@@ -22,7 +22,6 @@ use Rattle.line_forms.specs.declared.first_word.Keyword.TheVariants as keywords
 use Rattle.line_forms.specs.declared.line.Line.{Line}
 use Rattle.line_forms.specs.declared.line.Line.TheVariants as lines
 use Rattle.line_forms.specs.Keywords.{keyword_text}
-use Rattle.line_forms.specs.Shape.{Shape}
 
 -- the keyword of the line that gives an entity with this body
 abbrev pub keyword_of_body : Body → Keyword
@@ -52,11 +51,6 @@ keyword_said (lines.Service service) = keywords.Service
 keyword_said (lines.Stream stream) = keywords.Stream
 keyword_said (lines.Clock clock) = keywords.Clock
 keyword_said (lines.Entity entity) = keyword_of_body entity.body
-
--- what a shape says is a line of the keyword
-abbrev pub SaysKeyword : Keyword → Option Shape → Type 0
-SaysKeyword keyword None = Unit {0}
-SaysKeyword keyword (Some s) = keyword_said s.says ≡ keyword
 
 abbrev pub bit_word : Bool → List ℕ
 bit_word false = codes "0"

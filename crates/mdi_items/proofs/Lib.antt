@@ -11,3 +11,4 @@ pub mod WriterLemmas
 pub mod PieceLemmas
 pub mod RoundTripLemmas
 pub mod SpellingLemmas
+pub mod PieceItems

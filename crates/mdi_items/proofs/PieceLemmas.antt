@@ -12,7 +12,8 @@ use Rattle.mdi_items.specs.declared.known.Found.{Found}
 use Rattle.mdi_items.specs.Names.{name_at, str}
 use Rattle.mdi_items.specs.Items.{size, find_from, known_of, AreOnce}
 use Rattle.mdi_items.specs.Frame.{bytes_at}
-use Rattle.mdi_items.specs.Written.{Piece, whole, spelled, spelling, items_of, stream_pieces}
+use Rattle.mdi_items.specs.Written.{Piece, whole, spelled, spelling, stream_pieces}
+use Rattle.mdi_items.proofs.PieceItems.{items_of}
 use Rattle.mdi_items.proofs.NameLemmas.{one_place, other_name}
 use Rattle.mdi_items.proofs.FindLemmas.{known_at}
 

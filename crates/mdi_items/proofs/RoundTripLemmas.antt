@@ -32,7 +32,8 @@ use Rattle.mdi_items.specs.Items.{known_of, AreOnce}
 use Rattle.mdi_items.specs.Frame.{IsFirst, HasBytes, IsBlockSpan, bytes_at, block_bits, bits_there, place_there, of_streams, spans_of}
 use Rattle.mdi_items.specs.Streams.{IsRight, AreRight}
 use Rattle.mdi_items.specs.Table.{NoneApplies, HasFac, HasDescription, due_rows, ptr_rows, fac_rows, sdci_rows, robm_rows, sdc_rows}
-use Rattle.mdi_items.specs.Written.{Piece, whole, spelled, spelling, items_of, head_pieces, block_piece, stream_pieces}
+use Rattle.mdi_items.specs.Written.{Piece, whole, spelled, spelling, head_pieces, block_piece, stream_pieces}
+use Rattle.mdi_items.proofs.PieceItems.{items_of}
 use Rattle.mdi_items.specs.RoundTrip.{Parts, BlockBytes, Suit, SuitsBlock, IsWrittenOf, IsFrameOf, IsBlockOf, block_pieces}
 use Rattle.mdi_items.proofs.TableLemmas.{ThreeRight, one_place, one_value, none_in_table}
 use Rattle.mdi_items.proofs.RowLemmas.{one_fac_there}

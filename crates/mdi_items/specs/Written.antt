@@ -8,8 +8,7 @@ use Rattle.drm_fac.specs.Fac.{IsFac}
 use Rattle.drm_mux.specs.Sdci.{IsSdci}
 use Rattle.drm_fac.specs.declared.mode.Mode.{Mode}
 use Rattle.drm_fac.specs.Mode.{mode_code}
-use Rattle.dcp_tag.specs.Tag.{TagItem, head}
-use Rattle.dcp_tag.specs.Reading.{item_of}
+use Rattle.dcp_tag.specs.Tag.{head}
 use Rattle.mdi_items.specs.declared.writer.MdiWriter.{MdiWriter}
 use Rattle.mdi_items.specs.Names.{name_at, ptr, dlfc, fac_, sdci, robm, sdc_, str}
 
@@ -30,10 +29,6 @@ spelled p = head (name_at p.place) p.bits ++ p.value
 abbrev pub spelling : List Piece → List ℕ
 spelling [] = []
 spelling (p ∷ pieces) = spelled p ++ spelling pieces
-
-abbrev pub items_of : List Piece → List TagItem
-items_of [] = []
-items_of (p ∷ pieces) = item_of (name_at p.place) p.bits p.value ∷ items_of pieces
 
 -- the five items that each frame has; the revision of the protocol is 0.0
 abbrev pub head_pieces : ℕ → List ℕ → List ℕ → Mode → List Piece

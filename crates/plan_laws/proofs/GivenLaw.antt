@@ -11,7 +11,8 @@ use Rattle.line_forms.specs.declared.first_word.Keyword.{Keyword}
 use Rattle.line_forms.specs.declared.line.Line.{Line}
 use Rattle.line_forms.specs.Keywords.{keyword_of}
 use Rattle.line_forms.specs.Lines.{shape_of}
-use Rattle.line_forms.specs.Said.{SaysKeyword, LineInLines}
+use Rattle.line_forms.specs.Said.{LineInLines}
+use Rattle.line_forms.proofs.Keywords.{SaysKeyword}
 use Rattle.line_forms.specs.Shape.{Shape, reading}
 use Rattle.plan_lines.proofs.CleanLemmas.{clean, lines_are_single}
 use Rattle.plan_lines.proofs.KeywordLemmas.{says_keyword}

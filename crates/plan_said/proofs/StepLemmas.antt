@@ -9,9 +9,10 @@ use Rattle.line_forms.specs.declared.fault.LineFault.TheVariants as line_faults
 use Rattle.line_forms.specs.declared.line.Line.{Line}
 use Rattle.line_forms.specs.declared.first_word.Keyword.{Keyword}
 use Rattle.line_forms.specs.Gives.{Gives}
-use Rattle.line_forms.specs.Clean.{IsClean}
+use Rattle.line_forms.proofs.Clean.{IsClean}
 use Rattle.line_forms.specs.Lines.{shape_of}
-use Rattle.line_forms.specs.Said.{keyword_said, SaysKeyword, LineInLines}
+use Rattle.line_forms.specs.Said.{keyword_said, LineInLines}
+use Rattle.line_forms.proofs.Keywords.{SaysKeyword}
 use Rattle.plan_lines.proofs.KindLemmas.{line_fits}
 use Rattle.line_forms.specs.Shape.{Shape, reading, first_row, ok_unless as line_unless}
 use Rattle.plan_said.specs.declared.said.Read.{Read}

@@ -3,7 +3,11 @@ use Rattle.std.proofs.Common.{◌≡◌, ℕ, List, [], ◌∷◌, ◌++◌, Opt
 use Rattle.std.specs.Prelude.{option_map}
 use Rattle.std.proofs.lemmas.List.{map_push}
 use Rattle.word_forms.specs.declared.word.Named.{Named}
-use Rattle.word_forms.specs.Arguing.{Sorted, onto, with_option, option_said}
+use Rattle.word_forms.specs.Arguing.{Sorted, with_option, option_said}
+
+-- what was read before, and then this
+abbrev pub onto : List (List ℕ) → List (List ℕ × List ℕ) → Sorted → Sorted
+onto texts options more = record { texts = texts ++ more.texts; options = options ++ more.options }
 
 moved : (texts : List (List ℕ)) (options : List (List ℕ × List ℕ)) (name value : List ℕ) (rest : Option Sorted)
     → option_map (onto texts options) (option_map (with_option name value) rest) ≡ option_map (onto texts (options ++ (name, value) ∷ [])) rest

@@ -1,5 +1,5 @@
 -- What kind of word a word is, and what is read from the words behind a command, as functions.
-use Rattle.std.specs.Prelude.{ℕ, ◌≡◌, ◌<◌, ◌==◌, true, false, List, [], ◌∷◌, ◌++◌, length, map, string_bytes, Option, Some, None, option_map, if◌then◌else◌}
+use Rattle.std.specs.Prelude.{ℕ, ◌≡◌, ◌<◌, ◌==◌, true, false, List, [], ◌∷◌, length, map, string_bytes, Option, Some, None, option_map, if◌then◌else◌}
 use Rattle.std.specs.Str.{bytes_eq}
 use Rattle.word_forms.specs.declared.word.WordKind.{WordKind as Word}
 use Rattle.word_forms.specs.declared.word.WordKind.TheVariants as words
@@ -92,10 +92,6 @@ Follows words (next.Option option rest) =
     (read words ≡ option_map (with_option option.name.now option.value.now) (read (map string_bytes rest.now))) × (length rest.now < length words)
 Follows words (next.Behind rest) = read words ≡ Some (only_texts (map string_bytes rest.now))
 Follows words next.Refused = read words ≡ None
-
--- what was read before, and then this
-abbrev pub onto : List (List ℕ) → List (List ℕ × List ℕ) → Sorted → Sorted
-onto texts options more = record { texts = texts ++ more.texts; options = options ++ more.options }
 
 -- the option has the next word as its value, unless that is `--` or there is none
 abbrev pub IsValued : List ℕ → List (List ℕ) → Next → Type 0

@@ -6,7 +6,8 @@ use Rattle.drm_bits.specs.declared.description.Part.{Part}
 use Rattle.drm_bits.proofs.PartLemmas.{no_part}
 use Rattle.drm_bits.proofs.PutLemmas.{put_front}
 use Rattle.drm_mux.specs.Frame.{part_length, frame_length}
-use Rattle.drm_mux.specs.Streams.{parts_a_length, streams_of, joined}
+use Rattle.drm_mux.specs.Streams.{parts_a_length, joined}
+use Rattle.drm_mux.proofs.StreamLemmas.{streams_of}
 use Rattle.drm_mux.proofs.StreamLemmas.{parts_b_length, a_cons, b_cons, both_cons, both_parts, scatter_step, split_frame, side_inside}
 use Rattle.drm_mux.proofs.splitting.split.Goals as goal
 

@@ -2,7 +2,8 @@ use Rattle.std.proofs.Common.{◌≡◌, ◌+◌, ◌++◌, length, take, drop}
 use Rattle.std.specs.List.{sum_by}
 use Rattle.drm_bits.specs.declared.description.Part.{Part}
 use Rattle.drm_mux.specs.Frame.{part_length}
-use Rattle.drm_mux.specs.Streams.{streams_of, joined, parts_a_length}
+use Rattle.drm_mux.specs.Streams.{joined, parts_a_length}
+use Rattle.drm_mux.proofs.StreamLemmas.{streams_of}
 use Rattle.drm_mux.proofs.splitting.split.Given as goal
 
 -- the streams before this one are written, and the others are still to come

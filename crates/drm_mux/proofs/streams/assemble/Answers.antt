@@ -2,7 +2,7 @@ use Rattle.std.proofs.Common.{rules, ◌≡◌, ℕ, ◌+◌, ◌-◌, ◌++◌,
 use Rattle.std.proofs.lemmas.List.{append-nil, length-take-le}
 use Rattle.std.proofs.Math.ListN.{drop_of_length-le}
 use Rattle.drm_bits.proofs.PutLemmas.{put_front, put_rest}
-use Rattle.drm_mux.specs.Frame.{HaveTheirLengths, frame_length, multiplex_frame, streams_in}
+use Rattle.drm_mux.specs.Frame.{HaveTheirLengths, frame_length}
 use Rattle.drm_mux.specs.Ranges.{ranges}
 use Rattle.drm_mux.proofs.RangeLemmas.{cut, total, first_range, length-ranges, frame_cut, gather_step}
 use Rattle.drm_mux.proofs.streams.assemble.Goals as goal

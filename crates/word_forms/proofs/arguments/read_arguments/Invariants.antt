@@ -1,6 +1,7 @@
 use Rattle.std.proofs.Common.{◌≡◌, map, string_bytes, length}
 use Rattle.std.specs.Prelude.{option_map}
-use Rattle.word_forms.specs.Arguing.{read, onto, option_said}
+use Rattle.word_forms.specs.Arguing.{read, option_said}
+use Rattle.word_forms.proofs.ArgumentLemmas.{onto}
 use Rattle.word_forms.proofs.arguments.read_arguments.Given as goal
 
 -- all that the words say is what was read so far and then what the rest says
