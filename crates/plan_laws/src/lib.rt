@@ -3,6 +3,8 @@
 
 mod lines;
 mod texts;
+mod whole;
 
 pub use lines::canonical_lines_are_read_again;
 pub use texts::canonical_texts_are_read_again;
+pub use whole::texts_make_their_schedules;
