@@ -1,5 +1,5 @@
 -- A plan whose files get the bytes of another's, which is the same but for these, becomes that one.
-use Rattle.std.proofs.Common.{◌≡◌, ℕ, zero, suc, ◌+◌, ◌≤◌, List, [], ◌∷◌, ◌++◌, Option, Some, None, length, map, refl, sym, ap, subst, ◌∙◌, append_assoc, arith}
+use Rattle.std.proofs.Common.{◌≡◌, ℕ, ◌+◌, ◌≤◌, List, [], ◌∷◌, ◌++◌, length, map, refl, sym, ap, subst, ◌∙◌, append_assoc, arith}
 use Rattle.std.specs.Prelude.{All}
 use Rattle.std.specs.List.{flat_map}
 use Rattle.std.proofs.lemmas.List.{length-append}
@@ -12,9 +12,9 @@ use Rattle.drm_schedule.specs.declared.stream.Stream.{Stream}
 use Rattle.drm_schedule.specs.declared.plan.Plan.{Plan}
 use Rattle.drm_schedule.specs.Ranges.{ContentInLines, StreamInLines, ConfigInLines, InLines}
 use Rattle.drm_plan.specs.declared.files.Filed.{Filed}
-use Rattle.drm_plan.specs.Files.{file_here, stream_files, config_files, filled_stream, with_file, name_in, emptied, without_bytes, config_without_bytes, without_files}
+use Rattle.drm_plan.specs.Files.{file_here, stream_files, config_files, with_file, name_in, emptied, without_bytes, config_without_bytes, without_files}
 use Rattle.plan_laws.specs.Whole.{file_in, files_of, files_in}
-use Rattle.plan_laws.proofs.AttachLaw.{with_configs, here, file_at, one_longer, filled_here}
+use Rattle.plan_laws.proofs.AttachLaw.{with_configs, here, one_longer, filled_here}
 
 -- the plan whose files get these bytes, one after another
 abbrev pub filled_with : List Filed → List (List ℕ) → Plan → Plan

@@ -1,5 +1,5 @@
 -- A text and files make a schedule exactly where they are those of the schedule.
-use Rattle.std.proofs.Common.{◌≡◌, ℕ, ◌+◌, ◌<◌, ◌≤◌, Bool, true, false, List, [], ◌∷◌, ◌++◌, Option, Some, None, Result, Ok, Err, IsUtf8, length, map, if◌then◌else◌, refl, sym, ap, subst, ◌∙◌, append_assoc, arith}
+use Rattle.std.proofs.Common.{◌≡◌, ℕ, ◌+◌, ◌≤◌, Bool, true, false, List, [], ◌∷◌, ◌++◌, Option, Some, None, Result, Ok, Err, IsUtf8, length, map, if◌then◌else◌, refl, sym, ap, subst, ◌∙◌, append_assoc, arith}
 use Rattle.std.specs.Prelude.{All, nat_lt}
 use Rattle.std.specs.Str.{is_utf8}
 use Rattle.std.proofs.lemmas.List.{length-append}
@@ -17,7 +17,6 @@ use Rattle.drm_schedule.specs.declared.stream.Stream.{Stream}
 use Rattle.drm_schedule.specs.declared.plan.Plan.{Plan}
 use Rattle.drm_schedule.specs.Ranges.{InLines}
 use Rattle.drm_schedule.specs.Valid.{IsSchedule, first_invalid}
-use Rattle.plan_said.specs.Rules.{Fault}
 use Rattle.plan_said.specs.declared.fault.PlanFault.{PlanFault}
 use Rattle.plan_writing.specs.Canonical.{canonical}
 use Rattle.drm_plan.specs.declared.files.Filed.{Filed}
@@ -80,7 +79,7 @@ came_of text draft is = by (nat_lt longest_text (length text)) (is_utf8 text) re
     by false false found is = absurd cc
     by false true found is = record { utf8 = IsUtf8-from_is_utf8 text found; lines = is }
 
-given_by : (text : List ℕ) (draft : Drafted) → draft_of text ≡ Ok draft → IsGiven draft
+pub given_by : (text : List ℕ) (draft : Drafted) → draft_of text ≡ Ok draft → IsGiven draft
 given_by text draft is =
     let came = came_of text draft is in
     lines_given text draft came.utf8 came.lines
