@@ -1,5 +1,5 @@
 -- Readings from a shelf, one after another.
-use Rattle.std.proofs.Common.{◌≡◌, ℕ, ◌+◌, ◌≤◌, ◌⊎◌, inl, inr, List, Option, Result, Ok, Err, refl, sym, ◌∙◌, ap, subst, arith}
+use Rattle.std.proofs.Common.{◌≡◌, ℕ, ◌+◌, ◌≤◌, ◌⊎◌, inl, inr, List, Result, Ok, Err, refl, sym, ◌∙◌, ap, subst, arith}
 use Rattle.drm_links.specs.declared.shelf.Loaded.{Loaded}
 use Rattle.drm_links.specs.declared.shelf.Loaded.TheVariants as loads
 use Rattle.drm_links.specs.Told.{Known, WhileTold, CountsCall}

@@ -1,50 +1,34 @@
 -- A schedule from a shelf, load by load.
-use Rattle.std.proofs.Common.{◌≡◌, ℕ, ◌+◌, ◌-◌, ◌<◌, ◌≤◌, zero, suc, inl, inr, Bool, true, false, List, length, Option, Result, Ok, Err, IsUtf8, if◌then◌else◌, refl, sym, ◌∙◌, ap, arith}
-use Rattle.std.specs.Str.{is_utf8}
-use Rattle.std.proofs.lemmas.Str.{IsUtf8-from_is_utf8, is_utf8-from_IsUtf8}
-use Rattle.text_lines.specs.Lines.{lines_of, bad_line_of}
-use Rattle.drm_schedule.specs.declared.invalid.Reason.TheVariants as reasons
+use Rattle.std.proofs.Common.{◌≡◌, ℕ, ◌+◌, ◌-◌, ◌<◌, ◌≤◌, zero, suc, inl, inr, List, length, Result, Ok, Err, refl, sym, ◌∙◌, ap, arith}
 use Rattle.drm_schedule.specs.declared.plan.Plan.{Plan}
 use Rattle.plan_said.specs.declared.fault.PlanFault.{PlanFault}
 use Rattle.plan_said.specs.declared.fault.PlanFault.TheVariants as plan
 use Rattle.plan_said.specs.Rules.{Fault}
 use Rattle.plan_said.specs.Steps.{Reads}
 use Rattle.drm_plan.specs.Projection.{Drafted}
-use Rattle.drm_plan.specs.Text.{lines_give}
+use Rattle.drm_plan.specs.Text.{draft_of}
 use Rattle.plan_writing.specs.Canonical.{canonical}
 use Rattle.drm_plan.specs.Draft.{name_at, line_at, attached, valid_of}
 use Rattle.drm_links.specs.Told.{Known}
 use Rattle.drm_links.specs.Shelf.{Files, Supplies}
-use Rattle.drm_links.proofs.ToldLemmas.{Tells-weaker, Tells-nothing}
+use Rattle.drm_links.proofs.ToldLemmas.{Tells-weaker}
 use Rattle.drm_load.specs.declared.loading.ScheduleFault.{ScheduleFault}
-use Rattle.drm_load.specs.declared.loading.ScheduleFault.TheVariants.{NoMemory, Line}
+use Rattle.drm_load.specs.declared.loading.ScheduleFault.TheVariants.{NoMemory}
 use Rattle.drm_load.specs.Loading.{Reading, given, ◌>>=◌, load_for, ReadBy, GivesUnlessMemory}
 use Rattle.drm_load.specs.PlanFaults.{schedule_fault_of}
-use Rattle.drm_load.specs.Schedule.{longest_text, longest_file, by_lines, draft_of, by_validity, with_files, schedule_named, checked}
-use Rattle.drm_load.proofs.LoadingLemmas.{LoadsOnly, given_only, load_only, then_only, Reached, ReadBy-then, ReadBy-stops, ReadBy-rest, rest_after, nothing_left, ReadBy-gives, ReadBy-given, came_by, ran_out}
+use Rattle.drm_load.specs.Schedule.{longest_text, longest_file, by_lines, by_validity, with_files, schedule_named, checked}
+use Rattle.drm_load.proofs.LoadingLemmas.{LoadsOnly, given_only, load_only, then_only, Reached, ReadBy-then, ReadBy-stops, ReadBy-rest, rest_after, nothing_left, ReadBy-gives, ReadBy-given, ran_out}
 
--- ---- a text by its lines alone
+-- ---- what a text gives
 
 abbrev pub lifted : {T : Type 0} → Result T PlanFault → Result T ScheduleFault
 lifted (Ok x) = Ok x
 lifted (Err fault) = Err (schedule_fault_of fault)
 
-by_reading : (came : Result Drafted PlanFault) (said : Result Drafted Fault) → Reads came said → GivesUnlessMemory (lifted came) (by_lines said)
-by_reading (Ok draft) said reads = inr (ap by_lines (sym reads))
-by_reading (Err plan.NoMemory) said reads = inl refl
-by_reading (Err (plan.Line line reason)) said reads = inr (ap by_lines (sym reads))
-
-by_text : (came : Result Drafted PlanFault) (text : List ℕ) (b : Bool) → is_utf8 text ≡ b
-    → ((IsUtf8 text → ⊥) → came ≡ Err (plan.Line (bad_line_of text) reasons.Utf8)) → (IsUtf8 text → Reads came (lines_give (lines_of text)))
-    → GivesUnlessMemory (lifted came) (if b then by_lines (lines_give (lines_of text)) else Err (Line (bad_line_of text) reasons.Utf8))
-by_text came text true is wrong right = by_reading came (lines_give (lines_of text)) (right (IsUtf8-from_is_utf8 text is))
-by_text came text false is wrong right =
-    inr (ap lifted (wrong (λ utf8. let found : is_utf8 text ≡ true = is_utf8-from_IsUtf8 text utf8 in cc)))
-
-pub draft_given : (came : Result Drafted PlanFault) (text : List ℕ)
-    → ((IsUtf8 text → ⊥) → came ≡ Err (plan.Line (bad_line_of text) reasons.Utf8)) → (IsUtf8 text → Reads came (lines_give (lines_of text)))
-    → GivesUnlessMemory (lifted came) (draft_of text)
-draft_given came text wrong right = by_text came text (is_utf8 text) refl wrong right
+pub draft_given : (came : Result Drafted PlanFault) (said : Result Drafted Fault) → Reads came said → GivesUnlessMemory (lifted came) (by_lines said)
+draft_given (Ok draft) said reads = inr (ap by_lines (sym reads))
+draft_given (Err plan.NoMemory) said reads = inl refl
+draft_given (Err (plan.Line line reason)) said reads = inr (ap by_lines (sym reads))
 
 -- ---- the files of a draft
 
@@ -102,7 +86,7 @@ abbrev pub from_draft : Drafted → Reading Plan
 from_draft draft = with_files (length draft.files) 0 draft >>= from_whole
 
 abbrev pub from_text : List ℕ → Reading Plan
-from_text text = given (draft_of text) >>= from_draft
+from_text text = given (by_lines (draft_of text)) >>= from_draft
 
 whole_only : (whole : Drafted) → LoadsOnly (from_whole whole)
 whole_only whole = given_only (by_validity (valid_of whole))
@@ -111,7 +95,7 @@ draft_only : (draft : Drafted) → LoadsOnly (from_draft draft)
 draft_only draft = then_only (with_files (length draft.files) 0 draft) from_whole (files_only (length draft.files) 0 draft) whole_only
 
 text_only : (text : List ℕ) → LoadsOnly (from_text text)
-text_only text = then_only (given (draft_of text)) from_draft (given_only (draft_of text)) draft_only
+text_only text = then_only (given (by_lines (draft_of text))) from_draft (given_only (by_lines (draft_of text))) draft_only
 
 pub schedule_only : (name : List ℕ) → LoadsOnly (schedule_named name)
 schedule_only name = then_only (load_for 0 name longest_text) from_text (load_only 0 name longest_text) text_only
@@ -119,23 +103,23 @@ schedule_only name = then_only (load_for 0 name longest_text) from_text (load_on
 pub text_fails : (name : List ℕ) (fault : ScheduleFault) (a b : Known Files) → ReadBy (load_for 0 name longest_text) (Err fault) a b → ReadBy (schedule_named name) (Err fault) a b
 text_fails name fault a b loaded = ReadBy-stops (load_for 0 name longest_text) from_text fault a b text_only loaded
 
-pub draft_fails : (name text : List ℕ) (fault : ScheduleFault) (a b : Known Files) → ReadBy (load_for 0 name longest_text) (Ok text) a b → GivesUnlessMemory (Err fault) (draft_of text) → ReadBy (schedule_named name) (Err fault) a b
+pub draft_fails : (name text : List ℕ) (fault : ScheduleFault) (a b : Known Files) → ReadBy (load_for 0 name longest_text) (Ok text) a b → GivesUnlessMemory (Err fault) (by_lines (draft_of text)) → ReadBy (schedule_named name) (Err fault) a b
 draft_fails name text fault a b loaded gives =
     ReadBy-then (load_for 0 name longest_text) from_text text (Err fault) a b b (load_only 0 name longest_text) loaded
-    (ReadBy-stops (given (draft_of text)) from_draft fault b b draft_only (ReadBy-gives (Err fault) (draft_of text) b gives))
+    (ReadBy-stops (given (by_lines (draft_of text))) from_draft fault b b draft_only (ReadBy-gives (Err fault) (by_lines (draft_of text)) b gives))
 
 -- what comes once the text gave a draft
-draft_came : (name text : List ℕ) (draft : Drafted) (came : Result Plan ScheduleFault) (a b c : Known Files) → ReadBy (load_for 0 name longest_text) (Ok text) a b → GivesUnlessMemory (Ok draft) (draft_of text) → ReadBy (from_draft draft) came b c → ReadBy (schedule_named name) came a c
+draft_came : (name text : List ℕ) (draft : Drafted) (came : Result Plan ScheduleFault) (a b c : Known Files) → ReadBy (load_for 0 name longest_text) (Ok text) a b → GivesUnlessMemory (Ok draft) (by_lines (draft_of text)) → ReadBy (from_draft draft) came b c → ReadBy (schedule_named name) came a c
 draft_came name text draft came a b c loaded gives comes =
     ReadBy-then (load_for 0 name longest_text) from_text text came a b c (load_only 0 name longest_text) loaded
-    (ReadBy-then (given (draft_of text)) from_draft draft came b b c (given_only (draft_of text)) (ReadBy-gives (Ok draft) (draft_of text) b gives) comes)
+    (ReadBy-then (given (by_lines (draft_of text))) from_draft draft came b b c (given_only (by_lines (draft_of text))) (ReadBy-gives (Ok draft) (by_lines (draft_of text)) b gives) comes)
 
-pub files_break : (name text : List ℕ) (draft : Drafted) (fault : ScheduleFault) (a b c : Known Files) → ReadBy (load_for 0 name longest_text) (Ok text) a b → GivesUnlessMemory (Ok draft) (draft_of text) → ReadBy (with_files (length draft.files) 0 draft) (Err fault) b c → ReadBy (schedule_named name) (Err fault) a c
+pub files_break : (name text : List ℕ) (draft : Drafted) (fault : ScheduleFault) (a b c : Known Files) → ReadBy (load_for 0 name longest_text) (Ok text) a b → GivesUnlessMemory (Ok draft) (by_lines (draft_of text)) → ReadBy (with_files (length draft.files) 0 draft) (Err fault) b c → ReadBy (schedule_named name) (Err fault) a c
 files_break name text draft fault a b c loaded gives files =
     draft_came name text draft (Err fault) a b c loaded gives
     (ReadBy-stops (with_files (length draft.files) 0 draft) from_whole fault b c whole_only files)
 
-pub schedule_comes : (name text : List ℕ) (draft whole : Drafted) (came : Result Plan ScheduleFault) (a b c : Known Files) → ReadBy (load_for 0 name longest_text) (Ok text) a b → GivesUnlessMemory (Ok draft) (draft_of text) → ReadBy (with_files (length draft.files) 0 draft) (Ok whole) b c → came ≡ by_validity (valid_of whole) → ReadBy (schedule_named name) came a c
+pub schedule_comes : (name text : List ℕ) (draft whole : Drafted) (came : Result Plan ScheduleFault) (a b c : Known Files) → ReadBy (load_for 0 name longest_text) (Ok text) a b → GivesUnlessMemory (Ok draft) (by_lines (draft_of text)) → ReadBy (with_files (length draft.files) 0 draft) (Ok whole) b c → came ≡ by_validity (valid_of whole) → ReadBy (schedule_named name) came a c
 schedule_comes name text draft whole came a b c loaded gives files is =
     draft_came name text draft came a b c loaded gives
     (ReadBy-then (with_files (length draft.files) 0 draft) from_whole whole came b c c (files_only (length draft.files) 0 draft) files

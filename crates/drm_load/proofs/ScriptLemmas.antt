@@ -1,14 +1,10 @@
 -- A script from a shelf.
-use Rattle.std.proofs.Common.{◌≡◌, ℕ, inl, inr, Bool, true, false, List, Option, Result, Ok, Err, IsUtf8, if◌then◌else◌, refl, sym, ap}
-use Rattle.std.specs.Str.{is_utf8}
-use Rattle.std.proofs.lemmas.Str.{IsUtf8-from_is_utf8, is_utf8-from_IsUtf8}
-use Rattle.text_lines.specs.Lines.{lines_of, bad_line_of}
-use Rattle.drm_schedule.specs.declared.invalid.Reason.TheVariants as reasons
+use Rattle.std.proofs.Common.{◌≡◌, ℕ, inl, inr, List, Result, Ok, Err, refl, sym, ap}
 use Rattle.drm_schedule.specs.declared.plan.Plan.{Plan}
 use Rattle.script_lines.specs.declared.delivery.Delivery.{Delivery}
 use Rattle.script_lines.specs.declared.fault.ScriptFault.{ScriptFault}
 use Rattle.script_lines.specs.declared.fault.ScriptFault.TheVariants as script
-use Rattle.script_lines.specs.Script.{Fault, script_of}
+use Rattle.script_lines.specs.Script.{Fault, script_of_text}
 use Rattle.script_lines.specs.Steps.{Reads}
 use Rattle.drm_links.specs.Told.{Known}
 use Rattle.drm_links.specs.Shelf.{Files}
@@ -31,22 +27,14 @@ by_reading (Ok feeds) said reads = inr (ap by_script (sym reads))
 by_reading (Err script.NoMemory) said reads = inl refl
 by_reading (Err (script.Line line reason)) said reads = inr (ap by_script (sym reads))
 
-by_text : (came : Result (List (List Delivery)) ScriptFault) (plan : Plan) (text : List ℕ) (b : Bool) → is_utf8 text ≡ b
-    → ((IsUtf8 text → ⊥) → came ≡ Err (script.Line (bad_line_of text) reasons.Utf8)) → (IsUtf8 text → Reads came (script_of plan (lines_of text)))
-    → GivesUnlessMemory (lifted came) (if b then by_script (script_of plan (lines_of text)) else Err (Line (bad_line_of text) reasons.Utf8))
-by_text came plan text true is wrong right = by_reading came (script_of plan (lines_of text)) (right (IsUtf8-from_is_utf8 text is))
-by_text came plan text false is wrong right =
-    inr (ap lifted (wrong (λ utf8. let found : is_utf8 text ≡ true = is_utf8-from_IsUtf8 text utf8 in cc)))
-
 pub script_only : (plan : Plan) (name : List ℕ) → LoadsOnly (script_named plan name)
 script_only plan name = then_only (load_for 0 name longest_text) (λ t. given (script_in plan t)) (load_only 0 name longest_text) (λ t. given_only (script_in plan t))
 
 pub script_comes : (came : Result (List (List Delivery)) ScriptFault) (plan : Plan) (name text : List ℕ) (a b : Known Files) → ReadBy (load_for 0 name longest_text) (Ok text) a b
-    → ((IsUtf8 text → ⊥) → came ≡ Err (script.Line (bad_line_of text) reasons.Utf8)) → (IsUtf8 text → Reads came (script_of plan (lines_of text)))
-    → ReadBy (script_named plan name) (lifted came) a b
-script_comes came plan name text a b loaded wrong right =
+    → Reads came (script_of_text plan text) → ReadBy (script_named plan name) (lifted came) a b
+script_comes came plan name text a b loaded reads =
     ReadBy-then (load_for 0 name longest_text) (λ t. given (script_in plan t)) text (lifted came) a b b (load_only 0 name longest_text) loaded
-    (ReadBy-gives (lifted came) (script_in plan text) b (by_text came plan text (is_utf8 text) refl wrong right))
+    (ReadBy-gives (lifted came) (script_in plan text) b (by_reading came (script_of_text plan text) reads))
 
 -- ---- which faults are those of a load
 

@@ -1,5 +1,5 @@
 -- What is read from a shelf, load by load.
-use Rattle.std.specs.Prelude.{ℕ, ◌≡◌, ◌+◌, ◌≤◌, ◌⊎◌, List, Option, Result, Ok, Err}
+use Rattle.std.specs.Prelude.{ℕ, ◌≡◌, ◌+◌, ◌≤◌, ◌⊎◌, List, Result, Ok, Err}
 use Rattle.drm_schedule.specs.declared.invalid.Reason.TheVariants as reasons
 use Rattle.drm_links.specs.Told.{Known}
 use Rattle.drm_links.specs.declared.shelf.Loaded.{Loaded}

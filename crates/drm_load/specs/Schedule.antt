@@ -1,14 +1,11 @@
 -- The schedule of a text on a shelf, with its files.
-use Rattle.std.specs.Prelude.{ℕ, zero, suc, ◌+◌, List, length, Result, Ok, Err, if◌then◌else◌}
-use Rattle.std.specs.Str.{is_utf8}
-use Rattle.text_lines.specs.Lines.{lines_of, bad_line_of}
-use Rattle.drm_schedule.specs.declared.invalid.Reason.TheVariants as reasons
+use Rattle.std.specs.Prelude.{ℕ, zero, suc, ◌+◌, List, length, Result, Ok, Err}
 use Rattle.drm_schedule.specs.declared.plan.Plan.{Plan}
 use Rattle.plan_said.specs.declared.fault.PlanFault.{PlanFault}
 use Rattle.plan_said.specs.declared.fault.PlanFault.TheVariants as plan
 use Rattle.plan_said.specs.Rules.{Fault}
 use Rattle.drm_plan.specs.Projection.{Drafted}
-use Rattle.drm_plan.specs.Text.{lines_give}
+use Rattle.drm_plan.specs.Text.{draft_of}
 use Rattle.plan_writing.specs.Canonical.{canonical}
 use Rattle.drm_plan.specs.Draft.{name_at, line_at, attached, valid_of}
 use Rattle.drm_load.specs.declared.loading.ScheduleFault.{ScheduleFault}
@@ -22,14 +19,10 @@ longest_text = 262144
 abbrev pub longest_file : ℕ
 longest_file = 4194304
 
--- what lines give, or the line that is wrong
+-- what a text gives, or the line that is wrong
 abbrev pub by_lines : Result Drafted Fault → Result Drafted ScheduleFault
 by_lines (Ok draft) = Ok draft
 by_lines (Err fault) = Err (Line fault.line fault.reason)
-
--- what a text gives by its lines alone
-abbrev pub draft_of : List ℕ → Result Drafted ScheduleFault
-draft_of text = if is_utf8 text then by_lines (lines_give (lines_of text)) else Err (Line (bad_line_of text) reasons.Utf8)
 
 -- the schedule, or the line that makes it invalid
 abbrev pub by_validity : Result Plan PlanFault → Result Plan ScheduleFault
@@ -48,7 +41,7 @@ with_files (suc n) k draft = do
 abbrev pub schedule_named : List ℕ → Reading Plan
 schedule_named name = do
   text ← load_for 0 name longest_text
-  draft ← given (draft_of text)
+  draft ← given (by_lines (draft_of text))
   whole ← with_files (length draft.files) 0 draft
   given (by_validity (valid_of whole))
 

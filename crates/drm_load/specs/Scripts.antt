@@ -1,24 +1,21 @@
 -- The script of a text on a shelf.
-use Rattle.std.specs.Prelude.{ℕ, List, Result, Ok, Err, if◌then◌else◌}
-use Rattle.std.specs.Str.{is_utf8}
-use Rattle.text_lines.specs.Lines.{lines_of, bad_line_of}
-use Rattle.drm_schedule.specs.declared.invalid.Reason.TheVariants as reasons
+use Rattle.std.specs.Prelude.{ℕ, List, Result, Ok, Err}
 use Rattle.drm_schedule.specs.declared.plan.Plan.{Plan}
 use Rattle.script_lines.specs.declared.delivery.Delivery.{Delivery}
-use Rattle.script_lines.specs.Script.{Fault, script_of}
+use Rattle.script_lines.specs.Script.{Fault, script_of_text}
 use Rattle.drm_load.specs.declared.loading.ScheduleFault.{ScheduleFault}
 use Rattle.drm_load.specs.declared.loading.ScheduleFault.TheVariants.{Line}
 use Rattle.drm_load.specs.Loading.{Reading, given, ◌>>=◌, load_for}
 use Rattle.drm_load.specs.Schedule.{longest_text}
 
--- what lines give, or the line that is wrong
+-- what a text gives, or the line that is wrong
 abbrev pub by_script : Result (List (List Delivery)) Fault → Result (List (List Delivery)) ScheduleFault
 by_script (Ok feeds) = Ok feeds
 by_script (Err fault) = Err (Line fault.line fault.reason)
 
 -- the feeds that a text gives for a schedule
 abbrev pub script_in : Plan → List ℕ → Result (List (List Delivery)) ScheduleFault
-script_in plan text = if is_utf8 text then by_script (script_of plan (lines_of text)) else Err (Line (bad_line_of text) reasons.Utf8)
+script_in plan text = by_script (script_of_text plan text)
 
 -- the script of this name, for a schedule
 abbrev pub script_named : Plan → List ℕ → Reading (List (List Delivery))

@@ -1,10 +1,11 @@
 //! The schedule of a text on a shelf.
 
-ghost use Rattle.std.specs.Prelude.{◌≡◌, ◌≤◌, length};
+ghost use Rattle.std.specs.Prelude.{◌≡◌, length};
 ghost use Rattle.drm_links.specs.Told.{HasCause};
 ghost use Rattle.drm_load.specs.Loading.{ReadBy, GivesUnlessMemory};
-ghost use Rattle.drm_load.specs.Schedule.{draft_of, with_files, by_validity, schedule_named};
+ghost use Rattle.drm_load.specs.Schedule.{by_lines, with_files, by_validity, schedule_named};
 ghost use Rattle.drm_plan.specs.Draft.{valid_of};
+ghost use Rattle.drm_plan.specs.Text.{draft_of};
 
 use crate::loading::{ScheduleFault, load};
 use drm_links::Shelf;
@@ -47,10 +48,9 @@ pub fn read_schedule<S: Shelf>(
     checked(whole)
 }
 
-// What a text gives by its lines alone.
+// What a text gives.
 fn read_draft(alloc: Global, text: &[u8]) -> Result<Draft, ScheduleFault>
-    requires { length text.now ≤ 262144 }
-    ensures gives { GivesUnlessMemory result (draft_of text.now) }
+    ensures gives { GivesUnlessMemory result (by_lines (draft_of text.now)) }
     ensures fault { result ≡ Err ScheduleFault.Read → ⊥ }
 {
     Ok(read_plan(alloc, text)?)

@@ -1,5 +1,5 @@
 -- The files that the streams of a plan name, and what becomes of a plan when one of them comes.
-use Rattle.std.specs.Prelude.{ℕ, ◌+◌, List, [], ◌∷◌, ◌++◌, Option, Some, None}
+use Rattle.std.specs.Prelude.{ℕ, ◌+◌, List, [], ◌∷◌, ◌++◌, map, Option, Some, None}
 use Rattle.drm_schedule.specs.declared.config.Config.{Config}
 use Rattle.drm_schedule.specs.declared.stream.Content.{Content}
 use Rattle.drm_schedule.specs.declared.stream.Content.TheVariants.{Fill, File}
@@ -56,3 +56,17 @@ name_of_config j (Some config) = name_of_stream (at j config.streams)
 -- the name that a stream gives
 abbrev pub name_of : Filed → Plan → List ℕ
 name_of file plan = name_of_config file.stream (at file.config plan.configs)
+
+abbrev pub emptied : Content → Content
+emptied (Fill byte) = Fill byte
+emptied (File name bytes) = File name []
+
+abbrev pub without_bytes : Stream → Stream
+without_bytes stream = record stream { content = emptied stream.content }
+
+abbrev pub config_without_bytes : Config → Config
+config_without_bytes config = record config { streams = map without_bytes config.streams }
+
+-- the plan without the bytes of its files
+abbrev pub without_files : Plan → Plan
+without_files plan = record plan { configs = map config_without_bytes plan.configs }

@@ -1,17 +1,13 @@
 -- What `check` printed is checked again as itself.
 use Rattle.std.proofs.Common.{◌≡◌, ℕ, ◌+◌, ◌≤◌, Bool, true, false, List, [], ◌∷◌, ◌++◌, length, nat_lt, nat_eq, Option, None, Some, Result, Ok, Err, if◌then◌else◌, refl, sym, ap, subst, ◌∙◌, append_assoc, arith}
-use Rattle.std.specs.Str.{is_utf8}
 use Rattle.std.specs.List.{list_any}
 use Rattle.std.proofs.lemmas.Bool.Decides.{nat_tests}
 use Rattle.std.proofs.lemmas.List.{length-append}
 use Rattle.std.proofs.lemmas.Map.Views.{Contains-from_any}
-use Rattle.std.proofs.lemmas.Str.{IsUtf8-from_is_utf8, is_utf8-from_IsUtf8}
-use Rattle.text_lines.specs.Lines.{lines_of, bad_line_of}
 use Rattle.drm_links.specs.declared.shelf.Loaded.{Loaded}
 use Rattle.drm_links.specs.declared.shelf.Loaded.TheVariants as loads
 use Rattle.drm_links.specs.Shelf.{Files, file_at, within, load_of, after_one}
 use Rattle.drm_schedule.specs.declared.invalid.Invalid.{Invalid}
-use Rattle.drm_schedule.specs.declared.invalid.Reason.TheVariants as reasons
 use Rattle.drm_schedule.specs.declared.plan.Plan.{Plan}
 use Rattle.drm_schedule.specs.Valid.{IsSchedule, first_invalid}
 use Rattle.drm_plan.specs.declared.files.Filed.{Filed}
@@ -21,15 +17,15 @@ use Rattle.drm_plan.specs.Files.{config_files, name_of, with_file}
 use Rattle.drm_plan.specs.Lookup.{at}
 use Rattle.drm_plan.specs.Projection.{Drafted}
 use Rattle.plan_said.specs.Rules.{Fault}
-use Rattle.drm_plan.specs.Text.{lines_give}
+use Rattle.drm_plan.specs.Text.{draft_of}
+use Rattle.drm_plan.proofs.TextLemmas.{right_text}
 use Rattle.plan_laws.proofs.AttachLaw.{Fills, at_seam, files_come, files_came, fills_fit, each_small, each_weaker}
-use Rattle.plan_laws.proofs.GivenLaw.{lines_given}
 use Rattle.plan_laws.proofs.PlanLaw.{read_again, canonical_utf8}
+use Rattle.plan_laws.proofs.WholeLaw.{given_by}
 use Rattle.drm_load.specs.declared.loading.ScheduleFault.{ScheduleFault}
-use Rattle.drm_load.specs.declared.loading.ScheduleFault.TheVariants.{Line}
 use Rattle.load_laws.specs.Again.{HasFiles, HasAll, NoLoadFails}
 use Rattle.drm_load.specs.Loading.{Step, Reading, given, after, ◌>>=◌, bytes_or_fault, load_for}
-use Rattle.drm_load.specs.Schedule.{longest_text, longest_file, by_lines, draft_of, by_validity, with_files, schedule_named, checked}
+use Rattle.drm_load.specs.Schedule.{longest_text, longest_file, by_lines, by_validity, with_files, schedule_named, checked}
 use Rattle.drm_load.proofs.ScheduleLemmas.{from_draft, from_text}
 
 -- ---- one load
@@ -182,29 +178,17 @@ is_valid draft schedule is = by (first_invalid draft.plan) refl is
     by None found is = record { valid = found; same = plan_is draft.plan schedule is }
     by (Some fault) found is = absurd cc
 
-record IsDrafted (text : List ℕ) (draft : Drafted) : Type 0 where
-  utf8 : is_utf8 text ≡ true
-  lines : lines_give (lines_of text) ≡ Ok draft
-
 by_lines_is : (said : Result Drafted Fault) (draft : Drafted) → by_lines said ≡ Ok draft → said ≡ Ok draft
 by_lines_is (Ok d) draft is = ap (λ (x : Drafted). Ok x) (draft_is d draft is)
 by_lines_is (Err fault) draft is = absurd cc
 
-is_drafted : (text : List ℕ) (draft : Drafted) → draft_of text ≡ Ok draft → IsDrafted text draft
-is_drafted text draft is = by (is_utf8 text) refl is
-  where
-    by : (b : Bool) → is_utf8 text ≡ b → (if b then by_lines (lines_give (lines_of text)) else Err (Line (bad_line_of text) reasons.Utf8)) ≡ Ok draft → IsDrafted text draft
-    by true utf8 is = record { utf8 = utf8; lines = by_lines_is (lines_give (lines_of text)) draft is }
-    by false utf8 is = absurd cc
-
 pub schedule_came : (name : List ℕ) (told : Files) (schedule : Plan) → (schedule_named name told).came ≡ Ok schedule → IsSchedule schedule × HasFiles told schedule
 schedule_came name told schedule is =
     let text = then_came (load_for 0 name longest_text) from_text told schedule is in
-    let draft = then_came (given (draft_of text.x)) from_draft (after_one told) schedule text.second in
+    let draft = then_came (given (by_lines (draft_of text.x))) from_draft (after_one told) schedule text.second in
     let whole = then_came (with_files (length draft.x.files) 0 draft.x) (λ d. given (by_validity (valid_of d))) (after_one told) schedule draft.second in
     let valid = is_valid whole.x schedule whole.second in
-    let drafted = is_drafted text.x draft.x draft.first in
-    let said = lines_given text.x draft.x (IsUtf8-from_is_utf8 text.x drafted.utf8) drafted.lines in
+    let said = given_by text.x draft.x (by_lines_is (draft_of text.x) draft.x draft.first) in
     let loaded : (from_files draft.x.files draft.x (after_one told)).came ≡ Ok whole.x = sym (ap (λ (s : Step Drafted). s.came) (all_in_turn draft.x (after_one told))) ∙ whole.first in
     let fills = files_loaded draft.x.files draft.x whole.x (after_one told) loaded in
     let fits = fills_fit (Has longest_file told) (λ n bytes has. has.1) draft.x.files draft.x.plan whole.x.plan fills said.in_lines in
@@ -214,16 +198,13 @@ schedule_came name told schedule is =
 
 -- ---- a schedule that comes again
 
-canonical_drafted : (schedule : Plan) (draft : Drafted) → is_utf8 (canonical schedule) ≡ true → lines_give (lines_of (canonical schedule)) ≡ Ok draft → draft_of (canonical schedule) ≡ Ok draft
-canonical_drafted schedule draft utf8 lines = rw (utf8, lines) refl
-
 schedule_comes : (schedule : Plan) (name : List ℕ) (told : Files) → IsSchedule schedule → length (canonical schedule) ≤ longest_text → file_at told name ≡ Some (canonical schedule) → HasFiles told schedule → NoLoadFails told
     → (schedule_named name told).came ≡ Ok schedule
 schedule_comes schedule name told is small there files none =
     let again = read_again schedule is.in_lines in
     let utf8 = canonical_utf8 schedule is.in_lines in
-    let said = lines_given (canonical schedule) again.draft utf8 again.lines in
-    let drafted = canonical_drafted schedule again.draft (is_utf8-from_IsUtf8 (canonical schedule) utf8) again.lines in
+    let gives : draft_of (canonical schedule) ≡ Ok again.draft = right_text (canonical schedule) small utf8 ∙ again.lines in
+    let said = given_by (canonical schedule) again.draft gives in
     let each = each_small (λ n bytes. file_at told n ≡ Some bytes) schedule is.in_lines files in
     let bare : Fills (Has longest_file told) (config_files 0 again.draft.plan.configs) again.draft.plan schedule =
     subst (λ (p : Plan). Fills (Has longest_file told) (config_files 0 p.configs) p schedule) (sym again.same) (files_come (Has longest_file told) schedule each) in
@@ -236,7 +217,7 @@ schedule_comes schedule name told is small there files none =
     let from_there : (from_draft again.draft (after_one told)).came ≡ Ok schedule =
     comes_then (with_files (length again.draft.files) 0 again.draft) (λ d. given (by_validity (valid_of d))) (after_one told) (with_plan again.draft schedule) (Ok schedule) loaded valid in
     comes_then (load_for 0 name longest_text) from_text told (canonical schedule) (Ok schedule) text
-    (comes_then (given (draft_of (canonical schedule))) from_draft (after_one told) again.draft (Ok schedule) drafted from_there)
+    (comes_then (given (by_lines (draft_of (canonical schedule)))) from_draft (after_one told) again.draft (Ok schedule) (ap by_lines gives) from_there)
 
 pub canonical_checked : (schedule : Plan) (name : List ℕ) (told : Files) → IsSchedule schedule → length (canonical schedule) ≤ longest_text → file_at told name ≡ Some (canonical schedule) → HasFiles told schedule → NoLoadFails told
     → (checked name told).came ≡ Ok (canonical schedule)

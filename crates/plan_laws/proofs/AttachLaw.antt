@@ -10,8 +10,8 @@ use Rattle.drm_schedule.specs.declared.stream.Stream.{Stream}
 use Rattle.drm_schedule.specs.declared.plan.Plan.{Plan}
 use Rattle.drm_schedule.specs.Ranges.{ContentInLines, StreamInLines, ConfigInLines, InLines}
 use Rattle.drm_plan.specs.declared.files.Filed.{Filed}
-use Rattle.drm_plan.specs.Files.{file_here, stream_files, config_files, filled_stream, filled_config, with_file, name_in, name_of_stream, name_of_config, name_of}
-use Rattle.plan_laws.specs.Texts.{emptied, without_bytes, config_without_bytes, without_files, OfFile, EachFile}
+use Rattle.drm_plan.specs.Files.{file_here, stream_files, config_files, filled_stream, filled_config, with_file, name_in, name_of_stream, name_of_config, name_of, emptied, without_bytes, config_without_bytes, without_files}
+use Rattle.plan_laws.specs.Texts.{OfFile, EachFile}
 use Rattle.drm_plan.specs.Lookup.{at, changed}
 use Rattle.drm_plan.proofs.FileLemmas.{with_file_fits}
 
@@ -28,25 +28,25 @@ changed_seam : {X : Type 0} (f : X → X) (a : List X) (x : X) (b : List X) → 
 changed_seam f [] x b = refl
 changed_seam f (y ∷ a) x b = ap (λ l. y ∷ l) (changed_seam f a x b)
 
-one_longer : {X : Type 0} (a : List X) (x : X) → length (a ++ x ∷ []) ≡ length a + 1
+pub one_longer : {X : Type 0} (a : List X) (x : X) → length (a ++ x ∷ []) ≡ length a + 1
 one_longer a x = length-append a (x ∷ [])
 
 -- the plan with these configurations, and with these streams in one of them
-abbrev with_configs : Plan → List Config → Plan
+abbrev pub with_configs : Plan → List Config → Plan
 with_configs plan configs = record plan { configs = configs }
 
-abbrev here : Plan → List Config → Config → List Config → List Stream → Plan
+abbrev pub here : Plan → List Config → Config → List Config → List Stream → Plan
 here plan before c after streams = with_configs plan (before ++ record c { streams = streams } ∷ after)
 
 -- the file of the stream behind these
-abbrev file_at : List Config → List Stream → Filed
+abbrev pub file_at : List Config → List Stream → Filed
 file_at before done = record { config = length before; stream = length done }
 
 module _ (plan : Plan) (before : List Config) (c : Config) (after : List Config) (done : List Stream) (s : Stream) (more : List Stream) where
   name_here : name_of (file_at before done) (here plan before c after (done ++ s ∷ more)) ≡ name_in s.content
   name_here = ap (name_of_config (length done)) (at_seam before (record c { streams = done ++ s ∷ more }) after) ∙ ap name_of_stream (at_seam done s more)
 
-  filled_here : (bytes : List ℕ) → with_file (file_at before done) bytes (here plan before c after (done ++ s ∷ more)) ≡ here plan before c after (done ++ filled_stream bytes s ∷ more)
+  pub filled_here : (bytes : List ℕ) → with_file (file_at before done) bytes (here plan before c after (done ++ s ∷ more)) ≡ here plan before c after (done ++ filled_stream bytes s ∷ more)
   filled_here bytes =
       ap (with_configs plan) (changed_seam (filled_config (length done) bytes) before (record c { streams = done ++ s ∷ more }) after)
       ∙ ap (here plan before c after) (changed_seam (filled_stream bytes) done s more)

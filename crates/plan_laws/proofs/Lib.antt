@@ -14,3 +14,5 @@ pub mod Utf8Lines
 pub mod PlanLaw
 pub mod GivenLaw
 pub mod AttachLaw
+pub mod FillLaw
+pub mod WholeLaw

@@ -26,7 +26,8 @@ use Rattle.plan_said.specs.declared.said.Read.{Read}
 use Rattle.plan_said.specs.Said.{nothing}
 use Rattle.plan_said.specs.Rules.{Fault, ended, is_incomplete, said_from, said}
 use Rattle.plan_writing.specs.Canonical.{front_lines, settings_lines, service_lines, stream_lines, clock_lines, entity_lines, config_lines, plan_lines, text_of, canonical}
-use Rattle.plan_laws.specs.Texts.{emptied, without_bytes, config_without_bytes, without_files, IsReadAgain}
+use Rattle.drm_plan.specs.Files.{emptied, without_bytes, config_without_bytes, without_files}
+use Rattle.plan_laws.specs.Texts.{IsReadAgain}
 use Rattle.drm_plan.specs.Projection.{Drafted, drafted}
 use Rattle.drm_plan.specs.Text.{lines_give}
 use Rattle.plan_laws.proofs.AgainLemmas.{LineAgain, lines_said}

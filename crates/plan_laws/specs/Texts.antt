@@ -1,28 +1,13 @@
 -- What the canonical text says: the schedule, but for the bytes of its files.
-use Rattle.std.specs.Prelude.{ℕ, ◌≡◌, List, [], map, Ok, All}
-use Rattle.drm_schedule.specs.declared.config.Config.{Config}
+use Rattle.std.specs.Prelude.{ℕ, ◌≡◌, List, Ok, All}
 use Rattle.drm_schedule.specs.declared.stream.Content.{Content}
 use Rattle.drm_schedule.specs.declared.stream.Content.TheVariants.{Fill, File}
-use Rattle.drm_schedule.specs.declared.stream.Stream.{Stream}
 use Rattle.drm_schedule.specs.declared.plan.Plan.{Plan}
 use Rattle.text_lines.specs.Lines.{lines_of}
 use Rattle.plan_writing.specs.Canonical.{canonical}
+use Rattle.drm_plan.specs.Files.{without_files}
 use Rattle.drm_plan.specs.Projection.{Drafted}
 use Rattle.drm_plan.specs.Text.{lines_give}
-
-abbrev pub emptied : Content → Content
-emptied (Fill byte) = Fill byte
-emptied (File name bytes) = File name []
-
-abbrev pub without_bytes : Stream → Stream
-without_bytes stream = record stream { content = emptied stream.content }
-
-abbrev pub config_without_bytes : Config → Config
-config_without_bytes config = record config { streams = map without_bytes config.streams }
-
--- the plan without the bytes of its files
-abbrev pub without_files : Plan → Plan
-without_files plan = record plan { configs = map config_without_bytes plan.configs }
 
 -- the lines of the canonical text give the plan again, without the bytes of its files
 pub record IsReadAgain (plan : Plan) : Type 0 where

@@ -2,7 +2,8 @@
 
 ghost use Rattle.std.specs.Prelude.{◌≡◌, ◌↔◌, IsUtf8};
 ghost use Rattle.plan_writing.specs.Canonical.{canonical};
-ghost use Rattle.plan_laws.specs.Texts.{IsReadAgain, without_files};
+ghost use Rattle.drm_plan.specs.Files.{without_files};
+ghost use Rattle.plan_laws.specs.Texts.{IsReadAgain};
 
 use drm_schedule::Schedule;
 

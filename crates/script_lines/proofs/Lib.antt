@@ -6,3 +6,4 @@ pub mod StepLemmas
 pub mod EndLemmas
 pub mod SaidLemmas
 pub mod KeptLemmas
+pub mod TextLemmas

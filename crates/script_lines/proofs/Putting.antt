@@ -1,6 +1,6 @@
 -- More and more deliveries for the last feed.
 use Rattle.std.proofs.Common.{◌≡◌, ℕ, ◌+◌, ◌-◌, ◌<◌, ◌≤◌, suc, nat_lt, Bool, true, false, List, [], ◌∷◌, ◌++◌, map, reverse, length, sum_by, Option, Some, None, option_map, Err, refl, sym, ap, subst, ◌∙◌, append_assoc, arith}
-use Rattle.std.specs.Prelude.{◌||◌, ◌&&◌, ◌*◌, nat_le}
+use Rattle.std.specs.Prelude.{◌||◌, ◌&&◌, nat_le}
 use Rattle.std.proofs.lemmas.Bool.Decides.{nat_tests}
 use Rattle.drm_schedule.specs.Valid.{IsSchedule}
 use Rattle.script_lines.specs.declared.line.Delivers.{Delivers}

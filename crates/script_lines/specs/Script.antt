@@ -1,13 +1,14 @@
 -- Scripts: which fragments of which packets are delivered to each feed, and in which order; and what can be wrong with one.
-use Rattle.std.specs.Prelude.{ℕ, ◌+◌, ◌-◌, ◌*◌, ◌/◌, ◌%◌, ◌<◌, ◌≤◌, ◌==◌, ◌&&◌, ◌||◌, min, not, nat_le, nat_lt, Bool, true, false, is_none, slice_index, length, sum_by, All, List, [], ◌∷◌, ◌++◌, map, reverse, drop, codes, Option, Some, None, option_map, unwrap_or, Result, Ok, Err, if◌then◌else◌}
+use Rattle.std.specs.Prelude.{ℕ, ◌+◌, ◌-◌, ◌<◌, ◌≤◌, ◌==◌, ◌&&◌, ◌||◌, not, nat_le, nat_lt, Bool, true, false, is_none, length, sum_by, All, List, [], ◌∷◌, ◌++◌, map, reverse, drop, codes, Option, Some, None, Result, Err, if◌then◌else◌}
 use Rattle.std.specs.List.{list_all, flat_map, range_with_len, slice_split}
-use Rattle.std.specs.Str.{bytes_eq}
+use Rattle.std.specs.Str.{bytes_eq, is_utf8}
 use Rattle.std.specs.Str.Parse.{digits_value}
 use Rattle.text_lines.specs.Faults.{FaultOf, fault, first_fault, ok_unless, words_say, lines_say, ◌>>=◌}
-use Rattle.text_lines.specs.Lines.{words_of}
+use Rattle.text_lines.specs.Lines.{lines_of, words_of, bad_line_of}
 use Rattle.text_lines.specs.Numbers.{is_number}
+use Rattle.text_lines.specs.Texts.{longest_text}
 use Rattle.drm_schedule.specs.declared.invalid.Reason.{Reason}
-use Rattle.drm_schedule.specs.declared.invalid.Reason.TheVariants.{Word, Number, Range, Missing, TooLong}
+use Rattle.drm_schedule.specs.declared.invalid.Reason.TheVariants.{Word, Number, Range, Missing, TooLong, Utf8}
 use Rattle.drm_schedule.specs.declared.plan.Plan.{Plan}
 use Rattle.drm_timeline.specs.Numbers.{frame_count, packet_size}
 use Rattle.dcp_pft.specs.Carrying.{datagram_count, datagram_size}
@@ -186,3 +187,10 @@ unfoldable pub script_of : Plan → List (List ℕ) → Result (List (List Deliv
 script_of plan lines = do
   said ← said_from plan [] 1 lines
   ended (length lines) (feeds_of plan said)
+
+-- the feeds that a text gives, or its first fault: that it is too long, then that it is no UTF-8, then that of its lines
+unfoldable pub script_of_text : Plan → List ℕ → Result (List (List Delivery)) Fault
+script_of_text plan text =
+    if nat_lt longest_text (length text) then Err (fault 0 TooLong)
+    else if is_utf8 text then script_of plan (lines_of text)
+    else Err (fault (bad_line_of text) Utf8)

@@ -1,9 +1,9 @@
 //! A script's text, read.
 
-ghost use Rattle.std.specs.Prelude.{◌≡◌, ◌<◌, ◌≤◌, length, IsUtf8, Err, IfOk};
-ghost use Rattle.text_lines.specs.Lines.{lines_of, bad_line_of};
+ghost use Rattle.std.specs.Prelude.{◌≤◌, length, IfOk};
+ghost use Rattle.text_lines.specs.Lines.{lines_of};
 ghost use Rattle.text_lines.specs.Texts.{longest_text};
-ghost use Rattle.script_lines.specs.Script.{IsScript, script_of};
+ghost use Rattle.script_lines.specs.Script.{IsScript, script_of, script_of_text};
 ghost use Rattle.script_lines.specs.Steps.{Reads};
 
 use crate::fault::{ScriptFault, at};
@@ -26,11 +26,7 @@ fn read_text(alloc: Global, text: &str, plan: &Schedule) -> Result<Script, Scrip
 /// one that isn't UTF-8, then the first line, in their order, that has a fault by itself or after the lines before it, and
 /// at the end a text without a feed.
 pub fn read_script(alloc: Global, text: &[u8], plan: &Schedule) -> Result<Script, ScriptFault>
-    ensures long { longest_text < length text.now → result ≡ Err (ScriptFault.Line 0 Reason.TooLong) }
-    ensures utf8 { length text.now ≤ longest_text → (IsUtf8 text.now → ⊥)
-        → result ≡ Err (ScriptFault.Line (bad_line_of text.now) Reason.Utf8) }
-    ensures read { length text.now ≤ longest_text → IsUtf8 text.now
-        → Reads result (script_of plan.now (lines_of text.now)) }
+    ensures read { Reads result (script_of_text plan.now text.now) }
     ensures script { IfOk result (IsScript plan.now) }
 {
     match readable(text) {
