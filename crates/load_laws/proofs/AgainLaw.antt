@@ -17,13 +17,13 @@ use Rattle.drm_plan.specs.Files.{config_files, name_of, with_file}
 use Rattle.drm_plan.specs.Lookup.{at}
 use Rattle.drm_plan.specs.Projection.{Drafted}
 use Rattle.plan_said.specs.Rules.{Fault}
-use Rattle.drm_plan.specs.Text.{draft_of}
+use Rattle.drm_plan.specs.Text.{draft_of, IsText}
 use Rattle.drm_plan.proofs.TextLemmas.{right_text}
-use Rattle.plan_laws.proofs.AttachLaw.{Fills, at_seam, files_come, files_came, fills_fit, each_small, each_weaker}
+use Rattle.plan_laws.proofs.AttachLaw.{Fills, at_seam, files_come, files_came, fills_fit, fills_same, each_small, each_weaker}
 use Rattle.plan_laws.proofs.PlanLaw.{read_again, canonical_utf8}
 use Rattle.plan_laws.proofs.WholeLaw.{given_by}
 use Rattle.drm_load.specs.declared.loading.ScheduleFault.{ScheduleFault}
-use Rattle.load_laws.specs.Again.{HasFiles, HasAll, NoLoadFails}
+use Rattle.load_laws.specs.Again.{HasFiles, HasText, HasAll, NoLoadFails}
 use Rattle.drm_load.specs.Loading.{Step, Reading, given, after, ◌>>=◌, bytes_or_fault, load_for}
 use Rattle.drm_load.specs.Schedule.{longest_text, longest_file, by_lines, by_validity, with_files, schedule_named, checked}
 use Rattle.drm_load.proofs.ScheduleLemmas.{from_draft, from_text}
@@ -182,19 +182,25 @@ by_lines_is : (said : Result Drafted Fault) (draft : Drafted) → by_lines said 
 by_lines_is (Ok d) draft is = ap (λ (x : Drafted). Ok x) (draft_is d draft is)
 by_lines_is (Err fault) draft is = absurd cc
 
-pub schedule_came : (name : List ℕ) (told : Files) (schedule : Plan) → (schedule_named name told).came ≡ Ok schedule → IsSchedule schedule × HasFiles told schedule
+pub schedule_came : (name : List ℕ) (told : Files) (schedule : Plan) → (schedule_named name told).came ≡ Ok schedule → IsSchedule schedule × HasFiles told schedule × HasText told name schedule
 schedule_came name told schedule is =
     let text = then_came (load_for 0 name longest_text) from_text told schedule is in
     let draft = then_came (given (by_lines (draft_of text.x))) from_draft (after_one told) schedule text.second in
     let whole = then_came (with_files (length draft.x.files) 0 draft.x) (λ d. given (by_validity (valid_of d))) (after_one told) schedule draft.second in
     let valid = is_valid whole.x schedule whole.second in
-    let said = given_by text.x draft.x (by_lines_is (draft_of text.x) draft.x draft.first) in
+    let gives = by_lines_is (draft_of text.x) draft.x draft.first in
+    let said = given_by text.x draft.x gives in
     let loaded : (from_files draft.x.files draft.x (after_one told)).came ≡ Ok whole.x = sym (ap (λ (s : Step Drafted). s.came) (all_in_turn draft.x (after_one told))) ∙ whole.first in
     let fills = files_loaded draft.x.files draft.x whole.x (after_one told) loaded in
     let fits = fills_fit (Has longest_file told) (λ n bytes has. has.1) draft.x.files draft.x.plan whole.x.plan fills said.in_lines in
     let each = files_came (Has longest_file told) draft.x.plan whole.x.plan (subst (λ (fs : List Filed). Fills (Has longest_file told) fs draft.x.plan whole.x.plan) said.files fills) in
-    subst (λ (p : Plan). IsSchedule p × HasFiles told p) valid.same
-    (record { in_lines = fits; valid = valid.valid }, each_weaker (Has longest_file told) (λ n bytes. file_at told n ≡ Some bytes) (λ n bytes has. has.0) whole.x.plan each)
+    let there = load_came told 0 name text.x longest_text text.first in
+    let is_text : IsText whole.x.plan text.x = record { draft = draft.x; gives = gives; same = fills_same (Has longest_file told) draft.x.files draft.x.plan whole.x.plan fills } in
+    subst (λ (p : Plan). IsSchedule p × HasFiles told p × HasText told name p) valid.same (
+      record { in_lines = fits; valid = valid.valid },
+      each_weaker (Has longest_file told) (λ n bytes. file_at told n ≡ Some bytes) (λ n bytes has. has.0) whole.x.plan each,
+      record { text = text.x; there = there.0; is = is_text },
+    )
 
 -- ---- a schedule that comes again
 

@@ -4,6 +4,7 @@ use Rattle.drm_links.specs.Shelf.{Files, file_at}
 use Rattle.drm_schedule.specs.declared.plan.Plan.{Plan}
 use Rattle.drm_schedule.specs.Valid.{IsSchedule}
 use Rattle.plan_writing.specs.Canonical.{canonical}
+use Rattle.drm_plan.specs.Text.{IsText}
 use Rattle.plan_laws.specs.Texts.{EachFile}
 use Rattle.drm_load.specs.Schedule.{longest_text, schedule_named, checked}
 
@@ -19,10 +20,17 @@ HasAll first second = (name bytes : List ℕ) → file_at first name ≡ Some by
 abbrev pub NoLoadFails : Files → Type 0
 NoLoadFails told = (load : ℕ) → told.loads ≤ load → Contains told.failing load → ⊥
 
--- What a shelf gives as a schedule is one, and has the bytes of the shelf's files.
+-- the file of this name is a text of the schedule
+pub record HasText (told : Files) (name : List ℕ) (schedule : Plan) : Type 0 where
+  pub text : List ℕ
+  pub there : file_at told name ≡ Some text
+  pub is : IsText schedule text
+
+-- What a shelf gives as a schedule is one, has the bytes of the shelf's files, and the named file is a text of it.
 abbrev pub SchedulesAreOnTheShelf : Type 0
 SchedulesAreOnTheShelf =
-    (name : List ℕ) (told : Files) (schedule : Plan) → (schedule_named name told).came ≡ Ok schedule → IsSchedule schedule × HasFiles told schedule
+    (name : List ℕ) (told : Files) (schedule : Plan) → (schedule_named name told).came ≡ Ok schedule
+    → IsSchedule schedule × HasFiles told schedule × HasText told name schedule
 
 -- The canonical text of a schedule is checked as itself, where it isn't too long and the files are there.
 abbrev pub CanonicalIsChecked : Type 0

@@ -1,5 +1,5 @@
 -- Files that come one after another make a plan whole, and a whole plan has the bytes that came.
-use Rattle.std.proofs.Common.{◌≡◌, ℕ, ◌+◌, ◌≤◌, List, [], ◌∷◌, ◌++◌, Some, length, map, refl, sym, ap, subst, ◌∙◌, append_assoc}
+use Rattle.std.proofs.Common.{◌≡◌, ℕ, zero, suc, ◌+◌, ◌≤◌, List, [], ◌∷◌, ◌++◌, Some, length, map, refl, sym, ap, subst, ◌∙◌, append_assoc}
 use Rattle.std.specs.Prelude.{All}
 use Rattle.std.proofs.lemmas.List.{length-append}
 use Rattle.std.proofs.lemmas.List.Elements.{All-nil, All-cons, All-head, All-tail}
@@ -10,7 +10,7 @@ use Rattle.drm_schedule.specs.declared.stream.Stream.{Stream}
 use Rattle.drm_schedule.specs.declared.plan.Plan.{Plan}
 use Rattle.drm_schedule.specs.Ranges.{ContentInLines, StreamInLines, ConfigInLines, InLines}
 use Rattle.drm_plan.specs.declared.files.Filed.{Filed}
-use Rattle.drm_plan.specs.Files.{file_here, stream_files, config_files, filled_stream, filled_config, with_file, name_in, name_of_stream, name_of_config, name_of, emptied, without_bytes, config_without_bytes, without_files}
+use Rattle.drm_plan.specs.Files.{file_here, stream_files, config_files, filled, filled_stream, filled_config, with_file, name_in, name_of_stream, name_of_config, name_of, emptied, without_bytes, config_without_bytes, without_files}
 use Rattle.plan_laws.specs.Texts.{OfFile, EachFile}
 use Rattle.drm_plan.specs.Lookup.{at, changed}
 use Rattle.drm_plan.proofs.FileLemmas.{with_file_fits}
@@ -209,3 +209,29 @@ each_weaker P Q weaker plan each =
     both_all (AllFilled P) (AllFilled P) (AllFilled Q)
     (λ c has _. both_all (Filled P) (Filled P) (Filled Q) (λ s file _. content_weaker P Q weaker s.content file) c.streams has has)
     plan.configs each each
+
+-- ---- what stays
+
+emptied_again : (bytes : List ℕ) (content : Content) → emptied (filled bytes content) ≡ emptied content
+emptied_again bytes (Fill byte) = refl
+emptied_again bytes (File name old) = refl
+
+changed_same : {X : Type 0} (f g : X → X) → ((x : X) → g (f x) ≡ g x) → (k : ℕ) (xs : List X) → map g (changed f k xs) ≡ map g xs
+changed_same f g same k [] = refl
+changed_same f g same zero (x ∷ xs) = ap (λ y. y ∷ map g xs) (same x)
+changed_same f g same (suc k) (x ∷ xs) = ap (λ ys. g x ∷ ys) (changed_same f g same k xs)
+
+stream_same : (bytes : List ℕ) (s : Stream) → without_bytes (filled_stream bytes s) ≡ without_bytes s
+stream_same bytes s = ap (λ (k : Content). record s { content = k }) (emptied_again bytes s.content)
+
+config_same : (j : ℕ) (bytes : List ℕ) (c : Config) → config_without_bytes (filled_config j bytes c) ≡ config_without_bytes c
+config_same j bytes c = ap (λ (ss : List Stream). record c { streams = ss }) (changed_same (filled_stream bytes) without_bytes (stream_same bytes) j c.streams)
+
+with_file_same : (file : Filed) (bytes : List ℕ) (plan : Plan) → without_files (with_file file bytes plan) ≡ without_files plan
+with_file_same file bytes plan =
+    ap (λ (cs : List Config). record plan { configs = cs }) (changed_same (filled_config file.stream bytes) config_without_bytes (config_same file.stream bytes) file.config plan.configs)
+
+-- files that come change nothing but their bytes
+pub fills_same : (P : List ℕ → List ℕ → Type 0) (files : List Filed) (plan whole : Plan) → Fills P files plan whole → without_files plan ≡ without_files whole
+fills_same P [] plan whole fills = ap without_files fills
+fills_same P (file ∷ files) plan whole fills = sym (with_file_same file fills.0 plan) ∙ fills_same P files (with_file file fills.0 plan) whole fills.2
