@@ -1,7 +1,7 @@
 //! A schedule's text, read.
 
-ghost use Rattle.std.specs.Prelude.{◌≤◌, length};
-ghost use Rattle.text_lines.specs.Lines.{lines_of};
+ghost use Rattle.std.specs.Prelude.{◌≡◌, ◌<◌, ◌≤◌, length, IsUtf8, Err};
+ghost use Rattle.text_lines.specs.Lines.{lines_of, bad_line_of};
 ghost use Rattle.text_lines.specs.Texts.{longest_text};
 ghost use Rattle.plan_said.specs.Steps.{Reads};
 ghost use Rattle.drm_plan.specs.Text.{lines_give, draft_of};
@@ -26,7 +26,11 @@ fn read_text(alloc: Global, text: &str) -> Result<Draft, PlanFault>
 /// the first line, in their order, that has a fault by itself or after the lines before it, and what is missing at the
 /// end. Whether the schedule is valid isn't asked yet.
 pub fn read_plan(alloc: Global, text: &[u8]) -> Result<Draft, PlanFault>
-    ensures { Reads result (draft_of text.now) }
+    ensures read { Reads result (draft_of text.now) }
+    // A text that is refused as a whole is refused without memory.
+    ensures long { longest_text < length text.now → result ≡ Err (PlanFault.Line 0 Reason.TooLong) }
+    ensures utf8 { length text.now ≤ longest_text → (IsUtf8 text.now → ⊥)
+        → result ≡ Err (PlanFault.Line (bad_line_of text.now) Reason.Utf8) }
 {
     match readable(text) {
         Ok(text) => read_text(alloc, text),

@@ -18,10 +18,8 @@ use Rattle.drm_plan.specs.Lookup.{at}
 use Rattle.drm_plan.specs.Projection.{Drafted}
 use Rattle.plan_said.specs.Rules.{Fault}
 use Rattle.drm_plan.specs.Text.{draft_of, IsText}
-use Rattle.drm_plan.proofs.TextLemmas.{right_text}
 use Rattle.plan_laws.proofs.AttachLaw.{Fills, at_seam, files_come, files_came, fills_fit, fills_same, each_small, each_weaker}
-use Rattle.plan_laws.proofs.PlanLaw.{read_again, canonical_utf8}
-use Rattle.plan_laws.proofs.WholeLaw.{given_by}
+use Rattle.plan_laws.proofs.WholeLaw.{came_of, given_by, canonical_is_text}
 use Rattle.drm_load.specs.declared.loading.ScheduleFault.{ScheduleFault}
 use Rattle.load_laws.specs.Again.{HasFiles, HasText, HasAll, NoLoadFails}
 use Rattle.drm_load.specs.Loading.{Step, Reading, given, after, ◌>>=◌, bytes_or_fault, load_for}
@@ -204,31 +202,29 @@ schedule_came name told schedule is =
 
 -- ---- a schedule that comes again
 
-schedule_comes : (schedule : Plan) (name : List ℕ) (told : Files) → IsSchedule schedule → length (canonical schedule) ≤ longest_text → file_at told name ≡ Some (canonical schedule) → HasFiles told schedule → NoLoadFails told
+pub schedule_comes : (schedule : Plan) (name : List ℕ) (told : Files) → IsSchedule schedule → HasFiles told schedule → HasText told name schedule → NoLoadFails told
     → (schedule_named name told).came ≡ Ok schedule
-schedule_comes schedule name told is small there files none =
-    let again = read_again schedule is.in_lines in
-    let utf8 = canonical_utf8 schedule is.in_lines in
-    let gives : draft_of (canonical schedule) ≡ Ok again.draft = right_text (canonical schedule) small utf8 ∙ again.lines in
-    let said = given_by (canonical schedule) again.draft gives in
+schedule_comes schedule name told is files has none =
+    let draft = has.is.draft in
+    let said = given_by has.text draft has.is.gives in
+    let small = (came_of has.text draft has.is.gives).short in
     let each = each_small (λ n bytes. file_at told n ≡ Some bytes) schedule is.in_lines files in
-    let bare : Fills (Has longest_file told) (config_files 0 again.draft.plan.configs) again.draft.plan schedule =
-    subst (λ (p : Plan). Fills (Has longest_file told) (config_files 0 p.configs) p schedule) (sym again.same) (files_come (Has longest_file told) schedule each) in
-    let fills : Fills (Has longest_file told) again.draft.files again.draft.plan schedule = subst (λ (fs : List Filed). Fills (Has longest_file told) fs again.draft.plan schedule) (sym said.files) bare in
+    let bare : Fills (Has longest_file told) (config_files 0 draft.plan.configs) draft.plan schedule = files_come (Has longest_file told) draft.plan schedule has.is.same each in
+    let fills : Fills (Has longest_file told) draft.files draft.plan schedule = subst (λ (fs : List Filed). Fills (Has longest_file told) fs draft.plan schedule) (sym said.files) bare in
     let later = none_later told none in
-    let loaded : (with_files (length again.draft.files) 0 again.draft (after_one told)).came ≡ Ok (with_plan again.draft schedule) =
-    ap (λ (s : Step Drafted). s.came) (all_in_turn again.draft (after_one told)) ∙ files_load again.draft.files again.draft schedule (after_one told) later fills in
-    let valid : by_validity (valid_of (with_plan again.draft schedule)) ≡ Ok schedule = ap (λ (o : Option Invalid). by_validity (valid_unless o (with_plan again.draft schedule))) is.valid in
-    let text : (load_for 0 name longest_text told).came ≡ Ok (canonical schedule) = ap (λ (s : Step (List ℕ)). s.came) (loads_file told 0 name (canonical schedule) longest_text none there small) in
-    let from_there : (from_draft again.draft (after_one told)).came ≡ Ok schedule =
-    comes_then (with_files (length again.draft.files) 0 again.draft) (λ d. given (by_validity (valid_of d))) (after_one told) (with_plan again.draft schedule) (Ok schedule) loaded valid in
-    comes_then (load_for 0 name longest_text) from_text told (canonical schedule) (Ok schedule) text
-    (comes_then (given (by_lines (draft_of (canonical schedule)))) from_draft (after_one told) again.draft (Ok schedule) (ap by_lines gives) from_there)
+    let loaded : (with_files (length draft.files) 0 draft (after_one told)).came ≡ Ok (with_plan draft schedule) =
+    ap (λ (s : Step Drafted). s.came) (all_in_turn draft (after_one told)) ∙ files_load draft.files draft schedule (after_one told) later fills in
+    let valid : by_validity (valid_of (with_plan draft schedule)) ≡ Ok schedule = ap (λ (o : Option Invalid). by_validity (valid_unless o (with_plan draft schedule))) is.valid in
+    let text : (load_for 0 name longest_text told).came ≡ Ok has.text = ap (λ (s : Step (List ℕ)). s.came) (loads_file told 0 name has.text longest_text none has.there small) in
+    let from_there : (from_draft draft (after_one told)).came ≡ Ok schedule =
+    comes_then (with_files (length draft.files) 0 draft) (λ d. given (by_validity (valid_of d))) (after_one told) (with_plan draft schedule) (Ok schedule) loaded valid in
+    comes_then (load_for 0 name longest_text) from_text told has.text (Ok schedule) text
+    (comes_then (given (by_lines (draft_of has.text))) from_draft (after_one told) draft (Ok schedule) (ap by_lines has.is.gives) from_there)
 
 pub canonical_checked : (schedule : Plan) (name : List ℕ) (told : Files) → IsSchedule schedule → length (canonical schedule) ≤ longest_text → file_at told name ≡ Some (canonical schedule) → HasFiles told schedule → NoLoadFails told
     → (checked name told).came ≡ Ok (canonical schedule)
 canonical_checked schedule name told is small there files none =
-    comes_then (schedule_named name) (λ s. given (Ok (canonical s))) told schedule (Ok (canonical schedule)) (schedule_comes schedule name told is small there files none) refl
+    comes_then (schedule_named name) (λ s. given (Ok (canonical s))) told schedule (Ok (canonical schedule)) (schedule_comes schedule name told is files (record { text = canonical schedule; there = there; is = canonical_is_text schedule is small }) none) refl
 
 abbrev text_ok : List ℕ → Result (List ℕ) ScheduleFault
 text_ok text = Ok text

@@ -32,6 +32,12 @@ SchedulesAreOnTheShelf =
     (name : List ℕ) (told : Files) (schedule : Plan) → (schedule_named name told).came ≡ Ok schedule
     → IsSchedule schedule × HasFiles told schedule × HasText told name schedule
 
+-- A text of a schedule comes to it, where the files are there.
+abbrev pub TextsComeToTheirSchedules : Type 0
+TextsComeToTheirSchedules =
+    (schedule : Plan) (name : List ℕ) (told : Files) → IsSchedule schedule → HasFiles told schedule → HasText told name schedule → NoLoadFails told
+    → (schedule_named name told).came ≡ Ok schedule
+
 -- The canonical text of a schedule is checked as itself, where it isn't too long and the files are there.
 abbrev pub CanonicalIsChecked : Type 0
 CanonicalIsChecked =

@@ -31,6 +31,12 @@ changed_seam f (y ∷ a) x b = ap (λ l. y ∷ l) (changed_seam f a x b)
 pub one_longer : {X : Type 0} (a : List X) (x : X) → length (a ++ x ∷ []) ≡ length a + 1
 one_longer a x = length-append a (x ∷ [])
 
+pub heads : {X : Type 0} (x y : X) (xs ys : List X) → x ∷ xs ≡ y ∷ ys → x ≡ y
+heads x y xs ys e = cc
+
+pub tails : {X : Type 0} (x y : X) (xs ys : List X) → x ∷ xs ≡ y ∷ ys → xs ≡ ys
+tails x y xs ys e = cc
+
 -- the plan with these configurations, and with these streams in one of them
 abbrev pub with_configs : Plan → List Config → Plan
 with_configs plan configs = record plan { configs = configs }
@@ -60,49 +66,70 @@ module _ (P : List ℕ → List ℕ → Type 0) where
 
   -- ---- to the whole plan
 
-  stream_comes : (plan : Plan) (before : List Config) (c : Config) (after : List Config) (done : List Stream) (a b : ℕ) (content : Content) (more : List Stream) (files : List Filed) (whole : Plan)
-      → OfFile P content → Fills P files (here plan before c after (done ++ record { a = a; b = b; content = content } ∷ more)) whole
-      → Fills P (file_here (length before) (length done) (record { a = a; b = b; content = emptied content }) ++ files) (here plan before c after (done ++ record { a = a; b = b; content = emptied content } ∷ more)) whole
-  stream_comes plan before c after done a b (Fill byte) more files whole has rest = rest
-  stream_comes plan before c after done a b (File name bytes) more files whole has rest = (
-    bytes,
-    subst (λ (n : List ℕ). P n bytes) (sym (name_here plan before c after done (record { a = a; b = b; content = File name [] }) more)) has,
-    subst (λ (p : Plan). Fills P files p whole) (sym (filled_here plan before c after done (record { a = a; b = b; content = File name [] }) more bytes)) rest,
-  )
+  stream_comes : (plan : Plan) (before : List Config) (c : Config) (after : List Config) (done : List Stream) (a b : ℕ) (old content : Content) (more : List Stream) (files : List Filed) (whole : Plan)
+      → emptied old ≡ emptied content → OfFile P content → Fills P files (here plan before c after (done ++ record { a = a; b = b; content = content } ∷ more)) whole
+      → Fills P (file_here (length before) (length done) (record { a = a; b = b; content = old }) ++ files) (here plan before c after (done ++ record { a = a; b = b; content = old } ∷ more)) whole
+  stream_comes plan before c after done a b (Fill x) (Fill y) more files whole same has rest =
+      subst (λ (k : Content). Fills P files (here plan before c after (done ++ record { a = a; b = b; content = k } ∷ more)) whole) (sym same) rest
+  stream_comes plan before c after done a b (Fill x) (File name bytes) more files whole same has rest = absurd cc
+  stream_comes plan before c after done a b (File name bytes) (Fill y) more files whole same has rest = absurd cc
+  stream_comes plan before c after done a b (File first x) (File name bytes) more files whole same has rest =
+      let s : Stream = record { a = a; b = b; content = File first x } in
+      let names : first ≡ name = ap name_in same in
+      let made : with_file (file_at before done) bytes (here plan before c after (done ++ s ∷ more)) ≡ here plan before c after (done ++ record { a = a; b = b; content = File name bytes } ∷ more) =
+      filled_here plan before c after done s more bytes ∙ ap (λ (n : List ℕ). here plan before c after (done ++ record { a = a; b = b; content = File n bytes } ∷ more)) names in (
+        bytes,
+        subst (λ (n : List ℕ). P n bytes) (sym (name_here plan before c after done s more ∙ names)) has,
+        subst (λ (p : Plan). Fills P files p whole) (sym made) rest,
+      )
 
-  streams_come : (plan : Plan) (before : List Config) (c : Config) (after : List Config) (done target : List Stream) (files : List Filed) (whole : Plan)
-      → All Filled target → Fills P files (here plan before c after (done ++ target)) whole
-      → Fills P (stream_files (length before) (length done) (map without_bytes target) ++ files) (here plan before c after (done ++ map without_bytes target)) whole
-  streams_come plan before c after done [] files whole all rest = rest
-  streams_come plan before c after done (s ∷ target) files whole all rest =
-      let bare : List Stream = map without_bytes target in
-      let next : List Filed = stream_files (length before) (length done + 1) bare ++ files in
-      let behind : Fills P (stream_files (length before) (length (done ++ s ∷ [])) bare ++ files) (here plan before c after ((done ++ s ∷ []) ++ bare)) whole =
-      streams_come plan before c after (done ++ s ∷ []) target files whole (All-tail Filled s target all)
-      (subst (λ (ss : List Stream). Fills P files (here plan before c after ss) whole) (sym (append_assoc done (s ∷ []) target)) rest) in
-      let counted : Fills P next (here plan before c after ((done ++ s ∷ []) ++ bare)) whole =
-      subst (λ (j : ℕ). Fills P (stream_files (length before) j bare ++ files) (here plan before c after ((done ++ s ∷ []) ++ bare)) whole) (one_longer done s) behind in
-      let placed : Fills P next (here plan before c after (done ++ s ∷ bare)) whole =
-      subst (λ (ss : List Stream). Fills P next (here plan before c after ss) whole) (append_assoc done (s ∷ []) bare) counted in
-      subst (λ (fs : List Filed). Fills P fs (here plan before c after (done ++ without_bytes s ∷ bare)) whole)
-      (sym (append_assoc (file_here (length before) (length done) (without_bytes s)) (stream_files (length before) (length done + 1) bare) files))
-      (stream_comes plan before c after done s.a s.b s.content bare next whole (All-head Filled s target all) placed)
+  streams_come : (plan : Plan) (before : List Config) (c : Config) (after : List Config) (done old target : List Stream) (files : List Filed) (whole : Plan)
+      → map without_bytes old ≡ map without_bytes target → All Filled target → Fills P files (here plan before c after (done ++ target)) whole
+      → Fills P (stream_files (length before) (length done) old ++ files) (here plan before c after (done ++ old)) whole
+  streams_come plan before c after done [] [] files whole same all rest = rest
+  streams_come plan before c after done [] (t ∷ target) files whole same all rest = absurd cc
+  streams_come plan before c after done (s ∷ old) [] files whole same all rest = absurd cc
+  streams_come plan before c after done (s ∷ old) (t ∷ target) files whole same all rest =
+      let first : without_bytes s ≡ without_bytes t = heads (without_bytes s) (without_bytes t) (map without_bytes old) (map without_bytes target) same in
+      let others : map without_bytes old ≡ map without_bytes target = tails (without_bytes s) (without_bytes t) (map without_bytes old) (map without_bytes target) same in
+      let one : t ≡ record s { content = t.content } = sym (ap (λ (x : Stream). record x { content = t.content }) first) in
+      let next : List Filed = stream_files (length before) (length done + 1) old ++ files in
+      let behind : Fills P (stream_files (length before) (length (done ++ t ∷ [])) old ++ files) (here plan before c after ((done ++ t ∷ []) ++ old)) whole =
+      streams_come plan before c after (done ++ t ∷ []) old target files whole others (All-tail Filled t target all)
+      (subst (λ (ss : List Stream). Fills P files (here plan before c after ss) whole) (sym (append_assoc done (t ∷ []) target)) rest) in
+      let counted : Fills P next (here plan before c after ((done ++ t ∷ []) ++ old)) whole =
+      subst (λ (j : ℕ). Fills P (stream_files (length before) j old ++ files) (here plan before c after ((done ++ t ∷ []) ++ old)) whole) (one_longer done t) behind in
+      let placed : Fills P next (here plan before c after (done ++ t ∷ old)) whole =
+      subst (λ (ss : List Stream). Fills P next (here plan before c after ss) whole) (append_assoc done (t ∷ []) old) counted in
+      let seen : Fills P next (here plan before c after (done ++ record s { content = t.content } ∷ old)) whole =
+      subst (λ (x : Stream). Fills P next (here plan before c after (done ++ x ∷ old)) whole) one placed in
+      subst (λ (fs : List Filed). Fills P fs (here plan before c after (done ++ s ∷ old)) whole)
+      (sym (append_assoc (file_here (length before) (length done) s) (stream_files (length before) (length done + 1) old) files))
+      (stream_comes plan before c after done s.a s.b s.content t.content old next whole (ap (λ (x : Stream). x.content) first) (All-head Filled t target all) seen)
 
-  configs_come : (plan : Plan) (before target : List Config) (whole : Plan) → All AllFilled target → with_configs plan (before ++ target) ≡ whole
-      → Fills P (config_files (length before) (map config_without_bytes target)) (with_configs plan (before ++ map config_without_bytes target)) whole
-  configs_come plan before [] whole all same = same
-  configs_come plan before (c ∷ target) whole all same =
-      let bare : List Config = map config_without_bytes target in
-      let behind : Fills P (config_files (length (before ++ c ∷ [])) bare) (with_configs plan ((before ++ c ∷ []) ++ bare)) whole =
-      configs_come plan (before ++ c ∷ []) target whole (All-tail AllFilled c target all) (ap (with_configs plan) (append_assoc before (c ∷ []) target) ∙ same) in
-      let counted : Fills P (config_files (length before + 1) bare) (with_configs plan ((before ++ c ∷ []) ++ bare)) whole =
-      subst (λ (i : ℕ). Fills P (config_files i bare) (with_configs plan ((before ++ c ∷ []) ++ bare)) whole) (one_longer before c) behind in
-      streams_come plan before c bare [] c.streams (config_files (length before + 1) bare) whole (All-head AllFilled c target all)
-      (subst (λ (cs : List Config). Fills P (config_files (length before + 1) bare) (with_configs plan cs) whole) (append_assoc before (c ∷ []) bare) counted)
+  configs_come : (plan : Plan) (before old target : List Config) (whole : Plan) → map config_without_bytes old ≡ map config_without_bytes target → All AllFilled target → with_configs plan (before ++ target) ≡ whole
+      → Fills P (config_files (length before) old) (with_configs plan (before ++ old)) whole
+  configs_come plan before [] [] whole same all is = is
+  configs_come plan before [] (d ∷ target) whole same all is = absurd cc
+  configs_come plan before (c ∷ old) [] whole same all is = absurd cc
+  configs_come plan before (c ∷ old) (d ∷ target) whole same all is =
+      let first : config_without_bytes c ≡ config_without_bytes d = heads (config_without_bytes c) (config_without_bytes d) (map config_without_bytes old) (map config_without_bytes target) same in
+      let others : map config_without_bytes old ≡ map config_without_bytes target = tails (config_without_bytes c) (config_without_bytes d) (map config_without_bytes old) (map config_without_bytes target) same in
+      let one : d ≡ record c { streams = d.streams } = sym (ap (λ (x : Config). record x { streams = d.streams }) first) in
+      let next : List Filed = config_files (length before + 1) old in
+      let behind : Fills P (config_files (length (before ++ d ∷ [])) old) (with_configs plan ((before ++ d ∷ []) ++ old)) whole =
+      configs_come plan (before ++ d ∷ []) old target whole others (All-tail AllFilled d target all) (ap (with_configs plan) (append_assoc before (d ∷ []) target) ∙ is) in
+      let counted : Fills P next (with_configs plan ((before ++ d ∷ []) ++ old)) whole =
+      subst (λ (i : ℕ). Fills P (config_files i old) (with_configs plan ((before ++ d ∷ []) ++ old)) whole) (one_longer before d) behind in
+      let placed : Fills P next (with_configs plan (before ++ d ∷ old)) whole =
+      subst (λ (cs : List Config). Fills P next (with_configs plan cs) whole) (append_assoc before (d ∷ []) old) counted in
+      streams_come plan before c old [] c.streams d.streams next whole (ap (λ (x : Config). x.streams) first) (All-head AllFilled d target all)
+      (subst (λ (x : Config). Fills P next (with_configs plan (before ++ x ∷ old)) whole) one placed)
 
-  -- the files of a schedule, put into its plan without them, make the schedule
-  pub files_come : (schedule : Plan) → EachFile P schedule → Fills P (config_files 0 (without_files schedule).configs) (without_files schedule) schedule
-  files_come schedule all = configs_come schedule [] schedule.configs schedule all refl
+  -- the files of a schedule, put into a plan that is the same but for them, make the schedule
+  pub files_come : (plan schedule : Plan) → without_files plan ≡ without_files schedule → EachFile P schedule → Fills P (config_files 0 plan.configs) plan schedule
+  files_come plan schedule same all =
+      configs_come plan [] plan.configs schedule.configs schedule (ap (λ (p : Plan). p.configs) same) all (ap (λ (p : Plan). with_configs p schedule.configs) same)
 
   -- ---- from the whole plan
 

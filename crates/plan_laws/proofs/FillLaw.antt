@@ -14,7 +14,7 @@ use Rattle.drm_schedule.specs.Ranges.{ContentInLines, StreamInLines, ConfigInLin
 use Rattle.drm_plan.specs.declared.files.Filed.{Filed}
 use Rattle.drm_plan.specs.Files.{file_here, stream_files, config_files, with_file, name_in, emptied, without_bytes, config_without_bytes, without_files}
 use Rattle.plan_laws.specs.Whole.{file_in, files_of, files_in}
-use Rattle.plan_laws.proofs.AttachLaw.{with_configs, here, one_longer, filled_here}
+use Rattle.plan_laws.proofs.AttachLaw.{with_configs, here, one_longer, filled_here, heads, tails}
 
 -- the plan whose files get these bytes, one after another
 abbrev pub filled_with : List Filed → List (List ℕ) → Plan → Plan
@@ -24,12 +24,6 @@ filled_with (file ∷ files) (bytes ∷ all) plan = filled_with files all (with_
 
 abbrev stream_file : Stream → List (List ℕ)
 stream_file stream = file_in stream.content
-
-heads : {X : Type 0} (x y : X) (xs ys : List X) → x ∷ xs ≡ y ∷ ys → x ≡ y
-heads x y xs ys e = cc
-
-tails : {X : Type 0} (x y : X) (xs ys : List X) → x ∷ xs ≡ y ∷ ys → xs ≡ ys
-tails x y xs ys e = cc
 
 abbrev of_content : ℕ → ℕ → Content → Stream
 of_content a b content = record { a = a; b = b; content = content }

@@ -2,6 +2,7 @@
 use Rattle.std.proofs.Common.{◌≡◌, ℕ, ◌+◌, ◌≤◌, Bool, true, false, List, [], ◌∷◌, ◌++◌, Option, Some, None, Result, Ok, Err, IsUtf8, length, map, if◌then◌else◌, refl, sym, ap, subst, ◌∙◌, append_assoc, arith}
 use Rattle.std.specs.Prelude.{All, nat_lt}
 use Rattle.std.specs.Str.{is_utf8}
+use Rattle.std.proofs.lemmas.Bool.{ltb-false}
 use Rattle.std.proofs.lemmas.List.{length-append}
 use Rattle.std.proofs.lemmas.List.Elements.{All-head, All-tail}
 use Rattle.std.proofs.lemmas.Str.{IsUtf8-from_is_utf8}
@@ -65,19 +66,20 @@ all_fit k (bytes ∷ all) draft small fits =
 
 -- ---- what a draft came of
 
-record CameOf (text : List ℕ) (draft : Drafted) : Type 0 where
-  utf8 : IsUtf8 text
-  lines : lines_give (lines_of text) ≡ Ok draft
+pub record CameOf (text : List ℕ) (draft : Drafted) : Type 0 where
+  pub short : length text ≤ longest_text
+  pub utf8 : IsUtf8 text
+  pub lines : lines_give (lines_of text) ≡ Ok draft
 
-came_of : (text : List ℕ) (draft : Drafted) → draft_of text ≡ Ok draft → CameOf text draft
+pub came_of : (text : List ℕ) (draft : Drafted) → draft_of text ≡ Ok draft → CameOf text draft
 unfolding draft_of
-came_of text draft is = by (nat_lt longest_text (length text)) (is_utf8 text) refl is
+came_of text draft is = by (nat_lt longest_text (length text)) (is_utf8 text) refl refl is
   where
-    by : (long utf8 : Bool) → is_utf8 text ≡ utf8
+    by : (long utf8 : Bool) → nat_lt longest_text (length text) ≡ long → is_utf8 text ≡ utf8
         → (if long then Err (fault 0 TooLong) else if utf8 then lines_give (lines_of text) else Err (fault (bad_line_of text) Utf8)) ≡ Ok draft → CameOf text draft
-    by true utf8 found is = absurd cc
-    by false false found is = absurd cc
-    by false true found is = record { utf8 = IsUtf8-from_is_utf8 text found; lines = is }
+    by true utf8 size found is = absurd cc
+    by false false size found is = absurd cc
+    by false true size found is = record { short = ltb-false longest_text (length text) size; utf8 = IsUtf8-from_is_utf8 text found; lines = is }
 
 pub given_by : (text : List ℕ) (draft : Drafted) → draft_of text ≡ Ok draft → IsGiven draft
 given_by text draft is =

@@ -1,7 +1,7 @@
 //! A script's text, read.
 
-ghost use Rattle.std.specs.Prelude.{◌≤◌, length, IfOk};
-ghost use Rattle.text_lines.specs.Lines.{lines_of};
+ghost use Rattle.std.specs.Prelude.{◌≡◌, ◌<◌, ◌≤◌, length, IsUtf8, Err, IfOk};
+ghost use Rattle.text_lines.specs.Lines.{lines_of, bad_line_of};
 ghost use Rattle.text_lines.specs.Texts.{longest_text};
 ghost use Rattle.script_lines.specs.Script.{IsScript, script_of, script_of_text};
 ghost use Rattle.script_lines.specs.Steps.{Reads};
@@ -27,6 +27,10 @@ fn read_text(alloc: Global, text: &str, plan: &Schedule) -> Result<Script, Scrip
 /// at the end a text without a feed.
 pub fn read_script(alloc: Global, text: &[u8], plan: &Schedule) -> Result<Script, ScriptFault>
     ensures read { Reads result (script_of_text plan.now text.now) }
+    // A text that is refused as a whole is refused without memory.
+    ensures long { longest_text < length text.now → result ≡ Err (ScriptFault.Line 0 Reason.TooLong) }
+    ensures utf8 { length text.now ≤ longest_text → (IsUtf8 text.now → ⊥)
+        → result ≡ Err (ScriptFault.Line (bad_line_of text.now) Reason.Utf8) }
     ensures script { IfOk result (IsScript plan.now) }
 {
     match readable(text) {
