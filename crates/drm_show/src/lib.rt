@@ -1,18 +1,6 @@
-//! The texts that are printed of what was received: each line is one definition, and one function that writes it to a
-//! sink in pieces, without memory.
+//! What is printed of what was received, in one place: the FAC line, the lines of a report, and what of a capture is shown.
 #![tactic(auto)]
 
-mod block;
-mod description;
-mod fac_line;
-mod frame_line;
-mod hex_bits;
-mod report;
-mod step;
-mod streams;
-mod words;
-
-pub use fac_line::write_fac;
-pub use report::{EndWord, Sums, write_end, write_feed, write_refused};
-pub use step::write_step;
-pub use text_pieces::{Piece, write_pieces};
+pub use report_lines::{
+    EndWord, Piece, Sums, write_end, write_fac, write_feed, write_pieces, write_refused, write_step,
+};

@@ -13,8 +13,8 @@ use Rattle.drm_switches.specs.Tracker.{new_tracker}
 use Rattle.drm_timeline.specs.Numbers.{frame_count}
 use Rattle.mod_delivery.specs.Sent.{AreSent, Arrival, OfSchedule, pairs_in, IsFollowed, IsInTime}
 use Rattle.mod_delivery.specs.Given.{AreGiven}
-use Rattle.drm_show.specs.declared.report.EndWord.{EndWord}
-use Rattle.drm_show.specs.declared.report.EndWord.TheVariants as word
+use Rattle.report_lines.specs.declared.report.EndWord.{EndWord}
+use Rattle.report_lines.specs.declared.report.EndWord.TheVariants as word
 use Rattle.mod_receiver.specs.Hearing.{AreNext}
 use Rattle.mod_receiver.specs.declared.rules.Rules.{Rules}
 use Rattle.mod_receiver.specs.Reading.{datagrams, idles, Holds, IsOpen, IsSound, EndsBy}

@@ -21,8 +21,8 @@ use Rattle.drm_timeline.specs.Numbers.{frame_count}
 use Rattle.mod_delivery.specs.Sent.{Arrival, OfSchedule, Stray, pairs_in, IsFollowed, IsInTime}
 use Rattle.mod_delivery.specs.Given.{IsServed, AreGiven, AreAllServed}
 use Rattle.mod_delivery.specs.Laws.{Suits, Delivering, DeliveringEarly, StraysRefused, GivenInTime, SwitchesAtStarts, AllSwitches, AllFrames}
-use Rattle.drm_show.specs.declared.report.EndWord.{EndWord}
-use Rattle.drm_show.specs.declared.report.EndWord.TheVariants as word
+use Rattle.report_lines.specs.declared.report.EndWord.{EndWord}
+use Rattle.report_lines.specs.declared.report.EndWord.TheVariants as word
 use Rattle.mod_receiver.specs.declared.rules.Rules.{Rules}
 use Rattle.mod_receiver.specs.Hearing.{AreNext, HeardTold}
 use Rattle.mod_receiver.specs.Reading.{datagrams, HasGiven, Holds, EndsBy, GoesOn, IsFinished}

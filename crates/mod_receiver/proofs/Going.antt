@@ -4,7 +4,7 @@ use Rattle.std.specs.List.{AllByRecursion}
 use Rattle.std.proofs.lemmas.List.{append-nil, take-append-le, take_all}
 use Rattle.std.proofs.lemmas.List.Elements.{filter_map-append}
 use Rattle.drm_links.specs.Link.{Answer, Datagram, Idle, Failed, datagram_of}
-use Rattle.drm_show.specs.declared.report.EndWord.TheVariants as word
+use Rattle.report_lines.specs.declared.report.EndWord.TheVariants as word
 use Rattle.mod_receiver.specs.declared.rules.Rules.{Rules}
 use Rattle.mod_receiver.specs.Reading.{datagrams, idles_from, idles, HasGiven, IsOpen, IsSound, GoesOn}
 

@@ -12,8 +12,8 @@ use Rattle.collect_laws.proofs.Unique.{one_giving}
 use Rattle.drm_switches.specs.Tracker.{new_tracker}
 use Rattle.mod_feed.specs.Feeding.{Feeds}
 use Rattle.mod_feed.proofs.FeedingLemmas.{feeding_is_one}
-use Rattle.drm_show.specs.declared.report.EndWord.{EndWord}
-use Rattle.drm_show.specs.declared.report.EndWord.TheVariants as word
+use Rattle.report_lines.specs.declared.report.EndWord.{EndWord}
+use Rattle.report_lines.specs.declared.report.EndWord.TheVariants as word
 use Rattle.mod_receiver.specs.declared.rules.Rules.{Rules}
 use Rattle.mod_receiver.specs.Hearing.{AreNext}
 use Rattle.mod_receiver.specs.Reading.{datagrams, Holds, EndsBy, IsSound, GoesOn, IsFinished, IsBroken}

@@ -17,8 +17,8 @@ use Rattle.drm_switches.specs.Tracker.{TrackerState, stepped}
 use Rattle.mod_feed.specs.Items.{Item as FeedItem, Frame, Missing, Bad, number_of, seen_in}
 use Rattle.mod_feed.specs.Feeding.{FeedStep, IsStep, Feeds, after_step}
 use Rattle.mod_feed.proofs.FeedingLemmas.{feedings_join}
-use Rattle.drm_show.specs.declared.report.Sums.{Sums}
-use Rattle.drm_show.specs.Report.{step_text}
+use Rattle.report_lines.specs.declared.report.Sums.{Sums}
+use Rattle.report_lines.specs.Report.{step_text}
 use Rattle.mod_receiver.specs.Reports.{steps_text}
 use Rattle.mod_receiver.specs.Tallies.{Tallied, counted, one_more_item}
 use Rattle.mod_receiver.specs.Received.{GivesFirst}

@@ -15,7 +15,7 @@ use Rattle.dcp_collect.proofs.Decoded.{one_decoding}
 use Rattle.collect_laws.proofs.Unique.{one_run}
 use Rattle.drm_switches.specs.Tracker.{TrackerState, new_tracker}
 use Rattle.mod_feed.specs.Feeding.{FeedStep, Feeds}
-use Rattle.drm_show.specs.declared.report.EndWord.TheVariants as word
+use Rattle.report_lines.specs.declared.report.EndWord.TheVariants as word
 use Rattle.mod_receiver.specs.declared.rules.Rules.{Rules}
 use Rattle.mod_receiver.specs.Reading.{datagrams, idles as idles_at_end, Gave, HasGiven, IsOpen, most_answers}
 use Rattle.mod_receiver.specs.Reports.{steps_text, refusals}

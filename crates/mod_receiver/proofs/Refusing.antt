@@ -5,8 +5,8 @@ use Rattle.drm_links.specs.Told.{Known}
 use Rattle.drm_links.specs.Sink.{Output, Outputs, IsFront}
 use Rattle.drm_links.proofs.ToldLemmas.{Outputs-then, Outputs-nothing, Outputs-weaker}
 use Rattle.std.proofs.lemmas.List.{append-nil}
-use Rattle.drm_show.specs.FaultWords.{IsTold}
-use Rattle.drm_show.specs.Report.{refused_line}
+use Rattle.report_lines.specs.FaultWords.{IsTold}
+use Rattle.report_lines.specs.Report.{refused_line}
 use Rattle.mod_receiver.specs.declared.tally.Refusal.{Refusal}
 use Rattle.mod_receiver.specs.Reports.{refused_text}
 

@@ -13,8 +13,8 @@ use Rattle.dcp_collect.specs.Runs.{Item as Given, Run, up_to}
 use Rattle.drm_switches.specs.Tracker.{TrackerState, new_tracker}
 use Rattle.mod_feed.specs.Items.{Item, Frame, Missing, Bad}
 use Rattle.mod_feed.specs.Feeding.{FeedStep, Feeds}
-use Rattle.drm_show.specs.declared.report.EndWord.{EndWord}
-use Rattle.drm_show.specs.Report.{feed_line, end_line}
+use Rattle.report_lines.specs.declared.report.EndWord.{EndWord}
+use Rattle.report_lines.specs.Report.{feed_line, end_line}
 use Rattle.mod_receiver.specs.declared.rules.Rules.{Rules}
 use Rattle.mod_receiver.specs.declared.stop.Stop.{Stop}
 use Rattle.mod_receiver.specs.declared.stop.Stop.TheVariants as stop

@@ -18,7 +18,7 @@ use Rattle.dcp_collect.specs.State.{State, answer, answer_at, answer_among, answ
 use Rattle.dcp_collect.specs.Runs.{Takes}
 use Rattle.collect_laws.proofs.Stays.{take_next, take_end}
 use Rattle.drm_switches.specs.Tracker.{TrackerState}
-use Rattle.drm_show.specs.FaultWords.{IsTold}
+use Rattle.report_lines.specs.FaultWords.{IsTold}
 use Rattle.mod_receiver.specs.Reports.{is_refused}
 use Rattle.mod_receiver.specs.Tallies.{Tallied, noted}
 use Rattle.mod_receiver.specs.Printed.{items_in, steps_before, KeepsPace, PrintsReady, PrintsFront, PrintsTaken, TakesFront}

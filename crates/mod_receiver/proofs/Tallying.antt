@@ -9,8 +9,8 @@ use Rattle.dcp_collect.specs.State.{State}
 use Rattle.dcp_collect.specs.Runs.{Item as Given, Steps}
 use Rattle.mod_feed.specs.Items.{Item, Frame, Missing, Bad}
 use Rattle.mod_feed.specs.Feeding.{FeedStep}
-use Rattle.drm_show.specs.declared.report.Sums.{Sums}
-use Rattle.drm_show.specs.FaultWords.{IsTold}
+use Rattle.report_lines.specs.declared.report.Sums.{Sums}
+use Rattle.report_lines.specs.FaultWords.{IsTold}
 use Rattle.mod_receiver.specs.declared.tally.Refusal.{Refusal}
 use Rattle.mod_receiver.specs.Reports.{is_given, is_missing, is_bad, is_refused, refusals_from, refusals, sums_of}
 use Rattle.mod_receiver.specs.Tallies.{Tallied, one_more_item, noted}

@@ -4,7 +4,7 @@ use Rattle.std.proofs.lemmas.List.{append_cancel_right}
 use Rattle.drm_links.specs.Link.{Answer, Failed}
 use Rattle.drm_timeline.specs.Numbers.{frame_count}
 use Rattle.mod_delivery.specs.Laws.{AllAtOnce}
-use Rattle.drm_show.specs.declared.report.EndWord.TheVariants as word
+use Rattle.report_lines.specs.declared.report.EndWord.TheVariants as word
 use Rattle.mod_receiver.specs.declared.rules.Rules.{Rules}
 use Rattle.mod_receiver.specs.Reading.{datagrams, HasGiven, IsOpen, IsBroken}
 use Rattle.mod_receiver.specs.Headline.{untold, WouldBeRead}

@@ -13,8 +13,8 @@ use Rattle.drm_timeline.specs.Numbers.{frame_count}
 use Rattle.mod_delivery.specs.Sent.{Arrival, OfSchedule, Stray, pairs_in, IsFollowed, IsInTime}
 use Rattle.mod_delivery.specs.Given.{IsServed, AreGiven, IsStart, AreAllServed, AreAllFrames}
 use Rattle.frame_lines.specs.Line.{IsFrameLine}
-use Rattle.drm_show.specs.Report.{item_line}
-use Rattle.drm_show.specs.declared.report.EndWord.{EndWord}
+use Rattle.report_lines.specs.Report.{item_line}
+use Rattle.report_lines.specs.declared.report.EndWord.{EndWord}
 use Rattle.mod_receiver.specs.declared.tally.Refusal.{Refusal}
 use Rattle.mod_receiver.specs.declared.rules.Rules.{Rules}
 use Rattle.mod_receiver.specs.Reading.{datagrams, IsFinished}

@@ -1,7 +1,7 @@
 -- What is read of a link is one thing, and so is the report of it.
 use Rattle.std.specs.Prelude.{ℕ, ◌≡◌, Bool, List, Option, Some, None}
 use Rattle.drm_links.specs.Link.{Answer}
-use Rattle.drm_show.specs.declared.report.EndWord.{EndWord}
+use Rattle.report_lines.specs.declared.report.EndWord.{EndWord}
 use Rattle.mod_receiver.specs.Hearing.{AreNext}
 use Rattle.mod_receiver.specs.declared.rules.Rules.{Rules}
 use Rattle.mod_receiver.specs.Reading.{IsFinished, IsBroken}

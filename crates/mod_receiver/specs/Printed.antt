@@ -10,8 +10,8 @@ use Rattle.dcp_collect.specs.Runs.{Item, Takes, Gives, up_to}
 use Rattle.collect_laws.specs.Laws.{IsFit}
 use Rattle.drm_switches.specs.Tracker.{TrackerState, new_tracker}
 use Rattle.mod_feed.specs.Feeding.{FeedStep, Feeds}
-use Rattle.drm_show.specs.declared.report.EndWord.{EndWord}
-use Rattle.drm_show.specs.declared.report.Sums.{Sums}
+use Rattle.report_lines.specs.declared.report.EndWord.{EndWord}
+use Rattle.report_lines.specs.declared.report.Sums.{Sums}
 use Rattle.mod_receiver.specs.Hearing.{Heard}
 use Rattle.mod_receiver.specs.declared.rules.Rules.{Rules}
 use Rattle.mod_receiver.specs.declared.stop.Stop.{Stop}

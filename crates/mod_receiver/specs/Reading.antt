@@ -5,8 +5,8 @@ use Rattle.drm_links.specs.Link.{Answer, Datagram, Idle, Failed, datagram_of}
 use Rattle.dcp_collect.specs.declared.taken.Taken.{Taken}
 use Rattle.dcp_collect.specs.State.{State, made}
 use Rattle.dcp_collect.specs.Runs.{Item, Steps}
-use Rattle.drm_show.specs.declared.report.EndWord.{EndWord}
-use Rattle.drm_show.specs.declared.report.EndWord.TheVariants as word
+use Rattle.report_lines.specs.declared.report.EndWord.{EndWord}
+use Rattle.report_lines.specs.declared.report.EndWord.TheVariants as word
 use Rattle.mod_receiver.specs.declared.rules.Rules.{Rules}
 
 -- the datagrams among the answers

@@ -8,8 +8,8 @@ use Rattle.dcp_collect.specs.State.{State, ready, after_item, after_finish}
 use Rattle.dcp_collect.specs.Runs.{Item, IsItem, Takes, Run, up_to}
 use Rattle.drm_switches.specs.Tracker.{TrackerState, new_tracker}
 use Rattle.mod_feed.specs.Feeding.{FeedStep, Feeds}
-use Rattle.drm_show.specs.declared.report.EndWord.{EndWord}
-use Rattle.drm_show.specs.Report.{feed_line}
+use Rattle.report_lines.specs.declared.report.EndWord.{EndWord}
+use Rattle.report_lines.specs.Report.{feed_line}
 use Rattle.mod_receiver.specs.Hearing.{Heard}
 use Rattle.mod_receiver.specs.declared.rules.Rules.{Rules}
 use Rattle.mod_receiver.specs.Reading.{datagrams, Gave, EndsBy, GoesOn, IsFinished, IsBroken, most_answers}

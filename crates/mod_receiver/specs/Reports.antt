@@ -6,9 +6,9 @@ use Rattle.dcp_collect.specs.declared.taken.Taken.{Taken}
 use Rattle.dcp_collect.specs.declared.taken.Taken.TheVariants.{Refused, Inconsistent}
 use Rattle.mod_feed.specs.Items.{Item, Frame, Missing, Bad}
 use Rattle.mod_feed.specs.Feeding.{FeedStep}
-use Rattle.drm_show.specs.declared.report.EndWord.{EndWord}
-use Rattle.drm_show.specs.declared.report.Sums.{Sums}
-use Rattle.drm_show.specs.Report.{feed_line, step_text, refused_line, end_line}
+use Rattle.report_lines.specs.declared.report.EndWord.{EndWord}
+use Rattle.report_lines.specs.declared.report.Sums.{Sums}
+use Rattle.report_lines.specs.Report.{feed_line, step_text, refused_line, end_line}
 use Rattle.mod_receiver.specs.declared.tally.Refusal.{Refusal}
 
 abbrev pub is_given : Item → Bool

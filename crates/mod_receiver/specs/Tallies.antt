@@ -3,7 +3,7 @@ use Rattle.std.specs.Prelude.{ℕ, ◌+◌, if◌then◌else◌, List, [], ◌�
 use Rattle.circular_buffer.specs.Buffer.{keep_last}
 use Rattle.dcp_collect.specs.declared.taken.Taken.{Taken}
 use Rattle.mod_feed.specs.Items.{Item, Frame, Missing, Bad}
-use Rattle.drm_show.specs.declared.report.Sums.{Sums}
+use Rattle.report_lines.specs.declared.report.Sums.{Sums}
 use Rattle.mod_receiver.specs.declared.tally.Refusal.{Refusal}
 use Rattle.mod_receiver.specs.Reports.{is_refused}
 

@@ -15,7 +15,7 @@ use crate::stop::Stop;
 use crate::tally::Tally;
 use dcp_collect::Collector;
 use drm_links::{Came, Link, Sink, WriteFault};
-use drm_show::{EndWord, write_feed};
+use report_lines::{EndWord, write_feed};
 use mod_feed::Feed;
 use std::alloc::Global;
 

@@ -1,7 +1,7 @@
 //! The lines of a report that no command prints yet, and a sink that fails in the middle of one.
 
 use drm_links::{MemSink, WriteFault};
-use drm_show::{EndWord, Sums, write_end, write_feed};
+use report_lines::{EndWord, Sums, write_end, write_feed};
 use std::test::Fail;
 
 #[test]

@@ -1,0 +1,18 @@
+//! The texts that are printed of what was received: each line is one definition, and one function that writes it to a
+//! sink in pieces, without memory.
+#![tactic(auto)]
+
+mod block;
+mod description;
+mod fac_line;
+mod frame_line;
+mod hex_bits;
+mod report;
+mod step;
+mod streams;
+mod words;
+
+pub use fac_line::write_fac;
+pub use report::{EndWord, Sums, write_end, write_feed, write_refused};
+pub use step::write_step;
+pub use text_pieces::{Piece, write_pieces};
