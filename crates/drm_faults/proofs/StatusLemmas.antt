@@ -1,71 +1,47 @@
 -- The status of a fault, and the fault of a status.
-use Rattle.std.proofs.Common.{◌≡◌, Bool, Result, Err, refl, arith}
+use Rattle.std.proofs.Common.{ℕ, ◌≡◌, refl, subst}
 use Rattle.drm_faults.specs.declared.fault.Fault.{Fault}
-use Rattle.drm_faults.specs.declared.fault.Fault.TheVariants.{NoMemory, Words, FacLength, FacOver, FacCrc, Schedule, Script, Read, Write, Link}
+use Rattle.drm_faults.specs.declared.fault.Fault.TheVariants.{NoMemory, Words, FacLength, FacOver, FacCrc, Schedule, Script, Capture, CaptureTooLong, PacketSize, Read, Write, Link}
 use Rattle.drm_faults.specs.Fault.{fault_status}
 
-pub two_is_words : (fault : Fault) → fault_status fault ≡ 2 → fault ≡ Words
-two_is_words NoMemory is = absurd (omega (arith, is))
-two_is_words Words is = refl
-two_is_words (FacLength n) is = absurd (omega (arith, is))
-two_is_words FacOver is = absurd (omega (arith, is))
-two_is_words (FacCrc s c) is = absurd (omega (arith, is))
-two_is_words (Schedule l r) is = absurd (omega (arith, is))
-two_is_words (Script l r) is = absurd (omega (arith, is))
-two_is_words Read is = absurd (omega (arith, is))
-two_is_words Write is = absurd (omega (arith, is))
-two_is_words Link is = absurd (omega (arith, is))
+-- the one fault of each status but 3
+Named : ℕ → Fault → Type 0
+Named 1 fault = fault ≡ NoMemory
+Named 2 fault = fault ≡ Words
+Named 4 fault = fault ≡ Read
+Named 5 fault = fault ≡ Write
+Named 6 fault = fault ≡ Link
+Named other fault = Unit {0}
 
-pub words_is_two : (fault : Fault) → (let ended : Result Bool Fault = Err fault in ended ≡ Err Words) → fault_status fault ≡ 2
-words_is_two fault is = let same : fault ≡ Words = cc in rw same refl
+status_names : (fault : Fault) → Named (fault_status fault) fault
+status_names NoMemory = refl
+status_names Words = refl
+status_names (FacLength n) = tt
+status_names FacOver = tt
+status_names (FacCrc s c) = tt
+status_names (Schedule l r) = tt
+status_names (Script l r) = tt
+status_names (Capture f) = tt
+status_names CaptureTooLong = tt
+status_names (PacketSize p) = tt
+status_names Read = refl
+status_names Write = refl
+status_names Link = refl
 
-pub four_is_read : (fault : Fault) → fault_status fault ≡ 4 → fault ≡ Read
-four_is_read NoMemory is = absurd (omega (arith, is))
-four_is_read Words is = absurd (omega (arith, is))
-four_is_read (FacLength n) is = absurd (omega (arith, is))
-four_is_read FacOver is = absurd (omega (arith, is))
-four_is_read (FacCrc s c) is = absurd (omega (arith, is))
-four_is_read (Schedule l r) is = absurd (omega (arith, is))
-four_is_read (Script l r) is = absurd (omega (arith, is))
-four_is_read Read is = refl
-four_is_read Write is = absurd (omega (arith, is))
-four_is_read Link is = absurd (omega (arith, is))
-
-pub five_is_write : (fault : Fault) → fault_status fault ≡ 5 → fault ≡ Write
-five_is_write NoMemory is = absurd (omega (arith, is))
-five_is_write Words is = absurd (omega (arith, is))
-five_is_write (FacLength n) is = absurd (omega (arith, is))
-five_is_write FacOver is = absurd (omega (arith, is))
-five_is_write (FacCrc s c) is = absurd (omega (arith, is))
-five_is_write (Schedule l r) is = absurd (omega (arith, is))
-five_is_write (Script l r) is = absurd (omega (arith, is))
-five_is_write Read is = absurd (omega (arith, is))
-five_is_write Write is = refl
-five_is_write Link is = absurd (omega (arith, is))
-
-pub six_is_link : (fault : Fault) → fault_status fault ≡ 6 → fault ≡ Link
-six_is_link NoMemory is = absurd (omega (arith, is))
-six_is_link Words is = absurd (omega (arith, is))
-six_is_link (FacLength n) is = absurd (omega (arith, is))
-six_is_link FacOver is = absurd (omega (arith, is))
-six_is_link (FacCrc s c) is = absurd (omega (arith, is))
-six_is_link (Schedule l r) is = absurd (omega (arith, is))
-six_is_link (Script l r) is = absurd (omega (arith, is))
-six_is_link Read is = absurd (omega (arith, is))
-six_is_link Write is = absurd (omega (arith, is))
-six_is_link Link is = refl
+named : (fault : Fault) (status : ℕ) → fault_status fault ≡ status → Named status fault
+named fault status is = let P : ℕ → Type 0 = λ n. Named n fault in subst P is (status_names fault)
 
 pub one_is_memory : (fault : Fault) → fault_status fault ≡ 1 → fault ≡ NoMemory
-one_is_memory NoMemory is = refl
-one_is_memory Words is = absurd (omega (arith, is))
-one_is_memory (FacLength n) is = absurd (omega (arith, is))
-one_is_memory FacOver is = absurd (omega (arith, is))
-one_is_memory (FacCrc s c) is = absurd (omega (arith, is))
-one_is_memory (Schedule l r) is = absurd (omega (arith, is))
-one_is_memory (Script l r) is = absurd (omega (arith, is))
-one_is_memory Read is = absurd (omega (arith, is))
-one_is_memory Write is = absurd (omega (arith, is))
-one_is_memory Link is = absurd (omega (arith, is))
+one_is_memory fault is = named fault 1 is
 
-pub memory_is_one : (fault : Fault) → (let ended : Result Bool Fault = Err fault in ended ≡ Err NoMemory) → fault_status fault ≡ 1
-memory_is_one fault is = let same : fault ≡ NoMemory = cc in rw same refl
+pub two_is_words : (fault : Fault) → fault_status fault ≡ 2 → fault ≡ Words
+two_is_words fault is = named fault 2 is
+
+pub four_is_read : (fault : Fault) → fault_status fault ≡ 4 → fault ≡ Read
+four_is_read fault is = named fault 4 is
+
+pub five_is_write : (fault : Fault) → fault_status fault ≡ 5 → fault ≡ Write
+five_is_write fault is = named fault 5 is
+
+pub six_is_link : (fault : Fault) → fault_status fault ≡ 6 → fault ≡ Link
+six_is_link fault is = named fault 6 is

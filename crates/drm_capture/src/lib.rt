@@ -1,0 +1,6 @@
+//! Captures: stub.
+#![tactic(auto)]
+
+mod fault;
+
+pub use fault::{CaptureFault, CaptureField, CaptureStop};
