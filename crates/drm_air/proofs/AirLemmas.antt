@@ -30,13 +30,14 @@ use Rattle.mod_receiver.specs.Jobs.{IsDone, NoneFailed}
 use Rattle.mod_receiver.specs.Settling.{Settles}
 use Rattle.mod_receiver.specs.declared.stop.Stop.{Stop}
 use Rattle.mod_receiver.specs.declared.stop.Stop.TheVariants as stops
+use Rattle.drm_receive.specs.Receive.{WritesReports}
 use Rattle.drm_receive.specs.Stopping.{ending_of}
 use Rattle.drm_air.specs.Feeds.{BringsFeed, BringFeeds}
 use Rattle.mod_receiver.specs.Following.{HeadlinesFollow, CompletesFollow}
 use Rattle.mod_receiver.specs.Ahead.{IsReportOf, BreaksOff}
-use Rattle.drm_air.specs.Air.{air_rules, pairs_of, IsAired, AreAired, AirRun}
+use Rattle.drm_air.specs.Air.{air_rules, pairs_of, IsAired, AreFeeds, AreAired, ByScript, AirRun}
 use Rattle.mod_receiver.proofs.JobLemmas.{told_of, job_report, job_breaks, index_of, map_at, map_size, SomeFailed, some_failed}
-use Rattle.drm_receive.proofs.ReceiveLemmas.{Ran, reports_written, ending_kind, write_is}
+use Rattle.drm_receive.proofs.ReceiveLemmas.{Ran, reports_written, ending_kind}
 use Rattle.drm_load.proofs.ScriptLemmas.{read_schedule, read_script, write_schedule, write_script}
 use Rattle.mod_receiver.proofs.Composing.{DeliveryLaws}
 use Rattle.drm_air.proofs.AirStatus.{air_run}
@@ -82,7 +83,7 @@ never_breaks : (rules : Rules) (brought : List (List ℕ)) → BreaksOff rules (
 never_breaks rules brought breaks =
     not_sound breaks.before (subst (AllByRecursion IsSound) breaks.reading.last (fed.none_failed brought breaks.answers breaks.rest breaks.next))
 
-module _ (plan : Plan) (window : ℕ) (valid : IsSchedule plan) (some : 1 ≤ window) (few : window ≤ 64) (headlines : HeadlinesFollow) (completes : CompletesFollow) (feeds : List (List Delivery)) (script : IsScript plan feeds) (before after : List (Job LinkState))
+module _ (plan : Plan) (window : ℕ) (valid : IsSchedule plan) (some : 1 ≤ window) (few : window ≤ 64) (headlines : HeadlinesFollow) (completes : CompletesFollow) (feeds : List (List Delivery)) (are : AreFeeds plan feeds) (before after : List (Job LinkState))
     (ran : Ran link_known (air_rules plan window) (length feeds) before after) (brings : BringFeeds plan feeds before) where
   in_range : AreInRange (air_rules plan window)
   in_range = air_in_range plan window valid some few
@@ -102,7 +103,7 @@ module _ (plan : Plan) (window : ℕ) (valid : IsSchedule plan) (some : 1 ≤ wi
         let many : length link.datagrams < 4294967295 =
         (let sent = fed.sent_many plan (pairs_of here) link.datagrams link.sent in
         let pairs : length (pairs_of here) ≡ length here = map_size (λ (x : Delivery). (x.packet, x.fragment)) here in
-        let limit = few_here feeds 100000 k feed script.few_deliveries within in
+        let limit = few_here feeds 100000 k feed are.few_deliveries within in
         omega (arith, sent, pairs, limit)) in
         let aired : IsAired plan window (k + 1) here (told_of (slice_index_or after k d)) = record {
           datagrams = link.datagrams;
@@ -131,7 +132,7 @@ module _ (plan : Plan) (window : ℕ) (valid : IsSchedule plan) (some : 1 ≤ wi
     | inr failed ↦ none_failed failed
   ]
 
-  kind_by : {O : Type 0} (stopped : Result Bool Stop) (known : O → Known Output) (out out' : O) → Settles after stopped known out out' → (fault : Fault) → ending_of stopped ≡ Err fault → (fault ≡ faults.NoMemory) ⊎ (fault ≡ faults.Write)
+  pub kind_by : {O : Type 0} (stopped : Result Bool Stop) (known : O → Known Output) (out out' : O) → Settles after stopped known out out' → (fault : Fault) → ending_of stopped ≡ Err fault → (fault ≡ faults.NoMemory) ⊎ (fault ≡ faults.Write)
   kind_by stopped known out out' settled fault is =
       elim (ending_kind after stopped known out out' settled fault is) [
         | inl memory ↦ inl memory
@@ -141,33 +142,34 @@ module _ (plan : Plan) (window : ℕ) (valid : IsSchedule plan) (some : 1 ≤ wi
         ]
       ]
 
-  not_read : {O : Type 0} (stopped : Result Bool Stop) (known : O → Known Output) (out out' : O) → Settles after stopped known out out' → ending_of stopped ≡ Err faults.Read → ⊥
-  not_read stopped known out out' settled is =
-      elim (kind_by stopped known out out' settled faults.Read is) [
-        | inl memory ↦ cc
-        | inr write ↦ cc
-      ]
+  pub aired : OneRun → DeliveryLaws → {O : Type 0} (stopped : Result Bool Stop) (known : O → Known Output) (out out' : O) → Settles after stopped known out out'
+      → WritesReports (AreAired plan window feeds) (ending_of stopped) known out out'
+  aired one_run laws stopped known out out' settled = reports_written after stopped (AreAired plan window feeds) known out out' (are_aired one_run laws) settled
 
-  pub settled_air : OneRun → DeliveryLaws → {S O : Type 0} (name text : List ℕ) (stopped : Result Bool Stop) (shelf_known : S → Known Files) (shelf between shelf' : S)
-      (out_known : O → Known Output) (out out' : O)
-      → ReadBy (schedule_named name) (Ok plan) (shelf_known shelf) (shelf_known between) → ReadBy (script_named plan text) (Ok feeds) (shelf_known between) (shelf_known shelf')
-      → (shelf_known shelf).faults ≤ (shelf_known between).faults → (shelf_known between).faults ≤ (shelf_known shelf').faults
-      → Settles after stopped out_known out out' → HasCause (out_known out) (out_known out') (stopped ≡ Err stops.Write)
-      → AirRun name text window (ending_of stopped) shelf_known shelf shelf' out_known out out'
-  settled_air one_run laws name text stopped shelf_known shelf between shelf' out_known out out' loads script_loads later later' settled cause =
-      air_run name text window (ending_of stopped) shelf_known shelf between shelf' out_known out out' (Ok plan) loads
-      (record {
-        valid = valid;
-        came = Ok feeds;
-        loads = script_loads;
-        writes = (
-          script,
-          reports_written after stopped (AreAired plan window feeds) out_known out out' (are_aired one_run laws) settled,
-          kind_by stopped out_known out out' settled,
-        );
-      })
-      (record { later = le_trans later later'; rose = λ is. absurd (not_read stopped out_known out out' settled is) })
-      (record { later = cause.later; rose = λ is. cause.rose (write_is stopped is) })
+-- ---- a run over a script that came
+
+not_read : (ending : Result Bool Fault) → ((fault : Fault) → ending ≡ Err fault → (fault ≡ faults.NoMemory) ⊎ (fault ≡ faults.Write)) → ending ≡ Err faults.Read → ⊥
+not_read ending kind is =
+    elim (kind faults.Read is) [
+      | inl memory ↦ cc
+      | inr write ↦ cc
+    ]
+
+pub ran_over : {S O : Type 0} (name text : List ℕ) (window : ℕ) (plan : Plan) (feeds : List (List Delivery)) (ending : Result Bool Fault) (shelf_known : S → Known Files) (shelf between shelf' : S)
+    (out_known : O → Known Output) (out out' : O) → IsSchedule plan
+    → ReadBy (schedule_named name) (Ok plan) (shelf_known shelf) (shelf_known between) → ReadBy (script_named plan text) (Ok feeds) (shelf_known between) (shelf_known shelf')
+    → (shelf_known shelf).faults ≤ (shelf_known between).faults → (shelf_known between).faults ≤ (shelf_known shelf').faults
+    → ByScript plan window (Ok feeds) ending out_known out out' → HasCause (out_known out) (out_known out') (ending ≡ Err faults.Write)
+    → AirRun name text window ending shelf_known shelf shelf' out_known out out'
+ran_over name text window plan feeds ending shelf_known shelf between shelf' out_known out out' valid loads script_loads later later' writes cause =
+    air_run name text window ending shelf_known shelf between shelf' out_known out out' (Ok plan) loads
+    (record { valid = valid; came = Ok feeds; loads = script_loads; writes = writes })
+    (record { later = le_trans later later'; rose = λ is. absurd (not_read ending writes.2 is) })
+    cause
+
+-- what air_over asks of a script
+pub feeds_are : (plan : Plan) (feeds : List (List Delivery)) → IsScript plan feeds → AreFeeds plan feeds
+feeds_are plan feeds script = record { some = script.some; few = script.few; each = script.each; few_deliveries = script.few_deliveries }
 
 -- ---- a run that ends before
 
@@ -195,12 +197,3 @@ module _ {S O : Type 0} (name text : List ℕ) (window : ℕ) (shelf_known : S �
       (record { valid = valid; came = Err fault; loads = script_loads; writes = (refl, refl) })
       (record { later = le_trans later later'; rose = λ is. later-Rose _ _ _ later (rose (read_script fault (inner (fault_of_script fault) faults.Read is))) })
       (record { later = le_refl _; rose = λ is. absurd (write_script fault (inner (fault_of_script fault) faults.Write is)) })
-
-  pub no_jobs : (plan : Plan) (feeds : List (List Delivery)) (shelf between shelf' : S) → IsSchedule plan → IsScript plan feeds → ReadBy (schedule_named name) (Ok plan) (shelf_known shelf) (shelf_known between)
-      → ReadBy (script_named plan text) (Ok feeds) (shelf_known between) (shelf_known shelf') → (shelf_known shelf).faults ≤ (shelf_known between).faults → (shelf_known between).faults ≤ (shelf_known shelf').faults
-      → AirRun name text window (Err faults.NoMemory) shelf_known shelf shelf' out_known out out
-  no_jobs plan feeds shelf between shelf' valid script loads script_loads later later' =
-      air_run name text window (Err faults.NoMemory) shelf_known shelf between shelf' out_known out out (Ok plan) loads
-      (record { valid = valid; came = Ok feeds; loads = script_loads; writes = (script, refl, λ fault is. inl (sym (inner faults.NoMemory fault is))) })
-      (record { later = le_trans later later'; rose = λ is. absurd (let same : faults.NoMemory ≡ faults.Read = inner faults.NoMemory faults.Read is in cc) })
-      (record { later = le_refl _; rose = λ is. absurd (let same : faults.NoMemory ≡ faults.Write = inner faults.NoMemory faults.Write is in cc) })

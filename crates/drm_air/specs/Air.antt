@@ -1,9 +1,9 @@
 -- The command `air`: a report for each feed of a script.
-use Rattle.std.specs.Prelude.{ℕ, ℤ, pos, ◌≡◌, ◌+◌, ◌*◌, ◌<◌, ◌⊎◌, Bool, true, List, length, map, slice_index_or, Option, Some, Result, Ok, Err}
+use Rattle.std.specs.Prelude.{ℕ, ℤ, pos, ◌≡◌, ◌+◌, ◌*◌, ◌<◌, ◌≤◌, ◌⊎◌, Bool, true, List, length, map, sum_by, slice_index_or, Option, Some, Result, Ok, Err}
 use Rattle.drm_schedule.specs.declared.plan.Plan.{Plan}
 use Rattle.drm_schedule.specs.Valid.{IsSchedule}
 use Rattle.script_lines.specs.declared.delivery.Delivery.{Delivery}
-use Rattle.script_lines.specs.Script.{IsScript}
+use Rattle.script_lines.specs.Script.{IsScript, IsDelivery}
 use Rattle.drm_links.specs.Told.{HasFailed, Known, HasCause, Rose}
 use Rattle.drm_links.specs.Shelf.{Files, Supplies}
 use Rattle.drm_links.specs.Link.{Datagram}
@@ -45,6 +45,13 @@ pub record IsAired (plan : Plan) (window feed : ℕ) (deliveries : List Delivery
   pub complete : IsFollowed plan (Some plan.seq) (pos 0) (arrivals_of deliveries) datagrams
       → ((q : ℕ) → q < frame_count plan → IsInTime plan window (pos 0) (pairs_of deliveries) q)
       → ModulatesAll plan (air_rules plan window) feed (arrivals_of deliveries) (map Datagram datagrams) r.text r.clean
+
+-- one to sixteen feeds of fragments of a schedule
+pub record AreFeeds (plan : Plan) (feeds : List (List Delivery)) : Type 0 where
+  pub some : 1 ≤ length feeds
+  pub few : length feeds ≤ 16
+  pub each : All (All (IsDelivery plan)) feeds
+  pub few_deliveries : sum_by length feeds ≤ 100000
 
 -- a report for each feed, in their order
 pub record AreAired (plan : Plan) (window : ℕ) (feeds : List (List Delivery)) (reports : List Report) : Type 0 where

@@ -1,12 +1,15 @@
 //! The command `air`.
 
-ghost use Rattle.std.specs.Prelude.{ℕ, ◌≡◌, ◌≤◌, ◌++◌, [], ◌∷◌, List, length, vec_len, All, IfOk, OnOk};
+ghost use Rattle.std.specs.Prelude.{ℕ, ◌≡◌, ◌≤◌, ◌⊎◌, ◌++◌, [], ◌∷◌, List, length, vec_len, All, IfOk, OnOk, Err};
+ghost use Rattle.drm_links.specs.Told.{HasCause};
 ghost use Rattle.mod_delivery.specs.Sent.{IsSent};
-ghost use Rattle.script_lines.specs.Script.{IsScript, IsDelivery, fragment_count};
+ghost use Rattle.script_lines.specs.Script.{IsDelivery, fragment_count};
 ghost use Rattle.drm_server.specs.Datagrams.{HasDatagrams};
+ghost use Rattle.drm_faults.specs.declared.fault.Fault.{Fault};
 ghost use Rattle.mod_receiver.specs.Jobs.{AreJobs};
 ghost use Rattle.drm_air.specs.Feeds.{BringsFeed, BringFeeds};
-ghost use Rattle.drm_air.specs.Air.{AirRun, air_rules};
+ghost use Rattle.drm_air.specs.Air.{AirRun, AreFeeds, AreAired, air_rules};
+ghost use Rattle.drm_receive.specs.Receive.{WritesReports};
 
 use collect_laws::one_run;
 use drm_bits::NoMemory;
@@ -38,15 +41,35 @@ pub fn air<R: Threads + Sync, S: Shelf, O: Sink>(
     ensures run { AirRun name.now script.now window result
         S.known shelf.old shelf.new O.known out.old out.new }
 {
-    reports_follow();
-    laws_of_deliveries();
-    one_run();
     let plan = read_schedule(alloc, shelf, name)?;
     let script = match read_script_named(alloc, shelf, script, &plan) {
         Ok(script) => script,
         Err(fault) => return Err(script_fault(fault)),
     };
-    let mut jobs = feed_all(alloc, &plan, &script, window)?;
+    air_over(rt, alloc, &plan, &script, window, out)
+}
+
+/// Gives each feed of a script the datagrams that it delivers of a schedule, and writes the reports of its receivers, which
+/// work in threads of their own. Answers whether no frame is missing or bad.
+pub fn air_over<R: Threads + Sync, O: Sink>(
+    rt: &R,
+    alloc: Global,
+    plan: &Schedule,
+    script: &Script,
+    window: u8,
+    out: &mut O,
+) -> Result<bool, Fault>
+    requires some { 1 ≤ window }
+    requires few { window ≤ 64 }
+    requires feeds { AreFeeds plan.now script.now }
+    ensures writes { WritesReports (AreAired plan.now window script.now) result O.known out.old out.new }
+    ensures kind { (fault : Fault) → result ≡ Err fault → (fault ≡ Fault.NoMemory) ⊎ (fault ≡ Fault.Write) }
+    ensures cause { HasCause (O.known out.old) (O.known out.new) (result ≡ Err Fault.Write) }
+{
+    reports_follow();
+    laws_of_deliveries();
+    one_run();
+    let mut jobs = feed_all(alloc, plan, script, window)?;
     run_all(rt, alloc, jobs.as_mut_slice());
     ending(settle(jobs.as_slice(), out))
 }
@@ -60,7 +83,7 @@ fn feed_all(
 ) -> Result<Vec<Job<MemLink>>, NoMemory>
     requires some { 1 ≤ window }
     requires few { window ≤ 64 }
-    requires script { IsScript plan.now script.now }
+    requires feeds { AreFeeds plan.now script.now }
     ensures many { IfOk result (λ jobs. vec_len jobs ≡ length script.now) }
     ensures jobs { IfOk result (λ jobs. AreJobs (air_rules plan.now window) (length script.now) jobs.items) }
     ensures feeds { IfOk result (λ jobs. BringFeeds plan.now script.now jobs.items) }

@@ -3,4 +3,4 @@
 
 mod air;
 
-pub use air::air;
+pub use air::{air, air_over};

@@ -1,47 +1,57 @@
 -- The status of a fault, and the fault of a status.
-use Rattle.std.proofs.Common.{ℕ, ◌≡◌, refl, subst}
+use Rattle.std.proofs.Common.{ℕ, ◌≡◌, ◌⊎◌, inl, inr, Option, Some, None, refl, sym, ◌∙◌, ap}
+use Rattle.std.specs.Prelude.{◌==◌, if◌then◌else◌}
 use Rattle.drm_faults.specs.declared.fault.Fault.{Fault}
 use Rattle.drm_faults.specs.declared.fault.Fault.TheVariants.{NoMemory, Words, FacLength, FacOver, FacCrc, Schedule, Script, Capture, CaptureTooLong, PacketSize, Read, Write, Link}
 use Rattle.drm_faults.specs.Fault.{fault_status}
 
--- the one fault of each status but 3
-Named : ℕ → Fault → Type 0
-Named 1 fault = fault ≡ NoMemory
-Named 2 fault = fault ≡ Words
-Named 4 fault = fault ≡ Read
-Named 5 fault = fault ≡ Write
-Named 6 fault = fault ≡ Link
-Named other fault = Unit {0}
+-- the one fault that has this status, if there is just one
+abbrev only_fault : ℕ → Option Fault
+only_fault n =
+    if n == 1 then Some NoMemory
+    else if n == 2 then Some Words
+    else if n == 4 then Some Read
+    else if n == 5 then Some Write
+    else if n == 6 then Some Link
+    else None
 
-status_names : (fault : Fault) → Named (fault_status fault) fault
-status_names NoMemory = refl
-status_names Words = refl
-status_names (FacLength n) = tt
-status_names FacOver = tt
-status_names (FacCrc s c) = tt
-status_names (Schedule l r) = tt
-status_names (Script l r) = tt
-status_names (Capture f) = tt
-status_names CaptureTooLong = tt
-status_names (PacketSize p) = tt
-status_names Read = refl
-status_names Write = refl
-status_names Link = refl
+abbrev IsOnly : Fault → Type 0
+IsOnly fault = (only_fault (fault_status fault) ≡ Some fault) ⊎ (only_fault (fault_status fault) ≡ None)
 
-named : (fault : Fault) (status : ℕ) → fault_status fault ≡ status → Named status fault
-named fault status is = let P : ℕ → Type 0 = λ n. Named n fault in subst P is (status_names fault)
+is_only : (fault : Fault) → IsOnly fault
+is_only NoMemory = inl refl
+is_only Words = inl refl
+is_only (FacLength n) = inr refl
+is_only FacOver = inr refl
+is_only (FacCrc s c) = inr refl
+is_only (Schedule l r) = inr refl
+is_only (Script l r) = inr refl
+is_only (Capture f) = inr refl
+is_only CaptureTooLong = inr refl
+is_only (PacketSize p) = inr refl
+is_only Read = inl refl
+is_only Write = inl refl
+is_only Link = inl refl
+
+of_status : (fault other : Fault) (status : ℕ) → only_fault status ≡ Some other → fault_status fault ≡ status → fault ≡ other
+of_status fault other status one is =
+    let same : only_fault (fault_status fault) ≡ Some other = ap only_fault is ∙ one in
+    elim (is_only fault) [
+      | inl some ↦ (let both : Some fault ≡ Some other = sym some ∙ same in cc)
+      | inr none ↦ absurd (let both : Some other ≡ None = sym same ∙ none in cc)
+    ]
 
 pub one_is_memory : (fault : Fault) → fault_status fault ≡ 1 → fault ≡ NoMemory
-one_is_memory fault is = named fault 1 is
+one_is_memory fault is = of_status fault NoMemory 1 refl is
 
 pub two_is_words : (fault : Fault) → fault_status fault ≡ 2 → fault ≡ Words
-two_is_words fault is = named fault 2 is
+two_is_words fault is = of_status fault Words 2 refl is
 
 pub four_is_read : (fault : Fault) → fault_status fault ≡ 4 → fault ≡ Read
-four_is_read fault is = named fault 4 is
+four_is_read fault is = of_status fault Read 4 refl is
 
 pub five_is_write : (fault : Fault) → fault_status fault ≡ 5 → fault ≡ Write
-five_is_write fault is = named fault 5 is
+five_is_write fault is = of_status fault Write 5 refl is
 
 pub six_is_link : (fault : Fault) → fault_status fault ≡ 6 → fault ≡ Link
-six_is_link fault is = named fault 6 is
+six_is_link fault is = of_status fault Link 6 refl is
