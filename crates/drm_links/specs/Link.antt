@@ -6,11 +6,13 @@ use Rattle.drm_links.specs.declared.link.Came.TheVariants as recv
 use Rattle.drm_links.specs.declared.link.Sent.{Sent}
 use Rattle.drm_links.specs.declared.link.Sent.TheVariants as send
 
--- what a link answers to a recv
+-- What comes to a receiver: what a link answers to a recv, and what comes of a capture, a datagram for each packet. That
+-- nothing comes any more is told by a capture alone: no link answers `End`.
 pub data Answer : Type 0 where
   Datagram : List ℕ → Answer
   Idle : Answer
   Failed : Answer
+  End : Answer
 
 -- The answers so far and those still ahead; the datagrams gone, for how many milliseconds the link rested before each of
 -- them, and for how many since the last; how many sends are taken before one fails (or none fails), and the number of
@@ -28,6 +30,7 @@ abbrev pub datagram_of : Answer → Option (List ℕ)
 datagram_of (Datagram bytes) = Some bytes
 datagram_of Idle = None
 datagram_of Failed = None
+datagram_of End = None
 
 -- the datagrams among the answers so far
 abbrev pub came : Traffic → List (List ℕ)
