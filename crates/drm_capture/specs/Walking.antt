@@ -1,5 +1,5 @@
 -- The walk over a capture.
-use Rattle.std.specs.Prelude.{ℕ, ◌≡◌, ◌+◌, List, [], ◌++◌, length, take, drop, min, Option, Some, None, Result, Ok, Err, Unit, IsNone}
+use Rattle.std.specs.Prelude.{ℕ, ◌≡◌, ◌+◌, List, [], ◌++◌, length, take, drop, min, Option, Some, None, Result, Ok, Err}
 use Rattle.drm_capture.specs.declared.fault.CaptureField.{CaptureField}
 use Rattle.drm_capture.specs.declared.fault.CaptureFault.{CaptureFault}
 use Rattle.drm_capture.specs.declared.packet.Packet.{Packet as Given}
