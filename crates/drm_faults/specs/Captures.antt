@@ -4,8 +4,8 @@ use Rattle.std.specs.List.{concat}
 use Rattle.drm_capture.specs.declared.fault.CaptureField.{CaptureField}
 use Rattle.drm_capture.specs.declared.fault.CaptureField.TheVariants.{Sync, HeadCrc, TooLarge, HeadCut, BodyCut}
 use Rattle.drm_capture.specs.declared.fault.CaptureFault.{CaptureFault}
-use Rattle.drm_capture.specs.declared.fault.CaptureStop.{CaptureStop}
-use Rattle.drm_capture.specs.declared.fault.CaptureStop.TheVariants as stops
+use Rattle.drm_capture.specs.declared.packets.CaptureStop.{CaptureStop}
+use Rattle.drm_capture.specs.declared.packets.CaptureStop.TheVariants as stops
 use Rattle.drm_faults.specs.declared.fault.Fault.{Fault}
 use Rattle.drm_faults.specs.declared.fault.Fault.TheVariants as faults
 
