@@ -1,6 +1,6 @@
 //! The command `air`: what a server sends, a script delivers and receivers report, in memory.
 #![tactic(auto)]
 
-mod air;
+mod air_command;
 
-pub use air::{air, air_over};
+pub use air_command::{air, air_over};

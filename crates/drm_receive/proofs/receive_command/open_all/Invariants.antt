@@ -6,7 +6,7 @@ use Rattle.drm_receive.specs.Opening.{HasLink}
 use Rattle.mod_receiver.specs.Jobs.{IsJob}
 use Rattle.drm_links.specs.Told.{Tells}
 use Rattle.drm_receive.proofs.OpeningLemmas.{Opened}
-use Rattle.drm_receive.proofs.receive.open_all.Given as goal
+use Rattle.drm_receive.proofs.receive_command.open_all.Given as goal
 
 -- each receiver so far has the link of its address
 abbrev pub invariant-loop-k : goal.invariant-loop-k

@@ -9,7 +9,7 @@ use Rattle.drm_receive.specs.Receive.{Docked}
 use Rattle.drm_receive.specs.Opening.{HasLink, StopsOpening}
 use Rattle.mod_receiver.specs.Jobs.{IsJob}
 use Rattle.drm_receive.proofs.OpeningLemmas.{each_more, found_now, opened_first, opened_now, opened_all, failed_now, stopped_now, stopped_behind, docked_any, docked_still, all_links}
-use Rattle.drm_receive.proofs.receive.open_all.Goals as goal
+use Rattle.drm_receive.proofs.receive_command.open_all.Goals as goal
 
 pub loop-k-preserved : goal.loop-k-preserved
 loop-k-preserved g c =

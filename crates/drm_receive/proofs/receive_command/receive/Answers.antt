@@ -8,7 +8,7 @@ use Rattle.mod_receiver.proofs.JobLemmas.{jobs_ready}
 use Rattle.std.specs.List.{All}
 use Rattle.drm_receive.proofs.ReceiveLemmas.{Ran, settled_run, opening_failed, written_back}
 use Rattle.drm_receive.proofs.LiveLemmas.{only_run}
-use Rattle.drm_receive.proofs.receive.receive.Goals as goal
+use Rattle.drm_receive.proofs.receive_command.receive.Goals as goal
 
 pub returns-in_err-jobs : goal.returns-in_err-jobs
 returns-in_err-jobs g c =

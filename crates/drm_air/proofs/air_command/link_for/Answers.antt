@@ -2,7 +2,7 @@ use Rattle.std.proofs.Common.{◌++◌, ◌∷◌, [], ◌∙◌, ap}
 use Rattle.drm_links.specs.MemoryLink.{LinkState}
 use Rattle.script_lines.specs.declared.delivery.Delivery.{Delivery}
 use Rattle.drm_air.proofs.FeedLemmas.{sent_more}
-use Rattle.drm_air.proofs.air.link_for.Goals as goal
+use Rattle.drm_air.proofs.air_command.link_for.Goals as goal
 
 pub loop-delivery-preserved : goal.loop-delivery-preserved
 loop-delivery-preserved c =

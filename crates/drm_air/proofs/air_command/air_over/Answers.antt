@@ -8,7 +8,7 @@ use Rattle.drm_air.specs.Air.{air_rules}
 use Rattle.drm_receive.proofs.ReceiveLemmas.{Ran, written_back, write_is}
 use Rattle.mod_receiver.proofs.Composing.{DeliveryLaws}
 use Rattle.drm_air.proofs.AirLemmas.{aired, kind_by}
-use Rattle.drm_air.proofs.air.air_over.Goals as goal
+use Rattle.drm_air.proofs.air_command.air_over.Goals as goal
 
 pub returns : goal.returns
 returns g c =

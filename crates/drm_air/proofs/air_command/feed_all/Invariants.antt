@@ -5,7 +5,7 @@ use Rattle.mod_receiver.specs.declared.job.Job.{Job}
 use Rattle.drm_air.specs.Air.{air_rules}
 use Rattle.mod_receiver.specs.Jobs.{AreJobs}
 use Rattle.drm_air.specs.Feeds.{BringsFeed}
-use Rattle.drm_air.proofs.air.feed_all.Given as goal
+use Rattle.drm_air.proofs.air_command.feed_all.Given as goal
 
 -- each receiver so far has a link that brings its feed
 abbrev pub invariant-loop-k : goal.invariant-loop-k

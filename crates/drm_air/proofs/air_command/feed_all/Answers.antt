@@ -7,7 +7,7 @@ use Rattle.mod_receiver.specs.Jobs.{IsJob}
 use Rattle.drm_air.specs.Feeds.{BringsFeed}
 use Rattle.drm_receive.proofs.OpeningLemmas.{each_more}
 use Rattle.mod_receiver.proofs.JobLemmas.{same_index}
-use Rattle.drm_air.proofs.air.feed_all.Goals as goal
+use Rattle.drm_air.proofs.air_command.feed_all.Goals as goal
 
 pub loop-k-preserved : goal.loop-k-preserved
 loop-k-preserved c =
