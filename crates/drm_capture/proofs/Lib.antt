@@ -1,2 +1,4 @@
 pub mod FrontParts
 pub mod FrontLaws
+pub mod CaptureLaws
+pub mod ReadingLemmas
