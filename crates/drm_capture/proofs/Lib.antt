@@ -2,3 +2,4 @@ pub mod FrontParts
 pub mod FrontLaws
 pub mod CaptureLaws
 pub mod ReadingLemmas
+pub mod FetchingLemmas

@@ -1,8 +1,8 @@
 -- What is read of an input is a capture, as far as it goes.
-use Rattle.std.proofs.Common.{◌≡◌, ◌≢◌, ℕ, ◌+◌, ◌-◌, ◌<◌, ◌≤◌, ◌⊎◌, Bool, true, false, List, [], ◌∷◌, ◌++◌, length, take, Option, None, Some, Result, Ok, Err, sym, subst, ap, ◌∙◌, refl, inl, inr, arith, append_assoc, length-append}
+use Rattle.std.proofs.Common.{◌≡◌, ◌≢◌, ℕ, ◌+◌, ◌-◌, ◌<◌, ◌≤◌, ◌⊎◌, Bool, true, false, List, [], ◌∷◌, ◌++◌, length, take, drop, Option, None, Some, Result, Ok, Err, sym, subst, ap, ◌∙◌, refl, inl, inr, arith, append_assoc, length-append}
 use Rattle.std.specs.Prelude.{All, IfErr}
 use Rattle.std.specs.List.{concat}
-use Rattle.std.proofs.lemmas.List.{append-nil, take-take, take_at}
+use Rattle.std.proofs.lemmas.List.{append-nil, take-take, take_at, length-take-le, take-append-drop}
 use Rattle.std.proofs.lemmas.List.Elements.{All-push}
 use Rattle.std.proofs.lemmas.List.Folds.{concat-append}
 use Rattle.drm_links.specs.Told.{Known, ToldThrough}
@@ -10,14 +10,15 @@ use Rattle.drm_links.specs.Source.{Input, Inputs, LeftBy}
 use Rattle.drm_links.proofs.ToldLemmas.{Inputs-then, Inputs-weaker}
 use Rattle.drm_capture.specs.declared.fault.CaptureField.{CaptureField}
 use Rattle.drm_capture.specs.declared.fault.CaptureFault.{CaptureFault}
+use Rattle.drm_capture.specs.declared.packet.Packet.{Packet as Given}
 use Rattle.drm_capture.specs.declared.packets.CaptureStop.{CaptureStop}
 use Rattle.drm_capture.specs.declared.packets.CaptureStop.TheVariants as stop
 use Rattle.drm_capture.specs.Front.{Packet, Wrong, Cut, Begins, IsWhole}
 use Rattle.drm_capture.specs.Capture.{most_bytes, End, Fault, TooLong, EndsWith, IsCaptureOf}
-use Rattle.drm_capture.specs.Walking.{WalkerState, IsCut}
+use Rattle.drm_capture.specs.Walking.{WalkerState, IsCut, after_packet, Leaves}
 use Rattle.drm_capture.specs.Reading.{HasRead, HasNext, Breaks, Stops, Gave}
 use Rattle.drm_capture.specs.Fetching.{Fetched, IsFull, IsAtEnd, Finds}
-use Rattle.drm_capture.proofs.FrontLaws.{wrong_in_front}
+use Rattle.drm_capture.proofs.FrontLaws.{wrong_in_front, packet_alone, packet_size}
 
 -- both of two facts on what was left and is left
 pub Inputs-both : (P Q : List ℕ → List ℕ → Type 0) (a b : Known Input) → Inputs a b P → Inputs a b Q → Inputs a b (λ x y. P x y × Q x y)
@@ -162,3 +163,36 @@ read_one packets packet old new before after whole held at read =
       bytes = Inputs-weaker (λ left rest. left ≡ concat packets ++ (old.held ++ rest)) (λ left rest. left ≡ concat (packets ++ packet ∷ []) ++ (new.held ++ rest)) before after read.bytes
           (λ x y is. is ∙ (ap (λ l. concat packets ++ l) (ap (λ l. l ++ y) held ∙ append_assoc packet new.held y) ∙ (sym (append_assoc (concat packets) packet (new.held ++ y)) ∙ ap (λ l. l ++ (new.held ++ y)) (sym all))));
     }
+
+-- what is given of a walker that has a packet
+pub record GaveOf (start : ℕ) (packet : List ℕ) (old new : WalkerState) : Type 0 where
+  pub at : start ≡ old.at
+  pub whole : IsWhole packet
+  pub front : old.held ≡ packet ++ drop (length packet) old.held
+  pub gave : Gave packet old new
+
+pub gave_one : (at n : ℕ) (packet : List ℕ) (old new : WalkerState) → at ≡ old.at → Begins old.held (Packet n) → packet ≡ take n old.held → new ≡ after_packet (length packet) old → GaveOf at packet old new
+gave_one at n packet old new place begins is after =
+    let few = packet_size old.held n begins in
+    let size : length packet ≡ n = ap length is ∙ length-take-le n old.held few.2 in
+    let front : packet ≡ take (length packet) old.held = is ∙ ap (λ k. take k old.held) (sym size) in
+    let split : old.held ≡ packet ++ drop (length packet) old.held = sym (ap (λ l. l ++ drop (length packet) old.held) front ∙ take-append-drop (length packet) old.held) in
+    let P : List ℕ → Type 0 = λ l. Begins l (Packet n) in
+    let Q : ℕ → Type 0 = λ k. Begins packet (Packet k) in
+    let whole : IsWhole packet = subst Q (sym size) (subst P (sym is) (packet_alone old.held n n (omega arith) begins)) in
+    let held : old.held ≡ packet ++ new.held = split ∙ ap (λ (w : WalkerState). packet ++ w.held) (sym after) in
+    let behind : new.at ≡ old.at + length packet = ap (λ (w : WalkerState). w.at) after in
+    record {
+      at = place;
+      whole = whole;
+      front = split;
+      gave = record { whole = whole; held = held; at = behind; reads = λ packets a b read. read_one packets packet old new a b whole held behind read };
+    }
+
+-- what is left behind a packet that was given
+pub leaves_one : (r : Result (Option Given) CaptureFault) (o : Option Given) (packet : Given) (old new : WalkerState) → r ≡ Ok o → o ≡ Some packet → Leaves r old new → new ≡ after_packet (length packet.bytes.now) old
+leaves_one r o packet old new is some leaves =
+    let P : Result (Option Given) CaptureFault → Type 0 = λ s. Leaves s old new in
+    let Q : Option Given → Type 0 = λ s. Leaves (Ok s) old new in
+    let left : Leaves (Ok (Some packet)) old new = subst Q some (subst P is leaves) in
+    left
