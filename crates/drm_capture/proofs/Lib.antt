@@ -1,0 +1,6 @@
+pub mod FrontParts
+pub mod FrontLaws
+pub mod CaptureLaws
+pub mod SomeWay
+pub mod ReadingLemmas
+pub mod FetchingLemmas
