@@ -1,5 +1,5 @@
 -- Texts in memory, as sinks.
-use Rattle.std.specs.Prelude.{ℕ, List, Option}
+use Rattle.std.specs.Prelude.{ℕ, List}
 use Rattle.drm_links.specs.Told.{Known, told_for}
 use Rattle.drm_links.specs.Sink.{Output}
 use Rattle.mod_receiver.specs.declared.text.Text.{Text}

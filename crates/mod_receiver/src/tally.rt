@@ -16,8 +16,8 @@ use circular_buffer::HeapCircularBuffer;
 use dcp_collect::Taken;
 use drm_bits::NoMemory;
 use drm_links::{Sink, WriteFault, write_all};
-use report_lines::{EndWord, Sums, write_end, write_refused, write_step};
 use mod_feed::{FeedItem, Step};
+use report_lines::{EndWord, Sums, write_end, write_refused, write_step};
 use std::alloc::Global;
 use std::marker::Model;
 
