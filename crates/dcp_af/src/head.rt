@@ -1,6 +1,7 @@
 //! The ten bytes before the payload, and where each field of them stands.
 
 ghost use Rattle.std.specs.Prelude.{◌≡◌, ◌≤◌, length};
+ghost use Rattle.dcp_af.specs.Faults.{described};
 ghost use Rattle.dcp_af.specs.Reading.{IsHeadOf};
 
 pub(crate) const HEAD_BYTES: usize = 10;
@@ -38,4 +39,12 @@ pub(crate) fn head_of(packet: &[u8]) -> Head
         minor: revision % 0x10,
         kind: packet[9],
     }
+}
+
+/// The bytes of the packet that begins with these, by its length field.
+pub fn described_len(head: &[u8]) -> u64
+    requires { 10 ≤ length head.now }
+    ensures { result ≡ described head.now }
+{
+    u64::from(head_of(head).len) + (HEAD_BYTES + CHECK_BYTES) as u64
 }

@@ -8,5 +8,6 @@ mod read;
 mod write;
 
 pub use fault::AfFault;
+pub use head::described_len;
 pub use read::{Af, payload_of, read_af};
 pub use write::write_af;

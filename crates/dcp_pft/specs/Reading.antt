@@ -47,6 +47,10 @@ size_rows = Sync ∷ HeadCut ∷ []
 abbrev pub check_rows : List PftFault
 check_rows = HeadCrc ∷ []
 
+-- the rows about the header alone
+abbrev pub head_rows : List PftFault
+head_rows = Sync ∷ HeadCut ∷ HeadCrc ∷ []
+
 abbrev pub number_rows : List PftFault
 number_rows = Count ∷ Index ∷ PlenMismatch ∷ RsK ∷ RsZ ∷ TooMany ∷ TooLarge ∷ Chunks ∷ []
 

@@ -1,7 +1,7 @@
 //! The header of a fragment, and where each field of it stands.
 
 ghost use Rattle.std.specs.Prelude.{◌≡◌, ◌+◌, ◌≤◌, length};
-ghost use Rattle.dcp_pft.specs.Faults.{marks, has_code, has_addresses, head_size, code, addresses_place, addresses_at, addresses};
+ghost use Rattle.dcp_pft.specs.Faults.{marks, described, has_code, has_addresses, head_size, code, addresses_place, addresses_at, addresses};
 ghost use Rattle.dcp_pft.specs.Reading.{IsHeadOf};
 
 use crate::{Addr, Rs};
@@ -32,6 +32,14 @@ fn marks_of(datagram: &[u8]) -> u16
     ensures { result ≡ marks datagram.now }
 {
     u16::from_be_bytes([datagram[10], datagram[11]])
+}
+
+// The length of the payload.
+pub(crate) fn payload_size(datagram: &[u8]) -> u16
+    requires { 14 ≤ length datagram.now }
+    ensures { result ≡ described datagram.now }
+{
+    marks_of(datagram) % 0x4000
 }
 
 fn is_coded(datagram: &[u8]) -> bool
@@ -117,7 +125,7 @@ pub(crate) fn head_of(datagram: &[u8]) -> Head
         seq: u16::from_be_bytes([datagram[2], datagram[3]]),
         index: u32::from_be_bytes([0, datagram[4], datagram[5], datagram[6]]),
         count: u32::from_be_bytes([0, datagram[7], datagram[8], datagram[9]]),
-        len: marks_of(datagram) % 0x4000,
+        len: payload_size(datagram),
         rs: code_of(datagram),
         addr: addresses_of(datagram),
     }

@@ -28,6 +28,6 @@ pub use limits::{
     MOST_PARITY, most_packet,
 };
 pub use place::Place;
-pub use read::read_fragment;
+pub use read::{read_fragment, size_by_head};
 pub use shape::{Rs, Shape, chunks, shape_for};
 pub use write::write_fragment;

@@ -3,10 +3,10 @@
 ghost use Rattle.std.specs.Prelude.{◌≡◌, ◌≤◌, ◌+◌, ◌/◌, List, ℕ, length, IfOk, IfErr, IsOkAnd, OnOk, MatchBool, IsSomeAnd, IfSome};
 ghost use Rattle.drm_bits.specs.Crc.{IsCheckOf};
 ghost use Rattle.dcp_pft.specs.Head.{PftFragment};
-ghost use Rattle.dcp_pft.specs.Faults.{IsFault, IsFirst, NoneOf, table, payload, head_size, checked_bytes, check_value};
-ghost use Rattle.dcp_pft.specs.Reading.{pft_of, IsPft, IsHeadOf, size_rows, check_rows, number_rows, JudgesCode};
+ghost use Rattle.dcp_pft.specs.Faults.{IsFault, IsFirst, NoneOf, table, payload, described, head_size, checked_bytes, check_value};
+ghost use Rattle.dcp_pft.specs.Reading.{pft_of, IsPft, IsHeadOf, size_rows, check_rows, head_rows, number_rows, JudgesCode};
 
-use crate::head::{CHECK_BYTES, Head, LEAST_HEAD, head_of, size_of_head};
+use crate::head::{CHECK_BYTES, Head, LEAST_HEAD, head_of, payload_size, size_of_head};
 use crate::{Fragment, MOST_CARRIED, MOST_FRAGMENTS, PftFault, Rs};
 use drm_bits::compare_crc16;
 
@@ -35,6 +35,18 @@ pub fn read_fragment(datagram: &[u8]) -> Result<Fragment<'_>, PftFault>
         addr: head.addr,
         payload: &datagram[size_of_head(datagram)..],
     })
+}
+
+/// The bytes of the fragment that begins with these, by its header: all that is read is the header.
+pub fn size_by_head(front: &[u8]) -> Result<usize, PftFault>
+    ensures fault { IfErr result (λ fault. IsFirst head_rows fault front.now) }
+    ensures right { OnOk result (NoneOf head_rows front.now) }
+    ensures check { OnOk result (IsCheckOf (checked_bytes front.now) (check_value front.now)) }
+    ensures size { IfOk result (λ size. size ≡ head_size front.now + described front.now) }
+{
+    let size = whole_head(front)?;
+    compare(front, size)?;
+    Ok(size + usize::from(payload_size(front)))
 }
 
 // The header, where nothing is refused.

@@ -2,4 +2,5 @@ pub mod CrcLine
 pub mod Reasons
 pub mod Lines
 pub mod FacFaults
+pub mod Captures
 pub mod Fault

@@ -5,8 +5,10 @@ ghost use Rattle.drm_links.specs.Sink.{Writes};
 ghost use Rattle.text_pieces.specs.Text.{text_of};
 ghost use Rattle.drm_faults.specs.CrcLine.{crc_line};
 
+use crate::capture::capture_pieces;
 use crate::reason::{schedule_pieces, script_pieces};
 use drm_bits::NoMemory;
+use drm_capture::{CaptureFault, CaptureStop};
 use drm_fac::FacFault;
 use drm_links::{LinkFault, Sink, Status, WriteFault, write_all};
 use drm_schedule::Reason;
@@ -22,6 +24,11 @@ pub enum Fault {
     FacCrc { stands: u8, computed: u8 },
     Schedule { line: u32, reason: Reason },
     Script { line: u32, reason: Reason },
+    Capture(CaptureFault),
+    /// A capture goes on behind the most bytes that are read.
+    CaptureTooLong,
+    /// The packet with this number is too large for the carry.
+    PacketSize(u64),
     Read,
     Write,
     Link,
@@ -61,6 +68,21 @@ impl From<FacFault> for Fault {
     }
 }
 
+impl From<CaptureStop> for Fault {
+    ghost use Rattle.std.specs.Prelude.{◌≡◌};
+    ghost use Rattle.drm_faults.specs.Captures.{stop_fault};
+
+    ghost from_gives = { λ stop fault. fault ≡ stop_fault stop };
+
+    fn from(stop: CaptureStop) -> Self {
+        match stop {
+            CaptureStop::Read => Fault::Read,
+            CaptureStop::Capture(fault) => Fault::Capture(fault),
+            CaptureStop::TooLong => Fault::CaptureTooLong,
+        }
+    }
+}
+
 impl From<NoMemory> for Fault {
     ghost use Rattle.std.specs.Prelude.{◌≡◌};
     ghost use Rattle.drm_faults.specs.declared.fault.Fault.TheVariants as faults;
@@ -93,6 +115,7 @@ impl Fault {
             Fault::Words => 2,
             Fault::FacLength(_) | Fault::FacOver | Fault::FacCrc { .. } => 3,
             Fault::Schedule { .. } | Fault::Script { .. } => 3,
+            Fault::Capture(_) | Fault::CaptureTooLong | Fault::PacketSize(_) => 3,
             Fault::Read => 4,
             Fault::Write => 5,
             Fault::Link => 6,
@@ -121,6 +144,18 @@ impl Fault {
             }
             Fault::Schedule { line, reason } => write_pieces(err, &schedule_pieces(line, reason)),
             Fault::Script { line, reason } => write_pieces(err, &script_pieces(line, reason)),
+            Fault::Capture(fault) => write_pieces(err, &capture_pieces(fault)),
+            Fault::CaptureTooLong => {
+                write_words(err, "drmcast: capture byte 4294967295: too-long\n")
+            }
+            Fault::PacketSize(packet) => write_pieces(
+                err,
+                &[
+                    Piece::Words("drmcast: packet "),
+                    Piece::Number(packet),
+                    Piece::Words(": packet-size\n"),
+                ],
+            ),
             Fault::Read => write_words(err, "drmcast: read fault\n"),
             Fault::Write => write_words(err, "drmcast: write fault\n"),
             Fault::Link => write_words(err, "drmcast: link fault\n"),

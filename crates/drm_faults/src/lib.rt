@@ -1,6 +1,7 @@
 //! Why a run stops early: its faults, each with its status and its line.
 #![tactic(auto)]
 
+mod capture;
 mod fault;
 mod reason;
 

@@ -11,7 +11,7 @@ use Rattle.drm_links.specs.Source.{Input, Inputs}
 use Rattle.drm_links.specs.Sink.{Output, Outputs, IsFront}
 use Rattle.drm_links.proofs.ToldLemmas.{Inputs-weaker}
 use Rattle.drm_faults.specs.declared.fault.Fault.{Fault}
-use Rattle.drm_faults.specs.declared.fault.Fault.TheVariants.{NoMemory, Words, FacLength, FacOver, FacCrc, Schedule, Script, Read, Write, Link}
+use Rattle.drm_faults.specs.declared.fault.Fault.TheVariants.{NoMemory, Words, FacLength, FacOver, FacCrc, Schedule, Script, Capture, CaptureTooLong, PacketSize, Read, Write, Link}
 use Rattle.drm_inspect.specs.Input.{ReadsHead, FailsWithin}
 use Rattle.report_lines.specs.FacLine.{fac_line}
 use Rattle.drm_faults.specs.Fault.{status_of}
@@ -42,6 +42,9 @@ comes_once bytes (Ok f) (Err Read) is_v is_w = absurd is_w
 comes_once bytes (Ok f) (Err Write) is_v is_w = absurd is_w
 comes_once bytes (Ok f) (Err (Schedule l r)) is_v is_w = absurd is_w
 comes_once bytes (Ok f) (Err (Script l r)) is_v is_w = absurd is_w
+comes_once bytes (Ok f) (Err (Capture g)) is_v is_w = absurd is_w
+comes_once bytes (Ok f) (Err CaptureTooLong) is_v is_w = absurd is_w
+comes_once bytes (Ok f) (Err (PacketSize p)) is_v is_w = absurd is_w
 comes_once bytes (Err (FacLength n)) (Err NoMemory) is_v is_w = absurd is_w
 comes_once bytes (Err (FacLength n)) (Err Link) is_v is_w = absurd is_w
 comes_once bytes (Err (FacLength n)) (Err Words) is_v is_w = absurd is_w
@@ -49,6 +52,9 @@ comes_once bytes (Err (FacLength n)) (Err Read) is_v is_w = absurd is_w
 comes_once bytes (Err (FacLength n)) (Err Write) is_v is_w = absurd is_w
 comes_once bytes (Err (FacLength n)) (Err (Schedule l r)) is_v is_w = absurd is_w
 comes_once bytes (Err (FacLength n)) (Err (Script l r)) is_v is_w = absurd is_w
+comes_once bytes (Err (FacLength n)) (Err (Capture f)) is_v is_w = absurd is_w
+comes_once bytes (Err (FacLength n)) (Err CaptureTooLong) is_v is_w = absurd is_w
+comes_once bytes (Err (FacLength n)) (Err (PacketSize p)) is_v is_w = absurd is_w
 comes_once bytes (Err FacOver) (Err NoMemory) is_v is_w = absurd is_w
 comes_once bytes (Err FacOver) (Err Link) is_v is_w = absurd is_w
 comes_once bytes (Err FacOver) (Err Words) is_v is_w = absurd is_w
@@ -56,6 +62,9 @@ comes_once bytes (Err FacOver) (Err Read) is_v is_w = absurd is_w
 comes_once bytes (Err FacOver) (Err Write) is_v is_w = absurd is_w
 comes_once bytes (Err FacOver) (Err (Schedule l r)) is_v is_w = absurd is_w
 comes_once bytes (Err FacOver) (Err (Script l r)) is_v is_w = absurd is_w
+comes_once bytes (Err FacOver) (Err (Capture f)) is_v is_w = absurd is_w
+comes_once bytes (Err FacOver) (Err CaptureTooLong) is_v is_w = absurd is_w
+comes_once bytes (Err FacOver) (Err (PacketSize p)) is_v is_w = absurd is_w
 comes_once bytes (Err (FacCrc s c)) (Err NoMemory) is_v is_w = absurd is_w
 comes_once bytes (Err (FacCrc s c)) (Err Link) is_v is_w = absurd is_w
 comes_once bytes (Err (FacCrc s c)) (Err Words) is_v is_w = absurd is_w
@@ -63,6 +72,9 @@ comes_once bytes (Err (FacCrc s c)) (Err Read) is_v is_w = absurd is_w
 comes_once bytes (Err (FacCrc s c)) (Err Write) is_v is_w = absurd is_w
 comes_once bytes (Err (FacCrc s c)) (Err (Schedule l r)) is_v is_w = absurd is_w
 comes_once bytes (Err (FacCrc s c)) (Err (Script l r)) is_v is_w = absurd is_w
+comes_once bytes (Err (FacCrc s c)) (Err (Capture f)) is_v is_w = absurd is_w
+comes_once bytes (Err (FacCrc s c)) (Err CaptureTooLong) is_v is_w = absurd is_w
+comes_once bytes (Err (FacCrc s c)) (Err (PacketSize p)) is_v is_w = absurd is_w
 comes_once bytes (Err NoMemory) w is_v is_w = absurd is_v
 comes_once bytes (Err Link) w is_v is_w = absurd is_v
 comes_once bytes (Err Words) w is_v is_w = absurd is_v
@@ -70,6 +82,9 @@ comes_once bytes (Err Read) w is_v is_w = absurd is_v
 comes_once bytes (Err Write) w is_v is_w = absurd is_v
 comes_once bytes (Err (Schedule l r)) w is_v is_w = absurd is_v
 comes_once bytes (Err (Script l r)) w is_v is_w = absurd is_v
+comes_once bytes (Err (Capture f)) w is_v is_w = absurd is_v
+comes_once bytes (Err CaptureTooLong) w is_v is_w = absurd is_v
+comes_once bytes (Err (PacketSize p)) w is_v is_w = absurd is_v
 
 whole : (left : List ℕ) → length left ≤ 9 → take 10 left ≡ left
 whole left few = take_all 10 left (omega (arith, few))
@@ -99,6 +114,9 @@ comes_front left (Err Read) is = is
 comes_front left (Err Write) is = is
 comes_front left (Err (Schedule l r)) is = is
 comes_front left (Err (Script l r)) is = is
+comes_front left (Err (Capture f)) is = is
+comes_front left (Err CaptureTooLong) is = is
+comes_front left (Err (PacketSize p)) is = is
 
 pub comes_whole : (left : List ℕ) (v : Result Fac Fault) → ComesTo (take 10 left) v → ComesTo left v
 comes_whole left (Ok f) is = along (Ok f) (take 10 left) left (whole_of_front left (omega (arith, is.nine))) is
@@ -112,6 +130,9 @@ comes_whole left (Err Read) is = is
 comes_whole left (Err Write) is = is
 comes_whole left (Err (Schedule l r)) is = is
 comes_whole left (Err (Script l r)) is = is
+comes_whole left (Err (Capture f)) is = is
+comes_whole left (Err CaptureTooLong) is = is
+comes_whole left (Err (PacketSize p)) is = is
 
 -- a head that was read, and what it comes to
 judged : (came : Result Fac Fault) (a b : Known Input) (head : List ℕ) → ReadsHead head a b → ComesTo head came → Inputs a b (λ left rest. ComesTo left came)
@@ -132,6 +153,9 @@ comes (Err (FacCrc s c)) a b no_fault (head, reads, is) = judged (Err (FacCrc s 
 comes (Err Write) a b no_fault (head, reads, is) = judged (Err Write) a b head reads is
 comes (Err (Schedule l r)) a b no_fault (head, reads, is) = judged (Err (Schedule l r)) a b head reads is
 comes (Err (Script l r)) a b no_fault (head, reads, is) = judged (Err (Script l r)) a b head reads is
+comes (Err (Capture f)) a b no_fault (head, reads, is) = judged (Err (Capture f)) a b head reads is
+comes (Err CaptureTooLong) a b no_fault (head, reads, is) = judged (Err CaptureTooLong) a b head reads is
+comes (Err (PacketSize p)) a b no_fault (head, reads, is) = judged (Err (PacketSize p)) a b head reads is
 
 is_read : (came : Result Fac Fault) → (came ≡ Err Read) ⊎ (came ≡ Err Read → ⊥)
 is_read (Ok f) = inr (λ e. cc)
@@ -145,6 +169,9 @@ is_read (Err Read) = inl refl
 is_read (Err Write) = inr (λ e. cc)
 is_read (Err (Schedule l r)) = inr (λ e. cc)
 is_read (Err (Script l r)) = inr (λ e. cc)
+is_read (Err (Capture f)) = inr (λ e. cc)
+is_read (Err CaptureTooLong) = inr (λ e. cc)
+is_read (Err (PacketSize p)) = inr (λ e. cc)
 
 failed_within : (came : Result Fac Fault) (a b : Known Input) → came ≡ Err Read → Reads came a b → (taken : ℕ) × FailsWithin taken a b
 failed_within came a b is reads = let P : Result Fac Fault → Type 0 = λ v. Reads v a b in subst P is reads
@@ -176,6 +203,9 @@ three_exactly (Ok fac) (Err FacOver) known out out' left writes comes = absurd w
 three_exactly (Ok fac) (Err (FacCrc s c)) known out out' left writes comes = absurd writes
 three_exactly (Ok fac) (Err (Schedule l r)) known out out' left writes comes = absurd writes
 three_exactly (Ok fac) (Err (Script l r)) known out out' left writes comes = absurd writes
+three_exactly (Ok fac) (Err (Capture f)) known out out' left writes comes = absurd writes
+three_exactly (Ok fac) (Err CaptureTooLong) known out out' left writes comes = absurd writes
+three_exactly (Ok fac) (Err (PacketSize p)) known out out' left writes comes = absurd writes
 three_exactly (Ok fac) (Err Read) known out out' left writes comes = absurd writes
 three_exactly (Err (FacLength n)) ending known out out' left writes comes = (λ e fac is. let wrong : Err (FacLength n) ≡ Ok fac = comes_once left (Err (FacLength n)) (Ok fac) comes is in cc, λ none. ap status_of writes.0)
 three_exactly (Err FacOver) ending known out out' left writes comes = (λ e fac is. let wrong : Err FacOver ≡ Ok fac = comes_once left (Err FacOver) (Ok fac) comes is in cc, λ none. ap status_of writes.0)
@@ -187,6 +217,9 @@ three_exactly (Err Read) ending known out out' left writes comes = absurd comes
 three_exactly (Err Write) ending known out out' left writes comes = absurd comes
 three_exactly (Err (Schedule l r)) ending known out out' left writes comes = absurd comes
 three_exactly (Err (Script l r)) ending known out out' left writes comes = absurd comes
+three_exactly (Err (Capture f)) ending known out out' left writes comes = absurd comes
+three_exactly (Err CaptureTooLong) ending known out out' left writes comes = absurd comes
+three_exactly (Err (PacketSize p)) ending known out out' left writes comes = absurd comes
 
 -- status 3 comes exactly where the input is no FAC
 run_refused : {O : Type 0} (came : Result Fac Fault) (ending : Result (Unit {0}) Fault) (a b : Known Input) (out_known : O → Known Output) (out out' : O)
@@ -208,6 +241,9 @@ printed fac (Err FacOver) known out out' writes none = absurd writes
 printed fac (Err (FacCrc s c)) known out out' writes none = absurd writes
 printed fac (Err (Schedule l r)) known out out' writes none = absurd writes
 printed fac (Err (Script l r)) known out out' writes none = absurd writes
+printed fac (Err (Capture f)) known out out' writes none = absurd writes
+printed fac (Err CaptureTooLong) known out out' writes none = absurd writes
+printed fac (Err (PacketSize p)) known out out' writes none = absurd writes
 printed fac (Err Read) known out out' writes none = absurd writes
 
 -- where neither side failed a FAC is printed
@@ -305,6 +341,9 @@ run_ends ending input_known input input' out_known out out' run = (
     ended (Ok fac) (FacCrc s c) known out out' writes reads no_write none = writes
     ended (Ok fac) (Schedule l r) known out out' writes reads no_write none = writes
     ended (Ok fac) (Script l r) known out out' writes reads no_write none = writes
+    ended (Ok fac) (Capture f) known out out' writes reads no_write none = writes
+    ended (Ok fac) CaptureTooLong known out out' writes reads no_write none = writes
+    ended (Ok fac) (PacketSize p) known out out' writes reads no_write none = writes
     ended (Ok fac) Read known out out' writes reads no_write none = writes
     ended (Ok fac) Write known out out' writes reads no_write none = no_write refl
     ended (Err other) fault known out out' writes reads no_write none =

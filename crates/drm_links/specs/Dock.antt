@@ -40,16 +40,24 @@ abbrev pub first_traffic : LinkStart → Traffic
 first_traffic start =
     record { answers = []; ahead = start.ahead; gone = []; waits = []; waiting = 0; sends = start.sends; calls = 0 }
 
+-- what it tells after a link was opened at this address, which stands there no more
+abbrev pub after_opening : Address → DockContents → DockContents
+after_opening at told = record told { openings = told.openings + 1; links = map.remove told.links (address_key at); calls = told.calls + 1 }
+
+-- and after an opening that failed
+abbrev pub after_failure : DockContents → DockContents
+after_failure told = record told { openings = told.openings + 1; calls = told.calls + 1 }
+
 -- An opening is Failed exactly where its number is to fail or no link stands at its address. The link that it gives
--- starts as it stood there, and stands there no more. All else stays, but the number of openings and of calls.
+-- starts as it stood there.
 abbrev pub Opens : {L : Type 0} → (L → Known Traffic) → Address → Opened L → DockContents → DockContents → Type 0
 Opens known at (Link link) before after =
     (Contains before.failing before.openings → ⊥)
     × MatchOption (start_at before at) ⊥ (λ start. (known link).told ≡ Some (first_traffic start))
-    × (after ≡ record before { openings = before.openings + 1; links = map.remove before.links (address_key at); calls = before.calls + 1 })
+    × (after ≡ after_opening at before)
 Opens known at Failed before after =
     (Contains before.failing before.openings ⊎ IsNone (start_at before at))
-    × (after ≡ record before { openings = before.openings + 1; calls = before.calls + 1 })
+    × (after ≡ after_failure before)
 
 -- the contents once one more opening by `reach` is counted
 abbrev pub with_reach : DockContents → DockContents
@@ -72,13 +80,21 @@ abbrev pub IsFailed : {L : Type 0} → Opened L → Type 0
 IsFailed (Link link) = ⊥
 IsFailed Failed = Unit {0}
 
--- A close of a link that still tells adds what had gone over it, and how long it had rested, at its address. All else
--- stays, but the number of calls.
+-- what it tells after a link was closed at this address over which these datagrams had gone, with these rests before each and
+-- after the last
+abbrev pub after_close : Address → List (List ℕ) → List ℕ → DockContents → DockContents
+after_close at gone rests told = record told {
+  gone = map.insert told.gone (address_key at) gone;
+  rests = map.insert told.rests (address_key at) rests;
+  calls = told.calls + 1;
+}
+
+-- what it tells where nothing was sent: what had gone is as before, but for a link that was closed with nothing gone
+abbrev pub SendsNothing : DockContents → DockContents → Type 0
+SendsNothing before after = (after.gone ≡ before.gone) ⊎ ((at : Address) × (after.gone ≡ map.insert before.gone (address_key at) []))
+
+-- A close of a link that still tells adds what had gone over it, and how long it had rested.
 abbrev pub Closes : Option Traffic → Address → DockContents → DockContents → Type 0
 Closes None at before after = after ≡ record before { calls = before.calls + 1 }
 Closes (Some traffic) at before after =
-    after ≡ record before {
-      gone = map.insert before.gone (address_key at) traffic.gone;
-      rests = map.insert before.rests (address_key at) (rests_of traffic);
-      calls = before.calls + 1;
-    }
+    after ≡ after_close at traffic.gone (rests_of traffic) before

@@ -1,10 +1,9 @@
 -- The ends of runs that tell of no frames.
 use Rattle.std.proofs.Common.{◌≡◌, ◌⊎◌, inl, Bool, true, false, Option, None, Some, Result, Ok, Err, refl, sym, ◌∙◌, ap}
 use Rattle.drm_links.specs.Told.{Known, WhileTold, BothTold}
-use Rattle.drm_links.specs.Dock.{DockContents}
+use Rattle.drm_links.specs.Dock.{DockContents, SendsNothing}
 use Rattle.drm_faults.specs.declared.fault.Fault.{Fault}
 use Rattle.drm_faults.specs.Fault.{whole_of}
-use Rattle.drm_transmit.specs.Send.{SendsNothing}
 
 whole_fault : (done : Result (Unit {0}) Fault) (fault : Fault) → whole_of done ≡ Err fault → done ≡ Err fault
 whole_fault (Ok done) fault is = cc

@@ -1,13 +1,3 @@
 pub mod WordsLemmas
 pub mod RangeLemmas
-pub mod OpeningLemmas
-pub mod BreakingOff
-pub mod CountLemmas
-pub mod ReceiveLemmas
-pub mod FedLemmas
-pub mod FeedLemmas
-pub mod ReceiveStatus
-pub mod AirStatus
-pub mod AirLemmas
-pub mod LiveLemmas
 pub mod CommandLemmas

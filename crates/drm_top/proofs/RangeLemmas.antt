@@ -6,7 +6,7 @@ use Rattle.drm_words.specs.declared.request.Request.{Request}
 use Rattle.drm_words.specs.Table.{IsNumberOr, IsNumberOrNone, AreAddressesOrNone, HasTextNames}
 use Rattle.drm_words.specs.Line.{IsLine}
 use Rattle.mod_receiver.specs.declared.rules.Rules.{Rules}
-use Rattle.drm_top.specs.Terms.{AreListed}
+use Rattle.drm_receive.specs.Terms.{AreListed}
 use Rattle.mod_receiver.specs.Ranges.{AreInRange}
 use Rattle.drm_top.specs.Words.{request_of, Asks, IsInRange}
 use Rattle.drm_top.specs.declared.words.Command.{Command}

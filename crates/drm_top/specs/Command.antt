@@ -9,8 +9,8 @@ use Rattle.drm_inspect.specs.Fac.{FacRun}
 use Rattle.drm_transmit.specs.Check.{CheckRun}
 use Rattle.drm_transmit.specs.Serve.{ServeRun}
 use Rattle.drm_transmit.specs.Send.{SendRun}
-use Rattle.drm_top.specs.Receive.{ReceiveRun}
-use Rattle.drm_top.specs.Air.{AirRun}
+use Rattle.drm_receive.specs.Receive.{ReceiveRun}
+use Rattle.drm_air.specs.Air.{AirRun}
 use Rattle.drm_faults.specs.Fault.{done_of, whole_of, report_status, Reports}
 use Rattle.drm_faults.specs.declared.fault.Fault.{Fault}
 use Rattle.drm_faults.specs.declared.fault.Fault.TheVariants.{NoMemory}

@@ -5,7 +5,7 @@ use Rattle.drm_words.specs.declared.request.Request.{Request}
 use Rattle.drm_words.specs.declared.request.Request.TheVariants as requests
 use Rattle.word_forms.specs.declared.fault.WordsFault.{WordsFault}
 use Rattle.word_forms.specs.declared.fault.WordsFault.TheVariants as faults
-use Rattle.drm_top.specs.Terms.{AreListed}
+use Rattle.drm_receive.specs.Terms.{AreListed}
 use Rattle.mod_receiver.specs.Ranges.{AreInRange}
 use Rattle.drm_top.specs.declared.words.Command.{Command}
 use Rattle.drm_top.specs.declared.words.Command.TheVariants.{Fac, Check, Serve, Send, Receive, Air}

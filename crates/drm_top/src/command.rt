@@ -4,17 +4,17 @@ ghost use Rattle.std.specs.Prelude.{◌≡◌, ◌≤◌, ◌⊎◌, map, string
 ghost use Rattle.drm_links.specs.Told.{HasCause, HasFailed, WhileTold};
 ghost use Rattle.drm_faults.specs.Lines.{fault_line};
 ghost use Rattle.drm_faults.specs.Fault.{WritesLine, whole_of};
-ghost use Rattle.drm_transmit.specs.Send.{SendsNothing};
+ghost use Rattle.drm_links.specs.Dock.{SendsNothing};
 ghost use Rattle.drm_top.specs.Command.{CommandRun, Runs, Ends, IsUntouched, OpensALink, WritesReport};
 ghost use Rattle.drm_top.specs.Words.{AsksFor, AsksForNothing, IsInRange};
 ghost use Rattle.drm_top.specs.declared.words.Command.{Command};
 
-use crate::air::air;
-use crate::receive::receive;
 use crate::words::{Command, read_command, text};
+use drm_air::air;
 use drm_faults::Fault;
 use drm_inspect::fac;
 use drm_links::{Dock, Link, Shelf, Sink, Source, Status};
+use drm_receive::receive;
 use drm_transmit::{check, send, serve};
 use drm_words::WordsFault;
 use std::alloc::Global;

@@ -1,9 +1,7 @@
 //! The commands of `drmcast`: one call that takes the words of a command line and the outside, and answers a status.
 #![tactic(auto)]
 
-mod air;
 mod command;
-mod receive;
 mod words;
 
 pub use command::{no_memory, run};

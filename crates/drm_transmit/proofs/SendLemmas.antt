@@ -5,7 +5,7 @@ use Rattle.std.specs.FinMap.{gets}
 use Rattle.std.proofs.lemmas.Grind.{common_steps}
 use Rattle.drm_links.specs.Told.{Known, WhileTold}
 use Rattle.drm_links.specs.Shelf.{Files, Supplies}
-use Rattle.drm_links.specs.Dock.{DockContents, LinkStart, address_key, start_at}
+use Rattle.drm_links.specs.Dock.{DockContents, LinkStart, SendsNothing, address_key, start_at}
 use Rattle.drm_links.specs.Transmission.{TakesSends, TakesFewer}
 use Rattle.drm_links.specs.declared.dock.Address.{Address}
 use Rattle.drm_links.proofs.ToldLemmas.{WhileTold-weaker, Tells-weaker}
@@ -19,7 +19,7 @@ use Rattle.drm_faults.specs.declared.fault.Fault.TheVariants as faults
 use Rattle.drm_load.specs.declared.loading.ScheduleFault.{ScheduleFault}
 use Rattle.drm_load.specs.declared.loading.ScheduleFault.TheVariants as schedule
 use Rattle.drm_transmit.specs.ScheduleRun.{EndsBy}
-use Rattle.drm_transmit.specs.Send.{OpeningFails, OpensLink, Go, LacksSends, SendsNothing, ClosedRun, LinkRun, SendRun, after_link}
+use Rattle.drm_transmit.specs.Send.{OpeningFails, OpensLink, Go, LacksSends, ClosedRun, LinkRun, SendRun, after_link}
 use Rattle.drm_transmit.proofs.ScheduleRunLemmas.{came_or_memory, ends_memory, ends_exactly}
 
 -- an opening doesn't both fail and not

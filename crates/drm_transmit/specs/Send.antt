@@ -4,7 +4,7 @@ use Rattle.std.specs.FinMap as map
 use Rattle.drm_links.specs.Told.{HasFailed, Known, HasCause, WhileTold}
 use Rattle.drm_links.specs.Link.{Traffic}
 use Rattle.drm_links.specs.Shelf.{Files, Supplies}
-use Rattle.drm_links.specs.Dock.{DockContents, LinkStart, address_key, start_at}
+use Rattle.drm_links.specs.Dock.{DockContents, LinkStart, address_key, start_at, with_reach, after_opening, after_failure, after_close}
 use Rattle.drm_links.specs.Transmission.{TakesSends, TakesFewer}
 use Rattle.drm_links.specs.declared.dock.Address.{Address}
 use Rattle.drm_schedule.specs.declared.plan.Plan.{Plan}
@@ -27,21 +27,10 @@ OpeningFails at told = Contains told.failing told.openings ⊎ IsNone (start_at 
 abbrev pub OpensLink : Address → DockContents → LinkStart → Type 0
 OpensLink at told start = (Contains told.failing told.openings → ⊥) × (start_at told at ≡ Some start)
 
--- what the dock tells after an opening that failed
-abbrev pub after_failure : DockContents → DockContents
-after_failure told = record told { openings = told.openings + 1; reaches = told.reaches + 1; calls = told.calls + 1 }
-
--- what it tells after a link was opened and closed over which these datagrams had gone, with these rests before each and
+-- what the dock tells after a link was opened and closed over which these datagrams had gone, with these rests before each and
 -- after the last
 abbrev pub after_link : Address → List (List ℕ) → List ℕ → DockContents → DockContents
-after_link at gone rests told = record told {
-  openings = told.openings + 1;
-  reaches = told.reaches + 1;
-  links = map.remove told.links (address_key at);
-  gone = map.insert told.gone (address_key at) gone;
-  rests = map.insert told.rests (address_key at) rests;
-  calls = told.calls + 1 + 1;
-}
+after_link at gone rests told = after_close at gone rests (after_opening at (with_reach told))
 
 -- The datagrams that go over a link that takes so many sends, and the rests before each and after the last: all of the
 -- schedule that came, at this pace, without a rest after the last; or some first ones, after which no more are taken, with the
@@ -60,16 +49,12 @@ abbrev pub LacksSends : Result Plan ScheduleFault → Option ℕ → Type 0
 LacksSends (Ok schedule) sends = (datagrams : List (List ℕ)) → AreDatagrams schedule datagrams → TakesFewer sends (length datagrams)
 LacksSends (Err fault) sends = ⊥
 
--- what a dock tells where nothing was sent: what had gone is as before, but for a link that was closed with nothing gone
-abbrev pub SendsNothing : DockContents → DockContents → Type 0
-SendsNothing before after = (after.gone ≡ before.gone) ⊎ ((at : Address) × (after.gone ≡ map.insert before.gone (address_key at) []))
-
 -- A run whose opening failed: nothing is read.
 pub record ClosedRun {S D : Type 0} (at : Address) (ending : Result (Unit {0}) Fault) (shelf shelf' : S)
     (dock_known : D → Known DockContents) (dock dock' : D) : Type 0 where
   pub fault : ending ≡ Err faults.Link
   pub unread : shelf' ≡ shelf
-  pub told : WhileTold (dock_known dock) (dock_known dock') (λ before after. OpeningFails at before × (after ≡ after_failure before))
+  pub told : WhileTold (dock_known dock) (dock_known dock') (λ before after. OpeningFails at before × (after ≡ after_failure (with_reach before)))
   pub rose : HasFailed (dock_known dock) (dock_known dock')
 
 -- A run whose link was opened, before the schedule of this name was read, and closed at the end.

@@ -2,7 +2,8 @@
 
 ghost use Rattle.std.specs.Prelude.{IsErrOf};
 ghost use Rattle.drm_links.specs.Told.{HasFailed, WhileTold};
-ghost use Rattle.drm_transmit.specs.Send.{SendRun, SendsNothing};
+ghost use Rattle.drm_links.specs.Dock.{SendsNothing};
+ghost use Rattle.drm_transmit.specs.Send.{SendRun};
 ghost use Rattle.drm_transmit.specs.OverLink.{OverLink};
 
 use drm_faults::Fault;

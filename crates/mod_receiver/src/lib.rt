@@ -2,7 +2,6 @@
 #![tactic(auto)]
 
 mod job;
-mod lines;
 mod reading;
 mod reading_laws;
 mod receiver;

@@ -11,7 +11,6 @@ ghost use Rattle.mod_feed.specs.Feeding.{step_of};
 ghost use Rattle.mod_receiver.specs.Reports.{refused_text};
 ghost use Rattle.mod_receiver.specs.Tallies.{new_tally, noted, counted};
 
-use crate::lines::Lines;
 use circular_buffer::HeapCircularBuffer;
 use dcp_collect::Taken;
 use drm_bits::NoMemory;
@@ -20,6 +19,7 @@ use mod_feed::{FeedItem, Step};
 use report_lines::{EndWord, Sums, write_end, write_refused, write_step};
 use std::alloc::Global;
 use std::marker::Model;
+use text_pieces::Lines;
 
 /// A datagram that was refused, or that disagrees with another one.
 #[derive(Clone, Copy, Debug, PartialEq, Eq)]

@@ -15,7 +15,7 @@ pub struct Text {
 }
 
 /// A text tells what was written for so many calls.
-pub(crate) const MOST_CALLS: u64 = 1 << 62;
+const MOST_CALLS: u64 = 1 << 62;
 
 impl Text {
     pub fn new(alloc: Global) -> Text

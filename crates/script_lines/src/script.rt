@@ -1,9 +1,11 @@
 //! Scripts.
 
-ghost use Rattle.std.specs.Prelude.{◌≡◌, ◌<◌, length, slice_index_or};
+ghost use Rattle.std.specs.Prelude.{◌≡◌, ◌<◌, ◌∷◌, [], length, slice_index_or, IfOk};
 
 use crate::delivery::Delivery;
+use drm_bits::NoMemory;
 use drm_schedule::Items;
+use std::alloc::Global;
 use std::marker::Model;
 
 /// Which fragments of which packets of a schedule reach which feed, and in which order.
@@ -26,6 +28,15 @@ impl Script {
         ensures { result ≡ feeds }
     {
         Script { feeds }
+    }
+
+    /// The script of one feed.
+    pub fn of_feed(alloc: Global, feed: Items<Delivery>) -> Result<Script, NoMemory>
+        ensures { IfOk result (λ script. script ≡ feed ∷ []) }
+    {
+        let mut feeds = Items::new(alloc);
+        feeds.push(feed)?;
+        Ok(Script { feeds })
     }
 
     /// How many feeds there are.

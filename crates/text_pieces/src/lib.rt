@@ -1,8 +1,10 @@
-//! Texts to a sink in pieces, without memory.
+//! Texts to a sink in pieces, without memory, and room in which they are gathered.
 #![tactic(auto)]
 
+mod lines;
 mod output;
 mod piece;
 
+pub use lines::Lines;
 pub use output::{write_hex, write_piece, write_pieces};
 pub use piece::Piece;

@@ -1,7 +1,7 @@
 use Rattle.std.proofs.Common.{◌≡◌, inl, inr, refl, subst, le_refl}
 use Rattle.drm_faults.specs.declared.fault.Fault.TheVariants as faults
 use Rattle.drm_top.proofs.CommandLemmas.{fault_of_whole, whole_lacks_none, dock_still}
-use Rattle.drm_top.proofs.OpeningLemmas.{opens_unsent}
+use Rattle.drm_receive.proofs.OpeningLemmas.{opens_unsent}
 use Rattle.drm_top.proofs.command.run_command.Goals as goal
 
 pub returns-in-Fac : goal.returns-in-Fac

@@ -26,3 +26,12 @@ returns-in-Link g c = rw c.in-Link.is c.write_words-in-Link.ensures
 
 pub returns-in-Script : goal.returns-in-Script
 returns-in-Script g c = rw (c.in-Script.is, ← c.script_pieces.ensures) c.write_pieces-in-Script.ensures
+
+pub returns-in-Capture : goal.returns-in-Capture
+returns-in-Capture g c = rw (c.in-Capture.is, ← c.capture_pieces.ensures) c.write_pieces-in-Capture.ensures
+
+pub returns-in-CaptureTooLong : goal.returns-in-CaptureTooLong
+returns-in-CaptureTooLong g c = rw c.in-CaptureTooLong.is c.write_words-in-CaptureTooLong.ensures
+
+pub returns-in-PacketSize : goal.returns-in-PacketSize
+returns-in-PacketSize g c = rw c.in-PacketSize.is c.write_pieces-in-PacketSize.ensures

@@ -1,0 +1,145 @@
+-- What is said of how a run of `air` ends.
+use Rattle.std.proofs.Common.{◌≡◌, ℕ, ◌<◌, ◌⊎◌, inl, inr, Bool, true, false, IsTrue, List, [], length, Option, Result, Ok, Err, refl, sym, ◌∙◌, ap, subst, arith}
+use Rattle.drm_schedule.specs.declared.plan.Plan.{Plan}
+use Rattle.script_lines.specs.declared.delivery.Delivery.{Delivery}
+use Rattle.drm_links.specs.Told.{HasFailed, HasCause, Known, Rose}
+use Rattle.drm_links.specs.Shelf.{Files, Supplies}
+use Rattle.drm_links.specs.Sink.{Output}
+use Rattle.drm_links.proofs.ToldLemmas.{Tells-then, Tells-weaker}
+use Rattle.drm_load.specs.declared.loading.ScheduleFault.{ScheduleFault}
+use Rattle.drm_load.specs.declared.loading.ScheduleFault.TheVariants as loads
+use Rattle.drm_faults.specs.declared.fault.Fault.{Fault}
+use Rattle.drm_faults.specs.declared.fault.Fault.TheVariants as faults
+use Rattle.drm_faults.specs.Fault.{UnlessMemory}
+use Rattle.drm_load.specs.Faults.{fault_of_schedule, fault_of_script}
+use Rattle.drm_load.specs.Loading.{Step, ReadBy}
+use Rattle.drm_load.specs.Schedule.{schedule_named}
+use Rattle.drm_load.specs.Scripts.{script_named}
+use Rattle.drm_load.proofs.LoadingLemmas.{Comes, came_by}
+use Rattle.drm_receive.specs.Receive.{AreClean, WritesReports, WroteReports}
+use Rattle.mod_receiver.specs.Ahead.{Report}
+use Rattle.drm_air.specs.Air.{AreAired, ByScript, BySchedule, with_feeds, with_script, schedule_and_script, EndsByFiles, FeedsAreInTime, AirRun}
+use Rattle.drm_receive.proofs.ReceiveStatus.{is_true}
+
+-- the schedule and the feeds, or their fault
+abbrev Both : Type 0
+Both = Result (Plan × List (List Delivery)) Fault
+
+-- how a run ends whose files come to this
+abbrev Ended : {O : Type 0} → ℕ → Both → Result Bool Fault → (O → Known Output) → O → O → Type 0
+Ended window (Ok both) ending known out out' =
+    WritesReports (AreAired both.0 window both.1) ending known out out' × ((fault : Fault) → ending ≡ Err fault → (fault ≡ faults.NoMemory) ⊎ (fault ≡ faults.Write))
+Ended window (Err fault) ending known out out' = ending ≡ Err fault
+
+-- Unless memory ran out, the files come to this, by which the run ends.
+record Came {S O : Type 0} (name script : List ℕ) (window : ℕ) (ending : Result Bool Fault) (shelf_known : S → Known Files) (shelf shelf' : S) (out_known : O → Known Output) (out out' : O) : Type 0 where
+  pub both : Both
+  pub files : Supplies (shelf_known shelf) (shelf_known shelf') (λ x _. UnlessMemory ending (schedule_and_script name script x ≡ both))
+  pub ended : Ended window both ending out_known out out'
+
+module _ {S O : Type 0} (name script : List ℕ) (window : ℕ) (ending : Result Bool Fault) (shelf_known : S → Known Files) (out_known : O → Known Output) where
+  no_schedule : (fault : ScheduleFault) (p q : Files) → ending ≡ Err (fault_of_schedule fault) → Comes (schedule_named name) (Err fault) p q → UnlessMemory ending (schedule_and_script name script p ≡ Err (fault_of_schedule fault))
+  no_schedule fault p q ends (inl is) = inr (ap (λ (step : Step Plan). with_script script step) is)
+  no_schedule fault p q ends (inr memory) = let same : fault ≡ loads.NoMemory = cc (memory.0) in inl (ends ∙ ap (λ f. Err (fault_of_schedule f)) same)
+
+  scripts : (plan : Plan) (came : Result (List (List Delivery)) ScheduleFault) (p q r : Files) → (came ≡ Err loads.NoMemory → ending ≡ Err faults.NoMemory)
+      → schedule_named name p ≡ record { came = Ok plan; told = q } → Comes (script_named plan script) came q r → UnlessMemory ending (schedule_and_script name script p ≡ with_feeds plan came)
+  scripts plan came p q r memory is (inl comes) =
+      inr (ap (λ (step : Step Plan). with_script script step) is ∙ ap (λ (step : Step (List (List Delivery))). with_feeds plan step.came) comes)
+  scripts plan came p q r memory is (inr some) = inl (memory some.0)
+
+  -- the script's fault is that of the run
+  script_memory : (plan : Plan) (came : Result (List (List Delivery)) ScheduleFault) (out out' : O) → ByScript plan window came ending out_known out out' → came ≡ Err loads.NoMemory → ending ≡ Err faults.NoMemory
+  script_memory plan (Ok feeds) out out' by is = cc
+  script_memory plan (Err fault) out out' by is = let same : fault ≡ loads.NoMemory = cc (is) in by.0 ∙ ap (λ f. Err (fault_of_script f)) same
+
+  script_ended : (plan : Plan) (came : Result (List (List Delivery)) ScheduleFault) (out out' : O) → ByScript plan window came ending out_known out out' → Ended window (with_feeds plan came) ending out_known out out'
+  script_ended plan (Ok feeds) out out' by = (by.1, by.2)
+  script_ended plan (Err fault) out out' by = by.0
+
+  came : (shelf between shelf' : S) (out out' : O) (came : Result Plan ScheduleFault) → ReadBy (schedule_named name) came (shelf_known shelf) (shelf_known between)
+      → BySchedule script window came ending shelf_known between shelf' out_known out out' → Came name script window ending shelf_known shelf shelf' out_known out out'
+  came shelf between shelf' out out' (Ok plan) first by = record {
+    both = with_feeds plan by.came;
+    files = Tells-then _ _ _ (shelf_known shelf) (shelf_known between) (shelf_known shelf') first by.loads
+        (λ p q r is comes. scripts plan by.came p q r (script_memory plan by.came out out' by.writes) (came_by (schedule_named name) plan p q is) comes);
+    ended = script_ended plan by.came out out' by.writes;
+  }
+  came shelf between shelf' out out' (Err fault) first by = record {
+    both = Err (fault_of_schedule fault);
+    files = subst (λ s. Supplies (shelf_known shelf) (shelf_known s) (λ x _. UnlessMemory ending (schedule_and_script name script x ≡ Err (fault_of_schedule fault)))) (sym by.1)
+        (Tells-weaker _ _ (shelf_known shelf) (shelf_known between) first (λ p q is. no_schedule fault p q by.0 is));
+    ended = by.0;
+  }
+
+  ends : (both : Both) (ending : Result Bool Fault) (out out' : O) → Ended window both ending out_known out out' → UnlessMemory ending (EndsByFiles both ending)
+  ends (Ok both) (Ok clean) out out' ended = inr (inl (clean, refl))
+  ends (Ok both) (Err fault) out out' ended = elim (ended.1 fault refl) [
+    | inl memory ↦ inl (ap Err memory)
+    | inr write ↦ inr (inr (ap Err write))
+  ]
+  ends (Err fault) ending out out' ended = inr ended
+
+  wrote : (both : Plan × List (List Delivery)) (ending : Result Bool Fault) (out out' : O) → (ending ≡ Err faults.Write → ⊥) → Ended window (Ok both) ending out_known out out'
+      → UnlessMemory ending (WroteReports ending (AreAired both.0 window both.1) out_known out out')
+  wrote both (Ok clean) out out' none ended = inr (clean, refl, ended.0)
+  wrote both (Err fault) out out' none ended = elim (ended.1 fault refl) [
+    | inl memory ↦ inl (ap Err memory)
+    | inr write ↦ absurd (none (ap Err write))
+  ]
+
+-- where each frame is in time in each feed, the reports are clean
+all_clean : (plan : Plan) (window : ℕ) (feeds : List (List Delivery)) (reports : List Report) → AreAired plan window feeds reports → FeedsAreInTime plan window feeds → AreClean reports
+all_clean plan window feeds reports are time k d within =
+    let none : List Delivery = [] in
+    let l : k < length feeds = (let many = are.as_many in omega (arith, many, within)) in
+    let aired = are.each k none d l in
+    let (followed, each) = time k none aired.datagrams l aired.sent in
+    let all = aired.complete followed each in
+    subst IsTrue (sym all.clean_is) is_true
+
+all_given : {O : Type 0} (plan : Plan) (window : ℕ) (feeds : List (List Delivery)) (ending : Result Bool Fault) (known : O → Known Output) (out out' : O)
+    → UnlessMemory ending (WroteReports ending (AreAired plan window feeds) known out out') → FeedsAreInTime plan window feeds → UnlessMemory ending (ending ≡ Ok true)
+all_given plan window feeds ending known out out' (inl memory) time = inl memory
+all_given plan window feeds ending known out out' (inr (clean, is, (reports, are, text, iff))) time =
+    let all : IsTrue clean = iff.1 (all_clean plan window feeds reports are time) in
+    inr (is ∙ ap Ok (clean_is clean all))
+  where
+    clean_is : (clean : Bool) → IsTrue clean → clean ≡ true
+    clean_is clean all = all
+
+-- ---- the whole run
+
+pub air_run : {S O : Type 0} (name script : List ℕ) (window : ℕ) (ending : Result Bool Fault) (shelf_known : S → Known Files) (shelf between shelf' : S) (out_known : O → Known Output) (out out' : O) (came_is : Result Plan ScheduleFault)
+    → ReadBy (schedule_named name) came_is (shelf_known shelf) (shelf_known between) → BySchedule script window came_is ending shelf_known between shelf' out_known out out'
+    → HasCause (shelf_known shelf) (shelf_known shelf') (ending ≡ Err faults.Read) → HasCause (out_known out) (out_known out') (ending ≡ Err faults.Write)
+    → AirRun name script window ending shelf_known shelf shelf' out_known out out'
+air_run {S} {O} name script window ending shelf_known shelf between shelf' out_known out out' came_is loaded runs read_cause write_cause = record {
+  came = came_is;
+  between = between;
+  loads = loaded;
+  runs = runs;
+  exactly = Tells-weaker _ _ (shelf_known shelf) (shelf_known shelf') is.files
+      (λ x y files. elim files [
+        | inl memory ↦ inl memory
+        | inr same ↦ subst (λ (b : Both). UnlessMemory ending (EndsByFiles b ending)) (sym same) (ends name script window ending shelf_known out_known is.both ending out out' is.ended)
+      ]);
+  complete = all_wrote;
+  in_time = λ no_write.
+      Tells-weaker _ _ (shelf_known shelf) (shelf_known shelf') (all_wrote no_write) (λ x y wrote plan feeds gives time. all_given plan window feeds ending out_known out out' (wrote plan feeds gives) time);
+  read_cause = read_cause;
+  write_cause = write_cause;
+}
+  where
+    is : Came name script window ending shelf_known shelf shelf' out_known out out'
+    is = came name script window ending shelf_known out_known shelf between shelf' out out' came_is loaded runs
+
+    all_wrote : (HasFailed (out_known out) (out_known out') → ⊥)
+        → Supplies (shelf_known shelf) (shelf_known shelf') (λ x _. (plan : Plan) (feeds : List (List Delivery)) → schedule_and_script name script x ≡ Ok (plan, feeds) → UnlessMemory ending (WroteReports ending (AreAired plan window feeds) out_known out out'))
+    all_wrote no_write =
+        Tells-weaker _ _ (shelf_known shelf) (shelf_known shelf') is.files
+        (λ x y files plan feeds gives. elim files [
+          | inl memory ↦ inl memory
+          | inr same ↦ wrote name script window ending shelf_known out_known (plan, feeds) ending out out' (λ e. no_write (write_cause.rose e))
+              (subst (λ (b : Both). Ended window b ending out_known out out') (sym same ∙ gives) is.ended)
+        ])

@@ -1,0 +1,45 @@
+use Rattle.std.proofs.Common.{◌≡◌, ℕ, ◌<◌, List, length, slice_index_or, sym, ◌∙◌, ap, subst}
+use Rattle.drm_links.specs.MemoryLink.{LinkState, link_known}
+use Rattle.drm_schedule.specs.Valid.{IsSchedule}
+use Rattle.mod_receiver.specs.declared.job.Job.{Job}
+use Rattle.mod_receiver.specs.Jobs.{HasEnded}
+use Rattle.mod_receiver.specs.Settling.{Settles}
+use Rattle.drm_air.specs.Air.{air_rules}
+use Rattle.drm_receive.proofs.ReceiveLemmas.{Ran, written_back, write_is}
+use Rattle.mod_receiver.proofs.Composing.{DeliveryLaws}
+use Rattle.drm_air.proofs.AirLemmas.{aired, kind_by}
+use Rattle.drm_air.proofs.air_command.air_over.Goals as goal
+
+pub returns : goal.returns
+returns g c =
+    let laws = c.laws_of_deliveries.ensures in
+    let of_deliveries : DeliveryLaws = record {
+      whole = laws.delivering;
+      early = laws.early;
+      refused = laws.refused;
+      all_frames = laws.all_frames;
+      items = record { in_time = laws.in_time; at_starts = laws.at_starts; all_switches = laws.all_switches; lines = laws.lines };
+    } in
+    let plan = c.args.plan.now in
+    let feeds = c.args.script.now in
+    let valid : IsSchedule plan = rw (← c.args.plan.view_is) c.args.plan.invariant in
+    let before : List (Job LinkState) = c.in_ok-jobs.jobs.items in
+    let after : List (Job LinkState) = c.run_all.new.jobs in
+    let value : c.as_mut_slice.result.now ≡ before = c.as_mut_slice.ensures.value in
+    let size : length before ≡ length feeds = ap length (sym value) ∙ c.as_mut_slice.ensures.len ∙ c.in_ok-jobs.ensures.many in
+    let still : length after ≡ length before = c.run_all.auto.jobs ∙ ap length value in
+    let E : List (Job LinkState) → Type 0 = λ xs. (k : ℕ) (d : Job LinkState) → k < length xs → HasEnded link_known (slice_index_or xs k d) (slice_index_or after k d) in
+    let ran : Ran link_known (air_rules plan c.args.window) (length feeds) before after =
+    record { size = size; still = still; jobs = c.in_ok-jobs.ensures.jobs; ended = subst E value c.run_all.ensures } in
+    let same : c.as_slice.result.now ≡ after = written_back c.in_ok-jobs.jobs.len after before c.as_slice.result.now (sym (still ∙ ap length (sym value) ∙ c.as_mut_slice.ensures.len)) c.as_slice.ensures.value in
+    let settled : Settles after c.settle.result g.O.Sink.known c.args.out.now c.settle.new.out =
+    subst (λ (jobs : List (Job LinkState)). Settles jobs c.settle.result g.O.Sink.known c.args.out.now c.settle.new.out) same c.settle.ensures.settles in
+    record {
+      writes = rw c.ending.ensures
+          (aired plan c.args.window valid c.requires.some c.requires.few c.reports_follow.ensures.headlines c.reports_follow.ensures.completes feeds c.requires.feeds before after ran c.in_ok-jobs.ensures.feeds
+          c.one_run.ensures of_deliveries c.settle.result g.O.Sink.known c.args.out.now c.settle.new.out settled);
+      kind = rw c.ending.ensures
+          (kind_by plan c.args.window valid c.requires.some c.requires.few c.reports_follow.ensures.headlines c.reports_follow.ensures.completes feeds c.requires.feeds before after ran c.in_ok-jobs.ensures.feeds
+          c.settle.result g.O.Sink.known c.args.out.now c.settle.new.out settled);
+      cause = record { later = c.settle.ensures.cause.later; rose = λ is. c.settle.ensures.cause.rose (write_is c.settle.result (sym c.ending.ensures ∙ is)) };
+    }

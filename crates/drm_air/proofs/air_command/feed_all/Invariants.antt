@@ -1,0 +1,16 @@
+use Rattle.std.proofs.Common.{◌≡◌, ℕ, ◌<◌, List, vec_len, slice_index_or, length}
+use Rattle.drm_links.specs.MemoryLink.{LinkState}
+use Rattle.script_lines.specs.declared.delivery.Delivery.{Delivery}
+use Rattle.mod_receiver.specs.declared.job.Job.{Job}
+use Rattle.drm_air.specs.Air.{air_rules}
+use Rattle.mod_receiver.specs.Jobs.{AreJobs}
+use Rattle.drm_air.specs.Feeds.{BringsFeed}
+use Rattle.drm_air.proofs.air_command.feed_all.Given as goal
+
+-- each receiver so far has a link that brings its feed
+abbrev pub invariant-loop-k : goal.invariant-loop-k
+invariant-loop-k l =
+    (vec_len l.jobs ≡ l.k) × (length l.jobs.items ≡ l.k) × (l.server.plan ≡ l.plan)
+    × AreJobs (air_rules l.plan l.window) l.k l.jobs.items
+    × ((k : ℕ) (none : Job LinkState) → k < l.k → (feed : List Delivery)
+    → BringsFeed l.plan (slice_index_or l.script k feed) (slice_index_or l.jobs.items k none).link)

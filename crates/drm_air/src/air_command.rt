@@ -1,0 +1,158 @@
+//! The command `air`.
+
+ghost use Rattle.std.specs.Prelude.{ℕ, ◌≡◌, ◌≤◌, ◌⊎◌, ◌++◌, [], ◌∷◌, List, length, vec_len, All, IfOk, OnOk, Err};
+ghost use Rattle.drm_links.specs.Told.{HasCause};
+ghost use Rattle.mod_delivery.specs.Sent.{IsSent};
+ghost use Rattle.script_lines.specs.Script.{IsDelivery, fragment_count};
+ghost use Rattle.drm_server.specs.Datagrams.{HasDatagrams};
+ghost use Rattle.drm_faults.specs.declared.fault.Fault.{Fault};
+ghost use Rattle.mod_receiver.specs.Jobs.{AreJobs};
+ghost use Rattle.drm_air.specs.Feeds.{BringsFeed, BringFeeds};
+ghost use Rattle.drm_air.specs.Air.{AirRun, AreFeeds, AreAired, air_rules};
+ghost use Rattle.drm_receive.specs.Receive.{WritesReports};
+
+use collect_laws::one_run;
+use drm_bits::NoMemory;
+use drm_faults::Fault;
+use drm_links::{MemLink, Shelf, Sink};
+use drm_load::{read_schedule, read_script_named, script_fault};
+use drm_receive::ending;
+use drm_schedule::Schedule;
+use drm_server::Server;
+use drm_timeline::frame_count;
+use mod_receiver::{Job, Rules, job_for, laws_of_deliveries, reports_follow, run_all, settle};
+use script_lines::{Delivery, Script};
+use std::alloc::Global;
+use std::thread::Threads;
+
+/// Reads a schedule and a script, gives each feed of the script the datagrams that it delivers, and writes the reports of
+/// its receivers, which work in threads of their own. Answers whether no frame is missing or bad.
+pub fn air<R: Threads + Sync, S: Shelf, O: Sink>(
+    rt: &R,
+    alloc: Global,
+    name: &str,
+    script: &str,
+    window: u8,
+    shelf: &mut S,
+    out: &mut O,
+) -> Result<bool, Fault>
+    requires some { 1 ≤ window }
+    requires few { window ≤ 64 }
+    ensures run { AirRun name.now script.now window result
+        S.known shelf.old shelf.new O.known out.old out.new }
+{
+    let plan = read_schedule(alloc, shelf, name)?;
+    let script = match read_script_named(alloc, shelf, script, &plan) {
+        Ok(script) => script,
+        Err(fault) => return Err(script_fault(fault)),
+    };
+    air_over(rt, alloc, &plan, &script, window, out)
+}
+
+/// Gives each feed of a script the datagrams that it delivers of a schedule, and writes the reports of its receivers, which
+/// work in threads of their own. Answers whether no frame is missing or bad.
+pub fn air_over<R: Threads + Sync, O: Sink>(
+    rt: &R,
+    alloc: Global,
+    plan: &Schedule,
+    script: &Script,
+    window: u8,
+    out: &mut O,
+) -> Result<bool, Fault>
+    requires some { 1 ≤ window }
+    requires few { window ≤ 64 }
+    requires feeds { AreFeeds plan.now script.now }
+    ensures writes { WritesReports (AreAired plan.now window script.now) result O.known out.old out.new }
+    ensures kind { (fault : Fault) → result ≡ Err fault → (fault ≡ Fault.NoMemory) ⊎ (fault ≡ Fault.Write) }
+    ensures cause { HasCause (O.known out.old) (O.known out.new) (result ≡ Err Fault.Write) }
+{
+    reports_follow();
+    laws_of_deliveries();
+    one_run();
+    let mut jobs = feed_all(alloc, plan, script, window)?;
+    run_all(rt, alloc, jobs.as_mut_slice());
+    ending(settle(jobs.as_slice(), out))
+}
+
+// A receiver for each feed.
+fn feed_all(
+    alloc: Global,
+    plan: &Schedule,
+    script: &Script,
+    window: u8,
+) -> Result<Vec<Job<MemLink>>, NoMemory>
+    requires some { 1 ≤ window }
+    requires few { window ≤ 64 }
+    requires feeds { AreFeeds plan.now script.now }
+    ensures many { IfOk result (λ jobs. vec_len jobs ≡ length script.now) }
+    ensures jobs { IfOk result (λ jobs. AreJobs (air_rules plan.now window) (length script.now) jobs.items) }
+    ensures feeds { IfOk result (λ jobs. BringFeeds plan.now script.now jobs.items) }
+{
+    let rules = rules_for(plan, window);
+    let mut server = Server::make(alloc, plan)?;
+    let mut jobs = Vec::new(alloc);
+    for k in 0..script.feeds() {
+        let link = link_for(alloc, &mut server, script.deliveries(k))?;
+        let job = job_for(alloc, &rules, k as u8 + 1, link)?;
+        let Ok(()) = jobs.push(job) else {
+            return Err(NoMemory);
+        };
+    }
+    Ok(jobs)
+}
+
+// A feed is read by the schedule's first sequence number and all its frames, and ends where nothing is left.
+fn rules_for(plan: &Schedule, window: u8) -> Rules
+    ensures { result ≡ air_rules plan.now window }
+{
+    Rules {
+        window,
+        first: Some(plan.seq()),
+        frames: Some(u64::from(frame_count(plan))),
+        idle: 1,
+        limit: u32::MAX,
+    }
+}
+
+// A link that brings the datagrams of these deliveries.
+fn link_for(
+    alloc: Global,
+    server: &mut Server<'_>,
+    deliveries: &[Delivery],
+) -> Result<MemLink, NoMemory>
+    requires each { All (IsDelivery server.old.plan) deliveries.now }
+    ensures link { IfOk result (BringsFeed server.old.plan deliveries.now) }
+    ensures plan { server.new.plan ≡ server.old.plan }
+{
+    let mut link = MemLink::make(alloc, &[], &[], 0)?;
+    for delivery in deliveries {
+        deliver(alloc, server, *delivery, &mut link)?;
+    }
+    Ok(link)
+}
+
+// Brings the datagram of a delivery behind all others.
+fn deliver(
+    alloc: Global,
+    server: &mut Server<'_>,
+    delivery: Delivery,
+    link: &mut MemLink,
+) -> Result<(), NoMemory>
+    requires delivery { IsDelivery server.old.plan delivery }
+    ensures brought { OnOk result ((datagram : List ℕ) × IsSent server.old.plan (delivery.packet, delivery.fragment) datagram
+        × (link.new ≡ record link.old { coming = link.old.coming ++ datagram ∷ [] })) }
+    ensures plan { server.new.plan ≡ server.old.plan }
+{
+    if server.frame() != delivery.packet {
+        server.load(delivery.packet);
+    }
+    datagrams_are_counted(server);
+    link.bring(alloc, server.datagram(delivery.fragment))
+}
+
+// The frame that is loaded has as many datagrams as a script counts.
+fn datagrams_are_counted(server: &Server<'_>)
+    ensures { HasDatagrams server.now.plan server.now.frame (fragment_count server.now.plan server.now.frame) }
+{
+    let _ = server.packet();
+}

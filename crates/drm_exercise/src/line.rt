@@ -1,0 +1,57 @@
+//! The line of an exercise.
+
+ghost use Rattle.std.specs.Prelude.{◌≡◌, ◌≤◌, length};
+ghost use Rattle.std.specs.Int.{w16, to_be_bytes};
+ghost use Rattle.drm_links.specs.Sink.{Writes};
+ghost use Rattle.drm_exercise.specs.Exercise as exercise;
+
+use drm_links::{Sink, WriteFault};
+use text_pieces::{Piece, write_pieces};
+
+/// Writes the line of an exercise of this size in which so many datagrams were delivered, and this was reported, with this
+/// check value.
+pub(crate) fn write_line<O: Sink>(
+    out: &mut O,
+    n: u32,
+    delivered: u64,
+    report: &[u8],
+    check: u16,
+) -> Result<(), WriteFault>
+    requires { n ≤ 1000 }
+    ensures { Writes result (O.known out.old) (O.known out.new) (exercise.line n delivered report.now check) }
+{
+    let check = check.to_be_bytes();
+    write_pieces(
+        out,
+        &[
+            Piece::Words("exercise "),
+            Piece::Number(u64::from(n)),
+            Piece::Words(" datagrams "),
+            Piece::Number(delivered),
+            Piece::Words(" frames "),
+            Piece::Number(3 * u64::from(n)),
+            Piece::Words(" given "),
+            Piece::Number(lines_with(report, b"frame ")),
+            Piece::Words(" missing "),
+            Piece::Number(lines_with(report, b"missing ")),
+            Piece::Words(" bad "),
+            Piece::Number(lines_with(report, b"bad ")),
+            Piece::Words(" switches "),
+            Piece::Number(lines_with(report, b"switch ")),
+            Piece::Words(" resumed "),
+            Piece::Number(lines_with(report, b"resumed ")),
+            Piece::Words(" text "),
+            Piece::Hex(&check),
+            Piece::Words("\n"),
+        ],
+    )
+}
+
+// How many lines of a text begin so.
+fn lines_with(text: &[u8], front: &[u8]) -> u64
+    ensures { result ≡ exercise.lines_with front.now text.now }
+{
+    text.split(|byte| *byte == b'\n')
+        .filter(|line| line.starts_with(front))
+        .count() as u64
+}

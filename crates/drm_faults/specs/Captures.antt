@@ -1,0 +1,27 @@
+-- The line of what is wrong with a capture, and the fault of a run that it is.
+use Rattle.std.specs.Prelude.{List, ℕ, [], ◌∷◌, codes, decimal}
+use Rattle.std.specs.List.{concat}
+use Rattle.drm_capture.specs.declared.fault.CaptureField.{CaptureField}
+use Rattle.drm_capture.specs.declared.fault.CaptureField.TheVariants.{Sync, HeadCrc, TooLarge, HeadCut, BodyCut}
+use Rattle.drm_capture.specs.declared.fault.CaptureFault.{CaptureFault}
+use Rattle.drm_capture.specs.declared.packets.CaptureStop.{CaptureStop}
+use Rattle.drm_capture.specs.declared.packets.CaptureStop.TheVariants as stops
+use Rattle.drm_faults.specs.declared.fault.Fault.{Fault}
+use Rattle.drm_faults.specs.declared.fault.Fault.TheVariants as faults
+
+abbrev pub field_word : CaptureField → List ℕ
+field_word Sync = codes "sync"
+field_word HeadCrc = codes "head-crc"
+field_word TooLarge = codes "too-large"
+field_word HeadCut = codes "head-cut"
+field_word BodyCut = codes "body-cut"
+
+-- the byte of the packet, and what is wrong there
+abbrev pub capture_line : CaptureFault → List ℕ
+capture_line fault = concat (codes "drmcast: capture byte " ∷ decimal fault.at ∷ codes ": " ∷ field_word fault.field ∷ codes "\n" ∷ [])
+
+-- the fault of a run whose capture is read no further
+abbrev pub stop_fault : CaptureStop → Fault
+stop_fault stops.Read = faults.Read
+stop_fault (stops.Capture fault) = faults.Capture fault
+stop_fault stops.TooLong = faults.CaptureTooLong

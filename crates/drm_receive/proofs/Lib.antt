@@ -1,0 +1,5 @@
+pub mod OpeningLemmas
+pub mod BreakingOff
+pub mod ReceiveLemmas
+pub mod ReceiveStatus
+pub mod LiveLemmas

@@ -1,0 +1,147 @@
+-- From the receiver of one link that ended to the whole command.
+use Rattle.std.proofs.Common.{◌≡◌, ℕ, zero, suc, ◌<◌, ◌≤◌, ◌⊎◌, ◌↔◌, inl, inr, Bool, List, [], ◌∷◌, length, slice_index_or, Option, Err, refl, sym, ap, subst, arith}
+use Rattle.drm_links.specs.Told.{Known, HasCause, Tells}
+use Rattle.drm_links.proofs.ToldLemmas.{Tells-weaker}
+use Rattle.drm_faults.specs.Fault.{UnlessMemory}
+use Rattle.drm_links.specs.Link.{Traffic}
+use Rattle.drm_links.specs.Sink.{Output}
+use Rattle.drm_links.specs.Dock.{DockContents, LinkStart}
+use Rattle.drm_links.specs.declared.dock.Address.{Address}
+use Rattle.mod_receiver.specs.declared.rules.Rules.{Rules}
+use Rattle.mod_receiver.specs.declared.receiver.Ended.{Ended}
+use Rattle.mod_receiver.specs.declared.receiver.Ended.TheVariants.{Done, LinkFailed, WriteFailed, NoMemory}
+use Rattle.mod_receiver.specs.Ranges.{AreInRange}
+use Rattle.mod_receiver.specs.declared.receiver.Options.{Options}
+use Rattle.mod_receiver.specs.declared.job.Job.{Job}
+use Rattle.mod_receiver.specs.Jobs.{IsJob, AreJobs, job_rules}
+use Rattle.mod_receiver.specs.Received.{EndsAs}
+use Rattle.mod_receiver.specs.Following.{HeadlinesFollow, CompletesFollow, NoneBreaksOff}
+use Rattle.mod_receiver.specs.Ahead.{BreaksOff}
+use Rattle.mod_receiver.proofs.JobLemmas.{rules_are, live_report, live_given, live_breaks, live_front}
+use Rattle.drm_faults.specs.declared.fault.Fault.{Fault}
+use Rattle.drm_faults.specs.declared.fault.Fault.TheVariants as faults
+use Rattle.drm_receive.specs.Stopping.{ending_live}
+use Rattle.drm_receive.specs.Opening.{HasLink, HaveLinks}
+use Rattle.drm_receive.specs.Receive.{Docked, Finds, FindsNone, FailsSome, OpensEach, after_openings, WritesLive, ReceiveRun}
+use Rattle.drm_receive.proofs.OpeningLemmas.{docked_weaker}
+use Rattle.drm_receive.proofs.BreakingOff.{report_whole}
+use Rattle.drm_receive.proofs.ReceiveStatus.{receive_run}
+use Rattle.drm_receive.proofs.ReceiveLemmas.{inner, no_fault}
+
+-- the receiver ended by this
+ended_write : (ended : Ended) → ending_live ended ≡ Err faults.Write → ended ≡ WriteFailed
+ended_write (Done clean) is = absurd (no_fault clean faults.Write is)
+ended_write LinkFailed is = let one : faults.Link ≡ faults.Write = inner faults.Link faults.Write is in absurd cc
+ended_write WriteFailed is = refl
+ended_write NoMemory is = let one : faults.NoMemory ≡ faults.Write = inner faults.NoMemory faults.Write is in absurd cc
+
+ended_memory : (ended : Ended) → ending_live ended ≡ Err faults.NoMemory → ended ≡ NoMemory
+ended_memory (Done clean) is = absurd (no_fault clean faults.NoMemory is)
+ended_memory LinkFailed is = let one : faults.Link ≡ faults.NoMemory = inner faults.Link faults.NoMemory is in absurd cc
+ended_memory WriteFailed is = let one : faults.Write ≡ faults.NoMemory = inner faults.Write faults.NoMemory is in absurd cc
+ended_memory NoMemory is = refl
+
+ended_kind : (ended : Ended) (fault : Fault) → ending_live ended ≡ Err fault → (fault ≡ faults.NoMemory) ⊎ (fault ≡ faults.Link) ⊎ (fault ≡ faults.Write)
+ended_kind (Done clean) fault is = absurd (no_fault clean fault is)
+ended_kind LinkFailed fault is = inr (inl (sym (inner faults.Link fault is)))
+ended_kind WriteFailed fault is = inr (inr (sym (inner faults.Write fault is)))
+ended_kind NoMemory fault is = inl (sym (inner faults.NoMemory fault is))
+
+-- what fails of one link is the first
+abbrev FailsFirst : Rules → DockContents → Address → Type 0
+FailsFirst rules told at = FindsNone told 0 at ⊎ ((start : LinkStart) × Finds told 0 at start × BreaksOff rules start.ahead)
+
+first_by : (rules : Rules) (told : DockContents) (at : Address) (k : ℕ) → k < 1
+    → FindsNone told k (slice_index_or (at ∷ []) k at) ⊎ ((start : LinkStart) × Finds told k (slice_index_or (at ∷ []) k at) start × BreaksOff rules start.ahead) → FailsFirst rules told at
+first_by rules told at zero within fails = fails
+first_by rules told at (suc k) within fails = absurd (omega (arith, within))
+
+fails_first : (rules : Rules) (told : DockContents) (at : Address) → FailsSome rules told (at ∷ []) → FailsFirst rules told at
+fails_first rules told at some = first_by rules told at some.k some.within (some.fails at)
+
+module _ {D L O : Type 0} (rules : Rules) (valid : AreInRange rules) (headlines : HeadlinesFollow) (completes : CompletesFollow) (at : Address)
+    (dock_known : D → Known DockContents) (dock dock' : D) (link_known : L → Known Traffic) (link link' : L)
+    (out_known : O → Known Output) (out out' : O)
+    (found : Docked (dock_known dock) (dock_known dock') (λ told. HasLink link_known told 0 at link)) where
+  abbrev Ends : Ended → Type 0
+  Ends ended = EndsAs rules 1 (link_known link) (link_known link') (out_known out) (out_known out') ended
+
+  written : (ended : Ended) → Ends ended → (ended ≡ NoMemory → out' ≡ out) → (told : DockContents) → HasLink link_known told 0 at link → WritesLive rules told at (ending_live ended) out_known out out'
+  written (Done clean) ends memory told has =
+      (has.0, has.1, live_report rules valid 1 has.0 (link_known link) (link_known link') (out_known out) (out_known out') has.2 headlines completes clean ends)
+  written LinkFailed ends memory told has =
+      inr (has.0, has.1, live_given rules valid 1 has.0 (link_known link) (link_known link') (out_known out) (out_known out') has.2 ends)
+  written WriteFailed ends memory told has =
+      (has.0, has.1, live_front rules valid 1 has.0 (link_known link) (link_known link') (out_known out) (out_known out') has.2 ends)
+  written NoMemory ends memory told has = memory refl
+
+  breaks : Ends LinkFailed → (told : DockContents) → HasLink link_known told 0 at link → FailsSome rules told (at ∷ [])
+  breaks ends told has = record {
+    k = 0;
+    within = omega arith;
+    fails = λ d. inr (has.0, has.1, live_breaks rules valid 1 has.0 (link_known link) (link_known link') (out_known out) (out_known out') has.2 ends);
+  }
+
+  whole : (clean : Bool) → Ends (Done clean) → (told : DockContents) → HasLink link_known told 0 at link → FailsSome rules told (at ∷ []) → ⊥
+  whole clean ends told has fails =
+      let live = live_report rules valid 1 has.0 (link_known link) (link_known link') (out_known out) (out_known out') has.2 headlines completes clean ends in
+      report_whole rules told 0 1 at has.0 live.0 has.1 live.1 (fails_first rules told at fails)
+
+  -- it fails by the link exactly where the link fails, unless a write failed
+  live_exactly : (ended : Ended) → Ends ended → (ending_live ended ≡ Err faults.Write → ⊥) → (told : DockContents) → HasLink link_known told 0 at link
+      → UnlessMemory (ending_live ended) ((ending_live ended ≡ Err faults.Link) ↔ FailsSome rules told (at ∷ []))
+  live_exactly (Done clean) ends no_write told has = inr (λ is. absurd (no_fault clean faults.Link is), λ fails. absurd (whole clean ends told has fails))
+  live_exactly LinkFailed ends no_write told has = inr (λ is. breaks ends told has, λ fails. refl)
+  live_exactly WriteFailed ends no_write told has = absurd (no_write refl)
+  live_exactly NoMemory ends no_write told has = inl refl
+
+  pub live_run : NoneBreaksOff → (ended : Ended) → Ends ended → (ended ≡ NoMemory → out' ≡ out)
+      → Tells (dock_known dock) (dock_known dock') (λ x y. y ≡ after_openings (at ∷ []) x) → (dock_known dock).faults ≤ (dock_known dock').faults
+      → HasCause (out_known out) (out_known out') (ended ≡ WriteFailed)
+      → ReceiveRun rules (at ∷ []) (ending_live ended) dock_known dock dock' out_known out out'
+  live_run law ended ends memory opened later write_cause =
+      receive_run law rules (at ∷ []) (ending_live ended) dock_known dock dock' out_known out out'
+      (ended_kind ended)
+      (Tells-weaker (λ x y. y ≡ after_openings (at ∷ []) x) (OpensEach (at ∷ []) (ending_live ended)) (dock_known dock) (dock_known dock') opened (λ x y is. inl is))
+      (docked_weaker (λ told. HasLink link_known told 0 at link) (λ told. WritesLive rules told at (ending_live ended) out_known out out') (dock_known dock) (dock_known dock') found
+      (written ended ends memory))
+      (λ any. elim any [
+        | inl is ↦ memory (ended_memory ended is)
+        | inr several ↦ absurd (several.1 refl)
+      ])
+      (λ unless. docked_weaker (λ told. HasLink link_known told 0 at link) (λ told. UnlessMemory (ending_live ended) ((ending_live ended ≡ Err faults.Link) ↔ FailsSome rules told (at ∷ []))) (dock_known dock) (dock_known dock') found
+      (live_exactly ended ends (unless refl)))
+      later
+      (record { later = write_cause.later; rose = λ is. write_cause.rose (ended_write ended is) })
+
+one_of : (addresses : List Address) → length addresses ≡ 1 → (at : Address) × (addresses ≡ at ∷ [])
+one_of [] is = absurd (omega (arith, is))
+one_of (at ∷ []) is = (at, refl)
+one_of (at ∷ (other ∷ addresses)) is = absurd (omega (arith, is))
+
+-- the only one of the receivers that were opened ended
+pub only_run : NoneBreaksOff → {D L O : Type 0} (rules : Rules) (valid : AreInRange rules) (headlines : HeadlinesFollow) (completes : CompletesFollow) (addresses : List Address) (jobs : List (Job L)) (job job' : Job L) (ended : Ended)
+    (dock_known : D → Known DockContents) (dock dock' : D) (link_known : L → Known Traffic)
+    (out_known : O → Known Output) (out out' : O)
+    → length addresses ≡ 1 → slice_index_or jobs 0 job ≡ job → AreJobs rules (length addresses) jobs
+    → Docked (dock_known dock) (dock_known dock') (λ told. HaveLinks link_known told addresses jobs)
+    → Tells (dock_known dock) (dock_known dock') (λ x y. y ≡ after_openings addresses x) → (dock_known dock).faults ≤ (dock_known dock').faults
+    → EndsAs (job_rules job) job.options.feed (link_known job.link) (link_known job'.link) (out_known out) (out_known out') ended → (ended ≡ NoMemory → out' ≡ out)
+    → HasCause (out_known out) (out_known out') (ended ≡ WriteFailed)
+    → ReceiveRun rules addresses (ending_live ended) dock_known dock dock' out_known out out'
+only_run law {D} {L} {O} rules valid headlines completes addresses jobs job job' ended dock_known dock dock' link_known out_known out out' one first are links opened later ends memory write_cause =
+    let (at, only) = one_of addresses one in
+    let within : 0 < length addresses = omega (arith, one) in
+    let is : IsJob rules 1 job = subst (λ (j : Job L). IsJob rules 1 j) first (are 0 job within) in
+    let found : Docked (dock_known dock) (dock_known dock') (λ told. HasLink link_known told 0 at job.link) =
+    docked_weaker (λ told. HaveLinks link_known told addresses jobs) (λ told. HasLink link_known told 0 at job.link) (dock_known dock) (dock_known dock') links
+    (λ told has. subst (λ (j : Job L). HasLink link_known told 0 at j.link) first
+    (subst (λ xs. HasLink link_known told 0 (slice_index_or xs 0 at) (slice_index_or jobs 0 job).link) only (has 0 at job within))) in
+    let rules_is = rules_are rules 1 job.collector job.options is.collector is.options in
+    let raw : EndsAs rules job.options.feed (link_known job.link) (link_known job'.link) (out_known out) (out_known out') ended =
+    subst (λ r. EndsAs r job.options.feed (link_known job.link) (link_known job'.link) (out_known out) (out_known out') ended) rules_is ends in
+    let named : EndsAs rules 1 (link_known job.link) (link_known job'.link) (out_known out) (out_known out') ended =
+    subst (λ n. EndsAs rules n (link_known job.link) (link_known job'.link) (out_known out) (out_known out') ended) (ap (λ (o : Options). o.feed) is.options) raw in
+    subst (λ xs. ReceiveRun rules xs (ending_live ended) dock_known dock dock' out_known out out') (sym only)
+    (live_run rules valid headlines completes at dock_known dock dock' link_known job.link job'.link out_known out out' found
+    law ended named memory (subst (λ xs. Tells (dock_known dock) (dock_known dock') (λ x y. y ≡ after_openings xs x)) only opened) later write_cause)

@@ -1,0 +1,265 @@
+-- From receivers that ended to the whole command.
+use Rattle.std.proofs.Common.{◌≡◌, ℕ, zero, suc, ◌+◌, ◌<◌, ◌≤◌, ◌⊎◌, ◌↔◌, inl, inr, Bool, false, List, [], ◌∷◌, ◌++◌, length, map, slice_index_or, take, drop, Option, Result, Ok, Err, refl, sym, ◌∙◌, ap, subst, arith, le_refl}
+use Rattle.std.specs.List.{All}
+use Rattle.std.proofs.lemmas.List.{take_at}
+use Rattle.drm_links.specs.Told.{Known, HasCause, Tells}
+use Rattle.drm_links.specs.Link.{Traffic}
+use Rattle.drm_links.specs.Sink.{Output, Outputs, IsFront}
+use Rattle.drm_links.specs.Dock.{DockContents}
+use Rattle.drm_links.specs.declared.dock.Address.{Address}
+use Rattle.drm_links.proofs.ToldLemmas.{Outputs-weaker, Tells-weaker}
+use Rattle.mod_receiver.specs.declared.rules.Rules.{Rules}
+use Rattle.drm_faults.specs.declared.fault.Fault.{Fault}
+use Rattle.drm_faults.specs.declared.fault.Fault.TheVariants as faults
+use Rattle.mod_receiver.specs.declared.job.Job.{Job}
+use Rattle.mod_receiver.specs.Ranges.{AreInRange}
+use Rattle.mod_receiver.specs.Jobs.{HasEnded, IsDone, AreJobs, NoneFailed}
+use Rattle.drm_receive.specs.Opening.{HaveLinks, EndsOpening, StopsOpening}
+use Rattle.mod_receiver.specs.Settling.{job_texts, Settles}
+use Rattle.mod_receiver.specs.declared.stop.Stop.{Stop}
+use Rattle.mod_receiver.specs.declared.stop.Stop.TheVariants as stops
+use Rattle.drm_receive.specs.Stopping.{ending_of}
+use Rattle.mod_receiver.specs.Following.{HeadlinesFollow, CompletesFollow, NoneBreaksOff}
+use Rattle.drm_faults.specs.Fault.{UnlessMemory}
+use Rattle.drm_receive.specs.Receive.{Docked, FindsNone, AreReports, all_texts, FailsSome, FailsAfter, OpensEach, after_openings, WritesReports, WritesAll, IsLive, ReceiveRun}
+use Rattle.drm_receive.proofs.ReceiveStatus.{receive_run}
+use Rattle.mod_receiver.specs.Ahead.{Report, IsReportOf}
+use Rattle.drm_receive.proofs.OpeningLemmas.{docked_weaker}
+use Rattle.drm_receive.proofs.BreakingOff.{report_whole}
+use Rattle.mod_receiver.proofs.JobLemmas.{told_of, job_report, job_breaks, index_of, map_at, map_size, flat_map_map, all_told, SomeFailed, some_failed}
+
+-- ---- what is written
+
+texts_told : {L : Type 0} (jobs : List (Job L)) → job_texts jobs ≡ all_texts (map told_of jobs)
+texts_told jobs = sym (flat_map_map told_of (λ (r : Report). r.text) jobs)
+
+-- where all are done their reports are written
+pub reports_written : {L O : Type 0} (jobs : List (Job L)) (stopped : Result Bool Stop) (are : List Report → Type 0) (known : O → Known Output) (out out' : O)
+    → (All IsDone jobs → are (map told_of jobs)) → Settles jobs stopped known out out' → WritesReports are (ending_of stopped) known out out'
+reports_written jobs (Ok clean) are known out out' reports settled = (
+  map told_of jobs,
+  reports settled.0,
+  Outputs-weaker (λ text. text ≡ job_texts jobs) (λ text. text ≡ all_texts (map told_of jobs)) (known out) (known out') settled.1 (λ t is. is ∙ texts_told jobs),
+  ((λ clean_is. (all_told jobs).0 (settled.2.0 clean_is)), (λ all. settled.2.1 ((all_told jobs).1 all))),
+)
+reports_written jobs (Err stops.Write) are known out out' reports settled = (
+  map told_of jobs,
+  reports settled.0,
+  subst (λ t. Outputs (known out) (known out') (IsFront t)) (texts_told jobs) settled.1,
+)
+reports_written jobs (Err stops.Link) are known out out' reports settled = settled.1
+reports_written jobs (Err stops.NoMemory) are known out out' reports settled = settled.2
+
+abbrev of_fault : Fault → Result Bool Fault
+of_fault fault = Err fault
+
+abbrev of_clean : Bool → Result Bool Fault
+of_clean clean = Ok clean
+
+pub inner : (fault other : Fault) → of_fault fault ≡ of_fault other → fault ≡ other
+inner fault other is = cc
+
+pub no_fault : (clean : Bool) (fault : Fault) → of_clean clean ≡ of_fault fault → ⊥
+no_fault clean fault is = cc
+
+-- how it ends
+pub ending_kind : {L O : Type 0} (jobs : List (Job L)) (stopped : Result Bool Stop) (known : O → Known Output) (out out' : O) → Settles jobs stopped known out out' → (fault : Fault) → ending_of stopped ≡ Err fault
+    → (fault ≡ faults.NoMemory) ⊎ ((fault ≡ faults.Link) × (NoneFailed jobs → ⊥)) ⊎ (fault ≡ faults.Write)
+ending_kind jobs (Ok clean) known out out' settled fault is = absurd (no_fault clean fault is)
+ending_kind jobs (Err stops.Write) known out out' settled fault is = inr (inr (sym (inner faults.Write fault is)))
+ending_kind jobs (Err stops.Link) known out out' settled fault is = inr (inl (sym (inner faults.Link fault is), settled.0))
+ending_kind jobs (Err stops.NoMemory) known out out' settled fault is = inl (sym (inner faults.NoMemory fault is))
+
+-- a failed write is one of the run
+pub write_is : (stopped : Result Bool Stop) → ending_of stopped ≡ Err faults.Write → stopped ≡ Err stops.Write
+write_is (Ok clean) is = absurd (no_fault clean faults.Write is)
+write_is (Err stops.Write) is = refl
+write_is (Err stops.Link) is = let one : faults.Link ≡ faults.Write = inner faults.Link faults.Write is in absurd cc
+write_is (Err stops.NoMemory) is = let one : faults.NoMemory ≡ faults.Write = inner faults.NoMemory faults.Write is in absurd cc
+
+settled_link : {L O : Type 0} (jobs : List (Job L)) (stopped : Result Bool Stop) (known : O → Known Output) (out out' : O) → Settles jobs stopped known out out' → ending_of stopped ≡ Err faults.Link → NoneFailed jobs → ⊥
+settled_link jobs stopped known out out' settled is =
+    elim (ending_kind jobs stopped known out out' settled faults.Link is) [
+      | inl memory ↦ absurd cc
+      | inr rest ↦ elim rest [
+        | inl link ↦ link.1
+        | inr write ↦ absurd cc
+      ]
+    ]
+
+settled_unwritten : {L O : Type 0} (jobs : List (Job L)) (stopped : Result Bool Stop) (known : O → Known Output) (out out' : O) → Settles jobs stopped known out out'
+    → (ending_of stopped ≡ Err faults.NoMemory) ⊎ (ending_of stopped ≡ Err faults.Link) → out' ≡ out
+settled_unwritten jobs (Ok clean) known out out' settled (inl is) = absurd (no_fault clean faults.NoMemory is)
+settled_unwritten jobs (Ok clean) known out out' settled (inr is) = absurd (no_fault clean faults.Link is)
+settled_unwritten jobs (Err stops.Write) known out out' settled (inl is) = let one : faults.Write ≡ faults.NoMemory = inner faults.Write faults.NoMemory is in absurd cc
+settled_unwritten jobs (Err stops.Write) known out out' settled (inr is) = let one : faults.Write ≡ faults.Link = inner faults.Write faults.Link is in absurd cc
+settled_unwritten jobs (Err stops.Link) known out out' settled any = settled.1
+settled_unwritten jobs (Err stops.NoMemory) known out out' settled any = settled.2
+
+either : {P Q R : Type 0} → P ⊎ (Q × R) → P ⊎ Q
+either (inl p) = inl p
+either (inr q) = inr q.0
+
+-- what is written of several links
+all_several : {O : Type 0} (rules : Rules) (told : DockContents) (addresses : List Address) (ending : Result Bool Fault) (known : O → Known Output) (out out' : O) → (IsLive addresses → ⊥)
+    → WritesReports (AreReports rules told addresses) ending known out out' → WritesAll rules told addresses ending known out out'
+all_several rules told [] ending known out out' several writes = writes
+all_several rules told (at ∷ []) ending known out out' several writes = absurd (several refl)
+all_several rules told (at ∷ (other ∷ addresses)) ending known out out' several writes = writes
+
+-- all are done, where the texts are written
+all_done : {L O : Type 0} (jobs : List (Job L)) (stopped : Result Bool Stop) (known : O → Known Output) (out out' : O) → Settles jobs stopped known out out'
+    → (ending_of stopped ≡ Err faults.Link → ⊥) → (ending_of stopped ≡ Err faults.NoMemory → ⊥) → All IsDone jobs
+all_done jobs (Ok clean) known out out' settled link memory = settled.0
+all_done jobs (Err stops.Write) known out out' settled link memory = settled.0
+all_done jobs (Err stops.Link) known out out' settled link memory = absurd (link refl)
+all_done jobs (Err stops.NoMemory) known out out' settled link memory = absurd (memory refl)
+
+-- ---- receivers that were opened and ran
+
+pub record Ran {L : Type 0} (link_known : L → Known Traffic) (rules : Rules) (many : ℕ) (before after : List (Job L)) : Type 0 where
+  pub size : length before ≡ many
+  pub still : length after ≡ length before
+  pub jobs : AreJobs rules many before
+  pub ended : (k : ℕ) (d : Job L) → k < length before → HasEnded link_known (slice_index_or before k d) (slice_index_or after k d)
+
+module _ {L : Type 0} (link_known : L → Known Traffic) (rules : Rules) (valid : AreInRange rules) (headlines : HeadlinesFollow) (completes : CompletesFollow) (addresses : List Address) (before after : List (Job L)) (ran : Ran link_known rules (length addresses) before after) where
+  are_reports : (told : DockContents) → HaveLinks link_known told addresses before → All IsDone after → AreReports rules told addresses (map told_of after)
+  are_reports told links done = record {
+    as_many = map_size told_of after ∙ ran.still ∙ ran.size;
+    each = λ k at none within.
+        let first : k < length before = (let size = ran.size in omega (arith, size, within)) in
+        let last : k < length after = (let still = ran.still in omega (arith, still, first)) in
+        let d : Job L = (index_of after k last).0 in
+        let link = links k at d within in
+        let report : IsReportOf rules (k + 1) link.0.ahead (told_of (slice_index_or after k d)) =
+        job_report link_known rules valid (k + 1) link.0 (slice_index_or before k d) (slice_index_or after k d) (ran.jobs k d within) link.2 (ran.ended k d first) headlines completes (done k d last) in
+        (link.0, link.1, subst (λ r. IsReportOf rules (k + 1) link.0.ahead r) (sym (map_at told_of after k d none last)) report);
+  }
+
+  none_fails : (told : DockContents) (reports : List Report) → AreReports rules told addresses reports → FailsSome rules told addresses → ⊥
+  none_fails told reports are fails =
+      let at : Address = record { ip = []; port = 0 } in
+      let none : Report = record { text = []; clean = false } in
+      let each = are.each fails.k at none fails.within in
+      report_whole rules told fails.k (fails.k + 1) (slice_index_or addresses fails.k at) each.0 (slice_index_or reports fails.k none) each.1 each.2 (fails.fails at)
+
+  fails_some : (told : DockContents) → HaveLinks link_known told addresses before → SomeFailed after → FailsSome rules told addresses
+  fails_some told links some =
+      let last : some.0 < length after = some.1 in
+      let first : some.0 < length before = (let still = ran.still in omega (arith, still, last)) in
+      let within : some.0 < length addresses = (let size = ran.size in omega (arith, size, first)) in
+      let d : Job L = (index_of after some.0 last).0 in
+      record {
+        k = some.0;
+        within = within;
+        fails = λ at.
+            let link = links some.0 at d within in
+            inr (
+              link.0,
+              link.1,
+              job_breaks link_known rules valid (some.0 + 1) link.0 (slice_index_or before some.0 d) (slice_index_or after some.0 d) (ran.jobs some.0 d within) link.2 (ran.ended some.0 d first) (some.2 d),
+            );
+      }
+
+  failed_where : (NoneFailed after → ⊥) → SomeFailed after
+  failed_where some = elim (some_failed after) [
+    | inl none ↦ absurd (some none)
+    | inr failed ↦ failed
+  ]
+
+  -- it fails by a link exactly where one fails
+  settled_exactly : {O : Type 0} (stopped : Result Bool Stop) (known : O → Known Output) (out out' : O) → Settles after stopped known out out' → (told : DockContents) → HaveLinks link_known told addresses before
+      → UnlessMemory (ending_of stopped) ((ending_of stopped ≡ Err faults.Link) ↔ FailsSome rules told addresses)
+  settled_exactly (Ok clean) known out out' settled told has = inr (
+    λ is. absurd (no_fault clean faults.Link is),
+    λ fails. absurd (none_fails told (map told_of after) (are_reports told has settled.0) fails),
+  )
+  settled_exactly (Err stops.Write) known out out' settled told has = inr (
+    λ is. absurd (let one : faults.Write ≡ faults.Link = inner faults.Write faults.Link is in cc),
+    λ fails. absurd (none_fails told (map told_of after) (are_reports told has settled.0) fails),
+  )
+  settled_exactly (Err stops.Link) known out out' settled told has = inr (λ is. fails_some told has (failed_where settled.0), λ fails. refl)
+  settled_exactly (Err stops.NoMemory) known out out' settled told has = inl refl
+
+  pub settled_run : NoneBreaksOff → {D O : Type 0} (stopped : Result Bool Stop) (dock_known : D → Known DockContents) (dock dock' : D)
+      (out_known : O → Known Output) (out out' : O)
+      → Docked (dock_known dock) (dock_known dock') (λ told. HaveLinks link_known told addresses before)
+      → Tells (dock_known dock) (dock_known dock') (λ x y. y ≡ after_openings addresses x) → (dock_known dock).faults ≤ (dock_known dock').faults
+      → (IsLive addresses → ⊥) → Settles after stopped out_known out out' → HasCause (out_known out) (out_known out') (stopped ≡ Err stops.Write)
+      → ReceiveRun rules addresses (ending_of stopped) dock_known dock dock' out_known out out'
+  settled_run law stopped dock_known dock dock' out_known out out' links opened later several settled cause =
+      receive_run law rules addresses (ending_of stopped) dock_known dock dock' out_known out out'
+      (λ fault is.
+      elim (ending_kind after stopped out_known out out' settled fault is) [
+        | inl memory ↦ inl memory
+        | inr rest ↦ elim rest [
+          | inl link ↦ inr (inl link.0)
+          | inr write ↦ inr (inr write)
+        ]
+      ])
+      (Tells-weaker (λ x y. y ≡ after_openings addresses x) (OpensEach addresses (ending_of stopped)) (dock_known dock) (dock_known dock') opened (λ x y is. inl is))
+      (docked_weaker (λ told. HaveLinks link_known told addresses before) (λ told. WritesAll rules told addresses (ending_of stopped) out_known out out') (dock_known dock) (dock_known dock') links
+      (λ told has. all_several rules told addresses (ending_of stopped) out_known out out' several (reports_written after stopped (AreReports rules told addresses) out_known out out' (are_reports told has) settled)))
+      (λ any. settled_unwritten after stopped out_known out out' settled (either any))
+      (λ unless. docked_weaker (λ told. HaveLinks link_known told addresses before) (λ told. UnlessMemory (ending_of stopped) ((ending_of stopped ≡ Err faults.Link) ↔ FailsSome rules told addresses)) (dock_known dock) (dock_known dock') links
+      (settled_exactly stopped out_known out out' settled))
+      later
+      (record { later = cause.later; rose = λ is. cause.rose (write_is stopped is) })
+
+-- ---- a run that ends while links are opened
+
+none_found : (told : DockContents) (at : Address) (k : ℕ) → k < 1 → FindsNone told k (slice_index_or (at ∷ []) k at) → FindsNone told 0 at
+none_found told at zero within none = none
+none_found told at (suc k) within none = absurd (omega (arith, within))
+
+unwritten_memory : {O : Type 0} (rules : Rules) (told : DockContents) (addresses : List Address) (known : O → Known Output) (out : O) → WritesAll rules told addresses (Err faults.NoMemory) known out out
+unwritten_memory rules told [] known out = refl
+unwritten_memory rules told (at ∷ []) known out = refl
+unwritten_memory rules told (at ∷ (other ∷ addresses)) known out = refl
+
+unwritten_link : {O : Type 0} (rules : Rules) (told after : DockContents) (addresses : List Address) (known : O → Known Output) (out : O) → FailsAfter addresses told after → WritesAll rules told addresses (Err faults.Link) known out out
+unwritten_link rules told after [] known out fails = refl
+unwritten_link rules told after (at ∷ []) known out fails = inl (none_found told at fails.k fails.within (fails.fails at), refl)
+unwritten_link rules told after (at ∷ (other ∷ addresses)) known out fails = refl
+
+not_write : (fault : Fault) → EndsOpening fault → of_fault fault ≡ Err faults.Write → ⊥
+not_write fault (inl memory) is = let one : faults.NoMemory ≡ faults.Write = sym memory ∙ inner fault faults.Write is in cc
+not_write fault (inr link) is = let one : faults.Link ≡ faults.Write = sym link ∙ inner fault faults.Write is in cc
+
+opening_kind : (fault other : Fault) → EndsOpening fault → of_fault fault ≡ Err other → (other ≡ faults.NoMemory) ⊎ (other ≡ faults.Link) ⊎ (other ≡ faults.Write)
+opening_kind fault other (inl memory) is = inl (sym (inner fault other is) ∙ memory)
+opening_kind fault other (inr link) is = inr (inl (sym (inner fault other is) ∙ link))
+
+module _ {O : Type 0} (rules : Rules) (addresses : List Address) (fault : Fault) (out_known : O → Known Output) (out : O) (told after : DockContents) where
+  opens_each : StopsOpening addresses fault told after → OpensEach addresses (Err fault) told after
+  opens_each (inl (memory, stops)) = inr (inr (ap Err memory, stops))
+  opens_each (inr (link, fails)) = inr (inl (ap Err link, fails))
+
+  nothing_written : StopsOpening addresses fault told after → WritesAll rules told addresses (Err fault) out_known out out
+  nothing_written (inl (memory, stops)) = subst (λ f. WritesAll rules told addresses (Err f) out_known out out) (sym memory) (unwritten_memory rules told addresses out_known out)
+  nothing_written (inr (link, fails)) = subst (λ f. WritesAll rules told addresses (Err f) out_known out out) (sym link) (unwritten_link rules told after addresses out_known out fails)
+
+  fails_exactly : StopsOpening addresses fault told after → UnlessMemory (of_fault fault) ((of_fault fault ≡ Err faults.Link) ↔ FailsSome rules told addresses)
+  fails_exactly (inl (memory, stops)) = inl (ap Err memory)
+  fails_exactly (inr (link, fails)) = inr (λ is. record { k = fails.k; within = fails.within; fails = λ at. inl (fails.fails at) }, λ any. ap Err link)
+
+pub opening_failed : NoneBreaksOff → {D O : Type 0} (rules : Rules) (addresses : List Address) (fault : Fault) (dock_known : D → Known DockContents) (dock dock' : D)
+    (out_known : O → Known Output) (out : O)
+    → EndsOpening fault → Tells (dock_known dock) (dock_known dock') (StopsOpening addresses fault) → (dock_known dock).faults ≤ (dock_known dock').faults
+    → ReceiveRun rules addresses (Err fault) dock_known dock dock' out_known out out
+opening_failed law rules addresses fault dock_known dock dock' out_known out ends stopped later =
+    let a = dock_known dock in
+    let b = dock_known dock' in
+    receive_run law rules addresses (Err fault) dock_known dock dock' out_known out out
+    (λ other is. opening_kind fault other ends is)
+    (Tells-weaker (StopsOpening addresses fault) (OpensEach addresses (Err fault)) a b stopped (opens_each rules addresses fault out_known out))
+    (Tells-weaker (StopsOpening addresses fault) (λ told _. WritesAll rules told addresses (Err fault) out_known out out) a b stopped (nothing_written rules addresses fault out_known out))
+    (λ any. refl)
+    (λ unless. Tells-weaker (StopsOpening addresses fault) (λ told _. UnlessMemory (of_fault fault) ((of_fault fault ≡ Err faults.Link) ↔ FailsSome rules told addresses)) a b stopped (fails_exactly rules addresses fault out_known out))
+    later
+    (record { later = le_refl _; rose = λ is. absurd (not_write fault ends is) })
+
+-- what a vector holds after its slice was lent
+pub written_back : {X : Type 0} (n : ℕ) (xs ys zs : List X) → n ≡ length xs → zs ≡ take n (xs ++ drop (length xs) ys) → zs ≡ xs
+written_back n xs ys zs size is = is ∙ take_at xs (drop (length xs) ys) n (sym size)

@@ -1,0 +1,4 @@
+pub mod Receive
+pub mod Terms
+pub mod Opening
+pub mod Stopping

@@ -1,0 +1,29 @@
+-- Links that are opened, for receivers.
+use Rattle.std.specs.Prelude.{ℕ, ◌≡◌, ◌<◌, ◌⊎◌, List, length, slice_index_or, Option, Some}
+use Rattle.drm_links.specs.Told.{Known}
+use Rattle.drm_links.specs.Link.{Traffic}
+use Rattle.drm_links.specs.Dock.{DockContents, LinkStart, first_traffic}
+use Rattle.drm_links.specs.declared.dock.Address.{Address}
+use Rattle.drm_faults.specs.declared.fault.Fault.{Fault}
+use Rattle.drm_faults.specs.declared.fault.Fault.TheVariants as faults
+use Rattle.mod_receiver.specs.declared.job.Job.{Job}
+use Rattle.drm_receive.specs.Receive.{Finds, FailsAfter, StopsAfter}
+
+-- the link of the k-th opening from here starts with what stood at its address
+abbrev pub HasLink : {L : Type 0} → (L → Known Traffic) → DockContents → ℕ → Address → L → Type 0
+HasLink known told k at link = (start : LinkStart) × Finds told k at start × ((known link).told ≡ Some (first_traffic start))
+
+-- the receivers have the links of these addresses, in their order
+abbrev pub HaveLinks : {L : Type 0} → (L → Known Traffic) → DockContents → List Address → List (Job L) → Type 0
+HaveLinks {L} known told addresses jobs =
+    (k : ℕ) (at : Address) (none : Job L) → k < length addresses
+    → HasLink known told k (slice_index_or addresses k at) (slice_index_or jobs k none).link
+
+-- Opening ends for want of memory, or by an opening that failed.
+abbrev pub EndsOpening : Fault → Type 0
+EndsOpening fault = (fault ≡ faults.NoMemory) ⊎ (fault ≡ faults.Link)
+
+-- what the dock tells then
+abbrev pub StopsOpening : List Address → Fault → DockContents → DockContents → Type 0
+StopsOpening addresses fault before after =
+    ((fault ≡ faults.NoMemory) × StopsAfter addresses before after) ⊎ ((fault ≡ faults.Link) × FailsAfter addresses before after)

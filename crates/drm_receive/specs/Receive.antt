@@ -1,0 +1,144 @@
+-- The command `receive` with addresses: a report for each link. That of one link is written as it is read, those of several
+-- together at their end.
+use Rattle.std.specs.Prelude.{ℕ, ◌≡◌, ◌+◌, ◌<◌, ◌≤◌, ◌⊎◌, ◌↔◌, IsTrue, Contains, IsNone, Bool, true, List, [], ◌∷◌, length, take, slice_index_or, Option, None, Some, Result, Ok, Err}
+use Rattle.std.specs.List.{flat_map, All}
+use Rattle.drm_links.specs.Told.{HasFailed, Known, HasCause, Rose, Tells}
+use Rattle.drm_links.specs.Link.{Answer}
+use Rattle.drm_links.specs.Sink.{Output, Outputs, IsFront}
+use Rattle.drm_links.specs.Dock.{DockContents, LinkStart, start_at, after_opening, after_failure}
+use Rattle.drm_links.specs.declared.dock.Address.{Address}
+use Rattle.mod_receiver.specs.declared.rules.Rules.{Rules}
+use Rattle.mod_receiver.specs.Ahead.{IsInTimeAhead, Report, IsReportOf, BreaksOff, IsGivenOf, IsFrontOf}
+use Rattle.drm_faults.specs.Fault.{UnlessMemory}
+use Rattle.drm_faults.specs.declared.fault.Fault.{Fault}
+use Rattle.drm_faults.specs.declared.fault.Fault.TheVariants as faults
+
+-- the k-th opening from here finds a link at this address that starts so
+pub record Finds (told : DockContents) (k : ℕ) (at : Address) (start : LinkStart) : Type 0 where
+  pub allowed : Contains told.failing (told.openings + k) → ⊥
+  pub stands : start_at told at ≡ Some start
+
+-- it fails
+abbrev pub FindsNone : DockContents → ℕ → Address → Type 0
+FindsNone told k at = Contains told.failing (told.openings + k) ⊎ IsNone (start_at told at)
+
+-- where a dock tells at the end, it told before, and P holds of what it told then
+abbrev pub Docked : Known DockContents → Known DockContents → (DockContents → Type 0) → Type 0
+Docked before after P = Tells before after (λ told _. P told)
+
+-- a report for each address, in their order
+pub record AreReports (rules : Rules) (told : DockContents) (addresses : List Address) (reports : List Report) : Type 0 where
+  pub as_many : length reports ≡ length addresses
+  pub each : (k : ℕ) (at : Address) (none : Report) → k < length addresses
+      → (start : LinkStart) × Finds told k (slice_index_or addresses k at) start
+      × IsReportOf rules (k + 1) start.ahead (slice_index_or reports k none)
+
+-- the texts of reports, one after another
+abbrev pub all_texts : List Report → List ℕ
+all_texts reports = flat_map (λ r. r.text) reports
+
+abbrev pub AreClean : List Report → Type 0
+AreClean reports = All (λ r. IsTrue r.clean) reports
+
+-- Opening some address fails, or what is ahead of some link breaks off.
+pub record FailsSome (rules : Rules) (told : DockContents) (addresses : List Address) : Type 0 where
+  pub k : ℕ
+  pub within : k < length addresses
+  pub fails : (at : Address) → FindsNone told k (slice_index_or addresses k at)
+      ⊎ ((start : LinkStart) × Finds told k (slice_index_or addresses k at) start × BreaksOff rules start.ahead)
+
+-- What is written: the reports of all links, and whether they are clean; after a failed write a front of them; after
+-- another fault nothing.
+abbrev pub WritesReports : {O : Type 0} → (List Report → Type 0) → Result Bool Fault → (O → Known Output) → O → O → Type 0
+WritesReports are (Ok clean) known out out' =
+    (reports : List Report) × are reports × Outputs (known out) (known out') (λ text. text ≡ all_texts reports) × (IsTrue clean ↔ AreClean reports)
+WritesReports are (Err faults.Write) known out out' =
+    (reports : List Report) × are reports × Outputs (known out) (known out') (IsFront (all_texts reports))
+WritesReports are (Err fault) known out out' = out' ≡ out
+
+-- P holds of what is ahead of the link that the first opening from here finds at this address
+abbrev pub Ahead : DockContents → Address → (List Answer → Type 0) → Type 0
+Ahead told at P = (start : LinkStart) × Finds told 0 at start × P start.ahead
+
+-- What is written of one link: the report of what is ahead of it; after a failed write a front of that; where it breaks off,
+-- what is given before it does; where it can't be opened, or memory is wanting, nothing.
+abbrev pub WritesLive : {O : Type 0} → Rules → DockContents → Address → Result Bool Fault → (O → Known Output) → O → O → Type 0
+WritesLive rules told at (Ok clean) known out out' =
+    Ahead told at (λ ahead. (r : Report) × IsReportOf rules 1 ahead r × Outputs (known out) (known out') (λ text. text ≡ r.text) × (clean ≡ r.clean))
+WritesLive rules told at (Err faults.Write) known out out' = Ahead told at (λ ahead. Outputs (known out) (known out') (IsFrontOf rules 1 ahead))
+WritesLive rules told at (Err faults.Link) known out out' =
+    (FindsNone told 0 at × (out' ≡ out))
+    ⊎ Ahead told at (λ ahead. (given : List ℕ) × IsGivenOf rules 1 ahead given × Outputs (known out) (known out') (λ text. text ≡ given))
+WritesLive rules told at (Err fault) known out out' = out' ≡ out
+
+-- what is written of the links at these addresses
+abbrev pub WritesAll : {O : Type 0} → Rules → DockContents → List Address → Result Bool Fault → (O → Known Output) → O → O → Type 0
+WritesAll rules told (at ∷ []) ending known out out' = WritesLive rules told at ending known out out'
+WritesAll rules told addresses ending known out out' = WritesReports (AreReports rules told addresses) ending known out out'
+
+-- the report is written as it is read: there is one link
+abbrev pub IsLive : List Address → Type 0
+IsLive addresses = length addresses ≡ 1
+
+-- what a dock tells after links were opened at these addresses, one after another, to receive over them
+abbrev pub after_openings : List Address → DockContents → DockContents
+after_openings [] told = told
+after_openings (at ∷ addresses) told = after_openings addresses (after_opening at told)
+
+-- The openings at the first k addresses were made, and the next one failed.
+pub record FailsAfter (addresses : List Address) (before after : DockContents) : Type 0 where
+  pub k : ℕ
+  pub within : k < length addresses
+  pub fails : (at : Address) → FindsNone before k (slice_index_or addresses k at)
+  pub told : after ≡ after_failure (after_openings (take k addresses) before)
+
+-- Some first openings were made.
+pub record StopsAfter (addresses : List Address) (before after : DockContents) : Type 0 where
+  pub k : ℕ
+  pub within : k ≤ length addresses
+  pub told : after ≡ after_openings (take k addresses) before
+
+-- Each address is opened once, in their order, to receive; up to one that fails, or up to want of memory. Nothing else is
+-- asked of the dock.
+abbrev pub OpensEach : List Address → Result Bool Fault → DockContents → DockContents → Type 0
+OpensEach addresses ending before after =
+    (after ≡ after_openings addresses before)
+    ⊎ ((ending ≡ Err faults.Link) × FailsAfter addresses before after)
+    ⊎ ((ending ≡ Err faults.NoMemory) × StopsAfter addresses before after)
+
+-- The run is done: the reports are written, all of them, and it is clean exactly where no line of them is missing or bad.
+abbrev pub WroteReports : {O : Type 0} → Result Bool Fault → (List Report → Type 0) → (O → Known Output) → O → O → Type 0
+WroteReports ending are known out out' = (clean : Bool) × (ending ≡ Ok clean) × WritesReports are (Ok clean) known out out'
+
+-- what is ahead of the link at each address has each frame of a schedule in time
+abbrev pub AreInTime : Rules → DockContents → List Address → Type 0
+AreInTime rules told addresses =
+    (k : ℕ) (at : Address) → k < length addresses
+    → (start : LinkStart) × Finds told k (slice_index_or addresses k at) start × IsInTimeAhead rules start.ahead
+
+-- A run of `receive` with addresses.
+pub record ReceiveRun {D O : Type 0} (rules : Rules) (addresses : List Address) (ending : Result Bool Fault)
+    (dock_known : D → Known DockContents) (dock dock' : D)
+    (out_known : O → Known Output) (out out' : O) : Type 0 where
+  -- It ends well, or for want of memory, by a failed link or by a failed write.
+  pub kind : (fault : Fault) → ending ≡ Err fault → (fault ≡ faults.NoMemory) ⊎ (fault ≡ faults.Link) ⊎ (fault ≡ faults.Write)
+  pub opens : Tells (dock_known dock) (dock_known dock') (OpensEach addresses ending)
+  -- Where the dock tells: the reports are those of what was ahead of the links that it opened. Nothing else is written.
+  pub writes : Docked (dock_known dock) (dock_known dock') (λ told. WritesAll rules told addresses ending out_known out out')
+  -- After want of memory nothing is written, and where one of several links failed.
+  pub unwritten : (ending ≡ Err faults.NoMemory) ⊎ ((ending ≡ Err faults.Link) × (IsLive addresses → ⊥)) → out' ≡ out
+  -- It fails by a link exactly where an opening fails, or what is read of some link ends in `Failed`; of one link, whose report
+  -- is written as it is read, unless a write failed before.
+  pub exactly : (IsLive addresses → ending ≡ Err faults.Write → ⊥)
+      → Docked (dock_known dock) (dock_known dock') (λ told. UnlessMemory ending ((ending ≡ Err faults.Link) ↔ FailsSome rules told addresses))
+  -- Where no link and no write failed the report of each link is written, in the order of the addresses: whatever delivery of
+  -- whatever valid schedule came over a link, its report is that of the delivery.
+  pub complete : (HasFailed (out_known out) (out_known out') → ⊥)
+      → Docked (dock_known dock) (dock_known dock') (λ told. (FailsSome rules told addresses → ⊥)
+      → UnlessMemory ending (WroteReports ending (AreReports rules told addresses) out_known out out'))
+  -- Where each link brings each frame of a schedule in time, none is missing, and none fails.
+  pub in_time : (HasFailed (out_known out) (out_known out') → ⊥)
+      → Docked (dock_known dock) (dock_known dock') (λ told. AreInTime rules told addresses → UnlessMemory ending (ending ≡ Ok true))
+  -- The counts of faults never fall, and a write failed only where out's rose.
+  pub later : (dock_known dock).faults ≤ (dock_known dock').faults
+  pub write_cause : HasCause (out_known out) (out_known out') (ending ≡ Err faults.Write)

@@ -1,5 +1,0 @@
-use Rattle.drm_top.proofs.CountLemmas.{datagrams_counted}
-use Rattle.drm_top.proofs.air.datagrams_are_counted.Goals as goal
-
-pub returns : goal.returns
-returns c = datagrams_counted c.args.server.now.plan c.args.server.now.frame c.packet.result.now c.packet.ensures.packet c.packet.ensures.len
