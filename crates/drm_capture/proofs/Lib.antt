@@ -1,0 +1,5 @@
+pub mod FrontParts
+pub mod FrontLaws
+pub mod CaptureLaws
+pub mod ReadingLemmas
+pub mod FetchingLemmas

@@ -15,15 +15,15 @@ pub data Ending : Type 0 where
   Fault : CaptureFault → Ending
   TooLong : Ending
 
--- The bytes end so behind packets of `at` bytes, where `rest` is left. What stands behind the most bytes of a capture
+-- So many bytes end so behind packets of `at` bytes, where `rest` is left. What stands behind the most bytes of a capture
 -- is not looked at.
-abbrev pub EndsWith : List ℕ → ℕ → List ℕ → Ending → Type 0
-EndsWith bytes at rest End = (rest ≡ []) × (length bytes ≤ most_bytes)
-EndsWith bytes at rest (Fault fault) =
+abbrev pub EndsWith : ℕ → ℕ → List ℕ → Ending → Type 0
+EndsWith size at rest End = (rest ≡ []) × (size ≤ most_bytes)
+EndsWith size at rest (Fault fault) =
     (fault.at ≡ at)
     × (Begins (take (most_bytes - at) rest) (Wrong fault.field)
-    ⊎ ((length bytes ≤ most_bytes) × (rest ≢ []) × Begins rest (Cut fault.field)))
-EndsWith bytes at rest TooLong = (most_bytes < length bytes) × ((field : CaptureField) × Begins (take (most_bytes - at) rest) (Cut field))
+    ⊎ ((size ≤ most_bytes) × (rest ≢ []) × Begins rest (Cut fault.field)))
+EndsWith size at rest TooLong = (most_bytes < size) × ((field : CaptureField) × Begins (take (most_bytes - at) rest) (Cut field))
 
 -- The bytes are these packets, and then they end so.
 pub record IsCaptureOf (bytes : List ℕ) (packets : List (List ℕ)) (ending : Ending) : Type 0 where
@@ -31,4 +31,4 @@ pub record IsCaptureOf (bytes : List ℕ) (packets : List (List ℕ)) (ending : 
   pub few : length (concat packets) ≤ most_bytes
   pub rest : List ℕ
   pub is : bytes ≡ concat packets ++ rest
-  pub ends : EndsWith bytes (length (concat packets)) rest ending
+  pub ends : EndsWith (length bytes) (length (concat packets)) rest ending

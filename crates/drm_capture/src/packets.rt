@@ -97,6 +97,7 @@ impl Packets {
         ensures finds { Finds result self.old self.new (I.known input.old) (I.known input.new) }
         ensures cause { HasCause (I.known input.old) (I.known input.new) (result ≡ Err CaptureStop.Read) }
     {
+        let _ = &self.walker;
         loop {
             match self.walker.front() {
                 Found::Packet(_) => return Ok(true),
