@@ -24,7 +24,7 @@ use Rattle.mod_delivery.specs.Laws.{Suits, Delivering, DeliveringEarly, StraysRe
 use Rattle.report_lines.specs.declared.report.EndWord.{EndWord}
 use Rattle.report_lines.specs.declared.report.EndWord.TheVariants as word
 use Rattle.mod_receiver.specs.declared.rules.Rules.{Rules}
-use Rattle.mod_receiver.specs.Hearing.{AreNext, HeardTold}
+use Rattle.mod_receiver.specs.Hearing.{AreNext, HeardTold, Heard}
 use Rattle.mod_receiver.specs.Reading.{datagrams, HasGiven, Holds, EndsBy, GoesOn, IsFinished}
 use Rattle.mod_receiver.specs.Reports.{is_given, refusals_from, report, is_clean}
 use Rattle.mod_receiver.specs.Received.{IsReport, Reported}
@@ -136,7 +136,7 @@ holds_told : (rules : Rules) (xs : List Answer) (w : EndWord) → EndsBy (untold
 holds_told rules xs word.Frames e = absurd e
 holds_told rules xs word.Limit e = e.0
 holds_told rules xs word.Idle e = e.0
-holds_told rules xs word.Input e = e
+holds_told rules xs word.Input e = e.0
 holds_told rules xs word.Paths e = e
 
 -- what is read with a told number is no longer than what is read without
@@ -252,7 +252,9 @@ module _ (laws : DeliveryLaws) (rules : Rules) (feed : ℕ) (ahead rest answers 
   complete_by others word.Idle f would followed known =
       let same : answers ≡ others = read_all rules ahead rest answers others word.Idle next f would f.ends.0 in
       complete_same known (subst (λ l. IsFollowed plan rules.first (pos 0) arrivals (datagrams l)) (sym same) followed)
-  complete_by others word.Input f would followed known = absurd f.ends
+  complete_by others word.Input f would followed known =
+      let same : answers ≡ others = read_all rules ahead rest answers others word.Input next f would f.ends.0 in
+      complete_same known (subst (λ l. IsFollowed plan rules.first (pos 0) arrivals (datagrams l)) (sym same) followed)
   complete_by others word.Paths f would followed known = absurd f.ends
 
 -- where each frame is in time, all of them are given
@@ -278,7 +280,7 @@ headline_told law rules feed (Some x) (Some y) a b clean heard whole some h is t
     (λ t e. subst (λ l. HeadlineOf rules feed l t clean) (sym same) (subst (λ l. HeadlineOf rules feed heard l clean) (sym e) (law rules feed heard whole clean some is)))
 
 pub receives_headline : HeadlinesFollow → (rules : Rules) (feed : ℕ) (before after : Known Traffic) (a b : Known Output) (clean : Bool) → 1 ≤ rules.window
-    → Reported rules feed before after a b clean → Headline rules feed before after a b clean
+    → Reported rules feed (Heard before after) a b clean → Headline rules feed before after a b clean
 receives_headline law rules feed before after a b clean some r =
     headline_told law rules feed before.told after.told a b clean r.answers r.whole some r.heard r.is r.text
 
@@ -292,6 +294,6 @@ complete_told law rules feed (Some x) (Some y) a b clean heard whole some h is t
     (λ t e. subst (λ l. CompleteOf rules feed x.ahead l clean) (sym e) (law rules feed x.ahead heard y.ahead whole clean some h.ahead is))
 
 pub receives_complete : CompletesFollow → (rules : Rules) (feed : ℕ) (before after : Known Traffic) (a b : Known Output) (clean : Bool) → 1 ≤ rules.window
-    → Reported rules feed before after a b clean → Complete rules feed before after a b clean
+    → Reported rules feed (Heard before after) a b clean → Complete rules feed before after a b clean
 receives_complete law rules feed before after a b clean some r =
     complete_told law rules feed before.told after.told a b clean r.answers r.whole some r.heard r.is r.text

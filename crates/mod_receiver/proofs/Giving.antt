@@ -2,7 +2,7 @@
 use Rattle.std.proofs.Common.{◌≡◌, ℕ, ◌<◌, false, List, [], ◌∷◌, ◌++◌, length, Option, None, Some, refl, sym, ◌∙◌, ap, subst, arith}
 use Rattle.std.proofs.lemmas.List.{append-nil}
 use Rattle.std.proofs.lemmas.List.Elements.{filter_map-append}
-use Rattle.drm_links.specs.Link.{Answer, Datagram, Idle, datagram_of}
+use Rattle.drm_links.specs.Link.{Answer, Datagram, Idle, End, datagram_of}
 use Rattle.dcp_collect.specs.declared.taken.Taken.{Taken}
 use Rattle.dcp_collect.specs.State.{State, made, ready}
 use Rattle.dcp_collect.specs.Runs.{Item, Takes, Gives, Steps}
@@ -24,6 +24,10 @@ gave_datagram rules xs taken items now c kept d bytes answer gave takes gives =
 pub gave_idle : (rules : Rules) (xs : List Answer) (taken : List Taken) (items : List Item) (c : State) → Gave rules xs taken items c → Gave rules (xs ++ Idle ∷ []) taken items c
 gave_idle rules xs taken items c gave =
     subst (λ v. Steps (made rules.window rules.first) v taken items c) (sym (filter_map-append datagram_of xs (Idle ∷ []) ∙ append-nil (datagrams xs))) gave
+
+pub gave_end : (rules : Rules) (xs : List Answer) (taken : List Taken) (items : List Item) (c : State) → Gave rules xs taken items c → Gave rules (xs ++ End ∷ []) taken items c
+gave_end rules xs taken items c gave =
+    subst (λ v. Steps (made rules.window rules.first) v taken items c) (sym (filter_map-append datagram_of xs (End ∷ []) ∙ append-nil (datagrams xs))) gave
 
 pub gives_ready : (items : List Item) (c d : State) → Gives c items d → ready d ≡ false
 gives_ready items c d g = (gives_given items c d g).1

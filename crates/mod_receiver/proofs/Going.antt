@@ -3,10 +3,10 @@ use Rattle.std.proofs.Common.{◌≡◌, ℕ, ◌+◌, ◌<◌, ◌≤◌, ◌�
 use Rattle.std.specs.List.{AllByRecursion}
 use Rattle.std.proofs.lemmas.List.{append-nil, take-append-le, take_all}
 use Rattle.std.proofs.lemmas.List.Elements.{filter_map-append}
-use Rattle.drm_links.specs.Link.{Answer, Datagram, Idle, Failed, datagram_of}
+use Rattle.drm_links.specs.Link.{Answer, Datagram, Idle, Failed, End, datagram_of}
 use Rattle.report_lines.specs.declared.report.EndWord.TheVariants as word
 use Rattle.mod_receiver.specs.declared.rules.Rules.{Rules}
-use Rattle.mod_receiver.specs.Reading.{datagrams, idles_from, idles, HasGiven, IsOpen, IsSound, GoesOn}
+use Rattle.mod_receiver.specs.Reading.{datagrams, idles_from, idles, HasGiven, HaveEnded, IsOpen, IsSound, GoesOn}
 
 pub goes_none : (rules : Rules) → GoesOn rules []
 goes_none rules = record { sound = tt; shorter = λ k l. absurd (omega arith) }
@@ -32,12 +32,12 @@ goes_more rules xs x goes now one = record {
   shorter = λ k l. shorter_more rules xs x goes.shorter now k (le_cases k (length xs) (let n : length (xs ++ x ∷ []) ≡ length xs + 1 = simp length-append (omega arith) in omega (arith, n, l)));
 }
 
-pub is_open : (rules : Rules) (xs : List Answer) → (HasGiven rules xs rules.frames → ⊥) → length (datagrams xs) < rules.limit → idles xs < rules.idle → IsOpen rules xs
-is_open rules xs given limit idle word.Frames h = given h
-is_open rules xs given limit idle word.Limit h = omega (arith, h)
-is_open rules xs given limit idle word.Idle h = omega (arith, h)
-is_open rules xs given limit idle word.Input h = h
-is_open rules xs given limit idle word.Paths h = h
+pub is_open : (rules : Rules) (xs : List Answer) → (HasGiven rules xs rules.frames → ⊥) → length (datagrams xs) < rules.limit → idles xs < rules.idle → (HaveEnded xs → ⊥) → IsOpen rules xs
+is_open rules xs given limit idle ended word.Frames h = given h
+is_open rules xs given limit idle ended word.Limit h = omega (arith, h)
+is_open rules xs given limit idle ended word.Idle h = omega (arith, h)
+is_open rules xs given limit idle ended word.Input h = ended h
+is_open rules xs given limit idle ended word.Paths h = h
 
 pub datagrams_more : (xs : List Answer) (bytes : List ℕ) → length (datagrams (xs ++ Datagram bytes ∷ [])) ≡ length (datagrams xs) + 1
 datagrams_more xs bytes = ap length (filter_map-append datagram_of xs (Datagram bytes ∷ [])) ∙ simp length-append (omega arith)
@@ -50,9 +50,37 @@ idles_datagram n [] bytes = refl
 idles_datagram n (Datagram b ∷ xs) bytes = idles_datagram 0 xs bytes
 idles_datagram n (Idle ∷ xs) bytes = idles_datagram (n + 1) xs bytes
 idles_datagram n (Failed ∷ xs) bytes = idles_datagram 0 xs bytes
+idles_datagram n (End ∷ xs) bytes = idles_datagram 0 xs bytes
 
 pub idles_idle : (n : ℕ) (xs : List Answer) → idles_from n (xs ++ Idle ∷ []) ≡ idles_from n xs + 1
 idles_idle n [] = refl
 idles_idle n (Datagram b ∷ xs) = idles_idle 0 xs
 idles_idle n (Idle ∷ xs) = idles_idle (n + 1) xs
 idles_idle n (Failed ∷ xs) = idles_idle 0 xs
+idles_idle n (End ∷ xs) = idles_idle 0 xs
+
+pub idles_end : (n : ℕ) (xs : List Answer) → idles_from n (xs ++ End ∷ []) ≡ 0
+idles_end n [] = refl
+idles_end n (Datagram b ∷ xs) = idles_end 0 xs
+idles_end n (Idle ∷ xs) = idles_end (n + 1) xs
+idles_end n (Failed ∷ xs) = idles_end 0 xs
+idles_end n (End ∷ xs) = idles_end 0 xs
+
+pub datagrams_end : (xs : List Answer) → datagrams (xs ++ End ∷ []) ≡ datagrams xs
+datagrams_end xs = filter_map-append datagram_of xs (End ∷ []) ∙ append-nil (datagrams xs)
+
+-- the last answer alone ends them
+pub last_ends : (xs before : List Answer) (x : Answer) → xs ++ x ∷ [] ≡ before ++ End ∷ [] → x ≡ End
+last_ends [] [] x e = cc
+last_ends [] (b ∷ []) x e = absurd (cc)
+last_ends [] (b ∷ c ∷ before) x e = absurd (cc)
+last_ends (y ∷ []) [] x e = absurd (cc)
+last_ends (y ∷ z ∷ xs) [] x e = absurd (cc)
+last_ends (y ∷ xs) (b ∷ before) x e = last_ends xs before x cc
+
+pub not_ended : (xs : List Answer) (x : Answer) → (x ≡ End → ⊥) → HaveEnded (xs ++ x ∷ []) → ⊥
+not_ended xs x other (before, e) = other (last_ends xs before x e)
+
+pub none_ended : HaveEnded [] → ⊥
+none_ended ([], e) = cc
+none_ended (b ∷ before, e) = cc

@@ -14,7 +14,7 @@ none_told : (a : Option Traffic) → HeardTold [] a a
 none_told None = tt
 none_told (Some t) = record { given = sym (append-nil t.answers); ahead = refl; gone = refl; sends = refl; calls = omega arith }
 
-pub heard_none : (a : Known Traffic) → Heard [] a a
+pub heard_none : (a : Known Traffic) → Heard a a []
 heard_none a = none_told a.told
 
 then_told : (a b c : Option Traffic) (xs ys : List Answer) → HeardTold xs a b → HeardTold ys b c → HeardTold (xs ++ ys) a c
@@ -39,7 +39,7 @@ then_told (Some x) (Some y) (Some z) xs ys p q = record {
       omega (arith, e, f, g);
 }
 
-pub heard_then : (a b c : Known Traffic) (xs ys : List Answer) → Heard xs a b → Heard ys b c → Heard (xs ++ ys) a c
+pub heard_then : (a b c : Known Traffic) (xs ys : List Answer) → Heard a b xs → Heard b c ys → Heard a c (xs ++ ys)
 heard_then a b c = then_told a.told b.told c.told
 
 one_told : (a b : Option Traffic) (result : Came) (buf : List ℕ) → BothTold a b (Receives result buf) → CountsTold (λ (t : Traffic). t.calls) a b → HeardTold (answer_of result buf ∷ []) a b
@@ -54,8 +54,8 @@ one_told (Some x) (Some y) result buf told counts = record {
   calls = counts.0;
 }
 
-heard_one : (a b : Known Traffic) (result : Came) (buf : List ℕ) → WhileTold a b (Receives result buf) → CountsCall (λ (t : Traffic). t.calls) a b → Heard (answer_of result buf ∷ []) a b
+heard_one : (a b : Known Traffic) (result : Came) (buf : List ℕ) → WhileTold a b (Receives result buf) → CountsCall (λ (t : Traffic). t.calls) a b → Heard a b (answer_of result buf ∷ [])
 heard_one a b = one_told a.told b.told
 
-pub heard_more : (a b c : Known Traffic) (xs : List Answer) (result : Came) (buf : List ℕ) → Heard xs a b → WhileTold b c (Receives result buf) → CountsCall (λ (t : Traffic). t.calls) b c → Heard (xs ++ answer_of result buf ∷ []) a c
+pub heard_more : (a b c : Known Traffic) (xs : List Answer) (result : Came) (buf : List ℕ) → Heard a b xs → WhileTold b c (Receives result buf) → CountsCall (λ (t : Traffic). t.calls) b c → Heard a c (xs ++ answer_of result buf ∷ [])
 heard_more a b c xs result buf p told counts = heard_then a b c xs (answer_of result buf ∷ []) p (heard_one b c result buf told counts)

@@ -3,7 +3,7 @@ use Rattle.std.proofs.Common.{◌≡◌, ℕ, zero, suc, ◌+◌, ◌*◌, ◌<�
 use Rattle.std.specs.Prelude.{not}
 use Rattle.std.specs.List.{flat_map, All}
 use Rattle.std.proofs.Math.Nat.{mul-le-mul_right}
-use Rattle.drm_links.specs.Told.{Known, Rose, ToldThrough, HasFailed}
+use Rattle.drm_links.specs.Told.{Known, ToldThrough, HasFailed}
 use Rattle.drm_links.specs.Link.{Answer, Traffic}
 use Rattle.drm_links.specs.Sink.{Output, Outputs, WritesText}
 use Rattle.drm_links.proofs.ToldLemmas.{Outputs-weaker}
@@ -98,45 +98,64 @@ jobs_ready rules jobs many valid size are k none within = job_ready rules k (sli
 
 -- ---- what a receiver has written, and what was ahead of its link
 
-module _ (rules : Rules) (valid : AreInRange rules) (number : ℕ) (start : LinkStart) (a b : Known Traffic) (u v : Known Output) (told : a.told ≡ Some (first_traffic start)) where
-  answers_ahead : (answers : List Answer) → Heard answers a b → length answers ≤ most_answers rules → (rest : List Answer) × AreNext start.ahead answers rest
-  answers_ahead answers heard few = heard_next a.told b.told start answers heard told (let most = few_answers rules valid in omega (arith, few, most))
-
-  -- its report is that of what was ahead of its link
-  pub live_report : HeadlinesFollow → CompletesFollow → (clean : Bool) → Reported rules number a b u v clean
-      → (r : Report) × IsReportOf rules number start.ahead r × Outputs u v (λ text. text ≡ r.text) × (clean ≡ r.clean)
-  live_report headlines completes clean reported =
-      let next = answers_ahead reported.answers reported.heard reported.few in (
+-- Where what was heard stood ahead:
+module _ (rules : Rules) (number : ℕ) (ahead : List Answer) (hears : List Answer → Type 0) (u v : Known Output)
+    (next : (answers : List Answer) → hears answers → length answers ≤ most_answers rules → (rest : List Answer) × AreNext ahead answers rest) where
+  -- the report is that of what was ahead
+  pub report_ahead : HeadlinesFollow → CompletesFollow → 1 ≤ rules.window → (clean : Bool) → Reported rules number hears u v clean
+      → (r : Report) × IsReportOf rules number ahead r × Outputs u v (λ text. text ≡ r.text) × (clean ≡ r.clean)
+  report_ahead headlines completes window clean reported =
+      let (rest, is_next) = next reported.answers reported.heard reported.few in (
         record { text = reported.whole; clean = clean },
         record {
           answers = reported.answers;
-          rest = next.0;
-          next = next.1;
+          rest = rest;
+          next = is_next;
           is = reported.is;
-          headline = headlines rules number reported.answers reported.whole clean valid.some_window reported.is;
-          complete = completes rules number start.ahead reported.answers next.0 reported.whole clean valid.some_window next.1 reported.is;
+          headline = headlines rules number reported.answers reported.whole clean window reported.is;
+          complete = completes rules number ahead reported.answers rest reported.whole clean window is_next reported.is;
         },
         reported.text,
         refl,
       )
 
-  -- where its link failed, what was given before was written
-  pub live_given : Broken rules number a b u v → (given : List ℕ) × IsGivenOf rules number start.ahead given × Outputs u v (λ text. text ≡ given)
-  live_given broken =
-      let next = answers_ahead broken.answers broken.heard broken.few in
-      (broken.whole, record { answers = broken.answers; rest = next.0; next = next.1; is = broken.is }, broken.text)
+  -- what was given before a failure was written
+  pub given_ahead : Broken rules number hears u v → (given : List ℕ) × IsGivenOf rules number ahead given × Outputs u v (λ text. text ≡ given)
+  given_ahead broken =
+      let (rest, is_next) = next broken.answers broken.heard broken.few in
+      (broken.whole, record { answers = broken.answers; rest = rest; next = is_next; is = broken.is }, broken.text)
 
-  pub live_breaks : Broken rules number a b u v → BreaksOff rules start.ahead
-  live_breaks broken =
-      let next = answers_ahead broken.answers broken.heard broken.few in
-      record { before = broken.is.before; answers = broken.answers; rest = next.0; next = next.1; reading = broken.is.reading }
+  pub breaks_ahead : Broken rules number hears u v → BreaksOff rules ahead
+  breaks_ahead broken =
+      let (rest, is_next) = next broken.answers broken.heard broken.few in
+      record { before = broken.is.before; answers = broken.answers; rest = rest; next = is_next; reading = broken.is.reading }
+
+  -- a front was written
+  pub front_ahead : Stopped rules number hears u v → Outputs u v (IsFrontOf rules number ahead)
+  front_ahead stopped =
+      let (rest, is_next) = next stopped.answers stopped.heard stopped.few in
+      Outputs-weaker (IsReportFront rules number stopped.answers) (IsFrontOf rules number ahead) u v stopped.text
+      (λ text is. record { answers = stopped.answers; rest = rest; next = is_next; goes_on = stopped.goes_on; is = is })
+
+module _ (rules : Rules) (valid : AreInRange rules) (number : ℕ) (start : LinkStart) (a b : Known Traffic) (u v : Known Output) (told : a.told ≡ Some (first_traffic start)) where
+  answers_ahead : (answers : List Answer) → Heard a b answers → length answers ≤ most_answers rules → (rest : List Answer) × AreNext start.ahead answers rest
+  answers_ahead answers heard few = heard_next a.told b.told start answers heard told (let most = few_answers rules valid in omega (arith, few, most))
+
+  -- its report is that of what was ahead of its link
+  pub live_report : HeadlinesFollow → CompletesFollow → (clean : Bool) → Reported rules number (Heard a b) u v clean
+      → (r : Report) × IsReportOf rules number start.ahead r × Outputs u v (λ text. text ≡ r.text) × (clean ≡ r.clean)
+  live_report headlines completes = report_ahead rules number start.ahead (Heard a b) u v answers_ahead headlines completes valid.some_window
+
+  -- where its link failed, what was given before was written
+  pub live_given : Broken rules number (Heard a b) u v → (given : List ℕ) × IsGivenOf rules number start.ahead given × Outputs u v (λ text. text ≡ given)
+  live_given = given_ahead rules number start.ahead (Heard a b) u v answers_ahead
+
+  pub live_breaks : Broken rules number (Heard a b) u v → BreaksOff rules start.ahead
+  live_breaks = breaks_ahead rules number start.ahead (Heard a b) u v answers_ahead
 
   -- where a write failed, a front was written
-  pub live_front : Stopped rules number a b u v → Outputs u v (IsFrontOf rules number start.ahead)
-  live_front stopped =
-      let next = answers_ahead stopped.answers stopped.heard stopped.few in
-      Outputs-weaker (IsReportFront rules number stopped.answers) (IsFrontOf rules number start.ahead) u v stopped.text
-      (λ text is. record { answers = stopped.answers; rest = next.0; next = next.1; goes_on = stopped.goes_on; is = is })
+  pub live_front : Stopped rules number (Heard a b) u v → Outputs u v (IsFrontOf rules number start.ahead)
+  live_front = front_ahead rules number start.ahead (Heard a b) u v answers_ahead
 
 -- ---- receivers side by side
 
@@ -154,10 +173,10 @@ module _ {L : Type 0} (known : L → Known Traffic) (rules : Rules) (valid : Are
   pub job_report : HeadlinesFollow → CompletesFollow → IsDone after → IsReportOf rules number start.ahead (told_of after)
   job_report headlines completes done =
       let was : EndedAs known before after (Done (clean_of after)) = subst Was done.0 ended in
-      let raw : Reported (job_rules before) before.options.feed (known before.link) (known after.link) (text_known before.text) (text_known after.text) (clean_of after) = was.ends in
-      let reported : Reported rules number (known before.link) (known after.link) (text_known before.text) (text_known after.text) (clean_of after) =
-      subst (λ n. Reported rules n (known before.link) (known after.link) (text_known before.text) (text_known after.text) (clean_of after)) same_number
-      (subst (λ r. Reported r before.options.feed (known before.link) (known after.link) (text_known before.text) (text_known after.text) (clean_of after)) same_rules raw) in
+      let raw : Reported (job_rules before) before.options.feed (Heard (known before.link) (known after.link)) (text_known before.text) (text_known after.text) (clean_of after) = was.ends in
+      let reported : Reported rules number (Heard (known before.link) (known after.link)) (text_known before.text) (text_known after.text) (clean_of after) =
+      subst (λ n. Reported rules n (Heard (known before.link) (known after.link)) (text_known before.text) (text_known after.text) (clean_of after)) same_number
+      (subst (λ r. Reported r before.options.feed (Heard (known before.link) (known after.link)) (text_known before.text) (text_known after.text) (clean_of after)) same_rules raw) in
       let live = live_report rules valid number start (known before.link) (known after.link) (text_known before.text) (text_known after.text) told headlines completes (clean_of after) reported in
       let text : text_of after ≡ live.0.text = text_written (λ t. t ≡ live.0.text) (text_known before.text) after.text live.2 is.text done.1 in
       subst (λ r. IsReportOf rules number start.ahead r) (λ i. record { text = sym text i; clean = sym live.3 i }) live.1
@@ -166,9 +185,9 @@ module _ {L : Type 0} (known : L → Known Traffic) (rules : Rules) (valid : Are
   pub job_breaks : is_failed after.ended ≡ true → BreaksOff rules start.ahead
   job_breaks failed =
       let was : EndedAs known before after LinkFailed = subst Was (failed_is after.ended failed) ended in
-      let raw : Broken (job_rules before) before.options.feed (known before.link) (known after.link) (text_known before.text) (text_known after.text) = was.ends in
+      let raw : Broken (job_rules before) before.options.feed (Heard (known before.link) (known after.link)) (text_known before.text) (text_known after.text) = was.ends in
       live_breaks rules valid before.options.feed start (known before.link) (known after.link) (text_known before.text) (text_known after.text) told
-      (subst (λ r. Broken r before.options.feed (known before.link) (known after.link) (text_known before.text) (text_known after.text)) same_rules raw)
+      (subst (λ r. Broken r before.options.feed (Heard (known before.link) (known after.link)) (text_known before.text) (text_known after.text)) same_rules raw)
 
 -- the count of faults of the link of one that failed rose
 pub job_rose : {L : Type 0} (known : L → Known Traffic) (before after : Job L) → HasEnded known before after → is_failed after.ended ≡ true → HasFailed (known before.link) (known after.link)

@@ -33,7 +33,7 @@ pub ends_hold : (rules : Rules) (xs : List Answer) (w : EndWord) → EndsBy rule
 ends_hold rules xs word.Frames e = e
 ends_hold rules xs word.Limit e = e.0
 ends_hold rules xs word.Idle e = e.0
-ends_hold rules xs word.Input e = e
+ends_hold rules xs word.Input e = e.0
 ends_hold rules xs word.Paths e = e
 
 -- where a list that holds a reason to end stands at the front of another one, that one doesn't go on
@@ -68,14 +68,18 @@ one_word rules xs word.Limit word.Idle e f = absurd (f.2 e.0)
 one_word rules xs word.Idle word.Frames e f = absurd (e.1 f)
 one_word rules xs word.Idle word.Limit e f = absurd (e.2 f.0)
 one_word rules xs word.Idle word.Idle e f = refl
-one_word rules xs word.Input w e f = absurd e
-one_word rules xs word.Paths w e f = absurd e
-one_word rules xs word.Frames word.Input e f = absurd f
+one_word rules xs word.Frames word.Input e f = absurd (f.1 e)
+one_word rules xs word.Limit word.Input e f = absurd (f.2 e.0)
+one_word rules xs word.Idle word.Input e f = absurd (f.3 e.0)
+one_word rules xs word.Input word.Frames e f = absurd (e.1 f)
+one_word rules xs word.Input word.Limit e f = absurd (e.2 f.0)
+one_word rules xs word.Input word.Idle e f = absurd (e.3 f.0)
+one_word rules xs word.Input word.Input e f = refl
 one_word rules xs word.Frames word.Paths e f = absurd f
-one_word rules xs word.Limit word.Input e f = absurd f
 one_word rules xs word.Limit word.Paths e f = absurd f
-one_word rules xs word.Idle word.Input e f = absurd f
 one_word rules xs word.Idle word.Paths e f = absurd f
+one_word rules xs word.Input word.Paths e f = absurd f
+one_word rules xs word.Paths w e f = absurd e
 
 pub next_split : (ahead s : List Answer) (xs ys : List Answer) → AreNext ahead (xs ++ ys) s → (mid : List Answer) × AreNext ahead xs mid
 next_split ahead s [] ys p = (ahead, refl)

@@ -1,9 +1,8 @@
 -- A reading, answer by answer.
 use Rattle.std.proofs.Common.{◌≡◌, ℕ, zero, suc, ◌+◌, ◌-◌, ◌*◌, ◌^◌, ◌<◌, ◌≤◌, inl, inr, nat_le, min, true, false, List, [], ◌∷◌, ◌++◌, length, take, Option, None, Some, IfSome, refl, sym, ◌∙◌, ap, subst, arith, length-append, add-one}
 use Rattle.std.proofs.Math.Nat.{mul-le-mul_right, suc-mul}
-use Rattle.drm_links.specs.declared.link.Came.TheVariants as recv
-use Rattle.drm_links.specs.Link.{Answer, Traffic, Receives, Datagram, Idle, Failed}
-use Rattle.drm_links.specs.Told.{Known, WhileTold, CountsCall}
+use Rattle.drm_links.specs.Link.{Answer, Datagram, Idle, Failed, End}
+use Rattle.drm_links.specs.Told.{Known}
 use Rattle.drm_links.specs.Sink.{Output, Outputs, IsFront}
 use Rattle.drm_links.proofs.ToldLemmas.{Outputs-then, Outputs-nothing}
 use Rattle.dcp_collect.specs.declared.taken.Taken.{Taken}
@@ -17,13 +16,12 @@ use Rattle.drm_switches.specs.Tracker.{TrackerState, new_tracker}
 use Rattle.mod_feed.specs.Feeding.{FeedStep, Feeds}
 use Rattle.report_lines.specs.declared.report.EndWord.TheVariants as word
 use Rattle.mod_receiver.specs.declared.rules.Rules.{Rules}
-use Rattle.mod_receiver.specs.Reading.{datagrams, idles as idles_at_end, Gave, HasGiven, IsOpen, most_answers}
+use Rattle.mod_receiver.specs.Reading.{datagrams, idles as idles_at_end, Gave, HasGiven, HaveEnded, IsOpen, most_answers}
 use Rattle.mod_receiver.specs.Reports.{steps_text, refusals}
 use Rattle.mod_receiver.specs.Tallies.{Tallied, new_tally, noted}
 use Rattle.mod_receiver.specs.Printed.{items_in, is_full, left_of, with_steps, KeepsPace, PrintsTaken, TakesFront, SoFar, ReadsTo, ReadsBroken, ReadsFront}
-use Rattle.mod_receiver.proofs.Hearing.{heard_none, heard_more}
-use Rattle.mod_receiver.proofs.Going.{goes_none, goes_more, is_open, datagrams_more, datagrams_idle, idles_datagram, idles_idle}
-use Rattle.mod_receiver.proofs.Giving.{gave_none, gave_datagram, gave_idle, gives_ready, none_given, steps_many}
+use Rattle.mod_receiver.proofs.Going.{goes_none, goes_more, is_open, datagrams_more, datagrams_idle, idles_datagram, idles_idle, idles_end, datagrams_end, not_ended, none_ended}
+use Rattle.mod_receiver.proofs.Giving.{gave_none, gave_datagram, gave_idle, gave_end, gives_ready, none_given, steps_many}
 use Rattle.mod_receiver.proofs.Tallying.{steps_counted, answer_noted, refusals_few}
 use Rattle.mod_receiver.proofs.Printing.{taken_length, feeds_calls, feeds_left, text_more, front_then}
 
@@ -53,9 +51,9 @@ front_joins ss ts a b d p q = subst (λ l. Outputs a d (IsFront l)) (sym (text_m
 
 -- ---- what the loop keeps: nothing is finished yet
 
-pub record Reaches (rules : Rules) (before after : Known Traffic) (a b : Known Output) (c : State) (f : TrackerState) (t : Tallied) (taken idles : ℕ) : Type 0 where
+pub record Reaches (rules : Rules) (hears : List Answer → Type 0) (a b : Known Output) (c : State) (f : TrackerState) (t : Tallied) (taken idles : ℕ) : Type 0 where
   pub answers : List Answer
-  pub so_far : SoFar rules before after a b c f t answers
+  pub so_far : SoFar rules hears a b c f t answers
   pub taken_is : length (datagrams answers) ≡ taken
   pub more : taken < rules.limit
   pub idles_is : idles_at_end answers ≡ idles
@@ -65,6 +63,7 @@ pub record Reaches (rules : Rules) (before after : Known Traffic) (a b : Known O
   pub none_ready : ready c ≡ false
   pub unfinished : c.end ≡ None
   pub fit : IsFit c
+  pub not_ended : HaveEnded answers → ⊥
   pub few : length answers ≤ taken * rules.idle + idles
 
 full_of_none : (told : Option ℕ) → IfSome told (λ n. 0 < n) → is_full told 0 ≡ false
@@ -75,12 +74,12 @@ pace_new : (told : Option ℕ) (window : ℕ) (first : Option ℕ) → KeepsPace
 pace_new None window first = record { calls = refl; items = omega arith }
 pace_new (Some n) window first = record { calls = omega arith; items = omega arith }
 
-starts : (rules : Rules) (before : Known Traffic) (a : Known Output)
-    → 1 ≤ rules.window → 0 < rules.limit → 0 < rules.idle → IfSome rules.frames (λ n. 0 < n) → Reaches rules before before a a (made rules.window rules.first) new_tracker new_tally 0 0
-starts rules before a window limit idle some = record {
+starts : (rules : Rules) (hears : List Answer → Type 0) (a : Known Output) → hears []
+    → 1 ≤ rules.window → 0 < rules.limit → 0 < rules.idle → IfSome rules.frames (λ n. 0 < n) → Reaches rules hears a a (made rules.window rules.first) new_tracker new_tally 0 0
+starts rules hears a none window limit idle some = record {
   answers = [];
   so_far = record {
-    heard = heard_none before;
+    heard = none;
     goes_on = goes_none rules;
     taken = [];
     items = [];
@@ -99,6 +98,7 @@ starts rules before a window limit idle some = record {
   none_ready = refl;
   unfinished = refl;
   fit = (window, tt);
+  not_ended = none_ended;
   few = omega arith;
 }
   where
@@ -107,13 +107,13 @@ starts rules before a window limit idle some = record {
     none_fed (Some zero) = refl
     none_fed (Some (suc n)) = refl
 
-pub at_start : (rules : Rules) (before : Known Traffic) (a : Known Output) (c : State) (f : TrackerState) (t : Tallied)
+pub at_start : (rules : Rules) (hears : List Answer → Type 0) (a : Known Output) (c : State) (f : TrackerState) (t : Tallied) → hears []
     → c ≡ made rules.window rules.first → f ≡ new_tracker → t ≡ new_tally
-    → 1 ≤ rules.window → 0 < rules.limit → 0 < rules.idle → IfSome rules.frames (λ n. 0 < n) → Reaches rules before before a a c f t 0 0
-at_start rules before a c f t is_made is_new is_empty window limit idle some =
-    subst (λ d. Reaches rules before before a a d f t 0 0) (sym is_made)
-    (subst (λ g. Reaches rules before before a a (made rules.window rules.first) g t 0 0) (sym is_new)
-    (subst (λ u. Reaches rules before before a a (made rules.window rules.first) new_tracker u 0 0) (sym is_empty) (starts rules before a window limit idle some)))
+    → 1 ≤ rules.window → 0 < rules.limit → 0 < rules.idle → IfSome rules.frames (λ n. 0 < n) → Reaches rules hears a a c f t 0 0
+at_start rules hears a c f t none is_made is_new is_empty window limit idle some =
+    subst (λ d. Reaches rules hears a a d f t 0 0) (sym is_made)
+    (subst (λ g. Reaches rules hears a a (made rules.window rules.first) g t 0 0) (sym is_new)
+    (subst (λ u. Reaches rules hears a a (made rules.window rules.first) new_tracker u 0 0) (sym is_empty) (starts rules hears a none window limit idle some)))
 
 -- ---- how many were given
 
@@ -142,25 +142,25 @@ enough_given rules (Some m) answers c f sum taken items steps gave feeds is full
     let l : m ≤ sum = le_yes m sum full in
     (taken, items, c, gave, omega (arith, g, l, size, is))
 
-not_given : (rules : Rules) (before after : Known Traffic) (a b : Known Output) (c : State) (f : TrackerState) (t : Tallied) (answers : List Answer)
-    → SoFar rules before after a b c f t answers → items_in t.sums ≡ f.calls → is_full rules.frames (items_in t.sums) ≡ false → HasGiven rules answers rules.frames → ⊥
-not_given rules before after a b c f t answers s counted room =
+not_given : (rules : Rules) (hears : List Answer → Type 0) (a b : Known Output) (c : State) (f : TrackerState) (t : Tallied) (answers : List Answer)
+    → SoFar rules hears a b c f t answers → items_in t.sums ≡ f.calls → is_full rules.frames (items_in t.sums) ≡ false → HasGiven rules answers rules.frames → ⊥
+not_given rules hears a b c f t answers s counted room =
     none_given rules answers rules.frames s.taken s.items c one_way s.gave (few_given rules.frames f (items_in t.sums) s.items s.steps s.feeds counted room)
 
 -- a reading that is so far is open
-so_far_open : (rules : Rules) (before after : Known Traffic) (a b : Known Output) (c : State) (f : TrackerState) (t : Tallied) (taken idles : ℕ)
-    (r : Reaches rules before after a b c f t taken idles) → IsOpen rules r.answers
-so_far_open rules before after a b c f t taken idles r =
+so_far_open : (rules : Rules) (hears : List Answer → Type 0) (a b : Known Output) (c : State) (f : TrackerState) (t : Tallied) (taken idles : ℕ)
+    (r : Reaches rules hears a b c f t taken idles) → IsOpen rules r.answers
+so_far_open rules hears a b c f t taken idles r =
     let d : length (datagrams r.answers) ≡ taken = r.taken_is in
     let i : idles_at_end r.answers ≡ idles = r.idles_is in
     let dl : taken < rules.limit = r.more in
     let il : idles < rules.idle = r.fewer in
-    is_open rules r.answers (not_given rules before after a b c f t r.answers r.so_far r.pace.items r.not_full) (omega (arith, d, dl)) (omega (arith, i, il))
+    is_open rules r.answers (not_given rules hears a b c f t r.answers r.so_far r.pace.items r.not_full) (omega (arith, d, dl)) (omega (arith, i, il)) r.not_ended
 
 -- how many refusals there are
-pub refused_few : (rules : Rules) (before after : Known Traffic) (a b : Known Output) (c : State) (f : TrackerState) (t : Tallied) (taken idles : ℕ)
-    → Reaches rules before after a b c f t taken idles → t.sums.refused ≤ taken
-refused_few rules before after a b c f t taken idles r =
+pub refused_few : (rules : Rules) (hears : List Answer → Type 0) (a b : Known Output) (c : State) (f : TrackerState) (t : Tallied) (taken idles : ℕ)
+    → Reaches rules hears a b c f t taken idles → t.sums.refused ≤ taken
+refused_few rules hears a b c f t taken idles r =
     let s = r.so_far in
     let e : t.sums.refused ≡ length (refusals s.taken) = ap (λ (u : Tallied). u.sums.refused) s.tally in
     let l : length (refusals s.taken) ≤ length s.taken = refusals_few 0 s.taken in
@@ -185,11 +185,15 @@ one_turn size taken idles idle h l =
     let e : (taken + 1) * idle ≡ taken * idle + idle = rw add-one (suc-mul taken idle) in
     omega (arith, h, l, e)
 
+-- an answer more was heard
+abbrev pub HearsMore : (List Answer → Type 0) → (List Answer → Type 0) → Answer → Type 0
+HearsMore hears hears' answer = (answers : List Answer) → hears answers → hears' (answers ++ answer ∷ [])
+
 -- the next answer is a datagram
-pub record OnDatagram (rules : Rules) (before after : Known Traffic) (a b : Known Output) (c : State) (f : TrackerState) (t : Tallied) (taken : ℕ) : Type 0 where
+pub record OnDatagram (rules : Rules) (hears : List Answer → Type 0) (a b : Known Output) (c : State) (f : TrackerState) (t : Tallied) (taken : ℕ) : Type 0 where
   pub answers : List Answer
   pub mid : State
-  pub so_far : SoFar rules before after a b mid f t answers
+  pub so_far : SoFar rules hears a b mid f t answers
   pub fit : IsFit mid
   pub drained : is_full rules.frames (items_in t.sums) ≡ false → c ≡ mid
   pub taken_is : length (datagrams answers) ≡ taken + 1
@@ -197,26 +201,27 @@ pub record OnDatagram (rules : Rules) (before after : Known Traffic) (a b : Know
   pub few : length answers ≤ (taken + 1) * rules.idle
   pub none_ready : ready mid ≡ false
   pub unfinished : c.end ≡ None
+  pub not_ended : HaveEnded answers → ⊥
 
-pub on_datagram : (rules : Rules) (before after next : Known Traffic) (a b d : Known Output) (c c' : State) (f f' : TrackerState) (t t' : Tallied) (taken idles number n : ℕ) (buf : List ℕ)
-    → Reaches rules before after a b c f t taken idles → WhileTold after next (Receives (recv.Datagram n) buf) → CountsCall (λ (x : Traffic). x.calls) after next
-    → number ≡ taken → PrintsTaken rules.frames number (take n buf) c c' f f' t t' b d → c'.end ≡ c.end
-    → OnDatagram rules before next a d c' f' t' taken
-on_datagram rules before after next a b d c c' f f' t t' taken idles number n buf r told counts is p end =
+pub on_datagram : (rules : Rules) (hears hears' : List Answer → Type 0) (a b d : Known Output) (c c' : State) (f f' : TrackerState) (t t' : Tallied) (taken idles number : ℕ) (bytes : List ℕ)
+    → Reaches rules hears a b c f t taken idles → HearsMore hears hears' (Datagram bytes)
+    → number ≡ taken → PrintsTaken rules.frames number bytes c c' f f' t t' b d → c'.end ≡ c.end
+    → OnDatagram rules hears' a d c' f' t' taken
+on_datagram rules hears hears' a b d c c' f f' t t' taken idles number bytes r came is p end =
     let s = r.so_far in
     let ps = p.ready.prints in
     let many : length s.taken ≡ length (datagrams r.answers) = steps_many (made rules.window rules.first) c (datagrams r.answers) s.taken s.items s.gave in
     let size : length (datagrams r.answers) ≡ taken = r.taken_is in
     let number_is : number ≡ length s.taken = omega (arith, is, many, size) in
     record {
-      answers = r.answers ++ Datagram (take n buf) ∷ [];
+      answers = r.answers ++ Datagram bytes ∷ [];
       mid = p.ready.last;
       so_far = record {
-        heard = heard_more before after next r.answers (recv.Datagram n) buf s.heard told counts;
-        goes_on = goes_more rules r.answers (Datagram (take n buf)) s.goes_on (so_far_open rules before after a b c f t taken idles r) tt;
+        heard = came r.answers s.heard;
+        goes_on = goes_more rules r.answers (Datagram bytes) s.goes_on (so_far_open rules hears a b c f t taken idles r) tt;
         taken = s.taken ++ p.answer ∷ [];
         items = s.items ++ p.ready.items;
-        gave = gave_datagram rules r.answers s.taken s.items p.ready.items c p.kept p.ready.last (take n buf) p.answer s.gave p.takes p.ready.gives;
+        gave = gave_datagram rules r.answers s.taken s.items p.ready.items c p.kept p.ready.last bytes p.answer s.gave p.takes p.ready.gives;
         steps = s.steps ++ ps.steps;
         feeds = feeds_more rules.frames f f' s.items p.ready.items s.steps ps.steps s.feeds ps.feeds;
         tally = ps.tally ∙ ap (λ (u : Tallied). with_steps (noted u number p.answer) ps.steps) s.tally
@@ -226,20 +231,21 @@ on_datagram rules before after next a b d c c' f f' t t' taken idles number n bu
       };
       fit = p.ready.fit;
       drained = p.ready.drained;
-      taken_is = datagrams_more r.answers (take n buf) ∙ ap (λ k. k + 1) r.taken_is;
-      idles_is = idles_datagram 0 r.answers (take n buf);
-      few = one_turn (length (r.answers ++ Datagram (take n buf) ∷ [])) taken idles rules.idle (one_longer r.answers (Datagram (take n buf)) (taken * rules.idle + idles) r.few) r.fewer;
+      taken_is = datagrams_more r.answers bytes ∙ ap (λ k. k + 1) r.taken_is;
+      idles_is = idles_datagram 0 r.answers bytes;
+      few = one_turn (length (r.answers ++ Datagram bytes ∷ [])) taken idles rules.idle (one_longer r.answers (Datagram bytes) (taken * rules.idle + idles) r.few) r.fewer;
       none_ready = gives_ready p.ready.items p.kept p.ready.last p.ready.gives;
       unfinished = end ∙ r.unfinished;
+      not_ended = not_ended r.answers (Datagram bytes) (λ e. cc);
     }
 
 -- and nothing is finished yet
-pub datagram_more : (rules : Rules) (before after : Known Traffic) (a b : Known Output) (c : State) (f : TrackerState) (t : Tallied) (taken : ℕ)
-    → OnDatagram rules before after a b c f t taken → KeepsPace rules.frames c f t → is_full rules.frames (items_in t.sums) ≡ false → taken + 1 < rules.limit → 0 < rules.idle
-    → Reaches rules before after a b c f t (taken + 1) 0
-datagram_more rules before after a b c f t taken o pace room more idle = record {
+pub datagram_more : (rules : Rules) (hears : List Answer → Type 0) (a b : Known Output) (c : State) (f : TrackerState) (t : Tallied) (taken : ℕ)
+    → OnDatagram rules hears a b c f t taken → KeepsPace rules.frames c f t → is_full rules.frames (items_in t.sums) ≡ false → taken + 1 < rules.limit → 0 < rules.idle
+    → Reaches rules hears a b c f t (taken + 1) 0
+datagram_more rules hears a b c f t taken o pace room more idle = record {
   answers = o.answers;
-  so_far = subst (λ m. SoFar rules before after a b m f t o.answers) (sym (o.drained room)) o.so_far;
+  so_far = subst (λ m. SoFar rules hears a b m f t o.answers) (sym (o.drained room)) o.so_far;
   taken_is = o.taken_is;
   more = more;
   idles_is = o.idles_is;
@@ -248,6 +254,7 @@ datagram_more rules before after a b c f t taken o pace room more idle = record 
   pace = pace;
   none_ready = ap ready (o.drained room) ∙ o.none_ready;
   unfinished = o.unfinished;
+  not_ended = o.not_ended;
   fit = subst IsFit (sym (o.drained room)) o.fit;
   few = (let l : length o.answers ≤ (taken + 1) * rules.idle = o.few in omega (arith, l));
 }
@@ -258,10 +265,10 @@ short_enough rules size taken more few =
     omega (arith, m, few)
 
 -- finished by the told number
-pub by_frames : (rules : Rules) (before after : Known Traffic) (a b : Known Output) (c : State) (f : TrackerState) (t : Tallied) (taken : ℕ)
-    → OnDatagram rules before after a b c f t taken → KeepsPace rules.frames c f t → is_full rules.frames (items_in t.sums) ≡ true → taken < rules.limit
-    → ReadsTo rules before after a b c f t word.Frames
-by_frames rules before after a b c f t taken o pace full more = record {
+pub by_frames : (rules : Rules) (hears : List Answer → Type 0) (a b : Known Output) (c : State) (f : TrackerState) (t : Tallied) (taken : ℕ)
+    → OnDatagram rules hears a b c f t taken → KeepsPace rules.frames c f t → is_full rules.frames (items_in t.sums) ≡ true → taken < rules.limit
+    → ReadsTo rules hears a b c f t word.Frames
+by_frames rules hears a b c f t taken o pace full more = record {
   answers = o.answers;
   mid = o.mid;
   so_far = o.so_far;
@@ -272,38 +279,38 @@ by_frames rules before after a b c f t taken o pace full more = record {
 }
 
 -- finished by the number of datagrams
-pub by_limit : (rules : Rules) (before after : Known Traffic) (a b : Known Output) (c : State) (f : TrackerState) (t : Tallied) (taken : ℕ)
-    → OnDatagram rules before after a b c f t taken → KeepsPace rules.frames c f t → is_full rules.frames (items_in t.sums) ≡ false → taken < rules.limit → taken + 1 ≡ rules.limit
-    → ReadsTo rules before after a b c f t word.Limit
-by_limit rules before after a b c f t taken o pace room more all = record {
+pub by_limit : (rules : Rules) (hears : List Answer → Type 0) (a b : Known Output) (c : State) (f : TrackerState) (t : Tallied) (taken : ℕ)
+    → OnDatagram rules hears a b c f t taken → KeepsPace rules.frames c f t → is_full rules.frames (items_in t.sums) ≡ false → taken < rules.limit → taken + 1 ≡ rules.limit
+    → ReadsTo rules hears a b c f t word.Limit
+by_limit rules hears a b c f t taken o pace room more all = record {
   answers = o.answers;
   mid = o.mid;
   so_far = o.so_far;
   fit = o.fit;
   drained = o.drained;
   few = short_enough rules (length o.answers) taken more o.few;
-  ends = (o.taken_is ∙ all, not_given rules before after a b o.mid f t o.answers o.so_far pace.items room);
+  ends = (o.taken_is ∙ all, not_given rules hears a b o.mid f t o.answers o.so_far pace.items room);
 }
 
 -- the next answer is `Idle`
-pub record OnIdle (rules : Rules) (before after : Known Traffic) (a b : Known Output) (c : State) (f : TrackerState) (t : Tallied) (taken idles : ℕ) : Type 0 where
+pub record OnIdle (rules : Rules) (hears : List Answer → Type 0) (a b : Known Output) (c : State) (f : TrackerState) (t : Tallied) (taken idles : ℕ) : Type 0 where
   pub answers : List Answer
-  pub so_far : SoFar rules before after a b c f t answers
+  pub so_far : SoFar rules hears a b c f t answers
   pub taken_is : length (datagrams answers) ≡ taken
   pub idles_is : idles_at_end answers ≡ idles + 1
+  pub not_ended : HaveEnded answers → ⊥
   pub few : length answers ≤ taken * rules.idle + (idles + 1)
 
-pub on_idle : (rules : Rules) (before after next : Known Traffic) (a b : Known Output) (c : State) (f : TrackerState) (t : Tallied) (taken idles : ℕ) (buf : List ℕ)
-    → Reaches rules before after a b c f t taken idles → WhileTold after next (Receives recv.Idle buf) → CountsCall (λ (x : Traffic). x.calls) after next
-    → OnIdle rules before next a b c f t taken idles
-on_idle rules before after next a b c f t taken idles buf r told counts =
+pub on_idle : (rules : Rules) (hears hears' : List Answer → Type 0) (a b : Known Output) (c : State) (f : TrackerState) (t : Tallied) (taken idles : ℕ)
+    → Reaches rules hears a b c f t taken idles → HearsMore hears hears' Idle → OnIdle rules hears' a b c f t taken idles
+on_idle rules hears hears' a b c f t taken idles r came =
     let s = r.so_far in
     let l = one_longer r.answers Idle (taken * rules.idle + idles) r.few in
     record {
       answers = r.answers ++ Idle ∷ [];
       so_far = record {
-        heard = heard_more before after next r.answers recv.Idle buf s.heard told counts;
-        goes_on = goes_more rules r.answers Idle s.goes_on (so_far_open rules before after a b c f t taken idles r) tt;
+        heard = came r.answers s.heard;
+        goes_on = goes_more rules r.answers Idle s.goes_on (so_far_open rules hears a b c f t taken idles r) tt;
         taken = s.taken;
         items = s.items;
         gave = gave_idle rules r.answers s.taken s.items c s.gave;
@@ -314,13 +321,14 @@ on_idle rules before after next a b c f t taken idles buf r told counts =
       };
       taken_is = datagrams_idle r.answers ∙ r.taken_is;
       idles_is = idles_idle 0 r.answers ∙ ap (λ k. k + 1) r.idles_is;
+      not_ended = not_ended r.answers Idle (λ e. cc);
       few = omega (arith, l);
     }
 
-pub idle_more : (rules : Rules) (before after next : Known Traffic) (a b : Known Output) (c : State) (f : TrackerState) (t : Tallied) (taken idles : ℕ)
-    → Reaches rules before after a b c f t taken idles → OnIdle rules before next a b c f t taken idles → idles + 1 < rules.idle
-    → Reaches rules before next a b c f t taken (idles + 1)
-idle_more rules before after next a b c f t taken idles r o fewer = record {
+pub idle_more : (rules : Rules) (hears hears' : List Answer → Type 0) (a b : Known Output) (c : State) (f : TrackerState) (t : Tallied) (taken idles : ℕ)
+    → Reaches rules hears a b c f t taken idles → OnIdle rules hears' a b c f t taken idles → idles + 1 < rules.idle
+    → Reaches rules hears' a b c f t taken (idles + 1)
+idle_more rules hears hears' a b c f t taken idles r o fewer = record {
   answers = o.answers;
   so_far = o.so_far;
   taken_is = o.taken_is;
@@ -332,14 +340,15 @@ idle_more rules before after next a b c f t taken idles r o fewer = record {
   none_ready = r.none_ready;
   unfinished = r.unfinished;
   fit = r.fit;
+  not_ended = o.not_ended;
   few = o.few;
 }
 
 -- finished by idles
-pub by_idle : (rules : Rules) (before after next : Known Traffic) (a b : Known Output) (c : State) (f : TrackerState) (t : Tallied) (taken idles : ℕ)
-    → Reaches rules before after a b c f t taken idles → OnIdle rules before next a b c f t taken idles → idles + 1 ≡ rules.idle
-    → ReadsTo rules before next a b c f t word.Idle
-by_idle rules before after next a b c f t taken idles r o all =
+pub by_idle : (rules : Rules) (hears hears' : List Answer → Type 0) (a b : Known Output) (c : State) (f : TrackerState) (t : Tallied) (taken idles : ℕ)
+    → Reaches rules hears a b c f t taken idles → OnIdle rules hears' a b c f t taken idles → idles + 1 ≡ rules.idle
+    → ReadsTo rules hears' a b c f t word.Idle
+by_idle rules hears hears' a b c f t taken idles r o all =
     let m : taken * rules.idle ≤ rules.limit * rules.idle = mul-le-mul_right rules.idle (let l = r.more in omega (arith, l)) in
     let l : length o.answers ≤ taken * rules.idle + (idles + 1) = o.few in
     let i : idles_at_end o.answers ≡ idles + 1 = o.idles_is in
@@ -354,26 +363,25 @@ by_idle rules before after next a b c f t taken idles r o all =
       few = omega (arith, m, l, all);
       ends = (
         omega (arith, i, all),
-        not_given rules before next a b c f t o.answers o.so_far r.pace.items r.not_full,
+        not_given rules hears' a b c f t o.answers o.so_far r.pace.items r.not_full,
         λ full. (let e : length (datagrams o.answers) ≡ rules.limit = full in omega (arith, e, d, k)),
       );
     }
 
 -- the next answer is `Failed`
-pub on_failed : (rules : Rules) (before after next : Known Traffic) (a b : Known Output) (c : State) (f : TrackerState) (t : Tallied) (taken idles : ℕ) (buf : List ℕ)
-    → Reaches rules before after a b c f t taken idles → WhileTold after next (Receives recv.Failed buf) → CountsCall (λ (x : Traffic). x.calls) after next
-    → ReadsBroken rules before next a b
-on_failed rules before after next a b c f t taken idles buf r told counts =
+pub on_failed : (rules : Rules) (hears hears' : List Answer → Type 0) (a b : Known Output) (c : State) (f : TrackerState) (t : Tallied) (taken idles : ℕ)
+    → Reaches rules hears a b c f t taken idles → HearsMore hears hears' Failed → ReadsBroken rules hears' a b
+on_failed rules hears hears' a b c f t taken idles r came =
     let s = r.so_far in
     let m : taken * rules.idle ≤ rules.limit * rules.idle = mul-le-mul_right rules.idle (let l = r.more in omega (arith, l)) in
     let l = one_longer r.answers Failed (taken * rules.idle + idles) r.few in
     let i : idles < rules.idle = r.fewer in
     record {
       answers = r.answers ++ Failed ∷ [];
-      heard = heard_more before after next r.answers recv.Failed buf s.heard told counts;
+      heard = came r.answers s.heard;
       few = omega (arith, m, l, i);
       sound = r.answers;
-      reading = record { last = refl; goes_on = s.goes_on; is_open = so_far_open rules before after a b c f t taken idles r };
+      reading = record { last = refl; goes_on = s.goes_on; is_open = so_far_open rules hears a b c f t taken idles r };
       taken = s.taken;
       items = s.items;
       end = c;
@@ -384,30 +392,66 @@ on_failed rules before after next a b c f t taken idles buf r told counts =
       text = s.text;
     }
 
+-- nothing comes any more
+pub by_end : (rules : Rules) (hears hears' : List Answer → Type 0) (a b : Known Output) (c : State) (f : TrackerState) (t : Tallied) (taken idles : ℕ)
+    → Reaches rules hears a b c f t taken idles → HearsMore hears hears' End → 0 < rules.idle → ReadsTo rules hears' a b c f t word.Input
+by_end rules hears hears' a b c f t taken idles r came some =
+    let s = r.so_far in
+    let m : taken * rules.idle ≤ rules.limit * rules.idle = mul-le-mul_right rules.idle (let l = r.more in omega (arith, l)) in
+    let l = one_longer r.answers End (taken * rules.idle + idles) r.few in
+    let i : idles < rules.idle = r.fewer in
+    let d : length (datagrams (r.answers ++ End ∷ [])) ≡ taken = ap length (datagrams_end r.answers) ∙ r.taken_is in
+    let k : taken < rules.limit = r.more in
+    let so_far : SoFar rules hears' a b c f t (r.answers ++ End ∷ []) = record {
+      heard = came r.answers s.heard;
+      goes_on = goes_more rules r.answers End s.goes_on (so_far_open rules hears a b c f t taken idles r) tt;
+      taken = s.taken;
+      items = s.items;
+      gave = gave_end rules r.answers s.taken s.items c s.gave;
+      steps = s.steps;
+      feeds = s.feeds;
+      tally = s.tally;
+      text = s.text;
+    } in
+    record {
+      answers = r.answers ++ End ∷ [];
+      mid = c;
+      so_far = so_far;
+      fit = r.fit;
+      drained = λ room. refl;
+      few = omega (arith, m, l, i);
+      ends = (
+        (r.answers, refl),
+        not_given rules hears' a b c f t (r.answers ++ End ∷ []) so_far r.pace.items r.not_full,
+        (λ full. (let e : length (datagrams (r.answers ++ End ∷ [])) ≡ rules.limit = full in omega (arith, e, d, k))),
+        λ idle. (let e : rules.idle ≤ idles_at_end (r.answers ++ End ∷ []) = idle in let z : idles_at_end (r.answers ++ End ∷ []) ≡ 0 = idles_end 0 r.answers in omega (arith, e, z, some)),
+      );
+    }
+
 -- a datagram came, and not all that it made ready was written
-pub on_stop : (rules : Rules) (before after next : Known Traffic) (a b d : Known Output) (c : State) (f : TrackerState) (t : Tallied) (taken idles n : ℕ) (buf : List ℕ)
-    → Reaches rules before after a b c f t taken idles → WhileTold after next (Receives (recv.Datagram n) buf) → CountsCall (λ (x : Traffic). x.calls) after next
-    → TakesFront rules.frames (take n buf) c f b d → ReadsFront rules before next a d
-on_stop rules before after next a b d c f t taken idles n buf r told counts stops =
+pub on_stop : (rules : Rules) (hears hears' : List Answer → Type 0) (a b d : Known Output) (c : State) (f : TrackerState) (t : Tallied) (taken idles : ℕ) (bytes : List ℕ)
+    → Reaches rules hears a b c f t taken idles → HearsMore hears hears' (Datagram bytes)
+    → TakesFront rules.frames bytes c f b d → ReadsFront rules hears' a d
+on_stop rules hears hears' a b d c f t taken idles bytes r came stops =
     let s = r.so_far in
     let p = stops.front in
-    let size = one_longer r.answers (Datagram (take n buf)) (taken * rules.idle + idles) r.few in
+    let size = one_longer r.answers (Datagram bytes) (taken * rules.idle + idles) r.few in
     record {
-      answers = r.answers ++ Datagram (take n buf) ∷ [];
-      heard = heard_more before after next r.answers (recv.Datagram n) buf s.heard told counts;
-      few = short_enough rules (length (r.answers ++ Datagram (take n buf) ∷ [])) taken r.more (one_turn (length (r.answers ++ Datagram (take n buf) ∷ [])) taken idles rules.idle size r.fewer);
-      goes_on = goes_more rules r.answers (Datagram (take n buf)) s.goes_on (so_far_open rules before after a b c f t taken idles r) tt;
+      answers = r.answers ++ Datagram bytes ∷ [];
+      heard = came r.answers s.heard;
+      few = short_enough rules (length (r.answers ++ Datagram bytes ∷ [])) taken r.more (one_turn (length (r.answers ++ Datagram bytes ∷ [])) taken idles rules.idle size r.fewer);
+      goes_on = goes_more rules r.answers (Datagram bytes) s.goes_on (so_far_open rules hears a b c f t taken idles r) tt;
       items = up_to rules.frames (s.items ++ p.items);
       some = record {
         before = r.answers;
-        later = Datagram (take n buf) ∷ [];
+        later = Datagram bytes ∷ [];
         are = refl;
         taken = s.taken;
         during = s.items;
         mid = c;
         gave = s.gave;
         state = stops.kept;
-        comes = inr (inl (take n buf, stops.answer, refl, stops.takes));
+        comes = inr (inl (bytes, stops.answer, refl, stops.takes));
         more = p.items;
         gives = p.gives;
         items_are = refl;

@@ -4,7 +4,7 @@ use Rattle.std.specs.List.{filter}
 use Rattle.std.proofs.lemmas.List.{append-nil}
 use Rattle.circular_buffer.specs.Buffer.{keep_last}
 use Rattle.drm_links.specs.Told.{Known}
-use Rattle.drm_links.specs.Link.{Answer, Traffic}
+use Rattle.drm_links.specs.Link.{Answer}
 use Rattle.drm_links.specs.Sink.{Output, Outputs, IsFront}
 use Rattle.drm_links.proofs.ToldLemmas.{Outputs-then, Outputs-weaker}
 use Rattle.dcp_collect.specs.declared.taken.Taken.{Taken}
@@ -18,13 +18,11 @@ use Rattle.report_lines.specs.Report.{feed_line, end_line}
 use Rattle.mod_receiver.specs.declared.rules.Rules.{Rules}
 use Rattle.mod_receiver.specs.declared.stop.Stop.{Stop}
 use Rattle.mod_receiver.specs.declared.stop.Stop.TheVariants as stop
-use Rattle.mod_receiver.specs.Hearing.{Heard}
 use Rattle.mod_receiver.specs.Reading.{datagrams, IsFinished, most_answers}
 use Rattle.mod_receiver.specs.Reports.{is_given, is_missing, is_bad, refusals, refused_text, steps_text, sums_of, report, is_clean}
-use Rattle.mod_receiver.specs.Tallies.{Tallied}
+use Rattle.mod_receiver.specs.Tallies.{Tallied, counted}
 use Rattle.mod_receiver.specs.Received.{IsReport, GivesSome, IsReportFront, Reported, Broken, Stopped}
-use Rattle.mod_receiver.specs.Printed.{items_in, steps_before, with_steps, tally_of, KeepsPace, PrintsReady, PrintsFront, ReadsTo, ReadsBroken, ReadsFront, StopsReading}
-use Rattle.mod_receiver.proofs.Hearing.{heard_none}
+use Rattle.mod_receiver.specs.Printed.{items_in, steps_before, with_steps, tally_of, KeepsPace, PrintsReady, PrintsFront, ReadsTo, ReadsBroken, ReadsFront, StopsReading, WritesRest, RestFront}
 use Rattle.mod_receiver.proofs.Going.{goes_none}
 use Rattle.mod_receiver.proofs.Giving.{gave_none}
 use Rattle.mod_receiver.proofs.Refusing.{AreTold}
@@ -66,9 +64,9 @@ clean_is clean t steps taken h is =
 
 -- ---- all items were written
 
-pub record WroteItems (rules : Rules) (feed : ℕ) (before after : Known Traffic) (a b : Known Output) (t : Tallied) (word : EndWord) : Type 0 where
+pub record WroteItems (rules : Rules) (feed : ℕ) (hears : List Answer → Type 0) (a b : Known Output) (t : Tallied) (word : EndWord) : Type 0 where
   pub answers : List Answer
-  pub heard : Heard answers before after
+  pub heard : hears answers
   pub few : length answers ≤ most_answers rules
   pub reading : IsFinished rules answers word
   pub taken : List Taken
@@ -80,10 +78,10 @@ pub record WroteItems (rules : Rules) (feed : ℕ) (before after : Known Traffic
   pub tally : t ≡ tally_of steps taken
   pub text : Outputs a b (λ text. text ≡ feed_line feed ++ steps_text steps)
 
-pub wrote_items : (rules : Rules) (feed : ℕ) (before after : Known Traffic) (a0 a b d : Known Output) (c c' e : State) (f g : TrackerState) (t u : Tallied) (word : EndWord)
-    → Outputs a0 a (λ x. x ≡ feed_line feed) → ReadsTo rules before after a b c f t word → items_in t.sums ≡ f.calls → c' ≡ after_finish c rules.frames
-    → PrintsReady rules.frames c' e f g t u b d → WroteItems rules feed before after a0 d u word
-wrote_items rules feed before after a0 a b d c c' e f g t u word first read counted finished ready =
+pub wrote_items : (rules : Rules) (feed : ℕ) (hears : List Answer → Type 0) (a0 a b d : Known Output) (c c' e : State) (f g : TrackerState) (t u : Tallied) (word : EndWord)
+    → Outputs a0 a (λ x. x ≡ feed_line feed) → ReadsTo rules hears a b c f t word → items_in t.sums ≡ f.calls → c' ≡ after_finish c rules.frames
+    → PrintsReady rules.frames c' e f g t u b d → WroteItems rules feed hears a0 d u word
+wrote_items rules feed hears a0 a b d c c' e f g t u word first read counted finished ready =
     let s = read.so_far in
     let rest : Rest rules.frames (after_finish read.mid rules.frames) f g t u b d = the_rest rules.frames read.mid c c' f t read.fit read.drained counted finished e g u b d ready in
     let p = rest.prints in
@@ -111,11 +109,22 @@ wrote_items rules feed before after a0 a b d c c' e f g t u word first read coun
     }
 
 -- the refusals that are shown are told of
-pub shown_told : (rules : Rules) (feed : ℕ) (before after : Known Traffic) (a b : Known Output) (t : Tallied) (word : EndWord)
-    → WroteItems rules feed before after a b t word → AreTold t.refused
-shown_told rules feed before after a b t word w =
-    subst (λ (u : Tallied). AreTold u.refused) (sym w.tally)
-    (last_told 16 (refusals w.taken) (refusals_told (made rules.window rules.first) w.run.mid (datagrams w.answers) w.taken w.run.during 0 w.run.steps))
+pub read_told : (rules : Rules) (hears : List Answer → Type 0) (a b : Known Output) (c : State) (f : TrackerState) (t : Tallied) (word : EndWord)
+    → ReadsTo rules hears a b c f t word → AreTold t.refused
+read_told rules hears a b c f t word read =
+    let s = read.so_far in
+    subst (λ (u : Tallied). AreTold u.refused) (sym s.tally)
+    (last_told 16 (refusals s.taken) (refusals_told (made rules.window rules.first) read.mid (datagrams read.answers) s.taken s.items 0 s.gave))
+
+steps_refuse_none : (t : Tallied) (steps : List FeedStep) → (with_steps t steps).refused ≡ t.refused
+steps_refuse_none t [] = refl
+steps_refuse_none t (step ∷ steps) = steps_refuse_none (counted t step.item) steps
+
+-- what was given doesn't change which datagrams were refused
+pub told_still : (told : Option ℕ) (c d : State) (f g : TrackerState) (t u : Tallied) (a b : Known Output) → PrintsReady told c d f g t u a b → AreTold t.refused → AreTold u.refused
+told_still told c d f g t u a b ready are =
+    let p = ready.prints in
+    subst AreTold (sym (ap (λ (v : Tallied). v.refused) p.tally ∙ steps_refuse_none t p.steps)) are
 
 pub pace_finished : (told : Option ℕ) (c c' : State) (f : TrackerState) (t : Tallied) → KeepsPace told c f t → c' ≡ after_finish c told → KeepsPace told c' f t
 pace_finished told c c' f t pace is = record { calls = pace.calls ∙ ap (λ (s : State). steps_before told s.next) (sym is); items = pace.items }
@@ -128,9 +137,9 @@ whole_is : (feed : ℕ) (steps : List FeedStep) (taken : List Taken) (word : End
     → ((feed_line feed ++ steps_text steps) ++ tail_of steps taken word) ≡ report feed steps (refusals taken) word
 whole_is feed steps taken word = append_assoc (feed_line feed) (steps_text steps) (tail_of steps taken word)
 
-report_of : (rules : Rules) (feed : ℕ) (before after : Known Traffic) (a b : Known Output) (t : Tallied) (word : EndWord) (w : WroteItems rules feed before after a b t word)
+report_of : (rules : Rules) (feed : ℕ) (hears : List Answer → Type 0) (a b : Known Output) (t : Tallied) (word : EndWord) (w : WroteItems rules feed hears a b t word)
     → IsReport rules feed w.answers (report feed w.steps (refusals w.taken) word) (is_clean w.steps)
-report_of rules feed before after a b t word w = record {
+report_of rules feed hears a b t word w = record {
   word = word;
   reading = w.reading;
   taken = w.taken;
@@ -143,10 +152,10 @@ report_of rules feed before after a b t word w = record {
   clean_is = refl;
 }
 
-pub reported : (rules : Rules) (feed : ℕ) (before after : Known Traffic) (a b d e : Known Output) (t : Tallied) (word : EndWord) (clean : Bool)
-    → WroteItems rules feed before after a b t word → Outputs b d (λ x. x ≡ refused_text t.refused) → Outputs d e (λ x. x ≡ end_line word t.sums)
-    → IsTrue clean ↔ ((t.sums.missing ≡ 0) × (t.sums.bad ≡ 0)) → Reported rules feed before after a e clean
-reported rules feed before after a b d e t word clean w refused last is =
+pub reported : (rules : Rules) (feed : ℕ) (hears : List Answer → Type 0) (a b d e : Known Output) (t : Tallied) (word : EndWord) (clean : Bool)
+    → WroteItems rules feed hears a b t word → Outputs b d (λ x. x ≡ refused_text t.refused) → Outputs d e (λ x. x ≡ end_line word t.sums)
+    → IsTrue clean ↔ ((t.sums.missing ≡ 0) × (t.sums.bad ≡ 0)) → Reported rules feed hears a e clean
+reported rules feed hears a b d e t word clean w refused last is =
     let refused' : Outputs b d (λ x. x ≡ refused_text (keep_last 16 (refusals w.taken))) = subst (λ (u : Tallied). Outputs b d (λ x. x ≡ refused_text u.refused)) w.tally refused in
     let last' : Outputs d e (λ x. x ≡ end_line word (sums_of w.steps (refusals w.taken))) = subst (λ (u : Tallied). Outputs d e (λ x. x ≡ end_line word u.sums)) w.tally last in
     record {
@@ -154,7 +163,7 @@ reported rules feed before after a b d e t word clean w refused last is =
       heard = w.heard;
       few = w.few;
       whole = report feed w.steps (refusals w.taken) word;
-      is = subst (λ b. IsReport rules feed w.answers (report feed w.steps (refusals w.taken) word) b) (sym (clean_is clean t w.steps w.taken is w.tally)) (report_of rules feed before after a b t word w);
+      is = subst (λ b. IsReport rules feed w.answers (report feed w.steps (refusals w.taken) word) b) (sym (clean_is clean t w.steps w.taken is w.tally)) (report_of rules feed hears a b t word w);
       text = subst (λ l. Outputs a e (λ x. x ≡ l)) (whole_is feed w.steps w.taken word)
           (text_then (feed_line feed ++ steps_text w.steps) (tail_of w.steps w.taken word) a b e w.text
           (text_then (refused_text (keep_last 16 (refusals w.taken))) (end_line word (sums_of w.steps (refusals w.taken))) b d e refused' last'));
@@ -163,9 +172,9 @@ reported rules feed before after a b d e t word clean w refused last is =
 -- ---- where it stops
 
 -- a front of the whole report was written
-front_of_whole : (rules : Rules) (feed : ℕ) (before after : Known Traffic) (a b e : Known Output) (t : Tallied) (word : EndWord) (w : WroteItems rules feed before after a b t word)
-    → Outputs b e (IsFront (tail_of w.steps w.taken word)) → Stopped rules feed before after a e
-front_of_whole rules feed before after a b e t word w tail = record {
+front_of_whole : (rules : Rules) (feed : ℕ) (hears : List Answer → Type 0) (a b e : Known Output) (t : Tallied) (word : EndWord) (w : WroteItems rules feed hears a b t word)
+    → Outputs b e (IsFront (tail_of w.steps w.taken word)) → Stopped rules feed hears a e
+front_of_whole rules feed hears a b e t word w tail = record {
   answers = w.answers;
   heard = w.heard;
   few = w.few;
@@ -175,26 +184,15 @@ front_of_whole rules feed before after a b e t word w tail = record {
       (λ x f. inr (
         report feed w.steps (refusals w.taken) word,
         is_clean w.steps,
-        report_of rules feed before after a b t word w,
+        report_of rules feed hears a b t word w,
         subst (λ l. IsFront l x) (whole_is feed w.steps w.taken word) f,
       ));
 }
 
-pub refused_front : (rules : Rules) (feed : ℕ) (before after : Known Traffic) (a b d : Known Output) (t : Tallied) (word : EndWord)
-    → WroteItems rules feed before after a b t word → Outputs b d (IsFront (refused_text t.refused)) → Stopped rules feed before after a d
-refused_front rules feed before after a b d t word w refused =
-    front_of_whole rules feed before after a b d t word w
-    (Outputs-weaker (IsFront (refused_text (keep_last 16 (refusals w.taken)))) (IsFront (tail_of w.steps w.taken word)) b d
-    (subst (λ (u : Tallied). Outputs b d (IsFront (refused_text u.refused))) w.tally refused)
-    (λ x f. front_more (refused_text (keep_last 16 (refusals w.taken))) (end_line word (sums_of w.steps (refusals w.taken))) x f))
-
-pub end_front : (rules : Rules) (feed : ℕ) (before after : Known Traffic) (a b d e : Known Output) (t : Tallied) (word : EndWord)
-    → WroteItems rules feed before after a b t word → Outputs b d (λ x. x ≡ refused_text t.refused) → Outputs d e (IsFront (end_line word t.sums)) → Stopped rules feed before after a e
-end_front rules feed before after a b d e t word w refused last =
-    front_of_whole rules feed before after a b e t word w
-    (front_then (refused_text (keep_last 16 (refusals w.taken))) (end_line word (sums_of w.steps (refusals w.taken))) b d e
-    (subst (λ (u : Tallied). Outputs b d (λ x. x ≡ refused_text u.refused)) w.tally refused)
-    (subst (λ (u : Tallied). Outputs d e (IsFront (end_line word u.sums))) w.tally last))
+tail_front : (rules : Rules) (feed : ℕ) (hears : List Answer → Type 0) (a b e : Known Output) (t : Tallied) (word : EndWord)
+    → WroteItems rules feed hears a b t word → Outputs b e (IsFront (refused_text t.refused ++ end_line word t.sums)) → Stopped rules feed hears a e
+tail_front rules feed hears a b e t word w tail =
+    front_of_whole rules feed hears a b e t word w (subst (λ (u : Tallied). Outputs b e (IsFront (refused_text u.refused ++ end_line word u.sums))) w.tally tail)
 
 none_given : (rules : Rules) → GivesSome rules [] (up_to rules.frames [])
 none_given rules = record {
@@ -218,18 +216,18 @@ none_fed (Some zero) = refl
 none_fed (Some (suc n)) = refl
 
 -- nothing was read yet
-pub first_front : (rules : Rules) (feed : ℕ) (u : Known Traffic) (a b : Known Output) → Outputs a b (IsFront (feed_line feed)) → Stopped rules feed u u a b
-first_front rules feed u a b text = record {
+pub first_front : (rules : Rules) (feed : ℕ) (hears : List Answer → Type 0) (a b : Known Output) → hears [] → Outputs a b (IsFront (feed_line feed)) → Stopped rules feed hears a b
+first_front rules feed hears a b none text = record {
   answers = [];
-  heard = heard_none u;
+  heard = none;
   few = omega arith;
   goes_on = goes_none rules;
   text = Outputs-weaker (IsFront (feed_line feed)) (IsReportFront rules feed []) a b text
       (λ x f. inl (up_to rules.frames [], none_given rules, [], new_tracker, none_fed rules.frames, front_more (feed_line feed) [] x f));
 }
 
-reading_front : (rules : Rules) (feed : ℕ) (u v : Known Traffic) (a0 a b : Known Output) → Outputs a0 a (λ x. x ≡ feed_line feed) → ReadsFront rules u v a b → Stopped rules feed u v a0 b
-reading_front rules feed u v a0 a b first read = record {
+reading_front : (rules : Rules) (feed : ℕ) (hears : List Answer → Type 0) (a0 a b : Known Output) → Outputs a0 a (λ x. x ≡ feed_line feed) → ReadsFront rules hears a b → Stopped rules feed hears a0 b
+reading_front rules feed hears a0 a b first read = record {
   answers = read.answers;
   heard = read.heard;
   few = read.few;
@@ -240,21 +238,21 @@ reading_front rules feed u v a0 a b first read = record {
 }
 
 -- the reading stopped by a write
-pub reading_stopped : (rules : Rules) (feed : ℕ) (u v : Known Traffic) (a0 a b : Known Output) (r : Result Bool Stop) (why : Stop)
-    → r ≡ Err why → r ≡ Err stop.Write → Outputs a0 a (λ x. x ≡ feed_line feed) → StopsReading rules u v a b why → Stopped rules feed u v a0 b
-reading_stopped rules feed u v a0 a b r stop.Write is e first read = reading_front rules feed u v a0 a b first read
-reading_stopped rules feed u v a0 a b r stop.Link is e first read = absurd (let x : Err stop.Link ≡ Err stop.Write = sym is ∙ e in cc)
-reading_stopped rules feed u v a0 a b r stop.NoMemory is e first read = absurd read
+pub reading_stopped : (rules : Rules) (feed : ℕ) (hears : List Answer → Type 0) (a0 a b : Known Output) (r : Result Bool Stop) (why : Stop)
+    → r ≡ Err why → r ≡ Err stop.Write → Outputs a0 a (λ x. x ≡ feed_line feed) → StopsReading rules hears a b why → Stopped rules feed hears a0 b
+reading_stopped rules feed hears a0 a b r stop.Write is e first read = reading_front rules feed hears a0 a b first read
+reading_stopped rules feed hears a0 a b r stop.Link is e first read = absurd (let x : Err stop.Link ≡ Err stop.Write = sym is ∙ e in cc)
+reading_stopped rules feed hears a0 a b r stop.NoMemory is e first read = absurd read
 
 -- nothing that a reading wants is memory
-pub reading_takes_none : (rules : Rules) (u v : Known Traffic) (a b : Known Output) (r : Result Bool Stop) (why : Stop)
-    → r ≡ Err why → r ≡ Err stop.NoMemory → StopsReading rules u v a b why → ⊥
-reading_takes_none rules u v a b r stop.NoMemory is e read = read
-reading_takes_none rules u v a b r stop.Write is e read = let x : Err stop.Write ≡ Err stop.NoMemory = sym is ∙ e in cc
-reading_takes_none rules u v a b r stop.Link is e read = let x : Err stop.Link ≡ Err stop.NoMemory = sym is ∙ e in cc
+pub reading_takes_none : (rules : Rules) (hears : List Answer → Type 0) (a b : Known Output) (r : Result Bool Stop) (why : Stop)
+    → r ≡ Err why → r ≡ Err stop.NoMemory → StopsReading rules hears a b why → ⊥
+reading_takes_none rules hears a b r stop.NoMemory is e read = read
+reading_takes_none rules hears a b r stop.Write is e read = let x : Err stop.Write ≡ Err stop.NoMemory = sym is ∙ e in cc
+reading_takes_none rules hears a b r stop.Link is e read = let x : Err stop.Link ≡ Err stop.NoMemory = sym is ∙ e in cc
 
-broken : (rules : Rules) (feed : ℕ) (u v : Known Traffic) (a0 a b : Known Output) → Outputs a0 a (λ x. x ≡ feed_line feed) → ReadsBroken rules u v a b → Broken rules feed u v a0 b
-broken rules feed u v a0 a b first read = record {
+broken : (rules : Rules) (feed : ℕ) (hears : List Answer → Type 0) (a0 a b : Known Output) → Outputs a0 a (λ x. x ≡ feed_line feed) → ReadsBroken rules hears a b → Broken rules feed hears a0 b
+broken rules feed hears a0 a b first read = record {
   answers = read.answers;
   heard = read.heard;
   few = read.few;
@@ -275,16 +273,16 @@ broken rules feed u v a0 a b first read = record {
 }
 
 -- the reading stopped by the link
-pub reading_broken : (rules : Rules) (feed : ℕ) (u v : Known Traffic) (a0 a b : Known Output) (r : Result Bool Stop) (why : Stop)
-    → r ≡ Err why → r ≡ Err stop.Link → Outputs a0 a (λ x. x ≡ feed_line feed) → StopsReading rules u v a b why → Broken rules feed u v a0 b
-reading_broken rules feed u v a0 a b r stop.Link is e first read = broken rules feed u v a0 a b first read
-reading_broken rules feed u v a0 a b r stop.Write is e first read = absurd (let x : Err stop.Write ≡ Err stop.Link = sym is ∙ e in cc)
-reading_broken rules feed u v a0 a b r stop.NoMemory is e first read = absurd read
+pub reading_broken : (rules : Rules) (feed : ℕ) (hears : List Answer → Type 0) (a0 a b : Known Output) (r : Result Bool Stop) (why : Stop)
+    → r ≡ Err why → r ≡ Err stop.Link → Outputs a0 a (λ x. x ≡ feed_line feed) → StopsReading rules hears a b why → Broken rules feed hears a0 b
+reading_broken rules feed hears a0 a b r stop.Link is e first read = broken rules feed hears a0 a b first read
+reading_broken rules feed hears a0 a b r stop.Write is e first read = absurd (let x : Err stop.Write ≡ Err stop.Link = sym is ∙ e in cc)
+reading_broken rules feed hears a0 a b r stop.NoMemory is e first read = absurd read
 
 -- what was ready at the end wasn't all written
-pub rest_front : (rules : Rules) (feed : ℕ) (u v : Known Traffic) (a0 a b d : Known Output) (c c' : State) (f : TrackerState) (t : Tallied) (word : EndWord)
-    → Outputs a0 a (λ x. x ≡ feed_line feed) → ReadsTo rules u v a b c f t word → items_in t.sums ≡ f.calls → c' ≡ after_finish c rules.frames → PrintsFront rules.frames c' f b d → Stopped rules feed u v a0 d
-rest_front rules feed u v a0 a b d c c' f t word first read counted finished front =
+pub rest_front : (rules : Rules) (feed : ℕ) (hears : List Answer → Type 0) (a0 a b d : Known Output) (c c' : State) (f : TrackerState) (t : Tallied) (word : EndWord)
+    → Outputs a0 a (λ x. x ≡ feed_line feed) → ReadsTo rules hears a b c f t word → items_in t.sums ≡ f.calls → c' ≡ after_finish c rules.frames → PrintsFront rules.frames c' f b d → Stopped rules feed hears a0 d
+rest_front rules feed hears a0 a b d c c' f t word first read counted finished front =
     let s = read.so_far in
     let rest : PrintsFront rules.frames (after_finish read.mid rules.frames) f b d = the_front rules.frames read.mid c c' f t read.fit read.drained counted finished b d front in
     record {
@@ -316,3 +314,63 @@ rest_front rules feed u v a0 a b d c c' f t word first read counted finished fro
             h,
           ));
     }
+
+-- ---- the rest of a report
+
+module _ (rules : Rules) (feed : ℕ) (hears : List Answer → Type 0) (a0 a b : Known Output) (c : State) (f : TrackerState) (t : Tallied) (word : EndWord)
+    (first : Outputs a0 a (λ x. x ≡ feed_line feed)) (read : ReadsTo rules hears a b c f t word) (counted : items_in t.sums ≡ f.calls) where
+  -- with its rest the report is whole
+  pub reported_whole : (e : Known Output) (clean : Bool) → WritesRest rules.frames word c f t b e clean → Reported rules feed hears a0 e clean
+  reported_whole e clean rest =
+      reported rules feed hears a0 rest.given rest.named e rest.tally word clean
+      (wrote_items rules feed hears a0 a b rest.given c (after_finish c rules.frames) rest.last f rest.after t rest.tally word first read counted refl rest.ready)
+      rest.refused rest.ends rest.clean_is
+
+  pub reported_front : (e : Known Output) → RestFront rules.frames word c f t b e → Stopped rules feed hears a0 e
+  reported_front e (inl front) = rest_front rules feed hears a0 a b e c (after_finish c rules.frames) f t word first read counted refl front
+  reported_front e (inr rest) =
+      tail_front rules feed hears a0 rest.given e rest.tally word
+      (wrote_items rules feed hears a0 a b rest.given c (after_finish c rules.frames) rest.last f rest.after t rest.tally word first read counted refl rest.ready)
+      rest.front
+
+-- ---- how the rest was written
+
+module _ (told : Option ℕ) (word : EndWord) (c c' d : State) (f g : TrackerState) (t u : Tallied) (a b e : Known Output)
+    (finished : c' ≡ after_finish c told) (ready : PrintsReady told c' d f g t u a b) where
+  ready_is : PrintsReady told (after_finish c told) d f g t u a b
+  ready_is = subst (λ s. PrintsReady told s d f g t u a b) finished ready
+
+  pub rest_written : (h : Known Output) (clean : Bool) → Outputs b e (λ x. x ≡ refused_text u.refused) → Outputs e h (λ x. x ≡ end_line word u.sums)
+      → IsTrue clean ↔ ((u.sums.missing ≡ 0) × (u.sums.bad ≡ 0)) → WritesRest told word c f t a h clean
+  rest_written h clean refused last is = record {
+    last = d;
+    after = g;
+    tally = u;
+    given = b;
+    named = e;
+    ready = ready_is;
+    refused = refused;
+    ends = last;
+    clean_is = is;
+  }
+
+  pub refused_broken : Outputs b e (IsFront (refused_text u.refused)) → RestFront told word c f t a e
+  refused_broken refused = inr (record {
+    last = d;
+    after = g;
+    tally = u;
+    given = b;
+    ready = ready_is;
+    front = Outputs-weaker (IsFront (refused_text u.refused)) (IsFront (refused_text u.refused ++ end_line word u.sums)) b e refused
+        (λ x f. front_more (refused_text u.refused) (end_line word u.sums) x f);
+  })
+
+  pub end_broken : (h : Known Output) → Outputs b e (λ x. x ≡ refused_text u.refused) → Outputs e h (IsFront (end_line word u.sums)) → RestFront told word c f t a h
+  end_broken h refused last = inr (record {
+    last = d;
+    after = g;
+    tally = u;
+    given = b;
+    ready = ready_is;
+    front = front_then (refused_text u.refused) (end_line word u.sums) b e h refused last;
+  })

@@ -16,7 +16,7 @@ open_untold : (rules : Rules) (xs : List Answer) → IsOpen rules xs → IsOpen 
 open_untold rules xs is_open word.Frames h = h
 open_untold rules xs is_open word.Limit h = is_open word.Limit h
 open_untold rules xs is_open word.Idle h = is_open word.Idle h
-open_untold rules xs is_open word.Input h = h
+open_untold rules xs is_open word.Input h = is_open word.Input h
 open_untold rules xs is_open word.Paths h = h
 
 broken_untold : (rules : Rules) (before xs : List Answer) → IsBroken rules before xs → IsBroken (untold rules) before xs

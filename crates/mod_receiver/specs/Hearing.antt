@@ -24,5 +24,5 @@ HeardTold answers (Some before) None = 2 ^ 62 < before.calls + length answers
 HeardTold answers None (Some after) = ⊥
 HeardTold answers (Some before) (Some after) = TakesAnswers answers before after
 
-abbrev pub Heard : List Answer → Known Traffic → Known Traffic → Type 0
-Heard answers before after = HeardTold answers before.told after.told
+abbrev pub Heard : Known Traffic → Known Traffic → List Answer → Type 0
+Heard before after answers = HeardTold answers before.told after.told

@@ -1,23 +1,23 @@
 -- What a receiver has written of what came so far.
-use Rattle.std.specs.Prelude.{ℕ, ◌≡◌, ◌≤◌, ◌+◌, ◌-◌, Bool, false, min, nat_le, List, [], ◌∷◌, length, Option, None, Some}
+use Rattle.std.specs.Prelude.{ℕ, ◌≡◌, ◌≤◌, ◌+◌, ◌-◌, ◌⊎◌, ◌↔◌, IsTrue, Bool, false, min, nat_le, List, [], ◌∷◌, ◌++◌, length, Option, None, Some}
 use Rattle.circular_buffer.specs.Buffer.{keep_last}
 use Rattle.drm_links.specs.Told.{Known}
-use Rattle.drm_links.specs.Link.{Answer, Traffic}
+use Rattle.drm_links.specs.Link.{Answer}
 use Rattle.drm_links.specs.Sink.{Output, Outputs, IsFront}
 use Rattle.dcp_collect.specs.declared.taken.Taken.{Taken}
-use Rattle.dcp_collect.specs.State.{State}
+use Rattle.dcp_collect.specs.State.{State, after_finish}
 use Rattle.dcp_collect.specs.Runs.{Item, Takes, Gives, up_to}
 use Rattle.collect_laws.specs.Laws.{IsFit}
 use Rattle.drm_switches.specs.Tracker.{TrackerState, new_tracker}
 use Rattle.mod_feed.specs.Feeding.{FeedStep, Feeds}
 use Rattle.report_lines.specs.declared.report.EndWord.{EndWord}
 use Rattle.report_lines.specs.declared.report.Sums.{Sums}
-use Rattle.mod_receiver.specs.Hearing.{Heard}
+use Rattle.report_lines.specs.Report.{end_line}
 use Rattle.mod_receiver.specs.declared.rules.Rules.{Rules}
 use Rattle.mod_receiver.specs.declared.stop.Stop.{Stop}
 use Rattle.mod_receiver.specs.declared.stop.Stop.TheVariants as stop
 use Rattle.mod_receiver.specs.Reading.{Gave, EndsBy, GoesOn, IsBroken, most_answers}
-use Rattle.mod_receiver.specs.Reports.{refusals, steps_text, sums_of}
+use Rattle.mod_receiver.specs.Reports.{refusals, refused_text, steps_text, sums_of}
 use Rattle.mod_receiver.specs.Tallies.{Tallied, counted, noted}
 use Rattle.mod_receiver.specs.Received.{GivesFirst, GivesSome}
 
@@ -93,8 +93,8 @@ pub record TakesFront (told : Option ℕ) (bytes : List ℕ) (c : State) (f : Tr
   pub front : PrintsFront told kept f a b
 
 -- The reading has come so far: these answers came, and what was ready was written.
-pub record SoFar (rules : Rules) (before after : Known Traffic) (a b : Known Output) (c : State) (f : TrackerState) (t : Tallied) (answers : List Answer) : Type 0 where
-  pub heard : Heard answers before after
+pub record SoFar (rules : Rules) (hears : List Answer → Type 0) (a b : Known Output) (c : State) (f : TrackerState) (t : Tallied) (answers : List Answer) : Type 0 where
+  pub heard : hears answers
   pub goes_on : GoesOn rules answers
   pub taken : List Taken
   pub items : List Item
@@ -105,19 +105,19 @@ pub record SoFar (rules : Rules) (before after : Known Traffic) (a b : Known Out
   pub text : Outputs a b (λ text. text ≡ steps_text steps)
 
 -- The reading is finished, for this reason. Where the told number isn't reached, nothing more is ready.
-pub record ReadsTo (rules : Rules) (before after : Known Traffic) (a b : Known Output) (c : State) (f : TrackerState) (t : Tallied) (word : EndWord) : Type 0 where
+pub record ReadsTo (rules : Rules) (hears : List Answer → Type 0) (a b : Known Output) (c : State) (f : TrackerState) (t : Tallied) (word : EndWord) : Type 0 where
   pub answers : List Answer
   pub mid : State
-  pub so_far : SoFar rules before after a b mid f t answers
+  pub so_far : SoFar rules hears a b mid f t answers
   pub fit : IsFit mid
   pub drained : is_full rules.frames (items_in t.sums) ≡ false → c ≡ mid
   pub few : length answers ≤ most_answers rules
   pub ends : EndsBy rules answers word
 
 -- the reading ended in `Failed`, and what was given before was written
-pub record ReadsBroken (rules : Rules) (before after : Known Traffic) (a b : Known Output) : Type 0 where
+pub record ReadsBroken (rules : Rules) (hears : List Answer → Type 0) (a b : Known Output) : Type 0 where
   pub answers : List Answer
-  pub heard : Heard answers before after
+  pub heard : hears answers
   pub few : length answers ≤ most_answers rules
   pub sound : List Answer
   pub reading : IsBroken rules sound answers
@@ -131,9 +131,9 @@ pub record ReadsBroken (rules : Rules) (before after : Known Traffic) (a b : Kno
   pub text : Outputs a b (λ text. text ≡ steps_text steps)
 
 -- the reading stopped, and a front of the lines of some first items was written
-pub record ReadsFront (rules : Rules) (before after : Known Traffic) (a b : Known Output) : Type 0 where
+pub record ReadsFront (rules : Rules) (hears : List Answer → Type 0) (a b : Known Output) : Type 0 where
   pub answers : List Answer
-  pub heard : Heard answers before after
+  pub heard : hears answers
   pub few : length answers ≤ most_answers rules
   pub goes_on : GoesOn rules answers
   pub items : List Item
@@ -143,8 +143,33 @@ pub record ReadsFront (rules : Rules) (before after : Known Traffic) (a b : Know
   pub feeds : Feeds new_tracker items steps last
   pub text : Outputs a b (IsFront (steps_text steps))
 
+-- The rest of a report was written: what is ready once the collector is finished, the refusals, and why the report ends.
+pub record WritesRest (told : Option ℕ) (word : EndWord) (c : State) (f : TrackerState) (t : Tallied) (a b : Known Output) (clean : Bool) : Type 0 where
+  pub last : State
+  pub after : TrackerState
+  pub tally : Tallied
+  pub given : Known Output
+  pub named : Known Output
+  pub ready : PrintsReady told (after_finish c told) last f after t tally a given
+  pub refused : Outputs given named (λ text. text ≡ refused_text tally.refused)
+  pub ends : Outputs named b (λ text. text ≡ end_line word tally.sums)
+  pub clean_is : IsTrue clean ↔ ((tally.sums.missing ≡ 0) × (tally.sums.bad ≡ 0))
+
+-- all that was ready was written, and a front of what comes behind it
+pub record WritesTail (told : Option ℕ) (word : EndWord) (c : State) (f : TrackerState) (t : Tallied) (a b : Known Output) : Type 0 where
+  pub last : State
+  pub after : TrackerState
+  pub tally : Tallied
+  pub given : Known Output
+  pub ready : PrintsReady told (after_finish c told) last f after t tally a given
+  pub front : Outputs given b (IsFront (refused_text tally.refused ++ end_line word tally.sums))
+
+-- a front of the rest was written
+abbrev pub RestFront : Option ℕ → EndWord → State → TrackerState → Tallied → Known Output → Known Output → Type 0
+RestFront told word c f t a b = PrintsFront told (after_finish c told) f a b ⊎ WritesTail told word c f t a b
+
 -- what stops a reading
-abbrev pub StopsReading : Rules → Known Traffic → Known Traffic → Known Output → Known Output → Stop → Type 0
-StopsReading rules before after a b stop.Link = ReadsBroken rules before after a b
-StopsReading rules before after a b stop.Write = ReadsFront rules before after a b
-StopsReading rules before after a b stop.NoMemory = ⊥
+abbrev pub StopsReading : Rules → (List Answer → Type 0) → Known Output → Known Output → Stop → Type 0
+StopsReading rules hears a b stop.Link = ReadsBroken rules hears a b
+StopsReading rules hears a b stop.Write = ReadsFront rules hears a b
+StopsReading rules hears a b stop.NoMemory = ⊥

@@ -1,7 +1,7 @@
--- When a receiver has read enough of a link.
+-- When a receiver has read enough of a link, or of a capture.
 use Rattle.std.specs.Prelude.{ℕ, ◌≡◌, ◌+◌, ◌*◌, ◌<◌, ◌≤◌, List, [], ◌∷◌, ◌++◌, length, take, Option, None, Some}
 use Rattle.std.specs.List.{filter_map, AllByRecursion}
-use Rattle.drm_links.specs.Link.{Answer, Datagram, Idle, Failed, datagram_of}
+use Rattle.drm_links.specs.Link.{Answer, Datagram, Idle, Failed, End, datagram_of}
 use Rattle.dcp_collect.specs.declared.taken.Taken.{Taken}
 use Rattle.dcp_collect.specs.State.{State, made}
 use Rattle.dcp_collect.specs.Runs.{Item, Steps}
@@ -19,6 +19,7 @@ idles_from n [] = n
 idles_from n (Datagram bytes ∷ answers) = idles_from 0 answers
 idles_from n (Idle ∷ answers) = idles_from (n + 1) answers
 idles_from n (Failed ∷ answers) = idles_from 0 answers
+idles_from n (End ∷ answers) = idles_from 0 answers
 
 abbrev pub idles : List Answer → ℕ
 idles answers = idles_from 0 answers
@@ -32,12 +33,17 @@ abbrev pub HasGiven : Rules → List Answer → Option ℕ → Type 0
 HasGiven rules answers None = ⊥
 HasGiven rules answers (Some n) = (taken : List Taken) × (items : List Item) × (end : State) × Gave rules answers taken items end × (n ≤ length items)
 
+-- nothing comes after these answers
+abbrev pub HaveEnded : List Answer → Type 0
+HaveEnded answers = (before : List Answer) × (answers ≡ before ++ End ∷ [])
+
 -- a reason to end after these answers
 abbrev pub Holds : Rules → List Answer → EndWord → Type 0
 Holds rules answers word.Frames = HasGiven rules answers rules.frames
 Holds rules answers word.Limit = length (datagrams answers) ≡ rules.limit
 Holds rules answers word.Idle = rules.idle ≤ idles answers
-Holds rules answers other = ⊥
+Holds rules answers word.Input = HaveEnded answers
+Holds rules answers word.Paths = ⊥
 
 abbrev pub IsOpen : Rules → List Answer → Type 0
 IsOpen rules answers = (w : EndWord) → Holds rules answers w → ⊥
@@ -48,13 +54,17 @@ EndsBy rules answers word.Frames = Holds rules answers word.Frames
 EndsBy rules answers word.Limit = Holds rules answers word.Limit × (Holds rules answers word.Frames → ⊥)
 EndsBy rules answers word.Idle =
     Holds rules answers word.Idle × (Holds rules answers word.Frames → ⊥) × (Holds rules answers word.Limit → ⊥)
-EndsBy rules answers other = ⊥
+EndsBy rules answers word.Input =
+    Holds rules answers word.Input × (Holds rules answers word.Frames → ⊥) × (Holds rules answers word.Limit → ⊥)
+    × (Holds rules answers word.Idle → ⊥)
+EndsBy rules answers word.Paths = ⊥
 
 -- the answer didn't fail
 abbrev pub IsSound : Answer → Type 0
 IsSound (Datagram bytes) = Unit {0}
 IsSound Idle = Unit {0}
 IsSound Failed = ⊥
+IsSound End = Unit {0}
 
 -- Nothing failed, and nothing shorter than these answers is finished.
 pub record GoesOn (rules : Rules) (answers : List Answer) : Type 0 where

@@ -1,5 +1,5 @@
 -- What a receiver does.
-use Rattle.std.specs.Prelude.{ℕ, ◌≡◌, ◌≤◌, ◌<◌, ◌⊎◌, Bool, true, IfSome, List, [], ◌∷◌, ◌++◌, length, Option}
+use Rattle.std.specs.Prelude.{ℕ, ◌≡◌, ◌≤◌, ◌<◌, ◌⊎◌, Bool, true, IfSome, List, [], ◌∷◌, ◌++◌, length}
 use Rattle.drm_links.specs.Told.{Known}
 use Rattle.drm_links.specs.Link.{Answer, Datagram, Traffic}
 use Rattle.drm_links.specs.Sink.{Output, Outputs, IsFront}
@@ -79,28 +79,29 @@ IsReportFront rules feed answers text =
     × Feeds new_tracker items steps after × IsFront (feed_line feed ++ steps_text steps) text)
     ⊎ ((whole : List ℕ) × (clean : Bool) × IsReport rules feed answers whole clean × IsFront whole text)
 
--- The reading was finished, and the report of what was read was written.
-pub record Reported (rules : Rules) (feed : ℕ) (before after : Known Traffic) (a b : Known Output) (clean : Bool) : Type 0 where
+-- The reading was finished, and the report of what was read was written. What was heard says which answers it can be: of a
+-- link those that it gave in between.
+pub record Reported (rules : Rules) (feed : ℕ) (hears : List Answer → Type 0) (a b : Known Output) (clean : Bool) : Type 0 where
   pub answers : List Answer
-  pub heard : Heard answers before after
+  pub heard : hears answers
   pub few : length answers ≤ most_answers rules
   pub whole : List ℕ
   pub is : IsReport rules feed answers whole clean
   pub text : Outputs a b (λ text. text ≡ whole)
 
 -- The reading ended in `Failed`, and what was given before was written.
-pub record Broken (rules : Rules) (feed : ℕ) (before after : Known Traffic) (a b : Known Output) : Type 0 where
+pub record Broken (rules : Rules) (feed : ℕ) (hears : List Answer → Type 0) (a b : Known Output) : Type 0 where
   pub answers : List Answer
-  pub heard : Heard answers before after
+  pub heard : hears answers
   pub few : length answers ≤ most_answers rules
   pub whole : List ℕ
   pub is : IsBrokenOff rules feed answers whole
   pub text : Outputs a b (λ text. text ≡ whole)
 
 -- A write failed: nothing shorter than what was read is finished, and a front of its report was written.
-pub record Stopped (rules : Rules) (feed : ℕ) (before after : Known Traffic) (a b : Known Output) : Type 0 where
+pub record Stopped (rules : Rules) (feed : ℕ) (hears : List Answer → Type 0) (a b : Known Output) : Type 0 where
   pub answers : List Answer
-  pub heard : Heard answers before after
+  pub heard : hears answers
   pub few : length answers ≤ most_answers rules
   pub goes_on : GoesOn rules answers
   pub text : Outputs a b (IsReportFront rules feed answers)
@@ -119,9 +120,9 @@ pub record IsReasonable (options : Options) : Type 0 where
 
 -- what each ending says; memory is wanted before anything is read or written
 abbrev pub EndsAs : Rules → ℕ → Known Traffic → Known Traffic → Known Output → Known Output → Ended → Type 0
-EndsAs rules feed before after a b (Done clean) = Reported rules feed before after a b clean
-EndsAs rules feed before after a b LinkFailed = Broken rules feed before after a b
-EndsAs rules feed before after a b WriteFailed = Stopped rules feed before after a b
+EndsAs rules feed before after a b (Done clean) = Reported rules feed (Heard before after) a b clean
+EndsAs rules feed before after a b LinkFailed = Broken rules feed (Heard before after) a b
+EndsAs rules feed before after a b WriteFailed = Stopped rules feed (Heard before after) a b
 EndsAs rules feed before after a b NoMemory = (after ≡ before) × (b ≡ a)
 
 -- where it is done, P holds of whether no item is missing or bad

@@ -1,12 +1,15 @@
 //! Reading a link: each datagram is taken, and each item that it makes ready is written.
 
 ghost use Rattle.std.specs.Prelude.{◌≡◌, ◌≤◌, ◌<◌, ◌^◌, length, false, None, Err, IfOk, IfErr, OnOk, OnErr, IsErr, IfSome};
+ghost use Rattle.std.specs.List.{AllByRecursion};
+ghost use Rattle.report_lines.specs.FaultWords.{IsTold};
+ghost use Rattle.mod_receiver.specs.Hearing.{Heard};
 ghost use Rattle.dcp_collect.specs.State.{made, ready as is_ready};
 ghost use Rattle.drm_switches.specs.Tracker.{new_tracker};
 ghost use Rattle.drm_links.specs.Told.{HasCause};
 ghost use Rattle.mod_receiver.specs.Received.{rules_of, IsReasonable, Reported, Broken, Stopped};
 ghost use Rattle.collect_laws.specs.Laws.{IsFit};
-ghost use Rattle.mod_receiver.specs.Printed.{items_in, is_full, KeepsPace, PrintsReady, PrintsFront, PrintsTaken, TakesFront, ReadsTo, StopsReading};
+ghost use Rattle.mod_receiver.specs.Printed.{items_in, is_full, KeepsPace, PrintsReady, PrintsFront, PrintsTaken, TakesFront, ReadsTo, StopsReading, WritesRest, RestFront};
 ghost use Rattle.mod_receiver.specs.Tallies.{new_tally};
 ghost use Rattle.mod_receiver.specs.declared.stop.Stop.{Stop};
 
@@ -15,8 +18,8 @@ use crate::stop::Stop;
 use crate::tally::Tally;
 use dcp_collect::Collector;
 use drm_links::{Came, Link, Sink, WriteFault};
-use report_lines::{EndWord, write_feed};
 use mod_feed::Feed;
+use report_lines::{EndWord, write_feed};
 use std::alloc::Global;
 
 // Writes the items that are ready, up to the told number of them. Nothing more is taken out of the collector then.
@@ -111,10 +114,10 @@ fn read_all<L: Link, O: Sink>(
     ensures pace { IfOk result (λ _. KeepsPace options.now.frames collector.new feed.new tally.new) }
     ensures end { IfOk result (λ _. collector.new.end ≡ None) }
     ensures finished { IfOk result (ReadsTo (rules_of collector.old options.now)
-        (L.known link.old) (L.known link.new) (O.known out.old) (O.known out.new)
+        (Heard (L.known link.old) (L.known link.new)) (O.known out.old) (O.known out.new)
         collector.new feed.new tally.new) }
     ensures stopped { IfErr result (StopsReading (rules_of collector.old options.now)
-        (L.known link.old) (L.known link.new) (O.known out.old) (O.known out.new)) }
+        (Heard (L.known link.old) (L.known link.new)) (O.known out.old) (O.known out.new)) }
     ensures link { HasCause (L.known link.old) (L.known link.new) (result ≡ Err Stop.Link) }
     ensures write { HasCause (O.known out.old) (O.known out.new) (result ≡ Err Stop.Write) }
 {
@@ -169,11 +172,11 @@ pub(crate) fn write_report<L: Link, O: Sink>(
     requires collector { collector.old ≡ made collector.old.window collector.old.first }
     requires feed { feed.old ≡ new_tracker }
     ensures finished { IfOk result (Reported (rules_of collector.old options.now) options.now.feed
-        (L.known link.old) (L.known link.new) (O.known out.old) (O.known out.new)) }
+        (Heard (L.known link.old) (L.known link.new)) (O.known out.old) (O.known out.new)) }
     ensures broken { result ≡ Err Stop.Link → Broken (rules_of collector.old options.now) options.now.feed
-        (L.known link.old) (L.known link.new) (O.known out.old) (O.known out.new) }
+        (Heard (L.known link.old) (L.known link.new)) (O.known out.old) (O.known out.new) }
     ensures front { result ≡ Err Stop.Write → Stopped (rules_of collector.old options.now) options.now.feed
-        (L.known link.old) (L.known link.new) (O.known out.old) (O.known out.new) }
+        (Heard (L.known link.old) (L.known link.new)) (O.known out.old) (O.known out.new) }
     ensures memory { result ≡ Err Stop.NoMemory → (link.new ≡ link.old) × (out.new ≡ out.old) }
     ensures link { HasCause (L.known link.old) (L.known link.new) (result ≡ Err Stop.Link) }
     ensures write { HasCause (O.known out.old) (O.known out.new) (result ≡ Err Stop.Write) }
@@ -181,8 +184,32 @@ pub(crate) fn write_report<L: Link, O: Sink>(
     let mut tally = Tally::new(alloc)?;
     write_feed(out, options.feed)?;
     let word = read_all(collector, feed, &mut tally, link, options, buffer, out)?;
-    collector.finish(options.frames);
-    drain(collector, feed, &mut tally, options.frames, out)?;
+    Ok(write_rest(collector, feed, &mut tally, options.frames, word, out)?)
+}
+
+/// Writes the rest of a report that ends for this reason: what is ready then, and which datagrams were refused. Answers
+/// whether no frame is missing or bad.
+pub(crate) fn write_rest<O: Sink>(
+    collector: &mut Collector,
+    feed: &mut Feed,
+    tally: &mut Tally,
+    frames: Option<u64>,
+    word: EndWord,
+    out: &mut O,
+) -> Result<bool, WriteFault>
+    requires end { collector.old.end ≡ None }
+    requires few { IfSome frames (λ n. n ≤ 3000000) }
+    requires fit { IsFit collector.old }
+    requires pace { KeepsPace frames collector.old feed.old tally.old }
+    requires refused { AllByRecursion (λ r. IsTold r.taken) tally.old.refused }
+    ensures written { IfOk result (WritesRest frames word collector.old feed.old tally.old
+        (O.known out.old) (O.known out.new)) }
+    ensures front { OnErr result (RestFront frames word collector.old feed.old tally.old
+        (O.known out.old) (O.known out.new)) }
+    ensures cause { HasCause (O.known out.old) (O.known out.new) (IsErr result) }
+{
+    collector.finish(frames);
+    drain(collector, feed, tally, frames, out)?;
     tally.write_refused(out)?;
     tally.write_end(out, word)?;
     Ok(tally.is_clean())
