@@ -66,6 +66,7 @@ pub fn air_over<R: Threads + Sync, O: Sink>(
     ensures kind { (fault : Fault) → result ≡ Err fault → (fault ≡ Fault.NoMemory) ⊎ (fault ≡ Fault.Write) }
     ensures cause { HasCause (O.known out.old) (O.known out.new) (result ≡ Err Fault.Write) }
 {
+    plan.always_valid();
     reports_follow();
     laws_of_deliveries();
     one_run();

@@ -1,3 +1,5 @@
 pub mod ValidPlan
 pub mod Ranges
 pub mod Delivering
+pub mod Counting
+pub mod Running

@@ -1,4 +1,4 @@
-use Rattle.std.proofs.Common.{◌≡◌, ◌∙◌, ap, Err}
+use Rattle.std.proofs.Common.{◌≡◌, ◌∙◌, ap, Err, rules}
 use Rattle.std.proofs.lemmas.Result.{err_from_is_err_and}
 use Rattle.drm_schedule.specs.Valid.{IsSchedule}
 use Rattle.drm_air.proofs.AirLemmas.{no_schedule, no_script, ran_over, feeds_are}
@@ -23,11 +23,7 @@ returns-in-Err g c =
     }
 
 pub air_over-requires : goal.air_over-requires
-air_over-requires g c = record {
-  some = c.requires.some;
-  few = c.requires.few;
-  feeds = feeds_are c.in_ok-plan.plan c.in-Ok.script c.in-Ok.ensures.script;
-}
+air_over-requires g c = (search rules, (c.requires.some, (c.requires.few, feeds_are c.in_ok-plan.plan c.in-Ok.script c.in-Ok.ensures.script)))
 
 pub returns : goal.returns
 returns g c =

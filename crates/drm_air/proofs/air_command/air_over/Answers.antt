@@ -1,13 +1,15 @@
 use Rattle.std.proofs.Common.{◌≡◌, ℕ, ◌<◌, List, length, slice_index_or, sym, ◌∙◌, ap, subst}
+use Rattle.std.specs.List.{All}
 use Rattle.drm_links.specs.MemoryLink.{LinkState, link_known}
 use Rattle.drm_schedule.specs.Valid.{IsSchedule}
 use Rattle.mod_receiver.specs.declared.job.Job.{Job}
-use Rattle.mod_receiver.specs.Jobs.{HasEnded}
+use Rattle.mod_receiver.specs.Jobs.{HasEnded, IsReady}
 use Rattle.mod_receiver.specs.Settling.{Settles}
 use Rattle.drm_air.specs.Air.{air_rules}
 use Rattle.drm_receive.proofs.ReceiveLemmas.{Ran, written_back, write_is}
+use Rattle.mod_receiver.proofs.JobLemmas.{jobs_ready}
 use Rattle.mod_receiver.proofs.Composing.{DeliveryLaws}
-use Rattle.drm_air.proofs.AirLemmas.{aired, kind_by}
+use Rattle.drm_air.proofs.AirLemmas.{air_in_range, aired, kind_by}
 use Rattle.drm_air.proofs.air_command.air_over.Goals as goal
 
 pub returns : goal.returns
@@ -22,7 +24,7 @@ returns g c =
     } in
     let plan = c.args.plan.now in
     let feeds = c.args.script.now in
-    let valid : IsSchedule plan = rw (← c.args.plan.view_is) c.args.plan.invariant in
+    let valid : IsSchedule plan = c.always_valid.ensures.schedule in
     let before : List (Job LinkState) = c.in_ok-jobs.jobs.items in
     let after : List (Job LinkState) = c.run_all.new.jobs in
     let value : c.as_mut_slice.result.now ≡ before = c.as_mut_slice.ensures.value in
@@ -43,3 +45,11 @@ returns g c =
           c.settle.result g.O.Sink.known c.args.out.now c.settle.new.out settled);
       cause = record { later = c.settle.ensures.cause.later; rose = λ is. c.settle.ensures.cause.rose (write_is c.settle.result (sym c.ending.ensures ∙ is)) };
     }
+
+pub run_all-requires-after_bounds : goal.run_all-requires-after_bounds
+run_all-requires-after_bounds g c = λ lifetimes within.
+    let plan = c.args.plan.now in
+    let jobs : List (Job LinkState) = c.in_ok-jobs.jobs.items in
+    subst (λ (xs : List (Job LinkState)). All IsReady xs) (sym c.as_mut_slice.ensures.value)
+    (jobs_ready (air_rules plan c.args.window) jobs (length c.args.script.now) (air_in_range plan c.args.window c.always_valid.ensures.schedule c.requires.some c.requires.few)
+    (ap length (sym c.as_mut_slice.ensures.value) ∙ c.as_mut_slice.ensures.len ∙ c.in_ok-jobs.ensures.many) c.in_ok-jobs.ensures.jobs)

@@ -1,0 +1,133 @@
+-- What a run of an exercise has written.
+use Rattle.std.proofs.Common.{◌≡◌, ℕ, zero, suc, ◌+◌, ◌<◌, ◌≤◌, ◌⊎◌, inl, inr, ◌↔◌, IsTrue, Bool, true, false, List, [], ◌∷◌, ◌++◌, length, Option, Some, None, IsSome, Result, Ok, Err, refl, sym, ◌∙◌, ap, subst, arith, rules, le_refl}
+use Rattle.std.specs.Prelude.{if◌then◌else◌, nat_le, slice_index_or, ◌^◌}
+use Rattle.std.specs.List.{All, flat_map}
+use Rattle.std.proofs.lemmas.List.{append-nil}
+use Rattle.drm_bits.specs.Crc.{IsCheckOf}
+use Rattle.drm_links.specs.Told.{HasFailed, Known, HasCause, ToldThrough, told_for}
+use Rattle.drm_links.specs.Sink.{Output, Outputs, WritesText, IsFront, Writes}
+use Rattle.script_lines.specs.declared.delivery.Delivery.{Delivery}
+use Rattle.mod_receiver.specs.Ahead.{Report}
+use Rattle.mod_receiver.specs.Texts.{text_known}
+use Rattle.mod_receiver.specs.declared.text.Text.{Text}
+use Rattle.drm_receive.specs.Receive.{all_texts, AreClean, WritesReports}
+use Rattle.drm_air.specs.Air.{IsAired, AreAired}
+use Rattle.drm_faults.specs.declared.fault.Fault.{Fault}
+use Rattle.drm_faults.specs.declared.fault.Fault.TheVariants as faults
+use Rattle.drm_exercise.specs.Exercise.{plan, deliveries, line}
+use Rattle.drm_exercise.specs.Run.{IsExercise, WritesLine, ExerciseRun}
+
+-- ---- the text of one receiver
+
+told_some : (calls : ℕ) (o : Output) → IsSome (told_for calls o) → told_for calls o ≡ Some o
+told_some calls o some = by (nat_le calls (2 ^ 62)) some
+  where
+    by : (told : Bool) → IsSome (if told then Some o else None) → (if told then Some o else None) ≡ Some o
+    by true some = refl
+    by false some = absurd cc
+
+told_through : (a b : Option Output) (x y : Output) (P : Output → Output → Type 0) → a ≡ Some x → b ≡ Some y → ToldThrough a b P → P x y
+told_through a b x y P is also told =
+    let Q : Option Output → Type 0 = λ o. ToldThrough o b P in
+    let R : Option Output → Type 0 = λ o. ToldThrough (Some x) o P in
+    subst R also (subst Q is told)
+
+-- what a text tells that was new
+written : (old new : Text) (P : List ℕ → Type 0) → (text_known old).told ≡ Some (record { written = []; calls = 0 }) → IsSome (text_known new).told → Outputs (text_known old) (text_known new) P → P new.bytes.items
+written old new P fresh told out =
+    let wrote : WritesText P (record { written = []; calls = 0 }) (record { written = new.bytes.items; calls = new.calls }) =
+    told_through (text_known old).told (text_known new).told (record { written = []; calls = 0 }) (record { written = new.bytes.items; calls = new.calls }) (WritesText P) fresh (told_some new.calls _ told) out in
+    subst P (sym wrote.1) wrote.2
+
+-- ---- its report
+
+record IsOne (n : ℕ) (reports : List Report) : Type 0 where
+  pub r : Report
+  pub is : reports ≡ r ∷ []
+  pub aired : IsAired (plan n) 8 1 (deliveries n) r
+
+one_report : (n : ℕ) (reports : List Report) → AreAired (plan n) 8 (deliveries n ∷ []) reports → IsOne n reports
+one_report n [] are = absurd (let many = are.as_many in omega (arith, many))
+one_report n (r ∷ []) are = record { r = r; is = refl; aired = are.each 0 [] r (omega arith) }
+one_report n (r ∷ s ∷ more) are = absurd (let many = are.as_many in omega (arith, many))
+
+clean_is : (clean clean' : Bool) → (IsTrue clean ↔ IsTrue clean') → clean ≡ clean'
+clean_is true true iff = refl
+clean_is true false iff = absurd (let t : IsTrue false = iff.0 refl in cc)
+clean_is false true iff = absurd (let t : IsTrue false = iff.1 refl in cc)
+clean_is false false iff = refl
+
+one_clean : (clean : Bool) (r : Report) → (IsTrue clean ↔ AreClean (r ∷ [])) → clean ≡ r.clean
+one_clean clean r iff = clean_is clean r.clean (
+  (λ is. iff.0 is 0 r (omega arith)),
+  (λ is. iff.1 (λ k d within. one k d within is)),
+)
+  where
+    one : (k : ℕ) (d : Report) → k < 1 → IsTrue r.clean → IsTrue (slice_index_or (r ∷ []) k d).clean
+    one zero d within is = is
+    one (suc k) d within is = absurd (omega (arith, within))
+
+-- The report of the exercise stands in a text that tells, and so does whether it is clean.
+pub record HasReport (n : ℕ) (clean : Bool) (text : List ℕ) : Type 0 where
+  pub r : Report
+  pub aired : IsAired (plan n) 8 1 (deliveries n) r
+  pub text_is : text ≡ r.text
+  pub clean_is : clean ≡ r.clean
+
+pub has_report : (n : ℕ) (clean : Bool) (old new : Text) → (text_known old).told ≡ Some (record { written = []; calls = 0 }) → IsSome (text_known new).told
+    → WritesReports (AreAired (plan n) 8 (deliveries n ∷ [])) (Ok clean) text_known old new → HasReport n clean new.bytes.items
+has_report n clean old new fresh told (reports, are, out, iff) =
+    let one = one_report n reports are in
+    let text : new.bytes.items ≡ all_texts reports = written old new (λ t. t ≡ all_texts reports) fresh told out in
+    record {
+      r = one.r;
+      aired = one.aired;
+      text_is = text ∙ ap all_texts one.is ∙ append-nil one.r.text;
+      clean_is = one_clean clean one.r (subst (λ l. IsTrue clean ↔ AreClean l) one.is iff);
+    }
+
+-- ---- how a run ends
+
+abbrev of_fault : Fault → Result Bool Fault
+of_fault fault = Err fault
+
+is_exercise : (n : ℕ) (clean : Bool) (text : List ℕ) (count check : ℕ) (has : HasReport n clean text) → count ≡ length (deliveries n) → IsCheckOf text check → IsExercise n has.r (line n count text check)
+is_exercise n clean text count check has many checks = record {
+  aired = has.aired;
+  check = check;
+  checks = subst (λ t. IsCheckOf t check) has.text_is checks;
+  text_is = ap (λ k. line n k text check) many ∙ ap (λ t. line n (length (deliveries n)) t check) has.text_is;
+}
+
+module _ {O : Type 0} (n : ℕ) (known : O → Known Output) (out : O) where
+  pub wants_memory : ExerciseRun n (of_fault faults.NoMemory) known out out
+  wants_memory = record {
+    writes = refl;
+    kind = λ fault is. inl (sym (same faults.NoMemory fault is));
+    complete = λ no_write. inl refl;
+    write_cause = record { later = le_refl _; rose = λ is. absurd (let other : faults.NoMemory ≡ faults.Write = same faults.NoMemory faults.Write is in cc) };
+  }
+    where
+      same : (fault other : Fault) → of_fault fault ≡ of_fault other → fault ≡ other
+      same fault other is = cc
+
+  pub is_done : (clean : Bool) (text : List ℕ) (count check : ℕ) (out' : O) → HasReport n clean text → count ≡ length (deliveries n) → IsCheckOf text check
+      → Outputs (known out) (known out') (λ t. t ≡ line n count text check) → (known out).faults ≤ (known out').faults → ExerciseRun n (Ok clean) known out out'
+  is_done clean text count check out' has many checks wrote later = record {
+    writes = (has.r, line n count text check, is_exercise n clean text count check has many checks, wrote, has.clean_is);
+    kind = λ fault is. absurd cc;
+    complete = λ no_write. inr (clean, refl);
+    write_cause = record { later = later; rose = λ is. absurd cc };
+  }
+
+  pub is_cut : (clean : Bool) (text : List ℕ) (count check : ℕ) (out' : O) → HasReport n clean text → count ≡ length (deliveries n) → IsCheckOf text check
+      → Outputs (known out) (known out') (IsFront (line n count text check)) → HasCause (known out) (known out') (Unit {0}) → ExerciseRun n (of_fault faults.Write) known out out'
+  is_cut clean text count check out' has many checks wrote cause = record {
+    writes = (has.r, line n count text check, is_exercise n clean text count check has many checks, wrote);
+    kind = λ fault is. inr (sym (same faults.Write fault is));
+    complete = λ no_write. absurd (no_write (cause.rose tt));
+    write_cause = record { later = cause.later; rose = λ is. cause.rose tt };
+  }
+    where
+      same : (fault other : Fault) → of_fault fault ≡ of_fault other → fault ≡ other
+      same fault other is = cc
