@@ -4,3 +4,4 @@ pub mod CaptureLaws
 pub mod SomeWay
 pub mod ReadingLemmas
 pub mod FetchingLemmas
+pub mod WalkingLemmas
