@@ -13,15 +13,15 @@ use Rattle.drm_capture.specs.Laws.{ReadOneWay}
 use Rattle.drm_capture.proofs.FrontLaws.{one_front, packet_in_front, packet_alone, packet_size}
 
 -- bytes from a place of a capture on, which are these packets and end so
-record Behind (at : ℕ) (bytes : List ℕ) (packets : List (List ℕ)) (ending : Ending) : Type 0 where
-  whole : All IsWhole packets
-  few : at + length (concat packets) ≤ most_bytes
-  rest : List ℕ
-  is : bytes ≡ concat packets ++ rest
-  ends : EndsWith (at + length bytes) (at + length (concat packets)) rest ending
+pub record Behind (at : ℕ) (bytes : List ℕ) (packets : List (List ℕ)) (ending : Ending) : Type 0 where
+  pub whole : All IsWhole packets
+  pub few : at + length (concat packets) ≤ most_bytes
+  pub rest : List ℕ
+  pub is : bytes ≡ concat packets ++ rest
+  pub ends : EndsWith (at + length bytes) (at + length (concat packets)) rest ending
 
 -- no bytes begin neither wrongly nor with a packet
-none_begin : Begins [] (Cut HeadCut)
+pub none_begin : Begins [] (Cut HeadCut)
 none_begin = Other (λ e. cc) (λ e. cc) (inl refl)
 
 -- what begins wrongly, with a packet, or is cut, is one of these alone
@@ -44,7 +44,7 @@ same_packet : (bytes : List ℕ) (m n : ℕ) → Begins bytes (Packet m) → Beg
 same_packet bytes m n a b = let e : Packet m ≡ Packet n = one_front bytes (Packet m) (Packet n) a b in cc
 
 -- all that is left lies among the bytes that are looked at
-looked_at : (size at : ℕ) (rest : List ℕ) → size ≡ at + length rest → size ≤ most_bytes → take (most_bytes - at) rest ≡ rest
+pub looked_at : (size at : ℕ) (rest : List ℕ) → size ≡ at + length rest → size ≤ most_bytes → take (most_bytes - at) rest ≡ rest
 looked_at size at rest is few = take_all (most_bytes - at) rest (omega (arith, is, few))
 
 fault_with : (f g : CaptureFault) (at : ℕ) → f.at ≡ at → g.at ≡ at → f.field ≡ g.field → Fault f ≡ Fault g

@@ -44,7 +44,7 @@ few_of : (packets : List (List ℕ)) (reader : WalkerState) (before after : Know
 few_of packets reader before after read = omega (arith, read.at, read.few)
 
 -- the input ends behind the packets
-end_of : (packets : List (List ℕ)) (held left rest : List ℕ) → All IsWhole packets → length (concat packets) + length held ≤ most_bytes → held ≡ [] → left ≡ concat packets ++ (held ++ rest) → rest ≡ [] → IsCaptureOf left packets End
+pub end_of : (packets : List (List ℕ)) (held left rest : List ℕ) → All IsWhole packets → length (concat packets) + length held ≤ most_bytes → held ≡ [] → left ≡ concat packets ++ (held ++ rest) → rest ≡ [] → IsCaptureOf left packets End
 end_of packets held left rest whole few none is over =
     let all : left ≡ concat packets ++ [] = is ∙ ap (λ l. concat packets ++ l) (ap (λ l. l ++ rest) none ∙ over) in
     record {
@@ -64,7 +64,7 @@ capture_ended packets old new before a b read more none over =
     (λ x y z p q. end_of packets new.held x z read.whole (few_of packets new before b now) none (p ∙ ap (λ l. concat packets ++ l) q.0) q.1)
 
 -- a fault behind them, whatever comes
-wrong_of : (packets : List (List ℕ)) (at : ℕ) (held left rest : List ℕ) (f : CaptureFault) → All IsWhole packets → at ≡ length (concat packets) → at + length held ≤ most_bytes → f.at ≡ at → Begins held (Wrong f.field) → left ≡ concat packets ++ (held ++ rest)
+pub wrong_of : (packets : List (List ℕ)) (at : ℕ) (held left rest : List ℕ) (f : CaptureFault) → All IsWhole packets → at ≡ length (concat packets) → at + length held ≤ most_bytes → f.at ≡ at → Begins held (Wrong f.field) → left ≡ concat packets ++ (held ++ rest)
     → IsCaptureOf left packets (Fault f)
 wrong_of packets at held left rest f whole place few is wrong all =
     let n : ℕ = most_bytes - length (concat packets) in
@@ -79,7 +79,7 @@ wrong_of packets at held left rest f whole place few is wrong all =
     }
 
 -- the input ends inside a packet
-cut_of : (packets : List (List ℕ)) (at : ℕ) (held left rest : List ℕ) (f : CaptureFault) → All IsWhole packets → at ≡ length (concat packets) → at + length held ≤ most_bytes → f.at ≡ at → held ≢ [] → Begins held (Cut f.field) → left ≡ concat packets ++ (held ++ rest) → rest ≡ []
+pub cut_of : (packets : List (List ℕ)) (at : ℕ) (held left rest : List ℕ) (f : CaptureFault) → All IsWhole packets → at ≡ length (concat packets) → at + length held ≤ most_bytes → f.at ≡ at → held ≢ [] → Begins held (Cut f.field) → left ≡ concat packets ++ (held ++ rest) → rest ≡ []
     → IsCaptureOf left packets (Fault f)
 cut_of packets at held left rest f whole place few is some cut all over =
     let bytes : left ≡ concat packets ++ held = all ∙ ap (λ l. concat packets ++ l) (ap (λ l. held ++ l) over ∙ append-nil held) in

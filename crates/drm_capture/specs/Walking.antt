@@ -1,9 +1,10 @@
 -- The walk over a capture.
-use Rattle.std.specs.Prelude.{ℕ, ◌≡◌, ◌+◌, List, [], ◌++◌, length, take, drop, min, Option, Some, None, Result, Ok, Err}
+use Rattle.std.specs.Prelude.{ℕ, ◌≡◌, ◌+◌, List, [], ◌++◌, length, take, drop, min, Option, Some, None, Result, Ok, Err, All}
+use Rattle.std.specs.List.{concat}
 use Rattle.drm_capture.specs.declared.fault.CaptureField.{CaptureField}
 use Rattle.drm_capture.specs.declared.fault.CaptureFault.{CaptureFault}
 use Rattle.drm_capture.specs.declared.packet.Packet.{Packet as Given}
-use Rattle.drm_capture.specs.Front.{Packet, Wrong, Cut, Begins, IsWhole}
+use Rattle.drm_capture.specs.Front.{Front, Packet, Wrong, Cut, Begins, IsWhole}
 
 -- the place of the next packet in the capture, and the bytes that were put and are in no packet given
 pub record WalkerState : Type 0 where
@@ -34,6 +35,13 @@ Gives (Ok (Some packet)) walker = (packet.at ≡ walker.at) × ((n : ℕ) × Beg
 Gives (Ok None) walker = IsCut walker
 Gives (Err fault) walker = (fault.at ≡ walker.at) × Begins walker.held (Wrong fault.field)
 
+-- which answer is due where the bytes held begin so
+abbrev pub IsDue : Front → Result (Option Given) CaptureFault → WalkerState → Type 0
+IsDue (Packet n) (Ok (Some packet)) walker = (packet.at ≡ walker.at) × (packet.bytes.now ≡ take n walker.held)
+IsDue (Cut field) (Ok None) walker = Unit {0}
+IsDue (Wrong field) (Err fault) walker = fault ≡ record { at = walker.at; field = field }
+IsDue front result walker = ⊥
+
 -- and how it is afterwards
 abbrev pub Leaves : Result (Option Given) CaptureFault → WalkerState → WalkerState → Type 0
 Leaves (Ok (Some packet)) before after = after ≡ after_packet (length packet.bytes.now) before
@@ -44,3 +52,9 @@ Leaves (Err fault) before after = after ≡ before
 abbrev pub Ends : Result (Unit {0}) CaptureFault → WalkerState → Type 0
 Ends (Ok _) walker = walker.held ≡ []
 Ends (Err fault) walker = (walker.held ≡ [] → ⊥) × (fault.at ≡ walker.at) × Begins walker.held (Cut fault.field)
+
+-- These bytes were put, the packets were given, and the rest is held.
+pub record HasWalked (bytes : List ℕ) (packets : List (List ℕ)) (walker : WalkerState) : Type 0 where
+  pub whole : All IsWhole packets
+  pub at : walker.at ≡ length (concat packets)
+  pub is : bytes ≡ concat packets ++ walker.held

@@ -10,7 +10,7 @@ mod packets;
 mod walker;
 
 pub use fault::{CaptureFault, CaptureField};
-pub use laws::{one_front, read_one_way, read_some_way};
+pub use laws::{fronts_stay, one_front, read_one_way, read_some_way, walks_captures};
 pub use packet::Packet;
 pub use packets::{CaptureStop, Packets};
 pub use walker::Walker;

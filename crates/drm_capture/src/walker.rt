@@ -3,9 +3,9 @@
 ghost use Rattle.std.specs.Prelude.{◌≡◌, ◌≤◌, ◌<◌, ◌+◌, ◌-◌, ◌^◌, ◌++◌, ℕ, [], length, take, drop, min, IfOk};
 ghost use Rattle.std.specs.Borrow.{sem};
 ghost use Rattle.circular_buffer.specs.Buffer.{Buffer, buffer};
-ghost use Rattle.drm_capture.specs.Front.{Begins};
+ghost use Rattle.drm_capture.specs.Front.{Front, Begins};
 ghost use Rattle.drm_capture.specs.Looking.{front_of};
-ghost use Rattle.drm_capture.specs.Walking.{new_walker, after_put, most_held, IsCut, Gives, Ends};
+ghost use Rattle.drm_capture.specs.Walking.{new_walker, after_put, most_held, IsCut, Gives, IsDue, Ends};
 ghost use Rattle.drm_capture.specs.Lending.{Walks};
 
 use crate::look::{Found, MOST_HEAD, look};
@@ -69,6 +69,7 @@ impl Walker {
     /// The next packet, or none where the bytes end before it does. What is wrong stays wrong.
     pub fn next_packet(&mut self) -> Result<Option<Packet<'_>>, CaptureFault>
         ensures gives { Gives result self.old }
+        ensures due { (front : Front) → Begins self.old.held front → IsDue front result self.old }
         ensures* after { sem 𝓛 (Walks result self.entry) }
     {
         match self.front() {
