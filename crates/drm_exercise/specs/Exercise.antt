@@ -49,9 +49,12 @@ config start countdown mode short_depth byte = record {
 abbrev pub second_half : ℕ → List Config
 second_half n = if nat_le 4 n then config (n / 2) 2 C true 18 ∷ [] else []
 
+abbrev pub configs : ℕ → List Config
+configs n = config 0 0 B false 17 ∷ second_half n
+
 -- n super frames, whose sequence numbers and frame counts begin near their ends
 abbrev pub plan : ℕ → Plan
-plan n = record { carry = Pft 2 1400; seq = 65000; dlfc = 4294967000; length = n; configs = config 0 0 B false 17 ∷ second_half n }
+plan n = record { carry = Pft 2 1400; seq = 65000; dlfc = 4294967000; length = n; configs = configs n }
 
 -- two fragments of a packet, or one, aren't delivered
 abbrev pub is_left_out : ℕ → ℕ → ℕ → ℕ → Bool
@@ -82,14 +85,14 @@ lines_with front text = count_by (begins front) (slice_split (λ byte. byte == 1
 abbrev pub line : ℕ → ℕ → List ℕ → ℕ → List ℕ
 line n delivered report check =
     concat (
-      codes "exercise " ∷ decimal n
-      ∷ codes " datagrams " ∷ decimal delivered
-      ∷ codes " frames " ∷ decimal (3 * n)
-      ∷ codes " given " ∷ decimal (lines_with (codes "frame ") report)
-      ∷ codes " missing " ∷ decimal (lines_with (codes "missing ") report)
-      ∷ codes " bad " ∷ decimal (lines_with (codes "bad ") report)
-      ∷ codes " switches " ∷ decimal (lines_with (codes "switch ") report)
-      ∷ codes " resumed " ∷ decimal (lines_with (codes "resumed ") report)
-      ∷ codes " text " ∷ encode_lower (to_be_bytes w16 check)
-      ∷ codes "\n" ∷ []
+    codes "exercise " ∷ decimal n
+    ∷ codes " datagrams " ∷ decimal delivered
+    ∷ codes " frames " ∷ decimal (3 * n)
+    ∷ codes " given " ∷ decimal (lines_with (codes "frame ") report)
+    ∷ codes " missing " ∷ decimal (lines_with (codes "missing ") report)
+    ∷ codes " bad " ∷ decimal (lines_with (codes "bad ") report)
+    ∷ codes " switches " ∷ decimal (lines_with (codes "switch ") report)
+    ∷ codes " resumed " ∷ decimal (lines_with (codes "resumed ") report)
+    ∷ codes " text " ∷ encode_lower (to_be_bytes w16 check)
+    ∷ codes "\n" ∷ []
     )

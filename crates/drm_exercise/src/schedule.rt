@@ -5,8 +5,8 @@ ghost use Rattle.drm_exercise.specs.Exercise as exercise;
 
 use drm_bits::{NoMemory, Octets};
 use drm_schedule::{
-    Body, Carry, Config, Content, Entities, Entity, Items, Mode, Plan, Schedule, Service, Services,
-    Stream, Streams,
+    Body, Carry, Config, Configs, Content, Entities, Entity, Items, Mode, Plan, Schedule, Service,
+    Services, Stream, Streams,
 };
 use std::alloc::Global;
 
@@ -16,11 +16,7 @@ pub(crate) fn schedule_of(alloc: Global, n: u32) -> Result<Schedule, NoMemory>
     requires few { n ≤ 1000 }
     ensures { IfOk result (λ plan. plan ≡ exercise.plan n) }
 {
-    let mut configs = Items::new(alloc);
-    configs.push(config(alloc, 0, 0, Mode::B, false, 0x11)?)?;
-    if n >= 4 {
-        configs.push(config(alloc, n / 2, 2, Mode::C, true, 0x12)?)?;
-    }
+    let configs = configs(alloc, n)?;
     let plan = Plan {
         carry: Carry::Pft { m: 2, mtu: 1400 },
         seq: 65_000,
@@ -32,6 +28,19 @@ pub(crate) fn schedule_of(alloc: Global, n: u32) -> Result<Schedule, NoMemory>
         Ok(schedule) => Ok(schedule),
         Err(_) => unreachable!(),
     }
+}
+
+// One configuration, and from four super frames on a second one.
+fn configs(alloc: Global, n: u32) -> Result<Configs, NoMemory>
+    ensures { IfOk result (λ configs. configs ≡ exercise.configs n) }
+{
+    let mut configs = Items::new(alloc);
+    configs.push(config(alloc, 0, 0, Mode::B, false, 0x11)?)?;
+    if n < 4 {
+        return Ok(configs);
+    }
+    configs.push(config(alloc, n / 2, 2, Mode::C, true, 0x12)?)?;
+    Ok(configs)
 }
 
 // A configuration with one audio service in one stream, each of whose bytes is this one.

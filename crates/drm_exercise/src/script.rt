@@ -1,6 +1,8 @@
 //! What is delivered in an exercise.
 
 ghost use Rattle.std.specs.Prelude.{◌≡◌, ◌≤◌, ◌<◌, ◌++◌, ◌∷◌, [], IfOk, OnOk};
+ghost use Rattle.script_lines.specs.Script.{fragment_count};
+ghost use Rattle.drm_timeline.specs.Numbers.{frame_count as frames};
 ghost use Rattle.drm_exercise.specs.Exercise as exercise;
 
 use dcp_pft::{cut_for, datagrams};
@@ -26,7 +28,10 @@ pub(crate) fn script_of(alloc: Global, n: u32, plan: &Schedule) -> Result<Script
 }
 
 // How many fragments a packet has.
-fn fragments(plan: &Schedule, packet: u32) -> u32 {
+fn fragments(plan: &Schedule, packet: u32) -> u32
+    requires { packet < frames plan.now }
+    ensures { result ≡ fragment_count plan.now packet }
+{
     plan.always_valid();
     datagrams(cut_for(plan.carry(), packet_len(plan, packet)))
 }

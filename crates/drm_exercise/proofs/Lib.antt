@@ -1,0 +1,3 @@
+pub mod ValidPlan
+pub mod Ranges
+pub mod Delivering
