@@ -11,3 +11,4 @@ pub mod Refusing
 pub mod Taking
 pub mod JobLemmas
 pub mod Unbroken
+pub mod CaptureReading
