@@ -90,7 +90,8 @@ module _ {O : Type 0} (rules : Rules) (valid : AreInRange rules) (headlines : He
       Inputs-weaker (λ left rest. Begin left r.answers) (λ left rest. WritesCapture rules left rest (Ok clean) known out out') before after (began before after r.answers r.heard)
       (λ left rest begins.
           let (ahead, brings, later, next) = next_of some left r.answers begins in
-          (ahead, brings, report_ahead rules 1 ahead (Alone r.answers) (known out) (known out') (alone_next rules ahead r.answers later next) headlines completes valid.some_window clean alone))
+          let (report, is, text, same) = report_ahead rules 1 ahead (Alone r.answers) (known out) (known out') (alone_next rules ahead r.answers later next) headlines completes valid.some_window clean alone in
+          (ahead, brings, report, is, text, same))
 
   stopped : Stopped rules 1 (HeardOf before after) (known out) (known out') → Inputs before after (λ left rest. WritesCapture rules left rest (ending_captured (Err unfinished.Write)) known out out')
   stopped r =

@@ -4,7 +4,8 @@ use Rattle.std.proofs.lemmas.Result.{err_from_is_err_and}
 use Rattle.drm_capture.specs.Reading.{HasRead}
 use Rattle.mod_receiver.specs.Captures.{ArePackets, HeardOf, HeardUntil}
 use Rattle.mod_receiver.proofs.JobLemmas.{some_now}
-use Rattle.mod_receiver.proofs.Reaching.{OnDatagram, at_start, refused_few, on_datagram, datagram_more, by_frames, by_limit, by_end, on_failed, on_stop}
+use Rattle.mod_receiver.proofs.Reaching.{OnDatagram, at_start, refused_few, on_datagram, datagram_more, by_frames, by_limit}
+use Rattle.mod_receiver.proofs.Stopping.{by_end, on_failed, on_stop}
 use Rattle.mod_receiver.proofs.CaptureReading.{read_none, not_stopped, packet_more, packet_last, heard_end, heard_stop}
 use Rattle.mod_receiver.proofs.capture.read_packets.Goals as goal
 
