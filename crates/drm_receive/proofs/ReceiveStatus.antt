@@ -63,7 +63,7 @@ module _ {O : Type 0} (rules : Rules) (told : DockContents) (addresses : List Ad
   ]
 
 -- the report of a link that brings each frame in time is clean
-clean_in_time : (rules : Rules) (feed : ℕ) (ahead : List Answer) (r : Report) → IsReportOf rules feed ahead r → IsInTimeAhead rules ahead → IsTrue r.clean
+pub clean_in_time : (rules : Rules) (feed : ℕ) (ahead : List Answer) (r : Report) → IsReportOf rules feed ahead r → IsInTimeAhead rules ahead → IsTrue r.clean
 clean_in_time rules feed ahead r report time =
     let all = report.complete time.plan time.arrivals time.answers time.valid time.read time.followed time.frames time.in_time in
     subst IsTrue (sym all.clean_is) is_true

@@ -2,3 +2,4 @@ pub mod Receive
 pub mod Terms
 pub mod Opening
 pub mod Stopping
+pub mod Capture

@@ -4,6 +4,9 @@ use Rattle.mod_receiver.specs.declared.stop.Stop.{Stop}
 use Rattle.mod_receiver.specs.declared.stop.Stop.TheVariants as stops
 use Rattle.mod_receiver.specs.declared.receiver.Ended.{Ended}
 use Rattle.mod_receiver.specs.declared.receiver.Ended.TheVariants as ended
+use Rattle.mod_receiver.specs.declared.capture.Unfinished.{Unfinished}
+use Rattle.mod_receiver.specs.declared.capture.Unfinished.TheVariants as unfinished
+use Rattle.drm_faults.specs.Captures.{stop_fault}
 use Rattle.drm_faults.specs.declared.fault.Fault.{Fault}
 use Rattle.drm_faults.specs.declared.fault.Fault.TheVariants as faults
 
@@ -19,3 +22,10 @@ ending_live (ended.Done clean) = Ok clean
 ending_live ended.LinkFailed = Err faults.Link
 ending_live ended.WriteFailed = Err faults.Write
 ending_live ended.NoMemory = Err faults.NoMemory
+
+-- how a run ends whose receiver of a capture ends so
+abbrev pub ending_captured : Result Bool Unfinished → Result Bool Fault
+ending_captured (Ok clean) = Ok clean
+ending_captured (Err (unfinished.Stopped stop)) = Err (stop_fault stop)
+ending_captured (Err unfinished.Write) = Err faults.Write
+ending_captured (Err unfinished.NoMemory) = Err faults.NoMemory

@@ -3,6 +3,7 @@ use Rattle.std.proofs.Common.{◌≡◌, ◌≤◌, ℕ, List, [], ◌∷◌, Op
 use Rattle.drm_links.specs.declared.dock.Address.{Address}
 use Rattle.word_forms.specs.declared.fault.WordsFault.{WordsFault}
 use Rattle.drm_words.specs.declared.request.Request.{Request}
+use Rattle.drm_words.specs.declared.request.Request.TheVariants as requests
 use Rattle.drm_words.specs.Table.{IsNumberOr, IsNumberOrNone, AreAddressesOrNone, HasTextNames}
 use Rattle.drm_words.specs.Line.{IsLine}
 use Rattle.mod_receiver.specs.declared.rules.Rules.{Rules}
@@ -10,7 +11,7 @@ use Rattle.drm_receive.specs.Terms.{AreListed}
 use Rattle.mod_receiver.specs.Ranges.{AreInRange}
 use Rattle.drm_top.specs.Words.{request_of, Asks, IsInRange}
 use Rattle.drm_top.specs.declared.words.Command.{Command}
-use Rattle.drm_top.specs.declared.words.Command.TheVariants.{Fac, Check, Serve, Send, Receive, Air}
+use Rattle.drm_top.specs.declared.words.Command.TheVariants.{Fac, Check, Serve, Send, Receive, ReceiveCapture, Air}
 
 within : (default least greatest n : ℕ) (value : Option (List ℕ)) → least ≤ default → default ≤ greatest → IsNumberOr default least greatest value n → (least ≤ n) × (n ≤ greatest)
 within default least greatest n None low high is = (omega (arith, is, low), omega (arith, is, high))
@@ -28,26 +29,28 @@ listed (text ∷ []) addresses (list, is, are) =
     subst AreListed (sym same) (record { some = are.some; few = are.few; different = are.different })
 listed (text ∷ other ∷ texts) addresses is = absurd is
 
-receives : (words : List (List ℕ)) (addresses : List Address) (rules : Rules) → IsLine words (request_of (Receive addresses rules)) → AreInRange rules × AreListed addresses
-receives words addresses rules line =
+-- the request of a reading, with these addresses or of a capture
+abbrev reading_of : Option (List Address) → Rules → Request
+reading_of addresses rules = requests.Receive addresses rules.window rules.first rules.frames rules.idle rules.limit
+
+reads : (words : List (List ℕ)) (addresses : Option (List Address)) (rules : Rules) → IsLine words (reading_of addresses rules) → AreInRange rules
+reads words addresses rules line =
     let asks = line.asks in
     let window = within 8 1 64 rules.window _ (omega arith) (omega arith) asks.3.stretch.has_window in
     let frames = within_or_none 1 3000000 _ rules.frames asks.3.stretch.has_frames in
     let idle = within 50 1 1000000 rules.idle _ (omega arith) (omega arith) asks.3.has_idle in
     let limit = within 4294967295 1 4294967295 rules.limit _ (omega arith) (omega arith) asks.3.has_limit in
-    let less : rules.limit ≤ 4294967295 = limit.1 in (
-      record {
-        some_window = window.0;
-        few_packets = window.1;
-        some_frames = frames.0;
-        few_frames = frames.1;
-        some_idles = idle.0;
-        few_idles = idle.1;
-        some_datagrams = limit.0;
-        few_datagrams = omega (arith, less);
-      },
-      listed _ addresses asks.1,
-    )
+    let less : rules.limit ≤ 4294967295 = limit.1 in
+    record {
+      some_window = window.0;
+      few_packets = window.1;
+      some_frames = frames.0;
+      few_frames = frames.1;
+      some_idles = idle.0;
+      few_idles = idle.1;
+      some_datagrams = limit.0;
+      few_datagrams = omega (arith, less);
+    }
 
 airs : (words : List (List ℕ)) (name script : List ℕ) (window : ℕ) → IsLine words (request_of (Air name script window)) → (1 ≤ window) × (window ≤ 64)
 airs words name script window line = within 8 1 64 window _ (omega arith) (omega arith) line.asks.3
@@ -58,7 +61,10 @@ in_range (Ok Fac) request words asks line text = tt
 in_range (Ok (Check name)) request words asks line text = subst HasTextNames asks text
 in_range (Ok (Serve name pace)) request words asks line text = subst HasTextNames asks text
 in_range (Ok (Send name to pace)) request words asks line text = subst HasTextNames asks text
-in_range (Ok (Receive addresses rules)) request words asks line text = receives words addresses rules (subst (λ r. IsLine words r) asks line)
+in_range (Ok (Receive addresses rules)) request words asks line text =
+    let named : IsLine words (reading_of (Some addresses) rules) = subst (λ r. IsLine words r) asks line in
+    (reads words (Some addresses) rules named, listed _ addresses named.asks.1)
+in_range (Ok (ReceiveCapture rules)) request words asks line text = reads words None rules (subst (λ r. IsLine words r) asks line)
 in_range (Ok (Air name script window)) request words asks line text =
     let names : IsUtf8 name × IsUtf8 script = subst HasTextNames asks text in
     let range = airs words name script window (subst (λ r. IsLine words r) asks line) in

@@ -6,7 +6,7 @@ use Rattle.drm_words.specs.declared.request.Request.{Request}
 use Rattle.drm_words.specs.declared.request.Request.TheVariants as requests
 use Rattle.drm_words.specs.Line.{IsLine}
 use Rattle.drm_top.specs.declared.words.Command.{Command}
-use Rattle.drm_top.specs.declared.words.Command.TheVariants.{Fac, Check, Serve, Send, Receive, Air}
+use Rattle.drm_top.specs.declared.words.Command.TheVariants.{Fac, Check, Serve, Send, Receive, ReceiveCapture, Air}
 use Rattle.drm_top.specs.Words.{request_of, AsksFor, AsksForNothing, Asks}
 
 -- the command that a request is asked by, where there is one
@@ -17,6 +17,8 @@ command_by (requests.Serve name None pace) = Serve name pace
 command_by (requests.Serve name (Some to) pace) = Send name to pace
 command_by (requests.Receive (Some addresses) window first frames idle limit) =
     Receive addresses (record { window = window; first = first; frames = frames; idle = idle; limit = limit })
+command_by (requests.Receive None window first frames idle limit) =
+    ReceiveCapture (record { window = window; first = first; frames = frames; idle = idle; limit = limit })
 command_by (requests.Air name script window) = Air name script window
 command_by other = Fac
 
@@ -26,6 +28,7 @@ same_command (Check name) = refl
 same_command (Serve name pace) = refl
 same_command (Send name to pace) = refl
 same_command (Receive addresses rules) = refl
+same_command (ReceiveCapture rules) = refl
 same_command (Air name script window) = refl
 
 one_command : (a b : Command) → request_of a ≡ request_of b → a ≡ b

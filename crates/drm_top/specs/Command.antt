@@ -10,12 +10,13 @@ use Rattle.drm_transmit.specs.Check.{CheckRun}
 use Rattle.drm_transmit.specs.Serve.{ServeRun}
 use Rattle.drm_transmit.specs.Send.{SendRun}
 use Rattle.drm_receive.specs.Receive.{ReceiveRun}
+use Rattle.drm_receive.specs.Capture.{CaptureRun}
 use Rattle.drm_air.specs.Air.{AirRun}
 use Rattle.drm_faults.specs.Fault.{done_of, whole_of, report_status, Reports}
 use Rattle.drm_faults.specs.declared.fault.Fault.{Fault}
 use Rattle.drm_faults.specs.declared.fault.Fault.TheVariants.{NoMemory}
 use Rattle.drm_top.specs.declared.words.Command.{Command}
-use Rattle.drm_top.specs.declared.words.Command.TheVariants.{Fac, Check, Serve, Send, Receive, Air}
+use Rattle.drm_top.specs.declared.words.Command.TheVariants.{Fac, Check, Serve, Send, Receive, ReceiveCapture, Air}
 
 -- a run that tells of no frames
 abbrev pub Whole : Result Bool Fault → (Result (Unit {0}) Fault → Type 0) → Type 0
@@ -34,6 +35,8 @@ CommandRun (Send name to pace) ending shelf_known shelf shelf' input_known input
     Whole ending (λ done. SendRun name to pace done shelf_known shelf shelf' dock_known dock dock') × (input' ≡ input) × (out' ≡ out)
 CommandRun (Receive addresses rules) ending shelf_known shelf shelf' input_known input input' out_known out out' dock_known dock dock' =
     ReceiveRun rules addresses ending dock_known dock dock' out_known out out' × (shelf' ≡ shelf) × (input' ≡ input)
+CommandRun (ReceiveCapture rules) ending shelf_known shelf shelf' input_known input input' out_known out out' dock_known dock dock' =
+    CaptureRun rules ending input_known input input' out_known out out' × (shelf' ≡ shelf) × (dock' ≡ dock)
 CommandRun (Air name script window) ending shelf_known shelf shelf' input_known input input' out_known out out' dock_known dock dock' =
     AirRun name script window ending shelf_known shelf shelf' out_known out out' × (input' ≡ input) × (dock' ≡ dock)
 
@@ -59,6 +62,7 @@ OpensALink (Check name) = ⊥
 OpensALink (Serve name pace) = ⊥
 OpensALink (Send name to pace) = Unit {0}
 OpensALink (Receive addresses rules) = Unit {0}
+OpensALink (ReceiveCapture rules) = ⊥
 OpensALink (Air name script window) = ⊥
 
 -- a command that reports what was received
@@ -68,4 +72,5 @@ WritesReport (Check name) = ⊥
 WritesReport (Serve name pace) = ⊥
 WritesReport (Send name to pace) = ⊥
 WritesReport (Receive addresses rules) = Unit {0}
+WritesReport (ReceiveCapture rules) = Unit {0}
 WritesReport (Air name script window) = Unit {0}

@@ -8,7 +8,7 @@ use Rattle.word_forms.specs.declared.fault.WordsFault.TheVariants as faults
 use Rattle.drm_receive.specs.Terms.{AreListed}
 use Rattle.mod_receiver.specs.Ranges.{AreInRange}
 use Rattle.drm_top.specs.declared.words.Command.{Command}
-use Rattle.drm_top.specs.declared.words.Command.TheVariants.{Fac, Check, Serve, Send, Receive, Air}
+use Rattle.drm_top.specs.declared.words.Command.TheVariants.{Fac, Check, Serve, Send, Receive, ReceiveCapture, Air}
 
 -- what a command is asked for with
 abbrev pub request_of : Command → Request
@@ -17,6 +17,7 @@ request_of (Check name) = requests.Check name
 request_of (Serve name pace) = requests.Serve name None pace
 request_of (Send name to pace) = requests.Serve name (Some to) pace
 request_of (Receive addresses rules) = requests.Receive (Some addresses) rules.window rules.first rules.frames rules.idle rules.limit
+request_of (ReceiveCapture rules) = requests.Receive None rules.window rules.first rules.frames rules.idle rules.limit
 request_of (Air name script window) = requests.Air name script window
 
 -- the words are a command line of this command
@@ -39,4 +40,5 @@ IsInRange (Check name) = IsUtf8 name
 IsInRange (Serve name pace) = IsUtf8 name
 IsInRange (Send name to pace) = IsUtf8 name
 IsInRange (Receive addresses rules) = AreInRange rules × AreListed addresses
+IsInRange (ReceiveCapture rules) = AreInRange rules
 IsInRange (Air name script window) = IsUtf8 name × IsUtf8 script × (1 ≤ window) × (window ≤ 64)

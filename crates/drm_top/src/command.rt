@@ -14,7 +14,7 @@ use drm_air::air;
 use drm_faults::Fault;
 use drm_inspect::fac;
 use drm_links::{Dock, Link, Shelf, Sink, Source, Status};
-use drm_receive::receive;
+use drm_receive::{receive, receive_from_capture};
 use drm_transmit::{check, send, serve};
 use drm_words::WordsFault;
 use std::alloc::Global;
@@ -24,12 +24,12 @@ use std::thread::Threads;
 ///
 /// `fac` reads the nine bytes of a FAC from `input` and writes its line to `out`. `check` reads a schedule and its files
 /// from `shelf` and writes its canonical text to `out`; `serve` reads them too and writes the datagrams of the schedule to
-/// `out` as a capture, or sends them over a link that it opens in `dock`. `receive` opens links in `dock` and writes their
-/// reports to `out`: that of one link as it is read, those of several, which are read side by side, when all have ended. `air`
-/// does the same in memory with a schedule and a script from `shelf`; its reports come at the end. The
-/// statuses are 0 done, 1 no memory, 2 no command line, 3 no FAC, no schedule or no script, 4 a read of `input` or a load
-/// from `shelf` failed, 5 a write to `out` failed, 6 a link couldn't be opened or failed, 7 done, and a frame is missing or
-/// bad; each from 1 to 6 writes a line to `err`.
+/// `out` as a capture, or sends them over a link that it opens in `dock`. `receive` opens links in `dock`, or reads a capture
+/// from `input`, and writes their reports to `out`: that of one link or of a capture as it is read, those of several links,
+/// which are read side by side, when all have ended. `air` does the same in memory with a schedule and a script from
+/// `shelf`; its reports come at the end. The statuses are 0 done, 1 no memory, 2 no command line, 3 no FAC, no schedule, no
+/// script or no capture, 4 a read of `input` or a load from `shelf` failed, 5 a write to `out` failed, 6 a link couldn't be
+/// opened or failed, 7 done, and a frame is missing or bad; each from 1 to 6 writes a line to `err`.
 pub fn run<R: Threads + Sync, S: Shelf, I: Source, O: Sink, E: Sink, D: Dock>(
     rt: &R,
     alloc: Global,
@@ -161,6 +161,7 @@ where
             whole(send(alloc, text(name), *to, *pace, shelf, dock))
         }
         Command::Receive { addresses, rules } => receive(rt, alloc, rules, addresses, dock, out),
+        Command::ReceiveCapture { rules } => receive_from_capture(alloc, rules, input, out),
         Command::Air {
             name,
             script,

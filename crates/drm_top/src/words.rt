@@ -34,6 +34,10 @@ pub enum Command {
         addresses: Addresses,
         rules: Rules,
     },
+    /// `receive` from a capture.
+    ReceiveCapture {
+        rules: Rules,
+    },
     /// `air`; the window counts packets.
     Air {
         name: Octets,
@@ -76,20 +80,19 @@ fn command_of(request: Request) -> Result<Command, WordsFault>
             frames,
             idle,
             limit,
-        } => match addresses {
-            Some(addresses) => Ok(Command::Receive {
-                addresses,
-                rules: Rules {
-                    window,
-                    first,
-                    frames,
-                    idle,
-                    limit,
-                },
-            }),
-            // A capture can't be received yet.
-            None => Err(WordsFault::Words),
-        },
+        } => {
+            let rules = Rules {
+                window,
+                first,
+                frames,
+                idle,
+                limit,
+            };
+            Ok(match addresses {
+                Some(addresses) => Command::Receive { addresses, rules },
+                None => Command::ReceiveCapture { rules },
+            })
+        }
         Request::Air {
             name,
             script,

@@ -70,7 +70,7 @@ failed_is (Some (Done clean)) is = absurd (let same : false ≡ true = is in cc)
 failed_is (Some WriteFailed) is = absurd (let same : false ≡ true = is in cc)
 failed_is (Some NoMemory) is = absurd (let same : false ≡ true = is in cc)
 
-some_now : (n : Option ℕ) → IfSome n (λ n. 1 ≤ n) → IfSome n (λ n. 0 < n)
+pub some_now : (n : Option ℕ) → IfSome n (λ n. 1 ≤ n) → IfSome n (λ n. 0 < n)
 some_now None some = some
 some_now (Some n) some = some
 

@@ -3,6 +3,7 @@ pub mod Composing
 pub mod OneReading
 pub mod Reporting
 pub mod Reaching
+pub mod Stopping
 pub mod Hearing
 pub mod Going
 pub mod Giving
@@ -11,3 +12,4 @@ pub mod Refusing
 pub mod Taking
 pub mod JobLemmas
 pub mod Unbroken
+pub mod CaptureReading

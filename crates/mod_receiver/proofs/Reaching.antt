@@ -142,13 +142,13 @@ enough_given rules (Some m) answers c f sum taken items steps gave feeds is full
     let l : m ≤ sum = le_yes m sum full in
     (taken, items, c, gave, omega (arith, g, l, size, is))
 
-not_given : (rules : Rules) (hears : List Answer → Type 0) (a b : Known Output) (c : State) (f : TrackerState) (t : Tallied) (answers : List Answer)
+pub not_given : (rules : Rules) (hears : List Answer → Type 0) (a b : Known Output) (c : State) (f : TrackerState) (t : Tallied) (answers : List Answer)
     → SoFar rules hears a b c f t answers → items_in t.sums ≡ f.calls → is_full rules.frames (items_in t.sums) ≡ false → HasGiven rules answers rules.frames → ⊥
 not_given rules hears a b c f t answers s counted room =
     none_given rules answers rules.frames s.taken s.items c one_way s.gave (few_given rules.frames f (items_in t.sums) s.items s.steps s.feeds counted room)
 
 -- a reading that is so far is open
-so_far_open : (rules : Rules) (hears : List Answer → Type 0) (a b : Known Output) (c : State) (f : TrackerState) (t : Tallied) (taken idles : ℕ)
+pub so_far_open : (rules : Rules) (hears : List Answer → Type 0) (a b : Known Output) (c : State) (f : TrackerState) (t : Tallied) (taken idles : ℕ)
     (r : Reaches rules hears a b c f t taken idles) → IsOpen rules r.answers
 so_far_open rules hears a b c f t taken idles r =
     let d : length (datagrams r.answers) ≡ taken = r.taken_is in
@@ -177,10 +177,10 @@ full_fits (Some n) c f t small pace =
     let p : f.calls ≡ min c.next n = pace.calls in
     omega (arith, l, i, p)
 
-one_longer : (xs : List Answer) (x : Answer) (n : ℕ) → length xs ≤ n → length (xs ++ x ∷ []) ≤ n + 1
+pub one_longer : (xs : List Answer) (x : Answer) (n : ℕ) → length xs ≤ n → length (xs ++ x ∷ []) ≤ n + 1
 one_longer xs x n h = let e : length (xs ++ x ∷ []) ≡ length xs + 1 = length-append xs (x ∷ []) in omega (arith, e, h)
 
-one_turn : (size taken idles idle : ℕ) → size ≤ taken * idle + idles + 1 → idles < idle → size ≤ (taken + 1) * idle
+pub one_turn : (size taken idles idle : ℕ) → size ≤ taken * idle + idles + 1 → idles < idle → size ≤ (taken + 1) * idle
 one_turn size taken idles idle h l =
     let e : (taken + 1) * idle ≡ taken * idle + idle = rw add-one (suc-mul taken idle) in
     omega (arith, h, l, e)
@@ -259,7 +259,7 @@ datagram_more rules hears a b c f t taken o pace room more idle = record {
   few = (let l : length o.answers ≤ (taken + 1) * rules.idle = o.few in omega (arith, l));
 }
 
-short_enough : (rules : Rules) (size taken : ℕ) → taken < rules.limit → size ≤ (taken + 1) * rules.idle → size ≤ most_answers rules
+pub short_enough : (rules : Rules) (size taken : ℕ) → taken < rules.limit → size ≤ (taken + 1) * rules.idle → size ≤ most_answers rules
 short_enough rules size taken more few =
     let m : (taken + 1) * rules.idle ≤ rules.limit * rules.idle = mul-le-mul_right rules.idle (omega (arith, more)) in
     omega (arith, m, few)
@@ -291,173 +291,3 @@ by_limit rules hears a b c f t taken o pace room more all = record {
   few = short_enough rules (length o.answers) taken more o.few;
   ends = (o.taken_is ∙ all, not_given rules hears a b o.mid f t o.answers o.so_far pace.items room);
 }
-
--- the next answer is `Idle`
-pub record OnIdle (rules : Rules) (hears : List Answer → Type 0) (a b : Known Output) (c : State) (f : TrackerState) (t : Tallied) (taken idles : ℕ) : Type 0 where
-  pub answers : List Answer
-  pub so_far : SoFar rules hears a b c f t answers
-  pub taken_is : length (datagrams answers) ≡ taken
-  pub idles_is : idles_at_end answers ≡ idles + 1
-  pub not_ended : HaveEnded answers → ⊥
-  pub few : length answers ≤ taken * rules.idle + (idles + 1)
-
-pub on_idle : (rules : Rules) (hears hears' : List Answer → Type 0) (a b : Known Output) (c : State) (f : TrackerState) (t : Tallied) (taken idles : ℕ)
-    → Reaches rules hears a b c f t taken idles → HearsMore hears hears' Idle → OnIdle rules hears' a b c f t taken idles
-on_idle rules hears hears' a b c f t taken idles r came =
-    let s = r.so_far in
-    let l = one_longer r.answers Idle (taken * rules.idle + idles) r.few in
-    record {
-      answers = r.answers ++ Idle ∷ [];
-      so_far = record {
-        heard = came r.answers s.heard;
-        goes_on = goes_more rules r.answers Idle s.goes_on (so_far_open rules hears a b c f t taken idles r) tt;
-        taken = s.taken;
-        items = s.items;
-        gave = gave_idle rules r.answers s.taken s.items c s.gave;
-        steps = s.steps;
-        feeds = s.feeds;
-        tally = s.tally;
-        text = s.text;
-      };
-      taken_is = datagrams_idle r.answers ∙ r.taken_is;
-      idles_is = idles_idle 0 r.answers ∙ ap (λ k. k + 1) r.idles_is;
-      not_ended = not_ended r.answers Idle (λ e. cc);
-      few = omega (arith, l);
-    }
-
-pub idle_more : (rules : Rules) (hears hears' : List Answer → Type 0) (a b : Known Output) (c : State) (f : TrackerState) (t : Tallied) (taken idles : ℕ)
-    → Reaches rules hears a b c f t taken idles → OnIdle rules hears' a b c f t taken idles → idles + 1 < rules.idle
-    → Reaches rules hears' a b c f t taken (idles + 1)
-idle_more rules hears hears' a b c f t taken idles r o fewer = record {
-  answers = o.answers;
-  so_far = o.so_far;
-  taken_is = o.taken_is;
-  more = r.more;
-  idles_is = o.idles_is;
-  fewer = fewer;
-  not_full = r.not_full;
-  pace = r.pace;
-  none_ready = r.none_ready;
-  unfinished = r.unfinished;
-  fit = r.fit;
-  not_ended = o.not_ended;
-  few = o.few;
-}
-
--- finished by idles
-pub by_idle : (rules : Rules) (hears hears' : List Answer → Type 0) (a b : Known Output) (c : State) (f : TrackerState) (t : Tallied) (taken idles : ℕ)
-    → Reaches rules hears a b c f t taken idles → OnIdle rules hears' a b c f t taken idles → idles + 1 ≡ rules.idle
-    → ReadsTo rules hears' a b c f t word.Idle
-by_idle rules hears hears' a b c f t taken idles r o all =
-    let m : taken * rules.idle ≤ rules.limit * rules.idle = mul-le-mul_right rules.idle (let l = r.more in omega (arith, l)) in
-    let l : length o.answers ≤ taken * rules.idle + (idles + 1) = o.few in
-    let i : idles_at_end o.answers ≡ idles + 1 = o.idles_is in
-    let d : length (datagrams o.answers) ≡ taken = o.taken_is in
-    let k : taken < rules.limit = r.more in
-    record {
-      answers = o.answers;
-      mid = c;
-      so_far = o.so_far;
-      fit = r.fit;
-      drained = λ room. refl;
-      few = omega (arith, m, l, all);
-      ends = (
-        omega (arith, i, all),
-        not_given rules hears' a b c f t o.answers o.so_far r.pace.items r.not_full,
-        λ full. (let e : length (datagrams o.answers) ≡ rules.limit = full in omega (arith, e, d, k)),
-      );
-    }
-
--- the next answer is `Failed`
-pub on_failed : (rules : Rules) (hears hears' : List Answer → Type 0) (a b : Known Output) (c : State) (f : TrackerState) (t : Tallied) (taken idles : ℕ)
-    → Reaches rules hears a b c f t taken idles → HearsMore hears hears' Failed → ReadsBroken rules hears' a b
-on_failed rules hears hears' a b c f t taken idles r came =
-    let s = r.so_far in
-    let m : taken * rules.idle ≤ rules.limit * rules.idle = mul-le-mul_right rules.idle (let l = r.more in omega (arith, l)) in
-    let l = one_longer r.answers Failed (taken * rules.idle + idles) r.few in
-    let i : idles < rules.idle = r.fewer in
-    record {
-      answers = r.answers ++ Failed ∷ [];
-      heard = came r.answers s.heard;
-      few = omega (arith, m, l, i);
-      sound = r.answers;
-      reading = record { last = refl; goes_on = s.goes_on; is_open = so_far_open rules hears a b c f t taken idles r };
-      taken = s.taken;
-      items = s.items;
-      end = c;
-      gave = s.gave;
-      steps = s.steps;
-      last = f;
-      feeds = s.feeds;
-      text = s.text;
-    }
-
--- nothing comes any more
-pub by_end : (rules : Rules) (hears hears' : List Answer → Type 0) (a b : Known Output) (c : State) (f : TrackerState) (t : Tallied) (taken idles : ℕ)
-    → Reaches rules hears a b c f t taken idles → HearsMore hears hears' End → 0 < rules.idle → ReadsTo rules hears' a b c f t word.Input
-by_end rules hears hears' a b c f t taken idles r came some =
-    let s = r.so_far in
-    let m : taken * rules.idle ≤ rules.limit * rules.idle = mul-le-mul_right rules.idle (let l = r.more in omega (arith, l)) in
-    let l = one_longer r.answers End (taken * rules.idle + idles) r.few in
-    let i : idles < rules.idle = r.fewer in
-    let d : length (datagrams (r.answers ++ End ∷ [])) ≡ taken = ap length (datagrams_end r.answers) ∙ r.taken_is in
-    let k : taken < rules.limit = r.more in
-    let so_far : SoFar rules hears' a b c f t (r.answers ++ End ∷ []) = record {
-      heard = came r.answers s.heard;
-      goes_on = goes_more rules r.answers End s.goes_on (so_far_open rules hears a b c f t taken idles r) tt;
-      taken = s.taken;
-      items = s.items;
-      gave = gave_end rules r.answers s.taken s.items c s.gave;
-      steps = s.steps;
-      feeds = s.feeds;
-      tally = s.tally;
-      text = s.text;
-    } in
-    record {
-      answers = r.answers ++ End ∷ [];
-      mid = c;
-      so_far = so_far;
-      fit = r.fit;
-      drained = λ room. refl;
-      few = omega (arith, m, l, i);
-      ends = (
-        (r.answers, refl),
-        not_given rules hears' a b c f t (r.answers ++ End ∷ []) so_far r.pace.items r.not_full,
-        (λ full. (let e : length (datagrams (r.answers ++ End ∷ [])) ≡ rules.limit = full in omega (arith, e, d, k))),
-        λ idle. (let e : rules.idle ≤ idles_at_end (r.answers ++ End ∷ []) = idle in let z : idles_at_end (r.answers ++ End ∷ []) ≡ 0 = idles_end 0 r.answers in omega (arith, e, z, some)),
-      );
-    }
-
--- a datagram came, and not all that it made ready was written
-pub on_stop : (rules : Rules) (hears hears' : List Answer → Type 0) (a b d : Known Output) (c : State) (f : TrackerState) (t : Tallied) (taken idles : ℕ) (bytes : List ℕ)
-    → Reaches rules hears a b c f t taken idles → HearsMore hears hears' (Datagram bytes)
-    → TakesFront rules.frames bytes c f b d → ReadsFront rules hears' a d
-on_stop rules hears hears' a b d c f t taken idles bytes r came stops =
-    let s = r.so_far in
-    let p = stops.front in
-    let size = one_longer r.answers (Datagram bytes) (taken * rules.idle + idles) r.few in
-    record {
-      answers = r.answers ++ Datagram bytes ∷ [];
-      heard = came r.answers s.heard;
-      few = short_enough rules (length (r.answers ++ Datagram bytes ∷ [])) taken r.more (one_turn (length (r.answers ++ Datagram bytes ∷ [])) taken idles rules.idle size r.fewer);
-      goes_on = goes_more rules r.answers (Datagram bytes) s.goes_on (so_far_open rules hears a b c f t taken idles r) tt;
-      items = up_to rules.frames (s.items ++ p.items);
-      some = record {
-        before = r.answers;
-        later = Datagram bytes ∷ [];
-        are = refl;
-        taken = s.taken;
-        during = s.items;
-        mid = c;
-        gave = s.gave;
-        state = stops.kept;
-        comes = inr (inl (bytes, stops.answer, refl, stops.takes));
-        more = p.items;
-        gives = p.gives;
-        items_are = refl;
-      };
-      steps = s.steps ++ p.steps;
-      last = p.after;
-      feeds = feeds_more rules.frames f p.after s.items p.items s.steps p.steps s.feeds p.feeds;
-      text = front_joins s.steps p.steps a b d s.text p.text;
-    }

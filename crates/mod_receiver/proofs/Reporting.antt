@@ -226,7 +226,7 @@ first_front rules feed hears a b none text = record {
       (λ x f. inl (up_to rules.frames [], none_given rules, [], new_tracker, none_fed rules.frames, front_more (feed_line feed) [] x f));
 }
 
-reading_front : (rules : Rules) (feed : ℕ) (hears : List Answer → Type 0) (a0 a b : Known Output) → Outputs a0 a (λ x. x ≡ feed_line feed) → ReadsFront rules hears a b → Stopped rules feed hears a0 b
+pub reading_front : (rules : Rules) (feed : ℕ) (hears : List Answer → Type 0) (a0 a b : Known Output) → Outputs a0 a (λ x. x ≡ feed_line feed) → ReadsFront rules hears a b → Stopped rules feed hears a0 b
 reading_front rules feed hears a0 a b first read = record {
   answers = read.answers;
   heard = read.heard;
@@ -251,7 +251,7 @@ reading_takes_none rules hears a b r stop.NoMemory is e read = read
 reading_takes_none rules hears a b r stop.Write is e read = let x : Err stop.Write ≡ Err stop.NoMemory = sym is ∙ e in cc
 reading_takes_none rules hears a b r stop.Link is e read = let x : Err stop.Link ≡ Err stop.NoMemory = sym is ∙ e in cc
 
-broken : (rules : Rules) (feed : ℕ) (hears : List Answer → Type 0) (a0 a b : Known Output) → Outputs a0 a (λ x. x ≡ feed_line feed) → ReadsBroken rules hears a b → Broken rules feed hears a0 b
+pub broken : (rules : Rules) (feed : ℕ) (hears : List Answer → Type 0) (a0 a b : Known Output) → Outputs a0 a (λ x. x ≡ feed_line feed) → ReadsBroken rules hears a b → Broken rules feed hears a0 b
 broken rules feed hears a0 a b first read = record {
   answers = read.answers;
   heard = read.heard;

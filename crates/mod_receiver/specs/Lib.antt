@@ -12,3 +12,4 @@ pub mod Ahead
 pub mod Jobs
 pub mod Following
 pub mod Settling
+pub mod Captures

@@ -1,6 +1,7 @@
 //! Receivers: each reads a link until it has read enough, and writes the report of what came; several side by side.
 #![tactic(auto)]
 
+mod capture;
 mod job;
 mod reading;
 mod reading_laws;
@@ -12,6 +13,7 @@ mod stop;
 mod tally;
 mod text;
 
+pub use capture::{Unfinished, receive_capture};
 pub use job::{Job, job_for, run_all, run_live};
 pub use reading_laws::{one_reading_of_a_link, one_report};
 pub use receiver::{Ended, Options, receive_one};

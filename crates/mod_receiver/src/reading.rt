@@ -54,7 +54,7 @@ fn drain<O: Sink>(
 }
 
 // Whether the told number of items was given.
-fn is_full(tally: &Tally, told: Option<u64>) -> bool
+pub(crate) fn is_full(tally: &Tally, told: Option<u64>) -> bool
     requires { IfSome told (λ _. items_in tally.now.sums < 2 ^ 63) }
     ensures { result ≡ is_full told (items_in tally.now.sums) }
 {
@@ -65,7 +65,7 @@ fn is_full(tally: &Tally, told: Option<u64>) -> bool
 }
 
 // Takes the datagram with this number, and writes the items that it makes ready.
-fn take<O: Sink>(
+pub(crate) fn take<O: Sink>(
     collector: &mut Collector,
     feed: &mut Feed,
     tally: &mut Tally,

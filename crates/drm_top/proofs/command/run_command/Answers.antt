@@ -61,3 +61,18 @@ returns-in-Receive-clause-run g c = rw c.in-Receive.is (c.receive.ensures.run, r
 
 pub returns-in-Receive-clause-unsent : goal.returns-in-Receive-clause-unsent
 returns-in-Receive-clause-unsent g c = λ e. opens_unsent c.in-Receive.addresses c.receive.result (g.D.Dock.known c.args.dock.now) (g.D.Dock.known c.receive.new.dock) c.receive.ensures.run.opens
+
+pub returns-in-ReceiveCapture : goal.returns-in-ReceiveCapture
+returns-in-ReceiveCapture g c =
+    let run = c.receive_from_capture.ensures.run in
+    record {
+      words = λ e. run.kind faults.Words e;
+      memory = λ e. run.untouched e;
+      run = rw c.in-ReceiveCapture.is (run, refl, refl);
+      read = λ e. inl (run.read_cause.rose e);
+      write = run.write_cause;
+      link = λ e. absurd (run.kind faults.Link e);
+      lacking = λ e. rw c.in-ReceiveCapture.is tt;
+      unsent = λ e. dock_still (g.D.Dock.known c.args.dock.now);
+      dock = λ none. refl;
+    }

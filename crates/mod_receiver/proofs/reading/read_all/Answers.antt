@@ -6,7 +6,8 @@ use Rattle.mod_receiver.specs.declared.rules.Rules.{Rules}
 use Rattle.mod_receiver.specs.Hearing.{Heard}
 use Rattle.mod_receiver.proofs.Hearing.{heard_none, heard_more}
 use Rattle.mod_receiver.specs.Received.{rules_of}
-use Rattle.mod_receiver.proofs.Reaching.{OnDatagram, OnIdle, at_start, refused_few, on_datagram, datagram_more, by_frames, by_limit, on_idle, idle_more, by_idle, on_failed, on_stop}
+use Rattle.mod_receiver.proofs.Reaching.{OnDatagram, at_start, refused_few, on_datagram, datagram_more, by_frames, by_limit}
+use Rattle.mod_receiver.proofs.Stopping.{OnIdle, on_idle, idle_more, by_idle, on_failed, on_stop}
 use Rattle.mod_receiver.proofs.reading.read_all.Goals as goal
 
 pub answers-init : goal.answers-init

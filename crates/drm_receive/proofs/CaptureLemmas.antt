@@ -1,0 +1,164 @@
+-- From the receiver of a capture that ended to what was written.
+use Rattle.std.proofs.Common.{◌≡◌, ℕ, ◌≤◌, ◌⊎◌, inl, inr, Bool, List, [], ◌∷◌, ◌++◌, map, length, Result, Ok, Err, refl, sym, ap, subst, arith}
+use Rattle.std.specs.Prelude.{All}
+use Rattle.std.specs.List.{concat}
+use Rattle.drm_links.specs.Told.{Known}
+use Rattle.drm_links.specs.Link.{Answer, Datagram, Failed, End}
+use Rattle.drm_links.specs.Source.{Input, Inputs}
+use Rattle.drm_links.specs.Sink.{Output}
+use Rattle.drm_links.proofs.ToldLemmas.{Inputs-nothing, Inputs-weaker}
+use Rattle.drm_capture.specs.declared.packets.CaptureStop.{CaptureStop}
+use Rattle.drm_capture.specs.declared.packets.CaptureStop.TheVariants as stops
+use Rattle.drm_capture.specs.Front.{IsWhole}
+use Rattle.drm_capture.specs.Capture as capture
+use Rattle.drm_capture.specs.Laws.{ReadSomeWay}
+use Rattle.drm_capture.specs.Reading.{HasRead, Breaks, Stops}
+use Rattle.mod_receiver.specs.declared.rules.Rules.{Rules}
+use Rattle.mod_receiver.specs.declared.capture.Unfinished.{Unfinished}
+use Rattle.mod_receiver.specs.declared.capture.Unfinished.TheVariants as unfinished
+use Rattle.mod_receiver.specs.Hearing.{AreNext}
+use Rattle.mod_receiver.specs.Reading.{most_answers}
+use Rattle.mod_receiver.specs.Ranges.{AreInRange}
+use Rattle.mod_receiver.specs.Received.{Reported, Broken, Stopped}
+use Rattle.mod_receiver.specs.Ahead.{IsGivenOf}
+use Rattle.mod_receiver.specs.Captures.{answers_of, Brings, ArePackets, HeardOf, HeardUntil, EndsReceiving}
+use Rattle.mod_receiver.specs.Following.{HeadlinesFollow, CompletesFollow}
+use Rattle.mod_receiver.proofs.JobLemmas.{report_ahead, front_ahead}
+use Rattle.drm_faults.specs.declared.fault.Fault.{Fault}
+use Rattle.drm_faults.specs.declared.fault.Fault.TheVariants as faults
+use Rattle.drm_receive.specs.Capture.{WritesCapture, EndsEarly}
+use Rattle.drm_receive.specs.Stopping.{ending_captured}
+use Rattle.drm_receive.proofs.CaptureFronts.{packets_front}
+use Rattle.drm_receive.proofs.ReceiveLemmas.{inner, no_fault}
+
+-- ---- what was heard stood ahead
+
+-- the bytes begin with packets that bring these answers; or they are such packets, and nothing more
+abbrev Begin : List ℕ → List Answer → Type 0
+Begin left answers =
+    (packets : List (List ℕ))
+    × (((more : List ℕ) × All IsWhole packets × (left ≡ concat packets ++ more) × (length (concat packets) ≤ capture.most_bytes) × ArePackets packets answers)
+    ⊎ (capture.IsCaptureOf left packets capture.End × (answers ≡ map Datagram packets ++ End ∷ [])))
+
+began : (before after : Known Input) (answers : List Answer) → HeardOf before after answers → Inputs before after (λ left rest. Begin left answers)
+began before after answers (packets, inl (reader, read, are)) =
+    Inputs-weaker (λ left rest. left ≡ concat packets ++ (reader.held ++ rest)) (λ left rest. Begin left answers) before after read.bytes
+    (λ left rest is. (packets, inl (reader.held ++ rest, read.whole, is, (let at = read.at in let few = read.few in omega (arith, at, few)), are)))
+began before after answers (packets, inr (ended, are)) =
+    Inputs-weaker (λ left rest. capture.IsCaptureOf left packets capture.End) (λ left rest. Begin left answers) before after ended (λ left rest is. (packets, inr (is, are)))
+
+next_packets : (packets later : List (List ℕ)) (ending : capture.Ending) → AreNext (answers_of (packets ++ later) ending) (map Datagram packets) (answers_of later ending)
+next_packets [] later ending = refl
+next_packets (p ∷ packets) later ending = (refl, next_packets packets later ending)
+
+next_whole : (packets : List (List ℕ)) (ending : capture.Ending) → AreNext (answers_of packets ending) (answers_of packets ending) []
+next_whole [] ending = (refl, refl)
+next_whole (p ∷ packets) ending = (refl, next_whole packets ending)
+
+next_of : ReadSomeWay → (left : List ℕ) (answers : List Answer) → Begin left answers → (ahead : List Answer) × Brings left ahead × (later : List Answer) × AreNext ahead answers later
+next_of some left answers (packets, inl (more, whole, is, few, are)) =
+    let (all, ending, of) = some left in
+    let (later, all_is) = packets_front left packets all more ending whole is few of in (
+      answers_of all ending,
+      record { packets = all; ending = ending; is = of; ahead_is = refl },
+      answers_of later ending,
+      subst (λ l. AreNext (answers_of l ending) answers (answers_of later ending)) (sym all_is)
+          (subst (λ l. AreNext (answers_of (packets ++ later) ending) l (answers_of later ending)) (sym are) (next_packets packets later ending)),
+    )
+next_of some left answers (packets, inr (of, are)) = (
+  answers_of packets capture.End,
+  record { packets = packets; ending = capture.End; is = of; ahead_is = refl },
+  [],
+  subst (λ l. AreNext (answers_of packets capture.End) l []) (sym are) (next_whole packets capture.End),
+)
+
+-- ---- what was written
+
+-- these answers and no others were heard
+abbrev Alone : List Answer → List Answer → Type 0
+Alone answers others = others ≡ answers
+
+alone_next : (rules : Rules) (ahead answers later : List Answer) → AreNext ahead answers later
+    → (others : List Answer) → Alone answers others → length others ≤ most_answers rules → (rest : List Answer) × AreNext ahead others rest
+alone_next rules ahead answers later next others same few = (later, subst (λ l. AreNext ahead l later) (sym same) next)
+
+module _ {O : Type 0} (rules : Rules) (valid : AreInRange rules) (headlines : HeadlinesFollow) (completes : CompletesFollow) (some : ReadSomeWay)
+    (before after : Known Input) (known : O → Known Output) (out out' : O) where
+  reported : (clean : Bool) → Reported rules 1 (HeardOf before after) (known out) (known out') clean → Inputs before after (λ left rest. WritesCapture rules left rest (Ok clean) known out out')
+  reported clean r =
+      let alone : Reported rules 1 (Alone r.answers) (known out) (known out') clean = record { answers = r.answers; heard = refl; few = r.few; whole = r.whole; is = r.is; text = r.text } in
+      Inputs-weaker (λ left rest. Begin left r.answers) (λ left rest. WritesCapture rules left rest (Ok clean) known out out') before after (began before after r.answers r.heard)
+      (λ left rest begins.
+          let (ahead, brings, later, next) = next_of some left r.answers begins in
+          let (report, is, text, same) = report_ahead rules 1 ahead (Alone r.answers) (known out) (known out') (alone_next rules ahead r.answers later next) headlines completes valid.some_window clean alone in
+          (ahead, brings, report, is, text, same))
+
+  stopped : Stopped rules 1 (HeardOf before after) (known out) (known out') → Inputs before after (λ left rest. WritesCapture rules left rest (ending_captured (Err unfinished.Write)) known out out')
+  stopped r =
+      let alone : Stopped rules 1 (Alone r.answers) (known out) (known out') = record { answers = r.answers; heard = refl; few = r.few; goes_on = r.goes_on; text = r.text } in
+      Inputs-weaker (λ left rest. Begin left r.answers) (λ left rest. WritesCapture rules left rest (ending_captured (Err unfinished.Write)) known out out') before after (began before after r.answers r.heard)
+      (λ left rest begins.
+          let (ahead, brings, later, next) = next_of some left r.answers begins in
+          (ahead, brings, front_ahead rules 1 ahead (Alone r.answers) (known out) (known out') (alone_next rules ahead r.answers later next) alone))
+
+  given : (stop : CaptureStop) (r : Broken rules 1 (HeardUntil stop before after) (known out) (known out')) → IsGivenOf rules 1 (map Datagram r.heard.0 ++ Failed ∷ []) r.whole
+  given stop r = record {
+    answers = r.answers;
+    rest = [];
+    next = subst (λ l. AreNext (answers_of r.heard.0 capture.TooLong) l []) (sym r.heard.3) (next_whole r.heard.0 capture.TooLong);
+    is = r.is;
+  }
+
+  broken : (stop : CaptureStop) → Broken rules 1 (HeardUntil stop before after) (known out) (known out')
+      → Inputs before after (λ left rest. WritesCapture rules left rest (ending_captured (Err (unfinished.Stopped stop))) known out out')
+  broken stops.Read r =
+      Inputs-weaker (Breaks r.heard.0) (λ left rest. WritesCapture rules left rest (ending_captured (Err (unfinished.Stopped stops.Read))) known out out') before after r.heard.2
+      (λ left rest is. (r.heard.0, (r.heard.1, is), r.whole, given stops.Read r, r.text))
+  broken (stops.Capture fault) r =
+      Inputs-weaker (λ left rest. capture.IsCaptureOf left r.heard.0 (capture.Fault fault)) (λ left rest. WritesCapture rules left rest (ending_captured (Err (unfinished.Stopped (stops.Capture fault)))) known out out') before after r.heard.2
+      (λ left rest is. (r.heard.0, is, r.whole, given (stops.Capture fault) r, r.text))
+  broken stops.TooLong r =
+      Inputs-weaker (λ left rest. capture.IsCaptureOf left r.heard.0 capture.TooLong) (λ left rest. WritesCapture rules left rest (ending_captured (Err (unfinished.Stopped stops.TooLong))) known out out') before after r.heard.2
+      (λ left rest is. (r.heard.0, is, r.whole, given stops.TooLong r, r.text))
+
+  pub written : (result : Result Bool Unfinished) → EndsReceiving rules before after (known out) (known out') result → (result ≡ Err unfinished.NoMemory → out' ≡ out)
+      → Inputs before after (λ left rest. WritesCapture rules left rest (ending_captured result) known out out')
+  written (Ok clean) ends memory = reported clean ends
+  written (Err (unfinished.Stopped stop)) ends memory = broken stop ends
+  written (Err unfinished.Write) ends memory = stopped ends
+  written (Err unfinished.NoMemory) ends memory =
+      subst (λ (now : Known Input). Inputs before now (λ left rest. out' ≡ out)) (sym ends.0) (Inputs-nothing (λ left rest. out' ≡ out) before (λ left. memory refl))
+
+-- ---- by what it ended
+
+pub ended_early : (received : Result Bool Unfinished) (fault : Fault) → ending_captured received ≡ Err fault → EndsEarly fault
+ended_early (Ok clean) fault is = absurd (no_fault clean fault is)
+ended_early (Err (unfinished.Stopped stops.Read)) fault is = subst EndsEarly (inner faults.Read fault is) tt
+ended_early (Err (unfinished.Stopped (stops.Capture why))) fault is = subst EndsEarly (inner (faults.Capture why) fault is) tt
+ended_early (Err (unfinished.Stopped stops.TooLong)) fault is = subst EndsEarly (inner faults.CaptureTooLong fault is) tt
+ended_early (Err unfinished.Write) fault is = subst EndsEarly (inner faults.Write fault is) tt
+ended_early (Err unfinished.NoMemory) fault is = subst EndsEarly (inner faults.NoMemory fault is) tt
+
+pub ended_memory : (received : Result Bool Unfinished) → ending_captured received ≡ Err faults.NoMemory → received ≡ Err unfinished.NoMemory
+ended_memory (Ok clean) is = absurd (no_fault clean faults.NoMemory is)
+ended_memory (Err (unfinished.Stopped stops.Read)) is = absurd (let one : faults.Read ≡ faults.NoMemory = inner faults.Read faults.NoMemory is in cc)
+ended_memory (Err (unfinished.Stopped (stops.Capture why))) is = absurd (let one : faults.Capture why ≡ faults.NoMemory = inner (faults.Capture why) faults.NoMemory is in cc)
+ended_memory (Err (unfinished.Stopped stops.TooLong)) is = absurd (let one : faults.CaptureTooLong ≡ faults.NoMemory = inner faults.CaptureTooLong faults.NoMemory is in cc)
+ended_memory (Err unfinished.Write) is = absurd (let one : faults.Write ≡ faults.NoMemory = inner faults.Write faults.NoMemory is in cc)
+ended_memory (Err unfinished.NoMemory) is = refl
+
+pub ended_read : (received : Result Bool Unfinished) → ending_captured received ≡ Err faults.Read → received ≡ Err (unfinished.Stopped stops.Read)
+ended_read (Ok clean) is = absurd (no_fault clean faults.Read is)
+ended_read (Err (unfinished.Stopped stops.Read)) is = refl
+ended_read (Err (unfinished.Stopped (stops.Capture why))) is = absurd (let one : faults.Capture why ≡ faults.Read = inner (faults.Capture why) faults.Read is in cc)
+ended_read (Err (unfinished.Stopped stops.TooLong)) is = absurd (let one : faults.CaptureTooLong ≡ faults.Read = inner faults.CaptureTooLong faults.Read is in cc)
+ended_read (Err unfinished.Write) is = absurd (let one : faults.Write ≡ faults.Read = inner faults.Write faults.Read is in cc)
+ended_read (Err unfinished.NoMemory) is = absurd (let one : faults.NoMemory ≡ faults.Read = inner faults.NoMemory faults.Read is in cc)
+
+pub ended_write : (received : Result Bool Unfinished) → ending_captured received ≡ Err faults.Write → received ≡ Err unfinished.Write
+ended_write (Ok clean) is = absurd (no_fault clean faults.Write is)
+ended_write (Err (unfinished.Stopped stops.Read)) is = absurd (let one : faults.Read ≡ faults.Write = inner faults.Read faults.Write is in cc)
+ended_write (Err (unfinished.Stopped (stops.Capture why))) is = absurd (let one : faults.Capture why ≡ faults.Write = inner (faults.Capture why) faults.Write is in cc)
+ended_write (Err (unfinished.Stopped stops.TooLong)) is = absurd (let one : faults.CaptureTooLong ≡ faults.Write = inner faults.CaptureTooLong faults.Write is in cc)
+ended_write (Err unfinished.Write) is = refl
+ended_write (Err unfinished.NoMemory) is = absurd (let one : faults.NoMemory ≡ faults.Write = inner faults.NoMemory faults.Write is in cc)

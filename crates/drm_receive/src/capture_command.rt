@@ -1,0 +1,41 @@
+//! The command `receive` without addresses.
+
+ghost use Rattle.std.specs.Prelude.{◌≡◌};
+ghost use Rattle.mod_receiver.specs.Ranges.{AreInRange};
+ghost use Rattle.drm_receive.specs.Capture.{CaptureRun};
+ghost use Rattle.drm_receive.specs.Stopping.{ending_captured};
+
+use drm_capture::read_some_way;
+use drm_faults::Fault;
+use drm_links::{Sink, Source};
+use mod_receiver::{Rules, Unfinished, in_time_is_unbroken, receive_capture, reports_follow};
+use std::alloc::Global;
+
+/// Reads a capture from `input` until enough is read, and writes its report as it is read. Answers whether no frame is
+/// missing or bad.
+pub fn receive_from_capture<I: Source, O: Sink>(
+    alloc: Global,
+    rules: &Rules,
+    input: &mut I,
+    out: &mut O,
+) -> Result<bool, Fault>
+    requires { AreInRange rules.now }
+    ensures run { CaptureRun rules.now result I.known input.old input.new O.known out.old out.new }
+{
+    reports_follow();
+    in_time_is_unbroken();
+    read_some_way();
+    captured_ending(receive_capture(alloc, rules, input, out))
+}
+
+// How a run ends whose receiver ends so.
+fn captured_ending(received: Result<bool, Unfinished>) -> Result<bool, Fault>
+    ensures { result ≡ ending_captured received }
+{
+    match received {
+        Ok(clean) => Ok(clean),
+        Err(Unfinished::Stopped(stop)) => Err(stop.into()),
+        Err(Unfinished::Write) => Err(Fault::Write),
+        Err(Unfinished::NoMemory) => Err(Fault::NoMemory),
+    }
+}
