@@ -149,6 +149,7 @@ fn read_some<I: Source>(input: &mut I, room: &mut [u8], most: u64) -> ReadOut
     ensures told { CountsCall (λ told. told.calls) (I.known input.old) (I.known input.new) }
     ensures cause { HasCause (I.known input.old) (I.known input.new) (result ≡ ReadOut.Failed) }
 {
-    let count = most.min(ROOM as u64).max(1) as usize;
-    input.read(&mut room[..count])
+    let count = most.min(ROOM as u64) as usize;
+    // A sum and no `max`: where clang 22 knows that a buffer has room, it takes the end of a stream for bytes that came.
+    input.read(&mut room[..count + usize::from(count == 0)])
 }
