@@ -3,3 +3,4 @@ pub mod Ranges
 pub mod Delivering
 pub mod Counting
 pub mod Running
+pub mod LineCounts

@@ -1,8 +1,7 @@
 -- The exercise of size n: a schedule, what is delivered of it, and the line on its report.
 use Rattle.std.specs.Prelude.{ℕ, ◌≡◌, ◌+◌, ◌*◌, ◌/◌, ◌%◌, ◌<◌, ◌^◌, ◌==◌, ◌||◌, nat_le, Bool, true, false, if◌then◌else◌, List, [], ◌∷◌, length, take, count_by, reverse, codes, decimal, None}
-use Rattle.std.specs.List.{concat, flat_map, range_with_len, slice_split}
+use Rattle.std.specs.List.{concat, flat_map, range_with_len, slice_split, starts_with}
 use Rattle.std.specs.Int.{w16, to_be_bytes}
-use Rattle.std.specs.Str.{bytes_eq}
 use Rattle.hex.specs.Hex.{encode_lower}
 use Rattle.drm_fac.specs.declared.mode.Mode.{Mode}
 use Rattle.drm_fac.specs.declared.mode.Mode.TheVariants.{B, C}
@@ -75,7 +74,7 @@ deliveries n = flat_map (λ packet. of_packet n packet (fragment_count (plan n) 
 
 -- how many lines of a text begin so
 abbrev pub begins : List ℕ → List ℕ → Bool
-begins front line = bytes_eq (take (length front) line) front
+begins front line = starts_with (λ a b. a == b) line front
 
 unfoldable pub lines_with : List ℕ → List ℕ → ℕ
 lines_with front text = count_by (begins front) (slice_split (λ byte. byte == 10) text)

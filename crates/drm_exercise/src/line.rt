@@ -1,7 +1,8 @@
 //! The line of an exercise.
 
-ghost use Rattle.std.specs.Prelude.{◌≡◌, ◌≤◌, length};
-ghost use Rattle.std.specs.Int.{w16, to_be_bytes};
+ghost use Rattle.std.specs.Prelude.{◌≡◌, ◌≤◌, ◌<◌, ◌+◌, ◌==◌, length, drop};
+ghost use Rattle.std.specs.Int.{from_bool};
+ghost use Rattle.std.specs.List.{position};
 ghost use Rattle.drm_links.specs.Sink.{Writes};
 ghost use Rattle.drm_exercise.specs.Exercise as exercise;
 
@@ -51,7 +52,32 @@ pub(crate) fn write_line<O: Sink>(
 fn lines_with(text: &[u8], front: &[u8]) -> u64
     ensures { result ≡ exercise.lines_with front.now text.now }
 {
-    text.split(|byte| *byte == b'\n')
-        .filter(|line| line.starts_with(front))
-        .count() as u64
+    let mut count = 0;
+    let mut rest = text;
+    while let Some(end) = line_end(rest) {
+        count += one_if_begins(&rest[..end], front);
+        rest = behind(rest, end);
+    }
+    count + one_if_begins(rest, front)
+}
+
+fn one_if_begins(line: &[u8], front: &[u8]) -> u64
+    ensures { result ≡ from_bool (exercise.begins front.now line.now) }
+{
+    u64::from(line.starts_with(front))
+}
+
+// Where the first line of a text ends that isn't the last one.
+fn line_end(text: &[u8]) -> Option<usize>
+    ensures { result ≡ position (λ byte. byte == 10) text.now }
+{
+    text.iter().position(|byte| *byte == b'\n')
+}
+
+// What stands behind this line end.
+fn behind(text: &[u8], end: usize) -> &[u8]
+    requires { end < length text.now }
+    ensures { result.now ≡ drop (end + 1) text.now }
+{
+    &text[end + 1..]
 }

@@ -32,8 +32,8 @@ loop-left-preserved c =
     let d : Delivery = delivery packet (left - 1) in
     let rest : List Delivery = left_of n packet count (left - 1) in (
       ap (λ l. l ++ rest) (c.in_ok-push-2.ensures.pushed ∙ ap (λ l. l ++ d ∷ []) c.in_ok-push.ensures.pushed)
-      ∙ twice_behind c.loop-left.feed d rest
-      ∙ sym (ap (λ l. c.loop-left.feed ++ l) (ap (left_of n packet count) next ∙ taken n packet count (left - 1) (sym c.is_left_out.ensures ∙ c.if-is_left_out.false)))
-      ∙ c.loop-left.invariant.0,
+          ∙ twice_behind c.loop-left.feed d rest
+          ∙ sym (ap (λ l. c.loop-left.feed ++ l) (ap (left_of n packet count) next ∙ taken n packet count (left - 1) (sym c.is_left_out.ensures ∙ c.if-is_left_out.false)))
+          ∙ c.loop-left.invariant.0,
       omega (arith, within),
     )

@@ -6,7 +6,7 @@ use Rattle.drm_exercise.proofs.script.fragments.Goals as goal
 pub returns : goal.returns
 returns c =
     count_is c.args.plan.now c.args.packet c.datagrams.result (
-      c.datagrams.ensures c.carry.result c.packet_len.result c.cut_for.ensures.cut
-      ∙ ap (λ carry. datagram_count carry c.packet_len.result) c.carry.ensures
-      ∙ ap (datagram_count c.args.plan.now.carry) c.packet_len.ensures.len
+    c.datagrams.ensures c.carry.result c.packet_len.result c.cut_for.ensures.cut
+    ∙ ap (λ carry. datagram_count carry c.packet_len.result) c.carry.ensures
+    ∙ ap (datagram_count c.args.plan.now.carry) c.packet_len.ensures.len
     )
