@@ -104,6 +104,7 @@ module _ {O : Type 0} (n : ℕ) (known : O → Known Output) (out : O) where
   wants_memory = record {
     writes = refl;
     kind = λ fault is. inl (sym (same faults.NoMemory fault is));
+    untouched = λ is. refl;
     complete = λ no_write. inl refl;
     write_cause = record { later = le_refl _; rose = λ is. absurd (let other : faults.NoMemory ≡ faults.Write = same faults.NoMemory faults.Write is in cc) };
   }
@@ -116,6 +117,7 @@ module _ {O : Type 0} (n : ℕ) (known : O → Known Output) (out : O) where
   is_done clean text count check out' has many checks wrote later = record {
     writes = (has.r, line n count text check, is_exercise n clean text count check has many checks, wrote, has.clean_is);
     kind = λ fault is. absurd cc;
+    untouched = λ is. absurd cc;
     complete = λ no_write. inr (clean, refl);
     write_cause = record { later = later; rose = λ is. absurd cc };
   }
@@ -125,6 +127,7 @@ module _ {O : Type 0} (n : ℕ) (known : O → Known Output) (out : O) where
   is_cut clean text count check out' has many checks wrote cause = record {
     writes = (has.r, line n count text check, is_exercise n clean text count check has many checks, wrote);
     kind = λ fault is. inr (sym (same faults.Write fault is));
+    untouched = λ is. absurd (let other : faults.Write ≡ faults.NoMemory = same faults.Write faults.NoMemory is in cc);
     complete = λ no_write. absurd (no_write (cause.rose tt));
     write_cause = record { later = cause.later; rose = λ is. cause.rose tt };
   }

@@ -34,6 +34,8 @@ pub record ExerciseRun {O : Type 0} (n : ℕ) (ending : Result Bool Fault) (know
   pub writes : WritesLine n ending known out out'
   -- It ends well, or for want of memory or by a failed write.
   pub kind : (fault : Fault) → ending ≡ Err fault → (fault ≡ faults.NoMemory) ⊎ (fault ≡ faults.Write)
+  -- After want of memory nothing was written.
+  pub untouched : ending ≡ Err faults.NoMemory → out' ≡ out
   -- Where no write failed, the line is written.
   pub complete : (HasFailed (known out) (known out') → ⊥) → UnlessMemory ending ((clean : Bool) × (ending ≡ Ok clean))
   -- A write failed only where out's count of faults rose.

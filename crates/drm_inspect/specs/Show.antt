@@ -72,6 +72,10 @@ IsCutShort ending = (ending ≡ Err faults.Read) ⊎ (ending ≡ Err faults.Writ
 pub record ShowRun {I O : Type 0} (ending : Result Bool Fault)
     (input_known : I → Known Input) (input input' : I)
     (out_known : O → Known Output) (out out' : O) : Type 0 where
+  -- It ends well, or for want of memory, by a fault of the capture, by a failed read or by a failed write.
+  pub kind : (fault : Fault) → ending ≡ Err fault → EndsEarly fault
+  -- After want of memory nothing was read or written.
+  pub untouched : ending ≡ Err faults.NoMemory → (input' ≡ input) × (out' ≡ out)
   pub packets : List (List ℕ)
   pub contents : List Content
   pub are : AreContents contents packets

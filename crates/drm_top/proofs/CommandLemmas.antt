@@ -1,8 +1,9 @@
 -- The ends of runs that tell of no frames.
-use Rattle.std.proofs.Common.{◌≡◌, ◌⊎◌, inl, Bool, true, false, Option, None, Some, Result, Ok, Err, refl, sym, ◌∙◌, ap}
+use Rattle.std.proofs.Common.{◌≡◌, ◌⊎◌, inl, inr, Bool, true, false, Option, None, Some, Result, Ok, Err, refl, sym, ◌∙◌, ap}
 use Rattle.drm_links.specs.Told.{Known, WhileTold, BothTold}
 use Rattle.drm_links.specs.Dock.{DockContents, SendsNothing}
 use Rattle.drm_faults.specs.declared.fault.Fault.{Fault}
+use Rattle.drm_faults.specs.declared.fault.Fault.TheVariants as faults
 use Rattle.drm_faults.specs.Fault.{whole_of}
 
 whole_fault : (done : Result (Unit {0}) Fault) (fault : Fault) → whole_of done ≡ Err fault → done ≡ Err fault
@@ -27,3 +28,8 @@ dock_still a = still a.told
     still : (told : Option DockContents) → BothTold told told SendsNothing
     still None = tt
     still (Some x) = inl refl
+
+-- neither want of memory nor a failed write
+pub not_else : (fault : Fault) → (fault ≡ faults.NoMemory → ⊥) → (fault ≡ faults.Write → ⊥) → (fault ≡ faults.NoMemory) ⊎ (fault ≡ faults.Write) → ⊥
+not_else fault memory write (inl is) = memory is
+not_else fault memory write (inr is) = write is

@@ -11,7 +11,7 @@ use Rattle.drm_receive.specs.Terms.{AreListed}
 use Rattle.mod_receiver.specs.Ranges.{AreInRange}
 use Rattle.drm_top.specs.Words.{request_of, Asks, IsInRange}
 use Rattle.drm_top.specs.declared.words.Command.{Command}
-use Rattle.drm_top.specs.declared.words.Command.TheVariants.{Fac, Check, Serve, Send, Receive, ReceiveCapture, Air}
+use Rattle.drm_top.specs.declared.words.Command.TheVariants.{Fac, Check, Serve, Send, Receive, ReceiveCapture, Air, Show, Exercise}
 
 within : (default least greatest n : ℕ) (value : Option (List ℕ)) → least ≤ default → default ≤ greatest → IsNumberOr default least greatest value n → (least ≤ n) × (n ≤ greatest)
 within default least greatest n None low high is = (omega (arith, is, low), omega (arith, is, high))
@@ -55,6 +55,9 @@ reads words addresses rules line =
 airs : (words : List (List ℕ)) (name script : List ℕ) (window : ℕ) → IsLine words (request_of (Air name script window)) → (1 ≤ window) × (window ≤ 64)
 airs words name script window line = within 8 1 64 window _ (omega arith) (omega arith) line.asks.3
 
+exercises : (words : List (List ℕ)) (n : ℕ) → IsLine words (request_of (Exercise n)) → (1 ≤ n) × (n ≤ 1000)
+exercises words n line = (line.asks.3.1, line.asks.3.2)
+
 pub in_range : (came : Result Command WordsFault) (request : Request) (words : List (List ℕ)) → Asks came request → IsLine words request → HasTextNames request → IfOk came IsInRange
 in_range (Err fault) request words asks line text = tt
 in_range (Ok Fac) request words asks line text = tt
@@ -69,3 +72,5 @@ in_range (Ok (Air name script window)) request words asks line text =
     let names : IsUtf8 name × IsUtf8 script = subst HasTextNames asks text in
     let range = airs words name script window (subst (λ r. IsLine words r) asks line) in
     (names.0, names.1, range.0, range.1)
+in_range (Ok Show) request words asks line text = tt
+in_range (Ok (Exercise n)) request words asks line text = exercises words n (subst (λ r. IsLine words r) asks line)

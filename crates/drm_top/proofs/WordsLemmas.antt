@@ -6,7 +6,7 @@ use Rattle.drm_words.specs.declared.request.Request.{Request}
 use Rattle.drm_words.specs.declared.request.Request.TheVariants as requests
 use Rattle.drm_words.specs.Line.{IsLine}
 use Rattle.drm_top.specs.declared.words.Command.{Command}
-use Rattle.drm_top.specs.declared.words.Command.TheVariants.{Fac, Check, Serve, Send, Receive, ReceiveCapture, Air}
+use Rattle.drm_top.specs.declared.words.Command.TheVariants.{Fac, Check, Serve, Send, Receive, ReceiveCapture, Air, Show, Exercise}
 use Rattle.drm_top.specs.Words.{request_of, AsksFor, AsksForNothing, Asks}
 
 -- the command that a request is asked by, where there is one
@@ -20,6 +20,8 @@ command_by (requests.Receive (Some addresses) window first frames idle limit) =
 command_by (requests.Receive None window first frames idle limit) =
     ReceiveCapture (record { window = window; first = first; frames = frames; idle = idle; limit = limit })
 command_by (requests.Air name script window) = Air name script window
+command_by requests.Show = Show
+command_by (requests.Exercise n) = Exercise n
 command_by other = Fac
 
 same_command : (a : Command) → command_by (request_of a) ≡ a
@@ -30,6 +32,8 @@ same_command (Send name to pace) = refl
 same_command (Receive addresses rules) = refl
 same_command (ReceiveCapture rules) = refl
 same_command (Air name script window) = refl
+same_command Show = refl
+same_command (Exercise n) = refl
 
 one_command : (a b : Command) → request_of a ≡ request_of b → a ≡ b
 one_command a b is = sym (same_command a) ∙ (ap command_by is ∙ same_command b)

@@ -6,17 +6,19 @@ use Rattle.drm_links.specs.Source.{Input}
 use Rattle.drm_links.specs.Sink.{Output}
 use Rattle.drm_links.specs.Dock.{DockContents}
 use Rattle.drm_inspect.specs.Fac.{FacRun}
+use Rattle.drm_inspect.specs.Show.{ShowRun}
 use Rattle.drm_transmit.specs.Check.{CheckRun}
 use Rattle.drm_transmit.specs.Serve.{ServeRun}
 use Rattle.drm_transmit.specs.Send.{SendRun}
 use Rattle.drm_receive.specs.Receive.{ReceiveRun}
 use Rattle.drm_receive.specs.Capture.{CaptureRun}
 use Rattle.drm_air.specs.Air.{AirRun}
+use Rattle.drm_exercise.specs.Run.{ExerciseRun}
 use Rattle.drm_faults.specs.Fault.{done_of, whole_of, report_status, Reports}
 use Rattle.drm_faults.specs.declared.fault.Fault.{Fault}
 use Rattle.drm_faults.specs.declared.fault.Fault.TheVariants.{NoMemory}
 use Rattle.drm_top.specs.declared.words.Command.{Command}
-use Rattle.drm_top.specs.declared.words.Command.TheVariants.{Fac, Check, Serve, Send, Receive, ReceiveCapture, Air}
+use Rattle.drm_top.specs.declared.words.Command.TheVariants.{Fac, Check, Serve, Send, Receive, ReceiveCapture, Air, Show, Exercise}
 
 -- a run that tells of no frames
 abbrev pub Whole : Result Bool Fault → (Result (Unit {0}) Fault → Type 0) → Type 0
@@ -39,6 +41,10 @@ CommandRun (ReceiveCapture rules) ending shelf_known shelf shelf' input_known in
     CaptureRun rules ending input_known input input' out_known out out' × (shelf' ≡ shelf) × (dock' ≡ dock)
 CommandRun (Air name script window) ending shelf_known shelf shelf' input_known input input' out_known out out' dock_known dock dock' =
     AirRun name script window ending shelf_known shelf shelf' out_known out out' × (input' ≡ input) × (dock' ≡ dock)
+CommandRun Show ending shelf_known shelf shelf' input_known input input' out_known out out' dock_known dock dock' =
+    ShowRun ending input_known input input' out_known out out' × (shelf' ≡ shelf) × (dock' ≡ dock)
+CommandRun (Exercise n) ending shelf_known shelf shelf' input_known input input' out_known out out' dock_known dock dock' =
+    ExerciseRun n ending out_known out out' × (shelf' ≡ shelf) × (input' ≡ input) × (dock' ≡ dock)
 
 -- nothing of the outside was touched
 abbrev pub IsUntouched : {S I O D : Type 0} → S → S → I → I → O → O → D → D → Type 0
@@ -64,8 +70,10 @@ OpensALink (Send name to pace) = Unit {0}
 OpensALink (Receive addresses rules) = Unit {0}
 OpensALink (ReceiveCapture rules) = ⊥
 OpensALink (Air name script window) = ⊥
+OpensALink Show = ⊥
+OpensALink (Exercise n) = ⊥
 
--- a command that reports what was received
+-- a command that tells of frames or packets, some of which may be missing or bad
 abbrev pub WritesReport : Command → Type 0
 WritesReport Fac = ⊥
 WritesReport (Check name) = ⊥
@@ -74,3 +82,5 @@ WritesReport (Send name to pace) = ⊥
 WritesReport (Receive addresses rules) = Unit {0}
 WritesReport (ReceiveCapture rules) = Unit {0}
 WritesReport (Air name script window) = Unit {0}
+WritesReport Show = Unit {0}
+WritesReport (Exercise n) = Unit {0}

@@ -8,7 +8,7 @@ use Rattle.word_forms.specs.declared.fault.WordsFault.TheVariants as faults
 use Rattle.drm_receive.specs.Terms.{AreListed}
 use Rattle.mod_receiver.specs.Ranges.{AreInRange}
 use Rattle.drm_top.specs.declared.words.Command.{Command}
-use Rattle.drm_top.specs.declared.words.Command.TheVariants.{Fac, Check, Serve, Send, Receive, ReceiveCapture, Air}
+use Rattle.drm_top.specs.declared.words.Command.TheVariants.{Fac, Check, Serve, Send, Receive, ReceiveCapture, Air, Show, Exercise}
 
 -- what a command is asked for with
 abbrev pub request_of : Command → Request
@@ -19,6 +19,8 @@ request_of (Send name to pace) = requests.Serve name (Some to) pace
 request_of (Receive addresses rules) = requests.Receive (Some addresses) rules.window rules.first rules.frames rules.idle rules.limit
 request_of (ReceiveCapture rules) = requests.Receive None rules.window rules.first rules.frames rules.idle rules.limit
 request_of (Air name script window) = requests.Air name script window
+request_of Show = requests.Show
+request_of (Exercise n) = requests.Exercise n
 
 -- the words are a command line of this command
 abbrev pub AsksFor : Command → List (List ℕ) → Type 0
@@ -42,3 +44,5 @@ IsInRange (Send name to pace) = IsUtf8 name
 IsInRange (Receive addresses rules) = AreInRange rules × AreListed addresses
 IsInRange (ReceiveCapture rules) = AreInRange rules
 IsInRange (Air name script window) = IsUtf8 name × IsUtf8 script × (1 ≤ window) × (window ≤ 64)
+IsInRange Show = Unit {0}
+IsInRange (Exercise n) = (1 ≤ n) × (n ≤ 1000)

@@ -12,7 +12,8 @@ ghost use Rattle.drm_top.specs.declared.words.Command.{Command};
 use crate::words::{Command, read_command, text};
 use drm_air::air;
 use drm_faults::Fault;
-use drm_inspect::fac;
+use drm_exercise::exercise;
+use drm_inspect::{fac, show};
 use drm_links::{Dock, Link, Shelf, Sink, Source, Status};
 use drm_receive::{receive, receive_from_capture};
 use drm_transmit::{check, send, serve};
@@ -167,6 +168,8 @@ where
             script,
             window,
         } => air(rt, alloc, text(name), text(script), *window, shelf, out),
+        Command::Show => show(alloc, input, out),
+        Command::Exercise { n } => exercise(rt, alloc, *n, out),
     }
 }
 

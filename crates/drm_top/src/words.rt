@@ -44,6 +44,11 @@ pub enum Command {
         script: Octets,
         window: u8,
     },
+    Show,
+    /// `exercise`; the number is 1 to 1,000.
+    Exercise {
+        n: u32,
+    },
 }
 
 /// The command of a command line.
@@ -102,6 +107,8 @@ fn command_of(request: Request) -> Result<Command, WordsFault>
             script,
             window,
         }),
+        Request::Show => Ok(Command::Show),
+        Request::Exercise { n } => Ok(Command::Exercise { n }),
         _ => Err(WordsFault::Words),
     }
 }

@@ -1,6 +1,6 @@
 use Rattle.std.proofs.Common.{◌≡◌, inl, inr, refl, subst, le_refl}
 use Rattle.drm_faults.specs.declared.fault.Fault.TheVariants as faults
-use Rattle.drm_top.proofs.CommandLemmas.{fault_of_whole, whole_lacks_none, dock_still}
+use Rattle.drm_top.proofs.CommandLemmas.{fault_of_whole, whole_lacks_none, dock_still, not_else}
 use Rattle.drm_receive.proofs.OpeningLemmas.{opens_unsent}
 use Rattle.drm_top.proofs.command.run_command.Goals as goal
 
@@ -73,6 +73,36 @@ returns-in-ReceiveCapture g c =
       write = run.write_cause;
       link = λ e. absurd (run.kind faults.Link e);
       lacking = λ e. rw c.in-ReceiveCapture.is tt;
+      unsent = λ e. dock_still (g.D.Dock.known c.args.dock.now);
+      dock = λ none. refl;
+    }
+
+pub returns-in-Show : goal.returns-in-Show
+returns-in-Show g c =
+    let run = c.show.ensures in
+    record {
+      words = λ e. run.kind faults.Words e;
+      memory = λ e. run.untouched e;
+      run = rw c.in-Show.is (run, refl, refl);
+      read = λ e. inl (run.read_cause.rose e);
+      write = run.write_cause;
+      link = λ e. absurd (run.kind faults.Link e);
+      lacking = λ e. rw c.in-Show.is tt;
+      unsent = λ e. dock_still (g.D.Dock.known c.args.dock.now);
+      dock = λ none. refl;
+    }
+
+pub returns-in-Exercise : goal.returns-in-Exercise
+returns-in-Exercise g c =
+    let run = c.exercise.ensures in
+    record {
+      words = λ e. not_else faults.Words (λ is. cc) (λ is. cc) (run.kind faults.Words e);
+      memory = λ e. (refl, run.untouched e);
+      run = rw c.in-Exercise.is (run, refl, refl, refl);
+      read = λ e. absurd (not_else faults.Read (λ is. cc) (λ is. cc) (run.kind faults.Read e));
+      write = run.write_cause;
+      link = λ e. absurd (not_else faults.Link (λ is. cc) (λ is. cc) (run.kind faults.Link e));
+      lacking = λ e. rw c.in-Exercise.is tt;
       unsent = λ e. dock_still (g.D.Dock.known c.args.dock.now);
       dock = λ none. refl;
     }
