@@ -1,1 +1,4 @@
 pub mod ItemLemmas
+pub mod BlockLemmas
+pub mod WritingLemmas
+pub mod SpanLemmas

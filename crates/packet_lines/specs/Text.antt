@@ -19,7 +19,7 @@ block_text None = []
 block_text (Some block) = field_text block.entities block.tail
 
 -- the lines of a frame, with its block where it has one
-abbrev pub frame_text : Frame → Option Block → List ℕ
+unfoldable pub frame_text : Frame → Option Block → List ℕ
 frame_text frame block = mdi_line frame ++ (fac_text frame.fac ++ (mux_line frame.mux ++ block_text block))
 
 abbrev pub saying_text : ℕ → Saying → List ℕ

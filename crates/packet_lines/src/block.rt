@@ -67,6 +67,7 @@ fn next_head(bits: &mut Bits<'_>, left: usize) -> Option<Head>
     requires { 8 * left ≤ length bits.old }
     ensures head { IfSome result (λ h. IsHead h bits.old) }
     ensures some { IfSome result (λ h. (2 ≤ left) × (¬ IsZero h)) }
+    ensures nibble { IfSome result (λ h. h.nibble < 16) }
     ensures rest { IfSome result (λ h. bits.new ≡ drop 16 bits.old) }
     ensures tail { IfNone result ((left < 2) ⊎ ((h : Head) × IsHead h bits.old × IsZero h)) }
 {
@@ -83,6 +84,7 @@ fn next_head(bits: &mut Bits<'_>, left: usize) -> Option<Head>
 fn take_head(bits: &mut Bits<'_>) -> Head
     requires { 16 ≤ length bits.old }
     ensures head { IsHead result bits.old }
+    ensures nibble { result.nibble < 16 }
     ensures rest { bits.new ≡ drop 16 bits.old }
 {
     Head {
