@@ -1,7 +1,7 @@
 -- The items of a payload up to a cut: there is one list of them, and the reader gives it.
 use Rattle.std.proofs.Common.{◌≡◌, ◌⊎◌, inl, inr, ℕ, zero, suc, ◌+◌, ◌*◌, ◌^◌, ◌<◌, ◌≤◌, get_or, Bool, List, [], ◌∷◌, ◌++◌, length, take, drop, Option, None, Some, Result, Ok, Err, refl, sym, ap, subst, ◌∙◌, append_assoc, arith, length-append, length-drop, append-nil}
-use Rattle.std.specs.Int.{w32, from_be_bytes}
-use Rattle.std.proofs.lemmas.List.{take-append-drop, length-take-le, get_or-take, get_or_past}
+use Rattle.std.specs.Int.{w16, w32, to_be_bytes, from_be_bytes}
+use Rattle.std.proofs.lemmas.List.{take-append-drop, take_at, drop_at, length-take-le}
 use Rattle.std.proofs.lemmas.Bool.{cases_lt}
 use Rattle.drm_bits.specs.Bits.{bits_of, IsBytes}
 use Rattle.drm_bits.proofs.BitsLemmas.{length-bits_of}
@@ -15,6 +15,8 @@ use Rattle.dcp_tag.specs.Tag.{TagItem, bytes_for, head, HasHead, IsSpelling, IsC
 use Rattle.dcp_tag.specs.Place.{Place, left}
 use Rattle.dcp_tag.specs.Reading.{item_of, tag_of, Gives, Answers}
 use Rattle.dcp_tag.proofs.TagLemmas.{split_front, head_size, padded, one_front, cut_front, item_front, spelling_size}
+use Rattle.dcp_af.specs.Packet.{AfPacket, IsAf}
+use Rattle.dcp_af.specs.Packet as packet
 use Rattle.packet_lines.specs.Content.{HasNoItem, AreItems}
 use Rattle.packet_lines.specs.Lines.{tag_text, tag_line}
 use Rattle.packet_lines.specs.Text.{items_text}
@@ -105,3 +107,12 @@ pub all_items : (items rest : List TagItem) (bytes : List ℕ) (a b : Known Outp
 all_items items rest bytes a b are ends done =
     Outputs-weaker (λ text. text ++ items_text rest ≡ items_text items) (λ text. text ≡ items_text items) a b done
     (λ text is. sym (append-nil text) ∙ (ap (λ l. text ++ items_text l) (sym (no_item rest bytes are ends)) ∙ is))
+
+-- the payload of a packet is bytes of it
+pub payload_bytes : (p : AfPacket) (bytes : List ℕ) → IsBytes bytes → IsAf p bytes → IsBytes p.payload
+payload_bytes p bytes small (check, ends, checks) =
+    let last : List ℕ = to_be_bytes w16 check in
+    let stands : bytes ≡ packet.head p ++ (p.payload ++ last) = ends.spelled ∙ append_assoc (packet.head p) p.payload last in
+    let behind : drop (length (packet.head p)) bytes ≡ p.payload ++ last = ap (drop (length (packet.head p))) stands ∙ drop_at (packet.head p) (p.payload ++ last) (length (packet.head p)) refl in
+    let is : take (length p.payload) (drop (length (packet.head p)) bytes) ≡ p.payload = ap (take (length p.payload)) behind ∙ take_at p.payload last (length p.payload) refl in
+    subst IsBytes is (small_front (drop (length (packet.head p)) bytes) (length p.payload) (small_rest bytes (length (packet.head p)) small))

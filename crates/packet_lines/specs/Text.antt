@@ -30,7 +30,7 @@ abbrev pub items_text : List TagItem → List ℕ
 items_text items = flat_map tag_line items
 
 -- an AF packet and its items
-abbrev pub front_text : ℕ → AfPacket → List TagItem → List ℕ
+unfoldable pub front_text : ℕ → AfPacket → List TagItem → List ℕ
 front_text at p items = af_line at p ++ items_text items
 
 abbrev pub packet_text : ℕ → Content → List ℕ
