@@ -1,5 +1,5 @@
 -- The entities of a data field, as their bits are taken one after another.
-use Rattle.std.proofs.Common.{◌≡◌, ◌⊎◌, inl, inr, ℕ, zero, suc, ◌+◌, ◌-◌, ◌*◌, ◌%◌, ◌==◌, ◌^◌, ◌<◌, ◌≤◌, get_or, Bool, true, false, if◌then◌else◌, List, [], ◌∷◌, ◌++◌, length, take, drop, refl, sym, ap, subst, ◌∙◌, append_assoc, append-nil, arith, length-append, length-drop}
+use Rattle.std.proofs.Common.{◌≡◌, ◌⊎◌, inl, inr, ℕ, ◌+◌, ◌-◌, ◌*◌, ◌%◌, ◌==◌, ◌<◌, ◌≤◌, get_or, Bool, true, false, if◌then◌else◌, List, [], ◌∷◌, ◌++◌, length, take, drop, refl, sym, ap, subst, ◌∙◌, append_assoc, arith, length-append, length-drop}
 use Rattle.std.specs.Prelude.{slice_index, codes}
 use Rattle.std.specs.Int.{from_bool}
 use Rattle.std.proofs.lemmas.List.{take-append-drop, take_at, drop_at, drop-drop, length-take-le, take-append-le, drop-append-le}
@@ -7,9 +7,6 @@ use Rattle.std.specs.List.{flat_map}
 use Rattle.std.proofs.lemmas.Bool.{cases_lt}
 use Rattle.std.proofs.lemmas.Bool.Decides.{nat_tests}
 use Rattle.hex.specs.Hex.{lower_digits}
-use Rattle.drm_links.specs.Told.{Known}
-use Rattle.drm_links.specs.Sink.{Output, Outputs}
-use Rattle.drm_links.proofs.ToldLemmas.{Outputs-weaker}
 use Rattle.drm_bits.specs.Bits.{value, digits, bits_of, front, IsBytes}
 use Rattle.drm_bits.specs.Crc.{zeros}
 use Rattle.drm_bits.specs.Fields.{spelled}
@@ -23,10 +20,10 @@ use Rattle.drm_sdc.specs.declared.block.BlockInfo.{BlockInfo}
 use Rattle.dcp_tag.specs.Tag.{bytes_for}
 use Rattle.mdi_items.specs.declared.view.SdcSpan.{SdcSpan}
 use Rattle.drm_sdc.specs.Bodies.{body_fields, body_length, kind_of}
-use Rattle.drm_sdc.specs.Block.{first_form, IsBlock, info_of}
+use Rattle.drm_sdc.specs.Block.{first_form, IsBlock}
 use Rattle.drm_sdc.specs.Entity.{IsEntity, entity_size}
 use Rattle.drm_sdc.specs.Field.{IsTail, IsField}
-use Rattle.drm_sdc.proofs.EntityLaws.{length-entity, front-below, no_tail, small_rest, size_within}
+use Rattle.drm_sdc.proofs.EntityLaws.{length-entity, no_tail, small_rest, size_within}
 use Rattle.drm_sdc.proofs.BlockLaws.{framed_length, one_told}
 use Rattle.report_lines.specs.HexBits.{hex_of_bits}
 use Rattle.report_lines.specs.FrameLine.{front_bits}

@@ -1,5 +1,5 @@
 -- The items of a payload up to a cut: there is one list of them, and the reader gives it.
-use Rattle.std.proofs.Common.{◌≡◌, ◌⊎◌, inl, inr, ℕ, zero, suc, ◌+◌, ◌*◌, ◌^◌, ◌<◌, ◌≤◌, get_or, Bool, List, [], ◌∷◌, ◌++◌, length, take, drop, Option, None, Some, Result, Ok, Err, refl, sym, ap, subst, ◌∙◌, append_assoc, arith, length-append, length-drop, append-nil}
+use Rattle.std.proofs.Common.{◌≡◌, inl, inr, ℕ, zero, suc, ◌^◌, ◌<◌, ◌≤◌, List, [], ◌∷◌, ◌++◌, length, take, drop, refl, sym, ap, subst, ◌∙◌, append_assoc, arith, length-append, length-drop, append-nil}
 use Rattle.std.specs.Int.{w16, w32, to_be_bytes, from_be_bytes}
 use Rattle.std.proofs.lemmas.List.{take-append-drop, take_at, drop_at, length-take-le}
 use Rattle.std.proofs.lemmas.Bool.{cases_lt}
@@ -10,10 +10,9 @@ use Rattle.drm_links.specs.Sink.{Output, Outputs}
 use Rattle.drm_links.proofs.ToldLemmas.{Outputs-weaker}
 use Rattle.drm_sdc.proofs.EntityLaws.{small_front, small_rest}
 use Rattle.dcp_tag.specs.declared.items.Item.{Item}
-use Rattle.dcp_tag.specs.declared.items.ValueCut.{ValueCut}
-use Rattle.dcp_tag.specs.Tag.{TagItem, bytes_for, head, HasHead, IsSpelling, IsCut}
+use Rattle.dcp_tag.specs.Tag.{TagItem, bytes_for, head, HasHead, IsSpelling}
 use Rattle.dcp_tag.specs.Place.{Place, left}
-use Rattle.dcp_tag.specs.Reading.{item_of, tag_of, Gives, Answers}
+use Rattle.dcp_tag.specs.Reading.{item_of, tag_of, Gives}
 use Rattle.dcp_tag.proofs.TagLemmas.{split_front, head_size, padded, one_front, cut_front, item_front, spelling_size}
 use Rattle.dcp_af.specs.Packet.{AfPacket, IsAf}
 use Rattle.dcp_af.specs.Packet as packet
@@ -37,25 +36,25 @@ items_within (suc n) bytes few small =
     elim (cases_lt (length bytes) 8) [
       | inl short ↦ ([], inl short)
       | inr long ↦ (
-        let name : List ℕ = take 4 bytes in
-        let bits : ℕ = from_be_bytes w32 (take 4 (drop 4 bytes)) in
-        let behind : List ℕ = drop 4 (drop 4 bytes) in
-        let begins : HasHead bytes name bits behind = head_there bytes small long in
-        elim (cases_lt (length behind) (bytes_for bits)) [
-          | inl short ↦ ([], inr (record { name = name; bits = bits; behind = behind; begins = begins; short = short }))
-          | inr enough ↦ (
-            let value : List ℕ = take (bytes_for bits) behind in
-            let rest : List ℕ = drop (bytes_for bits) behind in
-            let spelled : IsSpelling (item_of name bits value) (head name bits ++ value) =
-            (_, padded name bits value begins.four begins.fits (length-take-le (bytes_for bits) behind enough)) in
-            let stands : bytes ≡ (head name bits ++ value) ++ rest =
-            begins.stands ∙ (ap (λ (l : List ℕ). head name bits ++ l) (sym (take-append-drop (bytes_for bits) behind)) ∙ sym (append_assoc (head name bits) value rest)) in
-            let fewer : length rest ≤ n = omega (arith, few, head_size bytes name bits behind begins, length-drop (bytes_for bits) behind) in
-            let more = items_within n rest fewer (small_rest behind (bytes_for bits) (small_rest (drop 4 bytes) 4 (small_rest bytes 4 small))) in
-            (item_of name bits value ∷ more.0, (head name bits ++ value, rest, stands, spelled, more.1))
+          let name : List ℕ = take 4 bytes in
+          let bits : ℕ = from_be_bytes w32 (take 4 (drop 4 bytes)) in
+          let behind : List ℕ = drop 4 (drop 4 bytes) in
+          let begins : HasHead bytes name bits behind = head_there bytes small long in
+          elim (cases_lt (length behind) (bytes_for bits)) [
+            | inl short ↦ ([], inr (record { name = name; bits = bits; behind = behind; begins = begins; short = short }))
+            | inr enough ↦ (
+                let value : List ℕ = take (bytes_for bits) behind in
+                let rest : List ℕ = drop (bytes_for bits) behind in
+                let spelled : IsSpelling (item_of name bits value) (head name bits ++ value) =
+                (_, padded name bits value begins.four begins.fits (length-take-le (bytes_for bits) behind enough)) in
+                let stands : bytes ≡ (head name bits ++ value) ++ rest =
+                begins.stands ∙ (ap (λ (l : List ℕ). head name bits ++ l) (sym (take-append-drop (bytes_for bits) behind)) ∙ sym (append_assoc (head name bits) value rest)) in
+                let fewer : length rest ≤ n = omega (arith, few, head_size bytes name bits behind begins, length-drop (bytes_for bits) behind) in
+                let more = items_within n rest fewer (small_rest behind (bytes_for bits) (small_rest (drop 4 bytes) 4 (small_rest bytes 4 small))) in
+                (item_of name bits value ∷ more.0, (head name bits ++ value, rest, stands, spelled, more.1))
+                )
+          ]
           )
-        ]
-      )
     ]
 
 -- each payload has items

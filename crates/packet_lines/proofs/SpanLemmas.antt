@@ -1,5 +1,5 @@
 -- The block of a frame stands where the frame says.
-use Rattle.std.proofs.Common.{◌≡◌, ℕ, ◌*◌, ◌≤◌, List, length, take, drop, Option, None, Some, sym, ap, subst, ◌∙◌, arith}
+use Rattle.std.proofs.Common.{◌≡◌, ℕ, ◌*◌, ◌≤◌, List, take, drop, Option, None, Some, sym, ap, subst, ◌∙◌, arith}
 use Rattle.std.proofs.lemmas.List.{take-take}
 use Rattle.drm_bits.specs.Bits.{bits_of}
 use Rattle.drm_bits.proofs.ByteBits.{bits_of-take}

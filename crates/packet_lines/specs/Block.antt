@@ -1,5 +1,5 @@
 -- The data field of a block, as its bits are taken one after another.
-use Rattle.std.specs.Prelude.{ℕ, ◌≡◌, ◌*◌, Bool, false, List, [], ◌∷◌, ◌++◌, length, take, drop, codes, slice_index}
+use Rattle.std.specs.Prelude.{ℕ, ◌≡◌, Bool, false, List, [], ◌∷◌, ◌++◌, length, drop, codes, slice_index}
 use Rattle.hex.specs.Hex.{lower_digits}
 use Rattle.std.specs.Int.{from_bool}
 use Rattle.drm_bits.specs.Bits.{bits_of, front, IsBytes}

@@ -17,11 +17,7 @@ pub(crate) fn plain(words: &'static str) -> FaultWords
 }
 
 /// Writes what is wrong with the packet at a byte of the capture.
-pub(crate) fn write_bad<O: Sink>(
-    out: &mut O,
-    at: u64,
-    words: FaultWords,
-) -> Result<(), WriteFault>
+pub(crate) fn write_bad<O: Sink>(out: &mut O, at: u64, words: FaultWords) -> Result<(), WriteFault>
     ensures { Writes result (O.known out.old) (O.known out.new) (bad_line at (piece_text words.entry.0 ++ piece_text words.entry.1)) }
 {
     write_pieces(out, &pieces(at, words))

@@ -34,11 +34,7 @@ pub(crate) fn write_block<O: Sink>(
 }
 
 // Writes the lines of a data field of so many bytes.
-fn write_field<O: Sink>(
-    out: &mut O,
-    bits: &mut Bits<'_>,
-    room: usize,
-) -> Result<(), WriteFault>
+fn write_field<O: Sink>(out: &mut O, bits: &mut Bits<'_>, room: usize) -> Result<(), WriteFault>
     requires field { (entities : List Entity) × (tail : List ℕ) × Holds entities tail room bits.old }
     ensures { (entities : List Entity) (tail : List ℕ) → Holds entities tail room bits.old
         → Writes result (O.known out.old) (O.known out.new) (field_text entities tail) }
@@ -102,11 +98,7 @@ fn is_zero(head: &Head) -> bool
 }
 
 // Writes the line of an entity, and takes its body.
-fn write_entity<O: Sink>(
-    out: &mut O,
-    head: &Head,
-    bits: &mut Bits<'_>,
-) -> Result<(), WriteFault>
+fn write_entity<O: Sink>(out: &mut O, head: &Head, bits: &mut Bits<'_>) -> Result<(), WriteFault>
     requires nibble { head.now.nibble < 16 }
     requires body { 8 * head.now.len ≤ length bits.old }
     ensures written { Writes result (O.known out.old) (O.known out.new) (head_text head.now (take (8 * head.now.len) bits.old)) }

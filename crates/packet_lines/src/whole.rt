@@ -37,12 +37,7 @@ pub(crate) fn write_af<O: Sink>(out: &mut O, at: u64, bytes: &[u8]) -> Result<bo
     }
 }
 
-fn write_whole<O: Sink>(
-    out: &mut O,
-    at: u64,
-    bytes: &[u8],
-    af: &Af<'_>,
-) -> Result<bool, ShowFault>
+fn write_whole<O: Sink>(out: &mut O, at: u64, bytes: &[u8], af: &Af<'_>) -> Result<bool, ShowFault>
     requires { IsAf (packet_of af.now) bytes.now }
     ensures { Shows result (O.known out.old) (O.known out.new) at bytes.now }
 {
@@ -62,7 +57,7 @@ fn write_framed<O: Sink>(
     requires frame { IsMdi (frame_of view.now) view.now.payload.now }
     ensures { (items : List TagItem) (block : Option Block) → AreItems items af.now.payload.now
         → IsBlockOf view.now.payload.now view.now.sdc block → Writes result (O.known out.old) (O.known out.new)
-            (front_text at (packet_of af.now) items ++ frame_text (frame_of view.now) block) }
+        (front_text at (packet_of af.now) items ++ frame_text (frame_of view.now) block) }
 {
     write_front(out, at, af)?;
     write_frame(out, view)

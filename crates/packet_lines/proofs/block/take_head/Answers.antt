@@ -1,4 +1,4 @@
-use Rattle.std.proofs.Common.{◌≡◌, sym, ◌∙◌, ap, drop, arith}
+use Rattle.std.proofs.Common.{sym, ◌∙◌, ap, drop}
 use Rattle.std.proofs.lemmas.List.{drop-drop}
 use Rattle.drm_bits.specs.Bits.{front}
 use Rattle.packet_lines.proofs.block.take_head.Goals as goal

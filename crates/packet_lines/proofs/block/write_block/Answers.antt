@@ -1,4 +1,4 @@
-use Rattle.std.proofs.Common.{◌≡◌, ◌∙◌, ap, drop}
+use Rattle.std.proofs.Common.{◌∙◌, ap, drop}
 use Rattle.packet_lines.proofs.BlockLemmas.{told_holds}
 use Rattle.packet_lines.proofs.block.write_block.Goals as goal
 

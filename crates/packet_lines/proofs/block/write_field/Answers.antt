@@ -3,11 +3,10 @@ use Rattle.std.proofs.lemmas.Result.{err_from_is_err_and}
 use Rattle.drm_links.specs.Sink.{Outputs}
 use Rattle.drm_links.proofs.ToldLemmas.{Outputs-nothing}
 use Rattle.drm_links.proofs.WritingLemmas.{Writes-broken, Writes-more}
-use Rattle.drm_sdc.specs.declared.entity.Entity.{Entity}
 use Rattle.packet_lines.specs.Block.{Holds, head_text}
 use Rattle.packet_lines.specs.Lines.{tail_text}
 use Rattle.packet_lines.specs.Text.{field_text}
-use Rattle.packet_lines.proofs.BlockLemmas.{HasNext, next_entity, enough_bits, at_tail, text_next, text_last}
+use Rattle.packet_lines.proofs.BlockLemmas.{next_entity, enough_bits, at_tail, text_next, text_last}
 use Rattle.packet_lines.proofs.WritingLemmas.{last_written}
 use Rattle.packet_lines.proofs.block.write_field.Goals as goal
 

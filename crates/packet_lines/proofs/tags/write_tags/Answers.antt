@@ -1,9 +1,8 @@
-use Rattle.std.proofs.Common.{◌≡◌, ◌++◌, ℕ, List, sym, ap, subst, refl, append-nil, ◌∙◌, arith}
+use Rattle.std.proofs.Common.{◌≡◌, ◌++◌, sym, ap, subst, refl, arith}
 use Rattle.std.proofs.lemmas.Result.{err_from_is_err_and}
 use Rattle.drm_links.specs.Sink.{Outputs}
 use Rattle.drm_links.proofs.ToldLemmas.{Outputs-nothing}
 use Rattle.drm_links.proofs.WritingLemmas.{Writes-whole, Writes-broken, Writes-more}
-use Rattle.dcp_tag.specs.Tag.{TagItem}
 use Rattle.dcp_tag.specs.Place.{left}
 use Rattle.packet_lines.specs.Content.{AreItems}
 use Rattle.packet_lines.specs.Lines.{tag_text}

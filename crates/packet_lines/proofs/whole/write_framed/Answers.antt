@@ -1,4 +1,3 @@
-use Rattle.std.proofs.Common.{◌++◌, ℕ, List}
 use Rattle.std.proofs.lemmas.Result.{err_from_is_err_and}
 use Rattle.drm_links.proofs.WritingLemmas.{Writes-cut, Writes-then}
 use Rattle.dcp_af.specs.Reading.{packet_of}
