@@ -1,7 +1,8 @@
 -- The lines that tell of a packet.
-use Rattle.std.specs.Prelude.{ℕ, ◌&&◌, nat_le, Bool, List, [], ◌∷◌, ◌++◌, length, codes, decimal, Option, None, Some, if◌then◌else◌}
+use Rattle.std.specs.Prelude.{ℕ, Bool, List, [], ◌∷◌, ◌++◌, length, codes, decimal, Option, None, Some, if◌then◌else◌}
 use Rattle.std.specs.List.{concat, flat_map}
 use Rattle.std.specs.Int.{from_bool}
+use Rattle.std.specs.Char.{is_ascii_graphic}
 use Rattle.hex.specs.Hex.{encode_lower}
 use Rattle.drm_bits.specs.Description.{described}
 use Rattle.drm_bits.specs.Fields.{spelled}
@@ -50,17 +51,14 @@ af_line at p =
 abbrev pub bad_line : ℕ → List ℕ → List ℕ
 bad_line at words = concat (codes "bad " ∷ decimal at ∷ codes " " ∷ words ∷ codes "\n" ∷ [])
 
--- A byte of a name stands as it is where it is a sign of ASCII that can be seen, and else as its two digits.
-abbrev pub is_seen : ℕ → Bool
-is_seen byte = nat_le 33 byte && nat_le byte 126
-
+-- A byte of a name stands as it is where it is a visible sign of ASCII (0x21 to 0x7e), and else as its two digits.
 abbrev pub name_byte : ℕ → List ℕ
-name_byte byte = if is_seen byte then byte ∷ [] else codes "\\x" ++ encode_lower (byte ∷ [])
+name_byte byte = if is_ascii_graphic byte then byte ∷ [] else codes "\\x" ++ encode_lower (byte ∷ [])
 
--- an item: its name, and the number of its value's bits
 abbrev pub bits_text : ℕ → List ℕ
 bits_text bits = concat (codes " " ∷ decimal bits ∷ codes "\n" ∷ [])
 
+-- an item: its name, and the number of its value's bits
 abbrev pub tag_text : List ℕ → ℕ → List ℕ
 tag_text name bits = codes "tag " ++ (flat_map name_byte name ++ bits_text bits)
 

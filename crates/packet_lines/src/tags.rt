@@ -1,13 +1,13 @@
 //! The lines of the items of a payload.
 
-ghost use Rattle.std.specs.Prelude.{◌≡◌, List, IfSome, IfNone};
+ghost use Rattle.std.specs.Prelude.{List, IfSome, IfNone};
 ghost use Rattle.std.specs.List.{flat_map};
 ghost use Rattle.drm_links.specs.Sink.{Writes};
 ghost use Rattle.dcp_tag.specs.Tag.{TagItem};
 ghost use Rattle.dcp_tag.specs.Place.{left};
 ghost use Rattle.dcp_tag.specs.Reading.{Gives};
 ghost use Rattle.packet_lines.specs.Content.{HasNoItem, AreItems};
-ghost use Rattle.packet_lines.specs.Lines.{is_seen, name_byte, tag_text};
+ghost use Rattle.packet_lines.specs.Lines.{name_byte, tag_text};
 ghost use Rattle.packet_lines.specs.Text.{items_text};
 
 use dcp_tag::{Item, Items};
@@ -63,15 +63,9 @@ fn write_name<O: Sink>(out: &mut O, name: &[u8]) -> Result<(), WriteFault>
 fn write_byte<O: Sink>(out: &mut O, byte: u8) -> Result<(), WriteFault>
     ensures { Writes result (O.known out.old) (O.known out.new) (name_byte byte) }
 {
-    if is_seen(byte) {
+    if byte.is_ascii_graphic() {
         write_all(out, &[byte])
     } else {
         write_pieces(out, &[Piece::Words("\\x"), Piece::Hex(&[byte])])
     }
-}
-
-fn is_seen(byte: u8) -> bool
-    ensures { result ≡ is_seen byte }
-{
-    byte >= 0x21 && byte <= 0x7e
 }
