@@ -2,4 +2,4 @@ pub mod ItemLemmas
 pub mod BlockLemmas
 pub mod WritingLemmas
 pub mod SpanLemmas
-pub mod OneContent
+pub mod OneText

@@ -54,8 +54,9 @@ pub shows : (content : Content) (at : ℕ) (bytes : List ℕ) (a b : Known Outpu
 shows content at bytes a b (Ok done) bad r is same writes ends =
     subst (λ x. Shows x a b at bytes) (sym ends)
     (record {
-      content = content;
-      is = is;
+      text = packet_text at content;
+      bad = is_bad content;
+      is = (content, is, refl, refl);
       whole = (same, writes.whole);
       front = tt;
       cause = record { later = writes.cause.later; rose = λ failed. cc };
@@ -64,8 +65,9 @@ shows content at bytes a b (Ok done) bad r is same writes ends =
 shows content at bytes a b (Err fault) bad r is same writes ends =
     subst (λ x. Shows x a b at bytes) (sym ends)
     (record {
-      content = content;
-      is = is;
+      text = packet_text at content;
+      bad = is_bad content;
+      is = (content, is, refl, refl);
       whole = tt;
       front = writes.front;
       cause = record { later = writes.cause.later; rose = λ failed. writes.cause.rose refl };

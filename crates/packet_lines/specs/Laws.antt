@@ -1,7 +1,7 @@
--- Bytes have one text.
-use Rattle.std.specs.Prelude.{ℕ, ◌≡◌, List}
-use Rattle.packet_lines.specs.Content.{Content, IsContent}
+-- A packet has one text.
+use Rattle.std.specs.Prelude.{ℕ, ◌≡◌, Bool, List}
+use Rattle.packet_lines.specs.Text.{IsPacketText}
 
--- no bytes have two contents
-abbrev pub HasOneContent : Type 0
-HasOneContent = (bytes : List ℕ) (content other : Content) → IsContent content bytes → IsContent other bytes → content ≡ other
+-- a packet at a byte of a capture has one text, which tells what is wrong or doesn't
+abbrev pub HasOneText : Type 0
+HasOneText = (at : ℕ) (bytes text other : List ℕ) (bad worse : Bool) → IsPacketText at bytes text bad → IsPacketText at bytes other worse → (text ≡ other) × (bad ≡ worse)

@@ -5,16 +5,16 @@ use Rattle.drm_links.specs.Sink.{Output, Outputs, IsFront}
 use Rattle.drm_links.specs.declared.sink.WriteFault.{WriteFault}
 use Rattle.packet_lines.specs.declared.packet.ShowFault.{ShowFault}
 use Rattle.packet_lines.specs.declared.packet.ShowFault.TheVariants as fault
-use Rattle.packet_lines.specs.Content.{Content, IsContent}
-use Rattle.packet_lines.specs.Text.{packet_text, is_bad}
+use Rattle.packet_lines.specs.Text.{IsPacketText}
 
--- The text of what the bytes at this place have in them was written, and the answer is whether it tells what is wrong; or a
--- front of that text was written, since the sink failed. Memory is never wanted.
+-- The text of the packet was written, and the answer is whether it tells what is wrong; or a front of it was written, since
+-- the sink failed. Memory is never wanted.
 pub record Shows (result : Result Bool ShowFault) (before after : Known Output) (at : ℕ) (bytes : List ℕ) : Type 0 where
-  pub content : Content
-  pub is : IsContent content bytes
-  pub whole : IfOk result (λ bad. (bad ≡ is_bad content) × Outputs before after (λ text. text ≡ packet_text at content))
-  pub front : OnErr result (Outputs before after (IsFront (packet_text at content)))
+  pub text : List ℕ
+  pub bad : Bool
+  pub is : IsPacketText at bytes text bad
+  pub whole : IfOk result (λ answer. (answer ≡ bad) × Outputs before after (λ written. written ≡ text))
+  pub front : OnErr result (Outputs before after (IsFront text))
   pub cause : HasCause before after (IsErr result)
   pub memory : result ≢ Err fault.NoMemory
 

@@ -1,5 +1,5 @@
 -- The text of a packet: the lines of what it has in it.
-use Rattle.std.specs.Prelude.{ℕ, Bool, true, false, List, [], ◌++◌, Option, None, Some}
+use Rattle.std.specs.Prelude.{ℕ, ◌≡◌, Bool, true, false, List, [], ◌++◌, Option, None, Some}
 use Rattle.std.specs.List.{flat_map}
 use Rattle.drm_sdc.specs.declared.entity.Entity.{Entity}
 use Rattle.drm_sdc.specs.declared.block.Block.{Block}
@@ -7,7 +7,7 @@ use Rattle.dcp_tag.specs.Tag.{TagItem}
 use Rattle.dcp_af.specs.Packet.{AfPacket}
 use Rattle.mdi_items.specs.Frame.{Frame}
 use Rattle.report_lines.specs.FaultWords.{af_words, pft_words, mdi_words}
-use Rattle.packet_lines.specs.Content.{Saying, FrameOf, NoFrame, Content, Fragment, NoFragment, Whole, NoPacket}
+use Rattle.packet_lines.specs.Content.{Saying, FrameOf, NoFrame, Content, Fragment, NoFragment, Whole, NoPacket, IsContent}
 use Rattle.packet_lines.specs.Lines.{fragment_line, af_line, bad_line, tag_line, mdi_line, fac_text, mux_line, entity_line, tail_line}
 
 -- the lines of a data field's entities and tail
@@ -46,3 +46,8 @@ is_bad (NoFragment fault) = true
 is_bad (Whole p items (FrameOf frame block)) = false
 is_bad (Whole p items (NoFrame fault)) = true
 is_bad (NoPacket fault) = true
+
+-- The packet with these bytes, at this byte of its capture, has this text; bad says whether one of its lines tells what is
+-- wrong.
+abbrev pub IsPacketText : ℕ → List ℕ → List ℕ → Bool → Type 0
+IsPacketText at bytes text bad = (content : Content) × IsContent content bytes × (text ≡ packet_text at content) × (bad ≡ is_bad content)

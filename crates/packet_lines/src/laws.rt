@@ -1,8 +1,8 @@
 //! Laws of what is printed.
 
-ghost use Rattle.packet_lines.specs.Laws.{HasOneContent};
+ghost use Rattle.packet_lines.specs.Laws.{HasOneText};
 
-/// Bytes have one content, and so one text.
-pub fn one_content()
-    ensures { HasOneContent }
+/// A packet has one text.
+pub fn one_text()
+    ensures { HasOneText }
 {}

@@ -14,5 +14,5 @@ mod tags;
 mod whole;
 
 pub use end::write_end_packets;
-pub use laws::one_content;
+pub use laws::one_text;
 pub use packet::{Packet, ShowFault, write_packet};

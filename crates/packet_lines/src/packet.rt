@@ -26,11 +26,12 @@ pub struct Packet<'a> {
 pub enum ShowFault {
     /// The sink failed.
     Write,
-    /// Memory ran out, which it never does as long as none is wanted.
+    /// Memory ran out. None is wanted for now.
     NoMemory,
 }
 
-/// Writes the lines that tell what a packet has in it, and answers whether one of them tells what is wrong.
+/// Writes the lines that tell what a packet has in it, and answers whether one of them tells what is wrong. No memory is
+/// taken.
 pub fn write_packet<O: Sink>(
     _alloc: Global,
     out: &mut O,

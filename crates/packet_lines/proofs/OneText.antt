@@ -1,5 +1,5 @@
--- Bytes have one content.
-use Rattle.std.proofs.Common.{◌≡◌, ℕ, get_or, List, take, Option, None, Some, refl, sym, ap, subst, ◌∙◌, arith}
+-- A packet has one content, and so one text.
+use Rattle.std.proofs.Common.{◌≡◌, ℕ, Bool, get_or, List, take, Option, None, Some, refl, sym, ap, subst, ◌∙◌, arith}
 use Rattle.drm_sdc.specs.declared.block.Block.{Block}
 use Rattle.drm_sdc.proofs.BlockLaws.{one_block}
 use Rattle.dcp_tag.specs.Tag.{TagItem}
@@ -14,6 +14,7 @@ use Rattle.mdi_items.specs.declared.view.SdcSpan.{SdcSpan}
 use Rattle.mdi_items.specs.Frame.{Frame}
 use Rattle.mdi_items.proofs.MdiLemmas.{one_mdi, mdi_or_fault, one_mdi_fault}
 use Rattle.packet_lines.specs.Content.{Saying, FrameOf, NoFrame, Content, Fragment, NoFragment, Whole, NoPacket, bits_at, AreItems, IsBlockOf, Says, IsContent}
+use Rattle.packet_lines.specs.Text.{packet_text, is_bad, IsPacketText}
 use Rattle.packet_lines.proofs.ItemLemmas.{one_list}
 
 -- ---- fragments begin otherwise than AF packets
@@ -76,3 +77,8 @@ one_content bytes (NoPacket fault) (Fragment g) is is_too = absurd (not_both byt
 one_content bytes (NoPacket fault) (NoFragment other) is is_too = absurd (not_both bytes is_too.0 is.0)
 one_content bytes (NoPacket fault) (Whole q others t) is is_too = absurd (no_fault q fault bytes is_too.0 is.1)
 one_content bytes (NoPacket fault) (NoPacket other) is is_too = ap (λ x. NoPacket x) (one_fault fault other bytes is.1 is_too.1)
+
+pub one_text : (at : ℕ) (bytes text other : List ℕ) (bad worse : Bool) → IsPacketText at bytes text bad → IsPacketText at bytes other worse → (text ≡ other) × (bad ≡ worse)
+one_text at bytes text other bad worse (content, is, its, is_bad_too) (second, is_second, its_second, is_bad_second) =
+    let same : content ≡ second = one_content bytes content second is is_second in
+    (its ∙ (ap (packet_text at) same ∙ sym its_second), is_bad_too ∙ (ap is_bad same ∙ sym is_bad_second))
