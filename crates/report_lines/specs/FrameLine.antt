@@ -1,5 +1,5 @@
 -- The line of a logical frame.
-use Rattle.std.specs.Prelude.{ℕ, ◌%◌, ◌==◌, Bool, List, [], ◌∷◌, length, take, drop, codes, decimal, Option, None, Some, if◌then◌else◌}
+use Rattle.std.specs.Prelude.{ℕ, ◌%◌, ◌==◌, Bool, List, [], ◌∷◌, take, drop, codes, decimal, Option, None, Some, if◌then◌else◌}
 use Rattle.std.specs.List.{concat}
 use Rattle.hex.specs.Hex.{encode_lower}
 use Rattle.drm_bits.specs.Bits.{bits_of}

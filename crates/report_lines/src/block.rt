@@ -22,8 +22,8 @@ pub(crate) fn write_block<O: Sink>(out: &mut O, view: &MdiView<'_>) -> Result<()
     }
 }
 
-// The bits of the block, without those in front of it.
-fn block_bits<'a>(payload: &'a [u8], span: &SdcSpan) -> Bits<'a>
+/// The bits of the block, without those in front of it.
+pub fn block_bits<'a>(payload: &'a [u8], span: &SdcSpan) -> Bits<'a>
     requires { span.now.at + bytes_for span.now.bits ≤ length payload.now }
     ensures { result ≡ block_bits payload.now span.now }
 {

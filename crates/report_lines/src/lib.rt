@@ -12,7 +12,10 @@ mod step;
 mod streams;
 mod words;
 
+pub use block::block_bits;
 pub use fac_line::write_fac;
+pub use hex_bits::{digit, write_digits};
 pub use report::{EndWord, Sums, write_end, write_feed, write_refused};
 pub use step::write_step;
 pub use text_pieces::{Piece, write_pieces};
+pub use words::{FaultWords, af_words, mdi_words, pft_words};

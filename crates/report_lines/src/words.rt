@@ -14,7 +14,7 @@ use mod_feed::BadFault;
 use text_pieces::Piece;
 
 /// A layer and a field, and what stands behind the field's colon.
-pub(crate) type FaultWords = (Piece<'static>, Piece<'static>);
+pub type FaultWords = (Piece<'static>, Piece<'static>);
 
 /// The words for a packet that is no frame.
 pub(crate) fn bad_words(fault: BadFault) -> FaultWords
@@ -62,7 +62,8 @@ fn named(words: &'static str, name: [u8; 4]) -> FaultWords
     (Piece::Words(words), Piece::Name(name))
 }
 
-fn af_words(fault: AfFault) -> &'static str
+/// The words for what is wrong with an AF packet.
+pub fn af_words(fault: AfFault) -> &'static str
     ensures { result.now ≡ af_words fault }
 {
     match fault {
@@ -75,7 +76,8 @@ fn af_words(fault: AfFault) -> &'static str
     }
 }
 
-fn pft_words(fault: PftFault) -> &'static str
+/// The words for what is wrong with a fragment.
+pub fn pft_words(fault: PftFault) -> &'static str
     ensures { result.now ≡ pft_words fault }
 {
     match fault {
@@ -94,7 +96,8 @@ fn pft_words(fault: PftFault) -> &'static str
     }
 }
 
-fn mdi_words(fault: MdiFault) -> FaultWords
+/// The words for what is wrong with a payload.
+pub fn mdi_words(fault: MdiFault) -> FaultWords
     ensures { piece_text result.0 ++ piece_text result.1 ≡ mdi_words fault }
 {
     match fault {

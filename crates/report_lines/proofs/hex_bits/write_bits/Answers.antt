@@ -1,9 +1,9 @@
 use Rattle.std.proofs.Common.{◌≡◌, ◌++◌, ℕ, List, [], ◌∷◌, drop, refl, subst, arith}
 use Rattle.std.proofs.lemmas.Result.{err_from_is_err_and}
 use Rattle.drm_links.specs.Sink.{Outputs}
-use Rattle.drm_links.proofs.WritingLemmas.{Writes-whole, Writes-broken, Writes-more}
+use Rattle.drm_links.proofs.WritingLemmas.{Writes-broken, Writes-more}
 use Rattle.report_lines.specs.HexBits.{hex_of_bits}
-use Rattle.report_lines.proofs.HexLemmas.{digit_then, all_digits}
+use Rattle.report_lines.proofs.HexLemmas.{digit_then}
 use Rattle.report_lines.proofs.hex_bits.write_bits.Goals as goal
 
 pub loop-n-preserved : goal.loop-n-preserved

@@ -1,4 +1,3 @@
-use Rattle.std.proofs.Common.{arith}
 use Rattle.std.proofs.lemmas.Result.{err_from_is_err_and}
 use Rattle.mod_feed.specs.Items.{item_of}
 use Rattle.report_lines.specs.Report.{before_line, item_line}
