@@ -1,6 +1,5 @@
 //! The command `show`.
 
-ghost use Rattle.std.specs.Prelude.{◌≡◌, IfOk};
 ghost use Rattle.drm_inspect.specs.Show.{ShowRun};
 
 use drm_capture::{Packet, Packets};
@@ -16,28 +15,43 @@ pub fn show<I: Source, O: Sink>(
     input: &mut I,
     out: &mut O,
 ) -> Result<bool, Fault>
-    ensures run { ShowRun result I.known input.old input.new O.known out.old out.new }
+    ensures { ShowRun result I.known input.old input.new O.known out.old out.new }
 {
     let mut packets = Packets::make(alloc)?;
     let mut lines = Lines::make(alloc)?;
-    let mut shown = Shown {
-        packets: 0,
-        bytes: 0,
-        clean: true,
-    };
+    // How many packets and bytes were shown, and whether none is bad.
+    let mut count = 0u64;
+    let mut bytes = 0u64;
+    let mut clean = true;
     while packets.find(input)? {
         let packet = packets.next();
         let bad = show_packet(alloc, &mut lines, &packet, out)?;
-        shown.count(&packet, bad);
+        count += 1;
+        bytes += packet.bytes.len() as u64;
+        clean = clean && !bad;
     }
-    write_end_packets(out, shown.packets, shown.bytes)?;
-    Ok(shown.clean)
+    write_end_packets(out, count, bytes)?;
+    Ok(clean)
 }
 
-/// What was shown so far.
-struct Shown {
-    packets: u64,
-    bytes: u64,
-    /// Whether no line says that something is bad.
-    clean: bool,
+// Writes the lines of a packet, in one call where they fit into the room.
+fn show_packet<O: Sink>(
+    alloc: Global,
+    lines: &mut Lines,
+    packet: &Packet<'_>,
+    out: &mut O,
+) -> Result<bool, ShowFault> {
+    lines.clear();
+    let Ok(bad) = write_packet(alloc, lines, packet) else {
+        return write_packet(alloc, out, packet);
+    };
+    match lines.text() {
+        Some(text) => {
+            let Ok(()) = write_all(out, text) else {
+                return Err(ShowFault::Write);
+            };
+            Ok(bad)
+        }
+        None => write_packet(alloc, out, packet),
+    }
 }
