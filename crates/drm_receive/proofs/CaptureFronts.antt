@@ -1,10 +1,9 @@
 -- Packets that bytes begin with are the first packets of the capture that the bytes are.
-use Rattle.std.proofs.Common.{◌≡◌, ℕ, ◌+◌, ◌-◌, ◌≤◌, ◌⊎◌, inl, inr, List, [], ◌∷◌, ◌++◌, length, take, refl, sym, ◌∙◌, ap, ap₂, subst, arith, append_assoc, length-append}
+use Rattle.std.proofs.Common.{◌≡◌, ℕ, ◌+◌, ◌-◌, ◌≤◌, inl, inr, List, [], ◌∷◌, ◌++◌, length, take, refl, sym, ◌∙◌, ap, ap₂, subst, arith, append_assoc, length-append}
 use Rattle.std.specs.Prelude.{All}
 use Rattle.std.specs.List.{concat}
 use Rattle.std.proofs.lemmas.List.{take_at}
 use Rattle.std.proofs.lemmas.List.Elements.{All-head, All-tail}
-use Rattle.drm_capture.specs.declared.fault.CaptureFault.{CaptureFault}
 use Rattle.drm_capture.specs.declared.fault.CaptureField.{CaptureField}
 use Rattle.drm_capture.specs.Front.{Packet, Wrong, Cut, Begins, IsWhole}
 use Rattle.drm_capture.specs.Capture.{Ending, End, Fault, TooLong, EndsWith, IsCaptureOf, most_bytes}

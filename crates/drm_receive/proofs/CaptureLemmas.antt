@@ -1,5 +1,5 @@
 -- From the receiver of a capture that ended to what was written.
-use Rattle.std.proofs.Common.{◌≡◌, ℕ, ◌≤◌, ◌⊎◌, inl, inr, Bool, List, [], ◌∷◌, ◌++◌, map, length, Result, Ok, Err, refl, sym, ap, subst, arith}
+use Rattle.std.proofs.Common.{◌≡◌, ℕ, ◌≤◌, ◌⊎◌, inl, inr, Bool, List, [], ◌∷◌, ◌++◌, map, length, Result, Ok, Err, refl, sym, subst, arith}
 use Rattle.std.specs.Prelude.{All}
 use Rattle.std.specs.List.{concat}
 use Rattle.drm_links.specs.Told.{Known}
@@ -12,7 +12,7 @@ use Rattle.drm_capture.specs.declared.packets.CaptureStop.TheVariants as stops
 use Rattle.drm_capture.specs.Front.{IsWhole}
 use Rattle.drm_capture.specs.Capture as capture
 use Rattle.drm_capture.specs.Laws.{ReadSomeWay}
-use Rattle.drm_capture.specs.Reading.{HasRead, Breaks, Stops}
+use Rattle.drm_capture.specs.Reading.{Breaks}
 use Rattle.mod_receiver.specs.declared.rules.Rules.{Rules}
 use Rattle.mod_receiver.specs.declared.capture.Unfinished.{Unfinished}
 use Rattle.mod_receiver.specs.declared.capture.Unfinished.TheVariants as unfinished
@@ -89,17 +89,17 @@ module _ {O : Type 0} (rules : Rules) (valid : AreInRange rules) (headlines : He
       let alone : Reported rules 1 (Alone r.answers) (known out) (known out') clean = record { answers = r.answers; heard = refl; few = r.few; whole = r.whole; is = r.is; text = r.text } in
       Inputs-weaker (λ left rest. Begin left r.answers) (λ left rest. WritesCapture rules left rest (Ok clean) known out out') before after (began before after r.answers r.heard)
       (λ left rest begins.
-          let (ahead, brings, later, next) = next_of some left r.answers begins in
-          let (report, is, text, same) = report_ahead rules 1 ahead (Alone r.answers) (known out) (known out') (alone_next rules ahead r.answers later next) headlines completes valid.some_window clean alone in
-          (ahead, brings, report, is, text, same))
+      let (ahead, brings, later, next) = next_of some left r.answers begins in
+      let (report, is, text, same) = report_ahead rules 1 ahead (Alone r.answers) (known out) (known out') (alone_next rules ahead r.answers later next) headlines completes valid.some_window clean alone in
+      (ahead, brings, report, is, text, same))
 
   stopped : Stopped rules 1 (HeardOf before after) (known out) (known out') → Inputs before after (λ left rest. WritesCapture rules left rest (ending_captured (Err unfinished.Write)) known out out')
   stopped r =
       let alone : Stopped rules 1 (Alone r.answers) (known out) (known out') = record { answers = r.answers; heard = refl; few = r.few; goes_on = r.goes_on; text = r.text } in
       Inputs-weaker (λ left rest. Begin left r.answers) (λ left rest. WritesCapture rules left rest (ending_captured (Err unfinished.Write)) known out out') before after (began before after r.answers r.heard)
       (λ left rest begins.
-          let (ahead, brings, later, next) = next_of some left r.answers begins in
-          (ahead, brings, front_ahead rules 1 ahead (Alone r.answers) (known out) (known out') (alone_next rules ahead r.answers later next) alone))
+      let (ahead, brings, later, next) = next_of some left r.answers begins in
+      (ahead, brings, front_ahead rules 1 ahead (Alone r.answers) (known out) (known out') (alone_next rules ahead r.answers later next) alone))
 
   given : (stop : CaptureStop) (r : Broken rules 1 (HeardUntil stop before after) (known out) (known out')) → IsGivenOf rules 1 (map Datagram r.heard.0 ++ Failed ∷ []) r.whole
   given stop r = record {

@@ -1,7 +1,7 @@
 -- The run of `receive` without addresses.
-use Rattle.std.proofs.Common.{◌≡◌, ℕ, ◌↔◌, inl, inr, Bool, true, IsTrue, List, [], ◌∷◌, ◌++◌, map, Result, Ok, Err, refl, sym, ◌∙◌, ap, ap₂, subst}
-use Rattle.drm_links.specs.Told.{HasFailed, Known, HasCause}
-use Rattle.drm_links.specs.Link.{Answer, Datagram, Failed}
+use Rattle.std.proofs.Common.{◌≡◌, ℕ, ◌↔◌, inl, inr, Bool, true, IsTrue, List, Result, Ok, Err, refl, sym, ◌∙◌, ap, ap₂, subst}
+use Rattle.drm_links.specs.Told.{Known, HasCause}
+use Rattle.drm_links.specs.Link.{Answer}
 use Rattle.drm_links.specs.Source.{Input, Inputs}
 use Rattle.drm_links.specs.Sink.{Output}
 use Rattle.drm_links.proofs.ToldLemmas.{Inputs-weaker}
@@ -17,7 +17,7 @@ use Rattle.mod_receiver.proofs.OneReading.{finished_whole}
 use Rattle.drm_faults.specs.Fault.{UnlessMemory}
 use Rattle.drm_faults.specs.declared.fault.Fault.{Fault}
 use Rattle.drm_faults.specs.declared.fault.Fault.TheVariants as faults
-use Rattle.drm_receive.specs.Capture.{BreaksOffBy, WritesGiven, WritesCapture, EndsEarly, EndsByIt, WroteReport, CaptureRun}
+use Rattle.drm_receive.specs.Capture.{BreaksOffBy, WritesCapture, EndsEarly, EndsByIt, WroteReport, CaptureRun}
 use Rattle.drm_receive.proofs.ReceiveStatus.{clean_in_time}
 
 -- ---- bytes bring one thing

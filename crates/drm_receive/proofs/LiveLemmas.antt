@@ -1,5 +1,5 @@
 -- From the receiver of one link that ended to the whole command.
-use Rattle.std.proofs.Common.{◌≡◌, ℕ, zero, suc, ◌<◌, ◌≤◌, ◌⊎◌, ◌↔◌, inl, inr, Bool, List, [], ◌∷◌, length, slice_index_or, Option, Err, refl, sym, ap, subst, arith}
+use Rattle.std.proofs.Common.{◌≡◌, ℕ, zero, suc, ◌<◌, ◌≤◌, ◌⊎◌, ◌↔◌, inl, inr, Bool, List, [], ◌∷◌, length, slice_index_or, Err, refl, sym, ap, subst, arith}
 use Rattle.drm_links.specs.Told.{Known, HasCause, Tells}
 use Rattle.drm_links.proofs.ToldLemmas.{Tells-weaker}
 use Rattle.drm_faults.specs.Fault.{UnlessMemory}

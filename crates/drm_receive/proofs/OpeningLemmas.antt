@@ -18,7 +18,7 @@ use Rattle.drm_links.proofs.ToldLemmas.{Opens-started, Tells-then, Tells-weaker,
 use Rattle.word_forms.specs.Addresses.{AreDifferent}
 use Rattle.drm_faults.specs.declared.fault.Fault.{Fault}
 use Rattle.drm_faults.specs.declared.fault.Fault.TheVariants as faults
-use Rattle.drm_receive.specs.Receive.{Docked, after_openings, FailsAfter, StopsAfter, OpensEach}
+use Rattle.drm_receive.specs.Receive.{Docked, after_openings, FailsAfter, OpensEach}
 use Rattle.drm_receive.specs.Opening.{HasLink, HaveLinks, StopsOpening}
 use Rattle.mod_receiver.specs.declared.job.Job.{Job}
 use Rattle.mod_receiver.proofs.JobLemmas.{same_index}

@@ -1,10 +1,9 @@
 -- The command `receive` without addresses: the report of a capture, which is written as the capture is read from input.
-use Rattle.std.specs.Prelude.{ℕ, ◌≡◌, ◌⊎◌, ◌↔◌, All, Bool, true, List, [], ◌∷◌, ◌++◌, map, Result, Ok, Err}
+use Rattle.std.specs.Prelude.{ℕ, ◌≡◌, ◌↔◌, All, Bool, true, List, [], ◌∷◌, ◌++◌, map, Result, Ok, Err}
 use Rattle.drm_links.specs.Told.{HasFailed, Known, HasCause}
 use Rattle.drm_links.specs.Link.{Answer, Datagram, Failed}
 use Rattle.drm_links.specs.Source.{Input, Inputs}
 use Rattle.drm_links.specs.Sink.{Output, Outputs}
-use Rattle.drm_capture.specs.declared.fault.CaptureFault.{CaptureFault}
 use Rattle.drm_capture.specs.Front.{IsWhole}
 use Rattle.drm_capture.specs.Capture as capture
 use Rattle.drm_capture.specs.Reading.{Breaks}

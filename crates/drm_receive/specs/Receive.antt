@@ -1,8 +1,8 @@
 -- The command `receive` with addresses: a report for each link. That of one link is written as it is read, those of several
 -- together at their end.
-use Rattle.std.specs.Prelude.{ℕ, ◌≡◌, ◌+◌, ◌<◌, ◌≤◌, ◌⊎◌, ◌↔◌, IsTrue, Contains, IsNone, Bool, true, List, [], ◌∷◌, length, take, slice_index_or, Option, None, Some, Result, Ok, Err}
+use Rattle.std.specs.Prelude.{ℕ, ◌≡◌, ◌+◌, ◌<◌, ◌≤◌, ◌⊎◌, ◌↔◌, IsTrue, Contains, IsNone, Bool, true, List, [], ◌∷◌, length, take, slice_index_or, Some, Result, Ok, Err}
 use Rattle.std.specs.List.{flat_map, All}
-use Rattle.drm_links.specs.Told.{HasFailed, Known, HasCause, Rose, Tells}
+use Rattle.drm_links.specs.Told.{HasFailed, Known, HasCause, Tells}
 use Rattle.drm_links.specs.Link.{Answer}
 use Rattle.drm_links.specs.Sink.{Output, Outputs, IsFront}
 use Rattle.drm_links.specs.Dock.{DockContents, LinkStart, start_at, after_opening, after_failure}

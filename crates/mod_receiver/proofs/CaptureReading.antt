@@ -1,8 +1,8 @@
 -- What is heard of a capture, packet by packet.
-use Rattle.std.proofs.Common.{◌≡◌, ℕ, ◌≤◌, inl, inr, Bool, List, [], ◌∷◌, ◌++◌, map, length, Option, None, Some, Result, Ok, Err, refl, sym, ◌∙◌, ap, subst, arith}
+use Rattle.std.proofs.Common.{◌≡◌, ℕ, inl, inr, Bool, List, [], ◌∷◌, ◌++◌, map, Option, None, Some, Result, Ok, Err, refl, sym, ◌∙◌, ap, subst, arith}
 use Rattle.std.specs.Prelude.{All}
 use Rattle.drm_links.specs.Told.{Known, ToldThrough}
-use Rattle.drm_links.specs.Link.{Answer, Datagram, Failed, End}
+use Rattle.drm_links.specs.Link.{Datagram, Failed, End}
 use Rattle.drm_links.specs.Source.{Input, Inputs, LeftBy}
 use Rattle.drm_capture.specs.declared.packets.CaptureStop.{CaptureStop}
 use Rattle.drm_capture.specs.declared.packets.CaptureStop.TheVariants as stops

@@ -1,7 +1,7 @@
 -- A reading, answer by answer.
-use Rattle.std.proofs.Common.{◌≡◌, ℕ, zero, suc, ◌+◌, ◌-◌, ◌*◌, ◌^◌, ◌<◌, ◌≤◌, inl, inr, nat_le, min, true, false, List, [], ◌∷◌, ◌++◌, length, take, Option, None, Some, IfSome, refl, sym, ◌∙◌, ap, subst, arith, length-append, add-one}
+use Rattle.std.proofs.Common.{◌≡◌, ℕ, zero, suc, ◌+◌, ◌-◌, ◌*◌, ◌^◌, ◌<◌, ◌≤◌, nat_le, min, true, false, List, [], ◌∷◌, ◌++◌, length, take, Option, None, Some, IfSome, refl, sym, ◌∙◌, ap, subst, arith, length-append, add-one}
 use Rattle.std.proofs.Math.Nat.{mul-le-mul_right, suc-mul}
-use Rattle.drm_links.specs.Link.{Answer, Datagram, Idle, Failed, End}
+use Rattle.drm_links.specs.Link.{Answer, Datagram}
 use Rattle.drm_links.specs.Told.{Known}
 use Rattle.drm_links.specs.Sink.{Output, Outputs, IsFront}
 use Rattle.drm_links.proofs.ToldLemmas.{Outputs-then, Outputs-nothing}
@@ -19,9 +19,9 @@ use Rattle.mod_receiver.specs.declared.rules.Rules.{Rules}
 use Rattle.mod_receiver.specs.Reading.{datagrams, idles as idles_at_end, Gave, HasGiven, HaveEnded, IsOpen, most_answers}
 use Rattle.mod_receiver.specs.Reports.{steps_text, refusals}
 use Rattle.mod_receiver.specs.Tallies.{Tallied, new_tally, noted}
-use Rattle.mod_receiver.specs.Printed.{items_in, is_full, left_of, with_steps, KeepsPace, PrintsTaken, TakesFront, SoFar, ReadsTo, ReadsBroken, ReadsFront}
-use Rattle.mod_receiver.proofs.Going.{goes_none, goes_more, is_open, datagrams_more, datagrams_idle, idles_datagram, idles_idle, idles_end, datagrams_end, not_ended, none_ended}
-use Rattle.mod_receiver.proofs.Giving.{gave_none, gave_datagram, gave_idle, gave_end, gives_ready, none_given, steps_many}
+use Rattle.mod_receiver.specs.Printed.{items_in, is_full, left_of, with_steps, KeepsPace, PrintsTaken, SoFar, ReadsTo}
+use Rattle.mod_receiver.proofs.Going.{goes_none, goes_more, is_open, datagrams_more, idles_datagram, not_ended, none_ended}
+use Rattle.mod_receiver.proofs.Giving.{gave_none, gave_datagram, gives_ready, none_given, steps_many}
 use Rattle.mod_receiver.proofs.Tallying.{steps_counted, answer_noted, refusals_few}
 use Rattle.mod_receiver.proofs.Printing.{taken_length, feeds_calls, feeds_left, text_more, front_then}
 

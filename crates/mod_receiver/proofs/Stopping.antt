@@ -1,29 +1,19 @@
 -- A reading, at the answers that are no datagram, and where it stops.
-use Rattle.std.proofs.Common.{◌≡◌, ℕ, zero, suc, ◌+◌, ◌-◌, ◌*◌, ◌^◌, ◌<◌, ◌≤◌, inl, inr, nat_le, min, true, false, List, [], ◌∷◌, ◌++◌, length, take, Option, None, Some, IfSome, refl, sym, ◌∙◌, ap, subst, arith, length-append, add-one}
-use Rattle.std.proofs.Math.Nat.{mul-le-mul_right, suc-mul}
+use Rattle.std.proofs.Common.{◌≡◌, ℕ, ◌+◌, ◌*◌, ◌<◌, ◌≤◌, inl, inr, List, [], ◌∷◌, ◌++◌, length, refl, ◌∙◌, ap, arith}
+use Rattle.std.proofs.Math.Nat.{mul-le-mul_right}
 use Rattle.drm_links.specs.Link.{Answer, Datagram, Idle, Failed, End}
 use Rattle.drm_links.specs.Told.{Known}
-use Rattle.drm_links.specs.Sink.{Output, Outputs, IsFront}
-use Rattle.drm_links.proofs.ToldLemmas.{Outputs-then, Outputs-nothing}
-use Rattle.dcp_collect.specs.declared.taken.Taken.{Taken}
-use Rattle.dcp_collect.specs.State.{State, made, ready}
-use Rattle.dcp_collect.specs.Runs.{Item, up_to}
-use Rattle.collect_laws.specs.Laws.{OneRun, IsFit}
-use Rattle.collect_laws.proofs.OneReading.{one_reading as one_datagram}
-use Rattle.dcp_collect.proofs.Decoded.{one_decoding}
-use Rattle.collect_laws.proofs.Unique.{one_run}
-use Rattle.drm_switches.specs.Tracker.{TrackerState, new_tracker}
-use Rattle.mod_feed.specs.Feeding.{FeedStep, Feeds}
+use Rattle.drm_links.specs.Sink.{Output}
+use Rattle.dcp_collect.specs.State.{State}
+use Rattle.dcp_collect.specs.Runs.{up_to}
+use Rattle.drm_switches.specs.Tracker.{TrackerState}
 use Rattle.report_lines.specs.declared.report.EndWord.TheVariants as word
 use Rattle.mod_receiver.specs.declared.rules.Rules.{Rules}
-use Rattle.mod_receiver.specs.Reading.{datagrams, idles as idles_at_end, Gave, HasGiven, HaveEnded, IsOpen, most_answers}
-use Rattle.mod_receiver.specs.Reports.{steps_text, refusals}
-use Rattle.mod_receiver.specs.Tallies.{Tallied, new_tally, noted}
-use Rattle.mod_receiver.specs.Printed.{items_in, is_full, left_of, with_steps, KeepsPace, PrintsTaken, TakesFront, SoFar, ReadsTo, ReadsBroken, ReadsFront}
-use Rattle.mod_receiver.proofs.Going.{goes_none, goes_more, is_open, datagrams_more, datagrams_idle, idles_datagram, idles_idle, idles_end, datagrams_end, not_ended, none_ended}
-use Rattle.mod_receiver.proofs.Giving.{gave_none, gave_datagram, gave_idle, gave_end, gives_ready, none_given, steps_many}
-use Rattle.mod_receiver.proofs.Tallying.{steps_counted, answer_noted, refusals_few}
-use Rattle.mod_receiver.proofs.Printing.{taken_length, feeds_calls, feeds_left, text_more, front_then}
+use Rattle.mod_receiver.specs.Reading.{datagrams, idles as idles_at_end, HaveEnded}
+use Rattle.mod_receiver.specs.Tallies.{Tallied}
+use Rattle.mod_receiver.specs.Printed.{TakesFront, SoFar, ReadsTo, ReadsBroken, ReadsFront}
+use Rattle.mod_receiver.proofs.Going.{goes_more, datagrams_idle, idles_idle, idles_end, datagrams_end, not_ended}
+use Rattle.mod_receiver.proofs.Giving.{gave_idle, gave_end}
 use Rattle.mod_receiver.proofs.Reaching.{Reaches, HearsMore, feeds_more, front_joins, so_far_open, not_given, one_longer, one_turn, short_enough}
 
 -- the next answer is `Idle`

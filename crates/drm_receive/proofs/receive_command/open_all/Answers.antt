@@ -1,4 +1,4 @@
-use Rattle.std.proofs.Common.{◌≡◌, ℕ, ◌+◌, ◌<◌, ◌≤◌, ◌⊎◌, inl, inr, refl, slice_index_or, ◌∙◌, ap, subst, sym, arith, length, length-append, [], ◌∷◌, Err, le_trans, le_refl}
+use Rattle.std.proofs.Common.{◌≡◌, ℕ, ◌+◌, ◌<◌, ◌≤◌, inl, inr, refl, slice_index_or, ◌∙◌, ap, arith, length, length-append, [], ◌∷◌, Err, le_trans}
 use Rattle.std.proofs.lemmas.Result.{err_from_is_err_and}
 use Rattle.drm_links.specs.Told.{Tells}
 use Rattle.drm_links.specs.declared.dock.Address.{Address}
@@ -8,7 +8,7 @@ use Rattle.drm_faults.specs.declared.fault.Fault.TheVariants as faults
 use Rattle.drm_receive.specs.Receive.{Docked}
 use Rattle.drm_receive.specs.Opening.{HasLink, StopsOpening}
 use Rattle.mod_receiver.specs.Jobs.{IsJob}
-use Rattle.drm_receive.proofs.OpeningLemmas.{each_more, found_now, opened_first, opened_now, opened_all, failed_now, stopped_now, stopped_behind, docked_any, docked_still, all_links}
+use Rattle.drm_receive.proofs.OpeningLemmas.{each_more, found_now, opened_now, opened_all, failed_now, stopped_now, stopped_behind, docked_any, docked_still, all_links}
 use Rattle.drm_receive.proofs.receive_command.open_all.Goals as goal
 
 pub loop-k-preserved : goal.loop-k-preserved

@@ -1,7 +1,6 @@
-use Rattle.std.proofs.Common.{◌≡◌, ℕ, List, [], ◌∷◌, ◌++◌, Ok, Err, ap, arith, refl, sym, ◌∙◌}
+use Rattle.std.proofs.Common.{[], ◌∷◌, ◌++◌, Ok, Err, ap, arith, refl, sym, ◌∙◌}
 use Rattle.std.proofs.Math.Nat.{le_trans}
 use Rattle.std.proofs.lemmas.Result.{err_from_is_err_and}
-use Rattle.drm_capture.specs.Reading.{HasRead}
 use Rattle.mod_receiver.specs.Captures.{ArePackets, HeardOf, HeardUntil}
 use Rattle.mod_receiver.proofs.JobLemmas.{some_now}
 use Rattle.mod_receiver.proofs.Reaching.{OnDatagram, at_start, refused_few, on_datagram, datagram_more, by_frames, by_limit}

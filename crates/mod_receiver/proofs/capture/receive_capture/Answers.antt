@@ -1,4 +1,4 @@
-use Rattle.std.proofs.Common.{◌∙◌, ap, Err, refl}
+use Rattle.std.proofs.Common.{◌∙◌, ap, Err}
 use Rattle.std.proofs.lemmas.Result.{err_from_is_err_and}
 use Rattle.drm_links.proofs.WritingLemmas.{Writes-done, Writes-front}
 use Rattle.mod_receiver.specs.Captures.{HeardOf}
