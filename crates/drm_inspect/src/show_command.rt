@@ -1,22 +1,22 @@
 //! The command `show`.
 
+ghost use Rattle.packet_lines.specs.Content.{Begins};
+ghost use Rattle.packet_lines.specs.Shown.{Shows};
 ghost use Rattle.drm_inspect.specs.Show.{ShowRun};
 
-use drm_capture::{Packet, Packets};
+use drm_capture::{Packet, Packets, read_one_way};
 use drm_faults::Fault;
 use drm_links::{Sink, Source, write_all};
-use packet_lines::{ShowFault, write_end_packets, write_packet};
+use packet_lines::{ShowFault, one_text, write_end_packets, write_packet};
 use std::alloc::Global;
 use text_pieces::Lines;
 
 /// Writes what is in each packet of a capture, as its bytes come. Answers whether no line says that something is bad.
-pub fn show<I: Source, O: Sink>(
-    alloc: Global,
-    input: &mut I,
-    out: &mut O,
-) -> Result<bool, Fault>
+pub fn show<I: Source, O: Sink>(alloc: Global, input: &mut I, out: &mut O) -> Result<bool, Fault>
     ensures { ShowRun result I.known input.old input.new O.known out.old out.new }
 {
+    read_one_way();
+    one_text();
     let mut packets = Packets::make(alloc)?;
     let mut lines = Lines::make(alloc)?;
     // How many packets and bytes were shown, and whether none is bad.
@@ -25,7 +25,9 @@ pub fn show<I: Source, O: Sink>(
     let mut clean = true;
     while packets.find(input)? {
         let packet = packets.next();
-        let bad = show_packet(alloc, &mut lines, &packet, out)?;
+        let Ok(bad) = show_packet(alloc, &mut lines, &packet, out) else {
+            return Err(Fault::Write);
+        };
         count += 1;
         bytes += packet.bytes.len() as u64;
         clean = clean && !bad;
@@ -40,7 +42,10 @@ fn show_packet<O: Sink>(
     lines: &mut Lines,
     packet: &Packet<'_>,
     out: &mut O,
-) -> Result<bool, ShowFault> {
+) -> Result<bool, ShowFault>
+    requires { Begins packet.now.bytes.now }
+    ensures { Shows result (O.known out.old) (O.known out.new) packet.now.at packet.now.bytes.now }
+{
     lines.clear();
     let Ok(bad) = write_packet(alloc, lines, packet) else {
         return write_packet(alloc, out, packet);
