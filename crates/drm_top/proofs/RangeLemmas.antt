@@ -7,11 +7,12 @@ use Rattle.drm_words.specs.declared.request.Request.TheVariants as requests
 use Rattle.drm_words.specs.Table.{IsNumberOr, IsNumberOrNone, AreAddressesOrNone, HasTextNames}
 use Rattle.drm_words.specs.Line.{IsLine}
 use Rattle.mod_receiver.specs.declared.rules.Rules.{Rules}
+use Rattle.dcp_pft.specs.declared.carry.Carry.{Carry}
 use Rattle.drm_receive.specs.Terms.{AreListed}
 use Rattle.mod_receiver.specs.Ranges.{AreInRange}
 use Rattle.drm_top.specs.Words.{request_of, Asks, IsInRange}
 use Rattle.drm_top.specs.declared.words.Command.{Command}
-use Rattle.drm_top.specs.declared.words.Command.TheVariants.{Fac, Check, Serve, Send, Receive, ReceiveCapture, Air, Show, Exercise}
+use Rattle.drm_top.specs.declared.words.Command.TheVariants.{Fac, Check, Serve, Send, Receive, ReceiveCapture, Air, Show, Exercise, Convert}
 
 within : (default least greatest n : ℕ) (value : Option (List ℕ)) → least ≤ default → default ≤ greatest → IsNumberOr default least greatest value n → (least ≤ n) × (n ≤ greatest)
 within default least greatest n None low high is = (omega (arith, is, low), omega (arith, is, high))
@@ -58,6 +59,13 @@ airs words name script window line = within 8 1 64 window _ (omega arith) (omega
 exercises : (words : List (List ℕ)) (n : ℕ) → IsLine words (request_of (Exercise n)) → (1 ≤ n) × (n ≤ 1000)
 exercises words n line = (line.asks.3.1, line.asks.3.2)
 
+converts : (words : List (List ℕ)) (carry : Carry) (window : ℕ) (first frames : Option ℕ) → IsLine words (request_of (Convert carry window first frames)) → IsInRange (Convert carry window first frames)
+converts words carry window first frames line =
+    let stretch = line.asks.5 in
+    let size = within 8 1 64 window _ (omega arith) (omega arith) stretch.has_window in
+    let some = within_or_none 1 3000000 _ frames stretch.has_frames in
+    (?, size.0, size.1, some.0, some.1)
+
 pub in_range : (came : Result Command WordsFault) (request : Request) (words : List (List ℕ)) → Asks came request → IsLine words request → HasTextNames request → IfOk came IsInRange
 in_range (Err fault) request words asks line text = tt
 in_range (Ok Fac) request words asks line text = tt
@@ -74,3 +82,4 @@ in_range (Ok (Air name script window)) request words asks line text =
     (names.0, names.1, range.0, range.1)
 in_range (Ok Show) request words asks line text = tt
 in_range (Ok (Exercise n)) request words asks line text = exercises words n (subst (λ r. IsLine words r) asks line)
+in_range (Ok (Convert carry window first frames)) request words asks line text = converts words carry window first frames (subst (λ r. IsLine words r) asks line)

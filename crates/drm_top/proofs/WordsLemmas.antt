@@ -6,7 +6,7 @@ use Rattle.drm_words.specs.declared.request.Request.{Request}
 use Rattle.drm_words.specs.declared.request.Request.TheVariants as requests
 use Rattle.drm_words.specs.Line.{IsLine}
 use Rattle.drm_top.specs.declared.words.Command.{Command}
-use Rattle.drm_top.specs.declared.words.Command.TheVariants.{Fac, Check, Serve, Send, Receive, ReceiveCapture, Air, Show, Exercise}
+use Rattle.drm_top.specs.declared.words.Command.TheVariants.{Fac, Check, Serve, Send, Receive, ReceiveCapture, Air, Show, Exercise, Convert}
 use Rattle.drm_top.specs.Words.{request_of, AsksFor, AsksForNothing, Asks}
 
 -- the command that a request is asked by, where there is one
@@ -22,7 +22,7 @@ command_by (requests.Receive None window first frames idle limit) =
 command_by (requests.Air name script window) = Air name script window
 command_by requests.Show = Show
 command_by (requests.Exercise n) = Exercise n
-command_by other = Fac
+command_by (requests.Convert carry window first frames) = Convert carry window first frames
 
 same_command : (a : Command) → command_by (request_of a) ≡ a
 same_command Fac = refl
@@ -34,6 +34,7 @@ same_command (ReceiveCapture rules) = refl
 same_command (Air name script window) = refl
 same_command Show = refl
 same_command (Exercise n) = refl
+same_command (Convert carry window first frames) = refl
 
 one_command : (a b : Command) → request_of a ≡ request_of b → a ≡ b
 one_command a b is = sym (same_command a) ∙ (ap command_by is ∙ same_command b)
