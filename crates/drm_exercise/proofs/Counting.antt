@@ -1,5 +1,5 @@
 -- How many fragments the packets of an exercise have, and that what is delivered are fragments of them.
-use Rattle.std.proofs.Common.{◌≡◌, ℕ, zero, suc, ◌+◌, ◌*◌, ◌/◌, ◌%◌, ◌<◌, ◌≤◌, Bool, true, false, List, [], ◌∷◌, ◌++◌, length, All, Option, Some, None, refl, sym, ◌∙◌, ap, subst, arith, rules, length-append}
+use Rattle.std.proofs.Common.{◌≡◌, ℕ, zero, suc, ◌+◌, ◌*◌, ◌/◌, ◌%◌, ◌<◌, ◌≤◌, Bool, true, false, List, [], ◌∷◌, length, All, Option, Some, None, refl, sym, subst, arith, length-append}
 use Rattle.std.specs.Prelude.{nat_le, ◌==◌, if◌then◌else◌, reverse, option_map, unwrap_or, filter, sum_by}
 use Rattle.std.specs.List.{flat_map, range_with_len, last_or}
 use Rattle.std.proofs.lemmas.List.Elements.{All-append}
@@ -9,8 +9,8 @@ use Rattle.dcp_pft.specs.Cutting.{shape_of, chunk_count, chunk_size, coded_size,
 use Rattle.drm_fac.specs.declared.mode.Mode.TheVariants.{B, C}
 use Rattle.drm_schedule.specs.declared.config.Config.{Config}
 use Rattle.drm_schedule.specs.Sizes.{packet_len}
-use Rattle.drm_timeline.specs.Numbers.{frame_count, packet_size}
-use Rattle.drm_timeline.specs.Standing.{config_of, has_started}
+use Rattle.drm_timeline.specs.Numbers.{packet_size}
+use Rattle.drm_timeline.specs.Standing.{has_started}
 use Rattle.script_lines.specs.declared.delivery.Delivery.{Delivery}
 use Rattle.script_lines.specs.Script.{delivery, fragment_count, IsDelivery}
 use Rattle.drm_air.specs.Air.{AreFeeds}

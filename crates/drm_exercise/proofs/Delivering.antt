@@ -1,5 +1,5 @@
 -- What of a packet is still to be delivered.
-use Rattle.std.proofs.Common.{◌≡◌, ℕ, ◌+◌, ◌*◌, List, [], ◌∷◌, ◌++◌, Bool, true, false, refl, sym, ◌∙◌, ap}
+use Rattle.std.proofs.Common.{◌≡◌, ℕ, ◌+◌, ◌*◌, List, [], ◌∷◌, ◌++◌, true, false, refl, sym, ◌∙◌, ap}
 use Rattle.std.specs.Prelude.{reverse}
 use Rattle.std.specs.List.{flat_map, range_with_len}
 use Rattle.script_lines.specs.declared.delivery.Delivery.{Delivery}

@@ -1,8 +1,8 @@
 -- The lines of a text that begin so, one after another.
-use Rattle.std.proofs.Common.{◌≡◌, ℕ, ◌+◌, ◌<◌, ◌≤◌, Bool, true, false, List, [], ◌∷◌, cond, length, take, drop, get_or, Option, Some, None, refl, sym, ◌∙◌, ap, subst, arith, rules}
+use Rattle.std.proofs.Common.{◌≡◌, ℕ, ◌+◌, ◌<◌, ◌≤◌, Bool, true, false, List, [], ◌∷◌, cond, length, take, drop, Some, None, refl, sym, ◌∙◌, ap, subst, arith}
 use Rattle.std.specs.Prelude.{◌==◌, count_by, nat_lt}
 use Rattle.std.specs.Int.{from_bool}
-use Rattle.std.specs.List.{slice_split, position, position_or_len, before_first, after_first, All}
+use Rattle.std.specs.List.{slice_split, position, position_or_len, All}
 use Rattle.std.proofs.lemmas.Bool.{ltb-true, ltb-false}
 use Rattle.std.proofs.lemmas.List.{length-drop}
 use Rattle.std.proofs.lemmas.List.Sums.{sum_by-cons, fails_before_first}

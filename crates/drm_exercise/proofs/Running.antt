@@ -1,12 +1,10 @@
 -- What a run of an exercise has written.
-use Rattle.std.proofs.Common.{◌≡◌, ℕ, zero, suc, ◌+◌, ◌<◌, ◌≤◌, ◌⊎◌, inl, inr, ◌↔◌, IsTrue, Bool, true, false, List, [], ◌∷◌, ◌++◌, length, Option, Some, None, IsSome, Result, Ok, Err, refl, sym, ◌∙◌, ap, subst, arith, rules, le_refl}
+use Rattle.std.proofs.Common.{◌≡◌, ℕ, zero, suc, ◌<◌, ◌≤◌, inl, inr, ◌↔◌, IsTrue, Bool, true, false, List, [], ◌∷◌, length, Option, Some, None, IsSome, Result, Ok, Err, refl, sym, ◌∙◌, ap, subst, arith, le_refl}
 use Rattle.std.specs.Prelude.{if◌then◌else◌, nat_le, slice_index_or, ◌^◌}
-use Rattle.std.specs.List.{All, flat_map}
 use Rattle.std.proofs.lemmas.List.{append-nil}
 use Rattle.drm_bits.specs.Crc.{IsCheckOf}
-use Rattle.drm_links.specs.Told.{HasFailed, Known, HasCause, ToldThrough, told_for}
-use Rattle.drm_links.specs.Sink.{Output, Outputs, WritesText, IsFront, Writes}
-use Rattle.script_lines.specs.declared.delivery.Delivery.{Delivery}
+use Rattle.drm_links.specs.Told.{Known, HasCause, ToldThrough, told_for}
+use Rattle.drm_links.specs.Sink.{Output, Outputs, WritesText, IsFront}
 use Rattle.mod_receiver.specs.Ahead.{Report}
 use Rattle.mod_receiver.specs.Texts.{text_known}
 use Rattle.mod_receiver.specs.declared.text.Text.{Text}
@@ -15,7 +13,7 @@ use Rattle.drm_air.specs.Air.{IsAired, AreAired}
 use Rattle.drm_faults.specs.declared.fault.Fault.{Fault}
 use Rattle.drm_faults.specs.declared.fault.Fault.TheVariants as faults
 use Rattle.drm_exercise.specs.Exercise.{plan, deliveries, line}
-use Rattle.drm_exercise.specs.Run.{IsExercise, WritesLine, ExerciseRun}
+use Rattle.drm_exercise.specs.Run.{IsExercise, ExerciseRun}
 
 -- ---- the text of one receiver
 

@@ -1,6 +1,6 @@
 -- The schedule of an exercise is valid.
-use Rattle.std.proofs.Common.{◌≡◌, ℕ, zero, suc, ◌+◌, ◌-◌, ◌*◌, ◌/◌, ◌<◌, ◌≤◌, Bool, true, false, List, [], ◌∷◌, length, All, Option, Some, None, refl, sym, ◌∙◌, ap, arith, rules}
-use Rattle.std.specs.Prelude.{nat_le, nat_lt, ◌==◌, ◌||◌, if◌then◌else◌}
+use Rattle.std.proofs.Common.{◌≡◌, ℕ, zero, suc, ◌/◌, ◌<◌, ◌≤◌, Bool, true, false, List, [], ◌∷◌, All, Some, None, refl, ap, arith, rules}
+use Rattle.std.specs.Prelude.{nat_le, nat_lt, ◌||◌, if◌then◌else◌}
 use Rattle.drm_fac.specs.declared.mode.Mode.{Mode}
 use Rattle.drm_fac.specs.declared.mode.Mode.TheVariants.{B, C}
 use Rattle.dcp_pft.specs.declared.carry.Carry.TheVariants.{Pft}
@@ -8,8 +8,8 @@ use Rattle.drm_schedule.specs.declared.invalid.Invalid.{Invalid}
 use Rattle.drm_schedule.specs.declared.config.Config.{Config}
 use Rattle.drm_schedule.specs.declared.plan.Plan.{Plan}
 use Rattle.drm_schedule.specs.Ranges.{InLines, ConfigInLines, ServiceInLines, StreamInLines, EntityInLines}
-use Rattle.drm_schedule.specs.Valid.{rows, first_fault, first_of, first_invalid_from, first_invalid, starts_wrongly, counts_wrongly}
-use Rattle.drm_exercise.specs.Exercise.{services, streams, entities, config, second_half, configs, plan}
+use Rattle.drm_schedule.specs.Valid.{rows, first_fault, first_of, first_invalid_from, first_invalid}
+use Rattle.drm_exercise.specs.Exercise.{config, plan}
 
 -- ---- what the lines of a text can give
 

@@ -1,5 +1,5 @@
 -- The command `exercise`: one line on the report of what is delivered.
-use Rattle.std.specs.Prelude.{ℕ, ◌≡◌, ◌+◌, ◌⊎◌, Bool, true, List, length, Result, Ok, Err}
+use Rattle.std.specs.Prelude.{ℕ, ◌≡◌, ◌⊎◌, Bool, List, length, Result, Ok, Err}
 use Rattle.drm_bits.specs.Crc.{IsCheckOf}
 use Rattle.drm_links.specs.Told.{HasFailed, Known, HasCause}
 use Rattle.drm_links.specs.Sink.{Output, Outputs, IsFront}

@@ -1,2 +1,3 @@
 pub mod HeadLemmas
 pub mod FacLemmas
+pub mod ShowLemmas

@@ -1,72 +1,89 @@
 -- The command `show`: what is in each packet of a capture.
-use Rattle.std.specs.Prelude.{ℕ, ◌≡◌, ◌+◌, ◌⊎◌, Bool, true, not, ◌&&◌, List, [], ◌∷◌, ◌++◌, length, All, Result, Ok, Err}
-use Rattle.std.specs.List.{concat, AllZip, list_all}
+use Rattle.std.specs.Prelude.{ℕ, ◌≡◌, ◌+◌, ◌⊎◌, Bool, not, List, [], ◌∷◌, ◌++◌, length, Result, Ok, Err}
+use Rattle.std.specs.List.{concat, flat_map, list_all}
 use Rattle.drm_links.specs.Told.{HasFailed, Known, HasCause}
 use Rattle.drm_links.specs.Source.{Input, Inputs}
 use Rattle.drm_links.specs.Sink.{Output, Outputs, IsFront}
-use Rattle.drm_capture.specs.Capture.{Ending, End, Fault as Wrong, TooLong, IsCaptureOf}
+use Rattle.drm_capture.specs.Capture as capture
 use Rattle.drm_capture.specs.Reading.{Breaks}
-use Rattle.drm_capture.specs.Front.{IsWhole}
-use Rattle.packet_lines.specs.Content.{Content, IsContent}
-use Rattle.packet_lines.specs.Text.{packet_text, is_bad}
+use Rattle.packet_lines.specs.Text.{IsPacketText}
 use Rattle.packet_lines.specs.Lines.{end_packets_line}
 use Rattle.drm_faults.specs.Fault.{UnlessMemory}
 use Rattle.drm_faults.specs.declared.fault.Fault.{Fault}
 use Rattle.drm_faults.specs.declared.fault.Fault.TheVariants as faults
 
--- each packet has this content
-abbrev pub AreContents : List Content → List (List ℕ) → Type 0
-AreContents contents packets = AllZip IsContent contents packets
+-- the lines of a packet, and whether one of them says what is wrong
+pub record PacketText : Type 0 where
+  pub text : List ℕ
+  pub bad : Bool
 
--- the lines of packets with these contents, the first of which stands at this byte
-abbrev pub texts_from : ℕ → List (List ℕ) → List Content → List ℕ
-texts_from at (packet ∷ packets) (content ∷ contents) = packet_text at content ++ texts_from (at + length packet) packets contents
-texts_from at packets contents = []
+-- These are the texts of packets, the first of which stands at this byte.
+abbrev pub AreTexts : ℕ → List (List ℕ) → List PacketText → Type 0
+AreTexts at [] [] = Unit {0}
+AreTexts at (packet ∷ packets) (shown ∷ others) = IsPacketText at packet shown.text shown.bad × AreTexts (at + length packet) packets others
+AreTexts at packets texts = ⊥
 
-abbrev pub texts : List (List ℕ) → List Content → List ℕ
-texts packets contents = texts_from 0 packets contents
+-- one after another
+abbrev pub all_texts : List PacketText → List ℕ
+all_texts texts = flat_map (λ t. t.text) texts
 
 -- the whole text of a capture
-abbrev pub capture_text : List (List ℕ) → List Content → List ℕ
-capture_text packets contents = texts packets contents ++ end_packets_line (length packets) (length (concat packets))
+abbrev pub capture_text : List (List ℕ) → List PacketText → List ℕ
+capture_text packets texts = all_texts texts ++ end_packets_line (length packets) (length (concat packets))
 
 -- no line says what is wrong
-abbrev pub are_clean : List Content → Bool
-are_clean contents = list_all (λ c. not (is_bad c)) contents
+abbrev pub are_clean : List PacketText → Bool
+are_clean texts = list_all (λ t. not t.bad) texts
 
--- The bytes begin with these packets.
-abbrev pub BeginsWith : List (List ℕ) → List ℕ → List ℕ → Type 0
-BeginsWith packets left rest = (more : List ℕ) × (left ≡ concat packets ++ (more ++ rest))
+-- Packets, their texts, and how what was left of the input ends behind them.
+pub record IsShown (left : List ℕ) (ending : capture.Ending) (packets : List (List ℕ)) (texts : List PacketText) : Type 0 where
+  pub is : capture.IsCaptureOf left packets ending
+  pub are : AreTexts 0 packets texts
 
--- Which packets of the input were read: all of them; those that are whole in the bytes taken, where a read failed; those before
--- the fault; or some first ones, after the last of which a write failed.
-abbrev pub ReadsPackets : {I : Type 0} → Result Bool Fault → List (List ℕ) → (I → Known Input) → I → I → Type 0
-ReadsPackets (Ok clean) packets known input input' = Inputs (known input) (known input') (λ left _. IsCaptureOf left packets End)
-ReadsPackets (Err faults.Read) packets known input input' = Inputs (known input) (known input') (Breaks packets)
-ReadsPackets (Err (faults.Capture fault)) packets known input input' = Inputs (known input) (known input') (λ left _. IsCaptureOf left packets (Wrong fault))
-ReadsPackets (Err faults.CaptureTooLong) packets known input input' = Inputs (known input) (known input') (λ left _. IsCaptureOf left packets TooLong)
-ReadsPackets (Err faults.Write) packets known input input' = Inputs (known input) (known input') (BeginsWith packets)
-ReadsPackets (Err faults.NoMemory) packets known input input' = (packets ≡ []) × (input' ≡ input)
-ReadsPackets (Err fault) packets known input input' = ⊥
+-- Packets that are whole in the bytes taken, and their texts.
+pub record IsTaken (left rest : List ℕ) (packets : List (List ℕ)) (texts : List PacketText) : Type 0 where
+  pub is : Breaks packets left rest
+  pub are : AreTexts 0 packets texts
 
--- What is written: the whole text; after a failed write a front of it; and else the lines of these packets, after want of memory
--- not a byte.
-abbrev pub WritesTexts : {O : Type 0} → Result Bool Fault → List (List ℕ) → List Content → (O → Known Output) → O → O → Type 0
-WritesTexts (Ok clean) packets contents known out out' =
-    (clean ≡ are_clean contents) × Outputs (known out) (known out') (λ text. text ≡ capture_text packets contents)
-WritesTexts (Err faults.Write) packets contents known out out' = Outputs (known out) (known out') (IsFront (capture_text packets contents))
-WritesTexts (Err faults.NoMemory) packets contents known out out' = out' ≡ out
-WritesTexts (Err fault) packets contents known out out' = Outputs (known out) (known out') (λ text. text ≡ texts packets contents)
+-- P holds of some packets and their texts, and these are written.
+abbrev pub WritesSome : {O : Type 0} → (List (List ℕ) → List PacketText → Type 0) → (O → Known Output) → O → O → Type 0
+WritesSome P known out out' =
+    (packets : List (List ℕ)) × (texts : List PacketText) × P packets texts × Outputs (known out) (known out') (λ text. text ≡ all_texts texts)
 
--- how a run ends whose input ends so
-abbrev pub EndsBy : Ending → Result Bool Fault → Type 0
-EndsBy End ending = (clean : Bool) × (ending ≡ Ok clean)
-EndsBy (Wrong fault) ending = ending ≡ Err (faults.Capture fault)
-EndsBy TooLong ending = ending ≡ Err faults.CaptureTooLong
+-- A front of the texts of some packets that the bytes begin with is written, or of the whole text of the capture that they are.
+abbrev pub WritesFront : {O : Type 0} → List ℕ → (O → Known Output) → O → O → Type 0
+WritesFront left known out out' =
+    (packets : List (List ℕ)) × (texts : List PacketText) × AreTexts 0 packets texts
+    × (((more : List ℕ) × (left ≡ concat packets ++ more) × Outputs (known out) (known out') (IsFront (all_texts texts)))
+    ⊎ (capture.IsCaptureOf left packets capture.End × Outputs (known out) (known out') (IsFront (capture_text packets texts))))
 
--- a fault of the outside, or want of memory
-abbrev pub IsCutShort : Result Bool Fault → Type 0
-IsCutShort ending = (ending ≡ Err faults.Read) ⊎ (ending ≡ Err faults.Write) ⊎ (ending ≡ Err faults.NoMemory)
+-- What is written where these bytes were left of the input, and then the rest of them: the whole text; after a failed write a front
+-- of it; after a fault of the capture the texts of the packets before it; after a failed read those of the packets that are
+-- whole in the bytes taken; where memory is wanting, nothing.
+abbrev pub WritesShown : {O : Type 0} → List ℕ → List ℕ → Result Bool Fault → (O → Known Output) → O → O → Type 0
+WritesShown left rest (Ok clean) known out out' =
+    (packets : List (List ℕ)) × (texts : List PacketText) × IsShown left capture.End packets texts
+    × Outputs (known out) (known out') (λ text. text ≡ capture_text packets texts) × (clean ≡ are_clean texts)
+WritesShown left rest (Err faults.Write) known out out' = WritesFront left known out out'
+WritesShown left rest (Err (faults.Capture fault)) known out out' = WritesSome (IsShown left (capture.Fault fault)) known out out'
+WritesShown left rest (Err faults.CaptureTooLong) known out out' = WritesSome (IsShown left capture.TooLong) known out out'
+WritesShown left rest (Err faults.Read) known out out' = WritesSome (IsTaken left rest) known out out'
+WritesShown left rest (Err fault) known out out' = out' ≡ out
+
+-- how a run can end early
+abbrev pub EndsEarly : Fault → Type 0
+EndsEarly faults.NoMemory = Unit {0}
+EndsEarly (faults.Capture fault) = Unit {0}
+EndsEarly faults.CaptureTooLong = Unit {0}
+EndsEarly faults.Read = Unit {0}
+EndsEarly faults.Write = Unit {0}
+EndsEarly fault = ⊥
+
+-- the run ends as the bytes end behind their packets
+abbrev pub EndsByIt : Result Bool Fault → capture.Ending → Type 0
+EndsByIt ending capture.End = (clean : Bool) × (ending ≡ Ok clean)
+EndsByIt ending (capture.Fault fault) = ending ≡ Err (faults.Capture fault)
+EndsByIt ending capture.TooLong = ending ≡ Err faults.CaptureTooLong
 
 -- A run of `show`.
 pub record ShowRun {I O : Type 0} (ending : Result Bool Fault)
@@ -74,21 +91,19 @@ pub record ShowRun {I O : Type 0} (ending : Result Bool Fault)
     (out_known : O → Known Output) (out out' : O) : Type 0 where
   -- It ends well, or for want of memory, by a fault of the capture, by a failed read or by a failed write.
   pub kind : (fault : Fault) → ending ≡ Err fault → EndsEarly fault
+  -- Where the input tells: what is written is the text of what was left of it. Nothing else is written.
+  pub writes : Inputs (input_known input) (input_known input') (λ left rest. WritesShown left rest ending out_known out out')
   -- After want of memory nothing was read or written.
   pub untouched : ending ≡ Err faults.NoMemory → (input' ≡ input) × (out' ≡ out)
-  pub packets : List (List ℕ)
-  pub contents : List Content
-  pub are : AreContents contents packets
-  pub reads : ReadsPackets ending packets input_known input input'
-  pub writes : WritesTexts ending packets contents out_known out out'
-  -- It is refused exactly where the input is, with the byte and the field, unless a read or a write failed or memory was wanting.
-  pub exactly : Inputs (input_known input) (input_known input') (λ left _.
-      (read : List (List ℕ)) (ends : Ending) → IsCaptureOf left read ends → IsCutShort ending ⊎ EndsBy ends ending)
-  -- Where the input is a capture and neither side failed, its text is written.
+  -- It ends as the input does behind its packets, with the byte and the field, unless a read or a write failed before.
+  pub exactly : (ending ≡ Err faults.Read → ⊥) → (ending ≡ Err faults.Write → ⊥)
+      → Inputs (input_known input) (input_known input') (λ left _.
+      UnlessMemory ending ((why : capture.Ending) (packets : List (List ℕ)) → capture.IsCaptureOf left packets why → EndsByIt ending why))
+  -- Where no read and no write failed, and the input is a capture, its text is written.
   pub complete : (HasFailed (input_known input) (input_known input') → ⊥) → (HasFailed (out_known out) (out_known out') → ⊥)
-      → Inputs (input_known input) (input_known input') (λ left _. (all : List (List ℕ)) (shown : List Content)
-      → IsCaptureOf left all End → AreContents shown all
-      → UnlessMemory ending ((ending ≡ Ok (are_clean shown)) × Outputs (out_known out) (out_known out') (λ text. text ≡ capture_text all shown)))
-  -- The faults of the outside come only where its count of faults rose.
+      → Inputs (input_known input) (input_known input') (λ left _. (packets : List (List ℕ)) (texts : List PacketText)
+      → IsShown left capture.End packets texts
+      → UnlessMemory ending ((ending ≡ Ok (are_clean texts)) × Outputs (out_known out) (out_known out') (λ text. text ≡ capture_text packets texts)))
+  -- The counts of faults never fall. A read or a write failed only where that of input or of out rose.
   pub read_cause : HasCause (input_known input) (input_known input') (ending ≡ Err faults.Read)
   pub write_cause : HasCause (out_known out) (out_known out') (ending ≡ Err faults.Write)

@@ -1,43 +1,62 @@
 //! The command `show`.
 
-ghost use Rattle.std.specs.Prelude.{◌≡◌, IfOk};
+ghost use Rattle.packet_lines.specs.Content.{Begins};
+ghost use Rattle.packet_lines.specs.Shown.{Shows};
 ghost use Rattle.drm_inspect.specs.Show.{ShowRun};
 
-use drm_capture::{Packet, Packets};
+use drm_capture::{Packet, Packets, read_one_way};
 use drm_faults::Fault;
 use drm_links::{Sink, Source, write_all};
-use packet_lines::{ShowFault, write_end_packets, write_packet};
+use packet_lines::{ShowFault, one_text, write_end_packets, write_packet};
 use std::alloc::Global;
 use text_pieces::Lines;
 
 /// Writes what is in each packet of a capture, as its bytes come. Answers whether no line says that something is bad.
-pub fn show<I: Source, O: Sink>(
-    alloc: Global,
-    input: &mut I,
-    out: &mut O,
-) -> Result<bool, Fault>
-    ensures run { ShowRun result I.known input.old input.new O.known out.old out.new }
+pub fn show<I: Source, O: Sink>(alloc: Global, input: &mut I, out: &mut O) -> Result<bool, Fault>
+    ensures { ShowRun result I.known input.old input.new O.known out.old out.new }
 {
+    read_one_way();
+    one_text();
     let mut packets = Packets::make(alloc)?;
     let mut lines = Lines::make(alloc)?;
-    let mut shown = Shown {
-        packets: 0,
-        bytes: 0,
-        clean: true,
-    };
+    // How many packets and bytes were shown, and whether none is bad.
+    let mut count = 0u64;
+    let mut bytes = 0u64;
+    let mut clean = true;
     while packets.find(input)? {
         let packet = packets.next();
-        let bad = show_packet(alloc, &mut lines, &packet, out)?;
-        shown.count(&packet, bad);
+        let Ok(bad) = show_packet(alloc, &mut lines, &packet, out) else {
+            return Err(Fault::Write);
+        };
+        count += 1;
+        bytes += packet.bytes.len() as u64;
+        clean = clean && !bad;
     }
-    write_end_packets(out, shown.packets, shown.bytes)?;
-    Ok(shown.clean)
+    write_end_packets(out, count, bytes)?;
+    Ok(clean)
 }
 
-/// What was shown so far.
-struct Shown {
-    packets: u64,
-    bytes: u64,
-    /// Whether no line says that something is bad.
-    clean: bool,
+// Writes the lines of a packet, in one call where they fit into the room.
+fn show_packet<O: Sink>(
+    alloc: Global,
+    lines: &mut Lines,
+    packet: &Packet<'_>,
+    out: &mut O,
+) -> Result<bool, ShowFault>
+    requires { Begins packet.now.bytes.now }
+    ensures { Shows result (O.known out.old) (O.known out.new) packet.now.at packet.now.bytes.now }
+{
+    lines.clear();
+    let Ok(bad) = write_packet(alloc, lines, packet) else {
+        return write_packet(alloc, out, packet);
+    };
+    match lines.text() {
+        Some(text) => {
+            let Ok(()) = write_all(out, text) else {
+                return Err(ShowFault::Write);
+            };
+            Ok(bad)
+        }
+        None => write_packet(alloc, out, packet),
+    }
 }

@@ -1,20 +1,15 @@
 -- How a packet is cut, and its datagrams.
-use Rattle.std.proofs.Common.{◌≡◌, ◌<◌, ℕ, List, ◌++◌, length, take, None, Some, sym, ap, subst, ◌∙◌, arith}
+use Rattle.std.proofs.Common.{◌≡◌, ◌<◌, ℕ, List, ◌++◌, length, take, None, Some, ap, ◌∙◌, arith}
 use Rattle.std.proofs.Math.Seq.{take-append_seam}
 use Rattle.drm_schedule.specs.declared.plan.Plan.{Plan}
 use Rattle.drm_timeline.specs.Numbers.{sequence_number}
 use Rattle.dcp_pft.specs.declared.shape.Shape.{Shape}
-use Rattle.dcp_pft.specs.Cutting.{IsShapeOf}
 use Rattle.dcp_pft.specs.Carrying.{cut_of, datagram_count}
 use Rattle.dcp_pft.specs.Head.{IsFragmentOf}
-use Rattle.dcp_pft.specs.Laws.{AllTaken, IsTaken}
 use Rattle.drm_server.specs.Frames.{IsPacketAt}
 use Rattle.dcp_pft.proofs.Carried.{cut_count, carries_whole, carries_cut}
 use Rattle.drm_server.specs.Datagrams.{HasDatagram, IsDatagramAt}
 use Rattle.drm_server.proofs.OnePacket.{one_packet}
-
-pub taken : AllTaken → (len : ℕ) (shape : Shape) → IsShapeOf len shape → IsTaken shape
-taken all len shape x = subst IsTaken (sym x.is) (all len x.m x.mtu x.some x.small x.few x.least x.most)
 
 below : (plan : Plan) (t i : ℕ) (packet : List ℕ) → IsPacketAt plan t packet → HasDatagram plan t i → i < datagram_count plan.carry (length packet)
 below plan t i packet is (count, has, less) =

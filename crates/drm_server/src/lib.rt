@@ -1,7 +1,6 @@
 //! The packets of a schedule and the datagrams that carry them, one frame at a time: to a sink, or over a link.
 #![tactic(auto)]
 
-mod cut;
 mod laws;
 mod loaded;
 mod packet;

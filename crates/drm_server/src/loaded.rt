@@ -7,13 +7,13 @@ ghost use Rattle.drm_timeline.specs.Numbers.{packet_size};
 ghost use Rattle.drm_server.specs.Frames.{IsPacketAt};
 ghost use Rattle.drm_server.specs.Datagrams.{HasDatagrams, HasDatagram, IsDatagramAt};
 
-use crate::cut::{write_cut, write_parity};
 use crate::packet::write_packet;
 use crate::payload::Rooms;
 use dcp_pft::{MOST_PARITY, Shape, all_taken, cut_for, datagrams, most_packet};
 use drm_bits::{NoMemory, zeros};
 use drm_schedule::Schedule;
 use drm_timeline::{frame_count, sequence_number};
+use packet_cutting::{write_cut, write_parity};
 use std::alloc::Global;
 use std::marker::Model;
 
@@ -38,7 +38,8 @@ impl<'a> Model for Loaded<'a> {
     ghost use Rattle.dcp_pft.specs.Carrying.{cut_of};
     ghost use Rattle.drm_timeline.specs.Numbers.{frame_count, packet_size};
     ghost use Rattle.drm_server.specs.Frames.{IsPacketAt};
-    ghost use Rattle.drm_server.specs.Serving.{Serving, HoldsParity};
+    ghost use Rattle.packet_cutting.specs.Parity.{HoldsParity};
+    ghost use Rattle.drm_server.specs.Serving.{Serving};
 
     ghost Value = { Serving };
 

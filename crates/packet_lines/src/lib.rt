@@ -15,4 +15,4 @@ mod whole;
 
 pub use end::write_end_packets;
 pub use laws::one_text;
-pub use packet::{Packet, ShowFault, write_packet};
+pub use packet::{ShowFault, write_packet};

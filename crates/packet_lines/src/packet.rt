@@ -9,17 +9,10 @@ use crate::bad::{plain, write_bad};
 use crate::fragment::write_fragment;
 use crate::whole::write_af;
 use dcp_pft::read_fragment;
+use drm_capture::Packet;
 use drm_links::{Sink, WriteFault};
 use report_lines::pft_words;
 use std::alloc::Global;
-
-/// A packet, and where it stands in its capture.
-#[derive(Clone, Copy, Debug, PartialEq, Eq)]
-pub struct Packet<'a> {
-    /// Its first byte in the capture.
-    pub at: u64,
-    pub bytes: &'a [u8],
-}
 
 /// A packet wasn't shown.
 #[derive(Clone, Copy, Debug, PartialEq, Eq)]

@@ -1,10 +1,8 @@
-use Rattle.std.proofs.Common.{◌≡◌, ℕ, ◌∷◌, [], List, length, Ok, Err, IsSome, IsErr, refl, sym, ◌∙◌, ap, subst, rules}
+use Rattle.std.proofs.Common.{◌≡◌, ◌∷◌, [], length, Ok, Err, IsSome, IsErr, refl, sym, ◌∙◌, ap, subst, rules}
 use Rattle.std.specs.Prelude.{slice_index_or}
 use Rattle.std.proofs.lemmas.Result.{err_from_is_err_and}
 use Rattle.drm_bits.specs.Crc.{IsCheckOf}
-use Rattle.drm_links.specs.Told.{HasCause}
 use Rattle.drm_links.proofs.WritingLemmas.{Writes-done, Writes-front}
-use Rattle.script_lines.specs.declared.delivery.Delivery.{Delivery}
 use Rattle.mod_receiver.specs.Texts.{text_known}
 use Rattle.drm_receive.specs.Receive.{WritesReports}
 use Rattle.drm_air.specs.Air.{AreAired, AreFeeds}

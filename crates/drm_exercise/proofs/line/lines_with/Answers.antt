@@ -1,5 +1,4 @@
-use Rattle.std.proofs.Common.{◌≡◌, ℕ, ◌≤◌, ◌<◌, ◌+◌, ◌-◌, length, take, drop, Some, None, sym, ◌∙◌, ap, arith, rules}
-use Rattle.std.specs.Int.{from_bool}
+use Rattle.std.proofs.Common.{length, take, sym, ◌∙◌, ap, arith}
 use Rattle.drm_exercise.specs.Exercise.{begins, lines_with}
 use Rattle.drm_exercise.proofs.LineCounts.{line_more, line_last, end_within, one_bit, shorter}
 use Rattle.drm_exercise.proofs.line.lines_with.Goals as goal

@@ -3,8 +3,7 @@ use Rattle.dcp_pft.specs.declared.carry.Carry.TheVariants.{Pft}
 use Rattle.drm_schedule.specs.declared.config.Config.{Config}
 use Rattle.drm_schedule.specs.declared.plan.Plan.{Plan}
 use Rattle.drm_schedule.specs.Valid.{first_invalid}
-use Rattle.drm_exercise.specs.Exercise.{configs}
-use Rattle.drm_exercise.proofs.ValidPlan.{in_lines, valid}
+use Rattle.drm_exercise.proofs.ValidPlan.{valid}
 use Rattle.drm_exercise.proofs.schedule.schedule_of.Goals as goal
 
 pub unreachable-requires : goal.unreachable-requires

@@ -1,4 +1,4 @@
-use Rattle.std.proofs.Common.{◌≡◌, ℕ, ◌+◌, ◌-◌, ◌++◌, List, [], ◌∷◌, sym, ◌∙◌, ap, arith, le_refl}
+use Rattle.std.proofs.Common.{◌≡◌, ◌+◌, ◌-◌, ◌++◌, List, [], ◌∷◌, sym, ◌∙◌, ap, arith, le_refl}
 use Rattle.script_lines.specs.declared.delivery.Delivery.{Delivery}
 use Rattle.script_lines.specs.Script.{delivery}
 use Rattle.drm_exercise.proofs.Delivering.{left_of, whole, skipped, taken, twice_behind}

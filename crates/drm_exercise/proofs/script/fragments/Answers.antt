@@ -1,4 +1,4 @@
-use Rattle.std.proofs.Common.{◌≡◌, ◌∙◌, ap}
+use Rattle.std.proofs.Common.{◌∙◌, ap}
 use Rattle.dcp_pft.specs.Carrying.{datagram_count}
 use Rattle.drm_exercise.proofs.Delivering.{count_is}
 use Rattle.drm_exercise.proofs.script.fragments.Goals as goal

@@ -1,5 +1,4 @@
-use Rattle.std.proofs.Common.{◌≡◌, ℕ, ◌+◌, ◌*◌, ◌≤◌, ◌++◌, ◌∷◌, [], List, Ok, IfOk, sym, ◌∙◌, ap, subst, arith, refl}
-use Rattle.script_lines.specs.declared.delivery.Delivery.{Delivery}
+use Rattle.std.proofs.Common.{◌≡◌, ◌*◌, ◌++◌, ◌∷◌, [], IfOk, ◌∙◌, ap, subst, arith}
 use Rattle.script_lines.specs.Script.{fragment_count}
 use Rattle.drm_timeline.specs.Numbers.{frame_count}
 use Rattle.drm_exercise.specs.Exercise.{of_packet, deliveries, plan}

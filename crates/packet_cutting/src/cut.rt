@@ -1,11 +1,11 @@
-//! How a packet is cut into fragments, with the parity of its chunks.
+//! The parity of a packet, and its fragments.
 
 ghost use Rattle.std.specs.Prelude.{◌≡◌, ◌*◌, ◌<◌, ◌≤◌, length, take, Some, IfSome};
 ghost use Rattle.dcp_pft.specs.Limits.{most_fragment, most_parity};
 ghost use Rattle.dcp_pft.specs.Cutting.{chunks_of, IsShapeOf};
 ghost use Rattle.dcp_pft.specs.Coding.{IsParityOf};
 ghost use Rattle.dcp_pft.specs.Head.{IsFragmentOf};
-ghost use Rattle.drm_server.specs.Serving.{HoldsParity, IsCoded};
+ghost use Rattle.packet_cutting.specs.Parity.{HoldsParity, IsCoded};
 
 use dcp_pft::{MOST_FRAGMENT, Shape, all_taken, chunks, code, write_fragment};
 

@@ -1,6 +1,6 @@
 use Rattle.std.proofs.Common.{arith}
-use Rattle.drm_server.proofs.CutLemmas.{taken}
-use Rattle.drm_server.proofs.cut.parity_len.Goals as goal
+use Rattle.packet_cutting.proofs.Taken.{taken}
+use Rattle.packet_cutting.proofs.cut.parity_len.Goals as goal
 
 pub chunks-requires : goal.chunks-requires
 chunks-requires c = omega (arith, (taken c.all_taken.ensures c.args.len c.args.shape.now c.requires).bytes)

@@ -1,7 +1,7 @@
 use Rattle.std.proofs.Common.{sym, subst, arith}
 use Rattle.std.proofs.lemmas.List.{take-append-le}
 use Rattle.dcp_pft.specs.Head.{IsFragmentOf}
-use Rattle.drm_server.proofs.cut.write_cut.Goals as goal
+use Rattle.packet_cutting.proofs.cut.write_cut.Goals as goal
 
 pub returns-clause-fragment : goal.returns-clause-fragment
 returns-clause-fragment c =
