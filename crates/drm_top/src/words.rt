@@ -1,10 +1,11 @@
 //! The commands.
 
 ghost use Rattle.std.specs.Prelude.{◌≡◌, ◌⊎◌, IfOk, IsUtf8, map, string_bytes};
-ghost use Rattle.drm_top.specs.Words.{AsksFor, AsksForNothing, Asks, IsInRange};
+ghost use Rattle.drm_top.specs.Words.{AsksFor, AsksForNothing, IsInRange, request_of};
 ghost use Rattle.drm_words.specs.Table.{HasTextNames};
 ghost use Rattle.drm_top.specs.declared.words.Command.{Command};
 
+use dcp_pft::Carry;
 use drm_bits::Octets;
 use drm_links::Address;
 use drm_words::{Addresses, Request, WordsFault, read_words};
