@@ -3,7 +3,7 @@ use Rattle.std.proofs.Common.{◌≡◌, ℕ, zero, suc, ◌+◌, ◌*◌, ◌<�
 use Rattle.std.specs.Prelude.{ℤ, pos, Bool}
 use Rattle.std.specs.List.{AllByRecursion}
 use Rattle.std.proofs.lemmas.List.{take-append-le}
-use Rattle.drm_links.specs.Link.{Answer, Datagram, Idle}
+use Rattle.drm_links.specs.Link.{Answer, Datagram, Idle, End}
 use Rattle.collect_laws.specs.Laws.{OneRun}
 use Rattle.dcp_collect.specs.State.{made}
 use Rattle.drm_schedule.specs.declared.plan.Plan.{Plan}
@@ -61,6 +61,15 @@ all_came (d ∷ brought) (a ∷ answers) rest next =
       | inr all ↦ inr (ap (λ b. datagrams (b ∷ answers)) next.0 ∙ ap (λ l. d ∷ l) all)
     ]
 
+-- no link says that nothing comes any more
+pub never_ends : (brought : List (List ℕ)) (answers rest before : List Answer) → AreNext (map Datagram brought) answers rest → answers ≡ before ++ End ∷ [] → ⊥
+never_ends brought [] rest [] next e = cc
+never_ends brought [] rest (b ∷ before) next e = cc
+never_ends [] (a ∷ answers) rest [] next e = let idle : a ≡ Idle = next.0 in cc
+never_ends (d ∷ brought) (a ∷ answers) rest [] next e = let came : a ≡ Datagram d = next.0 in cc
+never_ends [] (a ∷ answers) rest (b ∷ before) next e = never_ends [] answers rest before next.1 cc
+never_ends (d ∷ brought) (a ∷ answers) rest (b ∷ before) next e = never_ends brought answers rest before next.1 cc
+
 -- ---- what would be read without a told number
 
 abbrev pub all_answers : List (List ℕ) → List Answer
@@ -96,11 +105,27 @@ front_many [] (suc (suc k)) = omega arith
 front_many (d ∷ brought) zero = omega arith
 front_many (d ∷ brought) (suc k) = let more = front_many brought k in omega (arith, more)
 
+no_end_taken : (k : ℕ) (before : List Answer) → take k [] ≡ before ++ End ∷ [] → ⊥
+no_end_taken zero [] e = cc
+no_end_taken zero (b ∷ before) e = cc
+no_end_taken (suc k) [] e = cc
+no_end_taken (suc k) (b ∷ before) e = cc
+
+front_unended : (brought : List (List ℕ)) (k : ℕ) (before : List Answer) → take k (all_answers brought) ≡ before ++ End ∷ [] → ⊥
+front_unended [] zero [] e = cc
+front_unended [] zero (b ∷ before) e = cc
+front_unended [] (suc k) [] e = cc
+front_unended [] (suc k) (b ∷ before) e = no_end_taken k before cc
+front_unended (d ∷ brought) zero [] e = cc
+front_unended (d ∷ brought) zero (b ∷ before) e = cc
+front_unended (d ∷ brought) (suc k) [] e = cc
+front_unended (d ∷ brought) (suc k) (b ∷ before) e = front_unended brought k before cc
+
 front_open : (rules : Rules) (brought : List (List ℕ)) → rules.idle ≡ 1 → length brought < rules.limit → (k : ℕ) → k < length (all_answers brought) → IsOpen (untold rules) (take k (all_answers brought))
 front_open rules brought idle few k shorter word.Frames holds = holds
 front_open rules brought idle few k shorter word.Limit holds = let many = front_many brought k in omega (arith, many, holds, few)
 front_open rules brought idle few k shorter word.Idle holds = let none = front_idles brought k shorter in omega (arith, none, holds, idle)
-front_open rules brought idle few k shorter word.Input holds = holds
+front_open rules brought idle few k shorter word.Input holds = front_unended brought k holds.0 holds.1
 front_open rules brought idle few k shorter word.Paths holds = holds
 
 pub would_be_read : (rules : Rules) (brought : List (List ℕ)) → rules.idle ≡ 1 → length brought < rules.limit → WouldBeRead rules (map Datagram brought) (all_answers brought)
@@ -191,7 +216,7 @@ module _ (one_run : OneRun) (laws : DeliveryLaws) (plan : Plan) (window number :
         | inl none ↦ absurd (let idle : 1 ≤ idles of.answers = ends.0 in omega (arith, none, idle))
         | inr all ↦ of.headline plan base arrivals valid (subst (λ l. IsFollowed plan (Some plan.seq) base arrivals l) (sym all) followed)
       ]
-  headline_by word.Input ends = absurd ends
+  headline_by word.Input ends = absurd (never_ends brought of.answers of.rest ends.0.0 of.next ends.0.1)
   headline_by word.Paths ends = absurd ends
 
   pub headline : Modulates plan (air_rules plan window) number base (map OfSchedule pairs) of.answers r.text r.clean

@@ -52,6 +52,9 @@ reads words addresses rules line =
       few_datagrams = omega (arith, less);
     }
 
+lists : (words : List (List ℕ)) (addresses : List Address) (rules : Rules) → IsLine words (reading_of (Some addresses) rules) → AreListed addresses
+lists words addresses rules line = let asks = line.asks in listed _ addresses asks.1
+
 airs : (words : List (List ℕ)) (name script : List ℕ) (window : ℕ) → IsLine words (request_of (Air name script window)) → (1 ≤ window) × (window ≤ 64)
 airs words name script window line = within 8 1 64 window _ (omega arith) (omega arith) line.asks.3
 
@@ -66,7 +69,7 @@ in_range (Ok (Serve name pace)) request words asks line text = subst HasTextName
 in_range (Ok (Send name to pace)) request words asks line text = subst HasTextNames asks text
 in_range (Ok (Receive addresses rules)) request words asks line text =
     let named : IsLine words (reading_of (Some addresses) rules) = subst (λ r. IsLine words r) asks line in
-    (reads words (Some addresses) rules named, listed _ addresses named.asks.1)
+    (reads words (Some addresses) rules named, lists words addresses rules named)
 in_range (Ok (ReceiveCapture rules)) request words asks line text = reads words None rules (subst (λ r. IsLine words r) asks line)
 in_range (Ok (Air name script window)) request words asks line text =
     let names : IsUtf8 name × IsUtf8 script = subst HasTextNames asks text in

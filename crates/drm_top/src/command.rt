@@ -11,8 +11,8 @@ ghost use Rattle.drm_top.specs.declared.words.Command.{Command};
 
 use crate::words::{Command, read_command, text};
 use drm_air::air;
-use drm_faults::Fault;
 use drm_exercise::exercise;
+use drm_faults::Fault;
 use drm_inspect::{fac, show};
 use drm_links::{Dock, Link, Shelf, Sink, Source, Status};
 use drm_receive::{receive, receive_from_capture};
