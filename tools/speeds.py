@@ -15,11 +15,12 @@ import os
 import pathlib
 import random
 import shutil
-import struct
 import subprocess
 import sys
 import tempfile
 import time
+
+from datagrams import datagrams, pcap
 
 STREAM = 4004
 # A stream's file has so many bytes at the most.
@@ -49,30 +50,6 @@ label 0 Radio Nord
 
 def schedule(carry, length, content="fill 55"):
     return PLAN.format(carry=carry, length=length, stream=STREAM, content=content)
-
-
-def datagrams(capture):
-    """Each datagram of a capture, with the number of its packet's fragments (1 of a whole packet) and its own."""
-    at = 0
-    while at < len(capture):
-        if capture[at:at + 2] == b"AF":
-            size, count, index = 12 + int.from_bytes(capture[at + 2:at + 6], "big"), 1, 0
-        else:
-            flags = int.from_bytes(capture[at + 10:at + 12], "big")
-            size = 14 + 2 * (flags >> 15) + 4 * (flags >> 14 & 1) + (flags & 0x3FFF)
-            index, count = int.from_bytes(capture[at + 4:at + 7], "big"), int.from_bytes(capture[at + 7:at + 10], "big")
-        yield capture[at:at + size], count, index
-        at += size
-
-
-def pcap(path, wanted):
-    """Writes datagrams as UDP over IPv4 into a file that tshark reads."""
-    with open(path, "wb") as out:
-        out.write(struct.pack("<IHHiIII", 0xA1B2C3D4, 2, 4, 0, 0, 65535, 101))
-        for number, datagram in enumerate(wanted):
-            udp = struct.pack(">HHHH", 50000, 50001, 8 + len(datagram), 0) + datagram
-            ip = struct.pack(">BBHHHBBHII", 0x45, 0, 20 + len(udp), number & 0xFFFF, 0, 64, 17, 0, 0x7F000001, 0x7F000001)
-            out.write(struct.pack("<IIII", number // 1000, number % 1000 * 1000, len(ip) + len(udp), len(ip) + len(udp)) + ip + udp)
 
 
 def timed(words, folder, out=os.devnull, rounds=1):

@@ -1,5 +1,5 @@
 -- How a run ends: as it should, or with a fault, which has a status and a line.
-use Rattle.std.specs.Prelude.{ℕ, ◌≡◌, ◌⊎◌, Bool, true, false, List, ◌++◌, Option, None, Some, Result, Ok, Err}
+use Rattle.std.specs.Prelude.{ℕ, ◌≡◌, ◌⊎◌, Bool, true, false, List, Result, Ok, Err}
 use Rattle.drm_links.specs.Told.{Known, HasFailed}
 use Rattle.drm_links.specs.Sink.{Output, Outputs, IsFront}
 use Rattle.drm_faults.specs.Lines.{fault_line}
@@ -57,12 +57,7 @@ abbrev pub Reports : {E : Type 0} → Result (Unit {0}) Fault → (E → Known O
 Reports (Ok done) known old new = new ≡ old
 Reports (Err fault) known old new = WritesLine (fault_line fault) known old new
 
--- what a run writes to err that tells lines of its own: these, and behind them the line of its fault
-abbrev pub told_by : List ℕ → Result (Unit {0}) Fault → List ℕ
-told_by lines (Ok done) = lines
-told_by lines (Err fault) = lines ++ fault_line fault
-
--- the same where there are such lines, or none
-abbrev pub ReportsLines : {E : Type 0} → Option (List ℕ) → Result (Unit {0}) Fault → (E → Known Output) → E → E → Type 0
-ReportsLines None done known old new = Reports done known old new
-ReportsLines (Some lines) done known old new = WritesLine (told_by lines done) known old new
+-- The same where `told` holds; else err is as it was.
+abbrev pub ReportsIf : {E : Type 0} → Bool → Result (Unit {0}) Fault → (E → Known Output) → E → E → Type 0
+ReportsIf true done known old new = Reports done known old new
+ReportsIf false done known old new = new ≡ old

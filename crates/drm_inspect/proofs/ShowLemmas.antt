@@ -1,17 +1,16 @@
 -- What `show` has written, packet by packet, and how it ends.
-use Rattle.std.proofs.Common.{◌≡◌, ℕ, ◌+◌, ◌<◌, ◌≤◌, ◌⊎◌, inl, inr, Bool, true, false, List, [], ◌∷◌, ◌++◌, length, Option, None, Some, Result, Ok, Err, refl, sym, ◌∙◌, ap, subst, arith, rules, append_assoc, length-append}
-use Rattle.std.specs.Prelude.{not, ◌&&◌, All, OnErr, IsErr, IfOk}
-use Rattle.std.specs.List.{concat, flat_map, list_all}
+use Rattle.std.proofs.Common.{◌≡◌, ℕ, ◌+◌, inl, inr, Bool, true, false, List, [], ◌∷◌, ◌++◌, length, Option, None, Some, Result, Ok, Err, refl, sym, ◌∙◌, ap, subst, arith, append_assoc, length-append}
+use Rattle.std.specs.Prelude.{not, ◌&&◌, OnErr, IsErr, IfOk}
+use Rattle.std.specs.List.{concat}
 use Rattle.std.proofs.lemmas.List.{append-nil}
 use Rattle.std.proofs.lemmas.List.Folds.{concat-append, list_all-append}
 use Rattle.std.proofs.lemmas.Grind.{flat_map-append}
-use Rattle.drm_links.specs.Told.{HasFailed, Known, HasCause, ToldThrough}
+use Rattle.drm_links.specs.Told.{Known, HasCause, ToldThrough}
 use Rattle.drm_links.specs.Source.{Input, Inputs, LeftBy}
-use Rattle.drm_links.specs.Sink.{Output, Outputs, IsFront, Writes}
+use Rattle.drm_links.specs.Sink.{Output, Outputs, IsFront}
 use Rattle.drm_links.proofs.ToldLemmas.{Inputs-weaker, Outputs-then, Outputs-weaker}
 use Rattle.drm_capture.specs.declared.packets.CaptureStop.{CaptureStop}
 use Rattle.drm_capture.specs.declared.packets.CaptureStop.TheVariants as stops
-use Rattle.drm_capture.specs.Front.{IsWhole}
 use Rattle.drm_capture.specs.Capture as capture
 use Rattle.drm_capture.specs.Laws.{ReadOneWay}
 use Rattle.drm_capture.specs.Walking.{WalkerState, new_walker}
@@ -24,7 +23,7 @@ use Rattle.drm_faults.specs.Fault.{UnlessMemory}
 use Rattle.drm_faults.specs.declared.fault.Fault.{Fault}
 use Rattle.drm_faults.specs.declared.fault.Fault.TheVariants as faults
 use Rattle.drm_faults.specs.Captures.{stop_fault}
-use Rattle.drm_inspect.specs.Show.{PacketText, AreTexts, all_texts, capture_text, are_clean, IsShown, IsTaken, WritesSome, WritesFront, WritesShown, EndsEarly, EndsByIt, ShowRun}
+use Rattle.drm_inspect.specs.Show.{PacketText, AreTexts, all_texts, capture_text, are_clean, IsShown, WritesShown, EndsEarly, EndsByIt, ShowRun}
 
 -- ---- texts one after another
 

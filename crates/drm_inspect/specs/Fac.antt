@@ -1,9 +1,9 @@
 -- The command `fac`: the nine bytes of a FAC become one line.
-use Rattle.std.specs.Prelude.{ℕ, ◌≡◌, ◌<◌, ◌⊎◌, ◌↔◌, List, length, Option, Result, Ok, Err}
+use Rattle.std.specs.Prelude.{ℕ, ◌≡◌, ◌<◌, ◌⊎◌, ◌↔◌, List, length, Result, Ok, Err}
 use Rattle.drm_fac.specs.declared.fac.Fac.{Fac}
 use Rattle.drm_fac.specs.Fac.{IsFac}
 use Rattle.drm_fac.specs.Fault.{IsCrcFault}
-use Rattle.drm_links.specs.Told.{HasFailed, Known, HasCause, Rose}
+use Rattle.drm_links.specs.Told.{HasFailed, Known, HasCause}
 use Rattle.drm_links.specs.Source.{Input, Inputs}
 use Rattle.drm_links.specs.Sink.{Output, Outputs, IsFront}
 use Rattle.drm_inspect.specs.Input.{ReadsHead, FailsWithin}

@@ -1,5 +1,5 @@
 -- The front of an input.
-use Rattle.std.specs.Prelude.{ℕ, ◌≡◌, ◌+◌, ◌<◌, ◌≤◌, List, length, take, drop, min, Option, None, Some}
+use Rattle.std.specs.Prelude.{ℕ, ◌≡◌, ◌+◌, ◌<◌, ◌≤◌, List, length, take, drop, min}
 use Rattle.drm_links.specs.Told.{Known, Tells}
 use Rattle.drm_links.specs.Source.{Input, Inputs}
 

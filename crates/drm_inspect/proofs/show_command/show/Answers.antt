@@ -1,14 +1,10 @@
-use Rattle.std.proofs.Common.{◌≡◌, ℕ, ◌+◌, ◌≤◌, Bool, true, false, List, ◌∷◌, [], ◌++◌, length, Ok, Err, IfOk, IsErr, refl, sym, ◌∙◌, ap, subst, arith, le_refl}
+use Rattle.std.proofs.Common.{ℕ, ◌+◌, List, length, Ok, Err, IsErr, refl, sym, ◌∙◌, ap, subst, arith, le_refl}
 use Rattle.std.specs.Prelude.{not, ◌&&◌}
 use Rattle.std.specs.List.{concat}
 use Rattle.std.proofs.Math.Nat.{le_trans}
 use Rattle.std.proofs.lemmas.Result.{err_from_is_err_and}
-use Rattle.drm_links.specs.Told.{Known}
-use Rattle.drm_links.specs.Source.{Input}
-use Rattle.drm_links.specs.Sink.{Output, Outputs, IsFront}
 use Rattle.drm_links.proofs.ToldLemmas.{later-Rose}
 use Rattle.drm_links.proofs.WritingLemmas.{Writes-done, Writes-front}
-use Rattle.drm_capture.specs.Reading.{HasRead}
 use Rattle.drm_capture.proofs.FrontLaws.{packet_size}
 use Rattle.drm_faults.specs.declared.fault.Fault.TheVariants as faults
 use Rattle.drm_faults.specs.Captures.{stop_fault}
@@ -34,7 +30,7 @@ returns-in_err-find g c =
     (show_run c.read_one_way.ensures c.one_text.ensures g.I.Source.known c.args.input.now c.find.new.input g.O.Sink.known c.args.out.now c.loop-lines.out (Err (stop_fault stop))
     (λ fault is. early (stop_fault stop) fault (stop_early stop) is)
     (stopped g.O.Sink.known c.args.out.now c.loop-lines.out c.loop-lines.packets before (g.I.Source.known c.loop-lines.input) c.loop-lines.count c.loop-lines.bytes c.loop-lines.clean i.0 stop (g.I.Source.known c.find.new.input)
-        (c.in_err-find.ensures.stops i.0.packets before i.0.read))
+    (c.in_err-find.ensures.stops i.0.packets before i.0.read))
     (λ is. absurd (stop_no_memory stop is))
     (record { later = le_trans i.2 c.find.ensures.cause.later; rose = λ is. later-Rose _ _ _ i.2 (c.find.ensures.cause.rose (c.in_err-find.was ∙ ap Err (stop_is_read stop is))) })
     (record { later = i.3; rose = λ is. absurd (stop_no_write stop is) }))
@@ -54,7 +50,7 @@ returns-in_default g c =
     show_run c.read_one_way.ensures c.one_text.ensures g.I.Source.known c.args.input.now c.find.new.input g.O.Sink.known c.args.out.now c.show_packet.new.out (Err faults.Write)
     (λ fault is. early faults.Write fault tt is)
     (cut g.O.Sink.known c.args.out.now c.loop-lines.out c.find.new.self before after c.loop-lines.count c.loop-lines.bytes c.loop-lines.clean has c.next.follows.lender-at-none bytes shown.text shown.bad c.show_packet.new.out more is
-        (not_shown c.show_packet.result _ c.in_default.not-Ok shown.front))
+    (not_shown c.show_packet.result _ c.in_default.not-Ok shown.front))
     (λ is. absurd (write_no_memory is))
     (record { later = le_trans i.2 c.find.ensures.cause.later; rose = λ is. absurd (write_no_read is) })
     (record { later = le_trans i.3 shown.cause.later; rose = λ is. later-Rose _ _ _ i.3 (shown.cause.rose (failed c.show_packet.result c.in_default.not-Ok)) })
@@ -119,7 +115,7 @@ returns-in_err-write_end_packets g c =
     (show_run c.read_one_way.ensures c.one_text.ensures g.I.Source.known c.args.input.now c.find.new.input g.O.Sink.known c.args.out.now c.write_end_packets.new.out (Err faults.Write)
     (λ fault is. early faults.Write fault tt is)
     (cut_end g.O.Sink.known c.args.out.now c.loop-lines.out c.find.new.self before after c.loop-lines.count c.loop-lines.bytes c.loop-lines.clean has ended c.write_end_packets.new.out
-        (Writes-front c.in_err-write_end_packets.was c.write_end_packets.ensures))
+    (Writes-front c.in_err-write_end_packets.was c.write_end_packets.ensures))
     (λ is. absurd (write_no_memory is))
     (record { later = le_trans i.2 c.find.ensures.cause.later; rose = λ is. absurd (write_no_read is) })
     (record { later = le_trans i.3 c.write_end_packets.ensures.cause.later; rose = λ is. later-Rose _ _ _ i.3 (c.write_end_packets.ensures.cause.rose (subst IsErr (sym c.in_err-write_end_packets.was) refl)) }))
@@ -136,7 +132,7 @@ returns g c =
     show_run c.read_one_way.ensures c.one_text.ensures g.I.Source.known c.args.input.now c.find.new.input g.O.Sink.known c.args.out.now c.write_end_packets.new.out (Ok c.loop-lines.clean)
     (λ fault is. absurd cc)
     (done g.O.Sink.known c.args.out.now c.loop-lines.out c.find.new.self before after c.loop-lines.count c.loop-lines.bytes c.loop-lines.clean has ended c.write_end_packets.new.out
-        (Writes-done c.in_ok-write_end_packets.was c.write_end_packets.ensures))
+    (Writes-done c.in_ok-write_end_packets.was c.write_end_packets.ensures))
     (λ is. absurd cc)
     (record { later = le_trans i.2 c.find.ensures.cause.later; rose = λ is. absurd cc })
     (record { later = le_trans i.3 c.write_end_packets.ensures.cause.later; rose = λ is. absurd cc })
