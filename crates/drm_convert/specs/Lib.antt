@@ -1,1 +1,5 @@
 pub mod Carried
+pub mod Converting
+pub mod Naming
+pub mod Steps
+pub mod Draining

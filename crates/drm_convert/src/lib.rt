@@ -2,5 +2,7 @@
 #![tactic(auto)]
 
 mod cutter;
+mod item;
+mod naming;
 
 pub use cutter::Cutter;
