@@ -1,2 +1,3 @@
 pub mod Gathering
 pub mod ItemLemmas
+pub mod DrainingLemmas

@@ -11,7 +11,7 @@ use Rattle.drm_convert.specs.declared.item.Halt.TheVariants as halt
 use Rattle.drm_convert.specs.declared.naming.Progress.{Progress}
 use Rattle.drm_convert.specs.Converting.{Part, ConvertsAll, Converts, IsTooLarge, text_of, lines_of}
 use Rattle.drm_convert.specs.Naming.{Names}
-use Rattle.drm_convert.specs.Steps.{has_none}
+use Rattle.drm_convert.specs.Steps.{has_none, Failing}
 
 -- as many items were given as are told
 abbrev pub is_full : Option ℕ → ℕ → Bool
@@ -39,3 +39,30 @@ pub record ConvertedAll (carry : Carry) (c : State) (items : List Item) (p p' : 
   pub clean : p'.clean ≡ (p.clean && are_clean parts)
   pub text : Outputs out out' (λ text. text ≡ text_of parts)
   pub names : Names p.told p'.told err err' (lines_of parts)
+
+-- Nothing is kept before the first sequence number is known.
+abbrev pub KnowsFirst : State → Type 0
+KnowsFirst c = (c.first ≡ None) → c.kept ≡ []
+
+-- What is ready was converted, up to the told number of items.
+pub record Drained (told : Option ℕ) (carry : Carry) (c d : State) (p p' : Progress) (out out' err err' : Known Output) : Type 0 where
+  pub items : List Item
+  pub gives : Given c items d
+  pub all : ConvertedAll carry c items p p' out out' err err'
+  pub ends : (ready d ≡ false) ⊎ (is_full told p'.given ≡ true)
+
+-- The conversion stopped at an item, behind these.
+abbrev pub StopsAt : State → (List Item → Item → Type 0) → Type 0
+StopsAt c P = (items : List Item) × (mid : State) × (item : Item) × Given c items mid × (ready mid ≡ true) × IsItem mid item × P items item
+
+abbrev pub Halts : Halt → Carry → State → Progress → Progress → Known Output → Known Output → Known Output → Known Output → Type 0
+Halts halt.Write carry c p p' out out' err err' =
+    StopsAt c (λ items item. (mid : Known Output) × ConvertedAll carry c items p p' out mid err err'
+    × ((first : ℕ) → MayBeFirst c first → Failing carry first item mid out'))
+Halts (halt.PacketSize number) carry c p p' out out' err err' =
+    StopsAt c (λ items item. ConvertedAll carry c items p p' out out' err err' × IsTooLarge carry item number)
+
+-- the count of items is that of the collector, and none was given past the told number
+pub record KeepsPace (told : Option ℕ) (c : State) (p : Progress) : Type 0 where
+  pub given : p.given ≡ c.next
+  pub below : IfSome told (λ n. p.given ≤ n)

@@ -1,6 +1,7 @@
 //! What a collector gives, converted.
 
-ghost use Rattle.std.specs.Prelude.{◌≡◌, ◌+◌, ◌<◌, ◌^◌, true, length, MatchOption, Some, None};
+ghost use Rattle.std.specs.Prelude.{◌≡◌, ◌+◌, ◌<◌, ◌^◌, true, length, MatchOption, Some, None, Err};
+ghost use Rattle.drm_links.specs.Told.{HasCause};
 ghost use Rattle.dcp_af.specs.Faults.{IsFault};
 ghost use Rattle.dcp_collect.specs.View.{item_of};
 ghost use Rattle.dcp_collect.specs.WholePackets.{IsAfIfWhole};
@@ -39,6 +40,7 @@ pub(crate) fn convert_item<O: Sink, E: Sink>(
     ensures one { ConvertsOne result cutter.old first (item_of given.entry) progress.old progress.new
         (O.known out.old) (O.known out.new) (E.known err.old) (E.known err.new) }
     ensures carry { cutter.new ≡ cutter.old }
+    ensures cause { HasCause (O.known out.old) (O.known out.new) (result ≡ Err Halt.Write) }
 {
     match given {
         Out::Packet {
@@ -74,6 +76,7 @@ fn convert_packet<O: Sink, E: Sink>(
     ensures one { ConvertsPacket result cutter.old first index bytes.now progress.old progress.new
         (O.known out.old) (O.known out.new) (E.known err.old) (E.known err.new) }
     ensures carry { cutter.new ≡ cutter.old }
+    ensures cause { HasCause (O.known out.old) (O.known out.new) (result ≡ Err Halt.Write) }
 {
     if let Some(fault) = fault_of(bytes, whole) {
         let fault = BadFault::Af(fault);

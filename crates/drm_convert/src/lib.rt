@@ -2,6 +2,7 @@
 #![tactic(auto)]
 
 mod cutter;
+mod draining;
 mod item;
 mod naming;
 
