@@ -405,3 +405,19 @@ read_none before reader is =
 
 pub not_stopped : (result : Result Bool CaptureStop) (found : Bool) → result ≡ Ok found → result ≡ Err stops.TooLong → ⊥
 not_stopped result found is other = let clash : Ok found ≡ Err stops.TooLong = sym is ∙ other in cc
+
+pub at_begin : (terms : Terms) (carry : Carry) (c : State) (p : Progress) (a x : Known Output) → c ≡ made terms.window terms.first → p ≡ new_progress → 1 ≤ terms.window → IfSome terms.told (λ n. 1 ≤ n) → Reaches terms carry [] c p a a x x
+at_begin terms carry c p a x is new window some =
+    subst (λ (v : Progress). Reaches terms carry [] c v a a x x) (sym new) (at_start terms carry c a x is window some)
+
+pub drained_under : (told : Option ℕ) (carry used : Carry) (c d : State) (p q : Progress) (a b x y : Known Output) → used ≡ carry → Drained told used c d p q a b x y → Drained told carry c d p q a b x y
+drained_under told carry used c d p q a b x y same drained = subst (λ (k : Carry). Drained told k c d p q a b x y) same drained
+
+pub halts_under : (why : Halt) (carry used : Carry) (c : State) (p q : Progress) (a b x y : Known Output) → used ≡ carry → Halts why used c p q a b x y → Halts why carry c p q a b x y
+halts_under why carry used c p q a b x y same h = subst (λ (k : Carry). Halts why k c p q a b x y) same h
+
+pub drained_finished : (told : Option ℕ) (carry : Carry) (c e d : State) (p q : Progress) (a b x y : Known Output) → e ≡ after_finish c told → Drained told carry e d p q a b x y → Drained told carry (after_finish c told) d p q a b x y
+drained_finished told carry c e d p q a b x y is drained = subst (λ (s : State). Drained told carry s d p q a b x y) is drained
+
+pub halts_finished : (why : Halt) (told : Option ℕ) (carry : Carry) (c e : State) (p q : Progress) (a b x y : Known Output) → e ≡ after_finish c told → Halts why carry e p q a b x y → Halts why carry (after_finish c told) p q a b x y
+halts_finished why told carry c e p q a b x y is h = subst (λ (s : State). Halts why carry s p q a b x y) is h

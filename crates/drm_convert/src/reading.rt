@@ -1,8 +1,11 @@
 //! The packets of an input, converted.
 
-ghost use Rattle.std.specs.Prelude.{◌≡◌, ◌≤◌, ◌<◌, None, Err, IfSome};
+ghost use Rattle.std.specs.Prelude.{◌≡◌, ◌≤◌, ◌<◌, false, None, Err, IfSome};
 ghost use Rattle.drm_links.specs.Told.{HasCause};
-ghost use Rattle.dcp_collect.specs.State.{made};
+ghost use Rattle.dcp_collect.specs.declared.taken.Taken.{Taken};
+ghost use Rattle.dcp_collect.specs.State.{made, ready as is_ready};
+ghost use Rattle.dcp_collect.specs.Runs.{Takes};
+ghost use Rattle.collect_laws.specs.Laws.{IsFit};
 ghost use Rattle.drm_capture.specs.Walking.{new_walker};
 ghost use Rattle.drm_capture.specs.declared.packets.CaptureStop.{CaptureStop};
 ghost use Rattle.drm_convert.specs.declared.item.Halt.{Halt};
@@ -72,7 +75,7 @@ pub(crate) fn convert_packets<I: Source, O: Sink, E: Sink>(
 {
     'packets: while packets.find(input)? {
         let packet = packets.next();
-        let _ = collector.take(packet.bytes);
+        take(collector, packet.bytes);
         drain(collector, cutter, told, progress, out, err)?;
         if is_full(progress.given, told) {
             return Ok(());
@@ -81,4 +84,15 @@ pub(crate) fn convert_packets<I: Source, O: Sink, E: Sink>(
     collector.finish(told);
     drain(collector, cutter, told, progress, out, err)?;
     Ok(())
+}
+
+// Takes a packet as a datagram. What is kept of it is bytes.
+fn take(collector: &mut Collector, packet: &[u8])
+    requires none_ready { is_ready collector.old ≡ false }
+    requires unfinished { collector.old.end ≡ None }
+    requires fit { IsFit collector.old }
+    ensures takes { (answer : Taken) × Takes collector.old packet.now answer collector.new }
+    ensures fit { IsFit collector.new }
+{
+    let _ = collector.take(packet);
 }
