@@ -94,7 +94,7 @@ returns-in-Show g c =
 
 pub returns-in-Exercise : goal.returns-in-Exercise
 returns-in-Exercise g c =
-    let run = c.exercise.ensures in
+    let run = c.exercise.ensures.run in
     record {
       words = λ e. not_else faults.Words (λ is. cc) (λ is. cc) (run.kind faults.Words e);
       memory = λ e. (refl, run.untouched e);
