@@ -1,0 +1,39 @@
+-- What becomes of a delivery of a schedule, where each frame is in time.
+use Rattle.std.specs.Prelude.{ℕ, pos, ◌≡◌, ◌<◌, ◌≤◌, ◌%◌, ◌^◌, ◌⊎◌, List, [], Option, None, Some}
+use Rattle.dcp_pft.specs.declared.carry.Carry.{Carry}
+use Rattle.drm_schedule.specs.declared.plan.Plan.{Plan}
+use Rattle.drm_schedule.specs.Valid.{IsSchedule}
+use Rattle.drm_timeline.specs.Numbers.{frame_count}
+use Rattle.drm_server.specs.Capture.{IsCapture}
+use Rattle.dcp_collect.specs.declared.taken.Taken.{Taken}
+use Rattle.dcp_collect.specs.Runs.{Item, Run}
+use Rattle.mod_delivery.specs.Sent.{Arrival, pairs_in, IsFollowed, IsInTime}
+use Rattle.drm_convert.specs.Converting.{Part, ConvertsAll, text_of, lines_of}
+
+-- the schedule with this carry in place of its own
+abbrev pub under : Carry → Plan → Plan
+under carry plan = record plan { carry = carry }
+
+-- A delivery of a valid schedule from its first frame on, with any strays in it, in which each frame is in time.
+pub record AllInTime (plan : Plan) (window : ℕ) (first : Option ℕ) (arrivals : List Arrival) (datagrams : List (List ℕ)) : Type 0 where
+  pub schedule : IsSchedule plan
+  pub some : 1 ≤ window
+  pub followed : IsFollowed plan first (pos 0) arrivals datagrams
+  pub in_time : (q : ℕ) → q < frame_count plan → IsInTime plan window (pos 0) (pairs_in arrivals) q
+
+-- the number of the schedule's frames is told, or no number is
+abbrev pub MayBeTold : Plan → Option ℕ → Type 0
+MayBeTold plan told = (told ≡ None) ⊎ (told ≡ Some (frame_count plan))
+
+-- a number that has the sequence number of the schedule's first packet
+abbrev pub IsFirstOf : Plan → ℕ → Type 0
+IsFirstOf plan n = n % 2 ^ 16 ≡ plan.seq % 2 ^ 16
+
+-- What is written of such a delivery is the schedule's capture under the new carry, and nothing is named.
+abbrev pub Converting : Type 0
+Converting =
+    (plan : Plan) (carry : Carry) (window n : ℕ) (first told : Option ℕ) (arrivals : List Arrival) (datagrams : List (List ℕ))
+    (answers : List Taken) (items : List Item) (parts : List Part)
+    → AllInTime plan window first arrivals datagrams → MayBeTold plan told → Run window first told datagrams answers items
+    → IsFirstOf plan n → ConvertsAll carry n items parts
+    → IsCapture (under carry plan) (text_of parts) × (lines_of parts ≡ [])

@@ -1,0 +1,7 @@
+//! The law of the conversion: what becomes of a delivery of a schedule is the schedule's capture under another carry. No code
+//! is here that runs.
+#![tactic(auto)]
+
+mod laws;
+
+pub use laws::conversions_are_captures;
