@@ -13,21 +13,20 @@ use Rattle.dcp_collect.specs.Numbers.{newer, end_of}
 use Rattle.dcp_collect.specs.State.{State, made, after_finish}
 use Rattle.dcp_collect.specs.Runs.{Item, Packet, Gives, Steps, Run, up_to}
 use Rattle.collect_laws.specs.Delivery.{number, newer_number, newest_of, packet_at, got, item, items}
-use Rattle.collect_laws.specs.Laws.{IsHeard, Collecting, InTime, GivingEnds}
+use Rattle.collect_laws.specs.Laws.{Collecting, InTime, IsFit, GivingEnds, OneRun}
 use Rattle.drm_schedule.specs.declared.plan.Plan.{Plan}
 use Rattle.drm_schedule.specs.Valid.{IsSchedule}
 use Rattle.drm_timeline.specs.Numbers.{frame_count}
 use Rattle.drm_server.specs.Frames.{IsPacketAt}
+use Rattle.mod_delivery.specs.Laws.{AllAtOnce}
 use Rattle.mod_delivery.specs.Sent.{Arrival, shape_at, pairs_in, AreSent, IsInTime}
-use Rattle.mod_delivery.proofs.AllAtOnce.{pairs_all}
 use Rattle.mod_delivery.proofs.Delivered.{none_got}
 use Rattle.mod_delivery.proofs.Lengths.{packet_long}
 use Rattle.mod_delivery.proofs.Needed.{some_got}
 use Rattle.mod_delivery.proofs.Numbering.{frame_is}
-use Rattle.mod_delivery.proofs.Packets.{IsChosen, ArePackets, some_packets, all_sent, delivered}
-use Rattle.mod_delivery.proofs.Paired.{IsPaired}
-use Rattle.mod_delivery.proofs.Strays.{others_of, with_strays}
+use Rattle.mod_delivery.proofs.Packets.{IsChosen, ArePackets, all_sent}
 use Rattle.convert_laws.specs.Laws.{AllInTime, MayBeTold}
+use Rattle.convert_laws.proofs.Hearing.{Hears, hears}
 use Rattle.convert_laws.proofs.Packets.{IsPacketOf, AreFrom, from_each}
 
 -- ---- no number is beyond the schedule
@@ -90,6 +89,7 @@ pub record IsCollected (plan : Plan) (window : ℕ) (first : Option ℕ) (datagr
   pub answers : List Taken
   pub given : List Item
   pub mid : State
+  pub fit : IsFit mid
   pub steps : Steps (made window first) datagrams answers given mid
   pub enough : frame_count plan ≤ length given
   pub all : (told : Option ℕ) (rest : List Item) (after : State) → MayBeTold plan told → Gives (after_finish mid told) rest after → AreAll plan (up_to told (given ++ rest))
@@ -102,45 +102,33 @@ many_of plan told newest given rest (inl unknown) enough low law =
     let all : length (given ++ rest) ≡ end_of None newest = subst (λ (o : Option ℕ). length (up_to o (given ++ rest)) ≡ end_of o newest) unknown law in
     ap (λ (o : Option ℕ). end_of o newest) unknown ∙ omega (arith, all, low, enough, length-append given rest)
 
-module _ (collecting : Collecting) (giving_ends : GivingEnds) (in_time : InTime) where
-  -- of a run over the datagrams that aren't strays
-  all_of : (plan : Plan) (window : ℕ) (first told : Option ℕ) (pairs : List (ℕ × ℕ)) (others : List (List ℕ)) (answers : List Taken) (given rest : List Item) (mid after : State)
-      → IsSchedule plan → 1 ≤ window → IsPaired plan first (pos 0) pairs others → ((q : ℕ) → q < frame_count plan → IsInTime plan window (pos 0) pairs q)
-      → Steps (made window first) others answers given mid → frame_count plan ≤ length given → MayBeTold plan told → Gives (after_finish mid told) rest after
-      → AreAll plan (up_to told (given ++ rest))
-  all_of plan window first told pairs others answers given rest mid after is some paired times steps enough may gives =
-      let (packets, are) = some_packets plan pairs others paired.sent in
-      let heard : IsHeard plan.carry plan.seq packets first (pos 0) pairs others = record {
-        sent = all_sent plan is pairs packets are;
-        delivered = delivered plan is pairs packets are others paired.sent;
-        based = paired.based;
-        within_span = paired.within_span;
-      } in
-      let run : Run window first told others answers (up_to told (given ++ rest)) =
-      record { during = given; rest = rest; mid = mid; after = after; steps = steps; gives = gives; are = refl } in
-      let law = (collecting plan.carry plan.seq window packets first told (pos 0) pairs others answers (up_to told (given ++ rest)) some heard run).0 in
-      let of : ℕ → Item = item plan.carry packets window (pos 0) pairs in
-      let newest : Option ℕ = newest_of (pos 0) None pairs in
-      let long : length (up_to told (given ++ rest)) ≡ end_of told newest = ap length law ∙ length-map-range_with_len of 0 (end_of told newest) in
-      let many : end_of told newest ≡ frame_count plan = many_of plan told newest given rest may enough (newest_end plan None pairs others paired.sent (omega arith)) long in
-      let each : (q : ℕ) → q < 0 + frame_count plan → IsPacketOf plan q (of q) = λ q within. item_of in_time plan window pairs packets is are q (times q (omega (arith, within))) in
-      let same : map of (range_with_len 0 (frame_count plan)) ≡ up_to told (given ++ rest) = ap (λ k. map of (range_with_len 0 k)) (sym many) ∙ sym law in
-      record { many = long ∙ many; are = subst (AreFrom plan 0) same (from_each plan of 0 (frame_count plan) each) }
+all_packets : InTime → (plan : Plan) (window : ℕ) (pairs : List (ℕ × ℕ)) (told : Option ℕ) (packets others : List (List ℕ)) (given rest : List Item)
+    → IsSchedule plan → ArePackets plan pairs packets → AreSent plan pairs others → ((q : ℕ) → q < frame_count plan → IsInTime plan window (pos 0) pairs q)
+    → frame_count plan ≤ length given → MayBeTold plan told → up_to told (given ++ rest) ≡ items plan.carry packets window (pos 0) told pairs → AreAll plan (up_to told (given ++ rest))
+all_packets in_time plan window pairs told packets others given rest is are sent times enough may law =
+    let of : ℕ → Item = item plan.carry packets window (pos 0) pairs in
+    let newest : Option ℕ = newest_of (pos 0) None pairs in
+    let long : length (up_to told (given ++ rest)) ≡ end_of told newest = ap length law ∙ length-map-range_with_len of 0 (end_of told newest) in
+    let many : end_of told newest ≡ frame_count plan = many_of plan told newest given rest may enough (newest_end plan None pairs others sent (omega arith)) long in
+    let each : (q : ℕ) → q < 0 + frame_count plan → IsPacketOf plan q (of q) = λ q within. item_of in_time plan window pairs packets is are q (times q (omega (arith, within))) in
+    let same : map of (range_with_len 0 (frame_count plan)) ≡ up_to told (given ++ rest) = ap (λ k. map of (range_with_len 0 k)) (sym many) ∙ sym law in
+    record { many = long ∙ many; are = subst (AreFrom plan 0) same (from_each plan of 0 (frame_count plan) each) }
 
+module _ (collecting : Collecting) (giving_ends : GivingEnds) (in_time : InTime) (one_run : OneRun) (at_once : AllAtOnce) where
   pub collected : (plan : Plan) (window : ℕ) (first : Option ℕ) (arrivals : List Arrival) (datagrams : List (List ℕ)) → AllInTime plan window first arrivals datagrams
       → IsCollected plan window first datagrams
   collected plan window first arrivals datagrams whole =
       let pairs : List (ℕ × ℕ) = pairs_in arrivals in
-      let (others, sent) = others_of plan arrivals datagrams whole.followed.arrive in
-      let paired : IsPaired plan first (pos 0) pairs others = record { sent = sent; based = whole.followed.based; within_span = whole.followed.within_span } in
-      let (replies, given, mid, steps, enough) = pairs_all collecting giving_ends plan window first pairs others whole.schedule whole.some paired whole.in_time in
-      let (answers, again) = with_strays plan (made window first) mid arrivals datagrams replies given whole.followed.arrive refl steps in
+      let h : Hears plan window first (pos 0) pairs datagrams = hears collecting giving_ends plan window first (pos 0) arrivals datagrams whole.schedule whole.some whole.followed in
+      let (answers, given, mid, steps, enough) = at_once plan window first arrivals datagrams whole.schedule whole.followed whole.in_time in
+      let same : h.given ≡ given = (one_run (made window first) mid h.mid datagrams answers h.answers given h.given steps h.steps).1 in
+      let all_of : frame_count plan ≤ length h.given = omega (arith, enough, ap length same) in
       record {
-        answers = answers;
-        given = given;
-        mid = mid;
-        steps = again;
-        enough = enough;
-        all = λ told rest after may gives.
-            all_of plan window first told pairs others replies given rest mid after whole.schedule whole.some paired whole.in_time steps enough may gives;
+        answers = h.answers;
+        given = h.given;
+        mid = h.mid;
+        fit = h.fit;
+        steps = h.steps;
+        enough = all_of;
+        all = λ told rest after may gives. all_packets in_time plan window pairs told h.packets h.others h.given rest whole.schedule h.are h.sent whole.in_time all_of may (h.law told rest after gives);
       }

@@ -1,5 +1,5 @@
 -- What becomes of a delivery of a schedule, where each frame is in time.
-use Rattle.std.specs.Prelude.{ℕ, pos, ◌≡◌, ◌<◌, ◌≤◌, ◌%◌, ◌^◌, ◌⊎◌, List, [], Option, None, Some}
+use Rattle.std.specs.Prelude.{ℕ, pos, ◌≡◌, ◌<◌, ◌≤◌, ◌%◌, ◌^◌, ◌⊎◌, List, [], ◌++◌, length, Option, None, Some}
 use Rattle.dcp_pft.specs.declared.carry.Carry.{Carry}
 use Rattle.drm_schedule.specs.declared.plan.Plan.{Plan}
 use Rattle.drm_schedule.specs.Valid.{IsSchedule}
@@ -29,11 +29,23 @@ MayBeTold plan told = (told ≡ None) ⊎ (told ≡ Some (frame_count plan))
 abbrev pub IsFirstOf : Plan → ℕ → Type 0
 IsFirstOf plan n = n % 2 ^ 16 ≡ plan.seq % 2 ^ 16
 
--- What is written of such a delivery is the schedule's capture under the new carry, and nothing is named.
+-- They are written as the schedule's capture under this carry, and no line names any of them.
+abbrev pub IsItsCapture : Plan → Carry → List Part → Type 0
+IsItsCapture plan carry parts = IsCapture (under carry plan) (text_of parts) × (lines_of parts ≡ [])
+
+-- What a collector gives of such a delivery becomes the schedule's capture under the new carry.
 abbrev pub Converting : Type 0
 Converting =
     (plan : Plan) (carry : Carry) (window n : ℕ) (first told : Option ℕ) (arrivals : List Arrival) (datagrams : List (List ℕ))
     (answers : List Taken) (items : List Item) (parts : List Part)
     → AllInTime plan window first arrivals datagrams → MayBeTold plan told → Run window first told datagrams answers items
-    → IsFirstOf plan n → ConvertsAll carry n items parts
-    → IsCapture (under carry plan) (text_of parts) × (lines_of parts ≡ [])
+    → IsFirstOf plan n → ConvertsAll carry n items parts → IsItsCapture plan carry parts
+
+-- The same where a reading ends as soon as all frames were given, whatever of the delivery is still to come.
+abbrev pub ConvertingEarly : Type 0
+ConvertingEarly =
+    (plan : Plan) (carry : Carry) (window n : ℕ) (first : Option ℕ) (arrivals : List Arrival) (datagrams later : List (List ℕ))
+    (answers : List Taken) (items : List Item) (parts : List Part)
+    → AllInTime plan window first arrivals (datagrams ++ later) → (run : Run window first (Some (frame_count plan)) datagrams answers items)
+    → frame_count plan ≤ length run.during
+    → IsFirstOf plan n → ConvertsAll carry n items parts → IsItsCapture plan carry parts

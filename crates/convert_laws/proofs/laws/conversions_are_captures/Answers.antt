@@ -1,5 +1,11 @@
-use Rattle.convert_laws.proofs.Conversions.{converting}
+use Rattle.convert_laws.proofs.Delivery.{collected}
+use Rattle.convert_laws.proofs.Conversions.{Collects, converting, converting_early}
 use Rattle.convert_laws.proofs.laws.conversions_are_captures.Goals as goal
 
 pub returns : goal.returns
-returns c = converting c.collecting.ensures c.giving_ends.ensures c.in_time.ensures c.one_run.ensures
+returns c =
+    let collects : Collects = collected c.collecting.ensures c.giving_ends.ensures c.in_time.ensures c.one_run.ensures c.all_frames_are_given_at_once.ensures in
+    record {
+      whole = converting collects c.one_run.ensures;
+      early = converting_early collects c.giving_ends.ensures c.one_run.ensures c.steps_part.ensures;
+    }
