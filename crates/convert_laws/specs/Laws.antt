@@ -6,7 +6,8 @@ use Rattle.drm_schedule.specs.Valid.{IsSchedule}
 use Rattle.drm_timeline.specs.Numbers.{frame_count}
 use Rattle.drm_server.specs.Capture.{IsCapture}
 use Rattle.dcp_collect.specs.declared.taken.Taken.{Taken}
-use Rattle.dcp_collect.specs.Runs.{Item, Run}
+use Rattle.dcp_collect.specs.State.{State, made}
+use Rattle.dcp_collect.specs.Runs.{Item, Steps, Run}
 use Rattle.mod_delivery.specs.Sent.{Arrival, pairs_in, IsFollowed, IsInTime}
 use Rattle.drm_convert.specs.Converting.{Part, ConvertsAll, text_of, lines_of}
 
@@ -49,3 +50,23 @@ ConvertingEarly =
     → AllInTime plan window first arrivals (datagrams ++ later) → (run : Run window first (Some (frame_count plan)) datagrams answers items)
     → frame_count plan ≤ length run.during
     → IsFirstOf plan n → ConvertsAll carry n items parts → IsItsCapture plan carry parts
+
+-- the collector knows the sequence number that it counts from, and it is that of the schedule's first packet
+abbrev pub KnowsFirst : Plan → State → Type 0
+KnowsFirst plan c = (n : ℕ) × (c.first ≡ Some n) × IsFirstOf plan n
+
+-- So does each collector that has given anything of a delivery that starts with the schedule's first frame, whatever of it is
+-- still to come.
+abbrev pub FirstIsKnown : Type 0
+FirstIsKnown =
+    (plan : Plan) (window : ℕ) (first : Option ℕ) (arrivals : List Arrival) (datagrams later : List (List ℕ))
+    (answers : List Taken) (given : List Item) (mid : State)
+    → IsSchedule plan → IsFollowed plan first (pos 0) arrivals (datagrams ++ later)
+    → Steps (made window first) datagrams answers given mid → 1 ≤ length given → KnowsFirst plan mid
+
+-- Where each frame is in time, a collector gives all frames with the last datagram.
+abbrev pub FirstOfAll : Type 0
+FirstOfAll =
+    (plan : Plan) (window : ℕ) (first told : Option ℕ) (arrivals : List Arrival) (datagrams : List (List ℕ))
+    (answers : List Taken) (items : List Item)
+    → AllInTime plan window first arrivals datagrams → (run : Run window first told datagrams answers items) → KnowsFirst plan run.mid

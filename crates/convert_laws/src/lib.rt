@@ -4,4 +4,4 @@
 
 mod laws;
 
-pub use laws::conversions_are_captures;
+pub use laws::{conversions_are_captures, the_first_number_is_known};
