@@ -3,3 +3,5 @@ pub mod Converting
 pub mod Naming
 pub mod Steps
 pub mod Draining
+pub mod Run
+pub mod Reading
