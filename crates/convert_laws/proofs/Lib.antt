@@ -4,5 +4,7 @@ pub mod Packets
 pub mod Hearing
 pub mod Fronts
 pub mod Firsts
+pub mod Places
+pub mod Sizes
 pub mod Delivery
 pub mod Conversions

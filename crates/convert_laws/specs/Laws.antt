@@ -9,7 +9,8 @@ use Rattle.dcp_collect.specs.declared.taken.Taken.{Taken}
 use Rattle.dcp_collect.specs.State.{State, made}
 use Rattle.dcp_collect.specs.Runs.{Item, Steps, Run}
 use Rattle.mod_delivery.specs.Sent.{Arrival, pairs_in, IsFollowed, IsInTime}
-use Rattle.drm_convert.specs.Converting.{Part, ConvertsAll, text_of, lines_of}
+use Rattle.drm_convert.specs.Converting.{Part, ConvertsAll, IsTooLarge, text_of, lines_of}
+use Rattle.drm_convert.specs.Run.{Terms, ComesAt}
 
 -- the schedule with this carry in place of its own
 abbrev pub under : Carry → Plan → Plan
@@ -70,3 +71,11 @@ FirstOfAll =
     (plan : Plan) (window : ℕ) (first told : Option ℕ) (arrivals : List Arrival) (datagrams : List (List ℕ))
     (answers : List Taken) (items : List Item)
     → AllInTime plan window first arrivals datagrams → (run : Run window first told datagrams answers items) → KnowsFirst plan run.mid
+
+-- No packet that a conversion comes to, of whatever came of a schedule, is too large for the new carry.
+abbrev pub NoneIsTooLarge : Type 0
+NoneIsTooLarge =
+    (plan : Plan) (carry : Carry) (terms : Terms) (arrivals : List Arrival) (packets later : List (List ℕ)) (items : List Item)
+    (item : Item) (last : State) (number : ℕ)
+    → IsSchedule plan → 1 ≤ terms.window → IsFollowed plan terms.first (pos 0) arrivals (packets ++ later)
+    → ComesAt terms packets items item last → IsTooLarge carry item number → ⊥

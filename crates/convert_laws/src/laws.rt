@@ -1,8 +1,11 @@
 //! The laws of the conversion, each on a function that does nothing.
 
-ghost use Rattle.convert_laws.specs.Laws.{Converting, ConvertingEarly, FirstIsKnown, FirstOfAll};
+ghost use Rattle.convert_laws.specs.Laws.{Converting, ConvertingEarly, FirstIsKnown, FirstOfAll, NoneIsTooLarge};
 
-use collect_laws::{collecting, giving_ends, in_time, one_reading, one_run, refusing, steps_part};
+use collect_laws::{
+    collecting, giving_ends, in_time, one_giving, one_reading, one_run, refusing, steps_count,
+    steps_part,
+};
 use mod_delivery::all_frames_are_given_at_once;
 
 /// Where each frame of a schedule is in time, what a collector gives becomes the schedule's capture under the other carry.
@@ -27,4 +30,17 @@ pub fn the_first_number_is_known()
     refusing();
     one_run();
     all_frames_are_given_at_once();
+}
+
+/// No packet of a schedule is too large for a carry.
+pub fn none_is_too_large()
+    ensures { NoneIsTooLarge }
+{
+    collecting();
+    giving_ends();
+    one_reading();
+    one_giving();
+    one_run();
+    steps_part();
+    steps_count();
 }

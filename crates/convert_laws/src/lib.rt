@@ -4,4 +4,4 @@
 
 mod laws;
 
-pub use laws::{conversions_are_captures, the_first_number_is_known};
+pub use laws::{conversions_are_captures, none_is_too_large, the_first_number_is_known};
