@@ -1,18 +1,24 @@
 -- What is given of a delivery of a schedule becomes its capture under the other carry.
-use Rattle.std.proofs.Common.{ℕ, ◌≡◌, ◌+◌, ◌≤◌, inr, List, [], ◌++◌, length, take, Option, None, Some, refl, sym, ap, subst, ◌∙◌, arith, append_assoc}
-use Rattle.std.proofs.lemmas.List.{take-append-le}
+use Rattle.std.proofs.Common.{ℕ, ◌≡◌, ◌+◌, ◌≤◌, inr, List, [], ◌%◌, ◌^◌, inl, true, ◌++◌, length, take, Option, None, Some, refl, sym, ap, subst, ◌∙◌, arith, append_assoc}
+use Rattle.std.specs.Prelude.{unwrap_or}
+use Rattle.std.proofs.lemmas.Bool.{true≢false, leb-true}
+use Rattle.std.proofs.lemmas.List.{append-nil, take-append-le}
 use Rattle.dcp_pft.specs.declared.carry.Carry.{Carry}
 use Rattle.dcp_collect.specs.declared.taken.Taken.{Taken}
 use Rattle.dcp_collect.specs.State.{State, made, after_finish}
 use Rattle.dcp_collect.specs.Runs.{Item, Gives, Run, up_to}
-use Rattle.collect_laws.specs.Laws.{GivingEnds, OneRun, StepsPart}
+use Rattle.collect_laws.specs.Laws.{GivingEnds, OneReading, Refusing, OneRun, StepsPart}
 use Rattle.drm_schedule.specs.declared.plan.Plan.{Plan}
 use Rattle.drm_timeline.specs.Numbers.{frame_count}
 use Rattle.drm_server.specs.Datagrams.{AreOfFrames}
 use Rattle.drm_server.specs.Capture.{IsCapture}
+use Rattle.mod_delivery.specs.Laws.{AllAtOnce}
 use Rattle.mod_delivery.specs.Sent.{Arrival}
+use Rattle.drm_convert.specs.Draining.{is_full}
+use Rattle.drm_convert.specs.Run.{Terms, first_of}
 use Rattle.drm_convert.specs.Converting.{Part, ConvertsAll, text_of, lines_of}
-use Rattle.convert_laws.specs.Laws.{under, IsFirstOf, AllInTime, MayBeTold, IsItsCapture, Converting, ConvertingEarly}
+use Rattle.convert_laws.specs.Laws.{under, IsFirstOf, AllInTime, MayBeTold, IsItsCapture, Converting, ConvertingEarly, KnowsFirst, ConversionsAreCaptures}
+use Rattle.convert_laws.proofs.Firsts.{knows_first, first_of_all}
 use Rattle.convert_laws.proofs.Packets.{all_written}
 use Rattle.convert_laws.proofs.Delivery.{AreAll, IsCollected}
 
@@ -64,3 +70,52 @@ pub converting_early : Collects → GivingEnds → OneRun → StepsPart → Conv
 converting_early collects giving_ends one_run steps_part plan carry window n first arrivals datagrams later answers items parts whole run enough is converts =
     let c = collects plan window first arrivals (datagrams ++ later) whole in
     captured plan carry n items parts (front_gives giving_ends one_run steps_part plan window first datagrams later answers items c run enough) is converts
+
+-- ---- by the terms of a conversion
+
+-- with the told number known
+run_as : (window : ℕ) (first told : Option ℕ) (n : ℕ) (packets : List (List ℕ)) (taken : List Taken) (items : List Item) → told ≡ Some n
+    → (run : Run window first told packets taken items) → (as_told : Run window first (Some n) packets taken items) × (as_told.during ≡ run.during)
+run_as window first told n packets taken items known run = (
+  record {
+    during = run.during;
+    rest = run.rest;
+    mid = run.mid;
+    after = run.after;
+    steps = run.steps;
+    gives = subst (λ o. Gives (after_finish run.mid o) run.rest run.after) known run.gives;
+    are = run.are ∙ ap (λ o. up_to o (run.during ++ run.rest)) known;
+  },
+  refl,
+)
+
+-- enough are as many as the schedule has frames
+enough_of : (plan : Plan) (told : Option ℕ) (n : ℕ) → MayBeTold plan told → is_full told n ≡ true → (told ≡ Some (frame_count plan)) × (frame_count plan ≤ n)
+enough_of plan None n may full = absurd (true≢false (sym full))
+enough_of plan (Some m) n (inl unknown) full = absurd (let clash : Some m ≡ None = unknown in cc)
+enough_of plan (Some m) n (inr known) full =
+    let same : m ≡ frame_count plan = (let e : Some m ≡ Some (frame_count plan) = known in cc) in
+    let low : m ≤ n = leb-true m n full in
+    (known, omega (arith, same, low))
+
+-- the number that parts are counted from
+counted_from : (plan : Plan) (c : State) → KnowsFirst plan c → IsFirstOf plan (first_of c)
+counted_from plan c (n, known, is) = ap (λ o. unwrap_or o 0 % 2 ^ 16) known ∙ is
+
+pub conversions : Collects → GivingEnds → OneReading → Refusing → OneRun → StepsPart → AllAtOnce → ConversionsAreCaptures
+conversions collects giving_ends one_reading refusing one_run steps_part at_once plan carry terms arrivals packets later parts whole may (inl none) is =
+    let same : packets ++ later ≡ packets = ap (λ l. packets ++ l) none ∙ append-nil packets in
+    let all : AllInTime plan terms.window terms.first arrivals packets = subst (λ l. AllInTime plan terms.window terms.first arrivals l) same whole in
+    let first = first_of_all one_reading refusing one_run at_once plan terms.window terms.first terms.told arrivals packets is.taken is.items all is.run in
+    converting collects one_run plan carry terms.window (first_of is.run.mid) terms.first terms.told arrivals packets is.taken is.items parts all may is.run
+    (counted_from plan is.run.mid first) is.converts
+conversions collects giving_ends one_reading refusing one_run steps_part at_once plan carry terms arrivals packets later parts whole may (inr (taken, items, end, steps, full)) is =
+    let (known, enough) = enough_of plan terms.told (length items) may full in
+    let (run, during) = run_as terms.window terms.first terms.told (frame_count plan) packets is.taken is.items known is.run in
+    let same : items ≡ is.run.during = (one_run (made terms.window terms.first) is.run.mid end packets is.taken taken is.run.during items is.run.steps steps).1 in
+    let least = whole.schedule.in_lines.some_frames in
+    let all : frame_count plan ≤ length run.during = omega (arith, enough, ap length same, ap length during) in
+    let some : 1 ≤ length is.run.during = omega (arith, least, enough, ap length same) in
+    let first = knows_first one_reading refusing plan whole.schedule terms.window terms.first arrivals packets later is.taken is.run.during is.run.mid whole.followed is.run.steps some in
+    converting_early collects giving_ends one_run steps_part plan carry terms.window (first_of is.run.mid) terms.first arrivals packets later is.taken is.items parts whole run all
+    (counted_from plan is.run.mid first) is.converts

@@ -1,5 +1,5 @@
 -- What becomes of a delivery of a schedule, where each frame is in time.
-use Rattle.std.specs.Prelude.{ℕ, pos, ◌≡◌, ◌<◌, ◌≤◌, ◌%◌, ◌^◌, ◌⊎◌, List, [], ◌++◌, length, Option, None, Some}
+use Rattle.std.specs.Prelude.{ℕ, pos, ◌≡◌, ◌<◌, ◌≤◌, ◌%◌, ◌^◌, ◌⊎◌, Bool, true, List, [], ◌++◌, length, Option, None, Some, Result, Ok, Err}
 use Rattle.dcp_pft.specs.declared.carry.Carry.{Carry}
 use Rattle.drm_schedule.specs.declared.plan.Plan.{Plan}
 use Rattle.drm_schedule.specs.Valid.{IsSchedule}
@@ -10,7 +10,13 @@ use Rattle.dcp_collect.specs.State.{State, made}
 use Rattle.dcp_collect.specs.Runs.{Item, Steps, Run}
 use Rattle.mod_delivery.specs.Sent.{Arrival, pairs_in, IsFollowed, IsInTime}
 use Rattle.drm_convert.specs.Converting.{Part, ConvertsAll, IsTooLarge, text_of, lines_of}
-use Rattle.drm_convert.specs.Run.{Terms, ComesAt}
+use Rattle.drm_links.specs.Told.{Known}
+use Rattle.drm_links.specs.Source.{Input}
+use Rattle.drm_links.specs.Sink.{Output, Outputs}
+use Rattle.drm_capture.specs.Capture.{IsCaptureOf, End}
+use Rattle.drm_faults.specs.declared.fault.Fault.{Fault}
+use Rattle.drm_faults.specs.declared.fault.Fault.TheVariants as faults
+use Rattle.drm_convert.specs.Run.{Terms, HasEnough, IsConversion, ComesAt, Ends}
 
 -- the schedule with this carry in place of its own
 abbrev pub under : Carry → Plan → Plan
@@ -79,3 +85,36 @@ NoneIsTooLarge =
     (item : Item) (last : State) (number : ℕ)
     → IsSchedule plan → 1 ≤ terms.window → IsFollowed plan terms.first (pos 0) arrivals (packets ++ later)
     → ComesAt terms packets items item last → IsTooLarge carry item number → ⊥
+
+-- What a conversion makes of the packets of such a delivery is the schedule's capture under the new carry, whether it reads them
+-- all or stops where it has enough.
+abbrev pub ConversionsAreCaptures : Type 0
+ConversionsAreCaptures =
+    (plan : Plan) (carry : Carry) (terms : Terms) (arrivals : List Arrival) (packets later : List (List ℕ)) (parts : List Part)
+    → AllInTime plan terms.window terms.first arrivals (packets ++ later) → MayBeTold plan terms.told
+    → (later ≡ []) ⊎ HasEnough terms packets → IsConversion terms carry packets parts → IsItsCapture plan carry parts
+
+-- These bytes are a capture of a schedule in which each frame is in time.
+pub record HasSchedule (plan : Plan) (terms : Terms) (bytes : List ℕ) : Type 0 where
+  pub arrivals : List Arrival
+  pub packets : List (List ℕ)
+  pub capture : IsCaptureOf bytes packets End
+  pub in_time : AllInTime plan terms.window terms.first arrivals packets
+
+-- The schedule's capture under the new carry was written, and nothing was named, unless something of the outside failed or
+-- memory was wanting.
+abbrev pub EndsWell : Plan → Carry → Result Bool Fault → Known Output → Known Output → Known Output → Known Output → Type 0
+EndsWell plan carry (Ok clean) out out' err err' =
+    (clean ≡ true) × Outputs out out' (IsCapture (under carry plan)) × Outputs err err' (λ text. text ≡ [])
+EndsWell plan carry (Err faults.Read) out out' err err' = Unit {0}
+EndsWell plan carry (Err faults.Write) out out' err err' = Unit {0}
+EndsWell plan carry (Err faults.NoMemory) out out' err err' = Unit {0}
+EndsWell plan carry (Err fault) out out' err err' = ⊥
+
+-- So ends a run of `convert` over such a capture, where all that was read of the input is told.
+abbrev pub CapturesAreConverted : Type 0
+CapturesAreConverted =
+    (plan : Plan) (carry : Carry) (terms : Terms) (ending : Result Bool Fault) (told : Bool) (before after : Known Input)
+    (out out' err err' : Known Output) (input rest : Input)
+    → before.told ≡ Some input → after.told ≡ Some rest → HasSchedule plan terms input.left → MayBeTold plan terms.told
+    → Ends terms carry ending told before after out out' err err' → EndsWell plan carry ending out out' err err'

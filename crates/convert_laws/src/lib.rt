@@ -4,4 +4,6 @@
 
 mod laws;
 
-pub use laws::{conversions_are_captures, none_is_too_large, the_first_number_is_known};
+pub use laws::{
+    captures_are_converted, conversions_are_captures, none_is_too_large, the_first_number_is_known,
+};

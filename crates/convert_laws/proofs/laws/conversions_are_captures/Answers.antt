@@ -1,5 +1,5 @@
 use Rattle.convert_laws.proofs.Delivery.{collected}
-use Rattle.convert_laws.proofs.Conversions.{Collects, converting, converting_early}
+use Rattle.convert_laws.proofs.Conversions.{Collects, converting, converting_early, conversions}
 use Rattle.convert_laws.proofs.laws.conversions_are_captures.Goals as goal
 
 pub returns : goal.returns
@@ -8,4 +8,7 @@ returns c =
     record {
       whole = converting collects c.one_run.ensures;
       early = converting_early collects c.giving_ends.ensures c.one_run.ensures c.steps_part.ensures;
+      terms =
+          conversions collects c.giving_ends.ensures c.one_reading.ensures c.refusing.ensures c.one_run.ensures c.steps_part.ensures
+          c.all_frames_are_given_at_once.ensures;
     }
