@@ -1,25 +1,24 @@
 -- What is given of a delivery of a schedule becomes its capture under the other carry.
-use Rattle.std.proofs.Common.{ℕ, ◌≡◌, ◌+◌, ◌≤◌, inr, List, [], ◌%◌, ◌^◌, inl, true, ◌++◌, length, take, Option, None, Some, refl, sym, ap, subst, ◌∙◌, arith, append_assoc}
+use Rattle.std.proofs.Common.{ℕ, ◌≡◌, ◌+◌, ◌≤◌, inr, List, [], ◌∷◌, length-append, ◌%◌, ◌^◌, inl, true, ◌++◌, length, take, Option, None, Some, refl, sym, ap, subst, ◌∙◌, arith, append_assoc}
 use Rattle.std.specs.Prelude.{unwrap_or}
 use Rattle.std.proofs.lemmas.Bool.{true≢false, leb-true}
 use Rattle.std.proofs.lemmas.List.{append-nil, take-append-le}
 use Rattle.dcp_pft.specs.declared.carry.Carry.{Carry}
 use Rattle.dcp_collect.specs.declared.taken.Taken.{Taken}
 use Rattle.dcp_collect.specs.State.{State, made, after_finish}
-use Rattle.dcp_collect.specs.Runs.{Item, Gives, Run, up_to}
+use Rattle.dcp_collect.specs.Runs.{Item, Gives, Steps, Run, up_to}
 use Rattle.collect_laws.specs.Laws.{GivingEnds, OneReading, Refusing, OneRun, StepsPart}
 use Rattle.drm_schedule.specs.declared.plan.Plan.{Plan}
 use Rattle.drm_timeline.specs.Numbers.{frame_count}
 use Rattle.drm_server.specs.Datagrams.{AreOfFrames}
-use Rattle.drm_server.specs.Capture.{IsCapture}
 use Rattle.mod_delivery.specs.Laws.{AllAtOnce}
 use Rattle.mod_delivery.specs.Sent.{Arrival}
 use Rattle.drm_convert.specs.Draining.{is_full}
-use Rattle.drm_convert.specs.Run.{Terms, first_of}
+use Rattle.drm_convert.specs.Run.{first_of}
 use Rattle.drm_convert.specs.Converting.{Part, ConvertsAll, text_of, lines_of}
-use Rattle.convert_laws.specs.Laws.{under, IsFirstOf, AllInTime, MayBeTold, IsItsCapture, Converting, ConvertingEarly, KnowsFirst, ConversionsAreCaptures}
+use Rattle.convert_laws.specs.Laws.{under, IsFirstOf, AllInTime, MayBeTold, IsItsCapture, Converting, ConvertingEarly, KnowsFirst, ConversionsAreCaptures, IsOfFirstFrames, BrokenConversions}
 use Rattle.convert_laws.proofs.Firsts.{knows_first, first_of_all}
-use Rattle.convert_laws.proofs.Packets.{all_written}
+use Rattle.convert_laws.proofs.Packets.{AreFrom, all_written}
 use Rattle.convert_laws.proofs.Delivery.{AreAll, IsCollected}
 
 captured : (plan : Plan) (carry : Carry) (n : ℕ) (items : List Item) (parts : List Part) → AreAll plan items → IsFirstOf plan n → ConvertsAll carry n items parts
@@ -119,3 +118,51 @@ conversions collects giving_ends one_reading refusing one_run steps_part at_once
     let first = knows_first one_reading refusing plan whole.schedule terms.window terms.first arrivals packets later is.taken is.run.during is.run.mid whole.followed is.run.steps some in
     converting_early collects giving_ends one_run steps_part plan carry terms.window (first_of is.run.mid) terms.first arrivals packets later is.taken is.items parts whole run all
     (counted_from plan is.run.mid first) is.converts
+
+-- ---- of a front
+
+-- the first ones of them are packets of the first frames
+first_of_all_packets : (plan : Plan) (t : ℕ) (given more : List Item) → AreFrom plan t (given ++ more) → AreFrom plan t given
+first_of_all_packets plan t [] more are = tt
+first_of_all_packets plan t (item ∷ given) more are = (are.0, first_of_all_packets plan (t + 1) given more are.1)
+
+-- what was given of a front are packets of some first frames
+front_packets : GivingEnds → OneRun → StepsPart → (plan : Plan) (window : ℕ) (first : Option ℕ) (packets later : List (List ℕ)) (answers : List Taken) (given : List Item) (mid : State)
+    → IsCollected plan window first (packets ++ later) → Steps (made window first) packets answers given mid → AreFrom plan 0 given × (length given ≤ frame_count plan)
+front_packets giving_ends one_run steps_part plan window first packets later answers given mid c steps =
+    let (between, replies, more, now, then_given, first_steps, steps_on, are_answers, are_given) = steps_part (made window first) c.mid packets later c.answers c.given c.steps in
+    let same : now ≡ given = (one_run (made window first) mid between packets answers replies given now steps first_steps).1 in
+    let (rest, after, gives) = giving_ends (after_finish c.mid None) c.fit.0 c.fit.1 in
+    let all : AreAll plan (c.given ++ rest) = c.all None rest after (inl refl) gives in
+    let parted : c.given ++ rest ≡ given ++ (then_given ++ rest) = ap (λ l. l ++ rest) (are_given ∙ ap (λ l. l ++ then_given) same) ∙ append_assoc given then_given rest in
+    let few : length (given ++ (then_given ++ rest)) ≡ frame_count plan = ap length (sym parted) ∙ all.many in (
+      first_of_all_packets plan 0 given (then_given ++ rest) (subst (AreFrom plan 0) parted all.are),
+      omega (arith, few, length-append given (then_given ++ rest)),
+    )
+
+-- nothing is written of nothing
+none_written : (plan : Plan) (carry : Carry) (n : ℕ) (parts : List Part) → ConvertsAll carry n [] parts → IsOfFirstFrames (under carry plan) (text_of parts) × (lines_of parts ≡ [])
+none_written plan carry n [] converts = ((0, [], omega arith, refl, refl), refl)
+none_written plan carry n (part ∷ parts) converts = absurd converts
+
+some_written : (plan : Plan) (carry : Carry) (n : ℕ) (items : List Item) (parts : List Part) → AreFrom plan 0 items → length items ≤ frame_count plan → IsFirstOf plan n → ConvertsAll carry n items parts
+    → IsOfFirstFrames (under carry plan) (text_of parts) × (lines_of parts ≡ [])
+some_written plan carry n items parts are few first converts =
+    let w = all_written plan carry n first 0 [] items parts are refl converts in
+    let count : 0 + length items ≡ length items = omega arith in
+    ((length items, w.datagrams, few, subst (λ k. AreOfFrames (under carry plan) k w.datagrams) count w.are, w.text), w.lines)
+
+pub broken_conversions : Collects → GivingEnds → OneReading → Refusing → OneRun → StepsPart → BrokenConversions
+broken_conversions collects giving_ends one_reading refusing one_run steps_part plan carry terms arrivals packets later parts whole is =
+    by is.items refl
+  where
+    c : IsCollected plan terms.window terms.first (packets ++ later)
+    c = collects plan terms.window terms.first arrivals (packets ++ later) whole
+
+    by : (items : List Item) → is.items ≡ items → IsOfFirstFrames (under carry plan) (text_of parts) × (lines_of parts ≡ [])
+    by [] none = none_written plan carry (first_of is.mid) parts (subst (λ l. ConvertsAll carry (first_of is.mid) l parts) none is.converts)
+    by (item ∷ items) some =
+        let (are, few) = front_packets giving_ends one_run steps_part plan terms.window terms.first packets later is.taken is.items is.mid c is.steps in
+        let long : length is.items ≡ length items + 1 = ap length some ∙ omega arith in
+        let known = knows_first one_reading refusing plan whole.schedule terms.window terms.first arrivals packets later is.taken is.items is.mid whole.followed is.steps (omega (arith, long)) in
+        some_written plan carry (first_of is.mid) is.items parts are few (counted_from plan is.mid known) is.converts

@@ -1,6 +1,6 @@
 -- What a collector gives of a delivery of a schedule in which each frame is in time: the packets of all its frames.
-use Rattle.std.proofs.Common.{ℕ, zero, suc, ◌≡◌, ◌+◌, ◌<◌, ◌≤◌, inl, inr, Bool, true, false, List, [], ◌∷◌, ◌++◌, length, map, slice_get, Option, None, Some, refl, sym, ap, subst, ◌∙◌, arith, length-append}
-use Rattle.std.specs.Prelude.{ℤ, pos, ◌+ℤ◌, max}
+use Rattle.std.proofs.Common.{ℕ, ◌≡◌, ◌+◌, ◌<◌, ◌≤◌, inl, inr, Bool, List, [], ◌∷◌, ◌++◌, length, map, slice_get, Option, None, Some, refl, sym, ap, subst, ◌∙◌, arith, length-append}
+use Rattle.std.specs.Prelude.{pos, ◌+ℤ◌}
 use Rattle.std.specs.List.{range_with_len}
 use Rattle.std.proofs.lemmas.Bool.{true≢false}
 use Rattle.std.proofs.lemmas.Int.{ints}
@@ -11,7 +11,7 @@ use Rattle.dcp_pft.specs.Loss.{size}
 use Rattle.dcp_collect.specs.declared.taken.Taken.{Taken}
 use Rattle.dcp_collect.specs.Numbers.{newer, end_of}
 use Rattle.dcp_collect.specs.State.{State, made, after_finish}
-use Rattle.dcp_collect.specs.Runs.{Item, Packet, Gives, Steps, Run, up_to}
+use Rattle.dcp_collect.specs.Runs.{Item, Gives, Steps, up_to}
 use Rattle.collect_laws.specs.Delivery.{number, newer_number, newest_of, packet_at, got, item, items}
 use Rattle.collect_laws.specs.Laws.{Collecting, InTime, IsFit, GivingEnds, OneRun}
 use Rattle.drm_schedule.specs.declared.plan.Plan.{Plan}

@@ -1,15 +1,15 @@
 -- The sequence number that a collector counts from is that of the schedule's first packet.
-use Rattle.std.proofs.Common.{ℕ, ◌≡◌, ◌+◌, ◌<◌, ◌≤◌, ◌%◌, ◌^◌, false, true, List, [], ◌∷◌, ◌++◌, length, take, Option, None, Some, refl, sym, ap, subst, ◌∙◌, arith}
-use Rattle.std.specs.Prelude.{ℤ, pos, negsuc}
+use Rattle.std.proofs.Common.{ℕ, ◌≡◌, ◌≤◌, false, List, [], ◌∷◌, ◌++◌, length, take, Option, None, Some, refl, sym, ap, subst, ◌∙◌, arith}
+use Rattle.std.specs.Prelude.{pos, negsuc}
 use Rattle.std.specs.List.{AllZip}
 use Rattle.std.proofs.lemmas.Bool.{true≢false}
 use Rattle.std.proofs.lemmas.Int.{ints}
 use Rattle.std.proofs.lemmas.List.{append-nil}
 use Rattle.dcp_collect.specs.declared.taken.Taken.{Taken}
-use Rattle.dcp_collect.specs.declared.taken.Taken.TheVariants.{Kept, Refused}
+use Rattle.dcp_collect.specs.declared.taken.Taken.TheVariants.{Kept}
 use Rattle.dcp_collect.specs.Reading.{Incoming, Read, Unread, Brings}
 use Rattle.dcp_collect.specs.State.{State, made, ready, number_of, answer, answer_at, after_answer, after_take, after_item}
-use Rattle.dcp_collect.specs.Runs.{Item, Takes, Gives, Steps, Run}
+use Rattle.dcp_collect.specs.Runs.{Item, Takes, Gives, Steps}
 use Rattle.collect_laws.specs.Delivery.{sequence_at, IsBase}
 use Rattle.collect_laws.specs.Laws.{OneReading, Refusing, OneRun}
 use Rattle.collect_laws.proofs.Based.{kept_first}

@@ -1,5 +1,5 @@
 -- A front of a delivery that a receiver can follow is one.
-use Rattle.std.proofs.Common.{ℕ, zero, suc, ◌≡◌, List, [], ◌∷◌, ◌++◌, length, take, Option, None, Some, refl}
+use Rattle.std.proofs.Common.{ℕ, zero, suc, List, [], ◌∷◌, ◌++◌, length, take, Option, None, Some, refl}
 use Rattle.std.specs.Prelude.{ℤ, pos}
 use Rattle.collect_laws.specs.Delivery.{number, newer_number, IsWithinSpan, IsBase}
 use Rattle.drm_schedule.specs.declared.plan.Plan.{Plan}

@@ -1,5 +1,5 @@
 -- Places in lists, and what a collector gives at one.
-use Rattle.std.proofs.Common.{ℕ, zero, suc, ◌≡◌, ◌+◌, ◌<◌, true, false, List, [], ◌∷◌, ◌++◌, length, take, slice_get, Option, None, Some, refl, sym, ap, subst, ◌∙◌, arith, append_assoc}
+use Rattle.std.proofs.Common.{ℕ, zero, suc, ◌≡◌, ◌+◌, ◌<◌, true, List, [], ◌∷◌, ◌++◌, length, take, slice_get, Some, refl, sym, ap, subst, ◌∙◌, arith, append_assoc}
 use Rattle.std.proofs.lemmas.Bool.{true≢false}
 use Rattle.dcp_collect.specs.declared.taken.Taken.{Taken}
 use Rattle.dcp_collect.specs.State.{State, ready, after_item}

@@ -1,29 +1,26 @@
 -- A run of `convert` over a capture of a schedule.
-use Rattle.std.proofs.Common.{ℕ, ◌≡◌, ◌⊎◌, inl, inr, Bool, true, List, [], ◌∷◌, ◌++◌, length, Option, None, Some, Result, Ok, Err, refl, sym, ap, subst, ◌∙◌, arith}
-use Rattle.std.specs.Prelude.{pos}
+use Rattle.std.proofs.Common.{ℕ, ◌≡◌, ◌⊎◌, inl, inr, true, List, [], ◌∷◌, ◌++◌, length, Option, Some, Ok, Err, refl, sym, ap, subst, ◌∙◌}
+use Rattle.std.specs.Prelude.{pos, All}
 use Rattle.std.specs.List.{concat}
 use Rattle.std.proofs.lemmas.List.{append-nil}
-use Rattle.dcp_pft.specs.declared.carry.Carry.{Carry}
 use Rattle.drm_links.specs.Told.{Known, ToldThrough}
 use Rattle.drm_links.specs.Source.{Input, Inputs, LeftBy}
-use Rattle.drm_links.specs.Sink.{Output, Outputs, IsFront}
+use Rattle.drm_links.specs.Sink.{IsFront}
 use Rattle.drm_links.proofs.ToldLemmas.{Outputs-weaker}
 use Rattle.drm_capture.specs.declared.fault.CaptureFault.{CaptureFault}
 use Rattle.drm_capture.specs.Capture as capture
 use Rattle.drm_capture.specs.Capture.{IsCaptureOf, End}
-use Rattle.drm_capture.specs.Walking.{WalkerState}
-use Rattle.drm_capture.specs.Reading.{HasRead}
+use Rattle.drm_capture.specs.Front.{IsWhole}
+use Rattle.drm_capture.specs.Reading.{Breaks}
 use Rattle.drm_capture.specs.Laws.{OneFront, FrontsStay, ReadOneWay}
-use Rattle.drm_schedule.specs.declared.plan.Plan.{Plan}
 use Rattle.drm_server.specs.Capture.{IsCapture}
 use Rattle.mod_delivery.specs.Sent.{IsFollowed}
-use Rattle.drm_faults.specs.declared.fault.Fault.{Fault}
 use Rattle.drm_faults.specs.declared.fault.Fault.TheVariants as faults
 use Rattle.drm_convert.specs.Converting.{Part, text_of, lines_of}
 use Rattle.drm_convert.specs.Steps.{has_none}
 use Rattle.drm_convert.specs.Draining.{are_clean}
-use Rattle.drm_convert.specs.Run.{Terms, HasEnough, AreRead, AreEnough, Ends}
-use Rattle.convert_laws.specs.Laws.{under, AllInTime, MayBeTold, NoneIsTooLarge, ConversionsAreCaptures, HasSchedule, EndsWell, CapturesAreConverted}
+use Rattle.drm_convert.specs.Run.{Terms, HasEnough, AreRead, AreEnough}
+use Rattle.convert_laws.specs.Laws.{under, AllInTime, NoneIsTooLarge, ConversionsAreCaptures, IsOfFirstFrames, BrokenConversions, CapturesAreConverted}
 use Rattle.convert_laws.proofs.ReadPackets.{Begin, begin}
 
 -- ---- what is told of an input
@@ -59,12 +56,11 @@ module _ (one_front : OneFront) (fronts_stay : FrontsStay) (one_way : ReadOneWay
   all_read : (read : List (List ℕ)) → IsCaptureOf bytes read End → packets ≡ read ++ []
   all_read read other = (one_way bytes packets read End End is other).0 ∙ sym (append-nil read)
 
-  front_read : (read : List (List ℕ)) (reader : WalkerState) (before after : Known Input) (rest : List ℕ) → HasRead read reader before after
-      → bytes ≡ concat read ++ (reader.held ++ rest) → Begin read packets
-  front_read read reader before after rest has same =
+  front_read : (read : List (List ℕ)) (more : List ℕ) → All IsWhole read → bytes ≡ concat read ++ more → Begin read packets
+  front_read read more those same =
       let left : capture.EndsWith (length bytes) (length (concat packets)) is.rest End = is.ends in
       let whole : bytes ≡ concat packets = is.is ∙ (ap (λ l. concat packets ++ l) left.0 ∙ append-nil (concat packets)) in
-      begin one_front fronts_stay read packets (reader.held ++ rest) has.whole is.whole (sym same ∙ whole)
+      begin one_front fronts_stay read packets more those is.whole (sym same ∙ whole)
 
   no_fault : (read : List (List ℕ)) (fault : CaptureFault) → IsCaptureOf bytes read (capture.Fault fault) → ⊥
   no_fault read fault other = let clash : End ≡ capture.Fault fault = (one_way bytes packets read End (capture.Fault fault) is other).1 in cc
@@ -76,7 +72,7 @@ module _ (one_front : OneFront) (fronts_stay : FrontsStay) (one_way : ReadOneWay
       → AreRead read before after → Begin read packets
   begin_read read before after input rest is_before is_after same (inl (reader, has)) =
       let at = told_of (λ left more. left ≡ concat read ++ (reader.held ++ more)) before after input rest is_before is_after has.bytes in
-      front_read read reader before after rest.left has (sym same ∙ at)
+      front_read read (reader.held ++ rest.left) has.whole (sym same ∙ at)
   begin_read read before after input rest is_before is_after same (inr all) =
       let at = told_of (λ left more. IsCaptureOf left read End) before after input rest is_before is_after all in
       ([], all_read read (subst (λ l. IsCaptureOf l read End) same at))
@@ -93,7 +89,7 @@ enough_read one_front fronts_stay one_way terms packets read before after input 
 
 -- ---- how the run ends
 
-module _ (one_front : OneFront) (fronts_stay : FrontsStay) (one_way : ReadOneWay) (conversions : ConversionsAreCaptures) (none_is_too_large : NoneIsTooLarge) where
+module _ (one_front : OneFront) (fronts_stay : FrontsStay) (one_way : ReadOneWay) (conversions : ConversionsAreCaptures) (broken : BrokenConversions) (none_is_too_large : NoneIsTooLarge) where
   pub captures_are_converted : CapturesAreConverted
   captures_are_converted plan carry terms (Ok clean) told before after out out' err err' input rest is_before is_after has may (read, enough, shorter, parts, conversion, text, names, clean_is) =
       let (later, same, all) = enough_read one_front fronts_stay one_way terms has.packets read before after input rest is_before is_after has.capture enough in
@@ -103,7 +99,14 @@ module _ (one_front : OneFront) (fronts_stay : FrontsStay) (one_way : ReadOneWay
         Outputs-weaker (λ t. t ≡ text_of parts) (IsCapture (under carry plan)) out out' text (λ t is. subst (IsCapture (under carry plan)) (sym is) captured),
         Outputs-weaker (IsFront (lines_of parts)) (λ t. t ≡ []) err err' names.front (λ t front. empty_front t (lines_of parts) none front),
       )
-  captures_are_converted plan carry terms (Err faults.Read) told before after out out' err err' input rest is_before is_after has may ends = tt
+  captures_are_converted plan carry terms (Err faults.Read) told before after out out' err err' input rest is_before is_after has may (read, whole, stops, lacks, shorter, parts, is, text, names) =
+      let (held, field, same, cut) = told_of (Breaks read) before after input rest is_before is_after stops in
+      let (later, begins) = front_read one_front fronts_stay one_way input.left has.packets has.capture read (held ++ rest.left) whole same in
+      let all : AllInTime plan terms.window terms.first has.arrivals (read ++ later) = subst (λ l. AllInTime plan terms.window terms.first has.arrivals l) begins has.in_time in
+      let (written, none) = broken plan carry terms has.arrivals read later parts all is in (
+        Outputs-weaker (λ t. t ≡ text_of parts) (IsOfFirstFrames (under carry plan)) out out' text (λ t is. subst (IsOfFirstFrames (under carry plan)) (sym is) written),
+        Outputs-weaker (IsFront (lines_of parts)) (λ t. t ≡ []) err err' names.front (λ t front. empty_front t (lines_of parts) none front),
+      )
   captures_are_converted plan carry terms (Err faults.Write) told before after out out' err err' input rest is_before is_after has may ends = tt
   captures_are_converted plan carry terms (Err faults.NoMemory) told before after out out' err err' input rest is_before is_after has may ends = tt
   captures_are_converted plan carry terms (Err (faults.PacketSize number)) told before after out out' err err' input rest is_before is_after has may (read, are_read, shorter, items, item, last, comes, large, parts, converts, text, names) =

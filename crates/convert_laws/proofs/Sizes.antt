@@ -1,5 +1,5 @@
 -- No packet of a schedule is too large.
-use Rattle.std.proofs.Common.{ℕ, ◌≡◌, ◌+◌, ◌<◌, ◌≤◌, ◌==◌, ◌⊎◌, if◌then◌else◌, inl, inr, Bool, true, false, cond, nat_lt, List, [], ◌∷◌, ◌++◌, length, take, slice_get, Option, None, Some, refl, sym, ap, subst, ◌∙◌, arith, append_assoc, length-append}
+use Rattle.std.proofs.Common.{ℕ, ◌≡◌, ◌+◌, ◌<◌, ◌≤◌, ◌==◌, ◌⊎◌, if◌then◌else◌, inl, inr, Bool, true, false, cond, List, [], ◌∷◌, ◌++◌, length, take, slice_get, Option, None, Some, refl, sym, ap, subst, ◌∙◌, arith, append_assoc, length-append}
 use Rattle.std.specs.Prelude.{ℤ, pos, negsuc, ◌+ℤ◌}
 use Rattle.std.proofs.lemmas.Bool.{true≢false, ltb-true}
 use Rattle.std.proofs.lemmas.List.{append-nil}
@@ -8,7 +8,6 @@ use Rattle.std.proofs.lemmas.Option.{slice_get_within}
 use Rattle.dcp_pft.specs.declared.carry.Carry.{Carry}
 use Rattle.dcp_pft.specs.declared.carry.Carry.TheVariants.{Plain, Pft}
 use Rattle.dcp_pft.specs.Carrying.{shape_under}
-use Rattle.dcp_pft.specs.Limits.{most_packet}
 use Rattle.dcp_pft.specs.Loss.{size, is_recoverable}
 use Rattle.dcp_collect.specs.Numbers.{end_of}
 use Rattle.dcp_collect.specs.State.{State, made, ready, ready_by, after_finish}
@@ -18,7 +17,7 @@ use Rattle.drm_convert.specs.Draining.{Given}
 use Rattle.collect_laws.specs.Delivery.{AreSent, packet_at, got, newest_of, item_by, item, items}
 use Rattle.collect_laws.specs.Laws.{Collecting, GivingEnds, OneReading, OneGiving, OneRun, StepsPart, StepsCount}
 use Rattle.drm_schedule.specs.declared.plan.Plan.{Plan}
-use Rattle.mod_delivery.specs.Sent.{Arrival, pairs_in}
+use Rattle.mod_delivery.specs.Sent.{pairs_in}
 use Rattle.mod_delivery.proofs.Packets.{at_number}
 use Rattle.drm_convert.specs.Carried.{is_too_long}
 use Rattle.drm_convert.specs.Converting.{IsTooLarge}
@@ -26,7 +25,7 @@ use Rattle.drm_convert.specs.Run.{Terms, ComesTo, ComesAt}
 use Rattle.convert_laws.specs.Laws.{NoneIsTooLarge}
 use Rattle.convert_laws.proofs.Fronts.{front_followed}
 use Rattle.convert_laws.proofs.Hearing.{Hears, hears}
-use Rattle.convert_laws.proofs.Places.{at_place, in_front, given_on, Starts, starts, step_starts}
+use Rattle.convert_laws.proofs.Places.{at_place, in_front, given_on, starts, step_starts}
 
 -- ---- an item of a delivery isn't
 

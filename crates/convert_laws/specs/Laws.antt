@@ -1,9 +1,11 @@
 -- What becomes of a delivery of a schedule, where each frame is in time.
 use Rattle.std.specs.Prelude.{ℕ, pos, ◌≡◌, ◌<◌, ◌≤◌, ◌%◌, ◌^◌, ◌⊎◌, Bool, true, List, [], ◌++◌, length, Option, None, Some, Result, Ok, Err}
+use Rattle.std.specs.List.{concat}
 use Rattle.dcp_pft.specs.declared.carry.Carry.{Carry}
 use Rattle.drm_schedule.specs.declared.plan.Plan.{Plan}
 use Rattle.drm_schedule.specs.Valid.{IsSchedule}
 use Rattle.drm_timeline.specs.Numbers.{frame_count}
+use Rattle.drm_server.specs.Datagrams.{AreOfFrames}
 use Rattle.drm_server.specs.Capture.{IsCapture}
 use Rattle.dcp_collect.specs.declared.taken.Taken.{Taken}
 use Rattle.dcp_collect.specs.State.{State, made}
@@ -16,7 +18,7 @@ use Rattle.drm_links.specs.Sink.{Output, Outputs}
 use Rattle.drm_capture.specs.Capture.{IsCaptureOf, End}
 use Rattle.drm_faults.specs.declared.fault.Fault.{Fault}
 use Rattle.drm_faults.specs.declared.fault.Fault.TheVariants as faults
-use Rattle.drm_convert.specs.Run.{Terms, HasEnough, IsConversion, ComesAt, Ends}
+use Rattle.drm_convert.specs.Run.{Terms, HasEnough, IsConversion, IsBroken, ComesAt, Ends}
 
 -- the schedule with this carry in place of its own
 abbrev pub under : Carry → Plan → Plan
@@ -71,7 +73,7 @@ FirstIsKnown =
     → IsSchedule plan → IsFollowed plan first (pos 0) arrivals (datagrams ++ later)
     → Steps (made window first) datagrams answers given mid → 1 ≤ length given → KnowsFirst plan mid
 
--- Where each frame is in time, a collector gives all frames with the last datagram.
+-- And so does each collector that took the whole of a delivery in which each frame is in time.
 abbrev pub FirstOfAll : Type 0
 FirstOfAll =
     (plan : Plan) (window : ℕ) (first told : Option ℕ) (arrivals : List Arrival) (datagrams : List (List ℕ))
@@ -94,6 +96,17 @@ ConversionsAreCaptures =
     → AllInTime plan terms.window terms.first arrivals (packets ++ later) → MayBeTold plan terms.told
     → (later ≡ []) ⊎ HasEnough terms packets → IsConversion terms carry packets parts → IsItsCapture plan carry parts
 
+-- the text is that of the datagrams of some first frames
+abbrev pub IsOfFirstFrames : Plan → List ℕ → Type 0
+IsOfFirstFrames plan text = (n : ℕ) × (datagrams : List (List ℕ)) × (n ≤ frame_count plan) × AreOfFrames plan n datagrams × (text ≡ concat datagrams)
+
+-- Where it can't read on, what was given so far is written as the datagrams of some first frames under the new carry.
+abbrev pub BrokenConversions : Type 0
+BrokenConversions =
+    (plan : Plan) (carry : Carry) (terms : Terms) (arrivals : List Arrival) (packets later : List (List ℕ)) (parts : List Part)
+    → AllInTime plan terms.window terms.first arrivals (packets ++ later) → IsBroken terms carry packets parts
+    → IsOfFirstFrames (under carry plan) (text_of parts) × (lines_of parts ≡ [])
+
 -- These bytes are a capture of a schedule in which each frame is in time.
 pub record HasSchedule (plan : Plan) (terms : Terms) (bytes : List ℕ) : Type 0 where
   pub arrivals : List Arrival
@@ -101,17 +114,18 @@ pub record HasSchedule (plan : Plan) (terms : Terms) (bytes : List ℕ) : Type 0
   pub capture : IsCaptureOf bytes packets End
   pub in_time : AllInTime plan terms.window terms.first arrivals packets
 
--- The schedule's capture under the new carry was written, and nothing was named, unless something of the outside failed or
--- memory was wanting.
+-- The schedule's capture under the new carry was written, and nothing was named; after a failed read the datagrams of some first
+-- frames were written, and nothing was named. No other fault comes but a failed write, or want of memory.
 abbrev pub EndsWell : Plan → Carry → Result Bool Fault → Known Output → Known Output → Known Output → Known Output → Type 0
 EndsWell plan carry (Ok clean) out out' err err' =
     (clean ≡ true) × Outputs out out' (IsCapture (under carry plan)) × Outputs err err' (λ text. text ≡ [])
-EndsWell plan carry (Err faults.Read) out out' err err' = Unit {0}
+EndsWell plan carry (Err faults.Read) out out' err err' =
+    Outputs out out' (IsOfFirstFrames (under carry plan)) × Outputs err err' (λ text. text ≡ [])
 EndsWell plan carry (Err faults.Write) out out' err err' = Unit {0}
 EndsWell plan carry (Err faults.NoMemory) out out' err err' = Unit {0}
 EndsWell plan carry (Err fault) out out' err err' = ⊥
 
--- So ends a run of `convert` over such a capture, where all that was read of the input is told.
+-- So ends a run of `convert` over such a capture, where the input tells before and after it what is left.
 abbrev pub CapturesAreConverted : Type 0
 CapturesAreConverted =
     (plan : Plan) (carry : Carry) (terms : Terms) (ending : Result Bool Fault) (told : Bool) (before after : Known Input)

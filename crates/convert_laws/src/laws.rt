@@ -1,6 +1,6 @@
 //! The laws of the conversion, each on a function that does nothing.
 
-ghost use Rattle.convert_laws.specs.Laws.{Converting, ConvertingEarly, FirstIsKnown, FirstOfAll, NoneIsTooLarge, ConversionsAreCaptures, CapturesAreConverted};
+ghost use Rattle.convert_laws.specs.Laws.{Converting, ConvertingEarly, FirstIsKnown, FirstOfAll, NoneIsTooLarge, ConversionsAreCaptures, BrokenConversions, CapturesAreConverted};
 
 use collect_laws::{
     collecting, giving_ends, in_time, one_giving, one_reading, one_run, refusing, steps_count,
@@ -14,6 +14,7 @@ pub fn conversions_are_captures()
     ensures whole { Converting }
     ensures early { ConvertingEarly }
     ensures terms { ConversionsAreCaptures }
+    ensures broken { BrokenConversions }
 {
     collecting();
     giving_ends();
