@@ -1,0 +1,12 @@
+pub mod OtherCarry
+pub mod Frames
+pub mod Packets
+pub mod Hearing
+pub mod Fronts
+pub mod Firsts
+pub mod Places
+pub mod Sizes
+pub mod Delivery
+pub mod Conversions
+pub mod ReadPackets
+pub mod Runs

@@ -1,0 +1,128 @@
+-- A run of `convert` over a capture of a schedule.
+use Rattle.std.proofs.Common.{ℕ, ◌≡◌, ◌⊎◌, inl, inr, true, List, [], ◌∷◌, ◌++◌, length, Option, Some, Ok, Err, refl, sym, ap, subst, ◌∙◌}
+use Rattle.std.specs.Prelude.{pos, All}
+use Rattle.std.specs.List.{concat}
+use Rattle.std.proofs.lemmas.List.{append-nil}
+use Rattle.drm_links.specs.Told.{Known, ToldThrough}
+use Rattle.drm_links.specs.Source.{Input, Inputs, LeftBy}
+use Rattle.drm_links.specs.Sink.{IsFront}
+use Rattle.drm_links.proofs.ToldLemmas.{Outputs-weaker}
+use Rattle.drm_capture.specs.declared.fault.CaptureFault.{CaptureFault}
+use Rattle.drm_capture.specs.Capture as capture
+use Rattle.drm_capture.specs.Capture.{IsCaptureOf, End}
+use Rattle.drm_capture.specs.Front.{IsWhole}
+use Rattle.drm_capture.specs.Reading.{Breaks}
+use Rattle.drm_capture.specs.Laws.{OneFront, FrontsStay, ReadOneWay}
+use Rattle.drm_server.specs.Capture.{IsCapture}
+use Rattle.mod_delivery.specs.Sent.{IsFollowed}
+use Rattle.drm_faults.specs.declared.fault.Fault.TheVariants as faults
+use Rattle.drm_convert.specs.Converting.{Part, text_of, lines_of}
+use Rattle.drm_convert.specs.Steps.{has_none}
+use Rattle.drm_convert.specs.Draining.{are_clean}
+use Rattle.drm_convert.specs.Run.{Terms, HasEnough, AreRead, AreEnough}
+use Rattle.convert_laws.specs.Laws.{under, AllInTime, NoneIsTooLarge, ConversionsAreCaptures, IsOfFirstFrames, BrokenConversions, CapturesAreConverted}
+use Rattle.convert_laws.proofs.ReadPackets.{Begin, begin}
+
+-- ---- what is told of an input
+
+through : {T : Type 0} (P : T → T → Type 0) (a b : Option T) (x y : T) → a ≡ Some x → b ≡ Some y → ToldThrough a b P → P x y
+through P a b x y is_a is_b told = subst (λ o. ToldThrough (Some x) o P) is_b (subst (λ o. ToldThrough o b P) is_a told)
+
+told_of : (P : List ℕ → List ℕ → Type 0) (before after : Known Input) (input rest : Input) → before.told ≡ Some input → after.told ≡ Some rest → Inputs before after P → P input.left rest.left
+told_of P before after input rest is_before is_after told = through (LeftBy P) before.told after.told input rest is_before is_after told
+
+-- ---- no line
+
+none_of : (part : Part) (lines : List ℕ) → part.line ++ lines ≡ [] → (part.line ≡ []) × (lines ≡ [])
+none_of part lines none = by part.line none
+  where
+    by : (line : List ℕ) → line ++ lines ≡ [] → (line ≡ []) × (lines ≡ [])
+    by [] none = (refl, none)
+    by (x ∷ line) none = absurd (let clash : x ∷ (line ++ lines) ≡ [] = none in cc)
+
+clean_of : (parts : List Part) → lines_of parts ≡ [] → are_clean parts ≡ true
+clean_of [] none = refl
+clean_of (part ∷ parts) none =
+    let (first, rest) = none_of part (lines_of parts) none in
+    rw (ap has_none first, clean_of parts rest)
+
+empty_front : (text lines : List ℕ) → lines ≡ [] → IsFront lines text → text ≡ []
+empty_front [] lines none front = refl
+empty_front (x ∷ text) lines none (rest, is) = absurd (let clash : [] ≡ x ∷ (text ++ rest) = sym none ∙ is in cc)
+
+-- ---- the packets that were read
+
+module _ (one_front : OneFront) (fronts_stay : FrontsStay) (one_way : ReadOneWay) (bytes : List ℕ) (packets : List (List ℕ)) (is : IsCaptureOf bytes packets End) where
+  all_read : (read : List (List ℕ)) → IsCaptureOf bytes read End → packets ≡ read ++ []
+  all_read read other = (one_way bytes packets read End End is other).0 ∙ sym (append-nil read)
+
+  front_read : (read : List (List ℕ)) (more : List ℕ) → All IsWhole read → bytes ≡ concat read ++ more → Begin read packets
+  front_read read more those same =
+      let left : capture.EndsWith (length bytes) (length (concat packets)) is.rest End = is.ends in
+      let whole : bytes ≡ concat packets = is.is ∙ (ap (λ l. concat packets ++ l) left.0 ∙ append-nil (concat packets)) in
+      begin one_front fronts_stay read packets more those is.whole (sym same ∙ whole)
+
+  no_fault : (read : List (List ℕ)) (fault : CaptureFault) → IsCaptureOf bytes read (capture.Fault fault) → ⊥
+  no_fault read fault other = let clash : End ≡ capture.Fault fault = (one_way bytes packets read End (capture.Fault fault) is other).1 in cc
+
+  not_too_long : (read : List (List ℕ)) → IsCaptureOf bytes read capture.TooLong → ⊥
+  not_too_long read other = let clash : End ≡ capture.TooLong = (one_way bytes packets read End capture.TooLong is other).1 in cc
+
+  begin_read : (read : List (List ℕ)) (before after : Known Input) (input rest : Input) → before.told ≡ Some input → after.told ≡ Some rest → input.left ≡ bytes
+      → AreRead read before after → Begin read packets
+  begin_read read before after input rest is_before is_after same (inl (reader, has)) =
+      let at = told_of (λ left more. left ≡ concat read ++ (reader.held ++ more)) before after input rest is_before is_after has.bytes in
+      front_read read (reader.held ++ rest.left) has.whole (sym same ∙ at)
+  begin_read read before after input rest is_before is_after same (inr all) =
+      let at = told_of (λ left more. IsCaptureOf left read End) before after input rest is_before is_after all in
+      ([], all_read read (subst (λ l. IsCaptureOf l read End) same at))
+
+-- which of them are read, and that they are enough
+enough_read : OneFront → FrontsStay → ReadOneWay → (terms : Terms) (packets read : List (List ℕ)) (before after : Known Input) (input rest : Input) → before.told ≡ Some input → after.told ≡ Some rest
+    → IsCaptureOf input.left packets End → AreEnough terms read before after → (later : List (List ℕ)) × (packets ≡ read ++ later) × ((later ≡ []) ⊎ HasEnough terms read)
+enough_read one_front fronts_stay one_way terms packets read before after input rest is_before is_after is (inl ((reader, has), enough)) =
+    let (later, same) = begin_read one_front fronts_stay one_way input.left packets is read before after input rest is_before is_after refl (inl (reader, has)) in
+    (later, same, inr enough)
+enough_read one_front fronts_stay one_way terms packets read before after input rest is_before is_after is (inr all) =
+    let at = told_of (λ left more. IsCaptureOf left read End) before after input rest is_before is_after all in
+    ([], all_read one_front fronts_stay one_way input.left packets is read at, inl refl)
+
+-- ---- how the run ends
+
+module _ (one_front : OneFront) (fronts_stay : FrontsStay) (one_way : ReadOneWay) (conversions : ConversionsAreCaptures) (broken : BrokenConversions) (none_is_too_large : NoneIsTooLarge) where
+  pub captures_are_converted : CapturesAreConverted
+  captures_are_converted plan carry terms (Ok clean) told before after out out' err err' input rest is_before is_after has may (read, enough, shorter, parts, conversion, text, names, clean_is) =
+      let (later, same, all) = enough_read one_front fronts_stay one_way terms has.packets read before after input rest is_before is_after has.capture enough in
+      let whole : AllInTime plan terms.window terms.first has.arrivals (read ++ later) = subst (λ l. AllInTime plan terms.window terms.first has.arrivals l) same has.in_time in
+      let (captured, none) = conversions plan carry terms has.arrivals read later parts whole may all conversion in (
+        clean_is ∙ clean_of parts none,
+        Outputs-weaker (λ t. t ≡ text_of parts) (IsCapture (under carry plan)) out out' text (λ t is. subst (IsCapture (under carry plan)) (sym is) captured),
+        Outputs-weaker (IsFront (lines_of parts)) (λ t. t ≡ []) err err' names.front (λ t front. empty_front t (lines_of parts) none front),
+      )
+  captures_are_converted plan carry terms (Err faults.Read) told before after out out' err err' input rest is_before is_after has may (read, whole, stops, lacks, shorter, parts, is, text, names) =
+      let (held, field, same, cut) = told_of (Breaks read) before after input rest is_before is_after stops in
+      let (later, begins) = front_read one_front fronts_stay one_way input.left has.packets has.capture read (held ++ rest.left) whole same in
+      let all : AllInTime plan terms.window terms.first has.arrivals (read ++ later) = subst (λ l. AllInTime plan terms.window terms.first has.arrivals l) begins has.in_time in
+      let (written, none) = broken plan carry terms has.arrivals read later parts all is in (
+        Outputs-weaker (λ t. t ≡ text_of parts) (IsOfFirstFrames (under carry plan)) out out' text (λ t is. subst (IsOfFirstFrames (under carry plan)) (sym is) written),
+        Outputs-weaker (IsFront (lines_of parts)) (λ t. t ≡ []) err err' names.front (λ t front. empty_front t (lines_of parts) none front),
+      )
+  captures_are_converted plan carry terms (Err faults.Write) told before after out out' err err' input rest is_before is_after has may ends = tt
+  captures_are_converted plan carry terms (Err faults.NoMemory) told before after out out' err err' input rest is_before is_after has may ends = tt
+  captures_are_converted plan carry terms (Err (faults.PacketSize number)) told before after out out' err err' input rest is_before is_after has may (read, are_read, shorter, items, item, last, comes, large, parts, converts, text, names) =
+      let (later, same) = begin_read one_front fronts_stay one_way input.left has.packets has.capture read before after input rest is_before is_after refl are_read in
+      let followed : IsFollowed plan terms.first (pos 0) has.arrivals (read ++ later) = subst (λ l. IsFollowed plan terms.first (pos 0) has.arrivals l) same has.in_time.followed in
+      none_is_too_large plan carry terms has.arrivals read later items item last number has.in_time.schedule has.in_time.some followed comes large
+  captures_are_converted plan carry terms (Err (faults.Capture fault)) told before after out out' err err' input rest is_before is_after has may (read, whole, stops, lacks, shorter, parts, broken, text, names) =
+      let at = told_of (λ left more. IsCaptureOf left read (capture.Fault fault)) before after input rest is_before is_after stops in
+      no_fault one_front fronts_stay one_way input.left has.packets has.capture read fault at
+  captures_are_converted plan carry terms (Err faults.CaptureTooLong) told before after out out' err err' input rest is_before is_after has may (read, whole, stops, lacks, shorter, parts, broken, text, names) =
+      let at = told_of (λ left more. IsCaptureOf left read capture.TooLong) before after input rest is_before is_after stops in
+      not_too_long one_front fronts_stay one_way input.left has.packets has.capture read at
+  captures_are_converted plan carry terms (Err faults.Words) told before after out out' err err' input rest is_before is_after has may ends = ends
+  captures_are_converted plan carry terms (Err (faults.FacLength n)) told before after out out' err err' input rest is_before is_after has may ends = ends
+  captures_are_converted plan carry terms (Err faults.FacOver) told before after out out' err err' input rest is_before is_after has may ends = ends
+  captures_are_converted plan carry terms (Err (faults.FacCrc stands computed)) told before after out out' err err' input rest is_before is_after has may ends = ends
+  captures_are_converted plan carry terms (Err (faults.Schedule line reason)) told before after out out' err err' input rest is_before is_after has may ends = ends
+  captures_are_converted plan carry terms (Err (faults.Script line reason)) told before after out out' err err' input rest is_before is_after has may ends = ends
+  captures_are_converted plan carry terms (Err faults.Link) told before after out out' err err' input rest is_before is_after has may ends = ends

@@ -1,0 +1,134 @@
+-- What becomes of a delivery of a schedule, where each frame is in time.
+use Rattle.std.specs.Prelude.{ℕ, pos, ◌≡◌, ◌<◌, ◌≤◌, ◌%◌, ◌^◌, ◌⊎◌, Bool, true, List, [], ◌++◌, length, Option, None, Some, Result, Ok, Err}
+use Rattle.std.specs.List.{concat}
+use Rattle.dcp_pft.specs.declared.carry.Carry.{Carry}
+use Rattle.dcp_collect.specs.declared.taken.Taken.{Taken}
+use Rattle.dcp_collect.specs.State.{State, made}
+use Rattle.dcp_collect.specs.Runs.{Item, Steps, Run}
+use Rattle.drm_links.specs.Told.{Known}
+use Rattle.drm_links.specs.Source.{Input}
+use Rattle.drm_links.specs.Sink.{Output, Outputs}
+use Rattle.drm_schedule.specs.declared.plan.Plan.{Plan}
+use Rattle.drm_schedule.specs.Valid.{IsSchedule}
+use Rattle.drm_timeline.specs.Numbers.{frame_count}
+use Rattle.drm_server.specs.Datagrams.{AreOfFrames}
+use Rattle.drm_server.specs.Capture.{IsCapture}
+use Rattle.mod_delivery.specs.Sent.{Arrival, pairs_in, IsFollowed, IsInTime}
+use Rattle.drm_capture.specs.Capture.{IsCaptureOf, End}
+use Rattle.drm_faults.specs.declared.fault.Fault.{Fault}
+use Rattle.drm_faults.specs.declared.fault.Fault.TheVariants as faults
+use Rattle.drm_convert.specs.Converting.{Part, ConvertsAll, IsTooLarge, text_of, lines_of}
+use Rattle.drm_convert.specs.Run.{Terms, HasEnough, IsConversion, IsBroken, ComesAt, Ends}
+
+-- the schedule with this carry in place of its own
+abbrev pub under : Carry → Plan → Plan
+under carry plan = record plan { carry = carry }
+
+-- A delivery of a valid schedule from its first frame on, with any strays in it, in which each frame is in time.
+pub record AllInTime (plan : Plan) (window : ℕ) (first : Option ℕ) (arrivals : List Arrival) (datagrams : List (List ℕ)) : Type 0 where
+  pub schedule : IsSchedule plan
+  pub some : 1 ≤ window
+  pub followed : IsFollowed plan first (pos 0) arrivals datagrams
+  pub in_time : (q : ℕ) → q < frame_count plan → IsInTime plan window (pos 0) (pairs_in arrivals) q
+
+-- the number of the schedule's frames is told, or no number is
+abbrev pub MayBeTold : Plan → Option ℕ → Type 0
+MayBeTold plan told = (told ≡ None) ⊎ (told ≡ Some (frame_count plan))
+
+-- a number that has the sequence number of the schedule's first packet
+abbrev pub IsFirstOf : Plan → ℕ → Type 0
+IsFirstOf plan n = n % 2 ^ 16 ≡ plan.seq % 2 ^ 16
+
+-- They are written as the schedule's capture under this carry, and no line names any of them.
+abbrev pub IsItsCapture : Plan → Carry → List Part → Type 0
+IsItsCapture plan carry parts = IsCapture (under carry plan) (text_of parts) × (lines_of parts ≡ [])
+
+-- What a collector gives of such a delivery becomes the schedule's capture under the new carry.
+abbrev pub Converting : Type 0
+Converting =
+    (plan : Plan) (carry : Carry) (window n : ℕ) (first told : Option ℕ) (arrivals : List Arrival) (datagrams : List (List ℕ))
+    (answers : List Taken) (items : List Item) (parts : List Part)
+    → AllInTime plan window first arrivals datagrams → MayBeTold plan told → Run window first told datagrams answers items
+    → IsFirstOf plan n → ConvertsAll carry n items parts → IsItsCapture plan carry parts
+
+-- The same where a reading ends as soon as all frames were given, whatever of the delivery is still to come.
+abbrev pub ConvertingEarly : Type 0
+ConvertingEarly =
+    (plan : Plan) (carry : Carry) (window n : ℕ) (first : Option ℕ) (arrivals : List Arrival) (datagrams later : List (List ℕ))
+    (answers : List Taken) (items : List Item) (parts : List Part)
+    → AllInTime plan window first arrivals (datagrams ++ later) → (run : Run window first (Some (frame_count plan)) datagrams answers items)
+    → frame_count plan ≤ length run.during
+    → IsFirstOf plan n → ConvertsAll carry n items parts → IsItsCapture plan carry parts
+
+-- the collector knows the sequence number that it counts from, and it is that of the schedule's first packet
+abbrev pub KnowsFirst : Plan → State → Type 0
+KnowsFirst plan c = (n : ℕ) × (c.first ≡ Some n) × IsFirstOf plan n
+
+-- So does each collector that has given anything of a delivery that starts with the schedule's first frame, whatever of it is
+-- still to come.
+abbrev pub FirstIsKnown : Type 0
+FirstIsKnown =
+    (plan : Plan) (window : ℕ) (first : Option ℕ) (arrivals : List Arrival) (datagrams later : List (List ℕ))
+    (answers : List Taken) (given : List Item) (mid : State)
+    → IsSchedule plan → IsFollowed plan first (pos 0) arrivals (datagrams ++ later)
+    → Steps (made window first) datagrams answers given mid → 1 ≤ length given → KnowsFirst plan mid
+
+-- And so does each collector that took the whole of a delivery in which each frame is in time.
+abbrev pub FirstOfAll : Type 0
+FirstOfAll =
+    (plan : Plan) (window : ℕ) (first told : Option ℕ) (arrivals : List Arrival) (datagrams : List (List ℕ))
+    (answers : List Taken) (items : List Item)
+    → AllInTime plan window first arrivals datagrams → (run : Run window first told datagrams answers items) → KnowsFirst plan run.mid
+
+-- No packet that a conversion comes to, of whatever came of a schedule, is too large for the new carry.
+abbrev pub NoneIsTooLarge : Type 0
+NoneIsTooLarge =
+    (plan : Plan) (carry : Carry) (terms : Terms) (arrivals : List Arrival) (packets later : List (List ℕ)) (items : List Item)
+    (item : Item) (last : State) (number : ℕ)
+    → IsSchedule plan → 1 ≤ terms.window → IsFollowed plan terms.first (pos 0) arrivals (packets ++ later)
+    → ComesAt terms packets items item last → IsTooLarge carry item number → ⊥
+
+-- What a conversion makes of the packets of such a delivery is the schedule's capture under the new carry, whether it reads them
+-- all or stops where it has enough.
+abbrev pub ConversionsAreCaptures : Type 0
+ConversionsAreCaptures =
+    (plan : Plan) (carry : Carry) (terms : Terms) (arrivals : List Arrival) (packets later : List (List ℕ)) (parts : List Part)
+    → AllInTime plan terms.window terms.first arrivals (packets ++ later) → MayBeTold plan terms.told
+    → (later ≡ []) ⊎ HasEnough terms packets → IsConversion terms carry packets parts → IsItsCapture plan carry parts
+
+-- the text is that of the datagrams of some first frames
+abbrev pub IsOfFirstFrames : Plan → List ℕ → Type 0
+IsOfFirstFrames plan text = (n : ℕ) × (datagrams : List (List ℕ)) × (n ≤ frame_count plan) × AreOfFrames plan n datagrams × (text ≡ concat datagrams)
+
+-- Where it can't read on, what was given so far is written as the datagrams of some first frames under the new carry.
+abbrev pub BrokenConversions : Type 0
+BrokenConversions =
+    (plan : Plan) (carry : Carry) (terms : Terms) (arrivals : List Arrival) (packets later : List (List ℕ)) (parts : List Part)
+    → AllInTime plan terms.window terms.first arrivals (packets ++ later) → IsBroken terms carry packets parts
+    → IsOfFirstFrames (under carry plan) (text_of parts) × (lines_of parts ≡ [])
+
+-- These bytes are a capture of a schedule in which each frame is in time.
+pub record HasSchedule (plan : Plan) (terms : Terms) (bytes : List ℕ) : Type 0 where
+  pub arrivals : List Arrival
+  pub packets : List (List ℕ)
+  pub capture : IsCaptureOf bytes packets End
+  pub in_time : AllInTime plan terms.window terms.first arrivals packets
+
+-- The schedule's capture under the new carry was written, and nothing was named; after a failed read the datagrams of some first
+-- frames were written, and nothing was named. No other fault comes but a failed write, or want of memory.
+abbrev pub EndsWell : Plan → Carry → Result Bool Fault → Known Output → Known Output → Known Output → Known Output → Type 0
+EndsWell plan carry (Ok clean) out out' err err' =
+    (clean ≡ true) × Outputs out out' (IsCapture (under carry plan)) × Outputs err err' (λ text. text ≡ [])
+EndsWell plan carry (Err faults.Read) out out' err err' =
+    Outputs out out' (IsOfFirstFrames (under carry plan)) × Outputs err err' (λ text. text ≡ [])
+EndsWell plan carry (Err faults.Write) out out' err err' = Unit {0}
+EndsWell plan carry (Err faults.NoMemory) out out' err err' = Unit {0}
+EndsWell plan carry (Err fault) out out' err err' = ⊥
+
+-- So ends a run of `convert` over such a capture, where the input tells before and after it what is left.
+abbrev pub CapturesAreConverted : Type 0
+CapturesAreConverted =
+    (plan : Plan) (carry : Carry) (terms : Terms) (ending : Result Bool Fault) (told : Bool) (before after : Known Input)
+    (out out' err err' : Known Output) (input rest : Input)
+    → before.told ≡ Some input → after.told ≡ Some rest → HasSchedule plan terms input.left → MayBeTold plan terms.told
+    → Ends terms carry ending told before after out out' err err' → EndsWell plan carry ending out out' err err'

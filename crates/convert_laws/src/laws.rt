@@ -1,0 +1,62 @@
+//! The laws of the conversion, each on a function that does nothing.
+
+ghost use Rattle.convert_laws.specs.Laws.{Converting, ConvertingEarly, FirstIsKnown, FirstOfAll, NoneIsTooLarge, ConversionsAreCaptures, BrokenConversions, CapturesAreConverted};
+
+use collect_laws::{
+    collecting, giving_ends, in_time, one_giving, one_reading, one_run, refusing, steps_count,
+    steps_part,
+};
+use drm_capture::{fronts_stay, one_front, read_one_way};
+use mod_delivery::all_frames_are_given_at_once;
+
+/// Where each frame of a schedule is in time, what a collector gives becomes the schedule's capture under the other carry.
+pub fn conversions_are_captures()
+    ensures whole { Converting }
+    ensures early { ConvertingEarly }
+    ensures terms { ConversionsAreCaptures }
+    ensures broken { BrokenConversions }
+{
+    collecting();
+    giving_ends();
+    in_time();
+    one_reading();
+    one_run();
+    refusing();
+    steps_part();
+    all_frames_are_given_at_once();
+}
+
+/// A collector counts from the sequence number of the schedule's first packet.
+pub fn the_first_number_is_known()
+    ensures given { FirstIsKnown }
+    ensures all { FirstOfAll }
+{
+    one_reading();
+    refusing();
+    one_run();
+    all_frames_are_given_at_once();
+}
+
+/// No packet of a schedule is too large for a carry.
+pub fn none_is_too_large()
+    ensures { NoneIsTooLarge }
+{
+    collecting();
+    giving_ends();
+    one_reading();
+    one_giving();
+    one_run();
+    steps_part();
+    steps_count();
+}
+
+/// A run of `convert` over a capture of a schedule in which each frame is in time writes the schedule's capture under its carry.
+pub fn captures_are_converted()
+    ensures { CapturesAreConverted }
+{
+    one_front();
+    fronts_stay();
+    read_one_way();
+    conversions_are_captures();
+    none_is_too_large();
+}
