@@ -1,0 +1,4 @@
+pub mod Gathering
+pub mod ItemLemmas
+pub mod DrainingLemmas
+pub mod Reaching

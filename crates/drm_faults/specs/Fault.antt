@@ -56,3 +56,8 @@ pub record WritesLine {E : Type 0} (line : List ℕ) (known : E → Known Output
 abbrev pub Reports : {E : Type 0} → Result (Unit {0}) Fault → (E → Known Output) → E → E → Type 0
 Reports (Ok done) known old new = new ≡ old
 Reports (Err fault) known old new = WritesLine (fault_line fault) known old new
+
+-- The same where `told` holds; else err is as it was.
+abbrev pub ReportsIf : {E : Type 0} → Bool → Result (Unit {0}) Fault → (E → Known Output) → E → E → Type 0
+ReportsIf true done known old new = Reports done known old new
+ReportsIf false done known old new = new ≡ old

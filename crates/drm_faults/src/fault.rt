@@ -95,6 +95,7 @@ impl From<NoMemory> for Fault {
 }
 
 impl Fault {
+    ghost use Rattle.std.specs.Prelude.{true, false};
     ghost use Rattle.drm_faults.specs.Lines.{fault_line};
     ghost use Rattle.drm_faults.specs.Fault.{fault_status, WritesLine};
 
@@ -105,6 +106,19 @@ impl Fault {
     {
         let _ = self.write(err);
         self.status()
+    }
+
+    /// The same where `told` holds; else nothing is written.
+    pub fn report_if<E: Sink>(self, told: bool, err: &mut E) -> Status
+        ensures status { result.code ≡ fault_status self }
+        ensures line { told ≡ true → WritesLine (fault_line self) E.known err.old err.new }
+        ensures still { told ≡ false → err.new ≡ err.old }
+    {
+        if told {
+            self.report(err)
+        } else {
+            self.status()
+        }
     }
 
     fn status(self) -> Status

@@ -1,10 +1,16 @@
 -- The ends of runs that tell of no frames.
-use Rattle.std.proofs.Common.{◌≡◌, ◌⊎◌, inl, inr, Bool, true, false, Option, None, Some, Result, Ok, Err, refl, sym, ◌∙◌, ap}
+use Rattle.std.proofs.Common.{◌≡◌, ◌⊎◌, inl, inr, Bool, true, false, Option, None, Some, Result, Ok, Err, refl, sym, ◌∙◌, ap, subst}
 use Rattle.drm_links.specs.Told.{Known, WhileTold, BothTold}
 use Rattle.drm_links.specs.Dock.{DockContents, SendsNothing}
 use Rattle.drm_faults.specs.declared.fault.Fault.{Fault}
 use Rattle.drm_faults.specs.declared.fault.Fault.TheVariants as faults
-use Rattle.drm_faults.specs.Fault.{whole_of}
+use Rattle.drm_faults.specs.Lines.{fault_line}
+use Rattle.drm_faults.specs.Fault.{whole_of, done_of, ReportsIf, WritesLine}
+use Rattle.dcp_pft.specs.declared.carry.Carry.{Carry}
+use Rattle.drm_links.specs.Source.{Input}
+use Rattle.drm_links.specs.Sink.{Output}
+use Rattle.drm_convert.specs.Run as convert
+use Rattle.drm_convert.specs.Run.{Terms}
 
 whole_fault : (done : Result (Unit {0}) Fault) (fault : Fault) → whole_of done ≡ Err fault → done ≡ Err fault
 whole_fault (Ok done) fault is = cc
@@ -33,3 +39,20 @@ dock_still a = still a.told
 pub not_else : (fault : Fault) → (fault ≡ faults.NoMemory → ⊥) → (fault ≡ faults.Write → ⊥) → (fault ≡ faults.NoMemory) ⊎ (fault ≡ faults.Write) → ⊥
 not_else fault memory write (inl is) = memory is
 not_else fault memory write (inr is) = write is
+
+-- a conversion ends neither by its words nor by a link
+pub not_convert : (terms : Terms) (carry : Carry) (ending : Result Bool Fault) (told : Bool) (a b : Known Input) (x y z w : Known Output) → convert.Ends terms carry ending told a b x y z w → ending ≡ Err faults.Words → ⊥
+not_convert terms carry ending told a b x y z w ends is = let P : Result Bool Fault → Type 0 = λ e. convert.Ends terms carry e told a b x y z w in subst P is ends
+
+pub not_a_link : (terms : Terms) (carry : Carry) (ending : Result Bool Fault) (told : Bool) (a b : Known Input) (x y z w : Known Output) → convert.Ends terms carry ending told a b x y z w → ending ≡ Err faults.Link → ⊥
+not_a_link terms carry ending told a b x y z w ends is = let P : Result Bool Fault → Type 0 = λ e. convert.Ends terms carry e told a b x y z w in subst P is ends
+
+-- ---- what is written to err behind a command
+
+pub done_told : {E : Type 0} (told clean : Bool) (known : E → Known Output) (err : E) → ReportsIf told (done_of (Ok clean)) known err err
+done_told true clean known err = refl
+done_told false clean known err = refl
+
+pub fault_told : {E : Type 0} (told : Bool) (fault : Fault) (known : E → Known Output) (mid new : E) → (told ≡ true → WritesLine (fault_line fault) known mid new) → (told ≡ false → new ≡ mid) → ReportsIf told (done_of (Err fault)) known mid new
+fault_told true fault known mid new wrote still = wrote refl
+fault_told false fault known mid new wrote still = still refl

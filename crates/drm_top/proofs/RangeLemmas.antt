@@ -1,17 +1,20 @@
 -- The numbers of a command that was read are in their ranges.
 use Rattle.std.proofs.Common.{◌≡◌, ◌≤◌, ℕ, List, [], ◌∷◌, Option, None, Some, IfSome, IfOk, IsUtf8, Result, Ok, Err, sym, subst, arith}
 use Rattle.drm_links.specs.declared.dock.Address.{Address}
-use Rattle.word_forms.specs.declared.fault.WordsFault.{WordsFault}
 use Rattle.drm_words.specs.declared.request.Request.{Request}
 use Rattle.drm_words.specs.declared.request.Request.TheVariants as requests
 use Rattle.drm_words.specs.Table.{IsNumberOr, IsNumberOrNone, AreAddressesOrNone, HasTextNames}
 use Rattle.drm_words.specs.Line.{IsLine}
 use Rattle.mod_receiver.specs.declared.rules.Rules.{Rules}
+use Rattle.dcp_pft.specs.declared.carry.Carry.{Carry}
+use Rattle.dcp_pft.specs.declared.carry.Carry.TheVariants.{Plain, Pft}
+use Rattle.dcp_pft.specs.Carrying.{CarryFits}
+use Rattle.word_forms.specs.Carries.{IsCarry}
 use Rattle.drm_receive.specs.Terms.{AreListed}
 use Rattle.mod_receiver.specs.Ranges.{AreInRange}
-use Rattle.drm_top.specs.Words.{request_of, Asks, IsInRange}
+use Rattle.drm_top.specs.Words.{request_of, IsInRange}
 use Rattle.drm_top.specs.declared.words.Command.{Command}
-use Rattle.drm_top.specs.declared.words.Command.TheVariants.{Fac, Check, Serve, Send, Receive, ReceiveCapture, Air, Show, Exercise}
+use Rattle.drm_top.specs.declared.words.Command.TheVariants.{Fac, Check, Serve, Send, Receive, ReceiveCapture, Air, Show, Exercise, Convert}
 
 within : (default least greatest n : ℕ) (value : Option (List ℕ)) → least ≤ default → default ≤ greatest → IsNumberOr default least greatest value n → (least ≤ n) × (n ≤ greatest)
 within default least greatest n None low high is = (omega (arith, is, low), omega (arith, is, high))
@@ -61,19 +64,34 @@ airs words name script window line = within 8 1 64 window _ (omega arith) (omega
 exercises : (words : List (List ℕ)) (n : ℕ) → IsLine words (request_of (Exercise n)) → (1 ≤ n) × (n ≤ 1000)
 exercises words n line = (line.asks.3.1, line.asks.3.2)
 
-pub in_range : (came : Result Command WordsFault) (request : Request) (words : List (List ℕ)) → Asks came request → IsLine words request → HasTextNames request → IfOk came IsInRange
-in_range (Err fault) request words asks line text = tt
-in_range (Ok Fac) request words asks line text = tt
-in_range (Ok (Check name)) request words asks line text = subst HasTextNames asks text
-in_range (Ok (Serve name pace)) request words asks line text = subst HasTextNames asks text
-in_range (Ok (Send name to pace)) request words asks line text = subst HasTextNames asks text
-in_range (Ok (Receive addresses rules)) request words asks line text =
+carry_fits : (text : List ℕ) (carry : Carry) → IsCarry text carry → CarryFits carry
+carry_fits text Plain is = tt
+carry_fits text (Pft m mtu) is = (is.m_is.2, is.mtu_is.1, is.mtu_is.2)
+
+both : (frames : Option ℕ) → IfSome frames (λ n. 1 ≤ n) → IfSome frames (λ n. n ≤ 3000000) → IfSome frames (λ n. (1 ≤ n) × (n ≤ 3000000))
+both None some few = tt
+both (Some n) some few = (some, few)
+
+converts : (words : List (List ℕ)) (carry : Carry) (window : ℕ) (first frames : Option ℕ) → IsLine words (request_of (Convert carry window first frames)) → IsInRange (Convert carry window first frames)
+converts words carry window first frames line =
+    let stretch = line.asks.5 in
+    let size = within 8 1 64 window _ (omega arith) (omega arith) stretch.has_window in
+    let some = within_or_none 1 3000000 _ frames stretch.has_frames in
+    (carry_fits line.asks.1 carry line.asks.3, size.0, size.1, both frames some.0 some.1)
+
+pub in_range : (came : Command) (request : Request) (words : List (List ℕ)) → request ≡ request_of came → IsLine words request → HasTextNames request → IsInRange came
+in_range Fac request words asks line text = tt
+in_range (Check name) request words asks line text = subst HasTextNames asks text
+in_range (Serve name pace) request words asks line text = subst HasTextNames asks text
+in_range (Send name to pace) request words asks line text = subst HasTextNames asks text
+in_range (Receive addresses rules) request words asks line text =
     let named : IsLine words (reading_of (Some addresses) rules) = subst (λ r. IsLine words r) asks line in
     (reads words (Some addresses) rules named, lists words addresses rules named)
-in_range (Ok (ReceiveCapture rules)) request words asks line text = reads words None rules (subst (λ r. IsLine words r) asks line)
-in_range (Ok (Air name script window)) request words asks line text =
+in_range (ReceiveCapture rules) request words asks line text = reads words None rules (subst (λ r. IsLine words r) asks line)
+in_range (Air name script window) request words asks line text =
     let names : IsUtf8 name × IsUtf8 script = subst HasTextNames asks text in
     let range = airs words name script window (subst (λ r. IsLine words r) asks line) in
     (names.0, names.1, range.0, range.1)
-in_range (Ok Show) request words asks line text = tt
-in_range (Ok (Exercise n)) request words asks line text = exercises words n (subst (λ r. IsLine words r) asks line)
+in_range Show request words asks line text = tt
+in_range (Exercise n) request words asks line text = exercises words n (subst (λ r. IsLine words r) asks line)
+in_range (Convert carry window first frames) request words asks line text = converts words carry window first frames (subst (λ r. IsLine words r) asks line)

@@ -1,5 +1,5 @@
 -- The runs of the commands.
-use Rattle.std.specs.Prelude.{ℕ, ◌≡◌, ◌⊎◌, Bool, Option, Result, Err}
+use Rattle.std.specs.Prelude.{ℕ, ◌≡◌, ◌⊎◌, Bool, true, Result, Err}
 use Rattle.drm_links.specs.Told.{Known}
 use Rattle.drm_links.specs.Shelf.{Files}
 use Rattle.drm_links.specs.Source.{Input}
@@ -14,52 +14,59 @@ use Rattle.drm_receive.specs.Receive.{ReceiveRun}
 use Rattle.drm_receive.specs.Capture.{CaptureRun}
 use Rattle.drm_air.specs.Air.{AirRun}
 use Rattle.drm_exercise.specs.Run.{ExerciseRun}
-use Rattle.drm_faults.specs.Fault.{done_of, whole_of, report_status, Reports}
+use Rattle.drm_convert.specs.Run.{ConvertRun}
+use Rattle.drm_faults.specs.Fault.{done_of, whole_of, report_status, ReportsIf}
 use Rattle.drm_faults.specs.declared.fault.Fault.{Fault}
 use Rattle.drm_faults.specs.declared.fault.Fault.TheVariants.{NoMemory}
 use Rattle.drm_top.specs.declared.words.Command.{Command}
-use Rattle.drm_top.specs.declared.words.Command.TheVariants.{Fac, Check, Serve, Send, Receive, ReceiveCapture, Air, Show, Exercise}
+use Rattle.drm_top.specs.declared.words.Command.TheVariants.{Fac, Check, Serve, Send, Receive, ReceiveCapture, Air, Show, Exercise, Convert}
 
 -- a run that tells of no frames
 abbrev pub Whole : Result Bool Fault → (Result (Unit {0}) Fault → Type 0) → Type 0
 Whole ending P = (done : Result (Unit {0}) Fault) × (ending ≡ whole_of done) × P done
 
--- A run of this command with this ending: what it doesn't use stays as it is.
-abbrev pub CommandRun : {S I O D : Type 0} → Command → Result Bool Fault
-    → (S → Known Files) → S → S → (I → Known Input) → I → I → (O → Known Output) → O → O → (D → Known DockContents) → D → D → Type 0
-CommandRun Fac ending shelf_known shelf shelf' input_known input input' out_known out out' dock_known dock dock' =
-    Whole ending (λ done. FacRun done input_known input input' out_known out out') × (shelf' ≡ shelf) × (dock' ≡ dock)
-CommandRun (Check name) ending shelf_known shelf shelf' input_known input input' out_known out out' dock_known dock dock' =
-    Whole ending (λ done. CheckRun name done shelf_known shelf shelf' out_known out out') × (input' ≡ input) × (dock' ≡ dock)
-CommandRun (Serve name pace) ending shelf_known shelf shelf' input_known input input' out_known out out' dock_known dock dock' =
-    Whole ending (λ done. ServeRun name done shelf_known shelf shelf' out_known out out') × (input' ≡ input) × (dock' ≡ dock)
-CommandRun (Send name to pace) ending shelf_known shelf shelf' input_known input input' out_known out out' dock_known dock dock' =
-    Whole ending (λ done. SendRun name to pace done shelf_known shelf shelf' dock_known dock dock') × (input' ≡ input) × (out' ≡ out)
-CommandRun (Receive addresses rules) ending shelf_known shelf shelf' input_known input input' out_known out out' dock_known dock dock' =
-    ReceiveRun rules addresses ending dock_known dock dock' out_known out out' × (shelf' ≡ shelf) × (input' ≡ input)
-CommandRun (ReceiveCapture rules) ending shelf_known shelf shelf' input_known input input' out_known out out' dock_known dock dock' =
-    CaptureRun rules ending input_known input input' out_known out out' × (shelf' ≡ shelf) × (dock' ≡ dock)
-CommandRun (Air name script window) ending shelf_known shelf shelf' input_known input input' out_known out out' dock_known dock dock' =
-    AirRun name script window ending shelf_known shelf shelf' out_known out out' × (input' ≡ input) × (dock' ≡ dock)
-CommandRun Show ending shelf_known shelf shelf' input_known input input' out_known out out' dock_known dock dock' =
-    ShowRun ending input_known input input' out_known out out' × (shelf' ≡ shelf) × (dock' ≡ dock)
-CommandRun (Exercise n) ending shelf_known shelf shelf' input_known input input' out_known out out' dock_known dock dock' =
-    ExerciseRun n ending out_known out out' × (shelf' ≡ shelf) × (input' ≡ input) × (dock' ≡ dock)
+-- nothing was written to err, which can still be told
+abbrev pub IsQuiet : {E : Type 0} → Bool → E → E → Type 0
+IsQuiet told err err' = (told ≡ true) × (err' ≡ err)
+
+-- A run of this command with this ending: what it doesn't use stays as it is. Where `told` doesn't hold, err failed.
+abbrev pub CommandRun : {S I O E D : Type 0} → Command → Result Bool Fault → Bool
+    → (S → Known Files) → S → S → (I → Known Input) → I → I → (O → Known Output) → O → O → (E → Known Output) → E → E → (D → Known DockContents) → D → D → Type 0
+CommandRun Fac ending told shelf_known shelf shelf' input_known input input' out_known out out' err_known err err' dock_known dock dock' =
+    Whole ending (λ done. FacRun done input_known input input' out_known out out') × (shelf' ≡ shelf) × (dock' ≡ dock) × IsQuiet told err err'
+CommandRun (Check name) ending told shelf_known shelf shelf' input_known input input' out_known out out' err_known err err' dock_known dock dock' =
+    Whole ending (λ done. CheckRun name done shelf_known shelf shelf' out_known out out') × (input' ≡ input) × (dock' ≡ dock) × IsQuiet told err err'
+CommandRun (Serve name pace) ending told shelf_known shelf shelf' input_known input input' out_known out out' err_known err err' dock_known dock dock' =
+    Whole ending (λ done. ServeRun name done shelf_known shelf shelf' out_known out out') × (input' ≡ input) × (dock' ≡ dock) × IsQuiet told err err'
+CommandRun (Send name to pace) ending told shelf_known shelf shelf' input_known input input' out_known out out' err_known err err' dock_known dock dock' =
+    Whole ending (λ done. SendRun name to pace done shelf_known shelf shelf' dock_known dock dock') × (input' ≡ input) × (out' ≡ out) × IsQuiet told err err'
+CommandRun (Receive addresses rules) ending told shelf_known shelf shelf' input_known input input' out_known out out' err_known err err' dock_known dock dock' =
+    ReceiveRun rules addresses ending dock_known dock dock' out_known out out' × (shelf' ≡ shelf) × (input' ≡ input) × IsQuiet told err err'
+CommandRun (ReceiveCapture rules) ending told shelf_known shelf shelf' input_known input input' out_known out out' err_known err err' dock_known dock dock' =
+    CaptureRun rules ending input_known input input' out_known out out' × (shelf' ≡ shelf) × (dock' ≡ dock) × IsQuiet told err err'
+CommandRun (Air name script window) ending told shelf_known shelf shelf' input_known input input' out_known out out' err_known err err' dock_known dock dock' =
+    AirRun name script window ending shelf_known shelf shelf' out_known out out' × (input' ≡ input) × (dock' ≡ dock) × IsQuiet told err err'
+CommandRun Show ending told shelf_known shelf shelf' input_known input input' out_known out out' err_known err err' dock_known dock dock' =
+    ShowRun ending input_known input input' out_known out out' × (shelf' ≡ shelf) × (dock' ≡ dock) × IsQuiet told err err'
+CommandRun (Exercise n) ending told shelf_known shelf shelf' input_known input input' out_known out out' err_known err err' dock_known dock dock' =
+    ExerciseRun n ending out_known out out' × (shelf' ≡ shelf) × (input' ≡ input) × (dock' ≡ dock) × IsQuiet told err err'
+CommandRun (Convert carry window first frames) ending told shelf_known shelf shelf' input_known input input' out_known out out' err_known err err' dock_known dock dock' =
+    ConvertRun (record { window = window; first = first; told = frames }) carry ending told input_known input input' out_known out out' err_known err err' × (shelf' ≡ shelf) × (dock' ≡ dock)
 
 -- nothing of the outside was touched
 abbrev pub IsUntouched : {S I O D : Type 0} → S → S → I → I → O → O → D → D → Type 0
 IsUntouched shelf shelf' input input' out out' dock dock' = (shelf' ≡ shelf) × (input' ≡ input) × (out' ≡ out) × (dock' ≡ dock)
 
 -- What comes of words that ask for this command: a run of it; or memory ran out while they were read, and nothing was touched.
-abbrev pub Runs : {S I O D : Type 0} → Command → Result Bool Fault
-    → (S → Known Files) → S → S → (I → Known Input) → I → I → (O → Known Output) → O → O → (D → Known DockContents) → D → D → Type 0
-Runs command ending shelf_known shelf shelf' input_known input input' out_known out out' dock_known dock dock' =
-    CommandRun command ending shelf_known shelf shelf' input_known input input' out_known out out' dock_known dock dock'
-    ⊎ ((ending ≡ Err NoMemory) × IsUntouched shelf shelf' input input' out out' dock dock')
+abbrev pub Runs : {S I O E D : Type 0} → Command → Result Bool Fault → Bool
+    → (S → Known Files) → S → S → (I → Known Input) → I → I → (O → Known Output) → O → O → (E → Known Output) → E → E → (D → Known DockContents) → D → D → Type 0
+Runs command ending told shelf_known shelf shelf' input_known input input' out_known out out' err_known err err' dock_known dock dock' =
+    CommandRun command ending told shelf_known shelf shelf' input_known input input' out_known out out' err_known err err' dock_known dock dock'
+    ⊎ ((ending ≡ Err NoMemory) × IsUntouched shelf shelf' input input' out out' dock dock' × IsQuiet told err err')
 
--- How a run ends: its status, and the line of its fault on err.
-abbrev pub Ends : {E : Type 0} → Result Bool Fault → ℕ → (E → Known Output) → E → E → Type 0
-Ends ending code known err err' = (code ≡ report_status ending) × Reports (done_of ending) known err err'
+-- How a run ends: its status, and the line of its fault on err, behind what the command has written there, unless err failed.
+abbrev pub Ends : {E : Type 0} → Result Bool Fault → Bool → ℕ → (E → Known Output) → E → E → Type 0
+Ends ending told code known err err' = (code ≡ report_status ending) × ReportsIf told (done_of ending) known err err'
 
 -- a command that opens a link
 abbrev pub OpensALink : Command → Type 0
@@ -72,6 +79,7 @@ OpensALink (ReceiveCapture rules) = ⊥
 OpensALink (Air name script window) = ⊥
 OpensALink Show = ⊥
 OpensALink (Exercise n) = ⊥
+OpensALink (Convert carry window first frames) = ⊥
 
 -- a command that tells of frames or packets, some of which may be missing or bad
 abbrev pub WritesReport : Command → Type 0
@@ -84,3 +92,4 @@ WritesReport (ReceiveCapture rules) = Unit {0}
 WritesReport (Air name script window) = Unit {0}
 WritesReport Show = Unit {0}
 WritesReport (Exercise n) = Unit {0}
+WritesReport (Convert carry window first frames) = Unit {0}

@@ -1,14 +1,13 @@
--- The command lines whose command is built.
-use Rattle.std.specs.Prelude.{ℕ, ◌≡◌, ◌≤◌, List, None, Some, Result, Ok, Err, IsUtf8}
+-- The command lines, each with its command.
+use Rattle.std.specs.Prelude.{ℕ, ◌≡◌, ◌≤◌, List, None, Some, IfSome, IsUtf8}
+use Rattle.dcp_pft.specs.Carrying.{CarryFits}
 use Rattle.drm_words.specs.Line.{IsLine}
 use Rattle.drm_words.specs.declared.request.Request.{Request}
 use Rattle.drm_words.specs.declared.request.Request.TheVariants as requests
-use Rattle.word_forms.specs.declared.fault.WordsFault.{WordsFault}
-use Rattle.word_forms.specs.declared.fault.WordsFault.TheVariants as faults
 use Rattle.drm_receive.specs.Terms.{AreListed}
 use Rattle.mod_receiver.specs.Ranges.{AreInRange}
 use Rattle.drm_top.specs.declared.words.Command.{Command}
-use Rattle.drm_top.specs.declared.words.Command.TheVariants.{Fac, Check, Serve, Send, Receive, ReceiveCapture, Air, Show, Exercise}
+use Rattle.drm_top.specs.declared.words.Command.TheVariants.{Fac, Check, Serve, Send, Receive, ReceiveCapture, Air, Show, Exercise, Convert}
 
 -- what a command is asked for with
 abbrev pub request_of : Command → Request
@@ -21,19 +20,15 @@ request_of (ReceiveCapture rules) = requests.Receive None rules.window rules.fir
 request_of (Air name script window) = requests.Air name script window
 request_of Show = requests.Show
 request_of (Exercise n) = requests.Exercise n
+request_of (Convert carry window first frames) = requests.Convert carry window first frames
 
 -- the words are a command line of this command
 abbrev pub AsksFor : Command → List (List ℕ) → Type 0
 AsksFor command words = IsLine words (request_of command)
 
--- the words are no command line of a command that is built
+-- the words are no command line
 abbrev pub AsksForNothing : List (List ℕ) → Type 0
 AsksForNothing words = (command : Command) → AsksFor command words → ⊥
-
--- what a request comes to: its command, or none where it isn't built
-abbrev pub Asks : Result Command WordsFault → Request → Type 0
-Asks (Ok command) request = request ≡ request_of command
-Asks (Err fault) request = (fault ≡ faults.Words) × ((command : Command) → request ≡ request_of command → ⊥)
 
 -- its names are text, and its numbers are in their ranges
 abbrev pub IsInRange : Command → Type 0
@@ -46,3 +41,4 @@ IsInRange (ReceiveCapture rules) = AreInRange rules
 IsInRange (Air name script window) = IsUtf8 name × IsUtf8 script × (1 ≤ window) × (window ≤ 64)
 IsInRange Show = Unit {0}
 IsInRange (Exercise n) = (1 ≤ n) × (n ≤ 1000)
+IsInRange (Convert carry window first frames) = CarryFits carry × (1 ≤ window) × (window ≤ 64) × IfSome frames (λ n. (1 ≤ n) × (n ≤ 3000000))

@@ -1,16 +1,17 @@
 //! The top call.
 
-ghost use Rattle.std.specs.Prelude.{◌≡◌, ◌≤◌, ◌⊎◌, map, string_bytes, Result, Ok, IsErrOf, Bool, false};
+ghost use Rattle.std.specs.Prelude.{◌≡◌, ◌≤◌, ◌⊎◌, map, string_bytes, Result, Ok, IsErrOf, Bool, true, false};
 ghost use Rattle.drm_links.specs.Told.{HasCause, HasFailed, WhileTold};
 ghost use Rattle.drm_faults.specs.Lines.{fault_line};
 ghost use Rattle.drm_faults.specs.Fault.{WritesLine, whole_of};
 ghost use Rattle.drm_links.specs.Dock.{SendsNothing};
-ghost use Rattle.drm_top.specs.Command.{CommandRun, Runs, Ends, IsUntouched, OpensALink, WritesReport};
+ghost use Rattle.drm_top.specs.Command.{CommandRun, Runs, Ends, IsQuiet, IsUntouched, OpensALink, WritesReport};
 ghost use Rattle.drm_top.specs.Words.{AsksFor, AsksForNothing, IsInRange};
 ghost use Rattle.drm_top.specs.declared.words.Command.{Command};
 
 use crate::words::{Command, read_command, text};
 use drm_air::air;
+use drm_convert::convert;
 use drm_exercise::exercise;
 use drm_faults::Fault;
 use drm_inspect::{fac, show};
@@ -46,12 +47,12 @@ where
     // Words that ask for a command are a run of it, or memory ran out while they were read. Each command has a record: what is
     // loaded, read, opened, written and sent, when each refusal comes, and that nothing is lost where nothing fails.
     ensures runs { (command : Command) → AsksFor command (map string_bytes words.now)
-        → (ending : Result Bool Fault) × Ends ending result.code E.known err.old err.new
-        × Runs command ending S.known shelf.old shelf.new I.known input.old input.new
-        O.known out.old out.new D.known dock.old dock.new }
+        → (ending : Result Bool Fault) × (told : Bool) × (mid : E) × Ends ending told result.code E.known mid err.new
+        × Runs command ending told S.known shelf.old shelf.new I.known input.old input.new
+        O.known out.old out.new E.known err.old mid D.known dock.old dock.new }
     // Words that ask for none are refused, and nothing is touched.
     ensures nothing { AsksForNothing (map string_bytes words.now)
-        → (ending : Result Bool Fault) × Ends ending result.code E.known err.old err.new
+        → (ending : Result Bool Fault) × Ends ending true result.code E.known err.old err.new
         × (IsErrOf ending Fault.Words ⊎ IsErrOf ending Fault.NoMemory)
         × IsUntouched shelf.old shelf.new input.old input.new out.old out.new dock.old dock.new }
 
@@ -74,10 +75,12 @@ where
     ensures lacking { result.code ≡ 7 → (command : Command) × WritesReport command
         × AsksFor command (map string_bytes words.now) }
 {
-    match execute(rt, alloc, words, shelf, input, out, dock) {
+    // Whether `err` took all lines that it was given.
+    let mut told = true;
+    match execute(rt, alloc, words, shelf, input, out, err, &mut told, dock) {
         Ok(true) => Status { code: 0 },
         Ok(false) => Status { code: 7 },
-        Err(fault) => fault.report(err),
+        Err(fault) => fault.report_if(told, err),
     }
 }
 
@@ -90,22 +93,26 @@ pub fn no_memory<E: Sink>(err: &mut E) -> Status
     Fault::NoMemory.report(err)
 }
 
-fn execute<R: Threads + Sync, S: Shelf, I: Source, O: Sink, D: Dock>(
+fn execute<R: Threads + Sync, S: Shelf, I: Source, O: Sink, E: Sink, D: Dock>(
     rt: &R,
     alloc: Global,
     words: &[String],
     shelf: &mut S,
     input: &mut I,
     out: &mut O,
+    err: &mut E,
+    told: &mut bool,
     dock: &mut D,
 ) -> Result<bool, Fault>
 where
     D::L: Link + Send,
+    requires { told.old ≡ true }
     ensures runs { (command : Command) → AsksFor command (map string_bytes words.now)
-        → Runs command result S.known shelf.old shelf.new I.known input.old input.new
-        O.known out.old out.new D.known dock.old dock.new }
+        → Runs command result told.new S.known shelf.old shelf.new I.known input.old input.new
+        O.known out.old out.new E.known err.old err.new D.known dock.old dock.new }
     ensures nothing { AsksForNothing (map string_bytes words.now)
         → (IsErrOf result Fault.Words ⊎ IsErrOf result Fault.NoMemory)
+        × IsQuiet told.new err.old err.new
         × IsUntouched shelf.old shelf.new input.old input.new out.old out.new dock.old dock.new }
     ensures words { IsErrOf result Fault.Words → AsksForNothing (map string_bytes words.now) }
     ensures memory { IsErrOf result Fault.NoMemory → (input.new ≡ input.old) × (out.new ≡ out.old) }
@@ -122,29 +129,32 @@ where
         × AsksFor command (map string_bytes words.now) }
 {
     match read_command(alloc, words) {
-        Ok(command) => run_command(rt, alloc, &command, shelf, input, out, dock),
+        Ok(command) => run_command(rt, alloc, &command, shelf, input, out, err, told, dock),
         Err(WordsFault::Words) => Err(Fault::Words),
         Err(WordsFault::NoMemory) => Err(Fault::NoMemory),
     }
 }
 
-fn run_command<R: Threads + Sync, S: Shelf, I: Source, O: Sink, D: Dock>(
+fn run_command<R: Threads + Sync, S: Shelf, I: Source, O: Sink, E: Sink, D: Dock>(
     rt: &R,
     alloc: Global,
     command: &Command,
     shelf: &mut S,
     input: &mut I,
     out: &mut O,
+    err: &mut E,
+    told: &mut bool,
     dock: &mut D,
 ) -> Result<bool, Fault>
 where
     D::L: Link + Send,
-    requires { IsInRange command.now }
+    requires range { IsInRange command.now }
+    requires told { told.old ≡ true }
     ensures words { IsErrOf result Fault.Words → ⊥ }
     ensures memory { IsErrOf result Fault.NoMemory → (input.new ≡ input.old) × (out.new ≡ out.old) }
-    ensures run { CommandRun command.now result S.known shelf.old shelf.new
+    ensures run { CommandRun command.now result told.new S.known shelf.old shelf.new
         I.known input.old input.new O.known out.old out.new
-        D.known dock.old dock.new }
+        E.known err.old err.new D.known dock.old dock.new }
     ensures read { IsErrOf result Fault.Read → HasFailed (I.known input.old) (I.known input.new)
         ⊎ HasFailed (S.known shelf.old) (S.known shelf.new) }
     ensures write { HasCause (O.known out.old) (O.known out.new) (IsErrOf result Fault.Write) }
@@ -170,6 +180,14 @@ where
         } => air(rt, alloc, text(name), text(script), *window, shelf, out),
         Command::Show => show(alloc, input, out),
         Command::Exercise { n } => exercise(rt, alloc, *n, out),
+        Command::Convert {
+            carry,
+            window,
+            first,
+            frames,
+        } => convert(
+            alloc, *carry, *window, *first, *frames, input, out, err, told,
+        ),
     }
 }
 

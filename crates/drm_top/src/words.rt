@@ -1,17 +1,18 @@
-//! The commands that are built.
+//! The commands.
 
 ghost use Rattle.std.specs.Prelude.{◌≡◌, ◌⊎◌, IfOk, IsUtf8, map, string_bytes};
-ghost use Rattle.drm_top.specs.Words.{AsksFor, AsksForNothing, Asks, IsInRange};
+ghost use Rattle.drm_top.specs.Words.{AsksFor, AsksForNothing, IsInRange, request_of};
 ghost use Rattle.drm_words.specs.Table.{HasTextNames};
 ghost use Rattle.drm_top.specs.declared.words.Command.{Command};
 
+use dcp_pft::Carry;
 use drm_bits::Octets;
 use drm_links::Address;
 use drm_words::{Addresses, Request, WordsFault, read_words};
 use mod_receiver::Rules;
 use std::alloc::Global;
 
-/// A command that is built.
+/// A command, with what it is asked for with.
 #[derive(Drop)]
 pub enum Command {
     Fac,
@@ -49,6 +50,13 @@ pub enum Command {
     Exercise {
         n: u32,
     },
+    /// `convert`; the window counts packets.
+    Convert {
+        carry: Carry,
+        window: u8,
+        first: Option<u16>,
+        frames: Option<u64>,
+    },
 }
 
 /// The command of a command line.
@@ -62,22 +70,21 @@ pub fn read_command(alloc: Global, words: &[String]) -> Result<Command, WordsFau
     ensures in_range { IfOk result IsInRange }
 {
     match read_words(alloc, words) {
-        Ok(request) => command_of(request),
+        Ok(request) => Ok(command_of(request)),
         Err(fault) => Err(fault),
     }
 }
 
-// No other command is built yet.
-fn command_of(request: Request) -> Result<Command, WordsFault>
-    ensures asks { Asks result request }
+fn command_of(request: Request) -> Command
+    ensures { request ≡ request_of result }
 {
     match request {
-        Request::Fac => Ok(Command::Fac),
-        Request::Check { name } => Ok(Command::Check { name }),
-        Request::Serve { name, to, pace } => Ok(match to {
+        Request::Fac => Command::Fac,
+        Request::Check { name } => Command::Check { name },
+        Request::Serve { name, to, pace } => match to {
             None => Command::Serve { name, pace },
             Some(to) => Command::Send { name, to, pace },
-        }),
+        },
         Request::Receive {
             addresses,
             window,
@@ -93,23 +100,33 @@ fn command_of(request: Request) -> Result<Command, WordsFault>
                 idle,
                 limit,
             };
-            Ok(match addresses {
+            match addresses {
                 Some(addresses) => Command::Receive { addresses, rules },
                 None => Command::ReceiveCapture { rules },
-            })
+            }
         }
         Request::Air {
             name,
             script,
             window,
-        } => Ok(Command::Air {
+        } => Command::Air {
             name,
             script,
             window,
-        }),
-        Request::Show => Ok(Command::Show),
-        Request::Exercise { n } => Ok(Command::Exercise { n }),
-        _ => Err(WordsFault::Words),
+        },
+        Request::Show => Command::Show,
+        Request::Exercise { n } => Command::Exercise { n },
+        Request::Convert {
+            carry,
+            window,
+            first,
+            frames,
+        } => Command::Convert {
+            carry,
+            window,
+            first,
+            frames,
+        },
     }
 }
 

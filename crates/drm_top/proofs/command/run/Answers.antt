@@ -1,38 +1,62 @@
-use Rattle.std.proofs.Common.{◌≡◌, ◌∙◌, ℕ, sym, ap, refl, Bool, Result, Ok, Err}
+use Rattle.std.proofs.Common.{◌≡◌, ◌∙◌, ℕ, sym, ap, refl, subst, Bool, Result, Ok, Err}
 use Rattle.drm_faults.specs.declared.fault.Fault.{Fault}
-use Rattle.drm_faults.specs.Fault.{clean_status}
+use Rattle.drm_faults.specs.Fault.{clean_status, WritesLine}
 use Rattle.drm_faults.proofs.StatusLemmas.{two_is_words, four_is_read, five_is_write, six_is_link, one_is_memory}
+use Rattle.drm_faults.specs.Lines.{fault_line}
+use Rattle.drm_top.proofs.CommandLemmas.{done_told, fault_told}
 use Rattle.drm_top.proofs.command.run.Goals as goal
 
 -- ---- the runs
 
 pub returns-in-Ok-true-clause-runs : goal.returns-in-Ok-true-clause-runs
-returns-in-Ok-true-clause-runs g c = λ command asked. (Ok c.in-Ok-true.field-0, (sym (ap clean_status c.in-Ok-true.field-0-test), refl), c.in-Ok-true.ensures.runs command asked)
+returns-in-Ok-true-clause-runs g c = λ command asked. (
+  Ok c.in-Ok-true.field-0,
+  c.execute.new.told,
+  c.execute.new.err,
+  (sym (ap clean_status c.in-Ok-true.field-0-test), done_told c.execute.new.told c.in-Ok-true.field-0 g.E.Sink.known c.execute.new.err),
+  c.in-Ok-true.ensures.runs command asked,
+)
 
 pub returns-in-Ok-false-clause-runs : goal.returns-in-Ok-false-clause-runs
-returns-in-Ok-false-clause-runs g c = λ command asked. (Ok c.in-Ok-false.field-0, (sym (ap clean_status c.in-Ok-false.field-0-test), refl), c.in-Ok-false.ensures.runs command asked)
+returns-in-Ok-false-clause-runs g c = λ command asked. (
+  Ok c.in-Ok-false.field-0,
+  c.execute.new.told,
+  c.execute.new.err,
+  (sym (ap clean_status c.in-Ok-false.field-0-test), done_told c.execute.new.told c.in-Ok-false.field-0 g.E.Sink.known c.execute.new.err),
+  c.in-Ok-false.ensures.runs command asked,
+)
 
 pub returns-in-Err-clause-runs : goal.returns-in-Err-clause-runs
-returns-in-Err-clause-runs g c = λ command asked. (Err c.in-Err.fault, (c.report.ensures.status, c.report.ensures.line), c.in-Err.ensures.runs command asked)
+returns-in-Err-clause-runs g c = λ command asked. (
+  Err c.in-Err.fault,
+  c.execute.new.told,
+  c.execute.new.err,
+  (c.report_if.ensures.status, fault_told c.execute.new.told c.in-Err.fault g.E.Sink.known c.execute.new.err c.report_if.new.err c.report_if.ensures.line c.report_if.ensures.still),
+  c.in-Err.ensures.runs command asked,
+)
 
 pub returns-in-Err-clause-nothing : goal.returns-in-Err-clause-nothing
 returns-in-Err-clause-nothing g c = λ none.
-    let refused = c.in-Err.ensures.nothing none in
-    (Err c.in-Err.fault, (c.report.ensures.status, c.report.ensures.line), refused.0, refused.1)
+    let refused = c.in-Err.ensures.nothing none in (
+      Err c.in-Err.fault,
+      (c.report_if.ensures.status, subst (λ e. WritesLine (fault_line c.in-Err.fault) g.E.Sink.known e c.report_if.new.err) refused.1.1 (c.report_if.ensures.line refused.1.0)),
+      refused.0,
+      refused.2,
+    )
 
 -- ---- the statuses
 
 pub returns-in-Err-clause-words : goal.returns-in-Err-clause-words
-returns-in-Err-clause-words g c = λ two. c.in-Err.ensures.words (ap Err (two_is_words c.in-Err.fault (sym c.report.ensures.status ∙ two)))
+returns-in-Err-clause-words g c = λ two. c.in-Err.ensures.words (ap Err (two_is_words c.in-Err.fault (sym c.report_if.ensures.status ∙ two)))
 
 pub returns-in-Err-clause-read : goal.returns-in-Err-clause-read
-returns-in-Err-clause-read g c = λ four. c.in-Err.ensures.read (ap Err (four_is_read c.in-Err.fault (sym c.report.ensures.status ∙ four)))
+returns-in-Err-clause-read g c = λ four. c.in-Err.ensures.read (ap Err (four_is_read c.in-Err.fault (sym c.report_if.ensures.status ∙ four)))
 
 pub returns-in-Err-clause-write : goal.returns-in-Err-clause-write
-returns-in-Err-clause-write g c = λ five. c.in-Err.ensures.write.rose (ap Err (five_is_write c.in-Err.fault (sym c.report.ensures.status ∙ five)))
+returns-in-Err-clause-write g c = λ five. c.in-Err.ensures.write.rose (ap Err (five_is_write c.in-Err.fault (sym c.report_if.ensures.status ∙ five)))
 
 pub returns-in-Err-clause-link : goal.returns-in-Err-clause-link
-returns-in-Err-clause-link g c = λ six. c.in-Err.ensures.link (ap Err (six_is_link c.in-Err.fault (sym c.report.ensures.status ∙ six)))
+returns-in-Err-clause-link g c = λ six. c.in-Err.ensures.link (ap Err (six_is_link c.in-Err.fault (sym c.report_if.ensures.status ∙ six)))
 
 pub returns-in-Err-clause-unsent : goal.returns-in-Err-clause-unsent
-returns-in-Err-clause-unsent g c = λ one. c.in-Err.ensures.unsent (ap Err (one_is_memory c.in-Err.fault (sym c.report.ensures.status ∙ one)))
+returns-in-Err-clause-unsent g c = λ one. c.in-Err.ensures.unsent (ap Err (one_is_memory c.in-Err.fault (sym c.report_if.ensures.status ∙ one)))

@@ -1,6 +1,6 @@
 use Rattle.std.proofs.Common.{◌≡◌, inl, inr, refl, subst, le_refl}
 use Rattle.drm_faults.specs.declared.fault.Fault.TheVariants as faults
-use Rattle.drm_top.proofs.CommandLemmas.{fault_of_whole, whole_lacks_none, dock_still, not_else}
+use Rattle.drm_top.proofs.CommandLemmas.{fault_of_whole, whole_lacks_none, dock_still, not_else, not_convert, not_a_link}
 use Rattle.drm_receive.proofs.OpeningLemmas.{opens_unsent}
 use Rattle.drm_top.proofs.command.run_command.Goals as goal
 
@@ -8,7 +8,7 @@ pub returns-in-Fac : goal.returns-in-Fac
 returns-in-Fac g c = record {
   words = λ e. c.fac.ensures.words (fault_of_whole c.whole.result c.fac.result faults.Words c.whole.ensures e);
   memory = λ e. absurd (c.fac.ensures.memory (fault_of_whole c.whole.result c.fac.result faults.NoMemory c.whole.ensures e));
-  run = rw c.in-Fac.is ((c.fac.result, c.whole.ensures, c.fac.ensures.run), refl, refl);
+  run = rw c.in-Fac.is ((c.fac.result, c.whole.ensures, c.fac.ensures.run), refl, refl, (c.requires.told, refl));
   read = λ e. inl (c.fac.ensures.run.read_cause.rose (fault_of_whole c.whole.result c.fac.result faults.Read c.whole.ensures e));
   write = record { later = c.fac.ensures.run.write_cause.later; rose = λ e. c.fac.ensures.run.write_cause.rose (fault_of_whole c.whole.result c.fac.result faults.Write c.whole.ensures e) };
   link = λ e. absurd (c.fac.ensures.link (fault_of_whole c.whole.result c.fac.result faults.Link c.whole.ensures e));
@@ -21,7 +21,7 @@ pub returns-in-Check : goal.returns-in-Check
 returns-in-Check g c = record {
   words = λ e. c.check.ensures.words (fault_of_whole c.whole-in-Check.result c.check.result faults.Words c.whole-in-Check.ensures e);
   memory = λ e. (refl, c.check.ensures.memory (fault_of_whole c.whole-in-Check.result c.check.result faults.NoMemory c.whole-in-Check.ensures e));
-  run = rw c.in-Check.is ((c.check.result, c.whole-in-Check.ensures, rw (← c.text.ensures) c.check.ensures.run), refl, refl);
+  run = rw c.in-Check.is ((c.check.result, c.whole-in-Check.ensures, rw (← c.text.ensures) c.check.ensures.run), refl, refl, (c.requires.told, refl));
   read = λ e. inr (c.check.ensures.run.read_cause.rose (fault_of_whole c.whole-in-Check.result c.check.result faults.Read c.whole-in-Check.ensures e));
   write = record { later = c.check.ensures.run.write_cause.later; rose = λ e. c.check.ensures.run.write_cause.rose (fault_of_whole c.whole-in-Check.result c.check.result faults.Write c.whole-in-Check.ensures e) };
   link = λ e. absurd (c.check.ensures.link (fault_of_whole c.whole-in-Check.result c.check.result faults.Link c.whole-in-Check.ensures e));
@@ -34,7 +34,7 @@ pub returns-in-Serve : goal.returns-in-Serve
 returns-in-Serve g c = record {
   words = λ e. c.serve.ensures.words (fault_of_whole c.whole-in-Serve.result c.serve.result faults.Words c.whole-in-Serve.ensures e);
   memory = λ e. (refl, c.serve.ensures.memory (fault_of_whole c.whole-in-Serve.result c.serve.result faults.NoMemory c.whole-in-Serve.ensures e));
-  run = rw c.in-Serve.is ((c.serve.result, c.whole-in-Serve.ensures, rw (← c.text-in-Serve.ensures) c.serve.ensures.run), refl, refl);
+  run = rw c.in-Serve.is ((c.serve.result, c.whole-in-Serve.ensures, rw (← c.text-in-Serve.ensures) c.serve.ensures.run), refl, refl, (c.requires.told, refl));
   read = λ e. inr (c.serve.ensures.run.read_cause.rose (fault_of_whole c.whole-in-Serve.result c.serve.result faults.Read c.whole-in-Serve.ensures e));
   write = record { later = c.serve.ensures.run.write_cause.later; rose = λ e. c.serve.ensures.run.write_cause.rose (fault_of_whole c.whole-in-Serve.result c.serve.result faults.Write c.whole-in-Serve.ensures e) };
   link = λ e. absurd (c.serve.ensures.link (fault_of_whole c.whole-in-Serve.result c.serve.result faults.Link c.whole-in-Serve.ensures e));
@@ -47,7 +47,7 @@ pub returns-in-Send : goal.returns-in-Send
 returns-in-Send g c = record {
   words = λ e. c.send.ensures.words (fault_of_whole c.whole-in-Send.result c.send.result faults.Words c.whole-in-Send.ensures e);
   memory = λ e. (refl, refl);
-  run = rw c.in-Send.is ((c.send.result, c.whole-in-Send.ensures, rw (← c.text-in-Send.ensures) c.send.ensures.run), refl, refl);
+  run = rw c.in-Send.is ((c.send.result, c.whole-in-Send.ensures, rw (← c.text-in-Send.ensures) c.send.ensures.run), refl, refl, (c.requires.told, refl));
   read = λ e. inr (c.send.ensures.read (fault_of_whole c.whole-in-Send.result c.send.result faults.Read c.whole-in-Send.ensures e));
   write = record { later = le_refl _; rose = λ e. absurd (c.send.ensures.write (fault_of_whole c.whole-in-Send.result c.send.result faults.Write c.whole-in-Send.ensures e)) };
   link = λ e. rw c.in-Send.is tt;
@@ -57,7 +57,7 @@ returns-in-Send g c = record {
 }
 
 pub returns-in-Receive-clause-run : goal.returns-in-Receive-clause-run
-returns-in-Receive-clause-run g c = rw c.in-Receive.is (c.receive.ensures.run, refl, refl)
+returns-in-Receive-clause-run g c = rw c.in-Receive.is (c.receive.ensures.run, refl, refl, (c.requires.told, refl))
 
 pub returns-in-Receive-clause-unsent : goal.returns-in-Receive-clause-unsent
 returns-in-Receive-clause-unsent g c = λ e. opens_unsent c.in-Receive.addresses c.receive.result (g.D.Dock.known c.args.dock.now) (g.D.Dock.known c.receive.new.dock) c.receive.ensures.run.opens
@@ -68,7 +68,7 @@ returns-in-ReceiveCapture g c =
     record {
       words = λ e. run.kind faults.Words e;
       memory = λ e. run.untouched e;
-      run = rw c.in-ReceiveCapture.is (run, refl, refl);
+      run = rw c.in-ReceiveCapture.is (run, refl, refl, (c.requires.told, refl));
       read = λ e. inl (run.read_cause.rose e);
       write = run.write_cause;
       link = λ e. absurd (run.kind faults.Link e);
@@ -83,7 +83,7 @@ returns-in-Show g c =
     record {
       words = λ e. run.kind faults.Words e;
       memory = λ e. run.untouched e;
-      run = rw c.in-Show.is (run, refl, refl);
+      run = rw c.in-Show.is (run, refl, refl, (c.requires.told, refl));
       read = λ e. inl (run.read_cause.rose e);
       write = run.write_cause;
       link = λ e. absurd (run.kind faults.Link e);
@@ -98,11 +98,26 @@ returns-in-Exercise g c =
     record {
       words = λ e. not_else faults.Words (λ is. cc) (λ is. cc) (run.kind faults.Words e);
       memory = λ e. (refl, run.untouched e);
-      run = rw c.in-Exercise.is (run, refl, refl, refl);
+      run = rw c.in-Exercise.is (run, refl, refl, refl, (c.requires.told, refl));
       read = λ e. absurd (not_else faults.Read (λ is. cc) (λ is. cc) (run.kind faults.Read e));
       write = run.write_cause;
       link = λ e. absurd (not_else faults.Link (λ is. cc) (λ is. cc) (run.kind faults.Link e));
       lacking = λ e. rw c.in-Exercise.is tt;
+      unsent = λ e. dock_still (g.D.Dock.known c.args.dock.now);
+      dock = λ none. refl;
+    }
+
+pub returns-in-Convert : goal.returns-in-Convert
+returns-in-Convert g c =
+    let run = c.convert.ensures.run in
+    record {
+      words = λ e. not_convert (record { window = c.in-Convert.window; first = c.in-Convert.first; told = c.in-Convert.frames }) c.in-Convert.carry _ _ _ _ _ _ _ _ run.ends e;
+      memory = λ e. (let none = run.untouched e in (none.0, none.1));
+      run = rw c.in-Convert.is (run, refl, refl);
+      read = λ e. inl (run.read_cause.rose e);
+      write = run.write_cause;
+      link = λ e. absurd (not_a_link (record { window = c.in-Convert.window; first = c.in-Convert.first; told = c.in-Convert.frames }) c.in-Convert.carry _ _ _ _ _ _ _ _ run.ends e);
+      lacking = λ e. rw c.in-Convert.is tt;
       unsent = λ e. dock_still (g.D.Dock.known c.args.dock.now);
       dock = λ none. refl;
     }

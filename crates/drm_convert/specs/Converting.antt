@@ -1,0 +1,50 @@
+-- What becomes of what a collector gives.
+use Rattle.std.specs.Prelude.{ℕ, ◌≡◌, ◌≢◌, ◌+◌, ◌%◌, ◌^◌, ◌⊎◌, Bool, true, false, List, [], ◌∷◌, ◌++◌, length, IfSome, Option}
+use Rattle.std.specs.List.{flat_map}
+use Rattle.dcp_pft.specs.declared.carry.Carry.{Carry}
+use Rattle.dcp_af.specs.declared.fault.AfFault.{AfFault}
+use Rattle.dcp_af.specs.Packet.{AfPacket, IsAf}
+use Rattle.dcp_af.specs.Faults.{IsFault}
+use Rattle.dcp_collect.specs.Runs.{Item, Packet, Lost, Damaged}
+use Rattle.mod_feed.specs.declared.item.BadFault.TheVariants.{Code, Af}
+use Rattle.report_lines.specs.Report.{missing_line, bad_line}
+use Rattle.drm_convert.specs.Carried.{Carried, is_too_long}
+
+-- what is written of an item, and the line that names it
+pub record Part : Type 0 where
+  pub out : List ℕ
+  pub line : List ℕ
+
+-- the bytes are an AF packet
+abbrev pub IsAny : List ℕ → Type 0
+IsAny bytes = (af : AfPacket) × IsAf af bytes
+
+-- the sequence number of the packet with this number, where number 0 has the first one
+abbrev pub sequence_of : ℕ → ℕ → ℕ
+sequence_of first index = (first + index) % 2 ^ 16
+
+-- An AF packet is written under the carry; each other item has a line.
+abbrev pub Converts : Carry → ℕ → Item → Part → Type 0
+Converts carry first (Packet index bytes) part =
+    (IsAny bytes × (is_too_long carry (length bytes) ≡ false) × Carried carry (sequence_of first index) bytes part.out × (part.line ≡ []))
+    ⊎ ((fault : AfFault) × IsFault fault bytes × (part.out ≡ []) × (part.line ≡ bad_line index (Af fault)))
+Converts carry first (Lost index had total) part = (part.out ≡ []) × (part.line ≡ missing_line index had total)
+Converts carry first (Damaged index) part = (part.out ≡ []) × (part.line ≡ bad_line index Code)
+
+-- an AF packet with this number is too long for the carry
+abbrev pub IsTooLarge : Carry → Item → ℕ → Type 0
+IsTooLarge carry (Packet index bytes) number = (number ≡ index) × IsAny bytes × (is_too_long carry (length bytes) ≡ true)
+IsTooLarge carry item number = ⊥
+
+-- each item has its part
+abbrev pub ConvertsAll : Carry → ℕ → List Item → List Part → Type 0
+ConvertsAll carry first [] [] = Unit {0}
+ConvertsAll carry first (item ∷ items) (part ∷ parts) = Converts carry first item part × ConvertsAll carry first items parts
+ConvertsAll carry first items parts = ⊥
+
+-- what is written of them, and the lines that name them
+abbrev pub text_of : List Part → List ℕ
+text_of parts = flat_map (λ part. part.out) parts
+
+abbrev pub lines_of : List Part → List ℕ
+lines_of parts = flat_map (λ part. part.line) parts

@@ -1,0 +1,136 @@
+-- The conversion of a capture.
+use Rattle.std.specs.Prelude.{ℕ, ◌≡◌, ◌<◌, ◌⊎◌, All, Bool, true, false, List, [], ◌∷◌, ◌++◌, length, take, Option, Result, Ok, Err, unwrap_or}
+use Rattle.dcp_pft.specs.declared.carry.Carry.{Carry}
+use Rattle.dcp_collect.specs.declared.taken.Taken.{Taken}
+use Rattle.dcp_collect.specs.State.{State, made, ready, after_finish}
+use Rattle.dcp_collect.specs.Runs.{Item, IsItem, Takes, Steps, Run}
+use Rattle.drm_links.specs.Told.{Known, HasCause}
+use Rattle.drm_links.specs.Source.{Input, Inputs}
+use Rattle.drm_links.specs.Sink.{Output, Outputs, IsFront}
+use Rattle.drm_capture.specs.Front.{IsWhole}
+use Rattle.drm_capture.specs.Capture.{IsCaptureOf, End}
+use Rattle.drm_capture.specs.Walking.{WalkerState}
+use Rattle.drm_capture.specs.Reading.{HasRead, Stops}
+use Rattle.drm_capture.specs.declared.packets.CaptureStop.{CaptureStop}
+use Rattle.drm_capture.specs.declared.packets.CaptureStop.TheVariants as stops
+use Rattle.drm_faults.specs.declared.fault.Fault.{Fault}
+use Rattle.drm_faults.specs.declared.fault.Fault.TheVariants as faults
+use Rattle.drm_convert.specs.Converting.{Part, ConvertsAll, IsTooLarge, text_of, lines_of}
+use Rattle.drm_convert.specs.Naming.{Names}
+use Rattle.drm_convert.specs.Draining.{is_full, Given, are_clean}
+
+-- by what a conversion reads: the window, the first sequence number and the number of items, where these are told
+pub record Terms : Type 0 where
+  pub window : ℕ
+  pub first : Option ℕ
+  pub told : Option ℕ
+
+-- the sequence number of number 0, where something was kept
+abbrev pub first_of : State → ℕ
+first_of c = unwrap_or c.first 0
+
+-- ---- which packets are read
+
+-- as many items as are told, or more, are given of these packets
+abbrev pub HasEnough : Terms → List (List ℕ) → Type 0
+HasEnough terms packets =
+    (taken : List Taken) × (items : List Item) × (end : State) × Steps (made terms.window terms.first) packets taken items end
+    × (is_full terms.told (length items) ≡ true)
+
+-- fewer packets aren't enough
+abbrev pub NoneShorter : Terms → List (List ℕ) → Type 0
+NoneShorter terms packets = (k : ℕ) → k < length packets → HasEnough terms (take k packets) → ⊥
+
+-- The packets are the first ones of the input, or all of it.
+abbrev pub AreRead : List (List ℕ) → Known Input → Known Input → Type 0
+AreRead packets before after =
+    ((reader : WalkerState) × HasRead packets reader before after) ⊎ Inputs before after (λ left rest. IsCaptureOf left packets End)
+
+-- Enough of them are read, or all.
+abbrev pub AreEnough : Terms → List (List ℕ) → Known Input → Known Input → Type 0
+AreEnough terms packets before after =
+    (((reader : WalkerState) × HasRead packets reader before after) × HasEnough terms packets)
+    ⊎ Inputs before after (λ left rest. IsCaptureOf left packets End)
+
+-- ---- what they become
+
+-- The items that a collector gives of these packets, up to the told number, and their parts.
+pub record IsConversion (terms : Terms) (carry : Carry) (packets : List (List ℕ)) (parts : List Part) : Type 0 where
+  pub taken : List Taken
+  pub items : List Item
+  pub run : Run terms.window terms.first terms.told packets taken items
+  pub converts : ConvertsAll carry (first_of run.mid) items parts
+
+-- Those that it gives before any end, and their parts.
+pub record IsBroken (terms : Terms) (carry : Carry) (packets : List (List ℕ)) (parts : List Part) : Type 0 where
+  pub taken : List Taken
+  pub items : List Item
+  pub mid : State
+  pub steps : Steps (made terms.window terms.first) packets taken items mid
+  pub converts : ConvertsAll carry (first_of mid) items parts
+
+-- what a collector comes to before it gives what is ready: it takes one packet more, or is finished
+abbrev pub ComesTo : Terms → List (List ℕ) → State → State → Type 0
+ComesTo terms later mid state =
+    ((bytes : List ℕ) × (answer : Taken) × (later ≡ bytes ∷ []) × Takes mid bytes answer state) ⊎ ((later ≡ []) × (state ≡ after_finish mid terms.told))
+
+-- These are some first items of those that the packets give, and then comes this one.
+pub record ComesAt (terms : Terms) (packets : List (List ℕ)) (items : List Item) (item : Item) (last : State) : Type 0 where
+  pub before : List (List ℕ)
+  pub later : List (List ℕ)
+  pub are : packets ≡ before ++ later
+  pub taken : List Taken
+  pub during : List Item
+  pub mid : State
+  pub steps : Steps (made terms.window terms.first) before taken during mid
+  pub state : State
+  pub comes : ComesTo terms later mid state
+  pub more : List Item
+  pub gives : Given state more last
+  pub items_are : items ≡ during ++ more
+  pub is_ready : ready last ≡ true
+  pub is_next : IsItem last item
+
+-- ---- a run
+
+-- No more can be read for this reason: what the packets read so far become is written and named.
+abbrev pub EndsEarly : Terms → Carry → CaptureStop → Bool → Known Input → Known Input → Known Output → Known Output → Known Output → Known Output → Type 0
+EndsEarly terms carry stop told before after out out' err err' =
+    (packets : List (List ℕ)) × All IsWhole packets × Stops packets stop before after × (HasEnough terms packets → ⊥) × NoneShorter terms packets
+    × (parts : List Part) × IsBroken terms carry packets parts
+    × Outputs out out' (λ text. text ≡ text_of parts) × Names true told err err' (lines_of parts)
+
+-- What is written and named: all that the packets become; after a failed write a front of it; where no more can be read, what
+-- the packets read so far become; at a packet that is too long, what stands before it; where memory is wanting, nothing.
+abbrev pub Ends : Terms → Carry → Result Bool Fault → Bool → Known Input → Known Input → Known Output → Known Output → Known Output → Known Output → Type 0
+Ends terms carry (Ok clean) told before after out out' err err' =
+    (packets : List (List ℕ)) × AreEnough terms packets before after × NoneShorter terms packets
+    × (parts : List Part) × IsConversion terms carry packets parts
+    × Outputs out out' (λ text. text ≡ text_of parts) × Names true told err err' (lines_of parts) × (clean ≡ are_clean parts)
+Ends terms carry (Err faults.Write) told before after out out' err err' =
+    (packets : List (List ℕ)) × AreRead packets before after × NoneShorter terms packets
+    × (items : List Item) × (item : Item) × (last : State) × ComesAt terms packets items item last
+    × (parts : List Part) × ConvertsAll carry (first_of last) (items ++ item ∷ []) parts
+    × Outputs out out' (IsFront (text_of parts)) × Names true told err err' (lines_of parts)
+Ends terms carry (Err (faults.PacketSize number)) told before after out out' err err' =
+    (packets : List (List ℕ)) × AreRead packets before after × NoneShorter terms packets
+    × (items : List Item) × (item : Item) × (last : State) × ComesAt terms packets items item last × IsTooLarge carry item number
+    × (parts : List Part) × ConvertsAll carry (first_of last) items parts
+    × Outputs out out' (λ text. text ≡ text_of parts) × Names true told err err' (lines_of parts)
+Ends terms carry (Err faults.Read) told before after out out' err err' = EndsEarly terms carry stops.Read told before after out out' err err'
+Ends terms carry (Err (faults.Capture fault)) told before after out out' err err' = EndsEarly terms carry (stops.Capture fault) told before after out out' err err'
+Ends terms carry (Err faults.CaptureTooLong) told before after out out' err err' = EndsEarly terms carry stops.TooLong told before after out out' err err'
+Ends terms carry (Err faults.NoMemory) told before after out out' err err' = (after ≡ before) × (out' ≡ out) × (err' ≡ err)
+Ends terms carry (Err fault) told before after out out' err err' = ⊥
+
+-- A run of `convert`.
+pub record ConvertRun {I O E : Type 0} (terms : Terms) (carry : Carry) (ending : Result Bool Fault) (told : Bool)
+    (input_known : I → Known Input) (input input' : I)
+    (out_known : O → Known Output) (out out' : O)
+    (err_known : E → Known Output) (err err' : E) : Type 0 where
+  pub ends : Ends terms carry ending told (input_known input) (input_known input') (out_known out) (out_known out') (err_known err) (err_known err')
+  -- After want of memory nothing was read, written or named.
+  pub untouched : ending ≡ Err faults.NoMemory → (input' ≡ input) × (out' ≡ out) × (err' ≡ err)
+  -- The counts of faults never fall. A read or a write failed only where that of input or of out rose.
+  pub read_cause : HasCause (input_known input) (input_known input') (ending ≡ Err faults.Read)
+  pub write_cause : HasCause (out_known out) (out_known out') (ending ≡ Err faults.Write)

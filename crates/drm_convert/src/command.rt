@@ -1,0 +1,71 @@
+//! The command `convert`.
+
+ghost use Rattle.std.specs.Prelude.{◌≡◌, ◌≤◌, true, IfSome};
+ghost use Rattle.dcp_pft.specs.Carrying.{CarryFits};
+ghost use Rattle.drm_convert.specs.Reading.{ending_of};
+ghost use Rattle.drm_convert.specs.Run.{Terms, ConvertRun};
+
+use crate::Cutter;
+use crate::item::Halt;
+use crate::naming::Progress;
+use crate::reading::{Unconverted, convert_packets};
+use dcp_collect::Collector;
+use dcp_pft::Carry;
+use drm_capture::Packets;
+use drm_faults::Fault;
+use drm_links::{Sink, Source};
+use std::alloc::Global;
+
+/// Reads a capture from `input`, and writes its packets under a carry to `out`; each that is missing or bad is named on
+/// `err`. Answers whether there is none. A failure of `err` changes nothing, but then `told` doesn't hold afterwards.
+pub fn convert<I: Source, O: Sink, E: Sink>(
+    alloc: Global,
+    carry: Carry,
+    window: u8,
+    first: Option<u16>,
+    frames: Option<u64>,
+    input: &mut I,
+    out: &mut O,
+    err: &mut E,
+    told: &mut bool,
+) -> Result<bool, Fault>
+    requires carry { CarryFits carry }
+    requires window { (1 ≤ window) × (window ≤ 64) }
+    requires frames { IfSome frames (λ n. (1 ≤ n) × (n ≤ 3000000)) }
+    requires told { told.old ≡ true }
+    ensures run { ConvertRun (record { window = window; first = first; told = frames }) carry result told.new
+        I.known input.old input.new O.known out.old out.new E.known err.old err.new }
+{
+    let mut collector = Collector::make(alloc, window, first)?;
+    let mut cutter = Cutter::make(alloc, carry)?;
+    let mut packets = Packets::make(alloc)?;
+    let mut progress = Progress {
+        given: 0,
+        clean: true,
+        told: true,
+    };
+    let converted = convert_packets(
+        &mut collector,
+        &mut cutter,
+        &mut packets,
+        frames,
+        &mut progress,
+        input,
+        out,
+        err,
+    );
+    *told = progress.told;
+    ending(converted, progress.clean)
+}
+
+// How a run ends whose conversion ends so.
+fn ending(converted: Result<(), Unconverted>, clean: bool) -> Result<bool, Fault>
+    ensures { result ≡ ending_of converted clean }
+{
+    match converted {
+        Ok(()) => Ok(clean),
+        Err(Unconverted::Stopped(stop)) => Err(stop.into()),
+        Err(Unconverted::Halted(Halt::Write)) => Err(Fault::Write),
+        Err(Unconverted::Halted(Halt::PacketSize(number))) => Err(Fault::PacketSize(number)),
+    }
+}
