@@ -1,5 +1,5 @@
 #!/usr/bin/env python3
-"""Times `show` and `receive` of long captures beside tshark, with the most memory that they hold.
+"""Times `show`, `receive` and `convert` of long captures beside tshark, with the most memory that they hold.
 
     tools/captures.py PROGRAM [--mib N] [--less N] [--rounds N] [--room FOLDER]
 
@@ -7,7 +7,8 @@ PROGRAM is crates/drmcast/out/drmcast. `serve` writes captures of about so many 
 under `pft 2 1400`. Each packet has 4,090 bytes, and in the first of each three a block comes on top. A row has the
 capture, its bytes, the best time of the rounds (of the long capture one), the rate, and the most memory of any round, by GNU time (in
 Debian the package `time`). What is printed goes to /dev/null. tshark reads the shorter captures, as UDP in a file. MB is 10^6 bytes,
-MiB 2^20.
+MiB 2^20. Then a capture under each of five carries is carried to each other and back, and is to be the first one again; status 1
+where one isn't.
 """
 import argparse
 import os
@@ -21,6 +22,8 @@ import time
 from datagrams import datagrams, pcap
 
 MIB = 1 << 20
+COMMANDS = (["show"], ["receive"], ["convert", "plain"], ["convert", "pft:2:1400"])
+CARRIES = ("plain", "pft 0 1400", "pft 1 128", "pft 2 1400", "pft 5 1500")
 # Bytes of the datagrams of a super frame.
 SUPER_FRAME = {"plain": 12_337, "pft 2 1400": 15_996}
 # What tshark is to print: all that it reads, or of each AF packet, carried whole or put together, whether its check value is right.
@@ -83,6 +86,28 @@ def tshark(path, carry, folder):
         row(what, carry, os.path.getsize(path), *timed(["tshark", "-n", "-r", f"{folder}/it.pcap", *words], path, folder, 1))
 
 
+def convert(program, capture, carry):
+    """The capture under this carry."""
+    words = [program, "convert", carry.replace(" ", ":")]
+    return subprocess.run(words, input=capture, stdout=subprocess.PIPE, check=True).stdout
+
+
+def to_and_fro(program, folder):
+    """How many captures aren't what they were, carried from each carry to each other and back."""
+    plan = PLAN.format(carry="{carry}", length=50)
+    served = {}
+    for carry in CARRIES:
+        pathlib.Path(folder, "it.plan").write_text(plan.format(carry=carry))
+        served[carry] = subprocess.run([program, "serve", f"{folder}/it.plan"], stdout=subprocess.PIPE, check=True).stdout
+    wrong = 0
+    for one in CARRIES:
+        for other in CARRIES:
+            there = convert(program, served[one], other)
+            wrong += there != served[other] or convert(program, there, one) != served[one]
+    print(f"\n{len(CARRIES) ** 2} captures carried to another carry and back, {wrong} differ from what is served under it")
+    return wrong
+
+
 def main():
     words = argparse.ArgumentParser(description=__doc__, formatter_class=argparse.RawDescriptionHelpFormatter)
     words.add_argument("program")
@@ -99,13 +124,15 @@ def main():
             for mib in (given.less, given.mib):
                 path = serve(program, folder, carry, mib * MIB)
                 size = os.path.getsize(path)
-                for command in ("show", "receive"):
+                for command in COMMANDS:
                     rounds = given.rounds if mib == given.less else 1
-                    row(f"`{command}`", carry, size, *timed([program, command], path, folder, rounds))
+                    row(f"`{' '.join(command)}`", carry, size, *timed([program, *command], path, folder, rounds))
                 if beside and mib == given.less:
                     tshark(path, carry, folder)
+        wrong = to_and_fro(program, folder)
     if not beside:
         print("\ntshark isn't here: its rows are left out")
+    sys.exit(wrong > 0)
 
 
 main()
