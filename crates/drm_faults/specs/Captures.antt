@@ -1,4 +1,4 @@
--- The line of what is wrong with a capture, and the fault of a run that it is.
+-- The line of what is wrong with a capture, and the faults of a run that reads one.
 use Rattle.std.specs.Prelude.{List, ℕ, [], ◌∷◌, codes, decimal}
 use Rattle.std.specs.List.{concat}
 use Rattle.drm_capture.specs.declared.fault.CaptureField.{CaptureField}
@@ -25,3 +25,12 @@ abbrev pub stop_fault : CaptureStop → Fault
 stop_fault stops.Read = faults.Read
 stop_fault (stops.Capture fault) = faults.Capture fault
 stop_fault stops.TooLong = faults.CaptureTooLong
+
+-- How a run that reads a capture from input and writes to out can end early.
+abbrev pub EndsEarly : Fault → Type 0
+EndsEarly faults.NoMemory = Unit {0}
+EndsEarly (faults.Capture fault) = Unit {0}
+EndsEarly faults.CaptureTooLong = Unit {0}
+EndsEarly faults.Read = Unit {0}
+EndsEarly faults.Write = Unit {0}
+EndsEarly fault = ⊥

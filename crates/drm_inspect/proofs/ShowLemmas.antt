@@ -22,8 +22,8 @@ use Rattle.packet_lines.specs.Lines.{end_packets_line}
 use Rattle.drm_faults.specs.Fault.{UnlessMemory}
 use Rattle.drm_faults.specs.declared.fault.Fault.{Fault}
 use Rattle.drm_faults.specs.declared.fault.Fault.TheVariants as faults
-use Rattle.drm_faults.specs.Captures.{stop_fault}
-use Rattle.drm_inspect.specs.Show.{PacketText, AreTexts, all_texts, capture_text, are_clean, IsShown, WritesShown, EndsEarly, EndsByIt, ShowRun}
+use Rattle.drm_faults.specs.Captures.{EndsEarly, stop_fault}
+use Rattle.drm_inspect.specs.Show.{PacketText, AreTexts, all_texts, capture_text, are_clean, IsShown, WritesShown, EndsByIt, ShowRun}
 
 -- ---- texts one after another
 

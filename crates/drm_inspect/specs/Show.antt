@@ -8,6 +8,7 @@ use Rattle.drm_capture.specs.Capture as capture
 use Rattle.drm_capture.specs.Reading.{Breaks}
 use Rattle.packet_lines.specs.Text.{IsPacketText}
 use Rattle.packet_lines.specs.Lines.{end_packets_line}
+use Rattle.drm_faults.specs.Captures.{EndsEarly}
 use Rattle.drm_faults.specs.Fault.{UnlessMemory}
 use Rattle.drm_faults.specs.declared.fault.Fault.{Fault}
 use Rattle.drm_faults.specs.declared.fault.Fault.TheVariants as faults
@@ -69,15 +70,6 @@ WritesShown left rest (Err (faults.Capture fault)) known out out' = WritesSome (
 WritesShown left rest (Err faults.CaptureTooLong) known out out' = WritesSome (IsShown left capture.TooLong) known out out'
 WritesShown left rest (Err faults.Read) known out out' = WritesSome (IsTaken left rest) known out out'
 WritesShown left rest (Err fault) known out out' = out' ≡ out
-
--- how a run can end early
-abbrev pub EndsEarly : Fault → Type 0
-EndsEarly faults.NoMemory = Unit {0}
-EndsEarly (faults.Capture fault) = Unit {0}
-EndsEarly faults.CaptureTooLong = Unit {0}
-EndsEarly faults.Read = Unit {0}
-EndsEarly faults.Write = Unit {0}
-EndsEarly fault = ⊥
 
 -- the run ends as the bytes end behind their packets
 abbrev pub EndsByIt : Result Bool Fault → capture.Ending → Type 0

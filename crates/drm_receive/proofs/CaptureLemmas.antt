@@ -26,7 +26,8 @@ use Rattle.mod_receiver.specs.Following.{HeadlinesFollow, CompletesFollow}
 use Rattle.mod_receiver.proofs.JobLemmas.{report_ahead, front_ahead}
 use Rattle.drm_faults.specs.declared.fault.Fault.{Fault}
 use Rattle.drm_faults.specs.declared.fault.Fault.TheVariants as faults
-use Rattle.drm_receive.specs.Capture.{WritesCapture, EndsEarly}
+use Rattle.drm_faults.specs.Captures.{EndsEarly}
+use Rattle.drm_receive.specs.Capture.{WritesCapture}
 use Rattle.drm_receive.specs.Stopping.{ending_captured}
 use Rattle.drm_receive.proofs.CaptureFronts.{packets_front}
 use Rattle.drm_receive.proofs.ReceiveLemmas.{inner, no_fault}

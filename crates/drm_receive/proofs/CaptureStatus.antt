@@ -17,7 +17,8 @@ use Rattle.mod_receiver.proofs.OneReading.{finished_whole}
 use Rattle.drm_faults.specs.Fault.{UnlessMemory}
 use Rattle.drm_faults.specs.declared.fault.Fault.{Fault}
 use Rattle.drm_faults.specs.declared.fault.Fault.TheVariants as faults
-use Rattle.drm_receive.specs.Capture.{BreaksOffBy, WritesCapture, EndsEarly, EndsByIt, WroteReport, CaptureRun}
+use Rattle.drm_faults.specs.Captures.{EndsEarly}
+use Rattle.drm_receive.specs.Capture.{BreaksOffBy, WritesCapture, EndsByIt, WroteReport, CaptureRun}
 use Rattle.drm_receive.proofs.ReceiveStatus.{clean_in_time}
 
 -- ---- bytes bring one thing

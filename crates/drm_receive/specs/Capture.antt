@@ -10,6 +10,7 @@ use Rattle.drm_capture.specs.Reading.{Breaks}
 use Rattle.mod_receiver.specs.declared.rules.Rules.{Rules}
 use Rattle.mod_receiver.specs.Ahead.{IsInTimeAhead, Report, IsReportOf, BreaksOff, IsGivenOf, IsFrontOf}
 use Rattle.mod_receiver.specs.Captures.{answers_of, Brings}
+use Rattle.drm_faults.specs.Captures.{EndsEarly}
 use Rattle.drm_faults.specs.Fault.{UnlessMemory}
 use Rattle.drm_faults.specs.declared.fault.Fault.{Fault}
 use Rattle.drm_faults.specs.declared.fault.Fault.TheVariants as faults
@@ -42,15 +43,6 @@ WritesCapture rules left rest (Err faults.CaptureTooLong) known out out' =
 WritesCapture rules left rest (Err faults.Read) known out out' =
     WritesGiven rules (λ packets. All IsWhole packets × Breaks packets left rest) known out out'
 WritesCapture rules left rest (Err fault) known out out' = out' ≡ out
-
--- how a run can end early
-abbrev pub EndsEarly : Fault → Type 0
-EndsEarly faults.NoMemory = Unit {0}
-EndsEarly (faults.Capture fault) = Unit {0}
-EndsEarly faults.CaptureTooLong = Unit {0}
-EndsEarly faults.Read = Unit {0}
-EndsEarly faults.Write = Unit {0}
-EndsEarly fault = ⊥
 
 -- the run ends by what is wrong behind the packets
 abbrev pub EndsByIt : Result Bool Fault → capture.Ending → Type 0
