@@ -55,12 +55,13 @@ pub record Drained (told : Option ℕ) (carry : Carry) (c d : State) (p p' : Pro
 abbrev pub StopsAt : State → (List Item → Item → Type 0) → Type 0
 StopsAt c P = (items : List Item) × (mid : State) × (item : Item) × Given c items mid × (ready mid ≡ true) × IsItem mid item × P items item
 
-abbrev pub Halts : Halt → Carry → State → Progress → Progress → Known Output → Known Output → Known Output → Known Output → Type 0
-Halts halt.Write carry c p p' out out' err err' =
-    StopsAt c (λ items item. (mid : Known Output) × ConvertedAll carry c items p p' out mid err err'
+-- The item isn't past the told number.
+abbrev pub Halts : Halt → Option ℕ → Carry → State → Progress → Progress → Known Output → Known Output → Known Output → Known Output → Type 0
+Halts halt.Write told carry c p p' out out' err err' =
+    StopsAt c (λ items item. (is_full told p'.given ≡ false) × (mid : Known Output) × ConvertedAll carry c items p p' out mid err err'
     × ((first : ℕ) → MayBeFirst c first → Failing carry first item mid out'))
-Halts (halt.PacketSize number) carry c p p' out out' err err' =
-    StopsAt c (λ items item. ConvertedAll carry c items p p' out out' err err' × IsTooLarge carry item number)
+Halts (halt.PacketSize number) told carry c p p' out out' err err' =
+    StopsAt c (λ items item. (is_full told p'.given ≡ false) × ConvertedAll carry c items p p' out out' err err' × IsTooLarge carry item number)
 
 -- the count of items is that of the collector, and none was given past the told number
 pub record KeepsPace (told : Option ℕ) (c : State) (p : Progress) : Type 0 where
