@@ -1,7 +1,7 @@
 -- Items that are converted one after another.
-use Rattle.std.proofs.Common.{◌≡◌, ℕ, ◌+◌, ◌≤◌, ◌⊎◌, Bool, true, false, List, [], ◌∷◌, ◌++◌, Option, None, Some, length, sym, subst, ap, ◌∙◌, refl, inl, inr, arith, append_assoc, length-append}
-use Rattle.std.specs.Prelude.{◌&&◌, ◌==◌, not, IfSome, unwrap_or, if◌then◌else◌, Result, Ok, Err}
-use Rattle.std.specs.List.{flat_map, list_all, filter}
+use Rattle.std.proofs.Common.{◌≡◌, ℕ, ◌+◌, ◌≤◌, Bool, true, false, List, [], ◌∷◌, ◌++◌, Option, None, Some, sym, subst, ap, ◌∙◌, refl, inl, inr, arith, append_assoc, length-append}
+use Rattle.std.specs.Prelude.{◌&&◌, ◌==◌, not, IfSome, unwrap_or, if◌then◌else◌, Err}
+use Rattle.std.specs.List.{filter}
 use Rattle.std.proofs.Math.Nat.{le_trans}
 use Rattle.std.proofs.lemmas.Bool.Decides.{nat_tests}
 use Rattle.std.proofs.lemmas.List.{append-nil}
@@ -9,7 +9,7 @@ use Rattle.std.proofs.lemmas.List.Concat.{flat_map-append}
 use Rattle.std.proofs.lemmas.List.Folds.{list_all-append}
 use Rattle.drm_links.specs.Told.{Known, HasFailed}
 use Rattle.drm_links.specs.Sink.{Output, Outputs, IsFront}
-use Rattle.drm_links.proofs.ToldLemmas.{Outputs-nothing, Outputs-then, Outputs-weaker, Rose-later, later-Rose}
+use Rattle.drm_links.proofs.ToldLemmas.{Outputs-nothing, Outputs-then, Outputs-weaker, later-Rose}
 use Rattle.dcp_pft.specs.declared.carry.Carry.{Carry}
 use Rattle.dcp_collect.specs.Fragments.{Fragment, suffice, of_packet}
 use Rattle.dcp_collect.specs.State.{State, ready, after_item, after_next}

@@ -1,8 +1,8 @@
 -- How a run ends, by how its conversion ends.
-use Rattle.std.proofs.Common.{ℕ, ◌≡◌, Bool, Option, Result, Ok, Err, refl, sym, ap, ◌∙◌, subst}
+use Rattle.std.proofs.Common.{ℕ, ◌≡◌, Bool, Option, Result, Ok, Err, refl, subst}
 use Rattle.dcp_pft.specs.declared.carry.Carry.{Carry}
 use Rattle.dcp_collect.specs.State.{State, made}
-use Rattle.drm_links.specs.Told.{Known, HasCause}
+use Rattle.drm_links.specs.Told.{Known}
 use Rattle.drm_links.specs.Source.{Input}
 use Rattle.drm_links.specs.Sink.{Output}
 use Rattle.drm_capture.specs.declared.packets.CaptureStop.TheVariants as stops
@@ -12,7 +12,7 @@ use Rattle.drm_convert.specs.declared.item.Halt.TheVariants as halt
 use Rattle.drm_convert.specs.declared.reading.Unconverted.{Unconverted}
 use Rattle.drm_convert.specs.declared.reading.Unconverted.TheVariants as unconverted
 use Rattle.drm_convert.specs.Reading.{ending_of}
-use Rattle.drm_convert.specs.Run.{Terms, Ends}
+use Rattle.drm_convert.specs.Run.{Ends}
 
 pub not_memory : (result : Result (Unit {0}) Unconverted) (clean : Bool) → ending_of result clean ≡ Err faults.NoMemory → ⊥
 not_memory (Ok done) clean is = cc

@@ -1,23 +1,21 @@
 -- A conversion ends early exactly where its input says so.
-use Rattle.std.proofs.Common.{ℕ, ◌≡◌, ◌+◌, ◌<◌, ◌≤◌, ◌⊎◌, ◌↔◌, inl, inr, Bool, true, false, List, [], ◌∷◌, ◌++◌, length, take, Result, Ok, Err, refl, sym, ap, subst, ◌∙◌, arith, length-append}
-use Rattle.std.specs.Prelude.{All}
+use Rattle.std.proofs.Common.{ℕ, ◌≡◌, ◌+◌, inl, inr, Bool, List, [], ◌∷◌, ◌++◌, length, take, Result, Ok, Err, refl, sym, ap, subst, ◌∙◌, arith, length-append}
 use Rattle.std.specs.List.{concat}
 use Rattle.std.proofs.Math.Seq.{take-append_seam}
 use Rattle.std.proofs.lemmas.Bool.{true≢false, cases_lt}
 use Rattle.std.proofs.lemmas.List.{append-nil}
 use Rattle.dcp_af.proofs.Answered.{no_fault}
 use Rattle.dcp_pft.specs.declared.carry.Carry.{Carry}
-use Rattle.dcp_collect.specs.State.{State, made, ready, after_finish}
+use Rattle.dcp_collect.specs.State.{State, made}
 use Rattle.dcp_collect.specs.declared.taken.Taken.{Taken}
 use Rattle.dcp_collect.specs.Runs.{Item, Packet, Lost, Damaged, Takes, Steps}
-use Rattle.drm_links.specs.Told.{Known, HasFailed, HasCause}
+use Rattle.drm_links.specs.Told.{Known, HasCause}
 use Rattle.drm_links.specs.Source.{Input, Inputs}
 use Rattle.drm_links.specs.Sink.{Output}
 use Rattle.drm_links.proofs.ToldLemmas.{Inputs-nothing, Inputs-weaker}
 use Rattle.drm_capture.specs.declared.fault.CaptureFault.{CaptureFault}
 use Rattle.drm_capture.specs.Capture as capture
 use Rattle.drm_capture.specs.Capture.{IsCaptureOf, Ending, End, most_bytes}
-use Rattle.drm_capture.specs.Front.{IsWhole}
 use Rattle.drm_capture.specs.Laws.{ReadOneWay, ReadSomeWay}
 use Rattle.drm_capture.specs.Walking.{WalkerState}
 use Rattle.drm_capture.specs.Reading.{HasRead}
@@ -26,8 +24,7 @@ use Rattle.drm_faults.specs.Fault.{UnlessMemory}
 use Rattle.drm_faults.specs.declared.fault.Fault.{Fault}
 use Rattle.drm_faults.specs.declared.fault.Fault.TheVariants as faults
 use Rattle.drm_convert.specs.Converting.{Part, Converts, ConvertsAll, IsTooLarge}
-use Rattle.drm_convert.specs.Draining.{is_full}
-use Rattle.drm_convert.specs.Run.{Terms, first_of, HasEnough, NoneShorter, AreEnough, IsConversion, IsBroken, ComesTo, ComesAt, AreReadBy, ReadsTo, AreFirstOf, LeadsTo, AreSmall, Meets, BreaksOffBy, EndsByIt, EndsExactly, Ends, EndsEarly, WritesAll, IsDone, CanEnd, ConvertRun}
+use Rattle.drm_convert.specs.Run.{Terms, first_of, HasEnough, NoneShorter, AreEnough, IsConversion, IsBroken, ComesTo, AreReadBy, ReadsTo, AreFirstOf, LeadsTo, AreSmall, Meets, BreaksOffBy, EndsByIt, EndsExactly, Ends, IsDone, CanEnd, ConvertRun}
 use Rattle.drm_convert.proofs.Ways.{Starts, Agree, front_of, starts_up_to, starts_more, taken_starts, finished_starts, lacks_before, all_before, both_taken, both_finished, then_finished, finished_then}
 
 -- ---- what is converted isn't too large

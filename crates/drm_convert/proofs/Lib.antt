@@ -1,6 +1,7 @@
 pub mod Gathering
 pub mod ItemLemmas
 pub mod DrainingLemmas
+pub mod Taken
 pub mod Ways
 pub mod Exactly
 pub mod Reaching

@@ -1,6 +1,6 @@
 -- A conversion, packet by packet.
-use Rattle.std.proofs.Common.{◌≡◌, ℕ, ◌+◌, ◌<◌, ◌≤◌, ◌⊎◌, Bool, true, false, List, [], ◌∷◌, ◌++◌, Option, None, Some, length, take, sym, subst, ap, ◌∙◌, refl, inl, inr, arith, append_assoc, length-append}
-use Rattle.std.specs.Prelude.{◌&&◌, All, IfSome, unwrap_or, Result, Ok, Err}
+use Rattle.std.proofs.Common.{◌≡◌, ℕ, ◌≤◌, Bool, true, false, List, [], ◌∷◌, ◌++◌, Option, None, Some, length, sym, subst, ap, ◌∙◌, refl, inl, inr, arith, append_assoc, length-append}
+use Rattle.std.specs.Prelude.{All, IfSome, Result, Ok, Err}
 use Rattle.std.proofs.lemmas.Bool.{cases_lt}
 use Rattle.std.proofs.lemmas.Bool.Decides.{nat_tests}
 use Rattle.std.proofs.lemmas.List.{append-nil, take-append-le, take_all, take_at}
@@ -17,73 +17,31 @@ use Rattle.drm_capture.specs.declared.packets.CaptureStop.{CaptureStop}
 use Rattle.drm_capture.specs.declared.packets.CaptureStop.TheVariants as stops
 use Rattle.dcp_pft.specs.declared.carry.Carry.{Carry}
 use Rattle.dcp_collect.specs.declared.taken.Taken.{Taken}
-use Rattle.dcp_collect.specs.Fragments.{Fragment}
-use Rattle.dcp_collect.specs.Reading.{Incoming, Read, Unread, Brings}
-use Rattle.dcp_collect.specs.State.{State, made, ready, after_item, after_finish, after_take, answer, number_of}
-use Rattle.dcp_collect.specs.Runs.{Item, IsItem, Takes, Gives, Steps, Run, up_to}
+use Rattle.dcp_collect.specs.State.{State, made, ready, after_item, after_finish}
+use Rattle.dcp_collect.specs.Runs.{Item, Takes, Gives, Steps, up_to}
 use Rattle.dcp_collect.proofs.Decoded.{decoded_or_none}
 use Rattle.collect_laws.specs.Laws.{IsFit, GivingEnds}
 use Rattle.collect_laws.proofs.Ending.{giving_ends}
 use Rattle.collect_laws.proofs.Runs.{steps_more}
-use Rattle.collect_laws.proofs.Stays.{after_by, take_next, take_end, first_stays}
 use Rattle.collect_laws.proofs.Fit.{fit_given}
 use Rattle.drm_convert.specs.declared.item.Halt.{Halt}
 use Rattle.drm_convert.specs.declared.item.Halt.TheVariants as halt
 use Rattle.drm_convert.specs.declared.naming.Progress.{Progress}
-use Rattle.drm_convert.specs.Converting.{Part, ConvertsAll, text_of, lines_of}
+use Rattle.drm_convert.specs.Converting.{text_of, lines_of}
 use Rattle.drm_convert.specs.Naming.{Names}
-use Rattle.drm_convert.specs.Draining.{Given, MayBeFirst, ConvertedAll, Drained, Halts, KnowsFirst, KeepsPace, is_full, are_clean}
-use Rattle.drm_convert.specs.Run.{Terms, first_of, HasEnough, NoneShorter, AreReadBy, IsBroken, ComesTo, Ends, EndsEarly}
+use Rattle.drm_convert.specs.Draining.{Given, MayBeFirst, ConvertedAll, Drained, Halts, KnowsFirst, KeepsPace, is_full}
+use Rattle.drm_convert.specs.Run.{Terms, first_of, HasEnough, NoneShorter, AreReadBy, ComesTo, Ends, EndsEarly}
 use Rattle.drm_convert.specs.Reading.{new_progress, fault_of}
 use Rattle.drm_convert.specs.declared.reading.Unconverted.TheVariants as unconverted
 use Rattle.drm_faults.specs.Captures.{stop_fault}
+use Rattle.drm_convert.proofs.Taken.{may_taken, first_itself}
 use Rattle.drm_convert.proofs.Ways.{given_first, gives_first, one_way, longer_full}
 use Rattle.drm_convert.proofs.DrainingLemmas.{all_none, all_then, all_same, all_join, text_join, lines_join, front_then}
 
 giving : GivingEnds
 giving = giving_ends decoded_or_none
 
--- ---- the first number
-
-may_by : (c : State) (incoming : Incoming) (n : ℕ) (o : Option ℕ) → c.first ≡ o → (first : ℕ) → MayBeFirst (after_take c (Brings incoming)) first → MayBeFirst c first
-may_by c incoming n None is first may = subst (λ (v : Option ℕ). IfSome v (λ m. m ≡ first)) (sym is) tt
-may_by c incoming n (Some f) is first may =
-    let same : (after_take c (Brings incoming)).first ≡ Some f = first_stays c (number_of c incoming) incoming (answer c (Brings incoming)) f is in
-    let now : f ≡ first = subst (λ (v : Option ℕ). IfSome v (λ m. m ≡ first)) same may in
-    subst (λ (v : Option ℕ). IfSome v (λ m. m ≡ first)) (sym is) now
-
-may_read : (c : State) (read : Read) (first : ℕ) → MayBeFirst (after_take c read) first → MayBeFirst c first
-may_read c (Unread field) first may = may
-may_read c (Brings incoming) first may = may_by c incoming 0 c.first refl first may
-
-pub may_taken : (c k : State) (bytes : List ℕ) (a : Taken) (first : ℕ) → Takes c bytes a k → MayBeFirst k first → MayBeFirst c first
-may_taken c k bytes a first takes may = may_read c takes.read first (subst (λ (s : State). MayBeFirst s first) takes.after_is may)
-
-knows_read : (c : State) (read : Read) → KnowsFirst c → KnowsFirst (after_take c read)
-knows_read c (Unread field) knows = knows
-knows_read c (Brings incoming) knows =
-    after_by KnowsFirst c (number_of c incoming) incoming (answer c (Brings incoming)) knows
-    (λ m e. absurd (let clash : Some (unwrap_or c.first incoming.sequence) ≡ None = e in cc))
-
-pub knows_taken : (c k : State) (bytes : List ℕ) (a : Taken) → Takes c bytes a k → KnowsFirst c → KnowsFirst k
-knows_taken c k bytes a takes knows = subst KnowsFirst (sym takes.after_is) (knows_read c takes.read knows)
-
-pub next_taken : (c k : State) (bytes : List ℕ) (a : Taken) → Takes c bytes a k → k.next ≡ c.next
-next_taken c k bytes a takes = ap (λ (s : State). s.next) takes.after_is ∙ take_next c takes.read
-
-pub end_taken : (c k : State) (bytes : List ℕ) (a : Taken) → Takes c bytes a k → k.end ≡ c.end
-end_taken c k bytes a takes = ap (λ (s : State). s.end) takes.after_is ∙ take_end c takes.read
-
-pub pace_taken : (told : Option ℕ) (c k : State) (p : Progress) (bytes : List ℕ) (a : Taken) → Takes c bytes a k → KeepsPace told c p → KeepsPace told k p
-pace_taken told c k p bytes a takes pace = record { given = pace.given ∙ sym (next_taken c k bytes a takes); below = pace.below }
-
--- what is known of the first number of a state is what it may be
-self_by : (o : Option ℕ) → IfSome o (λ n. n ≡ unwrap_or o 0)
-self_by None = tt
-self_by (Some n) = refl
-
-pub first_itself : (c : State) → MayBeFirst c (first_of c)
-first_itself c = self_by c.first
+-- ---- what is given
 
 given_all : (items : List Item) (c d : State) → Given c items d → ready d ≡ false → Gives c items d
 given_all [] c d gives none = (ap ready (sym gives) ∙ none, gives)

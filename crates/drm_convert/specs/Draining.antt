@@ -1,15 +1,15 @@
 -- What a conversion does with all that is ready.
-use Rattle.std.specs.Prelude.{ℕ, ◌≡◌, ◌+◌, ◌≤◌, ◌⊎◌, Bool, true, false, nat_le, List, [], ◌∷◌, ◌++◌, length, Option, None, Some, IfSome, Result, Ok, Err, ◌&&◌}
+use Rattle.std.specs.Prelude.{ℕ, ◌≡◌, ◌+◌, ◌≤◌, ◌⊎◌, Bool, true, false, nat_le, List, [], ◌∷◌, length, Option, None, Some, IfSome, ◌&&◌}
 use Rattle.std.specs.List.{list_all}
 use Rattle.dcp_pft.specs.declared.carry.Carry.{Carry}
 use Rattle.dcp_collect.specs.State.{State, ready, after_item}
 use Rattle.dcp_collect.specs.Runs.{Item, IsItem}
 use Rattle.drm_links.specs.Told.{Known}
-use Rattle.drm_links.specs.Sink.{Output, Outputs, IsFront}
+use Rattle.drm_links.specs.Sink.{Output, Outputs}
 use Rattle.drm_convert.specs.declared.item.Halt.{Halt}
 use Rattle.drm_convert.specs.declared.item.Halt.TheVariants as halt
 use Rattle.drm_convert.specs.declared.naming.Progress.{Progress}
-use Rattle.drm_convert.specs.Converting.{Part, ConvertsAll, Converts, IsTooLarge, text_of, lines_of}
+use Rattle.drm_convert.specs.Converting.{Part, ConvertsAll, IsTooLarge, text_of, lines_of}
 use Rattle.drm_convert.specs.Naming.{Names}
 use Rattle.drm_convert.specs.Steps.{has_none, Failing}
 
