@@ -39,31 +39,51 @@ fn comes<L: Link>(alloc: Global, link: &mut L, bytes: &[u8]) -> Result<bool, All
     Ok(link.recv(&mut buf) == Came::Datagram(bytes.len()) && buf.starts_with(bytes))
 }
 
+// So many bytes, of which the last is another.
+fn marked(alloc: Global, length: usize) -> Result<Vec<u8>, AllocError> {
+    let mut bytes = vec![in alloc; 0x5a_u8; length]?;
+    if let Some(last) = bytes.last_mut() {
+        *last = b'!';
+    }
+    Ok(bytes)
+}
+
+// These bytes go from one link to the other.
+fn cross<L: Link>(
+    alloc: Global,
+    from: &mut L,
+    to: &mut L,
+    bytes: &[u8],
+) -> Result<bool, AllocError> {
+    Ok(from.send(bytes) == Sent::Sent && comes(alloc, to, bytes)?)
+}
+
 #[test]
 fn datagrams_cross_the_loopback(rt: HostRuntime) -> Result<(), Fail> {
     let mut dock = UdpDock::new(&rt);
     let (mut to, at) = bind_from(&mut dock, 47_000).ok_or("a free port")?;
     let mut from = link_of(dock.reach(at)).ok_or("a link")?;
     for length in [5, 0, 1500, 8192, GREATEST] {
-        let mut bytes = vec![in rt.alloc(); 0x5a_u8; length]?;
-        if let Some(last) = bytes.last_mut() {
-            *last = b'!';
-        }
-        assert_eq!(rt; from.send(&bytes), Sent::Sent, "{length}");
-        assert!(rt; comes(rt.alloc(), &mut to, &bytes)?, "{length}");
+        let bytes = marked(rt.alloc(), length)?;
+        assert!(rt; cross(rt.alloc(), &mut from, &mut to, &bytes)?, "{length}");
     }
     dock.close(at, from);
     dock.close(at, to);
     Ok(())
 }
 
+// Whether nothing comes.
+fn is_idle<L: Link>(alloc: Global, link: &mut L) -> Result<bool, AllocError> {
+    let mut buf = vec![in alloc; 0u8; 65_536]?;
+    Ok(link.recv(&mut buf) == Came::Idle)
+}
+
 #[test]
 fn a_quiet_link_is_idle(rt: HostRuntime) -> Result<(), Fail> {
     let mut dock = UdpDock::new(&rt);
     let (mut link, _) = bind_from(&mut dock, 47_100).ok_or("a free port")?;
-    let mut buf = vec![in rt.alloc(); 0u8; 65_536]?;
     let start = Instant::now(&rt)?;
-    assert_eq!(rt; link.recv(&mut buf), Came::Idle);
+    assert!(rt; is_idle(rt.alloc(), &mut link)?);
     assert!(rt; start.elapsed(&rt)? >= Duration::from_millis(95));
     Ok(())
 }
@@ -79,30 +99,38 @@ fn datagrams_go_to_their_address(rt: HostRuntime) -> Result<(), Fail> {
     };
     let mut to = link_of(dock.bind(there)).ok_or("a link")?;
     let mut from = link_of(dock.reach(there)).ok_or("a link")?;
-    assert_eq!(rt; from.send(b"hello"), Sent::Sent);
-    assert!(rt; comes(rt.alloc(), &mut to, b"hello")?);
-    let mut buf = vec![in rt.alloc(); 0u8; 65_536]?;
-    assert_eq!(rt; home.recv(&mut buf), Came::Idle);
+    assert!(rt; cross(rt.alloc(), &mut from, &mut to, b"hello")?);
+    assert!(rt; is_idle(rt.alloc(), &mut home)?);
     Ok(())
+}
+
+fn is_failed<L>(opened: &Opened<L>) -> bool {
+    matches!(opened, Opened::Failed)
 }
 
 #[test]
 fn an_address_in_use_is_failed(rt: HostRuntime) -> Result<(), Fail> {
     let mut dock = UdpDock::new(&rt);
     let (mut link, at) = bind_from(&mut dock, 47_200).ok_or("a free port")?;
-    assert!(rt; matches!(dock.bind(at), Opened::Failed));
+    assert!(rt; is_failed(&dock.bind(at)));
     // No address of this system.
     let elsewhere = Address {
         ip: [203, 0, 113, 1],
         port: at.port,
     };
-    assert!(rt; matches!(dock.bind(elsewhere), Opened::Failed));
+    assert!(rt; is_failed(&dock.bind(elsewhere)));
     // A bound link has nowhere to send to.
-    assert_eq!(rt; link.send(b"hello"), Sent::Failed);
+    assert!(rt; link.send(b"hello") == Sent::Failed);
     // Its address is free again once it is closed.
     dock.close(at, link);
-    assert!(rt; link_of(dock.bind(at)).is_some());
+    assert!(rt; !is_failed(&dock.bind(at)));
     Ok(())
+}
+
+// Whether so many zeros are sent.
+fn is_sent<L: Link>(alloc: Global, link: &mut L, length: usize) -> Result<bool, AllocError> {
+    let bytes = vec![in alloc; 0u8; length]?;
+    Ok(link.send(&bytes) == Sent::Sent)
 }
 
 #[test]
@@ -112,14 +140,16 @@ fn a_send_to_nobody_is_no_fault(rt: HostRuntime) -> Result<(), Fail> {
     dock.close(at, link);
     let mut from = link_of(dock.reach(at)).ok_or("a link")?;
     for _ in 0..4 {
-        assert_eq!(rt; from.send(b"hello"), Sent::Sent);
+        assert!(rt; from.send(b"hello") == Sent::Sent);
     }
     // Datagrams that are too long for the network.
-    for length in [GREATEST + 1, 65_536] {
-        let long = vec![in rt.alloc(); 0u8; length]?;
-        assert_eq!(rt; from.send(&long), Sent::Failed, "{length}");
-    }
+    assert!(rt; !is_sent(rt.alloc(), &mut from, GREATEST + 1)?);
+    assert!(rt; !is_sent(rt.alloc(), &mut from, 65_536)?);
     Ok(())
+}
+
+fn sends_twice<L: Link>(link: &mut L) -> bool {
+    link.send(b"hello") == Sent::Sent && link.send(b"hello") == Sent::Sent
 }
 
 #[test]
@@ -129,21 +159,19 @@ fn a_rest_takes_its_time(rt: HostRuntime) -> Result<(), Fail> {
     let mut from = link_of(dock.reach(at)).ok_or("a link")?;
     for millis in [0, 1, 5, 50] {
         // What comes in this time doesn't end it.
-        assert_eq!(rt; from.send(b"hello"), Sent::Sent);
-        assert_eq!(rt; from.send(b"hello"), Sent::Sent);
+        assert!(rt; sends_twice(&mut from));
         let start = Instant::now(&rt)?;
         to.rest(millis);
         let passed = start.elapsed(&rt)?;
+        let least = Duration::from_millis(u64::from(millis));
         assert!(rt;
-            passed >= Duration::from_millis(u64::from(millis)),
+            passed >= least && passed < Duration::from_secs(5),
             "{millis}"
         );
-        assert!(rt; passed < Duration::from_secs(5), "{millis}");
     }
     // It isn't received later, and the link is idle as before.
-    let mut buf = vec![in rt.alloc(); 0u8; 65_536]?;
     let start = Instant::now(&rt)?;
-    assert_eq!(rt; to.recv(&mut buf), Came::Idle);
+    assert!(rt; is_idle(rt.alloc(), &mut to)?);
     assert!(rt; start.elapsed(&rt)? >= Duration::from_millis(95));
     Ok(())
 }
