@@ -1,16 +1,16 @@
 -- How many items one datagram brings.
-use Rattle.std.proofs.Common.{ℕ, ◌≡◌, ◌+◌, ◌<◌, ◌≤◌, true, false, not, ◌||◌, eqb, List, [], ◌∷◌, length, Option, Some, None, inl, ⊎_elim, refl, sym, ap, ◌∙◌, subst, arith}
+use Rattle.std.proofs.Common.{ℕ, ◌≡◌, ◌+◌, ◌≤◌, true, false, not, eqb, List, [], ◌∷◌, Option, Some, None, inl, ⊎_elim, refl, sym, ap, ◌∙◌, subst, arith}
 use Rattle.std.specs.Prelude.{ℤ, pos, negsuc, ◌+ℤ◌, ◌<ℤ◌, unwrap_or}
 use Rattle.std.specs.List.{AllByRecursion}
 use Rattle.std.proofs.lemmas.Bool.{leb-false, or_parts}
 use Rattle.std.proofs.lemmas.Int.{ints}
 use Rattle.dcp_collect.specs.declared.taken.Taken.{Taken}
 use Rattle.dcp_collect.specs.declared.taken.Taken.TheVariants.{Kept, Repeated, Late, Refused, Inconsistent}
-use Rattle.dcp_collect.specs.Fragments.{Fragment, suffice, of_packet}
+use Rattle.dcp_collect.specs.Fragments.{suffice, of_packet}
 use Rattle.dcp_collect.specs.Reading.{Incoming, Read, Unread, Brings}
 use Rattle.dcp_collect.specs.State.{State, made, ready, ready_by, reached, answer, number_of, after_answer, after_take, after_item}
 use Rattle.dcp_collect.specs.Numbers.{newer, end_of}
-use Rattle.dcp_collect.specs.Runs.{Item, Takes, Gives, Steps}
+use Rattle.dcp_collect.specs.Runs.{Item, Gives, Steps}
 use Rattle.dcp_collect.proofs.Lists.{all_insert, all_filter, all_weaker}
 use Rattle.collect_laws.specs.Laws.{FewAtOnce}
 use Rattle.collect_laws.proofs.Numbers.{one_nearest}
