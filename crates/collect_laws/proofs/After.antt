@@ -1,8 +1,7 @@
 -- What a collector is after some pairs of a delivery.
-use Rattle.std.proofs.Common.{ℕ, ◌≡◌, ◌+◌, ◌≤◌, false, true, eqb, List, [], ◌∷◌, ◌++◌, length, Option, Some, None, ◌⊎◌, inl, inr, ⊎_elim, sym, ap, ◌∙◌, subst}
+use Rattle.std.proofs.Common.{ℕ, ◌≡◌, ◌+◌, ◌≤◌, true, eqb, List, [], ◌∷◌, ◌++◌, length, Option, Some, None, ◌⊎◌, inl, inr, ⊎_elim, sym, ap, ◌∙◌}
 use Rattle.std.specs.Prelude.{ℤ, pos, ◌+ℤ◌}
 use Rattle.std.specs.List.{AllByRecursion}
-use Rattle.std.proofs.lemmas.Bool.{eqb-true}
 use Rattle.dcp_pft.specs.Loss.{size}
 use Rattle.dcp_collect.specs.Fragments.{Fragment, has_index, suffice, of_packet}
 use Rattle.dcp_collect.specs.State.{State, reached}
@@ -13,6 +12,7 @@ use Rattle.dcp_collect.proofs.Lists.{all_filter, all_weaker}
 use Rattle.collect_laws.proofs.Ordered.{IsOrdered}
 use Rattle.collect_laws.proofs.Got.{closed, got_more, closed_is}
 use Rattle.collect_laws.proofs.Packets.{IsSent}
+use Rattle.collect_laws.proofs.Reached.{numbered}
 
 -- a kept fragment was sent, its number is yet to be given, and is no more than the newest
 abbrev pub IsKept : Carry → List (List ℕ) → ℤ → ℕ → Option ℕ → Fragment → Type 0
@@ -32,13 +32,6 @@ pub record IsAfter (carry : Carry) (packets : List (List ℕ)) (window : ℕ) (b
   -- no index is kept twice
   pub counted : (q : ℕ) (packet : List ℕ) → c.next ≤ q → packet_at packets (base +ℤ pos q) ≡ Some packet →
       length (of_packet q c.kept) ≡ size (datagrams_of carry packet) (has_index (of_packet q c.kept))
-
-numbered : (P : Fragment → Type 0) (newest : Option ℕ) (n : ℕ) (fs : List Fragment)
-    → ((f : Fragment) → P f → reached newest f.number ≡ true)
-    → AllByRecursion (λ f. P f × (eqb f.number n ≡ true)) fs → (suffice fs ≡ true) ⊎ ((i : ℕ) × (has_index fs i ≡ true)) → reached newest n ≡ true
-numbered P newest n [] r all some = ⊎_elim (λ h. let e : false ≡ true = h in cc) (λ h. let e : false ≡ true = h.1 in cc) some
-numbered P newest n (f ∷ fs) r all some =
-    subst (λ k. reached newest k ≡ true) (eqb-true f.number n all.0.1) (r f all.0.0)
 
 module _ (carry : Carry) (packets : List (List ℕ)) (window : ℕ) (base : ℤ) (pairs : List (ℕ × ℕ)) (c : State) (h : IsAfter carry packets window base pairs c) where
   -- a number of which something is kept is no more than the newest

@@ -2,7 +2,7 @@
 use Rattle.std.proofs.Common.{ℕ, ◌≡◌, ◌+◌, ◌<◌, ◌≤◌, true, false, List, [], ◌∷◌, ◌++◌, map, Some, None, ◌⊎◌, inl, ⊎_elim, refl, sym, ap, ◌∙◌, subst, append_assoc, arith}
 use Rattle.std.specs.Prelude.{ℤ, pos, ◌+ℤ◌}
 use Rattle.std.specs.List.{range_with_len}
-use Rattle.std.proofs.lemmas.Bool.{ltb-true, ltb-false, or_cases}
+use Rattle.std.proofs.lemmas.Bool.{ltb-true, ltb-false}
 use Rattle.std.proofs.lemmas.List.{append-nil}
 use Rattle.std.proofs.lemmas.List.FromFn.{map-range_with_len_more}
 use Rattle.dcp_collect.specs.Fragments.{suffice, of_packet}
@@ -13,7 +13,7 @@ use Rattle.dcp_pft.specs.declared.carry.Carry.{Carry}
 use Rattle.collect_laws.specs.Delivery.{packet_at, got, item}
 use Rattle.collect_laws.proofs.Sent.{IsCut}
 use Rattle.collect_laws.proofs.Got.{got_more, got_closed}
-use Rattle.collect_laws.proofs.Reached.{reached_less, reached_end}
+use Rattle.collect_laws.proofs.Reached.{reached_less, reached_end, IsReady, ready_why}
 use Rattle.collect_laws.proofs.After.{IsAfter, reached_by, closed_same}
 use Rattle.collect_laws.proofs.Next.{item_after, item_is}
 
@@ -34,14 +34,6 @@ pub record IsOpen (carry : Carry) (packets : List (List ℕ)) (window : ℕ) (ba
   pub no_end : c.end ≡ None
   pub below : c.next ≤ end_of None c.newest
   pub fresh : c.first ≡ None → c.newest ≡ None
-
--- why an item is ready before `finish`
-abbrev IsReady : State → Type 0
-IsReady c = (suffice (of_packet c.next c.kept) ≡ true) ⊎ (reached c.newest (c.next + c.window) ≡ true)
-
-ready_why : (c : State) → c.end ≡ None → ready c ≡ true → IsReady c
-ready_why c u r =
-    or_cases (suffice (of_packet c.next c.kept)) (reached c.newest (c.next + c.window)) (sym (ap (λ o. ready_by o c) u) ∙ r)
 
 module _ (carry : Carry) (packets : List (List ℕ)) (window : ℕ) (base : ℤ)
     (cut : (q : ℕ) (packet : List ℕ) → packet_at packets (base +ℤ pos q) ≡ Some packet → IsCut carry packet)

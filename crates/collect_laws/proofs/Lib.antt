@@ -25,3 +25,4 @@ pub mod SentInTime
 pub mod SentCollected
 pub mod Fit
 pub mod Refusals
+pub mod AtOnce

@@ -7,7 +7,7 @@ use Rattle.dcp_collect.specs.declared.taken.Field.{Field}
 use Rattle.dcp_collect.specs.declared.taken.Taken.{Taken}
 use Rattle.dcp_collect.specs.declared.taken.Taken.TheVariants.{Kept, Repeated, Late, Refused}
 use Rattle.dcp_collect.specs.Reading.{Read, Unread, IsRead}
-use Rattle.dcp_collect.specs.State.{State, nearest}
+use Rattle.dcp_collect.specs.State.{State, made, nearest}
 use Rattle.dcp_collect.specs.Runs.{Item, Packet, Takes, Gives, Steps, Run}
 use Rattle.dcp_pft.specs.declared.carry.Carry.{Carry}
 use Rattle.dcp_pft.specs.Carrying.{shape_under, losses}
@@ -115,3 +115,15 @@ abbrev pub GivingEnds : Type 0
 GivingEnds =
     (c : State) → 1 ≤ c.window → AllByRecursion (λ f. IsBytes f.payload) c.kept
     → (given : List Item) × (after : State) × Gives c given after
+
+-- so many items one datagram brings at most: it can be newer by 32,767, and as many as the window are waited for
+abbrev pub most_at_once : ℕ → ℕ
+most_at_once window = 32767 + window
+
+-- what is given after one more datagram, whatever the datagrams before it
+abbrev pub FewAtOnce : Type 0
+FewAtOnce =
+    (window : ℕ) (first : Option ℕ) (datagrams : List (List ℕ)) (answers : List Taken) (given : List Item) (mid : State)
+    (datagram : List ℕ) (taken : Taken) (kept : State) (items : List Item) (after : State)
+    → 1 ≤ window → Steps (made window first) datagrams answers given mid
+    → Takes mid datagram taken kept → Gives kept items after → length items ≤ most_at_once window

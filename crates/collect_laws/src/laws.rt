@@ -1,6 +1,6 @@
 //! The laws of collecting, each on a function that does nothing.
 
-ghost use Rattle.collect_laws.specs.Laws.{OneNearest, OneReading, Refusing, Collecting, InTime, OneRun, OneGiving, StepsJoin, StepsPart, StepsCount, GivingEnds};
+ghost use Rattle.collect_laws.specs.Laws.{OneNearest, OneReading, Refusing, Collecting, InTime, OneRun, OneGiving, StepsJoin, StepsPart, StepsCount, GivingEnds, FewAtOnce};
 
 /// A datagram is read as one thing.
 pub fn one_reading()
@@ -55,4 +55,9 @@ pub fn steps_count()
 /// Giving what is ready comes to an end.
 pub fn giving_ends()
     ensures { GivingEnds }
+{}
+
+/// One datagram brings no more than so many items.
+pub fn few_at_once()
+    ensures { FewAtOnce }
 {}

@@ -29,7 +29,7 @@ use Rattle.drm_faults.specs.declared.fault.Fault.TheVariants as faults
 use Rattle.drm_faults.specs.Captures.{EndsEarly}
 use Rattle.drm_receive.specs.Capture.{WritesCapture}
 use Rattle.drm_receive.specs.Stopping.{ending_captured}
-use Rattle.drm_receive.proofs.CaptureFronts.{packets_front}
+use Rattle.capture_laws.proofs.CaptureFronts.{packets_front}
 use Rattle.drm_receive.proofs.ReceiveLemmas.{inner, no_fault}
 
 -- ---- what was heard stood ahead
@@ -87,7 +87,7 @@ module _ {O : Type 0} (rules : Rules) (valid : AreInRange rules) (headlines : He
     (before after : Known Input) (known : O → Known Output) (out out' : O) where
   reported : (clean : Bool) → Reported rules 1 (HeardOf before after) (known out) (known out') clean → Inputs before after (λ left rest. WritesCapture rules left rest (Ok clean) known out out')
   reported clean r =
-      let alone : Reported rules 1 (Alone r.answers) (known out) (known out') clean = record { answers = r.answers; heard = refl; few = r.few; whole = r.whole; is = r.is; text = r.text } in
+      let alone : Reported rules 1 (Alone r.answers) (known out) (known out') clean = record { answers = r.answers; heard = refl; few = r.few; at_once = r.at_once; whole = r.whole; is = r.is; text = r.text } in
       Inputs-weaker (λ left rest. Begin left r.answers) (λ left rest. WritesCapture rules left rest (Ok clean) known out out') before after (began before after r.answers r.heard)
       (λ left rest begins.
       let (ahead, brings, later, next) = next_of some left r.answers begins in
@@ -96,7 +96,7 @@ module _ {O : Type 0} (rules : Rules) (valid : AreInRange rules) (headlines : He
 
   stopped : Stopped rules 1 (HeardOf before after) (known out) (known out') → Inputs before after (λ left rest. WritesCapture rules left rest (ending_captured (Err unfinished.Write)) known out out')
   stopped r =
-      let alone : Stopped rules 1 (Alone r.answers) (known out) (known out') = record { answers = r.answers; heard = refl; few = r.few; goes_on = r.goes_on; text = r.text } in
+      let alone : Stopped rules 1 (Alone r.answers) (known out) (known out') = record { answers = r.answers; heard = refl; few = r.few; at_once = r.at_once; goes_on = r.goes_on; text = r.text } in
       Inputs-weaker (λ left rest. Begin left r.answers) (λ left rest. WritesCapture rules left rest (ending_captured (Err unfinished.Write)) known out out') before after (began before after r.answers r.heard)
       (λ left rest begins.
       let (ahead, brings, later, next) = next_of some left r.answers begins in

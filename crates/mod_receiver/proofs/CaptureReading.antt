@@ -1,5 +1,5 @@
 -- What is heard of a capture, packet by packet.
-use Rattle.std.proofs.Common.{◌≡◌, ℕ, inl, inr, Bool, List, [], ◌∷◌, ◌++◌, map, Option, None, Some, Result, Ok, Err, refl, sym, ◌∙◌, ap, subst, arith}
+use Rattle.std.proofs.Common.{◌≡◌, ◌≤◌, ℕ, inl, inr, Bool, List, [], ◌∷◌, ◌++◌, map, Option, None, Some, Result, Ok, Err, refl, sym, ◌∙◌, ap, subst, arith}
 use Rattle.std.specs.Prelude.{All}
 use Rattle.drm_links.specs.Told.{Known, ToldThrough}
 use Rattle.drm_links.specs.Link.{Datagram, Failed, End}
@@ -58,11 +58,11 @@ pub heard_stop : (packets : List (List ℕ)) (stop : CaptureStop) (before after 
 heard_stop packets stop before after whole stops = λ answers are. (packets, whole, stops, ap (λ l. l ++ Failed ∷ []) are)
 
 -- what a reading that stopped has written, behind the first line
-pub stopped_as : (rules : Rules) (before after : Known Input) (a0 a b : Known Output) (why : Unfinished) → Outputs a0 a (λ x. x ≡ feed_line 1) → StopsPackets rules before after a b why
+pub stopped_as : (rules : Rules) (some : 1 ≤ rules.window) (before after : Known Input) (a0 a b : Known Output) (why : Unfinished) → Outputs a0 a (λ x. x ≡ feed_line 1) → StopsPackets rules before after a b why
     → EndsReceiving rules before after a0 b (Err why)
-stopped_as rules before after a0 a b (unfinished.Stopped stop) first read = broken rules 1 (HeardUntil stop before after) a0 a b first read
-stopped_as rules before after a0 a b unfinished.Write first read = reading_front rules 1 (HeardOf before after) a0 a b first read
-stopped_as rules before after a0 a b unfinished.NoMemory first read = absurd read
+stopped_as rules some before after a0 a b (unfinished.Stopped stop) first read = broken rules some 1 (HeardUntil stop before after) a0 a b first read
+stopped_as rules some before after a0 a b unfinished.Write first read = reading_front rules some 1 (HeardOf before after) a0 a b first read
+stopped_as rules some before after a0 a b unfinished.NoMemory first read = absurd read
 
 -- nothing that a reading wants is memory
 pub takes_none : (rules : Rules) (before after : Known Input) (a b : Known Output) (r : Result Bool Unfinished) (why : Unfinished) → r ≡ Err why → r ≡ Err unfinished.NoMemory → StopsPackets rules before after a b why → ⊥

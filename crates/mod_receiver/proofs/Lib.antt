@@ -13,3 +13,4 @@ pub mod Taking
 pub mod JobLemmas
 pub mod Unbroken
 pub mod CaptureReading
+pub mod AtOnce

@@ -23,6 +23,7 @@ use Rattle.mod_receiver.specs.Reports.{is_given, is_missing, is_bad, refusals, r
 use Rattle.mod_receiver.specs.Tallies.{Tallied, counted}
 use Rattle.mod_receiver.specs.Received.{IsReport, GivesSome, IsReportFront, Reported, Broken, Stopped}
 use Rattle.mod_receiver.specs.Printed.{items_in, steps_before, with_steps, tally_of, KeepsPace, PrintsReady, PrintsFront, ReadsTo, ReadsBroken, ReadsFront, StopsReading, WritesRest, RestFront}
+use Rattle.mod_receiver.proofs.AtOnce.{few_given}
 use Rattle.mod_receiver.proofs.Going.{goes_none}
 use Rattle.mod_receiver.proofs.Giving.{gave_none}
 use Rattle.mod_receiver.proofs.Refusing.{AreTold}
@@ -152,16 +153,17 @@ report_of rules feed hears a b t word w = record {
   clean_is = refl;
 }
 
-pub reported : (rules : Rules) (feed : ℕ) (hears : List Answer → Type 0) (a b d e : Known Output) (t : Tallied) (word : EndWord) (clean : Bool)
+pub reported : (rules : Rules) (some : 1 ≤ rules.window) (feed : ℕ) (hears : List Answer → Type 0) (a b d e : Known Output) (t : Tallied) (word : EndWord) (clean : Bool)
     → WroteItems rules feed hears a b t word → Outputs b d (λ x. x ≡ refused_text t.refused) → Outputs d e (λ x. x ≡ end_line word t.sums)
     → IsTrue clean ↔ ((t.sums.missing ≡ 0) × (t.sums.bad ≡ 0)) → Reported rules feed hears a e clean
-reported rules feed hears a b d e t word clean w refused last is =
+reported rules some feed hears a b d e t word clean w refused last is =
     let refused' : Outputs b d (λ x. x ≡ refused_text (keep_last 16 (refusals w.taken))) = subst (λ (u : Tallied). Outputs b d (λ x. x ≡ refused_text u.refused)) w.tally refused in
     let last' : Outputs d e (λ x. x ≡ end_line word (sums_of w.steps (refusals w.taken))) = subst (λ (u : Tallied). Outputs d e (λ x. x ≡ end_line word u.sums)) w.tally last in
     record {
       answers = w.answers;
       heard = w.heard;
       few = w.few;
+      at_once = few_given rules w.answers some;
       whole = report feed w.steps (refusals w.taken) word;
       is = subst (λ b. IsReport rules feed w.answers (report feed w.steps (refusals w.taken) word) b) (sym (clean_is clean t w.steps w.taken is w.tally)) (report_of rules feed hears a b t word w);
       text = subst (λ l. Outputs a e (λ x. x ≡ l)) (whole_is feed w.steps w.taken word)
@@ -172,12 +174,13 @@ reported rules feed hears a b d e t word clean w refused last is =
 -- ---- where it stops
 
 -- a front of the whole report was written
-front_of_whole : (rules : Rules) (feed : ℕ) (hears : List Answer → Type 0) (a b e : Known Output) (t : Tallied) (word : EndWord) (w : WroteItems rules feed hears a b t word)
+front_of_whole : (rules : Rules) (some : 1 ≤ rules.window) (feed : ℕ) (hears : List Answer → Type 0) (a b e : Known Output) (t : Tallied) (word : EndWord) (w : WroteItems rules feed hears a b t word)
     → Outputs b e (IsFront (tail_of w.steps w.taken word)) → Stopped rules feed hears a e
-front_of_whole rules feed hears a b e t word w tail = record {
+front_of_whole rules some feed hears a b e t word w tail = record {
   answers = w.answers;
   heard = w.heard;
   few = w.few;
+  at_once = few_given rules w.answers some;
   goes_on = w.reading.goes_on;
   text = Outputs-weaker (IsFront ((feed_line feed ++ steps_text w.steps) ++ tail_of w.steps w.taken word)) (IsReportFront rules feed w.answers) a e
       (front_then (feed_line feed ++ steps_text w.steps) (tail_of w.steps w.taken word) a b e w.text tail)
@@ -189,10 +192,10 @@ front_of_whole rules feed hears a b e t word w tail = record {
       ));
 }
 
-tail_front : (rules : Rules) (feed : ℕ) (hears : List Answer → Type 0) (a b e : Known Output) (t : Tallied) (word : EndWord)
+tail_front : (rules : Rules) (some : 1 ≤ rules.window) (feed : ℕ) (hears : List Answer → Type 0) (a b e : Known Output) (t : Tallied) (word : EndWord)
     → WroteItems rules feed hears a b t word → Outputs b e (IsFront (refused_text t.refused ++ end_line word t.sums)) → Stopped rules feed hears a e
-tail_front rules feed hears a b e t word w tail =
-    front_of_whole rules feed hears a b e t word w (subst (λ (u : Tallied). Outputs b e (IsFront (refused_text u.refused ++ end_line word u.sums))) w.tally tail)
+tail_front rules some feed hears a b e t word w tail =
+    front_of_whole rules some feed hears a b e t word w (subst (λ (u : Tallied). Outputs b e (IsFront (refused_text u.refused ++ end_line word u.sums))) w.tally tail)
 
 none_given : (rules : Rules) → GivesSome rules [] (up_to rules.frames [])
 none_given rules = record {
@@ -216,21 +219,23 @@ none_fed (Some zero) = refl
 none_fed (Some (suc n)) = refl
 
 -- nothing was read yet
-pub first_front : (rules : Rules) (feed : ℕ) (hears : List Answer → Type 0) (a b : Known Output) → hears [] → Outputs a b (IsFront (feed_line feed)) → Stopped rules feed hears a b
-first_front rules feed hears a b none text = record {
+pub first_front : (rules : Rules) (some : 1 ≤ rules.window) (feed : ℕ) (hears : List Answer → Type 0) (a b : Known Output) → hears [] → Outputs a b (IsFront (feed_line feed)) → Stopped rules feed hears a b
+first_front rules some feed hears a b none text = record {
   answers = [];
   heard = none;
   few = omega arith;
+  at_once = few_given rules [] some;
   goes_on = goes_none rules;
   text = Outputs-weaker (IsFront (feed_line feed)) (IsReportFront rules feed []) a b text
       (λ x f. inl (up_to rules.frames [], none_given rules, [], new_tracker, none_fed rules.frames, front_more (feed_line feed) [] x f));
 }
 
-pub reading_front : (rules : Rules) (feed : ℕ) (hears : List Answer → Type 0) (a0 a b : Known Output) → Outputs a0 a (λ x. x ≡ feed_line feed) → ReadsFront rules hears a b → Stopped rules feed hears a0 b
-reading_front rules feed hears a0 a b first read = record {
+pub reading_front : (rules : Rules) (some : 1 ≤ rules.window) (feed : ℕ) (hears : List Answer → Type 0) (a0 a b : Known Output) → Outputs a0 a (λ x. x ≡ feed_line feed) → ReadsFront rules hears a b → Stopped rules feed hears a0 b
+reading_front rules some feed hears a0 a b first read = record {
   answers = read.answers;
   heard = read.heard;
   few = read.few;
+  at_once = few_given rules read.answers some;
   goes_on = read.goes_on;
   text = Outputs-weaker (IsFront (feed_line feed ++ steps_text read.steps)) (IsReportFront rules feed read.answers) a0 b
       (front_then (feed_line feed) (steps_text read.steps) a0 a b first read.text)
@@ -238,11 +243,11 @@ reading_front rules feed hears a0 a b first read = record {
 }
 
 -- the reading stopped by a write
-pub reading_stopped : (rules : Rules) (feed : ℕ) (hears : List Answer → Type 0) (a0 a b : Known Output) (r : Result Bool Stop) (why : Stop)
+pub reading_stopped : (rules : Rules) (some : 1 ≤ rules.window) (feed : ℕ) (hears : List Answer → Type 0) (a0 a b : Known Output) (r : Result Bool Stop) (why : Stop)
     → r ≡ Err why → r ≡ Err stop.Write → Outputs a0 a (λ x. x ≡ feed_line feed) → StopsReading rules hears a b why → Stopped rules feed hears a0 b
-reading_stopped rules feed hears a0 a b r stop.Write is e first read = reading_front rules feed hears a0 a b first read
-reading_stopped rules feed hears a0 a b r stop.Link is e first read = absurd (let x : Err stop.Link ≡ Err stop.Write = sym is ∙ e in cc)
-reading_stopped rules feed hears a0 a b r stop.NoMemory is e first read = absurd read
+reading_stopped rules some feed hears a0 a b r stop.Write is e first read = reading_front rules some feed hears a0 a b first read
+reading_stopped rules some feed hears a0 a b r stop.Link is e first read = absurd (let x : Err stop.Link ≡ Err stop.Write = sym is ∙ e in cc)
+reading_stopped rules some feed hears a0 a b r stop.NoMemory is e first read = absurd read
 
 -- nothing that a reading wants is memory
 pub reading_takes_none : (rules : Rules) (hears : List Answer → Type 0) (a b : Known Output) (r : Result Bool Stop) (why : Stop)
@@ -251,11 +256,12 @@ reading_takes_none rules hears a b r stop.NoMemory is e read = read
 reading_takes_none rules hears a b r stop.Write is e read = let x : Err stop.Write ≡ Err stop.NoMemory = sym is ∙ e in cc
 reading_takes_none rules hears a b r stop.Link is e read = let x : Err stop.Link ≡ Err stop.NoMemory = sym is ∙ e in cc
 
-pub broken : (rules : Rules) (feed : ℕ) (hears : List Answer → Type 0) (a0 a b : Known Output) → Outputs a0 a (λ x. x ≡ feed_line feed) → ReadsBroken rules hears a b → Broken rules feed hears a0 b
-broken rules feed hears a0 a b first read = record {
+pub broken : (rules : Rules) (some : 1 ≤ rules.window) (feed : ℕ) (hears : List Answer → Type 0) (a0 a b : Known Output) → Outputs a0 a (λ x. x ≡ feed_line feed) → ReadsBroken rules hears a b → Broken rules feed hears a0 b
+broken rules some feed hears a0 a b first read = record {
   answers = read.answers;
   heard = read.heard;
   few = read.few;
+  at_once = few_given rules read.answers some;
   whole = feed_line feed ++ steps_text read.steps;
   is = record {
     before = read.sound;
@@ -273,22 +279,23 @@ broken rules feed hears a0 a b first read = record {
 }
 
 -- the reading stopped by the link
-pub reading_broken : (rules : Rules) (feed : ℕ) (hears : List Answer → Type 0) (a0 a b : Known Output) (r : Result Bool Stop) (why : Stop)
+pub reading_broken : (rules : Rules) (some : 1 ≤ rules.window) (feed : ℕ) (hears : List Answer → Type 0) (a0 a b : Known Output) (r : Result Bool Stop) (why : Stop)
     → r ≡ Err why → r ≡ Err stop.Link → Outputs a0 a (λ x. x ≡ feed_line feed) → StopsReading rules hears a b why → Broken rules feed hears a0 b
-reading_broken rules feed hears a0 a b r stop.Link is e first read = broken rules feed hears a0 a b first read
-reading_broken rules feed hears a0 a b r stop.Write is e first read = absurd (let x : Err stop.Write ≡ Err stop.Link = sym is ∙ e in cc)
-reading_broken rules feed hears a0 a b r stop.NoMemory is e first read = absurd read
+reading_broken rules some feed hears a0 a b r stop.Link is e first read = broken rules some feed hears a0 a b first read
+reading_broken rules some feed hears a0 a b r stop.Write is e first read = absurd (let x : Err stop.Write ≡ Err stop.Link = sym is ∙ e in cc)
+reading_broken rules some feed hears a0 a b r stop.NoMemory is e first read = absurd read
 
 -- what was ready at the end wasn't all written
-pub rest_front : (rules : Rules) (feed : ℕ) (hears : List Answer → Type 0) (a0 a b d : Known Output) (c c' : State) (f : TrackerState) (t : Tallied) (word : EndWord)
+pub rest_front : (rules : Rules) (some : 1 ≤ rules.window) (feed : ℕ) (hears : List Answer → Type 0) (a0 a b d : Known Output) (c c' : State) (f : TrackerState) (t : Tallied) (word : EndWord)
     → Outputs a0 a (λ x. x ≡ feed_line feed) → ReadsTo rules hears a b c f t word → items_in t.sums ≡ f.calls → c' ≡ after_finish c rules.frames → PrintsFront rules.frames c' f b d → Stopped rules feed hears a0 d
-rest_front rules feed hears a0 a b d c c' f t word first read counted finished front =
+rest_front rules some feed hears a0 a b d c c' f t word first read counted finished front =
     let s = read.so_far in
     let rest : PrintsFront rules.frames (after_finish read.mid rules.frames) f b d = the_front rules.frames read.mid c c' f t read.fit read.drained counted finished b d front in
     record {
       answers = read.answers;
       heard = s.heard;
       few = read.few;
+      at_once = few_given rules read.answers some;
       goes_on = s.goes_on;
       text = Outputs-weaker (IsFront (feed_line feed ++ steps_text (s.steps ++ rest.steps))) (IsReportFront rules feed read.answers) a0 d
           (front_then (feed_line feed) (steps_text (s.steps ++ rest.steps)) a0 a d first (front_joins s.steps rest.steps a b d s.text rest.text))
@@ -317,19 +324,19 @@ rest_front rules feed hears a0 a b d c c' f t word first read counted finished f
 
 -- ---- the rest of a report
 
-module _ (rules : Rules) (feed : ℕ) (hears : List Answer → Type 0) (a0 a b : Known Output) (c : State) (f : TrackerState) (t : Tallied) (word : EndWord)
+module _ (rules : Rules) (some : 1 ≤ rules.window) (feed : ℕ) (hears : List Answer → Type 0) (a0 a b : Known Output) (c : State) (f : TrackerState) (t : Tallied) (word : EndWord)
     (first : Outputs a0 a (λ x. x ≡ feed_line feed)) (read : ReadsTo rules hears a b c f t word) (counted : items_in t.sums ≡ f.calls) where
   -- with its rest the report is whole
   pub reported_whole : (e : Known Output) (clean : Bool) → WritesRest rules.frames word c f t b e clean → Reported rules feed hears a0 e clean
   reported_whole e clean rest =
-      reported rules feed hears a0 rest.given rest.named e rest.tally word clean
+      reported rules some feed hears a0 rest.given rest.named e rest.tally word clean
       (wrote_items rules feed hears a0 a b rest.given c (after_finish c rules.frames) rest.last f rest.after t rest.tally word first read counted refl rest.ready)
       rest.refused rest.ends rest.clean_is
 
   pub reported_front : (e : Known Output) → RestFront rules.frames word c f t b e → Stopped rules feed hears a0 e
-  reported_front e (inl front) = rest_front rules feed hears a0 a b e c (after_finish c rules.frames) f t word first read counted refl front
+  reported_front e (inl front) = rest_front rules some feed hears a0 a b e c (after_finish c rules.frames) f t word first read counted refl front
   reported_front e (inr rest) =
-      tail_front rules feed hears a0 rest.given e rest.tally word
+      tail_front rules some feed hears a0 rest.given e rest.tally word
       (wrote_items rules feed hears a0 a b rest.given c (after_finish c rules.frames) rest.last f rest.after t rest.tally word first read counted refl rest.ready)
       rest.front
 

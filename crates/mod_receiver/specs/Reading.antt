@@ -5,6 +5,7 @@ use Rattle.drm_links.specs.Link.{Answer, Datagram, Idle, Failed, End, datagram_o
 use Rattle.dcp_collect.specs.declared.taken.Taken.{Taken}
 use Rattle.dcp_collect.specs.State.{State, made}
 use Rattle.dcp_collect.specs.Runs.{Item, Steps}
+use Rattle.collect_laws.specs.Laws.{most_at_once}
 use Rattle.report_lines.specs.declared.report.EndWord.{EndWord}
 use Rattle.report_lines.specs.declared.report.EndWord.TheVariants as word
 use Rattle.mod_receiver.specs.declared.rules.Rules.{Rules}
@@ -27,6 +28,16 @@ idles answers = idles_from 0 answers
 -- A new collector that takes these datagrams, and gives all that is ready after each, has given these items.
 abbrev pub Gave : Rules → List Answer → List Taken → List Item → State → Type 0
 Gave rules answers taken items end = Steps (made rules.window rules.first) (datagrams answers) taken items end
+
+-- the items that are given after these answers
+abbrev pub GaveItems : Rules → List Answer → List Item → Type 0
+GaveItems rules answers items = (taken : List Taken) × (end : State) × Gave rules answers taken items end
+
+-- each of these answers brings no more items than one datagram can
+abbrev pub FewAtOnce : Rules → List Answer → Type 0
+FewAtOnce rules answers =
+    (k : ℕ) (before items : List Item) → GaveItems rules (take k answers) before → GaveItems rules (take (k + 1) answers) items
+    → length items ≤ length before + most_at_once rules.window
 
 -- as many items were given as are told
 abbrev pub HasGiven : Rules → List Answer → Option ℕ → Type 0

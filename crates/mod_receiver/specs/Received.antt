@@ -12,7 +12,7 @@ use Rattle.report_lines.specs.declared.report.EndWord.{EndWord}
 use Rattle.report_lines.specs.Report.{feed_line}
 use Rattle.mod_receiver.specs.Hearing.{Heard}
 use Rattle.mod_receiver.specs.declared.rules.Rules.{Rules}
-use Rattle.mod_receiver.specs.Reading.{datagrams, Gave, EndsBy, GoesOn, IsFinished, IsBroken, most_answers}
+use Rattle.mod_receiver.specs.Reading.{datagrams, Gave, FewAtOnce, EndsBy, GoesOn, IsFinished, IsBroken, most_answers}
 use Rattle.mod_receiver.specs.Reports.{refusals, steps_text, report, is_clean}
 use Rattle.mod_receiver.specs.declared.receiver.Options.{Options}
 use Rattle.mod_receiver.specs.declared.receiver.Ended.{Ended}
@@ -85,6 +85,7 @@ pub record Reported (rules : Rules) (feed : ℕ) (hears : List Answer → Type 0
   pub answers : List Answer
   pub heard : hears answers
   pub few : length answers ≤ most_answers rules
+  pub at_once : FewAtOnce rules answers
   pub whole : List ℕ
   pub is : IsReport rules feed answers whole clean
   pub text : Outputs a b (λ text. text ≡ whole)
@@ -94,6 +95,7 @@ pub record Broken (rules : Rules) (feed : ℕ) (hears : List Answer → Type 0) 
   pub answers : List Answer
   pub heard : hears answers
   pub few : length answers ≤ most_answers rules
+  pub at_once : FewAtOnce rules answers
   pub whole : List ℕ
   pub is : IsBrokenOff rules feed answers whole
   pub text : Outputs a b (λ text. text ≡ whole)
@@ -103,6 +105,7 @@ pub record Stopped (rules : Rules) (feed : ℕ) (hears : List Answer → Type 0)
   pub answers : List Answer
   pub heard : hears answers
   pub few : length answers ≤ most_answers rules
+  pub at_once : FewAtOnce rules answers
   pub goes_on : GoesOn rules answers
   pub text : Outputs a b (IsReportFront rules feed answers)
 

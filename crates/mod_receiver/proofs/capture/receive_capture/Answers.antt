@@ -10,14 +10,14 @@ pub returns-in_err-write_feed-clause-ended : goal.returns-in_err-write_feed-clau
 returns-in_err-write_feed-clause-ended g c =
     let p = err_from_is_err_and c.from_residual-in_err-write_feed.result c.from_residual-in_err-write_feed.ensures.1 in
     rw (p.1 ∙ ap Err p.2)
-    (first_front c.args.rules.now 1 (HeardOf (g.I.Source.known c.args.input.now) (g.I.Source.known c.args.input.now)) (g.O.Sink.known c.args.out.now) (g.O.Sink.known c.write_feed.new.out)
+    (first_front c.args.rules.now c.requires.some_window 1 (HeardOf (g.I.Source.known c.args.input.now) (g.I.Source.known c.args.input.now)) (g.O.Sink.known c.args.out.now) (g.O.Sink.known c.write_feed.new.out)
     (heard_nothing (g.I.Source.known c.args.input.now)) (Writes-front c.in_err-write_feed.was c.write_feed.ensures))
 
 pub returns-in_err-word-clause-ended : goal.returns-in_err-word-clause-ended
 returns-in_err-word-clause-ended g c =
     let p = err_from_is_err_and c.from_residual-in_err-word.result c.from_residual-in_err-word.ensures.1 in
     rw (p.1 ∙ ap Err p.2)
-    (stopped_as c.args.rules.now (g.I.Source.known c.args.input.now) (g.I.Source.known c.read_packets.new.input) (g.O.Sink.known c.args.out.now) (g.O.Sink.known c.write_feed.new.out) (g.O.Sink.known c.read_packets.new.out)
+    (stopped_as c.args.rules.now c.requires.some_window (g.I.Source.known c.args.input.now) (g.I.Source.known c.read_packets.new.input) (g.O.Sink.known c.args.out.now) (g.O.Sink.known c.write_feed.new.out) (g.O.Sink.known c.read_packets.new.out)
     c.in_err-word.field-0.0 (Writes-done c.in_ok-write_feed.was c.write_feed.ensures) c.in_err-word.ensures.stopped)
 
 pub returns-in_err-word-clause-memory : goal.returns-in_err-word-clause-memory
@@ -35,7 +35,7 @@ pub returns-in_err-write_rest-clause-ended : goal.returns-in_err-write_rest-clau
 returns-in_err-write_rest-clause-ended g c =
     let p = err_from_is_err_and c.from_residual-in_err-write_rest.result c.from_residual-in_err-write_rest.ensures.1 in
     rw (p.1 ∙ ap Err p.2)
-    (reported_front c.args.rules.now 1 (HeardOf (g.I.Source.known c.args.input.now) (g.I.Source.known c.read_packets.new.input))
+    (reported_front c.args.rules.now c.requires.some_window 1 (HeardOf (g.I.Source.known c.args.input.now) (g.I.Source.known c.read_packets.new.input))
     (g.O.Sink.known c.args.out.now) (g.O.Sink.known c.write_feed.new.out) (g.O.Sink.known c.read_packets.new.out)
     c.read_packets.new.collector c.read_packets.new.feed c.read_packets.new.tally c.in_ok-word.word
     (Writes-done c.in_ok-write_feed.was c.write_feed.ensures) c.in_ok-word.ensures.finished c.in_ok-word.ensures.pace.items
@@ -43,7 +43,7 @@ returns-in_err-write_rest-clause-ended g c =
 
 pub returns-clause-ended : goal.returns-clause-ended
 returns-clause-ended g c =
-    reported_whole c.args.rules.now 1 (HeardOf (g.I.Source.known c.args.input.now) (g.I.Source.known c.read_packets.new.input))
+    reported_whole c.args.rules.now c.requires.some_window 1 (HeardOf (g.I.Source.known c.args.input.now) (g.I.Source.known c.read_packets.new.input))
     (g.O.Sink.known c.args.out.now) (g.O.Sink.known c.write_feed.new.out) (g.O.Sink.known c.read_packets.new.out)
     c.read_packets.new.collector c.read_packets.new.feed c.read_packets.new.tally c.in_ok-word.word
     (Writes-done c.in_ok-write_feed.was c.write_feed.ensures) c.in_ok-word.ensures.finished c.in_ok-word.ensures.pace.items

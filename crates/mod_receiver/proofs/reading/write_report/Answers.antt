@@ -9,18 +9,18 @@ use Rattle.mod_receiver.proofs.reading.write_report.Goals as goal
 
 pub returns-in_err-write_feed-clause-front : goal.returns-in_err-write_feed-clause-front
 returns-in_err-write_feed-clause-front g c = λ _.
-    first_front (rules_of c.args.collector.now c.args.options.now) c.args.options.now.feed (Heard (g.L.Link.known c.args.link.now) (g.L.Link.known c.args.link.now)) (g.O.Sink.known c.args.out.now) (g.O.Sink.known c.write_feed.new.out) (heard_none (g.L.Link.known c.args.link.now)) (Writes-front c.in_err-write_feed.was c.write_feed.ensures)
+    first_front (rules_of c.args.collector.now c.args.options.now) c.requires.window.0 c.args.options.now.feed (Heard (g.L.Link.known c.args.link.now) (g.L.Link.known c.args.link.now)) (g.O.Sink.known c.args.out.now) (g.O.Sink.known c.write_feed.new.out) (heard_none (g.L.Link.known c.args.link.now)) (Writes-front c.in_err-write_feed.was c.write_feed.ensures)
 
 pub returns-in_err-word-clause-broken : goal.returns-in_err-word-clause-broken
 returns-in_err-word-clause-broken g c = λ e.
     let p = err_from_is_err_and c.from_residual-in_err-word.result c.from_residual-in_err-word.ensures.1 in
-    reading_broken (rules_of c.args.collector.now c.args.options.now) c.args.options.now.feed (Heard (g.L.Link.known c.args.link.now) (g.L.Link.known c.read_all.new.link)) (g.O.Sink.known c.args.out.now) (g.O.Sink.known c.write_feed.new.out) (g.O.Sink.known c.read_all.new.out)
+    reading_broken (rules_of c.args.collector.now c.args.options.now) c.requires.window.0 c.args.options.now.feed (Heard (g.L.Link.known c.args.link.now) (g.L.Link.known c.read_all.new.link)) (g.O.Sink.known c.args.out.now) (g.O.Sink.known c.write_feed.new.out) (g.O.Sink.known c.read_all.new.out)
     c.from_residual-in_err-word.result c.in_err-word.field-0.0 (p.1 ∙ ap Err p.2) e (Writes-done c.in_ok-write_feed.was c.write_feed.ensures) c.in_err-word.ensures.stopped
 
 pub returns-in_err-word-clause-front : goal.returns-in_err-word-clause-front
 returns-in_err-word-clause-front g c = λ e.
     let p = err_from_is_err_and c.from_residual-in_err-word.result c.from_residual-in_err-word.ensures.1 in
-    reading_stopped (rules_of c.args.collector.now c.args.options.now) c.args.options.now.feed (Heard (g.L.Link.known c.args.link.now) (g.L.Link.known c.read_all.new.link)) (g.O.Sink.known c.args.out.now) (g.O.Sink.known c.write_feed.new.out) (g.O.Sink.known c.read_all.new.out)
+    reading_stopped (rules_of c.args.collector.now c.args.options.now) c.requires.window.0 c.args.options.now.feed (Heard (g.L.Link.known c.args.link.now) (g.L.Link.known c.read_all.new.link)) (g.O.Sink.known c.args.out.now) (g.O.Sink.known c.write_feed.new.out) (g.O.Sink.known c.read_all.new.out)
     c.from_residual-in_err-word.result c.in_err-word.field-0.0 (p.1 ∙ ap Err p.2) e (Writes-done c.in_ok-write_feed.was c.write_feed.ensures) c.in_err-word.ensures.stopped
 
 pub returns-in_err-word-clause-memory : goal.returns-in_err-word-clause-memory
@@ -36,7 +36,7 @@ write_rest-requires-clause-refused g c =
 
 pub returns-in_err-write_rest-clause-front : goal.returns-in_err-write_rest-clause-front
 returns-in_err-write_rest-clause-front g c = λ _.
-    reported_front (rules_of c.args.collector.now c.args.options.now) c.args.options.now.feed (Heard (g.L.Link.known c.args.link.now) (g.L.Link.known c.read_all.new.link))
+    reported_front (rules_of c.args.collector.now c.args.options.now) c.requires.window.0 c.args.options.now.feed (Heard (g.L.Link.known c.args.link.now) (g.L.Link.known c.read_all.new.link))
     (g.O.Sink.known c.args.out.now) (g.O.Sink.known c.write_feed.new.out) (g.O.Sink.known c.read_all.new.out)
     c.read_all.new.collector c.read_all.new.feed c.read_all.new.tally c.in_ok-word.word
     (Writes-done c.in_ok-write_feed.was c.write_feed.ensures) c.in_ok-word.ensures.finished c.in_ok-word.ensures.pace.items
@@ -44,7 +44,7 @@ returns-in_err-write_rest-clause-front g c = λ _.
 
 pub returns-clause-finished : goal.returns-clause-finished
 returns-clause-finished g c =
-    reported_whole (rules_of c.args.collector.now c.args.options.now) c.args.options.now.feed (Heard (g.L.Link.known c.args.link.now) (g.L.Link.known c.read_all.new.link))
+    reported_whole (rules_of c.args.collector.now c.args.options.now) c.requires.window.0 c.args.options.now.feed (Heard (g.L.Link.known c.args.link.now) (g.L.Link.known c.read_all.new.link))
     (g.O.Sink.known c.args.out.now) (g.O.Sink.known c.write_feed.new.out) (g.O.Sink.known c.read_all.new.out)
     c.read_all.new.collector c.read_all.new.feed c.read_all.new.tally c.in_ok-word.word
     (Writes-done c.in_ok-write_feed.was c.write_feed.ensures) c.in_ok-word.ensures.finished c.in_ok-word.ensures.pace.items
