@@ -4,45 +4,68 @@ ghost use Rattle.std.specs.Prelude.{◌≡◌, ◌<◌, length, slice_get, slice
 ghost use Rattle.drm_schedule.specs.declared.stream.Stream.{Stream as StreamRecord};
 ghost use Rattle.drm_schedule.specs.declared.stream.Content.TheVariants.{Fill};
 
-use drm_bits::NoMemory;
-use drm_plan::PlanFault;
-use drm_schedule::{Carry, Content, Spot, Stream, Streams, can_be_packed, entities_can_be_written};
+use drm_schedule::{
+    Carry, Content, Schedule, Spot, Stream, Streams, can_be_packed, entities_can_be_written,
+};
+use std::alloc::Global;
 use trial_schedules::{SWITCHING, schedule};
 
-#[test]
-fn has_what_its_text_says(rt: HostRuntime) -> Result<(), PlanFault> {
-    let edits = [(2, "carry pft 5 1400"), (3, "first 7 8")];
-    let plan = schedule(rt.alloc(), SWITCHING, &edits)?;
+fn begins_so(plan: &Schedule) -> bool {
+    plan.carry() == Carry::Pft { m: 5, mtu: 1400 }
+        && plan.seq() == 7
+        && plan.dlfc() == 8
+        && plan.length() == 9
+}
+
+fn announces(plan: &Schedule) -> bool {
+    if plan.configs().len() != 2 {
+        return false;
+    }
     plan.always_valid();
-    assert_eq!(rt; plan.carry(), Carry::Pft { m: 5, mtu: 1400 });
-    assert_eq!(rt; (plan.seq(), plan.dlfc()), (7, 8));
-    assert_eq!(rt; plan.length(), 9);
-    assert_eq!(rt; plan.configs().len(), 2);
     let config = plan.configs().get(1);
-    assert_eq!(rt; (config.start, config.countdown), (5, 2));
     entities_can_be_written(&config.entities);
-    Ok(())
+    config.start == 5 && config.countdown == 2
+}
+
+const EDITS: [(usize, &str); 2] = [(2, "carry pft 5 1400"), (3, "first 7 8")];
+
+fn says(alloc: Global) -> bool {
+    match schedule(alloc, SWITCHING, &EDITS) {
+        Ok(plan) => begins_so(&plan) && announces(&plan),
+        Err(_) => false,
+    }
 }
 
 #[test]
+fn has_what_its_text_says(rt: HostRuntime) {
+    assert!(rt; says(rt.alloc()));
+}
+
+// How much is free in each super frame, the sizes of entities, and whether these can be packed.
+const PACKED: [(&[u16], &[u16], bool); 9] = [
+    (&[], &[], true),
+    (&[], &[0], false),
+    (&[8, 8], &[5, 4, 4], true),
+    (&[7, 7], &[5, 4, 4], false),
+    // A super frame before that of an entity takes none behind it, and one that is full takes one of no bytes.
+    (&[3, 9], &[4, 3, 2], true),
+    (&[3, 9], &[4, 4, 2], false),
+    (&[3, 0], &[3, 0, 0], true),
+    (&[3, 0, 0], &[3, 0, 1], false),
+    (&[65535], &[65535, 1], false),
+];
+
+#[test]
 fn packs_in_order(rt: HostRuntime) {
-    let cases = [
-        ([].as_slice(), [].as_slice(), true),
-        (&[], &[0], false),
-        (&[8, 8], &[5, 4, 4], true),
-        (&[7, 7], &[5, 4, 4], false),
-        // A super frame before that of an entity takes none behind it, and one that is full takes one of no bytes.
-        (&[3, 9], &[4, 3, 2], true),
-        (&[3, 9], &[4, 4, 2], false),
-        (&[3, 0], &[3, 0, 0], true),
-        (&[3, 0, 0], &[3, 0, 1], false),
-        (&[65535], &[65535, 1], false),
-    ];
-    for (free, sizes, expected) in cases {
-        assert_eq!(rt; can_be_packed(free, sizes), expected, "{free:?} {sizes:?}");
+    for (k, row) in PACKED.iter().enumerate() {
+        assert!(rt; can_be_packed(row.0, row.1) == row.2, "row {k}");
     }
+}
+
+#[test]
+fn places_behind_the_first_that_has_no_room(rt: HostRuntime) {
     let spot = Spot::front().place(&[3, 9], 4);
-    assert_eq!(rt; spot, Some(Spot { frame: 1, taken: 4 }));
+    assert!(rt; spot == Some(Spot { frame: 1, taken: 4 }));
 }
 
 // Sets the byte of a stream, as a caller of `get_mut` is known to do.
@@ -54,18 +77,29 @@ fn fill(streams: &mut Streams, k: usize, byte: u8)
     streams.get_mut(k).content = Content::Fill(byte);
 }
 
-#[test]
-fn changes_a_value(rt: HostRuntime) -> Result<(), NoMemory> {
-    let mut streams = Streams::new(rt.alloc());
-    for a in [0, 4] {
-        let content = Content::Fill(0x55);
-        streams.push(Stream { a, b: 4, content })?;
+// A stream with so many bytes in its part A, four in its part B, and this byte in all of them.
+fn is_stream(stream: &Stream, a: u16, byte: u8) -> bool {
+    match stream.content {
+        Content::Fill(found) => found == byte && stream.a == a && stream.b == 4,
+        _ => false,
     }
-    assert!(rt; streams.len() == 2);
-    fill(&mut streams, 1, 0xab);
-    let changed = streams.get(1);
-    assert!(rt; matches!(changed.content, Content::Fill(0xab)));
-    assert_eq!(rt; (changed.a, changed.b), (4, 4));
-    assert!(rt; matches!(streams.get(0).content, Content::Fill(0x55)));
-    Ok(())
+}
+
+fn pushes(streams: &mut Streams, a: u16) -> bool {
+    let content = Content::Fill(0x55);
+    streams.push(Stream { a, b: 4, content }).is_ok()
+}
+
+fn changes(streams: &mut Streams) -> bool {
+    if streams.len() != 2 {
+        return false;
+    }
+    fill(streams, 1, 0xab);
+    is_stream(streams.get(1), 4, 0xab) && is_stream(streams.get(0), 0, 0x55)
+}
+
+#[test]
+fn changes_a_value(rt: HostRuntime) {
+    let mut streams = Streams::new(rt.alloc());
+    assert!(rt; pushes(&mut streams, 0) && pushes(&mut streams, 4) && changes(&mut streams));
 }

@@ -76,126 +76,123 @@ struct Case<'a> {
     items: &'a [(Item, Option<Before>)],
 }
 
-fn follow(rt: &impl Abort, case: Case<'_>) {
+const CASES: [Case<'static>; 11] = [
+    Case {
+        name: "a missing frame was named",
+        items: &[
+            (X(0, 1), None),
+            (Gap, None),
+            (Gap, None),
+            (Gap, Some(Switch(3))),
+            (Y(1, 0), None),
+        ],
+    },
+    // 6 is named, and then 1 - 1 + 3.
+    Case {
+        name: "a later name replaces a name",
+        items: &[
+            (X(0, 2), None),
+            (X(1, 1), None),
+            (Gap, None),
+            (Gap, Some(Switch(3))),
+            (Gap, None),
+            (Gap, None),
+            (Gap, None),
+        ],
+    },
+    // 3 is named, and then 1 - 1 + 6.
+    Case {
+        name: "a later name puts the switch off",
+        items: &[
+            (X(0, 1), None),
+            (X(1, 2), None),
+            (Gap, None),
+            (X(0, 0), None),
+            (Gap, None),
+            (Gap, None),
+            (Gap, Some(Switch(6))),
+        ],
+    },
+    Case {
+        name: "a frame with a new signature was named by each of the last three",
+        items: &[
+            (X(0, 1), None),
+            (X(1, 1), None),
+            (X(2, 1), None),
+            (Y(0, 0), Some(Switch(3))),
+            (Y(1, 0), None),
+        ],
+    },
+    // The super frame began before the first item: 0 - 2 + 3.
+    Case {
+        name: "the first frame is the last of its super frame",
+        items: &[(X(2, 1), None), (Y(0, 0), Some(Switch(1)))],
+    },
+    // 3 names 3 - 0 + 3.
+    Case {
+        name: "a frame that was named names another",
+        items: &[
+            (X(0, 1), None),
+            (Gap, None),
+            (Gap, None),
+            (Y(0, 1), Some(Switch(3))),
+            (Gap, None),
+            (Gap, None),
+            (X(0, 0), Some(Switch(6))),
+            (X(1, 0), None),
+        ],
+    },
+    Case {
+        name: "another signature after a gap",
+        items: &[(X(0, 0), None), (Gap, None), (Y(2, 0), Some(Resumed(2)))],
+    },
+    Case {
+        name: "no frame before the first one",
+        items: &[
+            (Gap, None),
+            (Gap, None),
+            (Y(0, 0), None),
+            (X(1, 0), Some(Resumed(3))),
+        ],
+    },
+    Case {
+        name: "the same signature after a gap",
+        items: &[(X(0, 0), None), (Gap, None), (Gap, None), (X(0, 0), None)],
+    },
+    // The switch stands before the frame that was seen last, and so not between.
+    Case {
+        name: "another signature after a switch and a frame",
+        items: &[
+            (X(2, 1), None),
+            (Y(0, 0), Some(Switch(1))),
+            (Gap, None),
+            (X(2, 0), Some(Resumed(3))),
+        ],
+    },
+    Case {
+        name: "a switch before a missing frame stands between",
+        items: &[
+            (X(2, 1), None),
+            (Gap, Some(Switch(1))),
+            (Gap, None),
+            (Y(0, 0), None),
+            (X(1, 0), Some(Resumed(4))),
+        ],
+    },
+];
+
+fn follow(rt: &impl Abort, case: &Case<'_>) {
     assert!(rt; case.items.len() < 100);
     let mut tracker = Tracker::new();
-    for (k, (item, before)) in case.items.iter().enumerate() {
-        assert_eq!(rt;
-            answer(rt, &mut tracker, *item),
-            *before,
-            "{}, item {k}",
-            case.name
-        );
+    for (k, row) in case.items.iter().enumerate() {
+        let answer = answer(rt, &mut tracker, row.0);
+        assert!(rt; answer == row.1, "{}, item {k}", case.name);
     }
 }
 
 #[test]
 fn tells_what_stands_before(rt: HostRuntime) {
-    let cases = [
-        Case {
-            name: "a missing frame was named",
-            items: &[
-                (X(0, 1), None),
-                (Gap, None),
-                (Gap, None),
-                (Gap, Some(Switch(3))),
-                (Y(1, 0), None),
-            ],
-        },
-        // 6 is named, and then 1 - 1 + 3.
-        Case {
-            name: "a later name replaces a name",
-            items: &[
-                (X(0, 2), None),
-                (X(1, 1), None),
-                (Gap, None),
-                (Gap, Some(Switch(3))),
-                (Gap, None),
-                (Gap, None),
-                (Gap, None),
-            ],
-        },
-        // 3 is named, and then 1 - 1 + 6.
-        Case {
-            name: "a later name puts the switch off",
-            items: &[
-                (X(0, 1), None),
-                (X(1, 2), None),
-                (Gap, None),
-                (X(0, 0), None),
-                (Gap, None),
-                (Gap, None),
-                (Gap, Some(Switch(6))),
-            ],
-        },
-        Case {
-            name: "a frame with a new signature was named by each of the last three",
-            items: &[
-                (X(0, 1), None),
-                (X(1, 1), None),
-                (X(2, 1), None),
-                (Y(0, 0), Some(Switch(3))),
-                (Y(1, 0), None),
-            ],
-        },
-        // The super frame began before the first item: 0 - 2 + 3.
-        Case {
-            name: "the first frame is the last of its super frame",
-            items: &[(X(2, 1), None), (Y(0, 0), Some(Switch(1)))],
-        },
-        // 3 names 3 - 0 + 3.
-        Case {
-            name: "a frame that was named names another",
-            items: &[
-                (X(0, 1), None),
-                (Gap, None),
-                (Gap, None),
-                (Y(0, 1), Some(Switch(3))),
-                (Gap, None),
-                (Gap, None),
-                (X(0, 0), Some(Switch(6))),
-                (X(1, 0), None),
-            ],
-        },
-        Case {
-            name: "another signature after a gap",
-            items: &[(X(0, 0), None), (Gap, None), (Y(2, 0), Some(Resumed(2)))],
-        },
-        Case {
-            name: "no frame before the first one",
-            items: &[
-                (Gap, None),
-                (Gap, None),
-                (Y(0, 0), None),
-                (X(1, 0), Some(Resumed(3))),
-            ],
-        },
-        Case {
-            name: "the same signature after a gap",
-            items: &[(X(0, 0), None), (Gap, None), (Gap, None), (X(0, 0), None)],
-        },
-        // The switch stands before the frame that was seen last, and so not between.
-        Case {
-            name: "another signature after a switch and a frame",
-            items: &[
-                (X(2, 1), None),
-                (Y(0, 0), Some(Switch(1))),
-                (Gap, None),
-                (X(2, 0), Some(Resumed(3))),
-            ],
-        },
-        Case {
-            name: "a switch before a missing frame stands between",
-            items: &[
-                (X(2, 1), None),
-                (Gap, Some(Switch(1))),
-                (Gap, None),
-                (Y(0, 0), None),
-                (X(1, 0), Some(Resumed(4))),
-            ],
-        },
-    ];
-    for case in cases {
+    for case in &CASES {
         follow(&rt, case);
     }
 }
