@@ -6,8 +6,6 @@ use drm_links::{MemLink, MemSink};
 use drm_top::{Ended, Options, receive_one};
 use mod_feed::Feed;
 use std::alloc::Global;
-use std::process::Abort;
-use std::test::Fail;
 
 const BUFFER: usize = 65_536;
 
@@ -25,8 +23,7 @@ struct Case<'a> {
     text: &'a str,
 }
 
-fn receives<R: Abort + AllocGlobal>(rt: &R, case: Case<'_>) -> Result<(), Fail> {
-    let alloc = rt.alloc();
+fn receives(alloc: Global, case: &Case<'_>) -> Result<bool, NoMemory> {
     let mut link = MemLink::make(alloc, case.link, &[], 0)?;
     link.bring(alloc, &EMPTY)?;
     let mut out = MemSink::make(alloc, 2000, case.sink, 100)?;
@@ -48,48 +45,53 @@ fn receives<R: Abort + AllocGlobal>(rt: &R, case: Case<'_>) -> Result<(), Fail> 
         buffer.as_mut_slice(),
         &mut out,
     );
-    assert_eq!(rt; out.bytes(), case.text.as_bytes());
-    assert_eq!(rt; ended, case.ended);
-    Ok(())
+    Ok(ended == case.ended && out.bytes() == case.text.as_bytes())
+}
+
+const CASES: [Case<'static>; 5] = [
+    Case {
+        link: &[],
+        sink: &[],
+        ended: Ended::Done { clean: false },
+        text: "feed 1\nbad 0 mdi absent:*ptr\nend idle given 0 missing 0 bad 1 refused 0\n",
+    },
+    Case {
+        link: &[0],
+        sink: &[],
+        ended: Ended::LinkFailed,
+        text: "feed 1\n",
+    },
+    Case {
+        link: &[1],
+        sink: &[],
+        ended: Ended::LinkFailed,
+        text: "feed 1\nbad 0 mdi absent:*ptr\n",
+    },
+    Case {
+        link: &[],
+        sink: &[0],
+        ended: Ended::WriteFailed,
+        text: "",
+    },
+    // The first line goes out in three calls, and each item in one.
+    Case {
+        link: &[],
+        sink: &[4],
+        ended: Ended::WriteFailed,
+        text: "feed 1\nbad 0 mdi absent:*ptr\n",
+    },
+];
+
+fn does(alloc: Global, case: &Case<'_>) -> bool {
+    match receives(alloc, case) {
+        Ok(is_so) => is_so,
+        Err(NoMemory) => false,
+    }
 }
 
 #[test]
-fn stops_where_the_outside_fails(rt: HostRuntime) -> Result<(), Fail> {
-    let cases = [
-        Case {
-            link: &[],
-            sink: &[],
-            ended: Ended::Done { clean: false },
-            text: "feed 1\nbad 0 mdi absent:*ptr\nend idle given 0 missing 0 bad 1 refused 0\n",
-        },
-        Case {
-            link: &[0],
-            sink: &[],
-            ended: Ended::LinkFailed,
-            text: "feed 1\n",
-        },
-        Case {
-            link: &[1],
-            sink: &[],
-            ended: Ended::LinkFailed,
-            text: "feed 1\nbad 0 mdi absent:*ptr\n",
-        },
-        Case {
-            link: &[],
-            sink: &[0],
-            ended: Ended::WriteFailed,
-            text: "",
-        },
-        // The first line goes out in three calls, and each item in one.
-        Case {
-            link: &[],
-            sink: &[4],
-            ended: Ended::WriteFailed,
-            text: "feed 1\nbad 0 mdi absent:*ptr\n",
-        },
-    ];
-    for case in cases {
-        receives(&rt, case)?;
+fn stops_where_the_outside_fails(rt: HostRuntime) {
+    for (k, case) in CASES.iter().enumerate() {
+        assert!(rt; does(rt.alloc(), case), "row {k}");
     }
-    Ok(())
 }

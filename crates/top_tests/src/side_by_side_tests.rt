@@ -4,14 +4,12 @@ ghost use Rattle.std.specs.Prelude.{◌≡◌, None, IfOk};
 ghost use Rattle.drm_links.specs.Told.{Counts};
 ghost use Rattle.drm_links.specs.Dock.{IsFresh, IsFailed};
 
-use crate::small::{REPORTS, bring_all};
+use crate::small::{REPORTS, bring_all, is_done};
 use drm_bits::NoMemory;
-use drm_links::{Address, Came, Dock, Link, MemLink, MemShelf, MemSink, MemSource, Opened, Sent};
-use drm_top::run;
+use drm_links::{Address, Came, Dock, Link, MemLink, Opened, Sent};
 use std::alloc::Global;
 use std::sync::atomic::AtomicU64;
 use std::sync::atomic::Ordering::SeqCst;
-use std::test::Fail;
 use std::thread;
 
 /// A link that is idle until another one was asked, or that other one.
@@ -110,33 +108,20 @@ impl<'a> Dock for Pair<'a> {
     }
 }
 
+const LINE: [&str; 4] = [
+    "receive",
+    "127.0.0.1:5001,127.0.0.1:5002",
+    "--frames=3",
+    "--idle=1000000",
+];
+
 #[test]
-fn receivers_work_side_by_side(rt: HostRuntime) -> Result<(), Fail> {
-    let alloc = rt.alloc();
-    let mut words = Vec::new(alloc);
-    for word in [
-        "receive",
-        "127.0.0.1:5001,127.0.0.1:5002",
-        "--frames=3",
-        "--idle=1000000",
-    ] {
-        words.push(String::from_str(alloc, word)?)?;
-    }
+fn receivers_work_side_by_side(rt: HostRuntime) {
     let asked = AtomicU64::new(0);
     let mut dock = Pair {
-        alloc,
+        alloc: rt.alloc(),
         asked: &asked,
         faults: 0,
     };
-    let mut shelf = MemShelf::make(alloc, &[])?;
-    let mut input = MemSource::make(alloc, &[], &[], 1)?;
-    let mut out = MemSink::make(alloc, 2000, &[], 100)?;
-    let mut err = MemSink::make(alloc, 100, &[], 100)?;
-    let ended = run(
-        &rt, alloc, &words, &mut shelf, &mut input, &mut out, &mut err, &mut dock,
-    );
-    assert_eq!(rt; err.bytes(), b"".as_slice());
-    assert_eq!(rt; out.bytes(), REPORTS);
-    assert_eq!(rt; ended.code, 0);
-    Ok(())
+    assert!(rt; is_done(&rt, rt.alloc(), &LINE, &mut dock, REPORTS));
 }

@@ -5,8 +5,11 @@ ghost use Rattle.std.specs.Prelude.{OnOk};
 ghost use Rattle.drm_links.specs.MemoryLink.{IsUntouched};
 
 use drm_bits::NoMemory;
-use drm_links::MemLink;
-use std::alloc::Global;
+use drm_links::{Dock, Link, MemLink, MemShelf, MemSink, MemSource};
+use drm_top::run;
+use std::alloc::{AllocError, Global};
+use std::thread::Threads;
+use trial_schedules::SMALL;
 
 // Packed and checked by a program in Python.
 const PACKETS: [&[u8]; 3] = [
@@ -39,4 +42,62 @@ pub fn bring_all(alloc: Global, link: &mut MemLink) -> Result<(), NoMemory>
         }
     }
     Ok(())
+}
+
+/// What a command line reads and writes: the schedule on the shelf, and an empty input.
+#[derive(Drop)]
+struct Surroundings {
+    shelf: MemShelf,
+    input: MemSource,
+    out: MemSink,
+    err: MemSink,
+}
+
+fn with_the_schedule(alloc: Global) -> Result<Surroundings, NoMemory> {
+    let mut shelf = MemShelf::make(alloc, &[])?;
+    shelf.add(alloc, "schedule.txt", SMALL.as_bytes())?;
+    Ok(Surroundings {
+        shelf,
+        input: MemSource::make(alloc, &[], &[], 1)?,
+        out: MemSink::make(alloc, 2000, &[], 100)?,
+        err: MemSink::make(alloc, 100, &[], 100)?,
+    })
+}
+
+fn words_of(alloc: Global, line: &[&str]) -> Result<Vec<String>, AllocError> {
+    let mut words = Vec::new(alloc);
+    for word in line {
+        words.push(String::from_str(alloc, word)?)?;
+    }
+    Ok(words)
+}
+
+/// Whether a command line is done, with this on the standard output and nothing on the other.
+pub fn is_done<R: Threads + Sync, D: Dock>(
+    rt: &R,
+    alloc: Global,
+    line: &[&str],
+    dock: &mut D,
+    written: &[u8],
+) -> bool
+where
+    D::L: Link + Send,
+{
+    let Ok(words) = words_of(alloc, line) else {
+        return false;
+    };
+    let Ok(mut around) = with_the_schedule(alloc) else {
+        return false;
+    };
+    let status = run(
+        rt,
+        alloc,
+        &words,
+        &mut around.shelf,
+        &mut around.input,
+        &mut around.out,
+        &mut around.err,
+        dock,
+    );
+    status.code == 0 && around.out.bytes() == written && around.err.bytes().is_empty()
 }

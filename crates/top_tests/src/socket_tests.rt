@@ -1,16 +1,13 @@
 //! Schedules over UDP, on the loopback.
 
-use crate::small::REPORTS;
-use drm_adapt::{UdpDock, UdpLink};
-use drm_links::{Address, Came, Dock, Link, MemShelf, MemSink, MemSource, Opened};
-use drm_top::run;
-use std::alloc::{AllocError, Global};
+use crate::small::{REPORTS, is_done};
+use drm_adapt::UdpDock;
+use drm_bits::zeros;
+use drm_links::{Address, Came, Dock, Link, Opened};
+use std::alloc::Global;
 use std::net::Net;
-use std::process::Abort;
-use std::test::Fail;
 use std::thread::{Threads, join, sleep};
 use std::time::{Clock, Duration};
-use trial_schedules::SMALL;
 
 // The headers of the first fragments of the three packets, but for their check values.
 const FIRST: [(usize, [u8; 14]); 3] = [
@@ -28,132 +25,113 @@ const FIRST: [(usize, [u8; 14]); 3] = [
     ),
 ];
 
+const PORTS: [(u16, &str); 3] = [
+    (47_801, "127.0.0.1:47801"),
+    (47_802, "127.0.0.1:47802"),
+    (47_803, "127.0.0.1:47803"),
+];
+
 // A link at the first of these ports that is free, with its address as a word.
-fn bind<'a, R: Net + Clock>(dock: &mut UdpDock<'a, R>) -> Option<(UdpLink<'a, R>, &'static str)> {
-    for (port, word) in [
-        (47_801, "127.0.0.1:47801"),
-        (47_802, "127.0.0.1:47802"),
-        (47_803, "127.0.0.1:47803"),
-    ] {
+fn bind<D: Dock>(dock: &mut D) -> Option<(D::L, &'static str)> {
+    for row in &PORTS {
         let at = Address {
             ip: [127, 0, 0, 1],
-            port,
+            port: row.0,
         };
         if let Opened::Link(link) = dock.bind(at) {
-            return Some((link, word));
+            return Some((link, row.1));
         }
     }
     None
 }
 
-fn next_datagram<L: Link>(alloc: Global, link: &mut L) -> Result<Option<Vec<u8>>, AllocError> {
-    let mut buf = vec![in alloc; 0u8; 65_536]?;
-    match link.recv(&mut buf) {
-        Came::Datagram(len) => {
-            buf.truncate(len);
-            Ok(Some(buf))
-        }
-        Came::Idle | Came::Failed => Ok(None),
-    }
-}
-
-#[test]
-fn what_is_sent_is_received(rt: HostRuntime) -> Result<(), Fail> {
-    let alloc = rt.alloc();
-    let mut dock = UdpDock::new(&rt);
-    let (mut link, to) = bind(&mut dock).ok_or("a free port")?;
-    let mut words = Vec::new(alloc);
-    for word in ["serve", "schedule.txt", "--to", to] {
-        words.push(String::from_str(alloc, word)?)?;
-    }
-    let mut shelf = MemShelf::make(alloc, &[])?;
-    shelf.add(alloc, "schedule.txt", SMALL.as_bytes())?;
-    let mut input = MemSource::make(alloc, &[], &[], 1)?;
-    let mut out = MemSink::make(alloc, 0, &[], 1)?;
-    let mut err = MemSink::make(alloc, 100, &[], 100)?;
-    let status = run(
-        &rt, alloc, &words, &mut shelf, &mut input, &mut out, &mut err, &mut dock,
-    );
-    assert_eq!(rt; err.bytes(), b"".as_slice());
-    assert_eq!(rt; status.code, 0);
-    for k in 0..28usize {
-        let datagram = next_datagram(alloc, &mut link)?.ok_or("a datagram")?;
-        assert_eq!(rt; datagram.len(), 32, "datagram {k}");
-        for (at, header) in FIRST {
-            if at == k {
-                assert!(rt; datagram.starts_with(&header), "datagram {k}");
-            }
+// Whether this datagram is the first fragment of a packet, if it should be.
+fn is_in_its_place(k: usize, datagram: &[u8]) -> bool {
+    for row in &FIRST {
+        if row.0 == k && !datagram.starts_with(&row.1) {
+            return false;
         }
     }
-    assert!(rt; next_datagram(alloc, &mut link)?.is_none());
-    Ok(())
+    datagram.len() == 32
 }
 
-// What a command line of `receive` or `serve` came to, over the sockets of the system.
-#[derive(Drop)]
-struct Outcome {
-    status: u8,
-    written: Vec<u8>,
+// Whether the next one comes, and is in its place.
+fn comes<L: Link>(link: &mut L, buf: &mut [u8], k: usize) -> bool {
+    if buf.len() < 65_536 {
+        return false;
+    }
+    match link.recv(buf) {
+        Came::Datagram(len) => is_in_its_place(k, &buf[..len.min(65_536)]),
+        Came::Idle | Came::Failed => false,
+    }
 }
 
-fn ran<R: Abort + AllocGlobal + Threads + Sync + Net + Clock>(
+// How many come before the first that doesn't.
+fn come<L: Link>(alloc: Global, link: &mut L) -> usize {
+    let Ok(mut buf) = zeros(alloc, 65_536) else {
+        return 0;
+    };
+    for k in 0..29usize {
+        if !comes(link, &mut buf, k) {
+            return k;
+        }
+    }
+    29
+}
+
+// A command line over the sockets of the system.
+fn is_done_over_udp<R: AllocGlobal + Threads + Sync + Net + Clock>(
     rt: &R,
     line: &[&str],
-) -> Option<Outcome> {
-    let alloc = rt.alloc();
-    let mut words = Vec::new(alloc);
-    for word in line {
-        let Ok(()) = words.push(String::from_str(alloc, word).ok()?) else {
-            return None;
-        };
-    }
-    let mut shelf = MemShelf::make(alloc, &[]).ok()?;
-    shelf.add(alloc, "schedule.txt", SMALL.as_bytes()).ok()?;
-    let mut input = MemSource::make(alloc, &[], &[], 1).ok()?;
-    let mut out = MemSink::make(alloc, 1000, &[], 100).ok()?;
-    let mut err = MemSink::make(alloc, 100, &[], 100).ok()?;
+    written: &[u8],
+) -> bool {
     let mut dock = UdpDock::new(rt);
-    let status = run(
-        rt, alloc, &words, &mut shelf, &mut input, &mut out, &mut err, &mut dock,
-    );
-    Some(Outcome {
-        status: status.code,
-        written: out.bytes().to_vec(alloc).ok()?,
-    })
+    is_done(rt, rt.alloc(), line, &mut dock, written)
+}
+
+fn is_sent<R: AllocGlobal + Threads + Sync + Net + Clock>(rt: &R) -> usize {
+    let mut dock = UdpDock::new(rt);
+    let Some((mut link, to)) = bind(&mut dock) else {
+        return 0;
+    };
+    if is_done_over_udp(rt, &["serve", "schedule.txt", "--to", to], b"") {
+        come(rt.alloc(), &mut link)
+    } else {
+        0
+    }
 }
 
 #[test]
-fn where_nobody_sends_the_report_ends_idle(rt: HostRuntime) -> Result<(), Fail> {
-    let heard = ran(&rt, &["receive", "127.0.0.1:47811", "--idle", "1"]).ok_or("memory")?;
-    assert_eq!(rt;
-        heard.written.as_slice(),
-        b"feed 1\nend idle given 0 missing 0 bad 0 refused 0\n".as_slice()
-    );
-    assert_eq!(rt; heard.status, 0);
-    Ok(())
+fn what_is_sent_is_received(rt: HostRuntime) {
+    let datagrams = is_sent(&rt);
+    assert!(rt; datagrams == 28, "{datagrams}");
 }
 
+const IDLE: &[u8] = b"feed 1\nend idle given 0 missing 0 bad 0 refused 0\n";
+
 #[test]
-fn two_modulators_give_what_is_served(rt: HostRuntime) -> Result<(), Fail> {
+fn where_nobody_sends_the_report_ends_idle(rt: HostRuntime) {
+    assert!(rt; is_done_over_udp(&rt, &["receive", "127.0.0.1:47811", "--idle", "1"], IDLE));
+}
+
+const BOTH: &str = "127.0.0.1:47812,127.0.0.1:47813";
+
+#[test]
+fn two_modulators_give_what_is_served(rt: HostRuntime) {
     let (heard, served) = join(
         &rt,
-        || {
-            let both = "127.0.0.1:47812,127.0.0.1:47813";
-            ran(&rt, &["receive", both, "--frames", "3", "--idle", "100"])
-        },
+        || is_done_over_udp(
+            &rt,
+            &["receive", BOTH, "--frames", "3", "--idle", "100"],
+            REPORTS,
+        ),
         || {
             // So long the receivers have to open their links.
             sleep(&rt, Duration::from_millis(500));
-            let first = ran(&rt, &["serve", "schedule.txt", "--to", "127.0.0.1:47812"]);
-            let second = ran(&rt, &["serve", "schedule.txt", "--to", "127.0.0.1:47813"]);
-            (first, second)
+            let first = ["serve", "schedule.txt", "--to", "127.0.0.1:47812"];
+            let second = ["serve", "schedule.txt", "--to", "127.0.0.1:47813"];
+            is_done_over_udp(&rt, &first, b"") && is_done_over_udp(&rt, &second, b"")
         },
     );
-    let heard = heard.ok_or("memory")?;
-    let (first, second) = served;
-    assert_eq!(rt; first.ok_or("memory")?.status, 0);
-    assert_eq!(rt; second.ok_or("memory")?.status, 0);
-    assert_eq!(rt; heard.written.as_slice(), REPORTS);
-    assert_eq!(rt; heard.status, 0);
-    Ok(())
+    assert!(rt; heard && served);
 }
