@@ -85,16 +85,24 @@ fn gives_once(dock: &mut MemDock) -> bool {
     is_gone && is_sent && is_open
 }
 
+fn gives_a_link_once(alloc: Global) -> bool {
+    let Ok(mut dock) = MemDock::make(alloc, &[]) else {
+        return false;
+    };
+    puts_quiet(&mut dock, alloc, HERE, 2)
+        && dock.has(HERE)
+        && !dock.has(NEXT)
+        && cannot_bind(&mut dock, NEXT)
+        && cannot_bind(&mut dock, THERE)
+        && gives_once(&mut dock)
+        && cannot_bind(&mut dock, HERE)
+        && dock.closed(NEXT).is_none()
+        && was_closed(&dock, HERE, b"ab")
+}
+
 #[test]
-fn a_dock_gives_a_link_once(rt: HostRuntime) -> Result<(), NoMemory> {
-    let alloc = rt.alloc();
-    let mut dock = MemDock::make(alloc, &[])?;
-    assert!(rt; puts_quiet(&mut dock, alloc, HERE, 2));
-    assert!(rt; dock.has(HERE) && !dock.has(NEXT));
-    assert!(rt; cannot_bind(&mut dock, NEXT) && cannot_bind(&mut dock, THERE));
-    assert!(rt; gives_once(&mut dock) && cannot_bind(&mut dock, HERE));
-    assert!(rt; dock.closed(NEXT).is_none() && was_closed(&dock, HERE, b"ab"));
-    Ok(())
+fn a_dock_gives_a_link_once(rt: HostRuntime) {
+    assert!(rt; gives_a_link_once(rt.alloc()));
 }
 
 // Where a link is bound, and whether that fails.
@@ -106,16 +114,30 @@ const OPENINGS: [(Address, bool); 5] = [
     (NEXT, true),
 ];
 
-#[test]
-fn a_dock_fails_the_openings_that_are_listed(rt: HostRuntime) -> Result<(), NoMemory> {
-    let alloc = rt.alloc();
-    let mut dock = MemDock::make(alloc, &[0, 2])?;
-    assert!(rt; puts_quiet(&mut dock, alloc, HERE, 0));
-    assert!(rt; puts_quiet(&mut dock, alloc, NEXT, 0));
+// How many rows hold before the first that doesn't.
+fn openings(dock: &mut MemDock) -> usize {
     for (k, row) in OPENINGS.iter().enumerate() {
-        assert!(rt; cannot_bind(&mut dock, row.0) == row.1, "row {k}");
+        if cannot_bind(dock, row.0) != row.1 {
+            return k;
+        }
     }
-    Ok(())
+    OPENINGS.len()
+}
+
+fn fails_openings(alloc: Global) -> usize {
+    let Ok(mut dock) = MemDock::make(alloc, &[0, 2]) else {
+        return 0;
+    };
+    if !puts_quiet(&mut dock, alloc, HERE, 0) || !puts_quiet(&mut dock, alloc, NEXT, 0) {
+        return 0;
+    }
+    openings(&mut dock)
+}
+
+#[test]
+fn a_dock_fails_the_openings_that_are_listed(rt: HostRuntime) {
+    let rows = fails_openings(rt.alloc());
+    assert!(rt; rows == 5, "row {rows}");
 }
 
 // Puts a link there, sends these bytes over it, and closes it.
@@ -131,22 +153,28 @@ fn sends_and_closes(dock: &mut MemDock, alloc: Global, at: Address, bytes: &[u8]
     sent == Sent::Sent
 }
 
-#[test]
-fn a_dock_keeps_the_last_link_that_was_closed(rt: HostRuntime) -> Result<(), NoMemory> {
-    let alloc = rt.alloc();
-    let mut dock = MemDock::make(alloc, &[])?;
-    assert!(rt; sends_and_closes(&mut dock, alloc, HERE, b"ab"));
-    assert!(rt; sends_and_closes(&mut dock, alloc, THERE, b"c"));
-    assert!(rt; sends_and_closes(&mut dock, alloc, HERE, b"de"));
-    assert!(rt; was_closed(&dock, HERE, b"de") && was_closed(&dock, THERE, b"c"));
-    Ok(())
+fn keeps_the_last(alloc: Global) -> bool {
+    let Ok(mut dock) = MemDock::make(alloc, &[]) else {
+        return false;
+    };
+    sends_and_closes(&mut dock, alloc, HERE, b"ab")
+        && sends_and_closes(&mut dock, alloc, THERE, b"c")
+        && sends_and_closes(&mut dock, alloc, HERE, b"de")
+        && was_closed(&dock, HERE, b"de")
+        && was_closed(&dock, THERE, b"c")
 }
 
-// Puts a link there to which these bytes come, once it failed and was idle.
-fn puts_bringing(dock: &mut MemDock, alloc: Global, at: Address) -> Result<bool, NoMemory> {
-    let mut link = MemLink::make(alloc, &[0], &[1], 0)?;
-    link.bring(alloc, b"ab")?;
-    Ok(puts(dock, alloc, at, link))
+#[test]
+fn a_dock_keeps_the_last_link_that_was_closed(rt: HostRuntime) {
+    assert!(rt; keeps_the_last(rt.alloc()));
+}
+
+// Puts a link there to which two bytes come, once it failed and was idle.
+fn puts_bringing(dock: &mut MemDock, alloc: Global, at: Address) -> bool {
+    let Ok(mut link) = MemLink::make(alloc, &[0], &[1], 0) else {
+        return false;
+    };
+    link.bring(alloc, b"ab").is_ok() && puts(dock, alloc, at, link)
 }
 
 fn gives_what_was_brought(dock: &mut MemDock, buf: &mut [u8]) -> bool {
@@ -160,12 +188,17 @@ fn gives_what_was_brought(dock: &mut MemDock, buf: &mut [u8]) -> bool {
         && buf.starts_with(b"ab.")
 }
 
+fn brings(alloc: Global) -> bool {
+    let Ok(mut dock) = MemDock::make(alloc, &[]) else {
+        return false;
+    };
+    let Ok(mut buf) = bytes_of(alloc, b'.', 65536) else {
+        return false;
+    };
+    puts_bringing(&mut dock, alloc, HERE) && gives_what_was_brought(&mut dock, &mut buf)
+}
+
 #[test]
-fn a_link_of_a_dock_gives_what_was_brought(rt: HostRuntime) -> Result<(), NoMemory> {
-    let alloc = rt.alloc();
-    let mut dock = MemDock::make(alloc, &[])?;
-    assert!(rt; puts_bringing(&mut dock, alloc, HERE)?);
-    let mut buf = bytes_of(alloc, b'.', 65536)?;
-    assert!(rt; gives_what_was_brought(&mut dock, &mut buf));
-    Ok(())
+fn a_link_of_a_dock_gives_what_was_brought(rt: HostRuntime) {
+    assert!(rt; brings(rt.alloc()));
 }

@@ -14,6 +14,20 @@ fn gives<S: Shelf>(alloc: Global, shelf: &mut S, name: &str, limit: usize, gave:
 
 const PLAN: Gave<'static> = Gave::File(b"drmplan 1");
 
+fn gives_what_stands<S: Shelf>(alloc: Global, shelf: &mut S, file: &str) -> bool {
+    gives(alloc, shelf, file, 0, Gave::TooLong)
+        && gives(alloc, shelf, file, 8, Gave::TooLong)
+        && gives(alloc, shelf, file, 9, PLAN)
+        && gives(alloc, shelf, file, usize::MAX, PLAN)
+}
+
+// A file that is gone, a directory, and one that has no end.
+fn gives_no_other<S: Shelf>(alloc: Global, shelf: &mut S, file: &str, folder: &str) -> bool {
+    gives(alloc, shelf, file, 10, Gave::Failed)
+        && gives(alloc, shelf, folder, 10, Gave::Failed)
+        && gives(alloc, shelf, "/dev/zero", 1000, Gave::TooLong)
+}
+
 #[test]
 fn loads_files_of_the_system(rt: HostRuntime) -> Result<(), Fail> {
     let alloc = rt.alloc();
@@ -22,14 +36,8 @@ fn loads_files_of_the_system(rt: HostRuntime) -> Result<(), Fail> {
     let file = path.as_str();
     fs::write(&rt, file, "drmplan 1")?;
     let mut shelf = FileShelf::new(&rt);
-    assert!(rt; gives(alloc, &mut shelf, file, 0, Gave::TooLong));
-    assert!(rt; gives(alloc, &mut shelf, file, 8, Gave::TooLong));
-    assert!(rt; gives(alloc, &mut shelf, file, 9, PLAN));
-    assert!(rt; gives(alloc, &mut shelf, file, usize::MAX, PLAN));
+    assert!(rt; gives_what_stands(alloc, &mut shelf, file));
     fs::remove_file(&rt, file)?;
-    // A file that is gone, a directory, and one that has no end.
-    assert!(rt; gives(alloc, &mut shelf, file, 10, Gave::Failed));
-    assert!(rt; gives(alloc, &mut shelf, folder.as_str(), 10, Gave::Failed));
-    assert!(rt; gives(alloc, &mut shelf, "/dev/zero", 1000, Gave::TooLong));
+    assert!(rt; gives_no_other(alloc, &mut shelf, file, folder.as_str()));
     Ok(())
 }

@@ -12,14 +12,9 @@ fn send<L: Link>(link: &mut L, bytes: &[u8]) -> Sent {
     link.send(bytes)
 }
 
-// Puts these datagrams behind all others.
-fn bring(link: &mut MemLink, alloc: Global, datagrams: &[&[u8]]) -> Result<(), NoMemory> {
-    for datagram in datagrams {
-        if datagram.len() <= BUFFER {
-            link.bring(alloc, datagram)?;
-        }
-    }
-    Ok(())
+// Puts this datagram behind all others.
+fn brings(link: &mut MemLink, alloc: Global, datagram: &[u8]) -> bool {
+    datagram.len() <= BUFFER && link.bring(alloc, datagram).is_ok()
 }
 
 // A recv answers so, and what came stands in front of dots.
@@ -34,20 +29,26 @@ fn sends(link: &mut MemLink, bytes: &[u8], answer: Sent) -> bool {
     send(link, bytes) == answer
 }
 
-#[test]
-fn each_listed_call_of_a_link_fails(rt: HostRuntime) -> Result<(), NoMemory> {
-    let alloc = rt.alloc();
-    let mut link = MemLink::make(alloc, &[0], &[], 1)?;
-    bring(&mut link, alloc, &[b"AF"])?;
-    assert!(rt; receives(alloc, &mut link, Came::Failed, b".."));
-    assert!(rt; sends(&mut link, b"AF", Sent::Failed) && link.sent(0).is_none());
-    assert!(rt; receives(alloc, &mut link, Came::Datagram(2), b"AF."));
-    assert!(rt; sends(&mut link, b"AF", Sent::Sent));
-    Ok(())
+fn fails_where_listed(alloc: Global) -> bool {
+    let Ok(mut link) = MemLink::make(alloc, &[0], &[], 1) else {
+        return false;
+    };
+    brings(&mut link, alloc, b"AF")
+        && receives(alloc, &mut link, Came::Failed, b"..")
+        && sends(&mut link, b"AF", Sent::Failed)
+        && link.sent(0).is_none()
+        && receives(alloc, &mut link, Came::Datagram(2), b"AF.")
+        && sends(&mut link, b"AF", Sent::Sent)
 }
 
-// What recvs answer, and what stands at the front. At 6 nothing is left.
-const FIRST: [(Came, &[u8]); 7] = [
+#[test]
+fn each_listed_call_of_a_link_fails(rt: HostRuntime) {
+    assert!(rt; fails_where_listed(rt.alloc()));
+}
+
+// What recvs answer, and what stands at the front. At 6 nothing is left, and before 7 more is brought. The number 8 stands
+// in both lists.
+const RECVS: [(Came, &[u8]); 11] = [
     (Came::Idle, b"..."),
     (Came::Failed, b"..."),
     (Came::Datagram(2), b"ab."),
@@ -55,62 +56,101 @@ const FIRST: [(Came, &[u8]); 7] = [
     (Came::Datagram(1), b"c.."),
     (Came::Datagram(0), b"..."),
     (Came::Idle, b"..."),
-];
-
-// The number 8 stands in both lists.
-const LATER: [(Came, &[u8]); 4] = [
     (Came::Datagram(2), b"de."),
     (Came::Failed, b"..."),
     (Came::Datagram(1), b"f.."),
     (Came::Idle, b"..."),
 ];
 
-#[test]
-fn a_link_gives_what_was_brought(rt: HostRuntime) -> Result<(), NoMemory> {
-    let alloc = rt.alloc();
-    let mut link = MemLink::make(alloc, &[1, 8], &[0, 3, 8], 0)?;
-    bring(&mut link, alloc, &[b"ab", b"c", b""])?;
-    for (k, row) in FIRST.iter().enumerate() {
-        assert!(rt; receives(alloc, &mut link, row.0, row.1), "row {k}");
+// How many rows hold before the first that doesn't.
+fn received(alloc: Global, link: &mut MemLink) -> usize {
+    for (k, row) in RECVS.iter().enumerate() {
+        if k == 7 && !(brings(link, alloc, b"de") && brings(link, alloc, b"f")) {
+            return k;
+        }
+        if !receives(alloc, link, row.0, row.1) {
+            return k;
+        }
     }
-    bring(&mut link, alloc, &[b"de", b"f"])?;
-    for (k, row) in LATER.iter().enumerate() {
-        assert!(rt; receives(alloc, &mut link, row.0, row.1), "later row {k}");
+    RECVS.len()
+}
+
+fn gives_what_was_brought(alloc: Global) -> usize {
+    let Ok(mut link) = MemLink::make(alloc, &[1, 8], &[0, 3, 8], 0) else {
+        return 0;
+    };
+    if brings(&mut link, alloc, b"ab")
+        && brings(&mut link, alloc, b"c")
+        && brings(&mut link, alloc, b"")
+    {
+        received(alloc, &mut link)
+    } else {
+        0
     }
-    Ok(())
 }
 
 #[test]
-fn a_link_keeps_what_it_has_room_for(rt: HostRuntime) -> Result<(), NoMemory> {
-    let mut link = MemLink::make(rt.alloc(), &[1], &[0], 2)?;
-    assert!(rt; sends(&mut link, b"ab", Sent::Sent));
-    assert!(rt; sends(&mut link, b"x", Sent::Failed));
-    assert!(rt; sends(&mut link, b"cde", Sent::Sent));
-    assert!(rt; sends(&mut link, b"f", Sent::Failed));
-    assert!(rt; sends(&mut link, b"", Sent::Failed));
-    assert!(rt; was_sent(&link, 0, b"ab") && was_sent(&link, 1, b"cde"));
-    assert!(rt; link.sent(2).is_none());
-    Ok(())
+fn a_link_gives_what_was_brought(rt: HostRuntime) {
+    let rows = gives_what_was_brought(rt.alloc());
+    assert!(rt; rows == 11, "row {rows}");
+}
+
+fn keeps(alloc: Global) -> bool {
+    let Ok(mut link) = MemLink::make(alloc, &[1], &[0], 2) else {
+        return false;
+    };
+    sends(&mut link, b"ab", Sent::Sent)
+        && sends(&mut link, b"x", Sent::Failed)
+        && sends(&mut link, b"cde", Sent::Sent)
+        && sends(&mut link, b"f", Sent::Failed)
+        && sends(&mut link, b"", Sent::Failed)
+        && was_sent(&link, 0, b"ab")
+        && was_sent(&link, 1, b"cde")
+        && link.sent(2).is_none()
 }
 
 #[test]
-fn a_datagram_of_the_greatest_length_is_sent(rt: HostRuntime) -> Result<(), NoMemory> {
-    let alloc = rt.alloc();
-    let mut link = MemLink::make(alloc, &[], &[], 2)?;
-    assert!(rt; sends(&mut link, &bytes_of(alloc, 7, 32781)?, Sent::Failed));
-    assert!(rt; sends(&mut link, &bytes_of(alloc, 8, 32780)?, Sent::Sent));
-    assert!(rt; was_sent(&link, 0, &bytes_of(alloc, 8, 32780)?));
-    Ok(())
+fn a_link_keeps_what_it_has_room_for(rt: HostRuntime) {
+    assert!(rt; keeps(rt.alloc()));
+}
+
+// So many of these bytes are sent, or not.
+fn sends_so_many(alloc: Global, link: &mut MemLink, byte: u8, length: usize, answer: Sent) -> bool {
+    match bytes_of(alloc, byte, length) {
+        Ok(bytes) => {
+            sends(link, &bytes, answer) && (answer == Sent::Failed || was_sent(link, 0, &bytes))
+        }
+        Err(NoMemory) => false,
+    }
+}
+
+fn sends_the_greatest(alloc: Global) -> bool {
+    match MemLink::make(alloc, &[], &[], 2) {
+        Ok(mut link) => {
+            sends_so_many(alloc, &mut link, 7, 32781, Sent::Failed)
+                && sends_so_many(alloc, &mut link, 8, 32780, Sent::Sent)
+        }
+        Err(NoMemory) => false,
+    }
+}
+
+fn gives_the_greatest(alloc: Global) -> bool {
+    let Ok(mut link) = MemLink::make(alloc, &[], &[], 2) else {
+        return false;
+    };
+    match bytes_of(alloc, 9, BUFFER) {
+        Ok(bytes) => {
+            brings(&mut link, alloc, &bytes)
+                && receives(alloc, &mut link, Came::Datagram(65536), &bytes)
+        }
+        Err(NoMemory) => false,
+    }
 }
 
 #[test]
-fn a_datagram_of_the_greatest_length_comes(rt: HostRuntime) -> Result<(), NoMemory> {
-    let alloc = rt.alloc();
-    let mut link = MemLink::make(alloc, &[], &[], 2)?;
-    let longest = bytes_of(alloc, 9, BUFFER)?;
-    bring(&mut link, alloc, &[&longest])?;
-    assert!(rt; receives(alloc, &mut link, Came::Datagram(65536), &longest));
-    Ok(())
+fn a_datagram_of_the_greatest_length_fits(rt: HostRuntime) {
+    assert!(rt; sends_the_greatest(rt.alloc()));
+    assert!(rt; gives_the_greatest(rt.alloc()));
 }
 
 fn rest<L: Link>(link: &mut L, millis: u32) {
@@ -123,16 +163,24 @@ fn sends_later(link: &mut MemLink, millis: u32, bytes: &[u8], answer: Sent) -> b
     send(link, bytes) == answer
 }
 
-#[test]
-fn a_link_keeps_how_long_it_rested_before_each_send(rt: HostRuntime) -> Result<(), NoMemory> {
-    let mut link = MemLink::make(rt.alloc(), &[2], &[], 3)?;
+fn keeps_how_long(alloc: Global) -> bool {
+    let Ok(mut link) = MemLink::make(alloc, &[2], &[], 3) else {
+        return false;
+    };
     rest(&mut link, u32::MAX);
-    assert!(rt; sends_later(&mut link, 6, b"a", Sent::Sent));
-    assert!(rt; sends_later(&mut link, 0, b"b", Sent::Sent));
-    assert!(rt; sends_later(&mut link, 4, b"x", Sent::Failed));
-    assert!(rt; sends_later(&mut link, 2, b"c", Sent::Sent));
+    let is_sent = sends_later(&mut link, 6, b"a", Sent::Sent)
+        && sends_later(&mut link, 0, b"b", Sent::Sent)
+        && sends_later(&mut link, 4, b"x", Sent::Failed)
+        && sends_later(&mut link, 2, b"c", Sent::Sent);
     rest(&mut link, 9);
-    assert!(rt; link.waited(0) == Some(4_294_967_302) && link.waited(1) == Some(1));
-    assert!(rt; link.waited(2) == Some(8) && link.waited(3).is_none());
-    Ok(())
+    is_sent
+        && link.waited(0) == Some(4_294_967_302)
+        && link.waited(1) == Some(1)
+        && link.waited(2) == Some(8)
+        && link.waited(3).is_none()
+}
+
+#[test]
+fn a_link_keeps_how_long_it_rested_before_each_send(rt: HostRuntime) {
+    assert!(rt; keeps_how_long(rt.alloc()));
 }
