@@ -57,49 +57,54 @@ const POWERS: [(u32, u8); 17] = [
     (u32::MAX, 0x01),
 ];
 
+fn is_product(a: u8, b: u8, product: u8) -> bool {
+    Gf(a).mul(Gf(b)).0 == product && Gf(b).mul(Gf(a)).0 == product
+}
+
+fn is_inverse(element: u8, inverse: u8) -> bool {
+    element == 0 || Gf(element).inverse().0 == inverse
+}
+
+fn is_power(n: u32, power: u8) -> bool {
+    Gf::power(n).0 == power
+}
+
 #[test]
 fn products(rt: HostRuntime) {
-    for (a, b, product) in PRODUCTS {
-        assert_eq!(rt; Gf(a).mul(Gf(b)), Gf(product), "{a} times {b}");
-        assert_eq!(rt; Gf(b).mul(Gf(a)), Gf(product), "{b} times {a}");
+    for (k, row) in PRODUCTS.iter().enumerate() {
+        assert!(rt; is_product(row.0, row.1, row.2), "row {k}");
     }
 }
 
 #[test]
 fn inverses(rt: HostRuntime) {
-    for (element, inverse) in INVERSES {
-        if element != 0 {
-            assert_eq!(rt;
-                Gf(element).inverse(),
-                Gf(inverse),
-                "the inverse of {element}"
-            );
-        }
+    for (k, row) in INVERSES.iter().enumerate() {
+        assert!(rt; is_inverse(row.0, row.1), "row {k}");
     }
 }
 
 #[test]
 fn powers(rt: HostRuntime) {
-    for (n, power) in POWERS {
-        assert_eq!(rt; Gf::power(n), Gf(power), "2 to the {n}");
+    for (k, row) in POWERS.iter().enumerate() {
+        assert!(rt; is_power(row.0, row.1), "row {k}");
     }
 }
 
 #[test]
 fn sums(rt: HostRuntime) {
-    assert_eq!(rt; Gf(0x53).add(Gf(0xca)), Gf(0x99));
-    assert_eq!(rt; Gf(0xff).add(Gf(0xff)), Gf(0));
+    assert!(rt; Gf(0x53).add(Gf(0xca)).0 == 0x99);
+    assert!(rt; Gf(0xff).add(Gf(0xff)).0 == 0);
 }
 
 #[test]
 fn powers_and_logarithms_by_table(rt: HostRuntime) {
-    assert_eq!(rt; LOGS[29], 8);
-    assert_eq!(rt; POWER_TABLE[8], 29);
-    assert_eq!(rt; LOGS[0], 0);
+    assert!(rt; LOGS[29] == 8);
+    assert!(rt; POWER_TABLE[8] == 29);
+    assert!(rt; LOGS[0] == 0);
 }
 
 #[test]
 fn products_of_lanes(rt: HostRuntime) {
     let products = mul_lanes(u8x16::splat(2), u8x16::splat(0x80));
-    assert_eq!(rt; products.to_array(), [0x1d; 16]);
+    assert!(rt; products.to_array() == [0x1d; 16]);
 }

@@ -20,278 +20,289 @@ fn end(head: &[u8], len: usize) -> usize
 type Numbers = (u16, u32, u32);
 
 // Headers of a writer in Python, the lengths of their payloads, sequence number, index and count.
+const FRAGMENTS: [(&[u8], usize, Numbers, Option<Rs>, Option<Addr>); 10] = [
+    (
+        b"PF\0\0\0\0\0\0\0\x0a\x80\x10n\0\x9e\xb6",
+        16,
+        (0x0, 0, 10),
+        Some(Rs { k: 110, z: 0 }),
+        None,
+    ),
+    (
+        b"PF\x12\x34\0\0\x01\0\0\x03\0\x05J\x93",
+        5,
+        (0x1234, 1, 3),
+        None,
+        None,
+    ),
+    (
+        b"PF\xff\xff\0\0\x02\0\0\x04@\0\x01\x02\xff\xfe\x0fy",
+        0,
+        (0xffff, 2, 4),
+        None,
+        Some(Addr {
+            source: 0x0102,
+            dest: 0xfffe,
+        }),
+    ),
+    (
+        b"PF\0\x07\0\0\x03\0\0\x05\xc0 PO\xff\xff\0\0F\xda",
+        32,
+        (0x7, 3, 5),
+        Some(Rs { k: 80, z: 79 }),
+        Some(Addr {
+            source: 0xffff,
+            dest: 0x0000,
+        }),
+    ),
+    (
+        b"PF\0\x01\0\x03\xff\0\x04\0\0\0\x89\xd8",
+        0,
+        (0x1, 1023, 1024),
+        None,
+        None,
+    ),
+    (
+        b"PF\0\x02\0\0\x0b\0\0\x0c\x04\0\x98W",
+        1024,
+        (0x2, 11, 12),
+        None,
+        None,
+    ),
+    (
+        b"PF\0\x03\0\0\0\0\0\x01\x80\xff\xcf\xce\x90~",
+        255,
+        (0x3, 0, 1),
+        Some(Rs { k: 207, z: 206 }),
+        None,
+    ),
+    (
+        b"PF\0\x04\0\0\x30\0\0\x31\x80\x01\x01\0\x06{",
+        1,
+        (0x4, 48, 49),
+        Some(Rs { k: 1, z: 0 }),
+        None,
+    ),
+    (
+        b"PF\0\x05\0\0\0\0\0\x01\0\0d\xcb",
+        0,
+        (0x5, 0, 1),
+        None,
+        None,
+    ),
+    (
+        b"PF\0\x06\0\0\0\0\0\x0c\x83\xe8\xcf\0]\xa7",
+        1000,
+        (0x6, 0, 12),
+        Some(Rs { k: 207, z: 0 }),
+        None,
+    ),
+];
+
+fn is_read(head: &[u8], len: usize, numbers: Numbers, rs: Option<Rs>, addr: Option<Addr>) -> bool {
+    let mut into = [0x5a; MOST];
+    put(head, &mut into);
+    let fragment = Fragment {
+        seq: numbers.0,
+        index: numbers.1,
+        count: numbers.2,
+        rs,
+        addr,
+        payload: &[0x5a; MOST][..len.min(MOST)],
+    };
+    read_fragment(&into[..end(head, len)]) == Ok(fragment)
+}
+
 #[test]
 fn reads_fragments(rt: HostRuntime) {
-    let cases: [(&[u8], usize, Numbers, Option<Rs>, Option<Addr>); 10] = [
-        (
-            b"PF\0\0\0\0\0\0\0\x0a\x80\x10n\0\x9e\xb6",
-            16,
-            (0x0, 0, 10),
-            Some(Rs { k: 110, z: 0 }),
-            None,
-        ),
-        (
-            b"PF\x12\x34\0\0\x01\0\0\x03\0\x05J\x93",
-            5,
-            (0x1234, 1, 3),
-            None,
-            None,
-        ),
-        (
-            b"PF\xff\xff\0\0\x02\0\0\x04@\0\x01\x02\xff\xfe\x0fy",
-            0,
-            (0xffff, 2, 4),
-            None,
-            Some(Addr {
-                source: 0x0102,
-                dest: 0xfffe,
-            }),
-        ),
-        (
-            b"PF\0\x07\0\0\x03\0\0\x05\xc0 PO\xff\xff\0\0F\xda",
-            32,
-            (0x7, 3, 5),
-            Some(Rs { k: 80, z: 79 }),
-            Some(Addr {
-                source: 0xffff,
-                dest: 0x0000,
-            }),
-        ),
-        (
-            b"PF\0\x01\0\x03\xff\0\x04\0\0\0\x89\xd8",
-            0,
-            (0x1, 1023, 1024),
-            None,
-            None,
-        ),
-        (
-            b"PF\0\x02\0\0\x0b\0\0\x0c\x04\0\x98W",
-            1024,
-            (0x2, 11, 12),
-            None,
-            None,
-        ),
-        (
-            b"PF\0\x03\0\0\0\0\0\x01\x80\xff\xcf\xce\x90~",
-            255,
-            (0x3, 0, 1),
-            Some(Rs { k: 207, z: 206 }),
-            None,
-        ),
-        (
-            b"PF\0\x04\0\0\x30\0\0\x31\x80\x01\x01\0\x06{",
-            1,
-            (0x4, 48, 49),
-            Some(Rs { k: 1, z: 0 }),
-            None,
-        ),
-        (
-            b"PF\0\x05\0\0\0\0\0\x01\0\0d\xcb",
-            0,
-            (0x5, 0, 1),
-            None,
-            None,
-        ),
-        (
-            b"PF\0\x06\0\0\0\0\0\x0c\x83\xe8\xcf\0]\xa7",
-            1000,
-            (0x6, 0, 12),
-            Some(Rs { k: 207, z: 0 }),
-            None,
-        ),
-    ];
-    for (head, len, numbers, rs, addr) in cases {
-        let mut into = [0x5a; MOST];
-        put(head, &mut into);
-        let fragment = Fragment {
-            seq: numbers.0,
-            index: numbers.1,
-            count: numbers.2,
-            rs,
-            addr,
-            payload: &[0x5a; MOST][..len.min(MOST)],
-        };
-        assert_eq!(rt;
-            read_fragment(&into[..end(head, len)]),
-            Ok(fragment),
-            "{head:?}"
-        );
+    for (k, row) in FRAGMENTS.iter().enumerate() {
+        assert!(rt; is_read(row.0, row.1, row.2, row.3, row.4), "row {k}");
     }
 }
 
 // Check values are from Python.
+const FAULTS: [(&[u8], usize, PftFault); 33] = [
+    (b"", 0, PftFault::Sync),
+    (b"P", 0, PftFault::Sync),
+    (
+        b"AF\0\0\0\0\0\0\0\x0a\x80\x10n\0\x9e\xb6",
+        16,
+        PftFault::Sync,
+    ),
+    (
+        b"PG\0\0\0\0\0\0\0\x0a\x80\x10n\0\x9e\xb6",
+        16,
+        PftFault::Sync,
+    ),
+    (b"PF", 0, PftFault::HeadCut),
+    (b"PF\0\0\0\0\0\0\0\x0a\x80\x10n", 0, PftFault::HeadCut),
+    (b"PF\0\0\0\0\0\0\0\x0a\x80\x10n\0", 0, PftFault::HeadCut),
+    (b"PF\0\0\0\0\0\0\0\x0a\x80\x10n\0\x9e", 0, PftFault::HeadCut),
+    (b"PF\0\0\0\0\0\0\0\x01\0\0\x13", 0, PftFault::HeadCut),
+    (
+        b"PF\0\0\0\0\0\0\0\x01@\0\0\x01\0\x02\x03",
+        0,
+        PftFault::HeadCut,
+    ),
+    (
+        b"PF\0\0\0\0\0\0\0\x01\xc0\0\x01\0\0\x01\0\x02\x1b",
+        0,
+        PftFault::HeadCut,
+    ),
+    (
+        b"PF\0\x01\0\0\0\0\0\x0a\x80\x10n\0\x9e\xb6",
+        16,
+        PftFault::HeadCrc,
+    ),
+    (
+        b"PF\0\0\0\0\0\0\0\x0a\x80\x10n\0\x9e\xb7",
+        16,
+        PftFault::HeadCrc,
+    ),
+    (b"PF\0\0\0\0\0\0\0\x0a\x80\x10n\0aI", 16, PftFault::HeadCrc),
+    (
+        b"PF\0\0\0\0\0\0\0\0\x80\x10n\0\xd8\x18",
+        16,
+        PftFault::Count,
+    ),
+    (
+        b"PF\0\0\0\0\x09\0\0\x09\x80\x14n\0\xf5\xad",
+        20,
+        PftFault::Index,
+    ),
+    (
+        b"PF\0\0\xff\xff\xff\0\0\x0a\x80\x10n\0\xeb\xc0",
+        16,
+        PftFault::Index,
+    ),
+    (
+        b"PF\0\0\0\0\0\0\0\x0a\x80\x10n\0\x9e\xb6",
+        15,
+        PftFault::PlenMismatch,
+    ),
+    (
+        b"PF\0\0\0\0\0\0\0\x0a\x80\x10n\0\x9e\xb6",
+        17,
+        PftFault::PlenMismatch,
+    ),
+    (
+        b"PF\0\0\0\0\0\0\0\x0a\x80\x10n\0\x9e\xb6",
+        0,
+        PftFault::PlenMismatch,
+    ),
+    (
+        b"PF\0\0\0\0\0\0\0\x0a\x80\x1e\xd0\0\xb8\xb5",
+        30,
+        PftFault::RsK,
+    ),
+    (
+        b"PF\0\0\0\0\0\0\0\x0a\x80\x1e\xff\0\xaem",
+        30,
+        PftFault::RsK,
+    ),
+    (
+        b"PF\0\0\0\0\0\0\0\x0a\x80\x1e\0\0\xad\x92",
+        30,
+        PftFault::RsK,
+    ),
+    (b"PF\0\0\0\0\0\0\0\x0a\x80\x10nn\x13\xde", 16, PftFault::RsZ),
+    (b"PF\0\0\0\0\0\0\0\x0a\x80\x10n\xff\x80F", 16, PftFault::RsZ),
+    (b"PF\0\0\0\0\0\0\x04\x01\0\0\xd9\xf6", 0, PftFault::TooMany),
+    (b"PF\0\0\0\0\0\xff\xff\xff\0\0\xfaX", 0, PftFault::TooMany),
+    (
+        b"PF\0\0\0\0\0\0\0\x0d\x03\xe8O\x13",
+        1000,
+        PftFault::TooLarge,
+    ),
+    (
+        b"PF\0\0\0\0\x09\0\0\x0a\x04\xcdo\x31",
+        1229,
+        PftFault::TooLarge,
+    ),
+    (
+        b"PF\0\0\0\0\x09\0\0\x0a\x84\xcdn\0*\x8b",
+        1229,
+        PftFault::TooLarge,
+    ),
+    (
+        b"PF\0\0\0\0\0\0\0\x01\x80d\xc8\0\xc1Y",
+        100,
+        PftFault::Chunks,
+    ),
+    (
+        b"PF\0\0\0\0\x01\0\0\x02\x80\x7f\xcf\0B]",
+        127,
+        PftFault::Chunks,
+    ),
+    (
+        b"PF\0\0\0\0\0\0\0\x0a\x80\0\x01\0\xc6\xc1",
+        0,
+        PftFault::Chunks,
+    ),
+];
+
+fn has_fault(head: &[u8], len: usize, fault: PftFault) -> bool {
+    let mut into = [0x5a; MOST];
+    put(head, &mut into);
+    read_fragment(&into[..end(head, len)]).err() == Some(fault)
+}
+
+/// The first row whose fault is another.
+fn wrong_fault(rows: &[(&[u8], usize, PftFault)]) -> Option<usize> {
+    for (k, row) in rows.iter().enumerate() {
+        if !has_fault(row.0, row.1, row.2) {
+            return Some(k);
+        }
+    }
+    None
+}
+
 #[test]
 fn names_the_fault(rt: HostRuntime) {
-    let cases: [(&[u8], usize, PftFault); 33] = [
-        (b"", 0, PftFault::Sync),
-        (b"P", 0, PftFault::Sync),
-        (
-            b"AF\0\0\0\0\0\0\0\x0a\x80\x10n\0\x9e\xb6",
-            16,
-            PftFault::Sync,
-        ),
-        (
-            b"PG\0\0\0\0\0\0\0\x0a\x80\x10n\0\x9e\xb6",
-            16,
-            PftFault::Sync,
-        ),
-        (b"PF", 0, PftFault::HeadCut),
-        (b"PF\0\0\0\0\0\0\0\x0a\x80\x10n", 0, PftFault::HeadCut),
-        (b"PF\0\0\0\0\0\0\0\x0a\x80\x10n\0", 0, PftFault::HeadCut),
-        (b"PF\0\0\0\0\0\0\0\x0a\x80\x10n\0\x9e", 0, PftFault::HeadCut),
-        (b"PF\0\0\0\0\0\0\0\x01\0\0\x13", 0, PftFault::HeadCut),
-        (
-            b"PF\0\0\0\0\0\0\0\x01@\0\0\x01\0\x02\x03",
-            0,
-            PftFault::HeadCut,
-        ),
-        (
-            b"PF\0\0\0\0\0\0\0\x01\xc0\0\x01\0\0\x01\0\x02\x1b",
-            0,
-            PftFault::HeadCut,
-        ),
-        (
-            b"PF\0\x01\0\0\0\0\0\x0a\x80\x10n\0\x9e\xb6",
-            16,
-            PftFault::HeadCrc,
-        ),
-        (
-            b"PF\0\0\0\0\0\0\0\x0a\x80\x10n\0\x9e\xb7",
-            16,
-            PftFault::HeadCrc,
-        ),
-        (b"PF\0\0\0\0\0\0\0\x0a\x80\x10n\0aI", 16, PftFault::HeadCrc),
-        (
-            b"PF\0\0\0\0\0\0\0\0\x80\x10n\0\xd8\x18",
-            16,
-            PftFault::Count,
-        ),
-        (
-            b"PF\0\0\0\0\x09\0\0\x09\x80\x14n\0\xf5\xad",
-            20,
-            PftFault::Index,
-        ),
-        (
-            b"PF\0\0\xff\xff\xff\0\0\x0a\x80\x10n\0\xeb\xc0",
-            16,
-            PftFault::Index,
-        ),
-        (
-            b"PF\0\0\0\0\0\0\0\x0a\x80\x10n\0\x9e\xb6",
-            15,
-            PftFault::PlenMismatch,
-        ),
-        (
-            b"PF\0\0\0\0\0\0\0\x0a\x80\x10n\0\x9e\xb6",
-            17,
-            PftFault::PlenMismatch,
-        ),
-        (
-            b"PF\0\0\0\0\0\0\0\x0a\x80\x10n\0\x9e\xb6",
-            0,
-            PftFault::PlenMismatch,
-        ),
-        (
-            b"PF\0\0\0\0\0\0\0\x0a\x80\x1e\xd0\0\xb8\xb5",
-            30,
-            PftFault::RsK,
-        ),
-        (
-            b"PF\0\0\0\0\0\0\0\x0a\x80\x1e\xff\0\xaem",
-            30,
-            PftFault::RsK,
-        ),
-        (
-            b"PF\0\0\0\0\0\0\0\x0a\x80\x1e\0\0\xad\x92",
-            30,
-            PftFault::RsK,
-        ),
-        (b"PF\0\0\0\0\0\0\0\x0a\x80\x10nn\x13\xde", 16, PftFault::RsZ),
-        (b"PF\0\0\0\0\0\0\0\x0a\x80\x10n\xff\x80F", 16, PftFault::RsZ),
-        (b"PF\0\0\0\0\0\0\x04\x01\0\0\xd9\xf6", 0, PftFault::TooMany),
-        (b"PF\0\0\0\0\0\xff\xff\xff\0\0\xfaX", 0, PftFault::TooMany),
-        (
-            b"PF\0\0\0\0\0\0\0\x0d\x03\xe8O\x13",
-            1000,
-            PftFault::TooLarge,
-        ),
-        (
-            b"PF\0\0\0\0\x09\0\0\x0a\x04\xcdo\x31",
-            1229,
-            PftFault::TooLarge,
-        ),
-        (
-            b"PF\0\0\0\0\x09\0\0\x0a\x84\xcdn\0*\x8b",
-            1229,
-            PftFault::TooLarge,
-        ),
-        (
-            b"PF\0\0\0\0\0\0\0\x01\x80d\xc8\0\xc1Y",
-            100,
-            PftFault::Chunks,
-        ),
-        (
-            b"PF\0\0\0\0\x01\0\0\x02\x80\x7f\xcf\0B]",
-            127,
-            PftFault::Chunks,
-        ),
-        (
-            b"PF\0\0\0\0\0\0\0\x0a\x80\0\x01\0\xc6\xc1",
-            0,
-            PftFault::Chunks,
-        ),
-    ];
-    for (head, len, fault) in cases {
-        let mut into = [0x5a; MOST];
-        put(head, &mut into);
-        let read = read_fragment(&into[..end(head, len)]);
-        assert_eq!(rt; read.err(), Some(fault), "{head:?} {len}");
-    }
+    let wrong = wrong_fault(&FAULTS);
+    assert!(rt; wrong.is_none(), "{wrong:?}");
 }
 
 // Of several faults.
+const FIRST_FAULTS: [(&[u8], usize, PftFault); 10] = [
+    (b"PF\0\0\0\0\0\0\0\0\x80\x10\0\0\xf0", 0, PftFault::HeadCut),
+    (b"PF\0\0\0\0\0\0\0\0\x80\x10\0\0\xf0<", 0, PftFault::HeadCrc),
+    (b"PF\0\0\0\0\0\0\0\0\x80\x10\0\0\xf0=", 0, PftFault::Count),
+    (
+        b"PF\0\0\0\0\x09\0\0\x09\x80\x10\0\0\x01H",
+        0,
+        PftFault::Index,
+    ),
+    (
+        b"PF\0\0\0\0\x08\0\0\x09\x80\x10\0\0F\x9b",
+        0,
+        PftFault::PlenMismatch,
+    ),
+    (
+        b"PF\0\0\0\0\x08\0\x04\x01\x80\x10\0\0B\x17",
+        16,
+        PftFault::RsK,
+    ),
+    (
+        b"PF\0\0\0\0\x08\0\x04\x01\x80\x10\xd0\xd0\x9cM",
+        16,
+        PftFault::RsK,
+    ),
+    (
+        b"PF\0\0\0\0\x08\0\x04\x01\x80\x10nn\xe7Z",
+        16,
+        PftFault::RsZ,
+    ),
+    (
+        b"PF\0\0\0\0\x08\0\x04\x01\x80\x10n\0j\x32",
+        16,
+        PftFault::TooMany,
+    ),
+    (b"PF\0\0\0\0\x08\0\x04\x01\x80\0n\0)Q", 0, PftFault::TooMany),
+];
+
 #[test]
 fn names_the_first_fault(rt: HostRuntime) {
-    let cases: [(&[u8], usize, PftFault); 10] = [
-        (b"PF\0\0\0\0\0\0\0\0\x80\x10\0\0\xf0", 0, PftFault::HeadCut),
-        (b"PF\0\0\0\0\0\0\0\0\x80\x10\0\0\xf0<", 0, PftFault::HeadCrc),
-        (b"PF\0\0\0\0\0\0\0\0\x80\x10\0\0\xf0=", 0, PftFault::Count),
-        (
-            b"PF\0\0\0\0\x09\0\0\x09\x80\x10\0\0\x01H",
-            0,
-            PftFault::Index,
-        ),
-        (
-            b"PF\0\0\0\0\x08\0\0\x09\x80\x10\0\0F\x9b",
-            0,
-            PftFault::PlenMismatch,
-        ),
-        (
-            b"PF\0\0\0\0\x08\0\x04\x01\x80\x10\0\0B\x17",
-            16,
-            PftFault::RsK,
-        ),
-        (
-            b"PF\0\0\0\0\x08\0\x04\x01\x80\x10\xd0\xd0\x9cM",
-            16,
-            PftFault::RsK,
-        ),
-        (
-            b"PF\0\0\0\0\x08\0\x04\x01\x80\x10nn\xe7Z",
-            16,
-            PftFault::RsZ,
-        ),
-        (
-            b"PF\0\0\0\0\x08\0\x04\x01\x80\x10n\0j\x32",
-            16,
-            PftFault::TooMany,
-        ),
-        (b"PF\0\0\0\0\x08\0\x04\x01\x80\0n\0)Q", 0, PftFault::TooMany),
-    ];
-    for (head, len, fault) in cases {
-        let mut into = [0x5a; MOST];
-        put(head, &mut into);
-        let read = read_fragment(&into[..end(head, len)]);
-        assert_eq!(rt; read.err(), Some(fault), "{head:?} {len}");
-    }
+    let wrong = wrong_fault(&FIRST_FAULTS);
+    assert!(rt; wrong.is_none(), "{wrong:?}");
 }

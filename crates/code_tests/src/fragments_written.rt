@@ -57,24 +57,35 @@ fn datagram(len: usize, m: u8, seq: u16, index: u32, into: &mut [u8; 1500]) -> u
     }
 }
 
+fn has_parity(len: usize, m: u8, expected: &[u8]) -> bool
+    requires some { 1 ≤ len }
+    requires small { len ≤ 1400 }
+    requires few { m ≤ 5 }
+{
+    let mut parity = [0xee; 1920];
+    let end = parity_of(len, m, &mut parity);
+    &parity[..end] == expected
+}
+
 // The packet of 209 bytes has two chunks, and the second one is filled with one zero.
 #[test]
 fn writes_parity(rt: HostRuntime) {
-    let mut parity = [0xee; 1920];
-    let end = parity_of(12, 5, &mut parity);
-    assert_eq!(rt; &parity[..end], PARITY_OF_12.as_slice());
-    let end = parity_of(209, 5, &mut parity);
-    assert_eq!(rt; &parity[..end], PARITY_OF_209.as_slice());
-    assert_eq!(rt; parity_of(1387, 0, &mut parity), 0);
+    assert!(rt; has_parity(12, 5, &PARITY_OF_12));
+    assert!(rt; has_parity(209, 5, &PARITY_OF_209));
+    assert!(rt; has_parity(1387, 0, &[]));
+}
+
+fn is_fragment_of_12(index: u32, expected: &[u8]) -> bool {
+    let mut into = [0xee; 1500];
+    let end = datagram(12, 5, 0x1234, index, &mut into);
+    &into[..end] == expected
 }
 
 // The four places past the coded bytes are zeros, at the ends of the last four fragments.
 #[test]
 fn writes_fragments(rt: HostRuntime) {
-    for (index, expected) in FRAGMENTS_OF_12 {
-        let mut into = [0xee; 1500];
-        let end = datagram(12, 5, 0x1234, index, &mut into);
-        assert_eq!(rt; &into[..end], expected.as_slice(), "fragment {index}");
+    for (k, row) in FRAGMENTS_OF_12.iter().enumerate() {
+        assert!(rt; is_fragment_of_12(row.0, &row.1), "row {k}");
     }
 }
 
@@ -109,40 +120,45 @@ const DATAGRAMS: [Case; 23] = [
     (400, 2, 7, 15, 47, 0x1155),
 ];
 
+fn is_written(case: &Case) -> bool {
+    let (len, m, seq, index, end, check) = *case;
+    if len < 1 || len > 1400 || m > 5 {
+        return false;
+    }
+    let mut into = [0; 1500];
+    let written = datagram(len, m, seq, index, &mut into);
+    written == end && crc16(&into[..written]) == check
+}
+
 #[test]
 fn writes_datagrams(rt: HostRuntime) {
-    for (len, m, seq, index, end, check) in DATAGRAMS {
-        assert!(rt; 1 <= len && len <= 1400 && m <= 5);
-        let mut into = [0; 1500];
-        let written = datagram(len, m, seq, index, &mut into);
-        assert_eq!(rt; written, end, "{len} bytes, fragment {index}");
-        assert_eq!(rt;
-            crc16(&into[..written]),
-            check,
-            "{len} bytes, fragment {index}"
-        );
+    for (k, case) in DATAGRAMS.iter().enumerate() {
+        assert!(rt; is_written(case), "row {k}");
     }
+}
+
+/// Whether this fragment of a packet has so many bytes, of which these are the first.
+fn begins(len: usize, m: u8, seq: u16, index: u32, end: usize, head: &[u8]) -> bool
+    requires some { 1 ≤ len }
+    requires small { len ≤ 1400 }
+    requires few { m ≤ 5 }
+{
+    let mut into = [0; 1500];
+    datagram(len, m, seq, index, &mut into) == end && into.starts_with(head)
 }
 
 #[test]
 fn writes_headers(rt: HostRuntime) {
-    let mut into = [0; 1500];
-    assert_eq!(rt; datagram(110, 2, 0, 0, &mut into), 32);
-    assert_eq!(rt;
-        &into[..16],
-        b"PF\0\0\0\0\0\0\0\x0a\x80\x10\x6e\0\x9e\xb6".as_slice()
-    );
-    assert_eq!(rt; datagram(90, 2, 2, 8, &mut into), 32);
-    assert_eq!(rt;
-        &into[..16],
-        b"\x50\x46\x00\x02\x00\x00\x08\x00\x00\x09\x80\x10\x5a\x00\x07\x5c".as_slice()
-    );
-    assert_eq!(rt; datagram(1387, 0, 258, 1, &mut into), 707);
-    assert_eq!(rt;
-        &into[..14],
-        b"\x50\x46\x01\x02\x00\x00\x01\x00\x00\x02\x02\xb5\x37\xc9".as_slice()
-    );
+    assert!(rt; begins(110, 2, 0, 0, 32, HEAD_OF_110));
+    assert!(rt; begins(90, 2, 2, 8, 32, HEAD_OF_90));
+    assert!(rt; begins(1387, 0, 258, 1, 707, HEAD_OF_1387));
 }
+
+const HEAD_OF_110: &[u8] = b"PF\0\0\0\0\0\0\0\x0a\x80\x10\x6e\0\x9e\xb6";
+
+const HEAD_OF_90: &[u8] = b"\x50\x46\x00\x02\x00\x00\x08\x00\x00\x09\x80\x10\x5a\x00\x07\x5c";
+
+const HEAD_OF_1387: &[u8] = b"\x50\x46\x01\x02\x00\x00\x01\x00\x00\x02\x02\xb5\x37\xc9";
 
 const PARITY_OF_12: [u8; 48] = [
     240, 199, 123, 222, 221, 145, 243, 4, 154, 247, 116, 231, 154, 32, 159, 104, 39, 158, 201, 130,

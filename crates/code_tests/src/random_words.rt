@@ -1,5 +1,7 @@
 //! The crates' bodies beside the plain ones, over all elements and over many pseudo-random words.
 
+ghost use Rattle.std.specs.Prelude.{◌<◌};
+
 use crate::places::are_places;
 use crate::plain;
 use gf_field::{Gf, LOGS, POWERS, mul_lanes, scaled};
@@ -57,75 +59,115 @@ impl Random {
     }
 }
 
+fn is_product(a: u8, b: u8) -> bool {
+    Gf(a).mul(Gf(b)).0 == plain::product(a, b)
+}
+
 #[test]
 fn all_products(rt: HostRuntime) {
     for a in 0..=255u8 {
         for b in 0..=255u8 {
-            assert_eq!(rt; Gf(a).mul(Gf(b)).0, plain::product(a, b), "{a} times {b}");
+            assert!(rt; is_product(a, b), "{a} times {b}");
         }
     }
+}
+
+fn is_power(j: u8, power: u8) -> bool
+    requires { j < 255 }
+{
+    POWERS[usize::from(j)] == power && LOGS[usize::from(power)] == j
 }
 
 #[test]
 fn all_powers_and_logarithms(rt: HostRuntime) {
     let mut power = 1;
     for j in 0..255u8 {
-        assert_eq!(rt; POWERS[usize::from(j)], power, "2 to the {j}");
-        assert_eq!(rt; LOGS[usize::from(power)], j, "the logarithm of {power}");
+        assert!(rt; is_power(j, power), "2 to the {j}");
         power = plain::product(2, power);
     }
+}
+
+fn has_its_inverse(element: u8) -> bool
+    requires { 0 < element }
+{
+    Gf(element).inverse().0 == plain::power(element, 254)
 }
 
 #[test]
 fn all_inverses(rt: HostRuntime) {
     for element in 1..=255u8 {
-        assert_eq!(rt;
-            Gf(element).inverse().0,
-            plain::power(element, 254),
-            "the inverse of {element}"
-        );
+        assert!(rt; has_its_inverse(element), "the inverse of {element}");
     }
+}
+
+/// The products lane by lane.
+fn products(a: &[u8; 16], b: &[u8; 16]) -> [u8; 16] {
+    let mut products = [0; 16];
+    for lane in 0..16usize {
+        products[lane] = plain::product(a[lane], b[lane]);
+    }
+    products
+}
+
+fn lanes_agree(random: &mut Random) -> bool {
+    let mut a = [0; 16];
+    let mut b = [0; 16];
+    random.fill(&mut a);
+    random.fill(&mut b);
+    let factor = random.byte();
+    let found = mul_lanes(u8x16::from_array(a), u8x16::from_array(b)).to_array();
+    let multiples = scaled(u8x16::from_array(a), factor).to_array();
+    found == products(&a, &b) && multiples == products(&a, &[factor; 16])
 }
 
 #[test]
 fn lanes(rt: HostRuntime) {
     let mut random = Random(88_172_645_463_325_252);
-    for _i in 0..WORDS {
-        let mut a = [0; 16];
-        let mut b = [0; 16];
-        random.fill(&mut a);
-        random.fill(&mut b);
-        let factor = random.byte();
-        let products = mul_lanes(u8x16::from_array(a), u8x16::from_array(b)).to_array();
-        let multiples = scaled(u8x16::from_array(a), factor).to_array();
-        for lane in 0..16usize {
-            assert_eq!(rt; products[lane], plain::product(a[lane], b[lane]));
-            assert_eq!(rt; multiples[lane], plain::product(a[lane], factor));
+    for i in 0..WORDS {
+        assert!(rt; lanes_agree(&mut random), "word {i}");
+    }
+}
+
+fn parities_agree(word: &[u8; 255], length: u8, generator: &[u8; 49]) -> bool {
+    let chunk = &word[..usize::from(length).min(207)];
+    let mut parity = [7; 48];
+    encode(chunk, &mut parity);
+    parity == plain::parity(chunk, generator)
+}
+
+fn syndromes_agree(word: &[u8; 255]) -> bool {
+    let values = plain::syndromes(word);
+    for (j, value) in syndromes(word).iter().enumerate() {
+        if value.0 != values[j] {
+            return false;
         }
     }
+    true
 }
 
 #[test]
 fn parities_and_syndromes(rt: HostRuntime) {
     let mut random = Random(2_463_534_242);
     let generator = plain::generator();
-    for _i in 0..WORDS {
+    for i in 0..WORDS {
         let mut word = [0; 255];
         random.fill(&mut word);
-        let chunk = &word[..usize::from(random.byte()).min(207)];
-        let mut parity = [7; 48];
-        encode(chunk, &mut parity);
-        assert_eq!(rt;
-            parity,
-            plain::parity(chunk, &generator),
-            "{} bytes",
-            chunk.len()
-        );
-        let values = plain::syndromes(&word);
-        let found = syndromes(&word);
-        for (j, value) in found.iter().enumerate() {
-            assert_eq!(rt; value.0, values[j], "root {j}");
-        }
+        let length = random.byte();
+        assert!(rt; parities_agree(&word, length, &generator), "word {i}");
+        assert!(rt; syndromes_agree(&word), "word {i}");
+    }
+}
+
+/// Whether what is made of this word, whose places are erased, is what the equations give.
+fn is_solved(word: &[u8; 255], places: &[u8]) -> bool {
+    if !are_places(places) {
+        return false;
+    }
+    let mut filled = *word;
+    let result = solve(&mut filled, places);
+    match plain::solved(word, places) {
+        Some(solved) => result == Ok(()) && filled == solved,
+        None => result == Err(SolveFault::NoCodeWord) && filled == *word,
     }
 }
 
@@ -136,7 +178,6 @@ fn erased_places(rt: HostRuntime) {
         let mut word = random.code_word();
         let (places, count) = random.places();
         let places = &places[..count.min(48)];
-        assert!(rt; are_places(places));
         for place in places {
             word[usize::from(*place).min(254)] = random.byte();
         }
@@ -144,17 +185,6 @@ fn erased_places(rt: HostRuntime) {
         if i % 2 == 0 {
             word[100] ^= 1;
         }
-        let mut filled = word;
-        let result = solve(&mut filled, places);
-        match plain::solved(&word, places) {
-            Some(solved) => {
-                assert_eq!(rt; result, Ok(()));
-                assert_eq!(rt; filled, solved);
-            }
-            None => {
-                assert_eq!(rt; result, Err(SolveFault::NoCodeWord));
-                assert_eq!(rt; filled, word);
-            }
-        }
+        assert!(rt; is_solved(&word, places), "word {i}");
     }
 }

@@ -24,35 +24,37 @@ const CASES: [Case; 16] = [
     (8192, 0, 128, 72, 114, None, 0),
 ];
 
+fn is_cut_so(case: &Case) -> bool {
+    let (len, m, mtu, count, piece, rs, made) = *case;
+    if len < 1 || len > 8192 || m > 5 || mtu < 128 || mtu > 1500 {
+        return false;
+    }
+    let shape = shape_for(len, m, mtu);
+    shape == Shape { count, piece, rs } && chunks(&shape) == made
+}
+
 #[test]
 fn cuts_packets(rt: HostRuntime) {
-    for (len, m, mtu, count, piece, rs, made) in CASES {
-        assert!(rt; 1 <= len && len <= 8192 && m <= 5 && 128 <= mtu && mtu <= 1500);
-        let shape = shape_for(len, m, mtu);
-        assert_eq!(rt;
-            shape,
-            Shape { count, piece, rs },
-            "{len} bytes, {m} lost, {mtu}"
-        );
-        assert_eq!(rt; chunks(&shape), made, "{len} bytes, {m} lost, {mtu}");
+    for (k, case) in CASES.iter().enumerate() {
+        assert!(rt; is_cut_so(case), "row {k}");
     }
 }
 
-// Of shapes that are no packet's, as a receiver may see them.
+// Shapes that are no packet's, as a receiver may see them, and the number of their chunks.
+const OTHERS: [(u32, u16, Option<Rs>, u32); 4] = [
+    (1, 254, Some(Rs { k: 207, z: 0 }), 0),
+    (1, 255, Some(Rs { k: 207, z: 0 }), 1),
+    (3, 255, Some(Rs { k: 207, z: 206 }), 3),
+    (1024, 12, None, 0),
+];
+
+fn has_chunks(count: u32, piece: u16, rs: Option<Rs>, made: u32) -> bool {
+    count <= 1024 && chunks(&Shape { count, piece, rs }) == made
+}
+
 #[test]
 fn counts_chunks(rt: HostRuntime) {
-    let cases: [(u32, u16, Option<Rs>, u32); 4] = [
-        (1, 254, Some(Rs { k: 207, z: 0 }), 0),
-        (1, 255, Some(Rs { k: 207, z: 0 }), 1),
-        (3, 255, Some(Rs { k: 207, z: 206 }), 3),
-        (1024, 12, None, 0),
-    ];
-    for (count, piece, rs, made) in cases {
-        assert!(rt; count <= 1024);
-        assert_eq!(rt;
-            chunks(&Shape { count, piece, rs }),
-            made,
-            "{count} of {piece}"
-        );
+    for (k, row) in OTHERS.iter().enumerate() {
+        assert!(rt; has_chunks(row.0, row.1, row.2, row.3), "row {k}");
     }
 }

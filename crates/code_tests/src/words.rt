@@ -1,7 +1,6 @@
 //! Words and their parity from another program, and erased places of them.
 
 use crate::places::are_places;
-use gf_field::Gf;
 use rs_erase::{SolveFault, encode, solve, syndromes};
 
 /// A chunk, whose bytes begin with `first` and grow by `step` modulo 256, and its parity.
@@ -215,18 +214,17 @@ fn zeroed(word: &[u8; 255], places: &[u8]) -> [u8; 255] {
     zeroed
 }
 
+fn has_its_parity(coded: &Coded) -> bool {
+    let word = word_of(coded);
+    let mut parity = [7; 48];
+    encode(&word[..coded.length.min(207)], &mut parity);
+    parity == coded.parity
+}
+
 #[test]
 fn parities(rt: HostRuntime) {
-    for coded in &CODED {
-        let word = word_of(coded);
-        let mut parity = [7; 48];
-        encode(&word[..coded.length.min(207)], &mut parity);
-        assert_eq!(rt;
-            parity,
-            coded.parity,
-            "{} bytes from {}",
-            coded.length, coded.first
-        );
+    for (k, coded) in CODED.iter().enumerate() {
+        assert!(rt; has_its_parity(coded), "row {k}");
     }
 }
 
@@ -236,28 +234,46 @@ fn parity_of_one(rt: HostRuntime) {
     chunk[206] = 1;
     let mut parity = [0; 48];
     encode(&chunk, &mut parity);
-    assert_eq!(rt; parity[0], 0x7a);
-    assert_eq!(rt; parity[47], 0xe4);
+    assert!(rt; parity[0] == 0x7a && parity[47] == 0xe4);
 }
 
 #[test]
 fn parity_of_nothing(rt: HostRuntime) {
     let mut parity = [7; 48];
     encode(&[], &mut parity);
-    assert_eq!(rt; parity, [0; 48]);
+    assert!(rt; parity == [0; 48]);
+}
+
+/// Whether the values of the word at the roots are these.
+fn has_values(word: &[u8; 255], values: &[u8; 48]) -> bool {
+    for (j, value) in syndromes(word).iter().enumerate() {
+        if value.0 != values[j] {
+            return false;
+        }
+    }
+    true
 }
 
 #[test]
 fn values_at_the_roots(rt: HostRuntime) {
     let mut word = word_of(&CODED[0]);
-    assert_eq!(rt; syndromes(&word), [Gf(0); 48]);
+    assert!(rt; has_values(&word, &[0; 48]));
     for place in 207..255 {
         word[place] = 0;
     }
-    let values = syndromes(&word);
-    for (j, value) in values.iter().enumerate() {
-        assert_eq!(rt; value.0, AT_ROOTS[j], "root {j}");
-    }
+    assert!(rt; has_values(&word, &AT_ROOTS));
+}
+
+/// Whether the erased places of this word are filled so that it becomes that one.
+fn becomes(erased: &[u8; 255], places: &[u8], word: &[u8; 255]) -> bool {
+    let mut filled = *erased;
+    are_places(places) && solve(&mut filled, places) == Ok(()) && filled == *word
+}
+
+/// Whether this word is refused for this fault, and left as it is.
+fn is_refused(word: &[u8; 255], places: &[u8], fault: SolveFault) -> bool {
+    let mut filled = *word;
+    are_places(places) && solve(&mut filled, places) == Err(fault) && filled == *word
 }
 
 #[test]
@@ -265,43 +281,28 @@ fn erased_places(rt: HostRuntime) {
     for coded in &CODED {
         let word = word_of(coded);
         for places in &PLACES {
-            assert!(rt; are_places(places));
-            let mut erased = zeroed(&word, places);
-            assert_eq!(rt; solve(&mut erased, places), Ok(()));
-            assert_eq!(rt; erased, word, "zeros from {}", places[0]);
-            let mut erased = changed(&word, places);
-            assert_eq!(rt; solve(&mut erased, places), Ok(()));
-            assert_eq!(rt; erased, word, "other bytes from {}", places[0]);
+            assert!(rt; becomes(&zeroed(&word, places), places, &word));
+            assert!(rt; becomes(&changed(&word, places), places, &word));
         }
     }
 }
 
 #[test]
 fn one_more_byte_is_wrong(rt: HostRuntime) {
+    let wrong = changed(&word_of(&CODED[0]), &[254]);
     for places in &PLACES {
         let places = &places[..47];
-        assert!(rt; are_places(places));
-        let wrong = changed(&word_of(&CODED[0]), &[254]);
-        let mut word = wrong;
-        if places[46] < 254 {
-            assert_eq!(rt; solve(&mut word, places), Err(SolveFault::NoCodeWord));
-            assert_eq!(rt; word, wrong);
-        }
+        assert!(rt; places[46] >= 254 || is_refused(&wrong, places, SolveFault::NoCodeWord));
     }
 }
 
 #[test]
 fn nothing_is_erased(rt: HostRuntime) {
     let code_word = word_of(&CODED[0]);
-    let mut word = code_word;
-    assert_eq!(rt; solve(&mut word, &[]), Ok(()));
-    assert_eq!(rt; word, code_word);
-
+    assert!(rt; becomes(&code_word, &[], &code_word));
     let mut word = [0; 255];
     word[0] = 1;
-    let old = word;
-    assert_eq!(rt; solve(&mut word, &[]), Err(SolveFault::NoCodeWord));
-    assert_eq!(rt; word, old);
+    assert!(rt; is_refused(&word, &[], SolveFault::NoCodeWord));
 }
 
 #[test]
@@ -310,12 +311,6 @@ fn too_many_are_erased(rt: HostRuntime) {
     for (i, place) in places.iter_mut().enumerate() {
         *place = i as u8;
     }
-    assert!(rt; are_places(&places));
     let code_word = word_of(&CODED[0]);
-    let mut word = code_word;
-    assert_eq!(rt;
-        solve(&mut word, &places),
-        Err(SolveFault::TooMany { count: 49 })
-    );
-    assert_eq!(rt; word, code_word);
+    assert!(rt; is_refused(&code_word, &places, SolveFault::TooMany { count: 49 }));
 }

@@ -13,7 +13,6 @@ use drm_sdc::{BlockInfo, SdcFault};
 use drm_switches::Before;
 use mdi_items::{MdiFault, MdiView, SdcSpan};
 use mod_feed::{BadFault, Feed, FeedItem, Step};
-use std::process::Abort;
 
 // The last frame of a super frame, with the reconfiguration index 1: it names the next frame.
 const NAMING: [u8; 90] = [
@@ -174,7 +173,7 @@ const BROKEN_CHECK: BadFault = BadFault::Af(AfFault::Crc {
 });
 
 // The next frame is named, and then this comes.
-fn expect_switch(rt: &impl Abort, out: Out<'_>, item: FeedItem<'_>)
+fn switches(out: Out<'_>, item: FeedItem<'_>) -> bool
     requires number { number_of (given_of out) ≡ 1 }
     requires whole { IsAfIfWhole out }
 {
@@ -184,37 +183,60 @@ fn expect_switch(rt: &impl Abort, out: Out<'_>, item: FeedItem<'_>)
         bytes: &NAMING,
         whole: false,
     };
-    assert_eq!(rt; feed.step(naming), frame(0, &SHOWN_NAMING, &NAMING));
     let before = Some(Before::Switch(1));
-    assert_eq!(rt; feed.step(out), Step { before, item });
+    feed.step(naming) == frame(0, &SHOWN_NAMING, &NAMING) && feed.step(out) == Step { before, item }
+}
+
+// The same with a packet in its place.
+fn switches_at(bytes: &[u8], item: FeedItem<'_>) -> bool {
+    let packet = Out::Packet {
+        index: 1,
+        bytes,
+        whole: false,
+    };
+    switches(packet, item)
 }
 
 // The frame that is named comes, or something else in its place.
 #[test]
 fn tells_the_switch_that_a_frame_names(rt: HostRuntime) {
     let (index, had, of) = (1, 2, 7);
-    expect_switch(
-        &rt,
-        Out::Lost { index: 1, had, of },
-        FeedItem::Missing { index, had, of },
-    );
-    expect_switch(&rt, Out::Damaged { index: 1 }, bad(1, BadFault::Code).item);
-    let packets = [
-        (BROKEN, bad(1, BROKEN_CHECK).item),
-        (NO_ITEMS, bad(1, ABSENT).item),
-        (&SECOND, frame(1, &SHOWN_SECOND, &SECOND).item),
-    ];
-    for (bytes, item) in packets {
-        let packet = Out::Packet {
-            index: 1,
-            bytes,
-            whole: false,
-        };
-        expect_switch(&rt, packet, item);
-    }
+    let lost = Out::Lost { index: 1, had, of };
+    assert!(rt; switches(lost, FeedItem::Missing { index, had, of }));
+    assert!(rt; switches(Out::Damaged { index: 1 }, bad(1, BadFault::Code).item));
+    assert!(rt; switches_at(BROKEN, bad(1, BROKEN_CHECK).item));
+    assert!(rt; switches_at(NO_ITEMS, bad(1, ABSENT).item));
+    assert!(rt; switches_at(&SECOND, frame(1, &SHOWN_SECOND, &SECOND).item));
 }
 
-// The second frame of mode C is no news.
+// A frame of mode C after one of mode B, and one that is lost. The second frame of mode C is no news.
+fn resumes(changed: &[u8], shown: &Shown) -> bool {
+    let mut feed = Feed::new();
+    let first = Out::Packet {
+        index: 0,
+        bytes: &SECOND,
+        whole: false,
+    };
+    let other = Out::Packet {
+        index: 2,
+        bytes: changed,
+        whole: false,
+    };
+    let again = Out::Packet {
+        index: 3,
+        bytes: changed,
+        whole: false,
+    };
+    let resumed = Step {
+        before: Some(Before::Resumed(2)),
+        ..frame(2, shown, changed)
+    };
+    feed.step(first) == frame(0, &SHOWN_SECOND, &SECOND)
+        && feed.step(Out::Damaged { index: 1 }) == bad(1, BadFault::Code)
+        && feed.step(other) == resumed
+        && feed.step(again) == frame(3, shown, changed)
+}
+
 #[test]
 fn tells_a_resumption(rt: HostRuntime) {
     let mut changed = SECOND;
@@ -225,33 +247,7 @@ fn tells_a_resumption(rt: HostRuntime) {
         mode: Mode::C,
         ..SHOWN_SECOND
     };
-    let mut feed = Feed::new();
-    let first = Out::Packet {
-        index: 0,
-        bytes: &SECOND,
-        whole: false,
-    };
-    assert_eq!(rt; feed.step(first), frame(0, &SHOWN_SECOND, &SECOND));
-    assert_eq!(rt;
-        feed.step(Out::Damaged { index: 1 }),
-        bad(1, BadFault::Code)
-    );
-    let other = Out::Packet {
-        index: 2,
-        bytes: &changed,
-        whole: false,
-    };
-    let resumed = Step {
-        before: Some(Before::Resumed(2)),
-        ..frame(2, &shown, &changed)
-    };
-    assert_eq!(rt; feed.step(other), resumed);
-    let again = Out::Packet {
-        index: 3,
-        bytes: &changed,
-        whole: false,
-    };
-    assert_eq!(rt; feed.step(again), frame(3, &shown, &changed));
+    assert!(rt; resumes(&changed, &shown));
 }
 
 // In the second packet a bit of the block's check value is another.
@@ -263,7 +259,7 @@ fn gives_a_block(rt: HostRuntime) {
         bytes: &FIRST,
         whole: false,
     };
-    assert_eq!(rt; feed.step(first), frame(0, &SHOWN_FIRST, &FIRST));
+    assert!(rt; feed.step(first) == frame(0, &SHOWN_FIRST, &FIRST));
     let mut broken = FIRST;
     broken[94] = 0xbf;
     broken[108] = 0x82;
@@ -277,25 +273,27 @@ fn gives_a_block(rt: HostRuntime) {
         bytes: &broken,
         whole: false,
     };
-    assert_eq!(rt; feed.step(second), bad(1, fault));
+    assert!(rt; feed.step(second) == bad(1, fault));
 }
 
 #[test]
 fn names_a_damaged_packet(rt: HostRuntime) {
     let mut feed = Feed::new();
-    let step = feed.step(Out::Damaged { index: 0 });
-    assert_eq!(rt; step, bad(0, BadFault::Code));
+    assert!(rt; feed.step(Out::Damaged { index: 0 }) == bad(0, BadFault::Code));
+}
+
+// The first packet has these bytes, and is bad.
+fn is_bad(bytes: &[u8], fault: BadFault) -> bool {
+    let mut feed = Feed::new();
+    let packet = Out::Packet {
+        index: 0,
+        bytes,
+        whole: false,
+    };
+    feed.step(packet) == bad(0, fault)
 }
 
 #[test]
 fn names_the_fault_of_a_packet(rt: HostRuntime) {
-    for (bytes, fault) in [(NO_ITEMS, ABSENT), (BROKEN, BROKEN_CHECK)] {
-        let mut feed = Feed::new();
-        let step = feed.step(Out::Packet {
-            index: 0,
-            bytes,
-            whole: false,
-        });
-        assert_eq!(rt; step, bad(0, fault));
-    }
+    assert!(rt; is_bad(NO_ITEMS, ABSENT) && is_bad(BROKEN, BROKEN_CHECK));
 }

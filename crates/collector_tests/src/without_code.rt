@@ -29,38 +29,42 @@ const LONGEST_LAST: &[u8] = b"PF\0\x01\0\0\x02\0\0\x03\0\x06}\xc2abcdef";
 
 const OF_FOUR: &[u8] = b"PF\0\x01\0\0\x03\0\0\x04\0\x03\xedWabc";
 
-fn takes(datagram: &[u8]) -> Step<'_> {
-    Step::Takes(Sent::Bytes(datagram), Kept)
-}
+const EQUAL: [Step<'static>; 3] = [
+    Step::Takes(Sent::Bytes(EQUAL_LAST), Kept),
+    Step::Takes(Sent::Bytes(FIRST), Kept),
+    Step::Takes(Sent::Bytes(SECOND), Kept),
+];
 
-fn repeats(datagram: &[u8]) -> Step<'_> {
-    Step::Takes(Sent::Bytes(datagram), Repeated)
+const EQUAL_GIVEN: [Item<'static>; 1] = [Item::Bytes(0, b"Radio Nordabcde")];
+
+// The pieces come in this order.
+fn join<'a>(first: &'a [u8], second: &'a [u8], third: &'a [u8]) -> [Step<'a>; 9] {
+    [
+        Step::Takes(Sent::Bytes(first), Kept),
+        Step::GivesNone,
+        Step::Takes(Sent::Bytes(second), Kept),
+        Step::Takes(Sent::Bytes(first), Repeated),
+        Step::GivesNone,
+        Step::Takes(Sent::Bytes(third), Kept),
+        Step::Holds(13, Some(1), Some(0)),
+        Step::Gives(Item::Bytes(0, PACKET)),
+        Step::Holds(0, Some(1), Some(0)),
+    ]
 }
 
 #[test]
 fn joins_pieces(rt: HostRuntime) -> Result<(), NoMemory> {
-    let orders = [
-        [FIRST, SECOND, LAST],
-        [LAST, SECOND, FIRST],
-        [SECOND, LAST, FIRST],
-    ];
-    for order in orders {
-        let steps = [
-            takes(order[0]),
-            Step::GivesNone,
-            takes(order[1]),
-            repeats(order[0]),
-            Step::GivesNone,
-            takes(order[2]),
-            Step::Holds(13, Some(1), Some(0)),
-            Step::Gives(Item::Bytes(0, PACKET)),
-            Step::Holds(0, Some(1), Some(0)),
-        ];
-        run(&rt, rt.alloc(), (1, None), &steps, None, &[])?;
-    }
-    let steps = [takes(EQUAL_LAST), takes(FIRST), takes(SECOND)];
-    let given = [Item::Bytes(0, b"Radio Nordabcde")];
-    run(&rt, rt.alloc(), (1, None), &steps, None, &given)
+    let steps = join(FIRST, SECOND, LAST);
+    run(&rt, rt.alloc(), (1, None), &steps, None, &[])?;
+    let steps = join(LAST, SECOND, FIRST);
+    run(&rt, rt.alloc(), (1, None), &steps, None, &[])?;
+    let steps = join(SECOND, LAST, FIRST);
+    run(&rt, rt.alloc(), (1, None), &steps, None, &[])
+}
+
+#[test]
+fn joins_pieces_of_one_length(rt: HostRuntime) -> Result<(), NoMemory> {
+    run(&rt, rt.alloc(), (1, None), &EQUAL, None, &EQUAL_GIVEN)
 }
 
 // A fragment of the packet of three, by its index and its length.
@@ -75,87 +79,139 @@ fn head(index: u32, len: u16) -> Head {
 }
 
 // A fragment that is kept, and one that came: index and length of each.
+const DISAGREEING: [(&[u8], (u32, u16), &[u8], (u32, u16)); 6] = [
+    (FIRST, (0, 5), SHORT_FIRST, (0, 4)),
+    (FIRST, (0, 5), SHORT_SECOND, (1, 4)),
+    (FIRST, (0, 5), LONGEST_LAST, (2, 6)),
+    (LAST, (2, 3), LONGER_LAST, (2, 4)),
+    (LAST, (2, 3), SHORTEST_FIRST, (0, 2)),
+    (LONGEST_LAST, (2, 6), FIRST, (0, 5)),
+];
+
+fn disagree<'a>(
+    before: &'a [u8],
+    kept: (u32, u16),
+    datagram: &'a [u8],
+    came: (u32, u16),
+) -> [Step<'a>; 3] {
+    let odd = Inconsistent {
+        kept: head(kept.0, kept.1),
+        came: head(came.0, came.1),
+    };
+    [
+        Step::Takes(Sent::Bytes(before), Kept),
+        Step::Takes(Sent::Bytes(datagram), odd),
+        Step::Holds(usize::from(kept.1), Some(1), Some(0)),
+    ]
+}
+
 #[test]
 fn names_lengths_that_disagree(rt: HostRuntime) -> Result<(), NoMemory> {
-    let cases = [
-        (FIRST, (0, 5), SHORT_FIRST, (0, 4)),
-        (FIRST, (0, 5), SHORT_SECOND, (1, 4)),
-        (FIRST, (0, 5), LONGEST_LAST, (2, 6)),
-        (LAST, (2, 3), LONGER_LAST, (2, 4)),
-        (LAST, (2, 3), SHORTEST_FIRST, (0, 2)),
-        (LONGEST_LAST, (2, 6), FIRST, (0, 5)),
-    ];
-    for (before, kept, datagram, came) in cases {
-        let odd = Inconsistent {
-            kept: head(kept.0, kept.1),
-            came: head(came.0, came.1),
-        };
-        let steps = [
-            takes(before),
-            Step::Takes(Sent::Bytes(datagram), odd),
-            Step::Holds(usize::from(kept.1), Some(1), Some(0)),
-        ];
-        let rest = [Item::Lost(0, 1, 3)];
-        run(&rt, rt.alloc(), (1, None), &steps, None, &rest)?;
+    for row in &DISAGREEING {
+        let steps = disagree(row.0, row.1, row.2, row.3);
+        run(
+            &rt,
+            rt.alloc(),
+            (1, None),
+            &steps,
+            None,
+            &[Item::Lost(0, 1, 3)],
+        )?;
     }
     Ok(())
 }
 
+const KEPT_FIRST: Head = Head {
+    whole: false,
+    count: 3,
+    index: 0,
+    len: 5,
+    rs: None,
+};
+
+const CAME_LONGEST: Head = Head {
+    whole: false,
+    count: 3,
+    index: 2,
+    len: 6,
+    rs: None,
+};
+
+const CAME_OF_FOUR: Head = Head {
+    whole: false,
+    count: 4,
+    index: 3,
+    len: 3,
+    rs: None,
+};
+
 // Of several fragments that are kept the one with the lowest index is told, and none once the packet is whole.
+const LOWEST: [Step<'static>; 8] = [
+    Step::Takes(Sent::Bytes(SECOND), Kept),
+    Step::Takes(Sent::Bytes(FIRST), Kept),
+    Step::Takes(
+        Sent::Bytes(LONGEST_LAST),
+        Inconsistent {
+            kept: KEPT_FIRST,
+            came: CAME_LONGEST,
+        },
+    ),
+    Step::Takes(
+        Sent::Bytes(OF_FOUR),
+        Inconsistent {
+            kept: KEPT_FIRST,
+            came: CAME_OF_FOUR,
+        },
+    ),
+    Step::Takes(Sent::Bytes(LAST), Kept),
+    Step::Takes(Sent::Bytes(LONGEST_LAST), Repeated),
+    Step::Takes(Sent::Bytes(OF_FOUR), Repeated),
+    Step::Holds(13, Some(0), Some(1)),
+];
+
+const LOWEST_REST: [Item<'static>; 2] = [Item::Nothing(0, 1), Item::Bytes(1, PACKET)];
+
 #[test]
 fn names_the_first_that_disagrees(rt: HostRuntime) -> Result<(), NoMemory> {
-    let kept = head(0, 5);
-    let longest = Inconsistent {
-        kept,
-        came: head(2, 6),
-    };
-    let of_four = Inconsistent {
-        kept,
-        came: Head {
-            count: 4,
-            ..head(3, 3)
-        },
-    };
-    let steps = [
-        takes(SECOND),
-        takes(FIRST),
-        Step::Takes(Sent::Bytes(LONGEST_LAST), longest),
-        Step::Takes(Sent::Bytes(OF_FOUR), of_four),
-        takes(LAST),
-        repeats(LONGEST_LAST),
-        repeats(OF_FOUR),
-        Step::Holds(13, Some(0), Some(1)),
-    ];
-    let rest = [Item::Nothing(0, 1), Item::Bytes(1, PACKET)];
-    run(&rt, rt.alloc(), (4, Some(0)), &steps, None, &rest)
+    run(&rt, rt.alloc(), (4, Some(0)), &LOWEST, None, &LOWEST_REST)
 }
+
+const SINGLE: &[u8] = b"PF\0\x05\0\0\0\0\0\x01\0\0d\xcb";
+
+const EMPTY: [Step<'static>; 5] = [
+    Step::Takes(Sent::Bytes(SINGLE), Kept),
+    Step::Holds(0, Some(5), Some(0)),
+    Step::Gives(Item::Bytes(0, b"")),
+    Step::GivesNone,
+    Step::Takes(Sent::Bytes(SINGLE), Late),
+];
 
 #[test]
 fn gives_no_bytes(rt: HostRuntime) -> Result<(), NoMemory> {
-    let single = b"PF\0\x05\0\0\0\0\0\x01\0\0d\xcb";
-    let steps = [
-        takes(single),
-        Step::Holds(0, Some(5), Some(0)),
-        Step::Gives(Item::Bytes(0, b"")),
-        Step::GivesNone,
-        Step::Takes(Sent::Bytes(single), Late),
-    ];
-    run(&rt, rt.alloc(), (1, None), &steps, None, &[])?;
-    let of_four = [
-        b"PF\0\0\0\0\0\0\0\x04\0\0\xf8\xf7",
-        b"PF\0\0\0\0\x01\0\0\x04\0\0\xbdW",
-        b"PF\0\0\0\0\x02\0\0\x04\0\0s\xb7",
-        b"PF\0\0\0\0\x03\0\0\x04\0\x006\x17",
-    ];
-    let steps = [
-        takes(of_four[3]),
-        takes(of_four[1]),
-        repeats(of_four[1]),
-        takes(of_four[0]),
-        Step::GivesNone,
-        takes(of_four[2]),
-        Step::Holds(0, Some(0), Some(0)),
-        Step::Gives(Item::Bytes(0, b"")),
-    ];
-    run(&rt, rt.alloc(), (1, None), &steps, None, &[])
+    run(&rt, rt.alloc(), (1, None), &EMPTY, None, &[])
+}
+
+// Four fragments without bytes.
+const EMPTY_0: &[u8] = b"PF\0\0\0\0\0\0\0\x04\0\0\xf8\xf7";
+
+const EMPTY_1: &[u8] = b"PF\0\0\0\0\x01\0\0\x04\0\0\xbdW";
+
+const EMPTY_2: &[u8] = b"PF\0\0\0\0\x02\0\0\x04\0\0s\xb7";
+
+const EMPTY_3: &[u8] = b"PF\0\0\0\0\x03\0\0\x04\0\x006\x17";
+
+const FOUR_EMPTY: [Step<'static>; 8] = [
+    Step::Takes(Sent::Bytes(EMPTY_3), Kept),
+    Step::Takes(Sent::Bytes(EMPTY_1), Kept),
+    Step::Takes(Sent::Bytes(EMPTY_1), Repeated),
+    Step::Takes(Sent::Bytes(EMPTY_0), Kept),
+    Step::GivesNone,
+    Step::Takes(Sent::Bytes(EMPTY_2), Kept),
+    Step::Holds(0, Some(0), Some(0)),
+    Step::Gives(Item::Bytes(0, b"")),
+];
+
+#[test]
+fn gives_no_bytes_of_four_fragments(rt: HostRuntime) -> Result<(), NoMemory> {
+    run(&rt, rt.alloc(), (1, None), &FOUR_EMPTY, None, &[])
 }

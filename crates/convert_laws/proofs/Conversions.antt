@@ -98,7 +98,7 @@ enough_of plan (Some m) n (inr known) full =
     (known, omega (arith, same, low))
 
 -- the number that parts are counted from
-counted_from : (plan : Plan) (c : State) → KnowsFirst plan c → IsFirstOf plan (first_of c)
+pub counted_from : (plan : Plan) (c : State) → KnowsFirst plan c → IsFirstOf plan (first_of c)
 counted_from plan c (n, known, is) = ap (λ o. unwrap_or o 0 % 2 ^ 16) known ∙ is
 
 pub conversions : Collects → GivingEnds → OneReading → Refusing → OneRun → StepsPart → AllAtOnce → ConversionsAreCaptures
@@ -122,7 +122,7 @@ conversions collects giving_ends one_reading refusing one_run steps_part at_once
 -- ---- of a front
 
 -- the first ones of them are packets of the first frames
-first_of_all_packets : (plan : Plan) (t : ℕ) (given more : List Item) → AreFrom plan t (given ++ more) → AreFrom plan t given
+pub first_of_all_packets : (plan : Plan) (t : ℕ) (given more : List Item) → AreFrom plan t (given ++ more) → AreFrom plan t given
 first_of_all_packets plan t [] more are = tt
 first_of_all_packets plan t (item ∷ given) more are = (are.0, first_of_all_packets plan (t + 1) given more are.1)
 

@@ -8,7 +8,7 @@ use Rattle.std.proofs.lemmas.List.{append-nil}
 use Rattle.dcp_collect.specs.declared.taken.Taken.{Taken}
 use Rattle.dcp_collect.specs.declared.taken.Taken.TheVariants.{Kept}
 use Rattle.dcp_collect.specs.Reading.{Incoming, Read, Unread, Brings}
-use Rattle.dcp_collect.specs.State.{State, made, ready, number_of, answer, answer_at, after_answer, after_take, after_item}
+use Rattle.dcp_collect.specs.State.{State, made, ready, number_of, answer, answer_at, after_answer, after_take}
 use Rattle.dcp_collect.specs.Runs.{Item, Takes, Gives, Steps}
 use Rattle.collect_laws.specs.Delivery.{sequence_at, IsBase}
 use Rattle.collect_laws.specs.Laws.{OneReading, Refusing, OneRun}
@@ -22,14 +22,11 @@ use Rattle.drm_schedule.specs.Valid.{IsSchedule}
 use Rattle.mod_delivery.specs.Laws.{AllAtOnce}
 use Rattle.mod_delivery.specs.Sent.{Arrival, OfSchedule, Stray, IsArrival, IsSent, pairs_in, IsFollowed}
 use Rattle.mod_delivery.proofs.Packets.{some_packets, all_sent, delivered}
+use Rattle.drm_convert.proofs.Ways.{gives_first}
 use Rattle.convert_laws.specs.Laws.{IsFirstOf, KnowsFirst, FirstIsKnown, FirstOfAll}
 use Rattle.convert_laws.proofs.Fronts.{front_followed}
 
 -- ---- it stays
-
-first_given : (items : List Item) (c d : State) → Gives c items d → d.first ≡ c.first
-first_given [] c d gives = ap (λ s. s.first) gives.1
-first_given (item ∷ items) c d gives = first_given items (after_item c) d gives.2
 
 first_taken : (c : State) (read : Read) (f : ℕ) → c.first ≡ Some f → (after_take c read).first ≡ Some f
 first_taken c (Unread field) f is = is
@@ -41,7 +38,7 @@ first_steps c d [] (a ∷ answers) given f steps is = absurd steps
 first_steps c d (datagram ∷ datagrams) [] given f steps is = absurd steps
 first_steps c d (datagram ∷ datagrams) (a ∷ answers) given f (now, later, kept, mid, takes, gives, steps, are) is =
     first_steps mid d datagrams answers later f steps
-    (first_given now kept mid gives ∙ (ap (λ s. s.first) takes.after_is ∙ first_taken c takes.read f is))
+    (gives_first now kept mid gives ∙ (ap (λ s. s.first) takes.after_is ∙ first_taken c takes.read f is))
 
 -- ---- the first datagram tells it
 
@@ -81,7 +78,7 @@ module _ (one_reading : OneReading) (refusing : Refusing) (plan : Plan) (is : Is
       let (packets, brings) = brings_of plan pair datagram is all.0 in
       let place : pair.0 ≡ 0 = omega (arith, ints, base) in
       let told : kept.first ≡ Some (sequence_at plan.seq pair.0) = first_told one_reading plan window packets pair datagram a kept brings takes in
-      first_steps after mid datagrams answers later (sequence_at plan.seq 0) steps (first_given now kept after gives ∙ (told ∙ ap (λ p. Some (sequence_at plan.seq p)) place))
+      first_steps after mid datagrams answers later (sequence_at plan.seq 0) steps (gives_first now kept after gives ∙ (told ∙ ap (λ p. Some (sequence_at plan.seq p)) place))
   none_told (Stray cause ∷ arrivals) (datagram ∷ datagrams) (a ∷ answers) given mid all base (now, later, kept, after, takes, gives, steps, are) some =
       let c : State = made window None in
       let refused = refusing c kept datagram a cause takes in

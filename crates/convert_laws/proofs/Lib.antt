@@ -8,5 +8,5 @@ pub mod Places
 pub mod Sizes
 pub mod Delivery
 pub mod Conversions
-pub mod ReadPackets
+pub mod Halted
 pub mod Runs

@@ -1,27 +1,29 @@
 -- A run of `convert` over a capture of a schedule.
-use Rattle.std.proofs.Common.{ℕ, ◌≡◌, ◌⊎◌, inl, inr, true, List, [], ◌∷◌, ◌++◌, length, Option, Some, Ok, Err, refl, sym, ap, subst, ◌∙◌}
+use Rattle.std.proofs.Common.{ℕ, ◌≡◌, ◌+◌, ◌⊎◌, inl, inr, true, List, [], ◌∷◌, ◌++◌, length, Option, Some, Ok, Err, refl, sym, ap, subst, ◌∙◌, arith, length-append}
 use Rattle.std.specs.Prelude.{pos, All}
 use Rattle.std.specs.List.{concat}
 use Rattle.std.proofs.lemmas.List.{append-nil}
 use Rattle.drm_links.specs.Told.{Known, ToldThrough}
 use Rattle.drm_links.specs.Source.{Input, Inputs, LeftBy}
-use Rattle.drm_links.specs.Sink.{IsFront}
-use Rattle.drm_links.proofs.ToldLemmas.{Outputs-weaker}
+use Rattle.drm_links.specs.Sink.{Output, Outputs, IsFront}
+use Rattle.drm_links.proofs.ToldLemmas.{Outputs-nothing, Outputs-weaker}
 use Rattle.drm_capture.specs.declared.fault.CaptureFault.{CaptureFault}
 use Rattle.drm_capture.specs.Capture as capture
 use Rattle.drm_capture.specs.Capture.{IsCaptureOf, End}
 use Rattle.drm_capture.specs.Front.{IsWhole}
 use Rattle.drm_capture.specs.Reading.{Breaks}
-use Rattle.drm_capture.specs.Laws.{OneFront, FrontsStay, ReadOneWay}
-use Rattle.drm_server.specs.Capture.{IsCapture}
+use Rattle.drm_capture.specs.Laws.{ReadOneWay}
+use Rattle.capture_laws.specs.Laws.{PacketsInFront}
+use Rattle.drm_schedule.specs.declared.plan.Plan.{Plan}
+use Rattle.drm_server.specs.Capture.{IsCapture, IsFrontOfCapture}
+use Rattle.drm_server.proofs.CaptureLemmas.{end_written}
 use Rattle.mod_delivery.specs.Sent.{IsFollowed}
 use Rattle.drm_faults.specs.declared.fault.Fault.TheVariants as faults
 use Rattle.drm_convert.specs.Converting.{Part, text_of, lines_of}
 use Rattle.drm_convert.specs.Steps.{has_none}
 use Rattle.drm_convert.specs.Draining.{are_clean}
-use Rattle.drm_convert.specs.Run.{Terms, HasEnough, AreRead, AreEnough}
-use Rattle.convert_laws.specs.Laws.{under, AllInTime, NoneIsTooLarge, ConversionsAreCaptures, IsOfFirstFrames, BrokenConversions, CapturesAreConverted}
-use Rattle.convert_laws.proofs.ReadPackets.{Begin, begin}
+use Rattle.drm_convert.specs.Run.{Terms, HasEnough, AreReadBy, AreEnough}
+use Rattle.convert_laws.specs.Laws.{under, AllInTime, NoneIsTooLarge, ConversionsAreCaptures, IsOfFirstFrames, BrokenConversions, IsOfSomeFrames, HaltedConversions, CapturesAreConverted}
 
 -- ---- what is told of an input
 
@@ -52,15 +54,20 @@ empty_front (x ∷ text) lines none (rest, is) = absurd (let clash : [] ≡ x �
 
 -- ---- the packets that were read
 
-module _ (one_front : OneFront) (fronts_stay : FrontsStay) (one_way : ReadOneWay) (bytes : List ℕ) (packets : List (List ℕ)) (is : IsCaptureOf bytes packets End) where
+-- the packets begin with these
+abbrev Begin : List (List ℕ) → List (List ℕ) → Type 0
+Begin first packets = (later : List (List ℕ)) × (packets ≡ first ++ later)
+
+module _ (in_front : PacketsInFront) (one_way : ReadOneWay) (bytes : List ℕ) (packets : List (List ℕ)) (is : IsCaptureOf bytes packets End) where
   all_read : (read : List (List ℕ)) → IsCaptureOf bytes read End → packets ≡ read ++ []
   all_read read other = (one_way bytes packets read End End is other).0 ∙ sym (append-nil read)
 
   front_read : (read : List (List ℕ)) (more : List ℕ) → All IsWhole read → bytes ≡ concat read ++ more → Begin read packets
   front_read read more those same =
       let left : capture.EndsWith (length bytes) (length (concat packets)) is.rest End = is.ends in
-      let whole : bytes ≡ concat packets = is.is ∙ (ap (λ l. concat packets ++ l) left.0 ∙ append-nil (concat packets)) in
-      begin one_front fronts_stay read packets more those is.whole (sym same ∙ whole)
+      let size = left.1 in
+      let long : length bytes ≡ length (concat read) + length more = ap length same ∙ length-append (concat read) more in
+      in_front bytes read packets more End those same (omega (arith, long, size)) is
 
   no_fault : (read : List (List ℕ)) (fault : CaptureFault) → IsCaptureOf bytes read (capture.Fault fault) → ⊥
   no_fault read fault other = let clash : End ≡ capture.Fault fault = (one_way bytes packets read End (capture.Fault fault) is other).1 in cc
@@ -68,61 +75,77 @@ module _ (one_front : OneFront) (fronts_stay : FrontsStay) (one_way : ReadOneWay
   not_too_long : (read : List (List ℕ)) → IsCaptureOf bytes read capture.TooLong → ⊥
   not_too_long read other = let clash : End ≡ capture.TooLong = (one_way bytes packets read End capture.TooLong is other).1 in cc
 
-  begin_read : (read : List (List ℕ)) (before after : Known Input) (input rest : Input) → before.told ≡ Some input → after.told ≡ Some rest → input.left ≡ bytes
-      → AreRead read before after → Begin read packets
-  begin_read read before after input rest is_before is_after same (inl (reader, has)) =
-      let at = told_of (λ left more. left ≡ concat read ++ (reader.held ++ more)) before after input rest is_before is_after has.bytes in
-      front_read read (reader.held ++ rest.left) has.whole (sym same ∙ at)
-  begin_read read before after input rest is_before is_after same (inr all) =
+  -- which packets are read where the conversion comes to an item
+  begin_read : (later read : List (List ℕ)) (before after : Known Input) (input rest : Input) → before.told ≡ Some input → after.told ≡ Some rest → input.left ≡ bytes
+      → AreReadBy later read before after → (more : List (List ℕ)) × (packets ≡ read ++ more) × (later ≡ [] → more ≡ [])
+  begin_read [] read before after input rest is_before is_after same all =
       let at = told_of (λ left more. IsCaptureOf left read End) before after input rest is_before is_after all in
-      ([], all_read read (subst (λ l. IsCaptureOf l read End) same at))
+      ([], all_read read (subst (λ l. IsCaptureOf l read End) same at), λ none. refl)
+  begin_read (x ∷ later) read before after input rest is_before is_after same (reader, has) =
+      let at = told_of (λ left more. left ≡ concat read ++ (reader.held ++ more)) before after input rest is_before is_after has.bytes in
+      let (more, begins) = front_read read (reader.held ++ rest.left) has.whole (sym same ∙ at) in
+      (more, begins, λ none. absurd (let clash : x ∷ later ≡ [] = none in cc))
 
 -- which of them are read, and that they are enough
-enough_read : OneFront → FrontsStay → ReadOneWay → (terms : Terms) (packets read : List (List ℕ)) (before after : Known Input) (input rest : Input) → before.told ≡ Some input → after.told ≡ Some rest
+enough_read : PacketsInFront → ReadOneWay → (terms : Terms) (packets read : List (List ℕ)) (before after : Known Input) (input rest : Input) → before.told ≡ Some input → after.told ≡ Some rest
     → IsCaptureOf input.left packets End → AreEnough terms read before after → (later : List (List ℕ)) × (packets ≡ read ++ later) × ((later ≡ []) ⊎ HasEnough terms read)
-enough_read one_front fronts_stay one_way terms packets read before after input rest is_before is_after is (inl ((reader, has), enough)) =
-    let (later, same) = begin_read one_front fronts_stay one_way input.left packets is read before after input rest is_before is_after refl (inl (reader, has)) in
+enough_read in_front one_way terms packets read before after input rest is_before is_after is (inl ((reader, has), enough)) =
+    let at = told_of (λ left more. left ≡ concat read ++ (reader.held ++ more)) before after input rest is_before is_after has.bytes in
+    let (later, same) = front_read in_front one_way input.left packets is read (reader.held ++ rest.left) has.whole at in
     (later, same, inr enough)
-enough_read one_front fronts_stay one_way terms packets read before after input rest is_before is_after is (inr all) =
+enough_read in_front one_way terms packets read before after input rest is_before is_after is (inr all) =
     let at = told_of (λ left more. IsCaptureOf left read End) before after input rest is_before is_after all in
-    ([], all_read one_front fronts_stay one_way input.left packets is read at, inl refl)
+    ([], all_read in_front one_way input.left packets is read at, inl refl)
+
+-- a front of what is written of some first frames is a front of the capture
+front_written : (plan : Plan) (text : List ℕ) (out out' : Known Output) → IsOfSomeFrames plan text → Outputs out out' (IsFront text) → Outputs out out' (IsFrontOfCapture plan)
+front_written plan text out out' ((n, datagrams, within, are, is), front) wrote =
+    end_written plan n datagrams (concat datagrams) out out out' within are (subst (IsFrontOfCapture plan) is front)
+    (Outputs-nothing out (λ t. [] ++ concat datagrams ≡ t ++ concat datagrams) refl)
+    (subst (λ l. Outputs out out' (IsFront l)) is wrote)
 
 -- ---- how the run ends
 
-module _ (one_front : OneFront) (fronts_stay : FrontsStay) (one_way : ReadOneWay) (conversions : ConversionsAreCaptures) (broken : BrokenConversions) (none_is_too_large : NoneIsTooLarge) where
+module _ (in_front : PacketsInFront) (one_way : ReadOneWay) (conversions : ConversionsAreCaptures) (broken : BrokenConversions) (halted : HaltedConversions) (none_is_too_large : NoneIsTooLarge) where
   pub captures_are_converted : CapturesAreConverted
-  captures_are_converted plan carry terms (Ok clean) told before after out out' err err' input rest is_before is_after has may (read, enough, shorter, parts, conversion, text, names, clean_is) =
-      let (later, same, all) = enough_read one_front fronts_stay one_way terms has.packets read before after input rest is_before is_after has.capture enough in
+  captures_are_converted plan carry terms (Ok clean) told before after out out' err err' input rest fits is_before is_after has may (read, enough, shorter, parts, conversion, text, names, clean_is) =
+      let (later, same, all) = enough_read in_front one_way terms has.packets read before after input rest is_before is_after has.capture enough in
       let whole : AllInTime plan terms.window terms.first has.arrivals (read ++ later) = subst (λ l. AllInTime plan terms.window terms.first has.arrivals l) same has.in_time in
       let (captured, none) = conversions plan carry terms has.arrivals read later parts whole may all conversion in (
         clean_is ∙ clean_of parts none,
         Outputs-weaker (λ t. t ≡ text_of parts) (IsCapture (under carry plan)) out out' text (λ t is. subst (IsCapture (under carry plan)) (sym is) captured),
         Outputs-weaker (IsFront (lines_of parts)) (λ t. t ≡ []) err err' names.front (λ t front. empty_front t (lines_of parts) none front),
       )
-  captures_are_converted plan carry terms (Err faults.Read) told before after out out' err err' input rest is_before is_after has may (read, whole, stops, lacks, shorter, parts, is, text, names) =
+  captures_are_converted plan carry terms (Err faults.Read) told before after out out' err err' input rest fits is_before is_after has may (read, whole, stops, lacks, shorter, parts, is, text, names) =
       let (held, field, same, cut) = told_of (Breaks read) before after input rest is_before is_after stops in
-      let (later, begins) = front_read one_front fronts_stay one_way input.left has.packets has.capture read (held ++ rest.left) whole same in
+      let (later, begins) = front_read in_front one_way input.left has.packets has.capture read (held ++ rest.left) whole same in
       let all : AllInTime plan terms.window terms.first has.arrivals (read ++ later) = subst (λ l. AllInTime plan terms.window terms.first has.arrivals l) begins has.in_time in
       let (written, none) = broken plan carry terms has.arrivals read later parts all is in (
         Outputs-weaker (λ t. t ≡ text_of parts) (IsOfFirstFrames (under carry plan)) out out' text (λ t is. subst (IsOfFirstFrames (under carry plan)) (sym is) written),
         Outputs-weaker (IsFront (lines_of parts)) (λ t. t ≡ []) err err' names.front (λ t front. empty_front t (lines_of parts) none front),
       )
-  captures_are_converted plan carry terms (Err faults.Write) told before after out out' err err' input rest is_before is_after has may ends = tt
-  captures_are_converted plan carry terms (Err faults.NoMemory) told before after out out' err err' input rest is_before is_after has may ends = tt
-  captures_are_converted plan carry terms (Err (faults.PacketSize number)) told before after out out' err err' input rest is_before is_after has may (read, are_read, shorter, items, item, last, comes, large, parts, converts, text, names) =
-      let (later, same) = begin_read one_front fronts_stay one_way input.left has.packets has.capture read before after input rest is_before is_after refl are_read in
-      let followed : IsFollowed plan terms.first (pos 0) has.arrivals (read ++ later) = subst (λ l. IsFollowed plan terms.first (pos 0) has.arrivals l) same has.in_time.followed in
-      none_is_too_large plan carry terms has.arrivals read later items item last number has.in_time.schedule has.in_time.some followed comes large
-  captures_are_converted plan carry terms (Err (faults.Capture fault)) told before after out out' err err' input rest is_before is_after has may (read, whole, stops, lacks, shorter, parts, broken, text, names) =
+  captures_are_converted plan carry terms (Err faults.Write) told before after out out' err err' input rest fits is_before is_after has may (items, item, last, reads, parts, converts, text, names) =
+      let (later, same, all) = begin_read in_front one_way input.left has.packets has.capture reads.at.later reads.packets before after input rest is_before is_after refl reads.read in
+      let whole : AllInTime plan terms.window terms.first has.arrivals (reads.packets ++ later) = subst (λ l. AllInTime plan terms.window terms.first has.arrivals l) same has.in_time in
+      let (written, none) = halted plan carry terms has.arrivals reads.packets later items item last parts fits whole may reads.at all reads.within converts in (
+        front_written (under carry plan) (text_of parts) out out' written text,
+        Outputs-weaker (IsFront (lines_of parts)) (λ t. t ≡ []) err err' names.front (λ t front. empty_front t (lines_of parts) none front),
+      )
+  captures_are_converted plan carry terms (Err faults.NoMemory) told before after out out' err err' input rest fits is_before is_after has may (same, still, silent) = (still, silent)
+  captures_are_converted plan carry terms (Err (faults.PacketSize number)) told before after out out' err err' input rest fits is_before is_after has may (items, item, last, reads, large, parts, converts, text, names) =
+      let (later, same, all) = begin_read in_front one_way input.left has.packets has.capture reads.at.later reads.packets before after input rest is_before is_after refl reads.read in
+      let followed : IsFollowed plan terms.first (pos 0) has.arrivals (reads.packets ++ later) = subst (λ l. IsFollowed plan terms.first (pos 0) has.arrivals l) same has.in_time.followed in
+      none_is_too_large plan carry terms has.arrivals reads.packets later items item last number has.in_time.schedule has.in_time.some followed reads.at large
+  captures_are_converted plan carry terms (Err (faults.Capture fault)) told before after out out' err err' input rest fits is_before is_after has may (read, whole, stops, lacks, shorter, parts, broken, text, names) =
       let at = told_of (λ left more. IsCaptureOf left read (capture.Fault fault)) before after input rest is_before is_after stops in
-      no_fault one_front fronts_stay one_way input.left has.packets has.capture read fault at
-  captures_are_converted plan carry terms (Err faults.CaptureTooLong) told before after out out' err err' input rest is_before is_after has may (read, whole, stops, lacks, shorter, parts, broken, text, names) =
+      no_fault in_front one_way input.left has.packets has.capture read fault at
+  captures_are_converted plan carry terms (Err faults.CaptureTooLong) told before after out out' err err' input rest fits is_before is_after has may (read, whole, stops, lacks, shorter, parts, broken, text, names) =
       let at = told_of (λ left more. IsCaptureOf left read capture.TooLong) before after input rest is_before is_after stops in
-      not_too_long one_front fronts_stay one_way input.left has.packets has.capture read at
-  captures_are_converted plan carry terms (Err faults.Words) told before after out out' err err' input rest is_before is_after has may ends = ends
-  captures_are_converted plan carry terms (Err (faults.FacLength n)) told before after out out' err err' input rest is_before is_after has may ends = ends
-  captures_are_converted plan carry terms (Err faults.FacOver) told before after out out' err err' input rest is_before is_after has may ends = ends
-  captures_are_converted plan carry terms (Err (faults.FacCrc stands computed)) told before after out out' err err' input rest is_before is_after has may ends = ends
-  captures_are_converted plan carry terms (Err (faults.Schedule line reason)) told before after out out' err err' input rest is_before is_after has may ends = ends
-  captures_are_converted plan carry terms (Err (faults.Script line reason)) told before after out out' err err' input rest is_before is_after has may ends = ends
-  captures_are_converted plan carry terms (Err faults.Link) told before after out out' err err' input rest is_before is_after has may ends = ends
+      not_too_long in_front one_way input.left has.packets has.capture read at
+  captures_are_converted plan carry terms (Err faults.Words) told before after out out' err err' input rest fits is_before is_after has may ends = ends
+  captures_are_converted plan carry terms (Err (faults.FacLength n)) told before after out out' err err' input rest fits is_before is_after has may ends = ends
+  captures_are_converted plan carry terms (Err faults.FacOver) told before after out out' err err' input rest fits is_before is_after has may ends = ends
+  captures_are_converted plan carry terms (Err (faults.FacCrc stands computed)) told before after out out' err err' input rest fits is_before is_after has may ends = ends
+  captures_are_converted plan carry terms (Err (faults.Schedule line reason)) told before after out out' err err' input rest fits is_before is_after has may ends = ends
+  captures_are_converted plan carry terms (Err (faults.Script line reason)) told before after out out' err err' input rest fits is_before is_after has may ends = ends
+  captures_are_converted plan carry terms (Err faults.Link) told before after out out' err err' input rest fits is_before is_after has may ends = ends

@@ -1,7 +1,8 @@
 -- What becomes of a delivery of a schedule, where each frame is in time.
-use Rattle.std.specs.Prelude.{ℕ, pos, ◌≡◌, ◌<◌, ◌≤◌, ◌%◌, ◌^◌, ◌⊎◌, Bool, true, List, [], ◌++◌, length, Option, None, Some, Result, Ok, Err}
+use Rattle.std.specs.Prelude.{ℕ, pos, ◌≡◌, ◌<◌, ◌≤◌, ◌%◌, ◌^◌, ◌⊎◌, Bool, true, false, List, [], ◌∷◌, ◌++◌, length, Option, None, Some, Result, Ok, Err}
 use Rattle.std.specs.List.{concat}
 use Rattle.dcp_pft.specs.declared.carry.Carry.{Carry}
+use Rattle.dcp_pft.specs.Carrying.{CarryFits}
 use Rattle.dcp_collect.specs.declared.taken.Taken.{Taken}
 use Rattle.dcp_collect.specs.State.{State, made}
 use Rattle.dcp_collect.specs.Runs.{Item, Steps, Run}
@@ -12,13 +13,14 @@ use Rattle.drm_schedule.specs.declared.plan.Plan.{Plan}
 use Rattle.drm_schedule.specs.Valid.{IsSchedule}
 use Rattle.drm_timeline.specs.Numbers.{frame_count}
 use Rattle.drm_server.specs.Datagrams.{AreOfFrames}
-use Rattle.drm_server.specs.Capture.{IsCapture}
+use Rattle.drm_server.specs.Capture.{IsCapture, IsFrontOfCapture}
 use Rattle.mod_delivery.specs.Sent.{Arrival, pairs_in, IsFollowed, IsInTime}
 use Rattle.drm_capture.specs.Capture.{IsCaptureOf, End}
 use Rattle.drm_faults.specs.declared.fault.Fault.{Fault}
 use Rattle.drm_faults.specs.declared.fault.Fault.TheVariants as faults
 use Rattle.drm_convert.specs.Converting.{Part, ConvertsAll, IsTooLarge, text_of, lines_of}
-use Rattle.drm_convert.specs.Run.{Terms, HasEnough, IsConversion, IsBroken, ComesAt, Ends}
+use Rattle.drm_convert.specs.Draining.{is_full}
+use Rattle.drm_convert.specs.Run.{Terms, first_of, HasEnough, IsConversion, IsBroken, ComesAt, Ends}
 
 -- the schedule with this carry in place of its own
 abbrev pub under : Carry → Plan → Plan
@@ -107,6 +109,19 @@ BrokenConversions =
     → AllInTime plan terms.window terms.first arrivals (packets ++ later) → IsBroken terms carry packets parts
     → IsOfFirstFrames (under carry plan) (text_of parts) × (lines_of parts ≡ [])
 
+-- the text is of the datagrams of one first frame or more, and so a front of the schedule's capture
+abbrev pub IsOfSomeFrames : Plan → List ℕ → Type 0
+IsOfSomeFrames plan text = IsOfFirstFrames plan text × IsFrontOfCapture plan text
+
+-- Where it comes to an item, this one and those before it become the datagrams of some first frames under the new carry.
+abbrev pub HaltedConversions : Type 0
+HaltedConversions =
+    (plan : Plan) (carry : Carry) (terms : Terms) (arrivals : List Arrival) (packets later : List (List ℕ)) (items : List Item) (item : Item)
+    (last : State) (parts : List Part)
+    → CarryFits carry → AllInTime plan terms.window terms.first arrivals (packets ++ later) → MayBeTold plan terms.told
+    → (at : ComesAt terms packets items item last) → (at.later ≡ [] → later ≡ []) → is_full terms.told (length items) ≡ false
+    → ConvertsAll carry (first_of last) (items ++ item ∷ []) parts → IsOfSomeFrames (under carry plan) (text_of parts) × (lines_of parts ≡ [])
+
 -- These bytes are a capture of a schedule in which each frame is in time.
 pub record HasSchedule (plan : Plan) (terms : Terms) (bytes : List ℕ) : Type 0 where
   pub arrivals : List Arrival
@@ -114,15 +129,16 @@ pub record HasSchedule (plan : Plan) (terms : Terms) (bytes : List ℕ) : Type 0
   pub capture : IsCaptureOf bytes packets End
   pub in_time : AllInTime plan terms.window terms.first arrivals packets
 
--- The schedule's capture under the new carry was written, and nothing was named; after a failed read the datagrams of some first
--- frames were written, and nothing was named. No other fault comes but a failed write, or want of memory.
+-- The schedule's capture under the new carry was written; after a failed read the datagrams of some first frames; after a failed
+-- write a front of the capture; where memory is wanting, nothing. No other fault comes, and nothing was named.
 abbrev pub EndsWell : Plan → Carry → Result Bool Fault → Known Output → Known Output → Known Output → Known Output → Type 0
 EndsWell plan carry (Ok clean) out out' err err' =
     (clean ≡ true) × Outputs out out' (IsCapture (under carry plan)) × Outputs err err' (λ text. text ≡ [])
 EndsWell plan carry (Err faults.Read) out out' err err' =
     Outputs out out' (IsOfFirstFrames (under carry plan)) × Outputs err err' (λ text. text ≡ [])
-EndsWell plan carry (Err faults.Write) out out' err err' = Unit {0}
-EndsWell plan carry (Err faults.NoMemory) out out' err err' = Unit {0}
+EndsWell plan carry (Err faults.Write) out out' err err' =
+    Outputs out out' (IsFrontOfCapture (under carry plan)) × Outputs err err' (λ text. text ≡ [])
+EndsWell plan carry (Err faults.NoMemory) out out' err err' = (out' ≡ out) × (err' ≡ err)
 EndsWell plan carry (Err fault) out out' err err' = ⊥
 
 -- So ends a run of `convert` over such a capture, where the input tells before and after it what is left.
@@ -130,5 +146,5 @@ abbrev pub CapturesAreConverted : Type 0
 CapturesAreConverted =
     (plan : Plan) (carry : Carry) (terms : Terms) (ending : Result Bool Fault) (told : Bool) (before after : Known Input)
     (out out' err err' : Known Output) (input rest : Input)
-    → before.told ≡ Some input → after.told ≡ Some rest → HasSchedule plan terms input.left → MayBeTold plan terms.told
+    → CarryFits carry → before.told ≡ Some input → after.told ≡ Some rest → HasSchedule plan terms input.left → MayBeTold plan terms.told
     → Ends terms carry ending told before after out out' err err' → EndsWell plan carry ending out out' err err'

@@ -1,12 +1,12 @@
 //! The laws of the conversion, each on a function that does nothing.
 
-ghost use Rattle.convert_laws.specs.Laws.{Converting, ConvertingEarly, FirstIsKnown, FirstOfAll, NoneIsTooLarge, ConversionsAreCaptures, BrokenConversions, CapturesAreConverted};
+ghost use Rattle.convert_laws.specs.Laws.{Converting, ConvertingEarly, FirstIsKnown, FirstOfAll, NoneIsTooLarge, ConversionsAreCaptures, BrokenConversions, HaltedConversions, CapturesAreConverted};
 
+use capture_laws::packets_in_front;
 use collect_laws::{
-    collecting, giving_ends, in_time, one_giving, one_reading, one_run, refusing, steps_count,
-    steps_part,
+    collecting, giving_ends, in_time, one_reading, one_run, refusing, steps_count, steps_part,
 };
-use drm_capture::{fronts_stay, one_front, read_one_way};
+use drm_capture::read_one_way;
 use mod_delivery::all_frames_are_given_at_once;
 
 /// Where each frame of a schedule is in time, what a collector gives becomes the schedule's capture under the other carry.
@@ -15,6 +15,7 @@ pub fn conversions_are_captures()
     ensures early { ConvertingEarly }
     ensures terms { ConversionsAreCaptures }
     ensures broken { BrokenConversions }
+    ensures halted { HaltedConversions }
 {
     collecting();
     giving_ends();
@@ -43,10 +44,6 @@ pub fn none_is_too_large()
 {
     collecting();
     giving_ends();
-    one_reading();
-    one_giving();
-    one_run();
-    steps_part();
     steps_count();
 }
 
@@ -54,8 +51,7 @@ pub fn none_is_too_large()
 pub fn captures_are_converted()
     ensures { CapturesAreConverted }
 {
-    one_front();
-    fronts_stay();
+    packets_in_front();
     read_one_way();
     conversions_are_captures();
     none_is_too_large();

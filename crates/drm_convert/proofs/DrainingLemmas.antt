@@ -1,7 +1,7 @@
 -- Items that are converted one after another.
-use Rattle.std.proofs.Common.{◌≡◌, ℕ, ◌+◌, ◌≤◌, ◌⊎◌, Bool, true, false, List, [], ◌∷◌, ◌++◌, Option, None, Some, length, sym, subst, ap, ◌∙◌, refl, inl, inr, arith, append_assoc, length-append}
-use Rattle.std.specs.Prelude.{◌&&◌, ◌==◌, not, IfSome, unwrap_or, if◌then◌else◌, Result, Ok, Err}
-use Rattle.std.specs.List.{flat_map, list_all, filter}
+use Rattle.std.proofs.Common.{◌≡◌, ℕ, ◌+◌, ◌≤◌, Bool, true, false, List, [], ◌∷◌, ◌++◌, Option, None, Some, sym, subst, ap, ◌∙◌, refl, inl, inr, arith, append_assoc, length-append}
+use Rattle.std.specs.Prelude.{◌&&◌, ◌==◌, not, IfSome, unwrap_or, if◌then◌else◌, Err}
+use Rattle.std.specs.List.{filter}
 use Rattle.std.proofs.Math.Nat.{le_trans}
 use Rattle.std.proofs.lemmas.Bool.Decides.{nat_tests}
 use Rattle.std.proofs.lemmas.List.{append-nil}
@@ -9,7 +9,7 @@ use Rattle.std.proofs.lemmas.List.Concat.{flat_map-append}
 use Rattle.std.proofs.lemmas.List.Folds.{list_all-append}
 use Rattle.drm_links.specs.Told.{Known, HasFailed}
 use Rattle.drm_links.specs.Sink.{Output, Outputs, IsFront}
-use Rattle.drm_links.proofs.ToldLemmas.{Outputs-nothing, Outputs-then, Outputs-weaker, Rose-later, later-Rose}
+use Rattle.drm_links.proofs.ToldLemmas.{Outputs-nothing, Outputs-then, Outputs-weaker, later-Rose}
 use Rattle.dcp_pft.specs.declared.carry.Carry.{Carry}
 use Rattle.dcp_collect.specs.Fragments.{Fragment, suffice, of_packet}
 use Rattle.dcp_collect.specs.State.{State, ready, after_item, after_next}
@@ -236,27 +236,31 @@ so_far_one told carry used c d n p q r a b o x y z items item first s room now i
 
 -- ---- where it stops
 
+-- an item that isn't converted isn't counted
+still_room : (told : Option ℕ) (q r : Progress) → r ≡ q → is_full told q.given ≡ false → is_full told r.given ≡ false
+still_room told q r same room = subst (λ (v : Progress). is_full told v.given ≡ false) (sym same) room
+
 pub halts_write : (told : Option ℕ) (carry used : Carry) (c d : State) (p q r : Progress) (a b o x y z : Known Output) (items : List Item) (item : Item) (first : ℕ)
-    → SoFar told carry c d p q a b x y items → ready d ≡ true → IsItem d item → used ≡ carry → first ≡ unwrap_or d.first 0
-    → ConvertsOne (Err halt.Write) used first item q r b o y z → Halts halt.Write carry c p r a o x z
-halts_write told carry used c d p q r a b o x y z items item first s now is same first_is one =
+    → SoFar told carry c d p q a b x y items → is_full told q.given ≡ false → ready d ≡ true → IsItem d item → used ≡ carry → first ≡ unwrap_or d.first 0
+    → ConvertsOne (Err halt.Write) used first item q r b o y z → Halts halt.Write told carry c p r a o x z
+halts_write told carry used c d p q r a b o x y z items item first s room now is same first_is one =
     let here : Failing carry (unwrap_or d.first 0) item b o = subst (λ (k : ℕ). Failing carry k item b o) first_is (subst (λ (k : Carry). Failing k first item b o) same one.0) in
     let all : ConvertedAll carry c items p r a b x z = subst (λ (v : Progress). ConvertedAll carry c items p v a b x z) (sym one.2) (subst (λ (e : Known Output). ConvertedAll carry c items p q a b x e) (sym one.1) s.all) in
-    (items, d, item, s.gives, now, is, (b, all, λ f may. failing_at carry d item f b o s.knows is (subst (λ (v : Option ℕ). IfSome v (λ m. m ≡ f)) (sym s.first) may) here))
+    (items, d, item, s.gives, now, is, (still_room told q r one.2 room, b, all, λ f may. failing_at carry d item f b o s.knows is (subst (λ (v : Option ℕ). IfSome v (λ m. m ≡ f)) (sym s.first) may) here))
 
 pub halts_size : (told : Option ℕ) (carry used : Carry) (c d : State) (p q r : Progress) (a b o x y z : Known Output) (items : List Item) (item : Item) (first number : ℕ)
-    → SoFar told carry c d p q a b x y items → ready d ≡ true → IsItem d item → used ≡ carry
-    → ConvertsOne (Err (halt.PacketSize number)) used first item q r b o y z → Halts (halt.PacketSize number) carry c p r a o x z
-halts_size told carry used c d p q r a b o x y z items item first number s now is same one =
+    → SoFar told carry c d p q a b x y items → is_full told q.given ≡ false → ready d ≡ true → IsItem d item → used ≡ carry
+    → ConvertsOne (Err (halt.PacketSize number)) used first item q r b o y z → Halts (halt.PacketSize number) told carry c p r a o x z
+halts_size told carry used c d p q r a b o x y z items item first number s room now is same one =
     let all : ConvertedAll carry c items p r a o x z =
     subst (λ (v : Progress). ConvertedAll carry c items p v a o x z) (sym one.3) (subst (λ (e : Known Output). ConvertedAll carry c items p q a o x e) (sym one.2) (subst (λ (e : Known Output). ConvertedAll carry c items p q a e x y) (sym one.1) s.all)) in
-    (items, d, item, s.gives, now, is, (all, subst (λ (k : Carry). IsTooLarge k item number) same one.0))
+    (items, d, item, s.gives, now, is, (still_room told q r one.3 room, all, subst (λ (k : Carry). IsTooLarge k item number) same one.0))
 
 pub halts : (told : Option ℕ) (carry used : Carry) (c d : State) (p q r : Progress) (a b o x y z : Known Output) (items : List Item) (item : Item) (first : ℕ) (why : Halt)
-    → SoFar told carry c d p q a b x y items → ready d ≡ true → IsItem d item → used ≡ carry → first ≡ unwrap_or d.first 0
-    → ConvertsOne (Err why) used first item q r b o y z → Halts why carry c p r a o x z
-halts told carry used c d p q r a b o x y z items item first halt.Write s now is same first_is one = halts_write told carry used c d p q r a b o x y z items item first s now is same first_is one
-halts told carry used c d p q r a b o x y z items item first (halt.PacketSize number) s now is same first_is one = halts_size told carry used c d p q r a b o x y z items item first number s now is same one
+    → SoFar told carry c d p q a b x y items → is_full told q.given ≡ false → ready d ≡ true → IsItem d item → used ≡ carry → first ≡ unwrap_or d.first 0
+    → ConvertsOne (Err why) used first item q r b o y z → Halts why told carry c p r a o x z
+halts told carry used c d p q r a b o x y z items item first halt.Write s room now is same first_is one = halts_write told carry used c d p q r a b o x y z items item first s room now is same first_is one
+halts told carry used c d p q r a b o x y z items item first (halt.PacketSize number) s room now is same first_is one = halts_size told carry used c d p q r a b o x y z items item first number s room now is same one
 
 -- ---- where it is done
 

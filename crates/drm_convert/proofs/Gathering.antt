@@ -1,11 +1,11 @@
 -- The fragments of a packet, one behind another.
-use Rattle.std.proofs.Common.{◌≡◌, ℕ, zero, suc, ◌+◌, ◌*◌, ◌-◌, ◌<◌, ◌≤◌, Bool, true, false, List, [], ◌∷◌, ◌++◌, length, take, drop, min, get_or, Option, None, Some, sym, subst, ap, ◌∙◌, refl, inl, inr, arith, length-append}
+use Rattle.std.proofs.Common.{◌≡◌, ℕ, zero, suc, ◌+◌, ◌*◌, ◌<◌, ◌≤◌, List, [], ◌∷◌, ◌++◌, length, take, drop, Option, None, Some, sym, subst, ap, ◌∙◌, refl, inl, inr, arith, length-append}
 use Rattle.std.specs.Prelude.{slice_index_or}
 use Rattle.std.specs.List.{concat}
 use Rattle.std.proofs.Math.Nat.{mul-le-mul_right, mul-add, add-mul}
 use Rattle.std.proofs.Math.Seq.{take-append-add}
 use Rattle.std.proofs.lemmas.Bool.{cases_lt}
-use Rattle.std.proofs.lemmas.List.{append-nil, length-take-le, length-drop, get_or_append_left, get_or_push, take-append-drop, take_all}
+use Rattle.std.proofs.lemmas.List.{append-nil, length-take-le, length-drop, get_or_append_left, get_or_push, take-append-drop}
 use Rattle.std.proofs.lemmas.List.Folds.{concat-append}
 use Rattle.dcp_pft.specs.declared.carry.Carry.{Carry}
 use Rattle.dcp_pft.specs.declared.carry.Carry.TheVariants.{Plain, Pft}
@@ -15,9 +15,8 @@ use Rattle.dcp_pft.specs.Limits.{most_carried, most_fragments, most_fragment}
 use Rattle.dcp_pft.specs.Cutting.{shape_of}
 use Rattle.dcp_pft.specs.Carrying.{fragment_size, Carries}
 use Rattle.dcp_pft.specs.Head.{IsFragmentOf}
-use Rattle.dcp_pft.specs.Laws.{DatagramsHaveTheirSize}
 use Rattle.dcp_pft.proofs.DatagramSizes.{sizes}
-use Rattle.drm_convert.specs.Carried.{AreOf, Carried, most_room}
+use Rattle.drm_convert.specs.Carried.{Carried, most_room}
 
 -- the first i fragments stand at the front
 pub record Gathered (shape : Shape) (seq : ℕ) (packet into : List ℕ) (at i : ℕ) : Type 0 where

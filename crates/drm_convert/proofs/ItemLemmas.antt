@@ -1,17 +1,14 @@
 -- What becomes of an item.
-use Rattle.std.proofs.Common.{◌≡◌, ℕ, ◌+◌, ◌≤◌, Bool, true, false, List, [], ◌∷◌, ◌++◌, Option, None, Some, Result, Ok, Err, length, sym, subst, ap, ◌∙◌, refl, inl, inr, arith}
-use Rattle.std.specs.Prelude.{◌&&◌, MatchOption}
-use Rattle.std.proofs.Math.Nat.{le_trans}
-use Rattle.std.proofs.lemmas.List.{append-nil}
+use Rattle.std.proofs.Common.{◌≡◌, ℕ, ◌+◌, Bool, true, false, List, [], length, sym, subst, ap, ◌∙◌, refl, inl, arith}
+use Rattle.std.specs.Prelude.{◌&&◌}
 use Rattle.drm_links.specs.Told.{Known}
 use Rattle.drm_links.specs.Sink.{Output, Outputs, IsFront}
 use Rattle.drm_links.proofs.ToldLemmas.{Outputs-nothing}
 use Rattle.dcp_pft.specs.declared.carry.Carry.{Carry}
-use Rattle.dcp_af.specs.declared.fault.AfFault.{AfFault}
-use Rattle.dcp_collect.specs.Runs.{Item, Packet, Lost, Damaged}
+use Rattle.dcp_collect.specs.Runs.{Item, Packet}
 use Rattle.drm_convert.specs.declared.naming.Progress.{Progress}
 use Rattle.drm_convert.specs.Carried.{Carried, is_too_long}
-use Rattle.drm_convert.specs.Converting.{Part, Converts, IsAny, sequence_of}
+use Rattle.drm_convert.specs.Converting.{Converts, IsAny, sequence_of}
 use Rattle.drm_convert.specs.Naming.{Names}
 use Rattle.drm_convert.specs.Steps.{Converted, Failing, has_none}
 

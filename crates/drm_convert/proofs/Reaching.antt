@@ -1,6 +1,6 @@
 -- A conversion, packet by packet.
-use Rattle.std.proofs.Common.{◌≡◌, ℕ, ◌+◌, ◌<◌, ◌≤◌, ◌⊎◌, Bool, true, false, List, [], ◌∷◌, ◌++◌, Option, None, Some, length, take, sym, subst, ap, ◌∙◌, refl, inl, inr, arith, append_assoc, length-append}
-use Rattle.std.specs.Prelude.{◌&&◌, All, IfSome, unwrap_or, Result, Ok, Err}
+use Rattle.std.proofs.Common.{◌≡◌, ℕ, ◌≤◌, Bool, true, false, List, [], ◌∷◌, ◌++◌, Option, None, Some, length, sym, subst, ap, ◌∙◌, refl, inl, inr, arith, append_assoc, length-append}
+use Rattle.std.specs.Prelude.{All, IfSome, Result, Ok, Err}
 use Rattle.std.proofs.lemmas.Bool.{cases_lt}
 use Rattle.std.proofs.lemmas.Bool.Decides.{nat_tests}
 use Rattle.std.proofs.lemmas.List.{append-nil, take-append-le, take_all, take_at}
@@ -17,81 +17,31 @@ use Rattle.drm_capture.specs.declared.packets.CaptureStop.{CaptureStop}
 use Rattle.drm_capture.specs.declared.packets.CaptureStop.TheVariants as stops
 use Rattle.dcp_pft.specs.declared.carry.Carry.{Carry}
 use Rattle.dcp_collect.specs.declared.taken.Taken.{Taken}
-use Rattle.dcp_collect.specs.Fragments.{Fragment}
-use Rattle.dcp_collect.specs.Reading.{Incoming, Read, Unread, Brings}
-use Rattle.dcp_collect.specs.State.{State, made, ready, after_item, after_finish, after_take, answer, number_of}
-use Rattle.dcp_collect.specs.Runs.{Item, IsItem, Takes, Gives, Steps, Run, up_to}
-use Rattle.dcp_collect.proofs.Decoded.{one_decoding, decoded_or_none}
-use Rattle.collect_laws.specs.Laws.{IsFit, OneRun, GivingEnds}
-use Rattle.collect_laws.proofs.OneReading.{one_reading as one_datagram}
-use Rattle.collect_laws.proofs.Unique.{one_run}
+use Rattle.dcp_collect.specs.State.{State, made, ready, after_item, after_finish}
+use Rattle.dcp_collect.specs.Runs.{Item, Takes, Gives, Steps, up_to}
+use Rattle.dcp_collect.proofs.Decoded.{decoded_or_none}
+use Rattle.collect_laws.specs.Laws.{IsFit, GivingEnds}
 use Rattle.collect_laws.proofs.Ending.{giving_ends}
 use Rattle.collect_laws.proofs.Runs.{steps_more}
-use Rattle.collect_laws.proofs.Stays.{after_by, take_next, take_end, first_stays}
 use Rattle.collect_laws.proofs.Fit.{fit_given}
 use Rattle.drm_convert.specs.declared.item.Halt.{Halt}
 use Rattle.drm_convert.specs.declared.item.Halt.TheVariants as halt
 use Rattle.drm_convert.specs.declared.naming.Progress.{Progress}
-use Rattle.drm_convert.specs.Converting.{Part, ConvertsAll, text_of, lines_of}
+use Rattle.drm_convert.specs.Converting.{text_of, lines_of}
 use Rattle.drm_convert.specs.Naming.{Names}
-use Rattle.drm_convert.specs.Draining.{Given, MayBeFirst, ConvertedAll, Drained, Halts, KnowsFirst, KeepsPace, is_full, are_clean}
-use Rattle.drm_convert.specs.Run.{Terms, first_of, HasEnough, NoneShorter, AreRead, AreEnough, IsConversion, IsBroken, ComesTo, ComesAt, Ends, EndsEarly}
+use Rattle.drm_convert.specs.Draining.{Given, MayBeFirst, ConvertedAll, Drained, Halts, KnowsFirst, KeepsPace, is_full}
+use Rattle.drm_convert.specs.Run.{Terms, first_of, HasEnough, NoneShorter, AreReadBy, ComesTo, Ends, EndsEarly}
 use Rattle.drm_convert.specs.Reading.{new_progress, fault_of}
 use Rattle.drm_convert.specs.declared.reading.Unconverted.TheVariants as unconverted
 use Rattle.drm_faults.specs.Captures.{stop_fault}
+use Rattle.drm_convert.proofs.Taken.{may_taken, first_itself}
+use Rattle.drm_convert.proofs.Ways.{given_first, gives_first, one_way, longer_full}
 use Rattle.drm_convert.proofs.DrainingLemmas.{all_none, all_then, all_same, all_join, text_join, lines_join, front_then}
-
-one_way : OneRun
-one_way = one_run one_datagram one_decoding
 
 giving : GivingEnds
 giving = giving_ends decoded_or_none
 
--- ---- the first number
-
-may_by : (c : State) (incoming : Incoming) (n : ℕ) (o : Option ℕ) → c.first ≡ o → (first : ℕ) → MayBeFirst (after_take c (Brings incoming)) first → MayBeFirst c first
-may_by c incoming n None is first may = subst (λ (v : Option ℕ). IfSome v (λ m. m ≡ first)) (sym is) tt
-may_by c incoming n (Some f) is first may =
-    let same : (after_take c (Brings incoming)).first ≡ Some f = first_stays c (number_of c incoming) incoming (answer c (Brings incoming)) f is in
-    let now : f ≡ first = subst (λ (v : Option ℕ). IfSome v (λ m. m ≡ first)) same may in
-    subst (λ (v : Option ℕ). IfSome v (λ m. m ≡ first)) (sym is) now
-
-may_read : (c : State) (read : Read) (first : ℕ) → MayBeFirst (after_take c read) first → MayBeFirst c first
-may_read c (Unread field) first may = may
-may_read c (Brings incoming) first may = may_by c incoming 0 c.first refl first may
-
-pub may_taken : (c k : State) (bytes : List ℕ) (a : Taken) (first : ℕ) → Takes c bytes a k → MayBeFirst k first → MayBeFirst c first
-may_taken c k bytes a first takes may = may_read c takes.read first (subst (λ (s : State). MayBeFirst s first) takes.after_is may)
-
-knows_read : (c : State) (read : Read) → KnowsFirst c → KnowsFirst (after_take c read)
-knows_read c (Unread field) knows = knows
-knows_read c (Brings incoming) knows =
-    after_by KnowsFirst c (number_of c incoming) incoming (answer c (Brings incoming)) knows
-    (λ m e. absurd (let clash : Some (unwrap_or c.first incoming.sequence) ≡ None = e in cc))
-
-pub knows_taken : (c k : State) (bytes : List ℕ) (a : Taken) → Takes c bytes a k → KnowsFirst c → KnowsFirst k
-knows_taken c k bytes a takes knows = subst KnowsFirst (sym takes.after_is) (knows_read c takes.read knows)
-
-pub next_taken : (c k : State) (bytes : List ℕ) (a : Taken) → Takes c bytes a k → k.next ≡ c.next
-next_taken c k bytes a takes = ap (λ (s : State). s.next) takes.after_is ∙ take_next c takes.read
-
-pub end_taken : (c k : State) (bytes : List ℕ) (a : Taken) → Takes c bytes a k → k.end ≡ c.end
-end_taken c k bytes a takes = ap (λ (s : State). s.end) takes.after_is ∙ take_end c takes.read
-
-pub pace_taken : (told : Option ℕ) (c k : State) (p : Progress) (bytes : List ℕ) (a : Taken) → Takes c bytes a k → KeepsPace told c p → KeepsPace told k p
-pace_taken told c k p bytes a takes pace = record { given = pace.given ∙ sym (next_taken c k bytes a takes); below = pace.below }
-
--- what is known of the first number of a state is what it may be
-self_by : (o : Option ℕ) → IfSome o (λ n. n ≡ unwrap_or o 0)
-self_by None = tt
-self_by (Some n) = refl
-
-pub first_itself : (c : State) → MayBeFirst c (first_of c)
-first_itself c = self_by c.first
-
-pub given_first : (items : List Item) (c d : State) → Given c items d → d.first ≡ c.first
-given_first [] c d gives = ap (λ (s : State). s.first) gives
-given_first (item ∷ items) c d gives = given_first items (after_item c) d gives.2
+-- ---- what is given
 
 given_all : (items : List Item) (c d : State) → Given c items d → ready d ≡ false → Gives c items d
 given_all [] c d gives none = (ap ready (sym gives) ∙ none, gives)
@@ -114,10 +64,6 @@ up_to_full None items more below full = absurd (let clash : false ≡ true = ful
 up_to_full (Some n) items more below full =
     let many : length items ≡ n = grind (arith, nat_tests) in
     take_at items more n many
-
-longer_full : (told : Option ℕ) (m n : ℕ) → m ≤ n → is_full told m ≡ true → is_full told n ≡ true
-longer_full None m n most full = full
-longer_full (Some t) m n most full = grind (arith, nat_tests)
 
 -- ---- a reading that has come so far
 
@@ -244,10 +190,6 @@ behind told carry c state d items p q a b o x y z may first drained pace fit =
           }
     ]
 
-gives_first : (items : List Item) (c d : State) → Gives c items d → d.first ≡ c.first
-gives_first [] c d gives = ap (λ (s : State). s.first) gives.1
-gives_first (item ∷ items) c d gives = gives_first items (after_item c) d gives.2
-
 pub on_packet : (terms : Terms) (carry : Carry) (packets : List (List ℕ)) (bytes : List ℕ) (c k d : State) (answer : Taken) (p q : Progress) (a b o x y z : Known Output)
     → Reaches terms carry packets c p a b x y → Takes c bytes answer k → Drained terms.told carry k d p q b o y z → KeepsPace terms.told d q → IsFit d
     → OnPacket terms carry (packets ++ bytes ∷ []) d q a o x z
@@ -354,36 +296,44 @@ may_last state last items gives = subst (λ (o : Option ℕ). IfSome o (λ n. n 
 
 pub halted : (terms : Terms) (carry : Carry) (packets before' later : List (List ℕ)) (c state : State) (p q : Progress) (a b o x y z : Known Output) (why : Halt) (before after : Known Input)
     → packets ≡ before' ++ later → Reaches terms carry before' c p a b x y → ComesTo terms later c state → ((first : ℕ) → MayBeFirst state first → MayBeFirst c first)
-    → Halts why carry state p q b o y z → AreRead packets before after → NoneShorter terms packets
+    → Halts why terms.told carry state p q b o y z → AreReadBy later packets before after → NoneShorter terms packets
     → Ends terms carry (Err (fault_of (unconverted.Halted why))) q.told before after a o x z
-halted terms carry packets before' later c state p q a b o x y z halt.Write before after are r comes may (items, last, item, gives, now, is, (m, part, fails)) read shorter =
+halted terms carry packets before' later c state p q a b o x y z halt.Write before after are r comes may (items, last, item, gives, now, is, (room, m, part, fails)) read shorter =
     let all : ConvertedAll carry state (r.items ++ items) new_progress q a m x z = all_then carry c state r.items items new_progress p q a b m x y z may r.all part in
+    let count : q.given ≡ length (r.items ++ items) = count_of carry state (r.items ++ items) q a m x z all in
     let may_be = may_last state last items gives in
     let fail = fails (first_of last) may_be in
     let text : text_of (all.parts ++ fail.part ∷ []) ≡ text_of all.parts ++ fail.part.out = text_join all.parts (fail.part ∷ []) ∙ ap (λ l. text_of all.parts ++ l) (append-nil fail.part.out) in
     let lines : lines_of (all.parts ++ fail.part ∷ []) ≡ lines_of all.parts = lines_join all.parts (fail.part ∷ []) ∙ (ap (λ l. lines_of all.parts ++ l) (append-nil fail.part.line ∙ fail.none) ∙ append-nil (lines_of all.parts)) in (
-      packets,
-      read,
-      shorter,
       r.items ++ items,
       item,
       last,
-      record { before = before'; later = later; are = are; taken = r.taken; during = r.items; mid = c; steps = r.steps; state = state; comes = comes; more = items; gives = gives; items_are = refl; is_ready = now; is_next = is },
+      record {
+        packets = packets;
+        at = record { before = before'; later = later; are = are; taken = r.taken; during = r.items; mid = c; steps = r.steps; state = state; comes = comes; more = items; gives = gives; items_are = refl; is_ready = now; is_next = is };
+        read = read;
+        shorter = shorter;
+        within = ap (λ n. is_full terms.told n) (sym count) ∙ room;
+      },
       all.parts ++ fail.part ∷ [],
       all_join carry (first_of last) (r.items ++ items) (item ∷ []) all.parts (fail.part ∷ []) (all.converts (first_of last) may_be) (fail.converts, tt),
       subst (λ (l : List ℕ). Outputs a o (IsFront l)) (sym text) (front_then (text_of all.parts) fail.part.out a m o all.text fail.text),
       subst (λ (l : List ℕ). Names true q.told x z l) (sym lines) all.names,
     )
-halted terms carry packets before' later c state p q a b o x y z (halt.PacketSize number) before after are r comes may (items, last, item, gives, now, is, (part, large)) read shorter =
+halted terms carry packets before' later c state p q a b o x y z (halt.PacketSize number) before after are r comes may (items, last, item, gives, now, is, (room, part, large)) read shorter =
     let all : ConvertedAll carry state (r.items ++ items) new_progress q a o x z = all_then carry c state r.items items new_progress p q a b o x y z may r.all part in
+    let count : q.given ≡ length (r.items ++ items) = count_of carry state (r.items ++ items) q a o x z all in
     let may_be = may_last state last items gives in (
-      packets,
-      read,
-      shorter,
       r.items ++ items,
       item,
       last,
-      record { before = before'; later = later; are = are; taken = r.taken; during = r.items; mid = c; steps = r.steps; state = state; comes = comes; more = items; gives = gives; items_are = refl; is_ready = now; is_next = is },
+      record {
+        packets = packets;
+        at = record { before = before'; later = later; are = are; taken = r.taken; during = r.items; mid = c; steps = r.steps; state = state; comes = comes; more = items; gives = gives; items_are = refl; is_ready = now; is_next = is };
+        read = read;
+        shorter = shorter;
+        within = ap (λ n. is_full terms.told n) (sym count) ∙ room;
+      },
       large,
       all.parts,
       all.converts (first_of last) may_be,
@@ -413,11 +363,8 @@ at_begin terms carry c p a x is new window some =
 pub drained_under : (told : Option ℕ) (carry used : Carry) (c d : State) (p q : Progress) (a b x y : Known Output) → used ≡ carry → Drained told used c d p q a b x y → Drained told carry c d p q a b x y
 drained_under told carry used c d p q a b x y same drained = subst (λ (k : Carry). Drained told k c d p q a b x y) same drained
 
-pub halts_under : (why : Halt) (carry used : Carry) (c : State) (p q : Progress) (a b x y : Known Output) → used ≡ carry → Halts why used c p q a b x y → Halts why carry c p q a b x y
-halts_under why carry used c p q a b x y same h = subst (λ (k : Carry). Halts why k c p q a b x y) same h
+pub halts_under : (why : Halt) (told : Option ℕ) (carry used : Carry) (c : State) (p q : Progress) (a b x y : Known Output) → used ≡ carry → Halts why told used c p q a b x y → Halts why told carry c p q a b x y
+halts_under why told carry used c p q a b x y same h = subst (λ (k : Carry). Halts why told k c p q a b x y) same h
 
 pub drained_finished : (told : Option ℕ) (carry : Carry) (c e d : State) (p q : Progress) (a b x y : Known Output) → e ≡ after_finish c told → Drained told carry e d p q a b x y → Drained told carry (after_finish c told) d p q a b x y
 drained_finished told carry c e d p q a b x y is drained = subst (λ (s : State). Drained told carry s d p q a b x y) is drained
-
-pub halts_finished : (why : Halt) (told : Option ℕ) (carry : Carry) (c e : State) (p q : Progress) (a b x y : Known Output) → e ≡ after_finish c told → Halts why carry e p q a b x y → Halts why carry (after_finish c told) p q a b x y
-halts_finished why told carry c e p q a b x y is h = subst (λ (s : State). Halts why carry s p q a b x y) is h

@@ -1,15 +1,15 @@
 -- What a conversion does with all that is ready.
-use Rattle.std.specs.Prelude.{ℕ, ◌≡◌, ◌+◌, ◌≤◌, ◌⊎◌, Bool, true, false, nat_le, List, [], ◌∷◌, ◌++◌, length, Option, None, Some, IfSome, Result, Ok, Err, ◌&&◌}
+use Rattle.std.specs.Prelude.{ℕ, ◌≡◌, ◌+◌, ◌≤◌, ◌⊎◌, Bool, true, false, nat_le, List, [], ◌∷◌, length, Option, None, Some, IfSome, ◌&&◌}
 use Rattle.std.specs.List.{list_all}
 use Rattle.dcp_pft.specs.declared.carry.Carry.{Carry}
 use Rattle.dcp_collect.specs.State.{State, ready, after_item}
 use Rattle.dcp_collect.specs.Runs.{Item, IsItem}
 use Rattle.drm_links.specs.Told.{Known}
-use Rattle.drm_links.specs.Sink.{Output, Outputs, IsFront}
+use Rattle.drm_links.specs.Sink.{Output, Outputs}
 use Rattle.drm_convert.specs.declared.item.Halt.{Halt}
 use Rattle.drm_convert.specs.declared.item.Halt.TheVariants as halt
 use Rattle.drm_convert.specs.declared.naming.Progress.{Progress}
-use Rattle.drm_convert.specs.Converting.{Part, ConvertsAll, Converts, IsTooLarge, text_of, lines_of}
+use Rattle.drm_convert.specs.Converting.{Part, ConvertsAll, IsTooLarge, text_of, lines_of}
 use Rattle.drm_convert.specs.Naming.{Names}
 use Rattle.drm_convert.specs.Steps.{has_none, Failing}
 
@@ -55,12 +55,13 @@ pub record Drained (told : Option ℕ) (carry : Carry) (c d : State) (p p' : Pro
 abbrev pub StopsAt : State → (List Item → Item → Type 0) → Type 0
 StopsAt c P = (items : List Item) × (mid : State) × (item : Item) × Given c items mid × (ready mid ≡ true) × IsItem mid item × P items item
 
-abbrev pub Halts : Halt → Carry → State → Progress → Progress → Known Output → Known Output → Known Output → Known Output → Type 0
-Halts halt.Write carry c p p' out out' err err' =
-    StopsAt c (λ items item. (mid : Known Output) × ConvertedAll carry c items p p' out mid err err'
+-- The item isn't past the told number.
+abbrev pub Halts : Halt → Option ℕ → Carry → State → Progress → Progress → Known Output → Known Output → Known Output → Known Output → Type 0
+Halts halt.Write told carry c p p' out out' err err' =
+    StopsAt c (λ items item. (is_full told p'.given ≡ false) × (mid : Known Output) × ConvertedAll carry c items p p' out mid err err'
     × ((first : ℕ) → MayBeFirst c first → Failing carry first item mid out'))
-Halts (halt.PacketSize number) carry c p p' out out' err err' =
-    StopsAt c (λ items item. ConvertedAll carry c items p p' out out' err err' × IsTooLarge carry item number)
+Halts (halt.PacketSize number) told carry c p p' out out' err err' =
+    StopsAt c (λ items item. (is_full told p'.given ≡ false) × ConvertedAll carry c items p p' out out' err err' × IsTooLarge carry item number)
 
 -- the count of items is that of the collector, and none was given past the told number
 pub record KeepsPace (told : Option ℕ) (c : State) (p : Progress) : Type 0 where

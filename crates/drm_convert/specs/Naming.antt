@@ -1,5 +1,5 @@
 -- Lines that are written to a sink whose failure changes nothing.
-use Rattle.std.specs.Prelude.{ℕ, ◌≡◌, ◌≤◌, Bool, true, false, List, [], ◌++◌}
+use Rattle.std.specs.Prelude.{ℕ, ◌≡◌, ◌≤◌, Bool, true, false, List}
 use Rattle.drm_links.specs.Told.{Known, HasFailed}
 use Rattle.drm_links.specs.Sink.{Output, Outputs, IsFront}
 

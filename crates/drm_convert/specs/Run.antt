@@ -1,18 +1,22 @@
 -- The conversion of a capture.
-use Rattle.std.specs.Prelude.{ℕ, ◌≡◌, ◌<◌, ◌⊎◌, All, Bool, true, false, List, [], ◌∷◌, ◌++◌, length, take, Option, Result, Ok, Err, unwrap_or}
+use Rattle.std.specs.Prelude.{ℕ, ◌≡◌, ◌<◌, ◌⊎◌, ◌↔◌, All, Bool, true, false, List, [], ◌∷◌, ◌++◌, length, take, Option, Result, Ok, Err, unwrap_or}
+use Rattle.std.specs.List.{AllByRecursion}
 use Rattle.dcp_pft.specs.declared.carry.Carry.{Carry}
 use Rattle.dcp_collect.specs.declared.taken.Taken.{Taken}
 use Rattle.dcp_collect.specs.State.{State, made, ready, after_finish}
 use Rattle.dcp_collect.specs.Runs.{Item, IsItem, Takes, Steps, Run}
-use Rattle.drm_links.specs.Told.{Known, HasCause}
+use Rattle.drm_links.specs.Told.{Known, HasFailed, HasCause}
 use Rattle.drm_links.specs.Source.{Input, Inputs}
 use Rattle.drm_links.specs.Sink.{Output, Outputs, IsFront}
 use Rattle.drm_capture.specs.Front.{IsWhole}
-use Rattle.drm_capture.specs.Capture.{IsCaptureOf, End}
+use Rattle.drm_capture.specs.Capture as capture
+use Rattle.drm_capture.specs.Capture.{IsCaptureOf, Ending, End}
 use Rattle.drm_capture.specs.Walking.{WalkerState}
 use Rattle.drm_capture.specs.Reading.{HasRead, Stops}
 use Rattle.drm_capture.specs.declared.packets.CaptureStop.{CaptureStop}
 use Rattle.drm_capture.specs.declared.packets.CaptureStop.TheVariants as stops
+use Rattle.drm_faults.specs.Captures as captures
+use Rattle.drm_faults.specs.Fault.{UnlessMemory}
 use Rattle.drm_faults.specs.declared.fault.Fault.{Fault}
 use Rattle.drm_faults.specs.declared.fault.Fault.TheVariants as faults
 use Rattle.drm_convert.specs.Converting.{Part, ConvertsAll, IsTooLarge, text_of, lines_of}
@@ -40,11 +44,6 @@ HasEnough terms packets =
 -- fewer packets aren't enough
 abbrev pub NoneShorter : Terms → List (List ℕ) → Type 0
 NoneShorter terms packets = (k : ℕ) → k < length packets → HasEnough terms (take k packets) → ⊥
-
--- The packets are the first ones of the input, or all of it.
-abbrev pub AreRead : List (List ℕ) → Known Input → Known Input → Type 0
-AreRead packets before after =
-    ((reader : WalkerState) × HasRead packets reader before after) ⊎ Inputs before after (λ left rest. IsCaptureOf left packets End)
 
 -- Enough of them are read, or all.
 abbrev pub AreEnough : Terms → List (List ℕ) → Known Input → Known Input → Type 0
@@ -91,6 +90,19 @@ pub record ComesAt (terms : Terms) (packets : List (List ℕ)) (items : List Ite
   pub is_ready : ready last ≡ true
   pub is_next : IsItem last item
 
+-- Of the input these packets are read: where the collector took the later ones of them last, first ones; where it was finished, all.
+abbrev pub AreReadBy : List (List ℕ) → List (List ℕ) → Known Input → Known Input → Type 0
+AreReadBy [] packets before after = Inputs before after (λ left rest. IsCaptureOf left packets End)
+AreReadBy later packets before after = (reader : WalkerState) × HasRead packets reader before after
+
+-- Packets that are read give these items first, and then this one, which isn't past the told number; fewer of them aren't enough.
+pub record ReadsTo (terms : Terms) (items : List Item) (item : Item) (last : State) (before after : Known Input) : Type 0 where
+  pub packets : List (List ℕ)
+  pub at : ComesAt terms packets items item last
+  pub read : AreReadBy at.later packets before after
+  pub shorter : NoneShorter terms packets
+  pub within : is_full terms.told (length items) ≡ false
+
 -- ---- a run
 
 -- No more can be read for this reason: what the packets read so far become is written and named.
@@ -100,21 +112,23 @@ EndsEarly terms carry stop told before after out out' err err' =
     × (parts : List Part) × IsBroken terms carry packets parts
     × Outputs out out' (λ text. text ≡ text_of parts) × Names true told err err' (lines_of parts)
 
--- What is written and named: all that the packets become; after a failed write a front of it; where no more can be read, what
--- the packets read so far become; at a packet that is too long, what stands before it; where memory is wanting, nothing.
-abbrev pub Ends : Terms → Carry → Result Bool Fault → Bool → Known Input → Known Input → Known Output → Known Output → Known Output → Known Output → Type 0
-Ends terms carry (Ok clean) told before after out out' err err' =
+-- All that the packets become is written and named.
+abbrev pub WritesAll : Terms → Carry → Bool → Bool → Known Input → Known Input → Known Output → Known Output → Known Output → Known Output → Type 0
+WritesAll terms carry clean told before after out out' err err' =
     (packets : List (List ℕ)) × AreEnough terms packets before after × NoneShorter terms packets
     × (parts : List Part) × IsConversion terms carry packets parts
     × Outputs out out' (λ text. text ≡ text_of parts) × Names true told err err' (lines_of parts) × (clean ≡ are_clean parts)
+
+-- What is written and named: all that the packets become; after a failed write a front of it; where no more can be read, what
+-- the packets read so far become; at a packet that is too long, what stands before it; where memory is wanting, nothing.
+abbrev pub Ends : Terms → Carry → Result Bool Fault → Bool → Known Input → Known Input → Known Output → Known Output → Known Output → Known Output → Type 0
+Ends terms carry (Ok clean) told before after out out' err err' = WritesAll terms carry clean told before after out out' err err'
 Ends terms carry (Err faults.Write) told before after out out' err err' =
-    (packets : List (List ℕ)) × AreRead packets before after × NoneShorter terms packets
-    × (items : List Item) × (item : Item) × (last : State) × ComesAt terms packets items item last
+    (items : List Item) × (item : Item) × (last : State) × ReadsTo terms items item last before after
     × (parts : List Part) × ConvertsAll carry (first_of last) (items ++ item ∷ []) parts
     × Outputs out out' (IsFront (text_of parts)) × Names true told err err' (lines_of parts)
 Ends terms carry (Err (faults.PacketSize number)) told before after out out' err err' =
-    (packets : List (List ℕ)) × AreRead packets before after × NoneShorter terms packets
-    × (items : List Item) × (item : Item) × (last : State) × ComesAt terms packets items item last × IsTooLarge carry item number
+    (items : List Item) × (item : Item) × (last : State) × ReadsTo terms items item last before after × IsTooLarge carry item number
     × (parts : List Part) × ConvertsAll carry (first_of last) items parts
     × Outputs out out' (λ text. text ≡ text_of parts) × Names true told err err' (lines_of parts)
 Ends terms carry (Err faults.Read) told before after out out' err err' = EndsEarly terms carry stops.Read told before after out out' err err'
@@ -123,14 +137,79 @@ Ends terms carry (Err faults.CaptureTooLong) told before after out out' err err'
 Ends terms carry (Err faults.NoMemory) told before after out out' err err' = (after ≡ before) × (out' ≡ out) × (err' ≡ err)
 Ends terms carry (Err fault) told before after out out' err err' = ⊥
 
+-- ---- when it ends early
+
+-- These are first packets of the capture that the bytes are; where none was taken last, and the collector is finished, all.
+abbrev pub AreFirstOf : List (List ℕ) → List ℕ → List (List ℕ) → Type 0
+AreFirstOf [] bytes packets = IsCaptureOf bytes packets End
+AreFirstOf later bytes packets = (rest : List (List ℕ)) × (why : Ending) × IsCaptureOf bytes (packets ++ rest) why
+
+-- The packets of the capture that these bytes are give these items first, and then this one, which isn't past the told number.
+pub record LeadsTo (terms : Terms) (bytes : List ℕ) (items : List Item) (item : Item) (last : State) : Type 0 where
+  pub packets : List (List ℕ)
+  pub at : ComesAt terms packets items item last
+  pub are : AreFirstOf at.later bytes packets
+  pub shorter : NoneShorter terms packets
+  pub within : is_full terms.told (length items) ≡ false
+
+-- none of them is too large for the carry
+abbrev pub AreSmall : Carry → List Item → Type 0
+AreSmall carry items = AllByRecursion (λ item. (number : ℕ) → IsTooLarge carry item number → ⊥) items
+
+-- The first packet that is given of the capture that these bytes are and is too large for the carry has this number.
+abbrev pub Meets : Terms → Carry → List ℕ → ℕ → Type 0
+Meets terms carry bytes number =
+    (items : List Item) × (item : Item) × (last : State) × LeadsTo terms bytes items item last × AreSmall carry items × IsTooLarge carry item number
+
+-- The bytes end so behind their packets, by a fault, and neither all of these packets nor fewer of them are enough.
+pub record BreaksOffBy (terms : Terms) (bytes : List ℕ) (why : Ending) : Type 0 where
+  pub packets : List (List ℕ)
+  pub is : IsCaptureOf bytes packets why
+  pub faulty : why ≡ End → ⊥
+  pub lacks : HasEnough terms packets → ⊥
+  pub shorter : NoneShorter terms packets
+
+-- the run ends by what is wrong behind the packets
+abbrev pub EndsByIt : Result Bool Fault → Ending → Type 0
+EndsByIt ending End = ⊥
+EndsByIt ending (capture.Fault fault) = ending ≡ Err (faults.Capture fault)
+EndsByIt ending capture.TooLong = ending ≡ Err faults.CaptureTooLong
+
+-- By a fault of the capture exactly where the reading breaks off by it, and no packet before is too large; by the size of a packet
+-- exactly where the first one that is too large has that number.
+abbrev pub EndsExactly : Terms → Carry → List ℕ → Result Bool Fault → Type 0
+EndsExactly terms carry bytes ending =
+    ((why : Ending) → EndsByIt ending why ↔ (BreaksOffBy terms bytes why × ((number : ℕ) → Meets terms carry bytes number → ⊥)))
+    × ((number : ℕ) → (ending ≡ Err (faults.PacketSize number)) ↔ Meets terms carry bytes number)
+
+-- A conversion ends early as any run that reads a capture does, or by the size of a packet.
+abbrev pub CanEnd : Fault → Type 0
+CanEnd (faults.PacketSize number) = Unit {0}
+CanEnd fault = captures.EndsEarly fault
+
+-- The run is done, and all is written and named.
+abbrev pub IsDone : Terms → Carry → Result Bool Fault → Bool → Known Input → Known Input → Known Output → Known Output → Known Output → Known Output → Type 0
+IsDone terms carry ending told before after out out' err err' =
+    (clean : Bool) × (ending ≡ Ok clean) × WritesAll terms carry clean told before after out out' err err'
+
 -- A run of `convert`.
 pub record ConvertRun {I O E : Type 0} (terms : Terms) (carry : Carry) (ending : Result Bool Fault) (told : Bool)
     (input_known : I → Known Input) (input input' : I)
     (out_known : O → Known Output) (out out' : O)
     (err_known : E → Known Output) (err err' : E) : Type 0 where
+  -- It ends well, or for want of memory, by a fault of the capture, by a packet's size, by a failed read or by a failed write.
+  pub kind : (fault : Fault) → ending ≡ Err fault → CanEnd fault
   pub ends : Ends terms carry ending told (input_known input) (input_known input') (out_known out) (out_known out') (err_known err) (err_known err')
   -- After want of memory nothing was read, written or named.
   pub untouched : ending ≡ Err faults.NoMemory → (input' ≡ input) × (out' ≡ out) × (err' ≡ err)
+  -- It ends by a fault of the capture, or by a packet's size, exactly where the input has it, unless a read or a write failed before.
+  pub exactly : (ending ≡ Err faults.Read → ⊥) → (ending ≡ Err faults.Write → ⊥)
+      → Inputs (input_known input) (input_known input') (λ left _. UnlessMemory ending (EndsExactly terms carry left ending))
+  -- Where no read and no write failed, the reading doesn't break off and no packet is too large, all is written and named.
+  pub complete : (HasFailed (input_known input) (input_known input') → ⊥) → (HasFailed (out_known out) (out_known out') → ⊥)
+      → Inputs (input_known input) (input_known input') (λ left _.
+      ((why : Ending) → BreaksOffBy terms left why → ⊥) → ((number : ℕ) → Meets terms carry left number → ⊥)
+      → UnlessMemory ending (IsDone terms carry ending told (input_known input) (input_known input') (out_known out) (out_known out') (err_known err) (err_known err')))
   -- The counts of faults never fall. A read or a write failed only where that of input or of out rose.
   pub read_cause : HasCause (input_known input) (input_known input') (ending ≡ Err faults.Read)
   pub write_cause : HasCause (out_known out) (out_known out') (ending ≡ Err faults.Write)

@@ -1,5 +1,5 @@
 -- What a conversion does with an item.
-use Rattle.std.specs.Prelude.{ℕ, ◌≡◌, ◌+◌, Bool, true, false, List, [], Result, Ok, Err, not, ◌&&◌}
+use Rattle.std.specs.Prelude.{ℕ, ◌≡◌, ◌+◌, Bool, true, false, List, [], Result, Ok, Err, ◌&&◌}
 use Rattle.dcp_pft.specs.declared.carry.Carry.{Carry}
 use Rattle.dcp_collect.specs.Runs.{Item, Packet}
 use Rattle.drm_links.specs.Told.{Known}

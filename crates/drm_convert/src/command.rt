@@ -9,9 +9,10 @@ use crate::Cutter;
 use crate::item::Halt;
 use crate::naming::Progress;
 use crate::reading::{Unconverted, convert_packets};
+use capture_laws::packets_in_front;
 use dcp_collect::Collector;
 use dcp_pft::Carry;
-use drm_capture::Packets;
+use drm_capture::{Packets, read_one_way, read_some_way};
 use drm_faults::Fault;
 use drm_links::{Sink, Source};
 use std::alloc::Global;
@@ -36,6 +37,9 @@ pub fn convert<I: Source, O: Sink, E: Sink>(
     ensures run { ConvertRun (record { window = window; first = first; told = frames }) carry result told.new
         I.known input.old input.new O.known out.old out.new E.known err.old err.new }
 {
+    read_one_way();
+    read_some_way();
+    packets_in_front();
     let mut collector = Collector::make(alloc, window, first)?;
     let mut cutter = Cutter::make(alloc, carry)?;
     let mut packets = Packets::make(alloc)?;

@@ -25,7 +25,7 @@ pub(crate) fn drain<O: Sink, E: Sink>(
     requires pace { KeepsPace told collector.old progress.old }
     ensures drained { OnOk result (Drained told cutter.old collector.old collector.new progress.old progress.new
         (O.known out.old) (O.known out.new) (E.known err.old) (E.known err.new)) }
-    ensures halted { IfErr result (λ halt. Halts halt cutter.old collector.old progress.old progress.new
+    ensures halted { IfErr result (λ halt. Halts halt told cutter.old collector.old progress.old progress.new
         (O.known out.old) (O.known out.new) (E.known err.old) (E.known err.new)) }
     ensures first { OnOk result (KnowsFirst collector.new) }
     ensures same { OnOk result (collector.new.first ≡ collector.old.first) }

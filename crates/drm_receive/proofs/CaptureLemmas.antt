@@ -29,7 +29,7 @@ use Rattle.drm_faults.specs.declared.fault.Fault.TheVariants as faults
 use Rattle.drm_faults.specs.Captures.{EndsEarly}
 use Rattle.drm_receive.specs.Capture.{WritesCapture}
 use Rattle.drm_receive.specs.Stopping.{ending_captured}
-use Rattle.drm_receive.proofs.CaptureFronts.{packets_front}
+use Rattle.capture_laws.proofs.CaptureFronts.{packets_front}
 use Rattle.drm_receive.proofs.ReceiveLemmas.{inner, no_fault}
 
 -- ---- what was heard stood ahead

@@ -3,6 +3,5 @@ pub mod BreakingOff
 pub mod ReceiveLemmas
 pub mod ReceiveStatus
 pub mod LiveLemmas
-pub mod CaptureFronts
 pub mod CaptureLemmas
 pub mod CaptureStatus

@@ -1,66 +1,82 @@
 //! Blocks of known bytes, read. The check values were divided out bit by bit by a program in Python.
 
 use drm_sdc::{BlockInfo, SdcFault, check_block, read_block};
-use std::test::Fail;
+use std::alloc::Global;
 
-#[test]
-fn reads_blocks_of_both_forms(rt: HostRuntime) -> Result<(), Fail> {
-    let first = [
-        0x50, 0xa1, 0x05, 0x26, 0x16, 0x46, 0x96, 0xf0, 0x00, 0x01, 0x37, 0x30,
-    ];
-    let second = [
-        0x05, 0x0a, 0x10, 0x52, 0x61, 0x64, 0x69, 0x6f, 0x00, 0x00, 0x13, 0x73,
-    ];
-    for (value, bits) in [(first.as_slice(), 92u32), (second.as_slice(), 96)] {
-        assert!(rt; bits < 1000);
-        assert!(rt; value.len() == (bits as usize + 7) / 8);
-        assert_eq!(rt;
-            check_block(value, bits),
-            Ok(BlockInfo { afs: 5, room: 9 }),
-            "{bits} bits"
-        );
-        let block = read_block(rt.alloc(), value, bits).ok().ok_or("a block")?;
-        assert_eq!(rt; (block.afs, block.entities.len()), (5, 1));
-        assert_eq!(rt; block.tail.as_slice(), [0, 0].as_slice());
+// One block in both forms.
+const FIRST: [u8; 12] = [
+    0x50, 0xa1, 0x05, 0x26, 0x16, 0x46, 0x96, 0xf0, 0x00, 0x01, 0x37, 0x30,
+];
+
+const SECOND: [u8; 12] = [
+    0x05, 0x0a, 0x10, 0x52, 0x61, 0x64, 0x69, 0x6f, 0x00, 0x00, 0x13, 0x73,
+];
+
+// The bits are a block of index 5, whose field has so many bytes, with so many entities and this tail.
+pub(crate) fn is_block(
+    alloc: Global,
+    value: &[u8],
+    bits: u32,
+    room: u16,
+    count: usize,
+    tail: &[u8],
+) -> bool {
+    if bits > 8208 || value.len() != (bits as usize + 7) / 8 {
+        return false;
     }
-    Ok(())
+    if check_block(value, bits) != Ok(BlockInfo { afs: 5, room }) {
+        return false;
+    }
+    match read_block(alloc, value, bits) {
+        Ok(block) => {
+            block.afs == 5 && block.entities.len() == count && block.tail.as_slice() == tail
+        }
+        Err(_) => false,
+    }
+}
+
+// The bits are no block, for this reason.
+pub(crate) fn is_no_block(alloc: Global, value: &[u8], bits: u32, fault: SdcFault) -> bool {
+    if bits > 8216 || value.len() != (bits as usize + 7) / 8 {
+        return false;
+    }
+    check_block(value, bits) == Err(fault) && read_block(alloc, value, bits).err() == Some(fault)
 }
 
 #[test]
+fn reads_blocks_of_both_forms(rt: HostRuntime) {
+    assert!(rt; is_block(rt.alloc(), &FIRST, 92, 9, 1, &[0, 0]));
+    assert!(rt; is_block(rt.alloc(), &SECOND, 96, 9, 1, &[0, 0]));
+}
+
+#[test]
+fn tells_of_a_block_without_entities(rt: HostRuntime) {
+    let told = check_block(&[0x00, 0x1e, 0x0f], 24);
+    assert!(rt; told == Ok(BlockInfo { afs: 0, room: 0 }));
+}
+
+const NO_BLOCKS: [(&[u8], u32, SdcFault); 5] = [
+    (&[0x00, 0x1e], 16, SdcFault::BlockLength { bits: 16 }),
+    (&[0x00, 0x1e, 0x0f], 23, SdcFault::BlockLength { bits: 23 }),
+    (&[0x10, 0x1e, 0x0f], 24, SdcFault::Front { bits: 1 }),
+    (
+        &[0x00, 0x1e, 0x0e],
+        24,
+        SdcFault::Crc {
+            stands: 0x1e0e,
+            computed: 0x1e0f,
+        },
+    ),
+    (
+        &[0x50, 0xa1, 0x05, 0x26, 0x16, 0x46, 0x9f, 0xff, 0x98, 0xb0],
+        76,
+        SdcFault::LabelText { at: 0 },
+    ),
+];
+
+#[test]
 fn refuses_what_is_no_block(rt: HostRuntime) {
-    assert_eq!(rt;
-        check_block(&[0x00, 0x1e, 0x0f], 24),
-        Ok(BlockInfo { afs: 0, room: 0 })
-    );
-    let cases = [
-        (
-            [0x00, 0x1e].as_slice(),
-            16u32,
-            SdcFault::BlockLength { bits: 16 },
-        ),
-        (&[0x00, 0x1e, 0x0f], 23, SdcFault::BlockLength { bits: 23 }),
-        (&[0x10, 0x1e, 0x0f], 24, SdcFault::Front { bits: 1 }),
-        (
-            &[0x00, 0x1e, 0x0e],
-            24,
-            SdcFault::Crc {
-                stands: 0x1e0e,
-                computed: 0x1e0f,
-            },
-        ),
-        (
-            &[0x50, 0xa1, 0x05, 0x26, 0x16, 0x46, 0x9f, 0xff, 0x98, 0xb0],
-            76,
-            SdcFault::LabelText { at: 0 },
-        ),
-    ];
-    for (value, bits, fault) in cases {
-        assert!(rt; bits < 1000);
-        assert!(rt; value.len() == (bits as usize + 7) / 8);
-        assert_eq!(rt; check_block(value, bits), Err(fault), "{value:?}");
-        match read_block(rt.alloc(), value, bits) {
-            Ok(_) => assert!(rt; false, "{value:?}"),
-            Err(found) => assert_eq!(rt; found, fault, "{value:?}"),
-        }
+    for (k, row) in NO_BLOCKS.iter().enumerate() {
+        assert!(rt; is_no_block(rt.alloc(), row.0, row.1, row.2), "row {k}");
     }
 }

@@ -25,165 +25,206 @@ fn described(rt: &impl Abort, value: &[u8]) -> MuxDesc
     read_sdci(value, 8 * value.len() as u32).expect(rt, "a description")
 }
 
+const NONE: Part = Part { a: 0, b: 0 };
+
+const DESCRIPTIONS: [(&[u8], MuxDesc); 4] = [
+    (
+        &TWO_STREAMS,
+        MuxDesc {
+            prot_a: 0,
+            prot_b: 1,
+            count: 2,
+            parts: [Part { a: 2, b: 1 }, Part { a: 1, b: 2 }, NONE, NONE],
+        },
+    ),
+    (
+        &FOUR_STREAMS,
+        MuxDesc {
+            prot_a: 2,
+            prot_b: 3,
+            count: 4,
+            parts: [
+                Part { a: 1, b: 0 },
+                Part { a: 0, b: 2 },
+                Part { a: 3, b: 1 },
+                Part { a: 2, b: 2 },
+            ],
+        },
+    ),
+    (
+        &[0x0d, 0x12, 0x34, 0x56, 0xff, 0xf0, 0x01],
+        MuxDesc {
+            prot_a: 3,
+            prot_b: 1,
+            count: 2,
+            parts: [
+                Part { a: 0x123, b: 0x456 },
+                Part { a: 0xfff, b: 0x001 },
+                NONE,
+                NONE,
+            ],
+        },
+    ),
+    (
+        &[0x04],
+        MuxDesc {
+            prot_a: 1,
+            prot_b: 0,
+            count: 0,
+            parts: [NONE; 4],
+        },
+    ),
+];
+
+fn is_read_as(value: &[u8], desc: MuxDesc) -> bool {
+    value.len() < 20 && read_sdci(value, 8 * value.len() as u32) == Ok(desc)
+}
+
+// What is read is written as it stood, and what stands behind it stays.
+fn is_written_again(rt: &impl Abort, value: &[u8]) -> bool {
+    if value.len() >= 20 {
+        return false;
+    }
+    let mut into = [0xaa; 13];
+    let len = write_sdci(&described(rt, value), &mut into);
+    len <= 13 && &into[..len] == value && &into[len..] == &[0xaa; 13][len..]
+}
+
 #[test]
 fn reads_descriptions(rt: HostRuntime) {
-    let none = Part { a: 0, b: 0 };
-    let two = MuxDesc {
-        prot_a: 0,
-        prot_b: 1,
-        count: 2,
-        parts: [Part { a: 2, b: 1 }, Part { a: 1, b: 2 }, none, none],
-    };
-    let four = MuxDesc {
-        prot_a: 2,
-        prot_b: 3,
-        count: 4,
-        parts: [
-            Part { a: 1, b: 0 },
-            Part { a: 0, b: 2 },
-            Part { a: 3, b: 1 },
-            Part { a: 2, b: 2 },
-        ],
-    };
-    let wide = MuxDesc {
-        prot_a: 3,
-        prot_b: 1,
-        count: 2,
-        parts: [
-            Part { a: 0x123, b: 0x456 },
-            Part { a: 0xfff, b: 0x001 },
-            none,
-            none,
-        ],
-    };
-    let no_stream = MuxDesc {
-        prot_a: 1,
-        prot_b: 0,
-        count: 0,
-        parts: [none; 4],
-    };
-    let cases = [
-        (TWO_STREAMS.as_slice(), two),
-        (&FOUR_STREAMS, four),
-        (&[0x0d, 0x12, 0x34, 0x56, 0xff, 0xf0, 0x01], wide),
-        (&[0x04], no_stream),
-    ];
-    for (value, desc) in cases {
-        assert!(rt; value.len() < 20);
-        assert_eq!(rt; described(&rt, value), desc, "{value:?}");
+    for (k, row) in DESCRIPTIONS.iter().enumerate() {
+        assert!(rt; is_read_as(row.0, row.1), "row {k}");
     }
 }
 
 #[test]
 fn writes_descriptions(rt: HostRuntime) {
-    let values = [
-        TWO_STREAMS.as_slice(),
-        &FOUR_STREAMS,
-        &[0x0d, 0x12, 0x34, 0x56, 0xff, 0xf0, 0x01],
-        &[0x04],
-    ];
-    for value in values {
-        assert!(rt; value.len() < 20);
-        let mut into = [0xaa; 13];
-        let len = write_sdci(&described(&rt, value), &mut into);
-        assert!(rt; len <= 13);
-        assert_eq!(rt; &into[..len], value);
-        assert!(rt; into[len..].iter().all(|byte| *byte == 0xaa), "{value:?}");
+    for (k, row) in DESCRIPTIONS.iter().enumerate() {
+        assert!(rt; is_written_again(&rt, row.0), "row {k}");
     }
+}
+
+const NO_DESCRIPTIONS: [(&[u8], u32, MuxFault); 5] = [
+    (&[0, 0], 16, MuxFault::SdciLength { bits: 16 }),
+    (&[], 0, MuxFault::SdciLength { bits: 0 }),
+    (&[0; 4], 31, MuxFault::SdciLength { bits: 31 }),
+    (&[0; 16], 128, MuxFault::SdciLength { bits: 128 }),
+    (&[0x11], 8, MuxFault::SdciFront),
+];
+
+fn is_refused(value: &[u8], bits: u32, fault: MuxFault) -> bool {
+    bits < 1000 && value.len() == (bits as usize + 7) / 8 && read_sdci(value, bits) == Err(fault)
 }
 
 #[test]
 fn refuses_values(rt: HostRuntime) {
-    assert_eq!(rt;
-        read_sdci(&[0, 0], 16),
-        Err(MuxFault::SdciLength { bits: 16 })
-    );
-    assert_eq!(rt; read_sdci(&[], 0), Err(MuxFault::SdciLength { bits: 0 }));
-    assert_eq!(rt;
-        read_sdci(&[0; 4], 31),
-        Err(MuxFault::SdciLength { bits: 31 })
-    );
-    assert_eq!(rt;
-        read_sdci(&[0; 16], 128),
-        Err(MuxFault::SdciLength { bits: 128 })
-    );
-    assert_eq!(rt; read_sdci(&[0x11], 8), Err(MuxFault::SdciFront));
+    for (k, row) in NO_DESCRIPTIONS.iter().enumerate() {
+        assert!(rt; is_refused(row.0, row.1, row.2), "row {k}");
+    }
 }
 
+const SIDE_BY_SIDE: [u8; 6] = [0x01, 0x02, 0x03, 0x11, 0x12, 0x13];
+
+const ASSEMBLED: [u8; 8] = [0x01, 0x02, 0x11, 0x03, 0x12, 0x13, 0xaa, 0xaa];
+
 #[test]
-fn assembles_and_splits(rt: HostRuntime) {
+fn assembles(rt: HostRuntime) {
     let desc = described(&rt, &TWO_STREAMS);
-    let streams = [0x01, 0x02, 0x03, 0x11, 0x12, 0x13];
     let spans = Spans {
         at: [0, 3, 0, 0],
         len: [3, 3, 0, 0],
     };
-    let len = frame_len(&desc);
-    assert_eq!(rt; len, 6);
+    assert!(rt; frame_len(&desc) == 6);
     let mut frame = [0xaa; 8];
-    assert_eq!(rt; assemble(&desc, &streams, &spans, &mut frame), Ok(6));
-    assert_eq!(rt; frame, [0x01, 0x02, 0x11, 0x03, 0x12, 0x13, 0xaa, 0xaa]);
+    assert!(rt; assemble(&desc, &SIDE_BY_SIDE, &spans, &mut frame) == Ok(6));
+    assert!(rt; frame == ASSEMBLED);
+}
+
+#[test]
+fn splits(rt: HostRuntime) {
+    let desc = described(&rt, &TWO_STREAMS);
     let mut into = [0; 6];
-    let side_by_side = Spans {
+    let spans = Spans {
         at: [0, 3, 6, 6],
         len: [3, 3, 0, 0],
     };
-    assert_eq!(rt; split(&desc, &frame[..6], &mut into), Ok(side_by_side));
-    assert_eq!(rt; into, streams);
+    assert!(rt; split(&desc, &ASSEMBLED[..6], &mut into) == Ok(spans));
+    assert!(rt; into == SIDE_BY_SIDE);
+}
+
+const BUFFER: [u8; 11] = [
+    0x30, 0x31, 0x32, 0x33, 0x20, 0x21, 0x40, 0x41, 0x42, 0x43, 0x10,
+];
+
+const IN_BUFFER: Spans = Spans {
+    at: [10, 4, 0, 6],
+    len: [1, 2, 4, 4],
+};
+
+const OF_BUFFER: [u8; 11] = [
+    0x10, 0x30, 0x31, 0x32, 0x40, 0x41, 0x20, 0x21, 0x33, 0x42, 0x43,
+];
+
+#[test]
+fn assembles_each_byte(rt: HostRuntime) {
+    let desc = described(&rt, &FOUR_STREAMS);
+    let mut frame = [0; 11];
+    assert!(rt; frame_len(&desc) == 11);
+    assert!(rt; assemble(&desc, &BUFFER, &IN_BUFFER, &mut frame) == Ok(11));
+    assert!(rt; frame == OF_BUFFER);
 }
 
 #[test]
 fn locates_each_byte(rt: HostRuntime) {
     let desc = described(&rt, &FOUR_STREAMS);
-    let buffer = [
-        0x30, 0x31, 0x32, 0x33, 0x20, 0x21, 0x40, 0x41, 0x42, 0x43, 0x10,
-    ];
-    let spans = Spans {
-        at: [10, 4, 0, 6],
-        len: [1, 2, 4, 4],
-    };
-    let mut frame = [0; 11];
-    let len = frame_len(&desc);
-    assert_eq!(rt; len, 11);
-    assert_eq!(rt; assemble(&desc, &buffer, &spans, &mut frame), Ok(11));
-    let expected = [
-        0x10, 0x30, 0x31, 0x32, 0x40, 0x41, 0x20, 0x21, 0x33, 0x42, 0x43,
-    ];
-    assert_eq!(rt; frame, expected);
-    assert!(rt; check_streams(&desc, &spans).is_ok());
+    assert!(rt; frame_len(&desc) == 11);
+    assert!(rt; check_streams(&desc, &IN_BUFFER).is_ok());
     let places = [10, 0, 1, 2, 6, 7, 4, 5, 3, 8, 9];
     for (k, place) in places.iter().enumerate() {
-        assert_eq!(rt; locate(&desc, &spans, k), *place, "byte {k}");
+        assert!(rt; locate(&desc, &IN_BUFFER, k) == *place, "byte {k}");
     }
+}
+
+// Lengths of the two streams, which are described as 3 and 3; the first wrong one, and how long it is.
+const LENGTHS: [([usize; 4], Option<(u8, usize)>); 5] = [
+    ([3, 3, 0, 0], None),
+    ([3, 3, 9, 9], None),
+    ([2, 4, 0, 0], Some((0, 2))),
+    ([4, 3, 0, 0], Some((0, 4))),
+    ([3, 4, 0, 0], Some((1, 4))),
+];
+
+fn wrong(fault: Option<(u8, usize)>) -> Result<(), MuxFault> {
+    match fault {
+        Some((stream, stands)) => Err(MuxFault::StreamLength {
+            stream,
+            stands,
+            described: 3,
+        }),
+        None => Ok(()),
+    }
+}
+
+fn is_first_wrong(rt: &impl Abort, len: [usize; 4], fault: Option<(u8, usize)>) -> bool {
+    let desc = described(rt, &TWO_STREAMS);
+    let spans = Spans { at: [0; 4], len };
+    check_streams(&desc, &spans) == wrong(fault)
 }
 
 #[test]
 fn names_the_first_wrong_length(rt: HostRuntime) {
-    let desc = described(&rt, &TWO_STREAMS);
-    let cases = [
-        ([3, 3, 0, 0], Ok(())),
-        ([3, 3, 9, 9], Ok(())),
-        ([2, 4, 0, 0], wrong(0, 2)),
-        ([4, 3, 0, 0], wrong(0, 4)),
-        ([3, 4, 0, 0], wrong(1, 4)),
-    ];
-    for (len, answer) in cases {
-        let spans = Spans { at: [0; 4], len };
-        assert_eq!(rt; check_streams(&desc, &spans), answer, "{len:?}");
+    for (k, row) in LENGTHS.iter().enumerate() {
+        assert!(rt; is_first_wrong(&rt, row.0, row.1), "row {k}");
     }
+}
+
+#[test]
+fn splits_no_shorter_frame(rt: HostRuntime) {
+    let desc = described(&rt, &TWO_STREAMS);
     let mut into = [0xaa; 5];
     let answer = Err(MuxFault::FrameLength {
         stands: 5,
         described: 6,
     });
-    assert_eq!(rt; split(&desc, &[0; 5], &mut into), answer);
-    assert_eq!(rt; into, [0xaa; 5]);
-}
-
-fn wrong(stream: u8, stands: usize) -> Result<(), MuxFault> {
-    Err(MuxFault::StreamLength {
-        stream,
-        stands,
-        described: 3,
-    })
+    assert!(rt; split(&desc, &[0; 5], &mut into) == answer && into == [0xaa; 5]);
 }

@@ -4,98 +4,110 @@ use drm_fac::{
     Channel, Fac, FacFault, Service, Slot, counts, decode, encode, pattern, services_code,
 };
 
+// The fields of a channel in their order, and those of a service.
+type OfChannel = (bool, u8, u8, bool, u8, bool, u8, u8, u8);
+
+type OfService = (u32, u8, bool, u8, bool, u8, bool, u8);
+
+const NO_CHANNEL: OfChannel = (false, 0, 0, false, 0, false, 0, 0, 0);
+
+const NO_SERVICE: OfService = (0, 0, false, 0, false, 0, false, 0);
+
 // The bytes were packed, and their check values divided out bit by bit, by a program in Python. All fields 0, all
 // with each bit set, and three of ordinary values.
+const FACS: [([u8; 9], OfChannel, OfService); 5] = [
+    (
+        [0x00, 0x00, 0x00, 0x00, 0x00, 0x00, 0x00, 0x00, 0xe9],
+        NO_CHANNEL,
+        NO_SERVICE,
+    ),
+    (
+        [0xff, 0xff, 0xff, 0xff, 0xff, 0xff, 0xff, 0xff, 0xc1],
+        (true, 3, 15, true, 3, true, 15, 7, 3),
+        (0xffffff, 3, true, 15, true, 31, true, 63),
+    ),
+    (
+        [0x66, 0x08, 0x01, 0x23, 0x45, 0x60, 0xa1, 0x80, 0x6d],
+        (false, 3, 3, false, 0, false, 4, 0, 0),
+        (0x123456, 0, false, 5, false, 3, false, 0),
+    ),
+    (
+        [0xb5, 0xb7, 0x6a, 0xbc, 0xde, 0xfb, 0x3a, 0xea, 0x0e],
+        (true, 1, 10, true, 2, true, 11, 5, 2),
+        (0xabcdef, 2, true, 9, true, 21, true, 42),
+    ),
+    (
+        [0x4b, 0xdc, 0x98, 0x00, 0x00, 0x14, 0xc5, 0x15, 0xaf],
+        (false, 2, 5, true, 3, false, 14, 2, 1),
+        (0x800001, 1, false, 6, false, 10, false, 21),
+    ),
+];
+
+fn is_read(bytes: &[u8; 9], fac: &Fac) -> bool {
+    decode(bytes) == Ok(*fac)
+}
+
+fn is_written(bytes: &[u8; 9], fac: &Fac) -> bool {
+    fac.fits() && encode(fac) == *bytes
+}
+
 #[test]
 fn reads_and_writes_each_field(rt: HostRuntime) {
-    let cases = [
-        (
-            [0x00, 0x00, 0x00, 0x00, 0x00, 0x00, 0x00, 0x00, 0xe9],
-            fac(
-                (false, 0, 0, false, 0, false, 0, 0, 0),
-                (0, 0, false, 0, false, 0, false, 0),
-            ),
-        ),
-        (
-            [0xff, 0xff, 0xff, 0xff, 0xff, 0xff, 0xff, 0xff, 0xc1],
-            fac(
-                (true, 3, 15, true, 3, true, 15, 7, 3),
-                (0xffffff, 3, true, 15, true, 31, true, 63),
-            ),
-        ),
-        (
-            [0x66, 0x08, 0x01, 0x23, 0x45, 0x60, 0xa1, 0x80, 0x6d],
-            fac(
-                (false, 3, 3, false, 0, false, 4, 0, 0),
-                (0x123456, 0, false, 5, false, 3, false, 0),
-            ),
-        ),
-        (
-            [0xb5, 0xb7, 0x6a, 0xbc, 0xde, 0xfb, 0x3a, 0xea, 0x0e],
-            fac(
-                (true, 1, 10, true, 2, true, 11, 5, 2),
-                (0xabcdef, 2, true, 9, true, 21, true, 42),
-            ),
-        ),
-        (
-            [0x4b, 0xdc, 0x98, 0x00, 0x00, 0x14, 0xc5, 0x15, 0xaf],
-            fac(
-                (false, 2, 5, true, 3, false, 14, 2, 1),
-                (0x800001, 1, false, 6, false, 10, false, 21),
-            ),
-        ),
-    ];
-    for (bytes, fac) in cases {
-        assert_eq!(rt; decode(&bytes), Ok(fac), "{bytes:?}");
-        assert!(rt; fac.fits());
-        assert_eq!(rt; encode(&fac), bytes);
+    for (k, row) in FACS.iter().enumerate() {
+        let fac = fac(row.1, row.2);
+        assert!(rt;
+            is_read(&row.0, &fac) && is_written(&row.0, &fac),
+            "row {k}"
+        );
     }
+}
+
+fn is_refused(bytes: &[u8; 9], stands: u8, computed: u8) -> bool {
+    decode(bytes) == Err(FacFault::Crc { stands, computed })
 }
 
 #[test]
 fn names_a_wrong_check_value(rt: HostRuntime) {
-    let right = [0x66, 0x08, 0x01, 0x23, 0x45, 0x60, 0xa1, 0x80, 0x6d];
+    let mut bytes = [0x66, 0x08, 0x01, 0x23, 0x45, 0x60, 0xa1, 0x80, 0x6d];
     for stands in [0x6c, 0x00, 0xff, 0x92] {
-        let mut bytes = right;
         bytes[8] = stands;
-        let fault = FacFault::Crc {
-            stands,
-            computed: 0x6d,
-        };
-        assert_eq!(rt; decode(&bytes), Err(fault));
+        assert!(rt; is_refused(&bytes, stands, 0x6d), "{stands}");
     }
 }
 
 // The first number that is too great for each field that isn't one bit.
+const TOO_GREAT_CHANNELS: [OfChannel; 6] = [
+    (false, 4, 0, false, 0, false, 0, 0, 0),
+    (false, 0, 16, false, 0, false, 0, 0, 0),
+    (false, 0, 0, false, 4, false, 0, 0, 0),
+    (false, 0, 0, false, 0, false, 16, 0, 0),
+    (false, 0, 0, false, 0, false, 0, 8, 0),
+    (false, 0, 0, false, 0, false, 0, 0, 4),
+];
+
+const TOO_GREAT_SERVICES: [OfService; 5] = [
+    (0x100_0000, 0, false, 0, false, 0, false, 0),
+    (0, 4, false, 0, false, 0, false, 0),
+    (0, 0, false, 16, false, 0, false, 0),
+    (0, 0, false, 0, false, 32, false, 0),
+    (0, 0, false, 0, false, 0, false, 64),
+];
+
+fn fits(channel: OfChannel, service: OfService) -> bool {
+    fac(channel, service).fits()
+}
+
 #[test]
 fn fits_up_to_each_width(rt: HostRuntime) {
-    let channels = [
-        (false, 4, 0, false, 0, false, 0, 0, 0),
-        (false, 0, 16, false, 0, false, 0, 0, 0),
-        (false, 0, 0, false, 4, false, 0, 0, 0),
-        (false, 0, 0, false, 0, false, 16, 0, 0),
-        (false, 0, 0, false, 0, false, 0, 8, 0),
-        (false, 0, 0, false, 0, false, 0, 0, 4),
-    ];
-    let services = [
-        (0x100_0000, 0, false, 0, false, 0, false, 0),
-        (0, 4, false, 0, false, 0, false, 0),
-        (0, 0, false, 16, false, 0, false, 0),
-        (0, 0, false, 0, false, 32, false, 0),
-        (0, 0, false, 0, false, 0, false, 64),
-    ];
-    for channel in channels {
-        assert!(rt; !fac(channel, (0, 0, false, 0, false, 0, false, 0)).fits());
+    for (k, channel) in TOO_GREAT_CHANNELS.iter().enumerate() {
+        assert!(rt; !fits(*channel, NO_SERVICE), "channel {k}");
     }
-    for service in services {
-        assert!(rt; !fac((false, 0, 0, false, 0, false, 0, 0, 0), service).fits());
+    for (k, service) in TOO_GREAT_SERVICES.iter().enumerate() {
+        assert!(rt; !fits(NO_CHANNEL, *service), "service {k}");
     }
 }
 
-fn fac(
-    channel: (bool, u8, u8, bool, u8, bool, u8, u8, u8),
-    service: (u32, u8, bool, u8, bool, u8, bool, u8),
-) -> Fac {
+fn fac(channel: OfChannel, service: OfService) -> Fac {
     let (enhancement, identity, occupancy, short_depth, msc, qam4, services, index, last) = channel;
     let channel = Channel {
         enhancement,
@@ -123,51 +135,58 @@ fn fac(
 }
 
 // Read off the two bits of each count by hand.
+const COUNTS: [Option<(u8, u8)>; 16] = [
+    Some((4, 0)),
+    Some((0, 1)),
+    Some((0, 2)),
+    Some((0, 3)),
+    Some((1, 0)),
+    Some((1, 1)),
+    Some((1, 2)),
+    Some((1, 3)),
+    Some((2, 0)),
+    Some((2, 1)),
+    Some((2, 2)),
+    None,
+    Some((3, 0)),
+    Some((3, 1)),
+    None,
+    Some((0, 4)),
+];
+
+fn has_counts(code: usize, expected: Option<(u8, u8)>) -> bool {
+    code < 16 && counts(code as u8) == expected
+}
+
 #[test]
 fn counts_services(rt: HostRuntime) {
-    let table = [
-        Some((4, 0)),
-        Some((0, 1)),
-        Some((0, 2)),
-        Some((0, 3)),
-        Some((1, 0)),
-        Some((1, 1)),
-        Some((1, 2)),
-        Some((1, 3)),
-        Some((2, 0)),
-        Some((2, 1)),
-        Some((2, 2)),
-        None,
-        Some((3, 0)),
-        Some((3, 1)),
-        None,
-        Some((0, 4)),
-    ];
-    for code in 0..16u8 {
-        assert_eq!(rt; counts(code), table[code as usize], "code {code}");
+    for (code, expected) in COUNTS.iter().enumerate() {
+        assert!(rt; has_counts(code, *expected), "code {code}");
     }
+}
+
+// How many audio and data services, and their code.
+const CODES: [((u8, u8), Option<u8>); 10] = [
+    ((4, 0), Some(0)),
+    ((0, 4), Some(15)),
+    ((2, 1), Some(9)),
+    ((1, 3), Some(7)),
+    ((3, 1), Some(13)),
+    ((0, 0), None),
+    ((0, 5), None),
+    ((2, 3), None),
+    ((4, 1), None),
+    ((255, 255), None),
+];
+
+fn has_code(audio: u8, data_count: u8, code: Option<u8>) -> bool {
+    services_code(audio, data_count) == code
 }
 
 #[test]
 fn codes_services(rt: HostRuntime) {
-    let cases = [
-        ((4, 0), Some(0)),
-        ((0, 4), Some(15)),
-        ((2, 1), Some(9)),
-        ((1, 3), Some(7)),
-        ((3, 1), Some(13)),
-        ((0, 0), None),
-        ((0, 5), None),
-        ((2, 3), None),
-        ((4, 1), None),
-        ((255, 255), None),
-    ];
-    for ((audio, data_count), code) in cases {
-        assert_eq!(rt;
-            services_code(audio, data_count),
-            code,
-            "{audio}+{data_count}"
-        );
+    for (k, row) in CODES.iter().enumerate() {
+        assert!(rt; has_code(row.0.0, row.0.1, row.1), "row {k}");
     }
 }
 
@@ -182,26 +201,32 @@ const D: Slot = Slot::Data(0);
 const E: Slot = Slot::Data(1);
 
 // Each order written out by hand, and what comes after it.
+const ORDERS: [(u8, u8, &[Slot]); 8] = [
+    (1, 0, &[A, A]),
+    (3, 0, &[A, B, C, A, B]),
+    (0, 2, &[D, E, D]),
+    (1, 1, &[A, A, A, A, D, A]),
+    (1, 2, &[A, A, A, A, D, A, A, A, A, E, A]),
+    (2, 1, &[A, B, A, B, D, A, B]),
+    (2, 2, &[A, B, A, B, D, A, B, A, B, E, A, B]),
+    (3, 1, &[A, B, C, A, B, C, D, A]),
+];
+
+fn take_turns(audio: u8, data_count: u8, order: &[Slot]) -> bool {
+    if services_code(audio, data_count).is_none() {
+        return false;
+    }
+    for (phase, slot) in order.iter().enumerate() {
+        if pattern(audio, data_count, phase as u64) != *slot {
+            return false;
+        }
+    }
+    true
+}
+
 #[test]
 fn services_take_turns(rt: HostRuntime) {
-    let cases = [
-        (1, 0, [A, A].as_slice()),
-        (3, 0, &[A, B, C, A, B]),
-        (0, 2, &[D, E, D]),
-        (1, 1, &[A, A, A, A, D, A]),
-        (1, 2, &[A, A, A, A, D, A, A, A, A, E, A]),
-        (2, 1, &[A, B, A, B, D, A, B]),
-        (2, 2, &[A, B, A, B, D, A, B, A, B, E, A, B]),
-        (3, 1, &[A, B, C, A, B, C, D, A]),
-    ];
-    for (audio, data_count, order) in cases {
-        assert!(rt; services_code(audio, data_count).is_some());
-        for (phase, slot) in order.iter().enumerate() {
-            assert_eq!(rt;
-                pattern(audio, data_count, phase as u64),
-                *slot,
-                "{order:?} {phase}"
-            );
-        }
+    for (k, row) in ORDERS.iter().enumerate() {
+        assert!(rt; take_turns(row.0, row.1, row.2), "row {k}");
     }
 }

@@ -9,7 +9,6 @@ use drm_fac::{Channel, Fac, FacFault, Mode, Service};
 use drm_mux::{MuxDesc, MuxFault, Part, Spans};
 use drm_sdc::{BlockInfo, SdcFault};
 use mdi_items::{MdiFault, MdiView, MdiWriter, SdcSpan, read_mdi};
-use std::process::Abort;
 
 // The second frame of a super frame: *ptr, dlfc, fac_, sdci, robm and str0.
 const FRAME: [u8; 78] = [
@@ -105,12 +104,20 @@ fn second_frame(payload: &[u8], mode: Mode) -> MdiView<'_> {
     }
 }
 
+fn is_read_as(payload: &[u8], view: MdiView<'_>) -> bool {
+    read_mdi(payload) == Ok(view)
+}
+
+fn has_fault(payload: &[u8], fault: MdiFault) -> bool {
+    read_mdi(payload).err() == Some(fault)
+}
+
 #[test]
 fn reads_a_frame(rt: HostRuntime) {
-    assert_eq!(rt; read_mdi(&FRAME), Ok(second_frame(&FRAME, Mode::B)));
+    assert!(rt; is_read_as(&FRAME, second_frame(&FRAME, Mode::B)));
     let mut frame = FRAME;
     frame[65] = 2;
-    assert_eq!(rt; read_mdi(&frame), Ok(second_frame(&frame, Mode::C)));
+    assert!(rt; is_read_as(&frame, second_frame(&frame, Mode::C)));
 }
 
 #[test]
@@ -134,83 +141,105 @@ fn reads_any_order(rt: HostRuntime) {
         },
         payload: &ANOTHER,
     };
-    assert_eq!(rt; read_mdi(&ANOTHER), Ok(expected));
+    assert!(rt; is_read_as(&ANOTHER, expected));
 }
 
-#[derive(Drop)]
-struct Case {
-    // Bytes of the frame, and what they become.
-    edits: [(usize, u8); 2],
-    fault: MdiFault,
-}
-
-fn expect_fault(rt: &impl Abort, frame: &mut [u8], case: &Case) {
-    for (at, byte) in case.edits {
-        if at < frame.len() {
-            frame[at] = byte;
-        }
-    }
-    assert_eq!(rt; read_mdi(frame), Err(case.fault), "{:?}", case.edits);
-}
-
-const fn one_byte(at: usize, byte: u8, fault: MdiFault) -> Case {
-    Case {
-        edits: [(at, byte), (at, byte)],
-        fault,
+fn put(frame: &mut [u8], at: usize, byte: u8) {
+    if at < frame.len() {
+        frame[at] = byte;
     }
 }
 
-const fn absent(name: [u8; 4]) -> MdiFault {
-    MdiFault::Absent { name }
+// A byte of the frame, what it becomes, and the fault that it has then.
+type Edit = (usize, u8, MdiFault);
+
+fn comes_to(frame: &mut [u8], edit: &Edit) -> bool {
+    put(frame, edit.0, edit.1);
+    has_fault(frame, edit.2)
 }
 
-const fn length(name: [u8; 4], bits: u32) -> MdiFault {
-    MdiFault::ItemLength { name, bits }
-}
+const WRONG_CRC: FacFault = FacFault::Crc {
+    stands: 0x32,
+    computed: 0x33,
+};
+
+const WRONG_ITEMS: [Edit; 14] = [
+    (0, b'+', MdiFault::Absent { name: *b"*ptr" }),
+    (
+        7,
+        0x3f,
+        MdiFault::ItemLength {
+            name: *b"*ptr",
+            bits: 63,
+        },
+    ),
+    (8, b'd', MdiFault::Protocol),
+    (16, b'D', MdiFault::Absent { name: *b"dlfc" }),
+    (
+        23,
+        0x1f,
+        MdiFault::ItemLength {
+            name: *b"dlfc",
+            bits: 31,
+        },
+    ),
+    (28, b'F', MdiFault::Absent { name: *b"fac_" }),
+    (
+        35,
+        0x47,
+        MdiFault::ItemLength {
+            name: *b"fac_",
+            bits: 71,
+        },
+    ),
+    (44, 0x32, MdiFault::Fac(WRONG_CRC)),
+    (45, b'S', MdiFault::Absent { name: *b"sdci" }),
+    (52, 0x1f, MdiFault::Mux(MuxFault::SdciLength { bits: 31 })),
+    (53, 0x11, MdiFault::Mux(MuxFault::SdciFront)),
+    (57, b'R', MdiFault::Absent { name: *b"robm" }),
+    (
+        64,
+        7,
+        MdiFault::ItemLength {
+            name: *b"robm",
+            bits: 7,
+        },
+    ),
+    (65, 4, MdiFault::Mode { value: 4 }),
+];
+
+const LONGER: MuxFault = MuxFault::StreamLength {
+    stream: 0,
+    stands: 4,
+    described: 5,
+};
+
+const WRONG_STREAMS: [Edit; 3] = [
+    (66, b'S', MdiFault::Absent { name: *b"str0" }),
+    (
+        73,
+        0x1f,
+        MdiFault::ItemLength {
+            name: *b"str0",
+            bits: 31,
+        },
+    ),
+    (56, 5, MdiFault::Mux(LONGER)),
+];
 
 #[test]
 fn names_what_is_wrong_with_an_item(rt: HostRuntime) {
-    let crc = FacFault::Crc {
-        stands: 0x32,
-        computed: 0x33,
-    };
-    let cases = [
-        one_byte(0, b'+', absent(*b"*ptr")),
-        one_byte(7, 0x3f, length(*b"*ptr", 63)),
-        one_byte(8, b'd', MdiFault::Protocol),
-        one_byte(16, b'D', absent(*b"dlfc")),
-        one_byte(23, 0x1f, length(*b"dlfc", 31)),
-        one_byte(28, b'F', absent(*b"fac_")),
-        one_byte(35, 0x47, length(*b"fac_", 71)),
-        one_byte(44, 0x32, MdiFault::Fac(crc)),
-        one_byte(45, b'S', absent(*b"sdci")),
-        one_byte(52, 0x1f, MdiFault::Mux(MuxFault::SdciLength { bits: 31 })),
-        one_byte(53, 0x11, MdiFault::Mux(MuxFault::SdciFront)),
-        one_byte(57, b'R', absent(*b"robm")),
-        one_byte(64, 7, length(*b"robm", 7)),
-        one_byte(65, 4, MdiFault::Mode { value: 4 }),
-    ];
-    for case in &cases {
+    for (k, edit) in WRONG_ITEMS.iter().enumerate() {
         let mut frame = FRAME;
-        expect_fault(&rt, &mut frame, case);
+        assert!(rt; comes_to(&mut frame, edit), "row {k}");
     }
 }
 
 #[test]
 fn names_what_is_wrong_with_a_stream(rt: HostRuntime) {
-    let longer = MuxFault::StreamLength {
-        stream: 0,
-        stands: 4,
-        described: 5,
-    };
-    let cases = [
-        one_byte(66, b'S', absent(*b"str0")),
-        one_byte(73, 0x1f, length(*b"str0", 31)),
-        one_byte(56, 5, MdiFault::Mux(longer)),
-    ];
-    for case in &cases {
+    for (k, edit) in WRONG_STREAMS.iter().enumerate() {
         let mut frame = FRAME;
-        expect_fault(&rt, &mut frame, case);
+        assert!(rt; comes_to(&mut frame, edit), "row {k}");
     }
 }
 
@@ -220,19 +249,32 @@ fn reads_a_block_of_no_bits(rt: HostRuntime) {
     let mut more = [0; 86];
     more[..78].copy_from_slice(&FRAME);
     more[78..].copy_from_slice(b"sdc_\0\0\0\0");
-    assert_eq!(rt; read_mdi(&more), Ok(second_frame(&more, Mode::B)));
+    assert!(rt; is_read_as(&more, second_frame(&more, Mode::B)));
     more[36] = 0x66;
     more[44] = 0x6d;
-    assert_eq!(rt; read_mdi(&more), Err(absent(*b"sdc_")));
+    assert!(rt; has_fault(&more, MdiFault::Absent { name: *b"sdc_" }));
 }
 
-// A stream that isn't described must have no bits, and one that is described with no bytes may be absent.
+// A stream that isn't described must have no bits.
 #[test]
-fn reads_streams_by_the_description(rt: HostRuntime) {
+fn reads_no_stream_beside_the_description(rt: HostRuntime) {
     let mut more = [0; 87];
     more[..78].copy_from_slice(&FRAME);
     more[78..].copy_from_slice(b"str1\0\0\0\x08\x55");
-    assert_eq!(rt; read_mdi(&more), Err(length(*b"str1", 8)));
+    assert!(rt;
+        has_fault(
+            &more,
+            MdiFault::ItemLength {
+                name: *b"str1",
+                bits: 8
+            }
+        )
+    );
+}
+
+// A stream that is described with no bytes may be absent.
+#[test]
+fn reads_streams_by_the_description(rt: HostRuntime) {
     let mut two = [0; 81];
     two[..49].copy_from_slice(&FRAME[..49]);
     two[49..60].copy_from_slice(&[0, 0, 0, 0x38, 1, 0, 0, 4, 0, 0, 0]);
@@ -240,53 +282,54 @@ fn reads_streams_by_the_description(rt: HostRuntime) {
     let mut expected = second_frame(&two, Mode::B);
     expected.mux.count = 2;
     expected.streams.at[0] = 77;
-    assert_eq!(rt; read_mdi(&two), Ok(expected));
+    assert!(rt; is_read_as(&two, expected));
 }
 
 #[test]
 fn names_hierarchical_modulation(rt: HostRuntime) {
-    for (msc, second, check) in [(1, 0x48, 0xed), (2, 0x88, 0x92)] {
-        let mut frame = FRAME;
-        let case = Case {
-            edits: [(37, second), (44, check)],
-            fault: MdiFault::Hierarchical { msc },
-        };
-        expect_fault(&rt, &mut frame, &case);
-    }
+    let mut frame = FRAME;
+    frame[37] = 0x48;
+    assert!(rt; comes_to(&mut frame, &(44, 0xed, MdiFault::Hierarchical { msc: 1 })));
+    frame[37] = 0x88;
+    assert!(rt; comes_to(&mut frame, &(44, 0x92, MdiFault::Hierarchical { msc: 2 })));
 }
+
+const WRONG_BLOCK_CRC: SdcFault = SdcFault::Crc {
+    stands: 0x6bf6,
+    computed: 0x6be6,
+};
+
+const WRONG_BLOCKS: [Edit; 3] = [
+    (66, b'S', MdiFault::Absent { name: *b"sdc_" }),
+    (73, 0x5b, MdiFault::Sdc(SdcFault::BlockLength { bits: 91 })),
+    (84, 0xbf, MdiFault::Sdc(WRONG_BLOCK_CRC)),
+];
+
+const BLOCK_OUT_OF_PLACE: MdiFault = MdiFault::ItemLength {
+    name: *b"sdc_",
+    bits: 92,
+};
 
 #[test]
 fn names_what_is_wrong_with_a_block(rt: HostRuntime) {
-    let crc = SdcFault::Crc {
-        stands: 0x6bf6,
-        computed: 0x6be6,
-    };
-    let cases = [
-        one_byte(66, b'S', absent(*b"sdc_")),
-        one_byte(73, 0x5b, MdiFault::Sdc(SdcFault::BlockLength { bits: 91 })),
-        one_byte(84, 0xbf, MdiFault::Sdc(crc)),
-        Case {
-            edits: [(36, 0x26), (44, 0x33)],
-            fault: length(*b"sdc_", 92),
-        },
-    ];
-    for case in &cases {
+    for (k, edit) in WRONG_BLOCKS.iter().enumerate() {
         let mut frame = FIRST;
-        expect_fault(&rt, &mut frame, case);
+        assert!(rt; comes_to(&mut frame, edit), "row {k}");
     }
+    let mut frame = FIRST;
+    frame[36] = 0x26;
+    assert!(rt; comes_to(&mut frame, &(44, 0x33, BLOCK_OUT_OF_PLACE)));
 }
 
 // A cut item and a second one are found where they stand.
 #[test]
 fn names_what_stands_first(rt: HostRuntime) {
-    let cut = MdiFault::Tag(ValueCut { at: 66 });
-    assert_eq!(rt; read_mdi(&FRAME[..77]), Err(cut));
+    assert!(rt; has_fault(&FRAME[..77], MdiFault::Tag(ValueCut { at: 66 })));
     let mut twice = [0; 156];
     twice[..78].copy_from_slice(&FRAME);
     twice[78..].copy_from_slice(&FRAME);
     let second = MdiFault::Twice { name: *b"*ptr" };
-    assert_eq!(rt; read_mdi(&twice), Err(second));
-    assert_eq!(rt; read_mdi(&twice[..155]), Err(second));
+    assert!(rt; has_fault(&twice, second) && has_fault(&twice[..155], second));
 }
 
 #[test]
@@ -295,10 +338,9 @@ fn writes_the_first_frame(rt: HostRuntime) {
     let mut writer = MdiWriter::new(&mut into);
     writer.head(0, &fac(3), &mux(), Mode::B);
     writer.block(&FIRST[74..86], 92);
-    assert_eq!(rt; writer.room(), 12);
+    assert!(rt; writer.room() == 12);
     writer.stream(0, b"UUUU");
-    assert_eq!(rt; writer.end(), 98);
-    assert_eq!(rt; into, FIRST);
+    assert!(rt; writer.end() == 98 && into == FIRST);
 }
 
 #[test]
@@ -307,6 +349,5 @@ fn writes_the_second_frame(rt: HostRuntime) {
     let mut writer = MdiWriter::new(&mut into);
     writer.head(1, &fac(1), &mux(), Mode::B);
     writer.stream(0, b"UUUU");
-    assert_eq!(rt; writer.end(), 78);
-    assert_eq!(rt; into, FRAME);
+    assert!(rt; writer.end() == 78 && into == FRAME);
 }

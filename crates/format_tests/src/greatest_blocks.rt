@@ -1,8 +1,9 @@
 //! Blocks of the greatest size, and one past it. The check value was divided out bit by bit by a program in Python.
 
+use crate::blocks_read::{is_block, is_no_block};
 use crate::blocks_written::written;
-use drm_sdc::{BlockInfo, NoRoom, SdcFault, check_block, read_block, read_entities};
-use std::test::Fail;
+use crate::entities::is_field;
+use drm_sdc::{NoRoom, SdcFault};
 
 // Entities of two bytes, as many as there is room for.
 fn fill(field: &mut [u8], entity: [u8; 2]) {
@@ -33,46 +34,42 @@ fn second_form() -> [u8; 1026] {
 }
 
 #[test]
-fn reads_full_blocks_of_both_forms(rt: HostRuntime) -> Result<(), Fail> {
-    for (value, bits) in [(first_form(), 8204u32), (second_form(), 8208)] {
-        assert!(rt; bits == 8204 || bits == 8208);
-        let told = check_block(&value, bits);
-        assert_eq!(rt; told, Ok(BlockInfo { afs: 5, room: 1023 }), "{bits} bits");
-        let block = read_block(rt.alloc(), &value, bits).ok().ok_or("a block")?;
-        assert_eq!(rt; (block.afs, block.entities.len()), (5, 511));
-        assert_eq!(rt; block.tail.as_slice(), [0].as_slice());
-    }
-    Ok(())
+fn reads_full_blocks_of_both_forms(rt: HostRuntime) {
+    assert!(rt; is_block(rt.alloc(), &first_form(), 8204, 1023, 511, &[0]));
+    assert!(rt; is_block(rt.alloc(), &second_form(), 8208, 1023, 511, &[0]));
+}
+
+// Entities of two bytes each, and one byte more.
+fn full_field() -> [u8; 1023] {
+    let mut field = [7; 1023];
+    fill(&mut field, [0x00, 0x34]);
+    field
 }
 
 #[test]
-fn reads_a_full_field(rt: HostRuntime) -> Result<(), Fail> {
-    let mut field = [7; 1023];
-    fill(&mut field, [0x00, 0x34]);
-    let (entities, tail) = read_entities(rt.alloc(), &field).ok().ok_or("a field")?;
-    assert_eq!(rt; (entities.len(), tail.as_slice()), (511, [7].as_slice()));
-    Ok(())
+fn reads_a_full_field(rt: HostRuntime) {
+    assert!(rt; is_field(rt.alloc(), &full_field(), 511, &[7]));
 }
 
 // The tail that was read isn't written.
 #[test]
 fn writes_a_full_field(rt: HostRuntime) {
-    let mut field = [7; 1023];
-    fill(&mut field, [0x00, 0x34]);
     let mut into = [0xff; 1026];
-    assert_eq!(rt; written(rt, &field, 5, 1023, &mut into), Some(Ok(8204)));
-    assert_eq!(rt; into, first_form());
+    let bits = written(rt.alloc(), &full_field(), 5, 1023, &mut into);
+    assert!(rt; bits == Some(Ok(8204)) && into == first_form());
 }
 
 #[test]
 fn refuses_one_byte_more(rt: HostRuntime) {
+    let value = [0; 1027];
     for bits in [8212, 8216] {
-        let value = [0; 1027];
         let fault = SdcFault::BlockLength { bits };
-        assert!(rt; bits == 8212 || bits == 8216);
-        assert_eq!(rt; check_block(&value, bits), Err(fault));
-        assert_eq!(rt; read_block(rt.alloc(), &value, bits).err(), Some(fault));
+        assert!(rt; is_no_block(rt.alloc(), &value, bits, fault), "{bits} bits");
     }
+}
+
+#[test]
+fn refuses_one_entity_more(rt: HostRuntime) {
     let mut field = [0; 1024];
     fill(&mut field, [0x00, 0x34]);
     let mut into = [0xff; 1026];
@@ -80,6 +77,6 @@ fn refuses_one_byte_more(rt: HostRuntime) {
         needed: 1024,
         room: 1023,
     };
-    assert_eq!(rt; written(rt, &field, 5, 1023, &mut into), Some(Err(refused)));
-    assert_eq!(rt; into, [0xff; 1026]);
+    let answer = written(rt.alloc(), &field, 5, 1023, &mut into);
+    assert!(rt; answer == Some(Err(refused)) && into == [0xff; 1026]);
 }

@@ -1,41 +1,76 @@
 //! Numbers of up to 64 bits, taken from bytes and put into them.
 
+ghost use Rattle.std.specs.Prelude.{◌≡◌};
+ghost use Rattle.drm_bits.specs.Sink.{lender};
+
 use drm_bits::{BitSink, Bits, Short};
 
+// How many bits, their number, and how many are left.
+type Taken = (u32, u64, usize);
+
 // The bits of a5 3c ff are 1 010 01010011 110011111111, cut here by hand.
-#[test]
-fn takes_from_the_front(rt: HostRuntime) {
-    let mut bits = Bits::new(&[0xa5, 0x3c, 0xff], 24);
-    let cases = [
-        (1, 1, 23),
-        (3, 2, 20),
-        (8, 0x53, 12),
-        (0, 0, 12),
-        (12, 0xcff, 0),
-    ];
-    for (n, number, left) in cases {
-        assert_eq!(rt; bits.take(n), Ok(number), "{n} bits");
-        assert_eq!(rt; bits.left(), left, "after {n} bits");
-    }
-    assert_eq!(rt; bits.take(1), Err(Short { left: 0 }));
-    assert_eq!(rt; bits.take(0), Ok(0));
+const CUT: [Taken; 5] = [
+    (1, 1, 23),
+    (3, 2, 20),
+    (8, 0x53, 12),
+    (0, 0, 12),
+    (12, 0xcff, 0),
+];
+
+// The next bits are so.
+fn takes(bits: &mut Bits<'_>, taken: &Taken) -> bool {
+    taken.0 <= 64 && bits.take(taken.0) == Ok(taken.1) && bits.left() == taken.2
+}
+
+// So many bits aren't there.
+fn takes_no(bits: &mut Bits<'_>, n: u32, left: usize) -> bool {
+    n <= 64 && bits.take(n) == Err(Short { left })
 }
 
 #[test]
+fn takes_from_the_front(rt: HostRuntime) {
+    let mut bits = Bits::new(&[0xa5, 0x3c, 0xff], 24);
+    for (k, taken) in CUT.iter().enumerate() {
+        assert!(rt; takes(&mut bits, taken), "row {k}");
+    }
+    assert!(rt; takes_no(&mut bits, 1, 0) && takes(&mut bits, &(0, 0, 0)));
+}
+
+const WORDS: [u8; 9] = [0x01, 0x23, 0x45, 0x67, 0x89, 0xab, 0xcd, 0xef, 0x80];
+
+#[test]
 fn takes_whole_words(rt: HostRuntime) {
-    let bytes = [0x01, 0x23, 0x45, 0x67, 0x89, 0xab, 0xcd, 0xef, 0x80];
-    let mut bits = Bits::new(&bytes, 65);
-    assert_eq!(rt; bits.take(64), Ok(0x0123_4567_89ab_cdef));
-    assert_eq!(rt; bits.take(2), Err(Short { left: 1 }));
-    assert_eq!(rt; bits.take(1), Ok(1));
+    let mut bits = Bits::new(&WORDS, 65);
+    assert!(rt; takes(&mut bits, &(64, 0x0123_4567_89ab_cdef, 1)));
+    assert!(rt; takes_no(&mut bits, 2, 1) && takes(&mut bits, &(1, 1, 0)));
 }
 
 #[test]
 fn ends_inside_a_byte(rt: HostRuntime) {
     let mut bits = Bits::new(&[0xff, 0xff], 11);
-    assert_eq!(rt; bits.take(12), Err(Short { left: 11 }));
-    assert_eq!(rt; bits.take(11), Ok(0x7ff));
-    assert_eq!(rt; bits.left(), 0);
+    assert!(rt; takes_no(&mut bits, 12, 11) && takes(&mut bits, &(11, 0x7ff, 0)));
+}
+
+// How many bits, their number, and how many are written behind it.
+type Put = (u32, u64, usize);
+
+const PUT: [Put; 5] = [
+    (1, 1, 1),
+    (3, 2, 4),
+    (8, 0x53, 12),
+    (0, 0, 12),
+    (12, 0xcff, 24),
+];
+
+// The number is written so.
+fn puts(sink: &mut BitSink<'_>, put: &Put) -> bool
+    ensures { lender sink.new ≡ lender sink.old }
+{
+    let (n, number, len) = *put;
+    if n >= 64 || number >= 1 << n {
+        return false;
+    }
+    sink.put(number, n) == Ok(()) && sink.len() == len
 }
 
 // The digits 1 010 01010011 110011111111 are a5 3c ff, cut here by hand.
@@ -43,20 +78,11 @@ fn ends_inside_a_byte(rt: HostRuntime) {
 fn writes_from_the_front(rt: HostRuntime) {
     let mut bytes = [0; 3];
     let mut sink = BitSink::new(&mut bytes);
-    let cases = [
-        (1, 1, 1),
-        (3, 2, 4),
-        (8, 0x53, 12),
-        (0, 0, 12),
-        (12, 0xcff, 24),
-    ];
-    for (n, number, len) in cases {
-        assert!(rt; number < 1 << n);
-        assert_eq!(rt; sink.put(number, n), Ok(()), "{n} bits");
-        assert_eq!(rt; sink.len(), len, "after {n} bits");
+    for (k, put) in PUT.iter().enumerate() {
+        assert!(rt; puts(&mut sink, put), "row {k}");
     }
-    assert_eq!(rt; sink.put(0, 1), Err(Short { left: 0 }));
-    assert_eq!(rt; bytes, [0xa5, 0x3c, 0xff]);
+    assert!(rt; sink.put(0, 1) == Err(Short { left: 0 }));
+    assert!(rt; bytes == [0xa5, 0x3c, 0xff]);
 }
 
 // 101 over the three upper bits of 0f gives af, and a refused number changes nothing.
@@ -64,20 +90,19 @@ fn writes_from_the_front(rt: HostRuntime) {
 fn keeps_the_bits_behind(rt: HostRuntime) {
     let mut bytes = [0x0f, 0x5a];
     let mut sink = BitSink::new(&mut bytes);
-    assert_eq!(rt; sink.put(5, 3), Ok(()));
-    assert_eq!(rt; sink.put(0, 14), Err(Short { left: 13 }));
-    assert_eq!(rt; sink.len(), 3);
-    assert_eq!(rt; bytes, [0xaf, 0x5a]);
+    assert!(rt; sink.put(5, 3) == Ok(()));
+    assert!(rt; sink.put(0, 14) == Err(Short { left: 13 }) && sink.len() == 3);
+    assert!(rt; bytes == [0xaf, 0x5a]);
 }
 
 #[test]
 fn writes_what_is_taken(rt: HostRuntime) {
     let mut bytes = [0xff; 9];
     let mut sink = BitSink::new(&mut bytes);
-    assert_eq!(rt; sink.put(0, 5), Ok(()));
-    assert_eq!(rt; sink.put(0x0123_4567_89ab_cdef, 64), Ok(()));
+    assert!(rt; sink.put(0, 5) == Ok(()));
+    assert!(rt; sink.put(0x0123_4567_89ab_cdef, 64) == Ok(()));
     let mut bits = Bits::new(&bytes, 72);
-    assert_eq!(rt; bits.take(5), Ok(0));
-    assert_eq!(rt; bits.take(64), Ok(0x0123_4567_89ab_cdef));
-    assert_eq!(rt; bits.take(3), Ok(7));
+    assert!(rt; takes(&mut bits, &(5, 0, 67)));
+    assert!(rt; takes(&mut bits, &(64, 0x0123_4567_89ab_cdef, 3)));
+    assert!(rt; takes(&mut bits, &(3, 7, 0)));
 }

@@ -3,12 +3,7 @@
 use drm_sdc::{AppMode, Body, Channels};
 
 /// An entity: whether its version is set, the type and the numbers of its body in their order, and the body's bytes.
-#[derive(Clone, Copy)]
-pub(crate) struct Said {
-    pub(crate) version: bool,
-    pub(crate) numbers: &'static [u32],
-    pub(crate) bytes: &'static [u8],
-}
+pub(crate) type Said = (bool, &'static [u32], &'static [u8]);
 
 /// The type and the numbers of a body, with zeros behind them.
 pub(crate) fn numbers_of(body: &Body) -> [u32; 12] {
@@ -175,9 +170,8 @@ pub(crate) fn bytes_of(body: &Body) -> &[u8] {
 
 fn padded(numbers: &[u32]) -> [u32; 12] {
     let mut all = [0; 12];
-    for (at, number) in all.iter_mut().zip(numbers) {
-        *at = *number;
-    }
+    let count = numbers.len().min(12);
+    all[..count].copy_from_slice(&numbers[..count]);
     all
 }
 

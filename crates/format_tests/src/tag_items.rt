@@ -49,71 +49,80 @@ const ITEMS: [Item<'static>; 6] = [
     },
 ];
 
+fn next_is(items: &mut Items<'_>, item: Option<Item<'_>>) -> bool {
+    items.next_item() == Ok(item)
+}
+
+fn next_is_cut(items: &mut Items<'_>, at: usize) -> bool {
+    items.next_item() == Err(ValueCut { at })
+}
+
 #[test]
 fn reads_the_items_of_a_frame(rt: HostRuntime) {
     let mut items = Items::new(&FRAME);
-    for item in ITEMS {
-        assert_eq!(rt; items.next_item(), Ok(Some(item)));
+    for (k, item) in ITEMS.iter().enumerate() {
+        assert!(rt; next_is(&mut items, Some(*item)), "item {k}");
     }
-    assert_eq!(rt; items.next_item(), Ok(None));
-    assert_eq!(rt; items.next_item(), Ok(None));
+    assert!(rt; next_is(&mut items, None) && next_is(&mut items, None));
 }
 
 // Without the last byte the last item is cut, again and again.
 #[test]
 fn stays_at_a_cut(rt: HostRuntime) {
     let mut items = Items::new(&FRAME[..77]);
-    for item in &ITEMS[..5] {
-        assert_eq!(rt; items.next_item(), Ok(Some(*item)));
+    for (k, item) in ITEMS[..5].iter().enumerate() {
+        assert!(rt; next_is(&mut items, Some(*item)), "item {k}");
     }
     for _ in 0..3u8 {
-        assert_eq!(rt; items.next_item(), Err(ValueCut { at: 66 }));
+        assert!(rt; next_is_cut(&mut items, 66));
     }
 }
 
 // The first answer, as a reader written in Python gives it: the bits and the bytes of an item, None, or a cut.
-#[test]
-fn answers_at_the_front(rt: HostRuntime) {
-    let cases: [(&[u8], Option<(u32, &[u8])>); 7] = [
-        (b"", None),
-        (b"A", None),
-        (b"ABCD\0\0\0", None),
-        (b"ABCD\0\0\0\0", Some((0, b""))),
-        (b"ABCD\0\0\0\x01\xff\0\0\0\0", Some((1, b"\xff"))),
-        (b"ABCD\0\0\0\x04\xbf\0\0\0\0\0\0\0", Some((4, b"\xbf"))),
-        (
-            b"ABCD\0\0\0\x09\x01\x80XYZZ\0\0\0\0",
-            Some((9, b"\x01\x80")),
-        ),
-    ];
-    for (payload, expected) in cases {
-        let item = match expected {
-            Some((bits, value)) => Some(Item {
-                name: *b"ABCD",
-                bits,
-                value,
-                at: 8,
-            }),
-            None => None,
-        };
-        assert_eq!(rt; Items::new(payload).next_item(), Ok(item), "{payload:?}");
-    }
+const FRONTS: [(&[u8], Option<(u32, &[u8])>); 7] = [
+    (b"", None),
+    (b"A", None),
+    (b"ABCD\0\0\0", None),
+    (b"ABCD\0\0\0\0", Some((0, b""))),
+    (b"ABCD\0\0\0\x01\xff\0\0\0\0", Some((1, b"\xff"))),
+    (b"ABCD\0\0\0\x04\xbf\0\0\0\0\0\0\0", Some((4, b"\xbf"))),
+    (
+        b"ABCD\0\0\0\x09\x01\x80XYZZ\0\0\0\0",
+        Some((9, b"\x01\x80")),
+    ),
+];
+
+fn begins_with(payload: &[u8], expected: Option<(u32, &[u8])>) -> bool {
+    let item = match expected {
+        Some((bits, value)) => Some(Item {
+            name: *b"ABCD",
+            bits,
+            value,
+            at: 8,
+        }),
+        None => None,
+    };
+    next_is(&mut Items::new(payload), item)
 }
 
 #[test]
+fn answers_at_the_front(rt: HostRuntime) {
+    for (k, row) in FRONTS.iter().enumerate() {
+        assert!(rt; begins_with(row.0, row.1), "row {k}");
+    }
+}
+
+const CUT: [&[u8]; 4] = [
+    b"ABCD\0\0\0\x09\xff",
+    b"ABCD\0\0\0\x01",
+    b"ABCD\xff\xff\xff\xff\0\0\0\0\0\0\0\0\0",
+    b"ABCD\xff\xff\xff\xf9\x55\x55\x55\x55",
+];
+
+#[test]
 fn names_a_cut_at_the_front(rt: HostRuntime) {
-    let cut: [&[u8]; 4] = [
-        b"ABCD\0\0\0\x09\xff",
-        b"ABCD\0\0\0\x01",
-        b"ABCD\xff\xff\xff\xff\0\0\0\0\0\0\0\0\0",
-        b"ABCD\xff\xff\xff\xf9\x55\x55\x55\x55",
-    ];
-    for payload in cut {
-        assert_eq!(rt;
-            Items::new(payload).next_item(),
-            Err(ValueCut { at: 0 }),
-            "{payload:?}"
-        );
+    for (k, payload) in CUT.iter().enumerate() {
+        assert!(rt; next_is_cut(&mut Items::new(payload), 0), "row {k}");
     }
 }
 
@@ -122,11 +131,11 @@ fn names_a_cut_at_the_front(rt: HostRuntime) {
 fn writes_one_item_after_another(rt: HostRuntime) {
     let mut into = [0xee; 29];
     let place = write_item(&mut into, 1, *b"fac_", 0, b"");
-    assert_eq!(rt; place, 9);
+    assert!(rt; place == 9);
     let place = write_item(&mut into, 9, *b"sdci", 12, b"\x01\x50");
-    assert_eq!(rt; place, 19);
+    assert!(rt; place == 19);
     let place = write_item(&mut into, 19, *b"bit1", 1, b"\x80");
-    assert_eq!(rt; place, 28);
+    assert!(rt; place == 28);
     let expected = b"\xeefac_\0\0\0\0sdci\0\0\0\x0c\x01\x50bit1\0\0\0\x01\x80\xee";
-    assert_eq!(rt; into, *expected);
+    assert!(rt; into == *expected);
 }

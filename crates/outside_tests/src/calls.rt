@@ -24,7 +24,7 @@ pub(crate) fn bytes_of(alloc: Global, byte: u8, length: usize) -> Result<Vec<u8>
 }
 
 // What a load gave: a file, or why it gave none.
-#[derive(Clone, Copy, Debug, PartialEq, Eq)]
+#[derive(Clone, Copy, PartialEq, Eq)]
 pub(crate) enum Gave<'a> {
     File(&'a [u8]),
     TooLong,

@@ -1,14 +1,11 @@
 //! Docks in memory through their trait. The expected answers follow from the arguments by hand.
 
-ghost use Rattle.std.specs.Prelude.{IsNone};
 ghost use Rattle.drm_links.specs.MemoryLink.{IsUntouched};
-ghost use Rattle.drm_links.specs.MemoryDock.{link_at};
 
 use crate::calls::{bytes_of, recv, was_sent};
 use drm_bits::NoMemory;
-use drm_links::{Address, Came, Dock, Link, MemDock, MemLink, Opened, PutFault, Sent};
+use drm_links::{Address, Came, Dock, Link, MemDock, MemLink, Opened, Sent};
 use std::alloc::Global;
-use std::test::Fail;
 
 const HERE: Address = Address {
     ip: [127, 0, 0, 1],
@@ -41,13 +38,18 @@ fn close<D: Dock>(dock: &mut D, at: Address, link: D::L) {
     dock.close(at, link)
 }
 
-fn put(dock: &mut MemDock, alloc: Global, at: Address, link: MemLink) -> Result<(), NoMemory>
-    requires untouched { IsUntouched link }
-    requires vacant { IsNone (link_at dock.old at) }
+// Puts a link there, where none stands.
+fn puts(dock: &mut MemDock, alloc: Global, at: Address, link: MemLink) -> bool
+    requires { IsUntouched link }
 {
-    match dock.put(alloc, at, link) {
-        Ok(()) => Ok(()),
-        Err(PutFault::NoMemory(_)) => Err(NoMemory),
+    !dock.has(at) && dock.put(alloc, at, link).is_ok()
+}
+
+// The same with a link to which nothing comes, and that takes so many datagrams.
+fn puts_quiet(dock: &mut MemDock, alloc: Global, at: Address, room: usize) -> bool {
+    match MemLink::make(alloc, &[], &[], room) {
+        Ok(link) => puts(dock, alloc, at, link),
+        Err(NoMemory) => false,
     }
 }
 
@@ -55,95 +57,148 @@ fn is_failed<L>(opened: &Opened<L>) -> bool {
     matches!(opened, Opened::Failed)
 }
 
-#[test]
-fn a_dock_gives_a_link_once(rt: HostRuntime) -> Result<(), Fail> {
-    let alloc = rt.alloc();
-    let mut dock = MemDock::make(alloc, &[])?;
-    assert!(rt; !dock.has(HERE));
-    put(&mut dock, alloc, HERE, MemLink::make(alloc, &[], &[], 2)?)?;
-    assert!(rt; dock.has(HERE));
-    assert!(rt; !dock.has(NEXT));
-    assert!(rt; is_failed(&bind(&mut dock, NEXT)));
-    assert!(rt; is_failed(&bind(&mut dock, THERE)));
-    let Opened::Link(mut link) = bind(&mut dock, HERE) else {
-        panic!(rt; "the link stands here")
+fn cannot_bind(dock: &mut MemDock, at: Address) -> bool {
+    is_failed(&bind(dock, at))
+}
+
+fn cannot_reach(dock: &mut MemDock, at: Address) -> bool {
+    is_failed(&reach(dock, at))
+}
+
+// The last link that was closed there has sent these bytes alone.
+fn was_closed(dock: &MemDock, at: Address, bytes: &[u8]) -> bool {
+    match dock.closed(at) {
+        Some(closed) => was_sent(closed, 0, bytes) && closed.sent(1).is_none(),
+        None => false,
+    }
+}
+
+// Binds the link that stands here, which then stands here no more, and sends over it before it is closed.
+fn gives_once(dock: &mut MemDock) -> bool {
+    let Opened::Link(mut link) = bind(dock, HERE) else {
+        return false;
     };
-    assert!(rt; !dock.has(HERE));
-    assert!(rt; is_failed(&reach(&mut dock, HERE)));
-    assert_eq!(rt; send(&mut link, b"ab"), Sent::Sent);
-    assert!(rt; dock.closed(HERE).is_none());
-    close(&mut dock, HERE, link);
-    assert!(rt; is_failed(&bind(&mut dock, HERE)));
-    assert!(rt; dock.closed(NEXT).is_none());
-    let Some(closed) = dock.closed(HERE) else {
-        panic!(rt; "the link was closed here")
+    let is_gone = !dock.has(HERE) && cannot_reach(dock, HERE);
+    let is_sent = send(&mut link, b"ab") == Sent::Sent;
+    let is_open = dock.closed(HERE).is_none();
+    close(dock, HERE, link);
+    is_gone && is_sent && is_open
+}
+
+fn gives_a_link_once(alloc: Global) -> bool {
+    let Ok(mut dock) = MemDock::make(alloc, &[]) else {
+        return false;
     };
-    assert!(rt; was_sent(closed, 0, b"ab"));
-    assert!(rt; closed.sent(1).is_none());
-    Ok(())
+    puts_quiet(&mut dock, alloc, HERE, 2)
+        && dock.has(HERE)
+        && !dock.has(NEXT)
+        && cannot_bind(&mut dock, NEXT)
+        && cannot_bind(&mut dock, THERE)
+        && gives_once(&mut dock)
+        && cannot_bind(&mut dock, HERE)
+        && dock.closed(NEXT).is_none()
+        && was_closed(&dock, HERE, b"ab")
 }
 
 #[test]
-fn a_dock_fails_the_openings_that_are_listed(rt: HostRuntime) -> Result<(), Fail> {
-    let alloc = rt.alloc();
-    let mut dock = MemDock::make(alloc, &[0, 2])?;
-    assert!(rt; !dock.has(HERE));
-    put(&mut dock, alloc, HERE, MemLink::make(alloc, &[], &[], 0)?)?;
-    assert!(rt; !dock.has(NEXT));
-    put(&mut dock, alloc, NEXT, MemLink::make(alloc, &[], &[], 0)?)?;
-    let cases = [
-        (HERE, true),
-        (HERE, false),
-        (NEXT, true),
-        (NEXT, false),
-        (NEXT, true),
-    ];
-    for (at, failed) in cases {
-        assert_eq!(rt; is_failed(&bind(&mut dock, at)), failed);
-    }
-    Ok(())
+fn a_dock_gives_a_link_once(rt: HostRuntime) {
+    assert!(rt; gives_a_link_once(rt.alloc()));
 }
 
-#[test]
-fn a_dock_keeps_the_last_link_that_was_closed(rt: HostRuntime) -> Result<(), Fail> {
-    let alloc = rt.alloc();
-    let mut dock = MemDock::make(alloc, &[])?;
-    let cases: [(Address, &[u8]); 3] = [(HERE, b"ab"), (THERE, b"c"), (HERE, b"de")];
-    for (at, bytes) in cases {
-        assert!(rt; !dock.has(at));
-        put(&mut dock, alloc, at, MemLink::make(alloc, &[], &[], 1)?)?;
-        let Opened::Link(mut link) = reach(&mut dock, at) else {
-            panic!(rt; "the link stands here")
-        };
-        assert_eq!(rt; send(&mut link, bytes), Sent::Sent);
-        close(&mut dock, at, link);
+// Where a link is bound, and whether that fails.
+const OPENINGS: [(Address, bool); 5] = [
+    (HERE, true),
+    (HERE, false),
+    (NEXT, true),
+    (NEXT, false),
+    (NEXT, true),
+];
+
+// How many rows hold before the first that doesn't.
+fn openings(dock: &mut MemDock) -> usize {
+    for (k, row) in OPENINGS.iter().enumerate() {
+        if cannot_bind(dock, row.0) != row.1 {
+            return k;
+        }
     }
-    let kept: [(Address, &[u8]); 2] = [(HERE, b"de"), (THERE, b"c")];
-    for (at, bytes) in kept {
-        let Some(closed) = dock.closed(at) else {
-            panic!(rt; "a link was closed here")
-        };
-        assert!(rt; was_sent(closed, 0, bytes));
-    }
-    Ok(())
+    OPENINGS.len()
 }
 
-#[test]
-fn a_link_of_a_dock_gives_what_was_brought(rt: HostRuntime) -> Result<(), Fail> {
-    let alloc = rt.alloc();
-    let mut link = MemLink::make(alloc, &[0], &[1], 0)?;
-    link.bring(alloc, b"ab")?;
-    let mut dock = MemDock::make(alloc, &[])?;
-    assert!(rt; !dock.has(HERE));
-    put(&mut dock, alloc, HERE, link)?;
-    let Opened::Link(mut link) = bind(&mut dock, HERE) else {
-        panic!(rt; "the link stands here")
+fn fails_openings(alloc: Global) -> usize {
+    let Ok(mut dock) = MemDock::make(alloc, &[0, 2]) else {
+        return 0;
     };
-    let mut buf = bytes_of(alloc, b'.', 65536)?;
-    let cases = [Came::Failed, Came::Idle, Came::Datagram(2), Came::Idle];
-    for answer in cases {
-        assert_eq!(rt; recv(&mut link, &mut buf), Some(answer));
+    if !puts_quiet(&mut dock, alloc, HERE, 0) || !puts_quiet(&mut dock, alloc, NEXT, 0) {
+        return 0;
     }
-    assert!(rt; buf.starts_with(b"ab."));
-    Ok(())
+    openings(&mut dock)
+}
+
+#[test]
+fn a_dock_fails_the_openings_that_are_listed(rt: HostRuntime) {
+    let rows = fails_openings(rt.alloc());
+    assert!(rt; rows == 5, "row {rows}");
+}
+
+// Puts a link there, sends these bytes over it, and closes it.
+fn sends_and_closes(dock: &mut MemDock, alloc: Global, at: Address, bytes: &[u8]) -> bool {
+    if !puts_quiet(dock, alloc, at, 1) {
+        return false;
+    }
+    let Opened::Link(mut link) = reach(dock, at) else {
+        return false;
+    };
+    let sent = send(&mut link, bytes);
+    close(dock, at, link);
+    sent == Sent::Sent
+}
+
+fn keeps_the_last(alloc: Global) -> bool {
+    let Ok(mut dock) = MemDock::make(alloc, &[]) else {
+        return false;
+    };
+    sends_and_closes(&mut dock, alloc, HERE, b"ab")
+        && sends_and_closes(&mut dock, alloc, THERE, b"c")
+        && sends_and_closes(&mut dock, alloc, HERE, b"de")
+        && was_closed(&dock, HERE, b"de")
+        && was_closed(&dock, THERE, b"c")
+}
+
+#[test]
+fn a_dock_keeps_the_last_link_that_was_closed(rt: HostRuntime) {
+    assert!(rt; keeps_the_last(rt.alloc()));
+}
+
+// Puts a link there to which two bytes come, once it failed and was idle.
+fn puts_bringing(dock: &mut MemDock, alloc: Global, at: Address) -> bool {
+    let Ok(mut link) = MemLink::make(alloc, &[0], &[1], 0) else {
+        return false;
+    };
+    link.bring(alloc, b"ab").is_ok() && puts(dock, alloc, at, link)
+}
+
+fn gives_what_was_brought(dock: &mut MemDock, buf: &mut [u8]) -> bool {
+    let Opened::Link(mut link) = bind(dock, HERE) else {
+        return false;
+    };
+    recv(&mut link, buf) == Some(Came::Failed)
+        && recv(&mut link, buf) == Some(Came::Idle)
+        && recv(&mut link, buf) == Some(Came::Datagram(2))
+        && recv(&mut link, buf) == Some(Came::Idle)
+        && buf.starts_with(b"ab.")
+}
+
+fn brings(alloc: Global) -> bool {
+    let Ok(mut dock) = MemDock::make(alloc, &[]) else {
+        return false;
+    };
+    let Ok(mut buf) = bytes_of(alloc, b'.', 65536) else {
+        return false;
+    };
+    puts_bringing(&mut dock, alloc, HERE) && gives_what_was_brought(&mut dock, &mut buf)
+}
+
+#[test]
+fn a_link_of_a_dock_gives_what_was_brought(rt: HostRuntime) {
+    assert!(rt; brings(rt.alloc()));
 }

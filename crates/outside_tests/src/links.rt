@@ -4,7 +4,6 @@ use crate::calls::{bytes_of, recv, was_sent};
 use drm_bits::NoMemory;
 use drm_links::{Came, Link, MemLink, Sent};
 use std::alloc::Global;
-use std::test::Fail;
 
 const BUFFER: usize = 65536;
 
@@ -13,121 +12,175 @@ fn send<L: Link>(link: &mut L, bytes: &[u8]) -> Sent {
     link.send(bytes)
 }
 
-fn begins(buf: &[u8], front: &[u8]) -> bool {
-    buf.starts_with(front)
+// Puts this datagram behind all others.
+fn brings(link: &mut MemLink, alloc: Global, datagram: &[u8]) -> bool {
+    datagram.len() <= BUFFER && link.bring(alloc, datagram).is_ok()
 }
 
-// Puts these datagrams behind all others.
-fn bring(link: &mut MemLink, alloc: Global, datagrams: &[&[u8]]) -> Result<(), NoMemory> {
-    for datagram in datagrams {
-        if datagram.len() <= BUFFER {
-            link.bring(alloc, datagram)?;
+// A recv answers so, and what came stands in front of dots.
+fn receives(alloc: Global, link: &mut MemLink, answer: Came, front: &[u8]) -> bool {
+    match bytes_of(alloc, b'.', BUFFER) {
+        Ok(mut buf) => recv(link, &mut buf) == Some(answer) && buf.starts_with(front),
+        Err(NoMemory) => false,
+    }
+}
+
+fn sends(link: &mut MemLink, bytes: &[u8], answer: Sent) -> bool {
+    send(link, bytes) == answer
+}
+
+fn fails_where_listed(alloc: Global) -> bool {
+    let Ok(mut link) = MemLink::make(alloc, &[0], &[], 1) else {
+        return false;
+    };
+    brings(&mut link, alloc, b"AF")
+        && receives(alloc, &mut link, Came::Failed, b"..")
+        && sends(&mut link, b"AF", Sent::Failed)
+        && link.sent(0).is_none()
+        && receives(alloc, &mut link, Came::Datagram(2), b"AF.")
+        && sends(&mut link, b"AF", Sent::Sent)
+}
+
+#[test]
+fn each_listed_call_of_a_link_fails(rt: HostRuntime) {
+    assert!(rt; fails_where_listed(rt.alloc()));
+}
+
+// What recvs answer, and what stands at the front. At 6 nothing is left, and before 7 more is brought. The number 8 stands
+// in both lists.
+const RECVS: [(Came, &[u8]); 11] = [
+    (Came::Idle, b"..."),
+    (Came::Failed, b"..."),
+    (Came::Datagram(2), b"ab."),
+    (Came::Idle, b"..."),
+    (Came::Datagram(1), b"c.."),
+    (Came::Datagram(0), b"..."),
+    (Came::Idle, b"..."),
+    (Came::Datagram(2), b"de."),
+    (Came::Failed, b"..."),
+    (Came::Datagram(1), b"f.."),
+    (Came::Idle, b"..."),
+];
+
+// How many rows hold before the first that doesn't.
+fn received(alloc: Global, link: &mut MemLink) -> usize {
+    for (k, row) in RECVS.iter().enumerate() {
+        if k == 7 && !(brings(link, alloc, b"de") && brings(link, alloc, b"f")) {
+            return k;
+        }
+        if !receives(alloc, link, row.0, row.1) {
+            return k;
         }
     }
-    Ok(())
+    RECVS.len()
+}
+
+fn gives_what_was_brought(alloc: Global) -> usize {
+    let Ok(mut link) = MemLink::make(alloc, &[1, 8], &[0, 3, 8], 0) else {
+        return 0;
+    };
+    if brings(&mut link, alloc, b"ab")
+        && brings(&mut link, alloc, b"c")
+        && brings(&mut link, alloc, b"")
+    {
+        received(alloc, &mut link)
+    } else {
+        0
+    }
 }
 
 #[test]
-fn each_listed_call_of_a_link_fails(rt: HostRuntime) -> Result<(), Fail> {
-    let alloc = rt.alloc();
-    let mut link = MemLink::make(alloc, &[0], &[], 1)?;
-    bring(&mut link, alloc, &[b"AF"])?;
-    let mut buf = bytes_of(alloc, b'.', BUFFER)?;
-    assert_eq!(rt; recv(&mut link, &mut buf), Some(Came::Failed));
-    assert!(rt; begins(&buf, b".."));
-    assert_eq!(rt; send(&mut link, b"AF"), Sent::Failed);
-    assert!(rt; link.sent(0).is_none());
-    assert_eq!(rt; recv(&mut link, &mut buf), Some(Came::Datagram(2)));
-    assert_eq!(rt; send(&mut link, b"AF"), Sent::Sent);
-    Ok(())
+fn a_link_gives_what_was_brought(rt: HostRuntime) {
+    let rows = gives_what_was_brought(rt.alloc());
+    assert!(rt; rows == 11, "row {rows}");
+}
+
+fn keeps(alloc: Global) -> bool {
+    let Ok(mut link) = MemLink::make(alloc, &[1], &[0], 2) else {
+        return false;
+    };
+    sends(&mut link, b"ab", Sent::Sent)
+        && sends(&mut link, b"x", Sent::Failed)
+        && sends(&mut link, b"cde", Sent::Sent)
+        && sends(&mut link, b"f", Sent::Failed)
+        && sends(&mut link, b"", Sent::Failed)
+        && was_sent(&link, 0, b"ab")
+        && was_sent(&link, 1, b"cde")
+        && link.sent(2).is_none()
 }
 
 #[test]
-fn a_link_gives_what_was_brought(rt: HostRuntime) -> Result<(), Fail> {
-    let alloc = rt.alloc();
-    let mut link = MemLink::make(alloc, &[1, 8], &[0, 3, 8], 0)?;
-    bring(&mut link, alloc, &[b"ab", b"c", b""])?;
-    // At 6 nothing is left, and the number 8 stands in both lists.
-    let cases: [(Came, &[u8]); 11] = [
-        (Came::Idle, b"..."),
-        (Came::Failed, b"..."),
-        (Came::Datagram(2), b"ab."),
-        (Came::Idle, b"..."),
-        (Came::Datagram(1), b"c.."),
-        (Came::Datagram(0), b"..."),
-        (Came::Idle, b"..."),
-        (Came::Datagram(2), b"de."),
-        (Came::Failed, b"..."),
-        (Came::Datagram(1), b"f.."),
-        (Came::Idle, b"..."),
-    ];
-    for (k, (answer, front)) in cases.into_iter().enumerate() {
-        if k == 7 {
-            bring(&mut link, alloc, &[b"de", b"f"])?;
+fn a_link_keeps_what_it_has_room_for(rt: HostRuntime) {
+    assert!(rt; keeps(rt.alloc()));
+}
+
+// So many of these bytes are sent, or not.
+fn sends_so_many(alloc: Global, link: &mut MemLink, byte: u8, length: usize, answer: Sent) -> bool {
+    match bytes_of(alloc, byte, length) {
+        Ok(bytes) => {
+            sends(link, &bytes, answer) && (answer == Sent::Failed || was_sent(link, 0, &bytes))
         }
-        let mut buf = bytes_of(alloc, b'.', BUFFER)?;
-        assert_eq!(rt; recv(&mut link, &mut buf), Some(answer));
-        assert!(rt; begins(&buf, front));
+        Err(NoMemory) => false,
     }
-    Ok(())
+}
+
+fn sends_the_greatest(alloc: Global) -> bool {
+    match MemLink::make(alloc, &[], &[], 2) {
+        Ok(mut link) => {
+            sends_so_many(alloc, &mut link, 7, 32781, Sent::Failed)
+                && sends_so_many(alloc, &mut link, 8, 32780, Sent::Sent)
+        }
+        Err(NoMemory) => false,
+    }
+}
+
+fn gives_the_greatest(alloc: Global) -> bool {
+    let Ok(mut link) = MemLink::make(alloc, &[], &[], 2) else {
+        return false;
+    };
+    match bytes_of(alloc, 9, BUFFER) {
+        Ok(bytes) => {
+            brings(&mut link, alloc, &bytes)
+                && receives(alloc, &mut link, Came::Datagram(65536), &bytes)
+        }
+        Err(NoMemory) => false,
+    }
 }
 
 #[test]
-fn a_link_keeps_what_it_has_room_for(rt: HostRuntime) -> Result<(), Fail> {
-    let mut link = MemLink::make(rt.alloc(), &[1], &[0], 2)?;
-    let cases: [(&[u8], Sent); 5] = [
-        (b"ab", Sent::Sent),
-        (b"x", Sent::Failed),
-        (b"cde", Sent::Sent),
-        (b"f", Sent::Failed),
-        (b"", Sent::Failed),
-    ];
-    for (bytes, answer) in cases {
-        assert_eq!(rt; send(&mut link, bytes), answer);
-    }
-    assert!(rt; was_sent(&link, 0, b"ab"));
-    assert!(rt; was_sent(&link, 1, b"cde"));
-    assert!(rt; link.sent(2).is_none());
-    Ok(())
-}
-
-#[test]
-fn a_datagram_of_the_greatest_length_fits(rt: HostRuntime) -> Result<(), Fail> {
-    let alloc = rt.alloc();
-    let mut link = MemLink::make(alloc, &[], &[], 2)?;
-    assert_eq!(rt; send(&mut link, &bytes_of(alloc, 7, 32781)?), Sent::Failed);
-    assert_eq!(rt; send(&mut link, &bytes_of(alloc, 8, 32780)?), Sent::Sent);
-    assert!(rt; was_sent(&link, 0, &bytes_of(alloc, 8, 32780)?));
-    let longest = bytes_of(alloc, 9, BUFFER)?;
-    bring(&mut link, alloc, &[&longest])?;
-    let mut buf = bytes_of(alloc, b'.', BUFFER)?;
-    assert_eq!(rt; recv(&mut link, &mut buf), Some(Came::Datagram(65536)));
-    assert!(rt; buf == longest);
-    Ok(())
+fn a_datagram_of_the_greatest_length_fits(rt: HostRuntime) {
+    assert!(rt; sends_the_greatest(rt.alloc()));
+    assert!(rt; gives_the_greatest(rt.alloc()));
 }
 
 fn rest<L: Link>(link: &mut L, millis: u32) {
     link.rest(millis);
 }
 
-#[test]
-fn a_link_keeps_how_long_it_rested_before_each_send(rt: HostRuntime) -> Result<(), Fail> {
-    let mut link = MemLink::make(rt.alloc(), &[2], &[], 3)?;
+// A send that comes after a rest of so long, and one of one millisecond, is answered so.
+fn sends_later(link: &mut MemLink, millis: u32, bytes: &[u8], answer: Sent) -> bool {
+    rest(link, millis);
+    send(link, bytes) == answer
+}
+
+fn keeps_how_long(alloc: Global) -> bool {
+    let Ok(mut link) = MemLink::make(alloc, &[2], &[], 3) else {
+        return false;
+    };
     rest(&mut link, u32::MAX);
-    // Each send comes after a rest of one millisecond.
-    for (millis, bytes, answer) in [
-        (6, b"a", Sent::Sent),
-        (0, b"b", Sent::Sent),
-        (4, b"x", Sent::Failed),
-        (2, b"c", Sent::Sent),
-    ] {
-        rest(&mut link, millis);
-        assert_eq!(rt; send(&mut link, bytes), answer);
-    }
+    let is_sent = sends_later(&mut link, 6, b"a", Sent::Sent)
+        && sends_later(&mut link, 0, b"b", Sent::Sent)
+        && sends_later(&mut link, 4, b"x", Sent::Failed)
+        && sends_later(&mut link, 2, b"c", Sent::Sent);
     rest(&mut link, 9);
-    let waits = [Some(4_294_967_302), Some(1), Some(8), None];
-    for (k, wait) in waits.into_iter().enumerate() {
-        assert_eq!(rt; link.waited(k), wait);
-    }
-    Ok(())
+    is_sent
+        && link.waited(0) == Some(4_294_967_302)
+        && link.waited(1) == Some(1)
+        && link.waited(2) == Some(8)
+        && link.waited(3).is_none()
+}
+
+#[test]
+fn a_link_keeps_how_long_it_rested_before_each_send(rt: HostRuntime) {
+    assert!(rt; keeps_how_long(rt.alloc()));
 }

@@ -3,5 +3,5 @@ use Rattle.convert_laws.proofs.laws.captures_are_converted.Goals as goal
 
 pub returns : goal.returns
 returns c =
-    captures_are_converted c.one_front.ensures c.fronts_stay.ensures c.read_one_way.ensures c.conversions_are_captures.ensures.terms c.conversions_are_captures.ensures.broken
-    c.none_is_too_large.ensures
+    captures_are_converted c.packets_in_front.ensures c.read_one_way.ensures c.conversions_are_captures.ensures.terms c.conversions_are_captures.ensures.broken
+    c.conversions_are_captures.ensures.halted c.none_is_too_large.ensures

@@ -1,5 +1,6 @@
 use Rattle.convert_laws.proofs.Delivery.{collected}
 use Rattle.convert_laws.proofs.Conversions.{Collects, converting, converting_early, conversions, broken_conversions}
+use Rattle.convert_laws.proofs.Halted.{halted_conversions}
 use Rattle.convert_laws.proofs.laws.conversions_are_captures.Goals as goal
 
 pub returns : goal.returns
@@ -12,4 +13,5 @@ returns c =
           conversions collects c.giving_ends.ensures c.one_reading.ensures c.refusing.ensures c.one_run.ensures c.steps_part.ensures
           c.all_frames_are_given_at_once.ensures;
       broken = broken_conversions collects c.giving_ends.ensures c.one_reading.ensures c.refusing.ensures c.one_run.ensures c.steps_part.ensures;
+      halted = halted_conversions collects c.giving_ends.ensures c.one_reading.ensures c.refusing.ensures c.steps_part.ensures;
     }

@@ -3,4 +3,4 @@ use Rattle.convert_laws.proofs.laws.none_is_too_large.Goals as goal
 
 pub returns : goal.returns
 returns c =
-    none_is_too_large c.collecting.ensures c.giving_ends.ensures c.one_reading.ensures c.one_giving.ensures c.one_run.ensures c.steps_part.ensures c.steps_count.ensures
+    none_is_too_large c.collecting.ensures c.giving_ends.ensures c.steps_count.ensures

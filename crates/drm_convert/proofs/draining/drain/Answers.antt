@@ -27,7 +27,7 @@ returns-in_err-convert_item-clause-halted g c =
     let p = err_from_is_err_and c.from_residual.result c.from_residual.ensures.1 in
     rw (p.1 ∙ ap Err p.2)
     (halts c.args.told c.args.cutter.now c.loop-told.cutter c.args.collector.now c.loop-told.collector c.args.progress.now c.loop-told.progress c.convert_item.new.progress (g.O.Sink.known c.args.out.now) (g.O.Sink.known c.loop-told.out) (g.O.Sink.known c.convert_item.new.out) (g.E.Sink.known c.args.err.now) (g.E.Sink.known c.loop-told.err) (g.E.Sink.known c.convert_item.new.err)
-    i.0 (item_of c.in-Some.given) c.unwrap_or-first.result c.in_err-convert_item.field-0.0 i.1 c.in-Some.ensures.out.0 c.in-Some.ensures.out.1 i.2
+    i.0 (item_of c.in-Some.given) c.unwrap_or-first.result c.in_err-convert_item.field-0.0 i.1 (sym c.is_full.ensures ∙ c.loop-told-test.true) c.in-Some.ensures.out.0 c.in-Some.ensures.out.1 i.2
     (c.unwrap_or-first.ensures ∙ ap (λ (o : Option ℕ). unwrap_or o 0) c.first.ensures.first) c.in_err-convert_item.ensures.one)
 
 pub returns-in_default-clause-drained : goal.returns-in_default-clause-drained

@@ -1,12 +1,11 @@
-use Rattle.std.proofs.Common.{◌≡◌, ℕ, List, [], ◌∷◌, ◌++◌, Ok, Err, ap, arith, refl, sym, subst, ◌∙◌, inl, inr}
+use Rattle.std.proofs.Common.{[], ◌∷◌, ◌++◌, Ok, Err, ap, arith, refl, sym, subst, ◌∙◌, inl, inr}
 use Rattle.std.proofs.Math.Nat.{le_trans}
 use Rattle.std.proofs.lemmas.List.{append-nil}
 use Rattle.std.proofs.lemmas.Result.{err_from_is_err_and}
-use Rattle.drm_capture.specs.Reading.{HasRead}
 use Rattle.dcp_collect.specs.State.{State}
 use Rattle.drm_convert.specs.Draining.{MayBeFirst}
-use Rattle.drm_convert.specs.Run.{Terms}
-use Rattle.drm_convert.proofs.Reaching.{at_begin, read_none, not_stopped, on_stop, ends_early, on_packet, packet_more, by_enough, by_end, halted, shorter_on, may_taken, knows_taken, pace_taken, end_taken, drained_under, halts_under, drained_finished, halts_finished}
+use Rattle.drm_convert.proofs.Taken.{may_taken, knows_taken, pace_taken, end_taken}
+use Rattle.drm_convert.proofs.Reaching.{at_begin, read_none, not_stopped, on_stop, ends_early, on_packet, packet_more, by_enough, by_end, halted, shorter_on, drained_under, halts_under, drained_finished}
 use Rattle.drm_convert.proofs.reading.convert_packets.Goals as goal
 
 pub packets-init : goal.packets-init
@@ -48,8 +47,8 @@ returns-in_err-drain-clause-ends g c =
     rw (p.1 ∙ ap Err p.2)
     (halted _ c.args.cutter.now (i.0 ++ bytes ∷ []) i.0 (bytes ∷ []) c.packets.collector c.take.new.collector c.packets.progress c.drain.new.progress _ _ _ _ _ _ why before after refl i.2
     (inl (bytes, c.take.ensures.takes.0, refl, c.take.ensures.takes.1)) (λ f may. may_taken c.packets.collector c.take.new.collector bytes c.take.ensures.takes.0 f c.take.ensures.takes.1 may)
-    (halts_under why c.args.cutter.now c.packets.cutter c.take.new.collector c.packets.progress c.drain.new.progress _ _ _ _ i.3 c.in_err-drain.ensures.halted)
-    (inl (_, more)) (shorter_on _ _ i.0 bytes _ _ _ _ _ _ i.2))
+    (halts_under why c.args.told c.args.cutter.now c.packets.cutter c.take.new.collector c.packets.progress c.drain.new.progress _ _ _ _ i.3 c.in_err-drain.ensures.halted)
+    (_, more) (shorter_on _ _ i.0 bytes _ _ _ _ _ _ i.2))
 
 pub returns-then-is_full-clause-ends : goal.returns-then-is_full-clause-ends
 returns-then-is_full-clause-ends g c =
@@ -90,8 +89,8 @@ returns-in_err-drain-2-clause-ends g c =
     rw (p.1 ∙ ap Err p.2)
     (halted _ c.args.cutter.now i.0 i.0 [] c.packets.collector c.finish.new.self c.packets.progress c.drain-2.new.progress _ _ _ _ _ _ why before after (sym (append-nil i.0)) i.2
     (inr (refl, c.finish.ensures)) (λ f may. subst (λ (s : State). MayBeFirst s f) c.finish.ensures may)
-    (halts_under why c.args.cutter.now c.packets.cutter c.finish.new.self c.packets.progress c.drain-2.new.progress _ _ _ _ i.3 c.in_err-drain-2.ensures.halted)
-    (inr ended) i.2.shorter)
+    (halts_under why c.args.told c.args.cutter.now c.packets.cutter c.finish.new.self c.packets.progress c.drain-2.new.progress _ _ _ _ i.3 c.in_err-drain-2.ensures.halted)
+    ended i.2.shorter)
 
 pub returns-clause-ends : goal.returns-clause-ends
 returns-clause-ends g c =

@@ -6,7 +6,8 @@ use Rattle.std.proofs.lemmas.List.{take_at}
 use Rattle.std.proofs.lemmas.List.Elements.{All-head, All-tail}
 use Rattle.drm_capture.specs.declared.fault.CaptureField.{CaptureField}
 use Rattle.drm_capture.specs.Front.{Packet, Wrong, Cut, Begins, IsWhole}
-use Rattle.drm_capture.specs.Capture.{Ending, End, Fault, TooLong, EndsWith, IsCaptureOf, most_bytes}
+use Rattle.drm_capture.specs.Capture.{Ending, End, Fault, TooLong, EndsWith, most_bytes}
+use Rattle.capture_laws.specs.Laws.{PacketsInFront}
 use Rattle.drm_capture.proofs.FrontLaws.{one_front, packet_in_front, packet_alone, packet_size}
 
 in_front : (p more : List ℕ) → IsWhole p → Begins (p ++ more) (Packet (length p))
@@ -74,8 +75,7 @@ front_by size at (p ∷ packets) (q ∷ all) more rest ending whole wholes is fe
     (later, ap₂ (λ (x : List ℕ) (xs : List (List ℕ)). x ∷ xs) (sym front) are)
 
 -- packets that the bytes of a capture begin with are its first
-pub packets_front : (bytes : List ℕ) (packets all : List (List ℕ)) (more : List ℕ) (ending : Ending) → All IsWhole packets → bytes ≡ concat packets ++ more
-    → length (concat packets) ≤ most_bytes → IsCaptureOf bytes all ending → (later : List (List ℕ)) × (all ≡ packets ++ later)
+pub packets_front : PacketsInFront
 packets_front bytes packets all more ending whole is few of =
     let P : ℕ → Type 0 = λ n. EndsWith (length bytes) n of.rest ending in
     front_by (length bytes) 0 packets all more of.rest ending whole of.whole (sym is ∙ of.is) (omega (arith, few)) (subst P (omega arith) of.ends)

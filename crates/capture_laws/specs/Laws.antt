@@ -1,0 +1,12 @@
+-- Laws of captures.
+use Rattle.std.specs.Prelude.{ℕ, ◌≡◌, ◌≤◌, List, ◌++◌, length, All}
+use Rattle.std.specs.List.{concat}
+use Rattle.drm_capture.specs.Front.{IsWhole}
+use Rattle.drm_capture.specs.Capture.{Ending, IsCaptureOf, most_bytes}
+
+-- Packets that bytes begin with, and that are no longer than a capture may be, are the first ones of the capture that the bytes are.
+abbrev pub PacketsInFront : Type 0
+PacketsInFront =
+    (bytes : List ℕ) (packets all : List (List ℕ)) (more : List ℕ) (ending : Ending)
+    → All IsWhole packets → bytes ≡ concat packets ++ more → length (concat packets) ≤ most_bytes → IsCaptureOf bytes all ending
+    → (later : List (List ℕ)) × (all ≡ packets ++ later)

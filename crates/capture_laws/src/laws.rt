@@ -1,0 +1,8 @@
+//! The laws, each on a function that does nothing.
+
+ghost use Rattle.capture_laws.specs.Laws.{PacketsInFront};
+
+/// Packets that bytes begin with are the first packets of the capture that the bytes are.
+pub fn packets_in_front()
+    ensures { PacketsInFront }
+{}

@@ -1,0 +1,20 @@
+use Rattle.drm_convert.specs.Reading.{ending_of}
+use Rattle.drm_convert.proofs.Endings.{not_memory, by_read, by_write, as_told}
+use Rattle.drm_convert.proofs.Exactly.{convert_run}
+use Rattle.drm_convert.proofs.command.convert.Goals as goal
+
+pub returns : goal.returns
+returns g c =
+    let run = c.convert_packets-converted in
+    let clean = run.new.progress.clean in
+    record {
+      run = rw c.ending.ensures
+          (convert_run c.read_one_way.ensures c.read_some_way.ensures c.packets_in_front.ensures _ c.args.carry (ending_of run.result clean) run.new.progress.told
+          g.I.Source.known c.args.input.now run.new.input g.O.Sink.known c.args.out.now run.new.out g.E.Sink.known c.args.err.now run.new.err
+          (as_told c.args.window c.args.first c.args.frames c.args.carry c.in_ok-cutter.cutter c.in_ok-collector.collector (ending_of run.result clean) run.new.progress.told
+          (g.I.Source.known c.args.input.now) (g.I.Source.known run.new.input) (g.O.Sink.known c.args.out.now) (g.O.Sink.known run.new.out) (g.E.Sink.known c.args.err.now) (g.E.Sink.known run.new.err)
+          c.in_ok-collector.ensures c.in_ok-cutter.ensures run.ensures.ends)
+          (λ is. absurd (not_memory run.result clean is))
+          (record { later = run.ensures.read.later; rose = λ is. run.ensures.read.rose (by_read run.result clean is) })
+          (record { later = run.ensures.write.later; rose = λ is. run.ensures.write.rose (by_write run.result clean is) }));
+    }

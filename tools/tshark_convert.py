@@ -1,0 +1,54 @@
+#!/usr/bin/env python3
+"""Compares the captures that `convert` writes with what tshark puts together from the same datagrams.
+
+    tools/tshark_convert.py PROGRAM CAPTURE..
+
+PROGRAM is crates/drmcast/out/drmcast, and each CAPTURE a file that `serve` wrote. It is converted to fragments under several
+carries, and each of these and the CAPTURE itself to whole packets. tshark reads the fragments, and the numbers, lengths,
+check values and items of the packets that it puts together have to be those of the whole packets, in order. Where one
+differs it is named, and then the status is 1.
+"""
+import os
+import pathlib
+import subprocess
+import sys
+import tempfile
+
+from datagrams import datagrams, pcap
+
+CARRIES = ("pft:0:128", "pft:0:1500", "pft:1:300", "pft:2:1400", "pft:5:1500")
+FIELDS = ("dcp-af.seq", "dcp-af.len", "dcp-af.crc", "dcp-af.crc_ok", "dcp-tpl.tlv")
+
+
+def convert(program, capture, carry):
+    """The capture under this carry."""
+    return subprocess.run([program, "convert", carry], input=capture, stdout=subprocess.PIPE, check=True).stdout
+
+
+def packets(capture, folder):
+    """What tshark reads of each AF packet in a capture, whole or put together."""
+    pcap(f"{folder}/it.pcap", (part for part, _, _ in datagrams(capture)))
+    words = ["tshark", "-n", "-r", f"{folder}/it.pcap", "-Y", "dcp-af", "-T", "fields", "-E", "separator=/t", "-E", "aggregator=,"]
+    for name in FIELDS:
+        words += ["-e", name]
+    return subprocess.run(words, stdout=subprocess.PIPE, stderr=subprocess.DEVNULL, check=True, text=True).stdout.splitlines()
+
+
+def main():
+    if len(sys.argv) < 3:
+        sys.exit(__doc__)
+    program, differ = os.path.abspath(sys.argv[1]), 0
+    with tempfile.TemporaryDirectory() as folder:
+        for path in sys.argv[2:]:
+            capture = pathlib.Path(path).read_bytes()
+            whole = convert(program, capture, "plain")
+            wanted = packets(whole, folder)
+            for carry in CARRIES:
+                converted = convert(program, capture, carry)
+                same = packets(converted, folder) == wanted and convert(program, converted, "plain") == whole
+                differ += not same
+                print(f"{path}: {len(wanted)} packets under {carry}: {'the same' if same else 'they differ'}", flush=True)
+    sys.exit(differ > 0)
+
+
+main()
