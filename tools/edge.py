@@ -159,6 +159,18 @@ def bring(ran, links, ports):
                     time.sleep(0.002)
 
 
+def listen(ports, at):
+    """A socket at this link's port, or at another one where somebody else has it by now."""
+    while True:
+        listening = socket.socket(socket.AF_INET, socket.SOCK_DGRAM)
+        try:
+            listening.bind((HOST, ports[at]))
+            return listening
+        except OSError:
+            listening.close()
+            ports[at] = PORTS.take()
+
+
 def gather(listening, got, is_ended):
     """Takes what comes, until nothing more does once the run has ended."""
     listening.settimeout(0.05)
@@ -194,8 +206,7 @@ def differences(program, case):
             pathlib.Path(room, name).write_bytes(data)
         workers, sockets = [], []
         for at in case.sent:
-            listening = socket.socket(socket.AF_INET, socket.SOCK_DGRAM)
-            listening.bind((HOST, ports[at]))
+            listening = listen(ports, at)
             sockets.append(listening)
             workers.append(threading.Thread(target=gather, args=(listening, got[at], is_ended)))
         ran = subprocess.Popen([program, *words_of(case, ports)], cwd=room, stdin=subprocess.PIPE, stdout=subprocess.PIPE, stderr=subprocess.PIPE)
