@@ -118,7 +118,7 @@ def can_run(case):
 
 
 class Ports:
-    """Ports of the host that nobody has, each given once."""
+    """Ports of the host that nobody has, each given once, for the program to bind."""
 
     def __init__(self):
         self.lock, self.next = threading.Lock(), 20_001
@@ -159,18 +159,6 @@ def bring(ran, links, ports):
                     time.sleep(0.002)
 
 
-def listen(ports, at):
-    """A socket at this link's port, or at another one where somebody else has it by now."""
-    while True:
-        listening = socket.socket(socket.AF_INET, socket.SOCK_DGRAM)
-        try:
-            listening.bind((HOST, ports[at]))
-            return listening
-        except OSError:
-            listening.close()
-            ports[at] = PORTS.take()
-
-
 def gather(listening, got, is_ended):
     """Takes what comes, until nothing more does once the run has ended."""
     listening.settimeout(0.05)
@@ -199,14 +187,16 @@ def words_of(case, ports):
 
 def differences(program, case):
     """What of a run differs from what the case says."""
-    ports = {at: PORTS.take() for at in case.links}
+    ports = {at: PORTS.take() for at in case.links if at not in case.sent}
     got, is_ended = {at: [] for at in case.sent}, threading.Event()
     with tempfile.TemporaryDirectory() as room:
         for name, data in case.files.items():
             pathlib.Path(room, name).write_bytes(data)
         workers, sockets = [], []
         for at in case.sent:
-            listening = listen(ports, at)
+            listening = socket.socket(socket.AF_INET, socket.SOCK_DGRAM)
+            listening.bind((HOST, 0))
+            ports[at] = listening.getsockname()[1]
             sockets.append(listening)
             workers.append(threading.Thread(target=gather, args=(listening, got[at], is_ended)))
         ran = subprocess.Popen([program, *words_of(case, ports)], cwd=room, stdin=subprocess.PIPE, stdout=subprocess.PIPE, stderr=subprocess.PIPE)
