@@ -1,5 +1,11 @@
-"""The datagrams of a capture, and how they are handed to tshark: what other scripts here share."""
+"""The datagrams of a capture, their check value, and how they are handed to tshark: what other scripts here share."""
+import binascii
 import struct
+
+
+def check_value(data):
+    """The CRC-16 of these bytes, as two bytes."""
+    return (binascii.crc_hqx(data, 0xFFFF) ^ 0xFFFF).to_bytes(2, "big")
 
 
 def datagrams(capture):

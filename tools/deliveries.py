@@ -14,6 +14,8 @@ import subprocess
 import sys
 import tempfile
 
+from datagrams import check_value
+
 WINDOWS = (1, 2, 3, 4, 8, 64)
 MOST_FEEDS = 16
 # A script has so many bytes at the most, and a line of it so many.
@@ -21,15 +23,6 @@ MOST_TEXT = 262_144
 LINE = len("take 9999 999\n")
 PARITY = 48
 MOST_DATA = 207
-
-
-def crc16(data):
-    register = 0xFFFF
-    for byte in data:
-        register ^= byte << 8
-        for _ in range(8):
-            register = (register << 1 ^ (0x1021 if register & 0x8000 else 0)) & 0xFFFF
-    return register ^ 0xFFFF
 
 
 def packets(capture):
@@ -42,7 +35,7 @@ def packets(capture):
 
 def items(packet):
     """The TAG items of an AF packet: the bits and the bytes of each, by name."""
-    if crc16(packet[:-2]) != int.from_bytes(packet[-2:], "big"):
+    if check_value(packet[:-2]) != packet[-2:]:
         sys.exit("a packet's check value differs")
     payload, found = packet[10:-2], {}
     while len(payload) >= 8:

@@ -6,9 +6,9 @@
 PROGRAM is crates/drmcast/out/drmcast. A capture has up to 400 packets that `serve` wrote, of which some are altered: bits and bytes
 of them, fields of their heads with the check value made right again or not, their numbers, their order; or packets of random
 bytes, and perhaps another end. Each is shown, received twice (from a file and from a pipe in random pieces, which is to give the
-same) and converted twice, in so many MiB of memory at the most (4; 0 for no bound, where a sanitizer takes its own). Then as many datagrams of this kind as are told go to a receiver over
-the loopback. Each run has to end within a minute with a status that its output calls for. What ends otherwise is named and its
-capture is kept in the current folder; the status is 1 then.
+same) and converted twice, in so many MiB of memory at the most (4; 0 for no bound, where a sanitizer takes its own). Then as many
+datagrams of this kind as are told go to a receiver over the loopback. Each run has to end within a minute with a status that its
+output calls for. What ends otherwise is named and its capture is kept in the current folder; the status is 1 then.
 """
 import argparse
 import os
@@ -21,7 +21,7 @@ import sys
 import tempfile
 import time
 
-from datagrams import datagrams
+from datagrams import check_value, datagrams
 
 PORT = 50227
 PLAN = """drmplan 1
@@ -55,19 +55,6 @@ audio 0 0 0 1 0 3 0 0 0
 CARRIES = ("plain", "pft 0 200", "pft 2 1400", "pft 5 128")
 STATUS_3 = re.compile(r"drmcast: (capture byte \d+: (sync|head-crc|too-large|head-cut|body-cut)|packet \d+: packet-size)")
 BAD = re.compile(r"^(missing|bad) ", re.MULTILINE)
-TABLE = []
-for start in range(256):
-    register = start << 8
-    for _ in range(8):
-        register = register << 1 ^ (0x11021 if register & 0x8000 else 0)
-    TABLE.append(register)
-
-
-def crc16(data):
-    register = 0xFFFF
-    for byte in data:
-        register = (register << 8 & 0xFFFF) ^ TABLE[register >> 8 ^ byte]
-    return (register ^ 0xFFFF).to_bytes(2, "big")
 
 
 def checked(packet):
@@ -75,9 +62,9 @@ def checked(packet):
     if packet[:2] == b"PF" and len(packet) >= 14:
         flags = int.from_bytes(packet[10:12], "big")
         size = 12 + 2 * (flags >> 15) + 4 * (flags >> 14 & 1)
-        return packet[:size] + crc16(packet[:size]) + packet[size + 2:]
+        return packet[:size] + check_value(packet[:size]) + packet[size + 2:]
     if packet[:2] == b"AF" and len(packet) >= 12:
-        return packet[:-2] + crc16(packet[:-2])
+        return packet[:-2] + check_value(packet[:-2])
     return packet
 
 
