@@ -18,7 +18,7 @@ use Rattle.drm_capture.specs.declared.packets.CaptureStop.TheVariants as stops
 use Rattle.dcp_pft.specs.declared.carry.Carry.{Carry}
 use Rattle.dcp_collect.specs.declared.taken.Taken.{Taken}
 use Rattle.dcp_collect.specs.State.{State, made, ready, after_item, after_finish}
-use Rattle.dcp_collect.specs.Runs.{Item, Takes, Gives, Steps, up_to}
+use Rattle.dcp_collect.specs.Runs.{Item, IsItem, Takes, Gives, Steps, up_to}
 use Rattle.dcp_collect.proofs.Decoded.{decoded_or_none}
 use Rattle.collect_laws.specs.Laws.{IsFit, GivingEnds}
 use Rattle.collect_laws.proofs.Ending.{giving_ends}
@@ -30,7 +30,7 @@ use Rattle.drm_convert.specs.declared.naming.Progress.{Progress}
 use Rattle.drm_convert.specs.Converting.{text_of, lines_of}
 use Rattle.drm_convert.specs.Naming.{Names}
 use Rattle.drm_convert.specs.Draining.{Given, MayBeFirst, ConvertedAll, Drained, Halts, KnowsFirst, KeepsPace, is_full}
-use Rattle.drm_convert.specs.Run.{Terms, first_of, HasEnough, NoneShorter, AreReadBy, ComesTo, Ends, EndsEarly}
+use Rattle.drm_convert.specs.Run.{Terms, first_of, HasEnough, NoneShorter, AreReadBy, ComesTo, ReadsTo, Ends, EndsEarly}
 use Rattle.drm_convert.specs.Reading.{new_progress, fault_of}
 use Rattle.drm_convert.specs.declared.reading.Unconverted.TheVariants as unconverted
 use Rattle.drm_faults.specs.Captures.{stop_fault}
@@ -294,6 +294,19 @@ ends_early terms carry stops.TooLong told before after a b x y e = e
 may_last : (state last : State) (items : List Item) → Given state items last → MayBeFirst state (first_of last)
 may_last state last items gives = subst (λ (o : Option ℕ). IfSome o (λ n. n ≡ first_of last)) (given_first items state last gives) (first_itself last)
 
+-- the item that the conversion stops at, behind the packets that are read
+reads_to : (terms : Terms) (carry : Carry) (packets before' later : List (List ℕ)) (c state last : State) (p : Progress) (a b x y : Known Output) (before after : Known Input)
+    (r : Reaches terms carry before' c p a b x y) (items : List Item) (item : Item)
+    → packets ≡ before' ++ later → ComesTo terms later c state → Given state items last → ready last ≡ true → IsItem last item → AreReadBy later packets before after → NoneShorter terms packets
+    → is_full terms.told (length (r.items ++ items)) ≡ false → ReadsTo terms (r.items ++ items) item last before after
+reads_to terms carry packets before' later c state last p a b x y before after r items item are comes gives now is read shorter room = record {
+  packets = packets;
+  at = record { before = before'; later = later; are = are; taken = r.taken; during = r.items; mid = c; steps = r.steps; state = state; comes = comes; more = items; gives = gives; items_are = refl; is_ready = now; is_next = is };
+  read = read;
+  shorter = shorter;
+  within = room;
+}
+
 pub halted : (terms : Terms) (carry : Carry) (packets before' later : List (List ℕ)) (c state : State) (p q : Progress) (a b o x y z : Known Output) (why : Halt) (before after : Known Input)
     → packets ≡ before' ++ later → Reaches terms carry before' c p a b x y → ComesTo terms later c state → ((first : ℕ) → MayBeFirst state first → MayBeFirst c first)
     → Halts why terms.told carry state p q b o y z → AreReadBy later packets before after → NoneShorter terms packets
@@ -308,13 +321,7 @@ halted terms carry packets before' later c state p q a b o x y z halt.Write befo
       r.items ++ items,
       item,
       last,
-      record {
-        packets = packets;
-        at = record { before = before'; later = later; are = are; taken = r.taken; during = r.items; mid = c; steps = r.steps; state = state; comes = comes; more = items; gives = gives; items_are = refl; is_ready = now; is_next = is };
-        read = read;
-        shorter = shorter;
-        within = ap (λ n. is_full terms.told n) (sym count) ∙ room;
-      },
+      reads_to terms carry packets before' later c state last p a b x y before after r items item are comes gives now is read shorter (ap (λ n. is_full terms.told n) (sym count) ∙ room),
       all.parts ++ fail.part ∷ [],
       all_join carry (first_of last) (r.items ++ items) (item ∷ []) all.parts (fail.part ∷ []) (all.converts (first_of last) may_be) (fail.converts, tt),
       subst (λ (l : List ℕ). Outputs a o (IsFront l)) (sym text) (front_then (text_of all.parts) fail.part.out a m o all.text fail.text),
@@ -327,13 +334,7 @@ halted terms carry packets before' later c state p q a b o x y z (halt.PacketSiz
       r.items ++ items,
       item,
       last,
-      record {
-        packets = packets;
-        at = record { before = before'; later = later; are = are; taken = r.taken; during = r.items; mid = c; steps = r.steps; state = state; comes = comes; more = items; gives = gives; items_are = refl; is_ready = now; is_next = is };
-        read = read;
-        shorter = shorter;
-        within = ap (λ n. is_full terms.told n) (sym count) ∙ room;
-      },
+      reads_to terms carry packets before' later c state last p a b x y before after r items item are comes gives now is read shorter (ap (λ n. is_full terms.told n) (sym count) ∙ room),
       large,
       all.parts,
       all.converts (first_of last) may_be,
