@@ -9,6 +9,7 @@ use Rattle.drm_fac.specs.declared.service.Service.{Service}
 use Rattle.drm_sdc.specs.declared.body.Body.TheVariants.{Audio}
 use Rattle.drm_sdc.specs.declared.entity.Entity.{Entity}
 use Rattle.dcp_pft.specs.declared.carry.Carry.TheVariants.{Pft}
+use Rattle.drm_schedule.specs.declared.timed.Timed.{Timed}
 use Rattle.drm_schedule.specs.declared.config.Config.{Config}
 use Rattle.drm_schedule.specs.declared.plan.Plan.{Plan}
 use Rattle.drm_schedule.specs.declared.stream.Content.TheVariants.{Fill}
@@ -26,6 +27,9 @@ streams byte = record { a = 0; b = 300; content = Fill byte } ∷ []
 abbrev pub entities : List Entity
 entities = record { version = false; body = Audio 0 0 0 true 0 3 false false 0 false [] } ∷ []
 
+abbrev pub blocks : List Timed
+blocks = record { from = 0; entities = entities } ∷ []
+
 abbrev pub config : ℕ → ℕ → Mode → Bool → ℕ → Config
 config start countdown mode short_depth byte = record {
   start = start;
@@ -41,7 +45,7 @@ config start countdown mode short_depth byte = record {
   services = services;
   streams = streams byte;
   clock = None;
-  entities = entities;
+  blocks = blocks;
 }
 
 -- from four super frames on there is a reconfiguration in their middle

@@ -2,7 +2,7 @@
 use Rattle.std.specs.Prelude.{ℕ, List, [], ◌∷◌, codes, decimal}
 use Rattle.std.specs.List.{concat}
 use Rattle.drm_schedule.specs.declared.invalid.Reason.{Reason}
-use Rattle.drm_schedule.specs.declared.invalid.Reason.TheVariants.{Utf8, Word, Number, Range, Missing, Twice, Order, Countdown, Services, Occupancy, Hierarchical, Fit, ContentShort, PacketSize, TooLong}
+use Rattle.drm_schedule.specs.declared.invalid.Reason.TheVariants.{Utf8, Word, Number, Range, Missing, Twice, Order, Countdown, Block, Services, Occupancy, Hierarchical, Fit, ContentShort, PacketSize, TooLong}
 
 abbrev pub reason_word : Reason → List ℕ
 reason_word Utf8 = codes "utf8"
@@ -13,6 +13,7 @@ reason_word Missing = codes "missing"
 reason_word Twice = codes "twice"
 reason_word Order = codes "order"
 reason_word Countdown = codes "countdown"
+reason_word Block = codes "block"
 reason_word Services = codes "services"
 reason_word Occupancy = codes "occupancy"
 reason_word Hierarchical = codes "hierarchical"

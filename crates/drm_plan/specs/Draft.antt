@@ -22,6 +22,7 @@ abbrev pub line_in : Places → Place → ℕ
 line_in lines places.Config = lines.config
 line_in lines places.Occupancy = lines.occupancy
 line_in lines places.Msc = lines.msc
+line_in lines (places.Block j) = or_zero (at j lines.blocks)
 line_in lines (places.Stream j) = or_zero (at j lines.streams)
 
 abbrev pub line_there : Place → Option Places → ℕ

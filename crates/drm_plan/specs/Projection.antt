@@ -9,6 +9,7 @@ use Rattle.dcp_pft.specs.declared.carry.Carry.TheVariants as carries
 use Rattle.drm_fac.specs.declared.mode.Mode.{Mode}
 use Rattle.drm_fac.specs.declared.mode.Mode.TheVariants as modes
 use Rattle.drm_schedule.specs.declared.config.Clock.{Clock}
+use Rattle.drm_schedule.specs.declared.timed.Timed.{Timed}
 use Rattle.drm_schedule.specs.declared.config.Config.{Config}
 use Rattle.drm_schedule.specs.declared.stream.Stream.{Stream}
 use Rattle.drm_schedule.specs.declared.plan.Plan.{Plan}
@@ -122,18 +123,38 @@ abbrev pub stream_said : Line → Option Stream
 stream_said (lines.Stream stream) = Some stream
 stream_said _ = None
 
-abbrev pub entity_said : Line → Option Entity
-entity_said (lines.Entity entity) = Some entity
-entity_said _ = None
-
 abbrev pub services_in : List Said → List Service
 services_in said = filter_map (λ s. service_said s.says) said
 
 abbrev pub streams_in : List Said → List Stream
 streams_in said = filter_map (λ s. stream_said s.says) said
 
-abbrev pub entities_in : List Said → List Entity
-entities_in said = filter_map (λ s. entity_said s.says) said
+-- the entities of the lines up to the next block line
+abbrev pub entities_until : List Said → List Entity
+entities_until [] = []
+entities_until (s ∷ said) = of s.says (entities_until said)
+  where
+    of : Line → List Entity → List Entity
+    of (lines.Block from) entities = []
+    of (lines.Entity entity) entities = entity ∷ entities
+    of _ entities = entities
+
+-- each block line with the entities of the lines behind it
+abbrev pub timed_in : List Said → List Timed
+timed_in [] = []
+timed_in (s ∷ said) = of s.says (entities_until said) (timed_in said)
+  where
+    of : Line → List Entity → List Timed → List Timed
+    of (lines.Block from) entities blocks = record { from = from; entities = entities } ∷ blocks
+    of _ entities blocks = blocks
+
+-- where no line begins a block, all entities are of one, which begins with the configuration
+abbrev pub or_one : List Entity → List Timed → List Timed
+or_one entities [] = record { from = 0; entities = entities } ∷ []
+or_one entities (block ∷ blocks) = block ∷ blocks
+
+abbrev pub blocks_in : List Said → List Timed
+blocks_in said = or_one (entities_until said) (timed_in said)
 
 -- the numbers of the stream lines
 abbrev pub stream_line : Said → Option ℕ
@@ -145,6 +166,22 @@ stream_line s = of s.says
 
 abbrev pub stream_lines_in : List Said → List ℕ
 stream_lines_in said = filter_map stream_line said
+
+-- the numbers of the block lines
+abbrev pub block_line : Said → Option ℕ
+block_line s = of s.says
+  where
+    of : Line → Option ℕ
+    of (lines.Block from) = Some s.line
+    of _ = None
+
+abbrev pub block_lines_in : List Said → List ℕ
+block_lines_in said = filter_map block_line said
+
+-- the config line stands for a block line where there is none
+abbrev pub or_line : ℕ → List ℕ → List ℕ
+or_line n [] = n ∷ []
+or_line n (line ∷ lines) = line ∷ lines
 
 abbrev pub config_of : Block → Config
 config_of block = record {
@@ -161,7 +198,7 @@ config_of block = record {
   services = services_in block.lines;
   streams = streams_in block.lines;
   clock = clock_in (first_said keywords.Clock block.lines);
-  entities = entities_in block.lines;
+  blocks = blocks_in block.lines;
 }
 
 -- the lines of a configuration that a fault can name
@@ -170,6 +207,7 @@ places_of block = record {
   config = block.line;
   occupancy = line_of keywords.Occupancy block.lines;
   msc = line_of keywords.Msc block.lines;
+  blocks = or_line block.line (block_lines_in block.lines);
   streams = stream_lines_in block.lines;
 }
 

@@ -1,27 +1,20 @@
 -- The announcement of a configuration, in the super frames of its countdown: what the blocks of the configuration before
 -- it tell of it.
-use Rattle.std.specs.Prelude.{ℕ, ◌-◌, not, Bool, true, false, List, ◌∷◌, ◌++◌, length, map, filter, Option, Some, None}
+use Rattle.std.specs.Prelude.{ℕ, ◌-◌, not, Bool, false, List, ◌∷◌, ◌++◌, length, map, Option, Some, None}
 use Rattle.std.specs.List.{range_with_len}
-use Rattle.drm_sdc.specs.declared.body.Body.{Body}
-use Rattle.drm_sdc.specs.declared.body.Body.TheVariants.{App, Audio}
 use Rattle.drm_sdc.specs.declared.entity.Entity.{Entity}
 use Rattle.drm_sdc.specs.Entity.{entity_size}
 use Rattle.drm_schedule.specs.declared.announcement.Repeated.{Repeated}
 use Rattle.drm_schedule.specs.declared.announcement.Repeated.TheVariants as repeated
 use Rattle.drm_schedule.specs.declared.config.Config.{Config}
 use Rattle.drm_schedule.specs.InForce.{first_entities}
+use Rattle.drm_schedule.specs.SameLines.{those_of}
 use Rattle.drm_schedule.specs.Sizes.{description_size, free_bytes}
 use Rattle.block_packing.specs.Packing.{can_be_packed}
 
-abbrev pub is_of : Repeated → Body → Bool
-is_of repeated.Audio (Audio short stream coding sbr mode rate text enhancement coder spare config) = true
-is_of repeated.Audio _ = false
-is_of repeated.App (App short stream packet enhancement domain bytes) = true
-is_of repeated.App _ = false
-
 -- the entities of the lines that an announcement repeats, in its order
 abbrev pub repeated_of : Repeated → Config → List Entity
-repeated_of kind c = filter (λ (e : Entity). is_of kind e.body) (first_entities c)
+repeated_of kind c = those_of kind (first_entities c)
 
 abbrev pub all_repeated : Config → List Entity
 all_repeated c = repeated_of repeated.Audio c ++ repeated_of repeated.App c

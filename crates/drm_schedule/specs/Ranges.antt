@@ -13,6 +13,7 @@ use Rattle.dcp_pft.specs.Carrying.{CarryFits}
 use Rattle.drm_schedule.specs.declared.stream.Content.{Content}
 use Rattle.drm_schedule.specs.declared.stream.Content.TheVariants.{Fill, File}
 use Rattle.drm_schedule.specs.declared.stream.Stream.{Stream}
+use Rattle.drm_schedule.specs.declared.timed.Timed.{Timed}
 use Rattle.drm_schedule.specs.declared.config.Clock.{Clock}
 use Rattle.drm_schedule.specs.declared.config.Config.{Config}
 use Rattle.drm_schedule.specs.declared.plan.Plan.{Plan}
@@ -93,6 +94,11 @@ pub record EntityInLines (e : Entity) : Type 0 where
   pub version_fits : VersionInLines e.version e.body
   pub body_fits : BodyInLines e.body
 
+pub record TimedInLines (block : Timed) : Type 0 where
+  pub from_fits : block.from < 1000000
+  pub few_entities : length block.entities ≤ 64
+  pub each_entity : All EntityInLines block.entities
+
 pub record ConfigInLines (c : Config) : Type 0 where
   pub start_fits : c.start < 1000000
   pub countdown_fits : c.countdown < 2 ^ 3
@@ -107,8 +113,9 @@ pub record ConfigInLines (c : Config) : Type 0 where
   pub few_streams : length c.streams ≤ 4
   pub each_stream : All StreamInLines c.streams
   pub clock_fits : IfSome c.clock ClockInLines
-  pub few_entities : length c.entities ≤ 64
-  pub each_entity : All EntityInLines c.entities
+  pub some_block : 1 ≤ length c.blocks
+  pub few_blocks : length c.blocks ≤ 64
+  pub each_block : All TimedInLines c.blocks
 
 -- The lines of a text, and the files that it names, can give this plan.
 pub record InLines (plan : Plan) : Type 0 where

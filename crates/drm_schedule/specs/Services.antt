@@ -1,12 +1,13 @@
--- Whether the services of a configuration agree with its streams and with what its entities say of them.
+-- Whether the services of a configuration agree with its streams and with what the entities of each block say of them.
 use Rattle.std.specs.Prelude.{ℕ, ◌==◌, ◌&&◌, ◌||◌, nat_le, nat_lt, not, Bool, false, List, [], ◌∷◌, length, count_by}
 use Rattle.std.specs.List.{list_any}
 use Rattle.drm_fac.specs.declared.service.Service.{Service}
 use Rattle.drm_sdc.specs.declared.body.Body.{Body}
 use Rattle.drm_sdc.specs.declared.body.Body.TheVariants.{Label, App, Audio, Language}
 use Rattle.drm_sdc.specs.declared.entity.Entity.{Entity}
+use Rattle.drm_schedule.specs.declared.timed.Timed.{Timed}
 use Rattle.drm_schedule.specs.declared.config.Config.{Config}
-use Rattle.drm_schedule.specs.InForce.{first_entities}
+use Rattle.drm_schedule.specs.SameLines.{tells_others}
 
 -- the short ids that there are
 abbrev pub short_ids : List ℕ
@@ -58,31 +59,39 @@ are_too_many c = nat_lt 4 (length c.services)
 abbrev pub share_a_short_id : Config → Bool
 share_a_short_id c = list_any (λ k. nat_lt 1 (count_by (is_service k) c.services)) short_ids
 
+-- the services are too many, or two have one short id
+abbrev pub services_disagree : Config → Bool
+services_disagree c = are_too_many c || share_a_short_id c
+
 -- an audio service without exactly one audio line
-abbrev pub lack_one_audio_line : Config → Bool
-lack_one_audio_line c = list_any (λ (s : Service). not s.is_data && not (count_by (λ (e : Entity). is_audio_of s.short e.body) (first_entities c) == 1)) c.services
+abbrev pub lack_one_audio_line : List Service → List Entity → Bool
+lack_one_audio_line services entities =
+    list_any (λ (s : Service). not s.is_data && not (count_by (λ (e : Entity). is_audio_of s.short e.body) entities == 1)) services
 
 -- a data service without an app line
-abbrev pub lack_an_app_line : Config → Bool
-lack_an_app_line c = list_any (λ (s : Service). s.is_data && not (list_any (λ (e : Entity). is_app_of s.short e.body) (first_entities c))) c.services
+abbrev pub lack_an_app_line : List Service → List Entity → Bool
+lack_an_app_line services entities =
+    list_any (λ (s : Service). s.is_data && not (list_any (λ (e : Entity). is_app_of s.short e.body) entities)) services
 
 -- an audio line whose short id isn't an audio service's
-abbrev pub have_a_stray_audio_line : Config → Bool
-have_a_stray_audio_line c = list_any (λ (e : Entity). is_stray_audio c.services e.body) (first_entities c)
+abbrev pub have_a_stray_audio_line : List Service → List Entity → Bool
+have_a_stray_audio_line services entities = list_any (λ (e : Entity). is_stray_audio services e.body) entities
 
 -- an app, label or language line whose short id is no service's
-abbrev pub have_a_stray_line : Config → Bool
-have_a_stray_line c = list_any (λ (e : Entity). is_stray c.services e.body) (first_entities c)
+abbrev pub have_a_stray_line : List Service → List Entity → Bool
+have_a_stray_line services entities = list_any (λ (e : Entity). is_stray services e.body) entities
 
 -- two labels of one short id
-abbrev pub have_two_labels : Config → Bool
-have_two_labels c = list_any (λ k. nat_lt 1 (count_by (λ (e : Entity). is_label_of k e.body) (first_entities c))) short_ids
+abbrev pub have_two_labels : List Entity → Bool
+have_two_labels entities = list_any (λ k. nat_lt 1 (count_by (λ (e : Entity). is_label_of k e.body) entities)) short_ids
 
--- an audio or app line whose stream isn't there
-abbrev pub have_a_line_without_stream : Config → Bool
-have_a_line_without_stream c = list_any (λ (e : Entity). is_streamless (length c.streams) e.body) (first_entities c)
+-- an audio or app line whose stream isn't among so many
+abbrev pub have_a_line_without_stream : ℕ → List Entity → Bool
+have_a_line_without_stream count entities = list_any (λ (e : Entity). is_streamless count e.body) entities
 
-abbrev pub services_disagree : Config → Bool
-services_disagree c =
-    are_too_many c || share_a_short_id c || lack_one_audio_line c || lack_an_app_line c
-    || have_a_stray_audio_line c || have_a_stray_line c || have_two_labels c || have_a_line_without_stream c
+-- the lines of a block disagree with the services and the streams, or with the first block
+abbrev pub block_disagrees : Config → Timed → Bool
+block_disagrees c block =
+    lack_one_audio_line c.services block.entities || lack_an_app_line c.services block.entities
+    || have_a_stray_audio_line c.services block.entities || have_a_stray_line c.services block.entities
+    || have_two_labels block.entities || have_a_line_without_stream (length c.streams) block.entities || tells_others c block

@@ -1,7 +1,9 @@
 -- How many bytes the blocks and the packets of a configuration take.
-use Rattle.std.specs.Prelude.{ℕ, ◌+◌, ◌-◌, ◌*◌, ◌%◌, ◌==◌, ◌&&◌, Bool, nat_lt, if◌then◌else◌, length, is_some, sum_by}
+use Rattle.std.specs.Prelude.{ℕ, ◌≡◌, All, false, ◌+◌, ◌-◌, ◌*◌, ◌%◌, ◌==◌, ◌&&◌, Bool, nat_lt, if◌then◌else◌, List, length, is_some, sum_by}
+use Rattle.drm_sdc.specs.declared.entity.Entity.{Entity}
 use Rattle.drm_sdc.specs.Writing.{total_size}
 use Rattle.drm_schedule.specs.declared.stream.Stream.{Stream}
+use Rattle.drm_schedule.specs.declared.timed.Timed.{Timed}
 use Rattle.drm_schedule.specs.declared.config.Config.{Config}
 use Rattle.drm_schedule.specs.InForce.{entities_in_force}
 
@@ -12,9 +14,13 @@ description_size n = 2 + 3 * n
 abbrev pub clock_size : ℕ
 clock_size = 5
 
--- what the block of a super frame tells by itself, but for the clock: the streams, and the entities in force
+-- what is told of the streams and with these entities
+abbrev pub told_with : Config → List Entity → ℕ
+told_with c entities = description_size (length c.streams) + total_size entities
+
+-- what is told in a super frame beside the clock: the streams, and the entities in force
 abbrev pub told_size : Config → ℕ → ℕ
-told_size c frame = description_size (length c.streams) + total_size (entities_in_force c frame)
+told_size c frame = told_with c (entities_in_force c frame)
 
 -- the clock is told where there is one
 abbrev pub size_if : Bool → ℕ
@@ -28,9 +34,13 @@ tells_clock c frame = is_some c.clock && (frame - c.start) % 50 == 0
 abbrev pub free_bytes : Config → ℕ → ℕ
 free_bytes c frame = c.room - (told_size c frame + size_if (tells_clock c frame))
 
--- type 0, the entities of the lines and a clock don't fit in a block
-abbrev pub has_no_room : Config → Bool
-has_no_room c = nat_lt c.room (told_size c c.start + size_if (is_some c.clock))
+-- the streams, these entities and a clock, where there is one, don't fit
+abbrev pub has_no_room : Config → Timed → Bool
+has_no_room c block = nat_lt c.room (told_with c block.entities + size_if (is_some c.clock))
+
+-- each block has room
+abbrev pub HasRoom : Config → Type 0
+HasRoom c = All (λ (block : Timed). has_no_room c block ≡ false) c.blocks
 
 -- the bytes of a stream in each frame
 abbrev pub stream_size : Stream → ℕ

@@ -2,7 +2,7 @@
 use Rattle.std.specs.Prelude.{ℕ, List, Option, Some, None, codes, if◌then◌else◌}
 use Rattle.std.specs.Str.{bytes_eq}
 use Rattle.line_forms.specs.declared.first_word.Keyword.{Keyword}
-use Rattle.line_forms.specs.declared.first_word.Keyword.TheVariants.{Drmplan, Carry, First, Length, Config, Mode, Occupancy, Depth, Msc, Sdc, Protection, Room, Service, Stream, Clock, Label, Freq, When, App, Audio, Language, Raw}
+use Rattle.line_forms.specs.declared.first_word.Keyword.TheVariants.{Drmplan, Carry, First, Length, Config, Mode, Occupancy, Depth, Msc, Sdc, Protection, Room, Service, Stream, Clock, Block, Label, Freq, When, App, Audio, Language, Raw}
 
 abbrev pub keyword_text : Keyword → List ℕ
 keyword_text Drmplan = codes "drmplan"
@@ -20,6 +20,7 @@ keyword_text Room = codes "room"
 keyword_text Service = codes "service"
 keyword_text Stream = codes "stream"
 keyword_text Clock = codes "clock"
+keyword_text Block = codes "block"
 keyword_text Label = codes "label"
 keyword_text Freq = codes "freq"
 keyword_text When = codes "when"
@@ -46,6 +47,7 @@ keyword_of word =
     else if bytes_eq word (keyword_text Service) then Some Service
     else if bytes_eq word (keyword_text Stream) then Some Stream
     else if bytes_eq word (keyword_text Clock) then Some Clock
+    else if bytes_eq word (keyword_text Block) then Some Block
     else if bytes_eq word (keyword_text Label) then Some Label
     else if bytes_eq word (keyword_text Freq) then Some Freq
     else if bytes_eq word (keyword_text When) then Some When

@@ -3,7 +3,7 @@ use Rattle.std.specs.Prelude.{ℕ, List, Option}
 use Rattle.line_forms.specs.declared.first_word.Keyword.{Keyword}
 use Rattle.line_forms.specs.declared.first_word.Keyword.TheVariants as keywords
 use Rattle.line_forms.specs.Shape.{Shape}
-use Rattle.line_forms.specs.Settings.{version_line, carry_line, first_line, length_line, config_line, mode_line, occupancy_line, depth_line, msc_line, sdc_line, protection_line, room_line, service_line, stream_line, clock_line}
+use Rattle.line_forms.specs.Settings.{version_line, carry_line, first_line, length_line, config_line, mode_line, occupancy_line, depth_line, msc_line, sdc_line, protection_line, room_line, service_line, stream_line, clock_line, block_line}
 use Rattle.line_forms.specs.Entities.{label_line, freq_line, when_line, app_line, audio_line, language_line, raw_line}
 
 -- the whole line, by its keyword and the words after it
@@ -23,6 +23,7 @@ shape_of keywords.Room line words = room_line words
 shape_of keywords.Service line words = service_line words
 shape_of keywords.Stream line words = stream_line words
 shape_of keywords.Clock line words = clock_line words
+shape_of keywords.Block line words = block_line words
 shape_of keywords.Label line words = label_line line words
 shape_of keywords.Freq line words = freq_line words
 shape_of keywords.When line words = when_line words

@@ -19,6 +19,8 @@ use Rattle.drm_schedule.specs.Ranges.{StreamInLines, ServiceInLines, ClockInLine
 use Rattle.text_lines.specs.Lines.{words_of}
 use Rattle.line_forms.specs.declared.first_word.Keyword.{Keyword}
 use Rattle.line_forms.specs.declared.first_word.Keyword.TheVariants as keywords
+use Rattle.line_forms.specs.declared.version.Version.{Version}
+use Rattle.line_forms.specs.declared.version.Version.TheVariants.{One, Two}
 use Rattle.line_forms.specs.declared.line.Line.{Line}
 use Rattle.line_forms.specs.declared.line.Line.TheVariants as lines
 use Rattle.line_forms.specs.Keywords.{keyword_text}
@@ -35,7 +37,7 @@ keyword_of_body _ = keywords.Raw
 
 -- the keyword of a line that says this
 abbrev pub keyword_said : Line → Keyword
-keyword_said lines.Version = keywords.Drmplan
+keyword_said (lines.Version version) = keywords.Drmplan
 keyword_said (lines.Carry carry) = keywords.Carry
 keyword_said (lines.First seq dlfc) = keywords.First
 keyword_said (lines.Length n) = keywords.Length
@@ -50,6 +52,7 @@ keyword_said (lines.Room n) = keywords.Room
 keyword_said (lines.Service service) = keywords.Service
 keyword_said (lines.Stream stream) = keywords.Stream
 keyword_said (lines.Clock clock) = keywords.Clock
+keyword_said (lines.Block from) = keywords.Block
 keyword_said (lines.Entity entity) = keyword_of_body entity.body
 
 abbrev pub bit_word : Bool → List ℕ
@@ -93,6 +96,10 @@ abbrev pub separator : ℕ → List ℕ
 separator zero = []
 separator (suc k) = codes ","
 
+abbrev pub version_word : Version → List ℕ
+version_word One = codes "1"
+version_word Two = codes "2"
+
 abbrev pub carry_words : Carry → List (List ℕ)
 carry_words Plain = codes "plain" ∷ []
 carry_words (Pft m mtu) = codes "pft" ∷ decimal m ∷ decimal mtu ∷ []
@@ -132,7 +139,7 @@ body_parts version (bodies.Raw kind nibble bytes) = decimal kind ∷ bit_word ve
 body_parts version _ = []
 
 abbrev pub parts_said : Line → List (List ℕ)
-parts_said lines.Version = codes "1" ∷ []
+parts_said (lines.Version version) = version_word version ∷ []
 parts_said (lines.Carry carry) = carry_words carry
 parts_said (lines.First seq dlfc) = decimal seq ∷ decimal dlfc ∷ []
 parts_said (lines.Length n) = decimal n ∷ []
@@ -147,6 +154,7 @@ parts_said (lines.Room n) = decimal n ∷ []
 parts_said (lines.Service service) = service_words service
 parts_said (lines.Stream stream) = decimal stream.a ∷ decimal stream.b ∷ content_words stream.content
 parts_said (lines.Clock clock) = decimal clock.mjd ∷ decimal clock.hours ∷ decimal clock.minutes ∷ []
+parts_said (lines.Block from) = decimal from ∷ []
 parts_said (lines.Entity entity) = body_parts entity.version entity.body
 
 -- the canonical line of what is said, without a line feed
@@ -188,7 +196,7 @@ detached line = line
 
 -- what a line can say
 abbrev pub LineInLines : Line → Type 0
-LineInLines lines.Version = Unit {0}
+LineInLines (lines.Version version) = Unit {0}
 LineInLines (lines.Carry carry) = CarryFits carry
 LineInLines (lines.First seq dlfc) = (seq < 2 ^ 16) × (dlfc < 2 ^ 32)
 LineInLines (lines.Length n) = (1 ≤ n) × (n ≤ 1000000)
@@ -203,4 +211,5 @@ LineInLines (lines.Room n) = n < 2 ^ 10
 LineInLines (lines.Service service) = ServiceInLines service
 LineInLines (lines.Stream stream) = StreamInLines stream
 LineInLines (lines.Clock clock) = ClockInLines clock
+LineInLines (lines.Block from) = from < 1000000
 LineInLines (lines.Entity entity) = EntityInLines entity

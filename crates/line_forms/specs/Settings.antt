@@ -1,4 +1,5 @@
--- The lines in front and those of a configuration's settings, services, streams and clock, each by the words after its keyword.
+-- The lines in front and those of a configuration's settings, services, streams, clock and blocks, each by the words after its
+-- keyword.
 use Rattle.std.specs.Prelude.{ℕ, List, [], ◌∷◌, Option, Some, None, Bool, true, false, codes, if◌then◌else◌}
 use Rattle.std.specs.Int.{from_be_bytes, w32}
 use Rattle.std.specs.Str.{bytes_eq}
@@ -7,12 +8,25 @@ use Rattle.dcp_pft.specs.declared.carry.Carry.TheVariants.{Plain, Pft}
 use Rattle.drm_fac.specs.declared.mode.Mode.{Mode}
 use Rattle.drm_fac.specs.Mode.{mode_of_letter}
 use Rattle.drm_schedule.specs.declared.stream.Content.TheVariants.{Fill, File}
+use Rattle.line_forms.specs.declared.version.Version.{Version}
+use Rattle.line_forms.specs.declared.version.Version.TheVariants.{One, Two}
 use Rattle.line_forms.specs.declared.line.Line.TheVariants as lines
 use Rattle.line_forms.specs.Shape.{Shape, shape, number, value, bit, flag, hex, hex_value, byte_value, name, some_of}
 
--- drmplan 1
+-- 1, or 2
+abbrev pub version_of : List ℕ → Option Version
+version_of word =
+    if bytes_eq word (codes "1") then Some One
+    else if bytes_eq word (codes "2") then Some Two
+    else None
+
+abbrev pub says_version : Option Version → Option Shape
+says_version None = None
+says_version (Some version) = shape [] (lines.Version version)
+
+-- drmplan V
 unfoldable pub version_line : List (List ℕ) → Option Shape
-version_line (version ∷ []) = if bytes_eq version (codes "1") then shape [] lines.Version else None
+version_line (version ∷ []) = says_version (version_of version)
 version_line _ = None
 
 -- carry plain
@@ -100,6 +114,11 @@ clock_line (mjd ∷ hours ∷ minutes ∷ []) =
     shape (number 0 131000 mjd ∷ number 0 23 hours ∷ number 0 59 minutes ∷ [])
     (lines.Clock (record { mjd = value mjd; hours = value hours; minutes = value minutes }))
 clock_line _ = None
+
+-- block N
+unfoldable pub block_line : List (List ℕ) → Option Shape
+block_line (from ∷ []) = shape (number 0 999999 from ∷ []) (lines.Block (value from))
+block_line _ = None
 
 -- audio, or data
 abbrev pub is_data_of : List ℕ → Option Bool

@@ -5,6 +5,10 @@ use Rattle.text_lines.specs.Faults.{FaultOf, fault, first_fault, ok_unless, word
 use Rattle.text_lines.specs.Lines.{words_of}
 use Rattle.drm_schedule.specs.declared.invalid.Reason.{Reason}
 use Rattle.drm_schedule.specs.declared.invalid.Reason.TheVariants.{Word, Order, Number, Range, Twice, TooLong, Missing}
+use Rattle.line_forms.specs.declared.version.Version.{Version}
+use Rattle.line_forms.specs.declared.version.Version.TheVariants.{One, Two}
+use Rattle.line_forms.specs.declared.line.Line.{Line}
+use Rattle.line_forms.specs.declared.line.Line.TheVariants as lines
 use Rattle.line_forms.specs.declared.first_word.Keyword.{Keyword}
 use Rattle.line_forms.specs.declared.first_word.Keyword.TheVariants as keywords
 use Rattle.line_forms.specs.Shape.{Shape}
@@ -64,9 +68,55 @@ is_entity keywords.Language = true
 is_entity keywords.Raw = true
 is_entity _ = false
 
--- the entity lines among these
-abbrev pub count_entities : List Said → ℕ
-count_entities said = length (filter (λ s. is_entity (keyword_said s.says)) said)
+-- how many entity lines stand behind the last block line, where so many stood before these lines
+abbrev pub count_with : ℕ → Keyword → ℕ
+count_with n keyword = if same keyword keywords.Block then 0 else if is_entity keyword then n + 1 else n
+
+abbrev pub count_entities : ℕ → List Said → ℕ
+count_entities n [] = n
+count_entities n (s ∷ said) = count_entities (count_with n (keyword_said s.says)) said
+
+-- ---- the version of the text
+
+-- the version that the first line says, if there is one yet
+abbrev pub version_in : List Said → Option Version
+version_in [] = None
+version_in (s ∷ said) = of s.says
+  where
+    of : Line → Option Version
+    of (lines.Version version) = Some version
+    of _ = None
+
+abbrev pub is_one : Option Version → Bool
+is_one (Some One) = true
+is_one _ = false
+
+abbrev pub is_two : Option Version → Bool
+is_two (Some Two) = true
+is_two _ = false
+
+-- a block line is unknown in version 1
+abbrev pub known_in : Option Version → Keyword → Option Keyword
+known_in version keyword = if is_one version && same keyword keywords.Block then None else Some keyword
+
+-- the keyword that a word is in a text of this version
+abbrev pub keyword_in : Option Version → List ℕ → Option Keyword
+keyword_in version word = of (keyword_of word)
+  where
+    of : Option Keyword → Option Keyword
+    of None = None
+    of (Some keyword) = known_in version keyword
+
+-- ---- the rules
+
+-- a line from mode to clock
+abbrev pub is_setting : Keyword → Bool
+is_setting keyword = not (is_front keyword || same keyword keywords.Config || same keyword keywords.Block || is_entity keyword)
+
+-- in version 2 an entity line stands behind a block line, and no line from mode to clock does
+abbrev pub is_out_of_order : Option Version → Keyword → List Said → Bool
+is_out_of_order version keyword part =
+    is_two version && (if count keywords.Block part == 0 then is_entity keyword else is_setting keyword)
 
 -- a line of this keyword is out of its place
 abbrev pub is_misplaced : Read → Keyword → Bool
@@ -74,7 +124,7 @@ is_misplaced read keyword = of read.current
   where
     of : Option Block → Bool
     of None = not (same keyword (keyword_at (length read.front)))
-    of (Some block) = is_front keyword
+    of (Some block) = is_front keyword || is_out_of_order (version_in read.front) keyword block.lines
 
 -- what holds of the lines of the last configuration, if there is one
 abbrev pub in_current : (List Said → Bool) → Option Block → Bool
@@ -82,17 +132,22 @@ in_current test None = false
 in_current test (Some block) = test block.lines
 
 -- a configuration without one of its settings, a service or a stream
-unfoldable pub is_incomplete : List Said → Bool
-is_incomplete part = list_any (λ keyword. count keyword part == 0) needed
+unfoldable pub lacks_a_line : List Said → Bool
+lacks_a_line part = list_any (λ keyword. count keyword part == 0) needed
+
+-- or in version 2 a block
+abbrev pub is_incomplete : Option Version → List Said → Bool
+is_incomplete version part = lacks_a_line part || (is_two version && count keywords.Block part == 0)
 
 -- a line of which its configuration has one, and may have no second
 unfoldable pub is_second : Keyword → List Said → Bool
 is_second keyword part = is_single keyword && nat_lt 0 (count keyword part)
 
--- one more than a configuration may have: a fifth stream, a 65th entity line
+-- one more than there may be: a fifth stream, a 65th block, a 65th entity line of a block
 unfoldable pub is_too_many : Keyword → List Said → Bool
 is_too_many keywords.Stream part = nat_le 4 (count keywords.Stream part)
-is_too_many keyword part = is_entity keyword && nat_le 64 (count_entities part)
+is_too_many keywords.Block part = nat_le 64 (count keywords.Block part)
+is_too_many keyword part = is_entity keyword && nat_le 64 (count_entities 0 part)
 
 -- a 17th configuration
 abbrev pub is_17th : Read → Keyword → Bool
@@ -113,7 +168,7 @@ is_in_range (Some s) = list_all (λ p. p.in_range) s.parts
 
 -- a config line ends the configuration before it, which then lacks something
 abbrev pub ends_incomplete : Read → Keyword → Bool
-ends_incomplete read keyword = same keyword keywords.Config && in_current is_incomplete read.current
+ends_incomplete read keyword = same keyword keywords.Config && in_current (is_incomplete (version_in read.front)) read.current
 
 -- The rows for line n, a line of this keyword after these lines: the first that holds is the fault. A line that isn't of
 -- the right words has no shape.
@@ -142,7 +197,7 @@ said_keyword read n (Some keyword) line words = said_shape read n keyword (shape
 
 -- a line of these words
 abbrev pub said_words : Read → ℕ → List ℕ → List (List ℕ) → Result Read Fault
-said_words read n line words = words_say read (λ first more. said_keyword read n (keyword_of first) line more) words
+said_words read n line words = words_say read (λ first more. said_keyword read n (keyword_in (version_in read.front) first) line more) words
 
 -- line n after these lines
 unfoldable pub said_line : Read → ℕ → List ℕ → Result Read Fault
@@ -153,13 +208,13 @@ abbrev pub said_from : Read → ℕ → List (List ℕ) → Result Read Fault
 said_from read n lines = lines_say said_line read n lines
 
 -- what a text of n lines lacks at its end: a configuration, or a part of the last one
-abbrev pub end_rows : Option Block → ℕ → List (Bool × Fault)
-end_rows None n = (true, fault (n + 1) Missing) ∷ []
-end_rows (Some block) n = (is_incomplete block.lines, fault block.line Missing) ∷ []
+abbrev pub end_rows : Option Version → Option Block → ℕ → List (Bool × Fault)
+end_rows version None n = (true, fault (n + 1) Missing) ∷ []
+end_rows version (Some block) n = (is_incomplete version block.lines, fault block.line Missing) ∷ []
 
 -- the end of a text of n lines
 unfoldable pub ended : ℕ → Read → Result Read Fault
-ended n read = ok_unless (first_fault (end_rows read.current n)) read
+ended n read = ok_unless (first_fault (end_rows (version_in read.front) read.current n)) read
 
 -- what all lines of a text say
 unfoldable pub said : List (List ℕ) → Result Read Fault

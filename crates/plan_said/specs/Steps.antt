@@ -2,6 +2,7 @@
 use Rattle.std.specs.Prelude.{ℕ, ◌≡◌, ◌+◌, ◌||◌, Bool, Option, Some, None, Result, Ok, Err, if◌then◌else◌}
 use Rattle.drm_schedule.specs.declared.invalid.Reason.{Reason}
 use Rattle.drm_schedule.specs.declared.invalid.Reason.TheVariants.{Word, Order, Twice, TooLong, Missing}
+use Rattle.line_forms.specs.declared.version.Version.{Version}
 use Rattle.line_forms.specs.declared.first_word.Keyword.{Keyword}
 use Rattle.plan_said.specs.declared.said.Block.{Block}
 use Rattle.plan_said.specs.declared.said.Read.{Read}
@@ -48,6 +49,6 @@ unfoldable pub refused_of : Read → ℕ → Keyword → Reason → PlanFault
 refused_of read n keyword reason = refuse (is_misplaced read keyword) n reason
 
 -- the end of a text, as a check
-unfoldable pub end_check : Option Block → ℕ → Result (Unit {0}) PlanFault
-end_check None n = Err (plan.Line (n + 1) Missing)
-end_check (Some block) n = if is_incomplete block.lines then Err (plan.Line block.line Missing) else Ok tt
+unfoldable pub end_check : Option Version → Option Block → ℕ → Result (Unit {0}) PlanFault
+end_check version None n = Err (plan.Line (n + 1) Missing)
+end_check version (Some block) n = if is_incomplete version block.lines then Err (plan.Line block.line Missing) else Ok tt

@@ -4,16 +4,18 @@ use Rattle.std.specs.List.{flat_map}
 use Rattle.drm_fac.specs.declared.service.Service.{Service}
 use Rattle.drm_sdc.specs.declared.entity.Entity.{Entity}
 use Rattle.drm_schedule.specs.declared.config.Clock.{Clock}
+use Rattle.drm_schedule.specs.declared.timed.Timed.{Timed}
 use Rattle.drm_schedule.specs.declared.config.Config.{Config}
 use Rattle.drm_schedule.specs.declared.stream.Stream.{Stream}
 use Rattle.drm_schedule.specs.declared.plan.Plan.{Plan}
+use Rattle.line_forms.specs.declared.version.Version.TheVariants.{Two}
 use Rattle.line_forms.specs.declared.line.Line.{Line}
 use Rattle.line_forms.specs.declared.line.Line.TheVariants as lines
 use Rattle.line_forms.specs.Said.{line_text}
 
 -- the four first lines
 abbrev pub front_lines : Plan → List Line
-front_lines plan = lines.Version ∷ lines.Carry plan.carry ∷ lines.First plan.seq plan.dlfc ∷ lines.Length plan.length ∷ []
+front_lines plan = lines.Version Two ∷ lines.Carry plan.carry ∷ lines.First plan.seq plan.dlfc ∷ lines.Length plan.length ∷ []
 
 -- the config line and the settings after it
 abbrev pub settings_lines : Config → List Line
@@ -34,9 +36,13 @@ stream_lines streams = map (λ s. lines.Stream s) streams
 abbrev pub entity_lines : List Entity → List Line
 entity_lines entities = map (λ e. lines.Entity e) entities
 
+-- the block line, and the lines of its entities
+abbrev pub block_lines : Timed → List Line
+block_lines block = lines.Block block.from ∷ entity_lines block.entities
+
 -- the lines of a configuration
 abbrev pub config_lines : Config → List Line
-config_lines c = settings_lines c ++ (service_lines c.services ++ (stream_lines c.streams ++ (clock_lines c.clock ++ entity_lines c.entities)))
+config_lines c = settings_lines c ++ (service_lines c.services ++ (stream_lines c.streams ++ (clock_lines c.clock ++ flat_map block_lines c.blocks)))
 
 -- all lines of a schedule
 abbrev pub plan_lines : Plan → List Line
