@@ -23,7 +23,7 @@ pub enum Repeated {
 }
 
 impl Repeated {
-    ghost use Rattle.drm_schedule.specs.Announcement.{is_of};
+    ghost use Rattle.drm_schedule.specs.SameLines.{is_of};
 
     /// Whether an entity with this body is one of them.
     pub fn is_of(self, body: &Body) -> bool

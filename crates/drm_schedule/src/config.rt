@@ -3,9 +3,9 @@
 ghost use Rattle.std.specs.Prelude.{◌≡◌};
 ghost use Rattle.drm_schedule.specs.InForce.{entities_in_force, first_entities};
 
-use crate::Stream;
+use crate::{Blocks, Stream};
 use drm_fac::{Mode, Service};
-use drm_sdc::{Entities, Entity};
+use drm_sdc::Entity;
 use owned_items::Items;
 
 /// The services of a configuration, in the order of their lines.
@@ -52,22 +52,34 @@ pub struct Config {
     pub services: Services,
     pub streams: Streams,
     pub clock: Option<Clock>,
-    /// What the blocks tell beside the multiplex and the clock, in the order of the lines.
-    pub entities: Entities,
+    /// What the blocks tell beside the multiplex and the clock, by when it begins to hold.
+    pub blocks: Blocks,
 }
 
 impl Config {
-    /// The entities that its block tells in a super frame, beside the multiplex, the clock and an announcement.
-    pub fn entities_in_force(&self, _super_frame: u32) -> &[Entity]
-        ensures { result.now ≡ entities_in_force self.now _super_frame }
+    /// The entities that it tells in a super frame, beside the multiplex, the clock and an announcement.
+    pub fn entities_in_force(&self, super_frame: u32) -> &[Entity]
+        ensures { result.now ≡ entities_in_force self.now super_frame }
     {
-        self.entities.as_slice()
+        let reached = super_frame.saturating_sub(self.start);
+        let mut entities = self.first_entities();
+        let mut left = self.blocks.as_slice();
+        while let [block, more @ ..] = left {
+            if block.from <= reached {
+                entities = block.entities.as_slice();
+            }
+            left = more;
+        }
+        entities
     }
 
-    /// The entities of its first block, by which it is announced.
+    /// The entities with which it begins, by which it is announced.
     pub fn first_entities(&self) -> &[Entity]
         ensures { result.now ≡ first_entities self.now }
     {
-        self.entities.as_slice()
+        match self.blocks.as_slice() {
+            [first, ..] => first.entities.as_slice(),
+            [] => &[],
+        }
     }
 }

@@ -19,6 +19,8 @@ pub enum Reason {
     Order,
     /// The countdown is wrong for the place of its configuration.
     Countdown,
+    /// A block of lines begins at a wrong super frame of its configuration.
+    Block,
     /// The services, and the entities and streams that belong to them, don't agree.
     Services,
     /// The mode has no such spectrum occupancy.
@@ -40,6 +42,8 @@ pub enum Reason {
 pub enum Place {
     /// The line with which it begins.
     Config,
+    /// The line of the block with this number, from 0.
+    Block(usize),
     /// The line of the occupancy.
     Occupancy,
     /// The line of the constellation of the Main Service Channel.

@@ -4,6 +4,7 @@ ghost use Rattle.std.specs.Prelude.{◌≤◌, ◌*◌, length, All};
 ghost use Rattle.drm_sdc.specs.Entity.{EntityFits};
 ghost use Rattle.drm_sdc.specs.Writing.{total_size};
 ghost use Rattle.drm_schedule.specs.Ranges.{EntityInLines};
+ghost use Rattle.drm_schedule.specs.Laws.{OneIsInForce};
 
 use crate::Entities;
 
@@ -12,4 +13,9 @@ pub fn entities_can_be_written(entities: &Entities)
     requires { All EntityInLines entities.now }
     ensures fit { All EntityFits entities.now }
     ensures small { total_size entities.now ≤ 129 * length entities.now }
+{}
+
+/// In each super frame just one list of entities is in force, that of the last block that has begun.
+pub fn one_is_in_force()
+    ensures { OneIsInForce }
 {}

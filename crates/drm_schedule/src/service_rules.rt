@@ -1,11 +1,12 @@
-//! Whether the services of a configuration agree with its streams and its entities.
+//! Whether the services of a configuration agree with its streams and with what its blocks tell.
 
 ghost use Rattle.std.specs.Prelude.{◌≡◌, ◌==◌, nat_lt, count_by};
 ghost use Rattle.std.specs.List.{list_any};
 ghost use Rattle.drm_schedule.specs.Services as rules;
-ghost use Rattle.drm_schedule.specs.Services.{is_service, is_audio_service, services_disagree};
+ghost use Rattle.drm_schedule.specs.Services.{is_service, is_audio_service};
 
-use crate::{Body, Config, Entity, Service};
+use crate::same_lines::tells_others;
+use crate::{Body, Config, Entity, Service, Timed};
 
 fn is_audio_of(short: u8, body: &Body) -> bool
     ensures { result ≡ rules.is_audio_of short body.now }
@@ -108,46 +109,32 @@ fn has_app_line(entities: &[Entity], short: u8) -> bool
     entities.iter().any(|e| is_app_of(short, &e.body))
 }
 
-fn lack_one_audio_line(config: &Config) -> bool
-    ensures { result ≡ rules.lack_one_audio_line config.now }
+fn lack_one_audio_line(services: &[Service], entities: &[Entity]) -> bool
+    ensures { result ≡ rules.lack_one_audio_line services.now entities.now }
 {
-    let entities = config.first_entities();
-    config
-        .services
-        .as_slice()
+    services
         .iter()
         .any(|s| !s.is_data && audio_lines(entities, s.short) != 1)
 }
 
-fn lack_an_app_line(config: &Config) -> bool
-    ensures { result ≡ rules.lack_an_app_line config.now }
+fn lack_an_app_line(services: &[Service], entities: &[Entity]) -> bool
+    ensures { result ≡ rules.lack_an_app_line services.now entities.now }
 {
-    let entities = config.first_entities();
-    config
-        .services
-        .as_slice()
+    services
         .iter()
         .any(|s| s.is_data && !has_app_line(entities, s.short))
 }
 
-fn have_a_stray_audio_line(config: &Config) -> bool
-    ensures { result ≡ rules.have_a_stray_audio_line config.now }
+fn have_a_stray_audio_line(services: &[Service], entities: &[Entity]) -> bool
+    ensures { result ≡ rules.have_a_stray_audio_line services.now entities.now }
 {
-    let services = config.services.as_slice();
-    config
-        .first_entities()
-        .iter()
-        .any(|e| is_stray_audio(services, &e.body))
+    entities.iter().any(|e| is_stray_audio(services, &e.body))
 }
 
-fn have_a_stray_line(config: &Config) -> bool
-    ensures { result ≡ rules.have_a_stray_line config.now }
+fn have_a_stray_line(services: &[Service], entities: &[Entity]) -> bool
+    ensures { result ≡ rules.have_a_stray_line services.now entities.now }
 {
-    let services = config.services.as_slice();
-    config
-        .first_entities()
-        .iter()
-        .any(|e| is_stray(services, &e.body))
+    entities.iter().any(|e| is_stray(services, &e.body))
 }
 
 fn has_two_labels(entities: &[Entity], short: u8) -> bool
@@ -160,36 +147,39 @@ fn has_two_labels(entities: &[Entity], short: u8) -> bool
         > 1
 }
 
-fn have_two_labels(config: &Config) -> bool
-    ensures { result ≡ rules.have_two_labels config.now }
+fn have_two_labels(entities: &[Entity]) -> bool
+    ensures { result ≡ rules.have_two_labels entities.now }
 {
-    let entities = config.first_entities();
     has_two_labels(entities, 0)
         || has_two_labels(entities, 1)
         || has_two_labels(entities, 2)
         || has_two_labels(entities, 3)
 }
 
-fn have_a_line_without_stream(config: &Config) -> bool
-    ensures { result ≡ rules.have_a_line_without_stream config.now }
+fn have_a_line_without_stream(count: usize, entities: &[Entity]) -> bool
+    ensures { result ≡ rules.have_a_line_without_stream count entities.now }
 {
-    let count = config.streams.len();
-    config
-        .first_entities()
-        .iter()
-        .any(|e| is_streamless(count, &e.body))
+    entities.iter().any(|e| is_streamless(count, &e.body))
 }
 
-/// Whether the services, the streams and the entities don't agree.
+/// Whether the services are too many, or two have one short id.
 pub fn disagree(config: &Config) -> bool
-    ensures { result ≡ services_disagree config.now }
+    ensures { result ≡ rules.services_disagree config.now }
 {
-    config.services.len() > 4
-        || share_a_short_id(config)
-        || lack_one_audio_line(config)
-        || lack_an_app_line(config)
-        || have_a_stray_audio_line(config)
-        || have_a_stray_line(config)
-        || have_two_labels(config)
-        || have_a_line_without_stream(config)
+    config.services.len() > 4 || share_a_short_id(config)
+}
+
+/// Whether the lines of a block disagree with the services and the streams, or with the first block.
+pub fn block_disagrees(config: &Config, block: &Timed) -> bool
+    ensures { result ≡ rules.block_disagrees config.now block.now }
+{
+    let services = config.services.as_slice();
+    let entities = block.entities.as_slice();
+    lack_one_audio_line(services, entities)
+        || lack_an_app_line(services, entities)
+        || have_a_stray_audio_line(services, entities)
+        || have_a_stray_line(services, entities)
+        || have_two_labels(entities)
+        || have_a_line_without_stream(config.streams.len(), entities)
+        || tells_others(config, block)
 }

@@ -2,11 +2,11 @@
 
 ghost use Rattle.std.specs.Prelude.{◌≡◌, ◌≤◌, ◌<◌, ◌^◌, ◌+◌, length, All, sum_by};
 ghost use Rattle.drm_sdc.specs.Entity.{entity_size};
-ghost use Rattle.drm_schedule.specs.Ranges.{EntityInLines, StreamInLines, ConfigInLines};
+ghost use Rattle.drm_schedule.specs.Ranges.{EntityInLines, TimedInLines, StreamInLines, ConfigInLines};
 ghost use Rattle.drm_schedule.specs.Sizes as sizes;
-ghost use Rattle.drm_schedule.specs.Sizes.{told_size, tells_clock, size_if, free_bytes, has_no_room, stream_size};
+ghost use Rattle.drm_schedule.specs.Sizes.{told_with, size_if, free_bytes, has_no_room, stream_size};
 
-use crate::{Config, Stream};
+use crate::{Config, Stream, Timed};
 use drm_sdc::{Entity, total_size};
 
 /// The bytes of an entity.
@@ -17,13 +17,15 @@ pub fn entity_len(entity: &Entity) -> u16
     entity.size() as u16
 }
 
-// The bytes of what the block of a super frame tells by itself, but for the clock.
-fn told_len(config: &Config, frame: u32) -> usize
-    requires { ConfigInLines config.now }
-    ensures size { result ≡ told_size config.now frame }
+// The bytes of what is told of the streams and with these entities.
+fn told_len(config: &Config, entities: &[Entity]) -> usize
+    requires config { ConfigInLines config.now }
+    requires few { length entities.now ≤ 64 }
+    requires each { All EntityInLines entities.now }
+    ensures size { result ≡ told_with config.now entities.now }
     ensures small { result < 2 ^ 14 }
 {
-    2 + 3 * config.streams.len() + total_size(config.entities_in_force(frame))
+    2 + 3 * config.streams.len() + total_size(entities)
 }
 
 // The bytes of a clock, where it is told.
@@ -34,12 +36,14 @@ fn clock_len(is_told: bool) -> usize
     if is_told { 5 } else { 0 }
 }
 
-/// Whether the blocks have no room for what they tell by themselves.
-pub fn is_too_small(config: &Config) -> bool
-    requires { ConfigInLines config.now }
-    ensures { result ≡ has_no_room config.now }
+/// Whether there is no room for what is told with the entities of a block.
+pub fn is_too_small(config: &Config, block: &Timed) -> bool
+    requires config { ConfigInLines config.now }
+    requires block { TimedInLines block.now }
+    ensures { result ≡ has_no_room config.now block.now }
 {
-    usize::from(config.room) < told_len(config, config.start) + clock_len(config.clock.is_some())
+    let told = told_len(config, block.entities.as_slice());
+    usize::from(config.room) < told + clock_len(config.clock.is_some())
 }
 
 /// The bytes that the block of a super frame has left for an announcement.
@@ -48,7 +52,7 @@ pub fn free_len(config: &Config, frame: u32) -> u16
     ensures { result ≡ free_bytes config.now frame }
 {
     let is_told = config.clock.is_some() && frame.saturating_sub(config.start) % 50 == 0;
-    let told = told_len(config, frame) + clock_len(is_told);
+    let told = told_len(config, config.entities_in_force(frame)) + clock_len(is_told);
     usize::from(config.room).saturating_sub(told) as u16
 }
 

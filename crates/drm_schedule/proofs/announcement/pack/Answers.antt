@@ -4,7 +4,12 @@ use Rattle.drm_schedule.specs.Sizes.{description_size}
 use Rattle.block_packing.specs.Packing.{front}
 use Rattle.drm_schedule.specs.Announcement.{all_repeated, parameters_size}
 use Rattle.block_packing.proofs.PackingLemmas.{goes_on, stops}
+use Rattle.drm_schedule.proofs.InForceLemmas.{AreOfLines, of_first, each_of_lines}
 use Rattle.drm_schedule.proofs.announcement.pack.Goals as goal
+
+pub place_repeated-requires : goal.place_repeated-requires
+place_repeated-requires c =
+    (of_first (λ entities. AreOfLines entities) c.args.config.now.blocks c.requires.some_block (each_of_lines c.args.config.now.blocks c.requires.each_block)).1
 
 pub returns-in_err-spot : goal.returns-in_err-spot
 returns-in_err-spot c =

@@ -1,0 +1,16 @@
+use Rattle.std.proofs.Common.{List, sym, subst}
+use Rattle.drm_sdc.specs.declared.entity.Entity.{Entity}
+use Rattle.drm_schedule.proofs.InForceLemmas.{AreOfLines, of_those_in_force, each_of_lines}
+use Rattle.drm_schedule.proofs.sizes.free_len.Goals as goal
+
+of_lines : (c : goal.After-entities_in_force) → AreOfLines c.entities_in_force.result.now
+of_lines c =
+    let P : List Entity → Type 0 = λ entities. AreOfLines entities in
+    subst P (sym c.entities_in_force.ensures)
+    (of_those_in_force P c.args.config.now c.args.frame c.requires.some_block (each_of_lines c.args.config.now.blocks c.requires.each_block))
+
+pub told_len-requires-clause-few : goal.told_len-requires-clause-few
+told_len-requires-clause-few c = (of_lines c).0
+
+pub told_len-requires-clause-each : goal.told_len-requires-clause-each
+told_len-requires-clause-each c = (of_lines c).1
