@@ -13,7 +13,7 @@ use Rattle.drm_sdc.proofs.EntityLaws.{small_front}
 use Rattle.drm_sdc.proofs.WrittenField.{field_is, field_length}
 use Rattle.drm_schedule.specs.declared.config.Config.{Config}
 use Rattle.drm_schedule.specs.declared.plan.Plan.{Plan}
-use Rattle.drm_schedule.specs.Sizes.{has_no_room, free_bytes, told_size, size_if, tells_clock}
+use Rattle.drm_schedule.specs.Sizes.{HasRoom, free_bytes, told_size, size_if, tells_clock}
 use Rattle.drm_timeline.specs.Standing.{announced_in}
 use Rattle.drm_timeline.specs.Blocks.{told_in, entities_of}
 use Rattle.drm_timeline.specs.Telling.{WroteEntities, Tells}
@@ -27,16 +27,16 @@ pub record Filled (c : Config) (plan : Plan) (sf : ℕ) (s t : BitSink) : Type 0
   pub wrote : WroteEntities entities s t
   pub few : total_size entities ≤ c.room
 
-pub filled : (c : Config) (plan : Plan) (sf : ℕ) (s t u : BitSink) → has_no_room c ≡ false → WroteEntities (told_in c sf) s t → Tells c sf (announced_in plan sf) t u → Filled c plan sf s u
-filled c plan sf s t u room told tells = record {
+pub filled : (c : Config) (plan : Plan) (sf : ℕ) (s t u : BitSink) → 1 ≤ length c.blocks → HasRoom c → WroteEntities (told_in c sf) s t → Tells c sf (announced_in plan sf) t u → Filled c plan sf s u
+filled c plan sf s t u some room told tells = record {
   entities = told_in c sf ++ tells.entities;
   are = ap (option_map (λ announced. told_in c sf ++ announced)) tells.are;
   wrote = wrote_both told tells.written;
-  few = omega (arith, size_append (told_in c sf) tells.entities, own_size c sf, own_room c sf room, tells.fit);
+  few = omega (arith, size_append (told_in c sf) tells.entities, own_size c sf, own_room c sf some room, tells.fit);
 }
 
-pub own_fits : (c : Config) (sf bits : ℕ) → has_no_room c ≡ false → c.room ≤ 1023 → bits ≡ 8 * 1023 → 8 * (told_size c sf + size_if (tells_clock c sf)) ≤ bits
-own_fits c sf bits room small is = omega (arith, own_room c sf room, small, is)
+pub own_fits : (c : Config) (sf bits : ℕ) → 1 ≤ length c.blocks → HasRoom c → c.room ≤ 1023 → bits ≡ 8 * 1023 → 8 * (told_size c sf + size_if (tells_clock c sf)) ≤ bits
+own_fits c sf bits some room small is = omega (arith, own_room c sf some room, small, is)
 
 pub free_fits : (c : Config) (sf : ℕ) (s t : BitSink) → c.room ≤ 1023 → length (unwritten s) ≡ 8 * 1023 → WroteEntities (told_in c sf) s t → 8 * free_bytes c sf ≤ length (unwritten t)
 free_fits c sf s t small is told = omega (arith, told.left, own_size c sf, small, is)

@@ -25,16 +25,16 @@ fewer frames more s le is = by s.content refl
 abbrev pub Reaches : ℕ → Config → Type 0
 Reaches sf c = All (λ (s : Stream). is_short (3 * (sf + 1 - c.start)) s ≡ false) c.streams
 
-reaches : (plan : Plan) (sf end : ℕ) (before : Option Config) (c : Config) → IsFaultless plan before end c → sf < end → Reaches sf c
-reaches plan sf end before c is lt k d within = fewer (3 * (sf + 1 - c.start)) (3 * (end - c.start)) _ (omega (arith, lt)) (is.files k d within)
+reaches : (plan : Plan) (sf : ℕ) (before : Option Config) (c : Config) (more : List Config) → IsFaultless plan before c more → sf < end_before plan.length more → Reaches sf c
+reaches plan sf before c more is lt k d within = fewer (3 * (sf + 1 - c.start)) (3 * (end_before plan.length more - c.start)) _ (omega (arith, lt)) (is.files k d within)
 
 last_reaches : (plan : Plan) (sf : ℕ) (before : Option Config) (cs : List Config) (o : Option Config) → AreFaultless plan before cs → sf < plan.length → (sf < end_before plan.length cs → IfSome o (Reaches sf)) → IfSome (last_or o (filter (has_started sf) cs)) (Reaches sf)
-last_reaches plan sf before [] o are lt of = of lt
+last_reaches plan sf before [] o are lt of = of (omega (arith, lt))
 last_reaches plan sf before (c ∷ more) o are lt of = by (λ o first. last_reaches plan sf (Some c) more o are.1 lt first) (has_started sf c) refl
   where
     by : ((o : Option Config) → (sf < end_before plan.length more → IfSome o (Reaches sf)) → IfSome (last_or o (filter (has_started sf) more)) (Reaches sf)) → (b : Bool) → has_started sf c ≡ b
         → IfSome (last_or o (cond b (c ∷ filter (has_started sf) more) (filter (has_started sf) more))) (Reaches sf)
-    by rest true is = rest (Some c) (λ within. reaches plan sf (end_before plan.length more) before c are.0 within)
+    by rest true is = rest (Some c) (λ within. reaches plan sf before c more are.0 within)
     by rest false is = rest o (λ within. of (omega (arith, leb-false c.start sf is, lt)))
 
 -- and so those of the one that holds

@@ -9,9 +9,9 @@ use Rattle.std.proofs.lemmas.Option.{slice_get-get_or}
 use Rattle.dcp_pft.specs.Limits.{most_packet}
 use Rattle.drm_schedule.specs.Ranges.{ConfigInLines}
 use Rattle.drm_schedule.specs.Announcement.{countdown_start, lacks_announcement, can_be_announced}
-use Rattle.drm_schedule.specs.Sizes.{has_no_room, packet_len}
+use Rattle.drm_schedule.specs.Sizes.{HasRoom, packet_len}
 use Rattle.drm_schedule.specs.Services.{services_disagree}
-use Rattle.drm_schedule.specs.Valid.{end_before, IsFaultless, AreFaultless}
+use Rattle.drm_schedule.specs.Valid.{IsFaultless, AreFaultless}
 use Rattle.drm_timeline.specs.Standing.{has_started, is_counting}
 use Rattle.drm_timeline.specs.FastAccess.{audio_services, data_services, services_of}
 use Rattle.drm_timeline.proofs.FastAccessLemmas.{both_kinds, has_code}
@@ -20,12 +20,12 @@ use Rattle.drm_timeline.proofs.StandingLemmas.{some_last, last_passing_has}
 -- what holds of each configuration of a schedule by itself
 pub record IsSound (c : Config) : Type 0 where
   pub services : services_disagree c ≡ false
-  pub room : has_no_room c ≡ false
+  pub room : HasRoom c
 
 pub all_sound : (plan : Plan) (before : Option Config) (cs : List Config) → AreFaultless plan before cs → All IsSound cs
 all_sound plan before [] are = All-nil IsSound
 all_sound plan before (c ∷ more) are =
-    All-cons IsSound c more (record { services = are.0.services_agree; room = are.0.has_room }) (all_sound plan (Some c) more are.1)
+    All-cons IsSound c more (record { services = are.0.services_agree; room = are.0.blocks_have_room }) (all_sound plan (Some c) more are.1)
 
 -- the packets of each are within the limit
 pub all_small : (plan : Plan) (before : Option Config) (cs : List Config) → AreFaultless plan before cs → All (λ c. packet_len c true ≤ most_packet plan.carry) cs
@@ -33,8 +33,8 @@ all_small plan before [] are = All-nil (λ c. packet_len c true ≤ most_packet 
 all_small plan before (c ∷ more) are = All-cons (λ c. packet_len c true ≤ most_packet plan.carry) c more are.0.packet (all_small plan (Some c) more are.1)
 
 -- the first configuration starts with the schedule
-pub first_start : (plan : Plan) (end : ℕ) (c : Config) → IsFaultless plan None end c → c.start ≡ 0
-first_start plan end c is = by (c.start == 0) refl is.order
+pub first_start : (plan : Plan) (c : Config) (more : List Config) → IsFaultless plan None c more → c.start ≡ 0
+first_start plan c more is = by (c.start == 0) refl is.order
   where
     by : (b : Bool) → (c.start == 0) ≡ b → not b ≡ false → c.start ≡ 0
     by true test wrong = eqb-true c.start 0 test
@@ -44,7 +44,7 @@ first_start plan end c is = by (c.start == 0) refl is.order
 pub some_config : (plan : Plan) (sf : ℕ) (cs : List Config) → 1 ≤ length cs → AreFaultless plan None cs → last_or None (filter (has_started sf) cs) ≡ None → ⊥
 some_config plan sf [] some are none = absurd (omega (arith, some))
 some_config plan sf (c ∷ more) some are none =
-    let started : has_started sf c ≡ true = le-leb c.start sf (omega (arith, first_start plan (end_before plan.length more) c are.0)) in
+    let started : has_started sf c ≡ true = le-leb c.start sf (omega (arith, first_start plan c more are.0)) in
     some_last c (filter (has_started sf) more) (ap (λ l. last_or None l) (sym (cond-true (has_started sf c) (c ∷ filter (has_started sf) more) (filter (has_started sf) more) started)) ∙ none)
 
 -- a later configuration starts behind the one before it, and so does its countdown
@@ -53,8 +53,8 @@ pub record Follows (before c : Config) : Type 0 where
   pub counts : 1 ≤ c.countdown
   pub apart : before.start + c.countdown ≤ c.start
 
-pub follows : (plan : Plan) (end : ℕ) (before c : Config) → IsFaultless plan (Some before) end c → Follows before c
-follows plan end before c is =
+pub follows : (plan : Plan) (before c : Config) (more : List Config) → IsFaultless plan (Some before) c more → Follows before c
+follows plan before c more is =
     let order = or_parts (nat_le c.start before.start) (nat_le plan.length c.start) is.order in
     let counts = or_parts (c.countdown == 0) (nat_lt c.start (before.start + c.countdown)) is.countdown_fits in
     record {
@@ -71,14 +71,14 @@ follows plan end before c is =
 none_later : (plan : Plan) (sf : ℕ) (before : Config) (cs : List Config) → AreFaultless plan (Some before) cs → sf < before.start → find (is_counting sf) cs ≡ None
 none_later plan sf before [] are ahead = refl
 none_later plan sf before (c ∷ more) are ahead =
-    let f = follows plan (end_before plan.length more) before c are.0 in
+    let f = follows plan before c more are.0 in
     ap (λ b. cond b (Some c) (find (is_counting sf) more)) (ap (λ b. b && nat_lt sf c.start) (lt-leb (countdown_start c) sf (omega (arith, f.later, f.apart, ahead))))
     ∙ none_later plan sf c more are.1 (omega (arith, f.later, ahead))
 
 none_started : (plan : Plan) (sf : ℕ) (before : Config) (cs : List Config) → AreFaultless plan (Some before) cs → sf < before.start → filter (has_started sf) cs ≡ []
 none_started plan sf before [] are ahead = refl
 none_started plan sf before (c ∷ more) are ahead =
-    let f = follows plan (end_before plan.length more) before c are.0 in
+    let f = follows plan before c more are.0 in
     ap (λ b. cond b (c ∷ filter (has_started sf) more) (filter (has_started sf) more)) (lt-leb c.start sf (omega (arith, f.later, ahead)))
     ∙ none_started plan sf c more are.1 (omega (arith, f.later, ahead))
 
@@ -106,7 +106,7 @@ announces plan sf before (x ∷ more) c are found = by (announces plan sf (Some 
 
     by : (AreFaultless plan (Some x) more → find (is_counting sf) more ≡ Some c → Announces (Some x) sf more c) → (b : Bool) → is_counting sf x ≡ b → (s : Bool) → has_started sf x ≡ s → (o : Option Config) → AreFaultless plan o (x ∷ more) → cond b (Some x) (find (is_counting sf) more) ≡ Some c → Announces o sf (x ∷ more) c
     by rest true counts true is o all found = absurd (omega (arith, ltb-true sf x.start (and_parts (nat_le (countdown_start x) sf) (nat_lt sf x.start) counts).1, leb-true x.start sf is))
-    by rest true counts false is None all found = absurd (omega (arith, ltb-true sf x.start (and_parts (nat_le (countdown_start x) sf) (nat_lt sf x.start) counts).1, first_start plan (end_before plan.length more) x all.0))
+    by rest true counts false is None all found = absurd (omega (arith, ltb-true sf x.start (and_parts (nat_le (countdown_start x) sf) (nat_lt sf x.start) counts).1, first_start plan x more all.0))
     by rest true counts false is (Some b) all found =
         subst (λ (y : Config). Announces (Some b) sf (x ∷ more) y) (some_is x c found)
         (record { before = b; holds = ahead (Some b) is all.1; can = all.0.announced; counting = counts })
@@ -149,7 +149,7 @@ holds plan sf k cs c are fit within is found =
 -- one to four services have a code
 pub sound_services : (c : Config) → ConfigInLines c → IsSound c → IsSome (services_of c)
 sound_services c fits sound =
-    let few : length c.services ≤ 4 = ltb-false 4 (length c.services) (or_parts _ _ (or_parts _ _ (or_parts _ _ (or_parts _ _ (or_parts _ _ (or_parts _ _ (or_parts _ _ sound.services).0).0).0).0).0).0).0 in
+    let few : length c.services ≤ 4 = ltb-false 4 (length c.services) (or_parts _ _ sound.services).0 in
     has_code (length (audio_services c)) (length (data_services c)) (omega (arith, both_kinds c.services, fits.some_service)) (omega (arith, both_kinds c.services, few))
 
 -- The search for what is announced.

@@ -7,7 +7,7 @@ use Rattle.drm_schedule.specs.declared.config.Config.{Config}
 use Rattle.drm_schedule.specs.declared.plan.Plan.{Plan}
 use Rattle.drm_schedule.specs.Ranges.{ConfigInLines}
 use Rattle.drm_schedule.specs.Announcement.{countdown_start}
-use Rattle.drm_schedule.specs.Valid.{end_before, IsFaultless, AreFaultless}
+use Rattle.drm_schedule.specs.Valid.{IsFaultless, AreFaultless}
 use Rattle.drm_timeline.specs.Standing.{has_started, is_counting, frames_before}
 use Rattle.drm_timeline.proofs.ScheduleLemmas.{follows, first_start}
 
@@ -34,7 +34,7 @@ is_later plan [] start are above is = is
 is_later plan (c ∷ more) start are above is = by is.0 is.1 is.2
   where
     by : (k : ℕ) → k < length (c.start ∷ starts more) → get_or (c.start ∷ starts more) k start ≡ start → Contains (starts more) start
-    by zero within is = absurd (omega (arith, above, is, first_start plan (end_before plan.length more) c are.0))
+    by zero within is = absurd (omega (arith, above, is, first_start plan c more are.0))
     by (suc k) within is = (k, omega (arith, within), is)
 
 -- later starts are in the schedule
@@ -52,8 +52,8 @@ all_within plan [] are = All-nil (λ start. (0 < start) × (start < plan.length)
 all_within plan (c ∷ more) are = All-map (λ start. (0 < start) × (start < plan.length)) (λ (c : Config). c.start) more (all_behind plan c more are.1)
 
 -- the first configuration has no countdown
-no_countdown : (plan : Plan) (end : ℕ) (c : Config) → IsFaultless plan None end c → c.countdown ≡ 0
-no_countdown plan end c is = by (c.countdown == 0) refl is.countdown_fits
+no_countdown : (plan : Plan) (c : Config) (more : List Config) → IsFaultless plan None c more → c.countdown ≡ 0
+no_countdown plan c more is = by (c.countdown == 0) refl is.countdown_fits
   where
     by : (b : Bool) → (c.countdown == 0) ≡ b → not b ≡ false → c.countdown ≡ 0
     by true test wrong = eqb-true c.countdown 0 test
@@ -66,7 +66,7 @@ IsApart before c = (1 ≤ c.countdown) × (before.start + c.countdown ≤ c.star
 all_apart : (plan : Plan) (before : Config) (cs : List Config) → AreFaultless plan (Some before) cs → All (IsApart before) cs
 all_apart plan before [] are = All-nil (IsApart before)
 all_apart plan before (c ∷ more) are =
-    let f = follows plan (end_before plan.length more) before c are.0 in
+    let f = follows plan before c more are.0 in
     All-cons (IsApart before) c more (f.counts, f.apart)
     (All-weaker (IsApart c) (IsApart before) (λ d apart. (apart.0, omega (arith, apart.1, f.later))) more (all_apart plan c more are.1))
 
@@ -78,7 +78,7 @@ pub all_have_countdown : (plan : Plan) (cs : List Config) → AreFaultless plan 
 all_have_countdown plan [] are = All-nil HasCountdown
 all_have_countdown plan (c ∷ more) are =
     All-cons HasCountdown c more
-    ((λ above. absurd (omega (arith, above, first_start plan (end_before plan.length more) c are.0))), omega (arith, no_countdown plan (end_before plan.length more) c are.0))
+    ((λ above. absurd (omega (arith, above, first_start plan c more are.0))), omega (arith, no_countdown plan c more are.0))
     (All-weaker (IsApart c) HasCountdown (λ d apart. ((λ above. apart.0), omega (arith, apart.1))) more (all_apart plan c more are.1))
 
 counting : (sf : ℕ) (c : Config) → countdown_start c ≤ sf → sf < c.start → is_counting sf c ≡ true

@@ -22,8 +22,9 @@ use Rattle.drm_schedule.specs.declared.config.Config.{Config}
 use Rattle.drm_schedule.specs.declared.stream.Stream.{Stream}
 use Rattle.drm_schedule.specs.Ranges.{EntityInLines, ConfigInLines, StreamInLines, BodyInLines}
 use Rattle.drm_schedule.specs.InForce.{entities_in_force}
-use Rattle.drm_schedule.specs.Sizes.{told_size, size_if, tells_clock, has_no_room}
+use Rattle.drm_schedule.specs.Sizes.{told_with, told_size, size_if, tells_clock, HasRoom}
 use Rattle.drm_schedule.proofs.Fitting.{body_fits, entity_fits}
+use Rattle.drm_schedule.proofs.InForceLemmas.{AreOfLines, of_those_in_force, each_of_lines}
 use Rattle.drm_timeline.specs.Announcing.{next}
 use Rattle.drm_timeline.specs.Description.{description_of, parts_of}
 use Rattle.drm_timeline.specs.Blocks.{current, clock_from, clock_in, told_in}
@@ -107,11 +108,18 @@ pub own_size : (c : Config) (sf : ℕ) → total_size (told_in c sf) ≡ told_si
 own_size c sf = told_sizes c sf ∙ ap (λ n. told_size c sf + n) (clock_sizes c sf)
 
 -- they have room
-pub own_room : (c : Config) (sf : ℕ) → has_no_room c ≡ false → told_size c sf + size_if (tells_clock c sf) ≤ c.room
-own_room c sf room = omega (arith, ltb-false c.room (told_size c c.start + size_if (is_some c.clock)) room, clock_most c sf)
+pub own_room : (c : Config) (sf : ℕ) → 1 ≤ length c.blocks → HasRoom c → told_size c sf + size_if (tells_clock c sf) ≤ c.room
+own_room c sf some room =
+    let fits : told_with c (entities_in_force c sf) + size_if (is_some c.clock) ≤ c.room =
+    of_those_in_force (λ entities. told_with c entities + size_if (is_some c.clock) ≤ c.room) c sf some
+    (λ k d within. ltb-false c.room (told_with c (get_or c.blocks k d).entities + size_if (is_some c.clock)) (room k d within)) in
+    omega (arith, fits, clock_most c sf)
 
 pub lines_fit : (es : List Entity) → All EntityInLines es → All EntityFits es
 lines_fit es all k d within = entity_fits (get_or es k d) (all k d within)
+
+pub each_in_force : (c : Config) (sf : ℕ) → ConfigInLines c → All EntityInLines (entities_in_force c sf)
+each_in_force c sf fits = (of_those_in_force (λ entities. AreOfLines entities) c sf fits.some_block (each_of_lines c.blocks fits.each_block)).1
 
 -- the description, the entities of the lines and the clock, one behind another
 pub wrote_told : (c : Config) (sf : ℕ) (d : MuxDesc) (es : List Entity) (s t u v : BitSink) → ConfigInLines c → d ≡ description_of c → es ≡ entities_in_force c sf
@@ -123,7 +131,7 @@ wrote_told c sf d es s t u v fits is same first first_left rest rest_left clock 
       wrote = subst (λ (l : List Bool). Wrote l s t) (sym (append-nil (spelled (entity_fields (current (Mux d)))))) first;
       left = omega (arith, first_left);
     } in
-    let lines : WroteEntities es t u = record { each = subst (All EntityFits) (sym same) (lines_fit (entities_in_force c sf) fits.each_entity); wrote = rest; left = rest_left } in
+    let lines : WroteEntities es t u = record { each = subst (All EntityFits) (sym same) (lines_fit (entities_in_force c sf) (each_in_force c sf fits)); wrote = rest; left = rest_left } in
     subst (λ (x : MuxDesc). WroteEntities (current (Mux x) ∷ (entities_in_force c sf ++ clock_in c sf)) s v) is
     (subst (λ (l : List Entity). WroteEntities (current (Mux d) ∷ (l ++ clock_in c sf)) s v) same (wrote_both one (wrote_both lines clock)))
 

@@ -10,7 +10,7 @@ ghost use Rattle.drm_sdc.specs.Writing.{total_size};
 ghost use Rattle.drm_sdc.specs.declared.block.Block.{Block};
 ghost use Rattle.drm_sdc.specs.declared.entity.Entity.{Entity};
 ghost use Rattle.drm_schedule.specs.Ranges.{ConfigInLines};
-ghost use Rattle.drm_schedule.specs.Sizes.{has_no_room, free_bytes, told_size, size_if, tells_clock};
+ghost use Rattle.drm_schedule.specs.Sizes.{HasRoom, free_bytes, told_size, size_if, tells_clock};
 ghost use Rattle.drm_timeline.specs.Standing.{config_of, announced_in};
 ghost use Rattle.drm_timeline.specs.Blocks.{block_of, entities_of, told_in, clock_in};
 ghost use Rattle.drm_timeline.specs.Telling.{WroteEntities, Tells};
@@ -43,7 +43,7 @@ pub fn block_into(plan: &Schedule, sf: u32, into: &mut [u8; 1026]) -> u32
 fn write_field(plan: &Schedule, sf: u32, config: &Config, field: &mut [u8; 1023])
     requires config { config_of plan.now sf ≡ Some config.now }
     requires fits { ConfigInLines config.now }
-    requires room { has_no_room config.now ≡ false }
+    requires room { HasRoom config.now }
     requires started { (config.now.start ≤ sf) × (sf < 1000000) }
     ensures field { (entities : List Entity) × (entities_of config.now plan.now sf ≡ Some entities) × IsField entities (replicate (config.now.room - total_size entities) 0) (take config.now.room field.new) }
     ensures octets { (i : ℕ) → slice_index field.new i < 2 ^ 8 }

@@ -8,7 +8,7 @@ ghost use Rattle.drm_schedule.specs.Ranges.{ConfigInLines};
 ghost use Rattle.block_packing.specs.Packing.{chain};
 ghost use Rattle.drm_schedule.specs.declared.config.Config.{Config};
 ghost use Rattle.drm_schedule.specs.Announcement.{can_be_announced};
-ghost use Rattle.drm_schedule.specs.Sizes.{has_no_room, packet_len};
+ghost use Rattle.drm_schedule.specs.Sizes.{HasRoom, packet_len};
 ghost use Rattle.drm_timeline.specs.FastAccess.{services_of};
 ghost use Rattle.drm_timeline.specs.Standing as standing;
 ghost use Rattle.drm_timeline.specs.Standing.{has_started, config_of, announced_in, index_of};
@@ -33,7 +33,7 @@ pub fn standing(plan: &Schedule, sf: u32) -> &Config
     ensures fits { ConfigInLines result.now }
     ensures started { result.now.start ≤ sf }
     ensures services { IsSome (services_of result.now) }
-    ensures room { has_no_room result.now ≡ false }
+    ensures room { HasRoom result.now }
     ensures packet { packet_len result.now true ≤ most_packet plan.now.carry }
 {
     plan.always_valid();

@@ -3,7 +3,8 @@ use Rattle.std.proofs.lemmas.List.{take_all}
 use Rattle.std.proofs.lemmas.List.Elements.{All-drop}
 use Rattle.drm_sdc.specs.declared.entity.Entity.{Entity}
 use Rattle.drm_schedule.specs.Ranges.{EntityInLines}
-use Rattle.drm_schedule.specs.Announcement.{is_of, repeated_of}
+use Rattle.drm_schedule.specs.SameLines.{is_of}
+use Rattle.drm_schedule.specs.Announcement.{repeated_of}
 use Rattle.drm_timeline.specs.Announcing.{as_next}
 use Rattle.drm_timeline.proofs.PackedLemmas.{Packs, packs_start, packs_some, packs_step, packs_room, packs_end}
 use Rattle.drm_timeline.proofs.announcing.write_all.Goals as goal

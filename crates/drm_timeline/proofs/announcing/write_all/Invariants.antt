@@ -1,6 +1,7 @@
 use Rattle.std.proofs.Common.{length, map, filter, All}
 use Rattle.drm_schedule.specs.Ranges.{EntityInLines}
-use Rattle.drm_schedule.specs.Announcement.{is_of, repeated_of}
+use Rattle.drm_schedule.specs.SameLines.{is_of}
+use Rattle.drm_schedule.specs.Announcement.{repeated_of}
 use Rattle.drm_timeline.specs.Announcing.{as_next}
 use Rattle.drm_timeline.proofs.PackedLemmas.{Packs}
 use Rattle.drm_timeline.proofs.announcing.write_all.Given as goal

@@ -1,5 +1,6 @@
 use Rattle.drm_schedule.specs.declared.announcement.Repeated.TheVariants.{Audio, App}
 use Rattle.drm_schedule.specs.Announcement.{repeated_of}
+use Rattle.drm_schedule.proofs.InForceLemmas.{AreOfLines, of_first, each_of_lines}
 use Rattle.drm_timeline.proofs.PackedLemmas.{packs_room}
 use Rattle.drm_timeline.proofs.AnnouncingLemmas.{announcement_with, after_head, behind_audio, behind_apps, some_audio, some_apps, is_announcement}
 use Rattle.drm_timeline.proofs.announcing.write_packed.Goals as goal
@@ -42,3 +43,11 @@ returns c =
     c.write_all-spot.ensures.spot c.write_all-spot.ensures.wrote)
     c.write_all.ensures.spot c.write_all.ensures.wrote in
     record { wrote = (announcement_with c.args.config.now w.0, is_announcement c.args.config.now w.0 w.1, done.0, done.1) }
+
+pub write_all-spot-requires-clause-each : goal.write_all-spot-requires-clause-each
+write_all-spot-requires-clause-each c =
+    (of_first (λ entities. AreOfLines entities) c.args.config.now.blocks c.requires.fits.some_block (each_of_lines c.args.config.now.blocks c.requires.fits.each_block)).1
+
+pub write_all-requires-clause-each : goal.write_all-requires-clause-each
+write_all-requires-clause-each c =
+    (of_first (λ entities. AreOfLines entities) c.args.config.now.blocks c.requires.fits.some_block (each_of_lines c.args.config.now.blocks c.requires.fits.each_block)).1

@@ -4,7 +4,7 @@ use Rattle.drm_sdc.specs.declared.body.Body.TheVariants.{Mux}
 use Rattle.drm_sdc.specs.Entity.{EntityFits}
 use Rattle.drm_schedule.specs.InForce.{entities_in_force}
 use Rattle.drm_timeline.specs.Blocks.{current}
-use Rattle.drm_timeline.proofs.ToldLemmas.{description_fits, lines_fit, wrote_told}
+use Rattle.drm_timeline.proofs.ToldLemmas.{description_fits, lines_fit, each_in_force, wrote_told}
 use Rattle.drm_timeline.proofs.block.write_told.Goals as goal
 
 pub write_entity-requires-clause-fits : goal.write_entity-requires-clause-fits
@@ -12,7 +12,7 @@ write_entity-requires-clause-fits c =
     subst (λ (d : MuxDesc). EntityFits (current (Mux d))) (sym c.description-desc.ensures) (description_fits c.args.config.now false c.requires.fits)
 
 pub write_entities-requires-clause-fit : goal.write_entities-requires-clause-fit
-write_entities-requires-clause-fit c = subst (All EntityFits) (sym c.entities_in_force.ensures) (lines_fit (entities_in_force c.args.config.now c.args.sf) c.requires.fits.each_entity)
+write_entities-requires-clause-fit c = subst (All EntityFits) (sym c.entities_in_force.ensures) (lines_fit (entities_in_force c.args.config.now c.args.sf) (each_in_force c.args.config.now c.args.sf c.requires.fits))
 
 pub returns : goal.returns
 returns c =
