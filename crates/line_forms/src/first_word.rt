@@ -21,6 +21,7 @@ pub enum Keyword {
     Service,
     Stream,
     Clock,
+    Block,
     Label,
     Freq,
     When,

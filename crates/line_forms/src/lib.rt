@@ -7,9 +7,11 @@ mod line;
 mod ranges;
 mod said;
 mod spelling;
+mod version;
 
 pub use fault::LineFault;
 pub use first_word::Keyword;
 pub use line::Line;
 pub use ranges::{numbers, small_numbers};
 pub use spelling::{at_most, bytes, hex, number, optional_byte, within};
+pub use version::Version;

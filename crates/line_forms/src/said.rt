@@ -26,7 +26,7 @@ impl Line {
         ensures { result ≡ keyword_said self.now }
     {
         match self {
-            Line::Version => Keyword::Drmplan,
+            Line::Version(_) => Keyword::Drmplan,
             Line::Carry(_) => Keyword::Carry,
             Line::First { .. } => Keyword::First,
             Line::Length(_) => Keyword::Length,
@@ -41,6 +41,7 @@ impl Line {
             Line::Service(_) => Keyword::Service,
             Line::Stream(_) => Keyword::Stream,
             Line::Clock(_) => Keyword::Clock,
+            Line::Block { .. } => Keyword::Block,
             Line::Entity(entity) => keyword_of_body(&entity.body),
         }
     }
