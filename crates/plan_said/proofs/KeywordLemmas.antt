@@ -19,3 +19,12 @@ entity_is_no_stream _ = refl
 pub entity_is_one : (b : Body) → is_entity (keyword_of_body b) ≡ true
 entity_is_one (bodies.Mux desc) = refl
 entity_is_one _ = refl
+
+pub entity_is_no_block : (b : Body) → same (keyword_of_body b) keywords.Block ≡ false
+entity_is_no_block (bodies.Label short spare text) = refl
+entity_is_no_block (bodies.Freq sync layer restriction region list) = refl
+entity_is_no_block (bodies.When id day start duration) = refl
+entity_is_no_block (bodies.App short stream packet enhancement domain bytes) = refl
+entity_is_no_block (bodies.Audio short stream coding sbr mode rate text enhancement coder spare config) = refl
+entity_is_no_block (bodies.Language short spare language country) = refl
+entity_is_no_block _ = refl

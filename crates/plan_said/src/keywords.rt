@@ -1,7 +1,7 @@
 //! Which keywords may stand where, and how often.
 
 ghost use Rattle.std.specs.Prelude.{◌≡◌};
-ghost use Rattle.plan_said.specs.Rules.{keyword_at, is_front, is_single, is_entity};
+ghost use Rattle.plan_said.specs.Rules.{keyword_at, is_front, is_single, is_setting, is_entity};
 
 use plan_lines::Keyword;
 
@@ -59,4 +59,14 @@ pub fn is_entity(keyword: Keyword) -> bool
         | Keyword::Raw => true,
         _ => false,
     }
+}
+
+/// A line from mode to clock.
+pub fn is_setting(keyword: Keyword) -> bool
+    ensures { result ≡ is_setting keyword }
+{
+    !(is_front(keyword)
+        || keyword.is(Keyword::Config)
+        || keyword.is(Keyword::Block)
+        || is_entity(keyword))
 }

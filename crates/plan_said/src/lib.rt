@@ -6,6 +6,7 @@ mod fault;
 mod keywords;
 mod rules;
 mod said;
+mod version;
 
 pub use fault::{PlanFault, at};
 pub use rules::read_lines;

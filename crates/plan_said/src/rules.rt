@@ -8,25 +8,53 @@ ghost use Rattle.line_forms.specs.Said.{LineInLines, keyword_said};
 ghost use Rattle.plan_said.specs.InLines.{IsSingle, ReadInLines, EndsComplete};
 ghost use Rattle.line_forms.specs.Lines.{shape_of};
 ghost use Rattle.plan_said.specs.Said.{nothing};
-ghost use Rattle.plan_said.specs.Rules.{is_misplaced, in_current, is_second, is_too_many, is_17th, ends_incomplete, current_line, said_shape, said_words, said_line, said_from, said};
+ghost use Rattle.plan_said.specs.Rules.{version_in, keyword_in, is_misplaced, in_current, is_second, is_too_many, is_17th, ends_incomplete, current_line, said_shape, said_words, said_line, said_from, said};
 ghost use Rattle.plan_said.specs.Steps.{Steps, Reads, check_of, refused_of, end_check};
 
 use crate::counts;
 use crate::fault::{PlanFault, at};
 use crate::keywords::{is_front, keyword_at};
 use crate::said::Read;
+use crate::version::is_one;
 use drm_schedule::Reason;
-use plan_lines::{Keyword, Line, LineFault, keyword, read_line};
+use plan_lines::{Keyword, Line, LineFault, Version, keyword, read_line};
 use std::alloc::Global;
 use text_lines::{is_comment, words};
 
 impl Read {
+    // The version that the first line says.
+    fn version(&self) -> Option<Version>
+        ensures { result ≡ version_in self.now.front }
+    {
+        match self.front.as_slice() {
+            [first, ..] => match &first.says {
+                Line::Version(version) => Some(*version),
+                _ => None,
+            },
+            [] => None,
+        }
+    }
+
+    // The keyword that a word is in a text of this version.
+    fn keyword_in(&self, word: &str) -> Option<Keyword>
+        ensures { result ≡ keyword_in (version_in self.now.front) word.now }
+    {
+        let keyword = keyword(word)?;
+        if is_one(self.version()) && keyword.is(Keyword::Block) {
+            return None;
+        }
+        Some(keyword)
+    }
+
     fn is_misplaced(&self, keyword: Keyword) -> bool
         ensures { result ≡ is_misplaced self.now keyword }
     {
         match &self.current {
             None => !keyword.is(keyword_at(self.front.len())),
-            Some(_) => is_front(keyword),
+            Some(block) => {
+                is_front(keyword)
+                    || counts::is_out_of_order(self.version(), keyword, block.lines.as_slice())
+            }
         }
     }
 
@@ -60,7 +88,8 @@ impl Read {
         match &self.current {
             None => false,
             Some(block) => {
-                keyword.is(Keyword::Config) && counts::is_incomplete(block.lines.as_slice())
+                keyword.is(Keyword::Config)
+                    && counts::is_incomplete(self.version(), block.lines.as_slice())
             }
         }
     }
@@ -167,7 +196,7 @@ impl Read {
         if is_comment(first) {
             return Ok(());
         }
-        match keyword(first) {
+        match self.keyword_in(first) {
             None => Err(at(n, Reason::Word)),
             Some(keyword) => self.take_known(alloc, n, keyword, line, words),
         }
@@ -187,12 +216,12 @@ impl Read {
     #[tactic(auto, unfolding(crate::specs::Steps::end_check))]
     fn check_end(&self, n: u32) -> Result<(), PlanFault>
         requires { n < 2 ^ 32 - 1 }
-        ensures { result ≡ end_check self.now.current n }
+        ensures { result ≡ end_check (version_in self.now.front) self.now.current n }
     {
         match &self.current {
             None => Err(at(n + 1, Reason::Missing)),
             Some(block) => {
-                if counts::is_incomplete(block.lines.as_slice()) {
+                if counts::is_incomplete(self.version(), block.lines.as_slice()) {
                     return Err(at(block.line, Reason::Missing));
                 }
                 Ok(())
