@@ -6,7 +6,7 @@ use Rattle.std.proofs.lemmas.List.Concat.{flat_map-cons}
 use Rattle.std.proofs.lemmas.Grind.{flat_map-append}
 use Rattle.line_forms.specs.declared.line.Line.{Line}
 use Rattle.line_forms.specs.Said.{line_text}
-use Rattle.plan_writing.specs.Canonical.{text_of, config_lines}
+use Rattle.plan_writing.specs.Canonical.{text_of, block_lines, config_lines}
 
 -- what a list is written as, one element after another
 abbrev pub WritesEach : {X : Type 0} → (List X → List ℕ) → (X → List ℕ) → Type 0
@@ -24,6 +24,11 @@ pub configs_each : WritesEach (λ configs. text_of (flat_map config_lines config
 unfolding text_of
 configs_each config rest =
     ap text_of (flat_map-cons config_lines config rest) ∙ flat_map-append line_text (config_lines config) (flat_map config_lines rest)
+
+pub blocks_each : WritesEach (λ blocks. text_of (flat_map block_lines blocks)) (λ block. text_of (block_lines block))
+unfolding text_of
+blocks_each block rest =
+    ap text_of (flat_map-cons block_lines block rest) ∙ flat_map-append line_text (block_lines block) (flat_map block_lines rest)
 
 -- one element more is written
 pub one_written : {X : Type 0} (whole : List X → List ℕ) (one : X → List ℕ) → WritesEach whole one → (out new : List ℕ) (i : ℕ) (xs : List X) (x d : X) (all : List ℕ) → i < length xs → x ≡ get_or xs i d

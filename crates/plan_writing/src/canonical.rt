@@ -2,12 +2,12 @@
 
 ghost use Rattle.std.specs.Prelude.{◌≡◌, ◌++◌, IfOk, OnOk};
 ghost use Rattle.std.specs.List.{flat_map};
-ghost use Rattle.plan_writing.specs.Canonical.{text_of, front_lines, settings_lines, service_lines, stream_lines, clock_lines, entity_lines, config_lines, canonical};
+ghost use Rattle.plan_writing.specs.Canonical.{text_of, front_lines, settings_lines, service_lines, stream_lines, clock_lines, entity_lines, block_lines, config_lines, canonical};
 
 use crate::{write_entity, write_line, write_stream};
 use drm_bits::{NoMemory, Octets};
-use drm_schedule::{Clock, Config, Entity, Schedule, Service, Stream};
-use line_forms::Line;
+use drm_schedule::{Clock, Config, Entity, Schedule, Service, Stream, Timed};
+use line_forms::{Line, Version};
 use std::alloc::{AllocError, Global};
 
 fn write_lines(alloc: Global, out: &mut Vec<u8>, lines: &[Line]) -> Result<(), AllocError>
@@ -25,7 +25,7 @@ fn write_front(alloc: Global, out: &mut Vec<u8>, plan: &Schedule) -> Result<(), 
 {
     let (seq, dlfc) = (plan.seq(), plan.dlfc());
     let lines = [
-        Line::Version,
+        Line::Version(Version::Two),
         Line::Carry(plan.carry()),
         Line::First { seq, dlfc },
         Line::Length(plan.length()),
@@ -89,6 +89,25 @@ fn write_entities(alloc: Global, out: &mut Vec<u8>, entities: &[Entity]) -> Resu
     Ok(())
 }
 
+// The block line, and the lines of its entities.
+fn write_block(alloc: Global, out: &mut Vec<u8>, block: &Timed) -> Result<(), AllocError>
+    ensures { OnOk result (out.new.items ≡ out.old.items ++ text_of (block_lines block.now)) }
+{
+    let from = block.from;
+    write_lines(alloc, out, &[Line::Block { from }])?;
+    write_entities(alloc, out, block.entities.as_slice())?;
+    Ok(())
+}
+
+fn write_blocks(alloc: Global, out: &mut Vec<u8>, blocks: &[Timed]) -> Result<(), AllocError>
+    ensures { OnOk result (out.new.items ≡ out.old.items ++ text_of (flat_map block_lines blocks.now)) }
+{
+    for block in blocks {
+        write_block(alloc, out, block)?;
+    }
+    Ok(())
+}
+
 fn write_config(alloc: Global, out: &mut Vec<u8>, config: &Config) -> Result<(), AllocError>
     ensures { OnOk result (out.new.items ≡ out.old.items ++ text_of (config_lines config.now)) }
 {
@@ -96,7 +115,7 @@ fn write_config(alloc: Global, out: &mut Vec<u8>, config: &Config) -> Result<(),
     write_services(alloc, out, config.services.as_slice())?;
     write_streams(alloc, out, config.streams.as_slice())?;
     write_clock(alloc, out, config.clock)?;
-    write_entities(alloc, out, config.entities.as_slice())?;
+    write_blocks(alloc, out, config.blocks.as_slice())?;
     Ok(())
 }
 

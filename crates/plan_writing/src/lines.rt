@@ -9,7 +9,7 @@ use crate::entities::write_entity;
 use crate::words_out::{bit, number, six_digits, write_words};
 use drm_fac::Service;
 use drm_schedule::{Carry, Clock, Content, Stream};
-use line_forms::Line;
+use line_forms::{Line, Version};
 use std::alloc::{AllocError, Global};
 
 fn depth(short: bool) -> &'static str
@@ -98,7 +98,9 @@ fn setting_line(alloc: Global, line: &Line) -> Result<String, AllocError>
         Line::Protection { a, b } => format!(in alloc; "protection {a} {b}\n")?,
         Line::Room(n) => format!(in alloc; "room {n}\n")?,
         Line::Clock(clock) => clock_line(alloc, clock)?,
-        _ => format!(in alloc; "drmplan 1\n")?,
+        Line::Block { from } => format!(in alloc; "block {from}\n")?,
+        Line::Version(Version::One) => format!(in alloc; "drmplan 1\n")?,
+        _ => format!(in alloc; "drmplan 2\n")?,
     };
     Ok(text)
 }
