@@ -46,8 +46,9 @@ config_fits j bytes small c fits =
       few_streams = rw same fits.few_streams;
       each_stream = changed_all StreamInLines (filled_stream bytes) (stream_fits bytes small) j c.streams fits.each_stream;
       clock_fits = fits.clock_fits;
-      few_entities = fits.few_entities;
-      each_entity = fits.each_entity;
+      some_block = fits.some_block;
+      few_blocks = fits.few_blocks;
+      each_block = fits.each_block;
     }
 
 pub with_file_fits : (file : Filed) (bytes : List ℕ) (plan : Plan) → length bytes ≤ 4194304 → InLines plan → InLines (with_file file bytes plan)

@@ -4,3 +4,4 @@ pub mod PlanLemmas
 pub mod LookupLemmas
 pub mod FileLemmas
 pub mod CountLemmas
+pub mod BlockLemmas

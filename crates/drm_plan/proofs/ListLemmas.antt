@@ -9,40 +9,66 @@ use Rattle.plan_said.specs.declared.said.Said.{Said}
 use Rattle.plan_said.specs.declared.said.Block.{Block}
 use Rattle.drm_plan.specs.declared.configs.Parts.{Parts}
 use Rattle.drm_plan.specs.Files.{stream_files, config_files}
-use Rattle.drm_plan.specs.Parts.{parts_of, more, more_by}
+use Rattle.drm_plan.specs.Parts.{no_parts, parts_of, into_last, before_first, more, more_by}
 use Rattle.drm_plan.specs.Lists.{lists_of, with_block}
-use Rattle.drm_plan.specs.Projection.{service_said, stream_said, entity_said, services_in, streams_in, entities_in, stream_lines_in, stream_line, config_of, places_of}
-
--- the lists that one line adds to
-abbrev said_more : Parts → Said → Parts
-said_more parts s = record {
-  services = parts.services ++ services_in (s ∷ []);
-  streams = parts.streams ++ streams_in (s ∷ []);
-  stream_lines = parts.stream_lines ++ stream_lines_in (s ∷ []);
-  entities = parts.entities ++ entities_in (s ∷ []);
-}
+use Rattle.drm_plan.specs.Projection.{service_said, stream_said, stream_line, block_line, config_of, places_of}
+use Rattle.drm_plan.proofs.BlockLemmas.{until_append, timed_append, none_into, none_before}
 
 append_nil : {X : Type 0} (xs : List X) → xs ++ [] ≡ xs
 append_nil [] = refl
 append_nil (x ∷ xs) = ap (λ l. x ∷ l) (append_nil xs)
 
-appended : (said : List Said) (s : Said) → parts_of (said ++ s ∷ []) ≡ said_more (parts_of said) s
+-- the lists of lines, and then of one more
+abbrev both_parts : Parts → Parts → Parts
+both_parts parts one = record {
+  services = parts.services ++ one.services;
+  streams = parts.streams ++ one.streams;
+  stream_lines = parts.stream_lines ++ one.stream_lines;
+  entities = before_first parts.blocks parts.entities one.entities;
+  blocks = into_last one.entities parts.blocks ++ one.blocks;
+  block_lines = parts.block_lines ++ one.block_lines;
+}
+
+appended : (said : List Said) (s : Said) → parts_of (said ++ s ∷ []) ≡ both_parts (parts_of said) (parts_of (s ∷ []))
 appended said s =
     rw (
       filter_map-append (λ (x : Said). service_said x.says) said (s ∷ []),
       filter_map-append (λ (x : Said). stream_said x.says) said (s ∷ []),
-      filter_map-append (λ (x : Said). entity_said x.says) said (s ∷ []),
       filter_map-append stream_line said (s ∷ []),
+      filter_map-append block_line said (s ∷ []),
+      until_append said (s ∷ []),
+      timed_append said (s ∷ []),
     ) refl
 
-no_more : (parts : Parts) → record { services = parts.services ++ []; streams = parts.streams ++ []; stream_lines = parts.stream_lines ++ []; entities = parts.entities ++ [] } ≡ parts
-no_more parts = rw (append_nil parts.services, append_nil parts.streams, append_nil parts.stream_lines, append_nil parts.entities) refl
+-- of none of these there is one more
+none_more : (parts : Parts) → both_parts parts no_parts ≡ parts
+none_more parts =
+    rw (
+      append_nil parts.services,
+      append_nil parts.streams,
+      append_nil parts.stream_lines,
+      append_nil parts.block_lines,
+      none_before parts.blocks parts.entities,
+      none_into parts.blocks,
+      append_nil parts.blocks,
+    ) refl
 
-by_kind : (parts : Parts) (n : ℕ) (l : Line) → said_more parts (record { line = n; says = l }) ≡ more_by parts n l
-by_kind parts n (lines.Service service) = rw (append_nil parts.streams, append_nil parts.stream_lines, append_nil parts.entities) refl
-by_kind parts n (lines.Stream stream) = rw (append_nil parts.services, append_nil parts.entities) refl
-by_kind parts n (lines.Entity entity) = rw (append_nil parts.services, append_nil parts.streams, append_nil parts.stream_lines) refl
-by_kind parts n _ = no_more parts
+by_kind : (parts : Parts) (n : ℕ) (l : Line) → both_parts parts (parts_of (record { line = n; says = l } ∷ [])) ≡ more_by parts n l
+by_kind parts n (lines.Service service) =
+    rw (append_nil parts.streams, append_nil parts.stream_lines, append_nil parts.block_lines, none_before parts.blocks parts.entities, none_into parts.blocks, append_nil parts.blocks) refl
+by_kind parts n (lines.Stream stream) =
+    rw (append_nil parts.services, append_nil parts.block_lines, none_before parts.blocks parts.entities, none_into parts.blocks, append_nil parts.blocks) refl
+by_kind parts n (lines.Block from) =
+    rw (append_nil parts.services, append_nil parts.streams, append_nil parts.stream_lines, none_before parts.blocks parts.entities, none_into parts.blocks) refl
+by_kind parts n (lines.Entity entity) =
+    rw (
+      append_nil parts.services,
+      append_nil parts.streams,
+      append_nil parts.stream_lines,
+      append_nil parts.block_lines,
+      append_nil (into_last (entity ∷ []) parts.blocks),
+    ) refl
+by_kind parts n _ = none_more parts
 
 pub one_more : (said : List Said) (s : Said) → parts_of (said ++ s ∷ []) ≡ more (parts_of said) s
 one_more said s = appended said s ∙ by_kind (parts_of said) s.line s.says

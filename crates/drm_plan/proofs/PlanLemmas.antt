@@ -8,7 +8,8 @@ use Rattle.std.proofs.lemmas.List.Elements.{All-nil, All-cons, All-head, All-tai
 use Rattle.drm_sdc.specs.declared.body.Body.{Body}
 use Rattle.drm_sdc.specs.declared.body.Body.TheVariants as bodies
 use Rattle.dcp_pft.specs.Carrying.{CarryFits}
-use Rattle.drm_schedule.specs.Ranges.{StreamInLines, ServiceInLines, ClockInLines, EntityInLines, ConfigInLines, InLines}
+use Rattle.drm_schedule.specs.Ranges.{StreamInLines, ServiceInLines, ClockInLines, TimedInLines, ConfigInLines, InLines}
+use Rattle.drm_schedule.specs.declared.timed.Timed.{Timed}
 use Rattle.line_forms.specs.declared.line.Line.{Line}
 use Rattle.line_forms.specs.declared.line.Line.TheVariants as lines
 use Rattle.line_forms.specs.declared.first_word.Keyword.{Keyword}
@@ -19,10 +20,11 @@ use Rattle.plan_said.specs.declared.said.Said.{Said}
 use Rattle.plan_said.specs.declared.said.Block.{Block}
 use Rattle.plan_said.specs.declared.said.Read.{Read}
 use Rattle.plan_said.specs.Said.{count}
-use Rattle.plan_said.specs.Rules.{is_entity, count_entities, is_incomplete}
-use Rattle.drm_plan.specs.Projection.{first_said, occupancy_in, msc_in, prot_a_in, prot_b_in, room_in, clock_in, carry_in, seq_in, dlfc_in, length_in, service_said, stream_said, entity_said, services_in, streams_in, entities_in, config_of, blocks_of, plan_of}
-use Rattle.plan_said.proofs.KeywordLemmas.{one, entity_is_no_stream, entity_is_one}
-use Rattle.plan_said.specs.InLines.{AllInLines, BlockInLines, EndedInLines, ReadInLines}
+use Rattle.plan_said.specs.Rules.{lacks_a_line}
+use Rattle.drm_plan.specs.Projection.{first_said, occupancy_in, msc_in, prot_a_in, prot_b_in, room_in, clock_in, carry_in, seq_in, dlfc_in, length_in, service_said, stream_said, services_in, streams_in, entities_until, timed_in, or_one, blocks_in, config_of, blocks_of, plan_of}
+use Rattle.plan_said.proofs.KeywordLemmas.{one, entity_is_no_stream}
+use Rattle.plan_said.specs.InLines.{AllInLines, AreFew, BlockInLines, EndedInLines, ReadInLines}
+use Rattle.drm_plan.proofs.BlockLemmas.{few_until, all_until, timed_fit, timed_counted}
 
 -- what the first line of a keyword says is one that a text can have
 first_fits : (k : Keyword) (said : List Said) → AllInLines said → IfSome (first_said k said) (λ s. LineInLines s.says)
@@ -131,10 +133,6 @@ stream_listed : (l : Line) → LineInLines l → IfSome (stream_said l) StreamIn
 stream_listed (lines.Stream stream) fits = fits
 stream_listed _ fits = tt
 
-entity_listed : (l : Line) → LineInLines l → IfSome (entity_said l) EntityInLines
-entity_listed (lines.Entity entity) fits = fits
-entity_listed _ fits = tt
-
 counted : {X : Type 0} (h : Line → Option X) (test : Line → Bool) → ((l : Line) → length (option_to_list (h l)) ≡ one (test l)) → (said : List Said) → length (filter_map (λ s. h s.says) said) ≡ length (filter (λ s. test s.says) said)
 counted {X = X} h test each [] = refl
 counted {X = X} h test each (s ∷ said) = by (h s.says) (test s.says) (each s.says) (counted h test each said)
@@ -160,18 +158,11 @@ stream_one (lines.Stream stream) = refl
 stream_one (lines.Entity entity) = sym (ap one (entity_is_no_stream entity.body))
 stream_one _ = refl
 
-entity_one : (l : Line) → length (option_to_list (entity_said l)) ≡ one (is_entity (keyword_said l))
-entity_one (lines.Entity entity) = sym (ap one (entity_is_one entity.body))
-entity_one _ = refl
-
 services_counted : (said : List Said) → length (services_in said) ≡ count keywords.Service said
 services_counted said = counted service_said (λ l. same (keyword_said l) keywords.Service) service_one said
 
 streams_counted : (said : List Said) → length (streams_in said) ≡ count keywords.Stream said
 streams_counted said = counted stream_said (λ l. same (keyword_said l) keywords.Stream) stream_one said
-
-entities_counted : (said : List Said) → length (entities_in said) ≡ count_entities said
-entities_counted said = counted entity_said (λ l. is_entity (keyword_said l)) entity_one said
 
 -- the last two of nine
 last_two : (a b c d e f g h i : Bool) → (a || (b || (c || (d || (e || (f || (g || (h || (i || false))))))))) ≡ false → (h ≡ false) × (i ≡ false)
@@ -197,17 +188,36 @@ record HasBoth (said : List Said) : Type 0 where
   service : 1 ≤ count keywords.Service said
   stream : 1 ≤ count keywords.Stream said
 
-has_both : (said : List Said) → is_incomplete said ≡ false → HasBoth said
-unfolding is_incomplete
+has_both : (said : List Said) → lacks_a_line said ≡ false → HasBoth said
+unfolding lacks_a_line
 has_both said e =
     let lacks = λ (k : Keyword). count k said == 0 in
     let both = last_two (lacks keywords.Mode) (lacks keywords.Occupancy) (lacks keywords.Depth) (lacks keywords.Msc) (lacks keywords.Sdc) (lacks keywords.Protection) (lacks keywords.Room) (lacks keywords.Service) (lacks keywords.Stream) e in
     record { service = some_of keywords.Service said both.0; stream = some_of keywords.Stream said both.1 }
 
-config_fits : (b : Block) → BlockInLines b → is_incomplete b.lines ≡ false → ConfigInLines (config_of b)
+-- there is a block, and each is one that lines can give
+record BlocksFit (blocks : List Timed) : Type 0 where
+  some : 1 ≤ length blocks
+  few : length blocks ≤ 64
+  each : All TimedInLines blocks
+
+blocks_fit : (said : List Said) → AllInLines said → AreFew 0 said → count keywords.Block said ≤ 64 → BlocksFit (blocks_in said)
+blocks_fit said fits few count_few = by (timed_in said) (timed_fit 0 said fits few) (timed_counted said)
+  where
+    by : (blocks : List Timed) → All TimedInLines blocks → length blocks ≡ count keywords.Block said → BlocksFit (or_one (entities_until said) blocks)
+    by [] each is = record {
+      some = omega arith;
+      few = omega arith;
+      each = All-cons TimedInLines (record { from = 0; entities = entities_until said }) []
+          (record { from_fits = omega arith; few_entities = omega (arith, few_until 0 said few); each_entity = all_until said fits }) (All-nil TimedInLines);
+    }
+    by (b ∷ blocks) each is = record { some = omega arith; few = omega (arith, is, count_few); each = each }
+
+config_fits : (b : Block) → BlockInLines b → lacks_a_line b.lines ≡ false → ConfigInLines (config_of b)
 config_fits b fits whole =
     let both = has_both b.lines whole in
     let found = λ (k : Keyword). first_fits k b.lines fits.each_line in
+    let blocks = blocks_fit b.lines fits.each_line fits.few_entities fits.few_blocks in
     record {
       start_fits = fits.start_fits;
       countdown_fits = fits.countdown_fits;
@@ -222,8 +232,9 @@ config_fits b fits whole =
       few_streams = rw (streams_counted b.lines) fits.few_streams;
       each_stream = listed stream_said StreamInLines stream_listed b.lines fits.each_line;
       clock_fits = clock_fits (first_said keywords.Clock b.lines) (found keywords.Clock);
-      few_entities = rw (entities_counted b.lines) fits.few_entities;
-      each_entity = listed entity_said EntityInLines entity_listed b.lines fits.each_line;
+      some_block = blocks.some;
+      few_blocks = blocks.few;
+      each_block = blocks.each;
     }
 
 configs_fit : (blocks : List Block) → All EndedInLines blocks → All ConfigInLines (map config_of blocks)
@@ -233,7 +244,7 @@ configs_fit (b ∷ blocks) fit =
     All-cons ConfigInLines (config_of b) (map config_of blocks) (config_fits b here.in_lines here.complete) (configs_fit blocks (All-tail EndedInLines b blocks fit))
 
 -- with the last configuration complete
-pub plan_fits : (read : Read) (b : Block) → ReadInLines read → read.current ≡ Some b → is_incomplete b.lines ≡ false → InLines (plan_of read)
+pub plan_fits : (read : Read) (b : Block) → ReadInLines read → read.current ≡ Some b → lacks_a_line b.lines ≡ false → InLines (plan_of read)
 plan_fits read b fits current whole =
     let found = λ (k : Keyword). first_fits k read.front fits.front in
     let last : BlockInLines b = subst (λ (o : Option Block). IfSome o BlockInLines) current fits.current in

@@ -1,24 +1,27 @@
 //! The configuration that its lines give.
 
 ghost use Rattle.std.specs.Prelude.{◌≡◌, ◌++◌, IfOk, OnOk};
-ghost use Rattle.drm_plan.specs.Projection.{config_of, places_of};
-ghost use Rattle.drm_plan.specs.Parts.{parts_of, more, no_parts, Made};
+ghost use Rattle.drm_plan.specs.Projection.{or_one, or_line, config_of, places_of};
+ghost use Rattle.drm_plan.specs.Parts.{parts_of, more, more_by, no_parts, Made};
 
 use crate::places::Places;
 use crate::settings;
 use drm_bits::NoMemory;
-use drm_schedule::{Config, Entities, Items, Services, Streams};
+use drm_schedule::{Blocks, Config, Entities, Entity, Items, Services, Streams, Timed};
 use plan_lines::{Keyword, Line};
 use plan_said::{Block, Said};
 use std::alloc::Global;
 
-/// What the lines of a configuration list: its services, streams and entities.
+/// What the lines of a configuration list: its services, streams and blocks.
 #[derive(Drop)]
 pub struct Parts {
     pub services: Services,
     pub streams: Streams,
     pub stream_lines: Items<u32>,
+    /// Those before the first block line: all, where there is no block line.
     pub entities: Entities,
+    pub blocks: Blocks,
+    pub block_lines: Items<u32>,
 }
 
 impl Parts {
@@ -30,10 +33,22 @@ impl Parts {
             streams: Items::new(alloc),
             stream_lines: Items::new(alloc),
             entities: Entities::new(alloc),
+            blocks: Items::new(alloc),
+            block_lines: Items::new(alloc),
         }
     }
 
-    fn put(&mut self, said: Said) -> Result<(), NoMemory>
+    // An entity of the last block, or before the first one.
+    fn put_entity(&mut self, entity: Entity) -> Result<(), NoMemory>
+        ensures { OnOk result (self.new ≡ more_by self.old 0 (Line.Entity entity)) }
+    {
+        match self.blocks.len() {
+            0 => self.entities.push(entity),
+            count => self.blocks.get_mut(count - 1).entities.push(entity),
+        }
+    }
+
+    fn put(&mut self, alloc: Global, said: Said) -> Result<(), NoMemory>
         ensures { OnOk result (self.new ≡ more self.old said) }
     {
         let Said { line, says } = said;
@@ -43,7 +58,12 @@ impl Parts {
                 self.streams.push(stream)?;
                 self.stream_lines.push(line)?;
             }
-            Line::Entity(entity) => self.entities.push(entity)?,
+            Line::Block { from } => {
+                let entities = Entities::new(alloc);
+                self.blocks.push(Timed { from, entities })?;
+                self.block_lines.push(line)?;
+            }
+            Line::Entity(entity) => self.put_entity(entity)?,
             _ => {}
         }
         Ok(())
@@ -55,9 +75,31 @@ fn gathered(alloc: Global, lines: Items<Said>) -> Result<Parts, NoMemory>
 {
     let mut parts = Parts::new(alloc);
     for said in lines.into_vec() {
-        parts.put(said)?;
+        parts.put(alloc, said)?;
     }
     Ok(parts)
+}
+
+// The blocks: where no line begins one, a single one that begins with the configuration.
+fn or_one(entities: Entities, blocks: Blocks) -> Result<Blocks, NoMemory>
+    ensures { IfOk result (λ all. all ≡ or_one entities blocks) }
+{
+    let mut all = blocks;
+    if all.len() == 0 {
+        all.push(Timed { from: 0, entities })?;
+    }
+    Ok(all)
+}
+
+// The lines of the blocks: where no line begins one, the config line.
+fn or_line(config_line: u32, block_lines: Items<u32>) -> Result<Items<u32>, NoMemory>
+    ensures { IfOk result (λ all. all ≡ or_line config_line block_lines) }
+{
+    let mut all = block_lines;
+    if all.len() == 0 {
+        all.push(config_line)?;
+    }
+    Ok(all)
 }
 
 /// A configuration, and the lines that a fault of it can name.
@@ -78,6 +120,8 @@ pub fn make_config(alloc: Global, block: Block) -> Result<(Config, Places), NoMe
     let (prot_a, prot_b) = (settings::prot_a(lines), settings::prot_b(lines));
     let (room, clock) = (settings::room(lines), settings::clock(lines));
     let parts = gathered(alloc, block.lines)?;
+    let blocks = or_one(parts.entities, parts.blocks)?;
+    let block_lines = or_line(config_line, parts.block_lines)?;
     let config = Config {
         start,
         countdown,
@@ -92,12 +136,13 @@ pub fn make_config(alloc: Global, block: Block) -> Result<(Config, Places), NoMe
         services: parts.services,
         streams: parts.streams,
         clock,
-        entities: parts.entities,
+        blocks,
     };
     let places = Places {
         config: config_line,
         occupancy: occupancy_line,
         msc: msc_line,
+        blocks: block_lines,
         streams: parts.stream_lines,
     };
     Ok((config, places))

@@ -12,6 +12,8 @@ pub struct Places {
     pub config: u32,
     pub occupancy: u32,
     pub msc: u32,
+    /// Those of its blocks, in their order: the config line, where no line begins one.
+    pub blocks: Items<u32>,
     /// Those of its streams, in their order.
     pub streams: Items<u32>,
 }
@@ -23,14 +25,15 @@ fn line_in(lines: &Places, place: Place) -> u32
         Place::Config => lines.config,
         Place::Occupancy => lines.occupancy,
         Place::Msc => lines.msc,
-        Place::Stream(stream) => stream_line(lines.streams.as_slice(), stream),
+        Place::Block(block) => line_at(lines.blocks.as_slice(), block),
+        Place::Stream(stream) => line_at(lines.streams.as_slice(), stream),
     }
 }
 
-fn stream_line(lines: &[u32], stream: usize) -> u32
-    ensures { result ≡ or_zero (at stream lines.now) }
+fn line_at(lines: &[u32], number: usize) -> u32
+    ensures { result ≡ or_zero (at number lines.now) }
 {
-    match lines.get(stream) {
+    match lines.get(number) {
         Some(line) => *line,
         None => 0,
     }
