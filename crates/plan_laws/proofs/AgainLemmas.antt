@@ -1,10 +1,12 @@
 -- Lines that are written are read again, one after another.
-use Rattle.std.proofs.Common.{◌≡◌, ℕ, ◌+◌, suc, Bool, true, false, List, [], ◌∷◌, ◌++◌, Some, Ok, length, map, refl, sym, ap, subst, ◌∙◌, append_assoc, arith}
+use Rattle.std.proofs.Common.{◌≡◌, ℕ, ◌+◌, suc, Bool, true, false, List, [], ◌∷◌, ◌++◌, Option, Some, Ok, length, map, refl, sym, ap, subst, ◌∙◌, append_assoc, arith}
 use Rattle.std.specs.Prelude.{◌==◌, slice_index}
 use Rattle.std.specs.List.{AllByRecursion}
 use Rattle.text_lines.specs.Lines.{words_of}
 use Rattle.line_forms.specs.declared.first_word.Keyword.{Keyword}
 use Rattle.line_forms.specs.declared.first_word.Keyword.TheVariants as keywords
+use Rattle.line_forms.specs.declared.version.Version.{Version}
+use Rattle.line_forms.specs.declared.version.Version.TheVariants.{Two}
 use Rattle.line_forms.specs.declared.line.Line.{Line}
 use Rattle.line_forms.specs.declared.line.Line.TheVariants as lines
 use Rattle.line_forms.specs.Keywords.{keyword_of, keyword_text}
@@ -17,7 +19,7 @@ use Rattle.plan_said.specs.declared.said.Block.{Block}
 use Rattle.plan_said.specs.declared.said.Read.{Read}
 use Rattle.plan_said.specs.Said.{add}
 use Rattle.text_lines.specs.Faults.{lines_say}
-use Rattle.plan_said.specs.Rules.{ends_incomplete, is_front, is_second, is_too_many, said_line, said_from}
+use Rattle.plan_said.specs.Rules.{version_in, is_one, keyword_in, is_out_of_order, ends_incomplete, is_front, is_second, is_too_many, said_line, said_from}
 use Rattle.plan_said.specs.Steps.{check_of}
 use Rattle.plan_said.proofs.StepLemmas.{goes_on}
 
@@ -30,14 +32,18 @@ keyword_again : (k : Keyword) → keyword_of (keyword_text k) ≡ Some k
 keyword_again keywords.Drmplan = refl
 keyword_again _ = refl
 
+-- in a text that isn't of version 1 each keyword is known
+known_again : (version : Option Version) (k : Keyword) → is_one version ≡ false → keyword_in version (keyword_text k) ≡ Some k
+known_again version k later = rw (keyword_again k, later) refl
+
 no_comment : (k : Keyword) → (slice_index (keyword_text k) 0 == 35) ≡ false
 no_comment keywords.Drmplan = refl
 no_comment _ = refl
 
-pub line_said : (read : Read) (n : ℕ) (l : Line) → LineAgain l → ends_incomplete read (keyword_said l) ≡ false → check_of read n (keyword_said l) ≡ Ok tt → said_line read n (canonical l) ≡ Ok (add n l read)
+pub line_said : (read : Read) (n : ℕ) (l : Line) → LineAgain l → is_one (version_in read.front) ≡ false → ends_incomplete read (keyword_said l) ≡ false → check_of read n (keyword_said l) ≡ Ok tt → said_line read n (canonical l) ≡ Ok (add n l read)
 unfolding said_line
-line_said read n l again whole found =
-    rw (again.cut, no_comment (keyword_said l), keyword_again (keyword_said l))
+line_said read n l again later whole found =
+    rw (again.cut, no_comment (keyword_said l), known_again (version_in read.front) (keyword_said l) later)
     (goes_on read (add n l read) n (keyword_said l) (shape_of (keyword_said l) (canonical l) (words_said l)) l (Ok tt) whole again.reads (sym found) refl refl)
 
 -- lines put one behind another
@@ -48,12 +54,12 @@ adds n (l ∷ ls) read = adds (n + 1) ls (add n l read)
 -- no row holds for any of these lines
 abbrev pub Fine : Read → ℕ → List Line → Type 0
 Fine read n [] = Unit {0}
-Fine read n (l ∷ ls) = (ends_incomplete read (keyword_said l) ≡ false) × (check_of read n (keyword_said l) ≡ Ok tt) × Fine (add n l read) (n + 1) ls
+Fine read n (l ∷ ls) = (is_one (version_in read.front) ≡ false) × (ends_incomplete read (keyword_said l) ≡ false) × (check_of read n (keyword_said l) ≡ Ok tt) × Fine (add n l read) (n + 1) ls
 
 pub lines_said : (read : Read) (n : ℕ) (ls : List Line) → AllByRecursion LineAgain ls → Fine read n ls → said_from read n (map canonical ls) ≡ Ok (adds n ls read)
 unfolding lines_say
 lines_said read n [] again fine = refl
-lines_said read n (l ∷ ls) again fine = rw (line_said read n l again.0 fine.0 fine.1) (lines_said (add n l read) (n + 1) ls again.1 fine.2)
+lines_said read n (l ∷ ls) again fine = rw (line_said read n l again.0 fine.0 fine.1 fine.2) (lines_said (add n l read) (n + 1) ls again.1 fine.3)
 
 pub adds_append : (n : ℕ) (a b : List Line) (read : Read) → adds n (a ++ b) read ≡ adds (n + length a) b (adds n a read)
 adds_append n [] b read =
@@ -69,7 +75,7 @@ fine_append read n [] b first behind =
     subst (λ k. Fine read k b) same behind
 fine_append read n (l ∷ a) b first behind =
     let next : n + suc (length a) ≡ n + 1 + length a = omega arith in
-    (first.0, first.1, fine_append (add n l read) (n + 1) a b first.2 (subst (λ k. Fine (adds (n + 1) a (add n l read)) k b) next behind))
+    (first.0, first.1, first.2, fine_append (add n l read) (n + 1) a b first.3 (subst (λ k. Fine (adds (n + 1) a (add n l read)) k b) next behind))
 
 -- these lines, numbered
 abbrev pub numbered : ℕ → List Line → List Said
@@ -85,10 +91,14 @@ is_inner keywords.Length = false
 is_inner keywords.Config = false
 is_inner _ = true
 
--- the lines of a configuration behind these
+-- the version that has blocks
+abbrev pub two : Option Version
+two = Some Two
+
+-- the lines of a configuration behind these, in a text of version 2
 abbrev pub InnerFine : List Said → ℕ → List Line → Type 0
 InnerFine said n [] = Unit {0}
-InnerFine said n (l ∷ ls) = (is_inner (keyword_said l) ≡ true) × (is_second (keyword_said l) said ≡ false) × (is_too_many (keyword_said l) said ≡ false) × InnerFine (said ++ record { line = n; says = l } ∷ []) (n + 1) ls
+InnerFine said n (l ∷ ls) = (is_inner (keyword_said l) ≡ true) × (is_out_of_order two (keyword_said l) said ≡ false) × (is_second (keyword_said l) said ≡ false) × (is_too_many (keyword_said l) said ≡ false) × InnerFine (said ++ record { line = n; says = l } ∷ []) (n + 1) ls
 
 -- a read text whose last configuration has these lines
 abbrev pub with_lines : Read → Block → List Said → Read
@@ -108,22 +118,24 @@ not_front _ inner = refl
 
 inner_add : (read : Read) (block : Block) (said : List Said) (n : ℕ) (l : Line) → is_inner (keyword_said l) ≡ true → add n l (with_lines read block said) ≡ with_lines read block (said ++ record { line = n; says = l } ∷ [])
 inner_add read block said n (lines.Config start countdown) inner = absurd cc
-inner_add read block said n lines.Version inner = refl
+inner_add read block said n (lines.Version version) inner = absurd cc
 inner_add read block said n _ inner = refl
 
-inner_check : (read : Read) (block : Block) (said : List Said) (n : ℕ) (k : Keyword) → is_inner k ≡ true → is_second k said ≡ false → is_too_many k said ≡ false → check_of (with_lines read block said) n k ≡ Ok tt
+inner_check : (read : Read) (block : Block) (said : List Said) (n : ℕ) (k : Keyword) → version_in read.front ≡ two → is_inner k ≡ true → is_out_of_order two k said ≡ false → is_second k said ≡ false → is_too_many k said ≡ false → check_of (with_lines read block said) n k ≡ Ok tt
 unfolding check_of
-inner_check read block said n k inner second many = rw (not_front k inner, second, many, not_config k inner) refl
+inner_check read block said n k version inner order second many =
+    rw (version, order, not_front k inner, second, many, not_config k inner) refl
 
 inner_whole : (read : Read) (block : Block) (said : List Said) (k : Keyword) → is_inner k ≡ true → ends_incomplete (with_lines read block said) k ≡ false
 inner_whole read block said k inner = rw (not_config k inner) refl
 
-pub inner_fine : (read : Read) (block : Block) (said : List Said) (n : ℕ) (ls : List Line) → InnerFine said n ls → Fine (with_lines read block said) n ls
-inner_fine read block said n [] fine = tt
-inner_fine read block said n (l ∷ ls) fine = (
+pub inner_fine : (read : Read) (block : Block) (said : List Said) (n : ℕ) (ls : List Line) → version_in read.front ≡ two → InnerFine said n ls → Fine (with_lines read block said) n ls
+inner_fine read block said n [] version fine = tt
+inner_fine read block said n (l ∷ ls) version fine = (
+  ap is_one version,
   inner_whole read block said (keyword_said l) fine.0,
-  inner_check read block said n (keyword_said l) fine.0 fine.1 fine.2,
-  rw (inner_add read block said n l fine.0) (inner_fine read block (said ++ record { line = n; says = l } ∷ []) (n + 1) ls fine.3),
+  inner_check read block said n (keyword_said l) version fine.0 fine.1 fine.2 fine.3,
+  rw (inner_add read block said n l fine.0) (inner_fine read block (said ++ record { line = n; says = l } ∷ []) (n + 1) ls version fine.4),
 )
 
 pub inner_adds : (read : Read) (block : Block) (said : List Said) (n : ℕ) (ls : List Line) → InnerFine said n ls → adds n ls (with_lines read block said) ≡ with_lines read block (said ++ numbered n ls)
@@ -135,5 +147,5 @@ inner_adds read block (s ∷ said) n [] fine = ap (λ l. with_lines read block l
     append_nil (x ∷ xs) = ap (λ (l : List Said). x ∷ l) (append_nil xs)
 inner_adds read block said n (l ∷ ls) fine =
     ap (adds (n + 1) ls) (inner_add read block said n l fine.0)
-    ∙ inner_adds read block (said ++ record { line = n; says = l } ∷ []) (n + 1) ls fine.3
+    ∙ inner_adds read block (said ++ record { line = n; says = l } ∷ []) (n + 1) ls fine.4
     ∙ ap (λ s. with_lines read block s) (append_assoc said (record { line = n; says = l } ∷ []) (numbered (n + 1) ls))

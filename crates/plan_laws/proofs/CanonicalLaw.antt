@@ -1,6 +1,6 @@
 -- The lines of a plan, one configuration after another, are read again.
-use Rattle.std.proofs.Common.{◌≡◌, ℕ, ◌+◌, ◌≤◌, ◌<◌, false, List, [], ◌∷◌, ◌++◌, Some, None, Ok, length, map, refl, sym, ap, subst, ◌∙◌, append_assoc, arith}
-use Rattle.std.specs.Prelude.{All, nat_le}
+use Rattle.std.proofs.Common.{◌≡◌, ℕ, ◌+◌, ◌≤◌, ◌<◌, Bool, true, false, eqb, List, [], ◌∷◌, ◌++◌, Some, None, Ok, length, map, refl, sym, ap, subst, ◌∙◌, append_assoc, arith}
+use Rattle.std.specs.Prelude.{All, nat_le, if◌then◌else◌}
 use Rattle.std.specs.List.{flat_map}
 use Rattle.std.proofs.lemmas.Bool.Decides.{nat_tests}
 use Rattle.std.proofs.lemmas.List.{length-append, map_push}
@@ -14,12 +14,12 @@ use Rattle.line_forms.specs.declared.line.Line.{Line}
 use Rattle.plan_said.specs.declared.said.Said.{Said}
 use Rattle.plan_said.specs.declared.said.Block.{Block}
 use Rattle.plan_said.specs.declared.said.Read.{Read}
-use Rattle.plan_said.specs.Said.{nothing, begin}
-use Rattle.plan_said.specs.Rules.{is_incomplete, is_second, is_too_many, ends_incomplete}
-use Rattle.plan_said.specs.Steps.{check_of}
+use Rattle.plan_said.specs.Said.{nothing, begin, count}
+use Rattle.plan_said.specs.Rules.{version_in, is_one, is_incomplete, is_second, is_too_many, ends_incomplete}
+use Rattle.plan_said.specs.Steps.{check_rows, check_of}
 use Rattle.plan_writing.specs.Canonical.{front_lines, config_lines, plan_lines}
 use Rattle.drm_plan.specs.Projection.{config_of, plan_of}
-use Rattle.plan_laws.proofs.AgainLemmas.{adds, Fine, adds_append, fine_append, numbered, inner_fine, inner_adds}
+use Rattle.plan_laws.proofs.AgainLemmas.{two, adds, Fine, adds_append, fine_append, numbered, inner_fine, inner_adds}
 use Rattle.plan_laws.proofs.ConfigLemmas.{inner_lines, all_fine}
 use Rattle.plan_laws.proofs.ProjectionLemmas.{block_of, config_again, complete_again}
 
@@ -33,22 +33,27 @@ fronted front = record { front = front; closed = []; current = None }
 few_before : (k : ℕ) → k < 15 → nat_le 15 k ≡ false
 few_before k few = grind (arith, nat_tests)
 
-next_check : (front : List Said) (closed : List Block) (b : Block) (n : ℕ) → length closed < 15 → check_of (full front closed b) n keywords.Config ≡ Ok tt
+next_check : (front : List Said) (closed : List Block) (b : Block) (n : ℕ) → version_in front ≡ two → length closed < 15 → check_of (full front closed b) n keywords.Config ≡ Ok tt
 unfolding check_of is_second is_too_many
-next_check front closed b n few = rw (few_before (length closed) few) refl
+next_check front closed b n version few = rw (version, few_before (length closed) few) (in_place (eqb (count keywords.Block b.lines) 0) n)
+  where
+    in_place : (none : Bool) (n : ℕ) → check_rows (if none then false else false) false false n ≡ Ok tt
+    in_place true n = refl
+    in_place false n = refl
 
-next_whole : (front : List Said) (closed : List Block) (b : Block) → is_incomplete b.lines ≡ false → ends_incomplete (full front closed b) keywords.Config ≡ false
-next_whole front closed b whole = rw whole refl
+next_whole : (front : List Said) (closed : List Block) (b : Block) → version_in front ≡ two → is_incomplete two b.lines ≡ false → ends_incomplete (full front closed b) keywords.Config ≡ false
+next_whole front closed b version whole = subst (λ v. is_incomplete v b.lines ≡ false) (sym version) whole
 
 next_adds : (front : List Said) (closed : List Block) (b : Block) (n : ℕ) (c : Config) → ConfigInLines c → adds n (config_lines c) (full front closed b) ≡ full front (closed ++ b ∷ []) (block_of n c)
 next_adds front closed b n c fits =
-    inner_adds (begin n c.start c.countdown (full front closed b)) (record { line = n; start = c.start; countdown = c.countdown; lines = [] }) [] (n + 1) (inner_lines c) (all_fine (n + 1) c fits.few_streams fits.few_entities)
+    inner_adds (begin n c.start c.countdown (full front closed b)) (record { line = n; start = c.start; countdown = c.countdown; lines = [] }) [] (n + 1) (inner_lines c) (all_fine (n + 1) c fits.few_streams fits.few_blocks fits.each_block)
 
-next_fine : (front : List Said) (closed : List Block) (b : Block) (n : ℕ) (c : Config) → is_incomplete b.lines ≡ false → length closed < 15 → ConfigInLines c → Fine (full front closed b) n (config_lines c)
-next_fine front closed b n c whole few fits = (
-  next_whole front closed b whole,
-  next_check front closed b n few,
-  inner_fine (begin n c.start c.countdown (full front closed b)) (record { line = n; start = c.start; countdown = c.countdown; lines = [] }) [] (n + 1) (inner_lines c) (all_fine (n + 1) c fits.few_streams fits.few_entities),
+next_fine : (front : List Said) (closed : List Block) (b : Block) (n : ℕ) (c : Config) → version_in front ≡ two → is_incomplete two b.lines ≡ false → length closed < 15 → ConfigInLines c → Fine (full front closed b) n (config_lines c)
+next_fine front closed b n c version whole few fits = (
+  ap is_one version,
+  next_whole front closed b version whole,
+  next_check front closed b n version few,
+  inner_fine (begin n c.start c.countdown (full front closed b)) (record { line = n; start = c.start; countdown = c.countdown; lines = [] }) [] (n + 1) (inner_lines c) version (all_fine (n + 1) c fits.few_streams fits.few_blocks fits.each_block),
 )
 
 -- configurations behind others
@@ -57,24 +62,24 @@ record Told (front : List Said) (closed : List Block) (b : Block) (n : ℕ) (cs 
   closed_then : List Block
   last : Block
   is : adds n (flat_map config_lines cs) (full front closed b) ≡ full front closed_then last
-  whole : is_incomplete last.lines ≡ false
+  whole : is_incomplete two last.lines ≡ false
   configs : map config_of (closed_then ++ last ∷ []) ≡ map config_of (closed ++ b ∷ []) ++ cs
 
 append_nil : {X : Type 0} (xs : List X) → xs ++ [] ≡ xs
 append_nil [] = refl
 append_nil (x ∷ xs) = ap (λ l. x ∷ l) (append_nil xs)
 
-told : (front : List Said) (closed : List Block) (b : Block) (n : ℕ) (cs : List Config) → is_incomplete b.lines ≡ false → length closed + length cs ≤ 15 → All ConfigInLines cs → Told front closed b n cs
-told front closed b n [] whole few fit = record { fine = tt; closed_then = closed; last = b; is = refl; whole = whole; configs = sym (append_nil (map config_of (closed ++ b ∷ []))) }
-told front closed b n (c ∷ cs) whole few fit =
+told : (front : List Said) (closed : List Block) (b : Block) (n : ℕ) (cs : List Config) → version_in front ≡ two → is_incomplete two b.lines ≡ false → length closed + length cs ≤ 15 → All ConfigInLines cs → Told front closed b n cs
+told front closed b n [] version whole few fit = record { fine = tt; closed_then = closed; last = b; is = refl; whole = whole; configs = sym (append_nil (map config_of (closed ++ b ∷ []))) }
+told front closed b n (c ∷ cs) version whole few fit =
     let fits = All-head ConfigInLines c cs fit in
     let flat : flat_map config_lines (c ∷ cs) ≡ config_lines c ++ flat_map config_lines cs = flat_map-cons config_lines c cs in
     let count : length (closed ++ b ∷ []) ≡ length closed + 1 = length-append closed (b ∷ []) in
     let here = next_adds front closed b n c fits in
-    let more = told front (closed ++ b ∷ []) (block_of n c) (n + length (config_lines c)) cs (complete_again (n + 1) c fits.some_service fits.some_stream) (omega (arith, few, count)) (All-tail ConfigInLines c cs fit) in
+    let more = told front (closed ++ b ∷ []) (block_of n c) (n + length (config_lines c)) cs version (complete_again (n + 1) c fits.some_service fits.some_stream fits.some_block) (omega (arith, few, count)) (All-tail ConfigInLines c cs fit) in
     let behind : Fine (adds n (config_lines c) (full front closed b)) (n + length (config_lines c)) (flat_map config_lines cs) = rw here more.fine in
     record {
-      fine = subst (λ (ls : List Line). Fine (full front closed b) n ls) (sym flat) (fine_append (full front closed b) n (config_lines c) (flat_map config_lines cs) (next_fine front closed b n c whole (omega (arith, few)) fits) behind);
+      fine = subst (λ (ls : List Line). Fine (full front closed b) n ls) (sym flat) (fine_append (full front closed b) n (config_lines c) (flat_map config_lines cs) (next_fine front closed b n c version whole (omega (arith, few)) fits) behind);
       closed_then = more.closed_then;
       last = more.last;
       is = ap (λ (ls : List Line). adds n ls (full front closed b)) flat
@@ -83,14 +88,14 @@ told front closed b n (c ∷ cs) whole few fit =
           ∙ more.is;
       whole = more.whole;
       configs = more.configs
-          ∙ ap (λ l. l ++ cs) (map_push config_of (closed ++ b ∷ []) (block_of n c) ∙ ap (λ k. map config_of (closed ++ b ∷ []) ++ k ∷ []) (config_again n c))
+          ∙ ap (λ l. l ++ cs) (map_push config_of (closed ++ b ∷ []) (block_of n c) ∙ ap (λ k. map config_of (closed ++ b ∷ []) ++ k ∷ []) (config_again n c fits.some_block))
           ∙ append_assoc (map config_of (closed ++ b ∷ [])) (c ∷ []) cs;
     }
 
 -- the four first lines
 front_fine : (plan : Plan) → Fine nothing 1 (front_lines plan)
 unfolding check_of
-front_fine plan = (refl, refl, (refl, refl, (refl, refl, (refl, refl, tt))))
+front_fine plan = (refl, refl, refl, (refl, refl, refl, (refl, refl, refl, (refl, refl, refl, tt))))
 
 front_adds : (plan : Plan) → adds 1 (front_lines plan) nothing ≡ fronted (numbered 1 (front_lines plan))
 front_adds plan = refl
@@ -100,12 +105,13 @@ unfolding check_of
 first_fine plan c fits = (
   refl,
   refl,
-  inner_fine (begin 5 c.start c.countdown (fronted (numbered 1 (front_lines plan)))) (record { line = 5; start = c.start; countdown = c.countdown; lines = [] }) [] (5 + 1) (inner_lines c) (all_fine (5 + 1) c fits.few_streams fits.few_entities),
+  refl,
+  inner_fine (begin 5 c.start c.countdown (fronted (numbered 1 (front_lines plan)))) (record { line = 5; start = c.start; countdown = c.countdown; lines = [] }) [] (5 + 1) (inner_lines c) refl (all_fine (5 + 1) c fits.few_streams fits.few_blocks fits.each_block),
 )
 
 first_adds : (plan : Plan) (c : Config) → ConfigInLines c → adds 5 (config_lines c) (fronted (numbered 1 (front_lines plan))) ≡ full (numbered 1 (front_lines plan)) [] (block_of 5 c)
 first_adds plan c fits =
-    inner_adds (begin 5 c.start c.countdown (fronted (numbered 1 (front_lines plan)))) (record { line = 5; start = c.start; countdown = c.countdown; lines = [] }) [] (5 + 1) (inner_lines c) (all_fine (5 + 1) c fits.few_streams fits.few_entities)
+    inner_adds (begin 5 c.start c.countdown (fronted (numbered 1 (front_lines plan)))) (record { line = 5; start = c.start; countdown = c.countdown; lines = [] }) [] (5 + 1) (inner_lines c) (all_fine (5 + 1) c fits.few_streams fits.few_blocks fits.each_block)
 
 -- all lines of a plan
 pub record PlanRead (plan : Plan) : Type 0 where
@@ -114,7 +120,8 @@ pub record PlanRead (plan : Plan) : Type 0 where
   pub is : adds 1 (plan_lines plan) nothing ≡ read
   pub block : Block
   pub last : read.current ≡ Some block
-  pub whole : is_incomplete block.lines ≡ false
+  pub version : version_in read.front ≡ two
+  pub whole : is_incomplete two block.lines ≡ false
   pub gives : plan_of read ≡ plan
 
 plan_read_of : (plan : Plan) (c : Config) (cs : List Config) → plan.configs ≡ c ∷ cs → length (c ∷ cs) ≤ 16 → All ConfigInLines (c ∷ cs) → PlanRead plan
@@ -123,7 +130,7 @@ plan_read_of plan c cs are few fit =
     let fits = All-head ConfigInLines c cs fit in
     let flat : flat_map config_lines plan.configs ≡ config_lines c ++ flat_map config_lines cs = ap (flat_map config_lines) are ∙ flat_map-cons config_lines c cs in
     let n : ℕ = 5 + length (config_lines c) in
-    let more = told front [] (block_of 5 c) n cs (complete_again (5 + 1) c fits.some_service fits.some_stream) (omega (arith, few)) (All-tail ConfigInLines c cs fit) in
+    let more = told front [] (block_of 5 c) n cs refl (complete_again (5 + 1) c fits.some_service fits.some_stream fits.some_block) (omega (arith, few)) (All-tail ConfigInLines c cs fit) in
     let here = first_adds plan c fits in
     let behind : Fine (adds 5 (config_lines c) (fronted front)) n (flat_map config_lines cs) = rw here more.fine in
     let configs_fine : Fine (fronted front) 5 (flat_map config_lines plan.configs) =
@@ -138,10 +145,11 @@ plan_read_of plan c cs are few fit =
           ∙ more.is;
       block = more.last;
       last = refl;
+      version = refl;
       whole = more.whole;
       gives =
           ap (λ l. record { carry = plan.carry; seq = plan.seq; dlfc = plan.dlfc; length = plan.length; configs = l })
-          (more.configs ∙ ap (λ k. k ∷ cs) (config_again 5 c) ∙ sym are);
+          (more.configs ∙ ap (λ k. k ∷ cs) (config_again 5 c fits.some_block) ∙ sym are);
     }
 
 no_config : (plan : Plan) → plan.configs ≡ [] → 1 ≤ length plan.configs → PlanRead plan

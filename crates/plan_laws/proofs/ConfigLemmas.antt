@@ -1,15 +1,20 @@
 -- The lines of a configuration, written and read again, give the configuration.
-use Rattle.std.proofs.Common.{◌≡◌, ℕ, ◌+◌, ◌≤◌, ◌<◌, suc, Bool, true, false, List, [], ◌∷◌, ◌++◌, Option, Some, None, length, map, filter, refl, sym, ap, subst, ◌∙◌, append_assoc, arith}
-use Rattle.std.specs.Prelude.{nat_le, if◌then◌else◌}
+use Rattle.std.proofs.Common.{◌≡◌, ℕ, ◌+◌, ◌≤◌, ◌<◌, suc, Bool, true, false, eqb, List, [], ◌∷◌, ◌++◌, Option, Some, None, length, map, filter, refl, sym, ap, subst, ◌∙◌, append_assoc, arith}
+use Rattle.std.specs.Prelude.{All, nat_le, not, ◌||◌, if◌then◌else◌}
+use Rattle.std.specs.List.{flat_map}
+use Rattle.std.proofs.lemmas.Bool.{ne_eqb}
+use Rattle.std.proofs.lemmas.List.Concat.{flat_map-cons}
 use Rattle.std.proofs.lemmas.Bool.Decides.{nat_tests}
 use Rattle.std.proofs.lemmas.List.{length-append}
-use Rattle.std.proofs.lemmas.List.Elements.{filter-append}
+use Rattle.std.proofs.lemmas.List.Elements.{filter-append, All-head, All-tail}
 use Rattle.drm_fac.specs.declared.service.Service.{Service}
 use Rattle.drm_sdc.specs.declared.body.Body.{Body}
 use Rattle.drm_sdc.specs.declared.body.Body.TheVariants as bodies
 use Rattle.drm_sdc.specs.declared.entity.Entity.{Entity}
 use Rattle.drm_schedule.specs.declared.config.Clock.{Clock}
 use Rattle.drm_schedule.specs.declared.config.Config.{Config}
+use Rattle.drm_schedule.specs.declared.timed.Timed.{Timed}
+use Rattle.drm_schedule.specs.Ranges.{TimedInLines}
 use Rattle.drm_schedule.specs.declared.stream.Stream.{Stream}
 use Rattle.line_forms.specs.declared.first_word.Keyword.{Keyword}
 use Rattle.line_forms.specs.declared.first_word.Keyword.TheVariants as keywords
@@ -19,10 +24,10 @@ use Rattle.line_forms.specs.Same.{same}
 use Rattle.line_forms.specs.Said.{keyword_said, keyword_of_body}
 use Rattle.plan_said.specs.declared.said.Said.{Said}
 use Rattle.plan_said.specs.Said.{count}
-use Rattle.plan_said.specs.Rules.{is_entity, count_entities, is_second, is_too_many}
-use Rattle.plan_writing.specs.Canonical.{service_lines, stream_lines, clock_lines, entity_lines}
-use Rattle.plan_laws.proofs.AgainLemmas.{numbered, is_inner, InnerFine}
-use Rattle.plan_said.proofs.KeywordLemmas.{one, entity_is_one}
+use Rattle.plan_said.specs.Rules.{is_entity, is_front, count_with, count_entities, is_out_of_order, is_second, is_too_many}
+use Rattle.plan_writing.specs.Canonical.{service_lines, stream_lines, clock_lines, entity_lines, block_lines}
+use Rattle.plan_laws.proofs.AgainLemmas.{two, numbered, is_inner, InnerFine}
+use Rattle.plan_said.proofs.KeywordLemmas.{one, entity_is_one, entity_is_no_block}
 
 append_nil : {X : Type 0} (xs : List X) → xs ++ [] ≡ xs
 append_nil [] = refl
@@ -44,7 +49,7 @@ inner_append said n (l ∷ a) b first behind =
     let next : n + suc (length a) ≡ n + 1 + length a = omega arith in
     let moved : InnerFine ((said ++ record { line = n; says = l } ∷ []) ++ numbered (n + 1) a) (n + 1 + length a) b =
     subst (λ (s : List Said). InnerFine s (n + 1 + length a) b) (sym (append_assoc said (record { line = n; says = l } ∷ []) (numbered (n + 1) a))) (subst (λ k. InnerFine (said ++ record { line = n; says = l } ∷ numbered (n + 1) a) k b) next behind) in
-    (first.0, first.1, first.2, inner_append (said ++ record { line = n; says = l } ∷ []) (n + 1) a b first.3 moved)
+    (first.0, first.1, first.2, first.3, inner_append (said ++ record { line = n; says = l } ∷ []) (n + 1) a b first.4 moved)
 
 -- how many lines meet a test on their keywords
 abbrev pub tested : (Keyword → Bool) → List Said → ℕ
@@ -79,25 +84,39 @@ pub tested_all : {X : Type 0} (test : Keyword → Bool) (f : X → Line) → ((x
 tested_all test f all n [] = refl
 tested_all test f all n (x ∷ xs) = rw (all x) (ap suc (tested_all test f all (n + 1) xs))
 
-services_fine : (said : List Said) (n : ℕ) (services : List Service) → InnerFine said n (service_lines services)
+-- a line from mode to clock stands before the first block line
+no_block_yet : (k : Keyword) (said : List Said) → is_entity k ≡ false → count keywords.Block said ≡ 0 → is_out_of_order two k said ≡ false
+no_block_yet k said other none = rw none other
+
+-- and no line but a block line changes that
+still_none : (said : List Said) (n : ℕ) (l : Line) → same (keyword_said l) keywords.Block ≡ false → count keywords.Block said ≡ 0 → count keywords.Block (said ++ record { line = n; says = l } ∷ []) ≡ 0
+still_none said n l other none = tested_push (λ k. same k keywords.Block) said n l ∙ rw (none, other) refl
+
+services_fine : (said : List Said) (n : ℕ) (services : List Service) → count keywords.Block said ≡ 0 → InnerFine said n (service_lines services)
 unfolding is_second is_too_many
-services_fine said n [] = tt
-services_fine said n (s ∷ services) = (refl, refl, refl, services_fine (said ++ record { line = n; says = lines.Service s } ∷ []) (n + 1) services)
+services_fine said n [] none = tt
+services_fine said n (s ∷ services) none =
+    (refl, no_block_yet keywords.Service said refl none, refl, refl, services_fine (said ++ record { line = n; says = lines.Service s } ∷ []) (n + 1) services (still_none said n (lines.Service s) refl none))
 
 few_streams : (c : ℕ) → c < 4 → nat_le 4 c ≡ false
 few_streams c few = grind (arith, nat_tests)
 
-streams_fine : (said : List Said) (n : ℕ) (streams : List Stream) → count keywords.Stream said + length streams ≤ 4 → InnerFine said n (stream_lines streams)
+streams_fine : (said : List Said) (n : ℕ) (streams : List Stream) → count keywords.Stream said + length streams ≤ 4 → count keywords.Block said ≡ 0 → InnerFine said n (stream_lines streams)
 unfolding is_second is_too_many
-streams_fine said n [] few = tt
-streams_fine said n (s ∷ streams) few =
-    let pushed : count keywords.Stream (said ++ record { line = n; says = lines.Stream s } ∷ []) ≡ count keywords.Stream said + 1 = tested_push (λ k. same k keywords.Stream) said n (lines.Stream s) in
-    (refl, refl, few_streams (count keywords.Stream said) (omega (arith, few)), streams_fine (said ++ record { line = n; says = lines.Stream s } ∷ []) (n + 1) streams (omega (arith, few, pushed)))
+streams_fine said n [] few none = tt
+streams_fine said n (s ∷ streams) few none =
+    let pushed : count keywords.Stream (said ++ record { line = n; says = lines.Stream s } ∷ []) ≡ count keywords.Stream said + 1 = tested_push (λ k. same k keywords.Stream) said n (lines.Stream s) in (
+      refl,
+      no_block_yet keywords.Stream said refl none,
+      refl,
+      few_streams (count keywords.Stream said) (omega (arith, few)),
+      streams_fine (said ++ record { line = n; says = lines.Stream s } ∷ []) (n + 1) streams (omega (arith, few, pushed)) (still_none said n (lines.Stream s) refl none),
+    )
 
-clock_fine : (said : List Said) (n : ℕ) (clock : Option Clock) → count keywords.Clock said ≡ 0 → InnerFine said n (clock_lines clock)
+clock_fine : (said : List Said) (n : ℕ) (clock : Option Clock) → count keywords.Clock said ≡ 0 → count keywords.Block said ≡ 0 → InnerFine said n (clock_lines clock)
 unfolding is_second is_too_many
-clock_fine said n None none = tt
-clock_fine said n (Some c) none = (refl, rw none refl, refl, tt)
+clock_fine said n None none no_block = tt
+clock_fine said n (Some c) none no_block = (refl, no_block_yet keywords.Clock said refl no_block, rw none refl, refl, tt)
 
 entity_inner : (b : Body) → is_inner (keyword_of_body b) ≡ true
 entity_inner (bodies.Mux desc) = refl
@@ -116,9 +135,10 @@ entity_single keywords.Room said e = absurd cc
 entity_single keywords.Clock said e = absurd cc
 entity_single _ said e = refl
 
-entity_few : (k : Keyword) (said : List Said) → is_entity k ≡ true → nat_le 64 (count_entities said) ≡ false → is_too_many k said ≡ false
+entity_few : (k : Keyword) (said : List Said) → is_entity k ≡ true → nat_le 64 (count_entities 0 said) ≡ false → is_too_many k said ≡ false
 unfolding is_too_many
 entity_few keywords.Stream said e few = absurd cc
+entity_few keywords.Block said e few = absurd cc
 entity_few keywords.Label said e few = few
 entity_few keywords.Freq said e few = few
 entity_few keywords.When said e few = few
@@ -131,17 +151,72 @@ entity_few _ said e few = absurd cc
 few_entities : (c : ℕ) → c < 64 → nat_le 64 c ≡ false
 few_entities c few = grind (arith, nat_tests)
 
-entities_fine : (said : List Said) (n : ℕ) (entities : List Entity) → count_entities said + length entities ≤ 64 → InnerFine said n (entity_lines entities)
-entities_fine said n [] few = tt
-entities_fine said n (e ∷ entities) few =
-    let is = entity_is_one e.body in
-    let pushed : count_entities (said ++ record { line = n; says = lines.Entity e } ∷ []) ≡ count_entities said + one (is_entity (keyword_of_body e.body)) = tested_push is_entity said n (lines.Entity e) in
-    let one_more : count_entities (said ++ record { line = n; says = lines.Entity e } ∷ []) ≡ count_entities said + 1 = pushed ∙ ap (λ b. count_entities said + one b) is in (
+-- one more line behind the last block line
+entities_push : (m : ℕ) (said : List Said) (n : ℕ) (l : Line) → count_entities m (said ++ record { line = n; says = l } ∷ []) ≡ count_with (count_entities m said) (keyword_said l)
+entities_push m [] n l = refl
+entities_push m (s ∷ said) n l = entities_push (count_with m (keyword_said s.says)) said n l
+
+entity_counts : (c : ℕ) (b : Body) → count_with c (keyword_of_body b) ≡ c + 1
+entity_counts c b = rw (entity_is_no_block b, entity_is_one b) refl
+
+-- an entity line stands behind a block line
+behind_block : (b : Body) (said : List Said) → 1 ≤ count keywords.Block said → is_out_of_order two (keyword_of_body b) said ≡ false
+behind_block b said some =
+    by (is_front (keyword_of_body b)) (same (keyword_of_body b) keywords.Config) (same (keyword_of_body b) keywords.Block) (is_entity (keyword_of_body b)) (eqb (count keywords.Block said) 0)
+    (ne_eqb (count keywords.Block said) 0 (λ e. omega (arith, some, e))) (entity_is_one b)
+  where
+    by : (f c k e none : Bool) → none ≡ false → e ≡ true → (if none then e else not (f || c || k || e)) ≡ false
+    by f c k e true is one = absurd cc
+    by f c k false false is one = absurd cc
+    by true c k true false is one = refl
+    by false true k true false is one = refl
+    by false false true true false is one = refl
+    by false false false true false is one = refl
+
+-- a block line may stand anywhere
+block_anywhere : (said : List Said) → is_out_of_order two keywords.Block said ≡ false
+block_anywhere said = by (eqb (count keywords.Block said) 0)
+  where
+    by : (none : Bool) → (if none then false else false) ≡ false
+    by true = refl
+    by false = refl
+
+entities_fine : (said : List Said) (n : ℕ) (entities : List Entity) → 1 ≤ count keywords.Block said → count_entities 0 said + length entities ≤ 64 → InnerFine said n (entity_lines entities)
+entities_fine said n [] some few = tt
+entities_fine said n (e ∷ entities) some few =
+    let one_more : count_entities 0 (said ++ record { line = n; says = lines.Entity e } ∷ []) ≡ count_entities 0 said + 1 = entities_push 0 said n (lines.Entity e) ∙ entity_counts (count_entities 0 said) e.body in
+    let blocks : count keywords.Block (said ++ record { line = n; says = lines.Entity e } ∷ []) ≡ count keywords.Block said + one (same (keyword_of_body e.body) keywords.Block) = tested_push (λ k. same k keywords.Block) said n (lines.Entity e) in (
       entity_inner e.body,
-      entity_single (keyword_of_body e.body) said is,
-      entity_few (keyword_of_body e.body) said is (few_entities (count_entities said) (omega (arith, few))),
-      entities_fine (said ++ record { line = n; says = lines.Entity e } ∷ []) (n + 1) entities (omega (arith, few, one_more)),
+      behind_block e.body said some,
+      entity_single (keyword_of_body e.body) said (entity_is_one e.body),
+      entity_few (keyword_of_body e.body) said (entity_is_one e.body) (few_entities (count_entities 0 said) (omega (arith, few))),
+      entities_fine (said ++ record { line = n; says = lines.Entity e } ∷ []) (n + 1) entities (omega (arith, some, blocks)) (omega (arith, few, one_more)),
     )
+
+few_blocks : (c : ℕ) → c < 64 → nat_le 64 c ≡ false
+few_blocks c few = grind (arith, nat_tests)
+
+block_fine : (said : List Said) (n : ℕ) (b : Timed) → count keywords.Block said < 64 → length b.entities ≤ 64 → InnerFine said n (block_lines b)
+unfolding is_second is_too_many
+block_fine said n b few entities =
+    let behind : List Said = said ++ record { line = n; says = lines.Block b.from } ∷ [] in
+    let blocks : count keywords.Block behind ≡ count keywords.Block said + 1 = tested_push (λ k. same k keywords.Block) said n (lines.Block b.from) in
+    let none : count_entities 0 behind ≡ 0 = entities_push 0 said n (lines.Block b.from) in
+    (refl, block_anywhere said, refl, few_blocks (count keywords.Block said) few, entities_fine behind (n + 1) b.entities (omega (arith, blocks)) (omega (arith, none, entities)))
+
+entity_lines_no_block : (n : ℕ) (entities : List Entity) → count keywords.Block (numbered n (entity_lines entities)) ≡ 0
+entity_lines_no_block n entities = tested_none (λ k. same k keywords.Block) (λ (e : Entity). lines.Entity e) (λ e. entity_is_no_block e.body) n entities
+
+-- the blocks, one after another
+blocks_fine : (said : List Said) (n : ℕ) (blocks : List Timed) → count keywords.Block said + length blocks ≤ 64 → All TimedInLines blocks → InnerFine said n (flat_map block_lines blocks)
+blocks_fine said n [] few fit = tt
+blocks_fine said n (b ∷ blocks) few fit =
+    let behind : List Said = said ++ numbered n (block_lines b) in
+    let own : count keywords.Block (numbered n (block_lines b)) ≡ suc (count keywords.Block (numbered (n + 1) (entity_lines b.entities))) = refl in
+    let counted : count keywords.Block behind ≡ count keywords.Block said + count keywords.Block (numbered n (block_lines b)) = tested_append (λ k. same k keywords.Block) said (numbered n (block_lines b)) in
+    subst (λ (ls : List Line). InnerFine said n ls) (sym (flat_map-cons block_lines b blocks))
+    (inner_append said n (block_lines b) (flat_map block_lines blocks) (block_fine said n b (omega (arith, few)) (All-head TimedInLines b blocks fit).few_entities)
+    (blocks_fine behind (n + length (block_lines b)) blocks (omega (arith, few, counted, own, entity_lines_no_block (n + 1) b.entities)) (All-tail TimedInLines b blocks fit)))
 
 -- the settings after the config line
 abbrev pub rest_settings : Config → List Line
@@ -149,11 +224,12 @@ rest_settings c = lines.Mode c.mode ∷ lines.Occupancy c.occupancy ∷ lines.De
 
 settings_fine : (n : ℕ) (c : Config) → InnerFine [] n (rest_settings c)
 unfolding is_second is_too_many
-settings_fine n c = (refl, refl, refl, (refl, refl, refl, (refl, refl, refl, (refl, refl, refl, (refl, refl, refl, (refl, refl, refl, (refl, refl, refl, tt)))))))
+settings_fine n c =
+    (refl, refl, refl, refl, (refl, refl, refl, refl, (refl, refl, refl, refl, (refl, refl, refl, refl, (refl, refl, refl, refl, (refl, refl, refl, refl, (refl, refl, refl, refl, tt)))))))
 
 -- the lines after the config line
 abbrev pub inner_lines : Config → List Line
-inner_lines c = rest_settings c ++ (service_lines c.services ++ (stream_lines c.streams ++ (clock_lines c.clock ++ entity_lines c.entities)))
+inner_lines c = rest_settings c ++ (service_lines c.services ++ (stream_lines c.streams ++ (clock_lines c.clock ++ flat_map block_lines c.blocks)))
 
 -- the numbers of the first lines
 abbrev after_settings : ℕ → Config → List Said
@@ -170,8 +246,8 @@ clock_count test none n None = refl
 clock_count test none n (Some c) = rw none refl
 
 -- all lines after the config line
-pub all_fine : (n : ℕ) (c : Config) → length c.streams ≤ 4 → length c.entities ≤ 64 → InnerFine [] n (inner_lines c)
-all_fine n c streams entities =
+pub all_fine : (n : ℕ) (c : Config) → length c.streams ≤ 4 → length c.blocks ≤ 64 → All TimedInLines c.blocks → InnerFine [] n (inner_lines c)
+all_fine n c streams blocks fit =
     let l1 : List Said = [] ++ numbered n (rest_settings c) in
     let n1 : ℕ = n + length (rest_settings c) in
     let l2 : List Said = l1 ++ numbered n1 (service_lines c.services) in
@@ -186,14 +262,14 @@ all_fine n c streams entities =
     tested_append (λ k. same k keywords.Clock) l1 (numbered n1 (service_lines c.services)) ∙ rw (services_of (λ k. same k keywords.Clock) refl n1 c.services) refl in
     let clock_3 : count keywords.Clock l3 ≡ 0 =
     tested_append (λ k. same k keywords.Clock) l2 (numbered n2 (stream_lines c.streams)) ∙ rw (clock_2, streams_of (λ k. same k keywords.Clock) refl n2 c.streams) refl in
-    let entity_2 : count_entities l2 ≡ 0 =
-    tested_append is_entity l1 (numbered n1 (service_lines c.services)) ∙ rw (services_of is_entity refl n1 c.services) refl in
-    let entity_3 : count_entities l3 ≡ 0 =
-    tested_append is_entity l2 (numbered n2 (stream_lines c.streams)) ∙ rw (entity_2, streams_of is_entity refl n2 c.streams) refl in
-    let entity_4 : count_entities l4 ≡ 0 =
-    tested_append is_entity l3 (numbered n3 (clock_lines c.clock)) ∙ rw (entity_3, clock_count is_entity refl n3 c.clock) refl in
-    inner_append [] n (rest_settings c) (service_lines c.services ++ (stream_lines c.streams ++ (clock_lines c.clock ++ entity_lines c.entities))) (settings_fine n c)
-    (inner_append l1 n1 (service_lines c.services) (stream_lines c.streams ++ (clock_lines c.clock ++ entity_lines c.entities)) (services_fine l1 n1 c.services)
-    (inner_append l2 n2 (stream_lines c.streams) (clock_lines c.clock ++ entity_lines c.entities) (streams_fine l2 n2 c.streams (omega (arith, streams, stream_2)))
-    (inner_append l3 n3 (clock_lines c.clock) (entity_lines c.entities) (clock_fine l3 n3 c.clock clock_3)
-    (entities_fine l4 n4 c.entities (omega (arith, entities, entity_4))))))
+    let block_2 : count keywords.Block l2 ≡ 0 =
+    tested_append (λ k. same k keywords.Block) l1 (numbered n1 (service_lines c.services)) ∙ rw (services_of (λ k. same k keywords.Block) refl n1 c.services) refl in
+    let block_3 : count keywords.Block l3 ≡ 0 =
+    tested_append (λ k. same k keywords.Block) l2 (numbered n2 (stream_lines c.streams)) ∙ rw (block_2, streams_of (λ k. same k keywords.Block) refl n2 c.streams) refl in
+    let block_4 : count keywords.Block l4 ≡ 0 =
+    tested_append (λ k. same k keywords.Block) l3 (numbered n3 (clock_lines c.clock)) ∙ rw (block_3, clock_count (λ k. same k keywords.Block) refl n3 c.clock) refl in
+    inner_append [] n (rest_settings c) (service_lines c.services ++ (stream_lines c.streams ++ (clock_lines c.clock ++ flat_map block_lines c.blocks))) (settings_fine n c)
+    (inner_append l1 n1 (service_lines c.services) (stream_lines c.streams ++ (clock_lines c.clock ++ flat_map block_lines c.blocks)) (services_fine l1 n1 c.services refl)
+    (inner_append l2 n2 (stream_lines c.streams) (clock_lines c.clock ++ flat_map block_lines c.blocks) (streams_fine l2 n2 c.streams (omega (arith, streams, stream_2)) block_2)
+    (inner_append l3 n3 (clock_lines c.clock) (flat_map block_lines c.blocks) (clock_fine l3 n3 c.clock clock_3 block_3)
+    (blocks_fine l4 n4 c.blocks (omega (arith, blocks, block_4)) fit))))

@@ -2,14 +2,15 @@
 use Rattle.std.proofs.Common.{◌≡◌, ℕ, ◌+◌, Bool, true, false, List, [], ◌∷◌, length, Option, Some, None, Result, Ok, Err, refl, sym, ap, subst, ◌∙◌, arith}
 use Rattle.std.specs.Prelude.{All, IsUtf8, not, ◌==◌, ◌||◌, slice_index, if◌then◌else◌}
 use Rattle.std.specs.List.{list_all, slice_split, join_with_byte}
+use Rattle.std.proofs.lemmas.Bool.{or_parts}
 use Rattle.std.proofs.lemmas.List.Elements.{All-nil, All-cons, All-head, All-tail}
 use Rattle.std.proofs.lemmas.List.Splits.{join_with_byte-slice_split}
 use Rattle.drm_schedule.specs.declared.invalid.Reason.TheVariants.{Word, Missing}
 use Rattle.drm_schedule.specs.Ranges.{InLines}
 use Rattle.text_lines.specs.Lines.{words_of, lines_of, without_last_empty}
 use Rattle.line_forms.specs.declared.first_word.Keyword.{Keyword}
+use Rattle.line_forms.specs.declared.version.Version.{Version}
 use Rattle.line_forms.specs.declared.line.Line.{Line}
-use Rattle.line_forms.specs.Keywords.{keyword_of}
 use Rattle.line_forms.specs.Lines.{shape_of}
 use Rattle.line_forms.specs.Said.{LineInLines}
 use Rattle.line_forms.proofs.Keywords.{SaysKeyword}
@@ -25,7 +26,7 @@ use Rattle.drm_plan.specs.Files.{config_files}
 use Rattle.plan_said.specs.InLines.{IsSingle, EndedInLines, ReadInLines, EndsComplete}
 use Rattle.drm_plan.specs.Projection.{Drafted, drafted}
 use Rattle.text_lines.specs.Faults.{fault, first_fault, ok_unless, ◌>>=◌, lines_say}
-use Rattle.plan_said.specs.Rules.{Fault, is_misplaced, is_second, is_too_many, is_17th, in_current, is_incomplete, current_line, end_rows, ended, ends_incomplete, said_shape, said_keyword, said_words, said_line, said_from, said}
+use Rattle.plan_said.specs.Rules.{Fault, version_in, keyword_in, is_misplaced, is_second, is_too_many, is_17th, in_current, is_incomplete, current_line, end_rows, ended, ends_incomplete, said_shape, said_keyword, said_words, said_line, said_from, said}
 use Rattle.plan_said.specs.Steps.{check_of}
 use Rattle.drm_plan.specs.Text.{lines_give}
 use Rattle.plan_said.proofs.KeptLemmas.{add_fits}
@@ -102,9 +103,9 @@ words_kept read new n line (first ∷ words) utf8 single cut kept is = by (slice
     known None is = absurd cc
     known (Some k) is = shape_kept read new n k (shape_of k line words) (λ l reads. line_fits k line words l (clean line first words utf8 single cut) reads) (says_keyword k line words) kept is
 
-    by : (comment : Bool) → (if comment then Ok read else said_keyword read n (keyword_of first) line words) ≡ Ok new → ReadInLines new
+    by : (comment : Bool) → (if comment then Ok read else said_keyword read n (keyword_in (version_in read.front) first) line words) ≡ Ok new → ReadInLines new
     by true is = subst ReadInLines (read_is read new is) kept
-    by false is = known (keyword_of first) is
+    by false is = known (keyword_in (version_in read.front) first) is
 
 line_kept : (read new : Read) (n : ℕ) (line : List ℕ) → IsUtf8 line → IsSingle line → ReadInLines read → said_line read n line ≡ Ok new → ReadInLines new
 unfolding said_line
@@ -130,19 +131,19 @@ record Ended (read new : Read) : Type 0 where
   whole : EndsComplete new
   same : read ≡ new
 
-ended_by : (n : ℕ) (read new : Read) (current : Option Block) → read.current ≡ current → ok_unless (first_fault (end_rows current n)) read ≡ Ok new → Ended read new
-ended_by n read new None last is = absurd cc
-ended_by n read new (Some b) last is = by (is_incomplete b.lines) refl is
+ended_by : (n : ℕ) (read new : Read) (version : Option Version) (current : Option Block) → read.current ≡ current → ok_unless (first_fault (end_rows version current n)) read ≡ Ok new → Ended read new
+ended_by n read new version None last is = absurd cc
+ended_by n read new version (Some b) last is = by (is_incomplete version b.lines) refl is
   where
-    by : (lacking : Bool) → is_incomplete b.lines ≡ lacking → ok_unless (first_fault ((lacking, fault b.line Missing) ∷ [])) read ≡ Ok new → Ended read new
+    by : (lacking : Bool) → is_incomplete version b.lines ≡ lacking → ok_unless (first_fault ((lacking, fault b.line Missing) ∷ [])) read ≡ Ok new → Ended read new
     by true found is = absurd cc
     by false found is =
         let same = read_is read new is in
-        record { whole = record { block = b; last = sym (ap (λ (r : Read). r.current) same) ∙ last; complete = found }; same = same }
+        record { whole = record { block = b; last = sym (ap (λ (r : Read). r.current) same) ∙ last; complete = (or_parts _ _ found).0 }; same = same }
 
 end_kept : (n : ℕ) (read new : Read) → ended n read ≡ Ok new → Ended read new
 unfolding ended
-end_kept n read new is = ended_by n read new read.current refl is
+end_kept n read new is = ended_by n read new (version_in read.front) read.current refl is
 
 -- all that a text says
 record Kept (read : Read) : Type 0 where

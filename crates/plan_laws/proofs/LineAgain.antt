@@ -22,6 +22,7 @@ use Rattle.text_lines.proofs.Lacking.{lacks_both}
 use Rattle.text_lines.proofs.WordLaws.{word_and_rest}
 use Rattle.text_lines.proofs.LineLaws.{IsLine, lines_again}
 use Rattle.line_forms.specs.declared.first_word.Keyword.TheVariants as keywords
+use Rattle.line_forms.specs.declared.version.Version.TheVariants.{One, Two}
 use Rattle.line_forms.specs.declared.line.Line.{Line}
 use Rattle.line_forms.specs.declared.line.Line.TheVariants as lines
 use Rattle.line_forms.specs.Keywords.{keyword_text}
@@ -125,7 +126,9 @@ body_cut version (bodies.Raw kind nibble bytes) fits =
 
 -- each line that says what a line can say
 pub line_again : (l : Line) → LineInLines l → IsCut l
-line_again lines.Version fits = from_parts lines.Version refl (record { word = record { some = refl; whole = refl }; line = refl }, tt)
+line_again (lines.Version One) fits = from_parts (lines.Version One) refl (record { word = record { some = refl; whole = refl }; line = refl }, tt)
+line_again (lines.Version Two) fits = from_parts (lines.Version Two) refl (record { word = record { some = refl; whole = refl }; line = refl }, tt)
+line_again (lines.Block from) fits = from_parts (lines.Block from) refl (number_token from (omega (arith, fits)), tt)
 line_again (lines.Carry carry) fits = from_parts (lines.Carry carry) refl (carry_tokens carry fits)
 line_again (lines.First seq dlfc) fits = from_parts (lines.First seq dlfc) refl (number_token seq (omega (arith, fits.0)), (number_token dlfc (omega (arith, fits.1)), tt))
 line_again (lines.Length n) fits = from_parts (lines.Length n) refl (number_token n (omega (arith, fits.1)), tt)

@@ -8,14 +8,16 @@ use Rattle.std.proofs.lemmas.List.Elements.{All-nil, All-cons, All-head, All-tai
 use Rattle.std.proofs.lemmas.Str.{IsUtf8-nil, IsUtf8-append, IsUtf8-from_ascii}
 use Rattle.std.proofs.lemmas.Str.Ascii.{IsAscii-nil, IsAscii-cons}
 use Rattle.drm_schedule.specs.declared.config.Clock.{Clock}
+use Rattle.drm_schedule.specs.declared.timed.Timed.{Timed}
 use Rattle.drm_schedule.specs.declared.config.Config.{Config}
 use Rattle.drm_schedule.specs.declared.stream.Content.{Content}
 use Rattle.drm_schedule.specs.declared.stream.Content.TheVariants.{Fill, File}
 use Rattle.drm_schedule.specs.declared.stream.Stream.{Stream}
 use Rattle.drm_schedule.specs.declared.plan.Plan.{Plan}
-use Rattle.drm_schedule.specs.Ranges.{ContentInLines, StreamInLines, ServiceInLines, ClockInLines, EntityInLines, ConfigInLines, InLines}
+use Rattle.drm_schedule.specs.Ranges.{ContentInLines, StreamInLines, ServiceInLines, ClockInLines, EntityInLines, TimedInLines, ConfigInLines, InLines}
 use Rattle.text_lines.specs.Lines.{lines_of}
 use Rattle.text_lines.proofs.LineLaws.{IsLine, lines_again}
+use Rattle.line_forms.specs.declared.version.Version.TheVariants.{Two}
 use Rattle.line_forms.specs.declared.line.Line.{Line}
 use Rattle.line_forms.specs.declared.line.Line.TheVariants as lines
 use Rattle.line_forms.specs.Said.{canonical as line_of, line_text, detached, LineInLines}
@@ -24,13 +26,13 @@ use Rattle.plan_laws.proofs.SaidAgain.{said_again}
 use Rattle.plan_said.specs.declared.said.Block.{Block}
 use Rattle.plan_said.specs.declared.said.Read.{Read}
 use Rattle.plan_said.specs.Said.{nothing}
-use Rattle.plan_said.specs.Rules.{Fault, ended, is_incomplete, said_from, said}
-use Rattle.plan_writing.specs.Canonical.{front_lines, settings_lines, service_lines, stream_lines, clock_lines, entity_lines, config_lines, plan_lines, text_of, canonical}
+use Rattle.plan_said.specs.Rules.{Fault, version_in, ended, is_incomplete, said_from, said}
+use Rattle.plan_writing.specs.Canonical.{front_lines, settings_lines, service_lines, stream_lines, clock_lines, block_lines, config_lines, plan_lines, text_of, canonical}
 use Rattle.drm_plan.specs.Files.{emptied, without_bytes, config_without_bytes, without_files}
 use Rattle.plan_laws.specs.Texts.{IsReadAgain}
 use Rattle.drm_plan.specs.Projection.{Drafted, drafted}
 use Rattle.drm_plan.specs.Text.{lines_give}
-use Rattle.plan_laws.proofs.AgainLemmas.{LineAgain, lines_said}
+use Rattle.plan_laws.proofs.AgainLemmas.{two, LineAgain, lines_said}
 use Rattle.plan_laws.proofs.CanonicalLaw.{plan_read}
 use Rattle.drm_plan.proofs.TextLemmas.{text_gives}
 use Rattle.plan_writing.proofs.TextLemmas.{text_append, no_text}
@@ -105,14 +107,23 @@ settings_clean c fits = (
   ),
 )
 
+block_clean : (b : Timed) → TimedInLines b → AllByRecursion Clean (block_lines b)
+block_clean b fits = (clean (lines.Block b.from) fits.from_fits refl, each (λ e. lines.Entity e) EntityInLines (λ e is. clean (lines.Entity e) is refl) b.entities fits.each_entity)
+
+blocks_clean : (blocks : List Timed) → All TimedInLines blocks → AllByRecursion Clean (flat_map block_lines blocks)
+blocks_clean [] fit = tt
+blocks_clean (b ∷ blocks) fit =
+    subst (λ (ls : List Line). AllByRecursion Clean ls) (sym (flat_map-cons block_lines b blocks))
+    (both (block_lines b) (flat_map block_lines blocks) (block_clean b (All-head TimedInLines b blocks fit)) (blocks_clean blocks (All-tail TimedInLines b blocks fit)))
+
 config_clean : (c : Config) → ConfigInLines c → AllByRecursion Clean (config_lines (config_without_bytes c))
 config_clean c fits =
     let streams : AllByRecursion Clean (stream_lines (map without_bytes c.streams)) =
     subst (λ (ls : List Line). AllByRecursion Clean ls) (sym (mapped (λ s. lines.Stream s) without_bytes c.streams)) (each (λ s. lines.Stream (without_bytes s)) StreamInLines stream_clean c.streams fits.each_stream) in
-    both (settings_lines c) (service_lines c.services ++ (stream_lines (map without_bytes c.streams) ++ (clock_lines c.clock ++ entity_lines c.entities))) (settings_clean c fits)
-    (both (service_lines c.services) (stream_lines (map without_bytes c.streams) ++ (clock_lines c.clock ++ entity_lines c.entities)) (each (λ s. lines.Service s) ServiceInLines (λ s is. clean (lines.Service s) is refl) c.services fits.each_service)
-    (both (stream_lines (map without_bytes c.streams)) (clock_lines c.clock ++ entity_lines c.entities) streams
-    (both (clock_lines c.clock) (entity_lines c.entities) (clock_clean c.clock fits.clock_fits) (each (λ e. lines.Entity e) EntityInLines (λ e is. clean (lines.Entity e) is refl) c.entities fits.each_entity))))
+    both (settings_lines c) (service_lines c.services ++ (stream_lines (map without_bytes c.streams) ++ (clock_lines c.clock ++ flat_map block_lines c.blocks))) (settings_clean c fits)
+    (both (service_lines c.services) (stream_lines (map without_bytes c.streams) ++ (clock_lines c.clock ++ flat_map block_lines c.blocks)) (each (λ s. lines.Service s) ServiceInLines (λ s is. clean (lines.Service s) is refl) c.services fits.each_service)
+    (both (stream_lines (map without_bytes c.streams)) (clock_lines c.clock ++ flat_map block_lines c.blocks) streams
+    (both (clock_lines c.clock) (flat_map block_lines c.blocks) (clock_clean c.clock fits.clock_fits) (blocks_clean c.blocks fits.each_block))))
 
 configs_clean : (cs : List Config) → All ConfigInLines cs → AllByRecursion Clean (flat_map config_lines (map config_without_bytes cs))
 configs_clean [] fit = tt
@@ -123,7 +134,7 @@ configs_clean (c ∷ cs) fit =
 plan_clean : (plan : Plan) → InLines plan → AllByRecursion Clean (plan_lines (without_files plan))
 plan_clean plan fits =
     both (front_lines plan) (flat_map config_lines (map config_without_bytes plan.configs))
-    (clean lines.Version tt refl, (clean (lines.Carry plan.carry) fits.carry_fits refl, (clean (lines.First plan.seq plan.dlfc) (fits.seq_fits, fits.dlfc_fits) refl, (clean (lines.Length plan.length) (fits.some_frames, fits.few_frames) refl, tt))))
+    (clean (lines.Version Two) tt refl, (clean (lines.Carry plan.carry) fits.carry_fits refl, (clean (lines.First plan.seq plan.dlfc) (fits.seq_fits, fits.dlfc_fits) refl, (clean (lines.Length plan.length) (fits.some_frames, fits.few_frames) refl, tt))))
     (configs_clean plan.configs fits.each_config)
 
 -- the ranges stay
@@ -144,8 +155,9 @@ config_stays c fits =
       few_streams = rw same fits.few_streams;
       each_stream = all_mapped StreamInLines without_bytes stream_fits c.streams fits.each_stream;
       clock_fits = fits.clock_fits;
-      few_entities = fits.few_entities;
-      each_entity = fits.each_entity;
+      some_block = fits.some_block;
+      few_blocks = fits.few_blocks;
+      each_block = fits.each_block;
     }
   where
     all_mapped : {X : Type 0} (P : X → Type 0) (f : X → X) → ((x : X) → P x → P (f x)) → (xs : List X) → All P xs → All P (map f xs)
@@ -178,7 +190,7 @@ streams_text (s ∷ streams) =
 
 config_text : (c : Config) → text_of (config_lines (config_without_bytes c)) ≡ text_of (config_lines c)
 config_text c =
-    let rest : List Line = clock_lines c.clock ++ entity_lines c.entities in
+    let rest : List Line = clock_lines c.clock ++ flat_map block_lines c.blocks in
     let streams : text_of (stream_lines (map without_bytes c.streams) ++ rest) ≡ text_of (stream_lines c.streams ++ rest) =
     text_append (stream_lines (map without_bytes c.streams)) rest ∙ ap (λ t. t ++ text_of rest) (streams_text c.streams) ∙ sym (text_append (stream_lines c.streams) rest) in
     let services : text_of (service_lines c.services ++ (stream_lines (map without_bytes c.streams) ++ rest)) ≡ text_of (service_lines c.services ++ (stream_lines c.streams ++ rest)) =
@@ -218,9 +230,11 @@ text_is [] = refl
 text_is (l ∷ ls) = flat_map-cons line_text l ls ∙ ap (λ t. line_text l ++ t) (text_is ls) ∙ sym (flat_map-cons (λ (x : List ℕ). x ++ 10 ∷ []) (line_of l) (map line_of ls))
 
 -- a whole text that has been read
-said_whole : (ls : List (List ℕ)) (read : Read) (b : Block) → said_from nothing 1 ls ≡ Ok read → read.current ≡ Some b → is_incomplete b.lines ≡ false → said ls ≡ Ok read
+said_whole : (ls : List (List ℕ)) (read : Read) (b : Block) → said_from nothing 1 ls ≡ Ok read → read.current ≡ Some b → version_in read.front ≡ two → is_incomplete two b.lines ≡ false → said ls ≡ Ok read
 unfolding said ended
-said_whole ls read b e last whole = rw (e, last, whole) refl
+said_whole ls read b e last version whole =
+    let lacking : is_incomplete (version_in read.front) b.lines ≡ false = subst (λ v. is_incomplete v b.lines ≡ false) (sym version) whole in
+    rw (e, last, lacking) refl
 
 abbrev ok_read : Read → Result Read Fault
 ok_read read = Ok read
@@ -235,7 +249,7 @@ read_again plan fits =
     let ls : List (List ℕ) = map line_of (plan_lines bare) in
     let lines_are : lines_of (canonical plan) ≡ ls = ap lines_of (sym (same_text plan) ∙ text_is (plan_lines bare)) ∙ lines_again ls (all_lines (plan_lines bare) are) in
     let from_start : said_from nothing 1 ls ≡ Ok read.read = lines_said nothing 1 (plan_lines bare) (all_again (plan_lines bare) are) read.fine ∙ ap ok_read read.is in
-    let all : said ls ≡ Ok read.read = said_whole ls read.read read.block from_start read.last read.whole in
+    let all : said ls ≡ Ok read.read = said_whole ls read.read read.block from_start read.last read.version read.whole in
     record {
       draft = drafted read.read;
       lines = ap lines_give lines_are ∙ text_gives ls read.read all;

@@ -15,7 +15,7 @@ use Rattle.line_forms.specs.Lines.{shape_of}
 use Rattle.line_forms.specs.Entities.{says}
 use Rattle.line_forms.specs.Said.{keyword_of_body, keyword_said, body_parts, canonical, words_said, detached, LineInLines}
 use Rattle.plan_laws.proofs.LabelLaws.{text_behind}
-use Rattle.plan_laws.proofs.SettingsAgain.{version_again, carry_again, first_again, length_again, config_again, mode_again, occupancy_again, depth_again, msc_again, sdc_again, protection_again, room_again, service_again, stream_again, clock_again}
+use Rattle.plan_laws.proofs.SettingsAgain.{version_again, block_again, carry_again, first_again, length_again, config_again, mode_again, occupancy_again, depth_again, msc_again, sdc_again, protection_again, room_again, service_again, stream_again, clock_again}
 use Rattle.plan_laws.proofs.EntitiesAgain.{label_again, freq_again, when_again, app_again, audio_again, language_again, raw_again}
 use Rattle.plan_laws.proofs.Tokens.{keyword_token}
 
@@ -58,7 +58,8 @@ entity_again version (bodies.Raw kind nibble bytes) current fits = raw_again ver
 
 -- What is said is read again from its canonical line; of a file there is only the name.
 pub said_again : (l : Line) → LineInLines l → reading (shape_of (keyword_said l) (canonical l) (words_said l)) ≡ Ok (detached l)
-said_again lines.Version fits = version_again
+said_again (lines.Version version) fits = version_again version
+said_again (lines.Block from) fits = block_again from fits
 said_again (lines.Carry carry) fits = carry_again carry fits
 said_again (lines.First seq dlfc) fits = first_again seq dlfc fits.0 fits.1
 said_again (lines.Length n) fits = length_again n fits.0 fits.1

@@ -1,6 +1,6 @@
 -- What a line of the front or of a setting, a service, a stream or a clock says is read again from its words.
 use Rattle.std.proofs.Common.{◌≡◌, ℕ, ◌<◌, ◌≤◌, ◌+◌, ◌^◌, Bool, true, false, List, [], ◌∷◌, length, Ok, refl, sym, subst, arith}
-use Rattle.std.specs.Prelude.{decimal, codes}
+use Rattle.std.specs.Prelude.{decimal}
 use Rattle.std.specs.Int.{from_be_bytes, w32}
 use Rattle.std.specs.List.{AllByRecursion}
 use Rattle.std.proofs.lemmas.Bool.{le-leb}
@@ -18,16 +18,25 @@ use Rattle.drm_schedule.specs.declared.stream.Stream.{Stream}
 use Rattle.dcp_pft.specs.Carrying.{CarryFits}
 use Rattle.drm_schedule.specs.Ranges.{ServiceInLines, StreamInLines, ContentInLines, ClockInLines}
 use Rattle.text_lines.proofs.SpellingLaws.{decimal_value}
+use Rattle.line_forms.specs.declared.version.Version.{Version}
+use Rattle.line_forms.specs.declared.version.Version.TheVariants.{One, Two}
 use Rattle.line_forms.specs.declared.line.Line.{Line}
 use Rattle.line_forms.specs.declared.line.Line.TheVariants as lines
 use Rattle.line_forms.specs.Shape.{Part, number, value, bit, flag, hex, hex_value, byte_value, name, some_of, reading}
-use Rattle.line_forms.specs.Settings.{version_line, carry_line, first_line, length_line, config_line, mode_line, occupancy_line, depth_line, msc_line, sdc_line, protection_line, room_line, service_line, stream_line, clock_line}
-use Rattle.line_forms.specs.Said.{carry_words, depth_word, bit_word, kind_word, service_words, content_words, hex6, detached}
+use Rattle.line_forms.specs.Settings.{version_line, carry_line, first_line, length_line, config_line, mode_line, occupancy_line, depth_line, msc_line, sdc_line, protection_line, room_line, service_line, stream_line, clock_line, block_line}
+use Rattle.line_forms.specs.Said.{version_word, carry_words, depth_word, bit_word, kind_word, service_words, content_words, hex6, detached}
 use Rattle.plan_laws.proofs.Parts.{Good, read_as, number_good, bit_good, flag_again, hex6_good, hex6_value, byte_good, byte_again}
 
-pub version_again : reading (version_line (codes "1" ∷ [])) ≡ Ok lines.Version
+pub version_again : (version : Version) → reading (version_line (version_word version ∷ [])) ≡ Ok (lines.Version version)
 unfolding version_line
-version_again = refl
+version_again One = refl
+version_again Two = refl
+
+pub block_again : (n : ℕ) → n < 1000000 → reading (block_line (decimal n ∷ [])) ≡ Ok (lines.Block n)
+unfolding block_line
+block_again n fits =
+    read_as (number 0 999999 (decimal n) ∷ []) (lines.Block (value (decimal n))) (lines.Block n)
+    (number_good 0 999999 n (omega arith) (omega arith) (omega arith), tt) (rw (decimal_value n (omega arith)) refl)
 
 pub carry_again : (carry : Carry) → CarryFits carry → reading (carry_line (carry_words carry)) ≡ Ok (lines.Carry carry)
 unfolding carry_line

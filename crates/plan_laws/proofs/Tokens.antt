@@ -57,6 +57,7 @@ keyword_token keywords.Room = record { word = record { some = refl; whole = refl
 keyword_token keywords.Service = record { word = record { some = refl; whole = refl }; line = refl }
 keyword_token keywords.Stream = record { word = record { some = refl; whole = refl }; line = refl }
 keyword_token keywords.Clock = record { word = record { some = refl; whole = refl }; line = refl }
+keyword_token keywords.Block = record { word = record { some = refl; whole = refl }; line = refl }
 keyword_token keywords.Label = record { word = record { some = refl; whole = refl }; line = refl }
 keyword_token keywords.Freq = record { word = record { some = refl; whole = refl }; line = refl }
 keyword_token keywords.When = record { word = record { some = refl; whole = refl }; line = refl }

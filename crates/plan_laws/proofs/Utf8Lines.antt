@@ -27,6 +27,7 @@ use Rattle.dcp_pft.specs.Carrying.{CarryFits}
 use Rattle.drm_schedule.specs.Ranges.{ContentInLines, AppInLines, BodyInLines}
 use Rattle.line_forms.specs.declared.first_word.Keyword.{Keyword}
 use Rattle.line_forms.specs.declared.first_word.Keyword.TheVariants as keywords
+use Rattle.line_forms.specs.declared.version.Version.TheVariants.{One, Two}
 use Rattle.line_forms.specs.declared.line.Line.{Line}
 use Rattle.line_forms.specs.declared.line.Line.TheVariants as lines
 use Rattle.line_forms.specs.Keywords.{keyword_text}
@@ -165,7 +166,9 @@ body version (bodies.Raw kind nibble load) fits =
 
 -- each line that says what a line can say
 pub line_utf8 : (l : Line) → LineInLines l → IsUtf8 (canonical l)
-line_utf8 lines.Version fits = from_parts lines.Version (low _ refl, tt)
+line_utf8 (lines.Version One) fits = from_parts (lines.Version One) (low _ refl, tt)
+line_utf8 (lines.Version Two) fits = from_parts (lines.Version Two) (low _ refl, tt)
+line_utf8 (lines.Block from) fits = from_parts (lines.Block from) (number from (omega (arith, fits)), tt)
 line_utf8 (lines.Carry c) fits = from_parts (lines.Carry c) (carry c fits)
 line_utf8 (lines.First seq dlfc) fits = from_parts (lines.First seq dlfc) (number seq (omega (arith, fits.0)), (number dlfc (omega (arith, fits.1)), tt))
 line_utf8 (lines.Length n) fits = from_parts (lines.Length n) (number n (omega (arith, fits.1)), tt)
