@@ -1,13 +1,18 @@
 -- The schedule of an exercise is valid.
-use Rattle.std.proofs.Common.{◌≡◌, ℕ, zero, suc, ◌/◌, ◌<◌, ◌≤◌, Bool, true, false, List, [], ◌∷◌, All, Some, None, refl, ap, arith, rules}
-use Rattle.std.specs.Prelude.{nat_le, nat_lt, ◌||◌, if◌then◌else◌}
+use Rattle.std.proofs.Common.{◌≡◌, ℕ, zero, suc, ◌+◌, ◌-◌, ◌/◌, ◌<◌, ◌≤◌, Bool, true, false, List, [], ◌∷◌, All, Some, None, refl, ap, ◌∙◌, arith, rules}
+use Rattle.std.specs.Prelude.{nat_le, nat_lt, ◌||◌, not, if◌then◌else◌}
+use Rattle.std.proofs.lemmas.Bool.{le-leb}
 use Rattle.drm_fac.specs.declared.mode.Mode.{Mode}
 use Rattle.drm_fac.specs.declared.mode.Mode.TheVariants.{B, C}
 use Rattle.dcp_pft.specs.declared.carry.Carry.TheVariants.{Pft}
 use Rattle.drm_schedule.specs.declared.invalid.Invalid.{Invalid}
 use Rattle.drm_schedule.specs.declared.config.Config.{Config}
 use Rattle.drm_schedule.specs.declared.plan.Plan.{Plan}
-use Rattle.drm_schedule.specs.Ranges.{InLines, ConfigInLines, ServiceInLines, StreamInLines, EntityInLines}
+use Rattle.drm_schedule.specs.InForce.{first_entities, entities_of_last}
+use Rattle.drm_schedule.specs.Sizes.{told_with, free_bytes}
+use Rattle.drm_schedule.specs.Announcement.{announced, free_in_countdown, lacks_announcement}
+use Rattle.block_packing.specs.Packing.{can_be_packed}
+use Rattle.drm_schedule.specs.Ranges.{InLines, ConfigInLines, ServiceInLines, StreamInLines, EntityInLines, TimedInLines}
 use Rattle.drm_schedule.specs.Valid.{rows, first_fault, first_of, first_invalid_from, first_invalid}
 use Rattle.drm_exercise.specs.Exercise.{config, plan}
 
@@ -37,8 +42,13 @@ config_in_lines start countdown mode short_depth byte early few fits = record {
   few_streams = omega arith;
   each_stream = all_one StreamInLines _ (record { a_fits = omega arith; b_fits = omega arith; not_empty = omega arith; contents = omega (arith, fits) });
   clock_fits = tt;
-  few_entities = omega arith;
-  each_entity = all_one EntityInLines _ (record { version_fits = refl; body_fits = (omega arith, omega arith, omega arith, omega arith, omega arith, omega arith, refl, (omega arith, λ k. omega arith)) });
+  some_block = omega arith;
+  few_blocks = omega arith;
+  each_block = all_one TimedInLines _ (record {
+    from_fits = omega arith;
+    few_entities = omega arith;
+    each_entity = all_one EntityInLines _ (record { version_fits = refl; body_fits = (omega arith, omega arith, omega arith, omega arith, omega arith, omega arith, refl, (omega arith, λ k. omega arith)) });
+  });
 }
 
 abbrev half : ℕ → Config
@@ -94,12 +104,28 @@ neither : (a b : Bool) → a ≡ false → b ≡ false → (a || b) ≡ false
 neither true b is also = absurd cc
 neither false b is also = also
 
-second_rows : (n : ℕ) → 4 ≤ n → first_fault (rows (with_second n true) 1 (Some (config 0 0 B false 17)) (half n) n) ≡ None
+-- the configuration before has as much left in each super frame, since its one block begins with it
+abbrev first : Config
+first = config 0 0 B false 17
+
+abbrev free : ℕ
+free = free_bytes first 0
+
+free_in : (sf : ℕ) → free_bytes first sf ≡ free
+free_in sf = ap (λ has. first.room - (told_with first (entities_of_last (first_entities first) (if has then first.blocks else [])) + 0)) (le-leb 0 (sf - 0) (omega arith))
+
+free_twice : (n : ℕ) → free_in_countdown first (half n) ≡ free ∷ free ∷ []
+free_twice n = ap (λ a. a ∷ free_bytes first (n / 2 - 2 + 1) ∷ []) (free_in (n / 2 - 2)) ∙ ap (λ b. free ∷ b ∷ []) (free_in (n / 2 - 2 + 1))
+
+second_announced : (n : ℕ) → lacks_announcement (Some first) (half n) ≡ false
+second_announced n = ap (λ sizes. not (can_be_packed sizes (announced (half n)))) (free_twice n)
+
+second_rows : (n : ℕ) → 4 ≤ n → first_fault (rows (with_second n true) 1 (Some (config 0 0 B false 17)) (half n) []) ≡ None
 unfolding NoneHolds
 second_rows n most =
-    none_first (rows (with_second n true) 1 (Some (config 0 0 B false 17)) (half n) n) (
+    none_first (rows (with_second n true) 1 (Some (config 0 0 B false 17)) (half n) []) (
       neither _ _ (not_le (n / 2) 0 (omega (arith, most))) (not_le n (n / 2) (omega (arith, most))),
-      (not_lt (n / 2) 2 (omega (arith, most)), (refl, (refl, (refl, (refl, (refl, (refl, (refl, tt)))))))),
+      (not_lt (n / 2) 2 (omega (arith, most)), (refl, (refl, (refl, (refl, (refl, (refl, (second_announced n, (refl, (refl, tt)))))))))),
     )
 
 valid_by : (n : ℕ) (two : Bool) → nat_le 4 n ≡ two → first_invalid (with_second n two) ≡ None

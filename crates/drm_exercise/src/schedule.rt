@@ -5,8 +5,8 @@ ghost use Rattle.drm_exercise.specs.Exercise as exercise;
 
 use drm_bits::{NoMemory, Octets};
 use drm_schedule::{
-    Body, Carry, Config, Configs, Content, Entities, Entity, Items, Mode, Plan, Schedule, Service,
-    Services, Stream, Streams,
+    Blocks, Body, Carry, Config, Configs, Content, Entities, Entity, Items, Mode, Plan, Schedule,
+    Service, Services, Stream, Streams, Timed,
 };
 use std::alloc::Global;
 
@@ -68,7 +68,7 @@ fn config(
         services: services(alloc)?,
         streams: streams(alloc, byte)?,
         clock: None,
-        entities: entities(alloc)?,
+        blocks: blocks(alloc)?,
     })
 }
 
@@ -99,6 +99,16 @@ fn streams(alloc: Global, byte: u8) -> Result<Streams, NoMemory>
         content: Content::Fill(byte),
     })?;
     Ok(streams)
+}
+
+// One block, which begins with the configuration.
+fn blocks(alloc: Global) -> Result<Blocks, NoMemory>
+    ensures { IfOk result (λ blocks. blocks ≡ exercise.blocks) }
+{
+    let mut blocks = Items::new(alloc);
+    let entities = entities(alloc)?;
+    blocks.push(Timed { from: 0, entities })?;
+    Ok(blocks)
 }
 
 fn entities(alloc: Global) -> Result<Entities, NoMemory>

@@ -45,6 +45,7 @@ fn word(reason: Reason) -> &'static str
         Reason::Twice => "twice",
         Reason::Order => "order",
         Reason::Countdown => "countdown",
+        Reason::Block => "block",
         Reason::Services => "services",
         Reason::Occupancy => "occupancy",
         Reason::Hierarchical => "hierarchical",

@@ -23,7 +23,10 @@ fn announces(plan: &Schedule) -> bool {
     }
     plan.always_valid();
     let config = plan.configs().get(1);
-    entities_can_be_written(&config.entities);
+    if config.blocks.len() != 1 {
+        return false;
+    }
+    entities_can_be_written(&config.blocks.get(0).entities);
     config.start == 5 && config.countdown == 2
 }
 
