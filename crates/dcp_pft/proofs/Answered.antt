@@ -9,6 +9,7 @@ use Rattle.dcp_pft.specs.declared.fragment.Addr.{Addr}
 use Rattle.dcp_pft.specs.declared.fragment.Fragment.{Fragment}
 use Rattle.dcp_pft.specs.declared.fault.PftFault.{PftFault}
 use Rattle.drm_bits.specs.Crc.{IsCheckOf}
+use Rattle.dcp_pft.specs.Limits.{most_fragments, most_carried}
 use Rattle.dcp_pft.specs.Head.{PftFragment, sync}
 use Rattle.dcp_pft.specs.Faults.{sequence_number, fragment_index, fragment_count, described, code, addresses, addresses_at, addresses_place, marks, has_addresses, checked_bytes, check_value, head_size, payload, table, NoneOf, IsFault}
 use Rattle.dcp_pft.specs.Reading.{pft_of, IsCodeFor, IsPft}
@@ -16,16 +17,13 @@ use Rattle.dcp_pft.proofs.Table.{one_first, none_first}
 use Rattle.dcp_pft.proofs.Spelled.{fragment_at, spelled_at, number_16, IsBytes-range}
 use Rattle.dcp_pft.proofs.Placed.{EndsWith, IsPlaced, placed}
 
-payload_small : (count n : ℕ) → 1 ≤ count → count * n ≤ 12288 → n < 2 ^ 14
-payload_small count n some small = grind arith
-
 ends : (f : PftFragment) (bytes : List ℕ) (is : IsPft f bytes) → EndsWith f is.spells.check bytes
 ends f bytes is =
     record {
       seq = is.seq;
       index = omega (arith, is.index, is.few);
       count = omega (arith, is.few);
-      small = payload_small f.count (length f.payload) is.some is.size;
+      small = is.len;
       addr = is.addr;
       narrow = is.spells.checks.narrow;
       spelled = is.spells.spelled;
@@ -147,10 +145,11 @@ found_at bytes fits none check =
     let whole : head_size bytes ≤ length bytes = omega (arith, none.1.0) in
     let is_size : described bytes ≡ length (payload bytes) = same_number (described bytes) (length (payload bytes)) rows.1.1.0 in
     let same : fragment_count bytes * described bytes ≡ fragment_count bytes * length (payload bytes) = ap (λ (n : ℕ). fragment_count bytes * n) is_size in
+    let len : length (payload bytes) < 2 ^ 14 = omega (arith, is_size) in
     let some : 1 ≤ fragment_count bytes = omega (arith, rows.0) in
     let index : fragment_index bytes < fragment_count bytes = omega (arith, rows.1.0) in
-    let few : fragment_count bytes ≤ 1024 = omega (arith, rows.1.1.1.1.1.0) in
-    let size : fragment_count bytes * length (payload bytes) ≤ 12288 = omega (arith, rows.1.1.1.1.1.1.0, same) in
+    let few : fragment_count bytes ≤ most_fragments = omega (arith, rows.1.1.1.1.1.0) in
+    let size : fragment_count bytes * length (payload bytes) ≤ most_carried = omega (arith, rows.1.1.1.1.1.1.0, same) in
     let seq : sequence_number bytes < 2 ^ 16 = number_16 (slice_range bytes 2 4) (IsBytes-range 2 4 bytes fits) in
     let addr = addresses_fit (has_addresses (marks bytes)) (addresses_place bytes) bytes fits in
     let spelled = spelled_at bytes fits (same_sync (take 2 bytes) none.0) whole is_size in
@@ -159,7 +158,7 @@ found_at bytes fits none check =
       seq = seq;
       index = omega (arith, index, few);
       count = omega (arith, few);
-      small = payload_small (fragment_count bytes) (length (payload bytes)) some size;
+      small = len;
       addr = addr;
       narrow = check.narrow;
       spelled = spelled;
@@ -173,6 +172,7 @@ found_at bytes fits none check =
       some = some;
       index = index;
       few = few;
+      len = len;
       size = size;
       code = subst Q same (fits_code (code bytes) (fragment_count bytes * described bytes) rows.1.1.1.0 rows.1.1.1.1.0 rows.1.1.1.1.1.1.1.0);
     }

@@ -8,7 +8,7 @@ use Rattle.dcp_pft.specs.Cutting.{chunk_count, chunk_size, coded_size, most_byte
 use Rattle.dcp_pft.specs.declared.carry.Carry.TheVariants.{Pft}
 use Rattle.dcp_pft.specs.Limits.{most_packet, most_losses, least_fragment, most_fragment}
 use Rattle.dcp_pft.specs.Loss.{size, is_recoverable}
-use Rattle.dcp_pft.proofs.Sizes.{chunks_are, most_is, coded_is}
+use Rattle.dcp_pft.proofs.Sizes.{Fits, fits_is, chunks_are, most_is, coded_is}
 use Rattle.dcp_pft.proofs.Erased.{erased_few, all_stand, all_kept}
 
 few_places : (m q : ℕ) → 1 ≤ m → m ≤ 5 → (m + 1) * q < 49 + m → q * m ≤ 48
@@ -44,13 +44,13 @@ rounds_few n m f q some enough below =
     ]
 
 -- with a code
-coded_bound : (len m mtu : ℕ) (kept : ℕ → Bool) → 1 ≤ len → len ≤ 8192 → 1 ≤ m → m ≤ 5 → 128 ≤ mtu
+coded_bound : (len m mtu : ℕ) (kept : ℕ → Bool) → Fits len mtu → 1 ≤ m → m ≤ 5
     → (coded_shape len m mtu).count ≤ size (coded_shape len m mtu).count kept + m → is_recoverable (coded_shape len m mtu) kept ≡ true
 unfolding is_recoverable coded_size
-coded_bound len m mtu kept some small lost few least enough =
-    let chunks = chunks_are len some small in
-    let most = most_is len m mtu lost few least in
-    let is = coded_is len m mtu some small lost few least in
+coded_bound len m mtu kept fits lost few enough =
+    let chunks = chunks_are len fits.some fits.small in
+    let most = most_is len m mtu lost few fits.least in
+    let is = coded_is len m mtu fits lost few in
     let n : ℕ = chunk_size len + 48 in
     let f : ℕ = (coded_shape len m mtu).count in
     let q : ℕ = div_ceil (chunk_size len + 48) (coded_shape len m mtu).count in
@@ -71,4 +71,4 @@ pub loss_bound : (len m mtu : ℕ) (kept : ℕ → Bool) → 1 ≤ len → len �
     → (shape_of len m mtu).count ≤ size (shape_of len m mtu).count kept + m → is_recoverable (shape_of len m mtu) kept ≡ true
 unfolding shape_of
 loss_bound len zero mtu kept some small few least most enough = plain_bound len mtu kept (omega arith)
-loss_bound len (suc m) mtu kept some small few least most enough = coded_bound len (suc m) mtu kept some small (omega arith) few least enough
+loss_bound len (suc m) mtu kept some small few least most enough = coded_bound len (suc m) mtu kept (fits_is len (suc m) mtu some small least) (omega arith) few enough

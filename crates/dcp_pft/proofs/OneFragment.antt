@@ -8,7 +8,6 @@ use Rattle.dcp_pft.specs.declared.shape.Rs.{Rs}
 use Rattle.dcp_pft.specs.declared.shape.Shape.{Shape}
 use Rattle.dcp_pft.specs.Cutting.{chunk_size, coded_shape, plain_shape, shape_of}
 use Rattle.dcp_pft.specs.Coding.{AreParities, IsParityOf, filled}
-use Rattle.drm_bits.specs.Crc.{IsCheckOf}
 use Rattle.dcp_pft.specs.Head.{PftFragment, Spells, head, fragment_of}
 use Rattle.dcp_pft.specs.Laws.{OneFragment}
 use Rattle.dcp_pft.proofs.Sizes.{short_chunks}

@@ -3,7 +3,7 @@ use Rattle.std.proofs.Common.{length-append, length-take, ℕ, zero, suc, ◌≡
 use Rattle.std.proofs.Math.Nat.{mul-le-mul_left}
 use Rattle.std.proofs.Math.Seq.{take-append-add}
 use Rattle.std.proofs.lemmas.Bool.{cases_lt}
-use Rattle.std.proofs.lemmas.List.{take_at, drop_at, drop-drop, take-append-le, drop-append-le, take_all, take-replicate, length-replicate, replicate-append-replicate, take-take, drop-take, append-nil, length-take-le, nil_from_length}
+use Rattle.std.proofs.lemmas.List.{drop-drop, take-append-le, drop-append-le, take_all, take-replicate, length-replicate, replicate-append-replicate, append-nil, length-take-le, nil_from_length}
 use Rattle.drm_bits.proofs.PutLemmas.{same_before}
 use Rattle.rs_erase.specs.Code.{IsCodeWord, word_of}
 use Rattle.dcp_pft.specs.declared.shape.Rs.{Rs}

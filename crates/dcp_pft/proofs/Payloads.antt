@@ -1,17 +1,18 @@
 -- How many bytes a fragment carries, and that a fragment that was written is read.
 use Rattle.std.proofs.Common.{ℕ, ◌≡◌, ◌+◌, ◌-◌, ◌*◌, ◌/◌, ◌<◌, ◌≤◌, inl, inr, min, Option, None, Some, List, length, drop, refl, sym, subst, ap, ◌∙◌, arith, length-drop, length-take}
-use Rattle.std.proofs.Math.Nat.{div-eq_of_lt, mul-le-mul_left}
+use Rattle.std.proofs.Math.Nat.{div-eq_of_lt, mul-le-mul_left, mul-le-mul_right}
 use Rattle.std.proofs.lemmas.Bool.{cases_lt}
 use Rattle.std.proofs.lemmas.List.FromFn.{length-map-range_with_len}
 use Rattle.std.specs.Option.{IfSome}
 use Rattle.dcp_pft.specs.declared.shape.Rs.{Rs}
 use Rattle.dcp_pft.specs.declared.shape.Shape.{Shape}
+use Rattle.dcp_pft.specs.Limits.{most_fragment}
 use Rattle.dcp_pft.specs.Cutting.{chunks_of, IsShapeOf}
 use Rattle.dcp_pft.specs.Coding.{byte_or_zero, coded, filled, payload_of}
-use Rattle.dcp_pft.specs.Laws.{IsCodeTaken, IsTaken, ReadAsWritten}
+use Rattle.dcp_pft.specs.Laws.{IsCodeTaken, IsTaken, NoneIsEmpty, ReadAsWritten}
 use Rattle.dcp_pft.specs.Reading.{IsCodeFor}
 use Rattle.dcp_pft.proofs.Fragments.{chunks_by, chunks_with, with_rs}
-use Rattle.dcp_pft.proofs.Shapes.{all_are_taken}
+use Rattle.dcp_pft.proofs.Shapes.{all_are_taken, has_code, has_none}
 
 -- with a code each fragment carries a whole piece
 pub coded_payload_length : (shape : Shape) (rs : Rs) (packet parity : List ℕ) (i : ℕ) → shape.rs ≡ Some rs
@@ -64,6 +65,25 @@ code_is_read shape packet parity i taken = by shape.rs refl
         subst P (sym (coded_payload_length shape rs packet parity i is))
         (record { some = code.some; most = code.few; fill = code.fill; chunk = enough })
 
+-- a piece fits a datagram
+short_piece : (len : ℕ) (shape : Shape) → IsShapeOf len shape → shape.piece ≤ most_fragment
+short_piece len shape is = by shape.rs refl
+  where
+    by : (o : Option Rs) → shape.rs ≡ o → shape.piece ≤ most_fragment
+    by None none = omega (arith, (has_none len shape is none).piece)
+    by (Some rs) some = omega (arith, (has_code len shape rs is some).piece)
+
+-- no fragment is empty
+pub none_is_empty : NoneIsEmpty
+none_is_empty shape packet parity i is below = by shape.rs refl
+  where
+    by : (o : Option Rs) → shape.rs ≡ o → 1 ≤ length (payload_of shape packet parity i)
+    by (Some rs) some = omega (arith, coded_payload_length shape rs packet parity i some, (has_code (length packet) shape rs is some).byte)
+    by None none =
+        let has = has_none (length packet) shape is none in
+        let before : i * shape.piece ≤ (shape.count - 1) * shape.piece = mul-le-mul_right shape.piece (omega (arith, below)) in
+        omega (arith, plain_payload_length shape packet parity i none, has.byte, has.last, before)
+
 pub is_read_as_written : ReadAsWritten
 is_read_as_written shape seq i packet parity datagram is small index spells =
     let taken = shape_is_taken (length packet) shape is in
@@ -76,6 +96,7 @@ is_read_as_written shape seq i packet parity datagram is small index spells =
       some = omega (arith, taken.some);
       index = index;
       few = taken.few;
+      len = omega (arith, most, short_piece (length packet) shape is);
       size = omega (arith, all, taken.bytes);
       code = code_is_read shape packet parity i taken;
     }

@@ -1,10 +1,27 @@
 -- The sizes of what a packet is cut into.
-use Rattle.std.proofs.Common.{ℕ, zero, suc, ◌≡◌, ◌+◌, ◌-◌, ◌*◌, ◌/◌, ◌%◌, ◌<◌, ◌≤◌, min, ◌⊎◌, inl, inr, refl, arith}
+use Rattle.std.proofs.Common.{ℕ, zero, suc, ◌≡◌, ◌+◌, ◌-◌, ◌*◌, ◌/◌, ◌%◌, ◌<◌, ◌≤◌, min, ◌⊎◌, inl, inr, Bool, true, false, cond, ltb, refl, ap, arith}
 use Rattle.std.specs.Int.{div_ceil}
 use Rattle.std.proofs.Math.Nat.{mul-le-mul_left, div-mul-le_self, le-div_iff_mul-le, div-eq_of_lt-le}
-use Rattle.std.proofs.lemmas.Bool.{cases_lt}
+use Rattle.std.proofs.lemmas.Bool.{cases_lt, ltb-false}
 use Rattle.std.proofs.lemmas.Grind.{div_ceil_times}
+use Rattle.dcp_pft.specs.declared.carry.Carry.TheVariants.{Pft}
+use Rattle.dcp_pft.specs.Limits.{longest_packet, longest_in_short, long_fragment, least_fragment, most_packet, most_carried}
 use Rattle.dcp_pft.specs.Cutting.{chunk_count, chunk_size, coded_size, most_bytes, coded_shape, plain_shape, shape_of}
+
+-- the packet isn't longer than its fragments allow
+pub record Fits (len mtu : ℕ) : Type 0 where
+  pub some : 1 ≤ len
+  pub small : len ≤ longest_packet
+  pub least : least_fragment ≤ mtu
+  pub short : (len ≤ longest_in_short) ⊎ (long_fragment ≤ mtu)
+
+fits_when : (b : Bool) (len mtu : ℕ) → ltb mtu long_fragment ≡ b → 1 ≤ len → len ≤ cond b longest_in_short longest_packet → least_fragment ≤ mtu → Fits len mtu
+fits_when true len mtu is some small least = record { some = some; small = omega arith; least = least; short = inl small }
+fits_when false len mtu is some small least =
+    record { some = some; small = small; least = least; short = inr (ltb-false mtu long_fragment is) }
+
+pub fits_is : (len m mtu : ℕ) → 1 ≤ len → len ≤ most_packet (Pft m mtu) → least_fragment ≤ mtu → Fits len mtu
+fits_is len m mtu some small least = fits_when (ltb mtu long_fragment) len mtu refl some small least
 
 -- a quotient, rounded up
 pub up_at_most : (a b q : ℕ) → 0 < b → a ≤ q * b → div_ceil a b ≤ q
@@ -30,19 +47,21 @@ up_some a b some p =
 -- the chunks of a packet
 pub record Chunks (len : ℕ) : Type 0 where
   pub some : 0 < chunk_count len
-  pub few : chunk_count len ≤ 40
+  pub few : chunk_count len ≤ 159
   pub size_some : 0 < chunk_size len
   pub size_few : chunk_size len ≤ 207
   pub holds : len ≤ chunk_count len * chunk_size len
   pub little : chunk_count len * chunk_size len < len + chunk_count len
   pub fill : chunk_count len * chunk_size len < len + chunk_size len
 
-fill_is : (len c k : ℕ) → 0 < c → c ≤ 40 → 0 < k → c * 207 < len + 207 → len ≤ c * k → c * k < len + c → c * k < len + k
+fill_is : (len c k : ℕ) → 0 < c → c ≤ 159 → 0 < k → c * 207 < len + 207 → len ≤ c * k → c * k < len + c → c * k < len + k
 fill_is len c k some few size_some full holds little =
     elim (cases_lt k c) [
       | inl lt ↦
-          let p : c * k ≤ c * 39 = mul-le-mul_left c (omega arith) in
-          let two : c * 168 < 207 = omega arith in
+          let p : c * k ≤ c * 158 = mul-le-mul_left c (omega arith) in
+          let few_chunks : c * 49 < 207 = omega arith in
+          let q : c * k ≤ c * 3 = mul-le-mul_left c (omega arith) in
+          let one : c * 204 < 207 = omega arith in
           omega arith
       | inr le ↦ omega arith
     ]
@@ -55,13 +74,13 @@ short_chunks len some =
     let c_some : 0 < div_ceil len 207 = up_some len 207 some (omega arith) in
     up_at_most len (div_ceil len 207) 207 c_some (omega arith)
 
-pub chunks_are : (len : ℕ) → 1 ≤ len → len ≤ 8192 → Chunks len
+pub chunks_are : (len : ℕ) → 1 ≤ len → len ≤ longest_packet → Chunks len
 unfolding chunk_count chunk_size
 chunks_are len some small =
     let c : ℕ = div_ceil len 207 in
     let counted = div_ceil_times len 207 (omega arith) in
     let c_some : 0 < div_ceil len 207 = up_some len 207 some (omega arith) in
-    let c_few : div_ceil len 207 ≤ 40 = up_at_most len 207 40 (omega arith) (omega arith) in
+    let c_few : div_ceil len 207 ≤ 159 = up_at_most len 207 159 (omega arith) (omega arith) in
     let sized = div_ceil_times len (div_ceil len 207) c_some in
     let k_some : 0 < div_ceil len (div_ceil len 207) = up_some len (div_ceil len 207) some c_some in
     let k_few : div_ceil len (div_ceil len 207) ≤ 207 = up_at_most len (div_ceil len 207) 207 c_some (omega arith) in
@@ -78,16 +97,39 @@ chunks_are len some small =
     }
 
 -- the bytes of all chunks with their parity
-pub coded_small : (len : ℕ) → 1 ≤ len → len ≤ 8192 → coded_size len ≤ 10151
+pub coded_small : (len : ℕ) → 1 ≤ len → len ≤ longest_packet → coded_size len ≤ 40558
 unfolding coded_size
 coded_small len some small = let are = chunks_are len some small in omega (arith, are.little, are.few)
 
-pub coded_some : (len : ℕ) → 1 ≤ len → len ≤ 8192 → 0 < coded_size len
+pub coded_some : (len : ℕ) → 1 ≤ len → len ≤ longest_packet → 0 < coded_size len
 unfolding coded_size
 coded_some len some small =
     let are = chunks_are len some small in
     let p : (chunk_size len + 48) * 1 ≤ (chunk_size len + 48) * chunk_count len = mul-le-mul_left (chunk_size len + 48) are.some in
     omega arith
+
+-- the chunks, and all their bytes, beside what a fragment of so many bytes carries at most
+pub record Room (len mtu : ℕ) : Type 0 where
+  pub chunks : chunk_count len ≤ mtu - 16
+  pub size : coded_size len ≤ 169 * (mtu - 16)
+  pub whole : len ≤ 169 * (mtu - 14)
+
+few_chunks : (len : ℕ) → len ≤ longest_in_short → chunk_count len ≤ 40
+unfolding chunk_count
+few_chunks len short = up_at_most len 207 40 (omega arith) (omega arith)
+
+pub room_is : (len mtu : ℕ) → Fits len mtu → Room len mtu
+unfolding coded_size
+room_is len mtu fits =
+    let are = chunks_are len fits.some fits.small in
+    let least = fits.least in
+    elim fits.short [
+      | inl short ↦
+          let few = few_chunks len short in
+          record { chunks = omega arith; size = omega (arith, are.little); whole = omega arith }
+      | inr long ↦
+          record { chunks = omega (arith, are.few); size = omega (arith, coded_small len fits.some fits.small); whole = omega (arith, fits.small) }
+    ]
 
 -- the most bytes of a fragment
 pub record Most (len m mtu : ℕ) : Type 0 where
@@ -116,27 +158,28 @@ most_is len m mtu kept few least =
 -- the fragments of a packet with a code
 pub record Coded (len m mtu : ℕ) : Type 0 where
   pub some : 0 < (coded_shape len m mtu).count
-  pub few : (coded_shape len m mtu).count ≤ 91
+  pub few : (coded_shape len m mtu).count ≤ 169
   pub short : (coded_shape len m mtu).count ≤ chunk_size len + 48
   pub holds : coded_size len ≤ (coded_shape len m mtu).count * (coded_shape len m mtu).piece
   pub little : (coded_shape len m mtu).count * (coded_shape len m mtu).piece < coded_size len + (coded_shape len m mtu).count
   pub piece : (coded_shape len m mtu).piece + 16 ≤ mtu
+  pub byte : 0 < (coded_shape len m mtu).piece
   pub chunks : (coded_shape len m mtu).count * (coded_shape len m mtu).piece / (chunk_size len + 48) ≡ chunk_count len
 
--- a fragment has at least eight bytes for each chunk, or 112
-most_least : (len m mtu : ℕ) → 128 ≤ mtu → Most len m mtu → (chunk_count len * 8 ≤ most_bytes len m mtu) ⊎ (112 ≤ most_bytes len m mtu)
+-- a fragment has at least eight bytes for each chunk, or as many as it is allowed
+most_least : (len m mtu : ℕ) → Most len m mtu → (chunk_count len * 8 ≤ most_bytes len m mtu) ⊎ (mtu - 16 ≤ most_bytes len m mtu)
 unfolding most_bytes
-most_least len m mtu least is =
+most_least len m mtu is =
     elim (cases_lt (48 * chunk_count len / (m + 1)) (mtu - 16)) [
       | inl lt ↦ inl (omega (arith, is.each))
       | inr le ↦ inr (omega arith)
     ]
 
-count_few : (size c k most : ℕ) → size ≡ c * (k + 48) → size ≤ 10151 → k ≤ 207 → 0 < most → (c * 8 ≤ most) ⊎ (112 ≤ most) → div_ceil size most ≤ 91
-count_few size c k most is small k_few some (inl each) =
+count_few : (size c k most mtu : ℕ) → size ≡ c * (k + 48) → size ≤ 169 * (mtu - 16) → k ≤ 207 → 0 < most → (c * 8 ≤ most) ⊎ (mtu - 16 ≤ most) → div_ceil size most ≤ 169
+count_few size c k most mtu is small k_few some (inl each) =
     let p : c * (k + 48) ≤ c * 255 = mul-le-mul_left c (omega arith) in
-    up_at_most size most 91 some (omega arith)
-count_few size c k most is small k_few some (inr large) = up_at_most size most 91 some (omega arith)
+    up_at_most size most 169 some (omega arith)
+count_few size c k most mtu is small k_few some (inr large) = up_at_most size most 169 some (omega arith)
 
 count_short : (size c k most : ℕ) → size ≡ c * (k + 48) → c ≤ most → 0 < most → div_ceil size most ≤ k + 48
 count_short size c k most is least some =
@@ -148,23 +191,21 @@ chunks_again : (c k size n f s : ℕ) → n ≡ k + 48 → size ≡ c * n → si
 chunks_again c k size n f s is_n is holds little short =
     div-eq_of_lt-le n (omega arith) (omega arith)
 
-pub coded_is : (len m mtu : ℕ) → 1 ≤ len → len ≤ 8192 → 1 ≤ m → m ≤ 5 → 128 ≤ mtu → Coded len m mtu
+pub coded_is : (len m mtu : ℕ) → Fits len mtu → 1 ≤ m → m ≤ 5 → Coded len m mtu
 unfolding coded_size
-coded_is len m mtu some small kept few least =
-    let chunks = chunks_are len some small in
-    let is = most_is len m mtu kept few least in
-    let size : ℕ = coded_size len in
-    let most : ℕ = most_bytes len m mtu in
-    let size_small = coded_small len some small in
-    let size_some = coded_some len some small in
-    let large = most_least len m mtu least is in
+coded_is len m mtu fits kept few =
+    let chunks = chunks_are len fits.some fits.small in
+    let room = room_is len mtu fits in
+    let is = most_is len m mtu kept few fits.least in
+    let size_some = coded_some len fits.some fits.small in
+    let large = most_least len m mtu is in
     let enough : chunk_count len ≤ most_bytes len m mtu =
-    elim large [ inl each ↦ omega arith | inr all ↦ omega (arith, chunks.few) ] in
+    elim large [ inl each ↦ omega arith | inr all ↦ omega (arith, room.chunks) ] in
     let most_some : 0 < most_bytes len m mtu = omega (arith, chunks.some) in
     let f : ℕ = div_ceil (coded_size len) (most_bytes len m mtu) in
     let counted = div_ceil_times (coded_size len) (most_bytes len m mtu) most_some in
     let f_some : 0 < div_ceil (coded_size len) (most_bytes len m mtu) = up_some (coded_size len) (most_bytes len m mtu) size_some most_some in
-    let f_few = count_few (coded_size len) (chunk_count len) (chunk_size len) (most_bytes len m mtu) refl size_small chunks.size_few most_some large in
+    let f_few = count_few (coded_size len) (chunk_count len) (chunk_size len) (most_bytes len m mtu) mtu refl room.size chunks.size_few most_some large in
     let f_short = count_short (coded_size len) (chunk_count len) (chunk_size len) (most_bytes len m mtu) refl enough most_some in
     let cut = div_ceil_times (coded_size len) f f_some in
     let holds : coded_size len ≤ f * div_ceil (coded_size len) f = omega (arith, cut.0) in
@@ -177,38 +218,52 @@ coded_is len m mtu some small kept few least =
       holds = holds;
       little = little;
       piece = omega (arith, is.datagram, s_few);
+      byte = up_some (coded_size len) f size_some f_some;
       chunks = chunks_again (chunk_count len) (chunk_size len) (coded_size len) (chunk_size len + 48) f (div_ceil (coded_size len) f) refl refl holds little f_short;
     }
 
 -- the fragments of a packet without a code
 pub record Plain (len mtu : ℕ) : Type 0 where
   pub some : 0 < (plain_shape len mtu).count
-  pub few : (plain_shape len mtu).count ≤ 91
+  pub few : (plain_shape len mtu).count ≤ 169
   pub holds : len ≤ (plain_shape len mtu).count * (plain_shape len mtu).piece
   pub little : (plain_shape len mtu).count * (plain_shape len mtu).piece < len + (plain_shape len mtu).count
   pub piece : (plain_shape len mtu).piece + 14 ≤ mtu
+  pub byte : 0 < (plain_shape len mtu).piece
+  pub last : ((plain_shape len mtu).count - 1) * (plain_shape len mtu).piece < len
 
-pub plain_is : (len mtu : ℕ) → 1 ≤ len → len ≤ 8192 → 128 ≤ mtu → Plain len mtu
-plain_is len mtu some small least =
+-- the fragments before the last one carry less than the packet
+last_is : (len f s most : ℕ) → 0 < f → f * most < len + most → s ≤ most → (f - 1) * s < len
+last_is len zero s most some below small = absurd (omega arith)
+last_is len (suc n) s most some below small =
+    let p : n * s ≤ n * most = mul-le-mul_left n small in
+    let e : (suc n - 1) * s ≡ n * s = ap (λ (k : ℕ). k * s) (omega arith) in
+    omega (arith, below, p, e)
+
+pub plain_is : (len mtu : ℕ) → Fits len mtu → Plain len mtu
+plain_is len mtu fits =
+    let least = fits.least in
     let most_some : 0 < mtu - 14 = omega arith in
     let f : ℕ = div_ceil len (mtu - 14) in
     let counted = div_ceil_times len (mtu - 14) most_some in
-    let f_some : 0 < div_ceil len (mtu - 14) = up_some len (mtu - 14) some most_some in
+    let f_some : 0 < div_ceil len (mtu - 14) = up_some len (mtu - 14) fits.some most_some in
     let cut = div_ceil_times len f f_some in
     let s_few : div_ceil len f ≤ mtu - 14 = up_at_most len f (mtu - 14) f_some (omega (arith, counted.0)) in
     record {
       some = f_some;
-      few = up_at_most len (mtu - 14) 91 most_some (omega arith);
+      few = up_at_most len (mtu - 14) 169 most_some (room_is len mtu fits).whole;
       holds = omega (arith, cut.0);
       little = omega (arith, cut.1);
       piece = omega (arith, s_few);
+      byte = up_some len f fits.some f_some;
+      last = last_is len f (div_ceil len f) (mtu - 14) f_some (omega (arith, counted.1)) s_few;
     }
 
 -- what the fragments carry is no more than a receiver takes
-pub coded_bytes : (len m mtu : ℕ) → 1 ≤ len → len ≤ 8192 → Coded len m mtu → (coded_shape len m mtu).count * (coded_shape len m mtu).piece ≤ 12288
+pub coded_bytes : (len m mtu : ℕ) → 1 ≤ len → len ≤ longest_packet → Coded len m mtu → (coded_shape len m mtu).count * (coded_shape len m mtu).piece ≤ most_carried
 coded_bytes len m mtu some small is = omega (arith, is.few, is.little, coded_small len some small)
 
-pub plain_bytes : (len mtu : ℕ) → len ≤ 8192 → Plain len mtu → (plain_shape len mtu).count * (plain_shape len mtu).piece ≤ 12288
+pub plain_bytes : (len mtu : ℕ) → len ≤ longest_packet → Plain len mtu → (plain_shape len mtu).count * (plain_shape len mtu).piece ≤ most_carried
 plain_bytes len mtu small is = omega (arith, is.few, is.little)
 
 -- each of the two ways is the shape where it is meant

@@ -1,5 +1,5 @@
 -- PFT fragments (TS 102 821).
-use Rattle.std.specs.Prelude.{ℕ, ◌≡◌, ◌+◌, ◌*◌, ◌^◌, ◌<◌, List, [], ◌∷◌, ◌++◌, drop, length, Option, None, Some}
+use Rattle.std.specs.Prelude.{ℕ, ◌≡◌, ◌+◌, ◌*◌, List, [], ◌∷◌, ◌++◌, drop, length, Option, None, Some}
 use Rattle.std.specs.Int.{w16, w32, to_be_bytes}
 use Rattle.drm_bits.specs.Crc.{IsCheckOf}
 use Rattle.dcp_pft.specs.declared.shape.Rs.{Rs}

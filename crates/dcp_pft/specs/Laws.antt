@@ -6,6 +6,7 @@ use Rattle.dcp_pft.specs.declared.shape.Rs.{Rs}
 use Rattle.dcp_pft.specs.declared.shape.Shape.{Shape}
 use Rattle.dcp_pft.specs.Limits.{most_packet, most_losses, least_fragment, most_fragment, most_fragments, most_carried, most_chunks}
 use Rattle.dcp_pft.specs.Carrying.{CarryFits, shape_under, losses, Carries, datagram_size}
+use Rattle.dcp_pft.specs.Coding.{payload_of}
 use Rattle.dcp_pft.specs.Cutting.{IsShapeOf, chunk_count, chunks_of, shape_of}
 use Rattle.dcp_pft.specs.Head.{IsFragmentOf, Spells, fragment_of}
 use Rattle.dcp_pft.specs.Loss.{size, is_recoverable}
@@ -51,6 +52,12 @@ OneFragment =
     (m mtu seq i : ℕ) (packet first second : List ℕ) → 1 ≤ length packet
     → IsFragmentOf (shape_of (length packet) m mtu) seq packet i first → IsFragmentOf (shape_of (length packet) m mtu) seq packet i second
     → second ≡ first
+
+-- each fragment of a packet carries a byte at least
+abbrev pub NoneIsEmpty : Type 0
+NoneIsEmpty =
+    (shape : Shape) (packet parity : List ℕ) (i : ℕ) → IsShapeOf (length packet) shape → i < shape.count
+    → 1 ≤ length (payload_of shape packet parity i)
 
 -- a fragment that was written is read, as it was written
 abbrev pub ReadAsWritten : Type 0

@@ -28,6 +28,7 @@ pub record IsPft (f : PftFragment) (bytes : List ℕ) : Type 0 where
   pub some : 1 ≤ f.count
   pub index : f.index < f.count
   pub few : f.count ≤ most_fragments
+  pub len : length f.payload < 2 ^ 14
   pub size : f.count * length f.payload ≤ most_carried
   pub code : IfSome f.rs (λ rs. IsCodeFor (f.count * length f.payload) rs)
 

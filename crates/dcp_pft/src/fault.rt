@@ -19,9 +19,9 @@ pub enum PftFault {
     RsK,
     /// The fill of the last chunk is as long as a chunk, or longer.
     RsZ,
-    /// The packet has more than 1,024 fragments.
+    /// The packet has more than 4,096 fragments.
     TooMany,
-    /// The fragments have more than 12,288 bytes together.
+    /// The fragments have more than 49,152 bytes together.
     TooLarge,
     /// The fragments have too few bytes for one chunk with its parity.
     Chunks,

@@ -1,6 +1,6 @@
 //! The laws of cutting and reading, each on a function that does nothing.
 
-ghost use Rattle.dcp_pft.specs.Laws.{ChunksAgree, AllTaken, AnyMayBeLost, OneFragment, ReadAsWritten, DatagramsHaveTheirSize};
+ghost use Rattle.dcp_pft.specs.Laws.{ChunksAgree, AllTaken, AnyMayBeLost, OneFragment, NoneIsEmpty, ReadAsWritten, DatagramsHaveTheirSize};
 
 /// A receiver counts the chunks that the sender made.
 pub fn chunks_agree()
@@ -20,6 +20,11 @@ pub fn any_may_be_lost()
 /// A packet's fragment is one datagram.
 pub fn one_fragment()
     ensures { OneFragment }
+{}
+
+/// Each fragment carries a byte at least, the last one too.
+pub fn none_is_empty()
+    ensures { NoneIsEmpty }
 {}
 
 /// The bytes that are counted for a datagram are those that it has.

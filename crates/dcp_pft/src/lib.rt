@@ -20,11 +20,11 @@ pub use coding::code;
 pub use fault::PftFault;
 pub use fragment::{Addr, Fragment};
 pub use laws::{
-    all_taken, any_may_be_lost, chunks_agree, datagrams_have_their_size, one_fragment,
-    read_as_written,
+    all_taken, any_may_be_lost, chunks_agree, datagrams_have_their_size, none_is_empty,
+    one_fragment, read_as_written,
 };
 pub use limits::{
-    LEAST_FRAGMENT, MOST_CARRIED, MOST_FRAGMENT, MOST_FRAGMENTS, MOST_LOSSES, MOST_PACKET,
+    LEAST_FRAGMENT, LONGEST_PACKET, MOST_CARRIED, MOST_FRAGMENT, MOST_FRAGMENTS, MOST_LOSSES,
     MOST_PARITY, most_packet,
 };
 pub use place::Place;

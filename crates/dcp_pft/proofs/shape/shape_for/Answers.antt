@@ -1,7 +1,8 @@
 use Rattle.std.proofs.Common.{◌*◌, ◌≤◌, sym, subst, ◌∙◌, arith}
 use Rattle.dcp_pft.specs.declared.shape.Shape.{Shape}
+use Rattle.dcp_pft.specs.Limits.{most_fragments, most_carried, most_chunks}
 use Rattle.dcp_pft.specs.Cutting.{coded_shape, plain_shape, chunks_of}
-use Rattle.dcp_pft.proofs.Sizes.{chunks_are, Coded, coded_is, coded_bytes, plain_is, plain_bytes, no_code, with_code}
+use Rattle.dcp_pft.proofs.Sizes.{fits_is, chunks_are, Coded, coded_is, coded_bytes, plain_is, plain_bytes, no_code, with_code}
 use Rattle.dcp_pft.proofs.shape.shape_for.Goals as goal
 
 pub returns-then-m-eq0-clause-shape : goal.returns-then-m-eq0-clause-shape
@@ -35,33 +36,36 @@ returns-else-m-eq0-clause-is c = record {
 }
 
 is_coded : (c : goal.After-coded) → Coded c.args.len c.args.m c.args.mtu
-is_coded c = coded_is c.args.len c.args.m c.args.mtu c.requires.some c.requires.small (omega arith) c.requires.few c.requires.least
+is_coded c = coded_is c.args.len c.args.m c.args.mtu (fits_is c.args.len c.args.m c.args.mtu c.requires.some c.requires.small c.requires.least) (omega arith) c.requires.few
 
 pub returns-else-m-eq0-clause-some : goal.returns-else-m-eq0-clause-some
 returns-else-m-eq0-clause-some c = subst (λ (s : Shape). 1 ≤ s.count) (sym c.coded.ensures) (is_coded c).some
 
 pub returns-else-m-eq0-clause-few : goal.returns-else-m-eq0-clause-few
 returns-else-m-eq0-clause-few c =
-    let few : (coded_shape c.args.len c.args.m c.args.mtu).count ≤ 1024 = omega (arith, (is_coded c).few) in
-    subst (λ (s : Shape). s.count ≤ 1024) (sym c.coded.ensures) few
+    let few : (coded_shape c.args.len c.args.m c.args.mtu).count ≤ most_fragments = omega (arith, (is_coded c).few) in
+    subst (λ (s : Shape). s.count ≤ most_fragments) (sym c.coded.ensures) few
 
 pub returns-else-m-eq0-clause-bytes : goal.returns-else-m-eq0-clause-bytes
 returns-else-m-eq0-clause-bytes c =
-    subst (λ (s : Shape). s.count * s.piece ≤ 12288) (sym c.coded.ensures)
-    (coded_bytes c.args.len c.args.m c.args.mtu c.requires.some c.requires.small (is_coded c))
+    subst (λ (s : Shape). s.count * s.piece ≤ most_carried) (sym c.coded.ensures)
+    (let fits = fits_is c.args.len c.args.m c.args.mtu c.requires.some c.requires.small c.requires.least in
+    coded_bytes c.args.len c.args.m c.args.mtu fits.some fits.small (is_coded c))
 
 pub returns-then-m-eq0-clause-bytes : goal.returns-then-m-eq0-clause-bytes
 returns-then-m-eq0-clause-bytes c =
-    subst (λ (s : Shape). s.count * s.piece ≤ 12288) (sym c.plain.ensures)
-    (plain_bytes c.args.len c.args.mtu c.requires.small (plain_is c.args.len c.args.mtu c.requires.some c.requires.small c.requires.least))
+    subst (λ (s : Shape). s.count * s.piece ≤ most_carried) (sym c.plain.ensures)
+    (let fits = fits_is c.args.len c.args.m c.args.mtu c.requires.some c.requires.small c.requires.least in
+    plain_bytes c.args.len c.args.mtu fits.small (plain_is c.args.len c.args.mtu fits))
 
 pub returns-then-m-eq0-clause-chunks : goal.returns-then-m-eq0-clause-chunks
 returns-then-m-eq0-clause-chunks c =
-    let none : chunks_of (plain_shape c.args.len c.args.mtu) ≤ 40 = omega arith in
-    subst (λ (s : Shape). chunks_of s ≤ 40) (sym c.plain.ensures) none
+    let none : chunks_of (plain_shape c.args.len c.args.mtu) ≤ most_chunks = omega arith in
+    subst (λ (s : Shape). chunks_of s ≤ most_chunks) (sym c.plain.ensures) none
 
 pub returns-else-m-eq0-clause-chunks : goal.returns-else-m-eq0-clause-chunks
 returns-else-m-eq0-clause-chunks c =
-    let few : chunks_of (coded_shape c.args.len c.args.m c.args.mtu) ≤ 40 =
-    omega (arith, (is_coded c).chunks, (chunks_are c.args.len c.requires.some c.requires.small).few) in
-    subst (λ (s : Shape). chunks_of s ≤ 40) (sym c.coded.ensures) few
+    let few : chunks_of (coded_shape c.args.len c.args.m c.args.mtu) ≤ most_chunks =
+    (let fits = fits_is c.args.len c.args.m c.args.mtu c.requires.some c.requires.small c.requires.least in
+    omega (arith, (is_coded c).chunks, (chunks_are c.args.len fits.some fits.small).few)) in
+    subst (λ (s : Shape). chunks_of s ≤ most_chunks) (sym c.coded.ensures) few
