@@ -81,7 +81,7 @@ def overwrite(draw, packet):
 def extreme(draw, packet):
     """A field of the head at its end, or beside it."""
     at, size = draw.choice(((2, 2), (2, 4), (4, 3), (7, 3), (10, 2), (12, 1), (13, 1)))
-    value = draw.choice((0, 1, 2, 207, 208, 255, 1024, 1025, 65535, 65536, (1 << 8 * size) - 1)) % (1 << 8 * size)
+    value = draw.choice((0, 1, 2, 207, 208, 255, 4096, 4097, 65535, 65536, (1 << 8 * size) - 1)) % (1 << 8 * size)
     return packet[:at] + value.to_bytes(size, "big") + packet[at + size:]
 
 

@@ -3,8 +3,9 @@
 //! out, and the formulas of the cut.
 
 ghost use Rattle.std.specs.Prelude.{◌≡◌, ◌≤◌, length};
+ghost use Rattle.dcp_pft.specs.Limits.{most_parity};
 
-use dcp_pft::{chunks, code, shape_for, write_fragment};
+use dcp_pft::{MOST_PARITY, chunks, code, shape_for, write_fragment};
 use drm_bits::crc16;
 
 /// The longest datagram.
@@ -24,11 +25,11 @@ fn packet() -> [u8; 1400]
 }
 
 /// Writes the parity of the packet of so many bytes to the front, and answers its length.
-fn parity_of(len: usize, m: u8, parity: &mut [u8; 1920]) -> usize
+fn parity_of(len: usize, m: u8, parity: &mut [u8; MOST_PARITY]) -> usize
     requires some { 1 ≤ len }
     requires small { len ≤ 1400 }
     requires few { m ≤ 5 }
-    ensures { result ≤ 1920 }
+    ensures { result ≤ most_parity }
 {
     let bytes = packet();
     let shape = shape_for(len, m, MTU);
@@ -47,7 +48,7 @@ fn datagram(len: usize, m: u8, seq: u16, index: u32, into: &mut [u8; 1500]) -> u
     let bytes = packet();
     let packet = &bytes[..len];
     let shape = shape_for(len, m, MTU);
-    let mut room = [0; 1920];
+    let mut room = [0; MOST_PARITY];
     let parity = &mut room[..48 * chunks(&shape) as usize];
     code(packet, &shape, parity);
     if index < shape.count {
@@ -62,7 +63,7 @@ fn has_parity(len: usize, m: u8, expected: &[u8]) -> bool
     requires small { len ≤ 1400 }
     requires few { m ≤ 5 }
 {
-    let mut parity = [0xee; 1920];
+    let mut parity = [0xee; MOST_PARITY];
     let end = parity_of(len, m, &mut parity);
     &parity[..end] == expected
 }

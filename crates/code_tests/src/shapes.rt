@@ -1,11 +1,11 @@
 //! Shapes of packets, from the formulas in Python.
 
-use dcp_pft::{Rs, Shape, chunks, shape_for};
+use dcp_pft::{Carry, MOST_FRAGMENTS, Rs, Shape, chunks, most_packet, shape_for};
 
 /// The length of the packet, the fragments that may be lost, the longest datagram; the shape, and the number of chunks.
 type Case = (usize, u8, u16, u32, u16, Option<Rs>, u32);
 
-const CASES: [Case; 16] = [
+const CASES: [Case; 22] = [
     (12, 5, 1400, 8, 8, Some(Rs { k: 12, z: 0 }), 1),
     (207, 1, 1400, 11, 24, Some(Rs { k: 207, z: 0 }), 1),
     (208, 5, 1400, 19, 16, Some(Rs { k: 104, z: 0 }), 2),
@@ -22,11 +22,17 @@ const CASES: [Case; 16] = [
     (1387, 0, 1400, 2, 694, None, 0),
     (1, 0, 128, 1, 1, None, 0),
     (8192, 0, 128, 72, 114, None, 0),
+    (32768, 5, 256, 169, 240, Some(Rs { k: 207, z: 145 }), 159),
+    (32768, 1, 1500, 28, 1449, Some(Rs { k: 207, z: 145 }), 159),
+    (32768, 0, 1500, 23, 1425, None, 0),
+    (32768, 0, 256, 136, 241, None, 0),
+    (8193, 5, 256, 43, 236, Some(Rs { k: 205, z: 7 }), 40),
+    (8192, 5, 255, 43, 236, Some(Rs { k: 205, z: 8 }), 40),
 ];
 
 fn is_cut_so(case: &Case) -> bool {
     let (len, m, mtu, count, piece, rs, made) = *case;
-    if len < 1 || len > 8192 || m > 5 || mtu < 128 || mtu > 1500 {
+    if len < 1 || len > most_packet(Carry::Pft { m, mtu }) || m > 5 || mtu < 128 || mtu > 1500 {
         return false;
     }
     let shape = shape_for(len, m, mtu);
@@ -41,15 +47,16 @@ fn cuts_packets(rt: HostRuntime) {
 }
 
 // Shapes that are no packet's, as a receiver may see them, and the number of their chunks.
-const OTHERS: [(u32, u16, Option<Rs>, u32); 4] = [
+const OTHERS: [(u32, u16, Option<Rs>, u32); 5] = [
     (1, 254, Some(Rs { k: 207, z: 0 }), 0),
     (1, 255, Some(Rs { k: 207, z: 0 }), 1),
     (3, 255, Some(Rs { k: 207, z: 206 }), 3),
-    (1024, 12, None, 0),
+    (4096, 12, None, 0),
+    (4096, 12, Some(Rs { k: 1, z: 0 }), 1003),
 ];
 
 fn has_chunks(count: u32, piece: u16, rs: Option<Rs>, made: u32) -> bool {
-    count <= 1024 && chunks(&Shape { count, piece, rs }) == made
+    count <= MOST_FRAGMENTS && chunks(&Shape { count, piece, rs }) == made
 }
 
 #[test]

@@ -8,8 +8,8 @@ use Rattle.dcp_pft.specs.declared.shape.Rs.{Rs}
 use Rattle.dcp_pft.specs.declared.shape.Shape.{Shape}
 use Rattle.dcp_pft.specs.Cutting.{chunks_of, plain_shape, coded_shape, shape_of, IsShapeOf}
 use Rattle.dcp_pft.specs.Loss.{has_all, erased, chunks_stand, is_recoverable}
-use Rattle.dcp_pft.proofs.Sizes.{plain_is}
-use Rattle.dcp_pft.proofs.Shapes.{has_code}
+use Rattle.dcp_pft.proofs.Sizes.{Fits, plain_is}
+use Rattle.dcp_pft.proofs.Shapes.{has_code, fits_of}
 use Rattle.dcp_pft.proofs.Fragments.{with_rs}
 use Rattle.dcp_collect.specs.declared.head.Head.{Head}
 use Rattle.dcp_collect.specs.Fragments.{agree, shape_by, lengths_suit, same_bool}
@@ -110,40 +110,14 @@ agree_by shape (Some rs) len i j full u v =
 pub cut_agree : (shape : Shape) (len i j : ℕ) → IsFull shape len → i < shape.count → j < shape.count → agree (cut_head shape len i) (cut_head shape len j) ≡ true
 cut_agree shape len i j full u v = agree_by shape shape.rs len i j full u v
 
--- at most 91 fragments, of which all but one could hold 114 bytes and more: all but the last of them are full
-full_piece : (n piece most len : ℕ) → 1 ≤ len → 114 ≤ most → n + 1 ≤ 91 → (n + 1) * most < len + most → len ≤ (n + 1) * piece → (n + 1) * piece < len + (n + 1)
-    → n * piece ≤ len
-full_piece n piece most len some large few counted holds little =
-    elim (cases_lt piece n) [
-      | inl less ↦
-          let each : n * 114 ≤ n * most = mul-le-mul_left n large in
-          let small : (n + 1) * piece ≤ (n + 1) * 89 = mul-le-mul_left (n + 1) (omega arith) in
-          let three : n ≤ 3 = omega arith in
-          let tiny : (n + 1) * piece ≤ (n + 1) * 2 = mul-le-mul_left (n + 1) (omega arith) in
-          absurd (omega arith)
-      | inr le ↦ omega arith
-    ]
-
-full_plain : (len mtu : ℕ) → 1 ≤ len → len ≤ 8192 → 128 ≤ mtu → ((plain_shape len mtu).count - 1) * (plain_shape len mtu).piece ≤ len
-full_plain len mtu some small least =
-    let is = plain_is len mtu some small least in
-    let count : ℕ = div_ceil len (mtu - 14) in
-    let piece : ℕ = (plain_shape len mtu).piece in
-    let counted : div_ceil len (mtu - 14) * (mtu - 14) < len + (mtu - 14) = (div_ceil_times len (mtu - 14) (omega arith)).1 in
-    let one_more : div_ceil len (mtu - 14) ≡ (div_ceil len (mtu - 14) - 1) + 1 = omega (arith, is.some) in
-    full_piece (count - 1) piece (mtu - 14) len some (omega arith)
-    (subst (λ n. n ≤ 91) one_more is.few)
-    (subst (λ n. n * (mtu - 14) < len + (mtu - 14)) one_more counted)
-    (subst (λ n. len ≤ n * piece) one_more is.holds)
-    (subst (λ n. n * piece < len + n) one_more is.little)
-
 coded_none : (len m mtu : ℕ) → (coded_shape len m mtu).rs ≡ None → ⊥
 coded_none len m mtu is = cc
 
-full_by_m : (len m mtu : ℕ) → 1 ≤ len → len ≤ 8192 → 128 ≤ mtu → IsFull (shape_of len m mtu) len
+-- all fragments but the last one are full
+full_by_m : (len m mtu : ℕ) → Fits len mtu → IsFull (shape_of len m mtu) len
 unfolding shape_of
-full_by_m len zero mtu some small least none = full_plain len mtu some small least
-full_by_m len (suc m) mtu some small least none = absurd (coded_none len (suc m) mtu none)
+full_by_m len zero mtu fits none = let is = plain_is len mtu fits in omega (arith, is.last)
+full_by_m len (suc m) mtu fits none = absurd (coded_none len (suc m) mtu none)
 
 pub is_full : (len : ℕ) (shape : Shape) → IsShapeOf len shape → IsFull shape len
-is_full len shape is = subst (λ s. IsFull s len) (sym is.is) (full_by_m len is.m is.mtu is.some is.small is.least)
+is_full len shape is = subst (λ s. IsFull s len) (sym is.is) (full_by_m len is.m is.mtu (fits_of len shape is))

@@ -7,9 +7,7 @@ use Rattle.dcp_pft.specs.declared.carry.Carry.{Carry}
 use Rattle.dcp_pft.specs.declared.carry.Carry.TheVariants.{Plain, Pft}
 use Rattle.dcp_pft.specs.Carrying.{CarryFits, datagram_count}
 use Rattle.dcp_pft.specs.Cutting.{shape_of}
-use Rattle.dcp_pft.specs.Limits.{most_packet}
-use Rattle.dcp_pft.proofs.Carried.{is_shape}
-use Rattle.dcp_pft.proofs.Payloads.{shape_is_taken}
+use Rattle.dcp_pft.proofs.Sizes.{some_fragments}
 use Rattle.dcp_collect.specs.declared.taken.Taken.{Taken}
 use Rattle.dcp_collect.specs.State.{State, made, after_finish}
 use Rattle.dcp_collect.specs.Runs.{Item, Takes, Steps, up_to}
@@ -38,9 +36,9 @@ use Rattle.convert_laws.proofs.Conversions.{Collects, counted_from, first_of_all
 
 -- ---- one datagram or more
 
-some_datagrams : (carry : Carry) (len : ℕ) → CarryFits carry → 1 ≤ len → len ≤ most_packet carry → 1 ≤ datagram_count carry len
-some_datagrams Plain len fits some small = omega arith
-some_datagrams (Pft m mtu) len fits some small = (shape_is_taken len (shape_of len m mtu) (is_shape m mtu len fits some small)).some
+some_datagrams : (carry : Carry) (len : ℕ) → CarryFits carry → 1 ≤ len → 1 ≤ datagram_count carry len
+some_datagrams Plain len fits some = omega arith
+some_datagrams (Pft m mtu) len fits some = some_fragments len m mtu some fits.0 fits.1
 
 -- the packet of a frame of a schedule is carried by some, whichever the carry is
 some_of_frame : (plan : Plan) (carry : Carry) (t count : ℕ) (packet : List ℕ) → IsSchedule plan → CarryFits carry → t < frame_count plan → IsPacketAt plan t packet → HasDatagrams (under carry plan) t count → 1 ≤ count
@@ -48,7 +46,7 @@ some_of_frame plan carry t count packet is fits within at has =
     let same : has.packet ≡ packet = one_packet (under carry plan) t has.packet packet has.is_packet (packet_under carry plan t packet at) in
     let long : length has.packet ≡ packet_size plan t = ap length same ∙ packet_long plan t packet is within at in
     let size = size_fits plan is t in
-    let some : 1 ≤ datagram_count carry (length has.packet) = some_datagrams carry (length has.packet) fits (omega (arith, long, size.0)) (omega (arith, long, size.1)) in
+    let some : 1 ≤ datagram_count carry (length has.packet) = some_datagrams carry (length has.packet) fits (omega (arith, long, size.0)) in
     omega (arith, has.is, some)
 
 -- ---- the item, and those before it

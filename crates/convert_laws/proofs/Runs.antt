@@ -108,7 +108,7 @@ front_written plan text out out' ((n, datagrams, within, are, is), front) wrote 
 
 module _ (in_front : PacketsInFront) (one_way : ReadOneWay) (conversions : ConversionsAreCaptures) (broken : BrokenConversions) (halted : HaltedConversions) (none_is_too_large : NoneIsTooLarge) where
   pub captures_are_converted : CapturesAreConverted
-  captures_are_converted plan carry terms (Ok clean) told before after out out' err err' input rest fits is_before is_after has may (read, enough, shorter, parts, conversion, text, names, clean_is) =
+  captures_are_converted plan carry terms (Ok clean) told before after out out' err err' input rest fits small is_before is_after has may (read, enough, shorter, parts, conversion, text, names, clean_is) =
       let (later, same, all) = enough_read in_front one_way terms has.packets read before after input rest is_before is_after has.capture enough in
       let whole : AllInTime plan terms.window terms.first has.arrivals (read ++ later) = subst (λ l. AllInTime plan terms.window terms.first has.arrivals l) same has.in_time in
       let (captured, none) = conversions plan carry terms has.arrivals read later parts whole may all conversion in (
@@ -116,7 +116,7 @@ module _ (in_front : PacketsInFront) (one_way : ReadOneWay) (conversions : Conve
         Outputs-weaker (λ t. t ≡ text_of parts) (IsCapture (under carry plan)) out out' text (λ t is. subst (IsCapture (under carry plan)) (sym is) captured),
         Outputs-weaker (IsFront (lines_of parts)) (λ t. t ≡ []) err err' names.front (λ t front. empty_front t (lines_of parts) none front),
       )
-  captures_are_converted plan carry terms (Err faults.Read) told before after out out' err err' input rest fits is_before is_after has may (read, whole, stops, lacks, shorter, parts, is, text, names) =
+  captures_are_converted plan carry terms (Err faults.Read) told before after out out' err err' input rest fits small is_before is_after has may (read, whole, stops, lacks, shorter, parts, is, text, names) =
       let (held, field, same, cut) = told_of (Breaks read) before after input rest is_before is_after stops in
       let (later, begins) = front_read in_front one_way input.left has.packets has.capture read (held ++ rest.left) whole same in
       let all : AllInTime plan terms.window terms.first has.arrivals (read ++ later) = subst (λ l. AllInTime plan terms.window terms.first has.arrivals l) begins has.in_time in
@@ -124,28 +124,28 @@ module _ (in_front : PacketsInFront) (one_way : ReadOneWay) (conversions : Conve
         Outputs-weaker (λ t. t ≡ text_of parts) (IsOfFirstFrames (under carry plan)) out out' text (λ t is. subst (IsOfFirstFrames (under carry plan)) (sym is) written),
         Outputs-weaker (IsFront (lines_of parts)) (λ t. t ≡ []) err err' names.front (λ t front. empty_front t (lines_of parts) none front),
       )
-  captures_are_converted plan carry terms (Err faults.Write) told before after out out' err err' input rest fits is_before is_after has may (items, item, last, reads, parts, converts, text, names) =
+  captures_are_converted plan carry terms (Err faults.Write) told before after out out' err err' input rest fits small is_before is_after has may (items, item, last, reads, parts, converts, text, names) =
       let (later, same, all) = begin_read in_front one_way input.left has.packets has.capture reads.at.later reads.packets before after input rest is_before is_after refl reads.read in
       let whole : AllInTime plan terms.window terms.first has.arrivals (reads.packets ++ later) = subst (λ l. AllInTime plan terms.window terms.first has.arrivals l) same has.in_time in
       let (written, none) = halted plan carry terms has.arrivals reads.packets later items item last parts fits whole may reads.at all reads.within converts in (
         front_written (under carry plan) (text_of parts) out out' written text,
         Outputs-weaker (IsFront (lines_of parts)) (λ t. t ≡ []) err err' names.front (λ t front. empty_front t (lines_of parts) none front),
       )
-  captures_are_converted plan carry terms (Err faults.NoMemory) told before after out out' err err' input rest fits is_before is_after has may (same, still, silent) = (still, silent)
-  captures_are_converted plan carry terms (Err (faults.PacketSize number)) told before after out out' err err' input rest fits is_before is_after has may (items, item, last, reads, large, parts, converts, text, names) =
+  captures_are_converted plan carry terms (Err faults.NoMemory) told before after out out' err err' input rest fits small is_before is_after has may (same, still, silent) = (still, silent)
+  captures_are_converted plan carry terms (Err (faults.PacketSize number)) told before after out out' err err' input rest fits small is_before is_after has may (items, item, last, reads, large, parts, converts, text, names) =
       let (later, same, all) = begin_read in_front one_way input.left has.packets has.capture reads.at.later reads.packets before after input rest is_before is_after refl reads.read in
       let followed : IsFollowed plan terms.first (pos 0) has.arrivals (reads.packets ++ later) = subst (λ l. IsFollowed plan terms.first (pos 0) has.arrivals l) same has.in_time.followed in
-      none_is_too_large plan carry terms has.arrivals reads.packets later items item last number has.in_time.schedule has.in_time.some followed reads.at large
-  captures_are_converted plan carry terms (Err (faults.Capture fault)) told before after out out' err err' input rest fits is_before is_after has may (read, whole, stops, lacks, shorter, parts, broken, text, names) =
+      none_is_too_large plan carry terms has.arrivals reads.packets later items item last number has.in_time.schedule small has.in_time.some followed reads.at large
+  captures_are_converted plan carry terms (Err (faults.Capture fault)) told before after out out' err err' input rest fits small is_before is_after has may (read, whole, stops, lacks, shorter, parts, broken, text, names) =
       let at = told_of (λ left more. IsCaptureOf left read (capture.Fault fault)) before after input rest is_before is_after stops in
       no_fault in_front one_way input.left has.packets has.capture read fault at
-  captures_are_converted plan carry terms (Err faults.CaptureTooLong) told before after out out' err err' input rest fits is_before is_after has may (read, whole, stops, lacks, shorter, parts, broken, text, names) =
+  captures_are_converted plan carry terms (Err faults.CaptureTooLong) told before after out out' err err' input rest fits small is_before is_after has may (read, whole, stops, lacks, shorter, parts, broken, text, names) =
       let at = told_of (λ left more. IsCaptureOf left read capture.TooLong) before after input rest is_before is_after stops in
       not_too_long in_front one_way input.left has.packets has.capture read at
-  captures_are_converted plan carry terms (Err faults.Words) told before after out out' err err' input rest fits is_before is_after has may ends = ends
-  captures_are_converted plan carry terms (Err (faults.FacLength n)) told before after out out' err err' input rest fits is_before is_after has may ends = ends
-  captures_are_converted plan carry terms (Err faults.FacOver) told before after out out' err err' input rest fits is_before is_after has may ends = ends
-  captures_are_converted plan carry terms (Err (faults.FacCrc stands computed)) told before after out out' err err' input rest fits is_before is_after has may ends = ends
-  captures_are_converted plan carry terms (Err (faults.Schedule line reason)) told before after out out' err err' input rest fits is_before is_after has may ends = ends
-  captures_are_converted plan carry terms (Err (faults.Script line reason)) told before after out out' err err' input rest fits is_before is_after has may ends = ends
-  captures_are_converted plan carry terms (Err faults.Link) told before after out out' err err' input rest fits is_before is_after has may ends = ends
+  captures_are_converted plan carry terms (Err faults.Words) told before after out out' err err' input rest fits small is_before is_after has may ends = ends
+  captures_are_converted plan carry terms (Err (faults.FacLength n)) told before after out out' err err' input rest fits small is_before is_after has may ends = ends
+  captures_are_converted plan carry terms (Err faults.FacOver) told before after out out' err err' input rest fits small is_before is_after has may ends = ends
+  captures_are_converted plan carry terms (Err (faults.FacCrc stands computed)) told before after out out' err err' input rest fits small is_before is_after has may ends = ends
+  captures_are_converted plan carry terms (Err (faults.Schedule line reason)) told before after out out' err err' input rest fits small is_before is_after has may ends = ends
+  captures_are_converted plan carry terms (Err (faults.Script line reason)) told before after out out' err err' input rest fits small is_before is_after has may ends = ends
+  captures_are_converted plan carry terms (Err faults.Link) told before after out out' err err' input rest fits small is_before is_after has may ends = ends

@@ -7,37 +7,43 @@ use Rattle.std.proofs.lemmas.List.FromFn.{length-map-range_with_len}
 use Rattle.std.proofs.lemmas.Option.{slice_get_within}
 use Rattle.dcp_pft.specs.declared.carry.Carry.{Carry}
 use Rattle.dcp_pft.specs.declared.carry.Carry.TheVariants.{Plain, Pft}
+use Rattle.dcp_pft.specs.Limits.{most_packet}
 use Rattle.dcp_pft.specs.Carrying.{shape_under}
+use Rattle.dcp_pft.proofs.Carried.{limit_is}
 use Rattle.dcp_pft.specs.Loss.{size, is_recoverable}
 use Rattle.dcp_collect.specs.Numbers.{end_of}
 use Rattle.dcp_collect.specs.State.{State, made, ready, ready_by, after_finish}
 use Rattle.dcp_collect.specs.declared.taken.Taken.{Taken}
 use Rattle.dcp_collect.specs.Runs.{Item, Packet, Lost, Takes, up_to}
-use Rattle.collect_laws.specs.Delivery.{AreSent, packet_at, got, newest_of, item_by, item, items}
+use Rattle.collect_laws.specs.Delivery.{packet_at, got, newest_of, item_by, item, items}
 use Rattle.collect_laws.specs.Laws.{Collecting, GivingEnds, StepsCount}
 use Rattle.drm_schedule.specs.declared.plan.Plan.{Plan}
+use Rattle.drm_schedule.specs.Valid.{IsSchedule}
+use Rattle.drm_timeline.specs.Numbers.{frame_count}
 use Rattle.mod_delivery.specs.Sent.{pairs_in}
-use Rattle.mod_delivery.proofs.Packets.{at_number}
+use Rattle.mod_delivery.proofs.Lengths.{af_long, packet_long}
+use Rattle.mod_delivery.proofs.Packets.{at_number, IsChosen, ArePackets, filler, filler_af, filler_is, chosen_at}
 use Rattle.drm_convert.specs.Carried.{is_too_long}
 use Rattle.drm_convert.specs.Converting.{IsTooLarge}
 use Rattle.drm_convert.specs.Run.{Terms, ComesTo, ComesAt}
 use Rattle.drm_convert.proofs.Ways.{taken_starts, finished_starts}
-use Rattle.convert_laws.specs.Laws.{NoneIsTooLarge}
+use Rattle.convert_laws.specs.Laws.{FitsCarry, NoneIsTooLarge}
 use Rattle.convert_laws.proofs.Fronts.{front_followed}
 use Rattle.convert_laws.proofs.Hearing.{Hears, hears}
 use Rattle.convert_laws.proofs.Places.{at_place, in_front, given_on}
 
 -- ---- an item of a delivery isn't
 
-not_long : (carry : Carry) (len : ℕ) → len ≤ 8192 → is_too_long carry len ≡ true → ⊥
+not_long : (carry : Carry) (len : ℕ) → len ≤ most_packet carry → is_too_long carry len ≡ true → ⊥
 not_long Plain len small is = true≢false (sym is)
-not_long (Pft m mtu) len small is = let long : 8192 < len = ltb-true 8192 len is in omega (arith, small, long)
+not_long (Pft m mtu) len small is =
+    let long : most_packet (Pft m mtu) < len = ltb-true (most_packet (Pft m mtu)) len is in omega (arith, small, long)
 
-by_packet : (carry : Carry) (packet : List ℕ) (q number had total : ℕ) → length packet ≤ 8192 → (b : Bool) → IsTooLarge carry (cond b (Packet q packet) (Lost q had total)) number → ⊥
+by_packet : (carry : Carry) (packet : List ℕ) (q number had total : ℕ) → length packet ≤ most_packet carry → (b : Bool) → IsTooLarge carry (cond b (Packet q packet) (Lost q had total)) number → ⊥
 by_packet carry packet q number had total small true large = not_long carry (length packet) small large.2
 by_packet carry packet q number had total small false large = large
 
-by_place : (carry under : Carry) (o : Option (List ℕ)) (q number : ℕ) (kept : ℕ → Bool) → ((packet : List ℕ) → o ≡ Some packet → length packet ≤ 8192)
+by_place : (carry under : Carry) (o : Option (List ℕ)) (q number : ℕ) (kept : ℕ → Bool) → ((packet : List ℕ) → o ≡ Some packet → length packet ≤ most_packet under)
     → IsTooLarge under (item_by carry o q kept) number → ⊥
 by_place carry under None q number kept small large = large
 by_place carry under (Some packet) q number kept small large =
@@ -45,22 +51,32 @@ by_place carry under (Some packet) q number kept small large =
     let had : ℕ = size shape.count kept in
     by_packet under packet q number had (if had == 0 then 0 else shape.count) (small packet refl) (is_recoverable shape kept) large
 
-sent_small : (carry : Carry) (seq : ℕ) (packets : List (List ℕ)) → AreSent carry seq packets → (z : ℤ) (packet : List ℕ) → packet_at packets z ≡ Some packet → length packet ≤ 8192
-sent_small carry seq packets sent (pos p) packet at = (sent.each p packet at).small
-sent_small carry seq packets sent (negsuc p) packet at = absurd (let none : None ≡ Some packet = at in cc)
+-- the packet of a frame, or a filler in its place
+chosen_small : (plan : Plan) (under : Carry) (pairs : List (ℕ × ℕ)) (p : ℕ) (packet : List ℕ) → IsSchedule plan → FitsCarry under plan → p < frame_count plan → IsChosen plan pairs p packet
+    → length packet ≤ most_packet under
+chosen_small plan under pairs p packet is fits below (inl at) = omega (arith, packet_long plan p packet is below at, fits p)
+chosen_small plan under pairs p packet is fits below (inr (none, same)) =
+    let long : length packet ≡ 12 = ap length same ∙ af_long (filler_af plan p) (filler plan p) (filler_is plan p) in omega (arith, long, (limit_is under).0)
+
+sent_small : (plan : Plan) (under : Carry) (pairs : List (ℕ × ℕ)) (packets : List (List ℕ)) → IsSchedule plan → FitsCarry under plan → ArePackets plan pairs packets
+    → (z : ℤ) (packet : List ℕ) → packet_at packets z ≡ Some packet → length packet ≤ most_packet under
+sent_small plan under pairs packets is fits are (pos p) packet at =
+    let (below, chosen) = chosen_at plan is pairs packets are p packet at in
+    chosen_small plan under pairs p packet is fits below chosen
+sent_small plan under pairs packets is fits are (negsuc p) packet at = absurd (let none : None ≡ Some packet = at in cc)
 
 one_from : (a b : Item) → Some a ≡ Some b → a ≡ b
 one_from a b same = cc
 
-item_small : (carry under : Carry) (seq window number : ℕ) (packets : List (List ℕ)) (base : ℤ) (told : Option ℕ) (pairs : List (ℕ × ℕ)) (k : ℕ) (given : Item) → AreSent carry seq packets
-    → slice_get (items carry packets window base told pairs) k ≡ Some given → IsTooLarge under given number → ⊥
-item_small carry under seq window number packets base told pairs k given sent at large =
-    let of : ℕ → Item = item carry packets window base pairs in
+item_small : (plan : Plan) (under : Carry) (window number : ℕ) (packets : List (List ℕ)) (base : ℤ) (told : Option ℕ) (pairs : List (ℕ × ℕ)) (k : ℕ) (given : Item) → IsSchedule plan → FitsCarry under plan
+    → ArePackets plan pairs packets → slice_get (items plan.carry packets window base told pairs) k ≡ Some given → IsTooLarge under given number → ⊥
+item_small plan under window number packets base told pairs k given is fits are at large =
+    let of : ℕ → Item = item plan.carry packets window base pairs in
     let n : ℕ = end_of told (newest_of base None pairs) in
-    let within : k < length (items carry packets window base told pairs) = slice_get_within (items carry packets window base told pairs) k given at in
+    let within : k < length (items plan.carry packets window base told pairs) = slice_get_within (items plan.carry packets window base told pairs) k given at in
     let below : k < n = omega (arith, within, length-map-range_with_len of 0 n) in
     let same : given ≡ of k = one_from given (of k) (sym at ∙ at_number of n k below) in
-    by_place carry under (packet_at packets (base +ℤ pos k)) k number (got window base pairs k) (λ packet there. sent_small carry seq packets sent (base +ℤ pos k) packet there)
+    by_place plan.carry under (packet_at packets (base +ℤ pos k)) k number (got window base pairs k) (λ packet there. sent_small plan under pairs packets is fits are (base +ℤ pos k) packet there)
     (subst (λ i. IsTooLarge under i number) same large)
 
 -- ---- so none comes
@@ -83,37 +99,37 @@ before_end (Some n) newest last k end next is_ready =
     inr (n, refl, omega (arith, below, next))
 
 module _ (collecting : Collecting) (giving_ends : GivingEnds) (steps_count : StepsCount) where
-  module _ (plan : Plan) (carry : Carry) (terms : Terms) (pairs : List (ℕ × ℕ)) (packets : List (List ℕ)) (given : List Item) (next : Item) (last : State) (number : ℕ)
+  module _ (plan : Plan) (carry : Carry) (is : IsSchedule plan) (fits : FitsCarry carry plan) (terms : Terms) (pairs : List (ℕ × ℕ)) (packets : List (List ℕ)) (given : List Item) (next : Item) (last : State) (number : ℕ)
       (h : Hears plan terms.window terms.first (pos 0) pairs packets) (at : ComesAt terms packets given next last) where
     not_taken : (bytes : List ℕ) (answer : Taken) → at.later ≡ bytes ∷ [] → Takes at.mid bytes answer at.state → IsTooLarge carry next number → ⊥
-    not_taken bytes answer is takes large =
-        let (rest, begins) = taken_starts terms packets given next last at bytes answer is takes packets [] h.answers h.given h.mid (sym (append-nil packets)) h.steps in
+    not_taken bytes answer same takes large =
+        let (rest, begins) = taken_starts terms packets given next last at bytes answer same takes packets [] h.answers h.given h.mid (sym (append-nil packets)) h.steps in
         let (end, after, gives) = giving_ends (after_finish h.mid None) h.fit.0 h.fit.1 in
         let whole : given ++ next ∷ (rest ++ end) ≡ items plan.carry h.packets terms.window (pos 0) None pairs =
         sym (append_assoc given (next ∷ rest) end) ∙ (ap (λ l. l ++ end) (sym begins) ∙ h.law None end after gives) in
-        item_small plan.carry carry plan.seq terms.window number h.packets (pos 0) None pairs (length given) next h.all_sent
+        item_small plan carry terms.window number h.packets (pos 0) None pairs (length given) next is fits h.are
         (ap (λ l. slice_get l (length given)) (sym whole) ∙ there None given (rest ++ end) next (inl refl)) large
 
     not_finished : at.later ≡ [] → at.state ≡ after_finish at.mid terms.told → IsTooLarge carry next number → ⊥
-    not_finished none is large =
+    not_finished none ends large =
         let (end, after, gives) = giving_ends (after_finish h.mid terms.told) h.fit.0 h.fit.1 in
-        let (rest, begins) = finished_starts terms packets given next last at none is h.answers h.given end h.mid after h.steps gives in
+        let (rest, begins) = finished_starts terms packets given next last at none ends h.answers h.given end h.mid after h.steps gives in
         let on = given_on at.more at.state last at.gives in
         let counted : at.mid.next ≡ 0 + length at.during = steps_count (made terms.window terms.first) at.mid at.before at.taken at.during at.steps in
-        let first : at.state.next ≡ at.mid.next = ap (λ s. s.next) is in
+        let first : at.state.next ≡ at.mid.next = ap (λ s. s.next) ends in
         let count : last.next ≡ length given = omega (arith, on.0, counted, first, ap length at.items_are, length-append at.during at.more) in
-        let end_is : last.end ≡ Some (end_of terms.told at.mid.newest) = on.1 ∙ ap (λ s. s.end) is in
+        let end_is : last.end ≡ Some (end_of terms.told at.mid.newest) = on.1 ∙ ap (λ s. s.end) ends in
         let whole : up_to terms.told (given ++ next ∷ rest) ≡ items plan.carry h.packets terms.window (pos 0) terms.told pairs =
         ap (up_to terms.told) (sym begins) ∙ h.law terms.told end after gives in
-        item_small plan.carry carry plan.seq terms.window number h.packets (pos 0) terms.told pairs (length given) next h.all_sent
+        item_small plan carry terms.window number h.packets (pos 0) terms.told pairs (length given) next is fits h.are
         (ap (λ l. slice_get l (length given)) (sym whole) ∙ there terms.told given rest next (before_end terms.told at.mid.newest last (length given) end_is count at.is_ready)) large
 
     not_next : ComesTo terms at.later at.mid at.state → IsTooLarge carry next number → ⊥
-    not_next (inl (bytes, answer, is, takes)) large = not_taken bytes answer is takes large
-    not_next (inr (none, is)) large = not_finished none is large
+    not_next (inl (bytes, answer, same, takes)) large = not_taken bytes answer same takes large
+    not_next (inr (none, ends)) large = not_finished none ends large
 
   pub none_is_too_large : NoneIsTooLarge
-  none_is_too_large plan carry terms arrivals packets later given next last number is some followed at large =
+  none_is_too_large plan carry terms arrivals packets later given next last number is fits some followed at large =
       let h = hears collecting giving_ends plan terms.window terms.first (pos 0) (take (length packets) arrivals) packets is some
       (front_followed plan terms.first arrivals packets later followed) in
-      not_next plan carry terms (pairs_in (take (length packets) arrivals)) packets given next last number h at at.comes large
+      not_next plan carry is fits terms (pairs_in (take (length packets) arrivals)) packets given next last number h at at.comes large

@@ -2,6 +2,7 @@
 use Rattle.std.specs.Prelude.{ℕ, pos, ◌≡◌, ◌<◌, ◌≤◌, ◌%◌, ◌^◌, ◌⊎◌, Bool, true, false, List, [], ◌∷◌, ◌++◌, length, Option, None, Some, Result, Ok, Err}
 use Rattle.std.specs.List.{concat}
 use Rattle.dcp_pft.specs.declared.carry.Carry.{Carry}
+use Rattle.dcp_pft.specs.Limits.{most_packet}
 use Rattle.dcp_pft.specs.Carrying.{CarryFits}
 use Rattle.dcp_collect.specs.declared.taken.Taken.{Taken}
 use Rattle.dcp_collect.specs.State.{State, made}
@@ -11,7 +12,7 @@ use Rattle.drm_links.specs.Source.{Input}
 use Rattle.drm_links.specs.Sink.{Output, Outputs}
 use Rattle.drm_schedule.specs.declared.plan.Plan.{Plan}
 use Rattle.drm_schedule.specs.Valid.{IsSchedule}
-use Rattle.drm_timeline.specs.Numbers.{frame_count}
+use Rattle.drm_timeline.specs.Numbers.{frame_count, packet_size}
 use Rattle.drm_server.specs.Datagrams.{AreOfFrames}
 use Rattle.drm_server.specs.Capture.{IsCapture, IsFrontOfCapture}
 use Rattle.mod_delivery.specs.Sent.{Arrival, pairs_in, IsFollowed, IsInTime}
@@ -82,12 +83,17 @@ FirstOfAll =
     (answers : List Taken) (items : List Item)
     → AllInTime plan window first arrivals datagrams → (run : Run window first told datagrams answers items) → KnowsFirst plan run.mid
 
--- No packet that a conversion comes to, of whatever came of a schedule, is too large for the new carry.
+-- no packet of the schedule is longer than this carry allows
+abbrev pub FitsCarry : Carry → Plan → Type 0
+FitsCarry carry plan = (t : ℕ) → packet_size plan t ≤ most_packet carry
+
+-- Where no packet of a schedule is longer than the new carry allows, none that a conversion comes to, of whatever came of it, is
+-- too large.
 abbrev pub NoneIsTooLarge : Type 0
 NoneIsTooLarge =
     (plan : Plan) (carry : Carry) (terms : Terms) (arrivals : List Arrival) (packets later : List (List ℕ)) (items : List Item)
     (item : Item) (last : State) (number : ℕ)
-    → IsSchedule plan → 1 ≤ terms.window → IsFollowed plan terms.first (pos 0) arrivals (packets ++ later)
+    → IsSchedule plan → FitsCarry carry plan → 1 ≤ terms.window → IsFollowed plan terms.first (pos 0) arrivals (packets ++ later)
     → ComesAt terms packets items item last → IsTooLarge carry item number → ⊥
 
 -- What a conversion makes of the packets of such a delivery is the schedule's capture under the new carry, whether it reads them
@@ -146,5 +152,5 @@ abbrev pub CapturesAreConverted : Type 0
 CapturesAreConverted =
     (plan : Plan) (carry : Carry) (terms : Terms) (ending : Result Bool Fault) (told : Bool) (before after : Known Input)
     (out out' err err' : Known Output) (input rest : Input)
-    → CarryFits carry → before.told ≡ Some input → after.told ≡ Some rest → HasSchedule plan terms input.left → MayBeTold plan terms.told
+    → CarryFits carry → FitsCarry carry plan → before.told ≡ Some input → after.told ≡ Some rest → HasSchedule plan terms input.left → MayBeTold plan terms.told
     → Ends terms carry ending told before after out out' err err' → EndsWell plan carry ending out out' err err'

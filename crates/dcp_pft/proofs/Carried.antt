@@ -1,9 +1,9 @@
 -- A packet that is cut, or carried whole: its shape, its datagrams, and how many of them may be lost.
-use Rattle.std.proofs.Common.{◌≡◌, ◌≤◌, ℕ, Bool, true, List, length, Some, None, refl, sym, ap, subst, arith}
+use Rattle.std.proofs.Common.{◌≡◌, ◌≤◌, ℕ, Bool, true, false, cond, ltb, List, length, Some, None, refl, sym, ap, subst, arith}
 use Rattle.dcp_pft.specs.declared.carry.Carry.{Carry}
 use Rattle.dcp_pft.specs.declared.carry.Carry.TheVariants.{Plain, Pft}
 use Rattle.dcp_pft.specs.declared.shape.Shape.{Shape}
-use Rattle.dcp_pft.specs.Limits.{most_packet}
+use Rattle.dcp_pft.specs.Limits.{longest_packet, longest_in_short, long_fragment, most_packet}
 use Rattle.dcp_pft.specs.Cutting.{IsShapeOf, shape_of}
 use Rattle.dcp_pft.specs.Carrying.{CarryFits, cut_of, shape_under, datagram_count, fragment_size, datagram_size, Carries}
 use Rattle.dcp_pft.specs.Head.{IsFragmentOf}
@@ -11,6 +11,15 @@ use Rattle.dcp_pft.specs.Loss.{size, is_recoverable}
 use Rattle.dcp_pft.specs.Laws.{AnyMayBeLost}
 use Rattle.dcp_pft.proofs.Erased.{all_kept}
 use Rattle.dcp_pft.proofs.LossBound.{loss_bound}
+
+-- the limit, whichever the carry is
+either : (b : Bool) → (longest_in_short ≤ cond b longest_in_short longest_packet) × (cond b longest_in_short longest_packet ≤ longest_packet)
+either true = (omega arith, omega arith)
+either false = (omega arith, omega arith)
+
+pub limit_is : (carry : Carry) → (longest_in_short ≤ most_packet carry) × (most_packet carry ≤ longest_packet)
+limit_is Plain = (omega arith, omega arith)
+limit_is (Pft m mtu) = either (ltb mtu long_fragment)
 
 -- how a packet is cut, where its carry is one of this profile
 pub is_shape : (m mtu len : ℕ) → CarryFits (Pft m mtu) → 1 ≤ len → len ≤ most_packet (Pft m mtu) → IsShapeOf len (shape_of len m mtu)

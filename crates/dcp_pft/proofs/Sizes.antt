@@ -101,11 +101,15 @@ pub coded_small : (len : ℕ) → 1 ≤ len → len ≤ longest_packet → coded
 unfolding coded_size
 coded_small len some small = let are = chunks_are len some small in omega (arith, are.little, are.few)
 
-pub coded_some : (len : ℕ) → 1 ≤ len → len ≤ longest_packet → 0 < coded_size len
+-- of any length
+chunks_some : (len : ℕ) → 1 ≤ len → 0 < chunk_count len
+unfolding chunk_count
+chunks_some len some = up_some len 207 some (omega arith)
+
+pub coded_some : (len : ℕ) → 1 ≤ len → 0 < coded_size len
 unfolding coded_size
-coded_some len some small =
-    let are = chunks_are len some small in
-    let p : (chunk_size len + 48) * 1 ≤ (chunk_size len + 48) * chunk_count len = mul-le-mul_left (chunk_size len + 48) are.some in
+coded_some len some =
+    let p : (chunk_size len + 48) * 1 ≤ (chunk_size len + 48) * chunk_count len = mul-le-mul_left (chunk_size len + 48) (chunks_some len some) in
     omega arith
 
 -- the chunks, and all their bytes, beside what a fragment of so many bytes carries at most
@@ -197,7 +201,7 @@ coded_is len m mtu fits kept few =
     let chunks = chunks_are len fits.some fits.small in
     let room = room_is len mtu fits in
     let is = most_is len m mtu kept few fits.least in
-    let size_some = coded_some len fits.some fits.small in
+    let size_some = coded_some len fits.some in
     let large = most_least len m mtu is in
     let enough : chunk_count len ≤ most_bytes len m mtu =
     elim large [ inl each ↦ omega arith | inr all ↦ omega (arith, room.chunks) ] in
@@ -276,3 +280,10 @@ pub with_code : (len m mtu : ℕ) → 1 ≤ m → coded_shape len m mtu ≡ shap
 unfolding shape_of
 with_code len zero mtu some = absurd (omega arith)
 with_code len (suc m) mtu some = refl
+
+-- a packet of any length has a fragment at least
+pub some_fragments : (len m mtu : ℕ) → 1 ≤ len → m ≤ 5 → 128 ≤ mtu → 0 < (shape_of len m mtu).count
+unfolding shape_of
+some_fragments len zero mtu some few least = up_some len (mtu - 14) some (omega arith)
+some_fragments len (suc m) mtu some few least =
+    up_some (coded_size len) (most_bytes len (suc m) mtu) (coded_some len some) ((most_is len (suc m) mtu (omega arith) few least).some (chunks_some len some))

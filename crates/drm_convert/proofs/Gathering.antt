@@ -32,7 +32,7 @@ gathered_none shape seq packet into =
     record { datagrams = []; many = refl; each = λ k none below. absurd (omega (arith, below)); is = refl; few = omega arith; within = omega arith }
 
 -- there is room for one more
-room_by : (count piece i at : ℕ) → count * piece ≤ 12288 → count ≤ 1024 → i < count → at ≤ i * (piece + 16) → at + 1500 ≤ 32768
+room_by : (count piece i at : ℕ) → count * piece ≤ most_carried → count ≤ most_fragments → i < count → at ≤ i * (piece + 16) → at + most_fragment ≤ most_room
 room_by count piece i at bytes few below small =
     let most : i * (piece + 16) ≤ count * (piece + 16) = mul-le-mul_right (piece + 16) (omega (arith, below)) in
     let parts : count * (piece + 16) ≡ count * piece + count * 16 = mul-add count piece 16 in

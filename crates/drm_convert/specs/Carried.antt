@@ -1,9 +1,9 @@
 -- A packet under a carry.
-use Rattle.std.specs.Prelude.{ℕ, ◌≡◌, ◌<◌, Bool, false, List, length, nat_lt, slice_index_or}
+use Rattle.std.specs.Prelude.{ℕ, ◌≡◌, ◌+◌, ◌*◌, ◌<◌, Bool, false, List, length, nat_lt, slice_index_or}
 use Rattle.std.specs.List.{concat}
 use Rattle.dcp_pft.specs.declared.carry.Carry.{Carry}
 use Rattle.dcp_pft.specs.declared.carry.Carry.TheVariants.{Plain, Pft}
-use Rattle.dcp_pft.specs.Limits.{most_packet}
+use Rattle.dcp_pft.specs.Limits.{most_packet, most_carried, most_fragments, most_fragment}
 use Rattle.dcp_pft.specs.Carrying.{datagram_count, Carries}
 
 -- all datagrams of a packet with this sequence number, in their order
@@ -22,6 +22,6 @@ abbrev pub is_too_long : Carry → ℕ → Bool
 is_too_long Plain len = false
 is_too_long (Pft m mtu) len = nat_lt (most_packet (Pft m mtu)) len
 
--- room for the fragments of a packet, and one more
+-- room for the fragments of a packet, each with its header, and for one more
 abbrev pub most_room : ℕ
-most_room = 32768
+most_room = most_carried + 16 * most_fragments + most_fragment

@@ -10,15 +10,21 @@ ghost use Rattle.drm_links.specs.Sink.{Writes};
 ghost use Rattle.packet_cutting.specs.Parity.{IsCoded};
 ghost use Rattle.drm_convert.specs.Carried.{AreOf, Carried, most_room, is_too_long};
 
-use dcp_pft::{Carry, MOST_PACKET, MOST_PARITY, Shape, shape_for};
+use dcp_pft::{
+    Carry, MOST_CARRIED, MOST_FRAGMENT, MOST_FRAGMENTS, MOST_PARITY, Shape, most_packet, shape_for,
+};
 use drm_bits::{NoMemory, zeros};
 use drm_links::{Sink, WriteFault, write_all};
 use packet_cutting::{write_cut, write_parity};
 use std::alloc::Global;
 use std::marker::Model;
 
+// The most bytes of a fragment's header.
+const HEAD: usize = 16;
+
 /// The fragments of a packet have fewer bytes than this, by as many as one may have.
-const MOST_ROOM: usize = 32_768;
+const MOST_ROOM: usize =
+    MOST_CARRIED as usize + HEAD * MOST_FRAGMENTS as usize + MOST_FRAGMENT;
 
 /// Writes packets under a carry. All its memory is taken where it is made.
 #[derive(Drop)]
@@ -65,7 +71,7 @@ impl Cutter {
     {
         match self.carry {
             Carry::Plain => false,
-            Carry::Pft { .. } => len > MOST_PACKET,
+            Carry::Pft { .. } => len > most_packet(self.carry),
         }
     }
 

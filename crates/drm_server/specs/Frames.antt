@@ -4,6 +4,7 @@ use Rattle.drm_bits.specs.Bits.{bits_of, IsBytes}
 use Rattle.drm_bits.specs.Crc.{zeros}
 use Rattle.drm_sdc.specs.declared.block.Block.{Block}
 use Rattle.drm_sdc.specs.Block.{IsBlock}
+use Rattle.dcp_pft.specs.Limits.{longest_packet}
 use Rattle.dcp_af.specs.Packet.{IsAf}
 use Rattle.mdi_items.specs.RoundTrip.{Parts, BlockBytes, IsWrittenOf}
 use Rattle.drm_schedule.specs.declared.config.Config.{Config}
@@ -17,6 +18,10 @@ use Rattle.drm_timeline.specs.Numbers.{sequence_number}
 use Rattle.drm_timeline.specs.FastAccess.{fac_of}
 use Rattle.drm_timeline.specs.Description.{description_of}
 use Rattle.drm_timeline.specs.Blocks.{block_of}
+
+-- the most bytes of a payload: a packet has 12 around it
+abbrev pub longest_payload : ℕ
+longest_payload = longest_packet - 12
 
 -- the bytes of a stream in the frame with this number of its configuration
 abbrev pub stream_bytes : ℕ → Stream → List ℕ

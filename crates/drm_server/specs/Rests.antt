@@ -1,6 +1,7 @@
 -- How many calls a link gets, and how long it rests before each datagram.
 use Rattle.std.specs.Prelude.{ℕ, ◌≡◌, ◌+◌, ◌-◌, ◌<◌, ◌==◌, List, length, take, slice_get, Some, if◌then◌else◌}
 use Rattle.drm_schedule.specs.declared.plan.Plan.{Plan}
+use Rattle.dcp_pft.specs.Limits.{most_fragments}
 use Rattle.drm_links.specs.Link.{Traffic}
 use Rattle.drm_server.specs.Datagrams.{AreOfFrames}
 
@@ -9,6 +10,10 @@ use Rattle.drm_server.specs.Datagrams.{AreOfFrames}
 -- so many calls were made
 abbrev pub MadeCalls : ℕ → Traffic → Traffic → Type 0
 MadeCalls n before after = after.calls ≡ before.calls + n
+
+-- the most calls of a frame: one for each of its datagrams, and a rest
+abbrev pub calls_of_frame : ℕ
+calls_of_frame = most_fragments + 1
 
 -- the rests directly before frame t: one, where there is a pace, but none before the first frame
 abbrev pub rests_before : ℕ → ℕ → ℕ

@@ -9,7 +9,7 @@ ghost use Rattle.drm_server.specs.Datagrams.{HasDatagrams, HasDatagram, IsDatagr
 
 use crate::packet::write_packet;
 use crate::payload::Rooms;
-use dcp_pft::{MOST_PARITY, Shape, all_taken, cut_for, datagrams, most_packet};
+use dcp_pft::{LONGEST_PACKET, MOST_PARITY, Shape, all_taken, cut_for, datagrams, most_packet};
 use drm_bits::{NoMemory, zeros};
 use drm_schedule::Schedule;
 use drm_timeline::{frame_count, sequence_number};
@@ -33,7 +33,7 @@ pub struct Loaded<'a> {
 
 impl<'a> Model for Loaded<'a> {
     ghost use Rattle.std.specs.Prelude.{◌≡◌, ◌<◌, ◌≤◌, length, take, IfSome};
-    ghost use Rattle.dcp_pft.specs.Limits.{most_packet, most_parity};
+    ghost use Rattle.dcp_pft.specs.Limits.{longest_packet, most_packet, most_parity};
     ghost use Rattle.dcp_pft.specs.Cutting.{IsShapeOf};
     ghost use Rattle.dcp_pft.specs.Carrying.{cut_of};
     ghost use Rattle.drm_timeline.specs.Numbers.{frame_count, packet_size};
@@ -46,15 +46,16 @@ impl<'a> Model for Loaded<'a> {
     ghost view = { λ s. record { plan = s.plan.now; frame = s.frame } };
 
     ghost invariant = { λ s. (s.frame < frame_count s.plan.now)
-        × (length s.buffer.items ≡ most_packet s.plan.now.carry)
-        × (s.len ≤ most_packet s.plan.now.carry)
+        × (length s.buffer.items ≡ longest_packet)
+        × (s.len ≤ longest_packet)
         × (1 ≤ s.len)
         × IsPacketAt s.plan.now s.frame (take s.len s.buffer.items)
         × (s.len ≡ packet_size s.plan.now s.frame)
         × (s.cut ≡ cut_of s.plan.now.carry s.len)
         × IfSome s.cut (IsShapeOf s.len)
         × (length s.parity.items ≡ most_parity)
-        × HoldsParity s.cut (take s.len s.buffer.items) s.parity.items };
+        × HoldsParity s.cut (take s.len s.buffer.items) s.parity.items
+        × (s.len ≤ most_packet s.plan.now.carry) };
 }
 
 impl<'a> Loaded<'a> {
@@ -63,7 +64,7 @@ impl<'a> Loaded<'a> {
         ensures { IfOk result (λ loaded. loaded ≡ record { plan = plan.now; frame = 0 }) }
     {
         plan.always_valid();
-        let mut buffer = zeros(alloc, most_packet(plan.carry()))?;
+        let mut buffer = zeros(alloc, LONGEST_PACKET)?;
         let mut parity = zeros(alloc, MOST_PARITY)?;
         let Ok(mut rooms) = Box::new(alloc, Rooms::new()) else {
             return Err(NoMemory);

@@ -1,10 +1,10 @@
 //! The packet of a frame.
 
 ghost use Rattle.std.specs.Prelude.{◌≡◌, ◌+◌, ◌<◌, ◌≤◌, length, take};
-ghost use Rattle.dcp_pft.specs.Limits.{most_packet};
+ghost use Rattle.dcp_pft.specs.Limits.{longest_packet, most_packet};
 ghost use Rattle.drm_timeline.specs.Numbers.{frame_count, packet_size};
 ghost use Rattle.mdi_items.specs.RoundTrip.{Parts, IsWrittenOf};
-ghost use Rattle.drm_server.specs.Frames.{IsFrameAt, IsPacketAt};
+ghost use Rattle.drm_server.specs.Frames.{IsFrameAt, IsPacketAt, longest_payload};
 
 use crate::payload::{Rooms, write_payload};
 use dcp_af::write_af;
@@ -17,10 +17,11 @@ const HEAD: usize = 10;
 /// Writes the packet of frame `t`, and gives its length. Its block and its fills are written to the rooms first.
 pub fn write_packet(plan: &Schedule, t: u32, into: &mut [u8], rooms: &mut Rooms) -> usize
     requires frame { t < frame_count plan.now }
-    requires room { length into.old ≡ most_packet plan.now.carry }
+    requires room { length into.old ≡ longest_packet }
     ensures packet { IsPacketAt plan.now t (take result into.new) }
     ensures len { result ≡ packet_size plan.now t }
     ensures small { result ≤ most_packet plan.now.carry }
+    ensures within { result ≤ longest_packet }
     ensures some { 1 ≤ result }
 {
     let len = write_first(plan, t, &mut into[HEAD..], rooms);
@@ -30,10 +31,11 @@ pub fn write_packet(plan: &Schedule, t: u32, into: &mut [u8], rooms: &mut Rooms)
 // Writes the payload of frame `t` to the front of the room for it, and gives its length.
 fn write_first(plan: &Schedule, t: u32, room: &mut [u8], rooms: &mut Rooms) -> usize
     requires frame { t < frame_count plan.now }
-    requires room { 8180 ≤ length room.old }
+    requires room { longest_payload ≤ length room.old }
     ensures written { (parts : Parts) × IsFrameAt plan.now t parts × IsWrittenOf parts (take result room.new) }
     ensures len { result + 12 ≡ packet_size plan.now t }
-    ensures small { result ≤ 8180 }
+    ensures small { result + 12 ≤ most_packet plan.now.carry }
+    ensures within { result ≤ longest_payload }
     ensures room { length room.new ≡ length room.old }
 {
     match room.first_chunk_mut() {

@@ -10,13 +10,18 @@ ghost use Rattle.drm_timeline.specs.Description.{description_of};
 ghost use Rattle.mdi_items.specs.Names.{sdc_, str};
 ghost use Rattle.mdi_items.specs.Written.{written, behind, next, lender, spelled, spelling, block_piece, IsHead, head_length};
 ghost use Rattle.mdi_items.specs.RoundTrip.{Parts, BlockBytes, block_pieces, IsWrittenOf};
-ghost use Rattle.drm_server.specs.Frames.{IsBlockAt, HasBlockWhere, IsFrameAt};
+ghost use Rattle.dcp_pft.specs.Limits.{most_packet};
+ghost use Rattle.drm_server.specs.Frames.{IsBlockAt, HasBlockWhere, IsFrameAt, longest_payload};
 ghost use Rattle.drm_server.specs.Placing.{IsNew, IsBefore, HoldsIn};
 
 use crate::stream::{MOST, write_streams};
+use dcp_pft::LONGEST_PACKET;
 use drm_schedule::{Config, Schedule};
 use drm_timeline::{block_into, config_of_frame, description, fac_at, packet_len};
 use mdi_items::MdiWriter;
+
+/// The most bytes of a payload: a packet has 12 around it.
+pub const MOST_PAYLOAD: usize = LONGEST_PACKET - 12;
 
 /// Room for what is written on its way into a payload.
 #[derive(Drop)]
@@ -38,12 +43,13 @@ impl Rooms {
 }
 
 /// Writes the payload of the packet of frame `t`, and gives its length.
-pub fn write_payload(plan: &Schedule, t: u32, into: &mut [u8; 8180], rooms: &mut Rooms) -> usize
+pub fn write_payload(plan: &Schedule, t: u32, into: &mut [u8; MOST_PAYLOAD], rooms: &mut Rooms) -> usize
     requires { t < frame_count plan.now }
     ensures written { (parts : Parts) × IsFrameAt plan.now t parts × IsWrittenOf parts (take result into.new) }
     ensures len { result + 12 ≡ packet_size plan.now t }
-    ensures small { result ≤ 8180 }
-    ensures long { length into.new ≡ 8180 }
+    ensures small { result + 12 ≤ most_packet plan.now.carry }
+    ensures within { result ≤ longest_payload }
+    ensures long { length into.new ≡ longest_payload }
 {
     let config = config_of_frame(plan, t);
     // For its clauses alone: they say that all fits.
@@ -63,9 +69,9 @@ pub fn write_payload(plan: &Schedule, t: u32, into: &mut [u8; 8180], rooms: &mut
 }
 
 // How many bytes there are. A function of its own, since behind the writer their number is known only in a call.
-fn total(bytes: &[u8; 8180]) -> usize
+fn total(bytes: &[u8; MOST_PAYLOAD]) -> usize
     ensures all { result ≡ length bytes.now }
-    ensures known { result ≡ 8180 }
+    ensures known { result ≡ longest_payload }
 {
     bytes.len()
 }

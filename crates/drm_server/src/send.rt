@@ -8,7 +8,8 @@ ghost use Rattle.drm_links.specs.Transmission.{Transmits, SendsAll, SendsNoMore,
 ghost use Rattle.drm_timeline.specs.Numbers.{frame_count};
 ghost use Rattle.drm_server.specs.Capture.{IsCount};
 ghost use Rattle.drm_server.specs.Sending.{SendsSchedule, SendsPart};
-ghost use Rattle.drm_server.specs.Rests.{MadeCalls, rests_before, rests_between, pause};
+ghost use Rattle.dcp_pft.specs.Limits.{most_fragments};
+ghost use Rattle.drm_server.specs.Rests.{calls_of_frame, MadeCalls, rests_before, rests_between, pause};
 ghost use Rattle.drm_server.specs.OneFrame.{SentFrame, SendsPartOfFrame};
 
 use crate::Server;
@@ -29,8 +30,8 @@ pub fn serve_link<L: Link>(
     // One call for each datagram and, where there is a pace, for each rest between two frames.
     ensures rests { IfOk result (λ n. Transmits (L.known link.old) (L.known link.new)
         (MadeCalls (n + rests_between pace (frame_count server.old.plan)))) }
-    // At most 1,025 calls a frame, so a link that tells will tell at the end.
-    ensures calls { MakesCalls (λ traffic. traffic.calls) (1025 * frame_count server.old.plan)
+    // So few calls a frame that a link that tells will tell at the end.
+    ensures calls { MakesCalls (λ traffic. traffic.calls) (calls_of_frame * frame_count server.old.plan)
         (L.known link.old) (L.known link.new) }
     ensures schedule { server.new.plan ≡ server.old.plan }
 {
@@ -63,13 +64,13 @@ fn send_frame<L: Link>(server: &mut Server<'_>, link: &mut L) -> Result<u64, Lin
         (L.known link.old) (L.known link.new)) }
     ensures waits { IfOk result (λ n. Transmits (L.known link.old) (L.known link.new) (Waits (replicate n 0) 0)) }
     ensures some { IfOk result (λ n. 1 ≤ n) }
-    ensures few { IfOk result (λ n. n ≤ 1024) }
+    ensures few { IfOk result (λ n. n ≤ most_fragments) }
     ensures counted { IfOk result (λ n. Transmits (L.known link.old) (L.known link.new) (MadeCalls n)) }
     ensures part { OnErr result (Transmits (L.known link.old) (L.known link.new)
         (SendsPartOfFrame server.old.plan server.old.frame)) }
     ensures cause { HasCause (L.known link.old) (L.known link.new) (IsErr result) }
     ensures idle { L.idles link.new ≡ L.idles link.old }
-    ensures calls { MakesCalls (λ traffic. traffic.calls) 1024 (L.known link.old) (L.known link.new) }
+    ensures calls { MakesCalls (λ traffic. traffic.calls) most_fragments (L.known link.old) (L.known link.new) }
     ensures server { server.new ≡ server.old }
 {
     let count = server.fragments();

@@ -9,14 +9,14 @@ ghost use Rattle.drm_server.specs.Datagrams.{HasDatagrams, HasDatagram, IsDatagr
 ghost use Rattle.drm_server.specs.Lending.{Stays};
 
 use crate::loaded::Loaded;
-use dcp_pft::most_packet;
+use dcp_pft::{LONGEST_PACKET, most_packet};
 use drm_bits::{NoMemory, zeros};
 use drm_schedule::Schedule;
 use std::alloc::Global;
 use std::marker::Model;
 
 // Room in which datagrams wait for those behind them.
-const WAITING: usize = 32_768;
+const WAITING: usize = 2 * LONGEST_PACKET;
 
 /// Gives the packets of a schedule and the datagrams that carry them, one frame at a time. Frames are counted from 0 at the
 /// schedule's start. All memory is taken when it is made.

@@ -1,6 +1,7 @@
 -- A run over a link, by how it ends.
 use Rattle.std.proofs.Common.{◌≡◌, ℕ, ◌+◌, ◌*◌, ◌≤◌, List, [], ◌∷◌, ◌++◌, Option, None, Some, Result, Ok, Err, inl, inr, refl, ◌∙◌, ap, subst, arith, append_assoc}
 use Rattle.std.specs.FinMap as map
+use Rattle.drm_server.specs.Rests.{calls_of_frame}
 use Rattle.drm_links.specs.Told.{HasFailed, WhileTold, CountsCall, Known, ToldThrough}
 use Rattle.drm_links.specs.Dock.{DockContents, LinkStart, Reaches, Closes, address_key, first_traffic, with_reach}
 use Rattle.drm_links.specs.declared.dock.Address.{Address}
@@ -32,8 +33,8 @@ not_link schedule.NoMemory is = cc
 not_link (schedule.Line l r) is = cc
 not_link schedule.Read is = cc
 
-few_calls : (plan : Plan) (a b : Known Traffic) → plan.length ≤ 1000000 → MakesCalls (λ (t : Traffic). t.calls) (1025 * frame_count plan) a b → MakesCalls (λ (t : Traffic). t.calls) most_calls a b
-few_calls plan a b few made = at_most (λ (t : Traffic). t.calls) (1025 * frame_count plan) most_calls a b (omega (arith, few)) made
+few_calls : (plan : Plan) (a b : Known Traffic) → plan.length ≤ 1000000 → MakesCalls (λ (t : Traffic). t.calls) (calls_of_frame * frame_count plan) a b → MakesCalls (λ (t : Traffic). t.calls) most_calls a b
+few_calls plan a b few made = at_most (λ (t : Traffic). t.calls) (calls_of_frame * frame_count plan) most_calls a b (omega (arith, few)) made
 
 -- the rests of a link afterwards
 rests_after : (each : List ℕ) (last : ℕ) (x y : Traffic) → Waits each last x y → rests_of y ≡ x.waits ++ since x.waiting (each ++ last ∷ [])
@@ -70,7 +71,7 @@ module _ {S L : Type 0} (name : List ℕ) (pace : ℕ) (shelf_known : S → Know
   }
 
   module _ (plan : Plan) (valid : IsSchedule plan) (comes : ReadBy (schedule_named name) (Ok plan) (shelf_known shelf) (shelf_known shelf')) (later : (shelf_known shelf).faults ≤ (shelf_known shelf').faults) (link link' : L) (later' : (link_known link).faults ≤ (link_known link').faults)
-      (calls : MakesCalls (λ (t : Traffic). t.calls) (1025 * frame_count plan) (link_known link) (link_known link')) where
+      (calls : MakesCalls (λ (t : Traffic). t.calls) (calls_of_frame * frame_count plan) (link_known link) (link_known link')) where
     pub all_sent : Transmits (link_known link) (link_known link') (SendsSchedule plan pace) → OverLink name pace (Ok tt) shelf_known shelf shelf' link_known link link'
     all_sent sent = record {
       came = Ok plan;

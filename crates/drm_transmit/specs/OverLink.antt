@@ -1,5 +1,5 @@
 -- A run over a link that was opened.
-use Rattle.std.specs.Prelude.{ℕ, ◌≡◌, ◌++◌, List, Result, Err, IfOk}
+use Rattle.std.specs.Prelude.{ℕ, ◌≡◌, ◌*◌, ◌++◌, List, Result, Err, IfOk}
 use Rattle.drm_links.specs.Told.{Known, HasCause}
 use Rattle.drm_links.specs.Shelf.{Files}
 use Rattle.drm_links.specs.Link.{Traffic, rests_of}
@@ -7,6 +7,7 @@ use Rattle.drm_links.specs.ManyCalls.{MakesCalls}
 use Rattle.drm_links.specs.Transmission.{Transmits, since}
 use Rattle.drm_schedule.specs.declared.plan.Plan.{Plan}
 use Rattle.drm_schedule.specs.Valid.{IsSchedule}
+use Rattle.drm_server.specs.Rests.{calls_of_frame}
 use Rattle.drm_load.specs.Loading.{ReadBy}
 use Rattle.drm_load.specs.Schedule.{schedule_named}
 use Rattle.drm_transmit.specs.ScheduleRun.{EndsBy}
@@ -21,9 +22,9 @@ GoOver pace came ending before after =
     (gone : List (List ℕ)) × (rests : List ℕ) × Go pace came ending before.sends gone rests
     × (after.gone ≡ before.gone ++ gone) × (rests_of after ≡ before.waits ++ since before.waiting rests)
 
--- the most calls of a link in a run: 1,025 for each of 3,000,000 frames
+-- the most calls of a link in a run, of 3,000,000 frames
 abbrev pub most_calls : ℕ
-most_calls = 3075000000
+most_calls = calls_of_frame * 3000000
 
 pub record OverLink {S L : Type 0} (name : List ℕ) (pace : ℕ) (ending : Result (Unit {0}) Fault)
     (shelf_known : S → Known Files) (shelf shelf' : S)

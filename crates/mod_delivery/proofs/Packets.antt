@@ -7,6 +7,7 @@ use Rattle.std.proofs.lemmas.List.FromFn.{length-map-range_with_len, get_or-map-
 use Rattle.std.proofs.lemmas.Option.{slice_get-get_or, slice_get_within}
 use Rattle.dcp_af.specs.Packet.{AfPacket, IsAf, head}
 use Rattle.collect_laws.specs.Delivery.{IsPacketWith, sequence_at, AreSent as AllSent, IsDatagramAt as IsDatagramOf, AreDelivered}
+use Rattle.dcp_pft.proofs.Carried.{limit_is}
 use Rattle.drm_schedule.specs.declared.plan.Plan.{Plan}
 use Rattle.drm_schedule.specs.Valid.{IsSchedule}
 use Rattle.drm_timeline.specs.Numbers.{frame_count, sequence_number}
@@ -100,7 +101,7 @@ module _ (plan : Plan) (is : IsSchedule plan) (pairs : List (ℕ × ℕ)) (packe
         af = filler_af plan p;
         is_af = subst (λ (l : List ℕ). IsAf (filler_af plan p) l) (sym same) (filler_is plan p);
         seq = refl;
-        small = omega (arith, long);
+        small = omega (arith, long, (limit_is plan.carry).0);
       }
 
   -- they are packets that can be sent

@@ -1,5 +1,6 @@
 use Rattle.std.proofs.Common.{◌≡◌, ◌∙◌, ◌+◌, ℕ, ◌∷◌, [], ◌++◌, ◌≤◌, replicate, refl, subst, arith}
 use Rattle.std.proofs.lemmas.Result.{err_from_is_err_and}
+use Rattle.dcp_pft.specs.Limits.{most_fragments}
 use Rattle.drm_links.specs.Link.{Traffic}
 use Rattle.drm_links.specs.Transmission.{Transmits, Waits}
 use Rattle.drm_links.proofs.ManyCallsLemmas.{more_calls, at_most}
@@ -25,8 +26,8 @@ returns-in_err-send_datagram-clause-part g c =
 pub returns-in_err-send_datagram-clause-calls : goal.returns-in_err-send_datagram-clause-calls
 returns-in_err-send_datagram-clause-calls g c =
     let calls : Traffic → ℕ = λ t. t.calls in
-    let some : c.loop-i.i + 1 ≤ 1024 = omega (arith, c.loop-i-test.true, c.fragments-count.ensures.few) in
-    at_most calls (c.loop-i.i + 1) 1024 (g.L.Link.known c.args.link.now) (g.L.Link.known c.send_datagram.new.link) some
+    let some : c.loop-i.i + 1 ≤ most_fragments = omega (arith, c.loop-i-test.true, c.fragments-count.ensures.few) in
+    at_most calls (c.loop-i.i + 1) most_fragments (g.L.Link.known c.args.link.now) (g.L.Link.known c.send_datagram.new.link) some
     (more_calls calls c.loop-i.i 1 (g.L.Link.known c.args.link.now) (g.L.Link.known c.loop-i.link) (g.L.Link.known c.send_datagram.new.link) c.loop-i.invariant.5 c.send_datagram.ensures.calls)
 
 pub loop-i-preserved : goal.loop-i-preserved
@@ -60,8 +61,8 @@ returns-clause-whole g c =
 pub returns-clause-calls : goal.returns-clause-calls
 returns-clause-calls g c =
     let calls : Traffic → ℕ = λ t. t.calls in
-    let some : c.loop-i.i ≤ 1024 = omega (arith, c.loop-i.auto.i-end, c.fragments-count.ensures.few) in
-    at_most calls c.loop-i.i 1024 (g.L.Link.known c.args.link.now) (g.L.Link.known c.loop-i.link) some c.loop-i.invariant.5
+    let some : c.loop-i.i ≤ most_fragments = omega (arith, c.loop-i.auto.i-end, c.fragments-count.ensures.few) in
+    at_most calls c.loop-i.i most_fragments (g.L.Link.known c.args.link.now) (g.L.Link.known c.loop-i.link) some c.loop-i.invariant.5
 
 pub returns-clause-counted : goal.returns-clause-counted
 returns-clause-counted g c =

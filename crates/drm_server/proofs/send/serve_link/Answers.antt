@@ -1,5 +1,6 @@
 use Rattle.std.proofs.Common.{◌≡◌, ◌∙◌, ◌+◌, ◌*◌, ◌≤◌, ℕ, ◌++◌, length, ap, sym, refl, subst, arith, length-append}
 use Rattle.std.proofs.lemmas.Result.{err_from_is_err_and}
+use Rattle.dcp_pft.specs.Limits.{most_fragments}
 use Rattle.drm_schedule.specs.declared.plan.Plan.{Plan}
 use Rattle.drm_links.specs.Link.{Traffic}
 use Rattle.drm_links.specs.Transmission.{Transmits, SendsAll}
@@ -9,7 +10,7 @@ use Rattle.drm_server.specs.Serving.{Serving}
 use Rattle.drm_server.specs.OneFrame.{SentFrame, SendsPartOfFrame}
 use Rattle.drm_server.specs.Datagrams.{AreFirst, AreOfFrames}
 use Rattle.drm_server.proofs.DatagramLemmas.{next_frame, first_length, at_frame}
-use Rattle.drm_server.specs.Rests.{MadeCalls, rests_before, rests_between, pause}
+use Rattle.drm_server.specs.Rests.{calls_of_frame, MadeCalls, rests_before, rests_between, pause}
 use Rattle.drm_server.proofs.RestLemmas.{made_then, one_more_rest}
 use Rattle.drm_server.proofs.SendingLemmas.{then_sent, then_rested, then_paused, whole_frame_waited, part_sent, all_sent}
 use Rattle.drm_server.proofs.PaceLemmas.{waits_in, paced_frame}
@@ -30,10 +31,10 @@ pub returns-in_err-sent-clause-calls : goal.returns-in_err-sent-clause-calls
 returns-in_err-sent-clause-calls g c =
     let calls : Traffic → ℕ = λ t. t.calls in
     let plan : Plan = c.args.server.now.plan in
-    let few : 1025 * c.loop-t.t + 1 + 1024 ≤ 1025 * frame_count plan = omega (arith, c.loop-t-test.true, c.frames-t-end.ensures.frames) in
-    at_most calls (1025 * c.loop-t.t + 1 + 1024) (1025 * frame_count plan) (g.L.Link.known c.args.link.now) (g.L.Link.known c.send_frame.new.link) few
-    (more_calls calls (1025 * c.loop-t.t + 1) 1024 (g.L.Link.known c.args.link.now) (g.L.Link.known c.rest_between.new.link) (g.L.Link.known c.send_frame.new.link)
-    (more_calls calls (1025 * c.loop-t.t) 1 (g.L.Link.known c.args.link.now) (g.L.Link.known c.loop-t.link) (g.L.Link.known c.rest_between.new.link) c.loop-t.invariant.5 c.rest_between.ensures.calls) c.send_frame.ensures.calls)
+    let few : calls_of_frame * c.loop-t.t + 1 + most_fragments ≤ calls_of_frame * frame_count plan = omega (arith, c.loop-t-test.true, c.frames-t-end.ensures.frames) in
+    at_most calls (calls_of_frame * c.loop-t.t + 1 + most_fragments) (calls_of_frame * frame_count plan) (g.L.Link.known c.args.link.now) (g.L.Link.known c.send_frame.new.link) few
+    (more_calls calls (calls_of_frame * c.loop-t.t + 1) most_fragments (g.L.Link.known c.args.link.now) (g.L.Link.known c.rest_between.new.link) (g.L.Link.known c.send_frame.new.link)
+    (more_calls calls (calls_of_frame * c.loop-t.t) 1 (g.L.Link.known c.args.link.now) (g.L.Link.known c.loop-t.link) (g.L.Link.known c.rest_between.new.link) c.loop-t.invariant.5 c.rest_between.ensures.calls) c.send_frame.ensures.calls)
 
 pub loop-t-preserved : goal.loop-t-preserved
 loop-t-preserved g c =
@@ -50,15 +51,15 @@ loop-t-preserved g c =
     let paused = then_paused i.10 (pause pace t) (g.L.Link.known c.args.link.now) (g.L.Link.known c.loop-t.link) (g.L.Link.known c.rest_between.new.link) i.12 c.rest_between.ensures.waits in
     let of_frame : AreFirst plan t n w.0 = subst (λ k. AreFirst plan t k w.0) (sym (first_length plan t w.1.0 w.0 w.1.2) ∙ sym w.2) w.1.2 in
     let rested_calls = made_then (c.loop-t.sent + rests_between pace t) (rests_before pace t) (c.loop-t.sent + rests_between pace t + rests_before pace t) (g.L.Link.known c.args.link.now) (g.L.Link.known c.loop-t.link) (g.L.Link.known c.rest_between.new.link) refl i.9 c.rest_between.ensures.rests in
-    let few : 1025 * c.loop-t.t + 1 + 1024 ≤ 1025 * (c.loop-t.t + 1) = omega arith in (
+    let few : calls_of_frame * c.loop-t.t + 1 + most_fragments ≤ calls_of_frame * (c.loop-t.t + 1) = omega arith in (
       i.0 ++ w.0,
       next_frame plan c.loop-t.t i.0 w.0 i.1 w.1,
       then_sent i.0 w.0 (g.L.Link.known c.args.link.now) (g.L.Link.known c.rest_between.new.link) (g.L.Link.known c.send_frame.new.link) rested w.3,
       omega (arith, i.3, c.rest_between.ensures.cause, c.send_frame.ensures.cause.later),
       c.send_frame.ensures.idle ∙ (c.rest_between.ensures.idle ∙ i.4),
-      at_most calls (1025 * c.loop-t.t + 1 + 1024) (1025 * (c.loop-t.t + 1)) (g.L.Link.known c.args.link.now) (g.L.Link.known c.send_frame.new.link) few
-          (more_calls calls (1025 * c.loop-t.t + 1) 1024 (g.L.Link.known c.args.link.now) (g.L.Link.known c.rest_between.new.link) (g.L.Link.known c.send_frame.new.link)
-          (more_calls calls (1025 * c.loop-t.t) 1 (g.L.Link.known c.args.link.now) (g.L.Link.known c.loop-t.link) (g.L.Link.known c.rest_between.new.link) i.5 c.rest_between.ensures.calls) c.send_frame.ensures.calls),
+      at_most calls (calls_of_frame * c.loop-t.t + 1 + most_fragments) (calls_of_frame * (c.loop-t.t + 1)) (g.L.Link.known c.args.link.now) (g.L.Link.known c.send_frame.new.link) few
+          (more_calls calls (calls_of_frame * c.loop-t.t + 1) most_fragments (g.L.Link.known c.args.link.now) (g.L.Link.known c.rest_between.new.link) (g.L.Link.known c.send_frame.new.link)
+          (more_calls calls (calls_of_frame * c.loop-t.t) 1 (g.L.Link.known c.args.link.now) (g.L.Link.known c.loop-t.link) (g.L.Link.known c.rest_between.new.link) i.5 c.rest_between.ensures.calls) c.send_frame.ensures.calls),
       ap (λ (s : Serving). s.plan) (c.send_frame.ensures.server ∙ c.load.ensures) ∙ i.6,
       omega (arith, i.7, w.2, long),
       omega (arith, i.8, c.in_ok-sent.ensures.few),
@@ -87,8 +88,8 @@ pub returns-clause-calls : goal.returns-clause-calls
 returns-clause-calls g c =
     let calls : Traffic → ℕ = λ t. t.calls in
     let plan : Plan = c.args.server.now.plan in
-    let few : 1025 * c.loop-t.t ≤ 1025 * frame_count plan = omega (arith, c.loop-t.auto.t-end, c.frames-t-end.ensures.frames) in
-    at_most calls (1025 * c.loop-t.t) (1025 * frame_count plan) (g.L.Link.known c.args.link.now) (g.L.Link.known c.loop-t.link) few c.loop-t.invariant.5
+    let few : calls_of_frame * c.loop-t.t ≤ calls_of_frame * frame_count plan = omega (arith, c.loop-t.auto.t-end, c.frames-t-end.ensures.frames) in
+    at_most calls (calls_of_frame * c.loop-t.t) (calls_of_frame * frame_count plan) (g.L.Link.known c.args.link.now) (g.L.Link.known c.loop-t.link) few c.loop-t.invariant.5
 
 pub returns-clause-rests : goal.returns-clause-rests
 returns-clause-rests g c =

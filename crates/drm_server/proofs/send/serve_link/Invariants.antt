@@ -1,9 +1,10 @@
 use Rattle.std.proofs.Common.{◌≡◌, ◌+◌, ◌*◌, ◌≤◌, ℕ, List, length}
+use Rattle.dcp_pft.specs.Limits.{most_fragments}
 use Rattle.drm_links.specs.Link.{Traffic}
 use Rattle.drm_links.specs.ManyCalls.{MakesCalls}
 use Rattle.drm_links.specs.Transmission.{Transmits, SendsAll, Waits}
 use Rattle.drm_server.specs.Datagrams.{AreOfFrames}
-use Rattle.drm_server.specs.Rests.{MadeCalls, rests_between, ArePaced}
+use Rattle.drm_server.specs.Rests.{calls_of_frame, MadeCalls, rests_between, ArePaced}
 use Rattle.drm_server.proofs.send.serve_link.Given as goal
 
 -- the datagrams of the frames before this one were sent
@@ -13,10 +14,10 @@ invariant-loop-t g l =
     × Transmits (g.L.Link.known l.fn.link) (g.L.Link.known l.link) (SendsAll datagrams)
     × ((g.L.Link.known l.fn.link).faults ≤ (g.L.Link.known l.link).faults)
     × (g.L.Link.idles l.link ≡ g.L.Link.idles l.fn.link)
-    × MakesCalls (λ (t : Traffic). t.calls) (1025 * l.t) (g.L.Link.known l.fn.link) (g.L.Link.known l.link)
+    × MakesCalls (λ (t : Traffic). t.calls) (calls_of_frame * l.t) (g.L.Link.known l.fn.link) (g.L.Link.known l.link)
     × (l.server.plan ≡ l.fn.server.plan)
     × (l.sent ≡ length datagrams)
-    × (l.sent ≤ 1024 * l.t)
+    × (l.sent ≤ most_fragments * l.t)
     × Transmits (g.L.Link.known l.fn.link) (g.L.Link.known l.link) (MadeCalls (l.sent + rests_between l.fn.pace l.t))
     × (waits : List ℕ) × ArePaced l.fn.pace l.fn.server.plan datagrams waits
     × Transmits (g.L.Link.known l.fn.link) (g.L.Link.known l.link) (Waits waits 0)

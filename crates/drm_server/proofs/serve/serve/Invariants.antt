@@ -1,6 +1,6 @@
 use Rattle.std.proofs.Common.{◌≡◌, ◌+◌, ◌*◌, ◌<◌, ◌≤◌, ℕ, List, [], length, take}
 use Rattle.std.specs.List.{concat}
-use Rattle.dcp_pft.specs.Limits.{most_packet}
+use Rattle.dcp_pft.specs.Limits.{most_packet, most_fragments}
 use Rattle.drm_server.specs.Datagrams.{AreOfFrames}
 use Rattle.drm_server.specs.Capture.{IsFrontOfCapture}
 use Rattle.drm_server.specs.Gathering.{Gathers}
@@ -17,4 +17,4 @@ invariant-loop-t g l =
     × ((g.O.Sink.known l.fn.out).faults ≤ (g.O.Sink.known l.out).faults)
     × (l.loaded.plan ≡ l.fn.loaded.plan)
     × (l.written ≡ length datagrams)
-    × (l.written ≤ 1024 * l.t)
+    × (l.written ≤ most_fragments * l.t)

@@ -1,5 +1,6 @@
 use Rattle.std.proofs.Common.{◌≡◌, ◌*◌, ◌∙◌, ap, refl, Err}
 use Rattle.std.proofs.lemmas.Result.{err_from_is_err_and}
+use Rattle.drm_server.specs.Rests.{calls_of_frame}
 use Rattle.drm_links.specs.Link.{Traffic}
 use Rattle.drm_links.specs.ManyCalls.{MakesCalls}
 use Rattle.drm_links.specs.Transmission.{Transmits}
@@ -32,7 +33,7 @@ returns-in_err-serve_link-clause-run g c =
     let p = err_from_is_err_and c.from_residual-in_err-serve_link.result c.from_residual-in_err-serve_link.ensures.1 in
     let same : c.in_ok-server.server.plan ≡ c.in_ok-schedule.schedule = ap (λ (s : Serving). s.plan) c.in_ok-server.ensures in
     let sent : Transmits (g.L.Link.known c.args.link.now) (g.L.Link.known c.serve_link.new.link) (SendsPart c.in_ok-schedule.schedule c.args.pace) = rw (← same) c.in_err-serve_link.ensures.part in
-    let calls : MakesCalls (λ (t : Traffic). t.calls) (1025 * frame_count c.in_ok-schedule.schedule) (g.L.Link.known c.args.link.now) (g.L.Link.known c.serve_link.new.link) = rw (← same) c.serve_link.ensures.calls in
+    let calls : MakesCalls (λ (t : Traffic). t.calls) (calls_of_frame * frame_count c.in_ok-schedule.schedule) (g.L.Link.known c.args.link.now) (g.L.Link.known c.serve_link.new.link) = rw (← same) c.serve_link.ensures.calls in
     let valid : IsSchedule c.in_ok-schedule.schedule = rw (← c.schedule.view_is) c.schedule.invariant in
     rw (p.1 ∙ ap Err p.2)
     (part_sent c.args.name.now c.args.pace g.S.Shelf.known c.args.shelf.now c.read_schedule.new.shelf g.L.Link.known c.in_ok-schedule.schedule
@@ -42,7 +43,7 @@ pub returns-clause-run : goal.returns-clause-run
 returns-clause-run g c =
     let same : c.in_ok-server.server.plan ≡ c.in_ok-schedule.schedule = ap (λ (s : Serving). s.plan) c.in_ok-server.ensures in
     let sent : Transmits (g.L.Link.known c.args.link.now) (g.L.Link.known c.serve_link.new.link) (SendsSchedule c.in_ok-schedule.schedule c.args.pace) = rw (← same) c.in_ok-serve_link.ensures.whole in
-    let calls : MakesCalls (λ (t : Traffic). t.calls) (1025 * frame_count c.in_ok-schedule.schedule) (g.L.Link.known c.args.link.now) (g.L.Link.known c.serve_link.new.link) = rw (← same) c.serve_link.ensures.calls in
+    let calls : MakesCalls (λ (t : Traffic). t.calls) (calls_of_frame * frame_count c.in_ok-schedule.schedule) (g.L.Link.known c.args.link.now) (g.L.Link.known c.serve_link.new.link) = rw (← same) c.serve_link.ensures.calls in
     let valid : IsSchedule c.in_ok-schedule.schedule = rw (← c.schedule.view_is) c.schedule.invariant in
     all_sent c.args.name.now c.args.pace g.S.Shelf.known c.args.shelf.now c.read_schedule.new.shelf g.L.Link.known c.in_ok-schedule.schedule
     valid c.in_ok-schedule.ensures.reads c.in_ok-schedule.ensures.cause.later c.args.link.now c.serve_link.new.link c.serve_link.ensures.cause.later calls sent
