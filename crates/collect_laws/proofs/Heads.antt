@@ -1,12 +1,10 @@
 -- The heads of a packet's datagrams fit together, however it is cut.
-use Rattle.std.proofs.Common.{ℕ, zero, suc, ◌≡◌, ◌+◌, ◌-◌, ◌*◌, ◌<◌, ◌≤◌, inl, inr, min, Bool, true, false, cond, ◌&&◌, ◌||◌, eqb, leb, Option, Some, None, refl, sym, ap, ◌∙◌, subst, arith}
-use Rattle.std.specs.Int.{div_ceil}
+use Rattle.std.proofs.Common.{ℕ, zero, suc, ◌≡◌, ◌+◌, ◌-◌, ◌*◌, ◌<◌, ◌≤◌, min, Bool, true, false, cond, ◌&&◌, ◌||◌, eqb, leb, Option, Some, None, refl, sym, ap, ◌∙◌, subst, arith}
 use Rattle.std.proofs.Math.Nat.{mul-le-mul_left}
-use Rattle.std.proofs.lemmas.Bool.{cases_lt, and_from, and_left, le-leb, lt-leb, eq-eqb, eqb-true, eqb-false}
-use Rattle.std.proofs.lemmas.Grind.{div_ceil_times}
+use Rattle.std.proofs.lemmas.Bool.{and_from, and_left, le-leb, lt-leb, eq-eqb, eqb-true, eqb-false}
 use Rattle.dcp_pft.specs.declared.shape.Rs.{Rs}
 use Rattle.dcp_pft.specs.declared.shape.Shape.{Shape}
-use Rattle.dcp_pft.specs.Cutting.{chunks_of, plain_shape, coded_shape, shape_of, IsShapeOf}
+use Rattle.dcp_pft.specs.Cutting.{chunks_of, coded_shape, shape_of, IsShapeOf}
 use Rattle.dcp_pft.specs.Loss.{has_all, erased, chunks_stand, is_recoverable}
 use Rattle.dcp_pft.proofs.Sizes.{Fits, plain_is}
 use Rattle.dcp_pft.proofs.Shapes.{has_code, fits_of}

@@ -1,7 +1,7 @@
 //! The numbers of a schedule's frames.
 
 ghost use Rattle.std.specs.Prelude.{◌≡◌, ◌+◌, ◌-◌, ◌*◌, ◌/◌, ◌<◌, ◌≤◌, All, false, Some};
-ghost use Rattle.dcp_pft.specs.Limits.{most_packet};
+ghost use Rattle.dcp_pft.specs.Limits.{most_packet, longest_packet};
 ghost use Rattle.drm_schedule.specs.Ranges.{ConfigInLines};
 ghost use Rattle.drm_schedule.specs.Valid.{is_short};
 ghost use Rattle.drm_schedule.specs.declared.stream.Stream.{Stream};
@@ -41,6 +41,7 @@ pub fn packet_len(plan: &Schedule, t: u32) -> usize
     ensures some { 1 ≤ result }
     // The limit that a valid schedule keeps.
     ensures small { result ≤ most_packet plan.now.carry }
+    ensures within { result ≤ longest_packet }
 {
     drm_schedule::packet_len(standing(plan, t / 3), t % 3 == 0) as usize
 }

@@ -18,7 +18,10 @@ returns-clause-len c =
     let config = c.config_of_frame-config in
     let len : c.packet_len.result ≡ packet_len config.result.now (c.args.t % 3 == 0) = c.packet_len.ensures.len ∙ size_is c.args.plan.now c.args.t config.result.now config.ensures.config in
     let streams : sum_by (λ (s : Stream). 8 + stream_size s) c.as_slice.result.now ≡ sum_by (λ (s : Stream). 8 + stream_size s) config.result.now.streams = ap (sum_by (λ (s : Stream). 8 + stream_size s)) c.as_slice.ensures in
-    omega (arith, len, streams, c.packet_len.ensures.len, c.packet_len.ensures.small, ap length c.new-writer.ensures.behind, c.told-into, c.write_head.ensures.left, c.write_block_where.ensures.left, c.write_streams.ensures.left, c.room-room.ensures, c.total.ensures.known)
+    omega (arith, len, streams, c.packet_len.ensures.len, c.packet_len.ensures.small, c.packet_len.ensures.within, ap length c.new-writer.ensures.behind, c.told-into, c.write_head.ensures.left, c.write_block_where.ensures.left, c.write_streams.ensures.left, c.room-room.ensures, c.total.ensures.known)
+
+pub returns-clause-small : goal.returns-clause-small
+returns-clause-small c = omega (arith, returns-clause-len c, c.packet_len.ensures.len, c.packet_len.ensures.small)
 
 pub write_streams-requires-clause-place : goal.write_streams-requires-clause-place
 write_streams-requires-clause-place c =
@@ -28,5 +31,5 @@ write_streams-requires-clause-place c =
     record {
       head = c.write_block_where.ensures.from;
       order = c.write_block_where.ensures.to;
-      room = omega (arith, len, streams, c.packet_len.ensures.small, ap length c.new-writer.ensures.behind, c.told-into, c.write_head.ensures.left, c.write_block_where.ensures.left);
+      room = omega (arith, len, streams, c.packet_len.ensures.small, c.packet_len.ensures.within, ap length c.new-writer.ensures.behind, c.told-into, c.write_head.ensures.left, c.write_block_where.ensures.left);
     }
