@@ -298,7 +298,11 @@ const FIRST_FAULTS: [(&[u8], usize, PftFault); 10] = [
         16,
         PftFault::TooMany,
     ),
-    (b"PF\0\0\0\0\x08\0\x10\x01\x80\0n\0\x35t", 0, PftFault::TooMany),
+    (
+        b"PF\0\0\0\0\x08\0\x10\x01\x80\0n\0\x35t",
+        0,
+        PftFault::TooMany,
+    ),
 ];
 
 #[test]

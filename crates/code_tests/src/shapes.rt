@@ -65,3 +65,19 @@ fn counts_chunks(rt: HostRuntime) {
         assert!(rt; has_chunks(row.0, row.1, row.2, row.3), "row {k}");
     }
 }
+
+// The most bytes of a packet.
+const LIMITS: [(Carry, usize); 5] = [
+    (Carry::Plain, 32768),
+    (Carry::Pft { m: 5, mtu: 1500 }, 32768),
+    (Carry::Pft { m: 0, mtu: 256 }, 32768),
+    (Carry::Pft { m: 0, mtu: 255 }, 8192),
+    (Carry::Pft { m: 5, mtu: 128 }, 8192),
+];
+
+#[test]
+fn limits_packets(rt: HostRuntime) {
+    for (k, row) in LIMITS.iter().enumerate() {
+        assert!(rt; most_packet(row.0) == row.1, "row {k}");
+    }
+}

@@ -23,8 +23,7 @@ use std::marker::Model;
 const HEAD: usize = 16;
 
 /// The fragments of a packet have fewer bytes than this, by as many as one may have.
-const MOST_ROOM: usize =
-    MOST_CARRIED as usize + HEAD * MOST_FRAGMENTS as usize + MOST_FRAGMENT;
+const MOST_ROOM: usize = MOST_CARRIED as usize + HEAD * MOST_FRAGMENTS as usize + MOST_FRAGMENT;
 
 /// Writes packets under a carry. All its memory is taken where it is made.
 #[derive(Drop)]

@@ -43,7 +43,12 @@ impl Rooms {
 }
 
 /// Writes the payload of the packet of frame `t`, and gives its length.
-pub fn write_payload(plan: &Schedule, t: u32, into: &mut [u8; MOST_PAYLOAD], rooms: &mut Rooms) -> usize
+pub fn write_payload(
+    plan: &Schedule,
+    t: u32,
+    into: &mut [u8; MOST_PAYLOAD],
+    rooms: &mut Rooms,
+) -> usize
     requires { t < frame_count plan.now }
     ensures written { (parts : Parts) × IsFrameAt plan.now t parts × IsWrittenOf parts (take result into.new) }
     ensures len { result + 12 ≡ packet_size plan.now t }

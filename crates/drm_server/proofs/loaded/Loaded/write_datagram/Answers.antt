@@ -1,7 +1,9 @@
-use Rattle.std.proofs.Common.{ℕ, List, ◌≡◌, ◌∙◌, ap, sym, subst, take, length, arith, rules, None, Some}
+use Rattle.std.proofs.Common.{ℕ, List, ◌≡◌, ◌≤◌, ◌∙◌, ap, sym, subst, take, length, arith, rules, None, Some}
 use Rattle.std.proofs.lemmas.List.{length-take-le}
 use Rattle.drm_schedule.specs.declared.plan.Plan.{Plan}
+use Rattle.dcp_pft.specs.Limits.{most_packet}
 use Rattle.dcp_pft.specs.Head.{IsFragmentOf}
+use Rattle.dcp_pft.proofs.Carried.{limit_is}
 use Rattle.drm_timeline.specs.Numbers.{sequence_number}
 use Rattle.dcp_pft.specs.Carrying.{cut_of}
 use Rattle.drm_server.specs.Datagrams.{HasDatagram}
@@ -26,6 +28,14 @@ write_cut-requires-clause-coded c =
       stands = search rules;
       within = below_cut plan s.frame c.args.i packet c.in-Some.shape i.4 cut (subst (Within c.args.i) (sym c.self.view_is) c.requires.within);
     }
+
+pub write_cut-requires-clause-room : goal.write_cut-requires-clause-room
+write_cut-requires-clause-room c =
+    let room = subst (λ (s : Serving). most_packet s.plan.carry ≤ length c.args.into.now) (sym c.self.view_is) c.requires.room in
+    omega (arith, room, (limit_is c.self.inside.plan.now.carry).0)
+
+pub returns-in-Some-clause-small : goal.returns-in-Some-clause-small
+returns-in-Some-clause-small c = rw (← c.self.view_is) (omega (arith, c.write_cut.ensures.small, (limit_is c.self.inside.plan.now.carry).0))
 
 pub returns-in-None-clause-datagram : goal.returns-in-None-clause-datagram
 returns-in-None-clause-datagram c =
