@@ -11,6 +11,10 @@ use std::time::{Clock, Duration, Instant};
 /// So many milliseconds no datagram comes before a link is idle.
 const IDLE_MILLIS: u64 = 100;
 
+/// A link that rests looks for datagrams to drop each time that so many milliseconds are over. It sleeps in between: a sleep
+/// ends when it should, where the system makes a long time-out of a socket longer.
+const NAP_MILLIS: u64 = 20;
+
 /// A link over a socket.
 #[derive(Drop)]
 pub struct UdpLink<'a, R> {
@@ -18,6 +22,8 @@ pub struct UdpLink<'a, R> {
     socket: UdpSocket,
     /// Where its datagrams go, if it sends any.
     dest: Option<SocketAddr>,
+    /// The end of the last rest, or else when the first datagram was sent.
+    paced: Option<Instant>,
     pub(crate) faults: u64,
     pub(crate) idles: u64,
 }
@@ -37,26 +43,34 @@ impl<'a, R: Clock> UdpLink<'a, R> {
             clock,
             socket,
             dest,
+            paced: None,
             faults: 0,
             idles: 0,
         })
     }
 
-    // Drops what comes until so much time has passed.
-    fn drop_for(&self, whole: Duration) -> io::Result<()> {
-        let start = Instant::now(self.clock)?;
-        let mut left = whole;
+    // The moment at which a rest ends that is so long: it is counted from the end of the one before it, and the first one
+    // from the first datagram, so that being late never adds up.
+    fn end_of_rest(&self, whole: Duration) -> io::Result<Instant> {
+        let from = match self.paced {
+            Some(moment) => moment,
+            None => Instant::now(self.clock)?,
+        };
+        from.checked_add(whole)
+            .ok_or(ErrorKind::InvalidInput.into())
+    }
+
+    // Drops what comes until this moment.
+    fn drop_until(&self, end: Instant) -> io::Result<()> {
+        self.socket.set_nonblocking(true)?;
         for _ in 0..u64::MAX {
+            let left = end.duration_since(Instant::now(self.clock)?);
             if left.is_zero() {
                 break;
             }
-            self.socket.set_read_timeout(Some(left))?;
-            let came = recv_from(&self.socket, &mut [0; 1]);
-            if matches!(&came, Err(fault) if !is_quiet(fault)) {
-                // Such a receive doesn't wait.
-                thread::sleep(self.clock, left);
+            if recv_from(&self.socket, &mut [0; 1]).is_err() {
+                thread::sleep(self.clock, left.min(Duration::from_millis(NAP_MILLIS)));
             }
-            left = whole.saturating_sub(start.elapsed(self.clock)?);
         }
         Ok(())
     }
@@ -82,6 +96,9 @@ impl<'a, R: Clock> Link for UdpLink<'a, R> {
     }
 
     fn send(&mut self, bytes: &[u8]) -> Sent {
+        if self.paced.is_none() {
+            self.paced = Instant::now(self.clock).ok();
+        }
         if let Some(dest) = self.dest
             && is_gone(&send_to(&self.socket, bytes, dest))
         {
@@ -96,12 +113,11 @@ impl<'a, R: Clock> Link for UdpLink<'a, R> {
             return;
         }
         let whole = Duration::from_millis(u64::from(millis));
-        if self.drop_for(whole).is_err() {
-            thread::sleep(self.clock, whole);
+        match self.end_of_rest(whole) {
+            Ok(end) if self.drop_until(end).is_ok() => self.paced = Some(end),
+            _ => thread::sleep(self.clock, whole),
         }
-        let _ = self
-            .socket
-            .set_read_timeout(Some(Duration::from_millis(IDLE_MILLIS)));
+        let _ = self.socket.set_nonblocking(false);
     }
 }
 
