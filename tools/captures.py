@@ -10,7 +10,6 @@ Debian the package `time`). What is printed goes to /dev/null. tshark reads the 
 MiB 2^20. Then a capture under each of five carries is carried to each other and back, and is to be the first one again; status 1
 where one isn't.
 """
-import argparse
 import os
 import pathlib
 import shutil
@@ -19,6 +18,7 @@ import sys
 import tempfile
 import time
 
+import command_line
 from datagrams import datagrams, pcap
 
 MIB = 1 << 20
@@ -109,11 +109,11 @@ def to_and_fro(program, folder):
 
 
 def main():
-    words = argparse.ArgumentParser(description=__doc__, formatter_class=argparse.RawDescriptionHelpFormatter)
-    words.add_argument("program")
-    words.add_argument("--mib", type=int, default=1024)
-    words.add_argument("--less", type=int, default=16)
-    words.add_argument("--rounds", type=int, default=3)
+    words = command_line.parser(__doc__)
+    words.add_argument("program", type=command_line.program)
+    words.add_argument("--mib", type=command_line.number(1, 10_000_000), default=1024)
+    words.add_argument("--less", type=command_line.number(1, 10_000_000), default=16)
+    words.add_argument("--rounds", type=command_line.number(1, 10_000_000), default=3)
     words.add_argument("--room", help="where the captures are written for the time of the run")
     given = words.parse_args()
     program = os.path.abspath(given.program)

@@ -11,12 +11,13 @@ counts. What is printed is a table in Markdown, and whether all programs made th
 It ends with 1 if two programs disagree.
 """
 
-import argparse
 import pathlib
 import shutil
 import subprocess
 import sys
 import tempfile
+
+import command_line
 
 TOP = pathlib.Path(__file__).resolve().parent.parent
 
@@ -389,8 +390,8 @@ def processor():
 
 
 def main():
-    parser = argparse.ArgumentParser(description=__doc__, formatter_class=argparse.RawDescriptionHelpFormatter)
-    parser.add_argument("--rounds", type=int, default=3, metavar="N", help="how often each program runs")
+    parser = command_line.parser(__doc__)
+    parser.add_argument("--rounds", type=command_line.number(1, 10_000_000), default=3, metavar="N", help="how often each program runs")
     rounds = parser.parse_args().rounds
     with tempfile.TemporaryDirectory() as temporary:
         folder = pathlib.Path(temporary)

@@ -22,11 +22,12 @@ def datagrams(capture):
         at += size
 
 
-def pcap(path, wanted):
-    """Writes datagrams as UDP over IPv4 into a file that tshark reads."""
+def pcap(path, wanted, millis=1, port=50001):
+    """Writes datagrams as UDP over IPv4 into a file that tshark reads, so many milliseconds apart."""
     with open(path, "wb") as out:
         out.write(struct.pack("<IHHiIII", 0xA1B2C3D4, 2, 4, 0, 0, 65535, 101))
         for number, datagram in enumerate(wanted):
-            udp = struct.pack(">HHHH", 50000, 50001, 8 + len(datagram), 0) + datagram
+            at = number * millis
+            udp = struct.pack(">HHHH", 50000, port, 8 + len(datagram), 0) + datagram
             ip = struct.pack(">BBHHHBBHII", 0x45, 0, 20 + len(udp), number & 0xFFFF, 0, 64, 17, 0, 0x7F000001, 0x7F000001)
-            out.write(struct.pack("<IIII", number // 1000, number % 1000 * 1000, len(ip) + len(udp), len(ip) + len(udp)) + ip + udp)
+            out.write(struct.pack("<IIII", at // 1000, at % 1000 * 1000, len(ip) + len(udp), len(ip) + len(udp)) + ip + udp)

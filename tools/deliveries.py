@@ -7,13 +7,13 @@ a plain capture, and of each packet it's counted what came before it was closed.
 ends with 1 if one differs.
 """
 
-import argparse
 import os
 import random
 import subprocess
 import sys
 import tempfile
 
+import command_line
 from datagrams import check_value
 
 WINDOWS = (1, 2, 3, 4, 8, 64)
@@ -138,11 +138,11 @@ def delivery(shapes, draw):
 
 
 def main():
-    parser = argparse.ArgumentParser(description=__doc__, formatter_class=argparse.RawDescriptionHelpFormatter)
-    parser.add_argument("schedule")
-    parser.add_argument("--program", default="drmcast", help="drmcast, where it isn't told")
-    parser.add_argument("--scripts", type=int, default=20, help="how many scripts of one feed or more; 20")
-    parser.add_argument("--seed", type=int, default=1, help="of the random numbers; 1")
+    parser = command_line.parser(__doc__)
+    parser.add_argument("schedule", type=command_line.file)
+    parser.add_argument("--program", type=command_line.program, default="drmcast", help="drmcast, where it isn't told")
+    parser.add_argument("--scripts", type=command_line.number(1, 10_000_000), default=20, help="how many scripts of one feed or more; 20")
+    parser.add_argument("--seed", type=command_line.number(0, 10_000_000), default=1, help="of the random numbers; 1")
     options = parser.parse_args()
     draw = random.Random(options.seed)
 

@@ -1,8 +1,6 @@
 #!/usr/bin/env python3
 """Refuses each request for memory once: the first one in one run, the second in the next, and so on, until a run makes none more.
 
-    tools/each_allocation.py PROGRAM
-
 PROGRAM is crates/drmcast/out/drmcast. The command lines are of each command but a live receiver, over small inputs that stand
 here. A run in which a request was refused has to end with 1 and its line on standard error, or as with ample memory; what came on
 standard output is a front of the whole text then, and where the command makes its text before it writes, nothing. The requests
@@ -14,6 +12,7 @@ import subprocess
 import sys
 import tempfile
 
+import command_line
 from datagrams import datagrams
 
 SHIM = r"""
@@ -141,9 +140,9 @@ def is_promised(ample, ended, may_begin):
 
 
 def main():
-    if len(sys.argv) != 2:
-        sys.exit(__doc__)
-    program, runs, wrong = os.path.abspath(sys.argv[1]), 0, 0
+    parser = command_line.parser(__doc__)
+    parser.add_argument("program", metavar="PROGRAM", type=command_line.program)
+    program, runs, wrong = parser.parse_args().program, 0, 0
     with tempfile.TemporaryDirectory() as folder:
         for name, content in FILES.items():
             pathlib.Path(folder, name).write_bytes(content)

@@ -1,8 +1,6 @@
 #!/usr/bin/env python3
 """Runs the built program over cases, as a process: words, files, standard input, and links over real sockets.
 
-    tools/edge.py PROGRAM CASES..
-
 PROGRAM is crates/drmcast/out/drmcast, and CASES are files of crates/trials/data (docs/CASES.md). A case is run where a process
 can do what it says: nothing of the outside fails, and no link is idle at a certain answer. Its addresses become ports of
 127.1.2.3, whose four numbers differ. Where silence ends a run, it is a second of it, and a file has no folder in its name.
@@ -18,6 +16,8 @@ import sys
 import tempfile
 import threading
 import time
+
+import command_line
 
 HOST = "127.1.2.3"
 # as /proc/net/udp writes it
@@ -221,10 +221,12 @@ def differences(program, case):
 
 
 def main():
-    if len(sys.argv) < 3:
-        sys.exit(__doc__)
-    program = str(pathlib.Path(sys.argv[1]).resolve())
-    whole = [case for path in sys.argv[2:] for case in cases_of(path)]
+    parser = command_line.parser(__doc__)
+    parser.add_argument("program", metavar="PROGRAM", type=command_line.program)
+    parser.add_argument("cases", metavar="CASES", nargs="+", type=command_line.file)
+    options = parser.parse_args()
+    program = options.program
+    whole = [case for path in options.cases for case in cases_of(path)]
     cases = [case for case in whole if can_run(case)]
     with concurrent.futures.ThreadPoolExecutor(24) as pool:
         found = list(pool.map(lambda case: differences(program, case), cases))

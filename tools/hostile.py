@@ -10,7 +10,6 @@ same) and converted twice, in so many MiB of memory at the most (4; 0 for no bou
 datagrams of this kind as are told go to a receiver over the loopback. Each run has to end within a minute with a status that its
 output calls for. What ends otherwise is named and its capture is kept in the current folder; the status is 1 then.
 """
-import argparse
 import os
 import random
 import re
@@ -21,6 +20,7 @@ import sys
 import tempfile
 import time
 
+import command_line
 from datagrams import check_value, datagrams
 
 PORT = 50227
@@ -235,12 +235,12 @@ def over_a_socket(program, draw, served, count):
 
 
 def main():
-    words = argparse.ArgumentParser(description=__doc__, formatter_class=argparse.RawDescriptionHelpFormatter)
-    words.add_argument("program")
-    words.add_argument("--captures", type=int, default=1000)
-    words.add_argument("--datagrams", type=int, default=100_000)
-    words.add_argument("--seed", type=int, default=1)
-    words.add_argument("--mib", type=int, default=4)
+    words = command_line.parser(__doc__)
+    words.add_argument("program", type=command_line.program)
+    words.add_argument("--captures", type=command_line.number(1, 10_000_000), default=1000)
+    words.add_argument("--datagrams", type=command_line.number(1, 10_000_000), default=100_000)
+    words.add_argument("--seed", type=command_line.number(0, 10_000_000), default=1)
+    words.add_argument("--mib", type=command_line.number(1, 10_000_000), default=4)
     given = words.parse_args()
     program, draw, served = Program(given.program, given.mib << 20), random.Random(given.seed), []
     with tempfile.TemporaryDirectory() as folder:

@@ -10,8 +10,18 @@
 
 set -u
 
+if [ $# -lt 1 ] || [ $# -gt 3 ] || [ "$1" = --help ] || [ "$1" = -h ]; then
+    sed -n '2,/^$/s/^# \{0,1\}//p' "$0"
+    [ $# -ge 1 ] && [ $# -le 3 ]
+    exit
+fi
+if ! command -v "$1" > /dev/null; then
+    echo "loopback.sh: $1 is no program"
+    exit 1
+fi
+
 here=$(cd "$(dirname "$0")" && pwd)
-program=${1:?usage: tools/loopback.sh PROGRAM [SCHEDULE [PACE]]}
+program=$1
 schedule=${2:-$here/../examples/evening.plan}
 pace=${3:-40}
 

@@ -1,8 +1,6 @@
 #!/usr/bin/env python3
 """Runs a receiver to which every request for memory is refused from its first read of the link on.
 
-    tools/no_memory.py PROGRAM [NAME]
-
 PROGRAM is crates/drmcast/out/drmcast, and NAME a schedule, examples/switch.plan if it isn't given. Two receivers of one link
 each are served alike over the loopback: to the second one the C library refuses malloc, calloc, realloc, aligned memory and
 mmap once it has called recv, recvfrom or recvmsg. Their reports must be the same, and whole. It needs gcc and Linux.
@@ -13,6 +11,8 @@ import subprocess
 import sys
 import tempfile
 import time
+
+import command_line
 
 PORT = 50211
 
@@ -67,10 +67,11 @@ def report(program, schedule, port, shim):
 
 
 def main():
-    if not 2 <= len(sys.argv) <= 3:
-        sys.exit(__doc__)
-    program = os.path.abspath(sys.argv[1])
-    schedule = pathlib.Path(sys.argv[2] if len(sys.argv) == 3 else "examples/switch.plan").absolute()
+    parser = command_line.parser(__doc__)
+    parser.add_argument("program", metavar="PROGRAM", type=command_line.program)
+    parser.add_argument("name", metavar="NAME", nargs="?", type=command_line.file, default="examples/switch.plan")
+    options = parser.parse_args()
+    program, schedule = options.program, pathlib.Path(options.name).absolute()
     with tempfile.TemporaryDirectory() as folder:
         source, shim = f"{folder}/shim.c", f"{folder}/shim.so"
         pathlib.Path(source).write_text(SHIM)

@@ -1,67 +1,68 @@
 #!/usr/bin/env python3
-"""Times the rests of `serve --to`: no contract speaks of a clock.
+"""Times the pace of `serve --to`: no contract speaks of a clock.
 
-usage: tools/pace.py PROGRAM [PACE]
-
-Runs PROGRAM (drmcast) with `serve --to 127.0.0.1:PORT --pace PACE` over a schedule of three frames in one datagram
-each, takes the datagrams with a socket of its own, and compares the time between them with PACE milliseconds (200).
-A rest may be late by as much as half of the pace, but not early by more than a tenth. Without a pace the three come
-within that tenth. Ends with status 1 where one doesn't hold.
+It serves a schedule whose frames are one datagram each to a socket of its own, and compares when they came with PACE
+milliseconds a frame, counted from the first. Printed are the mean of a frame, and how early and how late the worst one
+came. Right is a mean within 0.1 ms of PACE, or of what three frames allow, and no frame more than 10 ms off; and without a
+pace, frames that come at once. Else the status is 1. It looks for as long as --seconds says.
 """
 import os
+import pathlib
 import socket
 import subprocess
 import sys
 import tempfile
 import time
 
+import command_line
+
 PLAN = os.path.join(os.path.dirname(os.path.dirname(os.path.abspath(__file__))), "examples", "one-service.plan")
+MOST_OFF_MILLIS = 10
 
 
-def short_plan(folder):
-    """The example with plain packets and one super frame, so that each of its three frames is one datagram."""
-    lines = []
-    with open(PLAN, encoding="utf-8") as text:
-        for line in text:
-            first = line.split(" ")[0]
-            if first == "carry":
-                line = "carry plain\n"
-            elif first == "length":
-                line = "length 1\n"
-            lines.append(line)
+def plain_plan(folder, frames):
+    """The example with plain packets and so many frames, rounded up to super frames."""
+    wanted = {"carry": "carry plain", "length": f"length {(frames + 2) // 3}"}
+    lines = pathlib.Path(PLAN).read_text(encoding="utf-8").splitlines()
     name = os.path.join(folder, "pace.plan")
-    with open(name, "w", encoding="utf-8") as out:
-        out.writelines(lines)
+    pathlib.Path(name).write_text("".join(wanted.get(line.split(" ")[0], line) + "\n" for line in lines), encoding="utf-8")
     return name
 
 
-def gaps(program, plan, pace):
-    """The milliseconds between the datagrams of a run with this pace."""
+def moments(program, plan, pace, frames):
+    """When each frame came, in milliseconds behind the first one."""
     with socket.socket(socket.AF_INET, socket.SOCK_DGRAM) as into:
         into.bind(("127.0.0.1", 0))
-        into.settimeout(10)
+        into.settimeout(30)
         port = into.getsockname()[1]
-        run = subprocess.Popen([program, "serve", plan, "--to", f"127.0.0.1:{port}", "--pace", str(pace)])
-        times = []
-        for _ in range(3):
-            into.recv(65535)
-            times.append(time.monotonic())
-        if run.wait(10) != 0:
-            sys.exit("pace.py: serve ended with a fault")
-    return [round((b - a) * 1000, 1) for a, b in zip(times, times[1:])]
+        with subprocess.Popen([program, "serve", plan, "--to", f"127.0.0.1:{port}", "--pace", str(pace)]) as run:
+            times = []
+            try:
+                for _ in range(frames):
+                    into.recv(65535)
+                    times.append(time.monotonic())
+            except socket.timeout:
+                sys.exit(f"pace.py: after {len(times)} frames nothing came for 30 seconds")
+            finally:
+                run.kill()
+    return [(moment - times[0]) * 1000 for moment in times]
 
 
 def main():
-    if len(sys.argv) < 2:
-        sys.exit(__doc__)
-    program = os.path.abspath(sys.argv[1])
-    pace = int(sys.argv[2]) if len(sys.argv) > 2 else 200
+    parser = command_line.parser(__doc__)
+    parser.add_argument("program", metavar="PROGRAM", type=command_line.program)
+    parser.add_argument("pace", metavar="PACE", nargs="?", type=command_line.number(1, 10_000), default=200, help="milliseconds a frame (200)")
+    parser.add_argument("--seconds", type=command_line.number(1, 86_400), default=2, help="how long to look (2)")
+    options = parser.parse_args()
+    frames = max(3, options.seconds * 1000 // options.pace + 1)
     with tempfile.TemporaryDirectory() as folder:
-        plan = short_plan(folder)
-        rested = gaps(program, plan, pace)
-        at_once = gaps(program, plan, 0)
-    print(f"pace {pace}: {rested} ms between frames; no pace: {at_once} ms")
-    right = all(0.9 * pace <= gap <= 1.5 * pace for gap in rested) and all(gap <= 0.1 * pace for gap in at_once)
+        plan = plain_plan(folder, frames)
+        came = moments(options.program, plan, options.pace, frames)
+        at_once = moments(options.program, plan, 0, 3)
+    off = [moment - k * options.pace for k, moment in enumerate(came)]
+    mean = came[-1] / (frames - 1)
+    print(f"pace {options.pace}: {frames} frames, mean {mean:.3f} ms, earliest {min(off):+.2f} ms, latest {max(off):+.2f} ms; no pace: {at_once[-1]:.1f} ms for 3")
+    right = abs(mean - options.pace) <= max(0.1, MOST_OFF_MILLIS / (frames - 1)) and max(map(abs, off)) <= MOST_OFF_MILLIS and at_once[-1] <= options.pace / 2
     sys.exit(0 if right else "pace.py: not the pace that was asked for")
 
 

@@ -10,7 +10,6 @@ receives in one process; the row behind it is what is left of its time without t
 rows are sessions over the loopback, at an even pace, of two lengths, with the most memory that the receiver held, by GNU time
 (in Debian the package `time`). MB is 10^6 bytes.
 """
-import argparse
 import os
 import pathlib
 import random
@@ -20,6 +19,7 @@ import sys
 import tempfile
 import time
 
+import command_line
 from datagrams import datagrams, pcap
 
 STREAM = 4004
@@ -114,10 +114,10 @@ def session(program, folder, frames):
 
 
 def main():
-    words = argparse.ArgumentParser(description=__doc__, formatter_class=argparse.RawDescriptionHelpFormatter)
-    words.add_argument("program")
-    words.add_argument("--super-frames", type=int, default=2000)
-    words.add_argument("--rounds", type=int, default=3)
+    words = command_line.parser(__doc__)
+    words.add_argument("program", type=command_line.program)
+    words.add_argument("--super-frames", type=command_line.number(1, 10_000_000), default=2000)
+    words.add_argument("--rounds", type=command_line.number(1, 10_000_000), default=3)
     given = words.parse_args()
     program, length, rounds = os.path.abspath(given.program), given.super_frames, given.rounds
     beside = shutil.which("tshark") is not None

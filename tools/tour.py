@@ -12,10 +12,11 @@ in it is left out.
 It prints each command that prints something else, and ends with 1 if there is one.
 """
 
-import argparse
 import re
 import subprocess
 import sys
+
+import command_line
 
 SESSION = re.compile(r"^```\n(\$ .*?)^```$", re.DOTALL | re.MULTILINE)
 END = "--- end of command {} ---"
@@ -47,8 +48,8 @@ def printed(texts, errors):
 
 
 def main():
-    parser = argparse.ArgumentParser(description=__doc__, formatter_class=argparse.RawDescriptionHelpFormatter)
-    parser.add_argument("document")
+    parser = command_line.parser(__doc__)
+    parser.add_argument("document", type=command_line.file)
     parser.add_argument("--stdout", action="store_true", help="compare the standard output alone")
     parser.add_argument("--without", action="append", default=[], metavar="TEXT", help="leave out the blocks with this text")
     options = parser.parse_args()

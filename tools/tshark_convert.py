@@ -1,19 +1,17 @@
 #!/usr/bin/env python3
 """Compares the captures that `convert` writes with what tshark puts together from the same datagrams.
 
-    tools/tshark_convert.py PROGRAM CAPTURE..
-
 PROGRAM is crates/drmcast/out/drmcast, and each CAPTURE a file that `serve` wrote. It is converted to fragments under several
 carries, and each of these and the CAPTURE itself to whole packets. tshark reads the fragments, and the numbers, lengths,
 check values and items of the packets that it puts together have to be those of the whole packets, in order. Where one
 differs it is named, and then the status is 1.
 """
-import os
 import pathlib
 import subprocess
 import sys
 import tempfile
 
+import command_line
 from datagrams import datagrams, pcap
 
 CARRIES = ("pft:0:128", "pft:0:1500", "pft:1:300", "pft:2:1400", "pft:5:1500")
@@ -35,11 +33,13 @@ def packets(capture, folder):
 
 
 def main():
-    if len(sys.argv) < 3:
-        sys.exit(__doc__)
-    program, differ = os.path.abspath(sys.argv[1]), 0
+    parser = command_line.parser(__doc__)
+    parser.add_argument("program", metavar="PROGRAM", type=command_line.program)
+    parser.add_argument("captures", metavar="CAPTURE", nargs="+", type=command_line.file)
+    options = parser.parse_args()
+    program, differ = options.program, 0
     with tempfile.TemporaryDirectory() as folder:
-        for path in sys.argv[2:]:
+        for path in options.captures:
             capture = pathlib.Path(path).read_bytes()
             whole = convert(program, capture, "plain")
             wanted = packets(whole, folder)

@@ -1,18 +1,16 @@
 #!/usr/bin/env python3
 """Compares what `show` prints of captures with what tshark reads in the same bytes, packet by packet.
 
-    tools/tshark_show.py PROGRAM CAPTURE..
-
 PROGRAM is crates/drmcast/out/drmcast, and each CAPTURE a file that `serve` wrote. Of a fragment are compared its byte, the number
 of its packet, its own and their number, its length, its code and its addresses; of an AF packet its byte, number and length,
 whether its check value counts, and the names and lengths of its items. Where tshark finds a check value that differs, `show`
 is to say that the packet is bad. Each packet that differs is named, ten at the most, and then the status is 1.
 """
-import os
 import subprocess
 import sys
 import tempfile
 
+import command_line
 from datagrams import datagrams, pcap
 
 FIELDS = ("dcp-etsi.sync dcp-pft.seq dcp-pft.findex dcp-pft.fcount dcp-pft.len dcp-pft.fec dcp-pft.rsk dcp-pft.rsz dcp-pft.addr "
@@ -90,11 +88,12 @@ def compare(program, path, folder):
 
 
 def main():
-    if len(sys.argv) < 3:
-        sys.exit(__doc__)
+    parser = command_line.parser(__doc__)
+    parser.add_argument("program", metavar="PROGRAM", type=command_line.program)
+    parser.add_argument("captures", metavar="CAPTURE", nargs="+", type=command_line.file)
+    options = parser.parse_args()
     with tempfile.TemporaryDirectory() as folder:
-        program = os.path.abspath(sys.argv[1])
-        sys.exit(sum([compare(program, path, folder) for path in sys.argv[2:]]) > 0)
+        sys.exit(sum([compare(options.program, path, folder) for path in options.captures]) > 0)
 
 
 main()

@@ -1,0 +1,99 @@
+#!/usr/bin/env python3
+"""Explains what is wrong with a schedule: which line it is, what the reason means, and what usually helps.
+
+    tools/explain.py evening.plan
+    tools/explain.py evening.plan --program crates/drmcast/out/drmcast
+
+It asks `drmcast check` for the first fault. docs/SCHEDULE.md has the rules. The status is that of `drmcast`.
+"""
+import re
+import subprocess
+import sys
+
+import command_line
+
+MEANINGS = {
+    "utf8": "The line has bytes that are no UTF-8.",
+    "word": "The first word is none that a line begins with, the number of words is wrong, or a word isn't one of those that may stand there.",
+    "order": "The line stands in the wrong place, or the configuration starts at the wrong super frame.",
+    "number": "A word isn't decimal digits, or isn't as many hexadecimal digits as it should be.",
+    "range": "A number is outside its range, or a label, a name, a list or bytes are too long.",
+    "twice": "The configuration has this setting already.",
+    "missing": "Something that must be there isn't: in a configuration a setting from mode to room, a service, a stream or a block; or one of the first four lines, or the first config line.",
+    "too-long": "A limit is passed: 16 configurations, 4 streams, 64 blocks, 64 entity lines of a block, 262,144 bytes of text, 4,194,304 bytes of a file.",
+    "countdown": "The countdown isn't 0 for the first configuration, or is 0 for a later one, or reaches back before the start before it.",
+    "block": "The first block must be 0. Each later one lies behind the one before it, and before the next configuration starts or the schedule ends.",
+    "occupancy": "Modes C and D have the occupancies 3 and 5 alone.",
+    "hierarchical": "msc 1 and 2 are hierarchical modulation, which isn't carried.",
+    "services": "The services, their audio and app lines and their labels don't agree; in later blocks the audio and app lines are those of the first.",
+    "fit": "There is no room in the SDC: for the entities of this block, or at a config line for the announcement of this configuration in the blocks before it.",
+    "packet-size": "The first frame's packet gets too long for the way that packets are carried.",
+    "content-short": "The file has fewer bytes than the stream takes until the next configuration starts.",
+}
+HELPS = {
+    "word": "Compare the line with the table of docs/SCHEDULE.md. A name or a path with a space in it can't be written.",
+    "order": "The first lines are drmplan, carry, first and length. In version 2 the lines from mode to clock come before the first block, the entity lines behind it.",
+    "number": "Numbers have no sign, no point and no 0x.",
+    "missing": "drmcast names the config line of the configuration in which something is missing.",
+    "countdown": "A later configuration wants a countdown of 1 to 7 super frames.",
+    "fit": "A larger room, shorter labels, fewer entities in the blocks before a start, or a longer countdown.",
+    "packet-size": "Shorter streams, or fewer of them. The first frame's packet has 86 bytes and 3 a stream, room, and of each stream 8 bytes, A and B.",
+    "content-short": "The stream takes A + B bytes a frame, three frames a super frame.",
+    "services": "Each audio service has one audio line with its short id, each data service an app line.",
+}
+
+
+def looks(raw, whole):
+    """What the eye doesn't see in a line, and often is the cause."""
+    found = []
+    if whole.startswith(b"\xef\xbb\xbf"):
+        found.append("The file begins with a byte order mark; save it as UTF-8 without one.")
+    if whole.startswith((b"\xff\xfe", b"\xfe\xff")):
+        found.append("The file is UTF-16; save it as UTF-8.")
+    if raw.endswith(b"\r"):
+        found.append("The line ends with CR and LF, as on Windows; save it with LF alone (dos2unix does it).")
+    if b"\t" in raw:
+        found.append("There is a tab in the line; words are separated by spaces alone.")
+    if b"\xc2\xa0" in raw:
+        found.append("There is a no-break space in the line, which doesn't separate words.")
+    try:
+        raw.decode("utf-8")
+    except UnicodeDecodeError as fault:
+        found.append(f"Byte {fault.start + 1} of the line is 0x{raw[fault.start]:02x}; in Latin-1 it would be {raw.decode('latin-1')[fault.start]!r}. Save the file as UTF-8.")
+    return found
+
+
+def explain(path, number, reason):
+    print(f"{path}, line {number}: {reason}")
+    with open(path, "rb") as file:
+        whole = file.read()
+    lines = whole.split(b"\n")
+    if 1 <= number <= len(lines) and not (number == len(lines) and not lines[-1]):
+        raw = lines[number - 1]
+        print(f"  {raw.decode('utf-8', 'backslashreplace')[:200]}")
+    else:
+        raw = b""
+        print("  (behind the last line)" if number else "  (the whole text)")
+    print(MEANINGS.get(reason, "docs/SCHEDULE.md tells what this reason means."))
+    for text in looks(raw, whole) or ([HELPS[reason]] if reason in HELPS else []):
+        print(text)
+
+
+def main():
+    parser = command_line.parser(__doc__)
+    parser.add_argument("schedule", type=command_line.file)
+    parser.add_argument("--program", type=command_line.program, default="drmcast", help="the program (drmcast, by the path)")
+    options = parser.parse_args()
+    asked = subprocess.run([options.program, "check", options.schedule], stdout=subprocess.DEVNULL, stderr=subprocess.PIPE, text=True, check=False)
+    found = re.search(r"schedule line (\d+): ([a-z0-9-]+)", asked.stderr)
+    if found:
+        explain(options.schedule, int(found.group(1)), found.group(2))
+    elif asked.returncode == 4:
+        print(f"{options.schedule}, or a file that one of its stream lines names, can't be read. Files are looked for from the folder in which drmcast runs.")
+    else:
+        print(asked.stderr.strip() or f"{options.schedule} has no fault.")
+    sys.exit(asked.returncode)
+
+
+if __name__ == "__main__":
+    main()
