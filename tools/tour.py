@@ -1,23 +1,26 @@
 #!/usr/bin/env python3
-"""Runs the shell sessions of a document, and compares what they print with what the document shows.
+"""Runs the shell sessions of documents, and compares what they print with what the documents show.
 
 A session is a block whose first line begins with '$ '. Its lines that begin so are commands, those that begin with '> '
 go on with the command above, and all others are what that one prints, on both outputs; with --stdout on the standard
-output alone. A block runs in one shell, in the current folder, and what its commands write stays there. One that has a TEXT
-in it is left out.
+output alone. A block runs in one shell. All blocks of a document run in a folder of their own, in which the repository's
+own files seem to stand, and which is removed at the end. One that has a TEXT in it is left out.
 
-    tools/tour.py README.md
+    tools/tour.py README.md docs/TOUR.md
     tools/tour.py docs/WIRESHARK.md --stdout --without 'tshark -i' --without 'pace 400'
 
 It prints each command that prints something else, and ends with 1 if there is one.
 """
 
+import pathlib
 import re
 import subprocess
 import sys
+import tempfile
 
 import command_line
 
+TOP = pathlib.Path(__file__).resolve().parent.parent
 SESSION = re.compile(r"^```\n(\$ .*?)^```$", re.DOTALL | re.MULTILINE)
 END = "--- end of command {} ---"
 
@@ -35,11 +38,11 @@ def commands(session):
     return found
 
 
-def printed(texts, errors):
+def printed(texts, errors, folder):
     """What these commands print in one shell, as a list of lines for each."""
     ends = [END.format(k) for k in range(len(texts))]
     script = "".join(f"{text}\necho '{end}'\n" for text, end in zip(texts, ends))
-    shell = subprocess.run(["bash", "-c", script], stdout=subprocess.PIPE, stderr=errors, text=True)
+    shell = subprocess.run(["bash", "-c", script], cwd=folder, stdout=subprocess.PIPE, stderr=errors, text=True, check=False)
     rest, lines = shell.stdout, []
     for end in ends:
         came, _, rest = rest.partition(end + "\n")
@@ -47,29 +50,36 @@ def printed(texts, errors):
     return lines
 
 
+def run(path, options):
+    """Runs the sessions of a document, and gives how many commands printed something else."""
+    errors = subprocess.DEVNULL if options.stdout else subprocess.STDOUT
+    sessions = SESSION.findall(pathlib.Path(path).read_text(encoding="utf-8"))
+    same = other = left_out = 0
+    with tempfile.TemporaryDirectory() as folder:
+        for entry in TOP.iterdir():
+            pathlib.Path(folder, entry.name).symlink_to(entry)
+        for session in sessions:
+            parts = commands(session)
+            if any(text in session for text in options.without):
+                left_out += len(parts)
+                continue
+            for (text, wanted), came in zip(parts, printed([text for text, _ in parts], errors, folder)):
+                if came == wanted:
+                    same += 1
+                    continue
+                other += 1
+                print(f"$ {text}\nis to print\n  " + "\n  ".join(wanted) + "\nand prints\n  " + "\n  ".join(came))
+    print(f"{path}: {same} commands print what it shows, {other} something else; {left_out} left out", flush=True)
+    return other
+
+
 def main():
     parser = command_line.parser(__doc__)
-    parser.add_argument("document", type=command_line.file)
+    parser.add_argument("documents", metavar="DOCUMENT", nargs="+", type=command_line.file)
     parser.add_argument("--stdout", action="store_true", help="compare the standard output alone")
     parser.add_argument("--without", action="append", default=[], metavar="TEXT", help="leave out the blocks with this text")
     options = parser.parse_args()
-    errors = subprocess.DEVNULL if options.stdout else subprocess.STDOUT
-    with open(options.document, encoding="utf-8") as document:
-        sessions = SESSION.findall(document.read())
-    same = other = left_out = 0
-    for session in sessions:
-        parts = commands(session)
-        if any(text in session for text in options.without):
-            left_out += len(parts)
-            continue
-        for (text, wanted), came in zip(parts, printed([text for text, _ in parts], errors)):
-            if came == wanted:
-                same += 1
-                continue
-            other += 1
-            print(f"$ {text}\nis to print\n  " + "\n  ".join(wanted) + "\nand prints\n  " + "\n  ".join(came))
-    print(f"{same} commands print what {options.document} shows, {other} something else; {left_out} left out")
-    return 1 if other else 0
+    return 1 if sum([run(path, options) for path in options.documents]) else 0
 
 
 if __name__ == "__main__":
