@@ -1,7 +1,7 @@
 //! One frame of a schedule, ready to be sent.
 
 ghost use Rattle.std.specs.Prelude.{ℕ, List, ◌≡◌, ◌<◌, ◌≤◌, length, take, true, IfOk};
-ghost use Rattle.dcp_pft.specs.Limits.{most_packet, most_fragments};
+ghost use Rattle.dcp_pft.specs.Limits.{longest_packet, most_packet, most_fragments, most_parity};
 ghost use Rattle.drm_timeline.specs.Numbers as numbers;
 ghost use Rattle.drm_timeline.specs.Numbers.{packet_size};
 ghost use Rattle.drm_server.specs.Frames.{IsPacketAt};
@@ -63,16 +63,30 @@ impl<'a> Loaded<'a> {
     pub fn first(alloc: Global, plan: &'a Schedule) -> Result<Loaded<'a>, NoMemory>
         ensures { IfOk result (λ loaded. loaded ≡ record { plan = plan.now; frame = 0 }) }
     {
-        plan.always_valid();
-        let mut buffer = zeros(alloc, LONGEST_PACKET)?;
-        let mut parity = zeros(alloc, MOST_PARITY)?;
-        let Ok(mut rooms) = Box::new(alloc, Rooms::new()) else {
+        let buffer = zeros(alloc, LONGEST_PACKET)?;
+        let parity = zeros(alloc, MOST_PARITY)?;
+        let Ok(rooms) = Box::new(alloc, Rooms::new()) else {
             return Err(NoMemory);
         };
+        Ok(Loaded::in_room(plan, buffer, parity, rooms))
+    }
+
+    // Frame 0, in room for the longest packet and its parity.
+    fn in_room(
+        plan: &'a Schedule,
+        mut buffer: Vec<u8>,
+        mut parity: Vec<u8>,
+        mut rooms: Box<Rooms>,
+    ) -> Loaded<'a>
+        requires buffer { length buffer.items ≡ longest_packet }
+        requires parity { length parity.items ≡ most_parity }
+        ensures { result ≡ record { plan = plan.now; frame = 0 } }
+    {
+        plan.always_valid();
         let len = write_packet(plan, 0, &mut buffer, &mut rooms);
         let cut = cut_for(plan.carry(), len);
         write_parity(&buffer[..len], cut, &mut parity);
-        Ok(Loaded {
+        Loaded {
             plan,
             frame: 0,
             buffer,
@@ -80,7 +94,7 @@ impl<'a> Loaded<'a> {
             cut,
             parity,
             rooms,
-        })
+        }
     }
 
     /// How many frames the schedule has.

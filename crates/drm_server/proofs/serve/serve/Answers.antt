@@ -1,6 +1,7 @@
-use Rattle.std.proofs.Common.{◌≡◌, ◌∙◌, ◌+◌, ℕ, List, ◌++◌, length, take, ap, subst, arith, length-append}
+use Rattle.std.proofs.Common.{◌≡◌, ◌≤◌, ◌∙◌, ◌+◌, ℕ, List, ◌++◌, length, take, ap, subst, arith, length-append}
 use Rattle.std.proofs.lemmas.Result.{err_from_is_err_and}
 use Rattle.drm_schedule.specs.declared.plan.Plan.{Plan}
+use Rattle.dcp_pft.specs.Limits.{most_packet}
 use Rattle.drm_links.specs.Sink.{Outputs}
 use Rattle.drm_timeline.specs.Numbers.{frame_count}
 use Rattle.drm_server.specs.Serving.{Serving}
@@ -40,7 +41,7 @@ loop-t-preserved g c =
       next_frame plan t i.0 w.0 i.1 w.1,
       gathers_frame i.0 w.0 then_waits waits (g.O.Sink.known c.args.out.now) (g.O.Sink.known c.loop-t.out) (g.O.Sink.known c.gather_frame.new.out) i.2 w.2,
       (λ some. one_or_more plan t w.1.0 (omega (arith, c.loop-t-test.true, c.frames-t-end.ensures.frames)) (omega (arith, count, c.fragments.ensures.some)) i.0 w.0 i.1 w.1.2),
-      c.in_ok-waiting.ensures.left,
+      subst (λ (p : Plan). c.in_ok-waiting.waiting + most_packet p.carry ≤ length c.gather_frame.new.room) (ap (λ (s : Serving). s.plan) c.load.ensures ∙ i.7) c.in_ok-waiting.ensures.left,
       c.gather_frame.ensures.long ∙ i.5,
       omega (arith, i.6, c.gather_frame.ensures.cause.later),
       ap (λ (s : Serving). s.plan) c.load.ensures ∙ i.7,
