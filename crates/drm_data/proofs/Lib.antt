@@ -1,0 +1,5 @@
+pub mod Heads
+pub mod Spellings
+pub mod Answered
+pub mod UnitPackets
+pub mod Joinings

@@ -1,0 +1,11 @@
+-- What a call that lends a unit leaves.
+use Rattle.std.specs.Prelude.{◌≡◌, ℕ, List}
+use Rattle.std.specs.Borrow.{MutBor, Fml}
+use Rattle.std.specs.Io.BufRead.{Rests}
+use Rattle.drm_data.specs.Joining.{State, Event, Reads, after}
+use Rattle.drm_data.specs.contracts.joiner.Joiner.{the_row}
+
+-- the joiner after the event that these bytes are
+abbrev pub Joins : List ℕ → MutBor State → Fml
+Joins bytes joiner =
+    Rests the_row joiner (λ left. (event : Event) → Reads joiner.now.length bytes event → left ≡ after joiner.now event)

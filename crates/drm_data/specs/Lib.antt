@@ -1,0 +1,8 @@
+pub mod Packet
+pub mod Faults
+pub mod Reading
+pub mod Units
+pub mod Writing
+pub mod Joining
+pub mod Room
+pub mod Lending

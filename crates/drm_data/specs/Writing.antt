@@ -1,0 +1,27 @@
+-- What a packer writes.
+use Rattle.std.specs.Prelude.{ℕ, ◌-◌, ◌<◌, ◌≤◌, List, length, replicate}
+use Rattle.drm_data.specs.Packet.{Packet, Spells}
+use Rattle.drm_data.specs.Units.{next_continuity}
+
+-- the bytes are this packet, with zeros in what isn't read
+abbrev pub IsWritten : ℕ → Packet → List ℕ → Type 0
+IsWritten d p bytes = (check : ℕ) × Spells d p (replicate (d - 1 - length p.useful) 0) check bytes
+
+-- a packet that has a spelling
+pub record Fits (d : ℕ) (p : Packet) : Type 0 where
+  pub id : p.id < 4
+  pub continuity : p.continuity < 8
+  pub useful : length p.useful ≤ d
+
+-- a packer: its packet id, its data length, and the continuity of its next packet
+pub record Packing : Type 0 where
+  pub id : ℕ
+  pub length : ℕ
+  pub continuity : ℕ
+
+abbrev pub new_packer : ℕ → ℕ → Packing
+new_packer id d = record { id = id; length = d; continuity = 0 }
+
+-- after one packet
+abbrev pub after_packet : Packing → Packing
+after_packet p = record p { continuity = next_continuity p.continuity }

@@ -1,0 +1,82 @@
+//! Packets become units again.
+
+ghost use Rattle.std.specs.Prelude.{◌≡◌, ◌<◌, ◌≤◌, IfOk, is_some};
+ghost use Rattle.std.specs.Borrow.{sem};
+ghost use Rattle.drm_data.specs.Joining.{made, closed, Takes};
+ghost use Rattle.drm_data.specs.Lending.{Joins};
+
+use crate::room::{Step, UnitRoom};
+use crate::{Joined, read_packet};
+use drm_bits::NoMemory;
+use std::alloc::Global;
+use std::marker::Model;
+
+/// Joins the packets of one id to units. What it needs of memory it takes when it is made.
+#[derive(Drop)]
+pub struct Joiner {
+    id: u8,
+    length: u8,
+    room: UnitRoom,
+}
+
+impl Model for Joiner {
+    ghost use Rattle.drm_data.specs.Joining.{State};
+    ghost use Rattle.drm_data.specs.Room.{state, IsSound};
+
+    ghost Value = { State };
+
+    ghost view = { state };
+
+    ghost invariant = { IsSound };
+}
+
+impl Joiner {
+    /// A joiner for packets of this id with data fields of `length` bytes.
+    pub fn make(alloc: Global, id: u8, length: u8) -> Result<Joiner, NoMemory>
+        requires id { id < 4 }
+        requires length { 1 ≤ length }
+        ensures { IfOk result (λ joiner. joiner ≡ made id length) }
+    {
+        let room = UnitRoom::make(alloc)?;
+        Ok(Joiner { id, length, room })
+    }
+
+    /// Takes the bytes of the next packet.
+    pub fn packet(&mut self, bytes: &[u8]) -> Joined<'_>
+        ensures takes { Takes self.old bytes.now result }
+        ensures* after { sem 𝓛 (Joins bytes.now self.entry) }
+    {
+        let packet = match read_packet(bytes, self.length) {
+            Ok(packet) => packet,
+            Err(fault) => {
+                let cut = self.room.close();
+                return Joined::Refused { fault, cut };
+            }
+        };
+        if packet.id != self.id {
+            return Joined::Nothing;
+        }
+        match self.room.join(&packet) {
+            Step::Nothing => Joined::Nothing,
+            Step::Unit(len) => Joined::Unit(self.room.front(len)),
+            Step::Cut => Joined::Cut,
+            Step::CutUnit(len) => Joined::CutUnit(self.room.front(len)),
+        }
+    }
+
+    /// Something is missing here. Answers whether a unit was open, which is cut.
+    pub fn gap(&mut self) -> bool
+        ensures cut { result ≡ is_some self.old.begun }
+        ensures after { self.new ≡ closed self.old }
+    {
+        self.room.close()
+    }
+
+    /// Nothing more comes. Answers whether a unit was open, which is cut.
+    pub fn end(&mut self) -> bool
+        ensures cut { result ≡ is_some self.old.begun }
+        ensures after { self.new ≡ closed self.old }
+    {
+        self.room.close()
+    }
+}
