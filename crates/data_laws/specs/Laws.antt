@@ -1,0 +1,58 @@
+-- The laws of joining packets.
+use Rattle.std.specs.Prelude.{ℕ, ◌≡◌, ◌+◌, ◌<◌, ◌≤◌, ◌↔◌, Bool, true, List, [], ◌∷◌, ◌++◌, length, Option, Some, None, is_some}
+use Rattle.std.specs.List.{AllByRecursion}
+use Rattle.std.specs.Int.{from_bool}
+use Rattle.drm_data.specs.Packet.{Packet}
+use Rattle.drm_data.specs.Units.{packets}
+use Rattle.drm_data.specs.Joining.{Event, Reads, State, made, answer}
+use Rattle.data_laws.specs.Readings.{AreEvents, IsOpen, Ends, AreUnits, Cuts}
+use Rattle.data_laws.specs.Runs.{answers, after_all, unit_in, tells_cut, units_in, cuts_in, begun_count}
+use Rattle.data_laws.specs.Losses.{IsUnit, kept_of, whole_units, cut_count}
+
+-- bytes are one event
+abbrev pub OneEvent : Type 0
+OneEvent = (d : ℕ) (bytes : List ℕ) (first second : Event) → Reads d bytes first → Reads d bytes second → first ≡ second
+
+-- Of every reading a joiner gives the units that are in it, and no others.
+abbrev pub JoinsUnits : Type 0
+JoinsUnits =
+    (id d : ℕ) (reading : List (Option (List ℕ))) (events : List Event) (units : List (List ℕ))
+    → d < 256 → AreEvents d reading events
+    → AreUnits id [] events units ↔ (units ≡ units_in (answers (made id d) events))
+
+-- In every reading, at each event: a joiner gives a unit exactly where the event ends one, and tells a cut exactly where a unit was
+-- open and the event cuts it.
+pub record AnswersRight (id : ℕ) (before : List Event) (s : State) (e : Event) : Type 0 where
+  pub unit : (unit : List ℕ) → (unit_in (answer s e) ≡ Some unit) ↔ Ends id before e unit
+  pub cut : (tells_cut (answer s e) ≡ true) ↔ ((ps : List Packet) × IsOpen id before ps × Cuts id ps e)
+
+abbrev pub AnswersEach : Type 0
+AnswersEach =
+    (id d : ℕ) (reading : List (Option (List ℕ))) (before more : List Event) (e : Event)
+    → d < 256 → AreEvents d reading (before ++ e ∷ more)
+    → AnswersRight id before (after_all (made id d) before) e
+
+-- At each place of every reading a joiner has a unit open exactly where one is open.
+abbrev pub KnowsOpen : Type 0
+KnowsOpen =
+    (id d : ℕ) (reading : List (Option (List ℕ))) (events : List Event)
+    → d < 256 → AreEvents d reading events
+    → (is_some (after_all (made id d) events).begun ≡ true) ↔ ((ps : List Packet) × IsOpen id events ps)
+
+-- In every reading each unit that is begun is given, or its cut is told, once; but for the one that is open at the end.
+abbrev pub TellsEachOnce : Type 0
+TellsEachOnce =
+    (id d : ℕ) (events : List Event)
+    → begun_count id events
+    ≡ length (units_in (answers (made id d) events)) + cuts_in (answers (made id d) events)
+    + from_bool (is_some (after_all (made id d) events).begun)
+
+-- Of the packets of units, some of which are lost with a gap in place of each, a joiner gives exactly the units of which none is lost,
+-- and tells one cut for each other unit whose first packet came. At the end no unit is open.
+abbrev pub GivesWhatIsWhole : Type 0
+GivesWhatIsWhole =
+    (id d : ℕ) (units : List (List ℕ)) (kept : List Bool)
+    → 1 ≤ d → AllByRecursion IsUnit units → length kept ≡ length (packets id d units)
+    → (units_in (answers (made id d) (kept_of kept (packets id d units))) ≡ whole_units d kept units)
+    × (cuts_in (answers (made id d) (kept_of kept (packets id d units))) ≡ cut_count d kept units)
+    × ((after_all (made id d) (kept_of kept (packets id d units))).begun ≡ None)
