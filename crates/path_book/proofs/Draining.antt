@@ -1,0 +1,88 @@
+-- All that is ready is given, and its lines are written.
+use Rattle.std.proofs.Common.{◌≡◌, ℕ, ◌+◌, ◌<◌, ◌≤◌, ◌^◌, nat_le, min, Bool, true, false, if◌then◌else◌, List, [], ◌∷◌, ◌++◌, Option, None, Some, IsSome, refl, sym, ◌∙◌, ap, subst, arith}
+use Rattle.drm_links.specs.Told.{Known, BothTold, ToldThrough, Tells}
+use Rattle.drm_links.specs.Sink.{Output, Outputs, WritesText}
+use Rattle.dcp_collect.specs.State.{State, ready, after_item, after_next}
+use Rattle.dcp_collect.specs.Runs.{Item, IsItem, Gives}
+use Rattle.collect_laws.proofs.Runs.{Given, given_more, given_all}
+use Rattle.drm_switches.specs.Tracker.{TrackerState}
+use Rattle.mod_receiver.specs.declared.text.Text.{Text}
+use Rattle.mod_receiver.specs.Texts.{text_known}
+use Rattle.mod_receiver.specs.Reports.{steps_text}
+use Rattle.mod_receiver.specs.Tallies.{Tallied}
+use Rattle.mod_receiver.specs.Printed.{items_in, is_full, steps_before, KeepsPace}
+use Rattle.mod_receiver.proofs.Printing.{Drained, prints_then, prints_full}
+use Rattle.path_book.specs.Lines.{PrintsAll, WritesAll}
+
+is_next : (d e : State) → ready d ≡ true → e ≡ after_next d → e ≡ after_item d
+is_next d e r n = n ∙ rw r refl
+
+pace_past : (told : Option ℕ) (next n : ℕ) → n ≡ steps_before told next → is_full told n ≡ true → n ≡ steps_before told (next + 1)
+pace_past None next n e full = absurd (let x : false ≡ true = full in cc)
+pace_past (Some told) next n e full =
+    let p : n ≡ min next told = e in
+    let l : told ≤ n = within told n full in
+    omega (arith, p, l)
+  where
+    within : (told n : ℕ) → nat_le told n ≡ true → told ≤ n
+    within told n e = grind arith
+
+-- an item past the told number isn't written
+pub drained_past : (told : Option ℕ) (c d e : State) (f g : TrackerState) (t u : Tallied) (a b : Known Output) (items : List Item) (item : Item)
+    → Drained told c d f g t u a b items → ready d ≡ true → IsItem d item → e ≡ after_next d → is_full told (items_in u.sums) ≡ true
+    → Drained told c e f g t u a b (items ++ item ∷ [])
+drained_past told c d e f g t u a b items item i r is n full =
+    let after : e ≡ after_item d = is_next d e r n in
+    let full' : is_full told g.calls ≡ true = ap (is_full told) (sym i.pace.items) ∙ full in
+    record {
+      given = subst (λ m. Given c (items ++ item ∷ []) m) (sym after) (given_more items c d item i.given r is);
+      prints = prints_then told f g g t u u a b b items (item ∷ []) i.prints (prints_full told g u b (item ∷ []) full');
+      pace = record {
+        calls = pace_past told d.next g.calls i.pace.calls full' ∙ ap (λ (m : State). steps_before told m.next) (sym after);
+        items = i.pace.items;
+      };
+    }
+
+-- nothing more is ready
+pub drained_all : (told : Option ℕ) (c d e : State) (f g : TrackerState) (t u : Tallied) (a b : Known Output) (items : List Item)
+    → Drained told c d f g t u a b items → ready d ≡ false → e ≡ after_next d → PrintsAll told c e f g t u a b
+drained_all told c d e f g t u a b items i r n =
+    let same : e ≡ d = n ∙ rw r refl in
+    record {
+      items = items;
+      gives = subst (λ m. Gives c items m) (sym same) (given_all items c d i.given r);
+      prints = i.prints;
+    }
+
+-- it is then as it was
+pub pace_still : (told : Option ℕ) (d e : State) (f : TrackerState) (t : Tallied) → KeepsPace told d f t → ready d ≡ false → e ≡ after_next d → KeepsPace told e f t
+pace_still told d e f t pace r n = subst (λ m. KeepsPace told m f t) (sym (n ∙ rw r refl)) pace
+
+-- ---- lines in memory
+
+text_if : (P : List ℕ → Type 0) (first : Option Output) (told : Bool) (o : Output) → ToldThrough first (if told then Some o else None) (WritesText P) → first ≡ Some (record { written = []; calls = 0 })
+    → IsSome (if told then Some o else None) → P o.written
+text_if P None true o writes is some = absurd (cc)
+text_if P (Some x) true o writes is some =
+    let same : x ≡ record { written = []; calls = 0 } = cc in
+    let written : o.written ≡ writes.0 = writes.1 ∙ ap (λ (u : Output). u.written ++ writes.0) same in
+    subst P (sym written) writes.2
+text_if P first false o writes is some = absurd (cc)
+
+-- what a text that was new has
+pub text_written : (P : List ℕ → Type 0) (first : Known Output) (text : Text) → Outputs first (text_known text) P → first.told ≡ Some (record { written = []; calls = 0 })
+    → IsSome (text_known text).told → P text.bytes.items
+text_written P first text writes is some = text_if P first.told (nat_le text.calls (2 ^ 62)) (record { written = text.bytes.items; calls = text.calls }) writes is some
+
+-- its lines behind another text
+pub written_behind : (told : Option ℕ) (c d : State) (f g : TrackerState) (t u : Tallied) (first : Known Output) (lines : Text) (text after : List ℕ)
+    → PrintsAll told c d f g t u first (text_known lines) → first.told ≡ Some (record { written = []; calls = 0 }) → IsSome (text_known lines).told
+    → after ≡ text ++ lines.bytes.items → WritesAll told c d f g t u text after
+written_behind told c d f g t u first lines text after p new some is = record {
+  items = p.items;
+  gives = p.gives;
+  steps = p.prints.steps;
+  feeds = p.prints.feeds;
+  counts = p.prints.tally;
+  text_is = is ∙ ap (λ l. text ++ l) (text_written (λ x. x ≡ steps_text p.prints.steps) first lines p.prints.text new some);
+}

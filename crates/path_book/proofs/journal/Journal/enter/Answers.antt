@@ -1,0 +1,60 @@
+use Rattle.std.proofs.Common.{◌≡◌, ℕ, ◌<◌, ◌^◌, ◌++◌, ◌∷◌, [], false, List, length, map, OnOk, OnErr, is_err, sym, ◌∙◌, ap, subst, arith}
+use Rattle.std.proofs.lemmas.List.{length-map}
+use Rattle.collect_laws.proofs.Fit.{fit_taken}
+use Rattle.dcp_collect.specs.State.{State}
+use Rattle.mod_receiver.proofs.Taking.{pace_taken, takes_end}
+use Rattle.path_book.specs.Journal.{JournalState, entry_of, datagrams, IsKept, Enters}
+use Rattle.path_book.specs.Sound.{IsOpen}
+use Rattle.path_book.proofs.Keeping.{refused_few, as_many, entered, enters, goes_on, quiet_then}
+use Rattle.path_book.proofs.journal.Journal.enter.Goals as goal
+
+pub note-requires : goal.note-requires
+note-requires c =
+    let j = c.self.inside in
+    let es = map entry_of j.entries.items in
+    let few = refused_few j.settings (datagrams es) j.collector j.feed j.counts j.text.items (c.self.invariant.kept.whole c.if-self.false) in
+    let many = as_many es in
+    let size : length es ≡ length j.entries.items = length-map j.entries.items entry_of in
+    let is = c.len.ensures in
+    let least = c.if-len-ge-MOST_ENTRIES.false in
+    let ok = j.entries.ok in
+    omega (arith, few, many, size, is, least, ok)
+
+pub write_ready-written-requires-clause-fit : goal.write_ready-written-requires-clause-fit
+write_ready-written-requires-clause-fit c =
+    fit_taken c.self.inside.collector c.take-taken.new.self c.args.datagram.now c.take-taken.result (λ k. (c.type_inv.datagram k).fits) c.take-taken.ensures.takes (c.self.invariant.goes_on c.if-self.false).fit
+
+pub invariant_of-self-2 : goal.invariant_of-self-2
+invariant_of-self-2 c =
+    let j = c.self.inside in
+    let w = c.write_ready-written.new in
+    let r = c.write_ready-written.result in
+    let es = map entry_of j.entries.items in
+    let number : c.len-number.result ≡ length es = (let is = c.len-number.ensures in let ok = j.entries.ok in let size : length es ≡ length j.entries.items = length-map j.entries.items entry_of in omega (arith, is, ok, size)) in
+    let open_ = c.self.invariant.goes_on c.if-self.false in
+    let fit = fit_taken j.collector c.take-taken.new.self c.args.datagram.now c.take-taken.result (λ k. (c.type_inv.datagram k).fits) c.take-taken.ensures.takes open_.fit in
+    let s : JournalState = record { entries = map entry_of c.push_entry.new.entries.items; settings = j.settings; collector = w.collector; feed = w.feed; tally = w.counts; text = w.text.items; stopped = c.is_err-self-inside.result } in
+    let kept = entered j.settings es (map entry_of c.push_entry.new.entries.items) c.args.path c.args.datagram.now j.collector c.take-taken.new.self w.collector j.feed w.feed j.counts c.note.new.self w.counts j.text.items w.text.items c.take-taken.result c.len-number.result
+    (c.self.invariant.kept.whole c.if-self.false) c.in-Ok.ensures.pushed number c.take-taken.ensures.takes c.note.ensures r fit c.write_ready-written.ensures.written c.write_ready-written.ensures.none in
+    record {
+      range = c.self.invariant.range;
+      kept = subst (λ b. IsKept (record s { stopped = b })) (sym c.is_err-self-inside.ensures.value) kept;
+      goes_on = goes_on s r c.is_err-self-inside.ensures.value c.write_ready-written.ensures.fit c.write_ready-written.ensures.pace
+          (c.write_ready-written.ensures.end ∙ takes_end j.collector c.take-taken.new.self c.args.datagram.now c.take-taken.result c.take-taken.ensures.takes ∙ open_.unfinished)
+          (quiet_then r j.settings.frames c.take-taken.new.self w.collector j.feed w.feed c.note.new.self w.counts j.text.items w.text.items c.write_ready-written.ensures.written);
+    }
+
+pub returns-clause-took : goal.returns-clause-took
+returns-clause-took c =
+    let j = c.self.inside in
+    let w = c.write_ready-written.new in
+    let r = c.write_ready-written.result in
+    let es = map entry_of j.entries.items in
+    let s : JournalState = record { entries = map entry_of c.push_entry.new.entries.items; settings = j.settings; collector = w.collector; feed = w.feed; tally = w.counts; text = w.text.items; stopped = c.is_err-self-inside.result } in
+    let number : c.len-number.result ≡ length es = (let is = c.len-number.ensures in let ok = j.entries.ok in let size : length es ≡ length j.entries.items = length-map j.entries.items entry_of in omega (arith, is, ok, size)) in
+    let before : JournalState = record { entries = es; settings = j.settings; collector = j.collector; feed = j.feed; tally = j.counts; text = j.text.items; stopped = false } in
+    let after = enters j.settings es (map entry_of c.push_entry.new.entries.items) c.args.path c.args.datagram.now j.collector c.take-taken.new.self w.collector j.feed w.feed j.counts c.note.new.self w.counts j.text.items w.text.items c.take-taken.result c.len-number.result
+    (c.self.invariant.kept.whole c.if-self.false) c.in-Ok.ensures.pushed number c.take-taken.ensures.takes c.note.ensures r c.write_ready-written.ensures.written c.write_ready-written.ensures.none in
+    let was : before ≡ c.args.self.now = ap (λ b. record before { stopped = b }) (sym c.if-self.false) ∙ c.self.view_is in
+    subst (λ (x : JournalState). Enters x (c.args.path, c.args.datagram.now) c.take-taken.result s) was
+    (subst (λ b. Enters before (c.args.path, c.args.datagram.now) c.take-taken.result (record s { stopped = b })) (sym c.is_err-self-inside.ensures.value) after)

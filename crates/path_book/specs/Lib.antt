@@ -1,0 +1,5 @@
+pub mod Report
+pub mod Lines
+pub mod Journal
+pub mod Sound
+pub mod Took

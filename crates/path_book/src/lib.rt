@@ -1,0 +1,14 @@
+//! The datagrams that come over several paths as one journal, and its report, which grows with it.
+#![tactic(auto)]
+
+mod counts;
+mod ending;
+mod event;
+mod journal;
+mod lines;
+mod settings;
+
+pub use ending::Ending;
+pub use event::Event;
+pub use journal::{Entry, Journal};
+pub use settings::Settings;
