@@ -21,5 +21,5 @@ pub use report_laws::{in_time_is_unbroken, laws_of_deliveries, reports_follow};
 pub use rules::Rules;
 pub use settling::settle;
 pub use stop::Stop;
-pub use tally::Refusal;
+pub use tally::{Refusal, Tally};
 pub use text::Text;

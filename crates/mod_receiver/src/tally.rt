@@ -34,7 +34,7 @@ const MOST_SHOWN: usize = 16;
 
 /// What a report tells behind its items. All memory that a report wants is taken where it is made.
 #[derive(Drop)]
-pub(crate) struct Tally {
+pub struct Tally {
     sums: Sums,
     // The last refusals.
     refused: HeapCircularBuffer<Refusal>,

@@ -8,8 +8,8 @@ ghost use Rattle.mod_receiver.specs.Reports.{refused_text};
 ghost use Rattle.drm_links.specs.Told.{HasCause};
 ghost use Rattle.drm_links.specs.Sink.{Outputs, IsFront};
 
-use crate::counts::Counts;
 use drm_links::{Sink, WriteFault, write_all};
+use mod_receiver::Tally;
 use report_lines::EndWord;
 use std::marker::Model;
 
@@ -18,7 +18,7 @@ use std::marker::Model;
 pub struct Ending {
     // The first line, and those of the items.
     text: Vec<u8>,
-    counts: Counts,
+    counts: Tally,
     word: EndWord,
     clean: bool,
 }
@@ -43,7 +43,7 @@ impl Model for Ending {
 
 impl Ending {
     // The report of a text so far, of what is counted, and of why it ends.
-    pub(crate) fn new(text: Vec<u8>, counts: Counts, word: EndWord) -> Ending
+    pub(crate) fn new(text: Vec<u8>, counts: Tally, word: EndWord) -> Ending
         requires { AllByRecursion (λ r. IsTold r.taken) counts.refused }
         ensures text { result.text ≡ text.items ++ (refused_text counts.refused ++ end_line word counts.sums) }
         ensures clean { IsTrue result.clean ↔ ((counts.sums.missing ≡ 0) × (counts.sums.bad ≡ 0)) }

@@ -8,13 +8,12 @@ ghost use Rattle.path_book.specs.Report.{IsReportOf, word_for};
 ghost use Rattle.path_book.specs.Took.{IfTook};
 ghost use Rattle.path_book.specs.declared.event.Event.{Event};
 
-use crate::counts::Counts;
 use crate::lines::{is_full, write_ready};
 use crate::{Ending, Event, Settings};
 use dcp_collect::Collector;
 use drm_bits::NoMemory;
 use mod_feed::Feed;
-use mod_receiver::Text;
+use mod_receiver::{Tally, Text};
 use report_lines::{EndWord, write_feed};
 use std::alloc::Global;
 use std::marker::Model;
@@ -34,7 +33,7 @@ pub struct Journal {
     settings: Settings,
     collector: Collector,
     feed: Feed,
-    counts: Counts,
+    counts: Tally,
     // The first line, and those of the items so far.
     text: Vec<u8>,
     stopped: bool,
@@ -61,7 +60,7 @@ impl Journal {
         ensures { IfOk result (λ journal. journal ≡ new_journal settings) }
     {
         let collector = Collector::make(alloc, settings.window, settings.first)?;
-        let counts = Counts::new(alloc)?;
+        let counts = Tally::new(alloc)?;
         let text = first_line(alloc)?;
         Ok(Journal {
             entries: Vec::new(alloc),
@@ -170,7 +169,7 @@ fn push_entry(
 }
 
 // Why a report ends where so much is counted.
-fn word_for(counts: &Counts, told: Option<u64>) -> EndWord
+fn word_for(counts: &Tally, told: Option<u64>) -> EndWord
     requires { IfSome told (λ _. items_in counts.now.sums < 2 ^ 63) }
     ensures { result ≡ word_for told (items_in counts.now.sums) }
 {

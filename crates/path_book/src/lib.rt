@@ -1,7 +1,6 @@
 //! The datagrams that come over several paths as one journal, and its report, which grows with it.
 #![tactic(auto)]
 
-mod counts;
 mod ending;
 mod event;
 mod journal;

@@ -5,17 +5,16 @@ ghost use Rattle.collect_laws.specs.Laws.{IsFit};
 ghost use Rattle.mod_receiver.specs.Printed.{items_in, is_full, KeepsPace};
 ghost use Rattle.path_book.specs.Lines.{PrintsAll, WritesAll};
 
-use crate::counts::Counts;
 use dcp_collect::Collector;
 use drm_bits::NoMemory;
 use drm_links::{Sink, WriteFault};
 use mod_feed::Feed;
-use mod_receiver::Text;
+use mod_receiver::{Tally, Text};
 use report_lines::write_step;
 use std::alloc::Global;
 
 /// Whether the told number of items was given.
-pub(crate) fn is_full(counts: &Counts, told: Option<u64>) -> bool
+pub(crate) fn is_full(counts: &Tally, told: Option<u64>) -> bool
     requires { IfSome told (λ _. items_in counts.now.sums < 2 ^ 63) }
     ensures { result ≡ is_full told (items_in counts.now.sums) }
 {
@@ -29,7 +28,7 @@ pub(crate) fn is_full(counts: &Counts, told: Option<u64>) -> bool
 fn drain<O: Sink>(
     collector: &mut Collector,
     feed: &mut Feed,
-    counts: &mut Counts,
+    counts: &mut Tally,
     told: Option<u64>,
     out: &mut O,
 ) -> Result<(), WriteFault>
@@ -59,7 +58,7 @@ pub(crate) fn write_ready(
     alloc: Global,
     collector: &mut Collector,
     feed: &mut Feed,
-    counts: &mut Counts,
+    counts: &mut Tally,
     told: Option<u64>,
     text: &mut Vec<u8>,
 ) -> Result<(), NoMemory>
