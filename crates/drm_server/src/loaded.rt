@@ -137,6 +137,7 @@ impl<'a> Loaded<'a> {
         ensures packet { IsPacketAt self.now.plan self.now.frame result.now }
         ensures len { length result.now ≡ packet_size self.now.plan self.now.frame }
         ensures small { length result.now ≤ most_packet self.now.plan.carry }
+        ensures within { length result.now ≤ longest_packet }
     {
         &self.buffer[..self.len]
     }
@@ -168,6 +169,7 @@ impl<'a> Loaded<'a> {
         requires room { most_packet self.now.plan.carry ≤ length into.old }
         ensures datagram { IsDatagramAt self.now.plan self.now.frame i (take result into.new) }
         ensures small { result ≤ most_packet self.now.plan.carry }
+        ensures within { result ≤ longest_packet }
         ensures long { length into.new ≡ length into.old }
     {
         let packet = &self.buffer[..self.len];

@@ -2,7 +2,7 @@
 
 ghost use Rattle.std.specs.Prelude.{◌≡◌, ◌<◌, ◌≤◌, length, IfOk, OnOk, OnErr, IsErr};
 ghost use Rattle.std.specs.Borrow.{sem};
-ghost use Rattle.dcp_pft.specs.Limits.{most_packet, most_fragments};
+ghost use Rattle.dcp_pft.specs.Limits.{longest_packet, most_packet, most_fragments};
 ghost use Rattle.drm_timeline.specs.Numbers.{frame_count, packet_size};
 ghost use Rattle.drm_server.specs.Frames.{IsPacketAt};
 ghost use Rattle.drm_server.specs.Datagrams.{HasDatagrams, HasDatagram, IsDatagramAt};
@@ -86,6 +86,7 @@ impl<'a> Server<'a> {
         ensures packet { IsPacketAt self.now.plan self.now.frame result.now }
         ensures len { length result.now ≡ packet_size self.now.plan self.now.frame }
         ensures small { length result.now ≤ most_packet self.now.plan.carry }
+        ensures within { length result.now ≤ longest_packet }
     {
         self.loaded.packet()
     }
@@ -105,6 +106,7 @@ impl<'a> Server<'a> {
         ensures* after { sem 𝓛 (Stays self.entry) }
         ensures datagram { IsDatagramAt self.old.plan self.old.frame i result.now }
         ensures small { length result.now ≤ most_packet self.old.plan.carry }
+        ensures within { length result.now ≤ longest_packet }
     {
         if self.loaded.is_whole() {
             return self.loaded.packet();

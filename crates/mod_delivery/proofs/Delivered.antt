@@ -11,6 +11,7 @@ use Rattle.dcp_collect.specs.Runs.{Item as Collected, Packet, Lost}
 use Rattle.dcp_collect.specs.Numbers.{end_of}
 use Rattle.dcp_pft.specs.declared.carry.Carry.{Carry}
 use Rattle.dcp_pft.specs.Carrying.{shape_under}
+use Rattle.dcp_pft.proofs.Carried.{limit_is}
 use Rattle.collect_laws.specs.Delivery.{got, number, is_number, is_at_least, packet_at, item_by, item, items, newest_of}
 use Rattle.collect_laws.specs.Laws.{IsHeard, Collecting}
 use Rattle.dcp_collect.proofs.Sets.{recoverable_same, size_same}
@@ -103,7 +104,7 @@ module _ (plan : Plan) (is : IsSchedule plan) (q : ℕ) (kept : ℕ → Bool) (g
       → IsItemBy plan (Some t) q kept given
   item_of_none t packet same none item_is =
       let long : length packet ≡ 12 = ap length same ∙ af_long (filler_af plan t) (filler plan t) (filler_is plan t) in
-      let needed = needed_of plan.carry (length packet) is.in_lines.carry_fits (omega (arith, long)) (omega (arith, long)) in
+      let needed = needed_of plan.carry (length packet) is.in_lines.carry_fits (omega (arith, long)) (omega (arith, long, (limit_is plan.carry).0)) in
       let lost : item_in (shape_under plan.carry (length packet)) packet q kept ≡ Lost q 0 0 =
       lost_in (shape_under plan.carry (length packet)) packet needed none in
       let missing : given ≡ Missing q 0 0 = item_is_one (Lost q 0 0) (Missing q 0 0) given (refl, refl, refl) (subst (λ (c : Collected). IsItemOf c given) lost item_is) in

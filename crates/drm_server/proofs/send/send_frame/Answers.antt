@@ -1,7 +1,6 @@
 use Rattle.std.proofs.Common.{◌≡◌, ◌∙◌, ◌+◌, ℕ, ◌∷◌, [], ◌++◌, ◌≤◌, replicate, refl, subst, arith}
 use Rattle.std.proofs.lemmas.Result.{err_from_is_err_and}
 use Rattle.dcp_pft.specs.Limits.{most_fragments}
-use Rattle.dcp_pft.proofs.Carried.{limit_is}
 use Rattle.drm_links.specs.Link.{Traffic}
 use Rattle.drm_links.specs.Transmission.{Transmits, Waits}
 use Rattle.drm_links.proofs.ManyCallsLemmas.{more_calls, at_most}
@@ -15,9 +14,6 @@ use Rattle.drm_server.proofs.send.send_frame.Goals as goal
 
 pub datagram-requires : goal.datagram-requires
 datagram-requires g c = record { within = (c.fragments-count.result, rw c.loop-i.invariant.6 c.fragments-count.ensures.datagrams, c.loop-i-test.true) }
-
-pub send_datagram-requires : goal.send_datagram-requires
-send_datagram-requires g c = omega (arith, c.datagram.ensures.small, (limit_is c.loop-i.server.plan.carry).1)
 
 pub returns-in_err-send_datagram-clause-part : goal.returns-in_err-send_datagram-clause-part
 returns-in_err-send_datagram-clause-part g c =
