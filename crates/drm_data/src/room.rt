@@ -121,9 +121,7 @@ impl UnitRoom {
         ensures closed { begun_in self.new ≡ None }
         ensures room { IsRoom self.new }
     {
-        let open = self.begun.is_some();
-        self.begun = None;
-        open
+        self.begun.take().is_some()
     }
 
     /// The first bytes in it.

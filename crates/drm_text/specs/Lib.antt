@@ -1,0 +1,4 @@
+pub mod Segment
+pub mod Message
+pub mod Writing
+pub mod Laws
