@@ -1,0 +1,83 @@
+//! The book of a run, which stands under the lock.
+
+ghost use Rattle.std.specs.Prelude.{◌≡◌, ◌+◌, ◌≤◌, length};
+ghost use Rattle.path_book.specs.Took.{IfTook};
+ghost use Rattle.path_book.specs.Journal.{IsKept};
+ghost use Rattle.path_book.specs.declared.event.Event.{Event};
+ghost use Rattle.drm_paths.specs.State.{bytes_in, most_bytes, settings_of, IsEvent};
+
+use crate::{Path, Road};
+use path_book::{Event, Journal};
+use std::alloc::Global;
+use std::marker::Model;
+use std::sync::ledger::Book as Total;
+
+/// A journal, and how many entries the ledger counts in it.
+#[derive(Drop)]
+pub struct Book<G: Road> {
+    journal: Journal,
+    total: Total<G>,
+}
+
+impl<G: Road> Model for Book<G> {
+    ghost use Rattle.std.specs.Prelude.{◌≡◌, length};
+    ghost use Rattle.drm_paths.specs.State.{BookState, book_state, settings_of};
+
+    ghost Value = { BookState };
+
+    ghost view = { λ b. book_state b.journal b.total.total };
+
+    ghost invariant = { λ b. (b.journal.settings ≡ settings_of G.window G.first G.frames)
+        × (length b.journal.entries ≡ b.total.total) };
+}
+
+impl<G: Road> Book<G> {
+    // A book with a new journal.
+    pub(crate) fn new(journal: Journal, total: Total<G>) -> Book<G>
+        requires settings { journal.settings ≡ settings_of G.window G.first G.frames }
+        requires counted { length journal.entries ≡ total.total }
+        ensures { result.journal ≡ journal }
+    {
+        Book { journal, total }
+    }
+
+    /// Enters one datagram of a path. The path takes it too, and it counts in the ledger.
+    pub fn event(&mut self, alloc: Global, path: &mut Path<G>, datagram: &[u8]) -> Event
+        requires room { bytes_in path.old.taken + length datagram.now ≤ most_bytes }
+        ensures took { IfTook result (λ answer. IsEvent datagram.now answer self.old self.new path.old path.new) }
+        ensures none { result ≡ Event.NoMemory → (self.new ≡ self.old) × (path.new ≡ path.old) }
+    {
+        let Path {
+            number,
+            taken,
+            bytes,
+            share,
+        } = path;
+        let Ok(copy) = datagram.to_vec(alloc) else {
+            return Event::NoMemory;
+        };
+        let Ok(()) = taken.reserve(1) else {
+            return Event::NoMemory;
+        };
+        let Book { journal, total } = self;
+        match journal.enter(alloc, *number, datagram) {
+            Event::NoMemory => Event::NoMemory,
+            Event::Took(answer) => {
+                taken.push_reserved(copy);
+                *bytes += datagram.len() as u64;
+                total.add(share, 1);
+                Event::Took(answer)
+            }
+        }
+    }
+
+    /// What each book keeps: as many entries as the ledger counts, and the report so far of them, by what its type says; or a
+    /// front of that, where it has stopped.
+    pub fn keeps_its_report(&self)
+        ensures kept { IsKept self.now.journal }
+        ensures settings { self.now.journal.settings ≡ settings_of G.window G.first G.frames }
+        ensures counted { length self.now.journal.entries ≡ self.now.total }
+    {
+        self.journal.keeps_its_report();
+    }
+}
