@@ -1,8 +1,8 @@
 -- The pieces of a message, out of its segments' bytes.
-use Rattle.std.proofs.Common.{◌≡◌, ℕ, suc, ◌+◌, ◌-◌, ◌*◌, ◌/◌, ◌%◌, ◌<◌, ◌≤◌, nat_lt, Bool, true, false, if◌then◌else◌, List, length, take, drop, Option, Some, None, refl, sym, ap, subst, ◌∙◌, arith}
+use Rattle.std.proofs.Common.{◌≡◌, ℕ, suc, ◌+◌, ◌-◌, ◌*◌, ◌/◌, ◌%◌, ◌<◌, ◌≤◌, nat_lt, Bool, true, false, if◌then◌else◌, List, length, take, drop, Option, Some, None, sym, ap, subst, ◌∙◌, arith}
 use Rattle.std.proofs.lemmas.Bool.{lt-ltb, le-ltb}
 use Rattle.std.proofs.lemmas.List.{take-take, drop-take, length-take-le}
-use Rattle.drm_text.specs.Segment.{Segment, round_up, IsSegment}
+use Rattle.drm_text.specs.Segment.{Segment, IsSegment}
 use Rattle.drm_text.specs.Message.{start, segment_at, piece_at, IsPieceOf}
 
 -- a piece of a segment that was written

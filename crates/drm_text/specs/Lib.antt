@@ -1,4 +1,9 @@
 pub mod Segment
 pub mod Message
 pub mod Writing
+pub mod Reading
+pub mod Joining
+pub mod Rooms
+pub mod Taking
+pub mod Lending
 pub mod Laws

@@ -1,5 +1,5 @@
 -- A segment as the code has it.
-use Rattle.std.specs.Prelude.{ℕ, ◌<◌, ◌≤◌, length}
+use Rattle.std.specs.Prelude.{◌<◌, ◌≤◌, length}
 use Rattle.drm_text.specs.declared.segment.Part.{Part}
 use Rattle.drm_text.specs.Segment.{Segment, most_body}
 

@@ -1,4 +1,4 @@
-use Rattle.std.proofs.Common.{ℕ, List, [], ◌∷◌, Some, None, take, subst, ap, length, arith}
+use Rattle.std.proofs.Common.{ℕ, List, [], ◌∷◌, Some, None, take, subst, arith}
 use Rattle.drm_text.specs.Message.{IsPieceOf}
 use Rattle.drm_text.specs.Writing.{segment_of}
 use Rattle.drm_text.proofs.Pieces.{piece_is, first_piece, later_piece, no_piece}

@@ -1,0 +1,100 @@
+//! Pieces become messages again.
+
+ghost use Rattle.std.specs.Prelude.{◌≡◌, ◌↔◌, IsSome, IfSome};
+ghost use Rattle.std.specs.Str.{IsUtf8};
+ghost use Rattle.std.specs.Borrow.{sem};
+ghost use Rattle.drm_text.specs.Joining.{made};
+ghost use Rattle.drm_text.specs.Rooms.{IsMessageRoom};
+ghost use Rattle.drm_text.specs.Taking.{Tells, TookSegment};
+ghost use Rattle.drm_text.specs.Lending.{Joins};
+
+use crate::gather::{Gathered, SegmentRoom};
+use crate::message::MessageRoom;
+use crate::read::read_segment;
+use std::marker::Model;
+
+/// Joins pieces to messages.
+#[derive(Drop)]
+pub struct TextJoiner {
+    segment: SegmentRoom,
+    message: MessageRoom,
+}
+
+impl Model for TextJoiner {
+    ghost use Rattle.drm_text.specs.Joining.{State};
+    ghost use Rattle.drm_text.specs.Taking.{state, IsSound};
+
+    ghost Value = { State };
+
+    ghost view = { state };
+
+    ghost invariant = { IsSound };
+}
+
+impl TextJoiner {
+    /// Before any piece.
+    pub fn new() -> TextJoiner
+        ensures { result ≡ made }
+    {
+        TextJoiner {
+            segment: SegmentRoom::new(),
+            message: MessageRoom::new(),
+        }
+    }
+
+    /// Takes a piece, and gives the message that is whole with it, if one is.
+    pub fn piece(&mut self, piece: [u8; 4]) -> Option<&str>
+        ensures tells { Tells self.old piece result }
+        ensures* after { sem 𝓛 (Joins piece self.entry) }
+    {
+        match self.segment.take(piece) {
+            Gathered::Start { breaks } => {
+                if breaks {
+                    self.message.clear();
+                }
+                None
+            }
+            Gathered::Stray => {
+                self.message.clear();
+                None
+            }
+            Gathered::More => None,
+            Gathered::Full(len) => {
+                match take_segment(&mut self.message, &self.segment.bytes[..len]) {
+                    Some(len) => as_text(self.message.front(len)),
+                    None => None,
+                }
+            }
+        }
+    }
+
+    /// Something is missing here.
+    pub fn gap(&mut self)
+        ensures { self.new ≡ made }
+    {
+        self.segment.clear();
+        self.message.clear();
+    }
+}
+
+// Takes the bytes of a segment, and answers how many bytes the message has that is whole with it, if one is.
+fn take_segment(message: &mut MessageRoom, bytes: &[u8]) -> Option<usize>
+    requires { IsMessageRoom message.old }
+    ensures { TookSegment bytes.now message.old result message.new }
+{
+    match read_segment(bytes) {
+        Some(part) => message.join(&part),
+        None => {
+            message.clear();
+            None
+        }
+    }
+}
+
+// The text that these bytes are, if they are UTF-8.
+fn as_text(bytes: &[u8]) -> Option<&str>
+    ensures utf8 { IsSome result ↔ IsUtf8 bytes.now }
+    ensures text { IfSome result (λ t. t.now ≡ bytes.now) }
+{
+    std::str::from_utf8(bytes).ok()
+}
