@@ -1,0 +1,109 @@
+//! The pieces of text messages. The check values are from Python.
+
+ghost use Rattle.std.specs.Prelude.{◌≤◌, length};
+
+use drm_text::{TextJoiner, text_piece};
+
+// The pieces of a message.
+const HI: [[u8; 4]; 3] = [[0xff; 4], *b"a\0Hi", *b"-\xb3\0\0"];
+
+// With the other toggle, in two segments.
+const LONGER: [[u8; 4]; 9] = [
+    [0xff; 4],
+    *b"\xcf\0Ra",
+    *b"dio ",
+    *b"Nord",
+    *b" 12 ",
+    *b"Uh\x87\x14",
+    [0xff; 4],
+    *b"\xa0\x10r\xd3",
+    *b"Y\0\0\0",
+];
+
+// Whether it is this piece of the message.
+fn is_piece(message: &str, toggle: bool, k: usize, piece: [u8; 4]) -> bool
+    requires some { 1 ≤ length message.now }
+    requires few { length message.now ≤ 128 }
+{
+    text_piece(message, toggle, k) == Some(piece)
+}
+
+#[test]
+fn cuts_messages(rt: HostRuntime) {
+    for (k, piece) in HI.iter().enumerate() {
+        assert!(rt; is_piece("Hi", false, k, *piece), "piece {k}");
+    }
+    assert!(rt; text_piece("Hi", false, 3).is_none());
+    for (k, piece) in LONGER.iter().enumerate() {
+        assert!(rt; is_piece("Radio Nord 12 Uhr", true, k, *piece), "piece {k}");
+    }
+    assert!(rt; text_piece("Radio Nord 12 Uhr", true, 9).is_none());
+}
+
+/// A call of a joiner, and what it answers.
+#[derive(Clone, Copy)]
+enum Step<'a> {
+    Nothing([u8; 4]),
+    Gives([u8; 4], &'a str),
+    Gap,
+}
+
+const WHOLE: [Step<'static>; 12] = [
+    Step::Nothing(HI[0]),
+    Step::Nothing(HI[1]),
+    Step::Gives(HI[2], "Hi"),
+    Step::Nothing(LONGER[0]),
+    Step::Nothing(LONGER[1]),
+    Step::Nothing(LONGER[2]),
+    Step::Nothing(LONGER[3]),
+    Step::Nothing(LONGER[4]),
+    Step::Nothing(LONGER[5]),
+    Step::Nothing(LONGER[6]),
+    Step::Nothing(LONGER[7]),
+    Step::Gives(LONGER[8], "Radio Nord 12 Uhr"),
+];
+
+// A gap, another start and a piece of none break off what was begun.
+const BROKEN: [Step<'static>; 12] = [
+    Step::Nothing(HI[0]),
+    Step::Nothing(HI[1]),
+    Step::Gap,
+    Step::Nothing(HI[2]),
+    Step::Nothing(HI[0]),
+    Step::Nothing(HI[1]),
+    Step::Nothing(HI[0]),
+    Step::Nothing(HI[2]),
+    Step::Nothing(HI[1]),
+    Step::Nothing(HI[0]),
+    Step::Nothing(HI[1]),
+    Step::Gives(HI[2], "Hi"),
+];
+
+// Whether the call answers so.
+fn answers(joiner: &mut TextJoiner, step: &Step<'_>) -> bool {
+    match step {
+        Step::Nothing(piece) => joiner.piece(*piece).is_none(),
+        Step::Gives(piece, message) => joiner.piece(*piece) == Some(*message),
+        Step::Gap => {
+            joiner.gap();
+            true
+        }
+    }
+}
+
+// The first call that answers otherwise, if one does.
+fn wrong_step(steps: &[Step<'_>]) -> Option<usize> {
+    let mut joiner = TextJoiner::new();
+    for (k, step) in steps.iter().enumerate() {
+        if !answers(&mut joiner, step) {
+            return Some(k);
+        }
+    }
+    None
+}
+
+#[test]
+fn joins_pieces(rt: HostRuntime) {
+    assert_eq!(rt; wrong_step(&WHOLE), None);
+    assert_eq!(rt; wrong_step(&BROKEN), None);
+}
