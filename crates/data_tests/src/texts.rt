@@ -48,35 +48,42 @@ enum Step<'a> {
     Gap,
 }
 
+// The pieces of `Hi`.
+const START: [u8; 4] = [0xff; 4];
+
+const HEAD: [u8; 4] = *b"a\0Hi";
+
+const END: [u8; 4] = *b"-\xb3\0\0";
+
 const WHOLE: [Step<'static>; 12] = [
-    Step::Nothing(HI[0]),
-    Step::Nothing(HI[1]),
-    Step::Gives(HI[2], "Hi"),
-    Step::Nothing(LONGER[0]),
-    Step::Nothing(LONGER[1]),
-    Step::Nothing(LONGER[2]),
-    Step::Nothing(LONGER[3]),
-    Step::Nothing(LONGER[4]),
-    Step::Nothing(LONGER[5]),
-    Step::Nothing(LONGER[6]),
-    Step::Nothing(LONGER[7]),
-    Step::Gives(LONGER[8], "Radio Nord 12 Uhr"),
+    Step::Nothing(START),
+    Step::Nothing(HEAD),
+    Step::Gives(END, "Hi"),
+    Step::Nothing(START),
+    Step::Nothing(*b"\xcf\0Ra"),
+    Step::Nothing(*b"dio "),
+    Step::Nothing(*b"Nord"),
+    Step::Nothing(*b" 12 "),
+    Step::Nothing(*b"Uh\x87\x14"),
+    Step::Nothing(START),
+    Step::Nothing(*b"\xa0\x10r\xd3"),
+    Step::Gives(*b"Y\0\0\0", "Radio Nord 12 Uhr"),
 ];
 
 // A gap, another start and a piece of none break off what was begun.
 const BROKEN: [Step<'static>; 12] = [
-    Step::Nothing(HI[0]),
-    Step::Nothing(HI[1]),
+    Step::Nothing(START),
+    Step::Nothing(HEAD),
     Step::Gap,
-    Step::Nothing(HI[2]),
-    Step::Nothing(HI[0]),
-    Step::Nothing(HI[1]),
-    Step::Nothing(HI[0]),
-    Step::Nothing(HI[2]),
-    Step::Nothing(HI[1]),
-    Step::Nothing(HI[0]),
-    Step::Nothing(HI[1]),
-    Step::Gives(HI[2], "Hi"),
+    Step::Nothing(END),
+    Step::Nothing(START),
+    Step::Nothing(HEAD),
+    Step::Nothing(START),
+    Step::Nothing(END),
+    Step::Nothing(HEAD),
+    Step::Nothing(START),
+    Step::Nothing(HEAD),
+    Step::Gives(END, "Hi"),
 ];
 
 // Whether the call answers so.
