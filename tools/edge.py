@@ -24,6 +24,8 @@ HOST = "127.1.2.3"
 HOST_DIGITS = "".join(f"{int(number):02X}" for number in reversed(HOST.split(".")))
 IDLE = "10"
 MOST_DATAGRAMS = 400
+# as many bytes as are sent at once and a socket surely keeps up with
+MOST_BYTES = 1_000_000
 FAILING = re.compile(r"-(fails|room|piece)$|^(failed|idle|out-prefix|differs)$")
 ADDRESS = re.compile(r"\d+\.\d+\.\d+\.\d+:\d+")
 
@@ -110,7 +112,7 @@ def can_run(case):
     if any("/" in name or len(name) > 255 for name in case.files) or any(len(word) > 100_000 or b"\0" in word for word in case.words):
         return False
     datagrams = [it for link in [*case.links.values(), *case.sent.values()] for it in link]
-    if len(datagrams) > MOST_DATAGRAMS or any(len(it) > 65_507 for it in datagrams):
+    if len(datagrams) > MOST_DATAGRAMS or any(len(it) > 65_507 for it in datagrams) or sum(map(len, datagrams)) > MOST_BYTES:
         return False
     # a port serves one case at a time, and one socket of it
     named = [it for word in case.words for it in ADDRESS.findall(word.decode())]
