@@ -15,7 +15,7 @@ fi
 here=$(cd "$(dirname "$0")/.." && pwd)
 program=${1:-$here/crates/drmcast/out/drmcast}
 if [ ! -x "$program" ]; then
-    echo "install.sh: $program isn't there; (cd crates/drmcast && rt run -- fac < ../../examples/fac.bin) builds it" >&2
+    echo "install.sh: $program isn't there; (cd crates/drmcast && rt run -- exercise 1) builds it" >&2
     exit 1
 fi
 prefix=${PREFIX:-/usr/local}
