@@ -11,7 +11,7 @@ use Rattle.drm_text.specs.Rooms.{segment_in, begun_in, front_of}
 use Rattle.drm_text.specs.Taking.{TookSegment, text_of, Tells}
 use Rattle.drm_text.proofs.Spellings.{one_segment}
 
-one_read : (bytes : List ℕ) (q r : Option Segment) → Reads bytes q → Reads bytes r → q ≡ r
+pub one_read : (bytes : List ℕ) (q r : Option Segment) → Reads bytes q → Reads bytes r → q ≡ r
 one_read bytes None None h k = refl
 one_read bytes None (Some s) h k = absurd (h s k)
 one_read bytes (Some s) None h k = absurd (k s h)

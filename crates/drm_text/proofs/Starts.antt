@@ -11,7 +11,7 @@ use Rattle.drm_text.specs.Message.{start, segment_at, piece_at}
 use Rattle.drm_text.specs.Laws.{OnlyStarts}
 
 -- the bytes of a text are below FF
-abbrev IsPlain : ℕ → Type 0
+abbrev pub IsPlain : ℕ → Type 0
 IsPlain byte = byte < 255
 
 scalar_small : (c : ℕ) → scalar c ≡ true → c < 1114112
@@ -37,16 +37,16 @@ encode_plain c small =
           ]
     ]
 
-all_append : (xs ys : List ℕ) → AllByRecursion IsPlain xs → AllByRecursion IsPlain ys → AllByRecursion IsPlain (xs ++ ys)
+pub all_append : (xs ys : List ℕ) → AllByRecursion IsPlain xs → AllByRecursion IsPlain ys → AllByRecursion IsPlain (xs ++ ys)
 all_append [] ys h k = k
 all_append (x ∷ xs) ys h k = (h.0, all_append xs ys h.1 k)
 
-all_take : (n : ℕ) (xs : List ℕ) → AllByRecursion IsPlain xs → AllByRecursion IsPlain (take n xs)
+pub all_take : (n : ℕ) (xs : List ℕ) → AllByRecursion IsPlain xs → AllByRecursion IsPlain (take n xs)
 all_take zero xs h = tt
 all_take (suc n) [] h = tt
 all_take (suc n) (x ∷ xs) h = (h.0, all_take n xs h.1)
 
-all_drop : (n : ℕ) (xs : List ℕ) → AllByRecursion IsPlain xs → AllByRecursion IsPlain (drop n xs)
+pub all_drop : (n : ℕ) (xs : List ℕ) → AllByRecursion IsPlain xs → AllByRecursion IsPlain (drop n xs)
 all_drop zero xs h = h
 all_drop (suc n) [] h = tt
 all_drop (suc n) (x ∷ xs) h = all_drop n xs h.1
@@ -57,7 +57,7 @@ encodes_plain (c ∷ cs) is =
     let parts = and_parts (scalar c) (scalars cs) is in
     all_append (encode c) (encodes cs) (encode_plain c (scalar_small c parts.0)) (encodes_plain cs parts.1)
 
-text_plain : (text : List ℕ) → IsUtf8 text → AllByRecursion IsPlain text
+pub text_plain : (text : List ℕ) → IsUtf8 text → AllByRecursion IsPlain text
 text_plain text is = let P : List ℕ → Type 0 = λ l. AllByRecursion IsPlain l in subst P is.1.1 (encodes_plain is.0 is.1.0)
 
 plain_at : (xs : List ℕ) (i : ℕ) → AllByRecursion IsPlain xs → get_or xs i 0 < 255
@@ -108,7 +108,7 @@ byte_of : (bytes : List ℕ) (at j : ℕ) → j < 4 → start ≡ take 4 (drop a
 byte_of bytes at j few is =
     sym (get_or-drop at bytes j 0) ∙ (sym (get_or-take 4 (drop at bytes) j 0 few) ∙ ap (λ l. get_or l j 0) (sym is))
 
-later_piece : (s : Segment) (bytes : List ℕ) (i : ℕ) → AllByRecursion IsPlain s.body → IsSegment s bytes → start ≡ take 4 (drop (i * 4) bytes) → ⊥
+pub later_piece : (s : Segment) (bytes : List ℕ) (i : ℕ) → AllByRecursion IsPlain s.body → IsSegment s bytes → start ≡ take 4 (drop (i * 4) bytes) → ⊥
 later_piece s bytes zero plain is piece =
     let none : 0 * 4 + 0 ≡ 0 = omega arith in
     let first : head s ≡ 255 = sym (ap (λ l. get_or l 0 0) is.1.spelled) ∙ (ap (λ n. get_or bytes n 0) (sym none) ∙ byte_of bytes (0 * 4) 0 (omega arith) piece) in

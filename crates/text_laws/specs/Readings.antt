@@ -1,0 +1,71 @@
+-- Readings of a stream's pieces, and the text messages in them. No joiner is spoken of here.
+use Rattle.std.specs.Prelude.{ℕ, zero, suc, ◌≡◌, ◌==◌, ◌≤◌, ◌⊎◌, Bool, true, false, List, [], ◌∷◌, ◌++◌, length, Option, Some, None}
+use Rattle.std.specs.Str.{IsUtf8}
+use Rattle.drm_text.specs.Segment.{Segment, most_body, IsSegment}
+use Rattle.drm_text.specs.Message.{start, most_message}
+
+-- A reading is a list of pieces, of four bytes each, and gaps.
+abbrev pub Reading : Type 0
+Reading = List (Option (List ℕ))
+
+abbrev pub IsEntry : Option (List ℕ) → Type 0
+IsEntry None = Unit {0}
+IsEntry (Some piece) = length piece ≡ 4
+
+-- pieces of which none is missing
+abbrev pub came : List (List ℕ) → List (Option (List ℕ))
+came [] = []
+came (piece ∷ pieces) = Some piece ∷ came pieces
+
+-- the bytes of pieces together
+abbrev pub bytes_of : List (List ℕ) → List ℕ
+bytes_of [] = []
+bytes_of (piece ∷ pieces) = piece ++ bytes_of pieces
+
+-- A segment came whole: the start, and directly behind it pieces that together are the bytes of the segment. With them are its right
+-- check value, four zero bits, command 0 and zeros at its end.
+pub record CameWhole (s : Segment) (reading : Reading) : Type 0 where
+  pub pieces : List (List ℕ)
+  pub all : reading ≡ Some start ∷ came pieces
+  pub segment : IsSegment s (bytes_of pieces)
+
+-- Directly behind what came before of a message its segment n came whole. It alone is first where n is 0, and it has the toggle of the
+-- others. These are the bytes of the message with it.
+pub record GoesOn (Before : List ℕ → Reading → Type 0) (toggle : Bool) (n : ℕ) (s : Segment) (text : List ℕ) (reading : Reading) : Type 0 where
+  pub before : List ℕ
+  pub ahead : Reading
+  pub here : Reading
+  pub begun : Before before ahead
+  pub toggle_is : s.toggle ≡ toggle
+  pub number_is : s.number ≡ n
+  pub first_is : s.first ≡ (n == 0)
+  pub text_is : text ≡ before ++ s.body
+  pub whole : CameWhole s here
+  pub all : reading ≡ ahead ++ here
+
+-- The reading is n segments of a message, one directly behind another, from number 0 on. None of them is last, and each has a body of
+-- 16 bytes.
+abbrev pub AreBegun : Bool → ℕ → List ℕ → Reading → Type 0
+AreBegun toggle zero text reading = (text ≡ []) × (reading ≡ [])
+AreBegun toggle (suc n) text reading =
+    (s : Segment) × GoesOn (AreBegun toggle n) toggle n s text reading × (s.last ≡ false) × (length s.body ≡ most_body)
+
+-- The reading ends in a whole message: behind its other segments came the one that is last.
+pub record EndsMessage (reading : Reading) (message : List ℕ) : Type 0 where
+  pub front : Reading
+  pub pieces : Reading
+  pub all : reading ≡ front ++ pieces
+  pub toggle : Bool
+  pub number : ℕ
+  pub segment : Segment
+  pub goes : GoesOn (AreBegun toggle number) toggle number segment message pieces
+  pub last : segment.last ≡ true
+  pub few : length message ≤ most_message
+  pub utf8 : IsUtf8 message
+
+-- the messages that end in this reading behind what was read before, in order: at each place the one that ends there, if there is one
+abbrev pub AreMessages : Reading → List (Option (List ℕ)) → List (List ℕ) → Type 0
+AreMessages before [] messages = messages ≡ []
+AreMessages before (x ∷ reading) messages =
+    ((message : List ℕ) × (more : List (List ℕ)) × EndsMessage (before ++ x ∷ []) message × (messages ≡ message ∷ more) × AreMessages (before ++ x ∷ []) reading more)
+    ⊎ (((message : List ℕ) → EndsMessage (before ++ x ∷ []) message → ⊥) × AreMessages (before ++ x ∷ []) reading messages)

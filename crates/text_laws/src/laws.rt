@@ -1,0 +1,13 @@
+//! The laws of joining pieces, each on a function that does nothing.
+
+ghost use Rattle.text_laws.specs.Laws.{AnswersEach, JoinsMessages};
+
+/// Of every reading the messages that are in it are given, and no others.
+pub fn joins_messages()
+    ensures { JoinsMessages }
+{}
+
+/// At each place of every reading a message is given exactly where one ends there.
+pub fn answers_each()
+    ensures { AnswersEach }
+{}

@@ -1,0 +1,6 @@
+//! The laws of joining pieces to text messages: what a joiner gives of any reading. No code is here that runs.
+#![tactic(auto)]
+
+mod laws;
+
+pub use laws::{answers_each, joins_messages};
