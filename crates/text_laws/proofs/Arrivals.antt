@@ -12,7 +12,7 @@ use Rattle.drm_text.proofs.Spellings.{placed}
 use Rattle.drm_text.proofs.Joinings.{one_read}
 use Rattle.drm_text.proofs.Starts.{IsPlain, text_plain, later_piece}
 use Rattle.text_laws.specs.Readings.{Reading, IsEntry, came, bytes_of, CameWhole, GoesOn, AreBegun, EndsMessage}
-use Rattle.text_laws.specs.Runs.{Runs}
+use Rattle.text_laws.specs.Runs.{Runs, with_message, messages_in}
 use Rattle.text_laws.proofs.Steps.{is_the_start}
 
 abbrev pub IsFour : List ℕ → Type 0
@@ -51,11 +51,12 @@ pub record Filled (o : Option (List ℕ)) (s : Segment) (texts : List (Option (L
   pub told : List (Option (List ℕ))
   pub text : Option (List ℕ)
   pub texts_are : texts ≡ told ++ text ∷ []
+  pub quiet : messages_in told ≡ []
   pub gives : Gives (whole s o) text
   pub left_is : left ≡ record { begun = going_on s o; segment = None }
 
 -- these bytes of a segment came, and these pieces are to come
-record Arriving (s : Segment) (bytes arrived : List ℕ) (pieces : List (List ℕ)) : Type 0 where
+pub record Arriving (s : Segment) (bytes arrived : List ℕ) (pieces : List (List ℕ)) : Type 0 where
   pub segment : IsSegment s bytes
   pub plain : AllByRecursion IsPlain s.body
   pub all : bytes ≡ arrived ++ bytes_of pieces
@@ -63,11 +64,11 @@ record Arriving (s : Segment) (bytes arrived : List ℕ) (pieces : List (List �
   pub more : length arrived < length bytes
   pub fours : AllByRecursion IsFour pieces
 
-abbrev in_segment : Option Begun → List ℕ → State
+abbrev pub in_segment : Option Begun → List ℕ → State
 in_segment b bytes = record { begun = b; segment = Some bytes }
 
 -- no piece of it is the start
-not_start : (s : Segment) (bytes arrived piece : List ℕ) (pieces : List (List ℕ)) → Arriving s bytes arrived (piece ∷ pieces) → is_start piece ≡ false
+pub not_start : (s : Segment) (bytes arrived piece : List ℕ) (pieces : List (List ℕ)) → Arriving s bytes arrived (piece ∷ pieces) → is_start piece ≡ false
 not_start s bytes arrived piece pieces h =
     elim (cases_Bool (is_start piece)) [
       | inl is ↦
@@ -106,12 +107,13 @@ fill b s bytes arrived piece text texts left h (read, reads, gives, rest) =
       told = [];
       text = text;
       texts_are = ap (λ l. text ∷ l) rest.0;
+      quiet = refl;
       gives = subst R is gives;
       left_is = rest.1 ∙ ap₂ (λ g r. record { begun = begun_by b g r; segment = segment_after g }) fills is;
     }
 
 -- a piece of it behind which others are to come
-grow : (s : Segment) (bytes arrived piece next : List ℕ) (pieces : List (List ℕ)) → Arriving s bytes arrived (piece ∷ next ∷ pieces)
+pub grow : (s : Segment) (bytes arrived piece next : List ℕ) (pieces : List (List ℕ)) → Arriving s bytes arrived (piece ∷ next ∷ pieces)
     → (gather (Some arrived) piece ≡ Grows (arrived ++ piece)) × Arriving s bytes (arrived ++ piece) (next ∷ pieces)
 grow s bytes arrived piece next pieces h =
     let long : length (arrived ++ piece) ≡ length arrived + 4 = length-append arrived piece ∙ ap (λ n. length arrived + n) h.fours.0 in
@@ -125,7 +127,21 @@ grow s bytes arrived piece next pieces h =
       record { segment = h.segment; plain = h.plain; all = all; even = omega (arith, long, h.even); more = omega (arith, size); fours = h.fours.1 },
     )
 
-filling : (b : Option Begun) (s : Segment) (bytes arrived : List ℕ) (pieces : List (List ℕ)) (texts : List (Option (List ℕ))) (left : State) → Arriving s bytes arrived pieces
+-- a piece that isn't the last one of a segment gives nothing
+pub nothing_given : (b : Option Begun) (read : Option Segment) (text : Option (List ℕ)) → read ≡ None → Gives (whole_with b read) text → text ≡ None
+nothing_given b read text none gives = let P : Option Segment → Type 0 = λ r. Gives (whole_with b r) text in subst P none gives
+
+pub filled_on : {o : Option (List ℕ)} {s : Segment} {texts : List (Option (List ℕ))} {left : State} (text : Option (List ℕ)) → Filled o s texts left → text ≡ None → Filled o s (text ∷ texts) left
+filled_on text r none = record {
+  told = text ∷ r.told;
+  text = r.text;
+  texts_are = ap (λ l. text ∷ l) r.texts_are;
+  quiet = ap (λ o. with_message o (messages_in r.told)) none ∙ r.quiet;
+  gives = r.gives;
+  left_is = r.left_is;
+}
+
+pub filling : (b : Option Begun) (s : Segment) (bytes arrived : List ℕ) (pieces : List (List ℕ)) (texts : List (Option (List ℕ))) (left : State) → Arriving s bytes arrived pieces
     → Runs (in_segment b arrived) (came pieces) texts left → Filled (bytes_with b s) s texts left
 filling b s bytes arrived [] texts left h run = absurd (omega (arith, h.more, ap length h.all, length-append arrived []))
 filling b s bytes arrived (piece ∷ pieces) [] left h run = absurd run
@@ -133,8 +149,9 @@ filling b s bytes arrived (piece ∷ []) (text ∷ texts) left h run = fill b s 
 filling b s bytes arrived (piece ∷ next ∷ pieces) (text ∷ texts) left h (read, reads, gives, rest) =
     let more = grow s bytes arrived piece next pieces h in
     let P : Gathered → Type 0 = λ g. Runs (record { begun = begun_by b g read; segment = segment_after g }) (came (next ∷ pieces)) texts left in
+    let Q : Gathered → Type 0 = λ g. ReadsIn g read in
     let r = filling b s bytes (arrived ++ piece) (next ∷ pieces) texts left more.1 (subst P more.0 rest) in
-    record { told = text ∷ r.told; text = r.text; texts_are = ap (λ l. text ∷ l) r.texts_are; gives = r.gives; left_is = r.left_is }
+    filled_on text r (nothing_given b read text (subst Q more.0 reads) gives)
 
 -- the message that is still begun after a start
 abbrev pub still_begun : State → Option Begun
@@ -161,7 +178,7 @@ whole_segment v s here texts left came_whole entries plain run =
           fours = fours_of came_whole.pieces entries.1;
         })
         rest in
-        record { told = text ∷ r.told; text = r.text; texts_are = ap (λ l. text ∷ l) r.texts_are; gives = r.gives; left_is = r.left_is }
+        filled_on text r (nothing_given v.begun read text reads gives)
 
 same_flags : (a b : Bool) → a ≡ b → same_flag a b ≡ true
 same_flags true true is = refl
@@ -170,23 +187,40 @@ same_flags false true is = absurd cc
 same_flags false false is = refl
 
 -- the bytes with a segment that goes on
-begins_with : (b : Option Begun) (s : Segment) → s.first ≡ true → s.number ≡ 0 → bytes_with b s ≡ Some s.body
+pub begins_with : (b : Option Begun) (s : Segment) → s.first ≡ true → s.number ≡ 0 → bytes_with b s ≡ Some s.body
 begins_with b s first number =
     ap (λ f. if f then (if s.number == 0 then Some s.body else None) else joined b s) first ∙ ap (λ t. if t then Some s.body else None) (eq-eqb s.number 0 number)
 
-joins_with : (u : Begun) (s : Segment) → s.first ≡ false → s.toggle ≡ u.toggle → s.number ≡ u.number → length u.bytes + length s.body ≤ most_message → bytes_with (Some u) s ≡ Some (u.bytes ++ s.body)
+pub joins_with : (u : Begun) (s : Segment) → s.first ≡ false → s.toggle ≡ u.toggle → s.number ≡ u.number → length u.bytes + length s.body ≤ most_message → bytes_with (Some u) s ≡ Some (u.bytes ++ s.body)
 joins_with u s first toggle number few =
     ap (λ f. if f then (if s.number == 0 then Some s.body else None) else joined (Some u) s) first
     ∙ ap (λ t. if t then Some (u.bytes ++ s.body) else None)
     (and_from _ _ (same_flags s.toggle u.toggle toggle) (and_from _ _ (eq-eqb s.number u.number number) (le-leb (length u.bytes + length s.body) most_message few)))
 
-goes_on : (s : Segment) (bytes : List ℕ) → s.last ≡ false → length s.body ≡ most_body → going_on s (Some bytes) ≡ Some (record { toggle = s.toggle; number = s.number + 1; bytes = bytes })
+pub goes_on : (s : Segment) (bytes : List ℕ) → s.last ≡ false → length s.body ≡ most_body → going_on s (Some bytes) ≡ Some (record { toggle = s.toggle; number = s.number + 1; bytes = bytes })
 goes_on s bytes more full =
     ap (λ t. if t then Some (record { toggle = s.toggle; number = s.number + 1; bytes = bytes }) else None) (and_from _ _ (ap not more) (eq-eqb (length s.body) most_body full))
 
+-- what the last piece of a message, or of the front of one, tells and leaves
+record Gave (text : List ℕ) (s : Segment) (texts : List (Option (List ℕ))) (left : State) : Type 0 where
+  pub told : List (Option (List ℕ))
+  pub given : Option (List ℕ)
+  pub texts_are : texts ≡ told ++ given ∷ []
+  pub gives : Gives (whole s (Some text)) given
+  pub left_is : left ≡ record { begun = going_on s (Some text); segment = None }
+
+gave_behind : (s : Segment) (text : List ℕ) (o : Option (List ℕ)) (told later texts : List (Option (List ℕ))) (left : State) → texts ≡ told ++ later → o ≡ Some text → Filled o s later left → Gave text s texts left
+gave_behind s text o told later texts left all is r = record {
+  told = told ++ r.told;
+  given = r.text;
+  texts_are = all ∙ (ap (λ l. told ++ l) r.texts_are ∙ sym (append_assoc told r.told (r.text ∷ [])));
+  gives = let P : Option (List ℕ) → Type 0 = λ x. Gives (whole s x) r.text in subst P is r.gives;
+  left_is = r.left_is ∙ ap (λ x. record { begun = going_on s x; segment = None }) is;
+}
+
 -- the segments of a message, up to one that came whole
-pub arrived : (toggle : Bool) (n : ℕ) (s : Segment) (text : List ℕ) (reading : Reading) (v : State) (texts : List (Option (List ℕ))) (left : State) → GoesOn (AreBegun toggle n) toggle n s text reading
-    → AllByRecursion IsEntry reading → AllByRecursion IsPlain text → length text ≤ most_message → Runs v reading texts left → Filled (Some text) s texts left
+arrived : (toggle : Bool) (n : ℕ) (s : Segment) (text : List ℕ) (reading : Reading) (v : State) (texts : List (Option (List ℕ))) (left : State) → GoesOn (AreBegun toggle n) toggle n s text reading
+    → AllByRecursion IsEntry reading → AllByRecursion IsPlain text → length text ≤ most_message → Runs v reading texts left → Gave text s texts left
 arrived toggle zero s text reading v texts left g entries plain few run =
     let P : Reading → Type 0 = λ l. Runs v l texts left in
     let Q : Reading → Type 0 = λ l. AllByRecursion IsEntry l in
@@ -195,16 +229,7 @@ arrived toggle zero s text reading v texts left g entries plain few run =
     let r = whole_segment split.mid s g.here split.later left g.whole (all_parts IsEntry g.ahead g.here (subst Q g.all entries)).1 (all_parts IsPlain g.before s.body (subst R g.text_is plain)).1 split.second in
     let body : s.body ≡ text = sym (g.text_is ∙ ap (λ l. l ++ s.body) g.begun.0) in
     let with_it : bytes_with (still_begun split.mid) s ≡ Some text = begins_with (still_begun split.mid) s g.first_is g.number_is ∙ ap Some body in
-    filled_behind split.told split.later texts split.all with_it r
-  where
-    filled_behind : (told later texts : List (Option (List ℕ))) → texts ≡ told ++ later → {o : Option (List ℕ)} → o ≡ Some text → Filled o s later left → Filled (Some text) s texts left
-    filled_behind told later texts all is r = record {
-      told = told ++ r.told;
-      text = r.text;
-      texts_are = all ∙ (ap (λ l. told ++ l) r.texts_are ∙ sym (append_assoc told r.told (r.text ∷ [])));
-      gives = let P : Option (List ℕ) → Type 0 = λ x. Gives (whole s x) r.text in subst P is r.gives;
-      left_is = r.left_is ∙ ap (λ x. record { begun = going_on s x; segment = None }) is;
-    }
+    gave_behind s text _ split.told split.later texts left split.all with_it r
 arrived toggle (suc n) s text reading v texts left g entries plain few run =
     let P : Reading → Type 0 = λ l. Runs v l texts left in
     let Q : Reading → Type 0 = λ l. AllByRecursion IsEntry l in
@@ -223,18 +248,9 @@ arrived toggle (suc n) s text reading v texts left g entries plain few run =
     let with_it : bytes_with (still_begun split.mid) s ≡ Some text =
     ap (λ x. bytes_with (still_begun x) s) mid
     ∙ (joins_with u s later (g.toggle_is ∙ sym g.begun.1.toggle_is) (omega (arith, g.number_is, g.begun.1.number_is)) (omega (arith, size, few)) ∙ ap Some (sym g.text_is)) in
-    filled_behind split.told split.later texts split.all with_it r
-  where
-    filled_behind : (told later texts : List (Option (List ℕ))) → texts ≡ told ++ later → {o : Option (List ℕ)} → o ≡ Some text → Filled o s later left → Filled (Some text) s texts left
-    filled_behind told later texts all is r = record {
-      told = told ++ r.told;
-      text = r.text;
-      texts_are = all ∙ (ap (λ l. told ++ l) r.texts_are ∙ sym (append_assoc told r.told (r.text ∷ [])));
-      gives = let P : Option (List ℕ) → Type 0 = λ x. Gives (whole s x) r.text in subst P is r.gives;
-      left_is = r.left_is ∙ ap (λ x. record { begun = going_on s x; segment = None }) is;
-    }
+    gave_behind s text _ split.told split.later texts left split.all with_it r
 
-given_text : (s : Segment) (message : List ℕ) (text : Option (List ℕ)) → s.last ≡ true → Gives (whole s (Some message)) text → IsUtf8 message → text ≡ Some message
+pub given_text : (s : Segment) (message : List ℕ) (text : Option (List ℕ)) → s.last ≡ true → Gives (whole s (Some message)) text → IsUtf8 message → text ≡ Some message
 given_text s message None last gives utf8 =
     let P : Option (List ℕ) → Type 0 = λ x. Gives x None in
     let g = subst P (ap (λ t. if t then Some message else None) last) gives in
@@ -253,6 +269,6 @@ ends_given v reading message told text left entries e run =
     let Q : Reading → Type 0 = λ l. AllByRecursion IsEntry l in
     let split = runs_split v e.front e.pieces (told ++ text ∷ []) left (subst P e.all run) in
     let r = arrived e.toggle e.number e.segment message e.pieces split.mid split.later left e.goes (all_parts IsEntry e.front e.pieces (subst Q e.all entries)).1 (text_plain message e.utf8) e.few split.second in
-    let same = same_from_push told (split.told ++ r.told) text r.text
-    (split.all ∙ (ap (λ l. split.told ++ l) r.texts_are ∙ sym (append_assoc split.told r.told (r.text ∷ [])))) in
-    same.1 ∙ given_text e.segment message r.text e.last r.gives e.utf8
+    let same = same_from_push told (split.told ++ r.told) text r.given
+    (split.all ∙ (ap (λ l. split.told ++ l) r.texts_are ∙ sym (append_assoc split.told r.told (r.given ∷ [])))) in
+    same.1 ∙ given_text e.segment message r.given e.last r.gives e.utf8

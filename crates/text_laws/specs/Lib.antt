@@ -1,3 +1,4 @@
 pub mod Readings
 pub mod Runs
+pub mod Losses
 pub mod Laws

@@ -1,6 +1,6 @@
 //! The laws of joining pieces, each on a function that does nothing.
 
-ghost use Rattle.text_laws.specs.Laws.{AnswersEach, JoinsMessages};
+ghost use Rattle.text_laws.specs.Laws.{AnswersEach, GivesWhatIsWhole, JoinsMessages};
 
 /// Of every reading the messages that are in it are given, and no others.
 pub fn joins_messages()
@@ -10,4 +10,9 @@ pub fn joins_messages()
 /// At each place of every reading a message is given exactly where one ends there.
 pub fn answers_each()
     ensures { AnswersEach }
+{}
+
+/// Of messages whose pieces come with losses those are given that are whole.
+pub fn gives_what_is_whole()
+    ensures { GivesWhatIsWhole }
 {}
