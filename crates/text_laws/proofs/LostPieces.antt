@@ -1,9 +1,9 @@
 -- Pieces of messages with losses, joined.
-use Rattle.std.proofs.Common.{◌≡◌, ℕ, zero, suc, ◌+◌, ◌-◌, ◌*◌, ◌/◌, ◌<◌, ◌≤◌, ◌==◌, nat_le, ◌⊎◌, inl, inr, Bool, true, false, ◌&&◌, not, if◌then◌else◌, List, [], ◌∷◌, ◌++◌, length, take, drop, Option, Some, None, refl, sym, ap, ap₂, subst, ◌∙◌, arith, length-append, length-drop}
+use Rattle.std.proofs.Common.{◌≡◌, ℕ, zero, suc, ◌+◌, ◌-◌, ◌*◌, ◌/◌, ◌<◌, ◌≤◌, ◌==◌, ◌⊎◌, inl, inr, Bool, true, false, ◌&&◌, not, if◌then◌else◌, List, [], ◌∷◌, ◌++◌, length, take, drop, Option, Some, None, refl, sym, ap, ap₂, subst, ◌∙◌, arith, length-append, length-drop}
 use Rattle.std.specs.List.{AllByRecursion}
 use Rattle.std.proofs.lemmas.Bool.{cases_Bool, ne_eqb, le-leb, lt-leb}
 use Rattle.std.proofs.lemmas.List.{take_all, take-take, drop-take, length-take, length-take-le, take-append-drop}
-use Rattle.drm_text.specs.Segment.{Segment, most_body, IsSegment}
+use Rattle.drm_text.specs.Segment.{Segment, most_body}
 use Rattle.drm_text.specs.Message.{start, most_message, segment_at}
 use Rattle.drm_text.specs.Joining.{Begun, State, Gathered, Starts, Strays, made, is_start, gather, gather_on, segment_after, joined, bytes_with, going_on, whole, ReadsIn, begun_by, Gives}
 use Rattle.drm_text.proofs.Spellings.{placed}
@@ -12,7 +12,7 @@ use Rattle.text_laws.specs.Readings.{Reading, came, bytes_of}
 use Rattle.text_laws.specs.Runs.{Runs, with_message, messages_in}
 use Rattle.text_laws.specs.Losses.{IsMessage, ArePiecesFrom, Sending, IsSending, kept_of, all_kept, reading_of, whole_messages}
 use Rattle.text_laws.specs.Laws.{GivesWhatIsWhole}
-use Rattle.text_laws.proofs.Arrivals.{IsFour, Arriving, Filled, runs_split, in_segment, not_start, grow, nothing_given, filled_on, filling, begins_with, joins_with, goes_on, given_text}
+use Rattle.text_laws.proofs.Arrivals.{Arriving, Filled, runs_split, in_segment, not_start, grow, nothing_given, filled_on, filling, begins_with, joins_with, goes_on, given_text}
 use Rattle.text_laws.proofs.Sendings.{Parts, parts_of}
 
 -- a run that gives nothing, and leaves the joiner as new

@@ -1,5 +1,5 @@
 -- The pieces of a message, by its segments.
-use Rattle.std.proofs.Common.{◌≡◌, ℕ, zero, suc, ◌+◌, ◌-◌, ◌*◌, ◌/◌, ◌%◌, ◌<◌, ◌≤◌, nat_lt, inl, inr, Bool, true, false, if◌then◌else◌, List, [], ◌∷◌, ◌++◌, length, take, drop, replicate, Option, Some, None, refl, sym, ap, ap₂, subst, ◌∙◌, append_assoc, arith, length-append, length-drop}
+use Rattle.std.proofs.Common.{◌≡◌, ℕ, zero, suc, ◌+◌, ◌-◌, ◌*◌, ◌/◌, ◌%◌, ◌<◌, ◌≤◌, inl, inr, Bool, if◌then◌else◌, List, [], ◌∷◌, ◌++◌, length, take, drop, replicate, Option, Some, None, refl, sym, ap, ap₂, subst, ◌∙◌, arith, length-append, length-drop}
 use Rattle.std.specs.Int.{w16, to_be_bytes}
 use Rattle.std.specs.List.{AllByRecursion}
 use Rattle.std.proofs.lemmas.Bool.{cases_lt, lt-ltb, le-ltb}
@@ -9,6 +9,7 @@ use Rattle.drm_text.specs.Message.{start, segment_at, piece_at, IsPieceOf}
 use Rattle.drm_bits.proofs.Checks.{one_check}
 use Rattle.text_laws.specs.Readings.{bytes_of}
 use Rattle.text_laws.specs.Losses.{ArePiecesFrom}
+use Rattle.text_laws.specs.Laws.{OneList}
 use Rattle.text_laws.proofs.Steps.{same_some}
 use Rattle.text_laws.proofs.Arrivals.{IsFour}
 
@@ -59,6 +60,17 @@ four_more bytes piece rest i is are =
     let next : suc i * 4 ≡ i * 4 + 4 = omega arith in
     ap₂ (λ p l. p ++ l) is (are ∙ (ap (λ n. drop n bytes) next ∙ sym (drop-drop 4 (i * 4) bytes))) ∙ take-append-drop 4 (drop (i * 4) bytes)
 
+rest_more : (toggle : Bool) (message bytes : List ℕ) (i e : ℕ) (piece : List ℕ) (pieces : List (List ℕ)) → i * 4 + 4 ≤ length bytes → piece ≡ take 4 (drop (i * 4) bytes) → Rest toggle message bytes (suc i) e pieces
+    → Rest toggle message bytes i e (piece ∷ pieces)
+rest_more toggle message bytes i e piece pieces fits same r = record {
+  rest = piece ∷ r.rest;
+  more = r.more;
+  all = ap (λ l. piece ∷ l) r.all;
+  bytes_are = four_more bytes piece (bytes_of r.rest) i same r.bytes_are;
+  fours = (four_long bytes piece i fits same, r.fours);
+  behind = r.behind;
+}
+
 rest_of : (toggle : Bool) (message : List ℕ) (j : ℕ) (bytes : List ℕ) (i d k e : ℕ) (pieces : List (List ℕ)) → j * 16 < length message → IsSegment (segment_at toggle message j) bytes → length bytes ≡ (i + d) * 4
     → i + d ≤ 5 → k ≡ j * 6 + suc i → e ≡ j * 6 + suc (i + d) → ArePiecesFrom toggle message k pieces → Rest toggle message bytes i e pieces
 rest_of toggle message j bytes i zero k e pieces within is size few at end h =
@@ -68,18 +80,10 @@ rest_of toggle message j bytes i zero k e pieces within is size few at end h =
 rest_of toggle message j bytes i (suc d) k e [] within is size few at end h =
     clash (take 4 (drop (i * 4) bytes)) (piece_here toggle message j (suc i) k None bytes at (omega (arith, few)) within is h ∙ four_at bytes i (omega (arith, size)))
 rest_of toggle message j bytes i (suc d) k e (piece ∷ pieces) within is size few at end h =
-    let same : piece ≡ take 4 (drop (i * 4) bytes) =
-    same_some piece (take 4 (drop (i * 4) bytes))
-    (piece_here toggle message j (suc i) k (Some piece) bytes at (omega (arith, few)) within is h.0 ∙ four_at bytes i (omega (arith, size))) in
-    let r = rest_of toggle message j bytes (suc i) d (k + 1) e pieces within is (omega (arith, size)) (omega (arith, few)) (omega (arith, at)) (omega (arith, end)) h.1 in
-    record {
-      rest = piece ∷ r.rest;
-      more = r.more;
-      all = ap (λ l. piece ∷ l) r.all;
-      bytes_are = four_more bytes piece (bytes_of r.rest) i same r.bytes_are;
-      fours = (four_long bytes piece i (omega (arith, size)) same, r.fours);
-      behind = r.behind;
-    }
+    rest_more toggle message bytes i e piece pieces (omega (arith, size))
+    (same_some piece (take 4 (drop (i * 4) bytes))
+    (piece_here toggle message j (suc i) k (Some piece) bytes at (omega (arith, few)) within is h.0 ∙ four_at bytes i (omega (arith, size))))
+    (rest_of toggle message j bytes (suc i) d (k + 1) e pieces within is (omega (arith, size)) (omega (arith, few)) (omega (arith, at)) (omega (arith, end)) h.1)
 
 -- the pieces of segment j, and those behind it: there are none where it is the last one
 pub record Parts (toggle : Bool) (message : List ℕ) (j : ℕ) (pieces : List (List ℕ)) : Type 0 where
@@ -104,6 +108,36 @@ nothing_behind toggle message j bytes d e (piece ∷ more) within last is size f
           clash_other piece (h.0.past (omega (arith, next, last)))
     ]
 
+-- how many pieces behind the start a segment has
+abbrev count_of : List ℕ → ℕ → ℕ
+count_of message j = (length (take 16 (drop (j * 16) message)) + 3) / 4 + 1
+
+size_of : (toggle : Bool) (message : List ℕ) (j : ℕ) (bytes : List ℕ) → IsSegment (segment_at toggle message j) bytes → length bytes ≡ count_of message j * 4
+size_of toggle message j bytes is =
+    let s : Segment = segment_at toggle message j in
+    let none : ℕ = 0 in
+    let check : List ℕ = to_be_bytes w16 is.0 in
+    let b : ℕ = length s.body in
+    omega (arith, ap length is.1.spelled, length-append (front s ++ check) (replicate (round_up b - b) none), length-append (front s) check, length-replicate (round_up b - b) none)
+
+parts_from : (toggle : Bool) (message : List ℕ) (j : ℕ) (bytes piece : List ℕ) (pieces : List (List ℕ)) → j * 16 < length message → IsSegment (segment_at toggle message j) bytes → piece ≡ start
+    → Rest toggle message bytes 0 (j * 6 + suc (count_of message j)) pieces → Parts toggle message j (piece ∷ pieces)
+parts_from toggle message j bytes piece pieces within is first r =
+    let P : List ℕ → Type 0 = λ l. IsSegment (segment_at toggle message j) l in
+    let Q : ℕ → Type 0 = λ n. ArePiecesFrom toggle message n r.more in
+    record {
+      rest = r.rest;
+      more = r.more;
+      all = ap₂ (λ p l. p ∷ l) first r.all;
+      segment = subst P (sym r.bytes_are) is;
+      fours = r.fours;
+      last = λ last.
+          nothing_behind toggle message j bytes (count_of message j) (j * 6 + suc (count_of message j)) r.more within last is (size_of toggle message j bytes is) (omega (arith, is.1.few)) refl r.behind;
+      going = λ more.
+          let full : length (take 16 (drop (j * 16) message)) ≡ 16 = length-take-le 16 (drop (j * 16) message) (omega (arith, length-drop (j * 16) message, more)) in
+          subst Q (omega (arith, full)) r.behind;
+    }
+
 pub parts_of : (toggle : Bool) (message : List ℕ) (j k : ℕ) (pieces : List (List ℕ)) → j * 16 < length message → k ≡ j * 6 → ArePiecesFrom toggle message k pieces → Parts toggle message j pieces
 parts_of toggle message j k [] within at h =
     let segment : k / 6 ≡ j = omega (arith, at) in
@@ -116,28 +150,28 @@ parts_of toggle message j k (piece ∷ pieces) within at h =
     let w = h.0.there (omega (arith, segment, within)) in
     let P : ℕ → Type 0 = λ n. IsSegment (segment_at toggle message n) w.0 in
     let is : IsSegment (segment_at toggle message j) w.0 = subst P segment w.1 in
-    let first : piece ≡ start = same_some piece start (w.2 ∙ ap (piece_at w.0) place) in
-    let body : List ℕ = take 16 (drop (j * 16) message) in
-    let check : List ℕ = to_be_bytes w16 is.0 in
-    let b : ℕ = length body in
-    let none : ℕ = 0 in
-    let long : length w.0 ≡ round_up b + 4 =
-    omega (arith, ap length is.1.spelled, length-append (front (segment_at toggle message j) ++ check) (replicate (round_up b - b) none), length-append (front (segment_at toggle message j)) check, length-replicate (round_up b - b) none) in
-    let d : ℕ = (b + 3) / 4 + 1 in
-    let size : length w.0 ≡ d * 4 = omega (arith, long) in
-    let few : d ≤ 5 = omega (arith, is.1.few) in
-    let r = rest_of toggle message j w.0 0 d (k + 1) (j * 6 + suc d) pieces within is (omega (arith, size)) (omega (arith, few)) (omega (arith, at)) (omega arith) h.1 in
-    let bytes_are : bytes_of r.rest ≡ w.0 = r.bytes_are in
-    let Q : List ℕ → Type 0 = λ l. IsSegment (segment_at toggle message j) l in
-    let R : ℕ → Type 0 = λ n. ArePiecesFrom toggle message n r.more in
-    record {
-      rest = r.rest;
-      more = r.more;
-      all = ap₂ (λ p l. p ∷ l) first r.all;
-      segment = subst Q (sym bytes_are) is;
-      fours = r.fours;
-      last = λ last. nothing_behind toggle message j w.0 d (j * 6 + suc d) r.more within last is size few refl r.behind;
-      going = λ more.
-          let full : b ≡ 16 = length-take-le 16 (drop (j * 16) message) (omega (arith, length-drop (j * 16) message, more)) in
-          subst R (omega (arith, full)) r.behind;
-    }
+    parts_from toggle message j w.0 piece pieces within is (same_some piece start (w.2 ∙ ap (piece_at w.0) place))
+    (rest_of toggle message j w.0 0 (count_of message j) (k + 1) (j * 6 + suc (count_of message j)) pieces within is (omega (arith, size_of toggle message j w.0 is)) (omega (arith, is.1.few)) (omega (arith, at)) (omega arith)
+    h.1)
+
+-- a piece of a message is one
+one_piece : (toggle : Bool) (message : List ℕ) (k : ℕ) (p q : Option (List ℕ)) → IsPieceOf toggle message k p → IsPieceOf toggle message k q → p ≡ q
+one_piece toggle message k p q h i =
+    elim (cases_lt (k / 6 * 16) (length message)) [
+      | inl within ↦
+          let v = h.there within in
+          let w = i.there within in
+          v.2 ∙ (ap (λ l. piece_at l (k % 6)) (same_bytes (segment_at toggle message (k / 6)) v.0 w.0 v.1 w.1) ∙ sym w.2)
+      | inr past ↦ h.past past ∙ sym (i.past past)
+    ]
+
+one_from : (toggle : Bool) (message : List ℕ) (k : ℕ) (xs ys : List (List ℕ)) → ArePiecesFrom toggle message k xs → ArePiecesFrom toggle message k ys → xs ≡ ys
+one_from toggle message k [] [] h i = refl
+one_from toggle message k [] (y ∷ ys) h i = clash y (one_piece toggle message k None (Some y) h i.0)
+one_from toggle message k (x ∷ xs) [] h i = clash_other x (one_piece toggle message k (Some x) None h.0 i)
+one_from toggle message k (x ∷ xs) (y ∷ ys) h i =
+    ap₂ (λ z l. z ∷ l) (same_some x y (one_piece toggle message k (Some x) (Some y) h.0 i.0)) (one_from toggle message (k + 1) xs ys h.1 i.1)
+
+-- the pieces of a message are one list
+pub one_list : OneList
+one_list toggle message xs ys h i = one_from toggle message 0 xs ys h i

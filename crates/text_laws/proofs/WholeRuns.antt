@@ -3,9 +3,10 @@ use Rattle.std.proofs.Common.{◌≡◌, ℕ, ◌⊎◌, inl, inr, List, [], ◌
 use Rattle.std.specs.Prelude.{◌↔◌}
 use Rattle.std.specs.List.{AllByRecursion}
 use Rattle.drm_text.specs.Joining.{State, made, after}
+use Rattle.drm_text.specs.Taking.{text_of}
 use Rattle.text_laws.specs.Readings.{Reading, IsEntry, EndsMessage, AreMessages}
 use Rattle.text_laws.specs.Runs.{Runs, with_message, messages_in}
-use Rattle.text_laws.specs.Laws.{JoinsMessages, AnswersEach}
+use Rattle.text_laws.specs.Laws.{RunsByCalls, JoinsMessages, AnswersEach}
 use Rattle.text_laws.proofs.Steps.{Holds, clash_some, step, step_gap}
 use Rattle.text_laws.proofs.Arrivals.{all_parts, ends_given}
 
@@ -23,6 +24,13 @@ runs_join s (None ∷ xs) ys (text ∷ told) later mid left h k = (h.0, runs_joi
 runs_join s (Some piece ∷ xs) ys [] later mid left h k = absurd h
 runs_join s (Some piece ∷ xs) ys (text ∷ told) later mid left (read, reads, gives, rest) k =
     (read, reads, gives, runs_join (after s piece read) xs ys told later mid left rest k)
+
+pub runs_by_calls : RunsByCalls
+runs_by_calls reading texts s run = record {
+  piece = λ piece result left tells leaves.
+      runs_join made reading (Some piece ∷ []) texts (text_of result ∷ []) s left run (tells.0, tells.1, tells.2, (refl, leaves tells.0 tells.1));
+  gap = runs_join made reading (None ∷ []) texts (None ∷ []) s made run (refl, (refl, refl));
+}
 
 -- a run is one step and the run behind it
 one_by_one : (s : State) (x : Option (List ℕ)) (reading : Reading) (text : Option (List ℕ)) (texts : List (Option (List ℕ))) (left : State) → Runs s (x ∷ reading) (text ∷ texts) left

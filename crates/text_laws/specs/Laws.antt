@@ -1,10 +1,24 @@
 -- The laws of joining pieces.
-use Rattle.std.specs.Prelude.{ℕ, ◌≡◌, ◌↔◌, List, [], ◌∷◌, ◌++◌, length, Option, Some}
+use Rattle.std.specs.Prelude.{ℕ, ◌≡◌, ◌↔◌, Bool, List, [], ◌∷◌, ◌++◌, length, Option, None, Some}
 use Rattle.std.specs.List.{AllByRecursion}
-use Rattle.drm_text.specs.Joining.{State, made}
+use Rattle.std.specs.Borrow.{Bor}
+use Rattle.drm_text.specs.Segment.{Segment}
+use Rattle.drm_text.specs.Joining.{State, made, gather, ReadsIn, after}
+use Rattle.drm_text.specs.Taking.{Tells, text_of}
 use Rattle.text_laws.specs.Readings.{Reading, IsEntry, EndsMessage, AreMessages}
 use Rattle.text_laws.specs.Runs.{Runs, messages_in}
-use Rattle.text_laws.specs.Losses.{Sending, IsSending, reading_of, whole_messages}
+use Rattle.text_laws.specs.Losses.{ArePiecesFrom, Sending, IsSending, reading_of, whole_messages}
+
+-- What a joiner's calls say one after another is its run: where a piece is taken, by what is told and by what the joiner is then, however
+-- the piece is read; and where a gap is.
+pub record CallsAreARun (reading : Reading) (texts : List (Option (List ℕ))) (s : State) : Type 0 where
+  pub piece : (piece : List ℕ) (result : Option (Bor (List ℕ))) (left : State)
+      → Tells s piece result → ((read : Option Segment) → ReadsIn (gather s.segment piece) read → left ≡ after s piece read)
+      → Runs made (reading ++ Some piece ∷ []) (texts ++ text_of result ∷ []) left
+  pub gap : Runs made (reading ++ None ∷ []) (texts ++ None ∷ []) made
+
+abbrev pub RunsByCalls : Type 0
+RunsByCalls = (reading : Reading) (texts : List (Option (List ℕ))) (s : State) → Runs made reading texts s → CallsAreARun reading texts s
 
 -- Of every reading a new joiner gives the messages that are in it, and no others.
 abbrev pub JoinsMessages : Type 0
@@ -19,6 +33,12 @@ AnswersEach =
     (before more : Reading) (x : Option (List ℕ)) (told later : List (Option (List ℕ))) (text : Option (List ℕ)) (left : State)
     → AllByRecursion IsEntry (before ++ x ∷ more) → Runs made (before ++ x ∷ more) (told ++ text ∷ later) left → length told ≡ length before
     → (message : List ℕ) → (text ≡ Some message) ↔ EndsMessage (before ++ x ∷ []) message
+
+-- The pieces of a message are one list.
+abbrev pub OneList : Type 0
+OneList =
+    (toggle : Bool) (message : List ℕ) (first second : List (List ℕ))
+    → ArePiecesFrom toggle message 0 first → ArePiecesFrom toggle message 0 second → first ≡ second
 
 -- Of the pieces of messages one after another, some of which are lost with a gap in place of each, a new joiner gives exactly the
 -- messages of which none is lost, whatever their toggles are. At the end it is as new.

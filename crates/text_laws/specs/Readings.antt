@@ -22,15 +22,15 @@ abbrev pub bytes_of : List (List ℕ) → List ℕ
 bytes_of [] = []
 bytes_of (piece ∷ pieces) = piece ++ bytes_of pieces
 
--- A segment came whole: the start, and directly behind it pieces that together are the bytes of the segment. With them are its right
--- check value, four zero bits, command 0 and zeros at its end.
+-- A segment came whole: the start, and directly behind it pieces that together are the segment's bytes. That says that its check value
+-- is right, that its command and four more bits are 0, and that zeros stand at its end.
 pub record CameWhole (s : Segment) (reading : Reading) : Type 0 where
   pub pieces : List (List ℕ)
   pub all : reading ≡ Some start ∷ came pieces
   pub segment : IsSegment s (bytes_of pieces)
 
--- Directly behind what came before of a message its segment n came whole. It alone is first where n is 0, and it has the toggle of the
--- others. These are the bytes of the message with it.
+-- Directly behind what came of a message before, its segment n came whole. It says its number and the toggle, and that it is first exactly
+-- where it is. This is the text of the message with it.
 pub record GoesOn (Before : List ℕ → Reading → Type 0) (toggle : Bool) (n : ℕ) (s : Segment) (text : List ℕ) (reading : Reading) : Type 0 where
   pub before : List ℕ
   pub ahead : Reading
@@ -43,8 +43,8 @@ pub record GoesOn (Before : List ℕ → Reading → Type 0) (toggle : Bool) (n 
   pub whole : CameWhole s here
   pub all : reading ≡ ahead ++ here
 
--- The reading is n segments of a message, one directly behind another, from number 0 on. None of them is last, and each has a body of
--- 16 bytes.
+-- The reading is n segments of a message, one directly behind another, from number 0 on, with no gap and no other piece between. None of
+-- them is last, and each has a body of 16 bytes.
 abbrev pub AreBegun : Bool → ℕ → List ℕ → Reading → Type 0
 AreBegun toggle zero text reading = (text ≡ []) × (reading ≡ [])
 AreBegun toggle (suc n) text reading =

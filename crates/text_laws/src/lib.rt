@@ -3,4 +3,4 @@
 
 mod laws;
 
-pub use laws::{answers_each, gives_what_is_whole, joins_messages};
+pub use laws::{answers_each, gives_what_is_whole, joins_messages, one_list, runs_by_calls};
