@@ -19,8 +19,13 @@ FIELDS = ("dcp-af.seq", "dcp-af.len", "dcp-af.crc", "dcp-af.crc_ok", "dcp-tpl.tl
 
 
 def convert(program, capture, carry):
-    """The capture under this carry."""
-    return subprocess.run([program, "convert", carry], input=capture, stdout=subprocess.PIPE, check=True).stdout
+    """The capture under this carry, or nothing where it has a packet that is too long for it."""
+    ran = subprocess.run([program, "convert", carry], input=capture, stdout=subprocess.PIPE, stderr=subprocess.PIPE, check=False)
+    if ran.stderr.endswith(b": packet-size\n"):
+        return None
+    if ran.returncode:
+        sys.exit(f"convert {carry} ended with {ran.returncode}: {ran.stderr.decode(errors='replace').strip()}")
+    return ran.stdout
 
 
 def packets(capture, folder):
@@ -45,6 +50,9 @@ def main():
             wanted = packets(whole, folder)
             for carry in CARRIES:
                 converted = convert(program, capture, carry)
+                if converted is None:
+                    print(f"{path}: its packets are too long for {carry}", flush=True)
+                    continue
                 same = packets(converted, folder) == wanted and convert(program, converted, "plain") == whole
                 differ += not same
                 print(f"{path}: {len(wanted)} packets under {carry}: {'the same' if same else 'they differ'}", flush=True)
