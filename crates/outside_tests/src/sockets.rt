@@ -216,25 +216,33 @@ fn a_send_to_nobody_is_no_fault(rt: HostRuntime) {
     assert!(rt; sends_to_nobody(rt.alloc(), &mut dock, 47_400));
 }
 
-fn rests<R: Clock, L: Link>(rt: &R, link: &mut L, millis: u32) -> bool {
-    let Ok(start) = Instant::now(rt) else {
-        return false;
-    };
+// Whether a rest ends when so much time has passed, or later.
+fn rests<R: Clock, L: Link>(
+    rt: &R,
+    link: &mut L,
+    millis: u32,
+    begun: Instant,
+    least: Duration,
+) -> bool {
     link.rest(millis);
-    match start.elapsed(rt) {
-        Ok(passed) => {
-            passed >= Duration::from_millis(u64::from(millis)) && passed < Duration::from_secs(5)
-        }
+    match begun.elapsed(rt) {
+        Ok(passed) => passed >= least && passed < Duration::from_secs(5),
         Err(_) => false,
     }
 }
 
 const RESTS: [u32; 4] = [0, 1, 5, 50];
 
-// How many of the rests take their time before the first that doesn't. What comes in this time doesn't end them.
+// How many of the rests take their time, together with those before, before the first that doesn't. What comes in this time
+// doesn't end them.
 fn so_many_rest<R: Clock, L: Link>(rt: &R, from: &mut L, to: &mut L) -> usize {
+    let Ok(begun) = Instant::now(rt) else {
+        return 0;
+    };
+    let mut least = Duration::from_millis(0);
     for (k, millis) in RESTS.iter().enumerate() {
-        if !(sends_twice(from) && rests(rt, to, *millis)) {
+        least = least.saturating_add(Duration::from_millis(u64::from(*millis)));
+        if !(sends_twice(from) && rests(rt, to, *millis, begun, least)) {
             return k;
         }
     }
