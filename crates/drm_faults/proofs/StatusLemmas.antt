@@ -2,7 +2,7 @@
 use Rattle.std.proofs.Common.{ℕ, ◌≡◌, ◌⊎◌, inl, inr, Option, Some, None, refl, sym, ◌∙◌, ap}
 use Rattle.std.specs.Prelude.{◌==◌, if◌then◌else◌}
 use Rattle.drm_faults.specs.declared.fault.Fault.{Fault}
-use Rattle.drm_faults.specs.declared.fault.Fault.TheVariants.{NoMemory, Words, FacLength, FacOver, FacCrc, Schedule, Script, Capture, CaptureTooLong, PacketSize, Read, Write, Link}
+use Rattle.drm_faults.specs.declared.fault.Fault.TheVariants.{NoMemory, Words, FacLength, FacOver, FacCrc, Schedule, Script, Capture, CaptureTooLong, PacketSize, Units, Read, Write, Link}
 use Rattle.drm_faults.specs.Fault.{fault_status}
 
 -- the one fault that has this status, if there is just one
@@ -29,6 +29,7 @@ is_only (Script l r) = inr refl
 is_only (Capture f) = inr refl
 is_only CaptureTooLong = inr refl
 is_only (PacketSize p) = inr refl
+is_only (Units f) = inr refl
 is_only Read = inl refl
 is_only Write = inl refl
 is_only Link = inl refl

@@ -4,7 +4,7 @@ use Rattle.drm_links.specs.Told.{Known, HasFailed}
 use Rattle.drm_links.specs.Sink.{Output, Outputs, IsFront}
 use Rattle.drm_faults.specs.Lines.{fault_line}
 use Rattle.drm_faults.specs.declared.fault.Fault.{Fault}
-use Rattle.drm_faults.specs.declared.fault.Fault.TheVariants.{NoMemory, Words, FacLength, FacOver, FacCrc, Schedule, Script, Capture, CaptureTooLong, PacketSize, Read, Write, Link}
+use Rattle.drm_faults.specs.declared.fault.Fault.TheVariants.{NoMemory, Words, FacLength, FacOver, FacCrc, Schedule, Script, Capture, CaptureTooLong, PacketSize, Units, Read, Write, Link}
 
 abbrev pub fault_status : Fault → ℕ
 fault_status NoMemory = 1
@@ -17,6 +17,7 @@ fault_status (Script line reason) = 3
 fault_status (Capture fault) = 3
 fault_status CaptureTooLong = 3
 fault_status (PacketSize packet) = 3
+fault_status (Units fault) = 3
 fault_status Read = 4
 fault_status Write = 5
 fault_status Link = 6

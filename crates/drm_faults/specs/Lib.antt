@@ -3,4 +3,5 @@ pub mod Reasons
 pub mod Lines
 pub mod FacFaults
 pub mod Captures
+pub mod Units
 pub mod Fault

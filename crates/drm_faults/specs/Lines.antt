@@ -3,9 +3,10 @@ use Rattle.std.specs.Prelude.{ℕ, List, [], ◌∷◌, codes, decimal}
 use Rattle.std.specs.List.{concat}
 use Rattle.drm_faults.specs.CrcLine.{crc_line}
 use Rattle.drm_faults.specs.Captures.{capture_line}
+use Rattle.drm_faults.specs.Units.{units_line}
 use Rattle.drm_faults.specs.Reasons.{reason_word, schedule_line, script_line}
 use Rattle.drm_faults.specs.declared.fault.Fault.{Fault}
-use Rattle.drm_faults.specs.declared.fault.Fault.TheVariants.{NoMemory, Words, FacLength, FacOver, FacCrc, Schedule, Script, Capture, CaptureTooLong, PacketSize, Read, Write, Link}
+use Rattle.drm_faults.specs.declared.fault.Fault.TheVariants.{NoMemory, Words, FacLength, FacOver, FacCrc, Schedule, Script, Capture, CaptureTooLong, PacketSize, Units, Read, Write, Link}
 
 -- the line of a fault
 abbrev pub fault_line : Fault → List ℕ
@@ -19,6 +20,7 @@ fault_line (Script line reason) = script_line line (reason_word reason)
 fault_line (Capture fault) = capture_line fault
 fault_line CaptureTooLong = codes "drmcast: capture byte 4294967295: too-long\n"
 fault_line (PacketSize packet) = concat (codes "drmcast: packet " ∷ decimal packet ∷ codes ": packet-size\n" ∷ [])
+fault_line (Units fault) = units_line fault
 fault_line Read = codes "drmcast: read fault\n"
 fault_line Write = codes "drmcast: write fault\n"
 fault_line Link = codes "drmcast: link fault\n"

@@ -7,6 +7,7 @@ ghost use Rattle.drm_faults.specs.CrcLine.{crc_line};
 
 use crate::capture::capture_pieces;
 use crate::reason::{schedule_pieces, script_pieces};
+use crate::units::{UnitsFault, units_pieces};
 use drm_bits::NoMemory;
 use drm_capture::{CaptureFault, CaptureStop};
 use drm_fac::FacFault;
@@ -29,6 +30,7 @@ pub enum Fault {
     CaptureTooLong,
     /// The packet with this number is too large for the carry.
     PacketSize(u64),
+    Units(UnitsFault),
     Read,
     Write,
     Link,
@@ -130,6 +132,7 @@ impl Fault {
             Fault::FacLength(_) | Fault::FacOver | Fault::FacCrc { .. } => 3,
             Fault::Schedule { .. } | Fault::Script { .. } => 3,
             Fault::Capture(_) | Fault::CaptureTooLong | Fault::PacketSize(_) => 3,
+            Fault::Units(_) => 3,
             Fault::Read => 4,
             Fault::Write => 5,
             Fault::Link => 6,
@@ -170,6 +173,7 @@ impl Fault {
                     Piece::Words(": packet-size\n"),
                 ],
             ),
+            Fault::Units(fault) => write_pieces(err, &units_pieces(fault)),
             Fault::Read => write_words(err, "drmcast: read fault\n"),
             Fault::Write => write_words(err, "drmcast: write fault\n"),
             Fault::Link => write_words(err, "drmcast: link fault\n"),

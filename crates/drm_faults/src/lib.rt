@@ -4,5 +4,7 @@
 mod capture;
 mod fault;
 mod reason;
+mod units;
 
 pub use fault::Fault;
+pub use units::{UnitsFault, UnitsReason};

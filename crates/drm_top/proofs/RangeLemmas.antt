@@ -3,7 +3,7 @@ use Rattle.std.proofs.Common.{◌≡◌, ◌≤◌, ℕ, List, [], ◌∷◌, Op
 use Rattle.drm_links.specs.declared.dock.Address.{Address}
 use Rattle.drm_words.specs.declared.request.Request.{Request}
 use Rattle.drm_words.specs.declared.request.Request.TheVariants as requests
-use Rattle.drm_words.specs.Table.{IsNumberOr, IsNumberOrNone, AreAddressesOrNone, HasTextNames}
+use Rattle.drm_words.specs.Table.{Options, IsNumberOr, IsNumberOrNone, IsStretch, IsReading, AreAddressesOrNone, HasTextNames}
 use Rattle.drm_words.specs.Line.{IsLine}
 use Rattle.mod_receiver.specs.declared.rules.Rules.{Rules}
 use Rattle.dcp_pft.specs.declared.carry.Carry.{Carry}
@@ -12,9 +12,9 @@ use Rattle.dcp_pft.specs.Carrying.{CarryFits}
 use Rattle.word_forms.specs.Carries.{IsCarry}
 use Rattle.drm_receive.specs.Terms.{AreListed}
 use Rattle.mod_receiver.specs.Ranges.{AreInRange}
-use Rattle.drm_top.specs.Words.{request_of, IsInRange}
+use Rattle.drm_top.specs.Words.{request_of, IsInRange, IsInStretch}
 use Rattle.drm_top.specs.declared.words.Command.{Command}
-use Rattle.drm_top.specs.declared.words.Command.TheVariants.{Fac, Check, Serve, Send, Receive, ReceiveCapture, Air, Show, Exercise, Convert}
+use Rattle.drm_top.specs.declared.words.Command.TheVariants.{Fac, Check, Serve, Send, Receive, ReceiveCapture, Air, Show, Exercise, Convert, Gate, Pack, Unpack, Texts}
 
 within : (default least greatest n : ℕ) (value : Option (List ℕ)) → least ≤ default → default ≤ greatest → IsNumberOr default least greatest value n → (least ≤ n) × (n ≤ greatest)
 within default least greatest n None low high is = (omega (arith, is, low), omega (arith, is, high))
@@ -36,13 +36,12 @@ listed (text ∷ other ∷ texts) addresses is = absurd is
 abbrev reading_of : Option (List Address) → Rules → Request
 reading_of addresses rules = requests.Receive addresses rules.window rules.first rules.frames rules.idle rules.limit
 
-reads : (words : List (List ℕ)) (addresses : Option (List Address)) (rules : Rules) → IsLine words (reading_of addresses rules) → AreInRange rules
-reads words addresses rules line =
-    let asks = line.asks in
-    let window = within 8 1 64 rules.window _ (omega arith) (omega arith) asks.3.stretch.has_window in
-    let frames = within_or_none 1 3000000 _ rules.frames asks.3.stretch.has_frames in
-    let idle = within 50 1 1000000 rules.idle _ (omega arith) (omega arith) asks.3.has_idle in
-    let limit = within 4294967295 1 4294967295 rules.limit _ (omega arith) (omega arith) asks.3.has_limit in
+in_reading : (options : Options) (rules : Rules) → IsReading options rules.window rules.first rules.frames rules.idle rules.limit → AreInRange rules
+in_reading options rules reading =
+    let window = within 8 1 64 rules.window _ (omega arith) (omega arith) reading.stretch.has_window in
+    let frames = within_or_none 1 3000000 _ rules.frames reading.stretch.has_frames in
+    let idle = within 50 1 1000000 rules.idle _ (omega arith) (omega arith) reading.has_idle in
+    let limit = within 4294967295 1 4294967295 rules.limit _ (omega arith) (omega arith) reading.has_limit in
     let less : rules.limit ≤ 4294967295 = limit.1 in
     record {
       some_window = window.0;
@@ -54,6 +53,9 @@ reads words addresses rules line =
       some_datagrams = limit.0;
       few_datagrams = omega (arith, less);
     }
+
+reads : (words : List (List ℕ)) (addresses : Option (List Address)) (rules : Rules) → IsLine words (reading_of addresses rules) → AreInRange rules
+reads words addresses rules line = let asks = line.asks in in_reading _ rules asks.3
 
 lists : (words : List (List ℕ)) (addresses : List Address) (rules : Rules) → IsLine words (reading_of (Some addresses) rules) → AreListed addresses
 lists words addresses rules line = let asks = line.asks in listed _ addresses asks.1
@@ -72,12 +74,32 @@ both : (frames : Option ℕ) → IfSome frames (λ n. 1 ≤ n) → IfSome frames
 both None some few = tt
 both (Some n) some few = (some, few)
 
-converts : (words : List (List ℕ)) (carry : Carry) (window : ℕ) (first frames : Option ℕ) → IsLine words (request_of (Convert carry window first frames)) → IsInRange (Convert carry window first frames)
-converts words carry window first frames line =
-    let stretch = line.asks.5 in
+in_stretch : (options : Options) (window : ℕ) (first frames : Option ℕ) → IsStretch options window first frames → IsInStretch window frames
+in_stretch options window first frames stretch =
     let size = within 8 1 64 window _ (omega arith) (omega arith) stretch.has_window in
     let some = within_or_none 1 3000000 _ frames stretch.has_frames in
-    (carry_fits line.asks.1 carry line.asks.3, size.0, size.1, both frames some.0 some.1)
+    (size.0, size.1, both frames some.0 some.1)
+
+converts : (words : List (List ℕ)) (carry : Carry) (window : ℕ) (first frames : Option ℕ) → IsLine words (request_of (Convert carry window first frames)) → IsInRange (Convert carry window first frames)
+converts words carry window first frames line = (carry_fits line.asks.1 carry line.asks.3, in_stretch _ window first frames line.asks.5)
+
+gates : (words : List (List ℕ)) (from to : Address) (carry : Carry) (rules : Rules) → IsLine words (request_of (Gate from to carry rules)) → IsInRange (Gate from to carry rules)
+gates words from to carry rules line = (carry_fits line.asks.3 carry line.asks.7, in_reading _ rules line.asks.9)
+
+packs : (words : List (List ℕ)) (pid length : ℕ) → IsLine words (request_of (Pack pid length)) → IsInRange (Pack pid length)
+packs words pid length line = (let few = line.asks.4.2 in omega (arith, few), line.asks.5.1)
+
+unpacks : (words : List (List ℕ)) (stream pid length window : ℕ) (first frames : Option ℕ) → IsLine words (request_of (Unpack stream pid length window first frames))
+    → IsInRange (Unpack stream pid length window first frames)
+unpacks words stream pid length window first frames line = (
+  let few = line.asks.5.2 in omega (arith, few),
+  let few = line.asks.6.2 in omega (arith, few),
+  line.asks.7.1,
+  in_stretch _ window first frames line.asks.9,
+)
+
+tells_texts : (words : List (List ℕ)) (stream window : ℕ) (first frames : Option ℕ) → IsLine words (request_of (Texts stream window first frames)) → IsInRange (Texts stream window first frames)
+tells_texts words stream window first frames line = (let few = line.asks.3.2 in omega (arith, few), in_stretch _ window first frames line.asks.5)
 
 pub in_range : (came : Command) (request : Request) (words : List (List ℕ)) → request ≡ request_of came → IsLine words request → HasTextNames request → IsInRange came
 in_range Fac request words asks line text = tt
@@ -95,3 +117,7 @@ in_range (Air name script window) request words asks line text =
 in_range Show request words asks line text = tt
 in_range (Exercise n) request words asks line text = exercises words n (subst (λ r. IsLine words r) asks line)
 in_range (Convert carry window first frames) request words asks line text = converts words carry window first frames (subst (λ r. IsLine words r) asks line)
+in_range (Gate from to carry rules) request words asks line text = gates words from to carry rules (subst (λ r. IsLine words r) asks line)
+in_range (Pack pid length) request words asks line text = packs words pid length (subst (λ r. IsLine words r) asks line)
+in_range (Unpack stream pid length window first frames) request words asks line text = unpacks words stream pid length window first frames (subst (λ r. IsLine words r) asks line)
+in_range (Texts stream window first frames) request words asks line text = tells_texts words stream window first frames (subst (λ r. IsLine words r) asks line)

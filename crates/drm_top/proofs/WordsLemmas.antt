@@ -6,7 +6,7 @@ use Rattle.drm_words.specs.declared.request.Request.{Request}
 use Rattle.drm_words.specs.declared.request.Request.TheVariants as requests
 use Rattle.drm_words.specs.Line.{IsLine}
 use Rattle.drm_top.specs.declared.words.Command.{Command}
-use Rattle.drm_top.specs.declared.words.Command.TheVariants.{Fac, Check, Serve, Send, Receive, ReceiveCapture, Air, Show, Exercise, Convert}
+use Rattle.drm_top.specs.declared.words.Command.TheVariants.{Fac, Check, Serve, Send, Receive, ReceiveCapture, Air, Show, Exercise, Convert, Gate, Pack, Unpack, Texts}
 use Rattle.drm_top.specs.Words.{request_of, AsksFor}
 
 -- the command that a request is asked by, where there is one
@@ -23,6 +23,11 @@ command_by (requests.Air name script window) = Air name script window
 command_by requests.Show = Show
 command_by (requests.Exercise n) = Exercise n
 command_by (requests.Convert carry window first frames) = Convert carry window first frames
+command_by (requests.Gate from to carry window first frames idle limit) =
+    Gate from to carry (record { window = window; first = first; frames = frames; idle = idle; limit = limit })
+command_by (requests.Pack pid length) = Pack pid length
+command_by (requests.Unpack stream pid length window first frames) = Unpack stream pid length window first frames
+command_by (requests.Texts stream window first frames) = Texts stream window first frames
 
 same_command : (a : Command) → command_by (request_of a) ≡ a
 same_command Fac = refl
@@ -35,6 +40,10 @@ same_command (Air name script window) = refl
 same_command Show = refl
 same_command (Exercise n) = refl
 same_command (Convert carry window first frames) = refl
+same_command (Gate from to carry rules) = refl
+same_command (Pack pid length) = refl
+same_command (Unpack stream pid length window first frames) = refl
+same_command (Texts stream window first frames) = refl
 
 one_command : (a b : Command) → request_of a ≡ request_of b → a ≡ b
 one_command a b is = sym (same_command a) ∙ (ap command_by is ∙ same_command b)

@@ -57,6 +57,34 @@ pub enum Command {
         first: Option<u16>,
         frames: Option<u64>,
     },
+    /// `gate` from one address to another one.
+    Gate {
+        from: Address,
+        to: Address,
+        carry: Carry,
+        rules: Rules,
+    },
+    /// `pack`: packets with this id and this data length, in bytes.
+    Pack {
+        pid: u8,
+        length: u8,
+    },
+    /// `unpack` of a stream: its packets with this id and this data length; the window counts packets of the capture.
+    Unpack {
+        stream: u8,
+        pid: u8,
+        length: u8,
+        window: u8,
+        first: Option<u16>,
+        frames: Option<u64>,
+    },
+    /// `texts` of a stream; the window counts packets.
+    Texts {
+        stream: u8,
+        window: u8,
+        first: Option<u16>,
+        frames: Option<u64>,
+    },
 }
 
 /// The command of a command line.
@@ -123,6 +151,54 @@ fn command_of(request: Request) -> Command
             frames,
         } => Command::Convert {
             carry,
+            window,
+            first,
+            frames,
+        },
+        Request::Gate {
+            from,
+            to,
+            carry,
+            window,
+            first,
+            frames,
+            idle,
+            limit,
+        } => Command::Gate {
+            from,
+            to,
+            carry,
+            rules: Rules {
+                window,
+                first,
+                frames,
+                idle,
+                limit,
+            },
+        },
+        Request::Pack { pid, length } => Command::Pack { pid, length },
+        Request::Unpack {
+            stream,
+            pid,
+            length,
+            window,
+            first,
+            frames,
+        } => Command::Unpack {
+            stream,
+            pid,
+            length,
+            window,
+            first,
+            frames,
+        },
+        Request::Texts {
+            stream,
+            window,
+            first,
+            frames,
+        } => Command::Texts {
+            stream,
             window,
             first,
             frames,

@@ -9,16 +9,17 @@ use Rattle.std.proofs.lemmas.Slice.Eq.{bytes_eq-Decides}
 use Rattle.drm_links.specs.declared.dock.Address.{Address}
 use Rattle.dcp_pft.specs.declared.carry.Carry.{Carry}
 use Rattle.drm_words.specs.declared.request.Request.{Request}
-use Rattle.drm_words.specs.declared.request.Request.TheVariants.{Fac, Check, Serve, Receive, Air, Show, Convert, Exercise}
+use Rattle.drm_words.specs.declared.request.Request.TheVariants.{Fac, Check, Serve, Receive, Air, Show, Convert, Exercise, Gate, Pack, Unpack, Texts}
 use Rattle.word_forms.specs.Reading.{within}
-use Rattle.word_forms.specs.Addressing.{carry_of}
+use Rattle.word_forms.specs.Addressing.{address_of, carry_of}
 use Rattle.drm_words.specs.declared.options.Stretch.{Stretch}
 use Rattle.drm_words.specs.declared.options.Reading.{Reading}
 use Rattle.drm_words.specs.Table.{Options, AreOf, IsRequest, stretch_names, reading_names}
-use Rattle.drm_words.specs.Asking.{addresses_or_none, window_of, stretch_of, reading_of, pace_of, to_of, is_bare, bare_of, check_of, serve_with, serve_of, receive_with, receive_of, air_with, air_of, convert_with, convert_of, exercise_with, exercise_of, request_of}
+use Rattle.drm_words.specs.Asking.{addresses_or_none, window_of, stretch_of, reading_of, pace_of, to_of, is_bare, bare_of, check_of, serve_with, serve_of, receive_with, receive_of, air_with, air_of, convert_with, convert_of, exercise_with, exercise_of, gate_with, gate_of, pack_with, pack_of, unpack_with, unpack_of, texts_with, texts_of, request_of}
 use Rattle.word_forms.proofs.OptionLemmas.{stepped}
 use Rattle.word_forms.proofs.NumberLemmas.{within_fits, within_is}
 use Rattle.word_forms.proofs.CarryLemmas.{carry_fits, carry_is}
+use Rattle.word_forms.proofs.AddressLemmas.{address_fits, address_is}
 use Rattle.drm_words.proofs.OptionsLemmas.{addresses_or_none_fit, addresses_or_none_are, with_fits, with_is, none_of, window_fits, window_is, stretch_fits, stretch_is, reading_fits, reading_is, pace_fits, pace_is, to_fits, to_is}
 
 bare_fits : (asked : Request) (texts : List (List ℕ)) (options : Options) (r : Request) → bare_of asked texts options ≡ Some r → (texts ≡ []) × (options ≡ []) × (asked ≡ r)
@@ -102,6 +103,85 @@ exercise_fits (text ∷ []) options r e =
     (refl, text, refl, within_fits 1 1000 text n.value n.is, w.0)
 exercise_fits (text ∷ other ∷ more) options r e = absurd cc
 
+gate_fits : (texts : List (List ℕ)) (options : Options) (r : Request) → gate_of texts options ≡ Some r → IsRequest r (codes "gate") texts options
+unfolding gate_of
+gate_fits [] options r e = absurd cc
+gate_fits (source ∷ []) options r e = absurd cc
+gate_fits (source ∷ target ∷ []) options r e = absurd cc
+gate_fits (source ∷ target ∷ text ∷ []) options r e =
+    let w = with_fits reading_names options (gate_with source target text options) r e in
+    let from = stepped (address_of source) _ r w.1 in
+    let to = stepped (address_of target) _ r from.rest in
+    let carry = stepped (carry_of text) _ r to.rest in
+    let reading = stepped (reading_of options) _ r carry.rest in
+    let taken : Reading = reading.value in
+    subst (λ (x : Request). IsRequest x (codes "gate") (source ∷ target ∷ text ∷ []) options)
+    (same_Some (Gate from.value to.value carry.value taken.stretch.window taken.stretch.first taken.stretch.frames taken.idle taken.limit) r reading.rest) (
+      refl,
+      source,
+      target,
+      text,
+      refl,
+      address_fits source from.value from.is,
+      address_fits target to.value to.is,
+      carry_fits text carry.value carry.is,
+      w.0,
+      reading_fits options taken reading.is,
+    )
+gate_fits (source ∷ target ∷ text ∷ other ∷ more) options r e = absurd cc
+
+pack_fits : (texts : List (List ℕ)) (options : Options) (r : Request) → pack_of texts options ≡ Some r → IsRequest r (codes "pack") texts options
+unfolding pack_of
+pack_fits [] options r e = absurd cc
+pack_fits (first ∷ []) options r e = absurd cc
+pack_fits (first ∷ second ∷ []) options r e =
+    let w = with_fits [] options (pack_with first second) r e in
+    let pid = stepped (within 0 3 first) _ r w.1 in
+    let length = stepped (within 1 255 second) _ r pid.rest in
+    subst (λ (x : Request). IsRequest x (codes "pack") (first ∷ second ∷ []) options) (same_Some (Pack pid.value length.value) r length.rest)
+    (refl, first, second, refl, within_fits 0 3 first pid.value pid.is, within_fits 1 255 second length.value length.is, w.0)
+pack_fits (first ∷ second ∷ other ∷ more) options r e = absurd cc
+
+unpack_fits : (texts : List (List ℕ)) (options : Options) (r : Request) → unpack_of texts options ≡ Some r → IsRequest r (codes "unpack") texts options
+unfolding unpack_of
+unpack_fits [] options r e = absurd cc
+unpack_fits (a ∷ []) options r e = absurd cc
+unpack_fits (a ∷ b ∷ []) options r e = absurd cc
+unpack_fits (a ∷ b ∷ c ∷ []) options r e =
+    let w = with_fits stretch_names options (unpack_with a b c options) r e in
+    let stream = stepped (within 0 3 a) _ r w.1 in
+    let pid = stepped (within 0 3 b) _ r stream.rest in
+    let length = stepped (within 1 255 c) _ r pid.rest in
+    let stretch = stepped (stretch_of options) _ r length.rest in
+    let taken : Stretch = stretch.value in
+    subst (λ (x : Request). IsRequest x (codes "unpack") (a ∷ b ∷ c ∷ []) options)
+    (same_Some (Unpack stream.value pid.value length.value taken.window taken.first taken.frames) r stretch.rest) (
+      refl,
+      a,
+      b,
+      c,
+      refl,
+      within_fits 0 3 a stream.value stream.is,
+      within_fits 0 3 b pid.value pid.is,
+      within_fits 1 255 c length.value length.is,
+      w.0,
+      stretch_fits options taken stretch.is,
+    )
+unpack_fits (a ∷ b ∷ c ∷ other ∷ more) options r e = absurd cc
+
+texts_fits : (texts : List (List ℕ)) (options : Options) (r : Request) → texts_of texts options ≡ Some r → IsRequest r (codes "texts") texts options
+unfolding texts_of
+texts_fits [] options r e = absurd cc
+texts_fits (text ∷ []) options r e =
+    let w = with_fits stretch_names options (texts_with text options) r e in
+    let stream = stepped (within 0 3 text) _ r w.1 in
+    let stretch = stepped (stretch_of options) _ r stream.rest in
+    let taken : Stretch = stretch.value in
+    subst (λ (x : Request). IsRequest x (codes "texts") (text ∷ []) options)
+    (same_Some (Texts stream.value taken.window taken.first taken.frames) r stretch.rest)
+    (refl, text, refl, within_fits 0 3 text stream.value stream.is, w.0, stretch_fits options taken stretch.is)
+texts_fits (text ∷ other ∷ more) options r e = absurd cc
+
 -- a command, or another one
 chosen : (command name : List ℕ) (t : Bool) (taken other : Option Request) (r : Request) (P : Type 0) → t ≡ bytes_eq command name → (name ≡ command → taken ≡ Some r → P) → (other ≡ Some r → P) → cond t taken other ≡ Some r → P
 chosen command name true taken other r P is f g e = f (sym ((bytes_eq-Decides command name).0 (sym is))) e
@@ -119,7 +199,12 @@ request_fits command texts options r e =
     chosen command (codes "air") _ _ _ r P refl (λ same f. at (codes "air") same (air_fits texts options r f)) (λ e.
     chosen command (codes "show") _ _ _ r P refl (λ same f. at (codes "show") same (show_fits texts options r f)) (λ e.
     chosen command (codes "convert") _ _ _ r P refl (λ same f. at (codes "convert") same (convert_fits texts options r f)) (λ e.
-    chosen command (codes "exercise") _ _ _ r P refl (λ same f. at (codes "exercise") same (exercise_fits texts options r f)) (λ e. absurd cc) e) e) e) e) e) e) e) e
+    chosen command (codes "exercise") _ _ _ r P refl (λ same f. at (codes "exercise") same (exercise_fits texts options r f)) (λ e.
+    chosen command (codes "gate") _ _ _ r P refl (λ same f. at (codes "gate") same (gate_fits texts options r f)) (λ e.
+    chosen command (codes "pack") _ _ _ r P refl (λ same f. at (codes "pack") same (pack_fits texts options r f)) (λ e.
+    chosen command (codes "unpack") _ _ _ r P refl (λ same f. at (codes "unpack") same (unpack_fits texts options r f)) (λ e.
+    chosen command (codes "texts") _ _ _ r P refl (λ same f. at (codes "texts") same (texts_fits texts options r f)) (λ e. absurd cc)
+    e) e) e) e) e) e) e) e) e) e) e) e
 
 bare_is : (r : Request) (texts : List (List ℕ)) (options : Options) → texts ≡ [] → options ≡ [] → bare_of r texts options ≡ Some r
 bare_is r texts options e f = rw (e, f) refl
@@ -154,6 +239,31 @@ exercise_is : (n : ℕ) (texts : List (List ℕ)) (options : Options) → IsRequ
 unfolding exercise_of
 exercise_is n texts options h = rw h.2 (with_is [] options (exercise_with h.1) h.4 ∙ rw (within_is 1 1000 h.1 n h.3) refl)
 
+gate_is : (from to : Address) (carry : Carry) (window : ℕ) (first frames : Option ℕ) (idle limit : ℕ) (texts : List (List ℕ)) (options : Options)
+    → IsRequest (Gate from to carry window first frames idle limit) (codes "gate") texts options → gate_of texts options ≡ Some (Gate from to carry window first frames idle limit)
+unfolding gate_of
+gate_is from to carry window first frames idle limit texts options h =
+    rw h.4 (with_is reading_names options (gate_with h.1 h.2 h.3 options) h.8
+    ∙ rw (address_is h.1 from h.5, address_is h.2 to h.6, carry_is h.3 carry h.7, reading_is options window first frames idle limit h.9) refl)
+
+pack_is : (pid length : ℕ) (texts : List (List ℕ)) (options : Options) → IsRequest (Pack pid length) (codes "pack") texts options → pack_of texts options ≡ Some (Pack pid length)
+unfolding pack_of
+pack_is pid length texts options h =
+    rw h.3 (with_is [] options (pack_with h.1 h.2) h.6 ∙ rw (within_is 0 3 h.1 pid h.4, within_is 1 255 h.2 length h.5) refl)
+
+unpack_is : (stream pid length window : ℕ) (first frames : Option ℕ) (texts : List (List ℕ)) (options : Options)
+    → IsRequest (Unpack stream pid length window first frames) (codes "unpack") texts options → unpack_of texts options ≡ Some (Unpack stream pid length window first frames)
+unfolding unpack_of
+unpack_is stream pid length window first frames texts options h =
+    rw h.4 (with_is stretch_names options (unpack_with h.1 h.2 h.3 options) h.8
+    ∙ rw (within_is 0 3 h.1 stream h.5, within_is 0 3 h.2 pid h.6, within_is 1 255 h.3 length h.7, stretch_is options window first frames h.9) refl)
+
+texts_is : (stream window : ℕ) (first frames : Option ℕ) (texts : List (List ℕ)) (options : Options)
+    → IsRequest (Texts stream window first frames) (codes "texts") texts options → texts_of texts options ≡ Some (Texts stream window first frames)
+unfolding texts_of
+texts_is stream window first frames texts options h =
+    rw h.2 (with_is stretch_names options (texts_with h.1 options) h.4 ∙ rw (within_is 0 3 h.1 stream h.3, stretch_is options window first frames h.5) refl)
+
 pub request_is : (r : Request) (command : List ℕ) (texts : List (List ℕ)) (options : Options) → IsRequest r command texts options → request_of command texts options ≡ Some r
 unfolding request_of
 request_is Fac command texts options h = rw h.0 (bare_is Fac texts options h.1 (none_of options h.2))
@@ -166,3 +276,10 @@ request_is Show command texts options h = rw h.0 (bare_is Show texts options h.1
 request_is (Convert carry window first frames) command texts options h =
     rw h.0 (convert_is carry window first frames texts options (refl, h.1, h.2, h.3, h.4, h.5))
 request_is (Exercise n) command texts options h = rw h.0 (exercise_is n texts options (refl, h.1, h.2, h.3, h.4))
+request_is (Gate from to carry window first frames idle limit) command texts options h =
+    rw h.0 (gate_is from to carry window first frames idle limit texts options (refl, h.1, h.2, h.3, h.4, h.5, h.6, h.7, h.8, h.9))
+request_is (Pack pid length) command texts options h = rw h.0 (pack_is pid length texts options (refl, h.1, h.2, h.3, h.4, h.5, h.6))
+request_is (Unpack stream pid length window first frames) command texts options h =
+    rw h.0 (unpack_is stream pid length window first frames texts options (refl, h.1, h.2, h.3, h.4, h.5, h.6, h.7, h.8, h.9))
+request_is (Texts stream window first frames) command texts options h =
+    rw h.0 (texts_is stream window first frames texts options (refl, h.1, h.2, h.3, h.4, h.5))

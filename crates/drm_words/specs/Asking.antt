@@ -3,7 +3,7 @@ use Rattle.std.specs.Prelude.{ℕ, ◌==◌, ◌&&◌, Bool, true, false, ◌||�
 use Rattle.std.specs.Str.{bytes_eq}
 use Rattle.drm_links.specs.declared.dock.Address.{Address}
 use Rattle.drm_words.specs.declared.request.Request.{Request}
-use Rattle.drm_words.specs.declared.request.Request.TheVariants.{Fac, Check, Serve, Receive, Air, Show, Convert, Exercise}
+use Rattle.drm_words.specs.declared.request.Request.TheVariants.{Fac, Check, Serve, Receive, Air, Show, Convert, Exercise, Gate, Pack, Unpack, Texts}
 use Rattle.word_forms.specs.Reading.{within}
 use Rattle.word_forms.specs.Addressing.{◌>>=◌, address_of, addresses_of, carry_of}
 use Rattle.drm_words.specs.declared.options.Stretch.{Stretch}
@@ -129,6 +129,50 @@ unfoldable pub exercise_of : List (List ℕ) → Options → Option Request
 exercise_of (text ∷ []) options = with_options [] options (exercise_with text)
 exercise_of _ options = None
 
+abbrev pub gate_with : List ℕ → List ℕ → List ℕ → Options → Option Request
+gate_with from_text to_text text options = do
+  from ← address_of from_text
+  to ← address_of to_text
+  carry ← carry_of text
+  reading ← reading_of options
+  Some (Gate from to carry reading.stretch.window reading.stretch.first reading.stretch.frames reading.idle reading.limit)
+
+unfoldable pub gate_of : List (List ℕ) → Options → Option Request
+gate_of (from ∷ to ∷ text ∷ []) options = with_options reading_names options (gate_with from to text options)
+gate_of _ options = None
+
+abbrev pub pack_with : List ℕ → List ℕ → Option Request
+pack_with pid_text length_text = do
+  pid ← within 0 3 pid_text
+  length ← within 1 255 length_text
+  Some (Pack pid length)
+
+unfoldable pub pack_of : List (List ℕ) → Options → Option Request
+pack_of (pid ∷ length ∷ []) options = with_options [] options (pack_with pid length)
+pack_of _ options = None
+
+abbrev pub unpack_with : List ℕ → List ℕ → List ℕ → Options → Option Request
+unpack_with stream_text pid_text length_text options = do
+  stream ← within 0 3 stream_text
+  pid ← within 0 3 pid_text
+  length ← within 1 255 length_text
+  stretch ← stretch_of options
+  Some (Unpack stream pid length stretch.window stretch.first stretch.frames)
+
+unfoldable pub unpack_of : List (List ℕ) → Options → Option Request
+unpack_of (stream ∷ pid ∷ length ∷ []) options = with_options stretch_names options (unpack_with stream pid length options)
+unpack_of _ options = None
+
+abbrev pub texts_with : List ℕ → Options → Option Request
+texts_with stream_text options = do
+  stream ← within 0 3 stream_text
+  stretch ← stretch_of options
+  Some (Texts stream stretch.window stretch.first stretch.frames)
+
+unfoldable pub texts_of : List (List ℕ) → Options → Option Request
+texts_of (stream ∷ []) options = with_options stretch_names options (texts_with stream options)
+texts_of _ options = None
+
 unfoldable pub request_of : List ℕ → List (List ℕ) → Options → Option Request
 request_of command texts options =
     if bytes_eq command (codes "fac") then bare_of Fac texts options
@@ -139,4 +183,8 @@ request_of command texts options =
     else if bytes_eq command (codes "show") then bare_of Show texts options
     else if bytes_eq command (codes "convert") then convert_of texts options
     else if bytes_eq command (codes "exercise") then exercise_of texts options
+    else if bytes_eq command (codes "gate") then gate_of texts options
+    else if bytes_eq command (codes "pack") then pack_of texts options
+    else if bytes_eq command (codes "unpack") then unpack_of texts options
+    else if bytes_eq command (codes "texts") then texts_of texts options
     else None

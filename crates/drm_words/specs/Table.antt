@@ -3,7 +3,7 @@ use Rattle.std.specs.Prelude.{ℕ, ◌≡◌, ◌⊎◌, List, [], ◌∷◌, �
 use Rattle.std.specs.Str.{bytes_eq}
 use Rattle.drm_links.specs.declared.dock.Address.{Address}
 use Rattle.drm_words.specs.declared.request.Request.{Request}
-use Rattle.drm_words.specs.declared.request.Request.TheVariants.{Fac, Check, Serve, Receive, Air, Show, Convert, Exercise}
+use Rattle.drm_words.specs.declared.request.Request.TheVariants.{Fac, Check, Serve, Receive, Air, Show, Convert, Exercise, Gate, Pack, Unpack, Texts}
 use Rattle.word_forms.specs.Numbers.{IsWithin}
 use Rattle.word_forms.specs.Addresses.{IsAddress, AreAddresses}
 use Rattle.word_forms.specs.Carries.{IsCarry}
@@ -94,6 +94,24 @@ IsRequest (Convert carry window first frames) command texts options =
 -- exercise N
 IsRequest (Exercise n) command texts options =
     (command ≡ codes "exercise") × (text : List ℕ) × (texts ≡ text ∷ []) × IsWithin 1 1000 text n × AreOf [] options
+-- gate FROM TO CARRY [--window W] [--first N] [--frames N] [--idle K] [--limit L]
+IsRequest (Gate from to carry window first frames idle limit) command texts options =
+    (command ≡ codes "gate") × (source target text : List ℕ) × (texts ≡ source ∷ target ∷ text ∷ [])
+    × IsAddress source from × IsAddress target to × IsCarry text carry
+    × AreOf reading_names options × IsReading options window first frames idle limit
+-- pack PID LENGTH
+IsRequest (Pack pid length) command texts options =
+    (command ≡ codes "pack") × (first second : List ℕ) × (texts ≡ first ∷ second ∷ [])
+    × IsWithin 0 3 first pid × IsWithin 1 255 second length × AreOf [] options
+-- unpack STREAM PID LENGTH [--window W] [--first N] [--frames N]
+IsRequest (Unpack stream pid length window first frames) command texts options =
+    (command ≡ codes "unpack") × (a b c : List ℕ) × (texts ≡ a ∷ b ∷ c ∷ [])
+    × IsWithin 0 3 a stream × IsWithin 0 3 b pid × IsWithin 1 255 c length
+    × AreOf stretch_names options × IsStretch options window first frames
+-- texts STREAM [--window W] [--first N] [--frames N]
+IsRequest (Texts stream window first frames) command texts options =
+    (command ≡ codes "texts") × (text : List ℕ) × (texts ≡ text ∷ []) × IsWithin 0 3 text stream
+    × AreOf stretch_names options × IsStretch options window first frames
 
 -- each name is text
 abbrev pub HasTextNames : Request → Type 0

@@ -2,7 +2,7 @@
 
 ghost use Rattle.std.specs.Prelude.{◌≡◌, IfOk, IfErr, IfSome, IsUtf8, map};
 ghost use Rattle.word_forms.specs.Arguing.{option_said};
-ghost use Rattle.drm_words.specs.Asking.{is_bare, bare_of, check_of, serve_with, serve_of, addresses_or_none, receive_with, receive_of, air_with, air_of, convert_with, convert_of, exercise_with, exercise_of, request_of};
+ghost use Rattle.drm_words.specs.Asking.{is_bare, bare_of, check_of, serve_with, serve_of, addresses_or_none, receive_with, receive_of, air_with, air_of, convert_with, convert_of, exercise_with, exercise_of, gate_with, gate_of, pack_with, pack_of, unpack_with, unpack_of, texts_with, texts_of, request_of};
 ghost use Rattle.word_forms.specs.Gives.{Gives};
 ghost use Rattle.drm_words.specs.Table.{HasTextNames};
 ghost use Rattle.word_forms.specs.declared.fault.WordsFault.TheVariants as faults;
@@ -11,7 +11,7 @@ use crate::options::{are_of, pace, to, told_reading, told_stretch, window};
 use crate::request::Request;
 use drm_bits::Octets;
 use std::alloc::Global;
-use word_forms::{Addresses, Named, WordsFault, carry, read_addresses, within};
+use word_forms::{Addresses, Named, WordsFault, address, carry, read_addresses, within};
 
 fn octets(alloc: Global, text: &str) -> Result<Octets, WordsFault>
     ensures ok { IfOk result (λ octets. octets ≡ text.now) }
@@ -220,6 +220,127 @@ fn exercise(texts: &[&str], options: &[Named<'_>]) -> Result<Request, WordsFault
     asked(exercise_with(text))
 }
 
+fn gate_with(from: &str, to: &str, text: &str, options: &[Named<'_>]) -> Option<Request>
+    ensures value { result ≡ gate_with from.now to.now text.now (map option_said options.now) }
+    ensures text { IfSome result HasTextNames }
+{
+    let from = address(from)?;
+    let to = address(to)?;
+    let carry = carry(text)?;
+    let reading = told_reading(options)?;
+    Some(Request::Gate {
+        from,
+        to,
+        carry,
+        window: reading.stretch.window,
+        first: reading.stretch.first,
+        frames: reading.stretch.frames,
+        idle: reading.idle,
+        limit: reading.limit,
+    })
+}
+
+// gate FROM TO CARRY [--window W] [--first N] [--frames N] [--idle K] [--limit L]
+#[tactic(auto, unfolding(crate::specs::Asking::gate_of))]
+fn gate(texts: &[&str], options: &[Named<'_>]) -> Result<Request, WordsFault>
+    ensures gives { Gives result (gate_of (map (λ text. text.now) texts.now) (map option_said options.now)) }
+    ensures text { IfOk result HasTextNames }
+{
+    let [from, to, text] = texts else {
+        return Err(WordsFault::Words);
+    };
+    if !are_of(&["window", "first", "frames", "idle", "limit"], options) {
+        return Err(WordsFault::Words);
+    }
+    asked(gate_with(from, to, text, options))
+}
+
+fn pack_with(pid: &str, length: &str) -> Option<Request>
+    ensures value { result ≡ pack_with pid.now length.now }
+    ensures text { IfSome result HasTextNames }
+{
+    let pid = within(pid, 0, 3)? as u8;
+    let length = within(length, 1, 255)? as u8;
+    Some(Request::Pack { pid, length })
+}
+
+// pack PID LENGTH
+#[tactic(auto, unfolding(crate::specs::Asking::pack_of))]
+fn pack(texts: &[&str], options: &[Named<'_>]) -> Result<Request, WordsFault>
+    ensures gives { Gives result (pack_of (map (λ text. text.now) texts.now) (map option_said options.now)) }
+    ensures text { IfOk result HasTextNames }
+{
+    let [pid, length] = texts else {
+        return Err(WordsFault::Words);
+    };
+    if !are_of(&[], options) {
+        return Err(WordsFault::Words);
+    }
+    asked(pack_with(pid, length))
+}
+
+fn unpack_with(stream: &str, pid: &str, length: &str, options: &[Named<'_>]) -> Option<Request>
+    ensures value { result ≡ unpack_with stream.now pid.now length.now (map option_said options.now) }
+    ensures text { IfSome result HasTextNames }
+{
+    let stream = within(stream, 0, 3)? as u8;
+    let pid = within(pid, 0, 3)? as u8;
+    let length = within(length, 1, 255)? as u8;
+    let stretch = told_stretch(options)?;
+    Some(Request::Unpack {
+        stream,
+        pid,
+        length,
+        window: stretch.window,
+        first: stretch.first,
+        frames: stretch.frames,
+    })
+}
+
+// unpack STREAM PID LENGTH [--window W] [--first N] [--frames N]
+#[tactic(auto, unfolding(crate::specs::Asking::unpack_of))]
+fn unpack(texts: &[&str], options: &[Named<'_>]) -> Result<Request, WordsFault>
+    ensures gives { Gives result (unpack_of (map (λ text. text.now) texts.now) (map option_said options.now)) }
+    ensures text { IfOk result HasTextNames }
+{
+    let [stream, pid, length] = texts else {
+        return Err(WordsFault::Words);
+    };
+    if !are_of(&["window", "first", "frames"], options) {
+        return Err(WordsFault::Words);
+    }
+    asked(unpack_with(stream, pid, length, options))
+}
+
+fn texts_with(stream: &str, options: &[Named<'_>]) -> Option<Request>
+    ensures value { result ≡ texts_with stream.now (map option_said options.now) }
+    ensures text { IfSome result HasTextNames }
+{
+    let stream = within(stream, 0, 3)? as u8;
+    let stretch = told_stretch(options)?;
+    Some(Request::Texts {
+        stream,
+        window: stretch.window,
+        first: stretch.first,
+        frames: stretch.frames,
+    })
+}
+
+// texts STREAM [--window W] [--first N] [--frames N]
+#[tactic(auto, unfolding(crate::specs::Asking::texts_of))]
+fn messages(texts: &[&str], options: &[Named<'_>]) -> Result<Request, WordsFault>
+    ensures gives { Gives result (texts_of (map (λ text. text.now) texts.now) (map option_said options.now)) }
+    ensures text { IfOk result HasTextNames }
+{
+    let [stream] = texts else {
+        return Err(WordsFault::Words);
+    };
+    if !are_of(&["window", "first", "frames"], options) {
+        return Err(WordsFault::Words);
+    }
+    asked(texts_with(stream, options))
+}
+
 /// The request of a command with these plain words and options.
 #[tactic(auto, unfolding(crate::specs::Asking::request_of))]
 pub(crate) fn request(
@@ -248,6 +369,14 @@ pub(crate) fn request(
         convert(texts, options)
     } else if command == "exercise" {
         exercise(texts, options)
+    } else if command == "gate" {
+        gate(texts, options)
+    } else if command == "pack" {
+        pack(texts, options)
+    } else if command == "unpack" {
+        unpack(texts, options)
+    } else if command == "texts" {
+        messages(texts, options)
     } else {
         Err(WordsFault::Words)
     }

@@ -57,4 +57,50 @@ pub enum Request {
     Exercise {
         n: u32,
     },
+    /// Pass the packets of a link on over another one, carried in this way.
+    Gate {
+        from: Address,
+        to: Address,
+        carry: Carry,
+        /// In packets.
+        window: u8,
+        /// The first sequence number.
+        first: Option<u16>,
+        frames: Option<u64>,
+        /// How many idle answers in a row end it.
+        idle: u32,
+        /// The most datagrams that it takes.
+        limit: u32,
+    },
+    /// Write units as packets of data.
+    Pack {
+        /// The packet id, below 4.
+        pid: u8,
+        /// The data length of a packet, in bytes.
+        length: u8,
+    },
+    /// Print the units of a capture's stream.
+    Unpack {
+        /// The stream id, below 4.
+        stream: u8,
+        /// The packet id, below 4.
+        pid: u8,
+        /// The data length of a packet, in bytes.
+        length: u8,
+        /// In packets of the capture.
+        window: u8,
+        /// The first sequence number.
+        first: Option<u16>,
+        frames: Option<u64>,
+    },
+    /// Print the text messages of a capture's stream.
+    Texts {
+        /// The stream id, below 4.
+        stream: u8,
+        /// In packets.
+        window: u8,
+        /// The first sequence number.
+        first: Option<u16>,
+        frames: Option<u64>,
+    },
 }

@@ -35,3 +35,6 @@ returns-in-CaptureTooLong g c = rw c.in-CaptureTooLong.is c.write_words-in-Captu
 
 pub returns-in-PacketSize : goal.returns-in-PacketSize
 returns-in-PacketSize g c = rw c.in-PacketSize.is c.write_pieces-in-PacketSize.ensures
+
+pub returns-in-Units : goal.returns-in-Units
+returns-in-Units g c = rw (c.in-Units.is, ← c.units_pieces.ensures) c.write_pieces-in-Units.ensures
