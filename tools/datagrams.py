@@ -8,16 +8,22 @@ def check_value(data):
     return (binascii.crc_hqx(data, 0xFFFF) ^ 0xFFFF).to_bytes(2, "big")
 
 
+def size_at(capture, at):
+    """How many bytes the datagram that begins there has, by its own head."""
+    if capture[at:at + 2] == b"AF":
+        return 12 + int.from_bytes(capture[at + 2:at + 6], "big")
+    flags = int.from_bytes(capture[at + 10:at + 12], "big")
+    return 14 + 2 * (flags >> 15) + 4 * (flags >> 14 & 1) + (flags & 0x3FFF)
+
+
 def datagrams(capture):
     """Each datagram of a capture, with the number of its packet's fragments (1 of a whole packet) and its own."""
     at = 0
     while at < len(capture):
-        if capture[at:at + 2] == b"AF":
-            size, count, index = 12 + int.from_bytes(capture[at + 2:at + 6], "big"), 1, 0
-        else:
-            flags = int.from_bytes(capture[at + 10:at + 12], "big")
-            size = 14 + 2 * (flags >> 15) + 4 * (flags >> 14 & 1) + (flags & 0x3FFF)
+        count, index = 1, 0
+        if capture[at:at + 2] != b"AF":
             index, count = int.from_bytes(capture[at + 4:at + 7], "big"), int.from_bytes(capture[at + 7:at + 10], "big")
+        size = size_at(capture, at)
         yield capture[at:at + size], count, index
         at += size
 

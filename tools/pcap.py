@@ -18,7 +18,7 @@ import subprocess
 import sys
 
 import command_line
-from datagrams import datagrams, pcap
+from datagrams import datagrams, pcap, size_at
 
 ETHERNET, RAW, LINUX_COOKED, LINUX_COOKED_2, LOOPBACK, RAW_IPV4, RAW_IPV6 = 1, 101, 113, 276, 0, 228, 229
 IPV4, IPV6, VLAN = 0x0800, 0x86DD, (0x8100, 0x88A8)
@@ -113,9 +113,7 @@ def transport(packet, fragments):
 
 def is_datagram(payload):
     """Whether a capture can have it: its own head says just as many bytes."""
-    if payload[:2] not in (b"AF", b"PF") or len(payload) < 12:
-        return False
-    return [found[0] for found in datagrams(payload)] == [payload] and sum(len(found[0]) for found in datagrams(payload)) == len(payload)
+    return payload[:2] in (b"AF", b"PF") and len(payload) >= 12 and size_at(payload, 0) == len(payload)
 
 
 def read(path, port):
