@@ -57,27 +57,27 @@ half n = config (n / 2) 2 C true 18
 abbrev with_second : ℕ → Bool → Plan
 with_second n two = record { carry = Pft 2 1400; seq = 65000; dlfc = 4294967000; length = n; configs = config 0 0 B false 17 ∷ (if two then half n ∷ [] else []) }
 
+of_lines : (n : ℕ) (two : Bool) → 1 ≤ n → n ≤ 1000 → 1 ≤ length (with_second n two).configs → length (with_second n two).configs ≤ 64
+    → All ConfigInLines (with_second n two).configs → InLines (with_second n two)
+of_lines n two some few one most each = record {
+  carry_fits = (omega arith, omega arith, omega arith);
+  seq_fits = omega arith;
+  dlfc_fits = omega arith;
+  some_frames = some;
+  few_frames = omega (arith, few);
+  some_config = one;
+  few_configs = most;
+  each_config = each;
+}
+
+first_in_lines : ConfigInLines (config 0 0 B false 17)
+first_in_lines = config_in_lines 0 0 B false 17 (omega arith) (omega arith) (omega arith)
+
 in_lines_by : (n : ℕ) (two : Bool) → 1 ≤ n → n ≤ 1000 → InLines (with_second n two)
-in_lines_by n true some few = record {
-  carry_fits = (omega arith, omega arith, omega arith);
-  seq_fits = omega arith;
-  dlfc_fits = omega arith;
-  some_frames = some;
-  few_frames = omega (arith, few);
-  some_config = omega arith;
-  few_configs = omega arith;
-  each_config = all_two ConfigInLines _ _ (config_in_lines 0 0 B false 17 (omega arith) (omega arith) (omega arith)) (config_in_lines (n / 2) 2 C true 18 (omega (arith, few)) (omega arith) (omega arith));
-}
-in_lines_by n false some few = record {
-  carry_fits = (omega arith, omega arith, omega arith);
-  seq_fits = omega arith;
-  dlfc_fits = omega arith;
-  some_frames = some;
-  few_frames = omega (arith, few);
-  some_config = omega arith;
-  few_configs = omega arith;
-  each_config = all_one ConfigInLines _ (config_in_lines 0 0 B false 17 (omega arith) (omega arith) (omega arith));
-}
+in_lines_by n true some few =
+    of_lines n true some few (omega arith) (omega arith)
+    (all_two ConfigInLines _ _ first_in_lines (config_in_lines (n / 2) 2 C true 18 (omega (arith, few)) (omega arith) (omega arith)))
+in_lines_by n false some few = of_lines n false some few (omega arith) (omega arith) (all_one ConfigInLines _ first_in_lines)
 
 pub in_lines : (n : ℕ) → 1 ≤ n → n ≤ 1000 → InLines (plan n)
 in_lines n some few = in_lines_by n (nat_le 4 n) some few

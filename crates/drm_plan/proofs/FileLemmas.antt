@@ -29,9 +29,9 @@ filled_fits bytes small (File name old) fits = (fits.0, small)
 stream_fits : (bytes : List ℕ) → length bytes ≤ 4194304 → (s : Stream) → StreamInLines s → StreamInLines (filled_stream bytes s)
 stream_fits bytes small s fits = record { a_fits = fits.a_fits; b_fits = fits.b_fits; not_empty = fits.not_empty; contents = filled_fits bytes small s.content fits.contents }
 
-config_fits : (j : ℕ) (bytes : List ℕ) → length bytes ≤ 4194304 → (c : Config) → ConfigInLines c → ConfigInLines (filled_config j bytes c)
-config_fits j bytes small c fits =
-    let same = changed_length (filled_stream bytes) j c.streams in
+-- as many other streams
+pub with_streams : (c : Config) (streams : List Stream) → length streams ≡ length c.streams → All StreamInLines streams → ConfigInLines c → ConfigInLines (record c { streams = streams })
+with_streams c streams same each fits =
     record {
       start_fits = fits.start_fits;
       countdown_fits = fits.countdown_fits;
@@ -44,12 +44,17 @@ config_fits j bytes small c fits =
       each_service = fits.each_service;
       some_stream = rw same fits.some_stream;
       few_streams = rw same fits.few_streams;
-      each_stream = changed_all StreamInLines (filled_stream bytes) (stream_fits bytes small) j c.streams fits.each_stream;
+      each_stream = each;
       clock_fits = fits.clock_fits;
       some_block = fits.some_block;
       few_blocks = fits.few_blocks;
       each_block = fits.each_block;
     }
+
+config_fits : (j : ℕ) (bytes : List ℕ) → length bytes ≤ 4194304 → (c : Config) → ConfigInLines c → ConfigInLines (filled_config j bytes c)
+config_fits j bytes small c fits =
+    with_streams c (filled_config j bytes c).streams (changed_length (filled_stream bytes) j c.streams)
+    (changed_all StreamInLines (filled_stream bytes) (stream_fits bytes small) j c.streams fits.each_stream) fits
 
 pub with_file_fits : (file : Filed) (bytes : List ℕ) (plan : Plan) → length bytes ≤ 4194304 → InLines plan → InLines (with_file file bytes plan)
 with_file_fits file bytes plan small fits =

@@ -53,7 +53,8 @@ text_if P (Some x) true o writes is some =
     subst P (sym written) writes.2
 text_if P first false o writes is some = absurd (cc)
 
-text_written : (P : List ℕ → Type 0) (first : Known Output) (text : Text) → Outputs first (text_known text) P → first.told ≡ Some (record { written = []; calls = 0 })
+-- what a text that was new has
+pub text_written : (P : List ℕ → Type 0) (first : Known Output) (text : Text) → Outputs first (text_known text) P → first.told ≡ Some (record { written = []; calls = 0 })
     → IsSome (text_known text).told → P text.bytes.items
 text_written P first text writes is some = text_if P first.told (nat_le text.calls (2 ^ 62)) (record { written = text.bytes.items; calls = text.calls }) writes is some
 

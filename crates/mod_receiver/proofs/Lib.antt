@@ -14,3 +14,4 @@ pub mod JobLemmas
 pub mod Unbroken
 pub mod CaptureReading
 pub mod AtOnce
+pub mod Listing

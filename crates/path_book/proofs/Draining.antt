@@ -1,7 +1,7 @@
 -- All that is ready is given, and its lines are written.
-use Rattle.std.proofs.Common.{◌≡◌, ℕ, ◌+◌, ◌<◌, ◌≤◌, ◌^◌, nat_le, min, Bool, true, false, if◌then◌else◌, List, [], ◌∷◌, ◌++◌, Option, None, Some, IsSome, refl, sym, ◌∙◌, ap, subst, arith}
-use Rattle.drm_links.specs.Told.{Known, BothTold, ToldThrough, Tells}
-use Rattle.drm_links.specs.Sink.{Output, Outputs, WritesText}
+use Rattle.std.proofs.Common.{◌≡◌, ℕ, ◌+◌, ◌≤◌, nat_le, min, true, false, List, [], ◌∷◌, ◌++◌, Option, None, Some, IsSome, refl, sym, ◌∙◌, ap, subst, arith}
+use Rattle.drm_links.specs.Told.{Known}
+use Rattle.drm_links.specs.Sink.{Output}
 use Rattle.dcp_collect.specs.State.{State, ready, after_item, after_next}
 use Rattle.dcp_collect.specs.Runs.{Item, IsItem, Gives}
 use Rattle.collect_laws.proofs.Runs.{Given, given_more, given_all}
@@ -13,6 +13,7 @@ use Rattle.mod_receiver.specs.Tallies.{Tallied}
 use Rattle.mod_receiver.specs.Printed.{items_in, is_full, steps_before, KeepsPace}
 use Rattle.mod_receiver.proofs.Printing.{Drained, prints_then, prints_full}
 use Rattle.path_book.specs.Lines.{PrintsAll, WritesAll}
+use Rattle.mod_receiver.proofs.JobLemmas.{text_written}
 
 is_next : (d e : State) → ready d ≡ true → e ≡ after_next d → e ≡ after_item d
 is_next d e r n = n ∙ rw r refl
@@ -59,20 +60,6 @@ pub pace_still : (told : Option ℕ) (d e : State) (f : TrackerState) (t : Talli
 pace_still told d e f t pace r n = subst (λ m. KeepsPace told m f t) (sym (n ∙ rw r refl)) pace
 
 -- ---- lines in memory
-
-text_if : (P : List ℕ → Type 0) (first : Option Output) (told : Bool) (o : Output) → ToldThrough first (if told then Some o else None) (WritesText P) → first ≡ Some (record { written = []; calls = 0 })
-    → IsSome (if told then Some o else None) → P o.written
-text_if P None true o writes is some = absurd (cc)
-text_if P (Some x) true o writes is some =
-    let same : x ≡ record { written = []; calls = 0 } = cc in
-    let written : o.written ≡ writes.0 = writes.1 ∙ ap (λ (u : Output). u.written ++ writes.0) same in
-    subst P (sym written) writes.2
-text_if P first false o writes is some = absurd (cc)
-
--- what a text that was new has
-pub text_written : (P : List ℕ → Type 0) (first : Known Output) (text : Text) → Outputs first (text_known text) P → first.told ≡ Some (record { written = []; calls = 0 })
-    → IsSome (text_known text).told → P text.bytes.items
-text_written P first text writes is some = text_if P first.told (nat_le text.calls (2 ^ 62)) (record { written = text.bytes.items; calls = text.calls }) writes is some
 
 -- its lines behind another text
 pub written_behind : (told : Option ℕ) (c d : State) (f g : TrackerState) (t u : Tallied) (first : Known Output) (lines : Text) (text after : List ℕ)

@@ -1,11 +1,9 @@
 -- What a journal keeps, as it grows.
-use Rattle.std.proofs.Common.{◌≡◌, ℕ, zero, suc, ◌+◌, ◌<◌, ◌≤◌, ◌^◌, nat_le, min, Bool, true, false, not, if◌then◌else◌, List, [], ◌∷◌, ◌++◌, map, length, Option, None, Some, Result, Ok, Err, OnOk, OnErr, is_err, IsTrue, ◌↔◌, refl, sym, ◌∙◌, ap, subst, arith, append_assoc, length-append}
+use Rattle.std.proofs.Common.{◌≡◌, ℕ, zero, suc, ◌+◌, ◌≤◌, nat_le, min, Bool, true, false, if◌then◌else◌, List, [], ◌∷◌, ◌++◌, map, length, Option, None, Some, Result, Ok, Err, OnOk, OnErr, is_err, IsTrue, ◌↔◌, refl, sym, ◌∙◌, ap, subst, arith, append_assoc}
 use Rattle.std.proofs.lemmas.List.{append-nil, map-append, length-map}
-use Rattle.circular_buffer.specs.Buffer.{keep_last}
-use Rattle.drm_links.specs.Sink.{IsFront}
 use Rattle.dcp_collect.specs.declared.taken.Taken.{Taken}
 use Rattle.dcp_collect.specs.State.{State, made, ready, after_finish}
-use Rattle.dcp_collect.specs.Runs.{Item, Takes, Gives, Steps, up_to}
+use Rattle.dcp_collect.specs.Runs.{Takes, up_to}
 use Rattle.collect_laws.specs.Laws.{IsFit}
 use Rattle.collect_laws.proofs.Runs.{steps_more, steps_count}
 use Rattle.drm_switches.specs.Tracker.{TrackerState, new_tracker}
@@ -13,9 +11,9 @@ use Rattle.mod_feed.specs.Feeding.{FeedStep, Feeds}
 use Rattle.report_lines.specs.declared.report.EndWord.{EndWord}
 use Rattle.report_lines.specs.declared.report.EndWord.TheVariants as word
 use Rattle.report_lines.specs.Report.{feed_line, end_line}
-use Rattle.mod_receiver.specs.Reports.{refusals, refused_text, steps_text, sums_of, report, is_clean}
+use Rattle.mod_receiver.specs.Reports.{refusals, refused_text, steps_text}
 use Rattle.mod_receiver.specs.Tallies.{Tallied, new_tally, noted, counted}
-use Rattle.mod_receiver.specs.Printed.{items_in, is_full, steps_before, left_of, with_steps, tally_of, KeepsPace}
+use Rattle.mod_receiver.specs.Printed.{items_in, is_full, steps_before, with_steps, tally_of, KeepsPace}
 use Rattle.mod_receiver.proofs.Giving.{steps_many, gives_ready}
 use Rattle.mod_receiver.proofs.Tallying.{steps_counted, answer_noted, refusals_few, refusals_told, last_told}
 use Rattle.mod_receiver.proofs.Refusing.{AreTold}
@@ -25,10 +23,9 @@ use Rattle.mod_receiver.proofs.Reporting.{clean_is}
 use Rattle.path_book.specs.declared.settings.Settings.{Settings}
 use Rattle.path_book.specs.Report.{IsReportSoFar, IsFrontSoFar, IsReportOf, word_for}
 use Rattle.path_book.specs.Lines.{WritesAll}
-use Rattle.path_book.specs.declared.journal.Entry.{Entry}
 use Rattle.path_book.specs.declared.journal.Journal.TheInside.{Inside}
 use Rattle.path_book.specs.Journal.{JournalState, AreInRange, entry_of, datagrams, IsKept, Enters}
-use Rattle.path_book.specs.Sound.{state, IsOpen, IsSound}
+use Rattle.path_book.specs.Sound.{IsOpen, IsSound}
 
 -- ---- a new journal
 

@@ -148,8 +148,8 @@ entity_few keywords.Language said e few = few
 entity_few keywords.Raw said e few = few
 entity_few _ said e few = absurd cc
 
-few_entities : (c : ℕ) → c < 64 → nat_le 64 c ≡ false
-few_entities c few = grind (arith, nat_tests)
+below_64 : (c : ℕ) → c < 64 → nat_le 64 c ≡ false
+below_64 c few = grind (arith, nat_tests)
 
 -- one more line behind the last block line
 entities_push : (m : ℕ) (said : List Said) (n : ℕ) (l : Line) → count_entities m (said ++ record { line = n; says = l } ∷ []) ≡ count_with (count_entities m said) (keyword_said l)
@@ -189,12 +189,9 @@ entities_fine said n (e ∷ entities) some few =
       entity_inner e.body,
       behind_block e.body said some,
       entity_single (keyword_of_body e.body) said (entity_is_one e.body),
-      entity_few (keyword_of_body e.body) said (entity_is_one e.body) (few_entities (count_entities 0 said) (omega (arith, few))),
+      entity_few (keyword_of_body e.body) said (entity_is_one e.body) (below_64 (count_entities 0 said) (omega (arith, few))),
       entities_fine (said ++ record { line = n; says = lines.Entity e } ∷ []) (n + 1) entities (omega (arith, some, blocks)) (omega (arith, few, one_more)),
     )
-
-few_blocks : (c : ℕ) → c < 64 → nat_le 64 c ≡ false
-few_blocks c few = grind (arith, nat_tests)
 
 block_fine : (said : List Said) (n : ℕ) (b : Timed) → count keywords.Block said < 64 → length b.entities ≤ 64 → InnerFine said n (block_lines b)
 unfolding is_second is_too_many
@@ -202,7 +199,7 @@ block_fine said n b few entities =
     let behind : List Said = said ++ record { line = n; says = lines.Block b.from } ∷ [] in
     let blocks : count keywords.Block behind ≡ count keywords.Block said + 1 = tested_push (λ k. same k keywords.Block) said n (lines.Block b.from) in
     let none : count_entities 0 behind ≡ 0 = entities_push 0 said n (lines.Block b.from) in
-    (refl, block_anywhere said, refl, few_blocks (count keywords.Block said) few, entities_fine behind (n + 1) b.entities (omega (arith, blocks)) (omega (arith, none, entities)))
+    (refl, block_anywhere said, refl, below_64 (count keywords.Block said) few, entities_fine behind (n + 1) b.entities (omega (arith, blocks)) (omega (arith, none, entities)))
 
 entity_lines_no_block : (n : ℕ) (entities : List Entity) → count keywords.Block (numbered n (entity_lines entities)) ≡ 0
 entity_lines_no_block n entities = tested_none (λ k. same k keywords.Block) (λ (e : Entity). lines.Entity e) (λ e. entity_is_no_block e.body) n entities

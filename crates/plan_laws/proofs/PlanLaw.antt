@@ -37,6 +37,7 @@ use Rattle.plan_laws.proofs.CanonicalLaw.{plan_read}
 use Rattle.drm_plan.proofs.TextLemmas.{text_gives}
 use Rattle.plan_writing.proofs.TextLemmas.{text_append, no_text}
 use Rattle.plan_laws.proofs.Utf8Lines.{line_utf8}
+use Rattle.drm_plan.proofs.FileLemmas.{with_streams}
 
 -- A line that has no bytes of a file, is written as one line of UTF-8, and reads as itself.
 record Clean (l : Line) : Type 0 where
@@ -139,26 +140,7 @@ plan_clean plan fits =
 
 -- the ranges stay
 config_stays : (c : Config) → ConfigInLines c → ConfigInLines (config_without_bytes c)
-config_stays c fits =
-    let same = length-map c.streams without_bytes in
-    record {
-      start_fits = fits.start_fits;
-      countdown_fits = fits.countdown_fits;
-      occupancy_fits = fits.occupancy_fits;
-      msc_fits = fits.msc_fits;
-      prot_a_fits = fits.prot_a_fits;
-      prot_b_fits = fits.prot_b_fits;
-      room_fits = fits.room_fits;
-      some_service = fits.some_service;
-      each_service = fits.each_service;
-      some_stream = rw same fits.some_stream;
-      few_streams = rw same fits.few_streams;
-      each_stream = all_mapped StreamInLines without_bytes stream_fits c.streams fits.each_stream;
-      clock_fits = fits.clock_fits;
-      some_block = fits.some_block;
-      few_blocks = fits.few_blocks;
-      each_block = fits.each_block;
-    }
+config_stays c fits = with_streams c (map without_bytes c.streams) (length-map c.streams without_bytes) (all_mapped StreamInLines without_bytes stream_fits c.streams fits.each_stream) fits
   where
     all_mapped : {X : Type 0} (P : X → Type 0) (f : X → X) → ((x : X) → P x → P (f x)) → (xs : List X) → All P xs → All P (map f xs)
     all_mapped P f keeps [] all = All-nil P

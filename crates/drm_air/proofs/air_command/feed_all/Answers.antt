@@ -5,8 +5,8 @@ use Rattle.mod_receiver.specs.declared.job.Job.{Job}
 use Rattle.drm_air.specs.Air.{air_rules}
 use Rattle.mod_receiver.specs.Jobs.{IsJob}
 use Rattle.drm_air.specs.Feeds.{BringsFeed}
-use Rattle.drm_receive.proofs.OpeningLemmas.{each_more}
 use Rattle.mod_receiver.proofs.JobLemmas.{same_index}
+use Rattle.mod_receiver.proofs.Listing.{each_more}
 use Rattle.drm_air.proofs.air_command.feed_all.Goals as goal
 
 pub loop-k-preserved : goal.loop-k-preserved

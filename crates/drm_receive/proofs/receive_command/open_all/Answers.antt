@@ -8,7 +8,8 @@ use Rattle.drm_faults.specs.declared.fault.Fault.TheVariants as faults
 use Rattle.drm_receive.specs.Receive.{Docked}
 use Rattle.drm_receive.specs.Opening.{HasLink, StopsOpening}
 use Rattle.mod_receiver.specs.Jobs.{IsJob}
-use Rattle.drm_receive.proofs.OpeningLemmas.{each_more, found_now, opened_now, opened_all, failed_now, stopped_now, stopped_behind, docked_any, docked_still, all_links}
+use Rattle.drm_receive.proofs.OpeningLemmas.{found_now, opened_now, opened_all, failed_now, stopped_now, stopped_behind, docked_any, docked_still, all_links}
+use Rattle.mod_receiver.proofs.Listing.{each_more}
 use Rattle.drm_receive.proofs.receive_command.open_all.Goals as goal
 
 pub loop-k-preserved : goal.loop-k-preserved
