@@ -4,3 +4,4 @@ pub mod Steps
 pub mod WholeRuns
 pub mod Counts
 pub mod LostPackets
+pub mod Totals

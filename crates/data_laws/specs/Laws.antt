@@ -2,9 +2,11 @@
 use Rattle.std.specs.Prelude.{ℕ, ◌≡◌, ◌+◌, ◌<◌, ◌≤◌, ◌↔◌, Bool, true, List, [], ◌∷◌, ◌++◌, length, Option, Some, None, is_some}
 use Rattle.std.specs.List.{AllByRecursion}
 use Rattle.std.specs.Int.{from_bool}
+use Rattle.drm_bits.specs.Bits.{IsBytes}
 use Rattle.drm_data.specs.Packet.{Packet}
 use Rattle.drm_data.specs.Units.{packets}
-use Rattle.drm_data.specs.Joining.{Event, Reads, State, made, answer}
+use Rattle.drm_data.specs.Writing.{IsWritten}
+use Rattle.drm_data.specs.Joining.{Event, Came, Reads, State, made, answer}
 use Rattle.data_laws.specs.Readings.{AreEvents, IsOpen, Ends, AreUnits, Cuts}
 use Rattle.data_laws.specs.Runs.{answers, after_all, unit_in, tells_cut, units_in, cuts_in, begun_count}
 use Rattle.data_laws.specs.Losses.{IsUnit, kept_of, whole_units, cut_count}
@@ -12,6 +14,14 @@ use Rattle.data_laws.specs.Losses.{IsUnit, kept_of, whole_units, cut_count}
 -- bytes are one event
 abbrev pub OneEvent : Type 0
 OneEvent = (d : ℕ) (bytes : List ℕ) (first second : Event) → Reads d bytes first → Reads d bytes second → first ≡ second
+
+-- Bytes are a packet, or are refused.
+abbrev pub SomeEvent : Type 0
+SomeEvent = (d : ℕ) (bytes : List ℕ) → 1 ≤ d → IsBytes bytes → (event : Event) × Reads d bytes event
+
+-- What is written of a packet is read as that packet, and as nothing else.
+abbrev pub WrittenIsRead : Type 0
+WrittenIsRead = (d : ℕ) (p : Packet) (bytes : List ℕ) (event : Event) → IsWritten d p bytes → Reads d bytes event ↔ (event ≡ Came p)
 
 -- Of every reading a joiner gives the units that are in it, and no others.
 abbrev pub JoinsUnits : Type 0

@@ -1,10 +1,20 @@
 //! The laws of joining packets, each on a function that does nothing.
 
-ghost use Rattle.data_laws.specs.Laws.{OneEvent, JoinsUnits, AnswersEach, KnowsOpen, TellsEachOnce, GivesWhatIsWhole};
+ghost use Rattle.data_laws.specs.Laws.{OneEvent, SomeEvent, WrittenIsRead, JoinsUnits, AnswersEach, KnowsOpen, TellsEachOnce, GivesWhatIsWhole};
 
 /// Bytes are one packet, or are refused for one reason.
 pub fn one_event()
     ensures { OneEvent }
+{}
+
+/// Bytes are a packet, or are refused.
+pub fn some_event()
+    ensures { SomeEvent }
+{}
+
+/// What is written of a packet is read as that packet.
+pub fn written_is_read()
+    ensures { WrittenIsRead }
 {}
 
 /// Of every reading the units that are in it are given, and no others.

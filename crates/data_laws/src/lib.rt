@@ -4,5 +4,6 @@
 mod laws;
 
 pub use laws::{
-    answers_each, gives_what_is_whole, joins_units, knows_open, one_event, tells_each_once,
+    answers_each, gives_what_is_whole, joins_units, knows_open, one_event, some_event,
+    tells_each_once, written_is_read,
 };
