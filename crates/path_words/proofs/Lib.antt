@@ -1,0 +1,13 @@
+pub mod Rules
+pub mod Arguments
+pub mod Walking
+pub mod Steps
+pub mod Dooms
+pub mod Claims
+pub mod Parses
+pub mod ReadLemmas
+pub mod SortLemmas
+pub mod Fresh
+pub mod Sound
+pub mod Complete
+pub mod LineLemmas

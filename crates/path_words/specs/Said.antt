@@ -1,0 +1,14 @@
+-- The texts that the code holds.
+use Rattle.std.specs.Prelude.{option_map}
+use Rattle.path_words.specs.declared.texts.Texts.{Texts}
+use Rattle.path_words.specs.Told.{Told}
+
+abbrev pub texts_said : Texts → Told
+texts_said t = record {
+  addresses = t.addresses.now;
+  window = option_map (λ s. s.now) t.window;
+  first = option_map (λ s. s.now) t.first;
+  frames = option_map (λ s. s.now) t.frames;
+  idle = option_map (λ s. s.now) t.idle;
+  limit = option_map (λ s. s.now) t.limit;
+}

@@ -1,0 +1,19 @@
+//! What a command line asks for.
+
+use word_forms::Addresses;
+
+/// What a command line asks for.
+#[derive(Drop)]
+pub struct Request {
+    /// Two to four, all different.
+    pub addresses: Addresses,
+    /// 1 to 64.
+    pub window: u8,
+    pub first: Option<u16>,
+    /// 1 to 3,000,000.
+    pub frames: Option<u64>,
+    /// 1 to 1,000,000.
+    pub idle: u32,
+    /// 1 to 1,000,000.
+    pub limit: u32,
+}
