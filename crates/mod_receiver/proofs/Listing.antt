@@ -13,7 +13,7 @@ each_more P xs ys x n size is each one k d within =
     elim (less_or_last k n within) [
       | inl less ↦ subst (λ y. P k y) (sym (ap (λ zs. slice_index_or zs k d) is ∙ get_or_append_left xs (x ∷ []) d k (omega (arith, size, less)))) (each k d less)
       | inr last ↦
-        let at : slice_index_or ys k d ≡ x =
-            ap (λ zs. slice_index_or zs k d) is ∙ ap (λ m. slice_index_or (xs ++ x ∷ []) m d) (last ∙ sym size) ∙ get_or-append_seam xs x [] d in
-        subst (λ y. P k y) (sym at) (subst (λ m. P m x) (sym last) one)
+          let at : slice_index_or ys k d ≡ x =
+          ap (λ zs. slice_index_or zs k d) is ∙ ap (λ m. slice_index_or (xs ++ x ∷ []) m d) (last ∙ sym size) ∙ get_or-append_seam xs x [] d in
+          subst (λ y. P k y) (sym at) (subst (λ m. P m x) (sym last) one)
     ]
