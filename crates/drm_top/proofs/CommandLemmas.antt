@@ -11,6 +11,11 @@ use Rattle.drm_links.specs.Source.{Input}
 use Rattle.drm_links.specs.Sink.{Output}
 use Rattle.drm_convert.specs.Run as convert
 use Rattle.drm_convert.specs.Run.{Terms}
+use Rattle.drm_links.specs.declared.dock.Address.{Address}
+use Rattle.drm_links.specs.declared.link.LinkFault.{LinkFault}
+use Rattle.mod_receiver.specs.declared.rules.Rules.{Rules}
+use Rattle.drm_gate.specs.declared.tally.Tally.{Tally}
+use Rattle.gate_command.specs.Run.{NoRun, LinksRun, WritesTally}
 
 whole_fault : (done : Result (Unit {0}) Fault) (fault : Fault) → whole_of done ≡ Err fault → done ≡ Err fault
 whole_fault (Ok done) fault is = cc
@@ -46,6 +51,25 @@ not_convert terms carry ending told a b x y z w ends is = let P : Result Bool Fa
 
 pub not_a_link : (terms : Terms) (carry : Carry) (ending : Result Bool Fault) (told : Bool) (a b : Known Input) (x y z w : Known Output) → convert.Ends terms carry ending told a b x y z w → ending ≡ Err faults.Link → ⊥
 not_a_link terms carry ending told a b x y z w ends is = let P : Result Bool Fault → Type 0 = λ e. convert.Ends terms carry e told a b x y z w in subst P is ends
+
+-- a gateway ends for want of memory, by a failed link or by a failed write
+pub not_gate : (fault : Fault) → (fault ≡ faults.NoMemory → ⊥) → (fault ≡ faults.Link → ⊥) → (fault ≡ faults.Write → ⊥)
+    → (fault ≡ faults.NoMemory) ⊎ (fault ≡ faults.Link) ⊎ (fault ≡ faults.Write) → ⊥
+not_gate fault memory link write (inl is) = memory is
+not_gate fault memory link write (inr (inl is)) = link is
+not_gate fault memory link write (inr (inr is)) = write is
+
+-- where memory is wanting it touches nothing
+pub no_gate : {D O : Type 0} (rules : Rules) (carry : Carry) (from to : Address) (ending : Result Bool Fault) (dock_known : D → Known DockContents) (dock dock' : D)
+    (out_known : O → Known Output) (out out' : O) → ending ≡ Err faults.NoMemory
+    → NoRun ending dock dock' out out' ⊎ LinksRun rules carry from to ending dock_known dock dock' out_known out out' → (dock' ≡ dock) × (out' ≡ out)
+no_gate rules carry from to ending dock_known dock dock' out_known out out' is (inl none) = (none.1, none.2)
+no_gate rules carry from to ending dock_known dock dock' out_known out out' is (inr run) = absurd (wrote run.passed run.writes)
+  where
+    wrote : (passed : Result Tally LinkFault) → WritesTally passed ending out_known out out' → ⊥
+    wrote (Ok tally) (inl done) = let both = sym done.0 ∙ is in cc
+    wrote (Ok tally) (inr cut) = let both = sym cut.0 ∙ is in cc
+    wrote (Err fault) failed = let both = sym failed.0 ∙ is in cc
 
 -- ---- what is written to err behind a command
 

@@ -15,11 +15,13 @@ use Rattle.drm_receive.specs.Capture.{CaptureRun}
 use Rattle.drm_air.specs.Air.{AirRun}
 use Rattle.drm_exercise.specs.Run.{ExerciseRun}
 use Rattle.drm_convert.specs.Run.{ConvertRun}
+use Rattle.gate_command.specs.Run.{GateCommandRun}
+use Rattle.data_units.specs.Pack.{PackRun}
 use Rattle.drm_faults.specs.Fault.{done_of, whole_of, report_status, ReportsIf}
 use Rattle.drm_faults.specs.declared.fault.Fault.{Fault}
 use Rattle.drm_faults.specs.declared.fault.Fault.TheVariants.{NoMemory}
 use Rattle.drm_top.specs.declared.words.Command.{Command}
-use Rattle.drm_top.specs.declared.words.Command.TheVariants.{Fac, Check, Serve, Send, Receive, ReceiveCapture, Air, Show, Exercise, Convert}
+use Rattle.drm_top.specs.declared.words.Command.TheVariants.{Fac, Check, Serve, Send, Receive, ReceiveCapture, Air, Show, Exercise, Convert, Gate, Pack, Unpack, Texts}
 
 -- a run that tells of no frames
 abbrev pub Whole : Result Bool Fault → (Result (Unit {0}) Fault → Type 0) → Type 0
@@ -52,6 +54,10 @@ CommandRun (Exercise n) ending told shelf_known shelf shelf' input_known input i
     ExerciseRun n ending out_known out out' × (shelf' ≡ shelf) × (input' ≡ input) × (dock' ≡ dock) × IsQuiet told err err'
 CommandRun (Convert carry window first frames) ending told shelf_known shelf shelf' input_known input input' out_known out out' err_known err err' dock_known dock dock' =
     ConvertRun (record { window = window; first = first; told = frames }) carry ending told input_known input input' out_known out out' err_known err err' × (shelf' ≡ shelf) × (dock' ≡ dock)
+CommandRun (Gate from to carry rules) ending told shelf_known shelf shelf' input_known input input' out_known out out' err_known err err' dock_known dock dock' =
+    GateCommandRun rules carry from to ending dock_known dock dock' out_known out out' × (shelf' ≡ shelf) × (input' ≡ input) × IsQuiet told err err'
+CommandRun (Pack pid length) ending told shelf_known shelf shelf' input_known input input' out_known out out' err_known err err' dock_known dock dock' =
+    Whole ending (λ done. PackRun pid length done input_known input input' out_known out out') × (shelf' ≡ shelf) × (dock' ≡ dock) × IsQuiet told err err'
 
 -- nothing of the outside was touched
 abbrev pub IsUntouched : {S I O D : Type 0} → S → S → I → I → O → O → D → D → Type 0
@@ -80,6 +86,10 @@ OpensALink (Air name script window) = ⊥
 OpensALink Show = ⊥
 OpensALink (Exercise n) = ⊥
 OpensALink (Convert carry window first frames) = ⊥
+OpensALink (Gate from to carry rules) = Unit {0}
+OpensALink (Pack pid length) = ⊥
+OpensALink (Unpack stream pid length window first frames) = ⊥
+OpensALink (Texts stream window first frames) = ⊥
 
 -- a command that tells of frames or packets, some of which may be missing or bad
 abbrev pub WritesReport : Command → Type 0
@@ -93,3 +103,7 @@ WritesReport (Air name script window) = Unit {0}
 WritesReport Show = Unit {0}
 WritesReport (Exercise n) = Unit {0}
 WritesReport (Convert carry window first frames) = Unit {0}
+WritesReport (Gate from to carry rules) = Unit {0}
+WritesReport (Pack pid length) = ⊥
+WritesReport (Unpack stream pid length window first frames) = Unit {0}
+WritesReport (Texts stream window first frames) = Unit {0}

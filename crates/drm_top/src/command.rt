@@ -10,6 +10,7 @@ ghost use Rattle.drm_top.specs.Words.{AsksFor, AsksForNothing, IsInRange};
 ghost use Rattle.drm_top.specs.declared.words.Command.{Command};
 
 use crate::words::{Command, read_command, text};
+use data_units::pack;
 use drm_air::air;
 use drm_convert::convert;
 use drm_exercise::exercise;
@@ -19,6 +20,7 @@ use drm_links::{Dock, Link, Shelf, Sink, Source, Status};
 use drm_receive::{receive, receive_from_capture};
 use drm_transmit::{check, send, serve};
 use drm_words::WordsFault;
+use gate_command::gate;
 use std::alloc::Global;
 use std::thread::Threads;
 
@@ -188,6 +190,13 @@ where
         } => convert(
             alloc, *carry, *window, *first, *frames, input, out, err, told,
         ),
+        Command::Gate {
+            from,
+            to,
+            carry,
+            rules,
+        } => gate(alloc, rules, *carry, *from, *to, dock, out),
+        Command::Pack { pid, length } => whole(pack(alloc, *pid, *length, input, out)),
     }
 }
 

@@ -1,6 +1,9 @@
-use Rattle.std.proofs.Common.{◌≡◌, inl, inr, refl, subst, le_refl}
+use Rattle.std.proofs.Common.{◌≡◌, inl, inr, Err, refl, sym, subst, le_refl}
+use Rattle.drm_links.specs.Told.{WhileTold}
+use Rattle.drm_links.specs.Dock.{SendsNothing}
+use Rattle.drm_faults.specs.declared.fault.Fault.{Fault}
 use Rattle.drm_faults.specs.declared.fault.Fault.TheVariants as faults
-use Rattle.drm_top.proofs.CommandLemmas.{fault_of_whole, whole_lacks_none, dock_still, not_else, not_convert, not_a_link}
+use Rattle.drm_top.proofs.CommandLemmas.{fault_of_whole, whole_lacks_none, dock_still, not_else, not_convert, not_a_link, not_gate, no_gate}
 use Rattle.drm_receive.proofs.OpeningLemmas.{opens_unsent}
 use Rattle.drm_top.proofs.command.run_command.Goals as goal
 
@@ -118,6 +121,40 @@ returns-in-Convert g c =
       write = run.write_cause;
       link = λ e. absurd (not_a_link (record { window = c.in-Convert.window; first = c.in-Convert.first; told = c.in-Convert.frames }) c.in-Convert.carry _ _ _ _ _ _ _ _ run.ends e);
       lacking = λ e. rw c.in-Convert.is tt;
+      unsent = λ e. dock_still (g.D.Dock.known c.args.dock.now);
+      dock = λ none. refl;
+    }
+
+pub returns-in-Gate : goal.returns-in-Gate
+returns-in-Gate g c =
+    let run = c.gate.ensures in
+    record {
+      words = λ e. not_gate faults.Words (λ is. cc) (λ is. cc) (λ is. cc) (run.kind faults.Words e);
+      memory = λ e. (refl, (no_gate c.in-Gate.rules c.in-Gate.carry c.in-Gate.from c.in-Gate.to _ _ _ _ _ _ _ e run.run).1);
+      run = rw c.in-Gate.is (run, refl, refl, (c.requires.told, refl));
+      read = λ e. absurd (not_gate faults.Read (λ is. cc) (λ is. cc) (λ is. cc) (run.kind faults.Read e));
+      write = run.write_cause;
+      link = λ e. rw c.in-Gate.is tt;
+      lacking = λ e. rw c.in-Gate.is tt;
+      unsent = λ e.
+          subst (λ d. WhileTold (g.D.Dock.known c.args.dock.now) (g.D.Dock.known d) SendsNothing)
+          (sym (no_gate c.in-Gate.rules c.in-Gate.carry c.in-Gate.from c.in-Gate.to _ _ _ _ _ _ _ e run.run).0) (dock_still (g.D.Dock.known c.args.dock.now));
+      dock = λ none. absurd (none (rw c.in-Gate.is tt));
+    }
+
+pub returns-in-Pack : goal.returns-in-Pack
+returns-in-Pack g c =
+    let run = c.pack.ensures.run in
+    let fault : (fault : Fault) → c.whole-in-Pack.result ≡ Err fault → c.pack.result ≡ Err fault =
+        λ fault e. fault_of_whole c.whole-in-Pack.result c.pack.result fault c.whole-in-Pack.ensures e in
+    record {
+      words = λ e. run.kind faults.Words (fault faults.Words e);
+      memory = λ e. run.untouched (fault faults.NoMemory e);
+      run = rw c.in-Pack.is ((c.pack.result, c.whole-in-Pack.ensures, run), refl, refl, (c.requires.told, refl));
+      read = λ e. inl (run.read_cause.rose (fault faults.Read e));
+      write = record { later = run.write_cause.later; rose = λ e. run.write_cause.rose (fault faults.Write e) };
+      link = λ e. absurd (run.kind faults.Link (fault faults.Link e));
+      lacking = λ e. absurd (whole_lacks_none c.whole-in-Pack.result c.pack.result c.whole-in-Pack.ensures e);
       unsent = λ e. dock_still (g.D.Dock.known c.args.dock.now);
       dock = λ none. refl;
     }
