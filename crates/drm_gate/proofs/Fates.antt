@@ -1,0 +1,117 @@
+-- An item has one fate, as far as datagrams go.
+use Rattle.std.proofs.Common.{◌≡◌, ◌<◌, ◌≤◌, ℕ, suc, List, [], ◌∷◌, ◌++◌, length, sym, ap, ap₂, ◌∙◌, refl, arith, length-append}
+use Rattle.std.specs.Prelude.{slice_index_or}
+use Rattle.std.proofs.lemmas.Bool.{true≢false}
+use Rattle.std.proofs.lemmas.List.{append-nil}
+use Rattle.dcp_pft.specs.declared.carry.Carry.{Carry}
+use Rattle.dcp_pft.specs.declared.carry.Carry.TheVariants.{Plain, Pft}
+use Rattle.dcp_pft.specs.Carrying.{Carries}
+use Rattle.dcp_pft.proofs.OneFragment.{one_datagram}
+use Rattle.dcp_af.proofs.Answered.{no_fault}
+use Rattle.dcp_collect.specs.Runs.{Item, Packet, Lost, Damaged}
+use Rattle.collect_laws.proofs.SentCuts.{packet_long}
+use Rattle.drm_convert.specs.Carried.{AreOf}
+use Rattle.drm_convert.specs.Converting.{IsAny, sequence_of}
+use Rattle.drm_gate.specs.Sending.{AreSome}
+use Rattle.drm_gate.specs.Passing.{Fate, Sent, Bad, Large, Missing, IsNone, Becomes, Begins, BecomeAll, datagrams_of, sent_of}
+use Rattle.drm_gate.specs.Run.{IsFrontOf}
+
+-- ---- lists of datagrams
+
+-- one that isn't longer, and has the same at each place, is a front
+front_list : (xs ys : List (List ℕ)) → length xs ≤ length ys → ((i : ℕ) (none : List ℕ) → i < length xs → slice_index_or xs i none ≡ slice_index_or ys i none) → (rest : List (List ℕ)) × (ys ≡ xs ++ rest)
+front_list [] ys few same = (ys, refl)
+front_list (x ∷ xs) [] few same = absurd (omega (arith, few))
+front_list (x ∷ xs) (y ∷ ys) few same =
+    let first : x ≡ y = same 0 [] (omega arith) in
+    let (rest, are) = front_list xs ys (omega (arith, few)) (λ i none below. same (suc i) none (omega (arith, below))) in
+    (rest, ap₂ (λ z zs. z ∷ zs) (sym first) are)
+
+no_rest : (xs ys rest : List (List ℕ)) → ys ≡ xs ++ rest → length ys ≤ length xs → ys ≡ xs
+no_rest xs ys [] are few = are ∙ append-nil xs
+no_rest xs ys (r ∷ rest) are few = absurd (omega (arith, few, ap length are, length-append xs (r ∷ rest)))
+
+-- ---- the datagrams of a packet
+
+carried_same : (carry : Carry) (sequence i : ℕ) (packet a b : List ℕ) → 1 ≤ length packet → Carries carry sequence packet i a → Carries carry sequence packet i b → a ≡ b
+carried_same Plain sequence i packet a b some p q = p ∙ sym q
+carried_same (Pft m mtu) sequence i packet a b some p q = sym (one_datagram m mtu sequence i packet a b some p q)
+
+some_bytes : (packet : List ℕ) → IsAny packet → 1 ≤ length packet
+some_bytes packet any = let l = packet_long any.0 packet any.1 in omega (arith, l)
+
+one_sending : (carry : Carry) (sequence : ℕ) (packet : List ℕ) (xs ys : List (List ℕ)) → IsAny packet → AreOf carry sequence packet xs → AreOf carry sequence packet ys → xs ≡ ys
+one_sending carry sequence packet xs ys any a b =
+    let size : length xs ≡ length ys = a.many ∙ sym b.many in
+    let (rest, are) = front_list xs ys (omega (arith, size))
+    (λ i none below. carried_same carry sequence i packet (slice_index_or xs i none) (slice_index_or ys i none) (some_bytes packet any) (a.each i none below) (b.each i none (omega (arith, below, size)))) in
+    sym (no_rest xs ys rest are (omega (arith, size)))
+
+some_first : (carry : Carry) (sequence : ℕ) (packet : List ℕ) (xs ys : List (List ℕ)) → IsAny packet → AreSome carry sequence packet xs → AreOf carry sequence packet ys → IsFrontOf ys xs
+some_first carry sequence packet xs ys any a b =
+    let less = a.fewer in
+    let many = b.many in
+    let few : length xs < length ys = omega (arith, less, many) in
+    let (rest, are) = front_list xs ys (omega (arith, few))
+    (λ i none below. carried_same carry sequence i packet (slice_index_or xs i none) (slice_index_or ys i none) (some_bytes packet any) (a.each i none below) (b.each i none (omega (arith, below, few)))) in
+    (rest, omega (arith, few, ap length are, length-append xs rest), are)
+
+-- ---- one item
+
+no_bad : (bytes : List ℕ) → IsAny bytes → IsNone bytes → ⊥
+no_bad bytes any none = no_fault any.0 none.0 bytes any.1 none.1
+
+pub one_sent : (carry : Carry) (first : ℕ) (item : Item) (g h : Fate) → Becomes carry first item g → Becomes carry first item h → datagrams_of g ≡ datagrams_of h
+one_sent carry first (Packet q bytes) (Sent xs) (Sent ys) a b = one_sending carry (sequence_of first q) bytes xs ys a.0 a.2 b.2
+one_sent carry first (Packet q bytes) (Sent xs) Bad a b = absurd (no_bad bytes a.0 b)
+one_sent carry first (Packet q bytes) (Sent xs) Large a b = absurd (true≢false (sym b.1 ∙ a.1))
+one_sent carry first (Packet q bytes) (Sent xs) Missing a b = absurd b
+one_sent carry first (Packet q bytes) Bad (Sent ys) a b = absurd (no_bad bytes b.0 a)
+one_sent carry first (Packet q bytes) Bad Bad a b = refl
+one_sent carry first (Packet q bytes) Bad Large a b = refl
+one_sent carry first (Packet q bytes) Bad Missing a b = refl
+one_sent carry first (Packet q bytes) Large (Sent ys) a b = absurd (true≢false (sym a.1 ∙ b.1))
+one_sent carry first (Packet q bytes) Large Bad a b = refl
+one_sent carry first (Packet q bytes) Large Large a b = refl
+one_sent carry first (Packet q bytes) Large Missing a b = refl
+one_sent carry first (Packet q bytes) Missing h a b = absurd a
+one_sent carry first (Lost q had total) (Sent xs) h a b = absurd a
+one_sent carry first (Lost q had total) Bad h a b = absurd a
+one_sent carry first (Lost q had total) Large h a b = absurd a
+one_sent carry first (Lost q had total) Missing (Sent ys) a b = absurd b
+one_sent carry first (Lost q had total) Missing Bad a b = refl
+one_sent carry first (Lost q had total) Missing Large a b = refl
+one_sent carry first (Lost q had total) Missing Missing a b = refl
+one_sent carry first (Damaged q) (Sent xs) h a b = absurd a
+one_sent carry first (Damaged q) Bad (Sent ys) a b = absurd b
+one_sent carry first (Damaged q) Bad Bad a b = refl
+one_sent carry first (Damaged q) Bad Large a b = refl
+one_sent carry first (Damaged q) Bad Missing a b = refl
+one_sent carry first (Damaged q) Large h a b = absurd a
+one_sent carry first (Damaged q) Missing h a b = absurd a
+
+pub begins_front : (carry : Carry) (first : ℕ) (item : Item) (datagrams : List (List ℕ)) (g : Fate) → Begins carry first item datagrams → Becomes carry first item g → IsFrontOf (datagrams_of g) datagrams
+begins_front carry first (Packet q bytes) datagrams (Sent ys) a b = some_first carry (sequence_of first q) bytes datagrams ys a.0 a.2 b.2
+begins_front carry first (Packet q bytes) datagrams Bad a b = absurd (no_bad bytes a.0 b)
+begins_front carry first (Packet q bytes) datagrams Large a b = absurd (true≢false (sym b.1 ∙ a.1))
+begins_front carry first (Packet q bytes) datagrams Missing a b = absurd b
+begins_front carry first (Lost q had total) datagrams g a b = absurd a
+begins_front carry first (Damaged q) datagrams g a b = absurd a
+
+-- ---- several
+
+pub all_sent : (carry : Carry) (first : ℕ) (items : List Item) (fs gs : List Fate) → BecomeAll carry first items fs → BecomeAll carry first items gs → sent_of fs ≡ sent_of gs
+all_sent carry first [] [] [] a b = refl
+all_sent carry first [] [] (g ∷ gs) a b = absurd b
+all_sent carry first [] (f ∷ fs) gs a b = absurd a
+all_sent carry first (item ∷ items) [] gs a b = absurd a
+all_sent carry first (item ∷ items) (f ∷ fs) [] a b = absurd b
+all_sent carry first (item ∷ items) (f ∷ fs) (g ∷ gs) a b = ap₂ (λ x y. x ++ y) (one_sent carry first item f g a.0 b.0) (all_sent carry first items fs gs a.1 b.1)
+
+pub split : (carry : Carry) (first : ℕ) (items more : List Item) (fates : List Fate) → BecomeAll carry first (items ++ more) fates
+    → (fs : List Fate) × (gs : List Fate) × (fates ≡ fs ++ gs) × BecomeAll carry first items fs × BecomeAll carry first more gs
+split carry first [] more fates all = ([], fates, refl, tt, all)
+split carry first (item ∷ items) more [] all = absurd all
+split carry first (item ∷ items) more (fate ∷ fates) all =
+    let (fs, gs, are, front, back) = split carry first items more fates all.1 in
+    (fate ∷ fs, gs, ap (λ l. fate ∷ l) are, (all.0, front), back)

@@ -1,0 +1,11 @@
+pub mod DrainingLemmas
+pub mod Ending
+pub mod Fates
+pub mod Fronts
+pub mod ItemLemmas
+pub mod Kept
+pub mod Reaching
+pub mod RestingLemmas
+pub mod SendingLemmas
+pub mod TakingLemmas
+pub mod Tallying

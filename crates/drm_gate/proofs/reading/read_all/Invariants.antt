@@ -1,0 +1,20 @@
+use Rattle.std.proofs.Common.{◌≡◌, ◌+◌, ◌-◌, ◌*◌, ◌≤◌, length}
+use Rattle.mod_receiver.specs.Hearing.{Heard}
+use Rattle.drm_links.specs.Told.{Tells}
+use Rattle.drm_gate.specs.Gateway.{rules_of}
+use Rattle.drm_gate.specs.Resting.{NeverRests}
+use Rattle.drm_gate.proofs.Reaching.{Reaches}
+use Rattle.drm_gate.proofs.reading.read_all.Given as goal
+
+-- nothing is finished yet
+abbrev pub invariant-answers : goal.invariant-answers
+invariant-answers g l =
+    Reaches (rules_of l.fn.collector l.options) l.fn.sender (Heard (g.L.Link.known l.fn.from) (g.L.Link.known l.from)) (g.K.Link.known l.fn.to) (g.K.Link.known l.to) l.collector l.tally l.taken l.idles
+    × ((g.L.Link.known l.fn.from).faults ≤ (g.L.Link.known l.from).faults)
+    × ((g.K.Link.known l.fn.to).faults ≤ (g.K.Link.known l.to).faults)
+    × (length l.buffer ≡ length l.fn.buffer)
+    × (l.sender ≡ l.fn.sender)
+    × Tells (g.L.Link.known l.fn.from) (g.L.Link.known l.from) NeverRests
+
+abbrev pub decreases-answers : goal.decreases-answers
+decreases-answers g l = (l.options.limit - l.taken) * l.options.idle + (l.options.idle - l.idles)

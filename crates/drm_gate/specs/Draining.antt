@@ -1,0 +1,63 @@
+-- What a gateway does with all that is ready.
+use Rattle.std.specs.Prelude.{ℕ, ◌≡◌, ◌+◌, ◌*◌, ◌^◌, ◌≤◌, ◌⊎◌, true, false, List, length, Option, IfSome}
+use Rattle.dcp_pft.specs.declared.carry.Carry.{Carry}
+use Rattle.dcp_pft.specs.Limits.{most_fragments}
+use Rattle.dcp_collect.specs.State.{State, ready}
+use Rattle.dcp_collect.specs.Runs.{Item, IsItem}
+use Rattle.drm_links.specs.Told.{Known}
+use Rattle.drm_links.specs.Link.{Traffic}
+use Rattle.drm_links.specs.Transmission.{Transmits, SendsAll, SendsNoMore}
+use Rattle.drm_convert.specs.Draining.{is_full, Given, MayBeFirst}
+use Rattle.drm_gate.specs.declared.tally.Tally.{Tally}
+use Rattle.drm_gate.specs.Passing.{Fate, Begins, BecomeAll, sent_of}
+use Rattle.drm_gate.specs.Resting.{MakesSends}
+use Rattle.drm_gate.specs.Tallies.{plus, tally_of, items_in}
+
+-- These items were passed on, one after another, from here on.
+pub record PassedAll (carry : Carry) (c : State) (items : List Item) (t t' : Tally) (to to' : Known Traffic) : Type 0 where
+  pub fates : List Fate
+  pub many : length fates ≡ length items
+  pub become : (first : ℕ) → MayBeFirst c first → BecomeAll carry first items fates
+  pub tally : t' ≡ plus t (tally_of fates)
+  pub sent : Transmits to to' (SendsAll (sent_of fates))
+  pub only : MakesSends (most_fragments * (tally_of fates).given) to to'
+
+-- What is ready was passed on, up to the told number of items.
+pub record Drained (told : Option ℕ) (carry : Carry) (c d : State) (t t' : Tally) (to to' : Known Traffic) : Type 0 where
+  pub items : List Item
+  pub gives : Given c items d
+  pub all : PassedAll carry c items t t' to to'
+  pub ends : (ready d ≡ false) ⊎ (is_full told (items_in t') ≡ true)
+
+-- No more packets were sent, or may be, than datagrams were taken.
+abbrev pub sent_or_kept : State → Tally → ℕ
+sent_or_kept c t = t.given + length c.kept
+
+-- Behind these a send failed, at an item that isn't past the told number: some of its datagrams were sent, and no more were taken.
+pub record Stopped (told : Option ℕ) (carry : Carry) (c : State) (t : Tally) (to to' : Known Traffic) : Type 0 where
+  pub items : List Item
+  pub mid : State
+  pub gives : Given c items mid
+  pub is_ready : ready mid ≡ true
+  pub item : Item
+  pub is_next : IsItem mid item
+  pub tally : Tally
+  pub within : is_full told (items_in tally) ≡ false
+  pub between : Known Traffic
+  pub all : PassedAll carry c items t tally to between
+  pub datagrams : List (List ℕ)
+  pub begins : (first : ℕ) → MayBeFirst c first → Begins carry first item datagrams
+  pub sent : Transmits between to' (SendsNoMore datagrams)
+  pub only : MakesSends most_fragments between to'
+  pub few : tally.given ≤ sent_or_kept c t
+
+-- The count of items is that of the collector, and none was passed on past the told number.
+pub record KeepsPace (told : Option ℕ) (c : State) (t : Tally) : Type 0 where
+  pub items : items_in t ≡ c.next
+  pub below : IfSome told (λ n. items_in t ≤ n)
+  pub small : items_in t ≤ 2 ^ 62
+  pub sent : t.sent ≤ most_fragments * t.given
+
+-- so many datagrams a gateway takes, at the most
+abbrev pub most_taken : ℕ
+most_taken = 4294967295

@@ -1,0 +1,10 @@
+pub mod Draining
+pub mod Gateway
+pub mod Laws
+pub mod Passing
+pub mod Reading
+pub mod Resting
+pub mod Run
+pub mod Sending
+pub mod Steps
+pub mod Tallies

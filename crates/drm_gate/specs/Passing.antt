@@ -1,0 +1,55 @@
+-- What becomes of what a collector gives.
+use Rattle.std.specs.Prelude.{ℕ, ◌≡◌, true, false, List, [], ◌∷◌, length}
+use Rattle.std.specs.List.{flat_map}
+use Rattle.dcp_pft.specs.declared.carry.Carry.{Carry}
+use Rattle.dcp_af.specs.declared.fault.AfFault.{AfFault}
+use Rattle.dcp_af.specs.Faults.{IsFault}
+use Rattle.dcp_collect.specs.Runs.{Item, Packet, Lost, Damaged}
+use Rattle.drm_convert.specs.Carried.{AreOf}
+use Rattle.drm_convert.specs.Converting.{IsAny, sequence_of}
+use Rattle.drm_gate.specs.Sending.{is_large, AreSome}
+
+-- It is sent, as these datagrams, or it is none that can be sent: bad, or above the limit of the carry, or missing.
+pub data Fate : Type 0 where
+  Sent : (datagrams : List (List ℕ)) → Fate
+  Bad : Fate
+  Large : Fate
+  Missing : Fate
+
+-- the bytes are no AF packet
+abbrev pub IsNone : List ℕ → Type 0
+IsNone bytes = (fault : AfFault) × IsFault fault bytes
+
+-- An AF packet within the limit of the carry is sent under it.
+abbrev pub Becomes : Carry → ℕ → Item → Fate → Type 0
+Becomes carry first (Packet index bytes) (Sent datagrams) =
+    IsAny bytes × (is_large carry (length bytes) ≡ false) × AreOf carry (sequence_of first index) bytes datagrams
+Becomes carry first (Packet index bytes) Large = IsAny bytes × (is_large carry (length bytes) ≡ true)
+Becomes carry first (Packet index bytes) Bad = IsNone bytes
+Becomes carry first (Packet index bytes) Missing = ⊥
+Becomes carry first (Lost index had total) Missing = Unit {0}
+Becomes carry first (Lost index had total) other = ⊥
+Becomes carry first (Damaged index) Bad = Unit {0}
+Becomes carry first (Damaged index) other = ⊥
+
+-- some of the datagrams that it becomes, and not all
+abbrev pub Begins : Carry → ℕ → Item → List (List ℕ) → Type 0
+Begins carry first (Packet index bytes) datagrams =
+    IsAny bytes × (is_large carry (length bytes) ≡ false) × AreSome carry (sequence_of first index) bytes datagrams
+Begins carry first other datagrams = ⊥
+
+-- each item has its fate
+abbrev pub BecomeAll : Carry → ℕ → List Item → List Fate → Type 0
+BecomeAll carry first [] [] = Unit {0}
+BecomeAll carry first (item ∷ items) (fate ∷ fates) = Becomes carry first item fate × BecomeAll carry first items fates
+BecomeAll carry first items fates = ⊥
+
+-- the datagrams that are sent
+abbrev pub datagrams_of : Fate → List (List ℕ)
+datagrams_of (Sent datagrams) = datagrams
+datagrams_of Bad = []
+datagrams_of Large = []
+datagrams_of Missing = []
+
+abbrev pub sent_of : List Fate → List (List ℕ)
+sent_of fates = flat_map datagrams_of fates

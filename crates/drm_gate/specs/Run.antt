@@ -1,0 +1,131 @@
+-- What a gateway reads of one link, and what it sends of that over the other.
+use Rattle.std.specs.Prelude.{ℕ, ◌≡◌, ◌+◌, ◌*◌, ◌≤◌, ◌⊎◌, true, false, List, [], ◌∷◌, ◌++◌, length, Option}
+use Rattle.dcp_pft.specs.declared.carry.Carry.{Carry}
+use Rattle.dcp_pft.specs.Limits.{most_fragments}
+use Rattle.dcp_collect.specs.declared.taken.Taken.{Taken}
+use Rattle.dcp_collect.specs.State.{State, made, ready, after_finish}
+use Rattle.dcp_collect.specs.Runs.{Item, IsItem, Takes, Steps, Run}
+use Rattle.drm_links.specs.Told.{Known}
+use Rattle.drm_links.specs.Link.{Answer, Datagram, Traffic}
+use Rattle.drm_links.specs.Transmission.{Transmits, SendsAll, SendsNoMore}
+use Rattle.report_lines.specs.declared.report.EndWord.{EndWord}
+use Rattle.mod_receiver.specs.Hearing.{Heard}
+use Rattle.mod_receiver.specs.declared.rules.Rules.{Rules}
+use Rattle.mod_receiver.specs.Reading.{datagrams, Gave, EndsBy, GoesOn, IsFinished, IsBroken, most_answers}
+use Rattle.mod_receiver.specs.OneReading.{Ends}
+use Rattle.drm_convert.specs.Draining.{is_full, Given, MayBeFirst}
+use Rattle.drm_convert.specs.Run.{first_of}
+use Rattle.drm_gate.specs.declared.tally.Tally.{Tally}
+use Rattle.drm_gate.specs.declared.gate.GateEnded.{GateEnded}
+use Rattle.drm_gate.specs.declared.gate.GateEnded.TheVariants.{Done, FromFailed, ToFailed}
+use Rattle.drm_gate.specs.Passing.{Fate, Begins, BecomeAll, sent_of}
+use Rattle.drm_gate.specs.Resting.{MakesSends}
+use Rattle.drm_gate.specs.Tallies.{tally_of}
+
+-- What becomes of these datagrams: of what a collector gives of them, up to the told number, what is ready at their end
+-- included.
+pub record IsOnward (rules : Rules) (carry : Carry) (datagrams : List (List ℕ)) (fates : List Fate) : Type 0 where
+  pub taken : List Taken
+  pub items : List Item
+  pub run : Run rules.window rules.first rules.frames datagrams taken items
+  pub become : BecomeAll carry (first_of run.mid) items fates
+
+-- What becomes of what these datagrams make ready, while more may come.
+pub record IsReady (rules : Rules) (carry : Carry) (datagrams : List (List ℕ)) (fates : List Fate) : Type 0 where
+  pub taken : List Taken
+  pub items : List Item
+  pub mid : State
+  pub steps : Steps (made rules.window rules.first) datagrams taken items mid
+  pub become : BecomeAll carry (first_of mid) items fates
+
+-- a front of a list, and not the whole
+abbrev pub IsFrontOf : List (List ℕ) → List (List ℕ) → Type 0
+IsFrontOf whole front = (rest : List (List ℕ)) × (1 ≤ length rest) × (whole ≡ front ++ rest)
+
+-- However the reading goes on that these answers begin: of what becomes of all its datagrams these are a front.
+abbrev pub IsFrontOfOnward : Rules → Carry → List Answer → List (List ℕ) → Type 0
+IsFrontOfOnward rules carry answers sent =
+    (more : List Answer) (ending : Option EndWord) (fates : List Fate)
+    → Ends rules (answers ++ more) ending → IsOnward rules carry (datagrams (answers ++ more)) fates → IsFrontOf (sent_of fates) sent
+
+-- what a collector comes to before it gives what is ready: it takes one datagram more, or is finished where the reading is
+abbrev pub ComesTo : Rules → List Answer → List Answer → State → State → Type 0
+ComesTo rules answers later mid state =
+    ((bytes : List ℕ) × (answer : Taken) × (later ≡ Datagram bytes ∷ []) × Takes mid bytes answer state)
+    ⊎ ((word : EndWord) × (later ≡ []) × EndsBy rules answers word × (state ≡ after_finish mid rules.frames))
+
+-- Of a reading that began with these answers, these datagrams were sent, and then a send failed: they are what becomes of the
+-- items that were given so far, and some of the datagrams of the item behind them, which isn't past the told number.
+pub record StopsAt (rules : Rules) (carry : Carry) (answers : List Answer) (sent : List (List ℕ)) : Type 0 where
+  pub before : List Answer
+  pub later : List Answer
+  pub are : answers ≡ before ++ later
+  pub taken : List Taken
+  pub during : List Item
+  pub mid : State
+  pub gave : Gave rules before taken during mid
+  pub state : State
+  pub comes : ComesTo rules answers later mid state
+  pub more : List Item
+  pub last : State
+  pub gives : Given state more last
+  pub is_ready : ready last ≡ true
+  pub item : Item
+  pub is_next : IsItem last item
+  pub within : is_full rules.frames (length (during ++ more)) ≡ false
+  pub fates : List Fate
+  pub become : (first : ℕ) → MayBeFirst last first → BecomeAll carry first (during ++ more) fates
+  pub datagrams : List (List ℕ)
+  pub begins : (first : ℕ) → MayBeFirst last first → Begins carry first item datagrams
+  pub sent_is : sent ≡ sent_of fates ++ datagrams
+
+-- so many sends at the most: those of a packet for each datagram that was taken, and of one more
+abbrev pub most_sends : Rules → ℕ
+most_sends rules = most_fragments * (rules.limit + 1)
+
+-- The reading was finished, and all that becomes of what was read was sent and counted.
+pub record PassesAll (rules : Rules) (carry : Carry) (hears : List Answer → Type 0) (to to' : Known Traffic) (tally : Tally) : Type 0 where
+  pub answers : List Answer
+  pub heard : hears answers
+  pub few : length answers ≤ most_answers rules
+  pub word : EndWord
+  pub reading : IsFinished rules answers word
+  pub fates : List Fate
+  pub onward : IsOnward rules carry (datagrams answers) fates
+  pub sent : Transmits to to' (SendsAll (sent_of fates))
+  pub only : MakesSends (most_sends rules) to to'
+  pub tally_is : tally ≡ tally_of fates
+
+-- The reading ended in `Failed`, and what had been made ready before was sent.
+pub record BreaksOff (rules : Rules) (carry : Carry) (hears : List Answer → Type 0) (to to' : Known Traffic) : Type 0 where
+  pub answers : List Answer
+  pub heard : hears answers
+  pub few : length answers ≤ most_answers rules
+  pub before : List Answer
+  pub reading : IsBroken rules before answers
+  pub fates : List Fate
+  pub ready : IsReady rules carry (datagrams before) fates
+  pub sent : Transmits to to' (SendsAll (sent_of fates))
+  pub only : MakesSends (most_sends rules) to to'
+
+-- A send failed: nothing shorter than what was read is finished, and a front of what becomes of it was sent.
+pub record StopsSending (rules : Rules) (carry : Carry) (hears : List Answer → Type 0) (to to' : Known Traffic) : Type 0 where
+  pub answers : List Answer
+  pub heard : hears answers
+  pub few : length answers ≤ most_answers rules
+  pub goes_on : GoesOn rules answers
+  pub datagrams : List (List ℕ)
+  pub sent : Transmits to to' (SendsNoMore datagrams)
+  pub only : MakesSends (most_sends rules) to to'
+  pub at : StopsAt rules carry answers datagrams
+  pub front : IsFrontOfOnward rules carry answers datagrams
+
+-- what each ending says
+abbrev pub EndsAs : Rules → Carry → (List Answer → Type 0) → Known Traffic → Known Traffic → GateEnded → Type 0
+EndsAs rules carry hears to to' (Done tally) = PassesAll rules carry hears to to' tally
+EndsAs rules carry hears to to' FromFailed = BreaksOff rules carry hears to to'
+EndsAs rules carry hears to to' ToFailed = StopsSending rules carry hears to to'
+
+-- a run of a gateway
+abbrev pub GateRun : Rules → Carry → Known Traffic → Known Traffic → Known Traffic → Known Traffic → GateEnded → Type 0
+GateRun rules carry from from' to to' ended = EndsAs rules carry (Heard from from') to to' ended

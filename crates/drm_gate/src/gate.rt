@@ -1,0 +1,104 @@
+//! A gateway: what comes over one link is sent over another.
+
+ghost use Rattle.std.specs.Prelude.{◌≡◌, ◌≤◌, length, IfOk};
+ghost use Rattle.dcp_pft.specs.Carrying.{CarryFits};
+ghost use Rattle.dcp_collect.specs.State.{made};
+ghost use Rattle.drm_links.specs.Told.{HasCause, Tells};
+ghost use Rattle.drm_gate.specs.Gateway.{IsNew, IsReasonable, rules_of};
+ghost use Rattle.drm_gate.specs.Resting.{NeverRests};
+ghost use Rattle.drm_gate.specs.Run.{GateRun};
+
+use crate::reading::{Stop, pass_on};
+use crate::{Sender, Tally};
+use dcp_collect::Collector;
+use dcp_pft::Carry;
+use drm_bits::NoMemory;
+use drm_links::Link;
+use std::alloc::Global;
+use std::marker::Model;
+
+/// By what a gateway goes. Each number is at least 1.
+#[derive(Clone, Copy, Debug, PartialEq, Eq)]
+pub struct GateOptions {
+    /// How many frames it passes on, where that is told; at most 3,000,000.
+    pub frames: Option<u64>,
+    /// How many idle answers in a row end it.
+    pub idle: u32,
+    /// The most datagrams that it takes.
+    pub limit: u32,
+}
+
+/// How a gateway ended.
+#[derive(Clone, Copy, Debug, PartialEq, Eq)]
+pub enum GateEnded {
+    Done(Tally),
+    FromFailed,
+    ToFailed,
+}
+
+/// Makes the packets of what comes over a link whole again, and sends each under its carry. All memory is taken when it is made.
+#[derive(Drop)]
+pub struct Gate {
+    collector: Collector,
+    sender: Sender,
+}
+
+impl Model for Gate {
+    ghost use Rattle.drm_gate.specs.Gateway.{Gateway};
+
+    ghost Value = { Gateway };
+
+    ghost view = { λ g. record { collector = g.collector; carry = g.sender } };
+}
+
+impl Gate {
+    /// A new gateway. The window counts packets; `first` is the sequence number of number 0, where it is known.
+    pub fn make(
+        alloc: Global,
+        window: u8,
+        first: Option<u16>,
+        carry: Carry,
+    ) -> Result<Gate, NoMemory>
+        requires window { (1 ≤ window) × (window ≤ 64) }
+        requires carry { CarryFits carry }
+        ensures { IfOk result (λ gate. gate ≡ record { collector = made window first; carry = carry }) }
+    {
+        let collector = Collector::make(alloc, window, first)?;
+        let sender = Sender::make(alloc, carry)?;
+        Ok(Gate { collector, sender })
+    }
+}
+
+/// Reads a link until it has read enough, and sends each packet that comes of it over another one as soon as it is given. The
+/// gateway is new. The buffer holds one datagram.
+pub fn gate_one<L: Link, K: Link>(
+    gate: &mut Gate,
+    from: &mut L,
+    to: &mut K,
+    options: &GateOptions,
+    buffer: &mut [u8],
+) -> GateEnded
+    requires new { IsNew gate.old }
+    requires buffer { 65536 ≤ length buffer.old }
+    requires options { IsReasonable options.now }
+    // What was read of the one link, and what was sent of it over the other.
+    ensures ended { GateRun (rules_of gate.old.collector options.now) gate.old.carry
+        (L.known from.old) (L.known from.new) (K.known to.old) (K.known to.new) result }
+    // Neither link rests; the other one's part stands in the run.
+    ensures still { Tells (L.known from.old) (L.known from.new) NeverRests }
+    ensures from { HasCause (L.known from.old) (L.known from.new) (result ≡ GateEnded.FromFailed) }
+    ensures to { HasCause (K.known to.old) (K.known to.new) (result ≡ GateEnded.ToFailed) }
+{
+    match pass_on(
+        &mut gate.collector,
+        &mut gate.sender,
+        from,
+        to,
+        options,
+        buffer,
+    ) {
+        Ok(tally) => GateEnded::Done(tally),
+        Err(Stop::From) => GateEnded::FromFailed,
+        Err(Stop::To) => GateEnded::ToFailed,
+    }
+}

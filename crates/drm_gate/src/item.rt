@@ -1,0 +1,107 @@
+//! What a collector gives, passed on.
+
+ghost use Rattle.std.specs.Prelude.{◌≡◌, ◌<◌, ◌≤◌, ◌^◌, true, false, length, IsErr};
+ghost use Rattle.drm_links.specs.Told.{HasCause};
+ghost use Rattle.dcp_collect.specs.View.{item_of};
+ghost use Rattle.dcp_collect.specs.WholePackets.{IsAfIfWhole};
+ghost use Rattle.mod_feed.specs.Items.{number_of};
+ghost use Rattle.drm_convert.specs.Converting.{IsAny, sequence_of};
+ghost use Rattle.drm_gate.specs.Passing.{IsNone};
+ghost use Rattle.drm_gate.specs.Steps.{PassesOne, PassesPacket};
+
+use crate::Sender;
+use crate::tally::Tally;
+use dcp_af::read_af;
+use dcp_collect::Out;
+use drm_links::{Link, LinkFault};
+
+/// Sends a packet, and counts it, or counts what is said in its place. The packet with number 0 has the first sequence number.
+pub(crate) fn pass<K: Link>(
+    sender: &mut Sender,
+    first: u16,
+    given: Out<'_>,
+    tally: &mut Tally,
+    to: &mut K,
+) -> Result<(), LinkFault>
+    requires missing { tally.old.missing < 2 ^ 62 }
+    requires bad { tally.old.bad < 2 ^ 62 }
+    requires large { tally.old.large < 2 ^ 62 }
+    requires given { tally.old.given < 2 ^ 62 }
+    requires sent { tally.old.sent < 2 ^ 62 }
+    requires small { number_of (item_of given) < 2 ^ 62 }
+    requires whole { IsAfIfWhole given }
+    ensures one { PassesOne result sender.old first (item_of given.entry) tally.old tally.new (K.known to.old) (K.known to.new) }
+    ensures carry { sender.new ≡ sender.old }
+    ensures cause { HasCause (K.known to.old) (K.known to.new) (IsErr result) }
+{
+    match given {
+        Out::Packet {
+            index,
+            bytes,
+            whole,
+        } => pass_packet(sender, first, index, bytes, whole, tally, to),
+        Out::Lost { .. } => {
+            tally.missing += 1;
+            Ok(())
+        }
+        Out::Damaged { .. } => {
+            tally.bad += 1;
+            Ok(())
+        }
+    }
+}
+
+fn pass_packet<K: Link>(
+    sender: &mut Sender,
+    first: u16,
+    index: u64,
+    bytes: &[u8],
+    whole: bool,
+    tally: &mut Tally,
+    to: &mut K,
+) -> Result<(), LinkFault>
+    requires bad { tally.old.bad < 2 ^ 62 }
+    requires large { tally.old.large < 2 ^ 62 }
+    requires given { tally.old.given < 2 ^ 62 }
+    requires sent { tally.old.sent < 2 ^ 62 }
+    requires small { index < 2 ^ 62 }
+    requires whole { whole ≡ true → IsAny bytes.now }
+    ensures one { PassesPacket result sender.old first index bytes.now tally.old tally.new (K.known to.old) (K.known to.new) }
+    ensures carry { sender.new ≡ sender.old }
+    ensures cause { HasCause (K.known to.old) (K.known to.new) (IsErr result) }
+{
+    if !is_af(bytes, whole) {
+        tally.bad += 1;
+        return Ok(());
+    }
+    if sender.is_large(bytes.len()) {
+        tally.large += 1;
+        return Ok(());
+    }
+    let sent = sender.send(sequence(first, index), bytes, to)?;
+    tally.given += 1;
+    tally.sent += sent;
+    Ok(())
+}
+
+// Whether bytes are an AF packet. What came whole was read before.
+fn is_af(bytes: &[u8], whole: bool) -> bool
+    requires { whole ≡ true → IsAny bytes.now }
+    ensures yes { result ≡ true → IsAny bytes.now }
+    ensures no { result ≡ false → IsNone bytes.now }
+{
+    if whole {
+        return true;
+    }
+    match read_af(bytes) {
+        Ok(_) => true,
+        Err(_) => false,
+    }
+}
+
+fn sequence(first: u16, index: u64) -> u16
+    requires { index < 2 ^ 62 }
+    ensures { result ≡ sequence_of first index }
+{
+    ((u64::from(first) + index) % 0x1_0000) as u16
+}
