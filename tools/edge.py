@@ -58,6 +58,10 @@ class Case:
         self.status, self.out, self.err = None, bytearray(), bytearray()
         self.links, self.sent, self.asks = {}, {}, set()
 
+    def targets(self):
+        """The addresses to which the program sends: over a link that `gate` receives from nothing goes."""
+        return [at for at in self.sent if not (self.words[:1] == [b"gate"] and at.encode() == self.words[1])]
+
 
 def cases_of(path):
     """The cases of a file, in order."""
@@ -147,9 +151,9 @@ def are_bound(ports):
 
 
 def bring(ran, links, ports):
-    """Sends each link's datagrams to its port, once all ports are bound."""
+    """Sends each link's datagrams to its port, once all these ports are bound."""
     end = time.monotonic() + 10
-    while ran.poll() is None and not are_bound(ports.values()):
+    while ran.poll() is None and not are_bound([ports[at] for at in links]):
         if time.monotonic() > end:
             return
         time.sleep(0.002)
@@ -175,7 +179,7 @@ def gather(listening, got, is_ended):
 
 def words_of(case, ports):
     words = [ADDRESS.sub(lambda it: f"{HOST}:{ports[it[0]]}" if it[0] in ports else it[0], word.decode()) for word in case.words]
-    if words[:1] != ["receive"] or not ports:
+    if words[:1] not in (["receive"], ["gate"]) or not ports:
         return words
     for at, word in enumerate(words):
         if word == "--idle":
@@ -189,13 +193,14 @@ def words_of(case, ports):
 
 def differences(program, case):
     """What of a run differs from what the case says."""
-    ports = {at: PORTS.take() for at in case.links if at not in case.sent}
-    got, is_ended = {at: [] for at in case.sent}, threading.Event()
+    targets = case.targets()
+    ports = {at: PORTS.take() for at in case.links if at not in targets}
+    got, is_ended = {at: [] for at in targets}, threading.Event()
     with tempfile.TemporaryDirectory() as room:
         for name, data in case.files.items():
             pathlib.Path(room, name).write_bytes(data)
         workers, sockets = [], []
-        for at in case.sent:
+        for at in targets:
             listening = socket.socket(socket.AF_INET, socket.SOCK_DGRAM)
             listening.bind((HOST, 0))
             ports[at] = listening.getsockname()[1]
@@ -203,7 +208,7 @@ def differences(program, case):
             workers.append(threading.Thread(target=gather, args=(listening, got[at], is_ended)))
         ran = subprocess.Popen([program, *words_of(case, ports)], cwd=room, stdin=subprocess.PIPE, stdout=subprocess.PIPE, stderr=subprocess.PIPE)
         if any(case.links.values()):
-            workers.append(threading.Thread(target=bring, args=(ran, case.links, ports)))
+            workers.append(threading.Thread(target=bring, args=(ran, {at: it for at, it in case.links.items() if at not in targets}, ports)))
         for it in workers:
             it.start()
         try:
@@ -219,7 +224,7 @@ def differences(program, case):
     said = [f"status {ran.returncode}"] if ran.returncode != case.status else []
     said += ["out"] if out != case.out else []
     said += ["err"] if err != case.err else []
-    return said + [f"sent {at}" for at in case.sent if got[at] != case.sent[at]]
+    return said + [f"sent {at}" for at in targets if got[at] != case.sent[at]]
 
 
 def main():
