@@ -5,7 +5,7 @@ _drmcast() {
     local common='--window --first --frames'
     COMPREPLY=()
     if [ "$COMP_CWORD" -eq 1 ]; then
-        mapfile -t COMPREPLY < <(compgen -W 'fac check serve receive air show convert pack unpack texts exercise' -- "$word")
+        mapfile -t COMPREPLY < <(compgen -W 'fac check serve receive air show convert gate pack unpack texts exercise' -- "$word")
         return
     fi
     case $before in
@@ -13,10 +13,10 @@ _drmcast() {
     esac
     case ${COMP_WORDS[1]}:$COMP_CWORD:$word in
         serve:*:-*) mapfile -t COMPREPLY < <(compgen -W '--to --pace' -- "$word") ;;
-        receive:*:-*) mapfile -t COMPREPLY < <(compgen -W "$common --idle --limit" -- "$word") ;;
+        receive:*:-* | gate:*:-*) mapfile -t COMPREPLY < <(compgen -W "$common --idle --limit" -- "$word") ;;
         convert:*:-* | unpack:*:-* | texts:*:-*) mapfile -t COMPREPLY < <(compgen -W "$common" -- "$word") ;;
         air:*:-*) mapfile -t COMPREPLY < <(compgen -W '--window' -- "$word") ;;
-        convert:2:*) mapfile -t COMPREPLY < <(compgen -W 'plain pft:0:1400 pft:1:1400 pft:2:1400 pft:3:1400 pft:4:1400 pft:5:1400' -- "$word") ;;
+        convert:2:* | gate:4:*) mapfile -t COMPREPLY < <(compgen -W 'plain pft:0:1400 pft:1:1400 pft:2:1400 pft:3:1400 pft:4:1400 pft:5:1400' -- "$word") ;;
         check:2:* | serve:2:* | air:2:* | air:3:*) mapfile -t COMPREPLY < <(compgen -f -- "$word") ;;
     esac
 }
