@@ -148,4 +148,5 @@ module _ (in_front : PacketsInFront) (one_way : ReadOneWay) (conversions : Conve
   captures_are_converted plan carry terms (Err (faults.FacCrc stands computed)) told before after out out' err err' input rest fits small is_before is_after has may ends = ends
   captures_are_converted plan carry terms (Err (faults.Schedule line reason)) told before after out out' err err' input rest fits small is_before is_after has may ends = ends
   captures_are_converted plan carry terms (Err (faults.Script line reason)) told before after out out' err err' input rest fits small is_before is_after has may ends = ends
+  captures_are_converted plan carry terms (Err (faults.Units wrong)) told before after out out' err err' input rest fits small is_before is_after has may ends = ends
   captures_are_converted plan carry terms (Err faults.Link) told before after out out' err err' input rest fits small is_before is_after has may ends = ends

@@ -299,6 +299,7 @@ module _ (one_way : ReadOneWay) (some_way : ReadSomeWay) (in_front : PacketsInFr
     exact (Err (faults.FacCrc stands computed)) ends no_read no_write = absurd ends
     exact (Err (faults.Schedule line reason)) ends no_read no_write = absurd ends
     exact (Err (faults.Script line reason)) ends no_read no_write = absurd ends
+    exact (Err (faults.Units wrong)) ends no_read no_write = absurd ends
     exact (Err faults.Link) ends no_read no_write = absurd ends
 
     -- which faults end it
@@ -315,6 +316,7 @@ module _ (one_way : ReadOneWay) (some_way : ReadSomeWay) (in_front : PacketsInFr
     fault_can (faults.FacCrc stands computed) ends = ends
     fault_can (faults.Schedule line reason) ends = ends
     fault_can (faults.Script line reason) ends = ends
+    fault_can (faults.Units wrong) ends = ends
     fault_can faults.Link ends = ends
 
     can_end : (ending : Result Bool Fault) → Ends terms carry ending told before after a b x y → (fault : Fault) → ending ≡ Err fault → CanEnd fault
@@ -340,6 +342,7 @@ module _ (one_way : ReadOneWay) (some_way : ReadSomeWay) (in_front : PacketsInFr
         by (faults.FacCrc stands computed) is = absurd (can_end (Err fault) ends (faults.FacCrc stands computed) (ap Err is))
         by (faults.Schedule line reason) is = absurd (can_end (Err fault) ends (faults.Schedule line reason) (ap Err is))
         by (faults.Script line reason) is = absurd (can_end (Err fault) ends (faults.Script line reason) (ap Err is))
+        by (faults.Units wrong) is = absurd (can_end (Err fault) ends (faults.Units wrong) (ap Err is))
         by faults.Link is = absurd (can_end (Err fault) ends faults.Link (ap Err is))
 
   pub convert_run : {I O E : Type 0} (ending : Result Bool Fault) (told : Bool) (input_known : I → Known Input) (input input' : I) (out_known : O → Known Output) (out out' : O) (err_known : E → Known Output) (err err' : E)

@@ -11,7 +11,7 @@ use Rattle.drm_links.specs.Source.{Input, Inputs}
 use Rattle.drm_links.specs.Sink.{Output, Outputs, IsFront}
 use Rattle.drm_links.proofs.ToldLemmas.{Inputs-weaker}
 use Rattle.drm_faults.specs.declared.fault.Fault.{Fault}
-use Rattle.drm_faults.specs.declared.fault.Fault.TheVariants.{NoMemory, Words, FacLength, FacOver, FacCrc, Schedule, Script, Capture, CaptureTooLong, PacketSize, Read, Write, Link}
+use Rattle.drm_faults.specs.declared.fault.Fault.TheVariants.{NoMemory, Words, FacLength, FacOver, FacCrc, Schedule, Script, Capture, CaptureTooLong, PacketSize, Units, Read, Write, Link}
 use Rattle.drm_inspect.specs.Input.{ReadsHead, FailsWithin}
 use Rattle.report_lines.specs.FacLine.{fac_line}
 use Rattle.drm_faults.specs.Fault.{status_of}
@@ -45,6 +45,7 @@ comes_once bytes (Ok f) (Err (Script l r)) is_v is_w = absurd is_w
 comes_once bytes (Ok f) (Err (Capture g)) is_v is_w = absurd is_w
 comes_once bytes (Ok f) (Err CaptureTooLong) is_v is_w = absurd is_w
 comes_once bytes (Ok f) (Err (PacketSize p)) is_v is_w = absurd is_w
+comes_once bytes (Ok f) (Err (Units p)) is_v is_w = absurd is_w
 comes_once bytes (Err (FacLength n)) (Err NoMemory) is_v is_w = absurd is_w
 comes_once bytes (Err (FacLength n)) (Err Link) is_v is_w = absurd is_w
 comes_once bytes (Err (FacLength n)) (Err Words) is_v is_w = absurd is_w
@@ -55,6 +56,7 @@ comes_once bytes (Err (FacLength n)) (Err (Script l r)) is_v is_w = absurd is_w
 comes_once bytes (Err (FacLength n)) (Err (Capture f)) is_v is_w = absurd is_w
 comes_once bytes (Err (FacLength n)) (Err CaptureTooLong) is_v is_w = absurd is_w
 comes_once bytes (Err (FacLength n)) (Err (PacketSize p)) is_v is_w = absurd is_w
+comes_once bytes (Err (FacLength n)) (Err (Units p)) is_v is_w = absurd is_w
 comes_once bytes (Err FacOver) (Err NoMemory) is_v is_w = absurd is_w
 comes_once bytes (Err FacOver) (Err Link) is_v is_w = absurd is_w
 comes_once bytes (Err FacOver) (Err Words) is_v is_w = absurd is_w
@@ -65,6 +67,7 @@ comes_once bytes (Err FacOver) (Err (Script l r)) is_v is_w = absurd is_w
 comes_once bytes (Err FacOver) (Err (Capture f)) is_v is_w = absurd is_w
 comes_once bytes (Err FacOver) (Err CaptureTooLong) is_v is_w = absurd is_w
 comes_once bytes (Err FacOver) (Err (PacketSize p)) is_v is_w = absurd is_w
+comes_once bytes (Err FacOver) (Err (Units p)) is_v is_w = absurd is_w
 comes_once bytes (Err (FacCrc s c)) (Err NoMemory) is_v is_w = absurd is_w
 comes_once bytes (Err (FacCrc s c)) (Err Link) is_v is_w = absurd is_w
 comes_once bytes (Err (FacCrc s c)) (Err Words) is_v is_w = absurd is_w
@@ -75,6 +78,7 @@ comes_once bytes (Err (FacCrc s c)) (Err (Script l r)) is_v is_w = absurd is_w
 comes_once bytes (Err (FacCrc s c)) (Err (Capture f)) is_v is_w = absurd is_w
 comes_once bytes (Err (FacCrc s c)) (Err CaptureTooLong) is_v is_w = absurd is_w
 comes_once bytes (Err (FacCrc s c)) (Err (PacketSize p)) is_v is_w = absurd is_w
+comes_once bytes (Err (FacCrc s c)) (Err (Units p)) is_v is_w = absurd is_w
 comes_once bytes (Err NoMemory) w is_v is_w = absurd is_v
 comes_once bytes (Err Link) w is_v is_w = absurd is_v
 comes_once bytes (Err Words) w is_v is_w = absurd is_v
@@ -85,6 +89,7 @@ comes_once bytes (Err (Script l r)) w is_v is_w = absurd is_v
 comes_once bytes (Err (Capture f)) w is_v is_w = absurd is_v
 comes_once bytes (Err CaptureTooLong) w is_v is_w = absurd is_v
 comes_once bytes (Err (PacketSize p)) w is_v is_w = absurd is_v
+comes_once bytes (Err (Units p)) w is_v is_w = absurd is_v
 
 whole : (left : List ℕ) → length left ≤ 9 → take 10 left ≡ left
 whole left few = take_all 10 left (omega (arith, few))
@@ -117,6 +122,7 @@ comes_front left (Err (Script l r)) is = is
 comes_front left (Err (Capture f)) is = is
 comes_front left (Err CaptureTooLong) is = is
 comes_front left (Err (PacketSize p)) is = is
+comes_front left (Err (Units p)) is = is
 
 pub comes_whole : (left : List ℕ) (v : Result Fac Fault) → ComesTo (take 10 left) v → ComesTo left v
 comes_whole left (Ok f) is = along (Ok f) (take 10 left) left (whole_of_front left (omega (arith, is.nine))) is
@@ -133,6 +139,7 @@ comes_whole left (Err (Script l r)) is = is
 comes_whole left (Err (Capture f)) is = is
 comes_whole left (Err CaptureTooLong) is = is
 comes_whole left (Err (PacketSize p)) is = is
+comes_whole left (Err (Units p)) is = is
 
 -- a head that was read, and what it comes to
 judged : (came : Result Fac Fault) (a b : Known Input) (head : List ℕ) → ReadsHead head a b → ComesTo head came → Inputs a b (λ left rest. ComesTo left came)
@@ -156,6 +163,7 @@ comes (Err (Script l r)) a b no_fault (head, reads, is) = judged (Err (Script l 
 comes (Err (Capture f)) a b no_fault (head, reads, is) = judged (Err (Capture f)) a b head reads is
 comes (Err CaptureTooLong) a b no_fault (head, reads, is) = judged (Err CaptureTooLong) a b head reads is
 comes (Err (PacketSize p)) a b no_fault (head, reads, is) = judged (Err (PacketSize p)) a b head reads is
+comes (Err (Units p)) a b no_fault (head, reads, is) = judged (Err (Units p)) a b head reads is
 
 is_read : (came : Result Fac Fault) → (came ≡ Err Read) ⊎ (came ≡ Err Read → ⊥)
 is_read (Ok f) = inr (λ e. cc)
@@ -172,6 +180,7 @@ is_read (Err (Script l r)) = inr (λ e. cc)
 is_read (Err (Capture f)) = inr (λ e. cc)
 is_read (Err CaptureTooLong) = inr (λ e. cc)
 is_read (Err (PacketSize p)) = inr (λ e. cc)
+is_read (Err (Units p)) = inr (λ e. cc)
 
 failed_within : (came : Result Fac Fault) (a b : Known Input) → came ≡ Err Read → Reads came a b → (taken : ℕ) × FailsWithin taken a b
 failed_within came a b is reads = let P : Result Fac Fault → Type 0 = λ v. Reads v a b in subst P is reads
@@ -206,6 +215,7 @@ three_exactly (Ok fac) (Err (Script l r)) known out out' left writes comes = abs
 three_exactly (Ok fac) (Err (Capture f)) known out out' left writes comes = absurd writes
 three_exactly (Ok fac) (Err CaptureTooLong) known out out' left writes comes = absurd writes
 three_exactly (Ok fac) (Err (PacketSize p)) known out out' left writes comes = absurd writes
+three_exactly (Ok fac) (Err (Units p)) known out out' left writes comes = absurd writes
 three_exactly (Ok fac) (Err Read) known out out' left writes comes = absurd writes
 three_exactly (Err (FacLength n)) ending known out out' left writes comes = (λ e fac is. let wrong : Err (FacLength n) ≡ Ok fac = comes_once left (Err (FacLength n)) (Ok fac) comes is in cc, λ none. ap status_of writes.0)
 three_exactly (Err FacOver) ending known out out' left writes comes = (λ e fac is. let wrong : Err FacOver ≡ Ok fac = comes_once left (Err FacOver) (Ok fac) comes is in cc, λ none. ap status_of writes.0)
@@ -220,6 +230,7 @@ three_exactly (Err (Script l r)) ending known out out' left writes comes = absur
 three_exactly (Err (Capture f)) ending known out out' left writes comes = absurd comes
 three_exactly (Err CaptureTooLong) ending known out out' left writes comes = absurd comes
 three_exactly (Err (PacketSize p)) ending known out out' left writes comes = absurd comes
+three_exactly (Err (Units p)) ending known out out' left writes comes = absurd comes
 
 -- status 3 comes exactly where the input is no FAC
 run_refused : {O : Type 0} (came : Result Fac Fault) (ending : Result (Unit {0}) Fault) (a b : Known Input) (out_known : O → Known Output) (out out' : O)
@@ -244,6 +255,7 @@ printed fac (Err (Script l r)) known out out' writes none = absurd writes
 printed fac (Err (Capture f)) known out out' writes none = absurd writes
 printed fac (Err CaptureTooLong) known out out' writes none = absurd writes
 printed fac (Err (PacketSize p)) known out out' writes none = absurd writes
+printed fac (Err (Units p)) known out out' writes none = absurd writes
 printed fac (Err Read) known out out' writes none = absurd writes
 
 -- where neither side failed a FAC is printed
@@ -344,6 +356,7 @@ run_ends ending input_known input input' out_known out out' run = (
     ended (Ok fac) (Capture f) known out out' writes reads no_write none = writes
     ended (Ok fac) CaptureTooLong known out out' writes reads no_write none = writes
     ended (Ok fac) (PacketSize p) known out out' writes reads no_write none = writes
+    ended (Ok fac) (Units p) known out out' writes reads no_write none = writes
     ended (Ok fac) Read known out out' writes reads no_write none = writes
     ended (Ok fac) Write known out out' writes reads no_write none = no_write refl
     ended (Err other) fault known out out' writes reads no_write none =

@@ -196,6 +196,7 @@ module _ {I O : Type 0} (one_way : ReadOneWay) (one_text : HasOneText) (input_kn
   ends_exactly left rest (Err (faults.Schedule l r)) kind no_read no_write writes = absurd (kind (faults.Schedule l r) refl)
   ends_exactly left rest (Err (faults.Script l r)) kind no_read no_write writes = absurd (kind (faults.Script l r) refl)
   ends_exactly left rest (Err (faults.PacketSize p)) kind no_read no_write writes = absurd (kind (faults.PacketSize p) refl)
+  ends_exactly left rest (Err (faults.Units p)) kind no_read no_write writes = absurd (kind (faults.Units p) refl)
   ends_exactly left rest (Err faults.Link) kind no_read no_write writes = absurd (kind faults.Link refl)
 
   -- a capture is no other one, and has one text
@@ -231,6 +232,7 @@ module _ {I O : Type 0} (one_way : ReadOneWay) (one_text : HasOneText) (input_kn
     completes rest (Err (faults.Schedule l r)) kind no_read no_write writes = absurd (kind (faults.Schedule l r) refl)
     completes rest (Err (faults.Script l r)) kind no_read no_write writes = absurd (kind (faults.Script l r) refl)
     completes rest (Err (faults.PacketSize p)) kind no_read no_write writes = absurd (kind (faults.PacketSize p) refl)
+    completes rest (Err (faults.Units p)) kind no_read no_write writes = absurd (kind (faults.Units p) refl)
     completes rest (Err faults.Link) kind no_read no_write writes = absurd (kind faults.Link refl)
 
   pub show_run : (ending : Result Bool Fault) → ((fault : Fault) → ending ≡ Err fault → EndsEarly fault) → Inputs (input_known input) (input_known input') (λ left rest. WritesShown left rest ending out_known out out')

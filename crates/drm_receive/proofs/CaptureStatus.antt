@@ -97,6 +97,7 @@ module _ {O : Type 0} (rules : Rules) (left rest : List ℕ) (known : O → Know
   exact_by (Err (faults.Schedule line reason)) kind wrote no_read no_write = absurd (kind (faults.Schedule line reason) refl)
   exact_by (Err (faults.Script line reason)) kind wrote no_read no_write = absurd (kind (faults.Script line reason) refl)
   exact_by (Err (faults.PacketSize n)) kind wrote no_read no_write = absurd (kind (faults.PacketSize n) refl)
+  exact_by (Err (faults.Units n)) kind wrote no_read no_write = absurd (kind (faults.Units n) refl)
   exact_by (Err faults.Link) kind wrote no_read no_write = absurd (kind faults.Link refl)
 
   -- ---- nothing is lost
@@ -117,6 +118,7 @@ module _ {O : Type 0} (rules : Rules) (left rest : List ℕ) (known : O → Know
   whole_by (Err (faults.Schedule line reason)) kind wrote no_read no_write none = absurd (kind (faults.Schedule line reason) refl)
   whole_by (Err (faults.Script line reason)) kind wrote no_read no_write none = absurd (kind (faults.Script line reason) refl)
   whole_by (Err (faults.PacketSize n)) kind wrote no_read no_write none = absurd (kind (faults.PacketSize n) refl)
+  whole_by (Err (faults.Units n)) kind wrote no_read no_write none = absurd (kind (faults.Units n) refl)
   whole_by (Err faults.Link) kind wrote no_read no_write none = absurd (kind faults.Link refl)
 
   is_clean : (clean : Bool) → IsTrue clean → clean ≡ true

@@ -5,7 +5,7 @@ use Rattle.drm_links.specs.Shelf.{Files, Supplies}
 use Rattle.drm_links.specs.Sink.{Output, Outputs}
 use Rattle.drm_links.proofs.ToldLemmas.{Tells-weaker}
 use Rattle.drm_faults.specs.declared.fault.Fault.{Fault}
-use Rattle.drm_faults.specs.declared.fault.Fault.TheVariants.{NoMemory, Words, FacLength, FacOver, FacCrc, Schedule, Script, Capture, CaptureTooLong, PacketSize, Read, Write, Link}
+use Rattle.drm_faults.specs.declared.fault.Fault.TheVariants.{NoMemory, Words, FacLength, FacOver, FacCrc, Schedule, Script, Capture, CaptureTooLong, PacketSize, Units, Read, Write, Link}
 use Rattle.drm_load.specs.declared.loading.ScheduleFault.{ScheduleFault}
 use Rattle.drm_load.specs.declared.loading.ScheduleFault.TheVariants as schedule
 use Rattle.drm_load.specs.Faults.{fault_of_schedule}
@@ -30,6 +30,7 @@ module _ {T O : Type 0} (whole front : T → List ℕ → Type 0) where
   ends_by (Ok x) (Err (Capture f)) known out out' writes = absurd writes
   ends_by (Ok x) (Err CaptureTooLong) known out out' writes = absurd writes
   ends_by (Ok x) (Err (PacketSize p)) known out out' writes = absurd writes
+  ends_by (Ok x) (Err (Units p)) known out out' writes = absurd writes
   ends_by (Ok x) (Err Read) known out out' writes = absurd writes
   ends_by (Err fault) ending known out out' writes = writes.0
 
@@ -47,6 +48,7 @@ module _ {T O : Type 0} (whole front : T → List ℕ → Type 0) where
   all_written x (Err (Capture f)) known out out' writes none = absurd writes
   all_written x (Err CaptureTooLong) known out out' writes none = absurd writes
   all_written x (Err (PacketSize p)) known out out' writes none = absurd writes
+  all_written x (Err (Units p)) known out out' writes none = absurd writes
   all_written x (Err Read) known out out' writes none = absurd writes
 
 -- what comes of a reading where memory didn't run out is what the files come to

@@ -9,7 +9,7 @@ use std::alloc::{AllocError, Global};
 // Lines of words, each word behind a `|`, and what they ask for: the command, then the plain words and the options in
 // the order of the command's row, `-` where one isn't told. By hand from the rules of the command line; a reader of the
 // same rules in Python gives the same.
-const ASKED: [(&str, &str); 51] = [
+const ASKED: [(&str, &str); 63] = [
     ("|fac", "fac"),
     ("|fac|--", "fac"),
     ("|show", "show"),
@@ -97,6 +97,30 @@ const ASKED: [(&str, &str); 51] = [
     ("|exercise|--|7", "exercise 7"),
     ("|exercise|10|--", "exercise 10"),
     ("|check|-|--", "check -"),
+    (
+        "|gate|1.2.3.4:5|5.4.3.2:1|plain",
+        "gate 1.2.3.4:5 5.4.3.2:1 plain 8 - - 50 4294967295",
+    ),
+    (
+        "|gate|1.2.3.4:5|1.2.3.4:5|pft:2:1400",
+        "gate 1.2.3.4:5 1.2.3.4:5 pft:2:1400 8 - - 50 4294967295",
+    ),
+    (
+        "|gate|--limit=8|1.2.3.4:5|--idle|7|5.4.3.2:1|--frames=6|--first=5|--|plain",
+        "gate 1.2.3.4:5 5.4.3.2:1 plain 8 5 6 7 8",
+    ),
+    ("|pack|0|1", "pack 0 1"),
+    ("|pack|3|255", "pack 3 255"),
+    ("|pack|--|2|4", "pack 2 4"),
+    ("|unpack|0|0|1", "unpack 0 0 1 8 - -"),
+    ("|unpack|3|2|255", "unpack 3 2 255 8 - -"),
+    (
+        "|unpack|--window=64|3|--first=0|2|4|--frames|10",
+        "unpack 3 2 4 64 0 10",
+    ),
+    ("|texts|0", "texts 0 8 - -"),
+    ("|texts|3|--window|1", "texts 3 1 - -"),
+    ("|texts|--frames=6|--first=5|--|1", "texts 1 8 5 6"),
 ];
 
 fn words_of(alloc: Global, line: &str) -> Result<Vec<String>, AllocError> {
@@ -212,6 +236,52 @@ fn shown(alloc: Global, request: &Request) -> Result<String, AllocError> {
             format!(in alloc; "convert {carry} {rules}")
         }
         Request::Exercise { n } => format!(in alloc; "exercise {n}"),
+        Request::Gate {
+            from,
+            to,
+            carry,
+            window,
+            first,
+            frames,
+            idle,
+            limit,
+        } => {
+            let from = address_shown(alloc, from)?;
+            let to = address_shown(alloc, to)?;
+            let carry = carry_shown(alloc, *carry)?;
+            let rules = rules_shown(alloc, *window, *first, *frames)?;
+            format!(in alloc; "gate {from} {to} {carry} {rules} {idle} {limit}")
+        }
+        Request::Pack { .. } | Request::Unpack { .. } | Request::Texts { .. } => {
+            data_shown(alloc, request)
+        }
+    }
+}
+
+fn data_shown(alloc: Global, request: &Request) -> Result<String, AllocError> {
+    match request {
+        Request::Pack { pid, length } => format!(in alloc; "pack {pid} {length}"),
+        Request::Unpack {
+            stream,
+            pid,
+            length,
+            window,
+            first,
+            frames,
+        } => {
+            let rules = rules_shown(alloc, *window, *first, *frames)?;
+            format!(in alloc; "unpack {stream} {pid} {length} {rules}")
+        }
+        Request::Texts {
+            stream,
+            window,
+            first,
+            frames,
+        } => {
+            let rules = rules_shown(alloc, *window, *first, *frames)?;
+            format!(in alloc; "texts {stream} {rules}")
+        }
+        _ => String::from_str(alloc, "no data"),
     }
 }
 
