@@ -1,2 +1,3 @@
-pub mod Listing
 pub mod Taking
+pub mod Walking
+pub mod Comparing

@@ -1,16 +1,18 @@
 //! The book of a run, which stands under the lock.
 
-ghost use Rattle.std.specs.Prelude.{◌≡◌, ◌+◌, ◌≤◌, length};
+ghost use Rattle.std.specs.Prelude.{◌≡◌, ◌+◌, ◌≤◌, length, map, IfOk};
 ghost use Rattle.path_book.specs.Took.{IfTook};
-ghost use Rattle.path_book.specs.Journal.{IsKept};
+ghost use Rattle.path_book.specs.Journal.{IsKept, entry_of, datagrams};
+ghost use Rattle.path_book.specs.Report.{IsReportOf};
 ghost use Rattle.path_book.specs.declared.event.Event.{Event};
 ghost use Rattle.drm_paths.specs.State.{bytes_in, most_bytes, settings_of, IsEvent};
 
 use crate::{Path, Road};
-use path_book::{Event, Journal};
+use drm_bits::NoMemory;
+use path_book::{Ending, Entry, Event, Journal};
 use std::alloc::Global;
 use std::marker::Model;
-use std::sync::ledger::Book as Total;
+use std::sync::ledger::{Book as Total, Share};
 
 /// A journal, and how many entries the ledger counts in it.
 #[derive(Drop)]
@@ -79,5 +81,36 @@ impl<G: Road> Book<G> {
         ensures counted { length self.now.journal.entries ≡ self.now.total }
     {
         self.journal.keeps_its_report();
+    }
+
+    // The entries.
+    pub(crate) fn entries(&self) -> &[Entry]
+        ensures { map entry_of result.now ≡ self.now.journal.entries }
+    {
+        self.journal.entries()
+    }
+
+    // Whether the report has stopped.
+    pub(crate) fn is_stopped(&self) -> bool
+        ensures { result ≡ self.now.journal.stopped }
+    {
+        self.journal.is_stopped()
+    }
+
+    // With all shares of the ledger in one: the journal has as many entries as these count.
+    pub(crate) fn audit(&mut self, all: &mut Share<G>)
+        requires { all.old.parts ≡ G.parts }
+        ensures same { self.new ≡ self.old }
+        ensures counted { length self.old.journal.entries ≡ all.old.amount }
+    {
+        self.total.audit(all);
+    }
+
+    // Ends the report.
+    pub(crate) fn finish(self, alloc: Global) -> Result<Ending, NoMemory>
+        ensures { IfOk result (λ ending. IsReportOf (settings_of G.window G.first G.frames) (datagrams self.journal.entries) ending.text ending.clean) }
+    {
+        let Book { journal, .. } = self;
+        journal.finish(alloc)
     }
 }

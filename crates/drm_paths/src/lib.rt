@@ -3,11 +3,15 @@
 #![tactic(auto)]
 
 mod book;
+mod close;
 mod path;
 mod road;
+mod run;
 mod shared;
 
 pub use book::Book;
+pub use close::{Closed, Difference, close_paths};
 pub use path::Path;
 pub use road::Road;
-pub use shared::{Given, Shared, open_paths};
+pub use run::{PathEnded, PathOptions, run_path};
+pub use shared::{Given, Paths, Shared, open_paths};

@@ -1,12 +1,13 @@
 //! The book that paths share, and the lock on it.
 
-ghost use Rattle.std.specs.Prelude.{ℕ, ◌≡◌, ◌+◌, ◌≤◌, ◌<◌, length, vec_len, slice_index_or, IfOk};
+ghost use Rattle.std.specs.Prelude.{ℕ, ◌≡◌, ◌+◌, ◌≤◌, ◌<◌, length, slice_index_or, IfOk};
 ghost use Rattle.path_book.specs.Journal.{AreInRange};
 ghost use Rattle.drm_paths.specs.State.{bytes_in, most_bytes, settings_of, new_path, with_datagram};
 ghost use Rattle.drm_paths.specs.declared.shared.Given.{Given};
 
 use crate::{Book, Path, Road};
 use drm_bits::NoMemory;
+use owned_items::Items;
 use path_book::{Event, Journal, Settings};
 use std::alloc::Global;
 use std::sync::ledger::Blank;
@@ -16,6 +17,14 @@ use std::sync::{Mutex, Wait};
 #[derive(Drop)]
 pub struct Shared<G: Road> {
     book: Mutex<Book<G>>,
+}
+
+impl<G: Road> Shared<G> {
+    // The book, which no path hands anything to any more.
+    pub(crate) fn into_book(self) -> Book<G> {
+        let Shared { book } = self;
+        book.into_inner()
+    }
 }
 
 /// What becomes of a datagram that a path hands to the book.
@@ -46,26 +55,28 @@ impl<G: Road> Path<G> {
     }
 }
 
+/// The paths of a run, in the order of their numbers.
+pub type Paths<G> = Items<Path<G>>;
+
 /// Opens a book and its paths, numbered from 0.
 pub fn open_paths<G: Road>(
     alloc: Global,
     blank: Blank,
     settings: Settings,
     paths: u8,
-) -> Result<(Shared<G>, Vec<Path<G>>), NoMemory>
+) -> Result<(Shared<G>, Paths<G>), NoMemory>
     requires blank { (blank.name ≡ G.name) × (blank.parts ≡ G.parts) × (G.parts ≡ paths) }
     requires settings { settings ≡ settings_of G.window G.first G.frames }
     requires range { AreInRange settings }
-    ensures many { IfOk result (λ r. vec_len r.1 ≡ paths) }
-    ensures new { IfOk result (λ r. (k : ℕ) (d : _) → k < paths → slice_index_or r.1.items k d ≡ new_path k) }
+    ensures many { IfOk result (λ r. length r.1 ≡ paths) }
+    ensures new { IfOk result (λ r. (k : ℕ) (d : _) → k < paths → slice_index_or r.1 k d ≡ new_path k) }
 {
     let journal = Journal::make(alloc, settings)?;
     let (total, mut all) = blank.open::<G>();
-    let mut list = Vec::new(alloc);
+    let mut list = Items::new(alloc);
     for number in 0..paths {
         let share = all.split_off(1, 0);
-        list.reserve(1)?;
-        list.push_reserved(Path::new(alloc, number, share));
+        list.push(Path::new(alloc, number, share))?;
     }
     let book = Mutex::new(Book::new(journal, total));
     Ok((Shared { book }, list))

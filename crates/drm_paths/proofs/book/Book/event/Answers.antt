@@ -1,5 +1,5 @@
-use Rattle.std.proofs.Common.{◌≡◌, ◌+◌, ◌≤◌, ℕ, List, ◌++◌, ◌∷◌, [], map, length, sym, ◌∙◌, ap, arith}
-use Rattle.drm_paths.specs.State.{PathState, bytes_in, most_bytes}
+use Rattle.std.proofs.Common.{◌++◌, ◌∷◌, [], map, sym, ◌∙◌, ap, arith}
+use Rattle.drm_paths.specs.State.{PathState, bytes_in}
 use Rattle.drm_paths.proofs.Taking.{bytes_then}
 use Rattle.drm_paths.proofs.book.Book.event.Goals.{in-NoMemory, in-Took}
 use Rattle.drm_paths.proofs.book.Book.event.Goals as goal

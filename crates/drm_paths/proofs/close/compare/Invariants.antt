@@ -1,0 +1,9 @@
+use Rattle.std.proofs.Common.{ℕ, ◌<◌, map, slice_index_or}
+use Rattle.path_book.specs.Journal.{entry_of}
+use Rattle.drm_paths.specs.State.{PathState}
+use Rattle.drm_paths.specs.Closing.{Agrees}
+use Rattle.drm_paths.proofs.close.compare.Given as goal
+
+-- the paths so far agree
+abbrev pub invariant-loop-path : goal.invariant-loop-path
+invariant-loop-path g l = (k : ℕ) (none : PathState) → k < l.path-index → Agrees (map entry_of l.entries) (slice_index_or l.paths k none)

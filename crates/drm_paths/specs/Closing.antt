@@ -1,0 +1,52 @@
+-- What a journal has of its paths.
+use Rattle.std.specs.Prelude.{ℕ, ◌≡◌, ◌≢◌, ◌<◌, ◌==◌, if◌then◌else◌, List, [], ◌∷◌, length, take, slice_get, slice_index_or, Option, sum_by}
+use Rattle.path_book.specs.declared.settings.Settings.{Settings}
+use Rattle.path_book.specs.Journal.{datagrams}
+use Rattle.path_book.specs.Report.{IsReportOf}
+use Rattle.drm_paths.specs.State.{PathState}
+use Rattle.drm_paths.specs.declared.close.Difference.{Difference}
+use Rattle.drm_paths.specs.declared.close.Closed.{Closed}
+use Rattle.drm_paths.specs.declared.close.Closed.TheVariants.{Whole, Differ, NoMemory}
+
+-- the datagrams of the entries of a path, in their order
+abbrev pub of_path : ℕ → List (ℕ × List ℕ) → List (List ℕ)
+of_path number [] = []
+of_path number (e ∷ entries) = if e.0 == number then e.1 ∷ of_path number entries else of_path number entries
+
+-- Up to this place the lists are one, and there they differ: the first has this there, or has ended before.
+pub record IsDifference (xs ys : List (List ℕ)) (at : ℕ) (there : Option (List ℕ)) : Type 0 where
+  pub before : take at xs ≡ take at ys
+  pub there_is : slice_get xs at ≡ there
+  pub differs : slice_get ys at ≢ there
+
+-- the entries have of the path what it took, each once and in its order
+abbrev pub Agrees : List (ℕ × List ℕ) → PathState → Type 0
+Agrees entries p = of_path p.number entries ≡ p.taken
+
+abbrev pub AllAgree : List (ℕ × List ℕ) → List PathState → Type 0
+AllAgree entries paths = (k : ℕ) (none : PathState) → k < length paths → Agrees entries (slice_index_or paths k none)
+
+-- it says where they differ first, and what stands there
+pub record IsDifferenceOf (entries : List (ℕ × List ℕ)) (p : PathState) (d : Difference) : Type 0 where
+  pub path : d.path ≡ p.number
+  pub is : IsDifference (of_path p.number entries) p.taken d.at d.journal
+  pub kept : slice_get p.taken d.at ≡ d.kept
+
+-- it is of the first path that has one
+pub record Differs (entries : List (ℕ × List ℕ)) (paths : List PathState) (d : Difference) : Type 0 where
+  pub k : ℕ
+  pub within : k < length paths
+  pub is : (none : PathState) → IsDifferenceOf entries (slice_index_or paths k none) d
+  pub before : (j : ℕ) (none : PathState) → j < k → Agrees entries (slice_index_or paths j none)
+
+-- There are so many entries as the paths took: none was dropped, invented or doubled.
+abbrev pub AreCounted : List (ℕ × List ℕ) → List PathState → Type 0
+AreCounted entries paths = length entries ≡ sum_by (λ p. length p.taken) paths
+
+-- What comes of a book that is closed, by its entries: they are those of its paths, and the report is that of all of them; or
+-- they differ, and this is where.
+abbrev pub Closes : Settings → List PathState → Closed → Type 0
+Closes by paths (Whole ending) =
+    (entries : List (ℕ × List ℕ)) × AreCounted entries paths × AllAgree entries paths × IsReportOf by (datagrams entries) ending.text ending.clean
+Closes by paths (Differ difference) = (entries : List (ℕ × List ℕ)) × AreCounted entries paths × Differs entries paths difference
+Closes by paths NoMemory = Unit {0}

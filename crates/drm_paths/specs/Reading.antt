@@ -1,0 +1,53 @@
+-- When a path has read enough of its link.
+use Rattle.std.specs.Prelude.{ℕ, ◌≡◌, ◌+◌, ◌*◌, ◌<◌, ◌≤◌, ◌⊎◌, List, [], ◌∷◌, ◌++◌, length, take}
+use Rattle.std.specs.List.{AllByRecursion}
+use Rattle.drm_links.specs.Link.{Answer, Datagram, Failed}
+use Rattle.mod_receiver.specs.Reading.{datagrams, idles, IsSound}
+use Rattle.drm_paths.specs.declared.run.PathOptions.{PathOptions}
+use Rattle.drm_paths.specs.declared.run.PathEnded.{PathEnded}
+use Rattle.drm_paths.specs.declared.run.PathEnded.TheVariants.{Idle, Limit, LinkFailed, NoMemory}
+use Rattle.drm_paths.specs.State.{bytes_in, most_bytes}
+
+-- each number is in its range
+pub record AreReasonable (options : PathOptions) : Type 0 where
+  pub idle : 1 ≤ options.idle
+  pub limit : 1 ≤ options.limit
+  pub few : options.limit ≤ 1000000
+
+-- The last answers were idle, as many as are told; as many datagrams came as are told, or there may be no room for the next.
+abbrev pub Holds : PathOptions → List Answer → PathEnded → Type 0
+Holds options answers Idle = options.idle ≤ idles answers
+Holds options answers Limit = (length (datagrams answers) ≡ options.limit) ⊎ (most_bytes < bytes_in (datagrams answers) + 65536)
+Holds options answers LinkFailed = ⊥
+Holds options answers NoMemory = ⊥
+
+abbrev pub IsOpen : PathOptions → List Answer → Type 0
+IsOpen options answers = (why : PathEnded) → Holds options answers why → ⊥
+
+-- Nothing failed, and after nothing shorter than these answers a path ends.
+pub record GoesOn (options : PathOptions) (answers : List Answer) : Type 0 where
+  pub sound : AllByRecursion IsSound answers
+  pub shorter : (k : ℕ) → k < length answers → IsOpen options (take k answers)
+
+-- After these answers, and after nothing shorter, a path ends so: it took all datagrams among them, but for want of memory the
+-- last one.
+abbrev pub Ends : PathOptions → List Answer → List (List ℕ) → PathEnded → Type 0
+Ends options answers taken Idle =
+    GoesOn options answers × Holds options answers Idle × (Holds options answers Limit → ⊥) × (taken ≡ datagrams answers)
+Ends options answers taken Limit = GoesOn options answers × Holds options answers Limit × (taken ≡ datagrams answers)
+Ends options answers taken LinkFailed =
+    (before : List Answer) × (answers ≡ before ++ Failed ∷ []) × GoesOn options before × IsOpen options before × (taken ≡ datagrams before)
+Ends options answers taken NoMemory =
+    (before : List Answer) × (last : List ℕ) × (answers ≡ before ++ Datagram last ∷ []) × GoesOn options before × IsOpen options before
+    × (taken ≡ datagrams before)
+
+-- so many answers are read at the most
+abbrev pub most_answers : PathOptions → ℕ
+most_answers options = options.limit * options.idle + options.idle + 1
+
+-- A path read its link so: what was heard says which answers it can be.
+pub record ReadsPath (options : PathOptions) (hears : List Answer → Type 0) (taken : List (List ℕ)) (why : PathEnded) : Type 0 where
+  pub answers : List Answer
+  pub heard : hears answers
+  pub few : length answers ≤ most_answers options
+  pub ends : Ends options answers taken why
