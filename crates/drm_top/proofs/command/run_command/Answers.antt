@@ -146,7 +146,7 @@ pub returns-in-Pack : goal.returns-in-Pack
 returns-in-Pack g c =
     let run = c.pack.ensures.run in
     let fault : (fault : Fault) → c.whole-in-Pack.result ≡ Err fault → c.pack.result ≡ Err fault =
-        λ fault e. fault_of_whole c.whole-in-Pack.result c.pack.result fault c.whole-in-Pack.ensures e in
+    λ fault e. fault_of_whole c.whole-in-Pack.result c.pack.result fault c.whole-in-Pack.ensures e in
     record {
       words = λ e. run.kind faults.Words (fault faults.Words e);
       memory = λ e. run.untouched (fault faults.NoMemory e);
