@@ -1,5 +1,5 @@
 -- The schedule of an exercise is valid.
-use Rattle.std.proofs.Common.{◌≡◌, ℕ, zero, suc, ◌+◌, ◌-◌, ◌/◌, ◌<◌, ◌≤◌, Bool, true, false, List, [], ◌∷◌, All, Some, None, refl, ap, ◌∙◌, arith, rules}
+use Rattle.std.proofs.Common.{◌≡◌, ℕ, zero, suc, ◌+◌, ◌-◌, ◌/◌, ◌<◌, ◌≤◌, Bool, true, false, List, [], ◌∷◌, length, All, Some, None, refl, ap, ◌∙◌, arith, rules}
 use Rattle.std.specs.Prelude.{nat_le, nat_lt, ◌||◌, not, if◌then◌else◌}
 use Rattle.std.proofs.lemmas.Bool.{le-leb}
 use Rattle.drm_fac.specs.declared.mode.Mode.{Mode}
