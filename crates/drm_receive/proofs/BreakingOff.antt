@@ -8,10 +8,10 @@ use Rattle.drm_receive.specs.Receive.{Finds, FindsNone}
 use Rattle.mod_receiver.specs.Ahead.{Report, IsReportOf, BreaksOff}
 use Rattle.mod_receiver.proofs.OneReading.{finished_whole}
 
-found_once : (told : DockContents) (k : ℕ) (at : Address) (a b : LinkStart) → Finds told k at a → Finds told k at b → a ≡ b
+pub found_once : (told : DockContents) (k : ℕ) (at : Address) (a b : LinkStart) → Finds told k at a → Finds told k at b → a ≡ b
 found_once told k at a b first second = let is : Some a ≡ Some b = sym first.stands ∙ second.stands in cc
 
-is_found : (told : DockContents) (k : ℕ) (at : Address) (start : LinkStart) → Finds told k at start → FindsNone told k at → ⊥
+pub is_found : (told : DockContents) (k : ℕ) (at : Address) (start : LinkStart) → Finds told k at start → FindsNone told k at → ⊥
 is_found told k at start finds (inl fails) = finds.allowed fails
 is_found told k at start finds (inr none) = let some : IsNone (Some start) = subst (λ o. IsNone o) finds.stands none in cc
 

@@ -1,0 +1,4 @@
+pub mod Line
+pub mod Opening
+pub mod Between
+pub mod Run

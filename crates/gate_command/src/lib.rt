@@ -1,0 +1,8 @@
+//! The command `gate`: what comes over one link goes out over another, under another carry.
+#![tactic(auto)]
+
+mod between;
+mod command;
+mod line;
+
+pub use command::gate;
