@@ -13,3 +13,4 @@ pub mod CaptureLemmas
 pub mod SendingLemmas
 pub mod RestLemmas
 pub mod PaceLemmas
+pub mod FrameLemmas

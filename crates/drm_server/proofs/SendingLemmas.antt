@@ -5,17 +5,14 @@ use Rattle.drm_schedule.specs.declared.plan.Plan.{Plan}
 use Rattle.drm_links.specs.Told.{Known}
 use Rattle.drm_links.specs.Link.{Traffic}
 use Rattle.drm_links.specs.Transmission.{Transmits, SendsAll, SendsNoMore, Waits, since, still}
-use Rattle.drm_links.proofs.TransmissionLemmas.{Transmits-then, Transmits-weaker, Transmits-both, SendsAll-then, SendsAll-no_more, Waits-then}
+use Rattle.drm_links.proofs.TransmissionLemmas.{Transmits-then, Transmits-weaker, Transmits-both, SendsAll-no_more, Waits-then}
+use Rattle.packet_sending.proofs.Links.{then_sent, then_waited}
 use Rattle.drm_timeline.specs.Numbers.{frame_count}
 use Rattle.drm_server.specs.Datagrams.{IsDatagramAt, AreFirst, AreOfFrames, AreDatagrams}
 use Rattle.drm_server.specs.Sending.{SendsSchedule, SendsPart}
 use Rattle.drm_server.specs.OneFrame.{SendsPartOfFrame}
 use Rattle.drm_server.specs.Rests.{ArePaced, pause}
-use Rattle.drm_server.proofs.PaceLemmas.{wait_at, waits_in, waits_after, wait_after, zeros_then, paced_frame}
-
--- some, and then others
-pub then_sent : (xs ys : List (List ℕ)) (a b c : Known Traffic) → Transmits a b (SendsAll xs) → Transmits b c (SendsAll ys) → Transmits a c (SendsAll (xs ++ ys))
-then_sent xs ys a b c first second = Transmits-then (SendsAll xs) (SendsAll ys) (SendsAll (xs ++ ys)) a b c first second (λ x y z. SendsAll-then xs ys x y z)
+use Rattle.drm_server.proofs.PaceLemmas.{wait_at, waits_in, waits_after, wait_after, paced_frame}
 
 -- some, and then a rest
 pub then_rested : (xs : List (List ℕ)) (a b c : Known Traffic) → Transmits a b (SendsAll xs) → Transmits b c (SendsAll []) → Transmits a c (SendsAll xs)
@@ -23,20 +20,11 @@ then_rested xs a b c first second = subst (λ l. Transmits a c (SendsAll l)) (ap
 
 -- ---- waits
 
-pub then_waited : (xs : List ℕ) (last : ℕ) (ys : List ℕ) (end : ℕ) (a b c : Known Traffic) → Transmits a b (Waits xs last) → Transmits b c (Waits ys end) → Transmits a c (Waits (xs ++ since last ys) (still last ys end))
-then_waited xs last ys end a b c first second =
-    Transmits-then (Waits xs last) (Waits ys end) (Waits (xs ++ since last ys) (still last ys end)) a b c first second (λ x y z. Waits-then xs last ys end x y z)
-
 -- some waits, and then a rest
 pub then_paused : (waits : List ℕ) (rest : ℕ) (a b c : Known Traffic) → Transmits a b (Waits waits 0) → Transmits b c (Waits [] rest) → Transmits a c (Waits waits rest)
 then_paused waits rest a b c first second =
     let none : 0 + rest ≡ rest = omega arith in
     subst (λ w. Transmits a c (Waits waits w)) none (subst (λ l. Transmits a c (Waits l (0 + rest))) (append-nil waits) (then_waited waits 0 [] rest a b c first second))
-
--- one more datagram without a rest
-pub one_more_sent : (i : ℕ) (a b c : Known Traffic) → Transmits a b (Waits (replicate i 0) 0) → Transmits b c (Waits (0 ∷ []) 0) → Transmits a c (Waits (replicate (i + 1) 0) 0)
-one_more_sent i a b c first second =
-    subst (λ l. Transmits a c (Waits l 0)) (zeros_then i) (then_waited (replicate i 0) 0 (0 ∷ []) 0 a b c first second)
 
 -- the datagrams of a frame, after the rest before it
 pub frame_waited : (pace t n : ℕ) (waits : List ℕ) (a b c : Known Traffic) → Transmits a b (Waits waits (pause pace t)) → Transmits b c (Waits (replicate n 0) 0)
@@ -56,19 +44,6 @@ whole_frame_waited pace t n waits a b c some first second =
     subst (λ w. Transmits a c (Waits (waits ++ waits_in pace t n) w)) (no_wait_after pace t n some) (frame_waited pace t n waits a b c first second)
 
 -- ---- parts, and all
-
--- the next one isn't taken
-pub no_more_sent : (plan : Plan) (t i : ℕ) (next : List ℕ) (datagrams : List (List ℕ)) (a b c : Known Traffic) → IsDatagramAt plan t i next → AreFirst plan t i datagrams
-    → Transmits a b (SendsAll datagrams) → Transmits b c (SendsNoMore []) → Transmits a b (Waits (replicate i 0) 0) → Transmits b c (Waits [] 0)
-    → Transmits a c (SendsPartOfFrame plan t)
-no_more_sent plan t i next datagrams a b c is are first second waited none =
-    let sent : Transmits a c (SendsNoMore datagrams) =
-    Transmits-then (SendsAll datagrams) (SendsNoMore []) (SendsNoMore datagrams) a b c first second
-    (λ x y z all no. subst (λ l. SendsNoMore l x z) (append-nil datagrams) (SendsAll-no_more datagrams [] x y z all no)) in
-    let waits : Transmits a c (Waits (replicate i 0) 0) = then_paused (replicate i 0) 0 a b c waited none in
-    Transmits-weaker (λ x y. SendsNoMore datagrams x y × Waits (replicate i 0) 0 x y) (SendsPartOfFrame plan t) a c
-    (Transmits-both (SendsNoMore datagrams) (Waits (replicate i 0) 0) a c sent waits)
-    (λ x y both. (i, next, datagrams, (is, are), both.0, both.1))
 
 -- a part of the next frame
 pub part_sent : (plan : Plan) (pace t : ℕ) (datagrams : List (List ℕ)) (waits : List ℕ) (a b c : Known Traffic) → t < frame_count plan → AreOfFrames plan t datagrams → ArePaced pace plan datagrams waits

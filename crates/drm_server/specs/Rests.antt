@@ -2,14 +2,9 @@
 use Rattle.std.specs.Prelude.{ℕ, ◌≡◌, ◌+◌, ◌-◌, ◌<◌, ◌==◌, List, length, take, slice_get, Some, if◌then◌else◌}
 use Rattle.drm_schedule.specs.declared.plan.Plan.{Plan}
 use Rattle.dcp_pft.specs.Limits.{most_fragments}
-use Rattle.drm_links.specs.Link.{Traffic}
 use Rattle.drm_server.specs.Datagrams.{AreOfFrames}
 
 -- ---- calls: one for each datagram, and one for each rest
-
--- so many calls were made
-abbrev pub MadeCalls : ℕ → Traffic → Traffic → Type 0
-MadeCalls n before after = after.calls ≡ before.calls + n
 
 -- the most calls of a frame: one for each of its datagrams, and a rest
 abbrev pub calls_of_frame : ℕ

@@ -1,19 +1,26 @@
 //! One frame of a schedule, ready to be sent.
 
-ghost use Rattle.std.specs.Prelude.{ℕ, List, ◌≡◌, ◌<◌, ◌≤◌, length, take, true, IfOk};
+ghost use Rattle.std.specs.Prelude.{ℕ, List, ◌≡◌, ◌<◌, ◌≤◌, length, take, replicate, true, IfOk, OnErr, IsErr};
 ghost use Rattle.dcp_pft.specs.Limits.{longest_packet, most_packet, most_fragments, most_parity};
+ghost use Rattle.drm_links.specs.Told.{HasCause};
+ghost use Rattle.drm_links.specs.ManyCalls.{MakesCalls};
+ghost use Rattle.drm_links.specs.Transmission.{Transmits, Waits};
+ghost use Rattle.packet_sending.specs.Sending.{MadeCalls};
 ghost use Rattle.drm_timeline.specs.Numbers as numbers;
 ghost use Rattle.drm_timeline.specs.Numbers.{packet_size};
 ghost use Rattle.drm_server.specs.Frames.{IsPacketAt};
 ghost use Rattle.drm_server.specs.Datagrams.{HasDatagrams, HasDatagram, IsDatagramAt};
+ghost use Rattle.drm_server.specs.OneFrame.{SentFrame, SendsPartOfFrame};
 
 use crate::packet::write_packet;
 use crate::payload::Rooms;
 use dcp_pft::{LONGEST_PACKET, MOST_PARITY, Shape, all_taken, cut_for, datagrams, most_packet};
 use drm_bits::{NoMemory, zeros};
+use drm_links::{Link, LinkFault};
 use drm_schedule::Schedule;
 use drm_timeline::{frame_count, sequence_number};
 use packet_cutting::{write_cut, write_parity};
+use packet_sending::send_packet;
 use std::alloc::Global;
 use std::marker::Model;
 
@@ -161,6 +168,27 @@ impl<'a> Loaded<'a> {
             None => true,
             Some(_) => false,
         }
+    }
+
+    /// Sends the datagrams of the frame over a link, one after another and by way of this room, and gives their number.
+    pub fn send<L: Link>(&self, room: &mut [u8], link: &mut L) -> Result<u64, LinkFault>
+        requires { most_packet self.now.plan.carry ≤ length room.old }
+        ensures whole { IfOk result (λ n. SentFrame self.now.plan self.now.frame n
+            (L.known link.old) (L.known link.new)) }
+        ensures waits { IfOk result (λ n. Transmits (L.known link.old) (L.known link.new) (Waits (replicate n 0) 0)) }
+        ensures some { IfOk result (λ n. 1 ≤ n) }
+        ensures few { IfOk result (λ n. n ≤ most_fragments) }
+        ensures counted { IfOk result (λ n. Transmits (L.known link.old) (L.known link.new) (MadeCalls n)) }
+        ensures part { OnErr result (Transmits (L.known link.old) (L.known link.new)
+            (SendsPartOfFrame self.now.plan self.now.frame)) }
+        ensures cause { HasCause (L.known link.old) (L.known link.new) (IsErr result) }
+        ensures idle { L.idles link.new ≡ L.idles link.old }
+        ensures calls { MakesCalls (λ traffic. traffic.calls) most_fragments (L.known link.old) (L.known link.new) }
+        ensures room { length room.new ≡ length room.old }
+    {
+        let packet = &self.buffer[..self.len];
+        let seq = sequence_number(self.plan, self.frame);
+        send_packet(packet, self.cut, &self.parity, seq, room, link)
     }
 
     /// Writes the datagram with this number, from 0, to the front, and gives its length.

@@ -1,19 +1,19 @@
 //! A schedule over a link.
 
-ghost use Rattle.std.specs.Prelude.{[], ◌∷◌, ◌≡◌, ◌+◌, ◌*◌, ◌≤◌, length, replicate, IfOk, OnOk, OnErr, IsErr};
+ghost use Rattle.std.specs.Prelude.{[], ◌≡◌, ◌+◌, ◌*◌, ◌≤◌, replicate, IfOk, OnOk, OnErr, IsErr};
 ghost use Rattle.drm_links.specs.Told.{HasCause};
-ghost use Rattle.drm_links.specs.Link.{longest_told};
 ghost use Rattle.drm_links.specs.ManyCalls.{MakesCalls};
-ghost use Rattle.drm_links.specs.Transmission.{Transmits, SendsAll, SendsNoMore, Waits};
+ghost use Rattle.drm_links.specs.Transmission.{Transmits, SendsAll, Waits};
 ghost use Rattle.drm_timeline.specs.Numbers.{frame_count};
+ghost use Rattle.packet_sending.specs.Sending.{MadeCalls};
 ghost use Rattle.drm_server.specs.Capture.{IsCount};
 ghost use Rattle.drm_server.specs.Sending.{SendsSchedule, SendsPart};
 ghost use Rattle.dcp_pft.specs.Limits.{most_fragments};
-ghost use Rattle.drm_server.specs.Rests.{calls_of_frame, MadeCalls, rests_before, rests_between, pause};
+ghost use Rattle.drm_server.specs.Rests.{calls_of_frame, rests_before, rests_between, pause};
 ghost use Rattle.drm_server.specs.OneFrame.{SentFrame, SendsPartOfFrame};
 
 use crate::Server;
-use drm_links::{Link, LinkFault, Sent};
+use drm_links::{Link, LinkFault};
 
 /// Sends the datagrams of all frames, in order from the first one on, and gives their number. Between the datagrams of two
 /// frames it rests for `pace` milliseconds, and nowhere else.
@@ -73,27 +73,10 @@ fn send_frame<L: Link>(server: &mut Server<'_>, link: &mut L) -> Result<u64, Lin
     ensures calls { MakesCalls (λ traffic. traffic.calls) most_fragments (L.known link.old) (L.known link.new) }
     ensures server { server.new ≡ server.old }
 {
-    let count = server.fragments();
-    for i in 0..count {
-        send_datagram(link, server.datagram(i))?;
-    }
-    Ok(u64::from(count))
-}
-
-fn send_datagram<L: Link>(link: &mut L, datagram: &[u8]) -> Result<(), LinkFault>
-    requires { length datagram.now ≤ longest_told }
-    ensures sent { OnOk result (Transmits (L.known link.old) (L.known link.new)
-        (SendsAll (datagram.now ∷ []))) }
-    ensures none { OnErr result (Transmits (L.known link.old) (L.known link.new) (SendsNoMore [])) }
-    ensures waited { OnOk result (Transmits (L.known link.old) (L.known link.new) (Waits (0 ∷ []) 0)) }
-    ensures waits { OnErr result (Transmits (L.known link.old) (L.known link.new) (Waits [] 0)) }
-    ensures counted { Transmits (L.known link.old) (L.known link.new) (MadeCalls 1) }
-    ensures cause { HasCause (L.known link.old) (L.known link.new) (IsErr result) }
-    ensures idle { L.idles link.new ≡ L.idles link.old }
-    ensures calls { MakesCalls (λ traffic. traffic.calls) 1 (L.known link.old) (L.known link.new) }
-{
-    match link.send(datagram) {
-        Sent::Sent => Ok(()),
-        Sent::Failed => Err(LinkFault),
-    }
+    let Server {
+        loaded,
+        datagram,
+        ..
+    } = server;
+    loaded.send(datagram, link)
 }

@@ -24,7 +24,7 @@ const WAITING: usize = 2 * LONGEST_PACKET;
 pub struct Server<'a> {
     pub(crate) loaded: Loaded<'a>,
     // The datagram that was asked for last stands at the front, where it isn't the packet.
-    datagram: Vec<u8>,
+    pub(crate) datagram: Vec<u8>,
     // Where datagrams wait until a sink is called once for many.
     pub(crate) waiting: Vec<u8>,
 }

@@ -10,9 +10,11 @@ use Rattle.drm_server.specs.Serving.{Serving}
 use Rattle.drm_server.specs.OneFrame.{SentFrame, SendsPartOfFrame}
 use Rattle.drm_server.specs.Datagrams.{AreFirst, AreOfFrames}
 use Rattle.drm_server.proofs.DatagramLemmas.{next_frame, first_length, at_frame}
-use Rattle.drm_server.specs.Rests.{calls_of_frame, MadeCalls, rests_before, rests_between, pause}
-use Rattle.drm_server.proofs.RestLemmas.{made_then, one_more_rest}
-use Rattle.drm_server.proofs.SendingLemmas.{then_sent, then_rested, then_paused, whole_frame_waited, part_sent, all_sent}
+use Rattle.packet_sending.specs.Sending.{MadeCalls}
+use Rattle.drm_server.specs.Rests.{calls_of_frame, rests_before, rests_between, pause}
+use Rattle.packet_sending.proofs.Links.{made_then, then_sent}
+use Rattle.drm_server.proofs.RestLemmas.{one_more_rest}
+use Rattle.drm_server.proofs.SendingLemmas.{then_rested, then_paused, whole_frame_waited, part_sent, all_sent}
 use Rattle.drm_server.proofs.PaceLemmas.{waits_in, paced_frame}
 use Rattle.drm_server.proofs.send.serve_link.Goals as goal
 

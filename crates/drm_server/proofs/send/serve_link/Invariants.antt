@@ -4,7 +4,8 @@ use Rattle.drm_links.specs.Link.{Traffic}
 use Rattle.drm_links.specs.ManyCalls.{MakesCalls}
 use Rattle.drm_links.specs.Transmission.{Transmits, SendsAll, Waits}
 use Rattle.drm_server.specs.Datagrams.{AreOfFrames}
-use Rattle.drm_server.specs.Rests.{calls_of_frame, MadeCalls, rests_between, ArePaced}
+use Rattle.packet_sending.specs.Sending.{MadeCalls}
+use Rattle.drm_server.specs.Rests.{calls_of_frame, rests_between, ArePaced}
 use Rattle.drm_server.proofs.send.serve_link.Given as goal
 
 -- the datagrams of the frames before this one were sent
