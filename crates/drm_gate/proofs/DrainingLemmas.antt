@@ -24,7 +24,7 @@ use Rattle.drm_gate.specs.Tallies.{plus, tally_one, tally_of, items_in}
 use Rattle.drm_gate.specs.Steps.{Passed, Broken}
 use Rattle.drm_gate.specs.Draining.{PassedAll, Drained, Stopped, KeepsPace, sent_or_kept}
 use Rattle.drm_gate.proofs.RestingLemmas.{no_sends, more_sends, few_sends}
-use Rattle.drm_gate.proofs.SendingLemmas.{then_sent}
+use Rattle.packet_sending.proofs.Links.{then_sent}
 use Rattle.drm_gate.proofs.Tallying.{plus_nothing, plus_assoc, tally_join, one_more, few_sent}
 use Rattle.drm_gate.proofs.Kept.{fewer_kept, packet_kept}
 

@@ -1,12 +1,13 @@
 -- Calls of links that never rest.
-use Rattle.std.proofs.Common.{◌≡◌, ℕ, ◌+◌, ◌≤◌, List, [], ◌∷◌, ◌++◌, map, sym, ap, ◌∙◌}
+use Rattle.std.proofs.Common.{◌≡◌, ℕ, zero, suc, ◌+◌, ◌≤◌, List, [], ◌∷◌, ◌++◌, length, map, replicate, refl, sym, ap, ◌∙◌}
 use Rattle.std.proofs.lemmas.List.{map-append}
 use Rattle.drm_links.specs.Told.{Known, Tells, WhileTold, CountsCall}
-use Rattle.drm_links.specs.Link.{Traffic, Receives, Sends}
+use Rattle.drm_links.specs.Link.{Traffic, Receives}
+use Rattle.drm_links.specs.Transmission.{Transmits, SendsAll, SendsNoMore, Waits, since, still}
 use Rattle.drm_links.specs.declared.link.Came.{Came}
-use Rattle.drm_links.specs.declared.link.Sent.TheVariants as send
 use Rattle.drm_links.proofs.ToldLemmas.{Tells-nothing, Tells-then, Tells-one, WhileTold-weaker}
-use Rattle.drm_links.proofs.ManyCallsLemmas.{no_calls, one_call, more_calls, at_most}
+use Rattle.drm_links.proofs.TransmissionLemmas.{Transmits-weaker, Transmits-both}
+use Rattle.drm_links.proofs.ManyCallsLemmas.{no_calls, more_calls, at_most}
 use Rattle.drm_gate.specs.Resting.{NeverRests, MakesSends}
 
 abbrev calls : Traffic → ℕ
@@ -37,24 +38,46 @@ still_as x y gone waits waiting rested = record {
   waiting = waiting ∙ rested.waiting;
 }
 
-still_more : (bytes : List ℕ) (x y : Traffic) → Sends send.Sent bytes x y → NeverRests x y
-still_more bytes x y sent rested = record {
-  waits = sent.2
-      ∙ (ap (λ w. x.waits ++ w ∷ []) rested.waiting
-      ∙ (ap (λ (l : List ℕ). l ++ 0 ∷ []) rested.waits
-      ∙ (sym (map-append (λ (_ : List ℕ). 0) x.gone (bytes ∷ [])) ∙ ap (λ (l : List (List ℕ)). map (λ _. 0) l) (sym sent.1))));
-  waiting = sent.3;
-}
-
 one_still : (P : Traffic → Traffic → Type 0) (a b : Known Traffic) → CountsCall calls a b → WhileTold a b P → ((x y : Traffic) → P x y → NeverRests x y) → Tells a b NeverRests
 one_still P a b counts holds still = Tells-one calls NeverRests a b counts (WhileTold-weaker P NeverRests a b holds still)
 
-pub one_sent : (bytes : List ℕ) (a b : Known Traffic) → WhileTold a b (Sends send.Sent bytes) → CountsCall calls a b → MakesSends 1 a b
-one_sent bytes a b sent counts = record { calls = one_call calls a b counts; still = one_still (Sends send.Sent bytes) a b counts sent (still_more bytes) }
-
-pub one_failed : (bytes : List ℕ) (a b : Known Traffic) → WhileTold a b (Sends send.Failed bytes) → CountsCall calls a b → MakesSends 1 a b
-one_failed bytes a b failed counts =
-    record { calls = one_call calls a b counts; still = one_still (Sends send.Failed bytes) a b counts failed (λ x y f. still_as x y f.1 f.2 f.3) }
-
 pub still_came : (result : Came) (buf : List ℕ) (a b : Known Traffic) → WhileTold a b (Receives result buf) → CountsCall calls a b → Tells a b NeverRests
 still_came result buf a b came counts = one_still (Receives result buf) a b counts came (λ x y r. still_as x y r.gone r.waits r.waiting)
+
+-- ---- datagrams without a rest between them
+
+no_waits : (datagrams : List (List ℕ)) → replicate (length datagrams) 0 ≡ map (λ _. 0) datagrams
+no_waits [] = refl
+no_waits (d ∷ datagrams) = ap (λ (l : List ℕ). 0 ∷ l) (no_waits datagrams)
+
+since_none : (n : ℕ) → since 0 (replicate n 0) ≡ replicate n 0
+since_none zero = refl
+since_none (suc n) = ap (λ (l : List ℕ). 0 ∷ l) (since_none n)
+
+still_none_more : (n : ℕ) → still 0 (replicate n 0) 0 ≡ 0
+still_none_more zero = refl
+still_none_more (suc n) = refl
+
+still_over : (datagrams : List (List ℕ)) (x y : Traffic) → y.gone ≡ x.gone ++ datagrams → Waits (replicate (length datagrams) 0) 0 x y → NeverRests x y
+still_over datagrams x y gone waits rested =
+    let n : ℕ = length datagrams in
+    let none : since x.waiting (replicate n 0) ≡ map (λ _. 0) datagrams =
+    ap (λ w. since w (replicate n 0)) rested.waiting ∙ (since_none n ∙ no_waits datagrams) in
+    record {
+      waits = waits.waits
+          ∙ (ap (λ (l : List ℕ). x.waits ++ l) none
+          ∙ (ap (λ (l : List ℕ). l ++ map (λ _. 0) datagrams) rested.waits
+          ∙ (sym (map-append (λ (_ : List ℕ). 0) x.gone datagrams) ∙ ap (λ (l : List (List ℕ)). map (λ _. 0) l) (sym gone))));
+      waiting = waits.waiting ∙ (ap (λ w. still w (replicate n 0) 0) rested.waiting ∙ still_none_more n);
+    }
+
+pub still_all : (datagrams : List (List ℕ)) (a b : Known Traffic) → Transmits a b (SendsAll datagrams) → Transmits a b (Waits (replicate (length datagrams) 0) 0) → Tells a b NeverRests
+still_all datagrams a b sent waited =
+    Transmits-weaker (λ x y. SendsAll datagrams x y × Waits (replicate (length datagrams) 0) 0 x y) NeverRests a b
+    (Transmits-both (SendsAll datagrams) (Waits (replicate (length datagrams) 0) 0) a b sent waited)
+    (λ x y both. still_over datagrams x y both.0.gone both.1)
+
+pub still_some : (datagrams : List (List ℕ)) (a b : Known Traffic) → Transmits a b (λ x y. SendsNoMore datagrams x y × Waits (replicate (length datagrams) 0) 0 x y) → Tells a b NeverRests
+still_some datagrams a b sent =
+    Transmits-weaker (λ x y. SendsNoMore datagrams x y × Waits (replicate (length datagrams) 0) 0 x y) NeverRests a b sent
+    (λ x y both. still_over datagrams x y both.0.gone both.1)

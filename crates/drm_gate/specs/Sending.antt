@@ -1,10 +1,8 @@
 -- A packet that is sent under a carry.
 use Rattle.std.specs.Prelude.{ℕ, ◌≡◌, ◌<◌, Bool, nat_lt, List, length, slice_index_or}
 use Rattle.dcp_pft.specs.declared.carry.Carry.{Carry}
-use Rattle.dcp_pft.specs.declared.shape.Shape.{Shape}
 use Rattle.dcp_pft.specs.Limits.{most_packet}
 use Rattle.dcp_pft.specs.Carrying.{datagram_count, Carries}
-use Rattle.dcp_pft.specs.Head.{IsFragmentOf}
 use Rattle.drm_links.specs.Told.{Known}
 use Rattle.drm_links.specs.Link.{Traffic}
 use Rattle.drm_links.specs.Transmission.{Transmits, SendsAll, SendsNoMore}
@@ -19,11 +17,6 @@ pub record AreSome (carry : Carry) (sequence : ℕ) (packet : List ℕ) (datagra
   pub fewer : length datagrams < datagram_count carry (length packet)
   pub each : (i : ℕ) (none : List ℕ) → i < length datagrams → Carries carry sequence packet i (slice_index_or datagrams i none)
 
--- the first fragments of a packet that is cut in this shape
-abbrev pub AreFragments : Shape → ℕ → List ℕ → List (List ℕ) → Type 0
-AreFragments shape sequence packet datagrams =
-    (i : ℕ) (none : List ℕ) → i < length datagrams → IsFragmentOf shape sequence packet i (slice_index_or datagrams i none)
-
 -- All datagrams of a packet were sent, and they are n.
 abbrev pub SentPacket : Carry → ℕ → List ℕ → ℕ → Known Traffic → Known Traffic → Type 0
 SentPacket carry sequence packet n before after =
@@ -33,13 +26,3 @@ SentPacket carry sequence packet n before after =
 abbrev pub SentSome : Carry → ℕ → List ℕ → Known Traffic → Known Traffic → Type 0
 SentSome carry sequence packet before after =
     (datagrams : List (List ℕ)) × AreSome carry sequence packet datagrams × Transmits before after (SendsNoMore datagrams)
-
--- All fragments of a packet that is cut in this shape were sent.
-abbrev pub SentFragments : Shape → ℕ → List ℕ → ℕ → Known Traffic → Known Traffic → Type 0
-SentFragments shape sequence packet n before after =
-    (datagrams : List (List ℕ)) × AreFragments shape sequence packet datagrams × (length datagrams ≡ n) × Transmits before after (SendsAll datagrams)
-
--- Some first ones were sent, and then the link took no more.
-abbrev pub SentFewer : Shape → ℕ → List ℕ → Known Traffic → Known Traffic → Type 0
-SentFewer shape sequence packet before after =
-    (datagrams : List (List ℕ)) × AreFragments shape sequence packet datagrams × (length datagrams < shape.count) × Transmits before after (SendsNoMore datagrams)

@@ -1,20 +1,17 @@
 //! Packets under a carry, over a link.
 
-ghost use Rattle.std.specs.Prelude.{[], ◌∷◌, ◌≡◌, ◌≤◌, length, IfOk, OnOk, OnErr, IfErr, IsErr, Some, false};
-ghost use Rattle.dcp_pft.specs.Limits.{most_parity, most_fragment, most_fragments};
+ghost use Rattle.std.specs.Prelude.{◌≡◌, ◌≤◌, length, IfOk, OnErr, IsErr, false};
+ghost use Rattle.dcp_pft.specs.Limits.{most_fragments};
 ghost use Rattle.dcp_pft.specs.Carrying.{CarryFits};
-ghost use Rattle.dcp_pft.specs.Cutting.{IsShapeOf};
 ghost use Rattle.drm_links.specs.Told.{HasCause};
-ghost use Rattle.drm_links.specs.Link.{longest_told};
-ghost use Rattle.drm_links.specs.Transmission.{Transmits, SendsAll, SendsNoMore};
-ghost use Rattle.packet_cutting.specs.Parity.{HoldsParity};
 ghost use Rattle.drm_gate.specs.Resting.{MakesSends};
-ghost use Rattle.drm_gate.specs.Sending.{is_large, SentPacket, SentSome, SentFragments, SentFewer};
+ghost use Rattle.drm_gate.specs.Sending.{is_large, SentPacket, SentSome};
 
-use dcp_pft::{Carry, MOST_FRAGMENT, MOST_PARITY, Shape, all_taken, cut_for, most_packet};
+use dcp_pft::{Carry, MOST_FRAGMENT, MOST_PARITY, cut_for, most_packet};
 use drm_bits::{NoMemory, zeros};
-use drm_links::{Link, LinkFault, Sent};
-use packet_cutting::{write_cut, write_parity};
+use drm_links::{Link, LinkFault};
+use packet_cutting::write_parity;
+use packet_sending::send_packet;
 use std::alloc::Global;
 use std::marker::Model;
 
@@ -74,57 +71,8 @@ impl Sender {
         ensures only { MakesSends most_fragments (K.known link.old) (K.known link.new) }
         ensures carry { self.new ≡ self.old }
     {
-        match cut_for(self.carry, packet.len()) {
-            None => {
-                send_one(link, packet)?;
-                Ok(1)
-            }
-            Some(shape) => {
-                write_parity(packet, Some(shape), &mut self.parity);
-                send_fragments(packet, &shape, &self.parity, seq, &mut self.fragment, link)
-            }
-        }
-    }
-}
-
-// Sends the fragments of a packet that is cut, by way of this room, and gives their number.
-fn send_fragments<K: Link>(
-    packet: &[u8],
-    shape: &Shape,
-    parity: &[u8],
-    seq: u16,
-    room: &mut [u8],
-    link: &mut K,
-) -> Result<u64, LinkFault>
-    requires shaped { IsShapeOf (length packet.now) shape.now }
-    requires all { length parity.now ≡ most_parity }
-    requires stands { HoldsParity (Some shape.now) packet.now parity.now }
-    requires room { length room.old ≡ most_fragment }
-    ensures sent { IfOk result (λ n. SentFragments shape.now seq packet.now n (K.known link.old) (K.known link.new)) }
-    ensures count { IfOk result (λ n. n ≡ shape.now.count) }
-    ensures few { IfOk result (λ n. n ≤ most_fragments) }
-    ensures part { OnErr result (SentFewer shape.now seq packet.now (K.known link.old) (K.known link.new)) }
-    ensures cause { HasCause (K.known link.old) (K.known link.new) (IsErr result) }
-    ensures only { MakesSends most_fragments (K.known link.old) (K.known link.new) }
-    ensures room { length room.new ≡ length room.old }
-{
-    all_taken();
-    for i in 0..shape.count {
-        let len = write_cut(packet, shape, parity, seq, i, room);
-        send_one(link, &room[..len])?;
-    }
-    Ok(u64::from(shape.count))
-}
-
-fn send_one<K: Link>(link: &mut K, datagram: &[u8]) -> Result<(), LinkFault>
-    requires { length datagram.now ≤ longest_told }
-    ensures sent { OnOk result (Transmits (K.known link.old) (K.known link.new) (SendsAll (datagram.now ∷ []))) }
-    ensures none { OnErr result (Transmits (K.known link.old) (K.known link.new) (SendsNoMore [])) }
-    ensures cause { HasCause (K.known link.old) (K.known link.new) (IsErr result) }
-    ensures only { MakesSends 1 (K.known link.old) (K.known link.new) }
-{
-    match link.send(datagram) {
-        Sent::Sent => Ok(()),
-        Sent::Failed => Err(LinkFault),
+        let cut = cut_for(self.carry, packet.len());
+        write_parity(packet, cut, &mut self.parity);
+        send_packet(packet, cut, &self.parity, seq, &mut self.fragment, link)
     }
 }
