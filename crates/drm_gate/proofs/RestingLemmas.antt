@@ -46,29 +46,32 @@ still_came result buf a b came counts = one_still (Receives result buf) a b coun
 
 -- ---- datagrams without a rest between them
 
-no_waits : (datagrams : List (List ℕ)) → replicate (length datagrams) 0 ≡ map (λ _. 0) datagrams
+abbrev zeros : ℕ → List ℕ
+zeros n = replicate n 0
+
+no_waits : (datagrams : List (List ℕ)) → zeros (length datagrams) ≡ map (λ _. 0) datagrams
 no_waits [] = refl
 no_waits (d ∷ datagrams) = ap (λ (l : List ℕ). 0 ∷ l) (no_waits datagrams)
 
-since_none : (n : ℕ) → since 0 (replicate n 0) ≡ replicate n 0
+since_none : (n : ℕ) → since 0 (zeros n) ≡ zeros n
 since_none zero = refl
-since_none (suc n) = ap (λ (l : List ℕ). 0 ∷ l) (since_none n)
+since_none (suc n) = let none : 0 + 0 ≡ 0 = refl in ap (λ (w : ℕ). w ∷ zeros n) none
 
-still_none_more : (n : ℕ) → still 0 (replicate n 0) 0 ≡ 0
+still_none_more : (n : ℕ) → still 0 (zeros n) 0 ≡ 0
 still_none_more zero = refl
 still_none_more (suc n) = refl
 
 still_over : (datagrams : List (List ℕ)) (x y : Traffic) → y.gone ≡ x.gone ++ datagrams → Waits (replicate (length datagrams) 0) 0 x y → NeverRests x y
 still_over datagrams x y gone waits rested =
     let n : ℕ = length datagrams in
-    let none : since x.waiting (replicate n 0) ≡ map (λ _. 0) datagrams =
-    ap (λ w. since w (replicate n 0)) rested.waiting ∙ (since_none n ∙ no_waits datagrams) in
+    let none : since x.waiting (zeros n) ≡ map (λ _. 0) datagrams =
+    ap (λ w. since w (zeros n)) rested.waiting ∙ (since_none n ∙ no_waits datagrams) in
     record {
       waits = waits.waits
           ∙ (ap (λ (l : List ℕ). x.waits ++ l) none
           ∙ (ap (λ (l : List ℕ). l ++ map (λ _. 0) datagrams) rested.waits
           ∙ (sym (map-append (λ (_ : List ℕ). 0) x.gone datagrams) ∙ ap (λ (l : List (List ℕ)). map (λ _. 0) l) (sym gone))));
-      waiting = waits.waiting ∙ (ap (λ w. still w (replicate n 0) 0) rested.waiting ∙ still_none_more n);
+      waiting = waits.waiting ∙ (ap (λ w. still w (zeros n) 0) rested.waiting ∙ still_none_more n);
     }
 
 pub still_all : (datagrams : List (List ℕ)) (a b : Known Traffic) → Transmits a b (SendsAll datagrams) → Transmits a b (Waits (replicate (length datagrams) 0) 0) → Tells a b NeverRests
