@@ -5,6 +5,7 @@ use Rattle.std.specs.List.{AllZip}
 use Rattle.std.proofs.lemmas.Bool.{true≢false}
 use Rattle.std.proofs.lemmas.Int.{ints}
 use Rattle.std.proofs.lemmas.List.{append-nil}
+use Rattle.dcp_pft.specs.declared.carry.Carry.{Carry}
 use Rattle.dcp_collect.specs.declared.taken.Taken.{Taken}
 use Rattle.dcp_collect.specs.declared.taken.Taken.TheVariants.{Kept}
 use Rattle.dcp_collect.specs.Reading.{Incoming, Read, Unread, Brings}
@@ -32,7 +33,7 @@ first_taken : (c : State) (read : Read) (f : ℕ) → c.first ≡ Some f → (af
 first_taken c (Unread field) f is = is
 first_taken c (Brings incoming) f is = first_stays c (number_of c incoming) incoming (answer c (Brings incoming)) f is
 
-first_steps : (c d : State) (datagrams : List (List ℕ)) (answers : List Taken) (given : List Item) (f : ℕ) → Steps c datagrams answers given d → c.first ≡ Some f → d.first ≡ Some f
+pub first_steps : (c d : State) (datagrams : List (List ℕ)) (answers : List Taken) (given : List Item) (f : ℕ) → Steps c datagrams answers given d → c.first ≡ Some f → d.first ≡ Some f
 first_steps c d [] [] given f steps is = ap (λ s. s.first) steps.1 ∙ is
 first_steps c d [] (a ∷ answers) given f steps is = absurd steps
 first_steps c d (datagram ∷ datagrams) [] given f steps is = absurd steps
@@ -49,9 +50,9 @@ brings_of plan pair datagram is sent =
     (packets, brought plan.carry plan.seq packets (all_sent plan is (pair ∷ []) packets are) pair datagram one)
 
 module _ (one_reading : OneReading) where
-  first_told : (plan : Plan) (window : ℕ) (packets : List (List ℕ)) (pair : ℕ × ℕ) (datagram : List ℕ) (a : Taken) (kept : State)
-      → BringsPair plan.carry plan.seq packets pair datagram → Takes (made window None) datagram a kept → kept.first ≡ Some (sequence_at plan.seq pair.0)
-  first_told plan window packets pair datagram a kept brings takes =
+  pub first_told : (carry : Carry) (sequence0 window : ℕ) (packets : List (List ℕ)) (pair : ℕ × ℕ) (datagram : List ℕ) (a : Taken) (kept : State)
+      → BringsPair carry sequence0 packets pair datagram → Takes (made window None) datagram a kept → kept.first ≡ Some (sequence_at sequence0 pair.0)
+  first_told carry sequence0 window packets pair datagram a kept brings takes =
       let v : Incoming = brings.incoming in
       let c : State = made window None in
       let same : takes.read ≡ Brings v = one_reading datagram (Brings v) takes.read brings.is_read takes.is_read in
@@ -77,7 +78,7 @@ module _ (one_reading : OneReading) (refusing : Refusing) (plan : Plan) (is : Is
   none_told (OfSchedule pair ∷ arrivals) (datagram ∷ datagrams) (a ∷ answers) given mid all base (now, later, kept, after, takes, gives, steps, are) some =
       let (packets, brings) = brings_of plan pair datagram is all.0 in
       let place : pair.0 ≡ 0 = omega (arith, ints, base) in
-      let told : kept.first ≡ Some (sequence_at plan.seq pair.0) = first_told one_reading plan window packets pair datagram a kept brings takes in
+      let told : kept.first ≡ Some (sequence_at plan.seq pair.0) = first_told one_reading plan.carry plan.seq window packets pair datagram a kept brings takes in
       first_steps after mid datagrams answers later (sequence_at plan.seq 0) steps (gives_first now kept after gives ∙ (told ∙ ap (λ p. Some (sequence_at plan.seq p)) place))
   none_told (Stray cause ∷ arrivals) (datagram ∷ datagrams) (a ∷ answers) given mid all base (now, later, kept, after, takes, gives, steps, are) some =
       let c : State = made window None in

@@ -14,7 +14,7 @@ block_under carry plan true sf room block (bytes, same, at) = (
 )
 block_under carry plan false sf room block none = none
 
-frame_under : (carry : Carry) (plan : Plan) (t : ℕ) (parts : Parts) → IsFrameAt plan t parts → IsFrameAt (under carry plan) t parts
+pub frame_under : (carry : Carry) (plan : Plan) (t : ℕ) (parts : Parts) → IsFrameAt plan t parts → IsFrameAt (under carry plan) t parts
 frame_under carry plan t parts frame = record {
   config = frame.config;
   holds = frame.holds;

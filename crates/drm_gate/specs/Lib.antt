@@ -1,6 +1,5 @@
 pub mod Draining
 pub mod Gateway
-pub mod Laws
 pub mod Passing
 pub mod Reading
 pub mod Resting

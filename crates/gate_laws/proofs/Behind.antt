@@ -1,0 +1,90 @@
+-- What comes of what a gateway sent.
+use Rattle.std.proofs.Common.{ℕ, zero, suc, ◌≡◌, inl, inr, Bool, true, false, List, [], ◌∷◌, slice_get, Option, None, Some, refl, subst}
+use Rattle.std.specs.Prelude.{ℤ, pos, ◌+ℤ◌}
+use Rattle.std.specs.List.{AllZip, AllByRecursion}
+use Rattle.dcp_pft.specs.declared.carry.Carry.{Carry}
+use Rattle.dcp_pft.specs.Loss.{is_recoverable}
+use Rattle.collect_laws.specs.Delivery.{got}
+use Rattle.drm_schedule.specs.declared.plan.Plan.{Plan}
+use Rattle.drm_schedule.specs.Valid.{IsSchedule}
+use Rattle.mod_feed.specs.Items.{Item}
+use Rattle.mod_delivery.specs.Laws.{Delivering}
+use Rattle.mod_delivery.specs.Sent.{Arrival, OfSchedule, Stray, AreSent, IsSent, IsArrival, IsFollowed, pairs_in, shape_at, frame_of_number}
+use Rattle.mod_delivery.specs.Given.{IsServed, IsServedWhere, IsItemBy, IsAFrame}
+use Rattle.mod_delivery.proofs.Numbering.{frame_is}
+use Rattle.frame_lines.specs.Laws.{ServedLines}
+use Rattle.convert_laws.specs.Laws.{under}
+use Rattle.convert_laws.proofs.OtherCarry.{frame_under}
+use Rattle.drm_gate.specs.Passing.{sent_of}
+use Rattle.gate_laws.specs.Laws.{IsAmong, IsPassedOn, PassesSchedules, ComesAgain, GivesServed, ServedBehindTwo, pairs_given}
+
+-- ---- it comes again
+
+found : (plan : Plan) (pairs : List (ℕ × ℕ)) (sent : List (List ℕ)) (k : ℕ) (datagram : List ℕ) → AreSent plan pairs sent → slice_get sent k ≡ Some datagram → (pair : ℕ × ℕ) × IsSent plan pair datagram
+found plan [] [] k datagram are at = absurd (let none : None ≡ Some datagram = at in cc)
+found plan [] (d ∷ sent) k datagram are at = absurd are
+found plan (pair ∷ pairs) [] k datagram are at = absurd are
+found plan (pair ∷ pairs) (d ∷ sent) zero datagram are at = let same : d ≡ datagram = cc in (pair, subst (λ (l : List ℕ). IsSent plan pair l) same are.0)
+found plan (pair ∷ pairs) (d ∷ sent) (suc k) datagram are at = found plan pairs sent k datagram are.1 at
+
+again_one : (plan : Plan) (pairs : List (ℕ × ℕ)) (sent : List (List ℕ)) (datagram : List ℕ) → AreSent plan pairs sent → IsAmong sent datagram → (arrival : Arrival) × IsArrival plan arrival datagram
+again_one plan pairs sent datagram are (inl (k, at)) = let (pair, is) = found plan pairs sent k datagram are at in (OfSchedule pair, is)
+again_one plan pairs sent datagram are (inr (cause, is)) = (Stray cause, is)
+
+again_of : (plan : Plan) (pairs : List (ℕ × ℕ)) (sent later : List (List ℕ)) → AreSent plan pairs sent → AllByRecursion (IsAmong sent) later → (again : List Arrival) × AllZip (IsArrival plan) again later
+again_of plan pairs sent [] are all = ([], tt)
+again_of plan pairs sent (datagram ∷ later) are all =
+    let (arrival, is) = again_one plan pairs sent datagram are all.0 in
+    let (again, rest) = again_of plan pairs sent later are all.1 in
+    (arrival ∷ again, (is, rest))
+
+pub comes_again : PassesSchedules → ComesAgain
+comes_again passes plan carry rules base arrivals datagrams fates passed later among =
+    again_of (under carry plan) (pairs_given plan carry rules.window base rules.frames (pairs_in arrivals)) (sent_of fates) later (passes plan carry rules base arrivals datagrams fates passed) among
+
+-- ---- its frames are the server's
+
+served_under : (plan : Plan) (carry : Carry) (t q : ℕ) (item : Item) → IsServed (under carry plan) t q item → IsServed plan t q item
+served_under plan carry t q item is = record {
+  parts = is.parts;
+  is_frame = frame_under plan.carry (under carry plan) t is.parts is.is_frame;
+  payload = is.payload;
+  written = is.written;
+  read = is.read;
+  item_is = is.item_is;
+}
+
+served_where : (plan : Plan) (t q : ℕ) (kept : ℕ → Bool) (item : Item) (b : Bool) → IsServedWhere b plan t q kept item → IsAFrame item → IsServed plan t q item
+served_where plan t q kept item true is frame = is
+served_where plan t q kept item false is frame = absurd (subst IsAFrame is frame)
+
+served_by : (plan : Plan) (base : ℤ) (q : ℕ) (kept : ℕ → Bool) (item : Item) (o : Option ℕ) → frame_of_number plan base q ≡ o → IsItemBy plan o q kept item → IsAFrame item
+    → (t : ℕ) × ((base +ℤ pos q) ≡ pos t) × IsServed plan t q item
+served_by plan base q kept item None at is frame = absurd (subst IsAFrame is frame)
+served_by plan base q kept item (Some t) at is frame = (t, (frame_is plan (base +ℤ pos q) t at).0, served_where plan t q kept item (is_recoverable (shape_at plan t) kept) is frame)
+
+module _ (passes : PassesSchedules) (delivering : Delivering) (lines : ServedLines) where
+  gives_served : (plan : Plan) (carry : Carry) (later : List (List ℕ)) (again : List Arrival) (schedule : IsSchedule (under carry plan)) → AllZip (IsArrival (under carry plan)) again later → GivesServed plan later again
+  gives_served plan carry later again schedule arrive window first told base answers collected steps after some (based, within) run feeds q step at frame =
+      let followed : IsFollowed (under carry plan) first base again later = record { arrive = arrive; based = based; within_span = within } in
+      let (given, suits) = delivering (under carry plan) window first told base again later answers collected steps after schedule some followed run feeds in
+      let (t, place, served) = served_by (under carry plan) base q (got window base (pairs_in again) q) step.item (frame_of_number (under carry plan) base q) refl (given.items q step at) frame in
+      let is : IsServed plan t q step.item = served_under plan carry t q step.item served in
+      (t, place, is, lines plan t q step.item is)
+
+  pub served_behind_two : ServedBehindTwo
+  served_behind_two plan one other rules rules' base arrivals datagrams datagrams' fates fates' passed schedule some among onward =
+      let (arrivals', arrive) = comes_again passes plan one rules base arrivals datagrams fates passed datagrams' among in (
+        arrivals',
+        arrive,
+        λ base' later (based, within) among_later.
+            let second : IsPassedOn (under one plan) other rules' base' arrivals' datagrams' fates' = record {
+              schedule = passed.other;
+              other = schedule;
+              some = some;
+              followed = record { arrive = arrive; based = based; within_span = within };
+              onward = onward;
+            } in
+            let (again, is) = comes_again passes (under one plan) other rules' base' arrivals' datagrams' fates' second later among_later in
+            (again, is, gives_served plan other later again schedule is),
+      )

@@ -1,0 +1,132 @@
+-- What a gateway sends of a delivery.
+use Rattle.std.specs.Prelude.{ℕ, ℤ, pos, negsuc, ◌+ℤ◌, ◌≡◌, ◌≤◌, ◌⊎◌, Bool, true, false, List, [], length, map, slice_get, Option, None, Some}
+use Rattle.std.specs.List.{range_with_len, flat_map, AllZip, AllByRecursion}
+use Rattle.dcp_pft.specs.declared.carry.Carry.{Carry}
+use Rattle.dcp_pft.specs.Limits.{most_packet}
+use Rattle.dcp_pft.specs.Loss.{is_recoverable}
+use Rattle.dcp_pft.specs.Carrying.{CarryFits, datagram_count}
+use Rattle.dcp_collect.specs.declared.taken.Field.{Field}
+use Rattle.dcp_collect.specs.declared.taken.Taken.{Taken}
+use Rattle.dcp_collect.specs.Numbers.{end_of}
+use Rattle.dcp_collect.specs.Reading.{Unread, IsRead}
+use Rattle.dcp_collect.specs.Runs.{Item, Packet, Run}
+use Rattle.collect_laws.specs.Delivery.{AreSent, AreDelivered, items, got, newest_of, IsBase, IsWithinSpan}
+use Rattle.collect_laws.specs.Laws.{IsHeard}
+use Rattle.drm_schedule.specs.declared.plan.Plan.{Plan}
+use Rattle.drm_schedule.specs.Valid.{IsSchedule}
+use Rattle.drm_switches.specs.Tracker.{TrackerState, new_tracker}
+use Rattle.drm_timeline.specs.Numbers.{packet_size}
+use Rattle.mod_feed.specs.Feeding.{FeedStep, Feeds}
+use Rattle.mod_delivery.specs.Sent as schedules
+use Rattle.mod_delivery.specs.Sent.{Arrival, IsArrival, pairs_in, IsFollowed, shape_at, frame_of_number}
+use Rattle.mod_delivery.specs.Given.{IsServed, IsAFrame}
+use Rattle.report_lines.specs.Report.{item_line}
+use Rattle.frame_lines.specs.Line.{IsFrameLine}
+use Rattle.mod_receiver.specs.declared.rules.Rules.{Rules}
+use Rattle.convert_laws.specs.Laws.{under}
+use Rattle.drm_gate.specs.Passing.{Fate, sent_of}
+use Rattle.drm_gate.specs.Run.{IsOnward}
+
+-- ---- lists of packets
+
+-- all datagrams of the packet at a place, in order
+abbrev pub pairs_at : ℕ → ℕ → List (ℕ × ℕ)
+pairs_at p count = map (λ i. (p, i)) (range_with_len 0 count)
+
+-- the place that a number counts to from the base
+abbrev pub place_of : ℤ → ℕ
+place_of (pos p) = p
+place_of (negsuc n) = 0
+
+-- all datagrams of a packet that is given
+abbrev pub pairs_of : Carry → ℤ → Item → List (ℕ × ℕ)
+pairs_of carry base (Packet q bytes) = pairs_at (place_of (base +ℤ pos q)) (datagram_count carry (length bytes))
+pairs_of carry base other = []
+
+-- none of the packets is above the limit of the carry
+abbrev pub AreWithin : Carry → List (List ℕ) → Type 0
+AreWithin carry packets = (p : ℕ) (packet : List ℕ) → slice_get packets p ≡ Some packet → length packet ≤ most_packet carry
+
+-- The packets can be sent under the new carry, and what was sent is a delivery of them: all datagrams of exactly those that the
+-- delivery under the old one calls for, in order.
+pub record AreDeliveredOn (old new : Carry) (sequence0 : ℕ) (packets : List (List ℕ)) (rules : Rules) (base : ℤ) (pairs : List (ℕ × ℕ)) (sent : List (List ℕ)) : Type 0 where
+  pub are_sent : AreSent new sequence0 packets
+  pub delivered : AreDelivered new sequence0 packets (flat_map (pairs_of new base) (items old packets rules.window base rules.frames pairs)) sent
+
+-- What becomes of a delivery is a delivery of the same packets under the new carry.
+abbrev pub PassesDeliveries : Type 0
+PassesDeliveries =
+    (old new : Carry) (sequence0 : ℕ) (packets : List (List ℕ)) (rules : Rules) (base : ℤ) (pairs : List (ℕ × ℕ)) (datagrams : List (List ℕ)) (fates : List Fate)
+    → 1 ≤ rules.window → CarryFits new → AreWithin new packets → IsHeard old sequence0 packets rules.first base pairs datagrams
+    → IsOnward rules new datagrams fates → AreDeliveredOn old new sequence0 packets rules base pairs (sent_of fates)
+
+-- ---- schedules
+
+-- all datagrams of frame t, where it is given
+abbrev pub pairs_where : Bool → Plan → Carry → ℕ → List (ℕ × ℕ)
+pairs_where true plan carry t = pairs_at t (datagram_count carry (packet_size plan t))
+pairs_where false plan carry t = []
+
+abbrev pub pairs_by : Plan → Carry → Option ℕ → (ℕ → Bool) → List (ℕ × ℕ)
+pairs_by plan carry None kept = []
+pairs_by plan carry (Some t) kept = pairs_where (is_recoverable (shape_at plan t) kept) plan carry t
+
+-- all datagrams under this carry of exactly the frames that are given of a delivery, in order
+abbrev pub pairs_given : Plan → Carry → ℕ → ℤ → Option ℕ → List (ℕ × ℕ) → List (ℕ × ℕ)
+pairs_given plan carry window base told pairs =
+    flat_map (λ q. pairs_by plan carry (frame_of_number plan base q) (got window base pairs q)) (range_with_len 0 (end_of told (newest_of base None pairs)))
+
+-- What becomes of a delivery of a schedule, with any strays in it, behind a gateway under whose carry the schedule is one, too.
+pub record IsPassedOn (plan : Plan) (carry : Carry) (rules : Rules) (base : ℤ) (arrivals : List Arrival) (datagrams : List (List ℕ)) (fates : List Fate) : Type 0 where
+  pub schedule : IsSchedule plan
+  pub other : IsSchedule (under carry plan)
+  pub some : 1 ≤ rules.window
+  pub followed : IsFollowed plan rules.first base arrivals datagrams
+  pub onward : IsOnward rules carry datagrams fates
+
+-- It is a delivery of the schedule under that carry.
+abbrev pub PassesSchedules : Type 0
+PassesSchedules =
+    (plan : Plan) (carry : Carry) (rules : Rules) (base : ℤ) (arrivals : List Arrival) (datagrams : List (List ℕ)) (fates : List Fate)
+    → IsPassedOn plan carry rules base arrivals datagrams fates
+    → schedules.AreSent (under carry plan) (pairs_given plan carry rules.window base rules.frames (pairs_in arrivals)) (sent_of fates)
+
+-- ---- behind a gateway
+
+-- it is among these, or can't be read
+abbrev pub IsAmong : List (List ℕ) → List ℕ → Type 0
+IsAmong sent datagram = ((k : ℕ) × (slice_get sent k ≡ Some datagram)) ⊎ ((cause : Field) × IsRead (Unread cause) datagram)
+
+-- Whatever of what was sent comes, in whatever order, and with whatever strays, is a delivery of the schedule again.
+abbrev pub ComesAgain : Type 0
+ComesAgain =
+    (plan : Plan) (carry : Carry) (rules : Rules) (base : ℤ) (arrivals : List Arrival) (datagrams : List (List ℕ)) (fates : List Fate)
+    → IsPassedOn plan carry rules base arrivals datagrams fates
+    → (later : List (List ℕ)) → AllByRecursion (IsAmong (sent_of fates)) later → (again : List Arrival) × AllZip (IsArrival (under carry plan)) again later
+
+-- they have a base, and are within the span from it
+abbrev pub HaveBase : Plan → Option ℕ → ℤ → List Arrival → Type 0
+HaveBase plan first base arrivals = IsBase plan.seq first (pairs_in arrivals) base × IsWithinSpan base None (pairs_in arrivals)
+
+-- Each frame among them is the server's, and its line is that of the schedule's frame.
+abbrev pub AreServed : Plan → ℤ → List FeedStep → Type 0
+AreServed plan base steps =
+    (q : ℕ) (step : FeedStep) → slice_get steps q ≡ Some step → IsAFrame step.item
+    → (t : ℕ) × ((base +ℤ pos q) ≡ pos t) × IsServed plan t q step.item × IsFrameLine plan t q (item_line step.item)
+
+-- What a receiver gives that follows a delivery of what was sent.
+abbrev pub GivesServed : Plan → List (List ℕ) → List Arrival → Type 0
+GivesServed plan later again =
+    (window : ℕ) (first told : Option ℕ) (base : ℤ) (answers : List Taken) (collected : List Item) (steps : List FeedStep) (after : TrackerState)
+    → 1 ≤ window → HaveBase plan first base again → Run window first told later answers collected → Feeds new_tracker collected steps after → AreServed plan base steps
+
+-- Over two gateways: what comes of what the first one sends is a delivery of the schedule; where the second one follows that, so is
+-- what comes of what it sends; and where a receiver follows that, each frame that it gives is the server's.
+abbrev pub ServedBehindTwo : Type 0
+ServedBehindTwo =
+    (plan : Plan) (one other : Carry) (rules rules' : Rules) (base : ℤ) (arrivals : List Arrival) (datagrams datagrams' : List (List ℕ)) (fates fates' : List Fate)
+    → IsPassedOn plan one rules base arrivals datagrams fates → IsSchedule (under other plan) → 1 ≤ rules'.window
+    → AllByRecursion (IsAmong (sent_of fates)) datagrams' → IsOnward rules' other datagrams' fates'
+    → (arrivals' : List Arrival) × AllZip (IsArrival (under one plan)) arrivals' datagrams'
+    × ((base' : ℤ) (later : List (List ℕ)) → HaveBase plan rules'.first base' arrivals' → AllByRecursion (IsAmong (sent_of fates')) later
+    → (again : List Arrival) × AllZip (IsArrival (under other plan)) again later × GivesServed plan later again)

@@ -1,0 +1,42 @@
+//! The laws of a gateway, each on a function that does nothing.
+
+ghost use Rattle.gate_laws.specs.Laws.{PassesDeliveries, PassesSchedules, ComesAgain, ServedBehindTwo};
+
+use collect_laws::{collecting, giving_ends, one_reading, one_run};
+use frame_lines::served_frames_are_printed;
+use mod_delivery::modulators_give;
+
+/// What becomes of a delivery of packets is a delivery of them under the new carry: all datagrams of exactly those that are given.
+pub fn deliveries_are_passed_on()
+    ensures { PassesDeliveries }
+{
+    collecting();
+    one_reading();
+}
+
+/// What becomes of a delivery of a schedule is a delivery of it under the new carry: all datagrams of exactly the frames that are
+/// given.
+pub fn schedules_are_passed_on()
+    ensures { PassesSchedules }
+{
+    collecting();
+    giving_ends();
+    one_reading();
+    one_run();
+}
+
+/// Whatever of that comes over the next link, and with whatever strays, is a delivery of the schedule again.
+pub fn what_is_passed_on_comes_again()
+    ensures { ComesAgain }
+{
+    schedules_are_passed_on();
+}
+
+/// A frame that a receiver behind two gateways gives is the server's, and is printed as that.
+pub fn frames_behind_two_gateways_are_served()
+    ensures { ServedBehindTwo }
+{
+    schedules_are_passed_on();
+    modulators_give();
+    served_frames_are_printed();
+}
