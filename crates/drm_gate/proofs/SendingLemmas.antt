@@ -1,5 +1,5 @@
 -- The datagrams of a packet, one after another.
-use Rattle.std.proofs.Common.{◌≡◌, ◌≤◌, ℕ, false, Result, Ok, Err, List, [], ◌∷◌, ◌++◌, length, Option, None, Some, replicate, sym, subst, ◌∙◌, arith}
+use Rattle.std.proofs.Common.{◌≡◌, ◌≤◌, ℕ, false, Result, Ok, Err, List, ◌++◌, length, Option, None, Some, replicate, sym, subst, ◌∙◌, arith}
 use Rattle.std.specs.Prelude.{slice_index_or, IfOk, OnErr}
 use Rattle.std.proofs.lemmas.Bool.Decides.{nat_tests}
 use Rattle.drm_links.specs.Told.{Known, Tells}

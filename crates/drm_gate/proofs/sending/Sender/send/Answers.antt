@@ -1,6 +1,5 @@
 use Rattle.std.proofs.Common.{◌≡◌, sym, subst, length, false}
 use Rattle.dcp_pft.specs.declared.carry.Carry.{Carry}
-use Rattle.dcp_pft.proofs.Carried.{limit_is}
 use Rattle.drm_gate.specs.Sending.{is_large}
 use Rattle.drm_gate.proofs.SendingLemmas.{small_enough, all_of, some_of, never_rests}
 use Rattle.drm_gate.proofs.sending.Sender.send.Goals as goal
