@@ -1,0 +1,191 @@
+-- How a run ends.
+use Rattle.std.proofs.Common.{ℕ, ◌≡◌, inl, inr, Bool, List, ◌++◌, refl, sym, ap, subst, ◌∙◌, append_assoc}
+use Rattle.std.specs.Prelude.{◌↔◌, Option, Result, Ok, Err}
+use Rattle.drm_links.specs.Told.{Known, HasCause}
+use Rattle.drm_links.specs.Source.{Input, Inputs}
+use Rattle.drm_links.specs.Sink.{Output, IsFront}
+use Rattle.drm_links.proofs.ToldLemmas.{Inputs-nothing, Inputs-weaker, Outputs-then}
+use Rattle.drm_links.proofs.WritingLemmas.{Writes-done, Writes-front}
+use Rattle.drm_capture.specs.declared.fault.CaptureFault.{CaptureFault}
+use Rattle.drm_capture.specs.Capture as capture
+use Rattle.drm_capture.specs.Laws.{ReadOneWay}
+use Rattle.capture_laws.specs.Laws.{PacketsInFront}
+use Rattle.dcp_collect.specs.State.{State, made}
+use Rattle.mod_feed.specs.Items.{Item}
+use Rattle.drm_faults.specs.Captures as captures
+use Rattle.drm_faults.specs.Fault.{UnlessMemory}
+use Rattle.drm_faults.specs.declared.fault.Fault.{Fault}
+use Rattle.drm_faults.specs.declared.fault.Fault.TheVariants as faults
+use Rattle.capture_items.specs.Reading.{Terms, BreaksOffBy}
+use Rattle.capture_items.proofs.BreakingOff.{all_unbroken, BreaksBy, until_breaks}
+use Rattle.capture_data.specs.declared.taker.Taker.{Taker}
+use Rattle.capture_data.specs.Streams.{What}
+use Rattle.capture_data.specs.Lines.{is_clean}
+use Rattle.capture_data.specs.Printed.{IsWholeText}
+use Rattle.capture_data.specs.Run.{WritesAll, WritesFront, Ends, EndsByIt, IsDone, DataRun}
+use Rattle.capture_data.specs.Taken.{counts_in, Took, TakesAll, EndsText}
+
+-- ---- the end of what is printed
+
+pub terms_as : (c : State) (window : ℕ) (first told : Option ℕ) → c ≡ made window first → (let terms : Terms = record { window = c.window; first = c.first; told = told } in terms ≡ record { window = window; first = first; told = told })
+terms_as c window first told is = ap (λ (s : State). record { window = s.window; first = s.first; told = told }) is
+
+pub whole_written : {E : Type 0} (terms : Terms) (what : What) (taker ended : Taker) (before after : Known Input) (a b o : Known Output) (result : Result (Unit {0}) E) (done all : Unit {0}) (clean : Bool)
+    → TakesAll terms what (Ok all) taker before after a b
+    → ((what : What) (items : List Item) (text : List ℕ) → Took what items text taker → EndsText what items text result ended b o)
+    → result ≡ Ok done → clean ≡ is_clean (counts_in ended) → WritesAll terms what clean before after a o
+whole_written terms what taker ended before after a b o result done all clean (given, gives, items, are, text, took, out) ends is clean_is =
+    let e = ends what items text took in (
+      given,
+      gives,
+      items,
+      are,
+      text ++ e.rest,
+      subst (λ (v : Bool). IsWholeText what items (text ++ e.rest) v) (sym clean_is) e.whole,
+      Outputs-then (λ l. l ≡ text) (λ l. l ≡ e.rest) (λ l. l ≡ text ++ e.rest) a b o out (Writes-done is e.writes) (λ x y p q. ap (λ l. l ++ y) p ∙ ap (λ l. text ++ l) q),
+    )
+
+pub whole_broken : {E : Type 0} (terms : Terms) (what : What) (taker ended : Taker) (before after : Known Input) (a b o : Known Output) (result : Result (Unit {0}) E) (fault : E) (all : Unit {0})
+    → TakesAll terms what (Ok all) taker before after a b
+    → ((what : What) (items : List Item) (text : List ℕ) → Took what items text taker → EndsText what items text result ended b o)
+    → result ≡ Err fault → WritesFront terms what before after a o
+whole_broken terms what taker ended before after a b o result fault all (given, gives, items, are, text, took, out) ends is =
+    let e = ends what items text took in
+    inr (
+      given,
+      gives,
+      items,
+      are,
+      text ++ e.rest,
+      is_clean (counts_in ended),
+      e.whole,
+      Outputs-then (λ l. l ≡ text) (IsFront e.rest) (IsFront (text ++ e.rest)) a b o out (Writes-front is e.writes)
+          (λ x y p (rest, q). (rest, ap (λ l. l ++ e.rest) (sym p) ∙ (ap (λ l. x ++ l) q ∙ sym (append_assoc x y rest)))),
+    )
+
+-- ---- when it ends early
+
+by_end : (clean : Bool) (why : capture.Ending) → EndsByIt (Ok clean) why → ⊥
+by_end clean capture.End is = is
+by_end clean (capture.Fault fault) is = let clash : Ok clean ≡ Err (faults.Capture fault) = is in cc
+by_end clean capture.TooLong is = let clash : Ok clean ≡ Err faults.CaptureTooLong = is in cc
+
+fault_ends : (fault : CaptureFault) (why : capture.Ending) → EndsByIt (Err (faults.Capture fault)) why → capture.Fault fault ≡ why
+fault_ends fault capture.End is = absurd is
+fault_ends fault (capture.Fault other) is = let same : fault ≡ other = cc in ap capture.Fault same
+fault_ends fault capture.TooLong is = absurd (cc)
+
+length_ends : (why : capture.Ending) → EndsByIt (Err faults.CaptureTooLong) why → capture.TooLong ≡ why
+length_ends capture.End is = absurd is
+length_ends (capture.Fault other) is = absurd (cc)
+length_ends capture.TooLong is = refl
+
+-- which faults end it
+fault_can : (terms : Terms) (what : What) (fault : Fault) (before after : Known Input) (a b : Known Output) → Ends terms what (Err fault) before after a b → captures.EndsEarly fault
+fault_can terms what faults.NoMemory before after a b ends = tt
+fault_can terms what (faults.Capture fault) before after a b ends = tt
+fault_can terms what faults.CaptureTooLong before after a b ends = tt
+fault_can terms what faults.Read before after a b ends = tt
+fault_can terms what faults.Write before after a b ends = tt
+fault_can terms what (faults.PacketSize number) before after a b ends = ends
+fault_can terms what (faults.Units fault) before after a b ends = ends
+fault_can terms what faults.Words before after a b ends = ends
+fault_can terms what (faults.FacLength n) before after a b ends = ends
+fault_can terms what faults.FacOver before after a b ends = ends
+fault_can terms what (faults.FacCrc stands computed) before after a b ends = ends
+fault_can terms what (faults.Schedule line reason) before after a b ends = ends
+fault_can terms what (faults.Script line reason) before after a b ends = ends
+fault_can terms what faults.Link before after a b ends = ends
+
+module _ (one_way : ReadOneWay) (in_front : PacketsInFront) (terms : Terms) (what : What) (before after : Known Input) (a b : Known Output) where
+  abbrev Exact : Result Bool Fault → List ℕ → List ℕ → Type 0
+  Exact ending left rest = UnlessMemory ending ((why : capture.Ending) → EndsByIt ending why ↔ BreaksOffBy terms left why)
+
+  exact_at : (ending : Result Bool Fault) (why : capture.Ending) → EndsByIt ending why → ((other : capture.Ending) → EndsByIt ending other → why ≡ other)
+      → Inputs before after (λ left _. BreaksBy terms left why) → Inputs before after (Exact ending)
+  exact_at ending why by one breaks =
+      Inputs-weaker (λ left _. BreaksBy terms left why) (Exact ending) before after breaks
+      (λ left rest is. inr (λ other. ((λ told. subst (BreaksOffBy terms left) (one other told) is.breaks), (λ broken. subst (EndsByIt ending) (is.only other broken) by))))
+
+  exact : (ending : Result Bool Fault) → Ends terms what ending before after a b → (ending ≡ Err faults.Read → ⊥) → (ending ≡ Err faults.Write → ⊥) → Inputs before after (Exact ending)
+  exact (Ok clean) (given, gives, items, are, text, printed, out) no_read no_write =
+      Inputs-weaker (λ left _. (why : capture.Ending) → BreaksOffBy terms left why → ⊥) (Exact (Ok clean)) before after (all_unbroken one_way in_front terms given before after gives)
+      (λ left more unbroken. inr (λ why. ((λ told. absurd (by_end clean why told)), (λ broken. absurd (unbroken why broken)))))
+  exact (Err faults.NoMemory) (same, out) no_read no_write =
+      subst (λ k. Inputs before k (Exact (Err faults.NoMemory))) (sym same) (Inputs-nothing (Exact (Err faults.NoMemory)) before (λ left. inl refl))
+  exact (Err (faults.Capture fault)) (given, gives, items, are, text, printed, out) no_read no_write =
+      exact_at (Err (faults.Capture fault)) (capture.Fault fault) refl (fault_ends fault)
+      (until_breaks one_way terms _ given before after (capture.Fault fault) gives (λ e. let clash : capture.Fault fault ≡ capture.End = e in cc) gives.stops)
+  exact (Err faults.CaptureTooLong) (given, gives, items, are, text, printed, out) no_read no_write =
+      exact_at (Err faults.CaptureTooLong) capture.TooLong refl length_ends
+      (until_breaks one_way terms _ given before after capture.TooLong gives (λ e. let clash : capture.TooLong ≡ capture.End = e in cc) gives.stops)
+  exact (Err faults.Read) ends no_read no_write = absurd (no_read refl)
+  exact (Err faults.Write) ends no_read no_write = absurd (no_write refl)
+  exact (Err (faults.PacketSize number)) ends no_read no_write = absurd ends
+  exact (Err (faults.Units fault)) ends no_read no_write = absurd ends
+  exact (Err faults.Words) ends no_read no_write = absurd ends
+  exact (Err (faults.FacLength n)) ends no_read no_write = absurd ends
+  exact (Err faults.FacOver) ends no_read no_write = absurd ends
+  exact (Err (faults.FacCrc stands computed)) ends no_read no_write = absurd ends
+  exact (Err (faults.Schedule line reason)) ends no_read no_write = absurd ends
+  exact (Err (faults.Script line reason)) ends no_read no_write = absurd ends
+  exact (Err faults.Link) ends no_read no_write = absurd ends
+
+  can_end : (ending : Result Bool Fault) → Ends terms what ending before after a b → (fault : Fault) → ending ≡ Err fault → captures.EndsEarly fault
+  can_end ending ends fault is = fault_can terms what fault before after a b (subst (λ e. Ends terms what e before after a b) is ends)
+
+  -- nothing is lost
+  done_by : (left rest : List ℕ) (ending : Result Bool Fault) → Ends terms what ending before after a b → (ending ≡ Err faults.Read → ⊥) → (ending ≡ Err faults.Write → ⊥)
+      → Exact ending left rest → ((why : capture.Ending) → BreaksOffBy terms left why → ⊥) → UnlessMemory ending (IsDone terms what ending before after a b)
+  done_by left rest (Ok clean) ends no_read no_write exactly unbroken = inr (clean, refl, ends)
+  done_by left rest (Err fault) ends no_read no_write (inl memory) unbroken = inl memory
+  done_by left rest (Err fault) ends no_read no_write (inr exactly) unbroken = by fault refl
+    where
+      by : (other : Fault) → fault ≡ other → UnlessMemory {T = Bool} (Err fault) (IsDone terms what (Err fault) before after a b)
+      by faults.NoMemory is = inl (ap Err is)
+      by (faults.Capture f) is = absurd (unbroken (capture.Fault f) ((exactly (capture.Fault f)).0 (ap Err is)))
+      by faults.CaptureTooLong is = absurd (unbroken capture.TooLong ((exactly capture.TooLong).0 (ap Err is)))
+      by faults.Read is = absurd (no_read (ap Err is))
+      by faults.Write is = absurd (no_write (ap Err is))
+      by (faults.PacketSize number) is = absurd (can_end (Err fault) ends (faults.PacketSize number) (ap Err is))
+      by (faults.Units f) is = absurd (can_end (Err fault) ends (faults.Units f) (ap Err is))
+      by faults.Words is = absurd (can_end (Err fault) ends faults.Words (ap Err is))
+      by (faults.FacLength n) is = absurd (can_end (Err fault) ends (faults.FacLength n) (ap Err is))
+      by faults.FacOver is = absurd (can_end (Err fault) ends faults.FacOver (ap Err is))
+      by (faults.FacCrc stands computed) is = absurd (can_end (Err fault) ends (faults.FacCrc stands computed) (ap Err is))
+      by (faults.Schedule line reason) is = absurd (can_end (Err fault) ends (faults.Schedule line reason) (ap Err is))
+      by (faults.Script line reason) is = absurd (can_end (Err fault) ends (faults.Script line reason) (ap Err is))
+      by faults.Link is = absurd (can_end (Err fault) ends faults.Link (ap Err is))
+
+pub data_run : {I O : Type 0} → ReadOneWay → PacketsInFront → (terms : Terms) (what : What) (ending : Result Bool Fault) (input_known : I → Known Input) (input input' : I) (out_known : O → Known Output) (out out' : O)
+    → Ends terms what ending (input_known input) (input_known input') (out_known out) (out_known out')
+    → (ending ≡ Err faults.NoMemory → (input' ≡ input) × (out' ≡ out))
+    → HasCause (input_known input) (input_known input') (ending ≡ Err faults.Read)
+    → HasCause (out_known out) (out_known out') (ending ≡ Err faults.Write)
+    → DataRun terms what ending input_known input input' out_known out out'
+data_run {I} {O} one_way in_front terms what ending input_known input input' out_known out out' ends untouched read_cause write_cause = record {
+  kind = can_end one_way in_front terms what before after a b ending ends;
+  ends = ends;
+  untouched = untouched;
+  exactly = exact one_way in_front terms what before after a b ending ends;
+  complete = λ reads goes.
+      let no_read : ending ≡ Err faults.Read → ⊥ = λ is. reads (read_cause.rose is) in
+      let no_write : ending ≡ Err faults.Write → ⊥ = λ is. goes (write_cause.rose is) in
+      Inputs-weaker (Exact one_way in_front terms what before after a b ending) (λ left _. ((why : capture.Ending) → BreaksOffBy terms left why → ⊥) → UnlessMemory ending (IsDone terms what ending before after a b))
+      before after (exact one_way in_front terms what before after a b ending ends no_read no_write)
+      (λ left rest exactly unbroken. done_by one_way in_front terms what before after a b left rest ending ends no_read no_write exactly unbroken);
+  read_cause = read_cause;
+  write_cause = write_cause;
+}
+  where
+    before : Known Input
+    before = input_known input
+
+    after : Known Input
+    after = input_known input'
+
+    a : Known Output
+    a = out_known out
+
+    b : Known Output
+    b = out_known out'

@@ -1,0 +1,6 @@
+pub mod Joining
+pub mod Items
+pub mod Pieces
+pub mod TakerLemmas
+pub mod Loop
+pub mod Endings

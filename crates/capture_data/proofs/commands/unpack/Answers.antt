@@ -1,0 +1,14 @@
+use Rattle.capture_items.specs.Reading.{Terms}
+use Rattle.capture_data.specs.Streams.{UnitsOf}
+use Rattle.capture_data.proofs.TakerLemmas.{no_units}
+use Rattle.capture_data.proofs.Endings.{data_run}
+use Rattle.capture_data.proofs.commands.unpack.Goals as goal
+
+pub returns : goal.returns
+returns g c =
+    let terms : Terms = record { window = c.args.window; first = c.args.first; told = c.args.frames } in
+    record {
+      run = data_run c.read_one_way.ensures c.packets_in_front.ensures terms (UnitsOf c.args.stream c.args.id c.args.length) c.take_capture.result
+          g.I.Source.known c.args.input.now c.take_capture.new.input g.O.Sink.known c.args.out.now c.take_capture.new.out
+          (c.take_capture.ensures.ends (UnitsOf c.args.stream c.args.id c.args.length) (no_units c.args.stream c.args.id c.args.length c.in_ok-joiner.joiner c.no_counts.result c.in_ok-joiner.ensures c.no_counts.ensures)) c.take_capture.ensures.memory c.take_capture.ensures.read c.take_capture.ensures.write;
+    }

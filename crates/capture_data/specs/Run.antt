@@ -1,0 +1,79 @@
+-- A run of `unpack` or of `texts`.
+use Rattle.std.specs.Prelude.{ℕ, ◌≡◌, ◌⊎◌, ◌↔◌, Bool, List, [], ◌∷◌, ◌++◌, Result, Ok, Err}
+use Rattle.dcp_collect.specs.Runs.{Item as Given}
+use Rattle.mod_feed.specs.Items.{Item}
+use Rattle.drm_links.specs.Told.{Known, HasFailed, HasCause}
+use Rattle.drm_links.specs.Source.{Input, Inputs}
+use Rattle.drm_links.specs.Sink.{Output, Outputs, IsFront}
+use Rattle.drm_capture.specs.Capture as capture
+use Rattle.drm_capture.specs.declared.packets.CaptureStop.{CaptureStop}
+use Rattle.drm_capture.specs.declared.packets.CaptureStop.TheVariants as stops
+use Rattle.drm_faults.specs.Captures as captures
+use Rattle.drm_faults.specs.Fault.{UnlessMemory}
+use Rattle.drm_faults.specs.declared.fault.Fault.{Fault}
+use Rattle.drm_faults.specs.declared.fault.Fault.TheVariants as faults
+use Rattle.capture_items.specs.Reading.{Terms, BreaksOffBy}
+use Rattle.capture_items.specs.Given.{GivesAll, GivesUntil, GivesTo}
+use Rattle.capture_data.specs.Streams.{What}
+use Rattle.capture_data.specs.Printed.{AreItems, IsPrinted, IsWholeText}
+
+-- All that is printed of the items that are given of the input is written.
+abbrev pub WritesAll : Terms → What → Bool → Known Input → Known Input → Known Output → Known Output → Type 0
+WritesAll terms what clean before after out out' =
+    (given : List Given) × GivesAll terms given before after × (items : List Item) × AreItems given items
+    × (whole : List ℕ) × IsWholeText what items whole clean × Outputs out out' (λ text. text ≡ whole)
+
+-- No more can be read for this reason: what is printed of the items that were given is written, without what only an end adds.
+abbrev pub WritesUntil : Terms → What → CaptureStop → Known Input → Known Input → Known Output → Known Output → Type 0
+WritesUntil terms what stop before after out out' =
+    (given : List Given) × GivesUntil terms stop given before after × (items : List Item) × AreItems given items
+    × (printed : List ℕ) × IsPrinted what items printed × Outputs out out' (λ text. text ≡ printed)
+
+-- A write failed: a front of what is printed is written, at an item or at the end.
+abbrev pub WritesFront : Terms → What → Known Input → Known Input → Known Output → Known Output → Type 0
+WritesFront terms what before after out out' =
+    ((given : List Given) × (last : Given) × GivesTo terms given last before after × (items : List Item) × AreItems (given ++ last ∷ []) items
+    × (printed : List ℕ) × IsPrinted what items printed × Outputs out out' (IsFront printed))
+    ⊎ ((given : List Given) × GivesAll terms given before after × (items : List Item) × AreItems given items
+    × (whole : List ℕ) × (clean : Bool) × IsWholeText what items whole clean × Outputs out out' (IsFront whole))
+
+-- What is read and written; where memory is wanting, nothing.
+abbrev pub Ends : Terms → What → Result Bool Fault → Known Input → Known Input → Known Output → Known Output → Type 0
+Ends terms what (Ok clean) before after out out' = WritesAll terms what clean before after out out'
+Ends terms what (Err faults.Write) before after out out' = WritesFront terms what before after out out'
+Ends terms what (Err faults.Read) before after out out' = WritesUntil terms what stops.Read before after out out'
+Ends terms what (Err (faults.Capture fault)) before after out out' = WritesUntil terms what (stops.Capture fault) before after out out'
+Ends terms what (Err faults.CaptureTooLong) before after out out' = WritesUntil terms what stops.TooLong before after out out'
+Ends terms what (Err faults.NoMemory) before after out out' = (after ≡ before) × (out' ≡ out)
+Ends terms what (Err fault) before after out out' = ⊥
+
+-- the run ends by what is wrong behind the packets
+abbrev pub EndsByIt : Result Bool Fault → capture.Ending → Type 0
+EndsByIt ending capture.End = ⊥
+EndsByIt ending (capture.Fault fault) = ending ≡ Err (faults.Capture fault)
+EndsByIt ending capture.TooLong = ending ≡ Err faults.CaptureTooLong
+
+-- The run is done, and all is written.
+abbrev pub IsDone : Terms → What → Result Bool Fault → Known Input → Known Input → Known Output → Known Output → Type 0
+IsDone terms what ending before after out out' = (clean : Bool) × (ending ≡ Ok clean) × WritesAll terms what clean before after out out'
+
+-- A run that takes this out of a capture.
+pub record DataRun {I O : Type 0} (terms : Terms) (what : What) (ending : Result Bool Fault)
+    (input_known : I → Known Input) (input input' : I)
+    (out_known : O → Known Output) (out out' : O) : Type 0 where
+  -- It ends well, or for want of memory, by a fault of the capture, by a failed read or by a failed write.
+  pub kind : (fault : Fault) → ending ≡ Err fault → captures.EndsEarly fault
+  pub ends : Ends terms what ending (input_known input) (input_known input') (out_known out) (out_known out')
+  -- After want of memory nothing was read or written.
+  pub untouched : ending ≡ Err faults.NoMemory → (input' ≡ input) × (out' ≡ out)
+  -- It ends by a fault of the capture exactly where the reading breaks off by it, unless a read or a write failed before.
+  pub exactly : (ending ≡ Err faults.Read → ⊥) → (ending ≡ Err faults.Write → ⊥)
+      → Inputs (input_known input) (input_known input') (λ left _.
+      UnlessMemory ending ((why : capture.Ending) → EndsByIt ending why ↔ BreaksOffBy terms left why))
+  -- Where no read and no write failed, and the reading doesn't break off, all is written.
+  pub complete : (HasFailed (input_known input) (input_known input') → ⊥) → (HasFailed (out_known out) (out_known out') → ⊥)
+      → Inputs (input_known input) (input_known input') (λ left _. ((why : capture.Ending) → BreaksOffBy terms left why → ⊥)
+      → UnlessMemory ending (IsDone terms what ending (input_known input) (input_known input') (out_known out) (out_known out')))
+  -- The counts of faults never fall. A read or a write failed only where that of input or of out rose.
+  pub read_cause : HasCause (input_known input) (input_known input') (ending ≡ Err faults.Read)
+  pub write_cause : HasCause (out_known out) (out_known out') (ending ≡ Err faults.Write)

@@ -1,0 +1,90 @@
+//! The items of a capture, read and taken.
+
+ghost use Rattle.std.specs.Prelude.{◌≡◌, ◌≤◌, ◌*◌, ◌^◌, [], Err, Ok, IfSome, IfOk, OnOk};
+ghost use Rattle.dcp_collect.specs.State.{made};
+ghost use Rattle.drm_switches.specs.Tracker.{new_tracker};
+ghost use Rattle.drm_links.specs.Told.{HasCause};
+ghost use Rattle.drm_capture.specs.Walking.{new_walker};
+ghost use Rattle.capture_items.specs.Reading.{Terms};
+ghost use Rattle.capture_data.specs.Streams.{What};
+ghost use Rattle.capture_data.specs.Taken.{AreBelow, counts_in, IsReady, Took, TakesAll};
+ghost use Rattle.capture_data.specs.Run.{Ends};
+
+use crate::taker::Taker;
+use capture_items::{is_full, read_on};
+use dcp_collect::Collector;
+use drm_capture::Packets;
+use drm_faults::Fault;
+use drm_links::{Sink, Source};
+use mod_feed::Feed;
+use std::alloc::Global;
+
+/// Reads a capture, hands each item to the taker as soon as it is ready, and writes what is printed of them. Answers whether
+/// nothing is cut, bad or missing. All memory that the reading wants is taken first.
+pub(crate) fn take_capture<I: Source, O: Sink>(
+    alloc: Global,
+    window: u8,
+    first: Option<u16>,
+    told: Option<u64>,
+    taker: &mut Taker,
+    input: &mut I,
+    out: &mut O,
+) -> Result<bool, Fault>
+    requires window { (1 ≤ window) × (window ≤ 64) }
+    requires told { IfSome told (λ n. (1 ≤ n) × (n ≤ 3000000)) }
+    requires ready { IsReady taker.old }
+    requires none { AreBelow (counts_in taker.old) 0 }
+    ensures ends { (what : What) → Took what [] [] taker.old
+        → Ends (record { window = window; first = first; told = told }) what result
+        (I.known input.old) (I.known input.new) (O.known out.old) (O.known out.new) }
+    ensures memory { result ≡ Err Fault.NoMemory → (input.new ≡ input.old) × (out.new ≡ out.old) }
+    ensures read { HasCause (I.known input.old) (I.known input.new) (result ≡ Err Fault.Read) }
+    ensures write { HasCause (O.known out.old) (O.known out.new) (result ≡ Err Fault.Write) }
+{
+    let mut collector = Collector::make(alloc, window, first)?;
+    let mut packets = Packets::make(alloc)?;
+    take_items(&mut collector, &mut packets, told, taker, input, out)?;
+    taker.end(out)?;
+    Ok(taker.is_clean())
+}
+
+// Gives the items one after another to the taker, up to the told number. A packet is read where none is ready.
+fn take_items<I: Source, O: Sink>(
+    collector: &mut Collector,
+    packets: &mut Packets,
+    told: Option<u64>,
+    taker: &mut Taker,
+    input: &mut I,
+    out: &mut O,
+) -> Result<(), Fault>
+    requires window { (1 ≤ collector.old.window) × (collector.old.window ≤ 64) }
+    requires collector { collector.old ≡ made collector.old.window collector.old.first }
+    requires packets { packets.old ≡ new_walker }
+    requires some { IfSome told (λ n. 1 ≤ n) }
+    requires few { IfSome told (λ n. n ≤ 3000000) }
+    requires ready { IsReady taker.old }
+    requires none { AreBelow (counts_in taker.old) 0 }
+    ensures takes { (what : What) → Took what [] [] taker.old
+        → TakesAll (record { window = collector.old.window; first = collector.old.first; told = told }) what result taker.new
+        (I.known input.old) (I.known input.new) (O.known out.old) (O.known out.new) }
+    ensures room { OnOk result (AreBelow (counts_in taker.new) (2 ^ 126)) }
+    ensures read { HasCause (I.known input.old) (I.known input.new) (result ≡ Err Fault.Read) }
+    ensures write { HasCause (O.known out.old) (O.known out.new) (result ≡ Err Fault.Write) }
+    ensures memory { result ≡ Err Fault.NoMemory → ⊥ }
+{
+    let mut feed = Feed::new();
+    let mut given = 0;
+    let mut ended = false;
+    'items: while !is_full(given, told) {
+        let Some(next) = collector.next() else {
+            if ended {
+                return Ok(());
+            }
+            ended = !read_on(collector, packets, told, input)?;
+            continue;
+        };
+        given += 1;
+        taker.take(&feed.step(next).item, out)?;
+    }
+    Ok(())
+}

@@ -1,0 +1,27 @@
+//! An input, read whole.
+
+ghost use Rattle.std.specs.Prelude.{◌≡◌, ◌≤◌, IfOk, IfErr, OnErr, Err, length, take};
+ghost use Rattle.drm_links.specs.Told.{HasCause};
+ghost use Rattle.data_units.specs.Input.{ReadsFront, FailsBehind};
+
+use drm_faults::Fault;
+use drm_links::{ReadOut, Source};
+
+/// Reads an input into the front of the room, until it ends or the room is full. Answers how many bytes came.
+pub(crate) fn read_front<I: Source>(input: &mut I, room: &mut [u8]) -> Result<usize, Fault>
+    ensures read { IfOk result (λ len. (len ≤ length room.old)
+        × ReadsFront (length room.old) (take len room.new) (I.known input.old) (I.known input.new)) }
+    ensures failed { OnErr result (FailsBehind (length room.old) (I.known input.old) (I.known input.new)) }
+    ensures fault { IfErr result (λ fault. fault ≡ Fault.Read) }
+    ensures cause { HasCause (I.known input.old) (I.known input.new) (result ≡ Err Fault.Read) }
+{
+    let mut len = 0;
+    while len < room.len() {
+        match input.read(&mut room[len..]) {
+            ReadOut::Got(n) => len += n,
+            ReadOut::End => break,
+            ReadOut::Failed => return Err(Fault::Read),
+        }
+    }
+    Ok(len)
+}

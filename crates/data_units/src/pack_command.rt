@@ -1,0 +1,66 @@
+//! The command `pack`.
+
+ghost use Rattle.std.specs.Prelude.{◌≡◌, ◌<◌, ◌≤◌, Err};
+ghost use Rattle.drm_links.specs.Told.{HasCause};
+ghost use Rattle.data_units.specs.Pack.{Ends, PackRun, Judges};
+
+use crate::input::read_front;
+use crate::packing::write_packets;
+use crate::units::judge;
+use drm_bits::zeros;
+use drm_faults::{Fault, UnitsFault, UnitsReason};
+use drm_links::{Sink, Source};
+use std::alloc::Global;
+
+/// The most bytes of an input.
+const MOST_BYTES: usize = 16_777_216;
+
+/// Reads units from `input` to its end, each a length of four bytes and its bytes, and writes their packets, of this packet
+/// id and data length. Nothing is written before all of them are read.
+pub fn pack<I: Source, O: Sink>(
+    alloc: Global,
+    id: u8,
+    length: u8,
+    input: &mut I,
+    out: &mut O,
+) -> Result<(), Fault>
+    requires id { id < 4 }
+    requires length { 1 ≤ length }
+    ensures run { PackRun id length result I.known input.old input.new O.known out.old out.new }
+{
+    pack_whole(alloc, id, length, input, out)
+}
+
+fn pack_whole<I: Source, O: Sink>(
+    alloc: Global,
+    id: u8,
+    length: u8,
+    input: &mut I,
+    out: &mut O,
+) -> Result<(), Fault>
+    requires id { id < 4 }
+    requires length { 1 ≤ length }
+    ensures ends { Ends id length result (I.known input.old) (I.known input.new) O.known out.old out.new }
+    ensures memory { result ≡ Err Fault.NoMemory → (input.new ≡ input.old) × (out.new ≡ out.old) }
+    ensures read { HasCause (I.known input.old) (I.known input.new) (result ≡ Err Fault.Read) }
+    ensures write { HasCause (O.known out.old) (O.known out.new) (result ≡ Err Fault.Write) }
+{
+    let mut room = zeros(alloc, MOST_BYTES + 1)?;
+    let len = read_front(input, &mut room)?;
+    check(&room[..len])?;
+    write_packets(id, length, &room[..len], out)?;
+    Ok(())
+}
+
+// Whether the bytes are units. An input that is too long is refused before any of its units.
+fn check(bytes: &[u8]) -> Result<(), Fault>
+    ensures { Judges bytes.now result }
+{
+    if bytes.len() > MOST_BYTES {
+        return Err(Fault::Units(UnitsFault {
+            at: MOST_BYTES as u64,
+            reason: UnitsReason::TooLong,
+        }));
+    }
+    judge(bytes)
+}

@@ -1,0 +1,61 @@
+//! Units, written as packets.
+
+ghost use Rattle.std.specs.Prelude.{◌≡◌, ◌<◌, ◌≤◌, ℕ, List, [], OnOk};
+ghost use Rattle.drm_links.specs.Sink.{Writes};
+ghost use Rattle.drm_data.specs.Units.{unit_packets};
+ghost use Rattle.data_laws.specs.Losses.{IsUnit};
+ghost use Rattle.data_units.specs.Units.{AreUnits};
+ghost use Rattle.data_units.specs.Packed.{AreWritten, ArePacked, after_unit};
+
+use crate::units::{Front, front_of};
+use drm_data::Packer;
+use drm_links::{Sink, WriteFault, write_all};
+
+/// The most bytes of a packet.
+const MOST_PACKET: usize = 258;
+
+/// Writes the packets of the units that these bytes are.
+pub(crate) fn write_packets<O: Sink>(
+    id: u8,
+    length: u8,
+    bytes: &[u8],
+    out: &mut O,
+) -> Result<(), WriteFault>
+    requires id { id < 4 }
+    requires length { 1 ≤ length }
+    ensures { (units : List (List ℕ)) → AreUnits units [] bytes.now
+        → (text : List ℕ) × ArePacked id length units text
+        × Writes result (O.known out.old) (O.known out.new) text }
+{
+    let mut packer = Packer::new(id, length);
+    let mut rest = bytes;
+    'units: while let Front::Unit { unit, rest: behind } = front_of(rest) {
+        write_unit(&mut packer, length, unit, out)?;
+        rest = behind;
+    }
+    Ok(())
+}
+
+// Writes the packets of a unit.
+fn write_unit<O: Sink>(
+    packer: &mut Packer,
+    length: u8,
+    unit: &[u8],
+    out: &mut O,
+) -> Result<(), WriteFault>
+    requires length { length ≡ packer.old.length }
+    requires some { 1 ≤ length }
+    requires unit { IsUnit unit.now }
+    ensures writes { (text : List ℕ)
+        × AreWritten length (unit_packets packer.old.id length packer.old.continuity unit.now) text
+        × Writes result (O.known out.old) (O.known out.new) text }
+    ensures after { OnOk result (packer.new ≡ after_unit packer.old unit.now) }
+{
+    let mut room = [0; MOST_PACKET];
+    let count = unit.len().div_ceil(usize::from(length));
+    for k in 0..count {
+        let len = packer.unit_packet(unit, k, &mut room);
+        write_all(out, &room[..len])?;
+    }
+    Ok(())
+}
