@@ -17,6 +17,8 @@ use Rattle.drm_exercise.specs.Run.{ExerciseRun}
 use Rattle.drm_convert.specs.Run.{ConvertRun}
 use Rattle.gate_command.specs.Run.{GateCommandRun}
 use Rattle.data_units.specs.Pack.{PackRun}
+use Rattle.capture_data.specs.Streams.{UnitsOf, TextsOf}
+use Rattle.capture_data.specs.Run.{DataRun}
 use Rattle.drm_faults.specs.Fault.{done_of, whole_of, report_status, ReportsIf}
 use Rattle.drm_faults.specs.declared.fault.Fault.{Fault}
 use Rattle.drm_faults.specs.declared.fault.Fault.TheVariants.{NoMemory}
@@ -58,6 +60,12 @@ CommandRun (Gate from to carry rules) ending told shelf_known shelf shelf' input
     GateCommandRun rules carry from to ending dock_known dock dock' out_known out out' × (shelf' ≡ shelf) × (input' ≡ input) × IsQuiet told err err'
 CommandRun (Pack pid length) ending told shelf_known shelf shelf' input_known input input' out_known out out' err_known err err' dock_known dock dock' =
     Whole ending (λ done. PackRun pid length done input_known input input' out_known out out') × (shelf' ≡ shelf) × (dock' ≡ dock) × IsQuiet told err err'
+CommandRun (Unpack stream pid length window first frames) ending told shelf_known shelf shelf' input_known input input' out_known out out' err_known err err' dock_known dock dock' =
+    DataRun (record { window = window; first = first; told = frames }) (UnitsOf stream pid length) ending input_known input input' out_known out out'
+    × (shelf' ≡ shelf) × (dock' ≡ dock) × IsQuiet told err err'
+CommandRun (Texts stream window first frames) ending told shelf_known shelf shelf' input_known input input' out_known out out' err_known err err' dock_known dock dock' =
+    DataRun (record { window = window; first = first; told = frames }) (TextsOf stream) ending input_known input input' out_known out out'
+    × (shelf' ≡ shelf) × (dock' ≡ dock) × IsQuiet told err err'
 
 -- nothing of the outside was touched
 abbrev pub IsUntouched : {S I O D : Type 0} → S → S → I → I → O → O → D → D → Type 0

@@ -10,6 +10,7 @@ ghost use Rattle.drm_top.specs.Words.{AsksFor, AsksForNothing, IsInRange};
 ghost use Rattle.drm_top.specs.declared.words.Command.{Command};
 
 use crate::words::{Command, read_command, text};
+use capture_data::{texts, unpack};
 use data_units::pack;
 use drm_air::air;
 use drm_convert::convert;
@@ -197,6 +198,22 @@ where
             rules,
         } => gate(alloc, rules, *carry, *from, *to, dock, out),
         Command::Pack { pid, length } => whole(pack(alloc, *pid, *length, input, out)),
+        Command::Unpack {
+            stream,
+            pid,
+            length,
+            window,
+            first,
+            frames,
+        } => unpack(
+            alloc, *stream, *pid, *length, *window, *first, *frames, input, out,
+        ),
+        Command::Texts {
+            stream,
+            window,
+            first,
+            frames,
+        } => texts(alloc, *stream, *window, *first, *frames, input, out),
     }
 }
 

@@ -158,3 +158,33 @@ returns-in-Pack g c =
       unsent = λ e. dock_still (g.D.Dock.known c.args.dock.now);
       dock = λ none. refl;
     }
+
+pub returns-in-Unpack : goal.returns-in-Unpack
+returns-in-Unpack g c =
+    let run = c.unpack.ensures.run in
+    record {
+      words = λ e. run.kind faults.Words e;
+      memory = λ e. run.untouched e;
+      run = rw c.in-Unpack.is (run, refl, refl, (c.requires.told, refl));
+      read = λ e. inl (run.read_cause.rose e);
+      write = run.write_cause;
+      link = λ e. absurd (run.kind faults.Link e);
+      lacking = λ e. rw c.in-Unpack.is tt;
+      unsent = λ e. dock_still (g.D.Dock.known c.args.dock.now);
+      dock = λ none. refl;
+    }
+
+pub returns-in-Texts : goal.returns-in-Texts
+returns-in-Texts g c =
+    let run = c.texts.ensures.run in
+    record {
+      words = λ e. run.kind faults.Words e;
+      memory = λ e. run.untouched e;
+      run = rw c.in-Texts.is (run, refl, refl, (c.requires.told, refl));
+      read = λ e. inl (run.read_cause.rose e);
+      write = run.write_cause;
+      link = λ e. absurd (run.kind faults.Link e);
+      lacking = λ e. rw c.in-Texts.is tt;
+      unsent = λ e. dock_still (g.D.Dock.known c.args.dock.now);
+      dock = λ none. refl;
+    }
