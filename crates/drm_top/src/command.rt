@@ -32,9 +32,13 @@ use std::thread::Threads;
 /// `out` as a capture, or sends them over a link that it opens in `dock`. `receive` opens links in `dock`, or reads a capture
 /// from `input`, and writes their reports to `out`: that of one link or of a capture as it is read, those of several links,
 /// which are read side by side, when all have ended. `air` does the same in memory with a schedule and a script from
-/// `shelf`; its reports come at the end. The statuses are 0 done, 1 no memory, 2 no command line, 3 no FAC, no schedule, no
-/// script or no capture, 4 a read of `input` or a load from `shelf` failed, 5 a write to `out` failed, 6 a link couldn't be
-/// opened or failed, 7 done, and a frame is missing or bad; each from 1 to 6 writes a line to `err`.
+/// `shelf`, `exercise` with those that it makes itself; their reports come at the end. `gate` opens two links in `dock`, and
+/// sends over the second what comes over the first. Of a capture in `input` `show` writes what is in it, `convert` another
+/// capture, `unpack` and `texts` the data in a stream; `pack` makes the packets of such data.
+///
+/// The statuses are 0 done, 1 no memory, 2 no command line, 3 no FAC, no schedule, no script, no capture or no units, 4 a read
+/// of `input` or a load from `shelf` failed, 5 a write to `out` failed, 6 a link couldn't be opened or failed, 7 done, and
+/// something is missing or bad; each from 1 to 6 writes a line to `err`.
 pub fn run<R: Threads + Sync, S: Shelf, I: Source, O: Sink, E: Sink, D: Dock>(
     rt: &R,
     alloc: Global,
