@@ -57,7 +57,7 @@ half n = config (n / 2) 2 C true 18
 abbrev with_second : ℕ → Bool → Plan
 with_second n two = record { carry = Pft 2 1400; seq = 65000; dlfc = 4294967000; length = n; configs = config 0 0 B false 17 ∷ (if two then half n ∷ [] else []) }
 
-of_lines : (n : ℕ) (two : Bool) → 1 ≤ n → n ≤ 1000 → 1 ≤ length (with_second n two).configs → length (with_second n two).configs ≤ 64
+of_lines : (n : ℕ) (two : Bool) → 1 ≤ n → n ≤ 1000 → 1 ≤ length (with_second n two).configs → length (with_second n two).configs ≤ 16
     → All ConfigInLines (with_second n two).configs → InLines (with_second n two)
 of_lines n two some few one most each = record {
   carry_fits = (omega arith, omega arith, omega arith);
