@@ -13,7 +13,7 @@ use Rattle.drm_timeline.specs.Numbers.{frame_count}
 use Rattle.drm_server.specs.Datagrams.{AreOfFrames}
 use Rattle.mod_delivery.specs.Laws.{AllAtOnce}
 use Rattle.mod_delivery.specs.Sent.{Arrival}
-use Rattle.drm_convert.specs.Draining.{is_full}
+use Rattle.capture_items.specs.Reading.{is_full}
 use Rattle.drm_convert.specs.Run.{first_of}
 use Rattle.drm_convert.specs.Converting.{Part, ConvertsAll, text_of, lines_of}
 use Rattle.convert_laws.specs.Laws.{under, IsFirstOf, AllInTime, MayBeTold, IsItsCapture, Converting, ConvertingEarly, KnowsFirst, ConversionsAreCaptures, IsOfFirstFrames, BrokenConversions}

@@ -22,8 +22,8 @@ use Rattle.drm_server.proofs.OnePacket.{one_packet}
 use Rattle.mod_delivery.specs.Sent.{Arrival, IsFollowed}
 use Rattle.mod_delivery.proofs.Configurations.{size_fits}
 use Rattle.mod_delivery.proofs.Lengths.{packet_long}
-use Rattle.drm_convert.specs.Draining.{is_full}
-use Rattle.drm_convert.specs.Run.{Terms, first_of, ComesTo, ComesAt}
+use Rattle.capture_items.specs.Reading.{ComesAt, ComesTo, Terms, is_full}
+use Rattle.drm_convert.specs.Run.{first_of}
 use Rattle.drm_convert.specs.Converting.{Part, ConvertsAll, text_of, lines_of}
 use Rattle.drm_convert.proofs.Ways.{Starts, starts_more, starts_up_to, given_first, one_way, taken_starts, finished_starts, taken_first, all_before}
 use Rattle.convert_laws.specs.Laws.{under, IsFirstOf, AllInTime, MayBeTold, KnowsFirst, IsOfSomeFrames, HaltedConversions}

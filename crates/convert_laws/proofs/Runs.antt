@@ -22,7 +22,7 @@ use Rattle.drm_faults.specs.declared.fault.Fault.TheVariants as faults
 use Rattle.drm_convert.specs.Converting.{Part, text_of, lines_of}
 use Rattle.drm_convert.specs.Steps.{has_none}
 use Rattle.drm_convert.specs.Draining.{are_clean}
-use Rattle.drm_convert.specs.Run.{Terms, HasEnough, AreReadBy, AreEnough}
+use Rattle.capture_items.specs.Reading.{AreEnough, AreReadBy, HasEnough, Terms}
 use Rattle.convert_laws.specs.Laws.{under, AllInTime, NoneIsTooLarge, ConversionsAreCaptures, IsOfFirstFrames, BrokenConversions, IsOfSomeFrames, HaltedConversions, CapturesAreConverted}
 
 -- ---- what is told of an input

@@ -20,8 +20,8 @@ use Rattle.drm_capture.specs.Capture.{IsCaptureOf, End}
 use Rattle.drm_faults.specs.declared.fault.Fault.{Fault}
 use Rattle.drm_faults.specs.declared.fault.Fault.TheVariants as faults
 use Rattle.drm_convert.specs.Converting.{Part, ConvertsAll, IsTooLarge, text_of, lines_of}
-use Rattle.drm_convert.specs.Draining.{is_full}
-use Rattle.drm_convert.specs.Run.{Terms, first_of, HasEnough, IsConversion, IsBroken, ComesAt, Ends}
+use Rattle.capture_items.specs.Reading.{ComesAt, HasEnough, Terms, is_full}
+use Rattle.drm_convert.specs.Run.{first_of, IsConversion, IsBroken, Ends}
 
 -- the schedule with this carry in place of its own
 abbrev pub under : Carry → Plan → Plan

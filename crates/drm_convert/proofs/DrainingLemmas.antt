@@ -22,7 +22,8 @@ use Rattle.drm_convert.specs.declared.naming.Progress.{Progress}
 use Rattle.drm_convert.specs.Converting.{Part, Converts, ConvertsAll, IsTooLarge, text_of, lines_of}
 use Rattle.drm_convert.specs.Naming.{Names}
 use Rattle.drm_convert.specs.Steps.{Converted, Failing, ConvertsOne, has_none}
-use Rattle.drm_convert.specs.Draining.{Given, MayBeFirst, ConvertedAll, are_clean, KnowsFirst, KeepsPace, Halts, Drained, is_full}
+use Rattle.drm_convert.specs.Draining.{MayBeFirst, ConvertedAll, are_clean, KnowsFirst, KeepsPace, Halts, Drained}
+use Rattle.capture_items.specs.Reading.{Given, is_full}
 use Rattle.drm_convert.proofs.ItemLemmas.{names_none}
 
 -- ---- names

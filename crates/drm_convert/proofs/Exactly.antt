@@ -24,7 +24,8 @@ use Rattle.drm_faults.specs.Fault.{UnlessMemory}
 use Rattle.drm_faults.specs.declared.fault.Fault.{Fault}
 use Rattle.drm_faults.specs.declared.fault.Fault.TheVariants as faults
 use Rattle.drm_convert.specs.Converting.{Part, Converts, ConvertsAll, IsTooLarge}
-use Rattle.drm_convert.specs.Run.{Terms, first_of, HasEnough, NoneShorter, AreEnough, IsConversion, IsBroken, ComesTo, AreReadBy, ReadsTo, AreFirstOf, LeadsTo, AreSmall, Meets, BreaksOffBy, EndsByIt, EndsExactly, Ends, IsDone, CanEnd, ConvertRun}
+use Rattle.drm_convert.specs.Run.{first_of, IsConversion, IsBroken, ReadsTo, AreFirstOf, LeadsTo, AreSmall, Meets, EndsByIt, EndsExactly, Ends, IsDone, CanEnd, ConvertRun}
+use Rattle.capture_items.specs.Reading.{AreEnough, AreReadBy, BreaksOffBy, ComesTo, HasEnough, NoneShorter, Terms}
 use Rattle.drm_convert.proofs.Ways.{Starts, Agree, front_of, starts_up_to, starts_more, taken_starts, finished_starts, lacks_before, all_before, both_taken, both_finished, then_finished, finished_then}
 
 -- ---- what is converted isn't too large

@@ -1,17 +1,15 @@
 -- A conversion, packet by packet.
 use Rattle.std.proofs.Common.{◌≡◌, ℕ, ◌≤◌, Bool, true, false, List, [], ◌∷◌, ◌++◌, Option, None, Some, length, sym, subst, ap, ◌∙◌, refl, inl, inr, arith, append_assoc, length-append}
-use Rattle.std.specs.Prelude.{All, IfSome, Result, Ok, Err}
+use Rattle.std.specs.Prelude.{All, IfSome, Ok, Err}
 use Rattle.std.proofs.lemmas.Bool.{cases_lt}
 use Rattle.std.proofs.lemmas.Bool.Decides.{nat_tests}
 use Rattle.std.proofs.lemmas.List.{append-nil, take-append-le, take_all, take_at}
 use Rattle.drm_links.specs.Told.{Known}
 use Rattle.drm_links.specs.Source.{Input, Inputs}
 use Rattle.drm_links.specs.Sink.{Output, Outputs, IsFront}
-use Rattle.drm_links.proofs.ToldLemmas.{Inputs-nothing}
-use Rattle.std.proofs.lemmas.List.Elements.{All-nil}
 use Rattle.drm_capture.specs.Front.{IsWhole}
 use Rattle.drm_capture.specs.Capture.{IsCaptureOf, End}
-use Rattle.drm_capture.specs.Walking.{WalkerState, new_walker}
+use Rattle.drm_capture.specs.Walking.{WalkerState}
 use Rattle.drm_capture.specs.Reading.{HasRead, Stops}
 use Rattle.drm_capture.specs.declared.packets.CaptureStop.{CaptureStop}
 use Rattle.drm_capture.specs.declared.packets.CaptureStop.TheVariants as stops
@@ -29,8 +27,9 @@ use Rattle.drm_convert.specs.declared.item.Halt.TheVariants as halt
 use Rattle.drm_convert.specs.declared.naming.Progress.{Progress}
 use Rattle.drm_convert.specs.Converting.{text_of, lines_of}
 use Rattle.drm_convert.specs.Naming.{Names}
-use Rattle.drm_convert.specs.Draining.{Given, MayBeFirst, ConvertedAll, Drained, Halts, KnowsFirst, KeepsPace, is_full}
-use Rattle.drm_convert.specs.Run.{Terms, first_of, HasEnough, NoneShorter, AreReadBy, ComesTo, ReadsTo, Ends, EndsEarly}
+use Rattle.drm_convert.specs.Draining.{MayBeFirst, ConvertedAll, Drained, Halts, KnowsFirst, KeepsPace}
+use Rattle.capture_items.specs.Reading.{AreReadBy, ComesTo, Given, HasEnough, NoneShorter, Terms, is_full}
+use Rattle.drm_convert.specs.Run.{first_of, ReadsTo, Ends, EndsEarly}
 use Rattle.drm_convert.specs.Reading.{new_progress, fault_of}
 use Rattle.drm_convert.specs.declared.reading.Unconverted.TheVariants as unconverted
 use Rattle.drm_faults.specs.Captures.{stop_fault}
@@ -341,21 +340,6 @@ halted terms carry packets before' later c state p q a b o x y z (halt.PacketSiz
       all.text,
       all.names,
     )
-
--- nothing was read
-pub read_none : (before : Known Input) (reader : WalkerState) → reader ≡ new_walker → HasRead [] reader before before
-read_none before reader is =
-    let held : reader.held ≡ [] = ap (λ (w : WalkerState). w.held) is in
-    let at : reader.at ≡ 0 = ap (λ (w : WalkerState). w.at) is in
-    record {
-      whole = All-nil IsWhole;
-      at = at;
-      few = omega (arith, at, ap length held);
-      bytes = Inputs-nothing (λ left rest. left ≡ [] ++ (reader.held ++ rest)) before (λ left. ap (λ l. l ++ left) (sym held));
-    }
-
-pub not_stopped : (result : Result Bool CaptureStop) (found : Bool) → result ≡ Ok found → result ≡ Err stops.TooLong → ⊥
-not_stopped result found is other = let clash : Ok found ≡ Err stops.TooLong = sym is ∙ other in cc
 
 pub at_begin : (terms : Terms) (carry : Carry) (c : State) (p : Progress) (a x : Known Output) → c ≡ made terms.window terms.first → p ≡ new_progress → 1 ≤ terms.window → IfSome terms.told (λ n. 1 ≤ n) → Reaches terms carry [] c p a a x x
 at_begin terms carry c p a x is new window some =

@@ -13,8 +13,7 @@ use Rattle.collect_laws.specs.Laws.{OneRun}
 use Rattle.collect_laws.proofs.OneReading.{one_reading}
 use Rattle.collect_laws.proofs.Runs.{steps_part}
 use Rattle.collect_laws.proofs.Unique.{one_giving, one_run, one_taking}
-use Rattle.drm_convert.specs.Draining.{Given, is_full}
-use Rattle.drm_convert.specs.Run.{Terms, HasEnough, ComesAt}
+use Rattle.capture_items.specs.Reading.{ComesAt, Given, HasEnough, Terms, is_full}
 
 -- ---- lists
 

@@ -1,8 +1,8 @@
 -- What a conversion does with all that is ready.
-use Rattle.std.specs.Prelude.{ℕ, ◌≡◌, ◌+◌, ◌≤◌, ◌⊎◌, Bool, true, false, nat_le, List, [], ◌∷◌, length, Option, None, Some, IfSome, ◌&&◌}
+use Rattle.std.specs.Prelude.{ℕ, ◌≡◌, ◌+◌, ◌≤◌, ◌⊎◌, Bool, true, false, List, [], length, Option, None, IfSome, ◌&&◌}
 use Rattle.std.specs.List.{list_all}
 use Rattle.dcp_pft.specs.declared.carry.Carry.{Carry}
-use Rattle.dcp_collect.specs.State.{State, ready, after_item}
+use Rattle.dcp_collect.specs.State.{State, ready}
 use Rattle.dcp_collect.specs.Runs.{Item, IsItem}
 use Rattle.drm_links.specs.Told.{Known}
 use Rattle.drm_links.specs.Sink.{Output, Outputs}
@@ -12,16 +12,7 @@ use Rattle.drm_convert.specs.declared.naming.Progress.{Progress}
 use Rattle.drm_convert.specs.Converting.{Part, ConvertsAll, IsTooLarge, text_of, lines_of}
 use Rattle.drm_convert.specs.Naming.{Names}
 use Rattle.drm_convert.specs.Steps.{has_none, Failing}
-
--- as many items were given as are told
-abbrev pub is_full : Option ℕ → ℕ → Bool
-is_full None n = false
-is_full (Some told) n = nat_le told n
-
--- a collector gives these, each while it is ready, and comes so far
-abbrev pub Given : State → List Item → State → Type 0
-Given c [] after = after ≡ c
-Given c (item ∷ items) after = (ready c ≡ true) × IsItem c item × Given (after_item c) items after
+use Rattle.capture_items.specs.Reading.{is_full, Given}
 
 -- Number 0 may have this sequence number: it is known, or nothing has told it yet.
 abbrev pub MayBeFirst : State → ℕ → Type 0

@@ -1,18 +1,17 @@
 -- The conversion of a capture.
-use Rattle.std.specs.Prelude.{ℕ, ◌≡◌, ◌<◌, ◌⊎◌, ◌↔◌, All, Bool, true, false, List, [], ◌∷◌, ◌++◌, length, take, Option, Result, Ok, Err, unwrap_or}
+use Rattle.std.specs.Prelude.{ℕ, ◌≡◌, ◌↔◌, All, Bool, true, false, List, [], ◌∷◌, ◌++◌, length, Result, Ok, Err, unwrap_or}
 use Rattle.std.specs.List.{AllByRecursion}
 use Rattle.dcp_pft.specs.declared.carry.Carry.{Carry}
 use Rattle.dcp_collect.specs.declared.taken.Taken.{Taken}
-use Rattle.dcp_collect.specs.State.{State, made, ready, after_finish}
-use Rattle.dcp_collect.specs.Runs.{Item, IsItem, Takes, Steps, Run}
+use Rattle.dcp_collect.specs.State.{State, made}
+use Rattle.dcp_collect.specs.Runs.{Item, Steps, Run}
 use Rattle.drm_links.specs.Told.{Known, HasFailed, HasCause}
 use Rattle.drm_links.specs.Source.{Input, Inputs}
 use Rattle.drm_links.specs.Sink.{Output, Outputs, IsFront}
 use Rattle.drm_capture.specs.Front.{IsWhole}
 use Rattle.drm_capture.specs.Capture as capture
 use Rattle.drm_capture.specs.Capture.{IsCaptureOf, Ending, End}
-use Rattle.drm_capture.specs.Walking.{WalkerState}
-use Rattle.drm_capture.specs.Reading.{HasRead, Stops}
+use Rattle.drm_capture.specs.Reading.{Stops}
 use Rattle.drm_capture.specs.declared.packets.CaptureStop.{CaptureStop}
 use Rattle.drm_capture.specs.declared.packets.CaptureStop.TheVariants as stops
 use Rattle.drm_faults.specs.Captures as captures
@@ -21,35 +20,12 @@ use Rattle.drm_faults.specs.declared.fault.Fault.{Fault}
 use Rattle.drm_faults.specs.declared.fault.Fault.TheVariants as faults
 use Rattle.drm_convert.specs.Converting.{Part, ConvertsAll, IsTooLarge, text_of, lines_of}
 use Rattle.drm_convert.specs.Naming.{Names}
-use Rattle.drm_convert.specs.Draining.{is_full, Given, are_clean}
-
--- by what a conversion reads: the window, the first sequence number and the number of items, where these are told
-pub record Terms : Type 0 where
-  pub window : ℕ
-  pub first : Option ℕ
-  pub told : Option ℕ
+use Rattle.drm_convert.specs.Draining.{are_clean}
+use Rattle.capture_items.specs.Reading.{Terms, is_full, HasEnough, NoneShorter, AreEnough, ComesAt, AreReadBy, BreaksOffBy}
 
 -- the sequence number of number 0, where something was kept
 abbrev pub first_of : State → ℕ
 first_of c = unwrap_or c.first 0
-
--- ---- which packets are read
-
--- as many items as are told, or more, are given of these packets
-abbrev pub HasEnough : Terms → List (List ℕ) → Type 0
-HasEnough terms packets =
-    (taken : List Taken) × (items : List Item) × (end : State) × Steps (made terms.window terms.first) packets taken items end
-    × (is_full terms.told (length items) ≡ true)
-
--- fewer packets aren't enough
-abbrev pub NoneShorter : Terms → List (List ℕ) → Type 0
-NoneShorter terms packets = (k : ℕ) → k < length packets → HasEnough terms (take k packets) → ⊥
-
--- Enough of them are read, or all.
-abbrev pub AreEnough : Terms → List (List ℕ) → Known Input → Known Input → Type 0
-AreEnough terms packets before after =
-    (((reader : WalkerState) × HasRead packets reader before after) × HasEnough terms packets)
-    ⊎ Inputs before after (λ left rest. IsCaptureOf left packets End)
 
 -- ---- what they become
 
@@ -67,33 +43,6 @@ pub record IsBroken (terms : Terms) (carry : Carry) (packets : List (List ℕ)) 
   pub mid : State
   pub steps : Steps (made terms.window terms.first) packets taken items mid
   pub converts : ConvertsAll carry (first_of mid) items parts
-
--- what a collector comes to before it gives what is ready: it takes one packet more, or is finished
-abbrev pub ComesTo : Terms → List (List ℕ) → State → State → Type 0
-ComesTo terms later mid state =
-    ((bytes : List ℕ) × (answer : Taken) × (later ≡ bytes ∷ []) × Takes mid bytes answer state) ⊎ ((later ≡ []) × (state ≡ after_finish mid terms.told))
-
--- These are some first items of those that the packets give, and then comes this one.
-pub record ComesAt (terms : Terms) (packets : List (List ℕ)) (items : List Item) (item : Item) (last : State) : Type 0 where
-  pub before : List (List ℕ)
-  pub later : List (List ℕ)
-  pub are : packets ≡ before ++ later
-  pub taken : List Taken
-  pub during : List Item
-  pub mid : State
-  pub steps : Steps (made terms.window terms.first) before taken during mid
-  pub state : State
-  pub comes : ComesTo terms later mid state
-  pub more : List Item
-  pub gives : Given state more last
-  pub items_are : items ≡ during ++ more
-  pub is_ready : ready last ≡ true
-  pub is_next : IsItem last item
-
--- Of the input these packets are read: where the collector took the later ones of them last, first ones; where it was finished, all.
-abbrev pub AreReadBy : List (List ℕ) → List (List ℕ) → Known Input → Known Input → Type 0
-AreReadBy [] packets before after = Inputs before after (λ left rest. IsCaptureOf left packets End)
-AreReadBy later packets before after = (reader : WalkerState) × HasRead packets reader before after
 
 -- Packets that are read give these items first, and then this one, which isn't past the told number; fewer of them aren't enough.
 pub record ReadsTo (terms : Terms) (items : List Item) (item : Item) (last : State) (before after : Known Input) : Type 0 where
@@ -160,14 +109,6 @@ AreSmall carry items = AllByRecursion (λ item. (number : ℕ) → IsTooLarge ca
 abbrev pub Meets : Terms → Carry → List ℕ → ℕ → Type 0
 Meets terms carry bytes number =
     (items : List Item) × (item : Item) × (last : State) × LeadsTo terms bytes items item last × AreSmall carry items × IsTooLarge carry item number
-
--- The bytes end so behind their packets, by a fault, and neither all of these packets nor fewer of them are enough.
-pub record BreaksOffBy (terms : Terms) (bytes : List ℕ) (why : Ending) : Type 0 where
-  pub packets : List (List ℕ)
-  pub is : IsCaptureOf bytes packets why
-  pub faulty : why ≡ End → ⊥
-  pub lacks : HasEnough terms packets → ⊥
-  pub shorter : NoneShorter terms packets
 
 -- the run ends by what is wrong behind the packets
 abbrev pub EndsByIt : Result Bool Fault → Ending → Type 0

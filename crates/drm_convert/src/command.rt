@@ -3,7 +3,8 @@
 ghost use Rattle.std.specs.Prelude.{◌≡◌, ◌≤◌, true, IfSome};
 ghost use Rattle.dcp_pft.specs.Carrying.{CarryFits};
 ghost use Rattle.drm_convert.specs.Reading.{ending_of};
-ghost use Rattle.drm_convert.specs.Run.{Terms, ConvertRun};
+ghost use Rattle.drm_convert.specs.Run.{ConvertRun};
+ghost use Rattle.capture_items.specs.Reading.{Terms};
 
 use crate::Cutter;
 use crate::item::Halt;

@@ -3,7 +3,8 @@
 ghost use Rattle.std.specs.Prelude.{◌≡◌, ◌≤◌, OnOk, IfErr, IfSome, IsErr, Err};
 ghost use Rattle.drm_links.specs.Told.{HasCause};
 ghost use Rattle.collect_laws.specs.Laws.{IsFit};
-ghost use Rattle.drm_convert.specs.Draining.{is_full, Drained, Halts, KnowsFirst, KeepsPace};
+ghost use Rattle.drm_convert.specs.Draining.{Drained, Halts, KnowsFirst, KeepsPace};
+ghost use Rattle.capture_items.specs.Reading.{is_full};
 
 use crate::Cutter;
 use crate::item::{Halt, convert_item};

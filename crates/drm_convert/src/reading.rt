@@ -10,7 +10,7 @@ ghost use Rattle.drm_capture.specs.Walking.{new_walker};
 ghost use Rattle.drm_capture.specs.declared.packets.CaptureStop.{CaptureStop};
 ghost use Rattle.drm_convert.specs.declared.item.Halt.{Halt};
 ghost use Rattle.drm_convert.specs.Reading.{new_progress, EndsBy};
-ghost use Rattle.drm_convert.specs.Run.{Terms};
+ghost use Rattle.capture_items.specs.Reading.{Terms};
 
 use crate::Cutter;
 use crate::draining::{drain, is_full};

@@ -16,7 +16,8 @@ use Rattle.dcp_collect.specs.State.{State, ready, after_item, after_next}
 use Rattle.dcp_collect.specs.Runs.{Item, Packet, Lost, Damaged, IsItem}
 use Rattle.collect_laws.specs.Laws.{IsFit}
 use Rattle.collect_laws.proofs.Fit.{fit_next}
-use Rattle.drm_convert.specs.Draining.{is_full, Given, MayBeFirst, KnowsFirst}
+use Rattle.drm_convert.specs.Draining.{MayBeFirst, KnowsFirst}
+use Rattle.capture_items.specs.Reading.{Given, is_full}
 use Rattle.drm_convert.proofs.DrainingLemmas.{given_one, next_end}
 use Rattle.drm_gate.specs.declared.tally.Tally.{Tally}
 use Rattle.drm_gate.specs.Passing.{Fate, Sent, Bad, Large, Missing, Becomes, Begins, BecomeAll, datagrams_of, sent_of}

@@ -18,7 +18,8 @@ use Rattle.mod_receiver.specs.Reading.{datagrams, idles as idles_at_end, Gave, H
 use Rattle.mod_receiver.proofs.Going.{goes_more, datagrams_idle, idles_idle, not_ended}
 use Rattle.mod_receiver.proofs.Giving.{gave_idle}
 use Rattle.mod_receiver.proofs.Reaching.{HearsMore, one_longer, one_turn, short_enough}
-use Rattle.drm_convert.specs.Draining.{is_full, Given, MayBeFirst}
+use Rattle.drm_convert.specs.Draining.{MayBeFirst}
+use Rattle.capture_items.specs.Reading.{Given, is_full}
 use Rattle.drm_convert.specs.Run.{first_of}
 use Rattle.drm_convert.proofs.Taken.{may_taken, first_itself}
 use Rattle.drm_convert.proofs.Ways.{given_first, longer_full}

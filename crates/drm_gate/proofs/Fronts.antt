@@ -14,8 +14,9 @@ use Rattle.mod_receiver.specs.Reading.{datagrams, GoesOn, EndsBy}
 use Rattle.mod_receiver.specs.Hearing.{AreNext}
 use Rattle.mod_receiver.specs.OneReading.{Ends, IsOneReading}
 use Rattle.drm_convert.specs.Draining.{MayBeFirst}
-use Rattle.drm_convert.specs.Run as converting
-use Rattle.drm_convert.specs.Run.{Terms, ComesAt, first_of}
+use Rattle.capture_items.specs.Reading as converting
+use Rattle.drm_convert.specs.Run.{first_of}
+use Rattle.capture_items.specs.Reading.{ComesAt, Terms}
 use Rattle.collect_laws.proofs.Runs.{steps_part}
 use Rattle.mod_receiver.proofs.OneReading.{one_reading}
 use Rattle.drm_convert.proofs.Taken.{may_taken, first_itself}

@@ -19,7 +19,8 @@ use Rattle.mod_receiver.specs.Reading.{datagrams, idles as idles_at_end, Gave, H
 use Rattle.mod_receiver.proofs.Going.{goes_none, goes_more, is_open, datagrams_more, idles_datagram, not_ended, none_ended}
 use Rattle.mod_receiver.proofs.Giving.{gave_none, gave_datagram, none_given}
 use Rattle.mod_receiver.proofs.Reaching.{HearsMore, one_longer, one_turn, short_enough}
-use Rattle.drm_convert.specs.Draining.{is_full, Given, MayBeFirst, KnowsFirst}
+use Rattle.drm_convert.specs.Draining.{MayBeFirst, KnowsFirst}
+use Rattle.capture_items.specs.Reading.{Given, is_full}
 use Rattle.drm_convert.proofs.Taken.{may_taken}
 use Rattle.drm_convert.proofs.Ways.{gives_first, one_way, longer_full}
 use Rattle.drm_gate.specs.declared.tally.Tally.{Tally}

@@ -7,7 +7,8 @@ use Rattle.dcp_collect.specs.Runs.{Item, IsItem}
 use Rattle.drm_links.specs.Told.{Known}
 use Rattle.drm_links.specs.Link.{Traffic}
 use Rattle.drm_links.specs.Transmission.{Transmits, SendsAll, SendsNoMore}
-use Rattle.drm_convert.specs.Draining.{is_full, Given, MayBeFirst}
+use Rattle.drm_convert.specs.Draining.{MayBeFirst}
+use Rattle.capture_items.specs.Reading.{Given, is_full}
 use Rattle.drm_gate.specs.declared.tally.Tally.{Tally}
 use Rattle.drm_gate.specs.Passing.{Fate, Begins, BecomeAll, sent_of}
 use Rattle.drm_gate.specs.Resting.{MakesSends}

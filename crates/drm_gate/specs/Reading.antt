@@ -10,7 +10,7 @@ use Rattle.drm_links.specs.Link.{Answer, Traffic}
 use Rattle.report_lines.specs.declared.report.EndWord.{EndWord}
 use Rattle.mod_receiver.specs.declared.rules.Rules.{Rules}
 use Rattle.mod_receiver.specs.Reading.{Gave, IsFinished, most_answers}
-use Rattle.drm_convert.specs.Draining.{is_full}
+use Rattle.capture_items.specs.Reading.{is_full}
 use Rattle.drm_gate.specs.declared.tally.Tally.{Tally}
 use Rattle.drm_gate.specs.declared.gate.GateEnded.{GateEnded}
 use Rattle.drm_gate.specs.declared.gate.GateEnded.TheVariants as ended

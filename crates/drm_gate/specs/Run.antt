@@ -13,7 +13,8 @@ use Rattle.mod_receiver.specs.Hearing.{Heard}
 use Rattle.mod_receiver.specs.declared.rules.Rules.{Rules}
 use Rattle.mod_receiver.specs.Reading.{datagrams, Gave, EndsBy, GoesOn, IsFinished, IsBroken, most_answers}
 use Rattle.mod_receiver.specs.OneReading.{Ends}
-use Rattle.drm_convert.specs.Draining.{is_full, Given, MayBeFirst}
+use Rattle.drm_convert.specs.Draining.{MayBeFirst}
+use Rattle.capture_items.specs.Reading.{Given, is_full}
 use Rattle.drm_convert.specs.Run.{first_of}
 use Rattle.drm_gate.specs.declared.tally.Tally.{Tally}
 use Rattle.drm_gate.specs.declared.gate.GateEnded.{GateEnded}

@@ -3,7 +3,8 @@
 ghost use Rattle.std.specs.Prelude.{◌≡◌, ◌≤◌, ◌^◌, OnOk, OnErr, IsErr};
 ghost use Rattle.drm_links.specs.Told.{HasCause};
 ghost use Rattle.collect_laws.specs.Laws.{IsFit};
-ghost use Rattle.drm_convert.specs.Draining.{is_full, KnowsFirst};
+ghost use Rattle.drm_convert.specs.Draining.{KnowsFirst};
+ghost use Rattle.capture_items.specs.Reading.{is_full};
 ghost use Rattle.drm_gate.specs.Tallies.{items_in};
 ghost use Rattle.drm_gate.specs.Draining.{Drained, Stopped, KeepsPace, most_taken, sent_or_kept};
 

@@ -10,7 +10,7 @@ use Rattle.dcp_pft.specs.declared.carry.Carry.{Carry}
 use Rattle.drm_links.specs.Source.{Input}
 use Rattle.drm_links.specs.Sink.{Output}
 use Rattle.drm_convert.specs.Run as convert
-use Rattle.drm_convert.specs.Run.{Terms}
+use Rattle.capture_items.specs.Reading.{Terms}
 use Rattle.drm_links.specs.declared.dock.Address.{Address}
 use Rattle.drm_links.specs.declared.link.LinkFault.{LinkFault}
 use Rattle.mod_receiver.specs.declared.rules.Rules.{Rules}

@@ -5,7 +5,8 @@ use Rattle.std.proofs.lemmas.Result.{err_from_is_err_and}
 use Rattle.dcp_collect.specs.State.{State}
 use Rattle.drm_convert.specs.Draining.{MayBeFirst}
 use Rattle.drm_convert.proofs.Taken.{may_taken, knows_taken, pace_taken, end_taken}
-use Rattle.drm_convert.proofs.Reaching.{at_begin, read_none, not_stopped, on_stop, ends_early, on_packet, packet_more, by_enough, by_end, halted, shorter_on, drained_under, halts_under, drained_finished}
+use Rattle.capture_items.proofs.ReachedLemmas.{read_none, not_stopped}
+use Rattle.drm_convert.proofs.Reaching.{at_begin, on_stop, ends_early, on_packet, packet_more, by_enough, by_end, halted, shorter_on, drained_under, halts_under, drained_finished}
 use Rattle.drm_convert.proofs.reading.convert_packets.Goals as goal
 
 pub packets-init : goal.packets-init
