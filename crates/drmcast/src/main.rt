@@ -2,13 +2,11 @@
 
 #![tactic(auto)]
 
-mod words;
-
 use drm_adapt::{FileShelf, StreamSink, StreamSource, UdpDock};
 use drm_top::{no_memory, run};
+use program_words::given_words;
 use std::env;
 use std::process::ExitCode;
-use words::given_words;
 
 fn main(rt: HostRuntime) -> ExitCode {
     let alloc = rt.alloc();

@@ -1,0 +1,22 @@
+//! Runs the paths of its words over UDP and the standard streams.
+
+#![tactic(auto)]
+
+use drm_adapt::{StreamSink, UdpDock};
+use path_command::{no_memory, run_paths};
+use program_words::given_words;
+use std::env;
+use std::process::ExitCode;
+
+fn main(rt: HostRuntime) -> ExitCode {
+    let alloc = rt.alloc();
+    let mut out = StreamSink::new(rt.stdout());
+    let mut err = StreamSink::new(rt.stderr());
+    let words = given_words(alloc, env::args(&rt));
+    let mut dock = UdpDock::new(&rt);
+    let status = match words {
+        Ok(words) => run_paths(&rt, alloc, &words, &mut out, &mut err, &mut dock),
+        Err(_) => no_memory(&mut err),
+    };
+    ExitCode::from(status.code)
+}

@@ -1,0 +1,83 @@
+-- What is read of links is what stood ahead of those that a dock had at their addresses.
+use Rattle.std.proofs.Common.{◌≡◌, ℕ, ◌<◌, inl, inr, List, [], length, slice_index_or, Option, None, Some, IsNone, All, subst, arith}
+use Rattle.drm_links.specs.Told.{Known}
+use Rattle.drm_links.specs.Link.{Traffic}
+use Rattle.drm_links.specs.Dock.{DockContents, LinkStart}
+use Rattle.drm_links.specs.declared.dock.Address.{Address}
+use Rattle.mod_receiver.proofs.JobLemmas.{index_of}
+use Rattle.drm_receive.specs.Receive.{Finds, FindsNone}
+use Rattle.drm_paths.specs.Closing.{of_path}
+use Rattle.path_words.specs.declared.request.Request.{Request}
+use Rattle.path_command.specs.Ahead.{BreaksOff}
+use Rattle.path_command.specs.Opening.{HaveLinks}
+use Rattle.path_command.specs.Run.{options_in, IsInRange, AreEntries, FailsSome, DiffersAt}
+use Rattle.path_command.specs.Links.{AreOfLinks, BreaksSome, AreWhole, DifferFrom}
+use Rattle.path_command.proofs.OneReading.{whole_is_whole}
+use Rattle.path_command.proofs.Hearing.{read_ahead, whole_ahead}
+
+some_is : (found : Option LinkStart) (start : LinkStart) → found ≡ Some start → IsNone found → ⊥
+some_is None start is none = cc
+some_is (Some x) start is none = cc
+
+-- where a link is found, it is found
+not_none : (told : DockContents) (k : ℕ) (at : Address) (start : LinkStart) → Finds told k at start → FindsNone told k at → ⊥
+not_none told k at start finds (inl fails) = finds.allowed fails
+not_none told k at start finds (inr none) = some_is _ start finds.stands none
+
+one_start : (found : Option LinkStart) (start other : LinkStart) → found ≡ Some start → found ≡ Some other → other ≡ start
+one_start None start other is also = absurd (cc)
+one_start (Some x) start other is also = cc
+
+module _ {L : Type 0} (request : Request) (range : IsInRange request) (known : L → Known Traffic) (links : List L) (many : length links ≡ length request.addresses)
+    (told : DockContents) (have : HaveLinks known told request.addresses links) where
+  pub entries_ahead : (entries : List (ℕ × List ℕ)) → AreOfLinks (options_in request) known links entries → AreEntries request told entries
+  entries_ahead entries are = record {
+    each = λ k at within.
+        let (link, is) = index_of links k (omega (arith, within, many)) in
+        let (start, finds, new) = have k at link within in
+        (start, finds, whole_ahead request range start (known (slice_index_or links k link)) new (of_path k entries) (are.each k link (omega (arith, within, many))));
+    others = subst (λ n. All (λ e. e.0 < n) entries) many are.others;
+  }
+
+  pub fails_ahead : BreaksSome (options_in request) known links → FailsSome request told
+  fails_ahead breaks =
+      let within : breaks.k < length request.addresses = (let w = breaks.within in omega (arith, w, many)) in
+      record {
+        k = breaks.k;
+        within = within;
+        fails = λ at.
+            let (link, is) = index_of links breaks.k breaks.within in
+            let (start, finds, new) = have breaks.k at link within in
+            let (taken, reads) = breaks.fails link in
+            inr (start, finds, (taken, read_ahead request range start (known (slice_index_or links breaks.k link)) new taken _ reads));
+      }
+
+  pub none_fails : AreWhole (options_in request) known links → FailsSome request told → ⊥
+  none_fails whole fails =
+      let inside : fails.k < length links = (let w = fails.within in omega (arith, w, many)) in
+      let (link, is) = index_of links fails.k inside in
+      let at : Address = record { ip = []; port = 0 } in
+      let (start, finds, new) = have fails.k at link fails.within in
+      let (taken, reads) = whole fails.k link inside in
+      let all = whole_ahead request range start (known (slice_index_or links fails.k link)) new taken reads in
+      elim (fails.fails at) [
+        | inl none ↦ not_none told fails.k (slice_index_or request.addresses fails.k at) start finds none
+        | inr found ↦
+            let same : found.0 ≡ start = one_start _ start found.0 finds.stands found.1.stands in
+            whole_is_whole (options_in request) start.ahead taken all (subst (λ (s : LinkStart). BreaksOff (options_in request) s.ahead) same found.2)
+      ]
+
+  pub differ_ahead : (path at : ℕ) → DifferFrom (options_in request) known links path at → DiffersAt request told path at
+  differ_ahead path at differ =
+      let within : path < length request.addresses = (let w = differ.within in omega (arith, w, many)) in
+      record {
+        within = within;
+        entries = differ.entries;
+        read = differ.read;
+        is_read = λ none.
+            let (link, is) = index_of links path differ.within in
+            let (start, finds, new) = have path none link within in
+            (start, finds, whole_ahead request range start (known (slice_index_or links path link)) new differ.read (differ.is_read link));
+        there = differ.there;
+        differs = differ.differs;
+      }

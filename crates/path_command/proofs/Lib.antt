@@ -1,0 +1,10 @@
+pub mod OneReading
+pub mod Counting
+pub mod Hearing
+pub mod Opening
+pub mod Finding
+pub mod Listing
+pub mod Linking
+pub mod RangeLemmas
+pub mod RunLemmas
+pub mod StatusLemmas

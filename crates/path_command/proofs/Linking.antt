@@ -1,0 +1,214 @@
+-- Paths that ran side by side over their links.
+use Rattle.std.proofs.Common.{◌≡◌, ℕ, suc, ◌+◌, ◌<◌, inl, inr, Bool, true, false, List, [], ◌∷◌, length, map, slice_index_or, vec_len, Option, None, Some, MatchOption, All, refl, sym, ◌∙◌, ap, subst, arith}
+use Rattle.std.specs.Prelude.{sum_by}
+use Rattle.std.specs.List.{list_any}
+use Rattle.std.proofs.lemmas.List.{length-map, get_or-map}
+use Rattle.std.proofs.lemmas.List.Folds.{Any-from_list_any, list_any_at}
+use Rattle.std.proofs.lemmas.List.Sums.{sum_by-cons}
+use Rattle.drm_links.specs.Told.{Known}
+use Rattle.drm_links.specs.Link.{Traffic}
+use Rattle.mod_receiver.proofs.JobLemmas.{index_of}
+use Rattle.path_words.specs.declared.request.Request.{Request}
+use Rattle.drm_paths.specs.declared.run.PathOptions.{PathOptions}
+use Rattle.drm_paths.specs.declared.run.PathEnded.{PathEnded}
+use Rattle.drm_paths.specs.declared.run.PathEnded.TheVariants as why
+use Rattle.drm_paths.specs.declared.close.Closed.{Closed}
+use Rattle.drm_paths.specs.declared.close.Closed.TheVariants as closed
+use Rattle.drm_paths.specs.State.{PathState, new_path}
+use Rattle.drm_paths.specs.Closing.{of_path, Closes, IsDifference}
+use Rattle.path_command.specs.declared.job.PathJob.{PathJob}
+use Rattle.path_command.specs.Jobs.{IsReady, EndedAs, HasEnded, has_failed, has_run_out}
+use Rattle.path_command.specs.Run.{settings_in, options_in}
+use Rattle.path_command.specs.Links.{ReadsLink, ReadsWhole, BreaksSome, AreWhole, DifferFrom, EndsLinks, ending_of}
+use Rattle.path_command.proofs.Counting.{none_else}
+
+-- the paths are new, and each has its link
+pub record AreNew {G L : Type 0} (links : List L) (paths : List PathState) (jobs : List (PathJob G L)) : Type 0 where
+  pub many : length paths ≡ length links
+  pub are : (k : ℕ) (d : PathState) → k < length links → slice_index_or paths k d ≡ new_path k
+  pub paths_are : map (λ job. job.path) jobs ≡ paths
+  pub links_are : map (λ job. job.link) jobs ≡ links
+
+pub are_new : {G L : Type 0} (links : List L) (paths : List PathState) (jobs : List (PathJob G L)) (n : ℕ) → n ≡ length links → length paths ≡ n
+    → ((k : ℕ) (d : PathState) → k < n → slice_index_or paths k d ≡ new_path k) → map (λ job. job.path) jobs ≡ paths → map (λ job. job.link) jobs ≡ links → AreNew links paths jobs
+are_new links paths jobs n size many are paths_are links_are =
+    record { many = many ∙ size; are = λ k d within. are k d (omega (arith, within, size)); paths_are = paths_are; links_are = links_are }
+
+-- and they ran
+pub record Ran {G L : Type 0} (known : L → Known Traffic) (options : PathOptions) (links : List L) (paths : List PathState) (jobs after : List (PathJob G L)) : Type 0 where
+  pub new : AreNew links paths jobs
+  pub still : length after ≡ length jobs
+  pub ended : (k : ℕ) (d : PathJob G L) → k < length jobs → HasEnded known options (slice_index_or jobs k d) (slice_index_or after k d)
+
+as_many : {G L : Type 0} (links : List L) (paths : List PathState) (jobs : List (PathJob G L)) → AreNew links paths jobs → length jobs ≡ length links
+as_many links paths jobs new = sym (length-map jobs (λ job. job.link)) ∙ ap length new.links_are
+
+path_at : {G L : Type 0} (links : List L) (paths : List PathState) (jobs : List (PathJob G L)) → AreNew links paths jobs → (k : ℕ) (d : PathJob G L) → k < length jobs
+    → (slice_index_or jobs k d).path ≡ new_path k
+path_at links paths jobs new k d within =
+    sym (get_or-map (λ job. job.path) jobs k d d.path within) ∙ ap (λ ps. slice_index_or ps k d.path) new.paths_are
+    ∙ new.are k d.path (let many = as_many links paths jobs new in omega (arith, within, many))
+
+link_at : {G L : Type 0} (links : List L) (paths : List PathState) (jobs : List (PathJob G L)) → AreNew links paths jobs → (k : ℕ) (d : PathJob G L) (none : L) → k < length jobs
+    → slice_index_or links k none ≡ (slice_index_or jobs k d).link
+link_at links paths jobs new k d none within = ap (λ ls. slice_index_or ls k none) (sym new.links_are) ∙ get_or-map (λ job. job.link) jobs k d none within
+
+-- none has taken anything
+pub are_ready : {G L : Type 0} (links : List L) (paths : List PathState) (jobs : List (PathJob G L)) → AreNew links paths jobs → All (λ job. vec_len job.buffer ≡ 65536) jobs → All IsReady jobs
+are_ready links paths jobs new buffers k d within =
+    record { new = ap (λ (p : PathState). p.taken) (path_at links paths jobs new k d within); buffer = buffers k d within }
+
+failed_is : (ended : Option PathEnded) → has_failed ended ≡ true → ended ≡ Some why.LinkFailed
+failed_is None is = absurd (cc)
+failed_is (Some why.LinkFailed) is = refl
+failed_is (Some why.Idle) is = absurd (cc)
+failed_is (Some why.Limit) is = absurd (cc)
+failed_is (Some why.NoMemory) is = absurd (cc)
+
+module _ {G L : Type 0} (known : L → Known Traffic) (options : PathOptions) (before after : PathJob G L) where
+  abbrev Was : Option PathEnded → Type 0
+  Was ended = MatchOption ended ⊥ (EndedAs known options before after)
+
+  whole_by : (ended : Option PathEnded) → Was ended → (has_failed ended ≡ true → ⊥) → (has_run_out ended ≡ true → ⊥) → ReadsWhole options (known before.link) after.path.taken
+  whole_by None was failed out = absurd was
+  whole_by (Some why.Idle) was failed out = inl (known after.link, was.reads)
+  whole_by (Some why.Limit) was failed out = inr (known after.link, was.reads)
+  whole_by (Some why.LinkFailed) was failed out = absurd (failed refl)
+  whole_by (Some why.NoMemory) was failed out = absurd (out refl)
+
+  same_path : (ended : Option PathEnded) → Was ended → (after.path.number ≡ before.path.number) × (after.path.parts ≡ before.path.parts)
+  same_path None was = absurd was
+  same_path (Some ended) was = (was.number, was.parts)
+
+sum_ones : (paths : List PathState) → ((k : ℕ) (d : PathState) → k < length paths → (slice_index_or paths k d).parts ≡ 1) → sum_by (λ p. p.parts) paths ≡ length paths
+sum_ones [] ones = refl
+sum_ones (p ∷ paths) ones =
+    let first : p.parts ≡ 1 = ones 0 p (omega arith) in
+    let rest : sum_by (λ p. p.parts) paths ≡ length paths = sum_ones paths (λ k d l. ones (suc k) d (omega (arith, l))) in
+    let sum : sum_by (λ p. p.parts) (p ∷ paths) ≡ p.parts + sum_by (λ p. p.parts) paths = sum_by-cons (λ p. p.parts) p paths in
+    omega (arith, first, rest, sum)
+
+module _ {G L : Type 0} (known : L → Known Traffic) (options : PathOptions) (links : List L) (paths : List PathState) (jobs after : List (PathJob G L)) (ran : Ran known options links paths jobs after) where
+  pub many : length jobs ≡ length links
+  many = as_many links paths jobs ran.new
+
+  -- the link of one failed
+  pub breaks : list_any (λ job. has_failed job.ended) after ≡ true → BreaksSome options known links
+  breaks any =
+      let (k, job, within, is, failed) = Any-from_list_any (λ (j : PathJob G L). has_failed j.ended) after any in
+      let still = ran.still in
+      let inside : k < length jobs = omega (arith, within, still) in
+      let was : EndedAs known options (slice_index_or jobs k job) (slice_index_or after k job) why.LinkFailed =
+      subst (Was known options (slice_index_or jobs k job) (slice_index_or after k job))
+      (failed_is (slice_index_or after k job).ended (ap (λ (j : PathJob G L). has_failed j.ended) is ∙ failed)) (ran.ended k job inside) in
+      record {
+        k = k;
+        within = omega (arith, inside, many);
+        fails = λ none. (
+          (slice_index_or after k job).path.taken,
+          subst (λ l. ReadsLink options (known l) (slice_index_or after k job).path.taken why.LinkFailed) (sym (link_at links paths jobs ran.new k job none inside)) (known (slice_index_or after k job).link, was.reads),
+        );
+      }
+
+  -- the paths then
+  abbrev pub taken_then : List PathState
+  taken_then = map (λ job. job.path) after
+
+  then_many : length taken_then ≡ length links
+  then_many = length-map after (λ job. job.path) ∙ ran.still ∙ many
+
+  module _ (k : ℕ) (within : k < length links) where
+    pub inside : k < length jobs
+    inside = omega (arith, within, many)
+
+    behind : k < length after
+    behind = let still = ran.still in omega (arith, inside, still)
+
+    abbrev pub job : PathJob G L
+    job = (index_of jobs k inside).0
+
+    abbrev pub now : PathState
+    now = (slice_index_or after k job).path
+
+    then_is : (d : PathState) → slice_index_or taken_then k d ≡ now
+    then_is d = get_or-map (λ j. j.path) after k job d behind
+
+    same : (now.number ≡ (slice_index_or jobs k job).path.number) × (now.parts ≡ (slice_index_or jobs k job).path.parts)
+    same = same_path known options (slice_index_or jobs k job) (slice_index_or after k job) (slice_index_or after k job).ended (ran.ended k job inside)
+
+    pub then_number : (d : PathState) → (slice_index_or taken_then k d).number ≡ k
+    then_number d = ap (λ (p : PathState). p.number) (then_is d) ∙ same.0 ∙ ap (λ (p : PathState). p.number) (path_at links paths jobs ran.new k job inside)
+
+    pub then_parts : (d : PathState) → (slice_index_or taken_then k d).parts ≡ 1
+    then_parts d = ap (λ (p : PathState). p.parts) (then_is d) ∙ same.1 ∙ ap (λ (p : PathState). p.parts) (path_at links paths jobs ran.new k job inside)
+
+    pub then_whole : list_any (λ (j : PathJob G L). has_failed j.ended) after ≡ false → list_any (λ (j : PathJob G L). has_run_out j.ended) after ≡ false
+        → (none : L) (d : PathState) → ReadsWhole options (known (slice_index_or links k none)) (slice_index_or taken_then k d).taken
+    then_whole failed out none d =
+        let no : (p : PathJob G L → Bool) → list_any p after ≡ false → p (slice_index_or after k job) ≡ true → ⊥ =
+        λ p not_any is. (let any : list_any p after ≡ true = list_any_at p after k job behind is in let both : true ≡ false = sym any ∙ not_any in cc) in
+        let reads = whole_by known options (slice_index_or jobs k job) (slice_index_or after k job) (slice_index_or after k job).ended (ran.ended k job inside)
+        (no (λ j. has_failed j.ended) failed) (no (λ j. has_run_out j.ended) out) in
+        subst (λ l. ReadsWhole options (known l) (slice_index_or taken_then k d).taken) (sym (link_at links paths jobs ran.new k job none inside))
+        (subst (λ (p : PathState). ReadsWhole options (known (slice_index_or jobs k job).link) p.taken) (sym (then_is d)) reads)
+
+  -- they have all parts of the ledger
+  pub all_parts : sum_by (λ p. p.parts) taken_then ≡ length links
+  all_parts = sum_ones taken_then (λ k d l. then_parts k (omega (arith, l, then_many)) d) ∙ then_many
+
+-- what comes of the book where all links were read
+pub ends_by : {G L : Type 0} (request : Request) (known : L → Known Traffic) (links : List L) (paths : List PathState) (jobs after : List (PathJob G L))
+    → Ran known (options_in request) links paths jobs after
+    → list_any (λ (j : PathJob G L). has_failed j.ended) after ≡ false → list_any (λ (j : PathJob G L). has_run_out j.ended) after ≡ false
+    → (closed : Closed) → Closes (settings_in request) (map (λ job. job.path) after) closed → EndsLinks request known links (ending_of closed)
+ends_by {G} {L} request known links paths jobs after ran failed out = by
+  where
+    options : PathOptions
+    options = options_in request
+
+    then_paths : List PathState
+    then_paths = map (λ job. job.path) after
+
+    size : length then_paths ≡ length links
+    size = then_many known options links paths jobs after ran
+
+    whole : (k : ℕ) (within : k < length links) (none : L) (d : PathState) → ReadsWhole options (known (slice_index_or links k none)) (slice_index_or then_paths k d).taken
+    whole k within none d = then_whole known options links paths jobs after ran k within failed out none d
+
+    number : (k : ℕ) (within : k < length links) (d : PathState) → (slice_index_or then_paths k d).number ≡ k
+    number k within d = then_number known options links paths jobs after ran k within d
+
+    are_whole : AreWhole options known links
+    are_whole k none within = ((slice_index_or then_paths k (new_path 0)).taken, whole k within none (new_path 0))
+
+    by : (closed : Closed) → Closes (settings_in request) then_paths closed → EndsLinks request known links (ending_of closed)
+    by (closed.Whole ending) (entries, counted, agree, report) = (
+      are_whole,
+      (
+        entries,
+        record {
+          each = λ k none within.
+              let taken : of_path k entries ≡ (slice_index_or then_paths k (new_path 0)).taken =
+              ap (λ n. of_path n entries) (sym (number k within (new_path 0))) ∙ agree k (new_path 0) (omega (arith, within, size)) in
+              subst (λ t. ReadsWhole options (known (slice_index_or links k none)) t) (sym taken) (whole k within none (new_path 0));
+          others = subst (λ n. All (λ e. e.0 < n) entries) size (none_else then_paths entries (λ k d l. number k (omega (arith, l, size)) d) counted agree);
+        },
+        report,
+      ),
+    )
+    by (closed.Differ difference) (entries, counted, differs) =
+        let k = differs.k in
+        let within : k < length links = (let w = differs.within in omega (arith, w, size)) in
+        let is = differs.is (new_path 0) in
+        let path : difference.path ≡ k = is.path ∙ number k within (new_path 0) in
+        let taken = (slice_index_or then_paths k (new_path 0)).taken in
+        let found : DifferFrom options known links k difference.at = record {
+          within = within;
+          entries = entries;
+          read = taken;
+          is_read = λ none. whole k within none (new_path 0);
+          there = difference.journal;
+          differs = subst (λ n. IsDifference (of_path n entries) taken difference.at difference.journal) (number k within (new_path 0)) is.is;
+        } in
+        (are_whole, subst (λ n. DifferFrom options known links n difference.at) (sym path) found)
+    by closed.NoMemory closes = tt

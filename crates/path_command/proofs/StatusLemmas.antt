@@ -1,0 +1,12 @@
+-- What a status says of the fault.
+use Rattle.std.proofs.Common.{◌≡◌, refl}
+use Rattle.path_command.specs.declared.fault.Fault.{Fault}
+use Rattle.path_command.specs.declared.fault.Fault.TheVariants as faults
+use Rattle.path_command.specs.Faults.{fault_status}
+
+pub words_fault : (fault : Fault) → fault_status fault ≡ 2 → fault ≡ faults.Words
+words_fault faults.NoMemory is = absurd (cc)
+words_fault faults.Words is = refl
+words_fault faults.Write is = absurd (cc)
+words_fault faults.Link is = absurd (cc)
+words_fault (faults.Differs path at) is = absurd (cc)

@@ -1,0 +1,163 @@
+//! The run of several paths.
+
+ghost use Rattle.std.specs.Prelude.{◌≡◌, ◌⊎◌, ◌≤◌, map, length, string_bytes, vec_len, Bool, Result, Err};
+ghost use Rattle.drm_links.specs.Told.{HasCause, HasFailed};
+ghost use Rattle.drm_paths.specs.State.{settings_of};
+ghost use Rattle.path_words.specs.declared.request.Request.{Request};
+ghost use Rattle.path_words.specs.Line.{IsPathsLine};
+ghost use Rattle.path_command.specs.declared.fault.Fault.{Fault};
+ghost use Rattle.path_command.specs.Faults.{status_of, fault_line};
+ghost use Rattle.drm_faults.specs.Fault.{WritesLine};
+ghost use Rattle.path_command.specs.Links.{EndsLinks, ending_of};
+ghost use Rattle.path_command.specs.Run.{IsInRange, settings_in, PathsRun, Runs, ReportsFault, AsksForNothing};
+
+use crate::fault::Fault;
+use crate::job::{jobs_of, paths_of, run_all, some_failed, some_ran_out};
+use crate::open::open_links;
+use drm_links::{Dock, Link, Sink, Status};
+use drm_paths::{Closed, PathOptions, Paths, Road, Shared, close_paths, open_paths};
+use path_book::{Ending, Settings};
+use path_words::{Request, read_paths};
+use std::alloc::Global;
+use std::marker::Brand;
+use std::sync::Wait;
+use std::sync::ledger::Blank;
+use std::thread::Threads;
+use word_forms::WordsFault;
+
+/// Runs one command line: the words that stand behind the program's name.
+///
+/// A link is opened in `dock` at each address. Each is read by a path in a thread of its own, until it has read enough, and
+/// all hand what comes to one book. When all have ended the report of the book is written to `out`, as that of one feed. The
+/// statuses are 0 done, 1 no memory, 2 no command line, 5 a write to `out` failed, 6 a link couldn't be opened or failed, 7
+/// done, and a frame is missing or bad, 8 the book differs from what the paths took; each but 0 and 7 writes a line to `err`.
+pub fn run_paths<R: Threads + Wait + Sync, O: Sink, E: Sink, D: Dock>(
+    rt: &R,
+    alloc: Global,
+    words: &[String],
+    out: &mut O,
+    err: &mut E,
+    dock: &mut D,
+) -> Status
+where
+    D::L: Link + Send,
+    // Words that ask for a run are one, or memory ran out while they were read.
+    ensures runs { (request : Request) → IsPathsLine (map string_bytes words.now) request
+        → (ending : Result Bool Fault) × (result.code ≡ status_of ending) × ReportsFault ending E.known err.old err.new
+        × Runs request ending D.known dock.old dock.new O.known out.old out.new }
+    // Words that ask for none are refused, and nothing is touched.
+    ensures nothing { AsksForNothing (map string_bytes words.now)
+        → (ending : Result Bool Fault) × (result.code ≡ status_of ending) × ReportsFault ending E.known err.old err.new
+        × ((ending ≡ Err Fault.Words) ⊎ (ending ≡ Err Fault.NoMemory)) × (dock.new ≡ dock.old) × (out.new ≡ out.old) }
+    // 2: the words ask for nothing.
+    ensures words { result.code ≡ 2 → AsksForNothing (map string_bytes words.now) }
+    // 5: the count of faults of out rose.
+    ensures write { result.code ≡ 5 → HasFailed (O.known out.old) (O.known out.new) }
+    ensures known { result.code ≤ 8 }
+{
+    match execute(rt, alloc, words, out, dock) {
+        Ok(true) => Status { code: 0 },
+        Ok(false) => Status { code: 7 },
+        Err(fault) => fault.report(err),
+    }
+}
+
+/// Writes the line of want of memory, where there was none to make the words with, and answers its
+/// status.
+pub fn no_memory<E: Sink>(err: &mut E) -> Status
+    ensures status { result.code ≡ 1 }
+    ensures line { WritesLine (fault_line Fault.NoMemory) E.known err.old err.new }
+{
+    Fault::NoMemory.report(err)
+}
+
+fn execute<R: Threads + Wait + Sync, O: Sink, D: Dock>(
+    rt: &R,
+    alloc: Global,
+    words: &[String],
+    out: &mut O,
+    dock: &mut D,
+) -> Result<bool, Fault>
+where
+    D::L: Link + Send,
+    ensures runs { (request : Request) → IsPathsLine (map string_bytes words.now) request
+        → Runs request result D.known dock.old dock.new O.known out.old out.new }
+    ensures nothing { AsksForNothing (map string_bytes words.now)
+        → ((result ≡ Err Fault.Words) ⊎ (result ≡ Err Fault.NoMemory)) × (dock.new ≡ dock.old) × (out.new ≡ out.old) }
+    ensures words { result ≡ Err Fault.Words → AsksForNothing (map string_bytes words.now) }
+    ensures write { HasCause (O.known out.old) (O.known out.new) (result ≡ Err Fault.Write) }
+{
+    match read_paths(alloc, words) {
+        Ok(request) => run_request(rt, alloc, &request, out, dock),
+        Err(WordsFault::Words) => Err(Fault::Words),
+        Err(WordsFault::NoMemory) => Err(Fault::NoMemory),
+    }
+}
+
+fn run_request<R: Threads + Wait + Sync, O: Sink, D: Dock>(
+    rt: &R,
+    alloc: Global,
+    request: &Request,
+    out: &mut O,
+    dock: &mut D,
+) -> Result<bool, Fault>
+where
+    D::L: Link + Send,
+    requires { IsInRange request.now }
+    ensures { PathsRun request.now result D.known dock.old dock.new O.known out.old out.new }
+{
+    let links = open_links(alloc, &request.addresses, dock)?;
+    let blank = Blank::new(links.len() as u64);
+    let ending = run_links::<Brand, R, D::L>(rt, alloc, blank, request, links)?;
+    Ok(ending.write(out)?)
+}
+
+// Reads all links, and ends their report.
+fn run_links<G: Road + Send + Sync, R: Threads + Wait + Sync, L: Link + Send>(
+    rt: &R,
+    alloc: Global,
+    blank: Blank,
+    request: &Request,
+    links: Vec<L>,
+) -> Result<Ending, Fault>
+    requires blank { (blank.name ≡ G.name) × (blank.parts ≡ G.parts) × (G.parts ≡ vec_len links) }
+    requires settings { settings_in request.now ≡ settings_of G.window G.first G.frames }
+    requires range { IsInRange request.now }
+    requires many { vec_len links ≡ length request.now.addresses }
+    ensures { EndsLinks request.now L.known links.items result }
+{
+    let settings = Settings {
+        window: request.window,
+        first: request.first,
+        frames: request.frames,
+    };
+    let options = PathOptions {
+        idle: request.idle,
+        limit: request.limit,
+    };
+    let (shared, paths) = open_paths::<G>(alloc, blank, settings, links.len() as u8)?;
+    let mut jobs = jobs_of(alloc, paths, links)?;
+    run_all(rt, alloc, &shared, &options, jobs.as_mut_slice());
+    if some_failed(jobs.as_slice()) {
+        return Err(Fault::Link);
+    }
+    if some_ran_out(jobs.as_slice()) {
+        return Err(Fault::NoMemory);
+    }
+    let paths = paths_of(alloc, jobs)?;
+    closed(close_paths(alloc, shared, paths))
+}
+
+// How a run ends that is closed so.
+fn closed(closed: Closed) -> Result<Ending, Fault>
+    ensures { result ≡ ending_of closed }
+{
+    match closed {
+        Closed::Whole(ending) => Ok(ending),
+        Closed::Differ(difference) => Err(Fault::Differs {
+            path: difference.path,
+            at: difference.at,
+        }),
+        Closed::NoMemory => Err(Fault::NoMemory),
+    }
+}
