@@ -1,0 +1,4 @@
+pub mod Files
+pub mod Filling
+pub mod Written
+pub mod Runs

@@ -1,5 +1,5 @@
 -- The front of a file's bytes, as the code has it.
-use Rattle.std.specs.Prelude.{ℕ, ◌≡◌, ◌+◌, ◌<◌, ◌≤◌, List, [], ◌++◌, length, Result, Ok, Err}
+use Rattle.std.specs.Prelude.{ℕ, ◌≡◌, ◌<◌, ◌≤◌, List, [], ◌++◌, length, Result, Ok, Err}
 use Rattle.drm_data.specs.Units.{most_unit}
 use Rattle.drm_faults.specs.declared.units.UnitsReason.TheVariants.{Empty, TooLong, Cut}
 use Rattle.drm_faults.specs.declared.fault.Fault.{Fault}

@@ -1,10 +1,7 @@
 -- An input that is read whole, if it isn't too long.
-use Rattle.std.specs.Prelude.{ℕ, ◌≡◌, ◌<◌, ◌≤◌, List, [], ◌++◌, length, Result, Ok, Err}
+use Rattle.std.specs.Prelude.{ℕ, ◌≡◌, ◌<◌, ◌≤◌, List, [], ◌++◌, length}
 use Rattle.drm_links.specs.Told.{Known}
 use Rattle.drm_links.specs.Source.{Input, Inputs}
-use Rattle.drm_faults.specs.declared.fault.Fault.{Fault}
-use Rattle.drm_faults.specs.declared.fault.Fault.TheVariants.{Read}
-use Rattle.data_units.specs.Units.{most_bytes}
 
 -- These bytes are the input, or as many of its first bytes as there is room for.
 pub record ReadsFront (room : ℕ) (bytes : List ℕ) (before after : Known Input) : Type 0 where

@@ -7,7 +7,7 @@ use Rattle.drm_faults.specs.Fault.{UnlessMemory}
 use Rattle.drm_faults.specs.declared.units.UnitsFault.{UnitsFault}
 use Rattle.drm_faults.specs.declared.fault.Fault.{Fault}
 use Rattle.drm_faults.specs.declared.fault.Fault.TheVariants as faults
-use Rattle.data_units.specs.Units.{ComesTo, most_bytes}
+use Rattle.data_units.specs.Units.{ComesTo}
 use Rattle.data_units.specs.Input.{ReadsFile, FailsBehind}
 use Rattle.data_units.specs.Packed.{ArePacked}
 

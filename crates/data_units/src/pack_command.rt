@@ -1,13 +1,13 @@
 //! The command `pack`.
 
-ghost use Rattle.std.specs.Prelude.{◌≡◌, ◌<◌, ◌≤◌, Err};
+ghost use Rattle.std.specs.Prelude.{◌≡◌, ◌<◌, ◌≤◌, Err, IfOk, length};
 ghost use Rattle.drm_links.specs.Told.{HasCause};
 ghost use Rattle.data_units.specs.Pack.{Ends, PackRun, Judges};
 
 use crate::input::read_front;
 use crate::packing::write_packets;
 use crate::units::judge;
-use drm_bits::zeros;
+use drm_bits::{NoMemory, zeros};
 use drm_faults::{Fault, UnitsFault, UnitsReason};
 use drm_links::{Sink, Source};
 use std::alloc::Global;
@@ -45,11 +45,18 @@ fn pack_whole<I: Source, O: Sink>(
     ensures read { HasCause (I.known input.old) (I.known input.new) (result ≡ Err Fault.Read) }
     ensures write { HasCause (O.known out.old) (O.known out.new) (result ≡ Err Fault.Write) }
 {
-    let mut room = zeros(alloc, MOST_BYTES + 1)?;
+    let mut room = room_for(alloc, MOST_BYTES + 1)?;
     let len = read_front(input, &mut room)?;
     check(&room[..len])?;
     write_packets(id, length, &room[..len], out)?;
     Ok(())
+}
+
+// Room for so many bytes.
+fn room_for(alloc: Global, len: usize) -> Result<Vec<u8>, NoMemory>
+    ensures { IfOk result (λ room. length room.items ≡ len) }
+{
+    zeros(alloc, len)
 }
 
 // Whether the bytes are units. An input that is too long is refused before any of its units.

@@ -29,11 +29,16 @@ pub(crate) fn write_packets<O: Sink>(
 {
     let mut packer = Packer::new(id, length);
     let mut rest = bytes;
-    'units: while let Front::Unit { unit, rest: behind } = front_of(rest) {
-        write_unit(&mut packer, length, unit, out)?;
-        rest = behind;
+    'units: loop {
+        match front_of(rest) {
+            Front::Unit { unit, rest: behind } => {
+                write_unit(&mut packer, length, unit, out)?;
+                rest = behind;
+            }
+            Front::End => return Ok(()),
+            Front::Wrong(_) => return Ok(()),
+        }
     }
-    Ok(())
 }
 
 // Writes the packets of a unit.
@@ -45,6 +50,8 @@ fn write_unit<O: Sink>(
 ) -> Result<(), WriteFault>
     requires length { length ≡ packer.old.length }
     requires some { 1 ≤ length }
+    requires id { packer.old.id < 4 }
+    requires continuity { packer.old.continuity < 8 }
     requires unit { IsUnit unit.now }
     ensures writes { (text : List ℕ)
         × AreWritten length (unit_packets packer.old.id length packer.old.continuity unit.now) text

@@ -1,0 +1,178 @@
+-- A run of `pack`, by how it ends.
+use Rattle.std.proofs.Common.{◌≡◌, ℕ, ◌<◌, inl, inr, List, [], ◌++◌, length, Option, None, Some, refl, sym, ap, subst, ◌∙◌, arith, length-append}
+use Rattle.std.specs.Prelude.{◌↔◌, Result, Ok, Err}
+use Rattle.std.proofs.lemmas.List.{append-nil}
+use Rattle.drm_links.specs.Told.{Known, HasCause, ToldThrough}
+use Rattle.drm_links.specs.Source.{Input, Inputs, LeftBy}
+use Rattle.drm_links.specs.Sink.{Output, Outputs}
+use Rattle.drm_links.proofs.ToldLemmas.{Inputs-nothing, Inputs-weaker}
+use Rattle.drm_faults.specs.Fault.{UnlessMemory}
+use Rattle.drm_faults.specs.declared.units.UnitsFault.{UnitsFault}
+use Rattle.drm_faults.specs.declared.fault.Fault.{Fault}
+use Rattle.drm_faults.specs.declared.fault.Fault.TheVariants as faults
+use Rattle.data_units.specs.Units.{ComesTo}
+use Rattle.data_units.specs.Input.{ReadsFile}
+use Rattle.data_units.specs.Packed.{ArePacked}
+use Rattle.data_units.specs.Pack.{Judges, Ends, CanEnd, PackRun}
+use Rattle.data_units.proofs.Files.{one_coming}
+
+-- ---- what was read, and what was left of the input
+
+both_told : (P Q : Input → Input → Type 0) (a b : Option Input) → ToldThrough a b P → ToldThrough a b Q → ToldThrough a b (λ x y. P x y × Q x y)
+both_told P Q None None p q = tt
+both_told P Q (Some x) None p q = tt
+both_told P Q None (Some y) p q = absurd p
+both_told P Q (Some x) (Some y) p q = (p, q)
+
+all_read : (bytes : List ℕ) (before after : Known Input) → ReadsFile bytes before after → length bytes < 16777217 → Inputs before after (λ left rest. left ≡ bytes)
+all_read bytes before after reads short =
+    let P : List ℕ → List ℕ → Type 0 = λ left rest. left ≡ bytes ++ rest in
+    let Q : List ℕ → List ℕ → Type 0 = λ left rest. rest ≡ [] in
+    let both : Inputs before after (λ left rest. P left rest × Q left rest) = both_told (LeftBy P) (LeftBy Q) before.told after.told reads.front (reads.all short) in
+    Inputs-weaker (λ left rest. P left rest × Q left rest) (λ left rest. left ≡ bytes) before after both (λ left rest (is, none). is ∙ (ap (λ l. bytes ++ l) none ∙ append-nil bytes))
+
+pub comes_left : (bytes : List ℕ) (came : Result (List (List ℕ)) UnitsFault) (before after : Known Input) → ReadsFile bytes before after → ComesTo bytes came → Inputs before after (λ left _. ComesTo left came)
+comes_left bytes (Ok units) before after reads comes =
+    Inputs-weaker (λ left rest. left ≡ bytes) (λ left _. ComesTo left (Ok units)) before after (all_read bytes before after reads (omega (arith, comes.0)))
+    (λ left rest is. subst (λ l. ComesTo l (Ok units)) (sym is) comes)
+comes_left bytes (Err fault) before after reads (inl much) =
+    Inputs-weaker (λ left rest. left ≡ bytes ++ rest) (λ left _. ComesTo left (Err fault)) before after reads.front
+    (λ left rest is. inl (omega (arith, much.0, ap length is, length-append bytes rest), much.1))
+comes_left bytes (Err fault) before after reads (inr wrong) =
+    Inputs-weaker (λ left rest. left ≡ bytes) (λ left _. ComesTo left (Err fault)) before after (all_read bytes before after reads (omega (arith, wrong.0)))
+    (λ left rest is. subst (λ l. ComesTo l (Err fault)) (sym is) (inr wrong))
+
+-- ---- how it ends
+
+pub checked_ends : {O : Type 0} (id d : ℕ) (bytes : List ℕ) (fault : Fault) (before after : Known Input) (known : O → Known Output) (out : O) → Judges bytes (Err fault) → ReadsFile bytes before after
+    → Ends id d (Err fault) before after known out out
+checked_ends id d bytes (faults.Units fault) before after known out judged reads = (bytes, reads, judged, refl)
+checked_ends id d bytes faults.NoMemory before after known out judged reads = absurd judged
+checked_ends id d bytes (faults.Capture fault) before after known out judged reads = absurd judged
+checked_ends id d bytes faults.CaptureTooLong before after known out judged reads = absurd judged
+checked_ends id d bytes faults.Read before after known out judged reads = absurd judged
+checked_ends id d bytes faults.Write before after known out judged reads = absurd judged
+checked_ends id d bytes (faults.PacketSize number) before after known out judged reads = absurd judged
+checked_ends id d bytes faults.Words before after known out judged reads = absurd judged
+checked_ends id d bytes (faults.FacLength n) before after known out judged reads = absurd judged
+checked_ends id d bytes faults.FacOver before after known out judged reads = absurd judged
+checked_ends id d bytes (faults.FacCrc stands computed) before after known out judged reads = absurd judged
+checked_ends id d bytes (faults.Schedule line reason) before after known out judged reads = absurd judged
+checked_ends id d bytes (faults.Script line reason) before after known out judged reads = absurd judged
+checked_ends id d bytes faults.Link before after known out judged reads = absurd judged
+
+-- and it is no other fault of the outside
+pub judged_units : (bytes : List ℕ) (fault : Fault) → Judges bytes (Err fault) → (fault ≡ faults.NoMemory → ⊥) × (fault ≡ faults.Read → ⊥) × (fault ≡ faults.Write → ⊥)
+judged_units bytes (faults.Units fault) judged = ((λ e. cc), (λ e. cc), (λ e. cc))
+judged_units bytes faults.NoMemory judged = absurd judged
+judged_units bytes (faults.Capture fault) judged = absurd judged
+judged_units bytes faults.CaptureTooLong judged = absurd judged
+judged_units bytes faults.Read judged = absurd judged
+judged_units bytes faults.Write judged = absurd judged
+judged_units bytes (faults.PacketSize number) judged = absurd judged
+judged_units bytes faults.Words judged = absurd judged
+judged_units bytes (faults.FacLength n) judged = absurd judged
+judged_units bytes faults.FacOver judged = absurd judged
+judged_units bytes (faults.FacCrc stands computed) judged = absurd judged
+judged_units bytes (faults.Schedule line reason) judged = absurd judged
+judged_units bytes (faults.Script line reason) judged = absurd judged
+judged_units bytes faults.Link judged = absurd judged
+
+module _ {O : Type 0} (id d : ℕ) (before after : Known Input) (known : O → Known Output) (out out' : O) where
+  can_by : (fault : Fault) → Ends id d (Err fault) before after known out out' → CanEnd fault
+  can_by faults.NoMemory ends = tt
+  can_by (faults.Units fault) ends = tt
+  can_by faults.Read ends = tt
+  can_by faults.Write ends = tt
+  can_by (faults.Capture fault) ends = ends
+  can_by faults.CaptureTooLong ends = ends
+  can_by (faults.PacketSize number) ends = ends
+  can_by faults.Words ends = ends
+  can_by (faults.FacLength n) ends = ends
+  can_by faults.FacOver ends = ends
+  can_by (faults.FacCrc stands computed) ends = ends
+  can_by (faults.Schedule line reason) ends = ends
+  can_by (faults.Script line reason) ends = ends
+  can_by faults.Link ends = ends
+
+  abbrev Refused : Result (Unit {0}) Fault → List ℕ → Type 0
+  Refused ending left = (fault : UnitsFault) → (ending ≡ Err (faults.Units fault)) ↔ ComesTo left (Err fault)
+
+  abbrev Exact : Result (Unit {0}) Fault → List ℕ → List ℕ → Type 0
+  Exact ending left rest = UnlessMemory ending (Refused ending left)
+
+  refused_by : (ending : Result (Unit {0}) Fault) (came : Result (List (List ℕ)) UnitsFault) (left : List ℕ) → ((fault : UnitsFault) → (ending ≡ Err (faults.Units fault)) ↔ (came ≡ Err fault)) → ComesTo left came → Refused ending left
+  refused_by ending came left same comes fault =
+      ((λ is. subst (ComesTo left) ((same fault).0 is) comes), (λ also. (same fault).1 (one_coming left came (Err fault) comes also)))
+
+  exact_by : (ending : Result (Unit {0}) Fault) (came : Result (List (List ℕ)) UnitsFault) (bytes : List ℕ) → ((fault : UnitsFault) → (ending ≡ Err (faults.Units fault)) ↔ (came ≡ Err fault))
+      → ReadsFile bytes before after → ComesTo bytes came → Inputs before after (Exact ending)
+  exact_by ending came bytes same reads comes =
+      Inputs-weaker (λ left _. ComesTo left came) (Exact ending) before after (comes_left bytes came before after reads comes) (λ left rest is. inr (refused_by ending came left same is))
+
+  exact : (ending : Result (Unit {0}) Fault) → Ends id d ending before after known out out' → (ending ≡ Err faults.Read → ⊥) → Inputs before after (Exact ending)
+  exact (Ok done) (bytes, reads, units, comes, text) no_read = exact_by (Ok done) (Ok units) bytes (λ fault. ((λ e. absurd (cc)), (λ e. absurd (cc)))) reads comes
+  exact (Err faults.Write) (bytes, reads, units, comes, text, are, front) no_read = exact_by (Err faults.Write) (Ok units) bytes (λ fault. ((λ e. absurd (cc)), (λ e. absurd (cc)))) reads comes
+  exact (Err (faults.Units f)) (bytes, reads, comes, same) no_read = exact_by (Err (faults.Units f)) (Err f) bytes (λ fault. ((λ e. let is : f ≡ fault = cc in ap Err is), (λ e. let is : f ≡ fault = cc in ap (λ k. Err (faults.Units k)) is))) reads comes
+  exact (Err faults.NoMemory) (same, kept) no_read = subst (λ k. Inputs before k (Exact (Err faults.NoMemory))) (sym same) (Inputs-nothing (Exact (Err faults.NoMemory)) before (λ left. inl refl))
+  exact (Err faults.Read) ends no_read = absurd (no_read refl)
+  exact (Err (faults.Capture fault)) ends no_read = absurd ends
+  exact (Err faults.CaptureTooLong) ends no_read = absurd ends
+  exact (Err (faults.PacketSize number)) ends no_read = absurd ends
+  exact (Err faults.Words) ends no_read = absurd ends
+  exact (Err (faults.FacLength n)) ends no_read = absurd ends
+  exact (Err faults.FacOver) ends no_read = absurd ends
+  exact (Err (faults.FacCrc stands computed)) ends no_read = absurd ends
+  exact (Err (faults.Schedule line reason)) ends no_read = absurd ends
+  exact (Err (faults.Script line reason)) ends no_read = absurd ends
+  exact (Err faults.Link) ends no_read = absurd ends
+
+  -- nothing is lost
+  abbrev Done : Result (Unit {0}) Fault → List ℕ → List ℕ → Type 0
+  Done ending left rest = (units : List (List ℕ)) → ComesTo left (Ok units) → UnlessMemory ending ((ending ≡ Ok tt) × Outputs (known out) (known out') (ArePacked id d units))
+
+  whole : (ending : Result (Unit {0}) Fault) → Ends id d ending before after known out out' → (ending ≡ Err faults.Read → ⊥) → (ending ≡ Err faults.Write → ⊥) → Inputs before after (Done ending)
+  whole (Ok done) (bytes, reads, units, comes, text) no_read no_write =
+      Inputs-weaker (λ left _. ComesTo left (Ok units)) (Done (Ok done)) before after (comes_left bytes (Ok units) before after reads comes)
+      (λ left rest is others also.
+      let same : Ok units ≡ Ok others = one_coming left (Ok units) (Ok others) is also in
+      let units_are : units ≡ others = cc in
+      inr (refl, subst (λ us. Outputs (known out) (known out') (ArePacked id d us)) units_are text))
+  whole (Err (faults.Units f)) (bytes, reads, comes, same) no_read no_write =
+      Inputs-weaker (λ left _. ComesTo left (Err f)) (Done (Err (faults.Units f))) before after (comes_left bytes (Err f) before after reads comes)
+      (λ left rest is others also. absurd (let clash : Err f ≡ Ok others = one_coming left (Err f) (Ok others) is also in cc))
+  whole (Err faults.NoMemory) (same, kept) no_read no_write = subst (λ k. Inputs before k (Done (Err faults.NoMemory))) (sym same) (Inputs-nothing (Done (Err faults.NoMemory)) before (λ left units comes. inl refl))
+  whole (Err faults.Read) ends no_read no_write = absurd (no_read refl)
+  whole (Err faults.Write) ends no_read no_write = absurd (no_write refl)
+  whole (Err (faults.Capture fault)) ends no_read no_write = absurd ends
+  whole (Err faults.CaptureTooLong) ends no_read no_write = absurd ends
+  whole (Err (faults.PacketSize number)) ends no_read no_write = absurd ends
+  whole (Err faults.Words) ends no_read no_write = absurd ends
+  whole (Err (faults.FacLength n)) ends no_read no_write = absurd ends
+  whole (Err faults.FacOver) ends no_read no_write = absurd ends
+  whole (Err (faults.FacCrc stands computed)) ends no_read no_write = absurd ends
+  whole (Err (faults.Schedule line reason)) ends no_read no_write = absurd ends
+  whole (Err (faults.Script line reason)) ends no_read no_write = absurd ends
+  whole (Err faults.Link) ends no_read no_write = absurd ends
+
+pub pack_run : {I O : Type 0} (id d : ℕ) (ending : Result (Unit {0}) Fault) (input_known : I → Known Input) (input input' : I) (out_known : O → Known Output) (out out' : O)
+    → Ends id d ending (input_known input) (input_known input') out_known out out'
+    → (ending ≡ Err faults.NoMemory → (input' ≡ input) × (out' ≡ out))
+    → HasCause (input_known input) (input_known input') (ending ≡ Err faults.Read)
+    → HasCause (out_known out) (out_known out') (ending ≡ Err faults.Write)
+    → PackRun id d ending input_known input input' out_known out out'
+pack_run {I} {O} id d ending input_known input input' out_known out out' ends untouched read_cause write_cause = record {
+  kind = λ fault is. can_by id d before after out_known out out' fault (subst (λ e. Ends id d e before after out_known out out') is ends);
+  ends = ends;
+  untouched = untouched;
+  exactly = exact id d before after out_known out out' ending ends;
+  complete = λ reads goes. whole id d before after out_known out out' ending ends (λ is. reads (read_cause.rose is)) (λ is. goes (write_cause.rose is));
+  read_cause = read_cause;
+  write_cause = write_cause;
+}
+  where
+    before : Known Input
+    before = input_known input
+
+    after : Known Input
+    after = input_known input'

@@ -1,0 +1,14 @@
+use Rattle.std.proofs.Common.{◌≡◌, ◌≤◌, ◌-◌, length}
+use Rattle.data_units.proofs.Filling.{IsFilled}
+use Rattle.data_units.proofs.input.read_front.Given as goal
+
+-- the bytes that were read stand in front
+abbrev pub invariant-loop-len : goal.invariant-loop-len
+invariant-loop-len g l =
+    IsFilled l.len l.room (g.I.Source.known l.fn.input) (g.I.Source.known l.input)
+    × (length l.room ≡ length l.fn.room)
+    × (l.len ≤ length l.room)
+    × ((g.I.Source.known l.fn.input).faults ≤ (g.I.Source.known l.input).faults)
+
+abbrev pub decreases-loop-len : goal.decreases-loop-len
+decreases-loop-len g l = length l.fn.room - l.len

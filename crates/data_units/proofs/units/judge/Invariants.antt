@@ -1,0 +1,10 @@
+use Rattle.std.proofs.Common.{ℕ, ◌≤◌, List, length}
+use Rattle.data_units.specs.Units.{AreUnits}
+use Rattle.data_units.proofs.units.judge.Given as goal
+
+-- the bytes before the rest are units
+abbrev pub invariant-units : goal.invariant-units
+invariant-units l = (units : List (List ℕ)) × AreUnits units l.rest l.bytes × (length l.rest ≤ length l.bytes)
+
+abbrev pub decreases-units : goal.decreases-units
+decreases-units l = length l.rest
