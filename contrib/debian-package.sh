@@ -1,7 +1,7 @@
 #!/bin/bash
-# Makes a Debian package of the built program and what belongs to it.
+# Makes a Debian package of the built programs and what belongs to them.
 #
-# usage: contrib/debian-package.sh VERSION [PROGRAM]
+# usage: contrib/debian-package.sh VERSION [FOLDER]
 #
 # It writes drmcast_VERSION_amd64.deb into the current folder. It needs dpkg-deb, and installs nothing.
 
@@ -23,7 +23,7 @@ trap 'rm -rf "$folder"' EXIT
 chmod 755 "$folder"
 
 DESTDIR=$folder PREFIX=/usr "$here/install.sh" ${2+"$2"}
-gzip -9n "$folder/usr/share/man/man1/drmcast.1"
+gzip -9n "$folder"/usr/share/man/man1/*.1
 mkdir "$folder/DEBIAN" "$folder/etc" "$folder/etc/drmcast"
 cat > "$folder/DEBIAN/control" <<END
 Package: drmcast

@@ -1,10 +1,10 @@
 #!/bin/bash
-# Installs the built program, its manual page, the completion for Bash, the scripts and the systemd units.
+# Installs the built programs, their manual pages, the completion for Bash, the scripts and the systemd units.
 #
-# usage: contrib/install.sh [PROGRAM]
+# usage: contrib/install.sh [FOLDER]
 #
-# PROGRAM is crates/drmcast/out/drmcast where it isn't told. PREFIX (/usr/local) is where it is to be found later, DESTDIR
-# (empty) what stands before that while a package is made. Nothing is built.
+# FOLDER has the programs drmcast and drmpaths; where it isn't told they are taken from where they are built. PREFIX (/usr/local) is where
+# they are to be found later, DESTDIR (empty) what stands before that while a package is made. Nothing is built.
 
 set -eu
 
@@ -13,18 +13,22 @@ if [ $# -gt 1 ] || [ "${1-}" = --help ] || [ "${1-}" = -h ]; then
     exit
 fi
 here=$(cd "$(dirname "$0")/.." && pwd)
-program=${1:-$here/crates/drmcast/out/drmcast}
-if [ ! -x "$program" ]; then
-    echo "install.sh: $program isn't there; (cd crates/drmcast && rt run -- exercise 1) builds it" >&2
-    exit 1
-fi
+for name in drmcast drmpaths; do
+    program=${1:-$here/crates/$name/out}/$name
+    if [ ! -x "$program" ]; then
+        echo "install.sh: $program isn't there; (cd crates/$name && rt run) builds it" >&2
+        exit 1
+    fi
+done
 prefix=${PREFIX:-/usr/local}
 into=${DESTDIR-}$prefix
 
-install -D -m 755 "$program" "$into/bin/drmcast"
-install -D -m 644 "$here/docs/drmcast.1" "$into/share/man/man1/drmcast.1"
+for name in drmcast drmpaths; do
+    install -D -m 755 "${1:-$here/crates/$name/out}/$name" "$into/bin/$name"
+    install -D -m 644 "$here/docs/$name.1" "$into/share/man/man1/$name.1"
+done
 install -D -m 644 "$here/contrib/drmcast.bash" "$into/share/bash-completion/completions/drmcast"
-for script in watch.py report.py pcap.py explain.py command_line.py reports.py datagrams.py; do
+for script in watch.py report.py pcap.py explain.py record.py units.py messages.py command_line.py reports.py datagrams.py; do
     install -D -m 755 "$here/tools/$script" "$into/lib/drmcast/$script"
 done
 for document in OPERATION SCHEDULE FORMATS WIRESHARK; do
