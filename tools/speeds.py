@@ -152,4 +152,5 @@ def main():
         print("\ntshark isn't here: its rows are left out")
 
 
-main()
+if __name__ == "__main__":
+    main()
