@@ -1,9 +1,9 @@
 -- How a run ends.
-use Rattle.std.proofs.Common.{ℕ, ◌≡◌, inl, inr, Bool, List, ◌++◌, refl, sym, ap, subst, ◌∙◌, append_assoc}
+use Rattle.std.proofs.Common.{ℕ, ◌≡◌, inl, inr, Bool, List, ◌++◌, refl, sym, ap, subst, ◌∙◌}
 use Rattle.std.specs.Prelude.{◌↔◌, Option, Result, Ok, Err}
 use Rattle.drm_links.specs.Told.{Known, HasCause}
 use Rattle.drm_links.specs.Source.{Input, Inputs}
-use Rattle.drm_links.specs.Sink.{Output, IsFront}
+use Rattle.drm_links.specs.Sink.{Output}
 use Rattle.drm_links.proofs.ToldLemmas.{Inputs-nothing, Inputs-weaker, Outputs-then}
 use Rattle.drm_links.proofs.WritingLemmas.{Writes-done, Writes-front}
 use Rattle.drm_capture.specs.declared.fault.CaptureFault.{CaptureFault}
@@ -24,6 +24,7 @@ use Rattle.capture_data.specs.Lines.{is_clean}
 use Rattle.capture_data.specs.Printed.{IsWholeText}
 use Rattle.capture_data.specs.Run.{WritesAll, WritesFront, Ends, EndsByIt, IsDone, DataRun}
 use Rattle.capture_data.specs.Taken.{counts_in, Took, TakesAll, EndsText}
+use Rattle.capture_data.proofs.Printing.{printed, front_behind}
 
 -- ---- the end of what is printed
 
@@ -56,11 +57,12 @@ whole_broken terms what taker ended before after a b o result fault all (given, 
       gives,
       items,
       are,
-      text ++ e.rest,
+      text,
+      e.rest,
       is_clean (counts_in ended),
+      printed what items text taker took,
       e.whole,
-      Outputs-then (λ l. l ≡ text) (IsFront e.rest) (IsFront (text ++ e.rest)) a b o out (Writes-front is e.writes)
-          (λ x y p (rest, q). (rest, ap (λ l. l ++ e.rest) (sym p) ∙ (ap (λ l. x ++ l) q ∙ sym (append_assoc x y rest)))),
+      front_behind text e.rest a b o out (Writes-front is e.writes),
     )
 
 -- ---- when it ends early

@@ -1,10 +1,10 @@
 -- The items of a capture, one after another.
-use Rattle.std.proofs.Common.{◌≡◌, ℕ, ◌+◌, ◌-◌, ◌*◌, ◌^◌, ◌<◌, ◌≤◌, Bool, true, false, List, [], ◌∷◌, ◌++◌, length, Option, inl, refl, sym, ap, subst, ◌∙◌, arith, append_assoc, length-append}
+use Rattle.std.proofs.Common.{◌≡◌, ℕ, ◌+◌, ◌-◌, ◌*◌, ◌^◌, ◌<◌, ◌≤◌, Bool, true, false, List, [], ◌∷◌, ◌++◌, length, Option, inl, refl, sym, ap, subst, ◌∙◌, arith, length-append}
 use Rattle.std.specs.Prelude.{Result, Ok, Err, OnOk, IfSome, if◌then◌else◌, not}
 use Rattle.std.specs.Int.{from_bool}
 use Rattle.drm_links.specs.Told.{Known}
 use Rattle.drm_links.specs.Source.{Input, Inputs}
-use Rattle.drm_links.specs.Sink.{Output, Outputs, IsFront}
+use Rattle.drm_links.specs.Sink.{Output, Outputs}
 use Rattle.drm_links.proofs.ToldLemmas.{Outputs-nothing, Outputs-then}
 use Rattle.drm_links.proofs.WritingLemmas.{Writes-done, Writes-front}
 use Rattle.drm_capture.specs.Capture.{IsCaptureOf, End, most_bytes}
@@ -23,12 +23,12 @@ use Rattle.capture_items.specs.Reading.{Terms, is_full}
 use Rattle.capture_items.specs.ReadingOn.{TookOne, ReadsOn}
 use Rattle.capture_items.proofs.ReachedLemmas.{Reached, IsReadSo, read_none, reached_none, drained, reached_taken, reached_finished, reached_given, reached_until, reached_to, reached_full, reached_end, read_further, read_as_far}
 use Rattle.capture_data.specs.declared.taker.Taker.{Taker}
-use Rattle.capture_data.specs.declared.taker.Taker.TheVariants.{Units, Messages}
-use Rattle.capture_data.specs.Streams.{What, UnitsOf, TextsOf}
-use Rattle.capture_data.specs.Printed.{AreItems, IsPrinted}
+use Rattle.capture_data.specs.Streams.{What}
+use Rattle.capture_data.specs.Printed.{AreItems}
 use Rattle.capture_data.specs.Run.{Ends, WritesUntil}
 use Rattle.capture_data.specs.Taken.{AreBelow, counts_in, IsReady, Took, TakesItem, TakesAll}
 use Rattle.capture_data.proofs.Items.{items_more}
+use Rattle.capture_data.proofs.Printing.{printed, front_behind}
 use Rattle.capture_data.proofs.Pieces.{below_weaker}
 
 -- these items were read, given and taken, and what is printed of them was written
@@ -114,13 +114,6 @@ loop_given terms first taker taken c d reader calls calls' given given' ended be
   output_later = omega (arith, i.output_later, later);
 }
 
-pub printed : (what : What) (items : List Item) (text : List ℕ) (taker : Taker) → Took what items text taker → IsPrinted what items text
-printed (UnitsOf k id d) items text (Units t) took = (took.events, took.are, took.text_is)
-printed (UnitsOf k id d) items text (Messages t) took = absurd took
-printed (TextsOf k) items text (Units t) took = absurd took
-printed (TextsOf k) items text (Messages t) took = (took.told, t.joiner, took.runs, took.text_is)
-
--- its write failed
 pub loop_broken : {E : Type 0} (terms : Terms) (first taker taken last : Taker) (c : State) (reader : WalkerState) (calls given : ℕ) (ended : Bool) (before after : Known Input) (a b o : Known Output)
     (next : Given) (item : Item) (result : Result (Unit {0}) E) (fault : E)
     → Loop terms first taker c reader calls given ended before after a b → ready c ≡ true → IsItem c next → is_full terms.told given ≡ false → IsItemOf next item
@@ -133,12 +126,15 @@ loop_broken terms first taker taken last c reader calls given ended before after
       i.all,
       next,
       reached_to terms i.packets i.all next c ended reader before after i.reached now is (room_at terms.told given i.all i.count room) i.read,
-      i.items ++ item ∷ [],
-      items_more i.all i.items next item i.are item_is,
-      text ++ t.line,
+      i.items,
+      i.are,
+      item,
+      item_is,
+      text,
+      t.line,
+      printed what i.items text taker took,
       printed what (i.items ++ item ∷ []) (text ++ t.line) t.after t.took,
-      Outputs-then (λ l. l ≡ text) (IsFront t.line) (IsFront (text ++ t.line)) a b o out (Writes-front failed t.writes)
-          (λ x y p (rest, q). (rest, ap (λ l. l ++ t.line) (sym p) ∙ (ap (λ l. x ++ l) q ∙ sym (append_assoc x y rest)))),
+      front_behind text t.line a b o out (Writes-front failed t.writes),
     )
 
 -- a packet was taken

@@ -1,7 +1,7 @@
 -- A run of `unpack` or of `texts`.
 use Rattle.std.specs.Prelude.{ℕ, ◌≡◌, ◌⊎◌, ◌↔◌, Bool, List, [], ◌∷◌, ◌++◌, Result, Ok, Err}
 use Rattle.dcp_collect.specs.Runs.{Item as Given}
-use Rattle.mod_feed.specs.Items.{Item}
+use Rattle.mod_feed.specs.Items.{Item, IsItemOf}
 use Rattle.drm_links.specs.Told.{Known, HasFailed, HasCause}
 use Rattle.drm_links.specs.Source.{Input, Inputs}
 use Rattle.drm_links.specs.Sink.{Output, Outputs, IsFront}
@@ -29,13 +29,21 @@ WritesUntil terms what stop before after out out' =
     (given : List Given) × GivesUntil terms stop given before after × (items : List Item) × AreItems given items
     × (printed : List ℕ) × IsPrinted what items printed × Outputs out out' (λ text. text ≡ printed)
 
--- A write failed: a front of what is printed is written, at an item or at the end.
+-- what was printed before, and a front of what comes behind it
+abbrev pub IsFrontBehind : List ℕ → List ℕ → List ℕ → Type 0
+IsFrontBehind printed behind text = (front : List ℕ) × IsFront behind front × (text ≡ printed ++ front)
+
+-- A write failed, of what is printed of an item or at the end: all that was printed before is written, and a front of that. Nothing
+-- more is read.
 abbrev pub WritesFront : Terms → What → Known Input → Known Input → Known Output → Known Output → Type 0
 WritesFront terms what before after out out' =
-    ((given : List Given) × (last : Given) × GivesTo terms given last before after × (items : List Item) × AreItems (given ++ last ∷ []) items
-    × (printed : List ℕ) × IsPrinted what items printed × Outputs out out' (IsFront printed))
+    ((given : List Given) × (last : Given) × GivesTo terms given last before after
+    × (items : List Item) × AreItems given items × (item : Item) × IsItemOf last item
+    × (printed line : List ℕ) × IsPrinted what items printed × IsPrinted what (items ++ item ∷ []) (printed ++ line)
+    × Outputs out out' (IsFrontBehind printed line))
     ⊎ ((given : List Given) × GivesAll terms given before after × (items : List Item) × AreItems given items
-    × (whole : List ℕ) × (clean : Bool) × IsWholeText what items whole clean × Outputs out out' (IsFront whole))
+    × (printed rest : List ℕ) × (clean : Bool) × IsPrinted what items printed × IsWholeText what items (printed ++ rest) clean
+    × Outputs out out' (IsFrontBehind printed rest))
 
 -- What is read and written; where memory is wanting, nothing.
 abbrev pub Ends : Terms → What → Result Bool Fault → Known Input → Known Input → Known Output → Known Output → Type 0
