@@ -1,4 +1,4 @@
-# Completion of drmcast for Bash: its commands, their options, and names of files where one is wanted.
+# Completion for Bash: the commands of drmcast, their options, and names of files where one is wanted; the options of drmpaths.
 
 _drmcast() {
     local word=${COMP_WORDS[COMP_CWORD]} before=${COMP_WORDS[COMP_CWORD - 1]}
@@ -22,3 +22,14 @@ _drmcast() {
 }
 
 complete -o filenames -F _drmcast drmcast
+
+_drmpaths() {
+    local word=${COMP_WORDS[COMP_CWORD]} before=${COMP_WORDS[COMP_CWORD - 1]}
+    COMPREPLY=()
+    case $before:$word in
+        --window:* | --first:* | --frames:* | --idle:* | --limit:*) ;;
+        *:-*) mapfile -t COMPREPLY < <(compgen -W '--window --first --frames --idle --limit' -- "$word") ;;
+    esac
+}
+
+complete -F _drmpaths drmpaths
