@@ -1,7 +1,7 @@
 #!/usr/bin/env python3
-"""Runs the built program over cases, as a process: words, files, standard input, and links over real sockets.
+"""Runs a built program over cases, as a process: words, files, standard input, and links over real sockets.
 
-PROGRAM is crates/drmcast/out/drmcast, and CASES are files of crates/trials/data (docs/CASES.md). A case is run where a process
+PROGRAM is crates/drmcast/out/drmcast, or drmpaths for its cases, and CASES are files of crates/trials/data (docs/CASES.md). A case is run where a process
 can do what it says: nothing of the outside fails, and no link is idle at a certain answer. Its addresses become ports of
 127.1.2.3, whose four numbers differ. Where silence ends a run, it is a second of it, and a file has no folder in its name.
 Each case that ends otherwise is named, with what differs. Status 1 where one does. A case over sockets that differs is tried
@@ -177,9 +177,10 @@ def gather(listening, got, is_ended):
                 return
 
 
-def words_of(case, ports):
+def words_of(program, case, ports):
     words = [ADDRESS.sub(lambda it: f"{HOST}:{ports[it[0]]}" if it[0] in ports else it[0], word.decode()) for word in case.words]
-    if words[:1] not in (["receive"], ["gate"]) or not ports:
+    commands = 0 if pathlib.Path(program).name == "drmpaths" else 1
+    if (commands and words[:1] not in (["receive"], ["gate"])) or not ports:
         return words
     for at, word in enumerate(words):
         if word == "--idle":
@@ -188,7 +189,7 @@ def words_of(case, ports):
         if word.startswith("--idle="):
             words[at] = f"--idle={IDLE}"
             return words
-    return [words[0], "--idle", IDLE, *words[1:]]
+    return [*words[:commands], "--idle", IDLE, *words[commands:]]
 
 
 def differences(program, case):
@@ -206,7 +207,7 @@ def differences(program, case):
             ports[at] = listening.getsockname()[1]
             sockets.append(listening)
             workers.append(threading.Thread(target=gather, args=(listening, got[at], is_ended)))
-        ran = subprocess.Popen([program, *words_of(case, ports)], cwd=room, stdin=subprocess.PIPE, stdout=subprocess.PIPE, stderr=subprocess.PIPE)
+        ran = subprocess.Popen([program, *words_of(program, case, ports)], cwd=room, stdin=subprocess.PIPE, stdout=subprocess.PIPE, stderr=subprocess.PIPE)
         if any(case.links.values()):
             workers.append(threading.Thread(target=bring, args=(ran, {at: it for at, it in case.links.items() if at not in targets}, ports)))
         for it in workers:
