@@ -5,13 +5,23 @@ use case_files::{Case, Sent};
 use drm_bits::NoMemory;
 use drm_links::{MemDock, MemSource};
 use drm_top::run;
+use path_command::run_paths;
 use std::alloc::AllocError;
 use std::fmt::Display;
+use std::sync::Wait;
 use std::thread::Threads;
 
+/// The program whose run a case is of.
+#[derive(Clone, Copy)]
+pub enum Program {
+    Drmcast,
+    Drmpaths,
+}
+
 /// What of a run differs from what the case says: nothing, or texts with commas between.
-pub fn differences<R: Threads + Sync + AllocGlobal>(
+pub fn differences<R: Threads + Wait + Sync + AllocGlobal>(
     rt: &R,
+    program: Program,
     case: &Case,
 ) -> Result<String, NoMemory> {
     let alloc = rt.alloc();
@@ -21,16 +31,19 @@ pub fn differences<R: Threads + Sync + AllocGlobal>(
     let mut out = sink_of(alloc, &case.out)?;
     let mut err = sink_of(alloc, &case.err)?;
     let mut dock = dock_of(alloc, case)?;
-    let ended = run(
-        rt,
-        alloc,
-        &case.words,
-        &mut shelf,
-        &mut input,
-        &mut out,
-        &mut err,
-        &mut dock,
-    );
+    let ended = match program {
+        Program::Drmcast => run(
+            rt,
+            alloc,
+            &case.words,
+            &mut shelf,
+            &mut input,
+            &mut out,
+            &mut err,
+            &mut dock,
+        ),
+        Program::Drmpaths => { run_paths(rt, alloc, &case.words, &mut out, &mut err, &mut dock) }
+    };
     let mut found = String::new(alloc);
     if case.status != Some(ended.code) {
         note(&mut found, format_args!("status {}", ended.code))?;

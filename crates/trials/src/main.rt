@@ -1,4 +1,5 @@
-//! Runs the cases of the files that its words name, in memory, and prints each whose run isn't as its case says.
+//! Runs the cases of the files that its words name, in memory, and prints each whose run isn't as its case says. The files
+//! behind the word `--paths` have cases of several paths.
 #![tactic(auto)]
 
 mod differences;
@@ -6,9 +7,10 @@ mod forms;
 
 use anyhow::{Context, Result};
 use case_files::{Case, Reader};
-use differences::differences;
+use differences::{Program, differences};
 use std::process::ExitCode;
 use std::rt::Files;
+use std::sync::Wait;
 use std::thread::Threads;
 use std::{env, fs};
 
@@ -24,8 +26,13 @@ fn main(rt: HostRuntime) -> Result<ExitCode> {
         cases: 0,
         differ: 0,
     };
-    for path in env::args(&rt)?.skip(1) {
-        try_file(&rt, &path, &mut tally)?;
+    let mut program = Program::Drmcast;
+    for word in env::args(&rt)?.skip(1) {
+        if word.as_str() == "--paths" {
+            program = Program::Drmpaths;
+        } else {
+            try_file(&rt, program, &word, &mut tally)?;
+        }
     }
     println!(rt; "{} cases, {} differ", tally.cases, tally.differ)?;
     Ok(if tally.differ == 0 {
@@ -35,8 +42,9 @@ fn main(rt: HostRuntime) -> Result<ExitCode> {
     })
 }
 
-fn try_file<R: Files + Print + Threads + Sync + AllocGlobal>(
+fn try_file<R: Files + Print + Threads + Wait + Sync + AllocGlobal>(
     rt: &R,
+    program: Program,
     path: &str,
     tally: &mut Tally,
 ) -> Result<()> {
@@ -48,24 +56,25 @@ fn try_file<R: Files + Print + Threads + Sync + AllocGlobal>(
             .read(line, text)
             .context(format_args!("{path}:{line}"))?;
         if let Some(case) = ended {
-            try_case(rt, path, &case, tally)?;
+            try_case(rt, program, path, &case, tally)?;
         }
     }
     let last = reader.end().context(format_args!("{path}: its last case"))?;
     if let Some(case) = last {
-        try_case(rt, path, &case, tally)?;
+        try_case(rt, program, path, &case, tally)?;
     }
     Ok(())
 }
 
-fn try_case<R: Print + Threads + Sync + AllocGlobal>(
+fn try_case<R: Print + Threads + Wait + Sync + AllocGlobal>(
     rt: &R,
+    program: Program,
     path: &str,
     case: &Case,
     tally: &mut Tally,
 ) -> Result<()> {
     let (line, name) = (case.line, case.name.as_str());
-    let found = differences(rt, case)
+    let found = differences(rt, program, case)
         .ok()
         .context(format_args!("{path}:{line}: no memory"))?;
     tally.cases = tally.cases.saturating_add(1);
