@@ -1,0 +1,50 @@
+-- Frames whose stream is the packets of units, some of which are lost.
+use Rattle.std.specs.Prelude.{ℕ, ◌≡◌, ◌≤◌, Bool, true, false, List, [], ◌∷◌, ◌++◌, length, map, replicate, None, Some}
+use Rattle.drm_data.specs.Packet.{Packet, IsPacket}
+use Rattle.drm_data.specs.Joining.{Event, Came, Gap}
+use Rattle.mod_feed.specs.Items.{Item}
+use Rattle.capture_data.specs.Streams.{What, entries_at}
+
+-- the packets in the stream of a frame, and whether the frame is given
+pub record Carried : Type 0 where
+  pub given : Bool
+  pub packets : List Packet
+
+-- it has at least one
+abbrev pub IsSome : Carried → Type 0
+IsSome frame = 1 ≤ length frame.packets
+
+-- what comes of it: its packets, or one gap in its place
+abbrev pub came_of : Bool → List Packet → List Event
+came_of true ps = map Came ps
+came_of false ps = Gap ∷ []
+
+abbrev pub events_of : List Carried → List Event
+events_of [] = []
+events_of (frame ∷ frames) = came_of frame.given frame.packets ++ events_of frames
+
+-- the packets of all frames, and which of them come
+abbrev pub packets_of : List Carried → List Packet
+packets_of [] = []
+packets_of (frame ∷ frames) = frame.packets ++ packets_of frames
+
+abbrev pub kept_of : List Carried → List Bool
+kept_of [] = []
+kept_of (frame ∷ frames) = replicate (length frame.packets) frame.given ++ kept_of frames
+
+-- these bytes are these packets, one after another
+abbrev pub ArePackets : ℕ → List (List ℕ) → List Packet → Type 0
+ArePackets d [] ps = ps ≡ []
+ArePackets d (bytes ∷ pieces) [] = ⊥
+ArePackets d (bytes ∷ pieces) (p ∷ ps) = IsPacket d p bytes × ArePackets d pieces ps
+
+-- An item brings a frame: its stream is the packets; or it is a gap, where the frame isn't given.
+abbrev pub Brings : What → ℕ → Bool → Item → List Packet → Type 0
+Brings what d true item ps = (pieces : List (List ℕ)) × (entries_at what item ≡ map Some pieces) × ArePackets d pieces ps
+Brings what d false item ps = entries_at what item ≡ None ∷ []
+
+-- each item brings its frame
+abbrev pub BringAll : What → ℕ → List Item → List Carried → Type 0
+BringAll what d [] frames = frames ≡ []
+BringAll what d (item ∷ items) [] = ⊥
+BringAll what d (item ∷ items) (frame ∷ frames) = Brings what d frame.given item frame.packets × BringAll what d items frames

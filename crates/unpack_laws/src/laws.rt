@@ -1,0 +1,13 @@
+//! The laws, each on a function that does nothing.
+
+ghost use Rattle.unpack_laws.specs.Laws.{GivesWhatFramesBring, UnpacksWhatIsWhole};
+
+/// Of the packets of units in frames, some of which are lost, a joiner gives those units of which all frames are there.
+pub fn gives_what_frames_bring()
+    ensures { GivesWhatFramesBring }
+{}
+
+/// What is printed of such frames is just these units, besides cuts.
+pub fn unpacks_what_is_whole()
+    ensures { UnpacksWhatIsWhole }
+{}
