@@ -40,6 +40,13 @@ pub record Ran {G L : Type 0} (known : L → Known Traffic) (options : PathOptio
   pub still : length after ≡ length jobs
   pub ended : (k : ℕ) (d : PathJob G L) → k < length jobs → HasEnded known options (slice_index_or jobs k d) (slice_index_or after k d)
 
+pub ran_then : {G L : Type 0} (known : L → Known Traffic) (options : PathOptions) (links : List L) (paths : List PathState) (jobs lent after : List (PathJob G L))
+    → AreNew links paths jobs → lent ≡ jobs → length after ≡ length lent
+    → ((k : ℕ) (d : PathJob G L) → k < length lent → HasEnded known options (slice_index_or lent k d) (slice_index_or after k d)) → Ran known options links paths jobs after
+ran_then {G} {L} known options links paths jobs lent after new lent_is still ended =
+    let E : List (PathJob G L) → Type 0 = λ xs. (k : ℕ) (d : PathJob G L) → k < length xs → HasEnded known options (slice_index_or xs k d) (slice_index_or after k d) in
+    record { new = new; still = still ∙ ap length lent_is; ended = subst E lent_is ended }
+
 as_many : {G L : Type 0} (links : List L) (paths : List PathState) (jobs : List (PathJob G L)) → AreNew links paths jobs → length jobs ≡ length links
 as_many links paths jobs new = sym (length-map jobs (λ job. job.link)) ∙ ap length new.links_are
 

@@ -1,12 +1,12 @@
-use Rattle.std.proofs.Common.{◌≡◌, ℕ, ◌<◌, List, length, map, slice_index_or, All, sym, ◌∙◌, ap, subst, arith}
+use Rattle.std.proofs.Common.{◌≡◌, List, length, map, All, sym, ◌∙◌, ap, subst, arith}
 use Rattle.std.specs.Prelude.{sum_by}
 use Rattle.std.specs.List.{list_any}
 use Rattle.drm_paths.specs.Closing.{Closes}
 use Rattle.drm_receive.proofs.ReceiveLemmas.{written_back}
 use Rattle.path_command.specs.declared.job.PathJob.{PathJob}
-use Rattle.path_command.specs.Jobs.{IsReady, HasEnded, has_failed, has_run_out}
+use Rattle.path_command.specs.Jobs.{IsReady, has_failed, has_run_out}
 use Rattle.path_command.specs.Run.{settings_in, options_in}
-use Rattle.path_command.proofs.Linking.{AreNew, Ran, are_new, are_ready, breaks, all_parts, ends_by}
+use Rattle.path_command.proofs.Linking.{AreNew, Ran, are_new, ran_then, are_ready, breaks, all_parts, ends_by}
 use Rattle.path_command.proofs.command.run_links.Goals as goal
 
 pub run_all-requires-clause-ready : goal.run_all-requires-clause-ready
@@ -27,12 +27,9 @@ returns-then-some_failed g c =
     let len = c.len.ensures in
     let new : AreNew c.args.links.items c.in_ok-shared.paths jobs =
     are_new c.args.links.items c.in_ok-shared.paths jobs c.len.result (omega (arith, ok, len)) c.in_ok-shared.ensures.many c.in_ok-shared.ensures.new c.in_ok-jobs.ensures.paths c.in_ok-jobs.ensures.links in
-    let value : c.as_mut_slice.result.now ≡ jobs = c.as_mut_slice.ensures.value in
-    let still : length after ≡ length jobs = c.run_all.auto.jobs ∙ ap length value in
-    let E : List (PathJob g.row.G.Denot g.row.L.Denot) → Type 0 = λ xs. (k : ℕ) (d : PathJob g.row.G.Denot g.row.L.Denot) → k < length xs → HasEnded g.L.Link.known (options_in c.args.request.now) (slice_index_or xs k d) (slice_index_or after k d) in
     let ran : Ran g.L.Link.known (options_in c.args.request.now) c.args.links.items c.in_ok-shared.paths jobs after =
-    record { new = new; still = still; ended = subst E value c.run_all.ensures } in
-    let same : c.as_slice.result.now ≡ after = written_back c.in_ok-jobs.jobs.len after jobs c.as_slice.result.now (sym (still ∙ ap length (sym value) ∙ c.as_mut_slice.ensures.len)) c.as_slice.ensures.value in
+    ran_then g.L.Link.known (options_in c.args.request.now) c.args.links.items c.in_ok-shared.paths jobs c.as_mut_slice.result.now after new c.as_mut_slice.ensures.value c.run_all.auto.jobs c.run_all.ensures in
+    let same : c.as_slice.result.now ≡ after = written_back c.in_ok-jobs.jobs.len after jobs c.as_slice.result.now (sym (c.run_all.auto.jobs ∙ c.as_mut_slice.ensures.len)) c.as_slice.ensures.value in
     breaks g.L.Link.known (options_in c.args.request.now) c.args.links.items c.in_ok-shared.paths jobs after ran
     (ap (λ js. list_any (λ job. has_failed job.ended) js) (sym same) ∙ sym c.some_failed.ensures ∙ c.if-some_failed.true)
 
@@ -44,12 +41,9 @@ close_paths-requires-clause-all g c =
     let len = c.len.ensures in
     let new : AreNew c.args.links.items c.in_ok-shared.paths jobs =
     are_new c.args.links.items c.in_ok-shared.paths jobs c.len.result (omega (arith, ok, len)) c.in_ok-shared.ensures.many c.in_ok-shared.ensures.new c.in_ok-jobs.ensures.paths c.in_ok-jobs.ensures.links in
-    let value : c.as_mut_slice.result.now ≡ jobs = c.as_mut_slice.ensures.value in
-    let still : length after ≡ length jobs = c.run_all.auto.jobs ∙ ap length value in
-    let E : List (PathJob g.row.G.Denot g.row.L.Denot) → Type 0 = λ xs. (k : ℕ) (d : PathJob g.row.G.Denot g.row.L.Denot) → k < length xs → HasEnded g.L.Link.known (options_in c.args.request.now) (slice_index_or xs k d) (slice_index_or after k d) in
     let ran : Ran g.L.Link.known (options_in c.args.request.now) c.args.links.items c.in_ok-shared.paths jobs after =
-    record { new = new; still = still; ended = subst E value c.run_all.ensures } in
-    let same : c.as_slice.result.now ≡ after = written_back c.in_ok-jobs.jobs.len after jobs c.as_slice.result.now (sym (still ∙ ap length (sym value) ∙ c.as_mut_slice.ensures.len)) c.as_slice.ensures.value in
+    ran_then g.L.Link.known (options_in c.args.request.now) c.args.links.items c.in_ok-shared.paths jobs c.as_mut_slice.result.now after new c.as_mut_slice.ensures.value c.run_all.auto.jobs c.run_all.ensures in
+    let same : c.as_slice.result.now ≡ after = written_back c.in_ok-jobs.jobs.len after jobs c.as_slice.result.now (sym (c.run_all.auto.jobs ∙ c.as_mut_slice.ensures.len)) c.as_slice.ensures.value in
     let paths : c.in_ok-paths.paths ≡ map (λ job. job.path) after = c.in_ok-paths.ensures ∙ ap (λ js. map (λ job. job.path) js) (sym c.as_slice.ensures.value ∙ same) in
     let parts : sum_by (λ p. p.parts) (map (λ job. job.path) after) ≡ length c.args.links.items = all_parts g.L.Link.known (options_in c.args.request.now) c.args.links.items c.in_ok-shared.paths jobs after ran in
     ap (λ ps. sum_by (λ p. p.parts) ps) paths ∙ parts ∙ omega (arith, ok) ∙ sym c.requires.blank.2
@@ -62,12 +56,9 @@ returns g c =
     let len = c.len.ensures in
     let new : AreNew c.args.links.items c.in_ok-shared.paths jobs =
     are_new c.args.links.items c.in_ok-shared.paths jobs c.len.result (omega (arith, ok, len)) c.in_ok-shared.ensures.many c.in_ok-shared.ensures.new c.in_ok-jobs.ensures.paths c.in_ok-jobs.ensures.links in
-    let value : c.as_mut_slice.result.now ≡ jobs = c.as_mut_slice.ensures.value in
-    let still : length after ≡ length jobs = c.run_all.auto.jobs ∙ ap length value in
-    let E : List (PathJob g.row.G.Denot g.row.L.Denot) → Type 0 = λ xs. (k : ℕ) (d : PathJob g.row.G.Denot g.row.L.Denot) → k < length xs → HasEnded g.L.Link.known (options_in c.args.request.now) (slice_index_or xs k d) (slice_index_or after k d) in
     let ran : Ran g.L.Link.known (options_in c.args.request.now) c.args.links.items c.in_ok-shared.paths jobs after =
-    record { new = new; still = still; ended = subst E value c.run_all.ensures } in
-    let same : c.as_slice.result.now ≡ after = written_back c.in_ok-jobs.jobs.len after jobs c.as_slice.result.now (sym (still ∙ ap length (sym value) ∙ c.as_mut_slice.ensures.len)) c.as_slice.ensures.value in
+    ran_then g.L.Link.known (options_in c.args.request.now) c.args.links.items c.in_ok-shared.paths jobs c.as_mut_slice.result.now after new c.as_mut_slice.ensures.value c.run_all.auto.jobs c.run_all.ensures in
+    let same : c.as_slice.result.now ≡ after = written_back c.in_ok-jobs.jobs.len after jobs c.as_slice.result.now (sym (c.run_all.auto.jobs ∙ c.as_mut_slice.ensures.len)) c.as_slice.ensures.value in
     let again : c.as_slice-2.result.now ≡ after = c.as_slice-2.ensures.value ∙ sym c.as_slice.ensures.value ∙ same in
     let paths : c.in_ok-paths.paths ≡ map (λ job. job.path) after = c.in_ok-paths.ensures ∙ ap (λ js. map (λ job. job.path) js) (sym c.as_slice.ensures.value ∙ same) in
     rw c.closed.ensures
