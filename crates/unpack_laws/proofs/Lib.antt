@@ -1,1 +1,3 @@
 pub mod LostFrames
+pub mod Numbered
+pub mod Deliveries

@@ -1,6 +1,9 @@
 //! The laws, each on a function that does nothing.
 
+ghost use Rattle.unpack_laws.specs.Delivered.{UnpacksDeliveries};
 ghost use Rattle.unpack_laws.specs.Laws.{GivesWhatFramesBring, UnpacksWhatIsWhole};
+
+use mod_delivery::modulators_give;
 
 /// Of the packets of units in frames, some of which are lost, a joiner gives those units of which all frames are there.
 pub fn gives_what_frames_bring()
@@ -11,3 +14,10 @@ pub fn gives_what_frames_bring()
 pub fn unpacks_what_is_whole()
     ensures { UnpacksWhatIsWhole }
 {}
+
+/// Of a delivery of a schedule, a stream of which is the packets of units, what is printed is just the units that came whole.
+pub fn unpacks_deliveries()
+    ensures { UnpacksDeliveries }
+{
+    modulators_give();
+}

@@ -3,4 +3,4 @@
 
 mod laws;
 
-pub use laws::{gives_what_frames_bring, unpacks_what_is_whole};
+pub use laws::{gives_what_frames_bring, unpacks_deliveries, unpacks_what_is_whole};

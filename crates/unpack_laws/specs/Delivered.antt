@@ -1,0 +1,75 @@
+-- What is unpacked of a delivery of a schedule, a stream of which carries units.
+use Rattle.std.specs.Prelude.{ℕ, pos, ◌≡◌, ◌+◌, ◌-◌, ◌*◌, ◌/◌, ◌≤◌, Bool, List, [], ◌∷◌, ◌++◌, length, map, slice_get, Option, Some}
+use Rattle.std.specs.List.{AllByRecursion}
+use Rattle.drm_schedule.specs.declared.config.Config.{Config}
+use Rattle.drm_schedule.specs.declared.plan.Plan.{Plan}
+use Rattle.drm_schedule.specs.Valid.{IsSchedule}
+use Rattle.drm_timeline.specs.Standing.{config_of}
+use Rattle.drm_timeline.specs.Numbers.{frame_count}
+use Rattle.drm_server.specs.Frames.{stream_bytes}
+use Rattle.dcp_pft.specs.Loss.{is_recoverable}
+use Rattle.dcp_collect.specs.declared.taken.Taken.{Taken}
+use Rattle.dcp_collect.specs.Runs.{Item as Collected, Run}
+use Rattle.collect_laws.specs.Delivery.{got}
+use Rattle.mod_delivery.specs.Sent.{Arrival, pairs_in, shape_at, IsFollowed}
+use Rattle.drm_data.specs.Packet.{Packet}
+use Rattle.drm_data.specs.Units.{packets}
+use Rattle.data_laws.specs.Losses.{IsUnit}
+use Rattle.mod_feed.specs.Items.{Item}
+use Rattle.capture_data.specs.Streams.{UnitsOf, pieces_in}
+use Rattle.capture_data.specs.Printed.{AreItems, IsWholeText}
+use Rattle.unpack_laws.specs.Frames.{Carried, ArePackets}
+use Rattle.unpack_laws.specs.Laws.{Unpacked}
+
+-- In frame t of the schedule the stream with this number has these bytes.
+pub record IsStreamAt (plan : Plan) (k t : ℕ) (bytes : List ℕ) : Type 0 where
+  pub config : Config
+  pub holds : config_of plan (t / 3) ≡ Some config
+  pub is : slice_get (map (stream_bytes (t - 3 * config.start)) config.streams) k ≡ Some bytes
+
+-- They are these packets of data, one after another, and one at least.
+pub record CarriesAt (plan : Plan) (k id d t : ℕ) (ps : List Packet) : Type 0 where
+  pub bytes : List ℕ
+  pub stream : IsStreamAt plan k t bytes
+  pub pieces : List (List ℕ)
+  pub cut : pieces_in (UnitsOf k id d) bytes ≡ Some pieces
+  pub are : ArePackets d pieces ps
+  pub some : 1 ≤ length ps
+
+-- the frames from t on carry these, each its own
+abbrev pub CarryFrom : Plan → ℕ → ℕ → ℕ → ℕ → List (List Packet) → Type 0
+CarryFrom plan k id d t [] = Unit {0}
+CarryFrom plan k id d t (ps ∷ frames) = CarriesAt plan k id d t ps × CarryFrom plan k id d (t + 1) frames
+
+-- the packets of all frames
+abbrev pub together : List (List Packet) → List Packet
+together [] = []
+together (ps ∷ frames) = ps ++ together frames
+
+-- The frames of the schedule, with the packets that each carries: together they are those of the units.
+pub record CarriesUnits (plan : Plan) (k id d : ℕ) (units : List (List ℕ)) (frames : List (List Packet)) : Type 0 where
+  pub some_length : 1 ≤ d
+  pub are_units : AllByRecursion IsUnit units
+  pub all : length frames ≡ frame_count plan
+  pub carry : CarryFrom plan k id d 0 frames
+  pub packets_are : together frames ≡ packets id d units
+
+-- whether frame t can be made again of what was got of it
+abbrev pub is_given : Plan → ℕ → List (ℕ × ℕ) → ℕ → Bool
+is_given plan window pairs t = is_recoverable (shape_at plan t) (got window (pos 0) pairs t)
+
+-- the frames from t on, each with its packets, and whether it is given
+abbrev pub carried_from : Plan → ℕ → List (ℕ × ℕ) → ℕ → List (List Packet) → List Carried
+carried_from plan window pairs t [] = []
+carried_from plan window pairs t (ps ∷ frames) = record { given = is_given plan window pairs t; packets = ps } ∷ carried_from plan window pairs (t + 1) frames
+
+-- Of a delivery of such a schedule from its first frame on, with any strays in it, where as many frames are told as it has: what is
+-- printed gives exactly those units all of whose packets came in frames that are given, and tells one cut for each other unit whose
+-- first packet came.
+abbrev pub UnpacksDeliveries : Type 0
+UnpacksDeliveries =
+    (plan : Plan) (window : ℕ) (first : Option ℕ) (arrivals : List Arrival) (datagrams : List (List ℕ)) (answers : List Taken) (collected : List Collected)
+    (k id d : ℕ) (units : List (List ℕ)) (frames : List (List Packet)) (items : List Item) (text : List ℕ) (clean : Bool)
+    → IsSchedule plan → 1 ≤ window → IsFollowed plan first (pos 0) arrivals datagrams → CarriesUnits plan k id d units frames
+    → Run window first (Some (frame_count plan)) datagrams answers collected → AreItems collected items → IsWholeText (UnitsOf k id d) items text clean
+    → Unpacked k id d units (carried_from plan window (pairs_in arrivals) 0 frames) items text clean
