@@ -1,34 +1,35 @@
 -- The items of a delivery bring the frames of its schedule.
-use Rattle.std.proofs.Common.{◌≡◌, ◌∙◌, ℕ, zero, suc, ◌+◌, ◌-◌, ◌*◌, ◌/◌, ◌<◌, ◌≤◌, Bool, true, false, cond, List, [], ◌∷◌, ◌++◌, length, map, take, drop, slice_index_or, slice_index, Option, None, Some, refl, sym, ap, ap₂, subst, arith, length-append, lt-ltb}
-use Rattle.std.specs.Prelude.{ℤ, pos, ◌+ℤ◌, nat_lt, slice_get}
+use Rattle.std.proofs.Common.{◌≡◌, ◌∙◌, ℕ, zero, suc, ◌+◌, ◌-◌, ◌*◌, ◌/◌, ◌<◌, ◌≤◌, Bool, true, false, cond, List, [], ◌∷◌, ◌++◌, length, map, take, drop, slice_index_or, slice_index, Option, None, Some, refl, sym, ap, subst, arith, lt-ltb, le-ltb, ◌&&◌}
+use Rattle.std.specs.Prelude.{ℤ, pos, negsuc, ◌+ℤ◌, ◌-ℤ◌, slice_get}
 use Rattle.std.specs.List.{AllByRecursion}
 use Rattle.std.proofs.lemmas.Int.{ints}
 use Rattle.std.proofs.lemmas.Option.{slice_get_within}
-use Rattle.dcp_collect.specs.declared.taken.Taken.{Taken}
 use Rattle.dcp_collect.specs.Numbers.{end_of}
-use Rattle.dcp_collect.specs.Runs.{Item as Collected, Run}
 use Rattle.drm_bits.specs.declared.description.MuxDesc.{MuxDesc}
 use Rattle.drm_schedule.specs.declared.config.Config.{Config}
 use Rattle.drm_schedule.specs.declared.plan.Plan.{Plan}
 use Rattle.drm_timeline.specs.Standing.{config_of}
-use Rattle.drm_timeline.specs.Description.{description_of}
 use Rattle.drm_timeline.specs.Numbers.{frame_count}
-use Rattle.drm_server.specs.Frames.{stream_bytes, IsFrameAt}
+use Rattle.drm_server.specs.Frames.{stream_bytes}
 use Rattle.drm_switches.specs.Tracker.{new_tracker}
 use Rattle.mdi_items.specs.Frame.{Frame as MdiFrame}
-use Rattle.collect_laws.specs.Delivery.{got}
+use Rattle.collect_laws.specs.Delivery.{got, newest_of}
 use Rattle.mod_delivery.specs.Given.{IsServed, IsServedWhere, IsItemBy, IsItemAt, AreGiven}
 use Rattle.mod_delivery.specs.Laws.{Delivering}
-use Rattle.mod_delivery.specs.Sent.{Arrival, pairs_in, frame_of_number, shape_at}
+use Rattle.dcp_pft.specs.Loss.{is_recoverable}
+use Rattle.mod_delivery.specs.Sent.{pairs_in, frame_at, frame_of_number, shape_at}
 use Rattle.mod_delivery.proofs.Numbering.{frame_within}
 use Rattle.drm_data.specs.Packet.{Packet}
 use Rattle.drm_data.specs.Units.{packets}
-use Rattle.mod_feed.specs.Items.{Item}
+use Rattle.drm_data.specs.Joining.{Event, Gap, State, made, closed}
+use Rattle.data_laws.specs.Runs.{answers, cuts_in}
+use Rattle.mod_feed.specs.Items.{Item, Missing}
 use Rattle.mod_feed.specs.Feeding.{FeedStep}
-use Rattle.capture_data.specs.Streams.{What, UnitsOf, stream_of, pieces_of, pieces_in, entries_of, entries_at}
-use Rattle.unpack_laws.specs.Frames.{Carried, IsSome, packets_of, Brings, BringAll}
-use Rattle.unpack_laws.specs.Delivered.{IsStreamAt, CarriesAt, CarryFrom, CarriesUnits, is_given, carried_from, together, UnpacksDeliveries}
-use Rattle.unpack_laws.proofs.LostFrames.{unpacks_what_is_whole}
+use Rattle.capture_data.specs.Streams.{What, UnitsOf, stream_of, pieces_of, entries_of, entries_at}
+use Rattle.unpack_laws.specs.Frames.{Carried, IsSome, came_of, packets_of, Brings, BringAll}
+use Rattle.unpack_laws.specs.Delivered.{CarriesAt, CarryFrom, is_given, is_given_at, carried_from, carried_by, together, UnpacksDeliveries}
+use Rattle.unpack_laws.proofs.LostFrames.{Same, same_one, same_front, none_said}
+use Rattle.unpack_laws.proofs.Ends.{to_end, unpacked_by}
 use Rattle.unpack_laws.proofs.Numbered.{Fed, fed, run_from}
 
 -- ---- a frame that is given
@@ -77,34 +78,194 @@ brings_where false plan k id d t q kept item ps carries is = ap (entries_at (Uni
 
 -- ---- all of them
 
-frame_there : (plan : Plan) (t : ℕ) → t < frame_count plan → frame_of_number plan (pos 0) t ≡ Some t
-frame_there plan t below = frame_within plan (pos 0 +ℤ pos t) t (omega (arith, ints)) below
+-- What comes up to the end of a reading is the same for a joiner, by whose lists of frames it is said.
+abbrev ShowTheSame : (State → State) → List Carried → List Carried → Type 0
+ShowTheSame of shown frames = (s : State) → Same (of s) (to_end shown) (to_end frames)
 
-module _ (plan : Plan) (window : ℕ) (pairs : List (ℕ × ℕ)) (k id d : ℕ) where
-  brings_at : (t : ℕ) (item : Item) (ps : List Packet) → t < frame_count plan → CarriesAt plan k id d t ps → IsItemAt plan window (pos 0) pairs t item
-      → Brings (UnitsOf k id d) d (is_given plan window pairs t) item ps
-  brings_at t item ps below carries is =
-      let kept : ℕ → Bool = got window (pos 0) pairs t in
-      brings_where (is_given plan window pairs t) plan k id d t t kept item ps carries
-      (subst (λ (o : Option ℕ). IsItemBy plan o t kept item) (frame_there plan t below) is)
+-- The items bring frames that show the same as these.
+record Shows (k id d : ℕ) (of : State → State) (items : List Item) (frames : List Carried) : Type 0 where
+  shown : List Carried
+  bring : BringAll (UnitsOf k id d) d items shown
+  same : ShowTheSame of shown frames
 
-  bring_from : (t : ℕ) (items : List Item) (frames : List (List Packet)) → length items ≡ length frames → t + length frames ≤ frame_count plan
-      → CarryFrom plan k id d t frames → ((q : ℕ) (item : Item) → slice_get items q ≡ Some item → IsItemAt plan window (pos 0) pairs (t + q) item)
-      → BringAll (UnitsOf k id d) d items (carried_from plan window pairs t frames)
-  bring_from t [] [] many within carry are = refl
-  bring_from t [] (ps ∷ frames) many within carry are = absurd (omega (arith, many))
-  bring_from t (item ∷ items) [] many within carry are = absurd (omega (arith, many))
-  bring_from t (item ∷ items) (ps ∷ frames) many within carry are = (
-    brings_at t item ps (omega (arith, within)) carry.0 (subst (λ n. IsItemAt plan window (pos 0) pairs n item) (omega arith) (are 0 item refl)),
-    bring_from (t + 1) items frames (omega (arith, many)) (omega (arith, within)) carry.1
-        (λ q one at. subst (λ n. IsItemAt plan window (pos 0) pairs n one) (omega arith) (are (suc q) one at)),
+same_self : (s : State) (xs : List Event) → Same s xs xs
+same_self s xs = record { units = refl; cuts = refl; after = refl }
+
+same_back : (s : State) (xs ys : List Event) → Same s xs ys → Same s ys xs
+same_back s xs ys h = record { units = sym h.units; cuts = sym h.cuts; after = sym h.after }
+
+same_through : (s : State) (xs ys zs : List Event) → Same s xs ys → Same s ys zs → Same s xs zs
+same_through s xs ys zs h g = record { units = h.units ∙ g.units; cuts = h.cuts ∙ g.cuts; after = h.after ∙ g.after }
+
+-- where no unit is open, a gap says nothing
+same_gap : (s : State) (xs ys : List Event) → Same (closed s) xs ys → Same (closed s) xs (Gap ∷ ys)
+same_gap s xs ys h = record { units = h.units; cuts = h.cuts ∙ none_said (cuts_in (answers (closed s) ys)); after = h.after }
+
+same_came : (b : Bool) (ps : List Packet) (s : State) (xs ys : List Event) → ((t : State) → Same t xs ys) → Same s (came_of b ps ++ xs) (came_of b ps ++ ys)
+same_came true ps s xs ys h = same_front ps s xs ys h
+same_came false ps s xs ys h = same_one s Gap xs ys (h (closed s))
+
+-- frames none of which is given are as none
+abbrev AllLost : List Carried → Type 0
+AllLost frames = AllByRecursion (λ (f : Carried). f.given ≡ false) frames
+
+lost_front : (frames : List Carried) → AllLost frames → (s : State) → Same (closed s) (Gap ∷ []) (to_end frames)
+lost_front [] lost s = same_self (closed s) (Gap ∷ [])
+lost_front (frame ∷ frames) lost s =
+    subst (λ b. Same (closed s) (Gap ∷ []) (came_of b frame.packets ++ to_end frames)) (sym lost.0) (same_gap s (Gap ∷ []) (to_end frames) (lost_front frames lost.1 s))
+
+same_none : (s : State) → Same (closed s) [] (Gap ∷ [])
+same_none s = same_gap s [] [] (same_self (closed s) [])
+
+lost_behind : (frames : List Carried) → AllLost frames → (s : State) → Same s (Gap ∷ []) (to_end frames)
+lost_behind [] lost s = same_self s (Gap ∷ [])
+lost_behind (frame ∷ frames) lost s =
+    subst (λ b. Same s (Gap ∷ []) (came_of b frame.packets ++ to_end frames)) (sym lost.0)
+    (same_one s Gap [] (to_end frames) (same_through (closed s) [] (Gap ∷ []) (to_end frames) (same_none s) (lost_front frames lost.1 s)))
+
+-- an item that is missing
+abbrev none_there : Carried
+none_there = record { given = false; packets = [] }
+
+abbrev AreMissing : List Item → Type 0
+AreMissing items = AllByRecursion (λ item. (q : ℕ) × (item ≡ Missing q 0 0)) items
+
+lost_items : (k id d : ℕ) (items : List Item) → AreMissing items → (shown : List Carried) × BringAll (UnitsOf k id d) d items shown × AllLost shown
+lost_items k id d [] are = ([], refl, tt)
+lost_items k id d (item ∷ items) are =
+    let more = lost_items k id d items are.1 in
+    (none_there ∷ more.0, (ap (entries_at (UnitsOf k id d)) are.0.1, more.1), (refl, more.2))
+
+-- ---- place by place
+
+as_closed : (k id d : ℕ) (items : List Item) (frames : List Carried) → Shows k id d (λ s. s) items frames → Shows k id d closed items frames
+as_closed k id d items frames h = record { shown = h.shown; bring = h.bring; same = λ s. h.same (closed s) }
+
+module _ (plan : Plan) (window : ℕ) (base : ℤ) (pairs : List (ℕ × ℕ)) (end k id d : ℕ) where
+  abbrev kept_at : ℕ → ℕ → Bool
+  kept_at q = got window base pairs q
+
+  abbrev carried : ℕ → List (List Packet) → List Carried
+  carried t frames = carried_from plan window base pairs end t frames
+
+  -- the items from number q on
+  abbrev AreAt : ℕ → List Item → Type 0
+  AreAt q items = (i : ℕ) (item : Item) → slice_get items i ≡ Some item → IsItemAt plan window base pairs (q + i) item
+
+  first_at : (q : ℕ) (item : Item) (items : List Item) → AreAt q (item ∷ items) → IsItemAt plan window base pairs q item
+  first_at q item items are = subst (λ n. IsItemAt plan window base pairs n item) (omega arith) (are 0 item refl)
+
+  next_at : (q : ℕ) (item : Item) (items : List Item) → AreAt q (item ∷ items) → AreAt (q + 1) items
+  next_at q item items are = λ i one at. subst (λ n. IsItemAt plan window base pairs n one) (omega arith) (are (suc i) one at)
+
+  number_is : (t q : ℕ) → (base +ℤ pos q) ≡ pos t → (pos t -ℤ base) ≡ pos q
+  number_is t q place = omega (arith, ints, place)
+
+  place_next : (t q : ℕ) → (base +ℤ pos q) ≡ pos t → (base +ℤ pos (q + 1)) ≡ pos (t + 1)
+  place_next t q place = omega (arith, ints, place)
+
+  -- a frame with a number below the end is given where it can be made again; no other frame is
+  given_within : (t q : ℕ) → (base +ℤ pos q) ≡ pos t → q < end → is_given plan window base pairs end t ≡ is_recoverable (shape_at plan t) (kept_at q)
+  given_within t q place below =
+      ap (is_given_at plan window base pairs end t) (number_is t q place) ∙ ap (λ b. b && is_recoverable (shape_at plan t) (kept_at q)) (lt-ltb q end below)
+
+  lost_past : (t q : ℕ) → (base +ℤ pos q) ≡ pos t → end ≤ q → is_given plan window base pairs end t ≡ false
+  lost_past t q place past =
+      ap (is_given_at plan window base pairs end t) (number_is t q place) ∙ ap (λ b. b && is_recoverable (shape_at plan t) (kept_at q)) (le-ltb q end past)
+
+  lost_early : (t : ℕ) (z : ℤ) (n : ℕ) → (z +ℤ pos (n + 1)) ≡ pos 0 → is_given_at plan window base pairs end t z ≡ false
+  lost_early t (pos m) n e = absurd (omega (arith, ints, e))
+  lost_early t (negsuc m) n e = refl
+
+  all_past : (t q : ℕ) (frames : List (List Packet)) → (base +ℤ pos q) ≡ pos t → end ≤ q → AllLost (carried t frames)
+  all_past t q [] place past = tt
+  all_past t q (ps ∷ frames) place past = (lost_past t q place past, all_past (t + 1) (q + 1) frames (place_next t q place) (omega (arith, past)))
+
+  -- items of no frame of the schedule are missing
+  missing_by : (q : ℕ) (item : Item) → frame_of_number plan base q ≡ None → IsItemAt plan window base pairs q item → item ≡ Missing q 0 0
+  missing_by q item none is = subst (λ (o : Option ℕ). IsItemBy plan o q (kept_at q) item) none is
+
+  none_behind : (t q : ℕ) → (base +ℤ pos q) ≡ pos t → frame_count plan ≤ t → frame_of_number plan base q ≡ None
+  none_behind t q place past = ap (frame_at plan) place ∙ ap (λ b. cond b (Some t) None) (le-ltb t (frame_count plan) past)
+
+  all_behind : (t q : ℕ) (items : List Item) → (base +ℤ pos q) ≡ pos t → frame_count plan ≤ t → AreAt q items → AreMissing items
+  all_behind t q [] place past are = tt
+  all_behind t q (item ∷ items) place past are = (
+    (q, missing_by q item (none_behind t q place past) (first_at q item items are)),
+    all_behind (t + 1) (q + 1) items (place_next t q place) (omega (arith, past)) (next_at q item items are),
   )
 
-  packets_are : (t : ℕ) (frames : List (List Packet)) → packets_of (carried_from plan window pairs t frames) ≡ together frames
+  -- where item q is of frame t
+  aligned : (t q : ℕ) (items : List Item) (frames : List (List Packet)) → (base +ℤ pos q) ≡ pos t → q + length items ≡ end → t + length frames ≡ frame_count plan
+      → CarryFrom plan k id d t frames → AreAt q items → Shows k id d (λ s. s) items (carried t frames)
+  aligned t q [] frames place many all carry are =
+      record { shown = []; bring = refl; same = lost_behind (carried t frames) (all_past t q frames place (omega (arith, many))) }
+  aligned t q (item ∷ items) [] place many all carry are =
+      let lost = lost_items k id d (item ∷ items) (all_behind t q (item ∷ items) place (omega (arith, all)) are) in
+      record { shown = lost.0; bring = lost.1; same = λ s. same_back s (Gap ∷ []) (to_end lost.0) (lost_behind lost.0 lost.2 s) }
+  aligned t q (item ∷ items) (ps ∷ frames) place many all carry are =
+      let more = aligned (t + 1) (q + 1) items frames (place_next t q place) (omega (arith, many)) (omega (arith, all)) carry.1 (next_at q item items are) in
+      let b : Bool = is_recoverable (shape_at plan t) (kept_at q) in
+      let there : frame_of_number plan base q ≡ Some t = frame_within plan (base +ℤ pos q) t place (omega (arith, all)) in
+      let brings : Brings (UnitsOf k id d) d b item ps =
+      brings_where b plan k id d t q (kept_at q) item ps carry.0 (subst (λ (o : Option ℕ). IsItemBy plan o q (kept_at q) item) there (first_at q item items are)) in
+      record {
+        shown = record { given = b; packets = ps } ∷ more.shown;
+        bring = (brings, more.bring);
+        same = λ s. subst (λ c. Same s (came_of b ps ++ to_end more.shown) (came_of c ps ++ to_end (carried (t + 1) frames)))
+            (sym (given_within t q place (omega (arith, many))))
+            (same_came b ps s (to_end more.shown) (to_end (carried (t + 1) frames)) more.same);
+      }
+
+  -- where the first item is of a frame behind t
+  from_later : (n t : ℕ) (items : List Item) (frames : List (List Packet)) → base ≡ pos (t + n) → length items ≡ end → t + length frames ≡ frame_count plan
+      → CarryFrom plan k id d t frames → AreAt 0 items → Shows k id d closed items (carried t frames)
+  from_later zero t items frames at many all carry are =
+      as_closed k id d items (carried t frames) (aligned t 0 items frames (omega (arith, ints, at)) (omega (arith, many)) all carry are)
+  from_later (suc n) t items [] at many all carry are =
+      let lost = lost_items k id d items (all_behind (t + suc n) 0 items (omega (arith, ints, at)) (omega (arith, all)) are) in
+      record { shown = lost.0; bring = lost.1; same = λ s. same_back (closed s) (Gap ∷ []) (to_end lost.0) (lost_front lost.0 lost.2 s) }
+  from_later (suc n) t items (ps ∷ frames) at many all carry are =
+      let more = from_later n (t + 1) items frames (omega (arith, ints, at)) many (omega (arith, all)) carry.1 are in
+      let lost : is_given plan window base pairs end t ≡ false = lost_early t (pos t -ℤ base) n (omega (arith, ints, at)) in
+      record {
+        shown = more.shown;
+        bring = more.bring;
+        same = λ s. subst (λ c. Same (closed s) (to_end more.shown) (came_of c ps ++ to_end (carried (t + 1) frames))) (sym lost)
+            (same_gap s (to_end more.shown) (to_end (carried (t + 1) frames)) (more.same s));
+      }
+
+  -- where the first items are of no frame
+  from_earlier : (m q : ℕ) (items : List Item) (frames : List (List Packet)) → (base +ℤ pos (q + m)) ≡ pos 0 → q + length items ≡ end → length frames ≡ frame_count plan
+      → CarryFrom plan k id d 0 frames → AreAt q items → Shows k id d closed items (carried 0 frames)
+  from_earlier zero q items frames place many all carry are =
+      as_closed k id d items (carried 0 frames) (aligned 0 q items frames (omega (arith, ints, place)) many (omega (arith, all)) carry are)
+  from_earlier (suc m) q [] frames place many all carry are =
+      record { shown = []; bring = refl; same = lost_front (carried 0 frames) (all_past 0 (q + suc m) frames place (omega (arith, many))) }
+  from_earlier (suc m) q (item ∷ items) frames place many all carry are =
+      let more = from_earlier m (q + 1) items frames (omega (arith, ints, place)) (omega (arith, many)) all carry (next_at q item items are) in
+      let none : frame_of_number plan base q ≡ None = none_before (base +ℤ pos q) m (omega (arith, ints, place)) in
+      record {
+        shown = none_there ∷ more.shown;
+        bring = (ap (entries_at (UnitsOf k id d)) (missing_by q item none (first_at q item items are)), more.bring);
+        same = λ s. same_back (closed s) (to_end (carried 0 frames)) (Gap ∷ to_end more.shown)
+            (same_gap s (to_end (carried 0 frames)) (to_end more.shown) (same_back (closed s) (to_end more.shown) (to_end (carried 0 frames)) (more.same s)));
+      }
+    where
+      none_before : (z : ℤ) (m : ℕ) → (z +ℤ pos (m + 1)) ≡ pos 0 → frame_at plan z ≡ None
+      none_before (pos n) m e = absurd (omega (arith, ints, e))
+      none_before (negsuc n) m e = refl
+
+  shows_all : (z : ℤ) (items : List Item) (frames : List (List Packet)) → base ≡ z → length items ≡ end → length frames ≡ frame_count plan
+      → CarryFrom plan k id d 0 frames → AreAt 0 items → Shows k id d closed items (carried 0 frames)
+  shows_all (pos n) items frames at many all carry are = from_later n 0 items frames (omega (arith, ints, at)) many (omega (arith, all)) carry are
+  shows_all (negsuc n) items frames at many all carry are = from_earlier (n + 1) 0 items frames (omega (arith, ints, at)) (omega (arith, many)) all carry are
+
+  packets_are : (t : ℕ) (frames : List (List Packet)) → packets_of (carried t frames) ≡ together frames
   packets_are t [] = refl
   packets_are t (ps ∷ frames) = ap (λ l. ps ++ l) (packets_are (t + 1) frames)
 
-  some_in : (t : ℕ) (frames : List (List Packet)) → CarryFrom plan k id d t frames → AllByRecursion IsSome (carried_from plan window pairs t frames)
+  some_in : (t : ℕ) (frames : List (List Packet)) → CarryFrom plan k id d t frames → AllByRecursion IsSome (carried t frames)
   some_in t [] carry = tt
   some_in t (ps ∷ frames) carry = (carry.0.some, some_in (t + 1) frames carry.1)
 
@@ -116,18 +277,19 @@ step_at (step ∷ steps) zero item at = (step, refl, (let same : step.item ≡ i
 step_at (step ∷ steps) (suc q) item at = step_at steps q item at
 
 pub unpacks_deliveries : Delivering → UnpacksDeliveries
-unpacks_deliveries delivering plan window first arrivals datagrams answers collected k id d units frames items text clean is some followed carries run are whole =
+unpacks_deliveries delivering plan window first told base arrivals datagrams answers collected k id d units frames items text clean is some followed carries run are whole =
     let pairs : List (ℕ × ℕ) = pairs_in arrivals in
-    let steps : Fed new_tracker collected items = fed new_tracker collected items (run_from window first (Some (frame_count plan)) datagrams answers collected run) are in
-    let given : AreGiven plan window (pos 0) (Some (frame_count plan)) pairs steps.steps =
-    (delivering plan window first (Some (frame_count plan)) (pos 0) arrivals datagrams answers collected steps.steps steps.after is some followed run steps.feeds).0 in
-    let many : length items ≡ length frames =
-    ap length (sym steps.items_are) ∙ (length_mapped (λ (s : FeedStep). s.item) steps.steps ∙ (given.many ∙ sym carries.all)) in
-    let at_each : (q : ℕ) (item : Item) → slice_get items q ≡ Some item → IsItemAt plan window (pos 0) pairs q item =
+    let end : ℕ = end_of told (newest_of base None pairs) in
+    let steps : Fed new_tracker collected items = fed new_tracker collected items (run_from window first told datagrams answers collected run) are in
+    let given : AreGiven plan window base told pairs steps.steps =
+    (delivering plan window first told base arrivals datagrams answers collected steps.steps steps.after is some followed run steps.feeds).0 in
+    let many : length items ≡ end = ap length (sym steps.items_are) ∙ (length_mapped (λ (s : FeedStep). s.item) steps.steps ∙ given.many) in
+    let at_each : (q : ℕ) (item : Item) → slice_get items q ≡ Some item → IsItemAt plan window base pairs q item =
     λ q item at.
     let step = step_at steps.steps q item (ap (λ l. slice_get l q) steps.items_are ∙ at) in
-    subst (λ one. IsItemAt plan window (pos 0) pairs q one) step.2 (given.items q step.0 step.1) in
-    unpacks_what_is_whole k id d units (carried_from plan window pairs 0 frames) items text clean carries.some_length carries.are_units
-    (some_in plan window pairs k id d 0 frames carries.carry) (packets_are plan window pairs k id d 0 frames ∙ carries.packets_are)
-    (bring_from plan window pairs k id d 0 items frames many (omega (arith, carries.all)) carries.carry
-    (λ q item at. subst (λ n. IsItemAt plan window (pos 0) pairs n item) (omega arith) (at_each q item at))) whole
+    subst (λ one. IsItemAt plan window base pairs q one) step.2 (given.items q step.0 step.1) in
+    let shows = shows_all plan window base pairs end k id d base items frames refl many carries.all carries.carry
+    (λ q item at. subst (λ n. IsItemAt plan window base pairs n item) (omega arith) (at_each q item at)) in
+    unpacked_by k id d units (carried_by plan window base told pairs frames) shows.shown items text clean carries.some_length carries.are_units
+    (some_in plan window base pairs end k id d 0 frames carries.carry) (packets_are plan window base pairs end k id d 0 frames ∙ carries.packets_are)
+    shows.bring (shows.same (made id d)) whole

@@ -1,3 +1,4 @@
 pub mod LostFrames
+pub mod Ends
 pub mod Numbered
 pub mod Deliveries

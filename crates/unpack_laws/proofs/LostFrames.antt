@@ -8,7 +8,6 @@ use Rattle.drm_data.specs.Units.{packets}
 use Rattle.drm_data.specs.Joining.{Event, Came, Gap, State, made, closed, answer, after}
 use Rattle.drm_data.proofs.Joinings.{one_event}
 use Rattle.data_laws.specs.Losses as losses
-use Rattle.data_laws.specs.Losses.{IsUnit, whole_units, cut_count}
 use Rattle.data_laws.specs.Readings.{AreEvents}
 use Rattle.data_laws.specs.Runs.{answers, after_all, unit_in, tells_cut, with_unit, units_in, cuts_in}
 use Rattle.data_laws.proofs.LostPackets.{gives_what_is_whole}
@@ -26,15 +25,15 @@ pub record Same (s : State) (xs ys : List Event) : Type 0 where
   pub cuts : cuts_in (answers s xs) ≡ cuts_in (answers s ys)
   pub after : after_all s xs ≡ after_all s ys
 
-same_one : (s : State) (e : Event) (xs ys : List Event) → Same (after s e) xs ys → Same s (e ∷ xs) (e ∷ ys)
+pub same_one : (s : State) (e : Event) (xs ys : List Event) → Same (after s e) xs ys → Same s (e ∷ xs) (e ∷ ys)
 same_one s e xs ys h = record { units = ap (with_unit (unit_in (answer s e))) h.units; cuts = ap (λ n. from_bool (tells_cut (answer s e)) + n) h.cuts; after = h.after }
 
-same_front : (ps : List Packet) (s : State) (xs ys : List Event) → ((t : State) → Same t xs ys) → Same s (map Came ps ++ xs) (map Came ps ++ ys)
+pub same_front : (ps : List Packet) (s : State) (xs ys : List Event) → ((t : State) → Same t xs ys) → Same s (map Came ps ++ xs) (map Came ps ++ ys)
 same_front [] s xs ys h = h s
 same_front (p ∷ ps) s xs ys h = same_one s (Came p) (map Came ps ++ xs) (map Came ps ++ ys) (same_front ps (after s (Came p)) xs ys h)
 
 -- where no unit is open, gaps say nothing
-none_said : (n : ℕ) → n ≡ 0 + n
+pub none_said : (n : ℕ) → n ≡ 0 + n
 none_said n = omega arith
 
 drop_gaps : (n : ℕ) (s : State) (xs ys : List Event) → ((t : State) → Same t xs ys) → Same (closed s) xs (replicate n Gap ++ ys)
@@ -100,13 +99,13 @@ frame_events : (what : What) (d : ℕ) (g : Bool) (item : Item) (ps : List Packe
 frame_events what d true item ps (pieces, is, are) = subst (λ l. AreEvents d l (map Came ps)) (sym is) (packets_events d pieces ps are)
 frame_events what d false item ps is = subst (λ l. AreEvents d l (Gap ∷ [])) (sym is) (refl, refl)
 
-all_events : (what : What) (d : ℕ) (items : List Item) (frames : List Carried) → BringAll what d items frames → AreEvents d (reading what items) (events_of frames)
+pub all_events : (what : What) (d : ℕ) (items : List Item) (frames : List Carried) → BringAll what d items frames → AreEvents d (reading what items) (events_of frames)
 all_events what d [] frames is = ap events_of is
 all_events what d (item ∷ items) [] bring = absurd bring
 all_events what d (item ∷ items) (frame ∷ frames) bring =
     events_join d (entries_at what item) (reading what items) (came_of frame.given frame.packets) (events_of frames) (frame_events what d frame.given item frame.packets bring.0) (all_events what d items frames bring.1)
 
-one_reading : (d : ℕ) (entries : List (Option (List ℕ))) (es fs : List Event) → AreEvents d entries es → AreEvents d entries fs → es ≡ fs
+pub one_reading : (d : ℕ) (entries : List (Option (List ℕ))) (es fs : List Event) → AreEvents d entries es → AreEvents d entries fs → es ≡ fs
 one_reading d [] es fs a b = a ∙ sym b
 one_reading d (None ∷ entries) [] fs a b = absurd a
 one_reading d (Some x ∷ entries) [] fs a b = absurd a

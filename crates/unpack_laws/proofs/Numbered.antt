@@ -1,12 +1,12 @@
 -- The items of a run are numbered from 0 on, and a feed answers to them.
-use Rattle.std.proofs.Common.{◌≡◌, ℕ, zero, suc, ◌+◌, List, [], ◌∷◌, ◌++◌, length, take, map, Option, None, Some, refl, sym, ap, ap₂, subst, ◌∙◌, arith}
+use Rattle.std.proofs.Common.{◌≡◌, ℕ, zero, suc, ◌+◌, List, [], ◌∷◌, ◌++◌, length, take, map, Option, None, Some, refl, sym, ap, subst, ◌∙◌, arith}
 use Rattle.dcp_collect.specs.declared.taken.Taken.{Taken}
 use Rattle.dcp_collect.specs.State.{State, after_item}
 use Rattle.dcp_collect.specs.Runs.{Item as Collected, Packet, Lost, Damaged, IsItem, Gives, Steps, Run, up_to}
 use Rattle.collect_laws.proofs.Stays.{take_next}
 use Rattle.collect_laws.proofs.Runs.{gives_count, steps_count}
 use Rattle.drm_switches.specs.Tracker.{TrackerState}
-use Rattle.mod_feed.specs.Items.{Item, IsItemOf, number_of, seen_in}
+use Rattle.mod_feed.specs.Items.{Item, number_of, seen_in}
 use Rattle.mod_feed.specs.Feeding.{FeedStep, Feeds, after_step}
 use Rattle.drm_switches.specs.Tracker.{answered, stepped}
 use Rattle.drm_switches.specs.declared.seen.Seen.{Seen}

@@ -1,5 +1,5 @@
 -- What is unpacked of a delivery of a schedule, a stream of which carries units.
-use Rattle.std.specs.Prelude.{ℕ, pos, ◌≡◌, ◌+◌, ◌-◌, ◌*◌, ◌/◌, ◌≤◌, Bool, List, [], ◌∷◌, ◌++◌, length, map, slice_get, Option, Some}
+use Rattle.std.specs.Prelude.{ℕ, ℤ, pos, negsuc, ◌-ℤ◌, ◌≡◌, ◌+◌, ◌-◌, ◌*◌, ◌/◌, ◌≤◌, nat_lt, Bool, false, ◌&&◌, List, [], ◌∷◌, ◌++◌, length, map, slice_get, Option, None, Some}
 use Rattle.std.specs.List.{AllByRecursion}
 use Rattle.drm_schedule.specs.declared.config.Config.{Config}
 use Rattle.drm_schedule.specs.declared.plan.Plan.{Plan}
@@ -9,8 +9,9 @@ use Rattle.drm_timeline.specs.Numbers.{frame_count}
 use Rattle.drm_server.specs.Frames.{stream_bytes}
 use Rattle.dcp_pft.specs.Loss.{is_recoverable}
 use Rattle.dcp_collect.specs.declared.taken.Taken.{Taken}
+use Rattle.dcp_collect.specs.Numbers.{end_of}
 use Rattle.dcp_collect.specs.Runs.{Item as Collected, Run}
-use Rattle.collect_laws.specs.Delivery.{got}
+use Rattle.collect_laws.specs.Delivery.{got, newest_of}
 use Rattle.mod_delivery.specs.Sent.{Arrival, pairs_in, shape_at, IsFollowed}
 use Rattle.drm_data.specs.Packet.{Packet}
 use Rattle.drm_data.specs.Units.{packets}
@@ -54,22 +55,31 @@ pub record CarriesUnits (plan : Plan) (k id d : ℕ) (units : List (List ℕ)) (
   pub carry : CarryFrom plan k id d 0 frames
   pub packets_are : together frames ≡ packets id d units
 
--- whether frame t can be made again of what was got of it
-abbrev pub is_given : Plan → ℕ → List (ℕ × ℕ) → ℕ → Bool
-is_given plan window pairs t = is_recoverable (shape_at plan t) (got window (pos 0) pairs t)
+-- Whether frame t is given: its number is below the end, and its packet can be made again of what was got.
+abbrev pub is_given_at : Plan → ℕ → ℤ → List (ℕ × ℕ) → (end t : ℕ) → ℤ → Bool
+is_given_at plan window base pairs end t (pos q) = nat_lt q end && is_recoverable (shape_at plan t) (got window base pairs q)
+is_given_at plan window base pairs end t (negsuc n) = false
+
+abbrev pub is_given : Plan → ℕ → ℤ → List (ℕ × ℕ) → (end t : ℕ) → Bool
+is_given plan window base pairs end t = is_given_at plan window base pairs end t (pos t -ℤ base)
 
 -- the frames from t on, each with its packets, and whether it is given
-abbrev pub carried_from : Plan → ℕ → List (ℕ × ℕ) → ℕ → List (List Packet) → List Carried
-carried_from plan window pairs t [] = []
-carried_from plan window pairs t (ps ∷ frames) = record { given = is_given plan window pairs t; packets = ps } ∷ carried_from plan window pairs (t + 1) frames
+abbrev pub carried_from : Plan → ℕ → ℤ → List (ℕ × ℕ) → (end t : ℕ) → List (List Packet) → List Carried
+carried_from plan window base pairs end t [] = []
+carried_from plan window base pairs end t (ps ∷ frames) =
+    record { given = is_given plan window base pairs end t; packets = ps } ∷ carried_from plan window base pairs end (t + 1) frames
 
--- Of a delivery of such a schedule from its first frame on, with any strays in it, where as many frames are told as it has: what is
--- printed gives exactly those units all of whose packets came in frames that are given, and tells one cut for each other unit whose
--- first packet came.
+-- all of them, where a reading ends at the told number, or behind the newest one
+abbrev pub carried_by : Plan → ℕ → ℤ → Option ℕ → List (ℕ × ℕ) → List (List Packet) → List Carried
+carried_by plan window base told pairs frames = carried_from plan window base pairs (end_of told (newest_of base None pairs)) 0 frames
+
+-- Of a delivery of such a schedule, with any strays in it, what is printed gives exactly those units all of whose packets came in frames
+-- that are given, and tells one cut for each other unit whose first packet came.
 abbrev pub UnpacksDeliveries : Type 0
 UnpacksDeliveries =
-    (plan : Plan) (window : ℕ) (first : Option ℕ) (arrivals : List Arrival) (datagrams : List (List ℕ)) (answers : List Taken) (collected : List Collected)
+    (plan : Plan) (window : ℕ) (first told : Option ℕ) (base : ℤ) (arrivals : List Arrival) (datagrams : List (List ℕ))
+    (answers : List Taken) (collected : List Collected)
     (k id d : ℕ) (units : List (List ℕ)) (frames : List (List Packet)) (items : List Item) (text : List ℕ) (clean : Bool)
-    → IsSchedule plan → 1 ≤ window → IsFollowed plan first (pos 0) arrivals datagrams → CarriesUnits plan k id d units frames
-    → Run window first (Some (frame_count plan)) datagrams answers collected → AreItems collected items → IsWholeText (UnitsOf k id d) items text clean
-    → Unpacked k id d units (carried_from plan window (pairs_in arrivals) 0 frames) items text clean
+    → IsSchedule plan → 1 ≤ window → IsFollowed plan first base arrivals datagrams → CarriesUnits plan k id d units frames
+    → Run window first told datagrams answers collected → AreItems collected items → IsWholeText (UnitsOf k id d) items text clean
+    → Unpacked k id d units (carried_by plan window base told (pairs_in arrivals) frames) items text clean
