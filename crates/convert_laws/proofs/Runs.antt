@@ -22,6 +22,8 @@ use Rattle.drm_faults.specs.declared.fault.Fault.TheVariants as faults
 use Rattle.drm_convert.specs.Converting.{Part, text_of, lines_of}
 use Rattle.drm_convert.specs.Steps.{has_none}
 use Rattle.drm_convert.specs.Draining.{are_clean}
+use Rattle.drm_convert.specs.Run.{IsFrontBehind}
+use Rattle.drm_convert.proofs.DrainingLemmas.{front_of_all, no_lines_before}
 use Rattle.capture_items.specs.Reading.{AreEnough, AreReadBy, HasEnough, Terms}
 use Rattle.convert_laws.specs.Laws.{under, AllInTime, NoneIsTooLarge, ConversionsAreCaptures, IsOfFirstFrames, BrokenConversions, IsOfSomeFrames, HaltedConversions, CapturesAreConverted}
 
@@ -124,12 +126,13 @@ module _ (in_front : PacketsInFront) (one_way : ReadOneWay) (conversions : Conve
         Outputs-weaker (λ t. t ≡ text_of parts) (IsOfFirstFrames (under carry plan)) out out' text (λ t is. subst (IsOfFirstFrames (under carry plan)) (sym is) written),
         Outputs-weaker (IsFront (lines_of parts)) (λ t. t ≡ []) err err' names.front (λ t front. empty_front t (lines_of parts) none front),
       )
-  captures_are_converted plan carry terms (Err faults.Write) told before after out out' err err' input rest fits small is_before is_after has may (items, item, last, reads, parts, converts, text, names) =
+  captures_are_converted plan carry terms (Err faults.Write) told before after out out' err err' input rest fits small is_before is_after has may (items, item, last, reads, parts, part, converts, text, names) =
       let (later, same, all) = begin_read in_front one_way input.left has.packets has.capture reads.at.later reads.packets before after input rest is_before is_after refl reads.read in
       let whole : AllInTime plan terms.window terms.first has.arrivals (reads.packets ++ later) = subst (λ l. AllInTime plan terms.window terms.first has.arrivals l) same has.in_time in
-      let (written, none) = halted plan carry terms has.arrivals reads.packets later items item last parts fits whole may reads.at all reads.within converts in (
-        front_written (under carry plan) (text_of parts) out out' written text,
-        Outputs-weaker (IsFront (lines_of parts)) (λ t. t ≡ []) err err' names.front (λ t front. empty_front t (lines_of parts) none front),
+      let (written, none) = halted plan carry terms has.arrivals reads.packets later items item last (parts ++ part ∷ []) fits whole may reads.at all reads.within converts in (
+        front_written (under carry plan) (text_of (parts ++ part ∷ [])) out out' written
+            (Outputs-weaker (IsFrontBehind (text_of parts) part.out) (IsFront (text_of (parts ++ part ∷ []))) out out' text (front_of_all parts part)),
+        Outputs-weaker (IsFront (lines_of parts)) (λ t. t ≡ []) err err' names.front (λ t front. empty_front t (lines_of parts) (no_lines_before parts part none) front),
       )
   captures_are_converted plan carry terms (Err faults.NoMemory) told before after out out' err err' input rest fits small is_before is_after has may (same, still, silent) = (still, silent)
   captures_are_converted plan carry terms (Err (faults.PacketSize number)) told before after out out' err err' input rest fits small is_before is_after has may (items, item, last, reads, large, parts, converts, text, names) =

@@ -22,19 +22,38 @@ use Rattle.drm_convert.specs.declared.naming.Progress.{Progress}
 use Rattle.drm_convert.specs.Converting.{Part, Converts, ConvertsAll, IsTooLarge, text_of, lines_of}
 use Rattle.drm_convert.specs.Naming.{Names}
 use Rattle.drm_convert.specs.Steps.{Converted, Failing, ConvertsOne, has_none}
+use Rattle.drm_convert.specs.Run.{IsFrontBehind}
 use Rattle.drm_convert.specs.Draining.{MayBeFirst, ConvertedAll, are_clean, KnowsFirst, KeepsPace, Halts, Drained}
 use Rattle.capture_items.specs.Reading.{Given, is_full}
 use Rattle.drm_convert.proofs.ItemLemmas.{names_none}
 
 -- ---- names
 
+-- all parts, where a front of the last one was written
+pub front_of_all : (parts : List Part) (part : Part) (t : List ℕ) → IsFrontBehind (text_of parts) part.out t → IsFront (text_of (parts ++ part ∷ [])) t
+front_of_all parts part t (front, (rest, is), whole) = (
+  rest,
+  flat_map-append (λ (p : Part). p.out) parts (part ∷ [])
+      ∙ (ap (λ l. text_of parts ++ l) (append-nil part.out ∙ is) ∙ (sym (append_assoc (text_of parts) front rest) ∙ ap (λ l. l ++ rest) (sym whole))),
+)
+
+pub no_lines_before : (parts : List Part) (part : Part) → lines_of (parts ++ part ∷ []) ≡ [] → lines_of parts ≡ []
+no_lines_before parts part none = empty_before (lines_of parts) (lines_of (part ∷ [])) (sym (flat_map-append (λ (p : Part). p.line) parts (part ∷ [])) ∙ none)
+  where
+    empty_before : (xs ys : List ℕ) → xs ++ ys ≡ [] → xs ≡ []
+    empty_before [] ys e = refl
+    empty_before (x ∷ xs) ys e = absurd (cc)
+
 front_more : (xs ys t : List ℕ) → IsFront xs t → IsFront (xs ++ ys) t
 front_more xs ys t front = (front.0 ++ ys, ap (λ l. l ++ ys) front.1 ∙ append_assoc t front.0 ys)
 
-pub front_then : (xs ys : List ℕ) (a b c : Known Output) → Outputs a b (λ t. t ≡ xs) → Outputs b c (IsFront ys) → Outputs a c (IsFront (xs ++ ys))
+front_then : (xs ys : List ℕ) (a b c : Known Output) → Outputs a b (λ t. t ≡ xs) → Outputs b c (IsFront ys) → Outputs a c (IsFront (xs ++ ys))
 front_then xs ys a b c first second =
     Outputs-then (λ t. t ≡ xs) (IsFront ys) (IsFront (xs ++ ys)) a b c first second
     (λ s t is front. (front.0, ap (λ l. xs ++ l) front.1 ∙ (sym (append_assoc xs t front.0) ∙ ap (λ l. (l ++ t) ++ front.0) (sym is))))
+
+pub front_behind : (xs ys : List ℕ) (a b c : Known Output) → Outputs a b (λ t. t ≡ xs) → Outputs b c (IsFront ys) → Outputs a c (IsFrontBehind xs ys)
+front_behind xs ys a b c first second = Outputs-then (λ t. t ≡ xs) (IsFront ys) (IsFrontBehind xs ys) a b c first second (λ s t is front. (t, front, ap (λ l. l ++ t) is))
 
 pub text_then : (xs ys : List ℕ) (a b c : Known Output) → Outputs a b (λ t. t ≡ xs) → Outputs b c (λ t. t ≡ ys) → Outputs a c (λ t. t ≡ xs ++ ys)
 text_then xs ys a b c first second = Outputs-then (λ t. t ≡ xs) (λ t. t ≡ ys) (λ t. t ≡ xs ++ ys) a b c first second (λ s t p q. ap (λ l. l ++ t) p ∙ ap (λ l. xs ++ l) q)

@@ -3,7 +3,7 @@ use Rattle.std.proofs.Common.{◌≡◌, ℕ, ◌≤◌, Bool, true, false, List
 use Rattle.std.specs.Prelude.{All, IfSome, Ok, Err}
 use Rattle.std.proofs.lemmas.Bool.{cases_lt}
 use Rattle.std.proofs.lemmas.Bool.Decides.{nat_tests}
-use Rattle.std.proofs.lemmas.List.{append-nil, take-append-le, take_all, take_at}
+use Rattle.std.proofs.lemmas.List.{take-append-le, take_all, take_at}
 use Rattle.drm_links.specs.Told.{Known}
 use Rattle.drm_links.specs.Source.{Input, Inputs}
 use Rattle.drm_links.specs.Sink.{Output, Outputs, IsFront}
@@ -35,7 +35,7 @@ use Rattle.drm_convert.specs.declared.reading.Unconverted.TheVariants as unconve
 use Rattle.drm_faults.specs.Captures.{stop_fault}
 use Rattle.drm_convert.proofs.Taken.{may_taken, first_itself}
 use Rattle.drm_convert.proofs.Ways.{given_first, gives_first, one_way, longer_full}
-use Rattle.drm_convert.proofs.DrainingLemmas.{all_none, all_then, all_same, all_join, text_join, lines_join, front_then}
+use Rattle.drm_convert.proofs.DrainingLemmas.{all_none, all_then, all_same, all_join, front_behind}
 
 giving : GivingEnds
 giving = giving_ends decoded_or_none
@@ -314,17 +314,16 @@ halted terms carry packets before' later c state p q a b o x y z halt.Write befo
     let all : ConvertedAll carry state (r.items ++ items) new_progress q a m x z = all_then carry c state r.items items new_progress p q a b m x y z may r.all part in
     let count : q.given ≡ length (r.items ++ items) = count_of carry state (r.items ++ items) q a m x z all in
     let may_be = may_last state last items gives in
-    let fail = fails (first_of last) may_be in
-    let text : text_of (all.parts ++ fail.part ∷ []) ≡ text_of all.parts ++ fail.part.out = text_join all.parts (fail.part ∷ []) ∙ ap (λ l. text_of all.parts ++ l) (append-nil fail.part.out) in
-    let lines : lines_of (all.parts ++ fail.part ∷ []) ≡ lines_of all.parts = lines_join all.parts (fail.part ∷ []) ∙ (ap (λ l. lines_of all.parts ++ l) (append-nil fail.part.line ∙ fail.none) ∙ append-nil (lines_of all.parts)) in (
+    let fail = fails (first_of last) may_be in (
       r.items ++ items,
       item,
       last,
       reads_to terms carry packets before' later c state last p a b x y before after r items item are comes gives now is read shorter (ap (λ n. is_full terms.told n) (sym count) ∙ room),
-      all.parts ++ fail.part ∷ [],
+      all.parts,
+      fail.part,
       all_join carry (first_of last) (r.items ++ items) (item ∷ []) all.parts (fail.part ∷ []) (all.converts (first_of last) may_be) (fail.converts, tt),
-      subst (λ (l : List ℕ). Outputs a o (IsFront l)) (sym text) (front_then (text_of all.parts) fail.part.out a m o all.text fail.text),
-      subst (λ (l : List ℕ). Names true q.told x z l) (sym lines) all.names,
+      front_behind (text_of all.parts) fail.part.out a m o all.text fail.text,
+      all.names,
     )
 halted terms carry packets before' later c state p q a b o x y z (halt.PacketSize number) before after are r comes may (items, last, item, gives, now, is, (room, part, large)) read shorter =
     let all : ConvertedAll carry state (r.items ++ items) new_progress q a o x z = all_then carry c state r.items items new_progress p q a b o x y z may r.all part in

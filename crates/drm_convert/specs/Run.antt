@@ -68,14 +68,19 @@ WritesAll terms carry clean told before after out out' err err' =
     × (parts : List Part) × IsConversion terms carry packets parts
     × Outputs out out' (λ text. text ≡ text_of parts) × Names true told err err' (lines_of parts) × (clean ≡ are_clean parts)
 
--- What is written and named: all that the packets become; after a failed write a front of it; where no more can be read, what
--- the packets read so far become; at a packet that is too long, what stands before it; where memory is wanting, nothing.
+-- all that was written before, and a front of what comes behind it
+abbrev pub IsFrontBehind : List ℕ → List ℕ → List ℕ → Type 0
+IsFrontBehind written behind text = (front : List ℕ) × IsFront behind front × (text ≡ written ++ front)
+
+-- What is written and named: all that the packets become; after a failed write what the items before became, and a front of what
+-- the one at hand became, and no more is read; where no more can be read, what the packets read so far become; at a packet that is
+-- too long, what stands before it; where memory is wanting, nothing.
 abbrev pub Ends : Terms → Carry → Result Bool Fault → Bool → Known Input → Known Input → Known Output → Known Output → Known Output → Known Output → Type 0
 Ends terms carry (Ok clean) told before after out out' err err' = WritesAll terms carry clean told before after out out' err err'
 Ends terms carry (Err faults.Write) told before after out out' err err' =
     (items : List Item) × (item : Item) × (last : State) × ReadsTo terms items item last before after
-    × (parts : List Part) × ConvertsAll carry (first_of last) (items ++ item ∷ []) parts
-    × Outputs out out' (IsFront (text_of parts)) × Names true told err err' (lines_of parts)
+    × (parts : List Part) × (part : Part) × ConvertsAll carry (first_of last) (items ++ item ∷ []) (parts ++ part ∷ [])
+    × Outputs out out' (IsFrontBehind (text_of parts) part.out) × Names true told err err' (lines_of parts)
 Ends terms carry (Err (faults.PacketSize number)) told before after out out' err err' =
     (items : List Item) × (item : Item) × (last : State) × ReadsTo terms items item last before after × IsTooLarge carry item number
     × (parts : List Part) × ConvertsAll carry (first_of last) items parts
