@@ -1,5 +1,5 @@
 -- What `show` has written, packet by packet, and how it ends.
-use Rattle.std.proofs.Common.{◌≡◌, ℕ, ◌+◌, inl, inr, Bool, true, false, List, [], ◌∷◌, ◌++◌, length, Option, None, Some, Result, Ok, Err, refl, sym, ◌∙◌, ap, subst, arith, append_assoc, length-append}
+use Rattle.std.proofs.Common.{◌≡◌, ℕ, ◌+◌, inl, inr, Bool, true, false, List, [], ◌∷◌, ◌++◌, length, Option, None, Some, Result, Ok, Err, refl, sym, ◌∙◌, ap, subst, arith, length-append}
 use Rattle.std.specs.Prelude.{not, ◌&&◌, OnErr, IsErr, IfOk}
 use Rattle.std.specs.List.{concat}
 use Rattle.std.proofs.lemmas.List.{append-nil}
@@ -23,7 +23,7 @@ use Rattle.drm_faults.specs.Fault.{UnlessMemory}
 use Rattle.drm_faults.specs.declared.fault.Fault.{Fault}
 use Rattle.drm_faults.specs.declared.fault.Fault.TheVariants as faults
 use Rattle.drm_faults.specs.Captures.{EndsEarly, stop_fault}
-use Rattle.drm_inspect.specs.Show.{PacketText, AreTexts, all_texts, capture_text, are_clean, IsShown, WritesShown, EndsByIt, ShowRun}
+use Rattle.drm_inspect.specs.Show.{PacketText, AreTexts, all_texts, capture_text, are_clean, IsShown, IsFrontBehind, WritesShown, EndsByIt, ShowRun}
 
 -- ---- texts one after another
 
@@ -120,6 +120,9 @@ shown_more reader after_reader before after a b d count bytes clean has packet t
 
 -- ---- what each ending has written
 
+front_behind : (text line : List ℕ) (a b o : Known Output) → Outputs a b (λ t. t ≡ text) → Outputs b o (IsFront line) → Outputs a o (IsFrontBehind text line)
+front_behind text line a b o wrote broken = Outputs-then (λ t. t ≡ text) (IsFront line) (IsFrontBehind text line) a b o wrote broken (λ s t p q. (t, q, ap (λ l. l ++ t) p))
+
 module _ {O : Type 0} (known : O → Known Output) (out now : O) (reader : WalkerState) (before after : Known Input) (count bytes : ℕ) (clean : Bool) (has : HasShown reader before after (known out) (known now) count bytes clean) where
   pub stopped : (stop : CaptureStop) (later : Known Input) → Stops has.packets stop before later → Inputs before later (λ left rest. WritesShown left rest (Err (stop_fault stop)) known out now)
   stopped stops.Read later is = Inputs-weaker (Breaks has.packets) _ before later is (λ left rest breaks. (has.packets, has.texts, record { is = breaks; are = has.are }, has.wrote))
@@ -131,14 +134,15 @@ module _ {O : Type 0} (known : O → Known Output) (out now : O) (reader : Walke
   cut after_reader packet text bad out' read is front =
       Inputs-weaker (λ left rest. left ≡ concat (has.packets ++ packet ∷ []) ++ (after_reader.held ++ rest)) _ before after read.bytes
       (λ left rest bytes. (
-        has.packets ++ packet ∷ [],
-        has.texts ++ shown_as text bad ∷ [],
-        texts_more 0 has.packets has.texts packet (shown_as text bad) has.are (let same : length (concat has.packets) ≡ 0 + length (concat has.packets) = omega arith in subst (λ k. IsPacketText k packet text bad) same is),
+        has.packets,
+        has.texts,
         inl (
+          packet,
+          shown_as text bad,
+          texts_more 0 has.packets has.texts packet (shown_as text bad) has.are (let same : length (concat has.packets) ≡ 0 + length (concat has.packets) = omega arith in subst (λ k. IsPacketText k packet text bad) same is),
           after_reader.held ++ rest,
           bytes,
-          Outputs-then (λ t. t ≡ all_texts has.texts) (IsFront text) (IsFront (all_texts (has.texts ++ shown_as text bad ∷ []))) (known out) (known now) (known out') has.wrote front
-              (λ s t p q. (q.0, all_more has.texts (shown_as text bad) ∙ ap (λ l. all_texts has.texts ++ l) q.1 ∙ ap (λ l. l ++ (t ++ q.0)) (sym p) ∙ sym (append_assoc s t q.0))),
+          front_behind (all_texts has.texts) text (known out) (known now) (known out') has.wrote front,
         ),
       ))
 
@@ -164,11 +168,10 @@ module _ {O : Type 0} (known : O → Known Output) (out now : O) (reader : Walke
         (λ left rest is. (
           has.packets,
           has.texts,
-          has.are,
           inr (
-            is,
-            Outputs-then (λ t. t ≡ all_texts has.texts) (IsFront (end_packets_line count bytes)) (IsFront (capture_text has.packets has.texts)) (known out) (known now) (known out') has.wrote front
-                (λ s t p q. (q.0, ap (λ l. all_texts has.texts ++ l) (sym end_text ∙ q.1) ∙ ap (λ l. l ++ (t ++ q.0)) (sym p) ∙ sym (append_assoc s t q.0))),
+            record { is = is; are = has.are },
+            subst (λ l. Outputs (known out) (known out') (IsFrontBehind (all_texts has.texts) l)) end_text
+                (front_behind (all_texts has.texts) (end_packets_line count bytes) (known out) (known now) (known out') has.wrote front),
           ),
         ))
 

@@ -51,15 +51,22 @@ abbrev pub WritesSome : {O : Type 0} → (List (List ℕ) → List PacketText �
 WritesSome P known out out' =
     (packets : List (List ℕ)) × (texts : List PacketText) × P packets texts × Outputs (known out) (known out') (λ text. text ≡ all_texts texts)
 
--- A front of the texts of some packets that the bytes begin with is written, or of the whole text of the capture that they are.
+-- all that was written before, and a front of what comes behind it
+abbrev pub IsFrontBehind : List ℕ → List ℕ → List ℕ → Type 0
+IsFrontBehind written behind text = (front : List ℕ) × IsFront behind front × (text ≡ written ++ front)
+
+-- The texts of some packets that the bytes begin with are written, and a front of that of the next packet; or those of all packets of the
+-- capture that they are, and a front of the last line.
 abbrev pub WritesFront : {O : Type 0} → List ℕ → (O → Known Output) → O → O → Type 0
 WritesFront left known out out' =
-    (packets : List (List ℕ)) × (texts : List PacketText) × AreTexts 0 packets texts
-    × (((more : List ℕ) × (left ≡ concat packets ++ more) × Outputs (known out) (known out') (IsFront (all_texts texts)))
-    ⊎ (capture.IsCaptureOf left packets capture.End × Outputs (known out) (known out') (IsFront (capture_text packets texts))))
+    (packets : List (List ℕ)) × (texts : List PacketText)
+    × (((packet : List ℕ) × (shown : PacketText) × AreTexts 0 (packets ++ packet ∷ []) (texts ++ shown ∷ [])
+    × (more : List ℕ) × (left ≡ concat (packets ++ packet ∷ []) ++ more) × Outputs (known out) (known out') (IsFrontBehind (all_texts texts) shown.text))
+    ⊎ (IsShown left capture.End packets texts
+    × Outputs (known out) (known out') (IsFrontBehind (all_texts texts) (end_packets_line (length packets) (length (concat packets))))))
 
--- What is written where these bytes were left of the input, and then the rest of them: the whole text; after a failed write a front
--- of it; after a fault of the capture the texts of the packets before it; after a failed read those of the packets that are
+-- What is written where these bytes were left of the input, and then the rest of them: the whole text; after a failed write what
+-- was written before, and a front of the next lines; after a fault of the capture the texts of the packets before it; after a failed read those of the packets that are
 -- whole in the bytes taken; where memory is wanting, nothing.
 abbrev pub WritesShown : {O : Type 0} → List ℕ → List ℕ → Result Bool Fault → (O → Known Output) → O → O → Type 0
 WritesShown left rest (Ok clean) known out out' =
