@@ -16,7 +16,7 @@ _drmcast() {
         receive:*:-* | gate:*:-*) mapfile -t COMPREPLY < <(compgen -W "$common --idle --limit" -- "$word") ;;
         convert:*:-* | unpack:*:-* | texts:*:-*) mapfile -t COMPREPLY < <(compgen -W "$common" -- "$word") ;;
         air:*:-*) mapfile -t COMPREPLY < <(compgen -W '--window' -- "$word") ;;
-        convert:2:* | gate:4:*) mapfile -t COMPREPLY < <(compgen -W 'plain pft:0:1400 pft:1:1400 pft:2:1400 pft:3:1400 pft:4:1400 pft:5:1400' -- "$word") ;;
+        convert:2:* | gate:4:* | gate:8:*) mapfile -t COMPREPLY < <(compgen -W 'plain pft:0:1400 pft:1:1400 pft:2:1400 pft:3:1400 pft:4:1400 pft:5:1400' -- "$word") ;;
         check:2:* | serve:2:* | air:2:* | air:3:*) mapfile -t COMPREPLY < <(compgen -f -- "$word") ;;
     esac
 }

@@ -27,7 +27,9 @@ for name in drmcast drmpaths; do
     install -D -m 755 "${1:-$here/crates/$name/out}/$name" "$into/bin/$name"
     install -D -m 644 "$here/docs/$name.1" "$into/share/man/man1/$name.1"
 done
-install -D -m 644 "$here/contrib/drmcast.bash" "$into/share/bash-completion/completions/drmcast"
+for name in drmcast drmpaths; do
+    install -D -m 644 "$here/contrib/drmcast.bash" "$into/share/bash-completion/completions/$name"
+done
 for script in watch.py report.py pcap.py explain.py record.py units.py messages.py command_line.py reports.py datagrams.py; do
     install -D -m 755 "$here/tools/$script" "$into/lib/drmcast/$script"
 done
