@@ -1,6 +1,6 @@
 //! What is counted.
 
-ghost use Rattle.std.specs.Prelude.{◌≡◌, ◌<◌, ◌^◌};
+ghost use Rattle.std.specs.Prelude.{◌≡◌};
 ghost use Rattle.capture_data.specs.Taken.{no_counts};
 ghost use Rattle.capture_data.specs.Lines.{is_clean};
 

@@ -1,8 +1,7 @@
 //! The items of a capture, read and taken.
 
-ghost use Rattle.std.specs.Prelude.{◌≡◌, ◌≤◌, ◌*◌, ◌^◌, [], Err, Ok, IfSome, IfOk, OnOk};
+ghost use Rattle.std.specs.Prelude.{◌≡◌, ◌≤◌, ◌^◌, [], Err, Ok, IfSome, OnOk};
 ghost use Rattle.dcp_collect.specs.State.{made};
-ghost use Rattle.drm_switches.specs.Tracker.{new_tracker};
 ghost use Rattle.drm_links.specs.Told.{HasCause};
 ghost use Rattle.drm_capture.specs.Walking.{new_walker};
 ghost use Rattle.capture_items.specs.Reading.{Terms};

@@ -1,6 +1,6 @@
 //! The streams of a frame.
 
-ghost use Rattle.std.specs.Prelude.{◌≡◌, ◌<◌, MatchOption, IfSome, None, IsNone, drop, ◌-◌, ◌≤◌, length};
+ghost use Rattle.std.specs.Prelude.{◌≡◌, ◌<◌, None, ◌-◌};
 ghost use Rattle.mdi_items.specs.Frame.{frame_of};
 ghost use Rattle.mdi_items.specs.View.{IsWholeView};
 ghost use Rattle.capture_data.specs.Streams.{stream_of};

@@ -1,7 +1,5 @@
 //! Units as they stand in a file.
 
-ghost use Rattle.std.specs.Prelude.{◌≡◌, [], ◌+◌, ◌≤◌, IfOk, IfErr, List, ℕ, length};
-ghost use Rattle.data_units.specs.Units.{AreUnits};
 ghost use Rattle.data_units.specs.Front.{IsFrontOf, IsCutOf, FindsFault};
 
 use drm_faults::{Fault, UnitsFault, UnitsReason};

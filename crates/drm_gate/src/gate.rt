@@ -31,8 +31,11 @@ pub struct GateOptions {
 /// How a gateway ended.
 #[derive(Clone, Copy, Debug, PartialEq, Eq)]
 pub enum GateEnded {
+    /// All that was to be read was passed on.
     Done(Tally),
+    /// The link that is read failed.
     FromFailed,
+    /// The link behind the gateway failed.
     ToFailed,
 }
 

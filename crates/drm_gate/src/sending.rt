@@ -40,6 +40,7 @@ impl Model for Sender {
 }
 
 impl Sender {
+    /// A sender under this carry.
     pub fn make(alloc: Global, carry: Carry) -> Result<Sender, NoMemory>
         requires { CarryFits carry }
         ensures { IfOk result (λ sender. sender ≡ carry) }

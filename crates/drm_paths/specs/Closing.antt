@@ -39,7 +39,7 @@ pub record Differs (entries : List (ℕ × List ℕ)) (paths : List PathState) (
   pub is : (none : PathState) → IsDifferenceOf entries (slice_index_or paths k none) d
   pub before : (j : ℕ) (none : PathState) → j < k → Agrees entries (slice_index_or paths j none)
 
--- There are so many entries as the paths took: none was dropped, invented or doubled.
+-- There are as many entries as the paths took datagrams: none was dropped, invented or doubled.
 abbrev pub AreCounted : List (ℕ × List ℕ) → List PathState → Type 0
 AreCounted entries paths = length entries ≡ sum_by (λ p. length p.taken) paths
 

@@ -16,7 +16,9 @@ use std::sync::ledger::Share;
 /// list hasn't ended before.
 #[derive(Drop)]
 pub struct Difference {
+    /// The path's number, from 0.
     pub path: u8,
+    /// The place among the path's entries, from 0.
     pub at: u64,
     pub journal: Option<Octets>,
     pub kept: Option<Octets>,
@@ -27,7 +29,9 @@ pub struct Difference {
 pub enum Closed {
     /// The journal has all that the paths took, and nothing else.
     Whole(Ending),
+    /// What the journal has of a path isn't what that one took.
     Differ(Difference),
+    /// There was no memory left, for an event or here.
     NoMemory,
 }
 

@@ -28,7 +28,9 @@ pub enum PathEnded {
     Idle,
     /// So many datagrams came as it may take; or it may have no room for the next one.
     Limit,
+    /// The link failed.
     LinkFailed,
+    /// There was no room for a datagram.
     NoMemory,
 }
 

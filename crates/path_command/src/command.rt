@@ -15,7 +15,7 @@ use crate::fault::Fault;
 use crate::job::{jobs_of, paths_of, run_all, some_failed, some_ran_out};
 use crate::open::open_links;
 use drm_links::{Dock, Link, Sink, Status};
-use drm_paths::{Closed, PathOptions, Paths, Road, Shared, close_paths, open_paths};
+use drm_paths::{Closed, PathOptions, Road, close_paths, open_paths};
 use path_book::{Ending, Settings};
 use path_words::{Request, read_paths};
 use std::alloc::Global;

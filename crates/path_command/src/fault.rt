@@ -1,6 +1,6 @@
 //! Why a run stops early.
 
-ghost use Rattle.std.specs.Prelude.{◌≡◌, ◌<◌, ◌^◌};
+ghost use Rattle.std.specs.Prelude.{◌≡◌, ◌<◌};
 ghost use Rattle.drm_links.specs.Sink.{Writes};
 
 use drm_bits::NoMemory;
@@ -11,8 +11,11 @@ use text_pieces::{Piece, write_pieces};
 #[derive(Clone, Copy, Debug, PartialEq, Eq)]
 pub enum Fault {
     NoMemory,
+    /// The words are no command line.
     Words,
+    /// A write to `out` failed.
     Write,
+    /// A link couldn't be opened, or failed.
     Link,
     /// What the journal has of a path and what the path took differ, at this place first. Paths are numbered from 0.
     Differs { path: u8, at: u64 },

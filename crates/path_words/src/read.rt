@@ -1,6 +1,6 @@
 //! The request of words.
 
-ghost use Rattle.std.specs.Prelude.{◌≡◌, ◌⊎◌, Err, IfOk, map, string_bytes, option_map};
+ghost use Rattle.std.specs.Prelude.{◌≡◌, ◌⊎◌, Err, IfOk, map, string_bytes};
 ghost use Rattle.path_words.specs.Line.{IsPathsLine, HasOneRequest};
 ghost use Rattle.path_words.specs.Asking.{line_of, several_of, number_or, number_or_none, request_of};
 ghost use Rattle.path_words.specs.Said.{texts_said};

@@ -9,6 +9,7 @@ pub struct Request {
     pub addresses: Addresses,
     /// 1 to 64.
     pub window: u8,
+    /// The first sequence number, where it is told.
     pub first: Option<u16>,
     /// 1 to 3,000,000.
     pub frames: Option<u64>,
