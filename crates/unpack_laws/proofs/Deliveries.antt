@@ -1,14 +1,14 @@
 -- The items of a delivery bring the frames of its schedule.
-use Rattle.std.proofs.Common.{◌≡◌, ◌∙◌, ℕ, zero, suc, ◌+◌, ◌-◌, ◌*◌, ◌/◌, ◌<◌, ◌≤◌, Bool, true, false, cond, List, [], ◌∷◌, ◌++◌, length, map, take, drop, slice_index_or, slice_index, Option, None, Some, refl, sym, ap, subst, arith, lt-ltb, le-ltb, ◌&&◌}
+use Rattle.std.proofs.Common.{◌≡◌, ◌∙◌, ℕ, zero, suc, ◌+◌, ◌-◌, ◌*◌, ◌<◌, ◌≤◌, Bool, true, false, cond, List, [], ◌∷◌, ◌++◌, length, map, take, drop, slice_index_or, slice_index, Option, None, Some, refl, sym, ap, subst, arith, lt-ltb, le-ltb, ◌&&◌}
 use Rattle.std.specs.Prelude.{ℤ, pos, negsuc, ◌+ℤ◌, ◌-ℤ◌, slice_get}
 use Rattle.std.specs.List.{AllByRecursion}
 use Rattle.std.proofs.lemmas.Int.{ints}
-use Rattle.std.proofs.lemmas.Option.{slice_get_within}
+use Rattle.std.proofs.lemmas.List.{length-map}
+use Rattle.std.proofs.lemmas.Option.{slice_get_within, get_or_from_slice_get, same_Some}
 use Rattle.dcp_collect.specs.Numbers.{end_of}
 use Rattle.drm_bits.specs.declared.description.MuxDesc.{MuxDesc}
 use Rattle.drm_schedule.specs.declared.config.Config.{Config}
 use Rattle.drm_schedule.specs.declared.plan.Plan.{Plan}
-use Rattle.drm_timeline.specs.Standing.{config_of}
 use Rattle.drm_timeline.specs.Numbers.{frame_count}
 use Rattle.drm_server.specs.Frames.{stream_bytes}
 use Rattle.drm_switches.specs.Tracker.{new_tracker}
@@ -29,22 +29,10 @@ use Rattle.capture_data.specs.Streams.{What, UnitsOf, stream_of, pieces_of, entr
 use Rattle.unpack_laws.specs.Frames.{Carried, IsSome, came_of, packets_of, Brings, BringAll}
 use Rattle.unpack_laws.specs.Delivered.{CarriesAt, CarryFrom, is_given, is_given_at, carried_from, carried_by, together, UnpacksDeliveries}
 use Rattle.unpack_laws.proofs.LostFrames.{Same, same_one, same_front, none_said}
-use Rattle.unpack_laws.proofs.Ends.{to_end, unpacked_by}
+use Rattle.unpack_laws.proofs.Ends.{to_end, same_self, unpacked_by}
 use Rattle.unpack_laws.proofs.Numbered.{Fed, fed, run_from}
 
 -- ---- a frame that is given
-
-one_config : (c d : Config) (o : Option Config) → o ≡ Some c → o ≡ Some d → d ≡ c
-one_config c d o a b = let same : Some c ≡ Some d = sym a ∙ b in cc
-
-get_is : (xs : List (List ℕ)) (k : ℕ) (x : List ℕ) → slice_get xs k ≡ Some x → slice_index_or xs k [] ≡ x
-get_is [] k x is = absurd (let none : None ≡ Some x = is in cc)
-get_is (y ∷ xs) zero x is = let same : y ≡ x = cc in same
-get_is (y ∷ xs) (suc k) x is = get_is xs k x is
-
-length_mapped : {X Y : Type 0} (f : X → Y) (xs : List X) → length (map f xs) ≡ length xs
-length_mapped f [] = refl
-length_mapped f (x ∷ xs) = ap suc (length_mapped f xs)
 
 stream_there : (k : ℕ) (frame : MdiFrame) (payload bytes : List ℕ) → k < frame.mux.count
     → take (slice_index frame.streams.len k) (drop (slice_index frame.streams.at k) payload) ≡ bytes → stream_of k frame payload ≡ Some bytes
@@ -58,14 +46,14 @@ brings_served plan k id d t q item ps carries served =
     let what : What = UnitsOf k id d in
     let bytes : List ℕ = carries.bytes in
     let at = carries.stream in
-    let config : served.is_frame.config ≡ at.config = one_config at.config served.is_frame.config (config_of plan (t / 3)) at.holds served.is_frame.holds in
+    let config : served.is_frame.config ≡ at.config = same_Some served.is_frame.config at.config (sym served.is_frame.holds ∙ at.holds) in
     let streams : List (List ℕ) = map (stream_bytes (t - 3 * at.config.start)) at.config.streams in
     let parts : served.parts.streams ≡ streams = served.is_frame.streams ∙ ap (λ (c : Config). map (stream_bytes (t - 3 * c.start)) c.streams) config in
     let within : k < length streams = slice_get_within streams k bytes at.is in
     let many : served.parts.mux.count ≡ length at.config.streams = ap (λ (m : MuxDesc). m.count) served.is_frame.mux ∙ ap (λ (c : Config). length c.streams) config in
-    let described : k < served.parts.mux.count = omega (arith, within, many, length_mapped (stream_bytes (t - 3 * at.config.start)) at.config.streams) in
+    let described : k < served.parts.mux.count = omega (arith, within, many, length-map at.config.streams (stream_bytes (t - 3 * at.config.start))) in
     let there : k < served.read.frame.mux.count = omega (arith, described, ap (λ (m : MuxDesc). m.count) served.read.mux) in
-    let is : slice_index_or served.parts.streams k [] ≡ bytes = ap (λ l. slice_index_or l k []) parts ∙ get_is streams k bytes at.is in
+    let is : slice_index_or served.parts.streams k [] ≡ bytes = ap (λ l. slice_index_or l k []) parts ∙ get_or_from_slice_get streams k bytes [] at.is in
     let stream : stream_of k served.read.frame served.payload ≡ Some bytes = stream_there k served.read.frame served.payload bytes there (served.read.streams k described ∙ is) in
     let cut : pieces_of what (stream_of k served.read.frame served.payload) ≡ Some carries.pieces = ap (pieces_of what) stream ∙ carries.cut in
     (carries.pieces, ap (entries_at what) served.item_is ∙ ap entries_of cut, carries.are)
@@ -87,9 +75,6 @@ record Shows (k id d : ℕ) (of : State → State) (items : List Item) (frames :
   shown : List Carried
   bring : BringAll (UnitsOf k id d) d items shown
   same : ShowTheSame of shown frames
-
-same_self : (s : State) (xs : List Event) → Same s xs xs
-same_self s xs = record { units = refl; cuts = refl; after = refl }
 
 same_back : (s : State) (xs ys : List Event) → Same s xs ys → Same s ys xs
 same_back s xs ys h = record { units = sym h.units; cuts = sym h.cuts; after = sym h.after }
@@ -283,7 +268,7 @@ unpacks_deliveries delivering plan window first told base arrivals datagrams ans
     let steps : Fed new_tracker collected items = fed new_tracker collected items (run_from window first told datagrams answers collected run) are in
     let given : AreGiven plan window base told pairs steps.steps =
     (delivering plan window first told base arrivals datagrams answers collected steps.steps steps.after is some followed run steps.feeds).0 in
-    let many : length items ≡ end = ap length (sym steps.items_are) ∙ (length_mapped (λ (s : FeedStep). s.item) steps.steps ∙ given.many) in
+    let many : length items ≡ end = ap length (sym steps.items_are) ∙ (length-map steps.steps (λ (s : FeedStep). s.item) ∙ given.many) in
     let at_each : (q : ℕ) (item : Item) → slice_get items q ≡ Some item → IsItemAt plan window base pairs q item =
     λ q item at.
     let step = step_at steps.steps q item (ap (λ l. slice_get l q) steps.items_are ∙ at) in

@@ -14,7 +14,7 @@ use Rattle.capture_data.specs.Streams.{What, UnitsOf, reading, bad_in, missing_i
 use Rattle.capture_data.specs.Lines.{cut_line, answer_text, answers_text, units_end, units_end_text, is_clean}
 use Rattle.capture_data.specs.Printed.{IsWholeText, unit_counts, refused_at, refused_in}
 use Rattle.unpack_laws.specs.Frames.{Carried, IsSome, came_of, events_of, packets_of, BringAll}
-use Rattle.unpack_laws.specs.Laws.{Unpacked}
+use Rattle.unpack_laws.specs.Laws.{Unpacked, UnpacksWhatIsWhole}
 use Rattle.unpack_laws.proofs.LostFrames.{Same, all_events, one_reading, gives_what_frames_bring}
 
 -- what frames bring, and the end
@@ -119,3 +119,10 @@ unpacked_by k id d units frames shown items text clean some are_units are_some a
           ∙ ap₂ (λ x y. x ++ y) (sym printed) (sym (ap (λ l. units_end (unit_counts k id d items l false)) said_is ∙ text_with k id d items before begun)));
       clean_is = clean_is ∙ sym (ap (λ l. is_clean (unit_counts k id d items l false)) said_is ∙ clean_with k id d items before begun);
     }
+
+pub same_self : (s : State) (xs : List Event) → Same s xs xs
+same_self s xs = record { units = refl; cuts = refl; after = refl }
+
+pub unpacks_what_is_whole : UnpacksWhatIsWhole
+unpacks_what_is_whole k id d units frames items text clean some are_units are_some are bring is =
+    unpacked_by k id d units frames frames items text clean some are_units are_some are bring (same_self (made id d) (to_end frames)) is

@@ -1,5 +1,5 @@
 -- A frame that is lost is one gap in the place of its packets.
-use Rattle.std.proofs.Common.{◌≡◌, ℕ, zero, suc, ◌+◌, ◌≤◌, Bool, true, false, List, [], ◌∷◌, ◌++◌, length, map, replicate, Option, None, Some, is_some, refl, sym, ap, ap₂, subst, ◌∙◌, arith, length-append}
+use Rattle.std.proofs.Common.{◌≡◌, ℕ, zero, suc, ◌+◌, ◌≤◌, Bool, true, false, List, [], ◌∷◌, ◌++◌, length, map, replicate, Option, None, Some, refl, sym, ap, ap₂, subst, ◌∙◌, arith, length-append}
 use Rattle.std.specs.List.{AllByRecursion}
 use Rattle.std.specs.Int.{from_bool}
 use Rattle.std.proofs.lemmas.List.{length-replicate}
@@ -12,12 +12,10 @@ use Rattle.data_laws.specs.Readings.{AreEvents}
 use Rattle.data_laws.specs.Runs.{answers, after_all, unit_in, tells_cut, with_unit, units_in, cuts_in}
 use Rattle.data_laws.proofs.LostPackets.{gives_what_is_whole}
 use Rattle.mod_feed.specs.Items.{Item}
-use Rattle.capture_data.specs.Streams.{What, UnitsOf, entries_at, reading}
-use Rattle.capture_data.specs.Lines.{cut_line, answers_text, units_end, is_clean}
-use Rattle.capture_data.specs.Printed.{unit_counts}
+use Rattle.capture_data.specs.Streams.{What, entries_at, reading}
 use Rattle.capture_data.proofs.Joining.{events_join}
 use Rattle.unpack_laws.specs.Frames.{Carried, IsSome, came_of, events_of, packets_of, kept_of, ArePackets, Brings, BringAll}
-use Rattle.unpack_laws.specs.Laws.{GivesWhatFramesBring, UnpacksWhatIsWhole}
+use Rattle.unpack_laws.specs.Laws.{GivesWhatFramesBring}
 
 -- a joiner gives the same of both, and comes to the same
 pub record Same (s : State) (xs ys : List Event) : Type 0 where
@@ -113,19 +111,3 @@ one_reading d (None ∷ entries) (e ∷ es) [] a b = absurd b
 one_reading d (Some x ∷ entries) (e ∷ es) [] a b = absurd b
 one_reading d (None ∷ entries) (e ∷ es) (f ∷ fs) a b = ap₂ (λ y ys. y ∷ ys) (a.0 ∙ sym b.0) (one_reading d entries es fs a.1 b.1)
 one_reading d (Some x ∷ entries) (e ∷ es) (f ∷ fs) a b = ap₂ (λ y ys. y ∷ ys) (one_event d x e f a.0 b.0) (one_reading d entries es fs a.1 b.1)
-
-pub unpacks_what_is_whole : UnpacksWhatIsWhole
-unpacks_what_is_whole k id d units frames items text clean some are_units are_some are bring (events, are_events, (text_is, clean_is)) =
-    let what : What = UnitsOf k id d in
-    let law = gives_what_frames_bring id d units frames some are_units are_some are in
-    let same : events ≡ events_of frames = one_reading d (reading what items) events (events_of frames) are_events (all_events what d items frames bring) in
-    let open_at_end : Bool = is_some (after_all (made id d) events).begun in
-    let none : open_at_end ≡ false = ap (λ l. is_some (after_all (made id d) l).begun) same ∙ ap (λ b. is_some b) law.2 in
-    let said = answers (made id d) events in
-    record {
-      said = said;
-      units_are = ap (λ l. units_in (answers (made id d) l)) same ∙ law.0;
-      cuts_are = ap (λ l. cuts_in (answers (made id d) l)) same ∙ law.1;
-      text_is = text_is ∙ ap (λ b. answers_text said ++ (cut_line b ++ units_end (unit_counts k id d items said b))) none;
-      clean_is = clean_is ∙ ap (λ b. is_clean (unit_counts k id d items said b)) none;
-    }
