@@ -3,6 +3,8 @@
 #![tactic(auto)]
 
 mod file_shelf;
+mod pace;
+mod refusals;
 mod streams;
 mod udp_dock;
 mod udp_link;

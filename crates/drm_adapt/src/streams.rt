@@ -7,24 +7,34 @@ ghost use Rattle.drm_links.specs.Sink.{WritesSome};
 ghost use Rattle.drm_adapt.specs.Streams.{StreamReads, StreamWrites};
 
 use drm_links::{ReadOut, Sink, Source, WriteOut};
-use std::io::{ErrorKind, Read, Write};
+use std::io::{self, ErrorKind, Read, Write};
+use std::thread;
+use std::time::{Clock, Duration};
 
-/// A source over a stream, which ends where a read gives no byte.
+/// After so many milliseconds a stream that wasn't ready is asked again.
+const NAP_MILLIS: u64 = 1;
+
+/// A source over a stream, which ends where a read gives no byte. It waits for a stream that doesn't block.
 #[derive(Drop)]
-pub struct StreamSource<R> {
+pub struct StreamSource<'a, C, R> {
+    clock: &'a C,
     stream: R,
     faults: u64,
 }
 
-impl<R: Read> StreamSource<R> {
-    pub fn new(stream: R) -> Self
-        ensures { result ≡ record { stream = stream; faults = 0 } }
+impl<'a, C: Clock, R: Read> StreamSource<'a, C, R> {
+    pub fn new(clock: &'a C, stream: R) -> Self
+        ensures { result ≡ record { clock = clock.entry; stream = stream; faults = 0 } }
     {
-        StreamSource { stream, faults: 0 }
+        StreamSource {
+            clock,
+            stream,
+            faults: 0,
+        }
     }
 }
 
-impl<R: Read> Source for StreamSource<R> {
+impl<'a, C: Clock, R: Read> Source for StreamSource<'a, C, R> {
     ghost known = { λ source. record { faults = source.faults; told = None } };
 
     // Where the stream's bytes are known, the answer is about them.
@@ -39,8 +49,7 @@ impl<R: Read> Source for StreamSource<R> {
             match self.stream.read(buf) {
                 Ok(0) => return ReadOut::End,
                 Ok(n) => return ReadOut::Got(n),
-                // A signal came before any byte.
-                Err(fault) if fault.kind() == ErrorKind::Interrupted => {}
+                Err(fault) if comes_back(self.clock, &fault) => {}
                 Err(_) => break,
             }
         }
@@ -49,22 +58,27 @@ impl<R: Read> Source for StreamSource<R> {
     }
 }
 
-/// A sink over a stream, which fails where a write takes no byte.
+/// A sink over a stream, which fails where a write takes no byte. It waits for a stream that doesn't block.
 #[derive(Drop)]
-pub struct StreamSink<W> {
+pub struct StreamSink<'a, C, W> {
+    clock: &'a C,
     stream: W,
     faults: u64,
 }
 
-impl<W: Write> StreamSink<W> {
-    pub fn new(stream: W) -> Self
-        ensures { result ≡ record { stream = stream; faults = 0 } }
+impl<'a, C: Clock, W: Write> StreamSink<'a, C, W> {
+    pub fn new(clock: &'a C, stream: W) -> Self
+        ensures { result ≡ record { clock = clock.entry; stream = stream; faults = 0 } }
     {
-        StreamSink { stream, faults: 0 }
+        StreamSink {
+            clock,
+            stream,
+            faults: 0,
+        }
     }
 }
 
-impl<W: Write> Sink for StreamSink<W> {
+impl<'a, C: Clock, W: Write> Sink for StreamSink<'a, C, W> {
     ghost known = { λ sink. record { faults = sink.faults; told = None } };
 
     // Where the stream's bytes are known, the answer is about them.
@@ -78,12 +92,24 @@ impl<W: Write> Sink for StreamSink<W> {
         for _ in 0..u64::MAX {
             match self.stream.write(bytes) {
                 Ok(n) if n > 0 => return WriteOut::Wrote(n),
-                // A signal came before any byte.
-                Err(fault) if fault.kind() == ErrorKind::Interrupted => {}
+                Err(fault) if comes_back(self.clock, &fault) => {}
                 Ok(_) | Err(_) => break,
             }
         }
         self.faults = self.faults.saturating_add(1);
         WriteOut::Failed
+    }
+}
+
+// Whether the call is to be tried again: a signal came before any byte, or the stream doesn't block and wasn't ready, as
+// where another process that has it open set it so. Then it is tried when a nap is over.
+fn comes_back<C: Clock>(clock: &C, fault: &io::Error) -> bool {
+    match fault.kind() {
+        ErrorKind::Interrupted => true,
+        ErrorKind::WouldBlock => {
+            thread::sleep(clock, Duration::from_millis(NAP_MILLIS));
+            true
+        }
+        _ => false,
     }
 }

@@ -2,6 +2,8 @@
 
 ghost use Rattle.std.specs.Prelude.{◌≡◌, ◌≤◌, None, IfOk, length};
 
+use crate::pace::Pace;
+use crate::refusals::{Sends, is_network_away};
 use drm_links::{Came, Link, Sent};
 use std::io::{self, ErrorKind};
 use std::net::{SocketAddr, UdpSocket};
@@ -22,8 +24,8 @@ pub struct UdpLink<'a, R> {
     socket: UdpSocket,
     /// Where its datagrams go, if it sends any.
     dest: Option<SocketAddr>,
-    /// The end of the last rest, or else when the first datagram was sent.
-    paced: Option<Instant>,
+    pace: Pace,
+    sends: Sends,
     pub(crate) faults: u64,
     pub(crate) idles: u64,
 }
@@ -43,21 +45,20 @@ impl<'a, R: Clock> UdpLink<'a, R> {
             clock,
             socket,
             dest,
-            paced: None,
+            pace: Pace::new(),
+            sends: Sends::Untried,
             faults: 0,
             idles: 0,
         })
     }
 
-    // The moment at which a rest ends that is so long: it is counted from the end of the one before it, and the first one
-    // from the first datagram, so that being late never adds up.
-    fn end_of_rest(&self, whole: Duration) -> io::Result<Instant> {
-        let from = match self.paced {
-            Some(moment) => moment,
-            None => Instant::now(self.clock)?,
-        };
-        from.checked_add(whole)
-            .ok_or(ErrorKind::InvalidInput.into())
+    // Whether nothing came, for a tenth of a second.
+    fn is_idle(&self, fault: &io::Error) -> bool {
+        if is_network_away(fault) {
+            thread::sleep(self.clock, Duration::from_millis(IDLE_MILLIS));
+            return true;
+        }
+        is_quiet(fault)
     }
 
     // Drops what comes until this moment.
@@ -84,7 +85,7 @@ impl<'a, R: Clock> Link for UdpLink<'a, R> {
     fn recv(&mut self, buf: &mut [u8]) -> Came {
         match recv_from(&self.socket, buf) {
             Ok(count) => Came::Datagram(count),
-            Err(fault) if is_quiet(&fault) => {
+            Err(fault) if self.is_idle(&fault) => {
                 self.idles = self.idles.saturating_add(1);
                 Came::Idle
             }
@@ -96,11 +97,11 @@ impl<'a, R: Clock> Link for UdpLink<'a, R> {
     }
 
     fn send(&mut self, bytes: &[u8]) -> Sent {
-        if self.paced.is_none() {
-            self.paced = Instant::now(self.clock).ok();
-        }
+        self.pace.sends(self.clock);
         if let Some(dest) = self.dest
-            && is_gone(&send_to(&self.socket, bytes, dest))
+            && self
+                .sends
+                .goes_on(self.clock, &send_to(&self.socket, bytes, dest))
         {
             return Sent::Sent;
         }
@@ -112,10 +113,12 @@ impl<'a, R: Clock> Link for UdpLink<'a, R> {
         if millis == 0 {
             return;
         }
-        let whole = Duration::from_millis(u64::from(millis));
-        match self.end_of_rest(whole) {
-            Ok(end) if self.drop_until(end).is_ok() => self.paced = Some(end),
-            _ => thread::sleep(self.clock, whole),
+        let ended = match self.pace.end_of_rest(self.clock, millis) {
+            Ok(end) => self.drop_until(end),
+            Err(fault) => Err(fault),
+        };
+        if ended.is_err() {
+            thread::sleep(self.clock, Duration::from_millis(u64::from(millis)));
         }
         let _ = self.socket.set_nonblocking(false);
     }
@@ -152,12 +155,4 @@ fn send_to(socket: &UdpSocket, bytes: &[u8], dest: SocketAddr) -> io::Result<usi
         }
     }
     Err(ErrorKind::Interrupted.into())
-}
-
-// That nobody listens there is no fault: whoever listens may come later.
-fn is_gone(answer: &io::Result<usize>) -> bool {
-    match answer {
-        Ok(_) => true,
-        Err(fault) => fault.kind() == ErrorKind::ConnectionRefused,
-    }
 }

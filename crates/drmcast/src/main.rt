@@ -10,9 +10,9 @@ use std::process::ExitCode;
 
 fn main(rt: HostRuntime) -> ExitCode {
     let alloc = rt.alloc();
-    let mut input = StreamSource::new(rt.stdin());
-    let mut out = StreamSink::new(rt.stdout());
-    let mut err = StreamSink::new(rt.stderr());
+    let mut input = StreamSource::new(&rt, rt.stdin());
+    let mut out = StreamSink::new(&rt, rt.stdout());
+    let mut err = StreamSink::new(&rt, rt.stderr());
     let words = given_words(alloc, env::args(&rt));
     let mut shelf = FileShelf::new(&rt);
     let mut dock = UdpDock::new(&rt);

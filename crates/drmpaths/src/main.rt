@@ -10,8 +10,8 @@ use std::process::ExitCode;
 
 fn main(rt: HostRuntime) -> ExitCode {
     let alloc = rt.alloc();
-    let mut out = StreamSink::new(rt.stdout());
-    let mut err = StreamSink::new(rt.stderr());
+    let mut out = StreamSink::new(&rt, rt.stdout());
+    let mut err = StreamSink::new(&rt, rt.stderr());
     let words = given_words(alloc, env::args(&rt));
     let mut dock = UdpDock::new(&rt);
     let status = match words {
