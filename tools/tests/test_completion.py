@@ -25,8 +25,19 @@ def answer(shell, mark):
     return out.decode(errors="replace")
 
 
+def has_terminals():
+    """Whether a terminal can be had here."""
+    try:
+        for side in pty.openpty():
+            os.close(side)
+    except OSError:
+        return False
+    return True
+
+
+@unittest.skipUnless(has_terminals(), "there are no terminals here")
 class Completion(unittest.TestCase):
-    """Each line is typed, then Tab, and then printed by a function of the program's name."""
+    """Each line is typed, then Tab; a function of the program's name prints the words."""
 
     @classmethod
     def setUpClass(cls):

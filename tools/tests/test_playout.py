@@ -104,7 +104,7 @@ class Playout(unittest.TestCase):
             self.assertEqual(playout.place(one, 400, at), wanted, at)
 
     def test_each_begins_at_its_moment(self):
-        begin = playout.now() + 1200
+        begin = playout.now() + 2500
         lines = self.three(begin)
         status, out, err = self.ran("--to", "127.0.0.1:9")
         self.assertEqual((status, err), (0, ""))

@@ -88,11 +88,11 @@ class Compare(unittest.TestCase):
 
     def test_memory_is_bounded(self):
         with open(self.folder / "long.txt", "w", encoding="ascii") as out:
-            out.write("feed 1\n" + "".join(running.frame(k, k, "55" * 2000) + "\n" for k in range(10_000)))
-        least = 64 << 20
+            out.write("feed 1\n" + "".join(running.frame(k, k, "55" * 10_000) + "\n" for k in range(2_500)))
+        most = 32 << 20
         ran = subprocess.run(running.words("report.py", "compare", self.folder / "long.txt", self.folder / "long.txt"), stdout=subprocess.PIPE, check=False,
-                             preexec_fn=lambda: resource.setrlimit(resource.RLIMIT_DATA, (least, least)), timeout=running.WAIT_SECONDS)
-        self.assertEqual((ran.returncode, ran.stdout), (0, b"2 feeds, 10000 items in all of them, 0 of which differ\n"))
+                             preexec_fn=lambda: resource.setrlimit(resource.RLIMIT_DATA, (most, most)), timeout=running.WAIT_SECONDS)
+        self.assertEqual((ran.returncode, ran.stdout), (0, b"2 feeds, 2500 items in all of them, 0 of which differ\n"))
 
 
 if __name__ == "__main__":

@@ -46,10 +46,10 @@ class Pipe(unittest.TestCase):
 
     def test_signals_print_what_was_counted(self):
         for signalled in (signal.SIGTERM, signal.SIGINT):
-            with running.start("watch.py") as watching:
+            with tempfile.TemporaryDirectory() as folder, running.start("watch.py", "--metrics", f"{folder}/it.prom") as watching:
+                running.until(pathlib.Path(folder, "it.prom").exists)
                 watching.stdin.write(REPORT.encode() + b"feed 1\n" + running.frame(0, 9).encode() + b"\n")
                 watching.stdin.flush()
-                time.sleep(0.5)
                 status, out, err = running.stop(watching, signalled)
             self.assertEqual((status, err), (7, ""))
             self.assertEqual([of(line) for line in out.decode().splitlines()], ["given 4 missing 1 bad 1 longest gap G s switches 1 resumed 1 refused 20"] * 2)
