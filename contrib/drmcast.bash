@@ -1,34 +1,63 @@
 # Completion for Bash: the commands of drmcast, their options, and names of files where one is wanted; the options of drmpaths.
 
-_drmcast() {
-    local word=${COMP_WORDS[COMP_CWORD]} before=${COMP_WORDS[COMP_CWORD - 1]}
-    local common='--window --first --frames'
-    COMPREPLY=()
-    if [ "$COMP_CWORD" -eq 1 ]; then
-        mapfile -t COMPREPLY < <(compgen -W 'fac check serve receive air show convert gate pack unpack texts exercise' -- "$word")
-        return
-    fi
-    case $before in
-        --to | --pace | --window | --first | --frames | --idle | --limit) return ;;
-    esac
-    case ${COMP_WORDS[1]}:$COMP_CWORD:$word in
-        serve:*:-*) mapfile -t COMPREPLY < <(compgen -W '--to --pace' -- "$word") ;;
-        receive:*:-* | gate:*:-*) mapfile -t COMPREPLY < <(compgen -W "$common --idle --limit" -- "$word") ;;
-        convert:*:-* | unpack:*:-* | texts:*:-*) mapfile -t COMPREPLY < <(compgen -W "$common" -- "$word") ;;
-        air:*:-*) mapfile -t COMPREPLY < <(compgen -W '--window' -- "$word") ;;
-        convert:2:* | gate:4:* | gate:8:*) mapfile -t COMPREPLY < <(compgen -W 'plain pft:0:1400 pft:1:1400 pft:2:1400 pft:3:1400 pft:4:1400 pft:5:1400' -- "$word") ;;
-        check:2:* | serve:2:* | air:2:* | air:3:*) mapfile -t COMPREPLY < <(compgen -f -- "$word") ;;
+# The words of the line up to the cursor, into the array words; the last is the one that is completed. Bash itself would cut them at
+# colons, as in pft:2:1400 and 127.0.0.1:5000.
+_drmcast_words() {
+    local line=${COMP_LINE:0:COMP_POINT}
+    read -ra words <<< "$line"
+    case $line in
+        *[[:space:]]) words+=('') ;;
     esac
 }
 
-complete -o filenames -F _drmcast drmcast
+# What of these begins as the last word does. Bash puts an answer in the place of what stands behind the last colon of that word.
+_drmcast_among() {
+    local word=${words[-1]} before=
+    case $COMP_WORDBREAKS:$word in
+        *:*:*) before=${word%"${word##*:}"} ;;
+    esac
+    mapfile -t COMPREPLY < <(compgen -W "$1" -- "$word")
+    COMPREPLY=("${COMPREPLY[@]#"$before"}")
+}
+
+# The name of a file.
+_drmcast_file() {
+    compopt -o filenames 2> /dev/null
+    mapfile -t COMPREPLY < <(compgen -f -- "${COMP_WORDS[COMP_CWORD]}")
+}
+
+_drmcast() {
+    local common='--window --first --frames' words
+    local carries='plain pft:0:1400 pft:1:1400 pft:2:1400 pft:3:1400 pft:4:1400 pft:5:1400'
+    COMPREPLY=()
+    _drmcast_words
+    local at=$((${#words[@]} - 1))
+    if [ "$at" -le 1 ]; then
+        _drmcast_among 'fac check serve receive air show convert gate pack unpack texts exercise'
+        return
+    fi
+    case ${words[at - 1]} in
+        --to | --pace | --window | --first | --frames | --idle | --limit) return ;;
+    esac
+    case ${words[1]}:$at:${words[at]} in
+        serve:*:-*) _drmcast_among '--to --pace' ;;
+        receive:*:-* | gate:*:-*) _drmcast_among "$common --idle --limit" ;;
+        convert:*:-* | unpack:*:-* | texts:*:-*) _drmcast_among "$common" ;;
+        air:*:-*) _drmcast_among '--window' ;;
+        convert:2:* | gate:4:*) _drmcast_among "$carries" ;;
+        check:2:* | serve:2:* | air:2:* | air:3:*) _drmcast_file ;;
+    esac
+}
+
+complete -F _drmcast drmcast
 
 _drmpaths() {
-    local word=${COMP_WORDS[COMP_CWORD]} before=${COMP_WORDS[COMP_CWORD - 1]}
+    local words
     COMPREPLY=()
-    case $before:$word in
+    _drmcast_words
+    case ${words[-2]}:${words[-1]} in
         --window:* | --first:* | --frames:* | --idle:* | --limit:*) ;;
-        *:-*) mapfile -t COMPREPLY < <(compgen -W '--window --first --frames --idle --limit' -- "$word") ;;
+        *:-*) _drmcast_among '--window --first --frames --idle --limit' ;;
     esac
 }
 

@@ -1,10 +1,10 @@
 #!/usr/bin/env python3
 """Explains what is wrong with a schedule: which line it is, what the reason means, and what usually helps.
 
-    tools/explain.py evening.plan
-    tools/explain.py evening.plan --program crates/drmcast/out/drmcast
+    explain.py evening.plan
+    explain.py evening.plan --program /opt/drmcast/bin/drmcast
 
-It asks `drmcast check` for the first fault. docs/SCHEDULE.md has the rules. The status is that of `drmcast`.
+It asks `drmcast check` for the first fault. SCHEDULE.md has the rules. The status is that of `drmcast`.
 """
 import re
 import subprocess
@@ -31,7 +31,7 @@ MEANINGS = {
     "content-short": "The file has fewer bytes than the stream takes until the next configuration starts.",
 }
 HELPS = {
-    "word": "Compare the line with the table of docs/SCHEDULE.md. A name or a path with a space in it can't be written.",
+    "word": "Compare the line with the table of SCHEDULE.md. A name or a path with a space in it can't be written.",
     "order": "The first lines are drmplan, carry, first and length. In version 2 the lines from mode to clock come before the first block, the entity lines behind it.",
     "number": "Numbers have no sign, no point and no 0x.",
     "missing": "drmcast names the config line of the configuration in which something is missing.",
@@ -74,7 +74,7 @@ def explain(path, number, reason):
     else:
         raw = b""
         print("  (behind the last line)" if number else "  (the whole text)")
-    print(MEANINGS.get(reason, "docs/SCHEDULE.md tells what this reason means."))
+    print(MEANINGS.get(reason, "SCHEDULE.md says what this reason means."))
     for text in looks(raw, whole) or ([HELPS[reason]] if reason in HELPS else []):
         print(text)
 
@@ -84,7 +84,7 @@ def main():
     parser.add_argument("schedule", type=command_line.file)
     parser.add_argument("--program", type=command_line.program, default="drmcast", help="the program (drmcast, by the path)")
     options = parser.parse_args()
-    asked = subprocess.run([options.program, "check", options.schedule], stdout=subprocess.DEVNULL, stderr=subprocess.PIPE, text=True, check=False)
+    asked = subprocess.run([options.program, "check", "--", options.schedule], stdout=subprocess.DEVNULL, stderr=subprocess.PIPE, text=True, check=False)
     found = re.search(r"schedule line (\d+): ([a-z0-9-]+)", asked.stderr)
     if found:
         explain(options.schedule, int(found.group(1)), found.group(2))
@@ -96,4 +96,4 @@ def main():
 
 
 if __name__ == "__main__":
-    main()
+    command_line.run(main)

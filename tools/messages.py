@@ -1,11 +1,10 @@
 #!/usr/bin/env python3
-"""Makes the bytes of a stream whose last four bytes in each frame carry text messages (docs/FORMATS.md), as `drmcast texts` reads them.
+"""Makes the bytes of a stream whose last four bytes in each frame carry text messages (FORMATS.md), as `drmcast texts` reads them.
 
-    tools/messages.py examples/messages.txt 484 300 > radio.stream
+    messages.py messages.txt 484 300 > radio.stream
 
 FILE has a message a line, each of 1 to 128 bytes; they come in turn, one every so many frames. What isn't theirs is one byte.
 """
-import pathlib
 import sys
 
 import command_line
@@ -52,7 +51,7 @@ def main():
     parser.add_argument("--every", type=command_line.number(1, 3_000_000), default=150, help="a message begins every so many frames (150, a minute)")
     parser.add_argument("--fill", type=command_line.number(0, 254), default=0, help="the byte that stands where no message is (0)")
     options = parser.parse_args()
-    messages = [line.encode() for line in pathlib.Path(options.file).read_text(encoding="utf-8").splitlines() if line]
+    messages = [line.encode() for line in command_line.text(options.file).splitlines() if line]
     if not messages or any(len(message) > MOST_MESSAGE_BYTES for message in messages):
         sys.exit(f"messages.py: {options.file} has no message, or one of more than {MOST_MESSAGE_BYTES} bytes")
     if any(len(list(pieces(message, 0))) > options.every for message in messages):
@@ -62,4 +61,4 @@ def main():
 
 
 if __name__ == "__main__":
-    main()
+    command_line.run(main)

@@ -87,4 +87,5 @@ def main():
     print("both reports are alike, and " + ("memory was refused" if "refused" in refused[2] else "no memory was asked for after the first read"))
 
 
-main()
+if __name__ == "__main__":
+    command_line.run(main)

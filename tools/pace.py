@@ -16,16 +16,32 @@ import time
 
 import command_line
 
-PLAN = os.path.join(os.path.dirname(os.path.dirname(os.path.abspath(__file__))), "examples", "one-service.plan")
 MOST_OFF_MILLIS = 10
+# One service whose packets are carried whole; the scripts are installed without the examples.
+PLAN = """drmplan 2
+carry plain
+first 0 0
+length {length}
+config 0 0
+mode B
+occupancy 3
+depth long
+msc 0
+sdc 0
+protection 0 1
+room 64
+service e0d201 0 0 5 audio 2 0
+stream 0 1044 fill 00
+block 0
+audio 0 0 0 1 0 3 0 0 0
+label 0 Radio Nord
+"""
 
 
 def plain_plan(folder, frames):
-    """The example with plain packets and so many frames, rounded up to super frames."""
-    wanted = {"carry": "carry plain", "length": f"length {(frames + 2) // 3}"}
-    lines = pathlib.Path(PLAN).read_text(encoding="utf-8").splitlines()
+    """A schedule of so many frames, rounded up to super frames."""
     name = os.path.join(folder, "pace.plan")
-    pathlib.Path(name).write_text("".join(wanted.get(line.split(" ")[0], line) + "\n" for line in lines), encoding="utf-8")
+    pathlib.Path(name).write_text(PLAN.format(length=(frames + 2) // 3), encoding="utf-8")
     return name
 
 
@@ -67,4 +83,4 @@ def main():
 
 
 if __name__ == "__main__":
-    main()
+    command_line.run(main)

@@ -1,24 +1,23 @@
 #!/usr/bin/env python3
 """Goes between a capture, as `drmcast` reads and writes it, and files of packets, as tcpdump and Wireshark do.
 
-    drmcast serve examples/switch.plan | tools/pcap.py write multiplex.pcap
+    drmcast serve evening.plan | pcap.py write multiplex.pcap
     tcpdump -i eth0 -w link.pcap udp port 5000
-    tools/pcap.py read link.pcap --port 5000 | drmcast receive
+    pcap.py read link.pcap --port 5000 | drmcast receive
 
 `write` makes of each datagram a UDP packet over IPv4, so many milliseconds apart as `--every` says. `read` takes the UDP datagrams
 out, in the order of the file: over Ethernet (with VLAN tags), Linux cooked captures (both versions), the BSD loopback, and raw IP;
 of IPv4 and IPv6; and IP fragments put together, since a packet that is carried whole is longer than what an Ethernet carries. A
 file that is no pcap (pcapng, say) is first made one by Wireshark's `editcap`. With `--port` those to or from this port are taken;
-what no capture can begin with is left out, and counted on standard error.
+what is no packet, so that the reading of the capture would end there, is left out, and counted on standard error.
 """
-import os
 import shutil
 import struct
 import subprocess
 import sys
 
 import command_line
-from datagrams import datagrams, pcap, size_at
+from datagrams import datagrams, is_packet, pcap
 
 ETHERNET, RAW, LINUX_COOKED, LINUX_COOKED_2, LOOPBACK, RAW_IPV4, RAW_IPV6 = 1, 101, 113, 276, 0, 228, 229
 IPV4, IPV6, VLAN = 0x0800, 0x86DD, (0x8100, 0x88A8)
@@ -111,11 +110,6 @@ def transport(packet, fragments):
     return None
 
 
-def is_datagram(payload):
-    """Whether a capture can have it: its own head says just as many bytes."""
-    return payload[:2] in (b"AF", b"PF") and len(payload) >= 12 and size_at(payload, 0) == len(payload)
-
-
 def read(path, port):
     """Writes the datagrams in a file of packets as a capture."""
     fragments, taken, left_out = Fragments(), 0, 0
@@ -124,7 +118,7 @@ def read(path, port):
         if udp is None or len(udp) < 8 or (port is not None and port not in struct.unpack(">HH", udp[:4])):
             continue
         payload = udp[8:int.from_bytes(udp[4:6], "big") or None]
-        if is_datagram(payload):
+        if is_packet(payload):
             sys.stdout.buffer.write(payload)
             taken += 1
         else:
@@ -136,8 +130,8 @@ def write(path, millis, port):
     """Writes the datagrams of a capture into a file of packets."""
     whole = sys.stdin.buffer.read()
     found = [datagram for datagram, _, _ in datagrams(whole)]
-    if b"".join(found) != whole or not all(map(is_datagram, found)):
-        sys.exit("standard input is no capture, or is cut")
+    if b"".join(found) != whole or not all(map(is_packet, found)):
+        sys.exit("pcap.py: standard input is no capture, or is cut")
     pcap(path, found, millis, port)
 
 
@@ -148,17 +142,11 @@ def main():
     parser.add_argument("--port", type=command_line.number(1, 65535), help="read: of this port alone; write: to this port (50001)")
     parser.add_argument("--every", type=command_line.number(0, 60_000), default=1, metavar="MS", help="write: milliseconds from one to the next (1)")
     options = parser.parse_args()
-    try:
-        if options.what == "read":
-            read(options.file, options.port)
-        else:
-            write(options.file, options.every, options.port or 50001)
-        sys.stdout.flush()
-    except BrokenPipeError:
-        os._exit(0)
-    except OSError as fault:
-        sys.exit(f"pcap.py: {fault}")
+    if options.what == "read":
+        read(options.file, options.port)
+    else:
+        write(options.file, options.every, options.port or 50001)
 
 
 if __name__ == "__main__":
-    main()
+    command_line.run(main)

@@ -1,9 +1,25 @@
 """The lines of a report, as `drmcast receive` and `air` print them: what other scripts here share."""
+import re
+import shutil
 import sys
+import tempfile
 
-# What the first word of a line says, and how many words the line has at least.
-WORDS = {"feed": 2, "switch": 2, "resumed": 2, "frame": 14, "missing": 5, "bad": 4, "refused": 4, "end": 10}
+import command_line
+
+# Each line of a report by its first word.
+LINES = {
+    "feed": re.compile(r"feed \d+"),
+    "switch": re.compile(r"switch \d+"),
+    "resumed": re.compile(r"resumed \d+"),
+    "frame": re.compile(r"frame \d+ dlfc \d+ mode [A-D] fac [0-9a-f]{18} sdc ([0-9a-f]+|-) mux [0-9a-f]+ msc ([0-9a-f]+|-)"),
+    "missing": re.compile(r"missing \d+ had \d+ of \d+"),
+    "bad": re.compile(r"bad \d+ \S+ \S+"),
+    "refused": re.compile(r"refused \d+ \S+ \S+"),
+    "end": re.compile(r"end [a-z]+ given \d+ missing \d+ bad \d+ refused \d+"),
+}
 ITEMS = ("frame", "missing", "bad")
+# The count of frames begins again at 0 behind this many.
+COUNTS = 1 << 32
 
 
 class NoReport(Exception):
@@ -12,42 +28,95 @@ class NoReport(Exception):
 
 def parsed(line, number):
     """The words of a line of a report; `number` is the line's, for the complaint."""
-    words = line.split()
-    if not words or len(words) < WORDS.get(words[0], 1 << 30):
+    form = LINES.get(line.partition(" ")[0])
+    if form is None or not form.fullmatch(line):
         raise NoReport(f"line {number} is no line of a report: {line[:60]!r}")
-    return words
+    return line.split(" ")
 
 
-def feeds(lines):
-    """The feeds of a report, each as a dictionary: its number, its items by their place, what stands before them, and its end."""
-    found = []
-    for number, line in enumerate(lines, 1):
-        words = parsed(line, number)
-        if words[0] == "feed":
-            found.append({"feed": words[1], "items": {}, "before": {}, "refused": [], "end": None})
-            continue
-        if not found:
-            raise NoReport(f"line {number} stands before the first line of a feed")
-        feed = found[-1]
-        if words[0] in ITEMS:
-            feed["items"][int(words[1])] = line
-        elif words[0] in ("switch", "resumed"):
-            feed["before"][int(words[1])] = words[0]
-        elif words[0] == "refused":
-            feed["refused"].append(line)
-        else:
-            feed["end"] = line
-    return found
+class Feed:
+    """A feed of a report in a file: where its lines stand, how many items it has, and by how much the count of frames is ahead of places."""
+
+    def __init__(self, name, begin, number):
+        self.name, self.begin, self.end, self.number = name, begin, begin, number
+        self.items = 0
+        self.ahead = None
+        self.ended = False
+
+    def note(self, words, number):
+        """Takes one of its lines into account."""
+        kind = words[0]
+        if kind in ITEMS:
+            if int(words[1]) != self.items:
+                raise NoReport(f"line {number} has item {words[1]}, and item {self.items} is next")
+            self.items += 1
+        if kind == "frame" and self.ahead is None:
+            self.ahead = (int(words[3]) - int(words[1])) % COUNTS
+        self.ended = kind == "end"
 
 
-def read(path):
-    """The feeds of the report in a file, or of standard input where it is `-`. A plain complaint ends the script."""
-    try:
+class Report:
+    """A report in a file, of which one line is held at a time. Standard input, `-`, is kept in a file of its own until the end."""
+
+    def __init__(self, path):
+        self.path = path
         if path == "-":
-            lines = sys.stdin.read().splitlines()
+            self.file = tempfile.TemporaryFile()
+            shutil.copyfileobj(sys.stdin.buffer, self.file)
         else:
-            with open(path, encoding="ascii") as file:
-                lines = file.read().splitlines()
-        return feeds(lines)
-    except (OSError, UnicodeDecodeError, NoReport, ValueError) as fault:
+            self.file = open(path, "rb")
+        self.feeds = list(self.found())
+
+    def found(self):
+        """Its feeds, in their order. A line that no report has is a complaint."""
+        self.file.seek(0)
+        feed, at = None, 0
+        for number, raw in enumerate(self.file, 1):
+            if not raw.endswith(b"\n"):
+                command_line.complain(f"{self.path}: the last line is cut, and left out")
+                break
+            words = parsed(text_of(raw, number), number)
+            if words[0] == "feed":
+                if feed is not None:
+                    yield feed
+                feed = Feed(f"feed {words[1]}", at, number)
+            elif feed is None:
+                raise NoReport(f"line {number} stands before the first line of a feed")
+            elif feed.ended:
+                raise NoReport(f"line {number} stands behind the last line of its feed")
+            else:
+                feed.note(words, number)
+            at += len(raw)
+            feed.end = at
+        if feed is not None:
+            yield feed
+
+    def items(self, feed):
+        """Each item of a feed as its place, what stands before it (`switch`, `resumed` or nothing) and its words."""
+        at, number, before = feed.begin, feed.number, ""
+        while at < feed.end:
+            self.file.seek(at)
+            raw = self.file.readline()
+            words = parsed(text_of(raw, number), number)
+            at, number = at + len(raw), number + 1
+            if words[0] in ITEMS:
+                yield int(words[1]), before, words
+                before = ""
+            elif words[0] in ("switch", "resumed"):
+                before = words[0]
+
+
+def text_of(raw, number):
+    """A line as text, without its end."""
+    try:
+        return raw.decode("ascii").removesuffix("\n")
+    except UnicodeDecodeError:
+        raise NoReport(f"line {number} is no line of a report") from None
+
+
+def opened(path):
+    """The report in a file, or of standard input where it is `-`. A plain complaint ends the script."""
+    try:
+        return Report(path)
+    except NoReport as fault:
         sys.exit(f"{path}: {fault}")

@@ -153,4 +153,4 @@ def main():
 
 
 if __name__ == "__main__":
-    main()
+    command_line.run(main)

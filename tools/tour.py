@@ -7,15 +7,17 @@ output alone. A block runs in one shell. All blocks of a document run in a folde
 own files seem to stand, and which is removed at the end. One that has a TEXT in it is left out.
 
     tools/tour.py README.md docs/TOUR.md
-    tools/tour.py docs/WIRESHARK.md --stdout --without 'tshark -i' --without 'pace 400'
+    tools/tour.py docs/WIRESHARK.md --stdout --seconds 300
 
-It prints each command that prints something else, and ends with 1 if there is one.
+A session that waits for something that never comes is ended after so many seconds. It prints each command that prints something
+else, and ends with 1 if there is one.
 """
-
+import contextlib
+import os
 import pathlib
 import re
+import signal
 import subprocess
-import sys
 import tempfile
 
 import command_line
@@ -38,12 +40,26 @@ def commands(session):
     return found
 
 
-def printed(texts, errors, folder):
+def output(script, errors, folder, seconds):
+    """What a script prints in a shell of its own, which is ended after so many seconds with all that it began."""
+    shell = subprocess.Popen(["bash", "-c", script], cwd=folder, stdout=subprocess.PIPE, stderr=errors, encoding="utf-8", errors="replace",
+                             start_new_session=True)
+    try:
+        return shell.communicate(timeout=seconds)[0]
+    except subprocess.TimeoutExpired:
+        print(f"a session was ended after {seconds} seconds", flush=True)
+        os.killpg(shell.pid, signal.SIGKILL)
+        return shell.communicate()[0]
+    finally:
+        with contextlib.suppress(ProcessLookupError):
+            os.killpg(shell.pid, signal.SIGKILL)
+
+
+def printed(texts, errors, folder, seconds):
     """What these commands print in one shell, as a list of lines for each."""
     ends = [END.format(k) for k in range(len(texts))]
-    script = "".join(f"{text}\necho '{end}'\n" for text, end in zip(texts, ends))
-    shell = subprocess.run(["bash", "-c", script], cwd=folder, stdout=subprocess.PIPE, stderr=errors, text=True, check=False)
-    rest, lines = shell.stdout, []
+    rest = output("".join(f"{text}\necho '{end}'\n" for text, end in zip(texts, ends)), errors, folder, seconds)
+    lines = []
     for end in ends:
         came, _, rest = rest.partition(end + "\n")
         lines.append(came.splitlines())
@@ -53,7 +69,7 @@ def printed(texts, errors, folder):
 def run(path, options):
     """Runs the sessions of a document, and gives how many commands printed something else."""
     errors = subprocess.DEVNULL if options.stdout else subprocess.STDOUT
-    sessions = SESSION.findall(pathlib.Path(path).read_text(encoding="utf-8"))
+    sessions = SESSION.findall(command_line.text(path))
     same = other = left_out = 0
     with tempfile.TemporaryDirectory() as folder:
         for entry in TOP.iterdir():
@@ -63,7 +79,7 @@ def run(path, options):
             if any(text in session for text in options.without):
                 left_out += len(parts)
                 continue
-            for (text, wanted), came in zip(parts, printed([text for text, _ in parts], errors, folder)):
+            for (text, wanted), came in zip(parts, printed([text for text, _ in parts], errors, folder, options.seconds)):
                 if came == wanted:
                     same += 1
                     continue
@@ -77,10 +93,11 @@ def main():
     parser = command_line.parser(__doc__)
     parser.add_argument("documents", metavar="DOCUMENT", nargs="+", type=command_line.file)
     parser.add_argument("--stdout", action="store_true", help="compare the standard output alone")
+    parser.add_argument("--seconds", type=command_line.number(1, 86_400), default=600, help="end a session after so long (600)")
     parser.add_argument("--without", action="append", default=[], metavar="TEXT", help="leave out the blocks with this text")
     options = parser.parse_args()
     return 1 if sum([run(path, options) for path in options.documents]) else 0
 
 
 if __name__ == "__main__":
-    sys.exit(main())
+    command_line.run(main)

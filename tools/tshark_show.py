@@ -96,4 +96,5 @@ def main():
         sys.exit(sum([compare(options.program, path, folder) for path in options.captures]) > 0)
 
 
-main()
+if __name__ == "__main__":
+    command_line.run(main)

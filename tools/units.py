@@ -1,7 +1,7 @@
 #!/usr/bin/env python3
 """Cuts a file into units, as `drmcast pack` reads them: each a length of four bytes, and its bytes.
 
-    tools/units.py examples/picture.pgm 550 --times 4 | drmcast pack 0 55 > picture.packets
+    units.py picture.pgm 550 --times 4 | drmcast pack 0 55 > picture.packets
 
 The bytes come again with `drmcast unpack`, whose lines are `unit HEX`: sed -n 's/^unit //p' | xxd -r -p.
 """
@@ -33,4 +33,4 @@ def main():
 
 
 if __name__ == "__main__":
-    main()
+    command_line.run(main)

@@ -1,52 +1,69 @@
 #!/usr/bin/env python3
-"""Watches a modulator: reads a report from a pipe as it comes, and prints a line a minute.
+"""Watches a modulator: reads its reports as they come, and prints a line a minute.
 
-    drmcast receive 0.0.0.0:5000 --window 16 | tools/watch.py
-    drmcast receive 0.0.0.0:5000 | tools/watch.py --every 10 --format csv >> modulator.csv
+    watch.py -- drmcast receive 0.0.0.0:5000 --window 16 --idle 600
+    watch.py --metrics /run/drmcast/nord.prom -- drmcast receive 0.0.0.0:5000 --idle 600
+    drmcast receive 0.0.0.0:5000 | watch.py --every 10 --format csv >> modulator.csv
 
-A line says when it was printed (UTC), how many frames were given, missing and bad since the line before, the longest time
-with no frame given, in seconds (it goes on over lines while nothing comes), and how many reconfigurations began. So silence
-is seen, which a report alone doesn't show. At the end of the report stands a line of all of it. The status is 7 where a
-frame was missing or bad, as that of `drmcast`, 3 where what comes is no report, and 1 where the report broke off.
+A line has the time (UTC); how many frames were given, missing and bad since the line before; the longest time without a frame,
+in seconds; how many reconfigurations began (switches), and how many of them had not been announced (resumed); and how many
+datagrams were refused, which a report says at its end. A link on which nothing comes has no missing frames: the longest time
+without a frame shows it, and it goes on over lines and over reports.
+
+A command behind `--` is started again after each report that it ends with status 0 or 7, so the counts and the gap go on. Any
+other status ends the watch, with that status. Without a command, reports are read from standard input, to its end. At the end, also
+by Ctrl-C or TERM, come a line of what has not had one and a line of all of it. The status is 7 if a frame was missing or bad, as
+that of `drmcast`; 3 if what comes is no report; and 1 if the last report broke off.
+
+--metrics writes what was counted to a file each five seconds, in the text format of Prometheus, as the node exporter reads it
+(its name is to end with .prom) and `check_drmcast.py`. Frames given, missing and bad, refused datagrams, switches and resumed are
+counters. The moment of the last frame (0 before the first one), the longest gap of the last hour and the frames lost in the last
+hour are gauges. A watch that is started again goes on from the last frame's moment in the file.
 """
 import argparse
+import collections
 import csv
 import datetime
 import json
 import os
-import select
+import shutil
+import subprocess
 import sys
 import time
 
 import command_line
+import metrics
 import reports
 
-FIELDS = ("time", "given", "missing", "bad", "longest_gap", "switches")
+FIELDS = ("time", "given", "missing", "bad", "longest_gap", "switches", "resumed", "refused")
+COUNTED = {"frame": "given", "missing": "missing", "bad": "bad", "switch": "switches", "resumed": "resumed"}
+REPORT_ENDED = (0, 7)
+METRICS_SECONDS = 5.0
+RECENT_SECONDS = 3600.0
 
 
 class Counts:
-    """What came since the last line."""
+    """What came in some time."""
 
     def __init__(self):
-        self.given = self.missing = self.bad = self.switches = 0
+        self.given = self.missing = self.bad = self.switches = self.resumed = self.refused = 0
         self.longest_gap = 0.0
 
     def add(self, other):
-        self.given += other.given
-        self.missing += other.missing
-        self.bad += other.bad
-        self.switches += other.switches
+        for name in FIELDS[1:]:
+            if name != "longest_gap":
+                setattr(self, name, getattr(self, name) + getattr(other, name))
         self.longest_gap = max(self.longest_gap, other.longest_gap)
 
-
-def row(counts, word):
-    """A line's values, by their names."""
-    return dict(zip(FIELDS, (word, counts.given, counts.missing, counts.bad, round(counts.longest_gap, 1), counts.switches)))
+    def row(self, word):
+        """A line's values, by their names."""
+        values = {name: getattr(self, name) for name in FIELDS[1:]}
+        return {"time": word, **values, "longest_gap": round(self.longest_gap, 1)}
 
 
 def as_text(values):
     return (f"{values['time']} given {values['given']} missing {values['missing']} bad {values['bad']} "
-            f"longest gap {values['longest_gap']} s switches {values['switches']}")
+            f"longest gap {values['longest_gap']} s switches {values['switches']} resumed {values['resumed']} refused {values['refused']}")
 
 
 class Printer:
@@ -59,7 +76,7 @@ class Printer:
             self.csv.writerow(FIELDS)
 
     def line(self, counts, word):
-        values = row(counts, word)
+        values = counts.row(word)
         if self.kind == "csv":
             self.csv.writerow(values.values())
         else:
@@ -72,13 +89,15 @@ def now():
 
 
 class Watch:
-    """Counts the lines of a report, and how long none of a frame came."""
+    """Counts the lines of reports, and how long no frame came. `last_moment` is when the last frame came before, 0 if none did."""
 
-    def __init__(self):
+    def __init__(self, every, last_moment=0.0):
         self.part, self.whole = Counts(), Counts()
-        self.last_frame = time.monotonic()
+        self.recent = collections.deque(maxlen=max(1, round(RECENT_SECONDS / every)))
+        self.last_moment = last_moment
+        self.last_frame = time.monotonic() - (max(0.0, time.time() - last_moment) if last_moment else 0.0)
         self.lines = 0
-        self.has_ended = False
+        self.is_open = True
 
     def looks_at_gap(self):
         self.part.longest_gap = max(self.part.longest_gap, time.monotonic() - self.last_frame)
@@ -89,68 +108,148 @@ class Watch:
         kind = words[0]
         if kind == "frame":
             self.looks_at_gap()
-            self.last_frame = time.monotonic()
-            self.part.given += 1
-        elif kind == "missing":
-            self.part.missing += 1
-        elif kind == "bad":
-            self.part.bad += 1
-        elif kind == "switch":
-            self.part.switches += 1
-        self.has_ended = kind == "end"
+            self.last_frame, self.last_moment = time.monotonic(), time.time()
+        if kind in COUNTED:
+            setattr(self.part, COUNTED[kind], getattr(self.part, COUNTED[kind]) + 1)
+        elif kind == "end":
+            self.part.refused += int(words[-1])
+        self.is_open = kind != "end"
 
     def closes_part(self):
+        self.looks_at_gap()
         self.whole.add(self.part)
+        self.recent.append(self.part)
         part, self.part = self.part, Counts()
         return part
 
+    def state(self):
+        """All that was counted, what was of the last hour, and the moment of the last frame, by the names of the metrics."""
+        self.looks_at_gap()
+        whole, recent = Counts(), Counts()
+        for counts, parts in ((whole, (self.whole, self.part)), (recent, (*self.recent, self.part))):
+            for part in parts:
+                counts.add(part)
+        return {
+            "frames_given_total": whole.given, "frames_missing_total": whole.missing, "frames_bad_total": whole.bad,
+            "datagrams_refused_total": whole.refused, "switches_total": whole.switches, "resumed_total": whole.resumed,
+            "last_frame_timestamp_seconds": round(self.last_moment, 3), "longest_gap_seconds": round(recent.longest_gap, 3),
+            "recently_lost_frames": recent.missing + recent.bad,
+        }
 
-def follow(watch, printer, every):
-    """Reads standard input to its end, and prints a line whenever the time is over."""
-    descriptor, rest, due = sys.stdin.fileno(), b"", time.monotonic() + every
+
+class Following:
+    """Reads reports from a descriptor, and prints lines and writes metrics whenever it is time."""
+
+    def __init__(self, watch, printer, every, written, stop):
+        self.watch, self.printer, self.every, self.written, self.stop = watch, printer, every, written, stop
+        self.line_due = time.monotonic() + every
+        self.metrics_due = time.monotonic()
+        self.rest = b""
+
+    def due(self):
+        """Prints and writes what it is time for; gives in how many seconds the next is due."""
+        at = time.monotonic()
+        if at >= self.line_due:
+            self.printer.line(self.watch.closes_part(), now())
+            self.line_due = max(self.line_due + self.every, at)
+        if at >= self.metrics_due:
+            self.written.write(self.watch.state())
+            self.metrics_due = at + METRICS_SECONDS
+        return max(0.0, min(self.line_due, self.metrics_due) - time.monotonic())
+
+    def takes(self, whole):
+        for line in whole:
+            self.watch.take(line.decode("ascii", "replace"))
+
+    def read(self, descriptor):
+        """Reads to the end; or until a stop is asked for, and then what has come by then."""
+        goes_on = True
+        while goes_on:
+            if self.stop.waits(descriptor, self.due()):
+                goes_on = self.takes_piece(descriptor)
+            else:
+                goes_on = not self.stop.asked
+
+    def takes_piece(self, descriptor):
+        """Takes the whole lines of what can be read; gives whether it was not the end."""
+        piece = os.read(descriptor, 1 << 16)
+        *whole, self.rest = (self.rest + piece).split(b"\n")
+        for line in whole:
+            self.watch.take(line.decode("ascii", "replace"))
+        return bool(piece)
+
+
+def follow_command(command, following):
+    """Runs the command again and again; gives its status once that says more than that a report has ended."""
     while True:
-        ready, _, _ = select.select([descriptor], [], [], max(0.0, due - time.monotonic()))
-        if ready:
-            piece = os.read(descriptor, 1 << 16)
-            if not piece:
-                return
-            *whole, rest = (rest + piece).split(b"\n")
-            for line in whole:
-                watch.take(line.decode("ascii", "replace"))
-        if time.monotonic() >= due:
-            watch.looks_at_gap()
-            printer.line(watch.closes_part(), now())
-            due += every
+        following.watch.is_open, following.rest = True, b""
+        with subprocess.Popen(command, stdin=subprocess.DEVNULL, stdout=subprocess.PIPE) as run:
+            try:
+                following.read(run.stdout.fileno())
+            except BaseException:
+                run.terminate()
+                raise
+            if following.stop.asked:
+                run.terminate()
+        status = run.returncode if run.returncode >= 0 else command_line.SIGNALLED - run.returncode
+        if following.stop.asked or following.watch.is_open or status not in REPORT_ENDED:
+            return status
+
+
+def followed(command, following):
+    """Follows what is to be watched to its end; gives the status of a command that failed, 3 if no report came, else 0."""
+    try:
+        if command:
+            status = follow_command(command, following)
+            return 0 if following.stop.asked or status in REPORT_ENDED else status
+        following.read(sys.stdin.fileno())
+        return 0
+    except reports.NoReport as fault:
+        command_line.complain(fault)
+        return 3
 
 
 def seconds(word):
-    value = float(word)
+    try:
+        value = float(word)
+    except ValueError:
+        value = 0.0
     if not 0.1 <= value <= 86400:
-        raise argparse.ArgumentTypeError("a number of seconds from 0.1 to 86,400")
+        raise argparse.ArgumentTypeError(f"{word} is no number of seconds from 0.1 to 86400")
     return value
 
 
-def main():
+def arguments():
+    words = sys.argv[1:]
+    own, command = (words[:words.index("--")], words[words.index("--") + 1:]) if "--" in words else (words, [])
     parser = command_line.parser(__doc__)
+    parser.usage = "%(prog)s [-h] [--every SECONDS] [--format {text,csv,json}] [--metrics FILE] [--link NAME] [-- COMMAND ..]"
     parser.add_argument("--every", type=seconds, default=60.0, metavar="SECONDS", help="a line so often (60)")
     parser.add_argument("--format", choices=("text", "csv", "json"), default="text", help="how a line is printed (text)")
-    options = parser.parse_args()
-    watch = Watch()
-    printer = Printer(options.format)
-    try:
-        follow(watch, printer, options.every)
-    except reports.NoReport as fault:
-        print(f"watch.py: {fault}", file=sys.stderr)
-        sys.exit(3)
-    except KeyboardInterrupt:
-        pass
-    watch.looks_at_gap()
-    watch.closes_part()
-    printer.line(watch.whole, "all")
-    if not watch.has_ended:
-        sys.exit("watch.py: the report broke off: it has no last line")
-    sys.exit(7 if watch.whole.missing or watch.whole.bad else 0)
+    parser.add_argument("--metrics", metavar="FILE", help="write what was counted to this file")
+    parser.add_argument("--link", metavar="NAME", help="the label `link` of the metrics (the name of their file, without .prom)")
+    options = parser.parse_args(own)
+    if command and shutil.which(command[0]) is None:
+        parser.error(f"{command[0]} is no program")
+    return options, command
+
+
+def main():
+    options, command = arguments()
+    stop = command_line.Stop()
+    written = metrics.Metrics(options.metrics, options.link)
+    watch = Watch(options.every, written.last_moment())
+    following = Following(watch, Printer(options.format), options.every, written, stop)
+    status = followed(command, following)
+    following.printer.line(watch.closes_part(), now())
+    following.printer.line(watch.whole, "all")
+    written.write(watch.state())
+    if status:
+        return status
+    if watch.is_open and not stop.asked:
+        return "watch.py: the report broke off: it has no last line"
+    return 7 if watch.whole.missing or watch.whole.bad else 0
 
 
 if __name__ == "__main__":
-    main()
+    command_line.run(main)

@@ -1,0 +1,67 @@
+#!/usr/bin/env python3
+"""A check for Nagios and its kin of a link that `watch.py --metrics FILE` watches.
+
+    check_drmcast.py /run/drmcast/nord/receive.prom --missing 10 --gap 30
+
+It prints one line, and its status is
+
+    0  if the last frame came within the last S seconds,
+    1  if it did, and in the last hour more than N frames were missing or bad, or none came for longer than S seconds,
+    2  if none has come for longer than S seconds, or none ever,
+    3  if that can't be said: the file can't be read or is another one, or a word of the command line is wrong.
+
+The file is written each five seconds, so S is 10 or more. It goes on saying when the last frame came if the watch itself has ended.
+"""
+import sys
+import time
+
+import command_line
+import metrics
+
+OK, WARNING, CRITICAL, UNKNOWN = range(4)
+NAMES = ("OK", "WARNING", "CRITICAL", "UNKNOWN")
+WRONG_WORDS = 2
+
+
+def judged(values, most_missing, most_gap, now):
+    """The status, and what is said."""
+    last, lost, longest = values["last_frame_timestamp_seconds"], values["recently_lost_frames"], values["longest_gap_seconds"]
+    if last <= 0:
+        return CRITICAL, "no frame yet"
+    gap = max(0.0, now - last)
+    said = f"last frame {gap:.0f} s ago, in the last hour {lost:.0f} lost and {longest:.1f} s the longest gap"
+    if gap > most_gap:
+        return CRITICAL, said
+    return (WARNING if lost > most_missing or longest > most_gap else OK), said
+
+
+def arguments():
+    parser = command_line.parser(__doc__)
+    parser.add_argument("file", metavar="FILE")
+    parser.add_argument("--missing", type=command_line.number(0, 1_000_000_000), default=0, metavar="N", help="so many lost frames an hour are right (0)")
+    parser.add_argument("--gap", type=command_line.number(10, 1_000_000_000), default=30, metavar="S", help="so many seconds without a frame are right (30)")
+    try:
+        return parser.parse_args()
+    except SystemExit as end:
+        if end.code != WRONG_WORDS:
+            raise
+        print("DRMCAST UNKNOWN - the words of the command line are wrong")
+        sys.exit(UNKNOWN)
+
+
+def main():
+    options = arguments()
+    try:
+        link, values = metrics.read(options.file)
+    except (OSError, metrics.NoMetrics) as fault:
+        print(f"DRMCAST UNKNOWN - {command_line.reason(fault) if isinstance(fault, OSError) else fault}")
+        return UNKNOWN
+    status, said = judged(values, options.missing, options.gap, time.time())
+    data = {"given": "frames_given_total", "missing": "frames_missing_total", "bad": "frames_bad_total", "refused": "datagrams_refused_total"}
+    performance = " ".join(f"{name}={values[metric]:.0f}c" for name, metric in data.items())
+    print(f"DRMCAST {NAMES[status]} - {link}: {said} | {performance}")
+    return status
+
+
+if __name__ == "__main__":
+    command_line.run(main, refused=UNKNOWN)
