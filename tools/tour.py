@@ -4,7 +4,8 @@
 A session is a block whose first line begins with '$ '. Its lines that begin so are commands, those that begin with '> '
 go on with the command above, and all others are what that one prints, on both outputs; with --stdout on the standard
 output alone. A block runs in one shell. All blocks of a document run in a folder of their own, in which the repository's
-own files seem to stand, and which is removed at the end. One that has a TEXT in it is left out.
+own files seem to stand, and which is removed at the end. One that has a TEXT in it is left out, and so is one with a command
+'# needs PROGRAM' if there is no such program.
 
     tools/tour.py README.md docs/TOUR.md
     tools/tour.py docs/WIRESHARK.md --stdout --seconds 300
@@ -16,6 +17,7 @@ import contextlib
 import os
 import pathlib
 import re
+import shutil
 import signal
 import subprocess
 import tempfile
@@ -24,6 +26,7 @@ import command_line
 
 TOP = pathlib.Path(__file__).resolve().parent.parent
 SESSION = re.compile(r"^```\n(\$ .*?)^```$", re.DOTALL | re.MULTILINE)
+NEEDS = re.compile(r"^\$ # needs (\S+)$", re.MULTILINE)
 END = "--- end of command {} ---"
 
 
@@ -76,7 +79,10 @@ def run(path, options):
             pathlib.Path(folder, entry.name).symlink_to(entry)
         for session in sessions:
             parts = commands(session)
-            if any(text in session for text in options.without):
+            absent = [name for name in NEEDS.findall(session) if shutil.which(name) is None]
+            if absent:
+                print(f"{path}: a session is left out, since {' and '.join(absent)} isn't installed", flush=True)
+            if absent or any(text in session for text in options.without):
                 left_out += len(parts)
                 continue
             for (text, wanted), came in zip(parts, printed([text for text, _ in parts], errors, folder, options.seconds)):
