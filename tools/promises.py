@@ -19,7 +19,6 @@ has, in a cell 'shown by', files or crates that have to be there. The status is 
 import functools
 import pathlib
 import re
-import sys
 
 import command_line
 
@@ -150,7 +149,7 @@ FUNCTIONS = functools.cache(functions_of)
 def rows(document):
     """The rows of a document's tables of promises: the line, what is named, the cell 'clause', and whether it is proved."""
     columns = None
-    for number, line in enumerate((TOP / document).read_text(encoding="utf-8").splitlines(), 1):
+    for number, line in enumerate(command_line.text(TOP / document).splitlines(), 1):
         cells = [cell.strip() for cell in line.split("|")[1:-1]]
         if not line.startswith("|"):
             columns = None
@@ -206,14 +205,15 @@ def main():
     options = parser.parse_args()
     wrong, cited = 0, set()
     for document in DOCUMENTS:
-        if not (TOP / document).is_file():
-            sys.exit(f"promises.py: {document} isn't there")
         many = 0
         for number, names, clause, proved in rows(document):
             many += 1
             for complaint in complaints(names, clause, cited) if proved else missing(names):
-                print(f"{document}:{number}: {complaint}", file=sys.stderr)
+                command_line.complain(f"{document}:{number}: {complaint}")
                 wrong += 1
+        if not many:
+            command_line.complain(f"{document}:1: no table of promises")
+            wrong += 1
         print(f"{document}: {many} promises")
     if options.uncited:
         for crate in sorted(path.parent.name for path in CRATES.glob("*/src")):
@@ -224,4 +224,4 @@ def main():
 
 
 if __name__ == "__main__":
-    sys.exit(main())
+    command_line.run(main)
