@@ -93,6 +93,13 @@ Description: Digital Radio Mondiale multiplex, from a content server to modulato
  receives them. A gateway carries them on under another protection, and
  drmpaths receives one schedule over several networks. What they do is proved.
 END
+cat > "$root/DEBIAN/prerm" <<'END'
+#!/bin/sh
+set -e
+# What Python left beside the scripts.
+rm -rf /usr/lib/drmcast/__pycache__
+END
+chmod 755 "$root/DEBIAN/prerm"
 for moment in postinst postrm; do
     cat > "$root/DEBIAN/$moment" <<'END'
 #!/bin/sh
