@@ -18,7 +18,7 @@ METRICS = {
     "longest_gap_seconds": ("gauge", "The longest time without a frame in the last hour."),
     "recently_lost_frames": ("gauge", "Frames that were missing or bad in the last hour."),
 }
-SAMPLE = re.compile(r'([a-z_]+)\{link="((?:[^"\\\n]|\\.)*)"\} (-?[0-9.]+(?:e[+-]?[0-9]+)?)')
+SAMPLE = re.compile(r'([a-z_]+)\{link="((?:[^"\\\n]|\\.)*)"\} ([0-9]+(?:\.[0-9]+)?(?:e[+-]?[0-9]+)?)')
 MOST_BYTES = 65_536
 
 

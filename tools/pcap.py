@@ -104,7 +104,7 @@ def transport(packet, fragments):
         end = 40 + int.from_bytes(packet[4:6], "big")
         if packet[6] == UDP:
             return packet[40:end]
-        if packet[6] == FRAGMENT and packet[40] == UDP:
+        if packet[6] == FRAGMENT and packet[40:41] == bytes([UDP]):
             word = int.from_bytes(packet[42:44], "big")
             return fragments.whole(packet[44:48] + packet[8:40], word & 0xFFF8, bool(word & 1), packet[48:end])
     return None

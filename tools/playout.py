@@ -30,7 +30,7 @@ import command_line
 
 Entry = collections.namedtuple("Entry", "line begin name number count super_frames")
 
-BEGIN = re.compile(r"\d{4}-\d\d-\d\dT\d\d:\d\d:\d\d(\.\d{1,3})?Z")
+BEGIN = re.compile(r"2\d{3}-\d\d-\d\dT\d\d:\d\d:\d\d(\.\d{1,3})?Z")
 FIRST = re.compile(r"^first (\d+) (\d+)\nlength (\d+)$", re.MULTILINE)
 FRAMES = 3
 NUMBERS, COUNTS = 1 << 16, 1 << 32
@@ -43,7 +43,7 @@ START_MILLIS, RETRY_SECONDS, LOOK_SECONDS = 200, 1.0, 10.0
 
 def millis(word):
     """The milliseconds since 1970 of a moment."""
-    if not BEGIN.fullmatch(word):
+    if not word.isascii() or not BEGIN.fullmatch(word):
         raise ValueError(f"{word} is no moment as 2026-12-24T18:00:00Z")
     at = datetime.datetime.fromisoformat(word[:19]).replace(tzinfo=datetime.timezone.utc)
     return round(at.timestamp()) * 1000 + int(word[20:-1].ljust(3, "0") if len(word) > 20 else 0)

@@ -7,16 +7,17 @@ import tempfile
 import command_line
 
 # Each line of a report by its first word.
-LINES = {
-    "feed": re.compile(r"feed \d+"),
-    "switch": re.compile(r"switch \d+"),
-    "resumed": re.compile(r"resumed \d+"),
-    "frame": re.compile(r"frame \d+ dlfc \d+ mode [A-D] fac [0-9a-f]{18} sdc ([0-9a-f]+|-) mux [0-9a-f]+ msc ([0-9a-f]+|-)"),
-    "missing": re.compile(r"missing \d+ had \d+ of \d+"),
-    "bad": re.compile(r"bad \d+ \S+ \S+"),
-    "refused": re.compile(r"refused \d+ \S+ \S+"),
-    "end": re.compile(r"end [a-z]+ given \d+ missing \d+ bad \d+ refused \d+"),
-}
+NUMBER = "[0-9]{1,10}"
+LINES = {kind: re.compile(form.replace("N", NUMBER)) for kind, form in {
+    "feed": "feed N",
+    "switch": "switch N",
+    "resumed": "resumed N",
+    "frame": "frame N dlfc N mode [A-D] fac [0-9a-f]{18} sdc ([0-9a-f]+|-) mux [0-9a-f]+ msc ([0-9a-f]+|-)",
+    "missing": "missing N had N of N",
+    "bad": r"bad N \S+ \S+",
+    "refused": r"refused N \S+ \S+",
+    "end": "end [a-z]+ given N missing N bad N refused N",
+}.items()}
 ITEMS = ("frame", "missing", "bad")
 # The count of frames begins again at 0 behind this many.
 COUNTS = 1 << 32

@@ -28,6 +28,7 @@ TOP = pathlib.Path(__file__).resolve().parent.parent
 SESSION = re.compile(r"^```\n(\$ .*?)^```$", re.DOTALL | re.MULTILINE)
 NEEDS = re.compile(r"^\$ # needs (\S+)$", re.MULTILINE)
 END = "--- end of command {} ---"
+UNFINISHED = "(and doesn't end)"
 
 
 def commands(session):
@@ -44,13 +45,12 @@ def commands(session):
 
 
 def output(script, errors, folder, seconds):
-    """What a script prints in a shell of its own, which is ended after so many seconds with all that it began."""
+    """What a script prints in a shell of its own, which is ended after so many seconds, with all that it began."""
     shell = subprocess.Popen(["bash", "-c", script], cwd=folder, stdout=subprocess.PIPE, stderr=errors, encoding="utf-8", errors="replace",
                              start_new_session=True)
     try:
         return shell.communicate(timeout=seconds)[0]
     except subprocess.TimeoutExpired:
-        print(f"a session was ended after {seconds} seconds", flush=True)
         os.killpg(shell.pid, signal.SIGKILL)
         return shell.communicate()[0]
     finally:
@@ -64,8 +64,8 @@ def printed(texts, errors, folder, seconds):
     rest = output("".join(f"{text}\necho '{end}'\n" for text, end in zip(texts, ends)), errors, folder, seconds)
     lines = []
     for end in ends:
-        came, _, rest = rest.partition(end + "\n")
-        lines.append(came.splitlines())
+        came, found, rest = rest.partition(end + "\n")
+        lines.append(came.splitlines() + ([] if found else [UNFINISHED]))
     return lines
 
 

@@ -90,11 +90,11 @@ class Playout(unittest.TestCase):
         return lines
 
     def test_moments(self):
-        self.assertEqual(playout.millis("1970-01-02T00:00:00Z"), 86_400_000)
+        self.assertEqual(playout.millis("2000-01-02T00:00:00Z"), 946_771_200_000)
         self.assertEqual(playout.millis("2026-12-24T18:00:00.25Z"), playout.millis("2026-12-24T18:00:00Z") + 250)
-        for at in (0, 1_795_943_658_860, 1_795_943_658_007):
+        for at in (946_684_800_000, 1_795_943_658_860, 1_795_943_658_007):
             self.assertEqual(playout.millis(playout.moment(at)), at)
-        for word in ("2026-13-24T18:00:00Z", "2026-12-24 18:00", "2026-12-24T18:00:00", "2026-12-24T25:00:00Z", "18:00"):
+        for word in ("1999-12-24T18:00:00Z", "2026-13-24T18:00:00Z", "2026-12-24 18:00", "2026-12-24T18:00:00", "2026-12-24T25:00:00Z", "18:00"):
             with self.assertRaises(ValueError, msg=word):
                 playout.millis(word)
 
