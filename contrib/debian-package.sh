@@ -55,7 +55,7 @@ Upstream-Name: drmcast
 Upstream-Contact: $maintainer
 
 Files: *
-Copyright: $(date -u -d "@$SOURCE_DATE_EPOCH" +%Y) the authors of drmcast
+Copyright: $(sed -n 's/^Copyright //p' "$here/LICENSE")
 License: Apache-2.0
  On Debian systems the text of the Apache License, version 2.0, is in
  /usr/share/common-licenses/Apache-2.0.

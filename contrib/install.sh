@@ -59,10 +59,8 @@ done
 for shared in command_line datagrams metrics reports; do
     install -D -m 644 "$here/tools/$shared.py" "$into/lib/drmcast/$shared.py"
 done
-for document in docs/OPERATION.md docs/SCHEDULE.md docs/FORMATS.md docs/WIRESHARK.md docs/SECURITY.md CHANGELOG.md LICENSE; do
-    if [ -f "$here/$document" ]; then
-        install -D -m 644 "$here/$document" "$into/share/doc/drmcast/$(basename "$document")"
-    fi
+for document in docs/{OPERATION,SECURITY,SCHEDULE,FORMATS,TOUR,WIRESHARK,FIGURES}.md CHANGELOG.md LICENSE; do
+    install -D -m 644 "$here/$document" "$into/share/doc/drmcast/$(basename "$document")"
 done
 for example in "$here"/examples/*; do
     install -D -m 644 "$example" "$into/share/doc/drmcast/examples/$(basename "$example")"
