@@ -112,6 +112,11 @@ def run(main, refused=1):
     sys.exit(status or flushed)
 
 
+def status_of(ran):
+    """The status of a program that has ended, as a shell has it: a signal is 128 and its number."""
+    return ran.returncode if ran.returncode >= 0 else SIGNALLED - ran.returncode
+
+
 class Stop:
     """A wish to end, by Ctrl-C or TERM, that is waited for beside what a script reads; so it ends with its work done and counted.
 

@@ -83,7 +83,7 @@ def entry(program, number, line):
         raise Wrong(f"line {number}: {fault}") from None
     asked = subprocess.run([program, "check", "--", name], stdin=subprocess.DEVNULL, stdout=subprocess.PIPE, stderr=subprocess.PIPE, check=False)
     if asked.returncode:
-        raise Wrong(f"line {number}: {name}: {asked.stderr.decode(errors='replace').strip()}", asked.returncode if asked.returncode > 0 else 1)
+        raise Wrong(f"line {number}: {name}: {asked.stderr.decode(errors='replace').strip()}", command_line.status_of(asked))
     found = FIRST.search(asked.stdout.decode(errors="replace"))
     if found is None:
         raise Wrong(f"line {number}: {name}: {program} check prints no schedule")
@@ -187,7 +187,7 @@ class Playout:
             finally:
                 if self.stop.asked or sys.exc_info()[0] is not None:
                     server.terminate()
-        return None if self.stop.asked else server.returncode
+        return None if self.stop.asked else command_line.status_of(server)
 
     def begin(self, one):
         """Where and when to begin a schedule; None if that moment is gone."""

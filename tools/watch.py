@@ -191,7 +191,7 @@ def follow_command(command, following):
                 raise
             if following.stop.asked:
                 run.terminate()
-        status = run.returncode if run.returncode >= 0 else command_line.SIGNALLED - run.returncode
+        status = command_line.status_of(run)
         if following.stop.asked or following.watch.is_open or status not in REPORT_ENDED:
             return status
 
