@@ -57,7 +57,8 @@ def text(path):
         try:
             return opened.read()
         except UnicodeDecodeError as fault:
-            sys.exit(f"{path}: {fault}")
+            complain(f"{path}: {fault}")
+            sys.exit(1)
 
 
 def complain(message):
@@ -100,6 +101,8 @@ def run(main, refused=1):
     if sys.stdout is None:
         complain("standard output is closed")
         sys.exit(refused)
+    # A name that the system's letters don't have is printed by its bytes.
+    sys.stdout.reconfigure(errors="backslashreplace")
     status = ending(main, refused)
     if isinstance(status, str):
         with contextlib.suppress(OSError):
