@@ -70,7 +70,7 @@ class Metrics:
         try:
             with command_line.written_whole(self.path) as out:
                 os.fchmod(out.fileno(), 0o644)
-                out.write(as_text(self.link, values).encode())
+                out.write(as_text(self.link, values).encode(errors="replace"))
         except OSError as fault:
             if not self.written:
                 raise
