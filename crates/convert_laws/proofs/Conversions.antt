@@ -1,5 +1,5 @@
 -- What is given of a delivery of a schedule becomes its capture under the other carry.
-use Rattle.std.proofs.Common.{ℕ, ◌≡◌, ◌+◌, ◌≤◌, inr, List, [], ◌∷◌, length-append, ◌%◌, ◌^◌, inl, true, ◌++◌, length, take, Option, None, Some, refl, sym, ap, subst, ◌∙◌, arith, append_assoc}
+use Rattle.std.proofs.Common.{ℕ, ◌≡◌, ◌+◌, ◌-◌, ◌≤◌, inr, List, [], ◌∷◌, length-append, ◌%◌, ◌^◌, inl, true, ◌++◌, length, take, Option, None, Some, refl, sym, ap, subst, ◌∙◌, arith, append_assoc}
 use Rattle.std.specs.Prelude.{unwrap_or}
 use Rattle.std.proofs.lemmas.Bool.{true≢false, leb-true}
 use Rattle.std.proofs.lemmas.List.{append-nil, take-append-le}
@@ -25,8 +25,8 @@ captured : (plan : Plan) (carry : Carry) (n : ℕ) (items : List Item) (parts : 
     → IsItsCapture plan carry parts
 captured plan carry n items parts all first converts =
     let w = all_written plan carry n first 0 [] items parts all.are refl converts in
-    let many : 0 + length items ≡ frame_count plan = omega (arith, all.many) in
-    ((w.datagrams, subst (λ k. AreOfFrames (under carry plan) k w.datagrams) many w.are, w.text), w.lines)
+    let many : 0 + length items ≡ frame_count plan - 0 = omega (arith, all.many) in
+    ((w.datagrams, subst (λ k. AreOfFrames (under carry plan) 0 k w.datagrams) many w.are, w.text), w.lines)
 
 -- a run over the delivery gives all packets
 run_gives : OneRun → (plan : Plan) (window : ℕ) (first told : Option ℕ) (datagrams : List (List ℕ)) (answers : List Taken) (items : List Item)
@@ -150,7 +150,7 @@ some_written : (plan : Plan) (carry : Carry) (n : ℕ) (items : List Item) (part
 some_written plan carry n items parts are few first converts =
     let w = all_written plan carry n first 0 [] items parts are refl converts in
     let count : 0 + length items ≡ length items = omega arith in
-    ((length items, w.datagrams, few, subst (λ k. AreOfFrames (under carry plan) k w.datagrams) count w.are, w.text), w.lines)
+    ((length items, w.datagrams, few, subst (λ k. AreOfFrames (under carry plan) 0 k w.datagrams) count w.are, w.text), w.lines)
 
 pub broken_conversions : Collects → GivingEnds → OneReading → Refusing → OneRun → StepsPart → BrokenConversions
 broken_conversions collects giving_ends one_reading refusing one_run steps_part plan carry terms arrivals packets later parts whole is =

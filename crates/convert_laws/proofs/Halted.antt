@@ -120,17 +120,16 @@ module _ (collects : Collects) (giving_ends : GivingEnds) (one_reading : OneRead
   becomes plan carry items item last parts is fits to converts =
       let (rest, same) = to.starts in
       let from : AreFrom plan 0 (items ++ item ∷ rest) = subst (AreFrom plan 0) same to.are.are in
-      let place : IsPacketOf plan (length items) item =
-      (let zero_more : 0 + length items ≡ length items = omega arith in subst (λ k. IsPacketOf plan k item) zero_more (at_place plan 0 items rest item from)) in
+      let place : IsPacketOf plan (0 + length items) item = at_place plan 0 items rest item from in
       let those : AreFrom plan 0 (items ++ item ∷ []) = first_of_all_packets plan 0 (items ++ item ∷ []) rest (subst (AreFrom plan 0) (sym (append_assoc items (item ∷ []) rest)) from) in
       let w : IsWritten (under carry plan) (0 + length (items ++ item ∷ [])) [] parts = all_written plan carry (first_of last) to.first 0 [] (items ++ item ∷ []) parts those refl converts in
       let count : 0 + length (items ++ item ∷ []) ≡ suc (length items) = omega (arith, length-append items (item ∷ [])) in
-      let frames : AreOfFrames (under carry plan) (suc (length items)) w.datagrams = subst (λ k. AreOfFrames (under carry plan) k w.datagrams) count w.are in
+      let frames : AreOfFrames (under carry plan) 0 (suc (length items)) w.datagrams = subst (λ k. AreOfFrames (under carry plan) 0 k w.datagrams) count w.are in
       let (before, of_frame, are, (n, has, first), parted) = frames in
-      let some : 1 ≤ n = some_of_frame plan carry (length items) n place.packet is fits place.within place.is has in
-      let front : IsFrontOfCapture (under carry plan) (concat (before ++ of_frame)) = one_or_more (under carry plan) (length items) n place.within some before of_frame are first in
+      let some : 1 ≤ n = some_of_frame plan carry (0 + length items) n place.packet is fits place.within place.is has in
+      let front : IsFrontOfCapture (under carry plan) 0 (concat (before ++ of_frame)) = one_or_more (under carry plan) 0 (length items) n place.within some before of_frame are first in
       let within = place.within in (
-        ((suc (length items), w.datagrams, omega (arith, within), frames, w.text), subst (IsFrontOfCapture (under carry plan)) (sym (w.text ∙ ap concat parted)) front),
+        ((suc (length items), w.datagrams, omega (arith, within), frames, w.text), subst (IsFrontOfCapture (under carry plan) 0) (sym (w.text ∙ ap concat parted)) front),
         w.lines,
       )
 

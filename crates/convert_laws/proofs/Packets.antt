@@ -9,7 +9,7 @@ use Rattle.dcp_collect.specs.Runs.{Item, Packet}
 use Rattle.drm_schedule.specs.declared.plan.Plan.{Plan}
 use Rattle.drm_timeline.specs.Numbers.{frame_count, sequence_number}
 use Rattle.drm_server.specs.Frames.{IsPacketAt}
-use Rattle.drm_server.specs.Datagrams.{AreOfFrames}
+use Rattle.drm_server.specs.Datagrams.{AreOfFrame, AreOfFrames}
 use Rattle.drm_server.proofs.DatagramLemmas.{next_frame}
 use Rattle.drm_convert.specs.Converting.{Part, Converts, ConvertsAll, text_of, lines_of}
 use Rattle.convert_laws.specs.Laws.{under, IsFirstOf}
@@ -41,18 +41,18 @@ part_of plan carry n t packet part at first (inr (fault, is, none, line)) =
 -- The parts are written as the datagrams of so many frames behind those before them, and no line names any.
 pub record IsWritten (plan : Plan) (count : ℕ) (before : List (List ℕ)) (parts : List Part) : Type 0 where
   pub datagrams : List (List ℕ)
-  pub are : AreOfFrames plan count (before ++ datagrams)
+  pub are : AreOfFrames plan 0 count (before ++ datagrams)
   pub text : text_of parts ≡ concat datagrams
   pub lines : lines_of parts ≡ []
 
 module _ (plan : Plan) (carry : Carry) (n : ℕ) (first : IsFirstOf plan n) where
-  pub all_written : (t : ℕ) (before : List (List ℕ)) (items : List Item) (parts : List Part) → AreFrom plan t items → AreOfFrames (under carry plan) t before
+  pub all_written : (t : ℕ) (before : List (List ℕ)) (items : List Item) (parts : List Part) → AreFrom plan t items → AreOfFrames (under carry plan) 0 t before
       → ConvertsAll carry n items parts → IsWritten (under carry plan) (t + length items) before parts
   all_written t before [] [] are stand converts = record {
     datagrams = [];
     are = let same : before ≡ before ++ [] = sym (append-nil before) in
         let count : t ≡ t + 0 = omega arith in
-        subst (λ k. AreOfFrames (under carry plan) k (before ++ [])) count (subst (λ l. AreOfFrames (under carry plan) t l) same stand);
+        subst (λ k. AreOfFrames (under carry plan) 0 k (before ++ [])) count (subst (λ l. AreOfFrames (under carry plan) 0 t l) same stand);
     text = refl;
     lines = refl;
   }
@@ -62,13 +62,15 @@ module _ (plan : Plan) (carry : Carry) (n : ℕ) (first : IsFirstOf plan n) wher
       let here : Converts carry n (Packet t at.packet) part = subst (λ i. Converts carry n i part) at.same converts in
       let (frame, none) = part_of plan carry n t at.packet part at.is first here in
       let mine : List (List ℕ) = frame.0 in
-      let next : AreOfFrames (under carry plan) (t + 1) (before ++ mine) = next_frame (under carry plan) t before mine stand frame.1 in
+      let numbered : t ≡ 0 + t = omega arith in
+      let next : AreOfFrames (under carry plan) 0 (t + 1) (before ++ mine) =
+      next_frame (under carry plan) 0 t before mine stand (subst (λ k. AreOfFrame (under carry plan) k mine) numbered frame.1) in
       let rest = all_written (t + 1) (before ++ mine) items parts are next more in
       let count : (t + 1) + length items ≡ t + suc (length items) = omega arith in
       record {
         datagrams = mine ++ rest.datagrams;
-        are = subst (λ k. AreOfFrames (under carry plan) k (before ++ (mine ++ rest.datagrams))) count
-            (subst (λ l. AreOfFrames (under carry plan) ((t + 1) + length items) l) (append_assoc before mine rest.datagrams) rest.are);
+        are = subst (λ k. AreOfFrames (under carry plan) 0 k (before ++ (mine ++ rest.datagrams))) count
+            (subst (λ l. AreOfFrames (under carry plan) 0 ((t + 1) + length items) l) (append_assoc before mine rest.datagrams) rest.are);
         text = ap₂ (λ a b. a ++ b) frame.2 rest.text ∙ sym (concat-append mine rest.datagrams);
         lines = ap₂ (λ a b. a ++ b) none rest.lines;
       }

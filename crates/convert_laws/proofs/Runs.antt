@@ -100,9 +100,9 @@ enough_read in_front one_way terms packets read before after input rest is_befor
     ([], all_read in_front one_way input.left packets is read at, inl refl)
 
 -- a front of what is written of some first frames is a front of the capture
-front_written : (plan : Plan) (text : List ℕ) (out out' : Known Output) → IsOfSomeFrames plan text → Outputs out out' (IsFront text) → Outputs out out' (IsFrontOfCapture plan)
+front_written : (plan : Plan) (text : List ℕ) (out out' : Known Output) → IsOfSomeFrames plan text → Outputs out out' (IsFront text) → Outputs out out' (IsFrontOfCapture plan 0)
 front_written plan text out out' ((n, datagrams, within, are, is), front) wrote =
-    end_written plan n datagrams (concat datagrams) out out out' within are (subst (IsFrontOfCapture plan) is front)
+    end_written plan 0 n datagrams (concat datagrams) out out out' (omega (arith, within)) are (subst (IsFrontOfCapture plan 0) is front)
     (Outputs-nothing out (λ t. [] ++ concat datagrams ≡ t ++ concat datagrams) refl)
     (subst (λ l. Outputs out out' (IsFront l)) is wrote)
 
@@ -115,7 +115,7 @@ module _ (in_front : PacketsInFront) (one_way : ReadOneWay) (conversions : Conve
       let whole : AllInTime plan terms.window terms.first has.arrivals (read ++ later) = subst (λ l. AllInTime plan terms.window terms.first has.arrivals l) same has.in_time in
       let (captured, none) = conversions plan carry terms has.arrivals read later parts whole may all conversion in (
         clean_is ∙ clean_of parts none,
-        Outputs-weaker (λ t. t ≡ text_of parts) (IsCapture (under carry plan)) out out' text (λ t is. subst (IsCapture (under carry plan)) (sym is) captured),
+        Outputs-weaker (λ t. t ≡ text_of parts) (IsCapture (under carry plan) 0) out out' text (λ t is. subst (IsCapture (under carry plan) 0) (sym is) captured),
         Outputs-weaker (IsFront (lines_of parts)) (λ t. t ≡ []) err err' names.front (λ t front. empty_front t (lines_of parts) none front),
       )
   captures_are_converted plan carry terms (Err faults.Read) told before after out out' err err' input rest fits small is_before is_after has may (read, whole, stops, lacks, shorter, parts, is, text, names) =

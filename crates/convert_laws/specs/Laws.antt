@@ -44,7 +44,7 @@ IsFirstOf plan n = n % 2 ^ 16 ≡ plan.seq % 2 ^ 16
 
 -- They are written as the schedule's capture under this carry, and no line names any of them.
 abbrev pub IsItsCapture : Plan → Carry → List Part → Type 0
-IsItsCapture plan carry parts = IsCapture (under carry plan) (text_of parts) × (lines_of parts ≡ [])
+IsItsCapture plan carry parts = IsCapture (under carry plan) 0 (text_of parts) × (lines_of parts ≡ [])
 
 -- What a collector gives of such a delivery becomes the schedule's capture under the new carry.
 abbrev pub Converting : Type 0
@@ -106,7 +106,7 @@ ConversionsAreCaptures =
 
 -- the text is that of the datagrams of some first frames
 abbrev pub IsOfFirstFrames : Plan → List ℕ → Type 0
-IsOfFirstFrames plan text = (n : ℕ) × (datagrams : List (List ℕ)) × (n ≤ frame_count plan) × AreOfFrames plan n datagrams × (text ≡ concat datagrams)
+IsOfFirstFrames plan text = (n : ℕ) × (datagrams : List (List ℕ)) × (n ≤ frame_count plan) × AreOfFrames plan 0 n datagrams × (text ≡ concat datagrams)
 
 -- Where it can't read on, what was given so far is written as the datagrams of some first frames under the new carry.
 abbrev pub BrokenConversions : Type 0
@@ -117,7 +117,7 @@ BrokenConversions =
 
 -- the text is of the datagrams of one first frame or more, and so a front of the schedule's capture
 abbrev pub IsOfSomeFrames : Plan → List ℕ → Type 0
-IsOfSomeFrames plan text = IsOfFirstFrames plan text × IsFrontOfCapture plan text
+IsOfSomeFrames plan text = IsOfFirstFrames plan text × IsFrontOfCapture plan 0 text
 
 -- Where it comes to an item, this one and those before it become the datagrams of some first frames under the new carry.
 abbrev pub HaltedConversions : Type 0
@@ -139,11 +139,11 @@ pub record HasSchedule (plan : Plan) (terms : Terms) (bytes : List ℕ) : Type 0
 -- write a front of the capture; where memory is wanting, nothing. No other fault comes, and nothing was named.
 abbrev pub EndsWell : Plan → Carry → Result Bool Fault → Known Output → Known Output → Known Output → Known Output → Type 0
 EndsWell plan carry (Ok clean) out out' err err' =
-    (clean ≡ true) × Outputs out out' (IsCapture (under carry plan)) × Outputs err err' (λ text. text ≡ [])
+    (clean ≡ true) × Outputs out out' (IsCapture (under carry plan) 0) × Outputs err err' (λ text. text ≡ [])
 EndsWell plan carry (Err faults.Read) out out' err err' =
     Outputs out out' (IsOfFirstFrames (under carry plan)) × Outputs err err' (λ text. text ≡ [])
 EndsWell plan carry (Err faults.Write) out out' err err' =
-    Outputs out out' (IsFrontOfCapture (under carry plan)) × Outputs err err' (λ text. text ≡ [])
+    Outputs out out' (IsFrontOfCapture (under carry plan) 0) × Outputs err err' (λ text. text ≡ [])
 EndsWell plan carry (Err faults.NoMemory) out out' err err' = (out' ≡ out) × (err' ≡ err)
 EndsWell plan carry (Err fault) out out' err err' = ⊥
 

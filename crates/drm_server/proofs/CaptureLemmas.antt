@@ -43,94 +43,94 @@ nothing_before : (part rest : List ℕ) → [] ≡ part ++ rest → part ≡ []
 nothing_before [] rest is = refl
 nothing_before (x ∷ part) rest is = cc
 
-module _ (plan : Plan) where
+module _ (plan : Plan) (from : ℕ) where
   -- datagrams of the frames before, some first ones of this frame, and a front of the next one
-  ends_in : (t i : ℕ) → t < frame_count plan → (before first : List (List ℕ)) → AreOfFrames plan t before → AreFirst plan t i first
-      → (next front : List ℕ) → IsDatagramAt plan t i next → IsFront next front → IsFrontOfCapture plan (concat before ++ (concat first ++ front))
-  ends_in t i within before first are are_first next front is is_front = (
+  ends_in : (n i : ℕ) → from + n < frame_count plan → (before first : List (List ℕ)) → AreOfFrames plan from n before → AreFirst plan (from + n) i first
+      → (next front : List ℕ) → IsDatagramAt plan (from + n) i next → IsFront next front → IsFrontOfCapture plan from (concat before ++ (concat first ++ front))
+  ends_in n i within before first are are_first next front is is_front = (
     next,
     before ++ first,
-    record { t = t; within = within; i = i; is_next = is; of_frames = before; are_of_frames = are; of_frame = first; are_first = are_first; are = refl },
+    record { n = n; within = within; i = i; is_next = is; of_frames = before; are_of_frames = are; of_frame = first; are_first = are_first; are = refl },
     front,
     is_front,
     sym (append_assoc (concat before) (concat first) front) ∙ ap (λ l. l ++ front) (sym (concat_append before first)),
   )
 
   -- a front of some first datagrams and one more: it ends in that one, or where `early` says
-  in_next : (t i : ℕ) → t < frame_count plan → (before others : List (List ℕ)) (datagram : List ℕ) → AreOfFrames plan t before → AreFirst plan t i others → IsDatagramAt plan t i datagram
-      → (part : List ℕ) → (IsFront (concat others) part → IsFrontOfCapture plan (concat before ++ part)) → IsFront (concat (others ++ datagram ∷ [])) part
-      → IsFrontOfCapture plan (concat before ++ part)
-  in_next t i within before others datagram are are_others is part early (rest, front) =
+  in_next : (n i : ℕ) → from + n < frame_count plan → (before others : List (List ℕ)) (datagram : List ℕ) → AreOfFrames plan from n before → AreFirst plan (from + n) i others → IsDatagramAt plan (from + n) i datagram
+      → (part : List ℕ) → (IsFront (concat others) part → IsFrontOfCapture plan from (concat before ++ part)) → IsFront (concat (others ++ datagram ∷ [])) part
+      → IsFrontOfCapture plan from (concat before ++ part)
+  in_next n i within before others datagram are are_others is part early (rest, front) =
       elim (front_of_two (concat others) datagram part (rest, sym (concat_push others datagram) ∙ front)) [
         | inl first ↦ early first
         | inr found ↦
-            subst (λ l. IsFrontOfCapture plan (concat before ++ l)) (sym found.2)
-            (ends_in t i within before others are are_others datagram found.0 is found.1)
+            subst (λ l. IsFrontOfCapture plan from (concat before ++ l)) (sym found.2)
+            (ends_in n i within before others are are_others datagram found.0 is found.1)
       ]
 
   -- a front of one or more first datagrams of a frame, behind all of the frames before it
-  front_in_frame : (t i : ℕ) → t < frame_count plan → (before first : List (List ℕ)) → AreOfFrames plan t before → AreFirst plan t (suc i) first
-      → (part : List ℕ) → IsFront (concat first) part → IsFrontOfCapture plan (concat before ++ part)
-  front_in_frame t zero within before first are (others, datagram, none, is, same) part front =
-      in_next t zero within before others datagram are none is part
+  front_in_frame : (n i : ℕ) → from + n < frame_count plan → (before first : List (List ℕ)) → AreOfFrames plan from n before → AreFirst plan (from + n) (suc i) first
+      → (part : List ℕ) → IsFront (concat first) part → IsFrontOfCapture plan from (concat before ++ part)
+  front_in_frame n zero within before first are (others, datagram, none, is, same) part front =
+      in_next n zero within before others datagram are none is part
       (λ (rest, is_front).
-      subst (λ l. IsFrontOfCapture plan (concat before ++ l)) (sym (nothing_before part rest (sym (ap concat none) ∙ is_front)))
-      (ends_in t zero within before [] are refl datagram [] is (datagram, refl)))
+      subst (λ l. IsFrontOfCapture plan from (concat before ++ l)) (sym (nothing_before part rest (sym (ap concat none) ∙ is_front)))
+      (ends_in n zero within before [] are refl datagram [] is (datagram, refl)))
       (subst (λ l. IsFront (concat l) part) same front)
-  front_in_frame t (suc i) within before first are (others, datagram, are_others, is, same) part front =
-      in_next t (suc i) within before others datagram are are_others is part
-      (front_in_frame t i within before others are are_others part)
+  front_in_frame n (suc i) within before first are (others, datagram, are_others, is, same) part front =
+      in_next n (suc i) within before others datagram are are_others is part
+      (front_in_frame n i within before others are are_others part)
       (subst (λ l. IsFront (concat l) part) same front)
 
   -- a front of the datagrams of some first frames: it ends in one of them, or there are none and nothing else
-  front_in_frames : (t : ℕ) → t ≤ frame_count plan → (before : List (List ℕ)) → AreOfFrames plan t before
-      → (text : List ℕ) → IsFront (concat before) text → IsFrontOfCapture plan text ⊎ (text ≡ concat before)
+  front_in_frames : (n : ℕ) → from + n ≤ frame_count plan → (before : List (List ℕ)) → AreOfFrames plan from n before
+      → (text : List ℕ) → IsFront (concat before) text → IsFrontOfCapture plan from text ⊎ (text ≡ concat before)
   front_in_frames zero within before none text (rest, is) =
       inr (nothing_before text rest (sym (ap concat none) ∙ is) ∙ sym (ap concat none))
-  front_in_frames (suc t) within before (others, of_frame, are, (count, has, first), same) text (rest, is) =
+  front_in_frames (suc n) within before (others, of_frame, are, (count, has, first), same) text (rest, is) =
       let here : concat before ≡ concat others ++ concat of_frame = ap concat same ∙ concat_append others of_frame in
       elim (front_of_two (concat others) (concat of_frame) text (rest, sym here ∙ is)) [
         | inl early ↦
-            elim (front_in_frames t (omega (arith, within)) others are text early) [
+            elim (front_in_frames n (omega (arith, within)) others are text early) [
               | inl found ↦ inl found
               | inr whole ↦ last count first [] (concat of_frame, refl) (whole ∙ sym (append-nil (concat others)))
             ]
         | inr found ↦ last count first found.0 found.1 found.2
       ]
     where
-      last : (count : ℕ) → AreFirst plan t count of_frame → (part : List ℕ) → IsFront (concat of_frame) part → text ≡ concat others ++ part
-          → IsFrontOfCapture plan text ⊎ (text ≡ concat before)
+      last : (count : ℕ) → AreFirst plan (from + n) count of_frame → (part : List ℕ) → IsFront (concat of_frame) part → text ≡ concat others ++ part
+          → IsFrontOfCapture plan from text ⊎ (text ≡ concat before)
       last zero none part (rest, front) is =
           let empty : part ≡ [] = nothing_before part rest (sym (ap concat none) ∙ front) in
           inr (is ∙ (ap (λ l. concat others ++ l) (empty ∙ sym (ap concat none)) ∙ sym (ap concat same ∙ concat_append others of_frame)))
       last (suc i) first part front is =
-          inl (subst (IsFrontOfCapture plan) (sym is) (front_in_frame t i (omega (arith, within)) others of_frame are first part front))
+          inl (subst (IsFrontOfCapture plan from) (sym is) (front_in_frame n i (omega (arith, within)) others of_frame are first part front))
 
   -- All datagrams of one frame or more are a front too: the last of them is whole.
-  all_are_front : (t i : ℕ) → t < frame_count plan → (before first : List (List ℕ)) → AreOfFrames plan t before → AreFirst plan t (suc i) first
-      → IsFrontOfCapture plan (concat (before ++ first))
-  all_are_front t i within before first are are_first =
-      subst (IsFrontOfCapture plan) (sym (concat_append before first))
-      (front_in_frame t i within before first are are_first (concat first) ([], sym (append-nil (concat first))))
+  all_are_front : (n i : ℕ) → from + n < frame_count plan → (before first : List (List ℕ)) → AreOfFrames plan from n before → AreFirst plan (from + n) (suc i) first
+      → IsFrontOfCapture plan from (concat (before ++ first))
+  all_are_front n i within before first are are_first =
+      subst (IsFrontOfCapture plan from) (sym (concat_append before first))
+      (front_in_frame n i within before first are are_first (concat first) ([], sym (append-nil (concat first))))
 
-  pub one_or_more : (t count : ℕ) → t < frame_count plan → 1 ≤ count → (before first : List (List ℕ)) → AreOfFrames plan t before → AreFirst plan t count first
-      → IsFrontOfCapture plan (concat (before ++ first))
-  one_or_more t zero within some before first are are_first = absurd (omega (arith, some))
-  one_or_more t (suc i) within some before first are are_first = all_are_front t i within before first are are_first
+  pub one_or_more : (n count : ℕ) → from + n < frame_count plan → 1 ≤ count → (before first : List (List ℕ)) → AreOfFrames plan from n before → AreFirst plan (from + n) count first
+      → IsFrontOfCapture plan from (concat (before ++ first))
+  one_or_more n zero within some before first are are_first = absurd (omega (arith, some))
+  one_or_more n (suc i) within some before first are are_first = all_are_front n i within before first are are_first
 
   -- a front of all frames before, and of one or more first datagrams of this frame
-  front_so_far : (t i : ℕ) → t < frame_count plan → (before first : List (List ℕ)) → AreOfFrames plan t before → AreFirst plan t (suc i) first
-      → (text : List ℕ) → IsFront (concat before ++ concat first) text → IsFrontOfCapture plan text
-  front_so_far t i within before first are are_first text front =
+  front_so_far : (n i : ℕ) → from + n < frame_count plan → (before first : List (List ℕ)) → AreOfFrames plan from n before → AreFirst plan (from + n) (suc i) first
+      → (text : List ℕ) → IsFront (concat before ++ concat first) text → IsFrontOfCapture plan from text
+  front_so_far n i within before first are are_first text front =
       elim (front_of_two (concat before) (concat first) text front) [
         | inl early ↦
-            elim (front_in_frames t (omega (arith, within)) before are text early) [
+            elim (front_in_frames n (omega (arith, within)) before are text early) [
               | inl found ↦ found
               | inr whole ↦
-                  subst (IsFrontOfCapture plan) (append-nil (concat before) ∙ sym whole)
-                  (front_in_frame t i within before first are are_first [] (concat first, refl))
+                  subst (IsFrontOfCapture plan from) (append-nil (concat before) ∙ sym whole)
+                  (front_in_frame n i within before first are are_first [] (concat first, refl))
             ]
-        | inr found ↦ subst (IsFrontOfCapture plan) (sym found.2) (front_in_frame t i within before first are are_first found.0 found.1)
+        | inr found ↦ subst (IsFrontOfCapture plan from) (sym found.2) (front_in_frame n i within before first are are_first found.0 found.1)
       ]
 
 -- what waited, and more behind it, and more again
@@ -176,28 +176,28 @@ pub gathers_frame : (before of_frame : List (List ℕ)) (then_waits waits : List
 gathers_frame before of_frame then_waits waits a b c first second =
     subst (λ l. Gathers [] l waits a c) (sym (concat_append before of_frame)) (gathers_then [] (concat before) (concat of_frame) then_waits waits a b c first second)
 
-module _ (plan : Plan) where
+module _ (plan : Plan) (from : ℕ) where
   -- a part of the next frame
-  pub part_written : (t : ℕ) (datagrams : List (List ℕ)) (waits : List ℕ) (a b c : Known Output) → t < frame_count plan → AreOfFrames plan t datagrams
-      → Gathers [] (concat datagrams) waits a b → Outputs b c (IsFrontOfFrame plan t waits) → Outputs a c (IsFrontOfCapture plan)
-  part_written t datagrams waits a b c within are first second =
-      Outputs-then (λ s. concat datagrams ≡ s ++ waits) (IsFrontOfFrame plan t waits) (IsFrontOfCapture plan) a b c first second
+  pub part_written : (n : ℕ) (datagrams : List (List ℕ)) (waits : List ℕ) (a b c : Known Output) → from + n < frame_count plan → AreOfFrames plan from n datagrams
+      → Gathers [] (concat datagrams) waits a b → Outputs b c (IsFrontOfFrame plan (from + n) waits) → Outputs a c (IsFrontOfCapture plan from)
+  part_written n datagrams waits a b c within are first second =
+      Outputs-then (λ s. concat datagrams ≡ s ++ waits) (IsFrontOfFrame plan (from + n) waits) (IsFrontOfCapture plan from) a b c first second
       (λ s u is (i, of_frame, are_first, (rest, front)).
-      front_so_far plan t i within datagrams of_frame are are_first (s ++ u)
+      front_so_far plan from n i within datagrams of_frame are are_first (s ++ u)
       (rest, ap (λ l. l ++ concat of_frame) is ∙ (append_assoc s waits (concat of_frame) ∙ (ap (λ l. s ++ l) front ∙ sym (append_assoc s u rest)))))
 
   -- a front of what waits at the end
-  pub end_written : (t : ℕ) (datagrams : List (List ℕ)) (waits : List ℕ) (a b c : Known Output) → t ≤ frame_count plan → AreOfFrames plan t datagrams → IsFrontOfCapture plan (concat datagrams)
-      → Gathers [] (concat datagrams) waits a b → Outputs b c (IsFront waits) → Outputs a c (IsFrontOfCapture plan)
-  end_written t datagrams waits a b c within are all first second =
-      Outputs-then (λ s. concat datagrams ≡ s ++ waits) (IsFront waits) (IsFrontOfCapture plan) a b c first second
+  pub end_written : (n : ℕ) (datagrams : List (List ℕ)) (waits : List ℕ) (a b c : Known Output) → from + n ≤ frame_count plan → AreOfFrames plan from n datagrams → IsFrontOfCapture plan from (concat datagrams)
+      → Gathers [] (concat datagrams) waits a b → Outputs b c (IsFront waits) → Outputs a c (IsFrontOfCapture plan from)
+  end_written n datagrams waits a b c within are all first second =
+      Outputs-then (λ s. concat datagrams ≡ s ++ waits) (IsFront waits) (IsFrontOfCapture plan from) a b c first second
       (λ s u is (rest, front).
-      ⊎_elim (λ found. found) (λ whole. subst (IsFrontOfCapture plan) (sym whole) all)
-      (front_in_frames plan t within datagrams are (s ++ u) (rest, is ∙ (ap (λ l. s ++ l) front ∙ sym (append_assoc s u rest)))))
+      ⊎_elim (λ found. found) (λ whole. subst (IsFrontOfCapture plan from) (sym whole) all)
+      (front_in_frames plan from n within datagrams are (s ++ u) (rest, is ∙ (ap (λ l. s ++ l) front ∙ sym (append_assoc s u rest)))))
 
   -- all of what waits at the end
-  pub all_written : (datagrams : List (List ℕ)) (waits : List ℕ) (a b c : Known Output) → AreDatagrams plan datagrams
-      → Gathers [] (concat datagrams) waits a b → Outputs b c (λ text. text ≡ waits) → Outputs a c (IsCapture plan)
+  pub all_written : (datagrams : List (List ℕ)) (waits : List ℕ) (a b c : Known Output) → AreDatagrams plan from datagrams
+      → Gathers [] (concat datagrams) waits a b → Outputs b c (λ text. text ≡ waits) → Outputs a c (IsCapture plan from)
   all_written datagrams waits a b c are first second =
-      Outputs-then (λ s. concat datagrams ≡ s ++ waits) (λ text. text ≡ waits) (IsCapture plan) a b c first second
+      Outputs-then (λ s. concat datagrams ≡ s ++ waits) (λ text. text ≡ waits) (IsCapture plan from) a b c first second
       (λ s u is last. (datagrams, are, ap (λ l. s ++ l) last ∙ sym is))

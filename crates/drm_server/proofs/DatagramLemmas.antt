@@ -12,12 +12,12 @@ next_datagram plan t i before datagram are is =
     more : AreFirst plan t i before → IsDatagramAt plan t i datagram → AreFirst plan t (suc i) (before ++ datagram ∷ [])
     more are is = (before, datagram, are, is, refl)
 
-pub next_frame : (plan : Plan) (t : ℕ) (before of_frame : List (List ℕ)) → AreOfFrames plan t before → AreOfFrame plan t of_frame → AreOfFrames plan (t + 1) (before ++ of_frame)
-next_frame plan t before of_frame are is =
-    let one : suc t ≡ t + 1 = omega arith in
-    subst (λ k. AreOfFrames plan k (before ++ of_frame)) one (more are is)
+pub next_frame : (plan : Plan) (from n : ℕ) (before of_frame : List (List ℕ)) → AreOfFrames plan from n before → AreOfFrame plan (from + n) of_frame → AreOfFrames plan from (n + 1) (before ++ of_frame)
+next_frame plan from n before of_frame are is =
+    let one : suc n ≡ n + 1 = omega arith in
+    subst (λ k. AreOfFrames plan from k (before ++ of_frame)) one (more are is)
   where
-    more : AreOfFrames plan t before → AreOfFrame plan t of_frame → AreOfFrames plan (suc t) (before ++ of_frame)
+    more : AreOfFrames plan from n before → AreOfFrame plan (from + n) of_frame → AreOfFrames plan from (suc n) (before ++ of_frame)
     more are is = (before, of_frame, are, is, refl)
 
 -- the first i are i

@@ -1,5 +1,5 @@
 -- A schedule has one list of datagrams, of which those before a certain one are the front.
-use Rattle.std.proofs.Common.{◌≡◌, ◌<◌, ◌≤◌, ℕ, zero, suc, List, [], ◌∷◌, ◌++◌, length, refl, sym, ap, subst, ◌∙◌, ⊎_elim, arith, append_assoc}
+use Rattle.std.proofs.Common.{◌≡◌, ◌+◌, ◌-◌, ◌<◌, ◌≤◌, ℕ, zero, suc, List, [], ◌∷◌, ◌++◌, length, refl, sym, ap, subst, ◌∙◌, ⊎_elim, arith, append_assoc}
 use Rattle.std.proofs.lemmas.Bool.{cases_lt}
 use Rattle.std.proofs.lemmas.List.{append-nil}
 use Rattle.std.specs.List.{concat}
@@ -41,17 +41,17 @@ first_split plan t i (suc k) datagrams l (before, datagram, are, is, same) =
     (cases_lt i k)
 
 -- the datagrams of frame t, and those before them
-pub frames_split : (plan : Plan) (t n : ℕ) (datagrams : List (List ℕ)) → t < n → AreOfFrames plan n datagrams
-    → (before : List (List ℕ)) × (of_frame : List (List ℕ)) × (behind : List (List ℕ)) × AreOfFrames plan t before × AreOfFrame plan t of_frame × (datagrams ≡ before ++ (of_frame ++ behind))
-frames_split plan t zero datagrams l are = absurd (omega arith)
-frames_split plan t (suc n) datagrams l (before, of_frame, are, is, same) =
+pub frames_split : (plan : Plan) (from t n : ℕ) (datagrams : List (List ℕ)) → t < n → AreOfFrames plan from n datagrams
+    → (before : List (List ℕ)) × (of_frame : List (List ℕ)) × (behind : List (List ℕ)) × AreOfFrames plan from t before × AreOfFrame plan (from + t) of_frame × (datagrams ≡ before ++ (of_frame ++ behind))
+frames_split plan from t zero datagrams l are = absurd (omega arith)
+frames_split plan from t (suc n) datagrams l (before, of_frame, are, is, same) =
     ⊎_elim
     (λ (less : t < n).
-    let found = frames_split plan t n before less are in
+    let found = frames_split plan from t n before less are in
     (found.0, found.1, found.2 ++ of_frame, found.3, found.4, same ∙ (ap (λ l. l ++ of_frame) found.5 ∙ (append_assoc found.0 (found.1 ++ found.2) of_frame ∙ ap (λ l. found.0 ++ l) (append_assoc found.1 found.2 of_frame)))))
     (λ (not : n ≤ t).
     let last : n ≡ t = omega arith in
-    (before, of_frame, [], subst (λ k. AreOfFrames plan k before) last are, subst (λ k. AreOfFrame plan k of_frame) last is, same ∙ ap (λ l. before ++ l) (sym (append-nil of_frame))))
+    (before, of_frame, [], subst (λ k. AreOfFrames plan from k before) last are, subst (λ k. AreOfFrame plan (from + k) of_frame) last is, same ∙ ap (λ l. before ++ l) (sym (append-nil of_frame))))
     (cases_lt t n)
 
 module _ (one_fragment : OneFragment) where
@@ -75,26 +75,28 @@ module _ (one_fragment : OneFragment) where
       let same : count ≡ count' = one_count plan t count count' has has' in
       one_first plan t count' datagrams others (subst (λ k. AreFirst plan t k datagrams) same are) are'
 
-  one_of_frames : (plan : Plan) (n : ℕ) (datagrams others : List (List ℕ)) → AreOfFrames plan n datagrams → AreOfFrames plan n others → datagrams ≡ others
-  one_of_frames plan zero datagrams others x y = x ∙ sym y
-  one_of_frames plan (suc n) datagrams others (before, of_frame, are, is, same) (before', of_frame', are', is', same') =
-      same ∙ (ap (λ l. l ++ of_frame) (one_of_frames plan n before before' are are') ∙ (ap (λ l. before' ++ l) (one_of_frame plan n of_frame of_frame' is is') ∙ sym same'))
+  one_of_frames : (plan : Plan) (from n : ℕ) (datagrams others : List (List ℕ)) → AreOfFrames plan from n datagrams → AreOfFrames plan from n others → datagrams ≡ others
+  one_of_frames plan from zero datagrams others x y = x ∙ sym y
+  one_of_frames plan from (suc n) datagrams others (before, of_frame, are, is, same) (before', of_frame', are', is', same') =
+      same ∙ (ap (λ l. l ++ of_frame) (one_of_frames plan from n before before' are are') ∙ (ap (λ l. before' ++ l) (one_of_frame plan (from + n) of_frame of_frame' is is') ∙ sym same'))
 
-  pub one_delivery : (plan : Plan) (datagrams others : List (List ℕ)) → AreDatagrams plan datagrams → AreDatagrams plan others → datagrams ≡ others
-  one_delivery plan datagrams others x y = one_of_frames plan (frame_count plan) datagrams others x y
+  pub one_delivery : (plan : Plan) (from : ℕ) (datagrams others : List (List ℕ)) → AreDatagrams plan from datagrams → AreDatagrams plan from others → datagrams ≡ others
+  one_delivery plan from datagrams others x y = one_of_frames plan from (frame_count plan - from) datagrams others x y
 
-  pub one_capture : (plan : Plan) (bytes others : List ℕ) → IsCapture plan bytes → IsCapture plan others → bytes ≡ others
-  one_capture plan bytes others (datagrams, are, same) (datagrams', are', same') =
-      same ∙ (ap concat (one_delivery plan datagrams datagrams' are are') ∙ sym same')
+  pub one_capture : (plan : Plan) (from : ℕ) (bytes others : List ℕ) → IsCapture plan from bytes → IsCapture plan from others → bytes ≡ others
+  one_capture plan from bytes others (datagrams, are, same) (datagrams', are', same') =
+      same ∙ (ap concat (one_delivery plan from datagrams datagrams' are are') ∙ sym same')
 
-  pub first_ones_are_front : (plan : Plan) (datagrams first : List (List ℕ)) (next : List ℕ) → AreDatagrams plan datagrams → AreBefore plan next first
+  pub first_ones_are_front : (plan : Plan) (from : ℕ) (datagrams first : List (List ℕ)) (next : List ℕ) → AreDatagrams plan from datagrams → AreBefore plan from next first
       → (behind : List (List ℕ)) × (datagrams ≡ first ++ next ∷ behind)
-  first_ones_are_front plan datagrams first next are x =
-      let f = frames_split plan x.t (frame_count plan) datagrams x.within are in
-      let g = first_split plan x.t x.i f.4.0 f.1 (below_count plan x.t x.i f.4.0 next x.is_next f.4.1) f.4.2 in
-      let same_frames : f.0 ≡ x.of_frames = one_of_frames plan x.t f.0 x.of_frames f.3 x.are_of_frames in
-      let same_first : g.0 ≡ x.of_frame = one_first plan x.t x.i g.0 x.of_frame g.3 x.are_first in
-      let same_next : g.1 ≡ next = one_datagram plan x.t x.i g.1 next g.4 x.is_next in
+  first_ones_are_front plan from datagrams first next are x =
+      let t : ℕ = from + x.n in
+      let sent : x.n < frame_count plan - from = omega (arith, x.within) in
+      let f = frames_split plan from x.n (frame_count plan - from) datagrams sent are in
+      let g = first_split plan t x.i f.4.0 f.1 (below_count plan t x.i f.4.0 next x.is_next f.4.1) f.4.2 in
+      let same_frames : f.0 ≡ x.of_frames = one_of_frames plan from x.n f.0 x.of_frames f.3 x.are_of_frames in
+      let same_first : g.0 ≡ x.of_frame = one_first plan t x.i g.0 x.of_frame g.3 x.are_first in
+      let same_next : g.1 ≡ next = one_datagram plan t x.i g.1 next g.4 x.is_next in
       let behind : List (List ℕ) = g.2 ++ f.2 in (
         behind,
         f.5 ∙ (ap (λ l. f.0 ++ (l ++ f.2)) g.5

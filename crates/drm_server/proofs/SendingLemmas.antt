@@ -27,55 +27,55 @@ then_paused waits rest a b c first second =
     subst (λ w. Transmits a c (Waits waits w)) none (subst (λ l. Transmits a c (Waits l (0 + rest))) (append-nil waits) (then_waited waits 0 [] rest a b c first second))
 
 -- the datagrams of a frame, after the rest before it
-pub frame_waited : (pace t n : ℕ) (waits : List ℕ) (a b c : Known Traffic) → Transmits a b (Waits waits (pause pace t)) → Transmits b c (Waits (replicate n 0) 0)
-    → Transmits a c (Waits (waits ++ waits_in pace t n) (wait_at pace t n))
-frame_waited pace t n waits a b c first second =
-    subst (λ w. Transmits a c (Waits (waits ++ waits_in pace t n) w)) (wait_after pace t n)
-    (subst (λ l. Transmits a c (Waits (waits ++ l) (still (pause pace t) (replicate n 0) 0))) (waits_after pace t n)
-    (then_waited waits (pause pace t) (replicate n 0) 0 a b c first second))
+pub frame_waited : (pace before n : ℕ) (waits : List ℕ) (a b c : Known Traffic) → Transmits a b (Waits waits (pause pace before)) → Transmits b c (Waits (replicate n 0) 0)
+    → Transmits a c (Waits (waits ++ waits_in pace before n) (wait_at pace before n))
+frame_waited pace before n waits a b c first second =
+    subst (λ w. Transmits a c (Waits (waits ++ waits_in pace before n) w)) (wait_after pace before n)
+    (subst (λ l. Transmits a c (Waits (waits ++ l) (still (pause pace before) (replicate n 0) 0))) (waits_after pace before n)
+    (then_waited waits (pause pace before) (replicate n 0) 0 a b c first second))
 
-no_wait_after : (pace t n : ℕ) → 1 ≤ n → wait_at pace t n ≡ 0
-no_wait_after pace t n some = grind arith
+no_wait_after : (pace before n : ℕ) → 1 ≤ n → wait_at pace before n ≡ 0
+no_wait_after pace before n some = grind arith
 
 -- a frame has datagrams, so nothing waits after them
-pub whole_frame_waited : (pace t n : ℕ) (waits : List ℕ) (a b c : Known Traffic) → 1 ≤ n → Transmits a b (Waits waits (pause pace t)) → Transmits b c (Waits (replicate n 0) 0)
-    → Transmits a c (Waits (waits ++ waits_in pace t n) 0)
-whole_frame_waited pace t n waits a b c some first second =
-    subst (λ w. Transmits a c (Waits (waits ++ waits_in pace t n) w)) (no_wait_after pace t n some) (frame_waited pace t n waits a b c first second)
+pub whole_frame_waited : (pace before n : ℕ) (waits : List ℕ) (a b c : Known Traffic) → 1 ≤ n → Transmits a b (Waits waits (pause pace before)) → Transmits b c (Waits (replicate n 0) 0)
+    → Transmits a c (Waits (waits ++ waits_in pace before n) 0)
+whole_frame_waited pace before n waits a b c some first second =
+    subst (λ w. Transmits a c (Waits (waits ++ waits_in pace before n) w)) (no_wait_after pace before n some) (frame_waited pace before n waits a b c first second)
 
 -- ---- parts, and all
 
 -- a part of the next frame
-pub part_sent : (plan : Plan) (pace t : ℕ) (datagrams : List (List ℕ)) (waits : List ℕ) (a b c : Known Traffic) → t < frame_count plan → AreOfFrames plan t datagrams → ArePaced pace plan datagrams waits
-    → Transmits a b (SendsAll datagrams) → Transmits a b (Waits waits (pause pace t)) → Transmits b c (SendsPartOfFrame plan t)
-    → Transmits a c (SendsPart plan pace)
-part_sent plan pace t datagrams waits a b c within are paced first waited second =
-    Transmits-then (λ x y. SendsAll datagrams x y × Waits waits (pause pace t) x y) (SendsPartOfFrame plan t) (SendsPart plan pace) a b c
-    (Transmits-both (SendsAll datagrams) (Waits waits (pause pace t)) a b first waited) second
+pub part_sent : (plan : Plan) (from pace n : ℕ) (datagrams : List (List ℕ)) (waits : List ℕ) (a b c : Known Traffic) → from + n < frame_count plan → AreOfFrames plan from n datagrams → ArePaced pace plan from datagrams waits
+    → Transmits a b (SendsAll datagrams) → Transmits a b (Waits waits (pause pace n)) → Transmits b c (SendsPartOfFrame plan (from + n))
+    → Transmits a c (SendsPart plan from pace)
+part_sent plan from pace n datagrams waits a b c within are paced first waited second =
+    Transmits-then (λ x y. SendsAll datagrams x y × Waits waits (pause pace n) x y) (SendsPartOfFrame plan (from + n)) (SendsPart plan from pace) a b c
+    (Transmits-both (SendsAll datagrams) (Waits waits (pause pace n)) a b first waited) second
     (λ x y z all part.
     let i = part.0 in
     let next = part.1 in
     let of_frame = part.2 in
-    let with_next : AreFirst plan t (suc i) (of_frame ++ next ∷ []) = (of_frame, next, part.3.1, part.3.0, refl) in
-    let so_paced = paced_frame pace plan t datagrams waits are paced (suc i) (of_frame ++ next ∷ []) with_next in
-    let P : List (List ℕ) → Type 0 = λ l. ArePaced pace plan l (waits ++ (waits_in pace t i ++ wait_at pace t i ∷ [])) in
-    let Q : List ℕ → Type 0 = λ l. ArePaced pace plan ((datagrams ++ of_frame) ++ next ∷ []) l in
-    let V : List ℕ → Type 0 = λ l. Waits (waits ++ l) (still (pause pace t) (replicate i 0) 0) x z in
-    let W : ℕ → Type 0 = λ w. Waits (waits ++ waits_in pace t i) w x z in (
+    let with_next : AreFirst plan (from + n) (suc i) (of_frame ++ next ∷ []) = (of_frame, next, part.3.1, part.3.0, refl) in
+    let so_paced = paced_frame pace plan from n datagrams waits are paced (suc i) (of_frame ++ next ∷ []) with_next in
+    let P : List (List ℕ) → Type 0 = λ l. ArePaced pace plan from l (waits ++ (waits_in pace n i ++ wait_at pace n i ∷ [])) in
+    let Q : List ℕ → Type 0 = λ l. ArePaced pace plan from ((datagrams ++ of_frame) ++ next ∷ []) l in
+    let V : List ℕ → Type 0 = λ l. Waits (waits ++ l) (still (pause pace n) (replicate i 0) 0) x z in
+    let W : ℕ → Type 0 = λ w. Waits (waits ++ waits_in pace n i) w x z in (
       next,
       datagrams ++ of_frame,
-      record { t = t; within = within; i = i; is_next = part.3.0; of_frames = datagrams; are_of_frames = are; of_frame = of_frame; are_first = part.3.1; are = refl },
+      record { n = n; within = within; i = i; is_next = part.3.0; of_frames = datagrams; are_of_frames = are; of_frame = of_frame; are_first = part.3.1; are = refl },
       SendsAll-no_more datagrams of_frame x y z all.0 part.4,
-      waits ++ waits_in pace t i,
-      wait_at pace t i,
-      subst Q (sym (append_assoc waits (waits_in pace t i) (wait_at pace t i ∷ []))) (subst P (sym (append_assoc datagrams of_frame (next ∷ []))) so_paced),
-      subst W (wait_after pace t i) (subst V (waits_after pace t i) (Waits-then waits (pause pace t) (replicate i 0) 0 x y z all.1 part.5)),
+      waits ++ waits_in pace n i,
+      wait_at pace n i,
+      subst Q (sym (append_assoc waits (waits_in pace n i) (wait_at pace n i ∷ []))) (subst P (sym (append_assoc datagrams of_frame (next ∷ []))) so_paced),
+      subst W (wait_after pace n i) (subst V (waits_after pace n i) (Waits-then waits (pause pace n) (replicate i 0) 0 x y z all.1 part.5)),
     ))
 
 -- all
-pub all_sent : (plan : Plan) (pace : ℕ) (datagrams : List (List ℕ)) (waits : List ℕ) (a b : Known Traffic) → AreDatagrams plan datagrams → ArePaced pace plan datagrams waits
-    → Transmits a b (SendsAll datagrams) → Transmits a b (Waits waits 0) → Transmits a b (SendsSchedule plan pace)
-all_sent plan pace datagrams waits a b are paced sent waited =
-    Transmits-weaker (λ x y. SendsAll datagrams x y × Waits waits 0 x y) (SendsSchedule plan pace) a b
+pub all_sent : (plan : Plan) (from pace : ℕ) (datagrams : List (List ℕ)) (waits : List ℕ) (a b : Known Traffic) → AreDatagrams plan from datagrams → ArePaced pace plan from datagrams waits
+    → Transmits a b (SendsAll datagrams) → Transmits a b (Waits waits 0) → Transmits a b (SendsSchedule plan from pace)
+all_sent plan from pace datagrams waits a b are paced sent waited =
+    Transmits-weaker (λ x y. SendsAll datagrams x y × Waits waits 0 x y) (SendsSchedule plan from pace) a b
     (Transmits-both (SendsAll datagrams) (Waits waits 0) a b sent waited)
     (λ x y both. (datagrams, are, both.0, waits, paced, both.1))

@@ -1,5 +1,5 @@
 -- The datagrams of a schedule: the packet of each frame, whole or cut into fragments (TS 102 821).
-use Rattle.std.specs.Prelude.{ℕ, zero, suc, ◌≡◌, ◌<◌, List, [], ◌∷◌, ◌++◌, length}
+use Rattle.std.specs.Prelude.{ℕ, zero, suc, ◌≡◌, ◌+◌, ◌-◌, ◌<◌, List, [], ◌∷◌, ◌++◌, length}
 use Rattle.drm_schedule.specs.declared.plan.Plan.{Plan}
 use Rattle.drm_timeline.specs.Numbers.{frame_count, sequence_number}
 use Rattle.dcp_pft.specs.Carrying.{datagram_count, Carries}
@@ -32,25 +32,25 @@ AreFirst plan t (suc i) datagrams =
 abbrev pub AreOfFrame : Plan → ℕ → List (List ℕ) → Type 0
 AreOfFrame plan t datagrams = (count : ℕ) × HasDatagrams plan t count × AreFirst plan t count datagrams
 
--- the datagrams of the first n frames
-abbrev pub AreOfFrames : Plan → ℕ → List (List ℕ) → Type 0
-AreOfFrames plan zero datagrams = datagrams ≡ []
-AreOfFrames plan (suc n) datagrams =
-    (before : List (List ℕ)) × (of_frame : List (List ℕ)) × AreOfFrames plan n before × AreOfFrame plan n of_frame × (datagrams ≡ before ++ of_frame)
+-- the datagrams of n frames, the first of which is frame `first`
+abbrev pub AreOfFrames : Plan → ℕ → ℕ → List (List ℕ) → Type 0
+AreOfFrames plan first zero datagrams = datagrams ≡ []
+AreOfFrames plan first (suc n) datagrams =
+    (before : List (List ℕ)) × (of_frame : List (List ℕ)) × AreOfFrames plan first n before × AreOfFrame plan (first + n) of_frame × (datagrams ≡ before ++ of_frame)
 
--- the datagrams of a schedule
-abbrev pub AreDatagrams : Plan → List (List ℕ) → Type 0
-AreDatagrams plan datagrams = AreOfFrames plan (frame_count plan) datagrams
+-- the datagrams of a schedule from frame `first` on: all of them from frame 0 on, and none where it has no frame `first`
+abbrev pub AreDatagrams : Plan → ℕ → List (List ℕ) → Type 0
+AreDatagrams plan first datagrams = AreOfFrames plan first (frame_count plan - first) datagrams
 
--- The datagrams of a schedule that stand before a certain one: those of the frames before its frame, and those of its
--- frame before it.
-pub record AreBefore (plan : Plan) (next : List ℕ) (datagrams : List (List ℕ)) : Type 0 where
-  pub t : ℕ
-  pub within : t < frame_count plan
+-- The datagrams of a schedule from frame `first` on that stand before a certain one: those of the n frames before its frame,
+-- and those of its frame before it.
+pub record AreBefore (plan : Plan) (first : ℕ) (next : List ℕ) (datagrams : List (List ℕ)) : Type 0 where
+  pub n : ℕ
+  pub within : first + n < frame_count plan
   pub i : ℕ
-  pub is_next : IsDatagramAt plan t i next
+  pub is_next : IsDatagramAt plan (first + n) i next
   pub of_frames : List (List ℕ)
-  pub are_of_frames : AreOfFrames plan t of_frames
+  pub are_of_frames : AreOfFrames plan first n of_frames
   pub of_frame : List (List ℕ)
-  pub are_first : AreFirst plan t i of_frame
+  pub are_first : AreFirst plan (first + n) i of_frame
   pub are : datagrams ≡ of_frames ++ of_frame

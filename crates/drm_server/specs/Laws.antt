@@ -17,19 +17,20 @@ HasOneFrame = (plan : Plan) (t : ℕ) (parts others : Parts) → IsFrameAt plan 
 abbrev pub HasOnePacket : Type 0
 HasOnePacket = (plan : Plan) (t : ℕ) (packet other : List ℕ) → IsPacketAt plan t packet → IsPacketAt plan t other → packet ≡ other
 
--- the datagrams of a schedule are determined
+-- the datagrams of a schedule from a frame on are determined
 abbrev pub HasOneDelivery : Type 0
-HasOneDelivery = (plan : Plan) (datagrams others : List (List ℕ)) → AreDatagrams plan datagrams → AreDatagrams plan others → datagrams ≡ others
+HasOneDelivery =
+    (plan : Plan) (first : ℕ) (datagrams others : List (List ℕ)) → AreDatagrams plan first datagrams → AreDatagrams plan first others → datagrams ≡ others
 
 -- those before one of them are their front, and it is the next
 abbrev pub FirstOnesAreFront : Type 0
 FirstOnesAreFront =
-    (plan : Plan) (datagrams first : List (List ℕ)) (next : List ℕ) → AreDatagrams plan datagrams → AreBefore plan next first
-    → (behind : List (List ℕ)) × (datagrams ≡ first ++ next ∷ behind)
+    (plan : Plan) (first : ℕ) (datagrams before : List (List ℕ)) (next : List ℕ) → AreDatagrams plan first datagrams → AreBefore plan first next before
+    → (behind : List (List ℕ)) × (datagrams ≡ before ++ next ∷ behind)
 
 -- and so is the capture
 abbrev pub HasOneCapture : Type 0
-HasOneCapture = (plan : Plan) (bytes others : List ℕ) → IsCapture plan bytes → IsCapture plan others → bytes ≡ others
+HasOneCapture = (plan : Plan) (first : ℕ) (bytes others : List ℕ) → IsCapture plan first bytes → IsCapture plan first others → bytes ≡ others
 
 -- the streams that a frame is made of make the frame's multiplex frame
 abbrev pub HasMultiplexFrame : Type 0

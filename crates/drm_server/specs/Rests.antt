@@ -10,9 +10,9 @@ use Rattle.drm_server.specs.Datagrams.{AreOfFrames}
 abbrev pub calls_of_frame : ℕ
 calls_of_frame = most_fragments + 1
 
--- the rests directly before frame t: one, where there is a pace, but none before the first frame
+-- the rests directly before a frame that is sent behind n others: one, where there is a pace, but none before the first frame
 abbrev pub rests_before : ℕ → ℕ → ℕ
-rests_before pace t = if pace == 0 then 0 else (if t == 0 then 0 else 1)
+rests_before pace n = if pace == 0 then 0 else (if n == 0 then 0 else 1)
 
 -- the rests between so many frames
 abbrev pub rests_between : ℕ → ℕ → ℕ
@@ -20,17 +20,18 @@ rests_between pace frames = if pace == 0 then 0 else frames - 1
 
 -- ---- how long it rests
 
--- for how many milliseconds it rests directly before frame t: for the pace, but not before the first frame
+-- for how many milliseconds it rests directly before a frame that is sent behind n others: for the pace, but not before the
+-- first frame
 abbrev pub pause : ℕ → ℕ → ℕ
-pause pace t = if t == 0 then 0 else pace
+pause pace n = if n == 0 then 0 else pace
 
--- A frame but the first begins behind these datagrams: they are all those of some frames, from the first one on.
-abbrev pub BeginsFrame : Plan → List (List ℕ) → Type 0
-BeginsFrame plan before = (t : ℕ) × (0 < t) × AreOfFrames plan t before
+-- A frame behind frame `first` begins behind these datagrams: they are all those of some frames from that one on.
+abbrev pub BeginsFrame : Plan → ℕ → List (List ℕ) → Type 0
+BeginsFrame plan first before = (n : ℕ) × (0 < n) × AreOfFrames plan first n before
 
--- The waits before these datagrams of a schedule: the pace before the first one of each frame but the first, and none before
--- any other.
-pub record ArePaced (pace : ℕ) (plan : Plan) (datagrams : List (List ℕ)) (waits : List ℕ) : Type 0 where
+-- The waits before these datagrams of a schedule from frame `first` on: the pace before the first one of each frame but that
+-- one, and none before any other.
+pub record ArePaced (pace : ℕ) (plan : Plan) (first : ℕ) (datagrams : List (List ℕ)) (waits : List ℕ) : Type 0 where
   pub as_many : length waits ≡ length datagrams
-  pub paced : (k : ℕ) → k < length datagrams → BeginsFrame plan (take k datagrams) → slice_get waits k ≡ Some pace
-  pub unpaced : (k : ℕ) → k < length datagrams → (BeginsFrame plan (take k datagrams) → ⊥) → slice_get waits k ≡ Some 0
+  pub paced : (k : ℕ) → k < length datagrams → BeginsFrame plan first (take k datagrams) → slice_get waits k ≡ Some pace
+  pub unpaced : (k : ℕ) → k < length datagrams → (BeginsFrame plan first (take k datagrams) → ⊥) → slice_get waits k ≡ Some 0

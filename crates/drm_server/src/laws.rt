@@ -14,14 +14,14 @@ pub fn one_packet()
     ensures { HasOnePacket }
 {}
 
-/// The datagrams of a schedule are determined by it.
+/// The datagrams of a schedule from a frame on are determined by it.
 pub fn one_delivery()
     ensures { HasOneDelivery }
 {
     one_fragment();
 }
 
-/// The datagrams that stand before one of a schedule are the front of all of them, and it is the next one.
+/// The datagrams that stand before one of these are the front of all of them, and it is the next one.
 pub fn first_ones_are_front()
     ensures { FirstOnesAreFront }
 {

@@ -11,33 +11,46 @@ use crate::Server;
 use crate::loaded::Loaded;
 use drm_links::{Sink, WriteFault, write_all};
 
-/// Writes the datagrams of all frames, in order from the first one on, and gives their number.
-pub fn serve_sink<O: Sink>(server: &mut Server<'_>, out: &mut O) -> Result<u64, WriteFault>
-    ensures whole { OnOk result (Outputs (O.known out.old) (O.known out.new) (IsCapture server.old.plan)) }
-    ensures count { IfOk result (IsCount server.old.plan) }
-    ensures front { OnErr result (Outputs (O.known out.old) (O.known out.new) (IsFrontOfCapture server.old.plan)) }
+/// Writes the datagrams of the frames from frame `first` on, in order, and gives their number. Where there is no frame `first`
+/// nothing is written.
+pub fn serve_sink<O: Sink>(
+    server: &mut Server<'_>,
+    first: u32,
+    out: &mut O,
+) -> Result<u64, WriteFault>
+    ensures whole { OnOk result (Outputs (O.known out.old) (O.known out.new) (IsCapture server.old.plan first)) }
+    ensures count { IfOk result (IsCount server.old.plan first) }
+    ensures front { OnErr result (Outputs (O.known out.old) (O.known out.new) (IsFrontOfCapture server.old.plan first)) }
     ensures cause { HasCause (O.known out.old) (O.known out.new) (IsErr result) }
     ensures schedule { server.new.plan ≡ server.old.plan }
 {
-    serve(&mut server.loaded, &mut server.waiting, out)
+    serve(&mut server.loaded, first, &mut server.waiting, out)
 }
 
 // Writes them by way of this room.
-fn serve<O: Sink>(loaded: &mut Loaded<'_>, room: &mut [u8], out: &mut O) -> Result<u64, WriteFault>
+fn serve<O: Sink>(
+    loaded: &mut Loaded<'_>,
+    first: u32,
+    room: &mut [u8],
+    out: &mut O,
+) -> Result<u64, WriteFault>
     requires room { most_packet loaded.old.plan.carry ≤ length room.old }
-    ensures whole { OnOk result (Outputs (O.known out.old) (O.known out.new) (IsCapture loaded.old.plan)) }
-    ensures count { IfOk result (IsCount loaded.old.plan) }
-    ensures front { OnErr result (Outputs (O.known out.old) (O.known out.new) (IsFrontOfCapture loaded.old.plan)) }
+    ensures whole { OnOk result (Outputs (O.known out.old) (O.known out.new) (IsCapture loaded.old.plan first)) }
+    ensures count { IfOk result (IsCount loaded.old.plan first) }
+    ensures front { OnErr result (Outputs (O.known out.old) (O.known out.new) (IsFrontOfCapture loaded.old.plan first)) }
     ensures cause { HasCause (O.known out.old) (O.known out.new) (IsErr result) }
     ensures schedule { loaded.new.plan ≡ loaded.old.plan }
     ensures long { length room.new ≡ length room.old }
 {
     let mut waiting = 0;
     let mut written = 0;
-    for t in 0..loaded.frames() {
-        loaded.load(t);
+    for n in 0..loaded.frames().saturating_sub(first) {
+        loaded.load(first + n);
         waiting = gather_frame(loaded, room, waiting, out)?;
         written += u64::from(loaded.fragments());
+    }
+    if waiting == 0 {
+        return Ok(written);
     }
     write_all(out, &room[..waiting])?;
     Ok(written)

@@ -60,6 +60,9 @@ reads words addresses rules line = let asks = line.asks in in_reading _ rules as
 lists : (words : List (List ℕ)) (addresses : List Address) (rules : Rules) → IsLine words (reading_of (Some addresses) rules) → AreListed addresses
 lists words addresses rules line = let asks = line.asks in listed _ addresses asks.1
 
+serves : (words : List (List ℕ)) (name : List ℕ) (to : Option Address) (pace from : ℕ) → IsLine words (requests.Serve name to pace from) → from ≤ 1000000
+serves words name to pace from line = (within 0 0 1000000 from _ (omega arith) (omega arith) line.asks.5).1
+
 airs : (words : List (List ℕ)) (name script : List ℕ) (window : ℕ) → IsLine words (request_of (Air name script window)) → (1 ≤ window) × (window ≤ 64)
 airs words name script window line = within 8 1 64 window _ (omega arith) (omega arith) line.asks.3
 
@@ -104,8 +107,10 @@ tells_texts words stream window first frames line = (let few = line.asks.3.2 in 
 pub in_range : (came : Command) (request : Request) (words : List (List ℕ)) → request ≡ request_of came → IsLine words request → HasTextNames request → IsInRange came
 in_range Fac request words asks line text = tt
 in_range (Check name) request words asks line text = subst HasTextNames asks text
-in_range (Serve name pace) request words asks line text = subst HasTextNames asks text
-in_range (Send name to pace) request words asks line text = subst HasTextNames asks text
+in_range (Serve name pace from) request words asks line text =
+    (subst HasTextNames asks text, serves words name None pace from (subst (λ r. IsLine words r) asks line))
+in_range (Send name to pace from) request words asks line text =
+    (subst HasTextNames asks text, serves words name (Some to) pace from (subst (λ r. IsLine words r) asks line))
 in_range (Receive addresses rules) request words asks line text =
     let named : IsLine words (reading_of (Some addresses) rules) = subst (λ r. IsLine words r) asks line in
     (reads words (Some addresses) rules named, lists words addresses rules named)

@@ -13,8 +13,8 @@ use Rattle.drm_top.specs.Words.{request_of, AsksFor}
 abbrev command_by : Request → Command
 command_by requests.Fac = Fac
 command_by (requests.Check name) = Check name
-command_by (requests.Serve name None pace) = Serve name pace
-command_by (requests.Serve name (Some to) pace) = Send name to pace
+command_by (requests.Serve name None pace from) = Serve name pace from
+command_by (requests.Serve name (Some to) pace from) = Send name to pace from
 command_by (requests.Receive (Some addresses) window first frames idle limit) =
     Receive addresses (record { window = window; first = first; frames = frames; idle = idle; limit = limit })
 command_by (requests.Receive None window first frames idle limit) =
@@ -32,8 +32,8 @@ command_by (requests.Texts stream window first frames) = Texts stream window fir
 same_command : (a : Command) → command_by (request_of a) ≡ a
 same_command Fac = refl
 same_command (Check name) = refl
-same_command (Serve name pace) = refl
-same_command (Send name to pace) = refl
+same_command (Serve name pace from) = refl
+same_command (Send name to pace from) = refl
 same_command (Receive addresses rules) = refl
 same_command (ReceiveCapture rules) = refl
 same_command (Air name script window) = refl

@@ -40,10 +40,10 @@ CommandRun Fac ending told shelf_known shelf shelf' input_known input input' out
     Whole ending (λ done. FacRun done input_known input input' out_known out out') × (shelf' ≡ shelf) × (dock' ≡ dock) × IsQuiet told err err'
 CommandRun (Check name) ending told shelf_known shelf shelf' input_known input input' out_known out out' err_known err err' dock_known dock dock' =
     Whole ending (λ done. CheckRun name done shelf_known shelf shelf' out_known out out') × (input' ≡ input) × (dock' ≡ dock) × IsQuiet told err err'
-CommandRun (Serve name pace) ending told shelf_known shelf shelf' input_known input input' out_known out out' err_known err err' dock_known dock dock' =
-    Whole ending (λ done. ServeRun name done shelf_known shelf shelf' out_known out out') × (input' ≡ input) × (dock' ≡ dock) × IsQuiet told err err'
-CommandRun (Send name to pace) ending told shelf_known shelf shelf' input_known input input' out_known out out' err_known err err' dock_known dock dock' =
-    Whole ending (λ done. SendRun name to pace done shelf_known shelf shelf' dock_known dock dock') × (input' ≡ input) × (out' ≡ out) × IsQuiet told err err'
+CommandRun (Serve name pace from) ending told shelf_known shelf shelf' input_known input input' out_known out out' err_known err err' dock_known dock dock' =
+    Whole ending (λ done. ServeRun name from done shelf_known shelf shelf' out_known out out') × (input' ≡ input) × (dock' ≡ dock) × IsQuiet told err err'
+CommandRun (Send name to pace from) ending told shelf_known shelf shelf' input_known input input' out_known out out' err_known err err' dock_known dock dock' =
+    Whole ending (λ done. SendRun name to pace from done shelf_known shelf shelf' dock_known dock dock') × (input' ≡ input) × (out' ≡ out) × IsQuiet told err err'
 CommandRun (Receive addresses rules) ending told shelf_known shelf shelf' input_known input input' out_known out out' err_known err err' dock_known dock dock' =
     ReceiveRun rules addresses ending dock_known dock dock' out_known out out' × (shelf' ≡ shelf) × (input' ≡ input) × IsQuiet told err err'
 CommandRun (ReceiveCapture rules) ending told shelf_known shelf shelf' input_known input input' out_known out out' err_known err err' dock_known dock dock' =
@@ -86,8 +86,8 @@ Ends ending told code known err err' = (code ≡ report_status ending) × Report
 abbrev pub OpensALink : Command → Type 0
 OpensALink Fac = ⊥
 OpensALink (Check name) = ⊥
-OpensALink (Serve name pace) = ⊥
-OpensALink (Send name to pace) = Unit {0}
+OpensALink (Serve name pace from) = ⊥
+OpensALink (Send name to pace from) = Unit {0}
 OpensALink (Receive addresses rules) = Unit {0}
 OpensALink (ReceiveCapture rules) = ⊥
 OpensALink (Air name script window) = ⊥
@@ -103,8 +103,8 @@ OpensALink (Texts stream window first frames) = ⊥
 abbrev pub WritesReport : Command → Type 0
 WritesReport Fac = ⊥
 WritesReport (Check name) = ⊥
-WritesReport (Serve name pace) = ⊥
-WritesReport (Send name to pace) = ⊥
+WritesReport (Serve name pace from) = ⊥
+WritesReport (Send name to pace from) = ⊥
 WritesReport (Receive addresses rules) = Unit {0}
 WritesReport (ReceiveCapture rules) = Unit {0}
 WritesReport (Air name script window) = Unit {0}

@@ -13,8 +13,8 @@ use Rattle.drm_top.specs.declared.words.Command.TheVariants.{Fac, Check, Serve, 
 abbrev pub request_of : Command → Request
 request_of Fac = requests.Fac
 request_of (Check name) = requests.Check name
-request_of (Serve name pace) = requests.Serve name None pace
-request_of (Send name to pace) = requests.Serve name (Some to) pace
+request_of (Serve name pace from) = requests.Serve name None pace from
+request_of (Send name to pace from) = requests.Serve name (Some to) pace from
 request_of (Receive addresses rules) = requests.Receive (Some addresses) rules.window rules.first rules.frames rules.idle rules.limit
 request_of (ReceiveCapture rules) = requests.Receive None rules.window rules.first rules.frames rules.idle rules.limit
 request_of (Air name script window) = requests.Air name script window
@@ -42,8 +42,8 @@ IsInStretch window frames = (1 ≤ window) × (window ≤ 64) × IfSome frames (
 abbrev pub IsInRange : Command → Type 0
 IsInRange Fac = Unit {0}
 IsInRange (Check name) = IsUtf8 name
-IsInRange (Serve name pace) = IsUtf8 name
-IsInRange (Send name to pace) = IsUtf8 name
+IsInRange (Serve name pace from) = IsUtf8 name × (from ≤ 1000000)
+IsInRange (Send name to pace from) = IsUtf8 name × (from ≤ 1000000)
 IsInRange (Receive addresses rules) = AreInRange rules × AreListed addresses
 IsInRange (ReceiveCapture rules) = AreInRange rules
 IsInRange (Air name script window) = IsUtf8 name × IsUtf8 script × (1 ≤ window) × (window ≤ 64)

@@ -174,10 +174,13 @@ where
     match command {
         Command::Fac => whole(fac(input, out)),
         Command::Check { name } => whole(check(alloc, text(name), shelf, out)),
-        Command::Serve { name, .. } => whole(serve(alloc, text(name), shelf, out)),
-        Command::Send { name, to, pace } => {
-            whole(send(alloc, text(name), *to, *pace, shelf, dock))
-        }
+        Command::Serve { name, from, .. } => whole(serve(alloc, text(name), *from, shelf, out)),
+        Command::Send {
+            name,
+            to,
+            pace,
+            from,
+        } => whole(send(alloc, text(name), *to, *pace, *from, shelf, dock)),
         Command::Receive { addresses, rules } => receive(rt, alloc, rules, addresses, dock, out),
         Command::ReceiveCapture { rules } => receive_from_capture(alloc, rules, input, out),
         Command::Air {

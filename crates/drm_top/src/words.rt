@@ -19,16 +19,18 @@ pub enum Command {
     Check {
         name: Octets,
     },
-    /// `serve` without an address; the pace, in milliseconds, has no effect then.
+    /// `serve` without an address, from a super frame on; the pace, in milliseconds, has no effect then.
     Serve {
         name: Octets,
         pace: u32,
+        from: u32,
     },
-    /// `serve` to an address; the pace is the rest between frames in milliseconds.
+    /// `serve` to an address, from a super frame on; the pace is the rest between frames in milliseconds.
     Send {
         name: Octets,
         to: Address,
         pace: u32,
+        from: u32,
     },
     /// `receive` from links at these addresses.
     Receive {
@@ -109,9 +111,19 @@ fn command_of(request: Request) -> Command
     match request {
         Request::Fac => Command::Fac,
         Request::Check { name } => Command::Check { name },
-        Request::Serve { name, to, pace } => match to {
-            None => Command::Serve { name, pace },
-            Some(to) => Command::Send { name, to, pace },
+        Request::Serve {
+            name,
+            to,
+            pace,
+            from,
+        } => match to {
+            None => Command::Serve { name, pace, from },
+            Some(to) => Command::Send {
+                name,
+                to,
+                pace,
+                from,
+            },
         },
         Request::Receive {
             addresses,

@@ -1,5 +1,5 @@
 -- What a run over a link says of how it ends and of what has gone.
-use Rattle.std.proofs.Common.{◌≡◌, ℕ, ◌+◌, ◌<◌, ◌≤◌, ◌⊎◌, ◌↔◌, inl, inr, List, [], ◌∷◌, length, Option, None, Some, IsNone, Result, Ok, Err, refl, sym, ◌∙◌, ap, subst, arith, length-append}
+use Rattle.std.proofs.Common.{◌≡◌, ℕ, ◌+◌, ◌*◌, ◌<◌, ◌≤◌, ◌⊎◌, ◌↔◌, inl, inr, List, [], ◌∷◌, length, Option, None, Some, IsNone, Result, Ok, Err, refl, sym, ◌∙◌, ap, subst, arith, length-append}
 use Rattle.std.specs.FinMap as map
 use Rattle.std.specs.FinMap.{gets}
 use Rattle.std.proofs.lemmas.Grind.{common_steps}
@@ -33,9 +33,9 @@ one_start at told a b x y = let s : start_at told at ≡ Some a = x.1 in let t :
 -- ---- how it ends, by what came
 
 -- a front that lacks a datagram is shorter than the whole
-shorter : FirstOnesAreFront → (plan : Plan) (datagrams first : List (List ℕ)) (next : List ℕ) → AreDatagrams plan datagrams → AreBefore plan next first → length first < length datagrams
-shorter front plan datagrams first next are before =
-    let f = front plan datagrams first next are before in
+shorter : FirstOnesAreFront → (plan : Plan) (from : ℕ) (datagrams first : List (List ℕ)) (next : List ℕ) → AreDatagrams plan from datagrams → AreBefore plan from next first → length first < length datagrams
+shorter front plan from datagrams first next are before =
+    let f = front plan from datagrams first next are before in
     let long : length datagrams ≡ length first + length (next ∷ f.0) = ap length f.1 ∙ length-append first (next ∷ f.0) in
     omega (arith, long)
 
@@ -62,39 +62,39 @@ by_link fault (inl is) = cc
 by_link fault (inr is) = is
 
 -- it fails by the link exactly where the link takes too few sends
-link_by : FirstOnesAreFront → (pace : ℕ) (came : Result Plan ScheduleFault) (ending : Ending) (sends : Option ℕ) (gone : List (List ℕ)) (rests : List ℕ) → EndsBy faults.Link came ending → Go pace came ending sends gone rests
-    → UnlessMemory ending ((ending ≡ Err faults.Link) ↔ LacksSends came sends)
-link_by front pace (Ok x) (Ok done) sends gone rests ends go = inr (λ e. cc, λ lacks. absurd (not_both sends (length gone) (lacks gone go.0) go.1))
-link_by front pace (Ok x) (Err fault) sends gone rests ends go = inr (
-  λ e datagrams are. fewer_by sends (length gone) (length datagrams) go.2 (shorter front x datagrams gone go.0 are go.1),
+link_by : FirstOnesAreFront → (pace from : ℕ) (came : Result Plan ScheduleFault) (ending : Ending) (sends : Option ℕ) (gone : List (List ℕ)) (rests : List ℕ) → EndsBy faults.Link came ending → Go pace from came ending sends gone rests
+    → UnlessMemory ending ((ending ≡ Err faults.Link) ↔ LacksSends from came sends)
+link_by front pace from (Ok x) (Ok done) sends gone rests ends go = inr (λ e. cc, λ lacks. absurd (not_both sends (length gone) (lacks gone go.0) go.1))
+link_by front pace from (Ok x) (Err fault) sends gone rests ends go = inr (
+  λ e datagrams are. fewer_by sends (length gone) (length datagrams) go.2 (shorter front x from datagrams gone go.0 are go.1),
   λ lacks. by_link fault ends,
 )
-link_by front pace (Err schedule.NoMemory) ending sends gone rests ends go = inl ends
-link_by front pace (Err (schedule.Line l r)) ending sends gone rests ends go =
+link_by front pace from (Err schedule.NoMemory) ending sends gone rests ends go = inl ends
+link_by front pace from (Err (schedule.Line l r)) ending sends gone rests ends go =
     inr (λ e. let other : faults.Schedule l r ≡ faults.Link = inner (faults.Schedule l r) faults.Link (sym ends ∙ e) in absurd cc, λ lacks. absurd lacks)
-link_by front pace (Err schedule.Read) ending sends gone rests ends go =
+link_by front pace from (Err schedule.Read) ending sends gone rests ends go =
     inr (λ e. let other : faults.Read ≡ faults.Link = inner faults.Read faults.Link (sym ends ∙ e) in absurd cc, λ lacks. absurd lacks)
 
 -- all were sent, where the link takes all
-all_by : HasOneDelivery → FirstOnesAreFront → (pace : ℕ) (plan : Plan) (ending : Ending) (sends : Option ℕ) (gone datagrams : List (List ℕ)) (rests : List ℕ) → Go pace (Ok plan) ending sends gone rests → AreDatagrams plan datagrams → TakesSends sends (length datagrams)
+all_by : HasOneDelivery → FirstOnesAreFront → (pace from : ℕ) (plan : Plan) (ending : Ending) (sends : Option ℕ) (gone datagrams : List (List ℕ)) (rests : List ℕ) → Go pace from (Ok plan) ending sends gone rests → AreDatagrams plan from datagrams → TakesSends sends (length datagrams)
     → (ending ≡ Ok tt) × (gone ≡ datagrams)
-all_by one front pace plan (Ok done) sends gone datagrams rests go are takes = (refl, one plan gone datagrams go.0 are)
-all_by one front pace plan (Err fault) sends gone datagrams rests go are takes =
-    absurd (not_both sends (length datagrams) (fewer_by sends (length gone) (length datagrams) go.2 (shorter front plan datagrams gone go.0 are go.1)) takes)
+all_by one front pace from plan (Ok done) sends gone datagrams rests go are takes = (refl, one plan from gone datagrams go.0 are)
+all_by one front pace from plan (Err fault) sends gone datagrams rests go are takes =
+    absurd (not_both sends (length datagrams) (fewer_by sends (length gone) (length datagrams) go.2 (shorter front plan from datagrams gone go.0 are go.1)) takes)
 
-none_by : (pace : ℕ) (came : Result Plan ScheduleFault) (ending : Ending) (sends : Option ℕ) (gone : List (List ℕ)) (rests : List ℕ) → EndsBy faults.Link came ending → Go pace came ending sends gone rests → ending ≡ Err faults.NoMemory → gone ≡ []
-none_by pace (Ok x) (Ok done) sends gone rests ends go e = cc
-none_by pace (Ok x) (Err fault) sends gone rests ends go e =
+none_by : (pace from : ℕ) (came : Result Plan ScheduleFault) (ending : Ending) (sends : Option ℕ) (gone : List (List ℕ)) (rests : List ℕ) → EndsBy faults.Link came ending → Go pace from came ending sends gone rests → ending ≡ Err faults.NoMemory → gone ≡ []
+none_by pace from (Ok x) (Ok done) sends gone rests ends go e = cc
+none_by pace from (Ok x) (Err fault) sends gone rests ends go e =
     let other : faults.Link ≡ faults.NoMemory = inner faults.Link faults.NoMemory (sym (by_link fault ends) ∙ e) in absurd cc
-none_by pace (Err fault) ending sends gone rests ends go e = go.0
+none_by pace from (Err fault) ending sends gone rests ends go e = go.0
 
 gone_at : (at : Address) (before after : DockContents) (gone : List (List ℕ)) (rests : List ℕ) → after ≡ after_link at gone rests before → map.get after.gone (address_key at) ≡ Some gone
 gone_at at before after gone rests is = rw is (grind (arith, gets, common_steps))
 
 -- ---- the whole run
 
-module _ {S D : Type 0} (one : HasOneDelivery) (front : FirstOnesAreFront) (name : List ℕ) (at : Address) (pace : ℕ) (ending : Ending) (shelf_known : S → Known Files) (shelf shelf' : S) (dock_known : D → Known DockContents) (dock dock' : D) where
-  pub closed : ClosedRun at ending shelf shelf' dock_known dock dock' → SendRun name at pace ending shelf_known shelf shelf' dock_known dock dock'
+module _ {S D : Type 0} (one : HasOneDelivery) (front : FirstOnesAreFront) (name : List ℕ) (at : Address) (pace from : ℕ) (ending : Ending) (shelf_known : S → Known Files) (shelf shelf' : S) (dock_known : D → Known DockContents) (dock dock' : D) where
+  pub closed : ClosedRun at ending shelf shelf' dock_known dock dock' → SendRun name at pace from ending shelf_known shelf shelf' dock_known dock dock'
   closed run = record {
     run = inl run;
     unopened = WhileTold-weaker _ _ (dock_known dock) (dock_known dock') run.told (λ before after told fails. run.fault);
@@ -103,7 +103,7 @@ module _ {S D : Type 0} (one : HasOneDelivery) (front : FirstOnesAreFront) (name
     exactly = λ none. absurd (none run.fault);
   }
 
-  pub over_link : LinkRun name at pace ending shelf_known shelf shelf' dock_known dock dock' → SendRun name at pace ending shelf_known shelf shelf' dock_known dock dock'
+  pub over_link : LinkRun name at pace from ending shelf_known shelf shelf' dock_known dock dock' → SendRun name at pace from ending shelf_known shelf shelf' dock_known dock dock'
   over_link run = record {
     run = inr run;
     unopened = WhileTold-weaker _ _ (dock_known dock) (dock_known dock') run.told (λ before after told fails. both at before told.0 fails told.1);
@@ -114,9 +114,9 @@ module _ {S D : Type 0} (one : HasOneDelivery) (front : FirstOnesAreFront) (name
         (λ x y is. elim (came_or_memory (schedule_named name) run.came x y is) [
           | inl memory ↦ inl (ends_memory faults.Link run.came ending run.ends memory)
           | inr came ↦
-              let P : Result Plan ScheduleFault → Type 0 = λ v. UnlessMemory ending ((ending ≡ Err faults.Link) ↔ LacksSends v start.sends) in
-              let Q : LinkStart → Type 0 = λ s. UnlessMemory ending ((ending ≡ Err faults.Link) ↔ LacksSends run.came s.sends) in
-              subst P came (subst Q same (link_by front pace run.came ending told.0.sends told.2 told.3 run.ends told.4))
+              let P : Result Plan ScheduleFault → Type 0 = λ v. UnlessMemory ending ((ending ≡ Err faults.Link) ↔ LacksSends (3 * from) v start.sends) in
+              let Q : LinkStart → Type 0 = λ s. UnlessMemory ending ((ending ≡ Err faults.Link) ↔ LacksSends (3 * from) run.came s.sends) in
+              subst P came (subst Q same (link_by front pace (3 * from) run.came ending told.0.sends told.2 told.3 run.ends told.4))
         ]));
     complete = WhileTold-weaker _ _ (dock_known dock) (dock_known dock') run.told
         (λ before after told start opens.
@@ -125,20 +125,20 @@ module _ {S D : Type 0} (one : HasOneDelivery) (front : FirstOnesAreFront) (name
         (λ x y is plan datagrams gives are takes. elim (came_or_memory (schedule_named name) run.came x y is) [
           | inl memory ↦ inl (ends_memory faults.Link run.came ending run.ends memory)
           | inr came ↦
-              let Q : Result Plan ScheduleFault → Type 0 = λ v. Go pace v ending told.0.sends told.2 told.3 in
+              let Q : Result Plan ScheduleFault → Type 0 = λ v. Go pace (3 * from) v ending told.0.sends told.2 told.3 in
               let R : LinkStart → Type 0 = λ s. TakesSends s.sends (length datagrams) in
-              let all = all_by one front pace plan ending told.0.sends told.2 datagrams told.3 (subst Q (came ∙ gives) told.4) are (subst R (sym same) takes) in
+              let all = all_by one front pace (3 * from) plan ending told.0.sends told.2 datagrams told.3 (subst Q (came ∙ gives) told.4) are (subst R (sym same) takes) in
               inr (all.0, gone_at at before after told.2 told.3 told.5 ∙ ap Some all.1)
         ]));
     exactly = λ none. ends_exactly faults.Link (schedule_named name) run.came ending (shelf_known shelf) (shelf_known shelf') run.loads run.ends;
   }
 
-  pub nothing_sent : SendRun name at pace ending shelf_known shelf shelf' dock_known dock dock' → ending ≡ Err faults.NoMemory → WhileTold (dock_known dock) (dock_known dock') SendsNothing
+  pub nothing_sent : SendRun name at pace from ending shelf_known shelf shelf' dock_known dock dock' → ending ≡ Err faults.NoMemory → WhileTold (dock_known dock) (dock_known dock') SendsNothing
   nothing_sent sent = by_run sent.run
     where
-      by_run : ClosedRun at ending shelf shelf' dock_known dock dock' ⊎ LinkRun name at pace ending shelf_known shelf shelf' dock_known dock dock' → ending ≡ Err faults.NoMemory → WhileTold (dock_known dock) (dock_known dock') SendsNothing
+      by_run : ClosedRun at ending shelf shelf' dock_known dock dock' ⊎ LinkRun name at pace from ending shelf_known shelf shelf' dock_known dock dock' → ending ≡ Err faults.NoMemory → WhileTold (dock_known dock) (dock_known dock') SendsNothing
       by_run (inl run) memory = let other : faults.Link ≡ faults.NoMemory = inner faults.Link faults.NoMemory (sym run.fault ∙ memory) in absurd cc
       by_run (inr run) memory =
           WhileTold-weaker _ _ (dock_known dock) (dock_known dock') run.told
           (λ before after told.
-          inr (at, ap (λ (d : DockContents). d.gone) told.5 ∙ ap (λ l. map.insert before.gone (address_key at) l) (none_by pace run.came ending told.0.sends told.2 told.3 run.ends told.4 memory)))
+          inr (at, ap (λ (d : DockContents). d.gone) told.5 ∙ ap (λ l. map.insert before.gone (address_key at) l) (none_by pace (3 * from) run.came ending told.0.sends told.2 told.3 run.ends told.4 memory)))

@@ -17,22 +17,22 @@ use Rattle.drm_faults.specs.declared.fault.Fault.{Fault}
 use Rattle.drm_faults.specs.declared.fault.Fault.TheVariants as faults
 
 -- Some datagrams went over the link, with some rests, as a run calls for that ends so.
-abbrev pub GoOver : ℕ → Result Plan ScheduleFault → Result (Unit {0}) Fault → Traffic → Traffic → Type 0
-GoOver pace came ending before after =
-    (gone : List (List ℕ)) × (rests : List ℕ) × Go pace came ending before.sends gone rests
+abbrev pub GoOver : ℕ → ℕ → Result Plan ScheduleFault → Result (Unit {0}) Fault → Traffic → Traffic → Type 0
+GoOver pace first came ending before after =
+    (gone : List (List ℕ)) × (rests : List ℕ) × Go pace first came ending before.sends gone rests
     × (after.gone ≡ before.gone ++ gone) × (rests_of after ≡ before.waits ++ since before.waiting rests)
 
 -- the most calls of a link in a run, of 3,000,000 frames
 abbrev pub most_calls : ℕ
 most_calls = calls_of_frame * 3000000
 
-pub record OverLink {S L : Type 0} (name : List ℕ) (pace : ℕ) (ending : Result (Unit {0}) Fault)
+pub record OverLink {S L : Type 0} (name : List ℕ) (pace from : ℕ) (ending : Result (Unit {0}) Fault)
     (shelf_known : S → Known Files) (shelf shelf' : S)
     (link_known : L → Known Traffic) (link link' : L) : Type 0 where
   pub came : Result Plan ScheduleFault
   pub loads : ReadBy (schedule_named name) came (shelf_known shelf) (shelf_known shelf')
   pub sound : IfOk came IsSchedule
   pub ends : EndsBy faults.Link came ending
-  pub sent : Transmits (link_known link) (link_known link') (GoOver pace came ending)
+  pub sent : Transmits (link_known link) (link_known link') (GoOver pace (3 * from) came ending)
   pub calls : MakesCalls (λ (t : Traffic). t.calls) most_calls (link_known link) (link_known link')
   pub read_cause : HasCause (shelf_known shelf) (shelf_known shelf') (ending ≡ Err faults.Read)

@@ -1,5 +1,5 @@
 -- The command `serve --to`: a schedule becomes datagrams over a link.
-use Rattle.std.specs.Prelude.{ℕ, ◌≡◌, ◌+◌, ◌≤◌, ◌⊎◌, ◌↔◌, List, [], ◌∷◌, ◌++◌, length, Contains, Option, Some, IsNone, Result, Ok, Err, IfOk}
+use Rattle.std.specs.Prelude.{ℕ, ◌≡◌, ◌+◌, ◌*◌, ◌≤◌, ◌⊎◌, ◌↔◌, List, [], ◌∷◌, ◌++◌, length, Contains, Option, Some, IsNone, Result, Ok, Err, IfOk}
 use Rattle.std.specs.FinMap as map
 use Rattle.drm_links.specs.Told.{HasFailed, Known, HasCause, WhileTold}
 use Rattle.drm_links.specs.Link.{Traffic}
@@ -33,21 +33,21 @@ abbrev pub after_link : Address → List (List ℕ) → List ℕ → DockContent
 after_link at gone rests told = after_close at gone rests (after_opening at (with_reach told))
 
 -- The datagrams that go over a link that takes so many sends, and the rests before each and after the last: all of the
--- schedule that came, at this pace, without a rest after the last; or some first ones, after which no more are taken, with the
--- rest before the next one. Where no schedule came, none, without a rest.
-abbrev pub Go : ℕ → Result Plan ScheduleFault → Result (Unit {0}) Fault → Option ℕ → List (List ℕ) → List ℕ → Type 0
-Go pace (Ok schedule) (Ok done) sends gone rests =
-    AreDatagrams schedule gone × TakesSends sends (length gone)
-    × (waits : List ℕ) × ArePaced pace schedule gone waits × (rests ≡ waits ++ 0 ∷ [])
-Go pace (Ok schedule) (Err fault) sends gone rests =
-    (next : List ℕ) × AreBefore schedule next gone × (sends ≡ Some (length gone))
-    × ArePaced pace schedule (gone ++ next ∷ []) rests
-Go pace (Err fault) ending sends gone rests = (gone ≡ []) × (rests ≡ 0 ∷ [])
+-- schedule that came from frame `first` on, at this pace, without a rest after the last; or some first ones, after which no more
+-- are taken, with the rest before the next one. Where no schedule came, none, without a rest.
+abbrev pub Go : ℕ → ℕ → Result Plan ScheduleFault → Result (Unit {0}) Fault → Option ℕ → List (List ℕ) → List ℕ → Type 0
+Go pace first (Ok schedule) (Ok done) sends gone rests =
+    AreDatagrams schedule first gone × TakesSends sends (length gone)
+    × (waits : List ℕ) × ArePaced pace schedule first gone waits × (rests ≡ waits ++ 0 ∷ [])
+Go pace first (Ok schedule) (Err fault) sends gone rests =
+    (next : List ℕ) × AreBefore schedule first next gone × (sends ≡ Some (length gone))
+    × ArePaced pace schedule first (gone ++ next ∷ []) rests
+Go pace first (Err fault) ending sends gone rests = (gone ≡ []) × (rests ≡ 0 ∷ [])
 
--- The link takes fewer sends than the schedule that came has datagrams.
-abbrev pub LacksSends : Result Plan ScheduleFault → Option ℕ → Type 0
-LacksSends (Ok schedule) sends = (datagrams : List (List ℕ)) → AreDatagrams schedule datagrams → TakesFewer sends (length datagrams)
-LacksSends (Err fault) sends = ⊥
+-- The link takes fewer sends than the schedule that came has datagrams from frame `first` on.
+abbrev pub LacksSends : ℕ → Result Plan ScheduleFault → Option ℕ → Type 0
+LacksSends first (Ok schedule) sends = (datagrams : List (List ℕ)) → AreDatagrams schedule first datagrams → TakesFewer sends (length datagrams)
+LacksSends first (Err fault) sends = ⊥
 
 -- A run whose opening failed: nothing is read.
 pub record ClosedRun {S D : Type 0} (at : Address) (ending : Result (Unit {0}) Fault) (shelf shelf' : S)
@@ -58,7 +58,7 @@ pub record ClosedRun {S D : Type 0} (at : Address) (ending : Result (Unit {0}) F
   pub rose : HasFailed (dock_known dock) (dock_known dock')
 
 -- A run whose link was opened, before the schedule of this name was read, and closed at the end.
-pub record LinkRun {S D : Type 0} (name : List ℕ) (at : Address) (pace : ℕ) (ending : Result (Unit {0}) Fault)
+pub record LinkRun {S D : Type 0} (name : List ℕ) (at : Address) (pace from : ℕ) (ending : Result (Unit {0}) Fault)
     (shelf_known : S → Known Files) (shelf shelf' : S)
     (dock_known : D → Known DockContents) (dock dock' : D) : Type 0 where
   -- the schedule, or why there is none
@@ -70,26 +70,26 @@ pub record LinkRun {S D : Type 0} (name : List ℕ) (at : Address) (pace : ℕ) 
   pub ends : EndsBy faults.Link came ending
   pub told : WhileTold (dock_known dock) (dock_known dock') (λ before after.
       (start : LinkStart) × OpensLink at before start
-      × (gone : List (List ℕ)) × (rests : List ℕ) × Go pace came ending start.sends gone rests × (after ≡ after_link at gone rests before))
+      × (gone : List (List ℕ)) × (rests : List ℕ) × Go pace (3 * from) came ending start.sends gone rests × (after ≡ after_link at gone rests before))
   pub later : (dock_known dock).faults ≤ (dock_known dock').faults
   -- A load fails only where the shelf's count of faults rose.
   pub read_cause : HasCause (shelf_known shelf) (shelf_known shelf') (ending ≡ Err faults.Read)
 
--- A run of `serve --to`, with this pace.
-pub record SendRun {S D : Type 0} (name : List ℕ) (at : Address) (pace : ℕ) (ending : Result (Unit {0}) Fault)
+-- A run of `serve --to`, with this pace, from super frame `from` on.
+pub record SendRun {S D : Type 0} (name : List ℕ) (at : Address) (pace from : ℕ) (ending : Result (Unit {0}) Fault)
     (shelf_known : S → Known Files) (shelf shelf' : S)
     (dock_known : D → Known DockContents) (dock dock' : D) : Type 0 where
-  pub run : ClosedRun at ending shelf shelf' dock_known dock dock' ⊎ LinkRun name at pace ending shelf_known shelf shelf' dock_known dock dock'
-  -- It fails by the link where the opening fails, and where the link takes fewer sends than the schedule has datagrams; nowhere
-  -- else.
+  pub run : ClosedRun at ending shelf shelf' dock_known dock dock' ⊎ LinkRun name at pace from ending shelf_known shelf shelf' dock_known dock dock'
+  -- It fails by the link where the opening fails, and where the link takes fewer sends than the schedule has datagrams from there
+  -- on; nowhere else.
   pub unopened : WhileTold (dock_known dock) (dock_known dock') (λ before _. OpeningFails at before → ending ≡ Err faults.Link)
   pub cut : WhileTold (dock_known dock) (dock_known dock') (λ before _. (start : LinkStart) → OpensLink at before start
       → Supplies (shelf_known shelf) (shelf_known shelf') (λ files _.
-      UnlessMemory ending ((ending ≡ Err faults.Link) ↔ LacksSends (schedule_named name files).came start.sends)))
+      UnlessMemory ending ((ending ≡ Err faults.Link) ↔ LacksSends (3 * from) (schedule_named name files).came start.sends)))
   -- Where the link takes them all, they have gone at its address.
   pub complete : WhileTold (dock_known dock) (dock_known dock') (λ before after. (start : LinkStart) → OpensLink at before start
       → Supplies (shelf_known shelf) (shelf_known shelf') (λ files _. (schedule : Plan) (datagrams : List (List ℕ))
-      → (schedule_named name files).came ≡ Ok schedule → AreDatagrams schedule datagrams → TakesSends start.sends (length datagrams)
+      → (schedule_named name files).came ≡ Ok schedule → AreDatagrams schedule (3 * from) datagrams → TakesSends start.sends (length datagrams)
       → UnlessMemory ending ((ending ≡ Ok tt) × (map.get after.gone (address_key at) ≡ Some datagrams))))
   -- Unless the link failed it is refused exactly where its files are, with the line and the reason; a load fails exactly where
   -- one is to fail.

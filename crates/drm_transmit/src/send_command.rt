@@ -1,6 +1,6 @@
 //! The command `serve` to an address.
 
-ghost use Rattle.std.specs.Prelude.{IsErrOf};
+ghost use Rattle.std.specs.Prelude.{◌≤◌, IsErrOf};
 ghost use Rattle.drm_links.specs.Told.{HasFailed, WhileTold};
 ghost use Rattle.drm_links.specs.Dock.{SendsNothing};
 ghost use Rattle.drm_transmit.specs.Send.{SendRun};
@@ -12,17 +12,19 @@ use drm_load::read_schedule;
 use drm_server::{Server, first_ones_are_front, one_delivery, serve_link};
 use std::alloc::Global;
 
-/// Opens a link to the address, reads a schedule and sends its datagrams, and closes the link. Between the datagrams of two
-/// frames it rests for `pace` milliseconds.
+/// Opens a link to the address, reads a schedule and sends its datagrams from super frame `from` on, and closes the link.
+/// Between the datagrams of two frames it rests for `pace` milliseconds.
 pub fn send<S: Shelf, D: Dock>(
     alloc: Global,
     name: &str,
     to: Address,
     pace: u32,
+    from: u32,
     shelf: &mut S,
     dock: &mut D,
 ) -> Result<(), Fault>
-    ensures run { SendRun name.now to pace result S.known shelf.old shelf.new
+    requires { from ≤ 1000000 }
+    ensures run { SendRun name.now to pace from result S.known shelf.old shelf.new
         D.known dock.old dock.new }
     // After want of memory nothing was sent. The words were judged before, and nothing is written.
     ensures unsent { IsErrOf result Fault.NoMemory
@@ -35,7 +37,7 @@ pub fn send<S: Shelf, D: Dock>(
     first_ones_are_front();
     match dock.reach(to) {
         Opened::Link(mut link) => {
-            let sent = send_over(alloc, name, pace, shelf, &mut link);
+            let sent = send_over(alloc, name, pace, from, shelf, &mut link);
             dock.close(to, link);
             sent
         }
@@ -43,21 +45,23 @@ pub fn send<S: Shelf, D: Dock>(
     }
 }
 
-// Reads a schedule and sends its datagrams over this link.
+// Reads a schedule and sends its datagrams from super frame `from` on over this link.
 fn send_over<S: Shelf, L: Link>(
     alloc: Global,
     name: &str,
     pace: u32,
+    from: u32,
     shelf: &mut S,
     link: &mut L,
 ) -> Result<(), Fault>
-    ensures run { OverLink name.now pace result S.known shelf.old shelf.new
+    requires { from ≤ 1000000 }
+    ensures run { OverLink name.now pace from result S.known shelf.old shelf.new
         L.known link.old link.new }
     ensures words { IsErrOf result Fault.Words → ⊥ }
     ensures write { IsErrOf result Fault.Write → ⊥ }
 {
     let schedule = read_schedule(alloc, shelf, name)?;
     let mut server = Server::make(alloc, &schedule)?;
-    serve_link(&mut server, link, pace)?;
+    serve_link(&mut server, 3 * from, link, pace)?;
     Ok(())
 }

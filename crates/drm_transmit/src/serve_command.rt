@@ -1,6 +1,6 @@
 //! The command `serve` without an address.
 
-ghost use Rattle.std.specs.Prelude.{◌≡◌, IsErrOf};
+ghost use Rattle.std.specs.Prelude.{◌≡◌, ◌≤◌, IsErrOf};
 ghost use Rattle.drm_transmit.specs.Serve.{ServeRun};
 
 use drm_faults::Fault;
@@ -9,14 +9,16 @@ use drm_load::read_schedule;
 use drm_server::{Server, serve_sink};
 use std::alloc::Global;
 
-/// Reads a schedule, and writes its datagrams as a capture.
+/// Reads a schedule, and writes its datagrams from super frame `from` on as a capture.
 pub fn serve<S: Shelf, O: Sink>(
     alloc: Global,
     name: &str,
+    from: u32,
     shelf: &mut S,
     out: &mut O,
 ) -> Result<(), Fault>
-    ensures run { ServeRun name.now result S.known shelf.old shelf.new
+    requires { from ≤ 1000000 }
+    ensures run { ServeRun name.now from result S.known shelf.old shelf.new
         O.known out.old out.new }
     // The words were judged before, and memory is taken before the first write.
     ensures link { IsErrOf result Fault.Link → ⊥ }
@@ -25,6 +27,6 @@ pub fn serve<S: Shelf, O: Sink>(
 {
     let schedule = read_schedule(alloc, shelf, name)?;
     let mut server = Server::make(alloc, &schedule)?;
-    serve_sink(&mut server, out)?;
+    serve_sink(&mut server, 3 * from, out)?;
     Ok(())
 }

@@ -11,7 +11,7 @@ use Rattle.drm_words.specs.declared.options.Reading.{Reading}
 use Rattle.word_forms.specs.Reading.{within}
 use Rattle.word_forms.specs.Addressing.{address_of, addresses_of}
 use Rattle.drm_words.specs.Table.{Options, told, IsOneOf, AreOf, IsNumberOr, IsNumberOrNone, IsAddressOrNone, AreAddressesOrNone, IsStretch, IsReading}
-use Rattle.drm_words.specs.Asking.{is_one_of, are_of, number_or, number_or_none, address_or_none, addresses_or_none, with_options, window_of, first_of, frames_of, stretch_of, reading_of, idle_of, limit_of, pace_of, to_of}
+use Rattle.drm_words.specs.Asking.{is_one_of, are_of, number_or, number_or_none, address_or_none, addresses_or_none, with_options, window_of, first_of, frames_of, stretch_of, reading_of, idle_of, limit_of, pace_of, from_of, to_of}
 use Rattle.word_forms.proofs.OptionLemmas.{mapped, stepped}
 use Rattle.word_forms.proofs.NumberLemmas.{within_fits, within_is}
 use Rattle.word_forms.proofs.AddressLemmas.{address_fits, address_is, addresses_fit, addresses_are}
@@ -187,6 +187,14 @@ module _ (options : Options) where
   pub pace_is : (n : ℕ) → IsNumberOr 0 0 10000 (told (codes "pace") options) n → pace_of options ≡ Some n
   unfolding pace_of
   pace_is n h = number_or_is 0 0 10000 (told (codes "pace") options) n h
+
+  pub from_fits : (n : ℕ) → from_of options ≡ Some n → IsNumberOr 0 0 1000000 (told (codes "from") options) n
+  unfolding from_of
+  from_fits n e = number_or_fits 0 0 1000000 (told (codes "from") options) n e
+
+  pub from_is : (n : ℕ) → IsNumberOr 0 0 1000000 (told (codes "from") options) n → from_of options ≡ Some n
+  unfolding from_of
+  from_is n h = number_or_is 0 0 1000000 (told (codes "from") options) n h
 
   pub to_fits : (at : Option Address) → to_of options ≡ Some at → IsAddressOrNone (told (codes "to") options) at
   unfolding to_of

@@ -14,13 +14,13 @@ use Rattle.word_forms.specs.Reading.{within}
 use Rattle.word_forms.specs.Addressing.{address_of, carry_of}
 use Rattle.drm_words.specs.declared.options.Stretch.{Stretch}
 use Rattle.drm_words.specs.declared.options.Reading.{Reading}
-use Rattle.drm_words.specs.Table.{Options, AreOf, IsRequest, stretch_names, reading_names}
-use Rattle.drm_words.specs.Asking.{addresses_or_none, window_of, stretch_of, reading_of, pace_of, to_of, is_bare, bare_of, check_of, serve_with, serve_of, receive_with, receive_of, air_with, air_of, convert_with, convert_of, exercise_with, exercise_of, gate_with, gate_of, pack_with, pack_of, unpack_with, unpack_of, texts_with, texts_of, request_of}
+use Rattle.drm_words.specs.Table.{Options, AreOf, IsRequest, serve_names, stretch_names, reading_names}
+use Rattle.drm_words.specs.Asking.{addresses_or_none, window_of, stretch_of, reading_of, pace_of, from_of, to_of, is_bare, bare_of, check_of, serve_with, serve_of, receive_with, receive_of, air_with, air_of, convert_with, convert_of, exercise_with, exercise_of, gate_with, gate_of, pack_with, pack_of, unpack_with, unpack_of, texts_with, texts_of, request_of}
 use Rattle.word_forms.proofs.OptionLemmas.{stepped}
 use Rattle.word_forms.proofs.NumberLemmas.{within_fits, within_is}
 use Rattle.word_forms.proofs.CarryLemmas.{carry_fits, carry_is}
 use Rattle.word_forms.proofs.AddressLemmas.{address_fits, address_is}
-use Rattle.drm_words.proofs.OptionsLemmas.{addresses_or_none_fit, addresses_or_none_are, with_fits, with_is, none_of, window_fits, window_is, stretch_fits, stretch_is, reading_fits, reading_is, pace_fits, pace_is, to_fits, to_is}
+use Rattle.drm_words.proofs.OptionsLemmas.{addresses_or_none_fit, addresses_or_none_are, with_fits, with_is, none_of, window_fits, window_is, stretch_fits, stretch_is, reading_fits, reading_is, pace_fits, pace_is, from_fits, from_is, to_fits, to_is}
 
 bare_fits : (asked : Request) (texts : List (List ℕ)) (options : Options) (r : Request) → bare_of asked texts options ≡ Some r → (texts ≡ []) × (options ≡ []) × (asked ≡ r)
 bare_fits asked texts options r e =
@@ -52,11 +52,12 @@ serve_fits : (texts : List (List ℕ)) (options : Options) (r : Request) → ser
 unfolding serve_of
 serve_fits [] options r e = absurd cc
 serve_fits (name ∷ []) options r e =
-    let w = with_fits (codes "to" ∷ codes "pace" ∷ []) options (serve_with name options) r e in
+    let w = with_fits serve_names options (serve_with name options) r e in
     let to = stepped (to_of options) _ r w.1 in
     let pace = stepped (pace_of options) _ r to.rest in
-    subst (λ (x : Request). IsRequest x (codes "serve") (name ∷ []) options) (same_Some (Serve name to.value pace.value) r pace.rest)
-    (refl, refl, w.0, to_fits options to.value to.is, pace_fits options pace.value pace.is)
+    let from = stepped (from_of options) _ r pace.rest in
+    subst (λ (x : Request). IsRequest x (codes "serve") (name ∷ []) options) (same_Some (Serve name to.value pace.value from.value) r from.rest)
+    (refl, refl, w.0, to_fits options to.value to.is, pace_fits options pace.value pace.is, from_fits options from.value from.is)
 serve_fits (name ∷ other ∷ more) options r e = absurd cc
 
 receive_fits : (texts : List (List ℕ)) (options : Options) (r : Request) → receive_of texts options ≡ Some r → IsRequest r (codes "receive") texts options
@@ -213,10 +214,10 @@ check_is : (name : List ℕ) (texts : List (List ℕ)) (options : Options) → I
 unfolding check_of
 check_is name texts options h = rw h.1 (with_is [] options (Some (Check name)) h.2)
 
-serve_is : (name : List ℕ) (to : Option Address) (pace : ℕ) (texts : List (List ℕ)) (options : Options) → IsRequest (Serve name to pace) (codes "serve") texts options → serve_of texts options ≡ Some (Serve name to pace)
+serve_is : (name : List ℕ) (to : Option Address) (pace from : ℕ) (texts : List (List ℕ)) (options : Options) → IsRequest (Serve name to pace from) (codes "serve") texts options → serve_of texts options ≡ Some (Serve name to pace from)
 unfolding serve_of
-serve_is name to pace texts options h =
-    rw h.1 (with_is (codes "to" ∷ codes "pace" ∷ []) options (serve_with name options) h.2 ∙ rw (to_is options to h.3, pace_is options pace h.4) refl)
+serve_is name to pace from texts options h =
+    rw h.1 (with_is serve_names options (serve_with name options) h.2 ∙ rw (to_is options to h.3, pace_is options pace h.4, from_is options from h.5) refl)
 
 receive_is : (addresses : Option (List Address)) (window : ℕ) (first frames : Option ℕ) (idle limit : ℕ) (texts : List (List ℕ)) (options : Options)
     → IsRequest (Receive addresses window first frames idle limit) (codes "receive") texts options → receive_of texts options ≡ Some (Receive addresses window first frames idle limit)
@@ -268,7 +269,7 @@ pub request_is : (r : Request) (command : List ℕ) (texts : List (List ℕ)) (o
 unfolding request_of
 request_is Fac command texts options h = rw h.0 (bare_is Fac texts options h.1 (none_of options h.2))
 request_is (Check name) command texts options h = rw h.0 (check_is name texts options (refl, h.1, h.2))
-request_is (Serve name to pace) command texts options h = rw h.0 (serve_is name to pace texts options (refl, h.1, h.2, h.3, h.4))
+request_is (Serve name to pace from) command texts options h = rw h.0 (serve_is name to pace from texts options (refl, h.1, h.2, h.3, h.4, h.5))
 request_is (Receive addresses window first frames idle limit) command texts options h =
     rw h.0 (receive_is addresses window first frames idle limit texts options (refl, h.1, h.2, h.3))
 request_is (Air name script window) command texts options h = rw h.0 (air_is name script window texts options (refl, h.1, h.2, h.3))

@@ -8,7 +8,7 @@ use Rattle.word_forms.specs.Reading.{within}
 use Rattle.word_forms.specs.Addressing.{◌>>=◌, address_of, addresses_of, carry_of}
 use Rattle.drm_words.specs.declared.options.Stretch.{Stretch}
 use Rattle.drm_words.specs.declared.options.Reading.{Reading}
-use Rattle.drm_words.specs.Table.{Options, told, stretch_names, reading_names}
+use Rattle.drm_words.specs.Table.{Options, told, serve_names, stretch_names, reading_names}
 
 abbrev pub is_one_of : List (List ℕ) → List ℕ → Bool
 is_one_of [] name = false
@@ -64,6 +64,9 @@ reading_of options = do
 unfoldable pub pace_of : Options → Option ℕ
 pace_of options = number_or 0 0 10000 (told (codes "pace") options)
 
+unfoldable pub from_of : Options → Option ℕ
+from_of options = number_or 0 0 1000000 (told (codes "from") options)
+
 unfoldable pub to_of : Options → Option (Option Address)
 to_of options = address_or_none (told (codes "to") options)
 
@@ -90,10 +93,11 @@ abbrev pub serve_with : List ℕ → Options → Option Request
 serve_with name options = do
   to ← to_of options
   pace ← pace_of options
-  Some (Serve name to pace)
+  from ← from_of options
+  Some (Serve name to pace from)
 
 unfoldable pub serve_of : List (List ℕ) → Options → Option Request
-serve_of (name ∷ []) options = with_options (codes "to" ∷ codes "pace" ∷ []) options (serve_with name options)
+serve_of (name ∷ []) options = with_options serve_names options (serve_with name options)
 serve_of _ options = None
 
 abbrev pub receive_with : Options → Option (List Address) → Option Request

@@ -47,6 +47,10 @@ AreAddressesOrNone [] addresses = addresses ≡ None
 AreAddressesOrNone (text ∷ []) addresses = (list : List Address) × (addresses ≡ Some list) × AreAddresses text list
 AreAddressesOrNone _ addresses = ⊥
 
+-- [--to ADDR] [--pace MS] [--from N]: where datagrams go, how fast, and of which super frames
+abbrev pub serve_names : List (List ℕ)
+serve_names = codes "to" ∷ codes "pace" ∷ codes "from" ∷ []
+
 -- [--window W] [--first N] [--frames N]: which packets are read, and how many frames of them
 abbrev pub stretch_names : List (List ℕ)
 stretch_names = codes "window" ∷ codes "first" ∷ codes "frames" ∷ []
@@ -72,11 +76,12 @@ abbrev pub IsRequest : Request → List ℕ → List (List ℕ) → Options → 
 IsRequest Fac command texts options = (command ≡ codes "fac") × (texts ≡ []) × AreOf [] options
 -- check NAME
 IsRequest (Check name) command texts options = (command ≡ codes "check") × (texts ≡ name ∷ []) × AreOf [] options
--- serve NAME [--to ADDR] [--pace MS]
-IsRequest (Serve name to pace) command texts options =
-    (command ≡ codes "serve") × (texts ≡ name ∷ []) × AreOf (codes "to" ∷ codes "pace" ∷ []) options
+-- serve NAME [--to ADDR] [--pace MS] [--from N]
+IsRequest (Serve name to pace from) command texts options =
+    (command ≡ codes "serve") × (texts ≡ name ∷ []) × AreOf serve_names options
     × IsAddressOrNone (told (codes "to") options) to
     × IsNumberOr 0 0 10000 (told (codes "pace") options) pace
+    × IsNumberOr 0 0 1000000 (told (codes "from") options) from
 -- receive [ADDRS] [--window W] [--first N] [--frames N] [--idle K] [--limit L]
 IsRequest (Receive addresses window first frames idle limit) command texts options =
     (command ≡ codes "receive") × AreAddressesOrNone texts addresses
@@ -116,6 +121,6 @@ IsRequest (Texts stream window first frames) command texts options =
 -- each name is text
 abbrev pub HasTextNames : Request → Type 0
 HasTextNames (Check name) = IsUtf8 name
-HasTextNames (Serve name to pace) = IsUtf8 name
+HasTextNames (Serve name to pace from) = IsUtf8 name
 HasTextNames (Air name script window) = IsUtf8 name × IsUtf8 script
 HasTextNames _ = Unit {0}

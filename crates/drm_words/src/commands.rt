@@ -7,7 +7,7 @@ ghost use Rattle.word_forms.specs.Gives.{Gives};
 ghost use Rattle.drm_words.specs.Table.{HasTextNames};
 ghost use Rattle.word_forms.specs.declared.fault.WordsFault.TheVariants as faults;
 
-use crate::options::{are_of, pace, to, told_reading, told_stretch, window};
+use crate::options::{are_of, from, pace, to, told_reading, told_stretch, window};
 use crate::request::Request;
 use drm_bits::Octets;
 use std::alloc::Global;
@@ -76,10 +76,16 @@ fn serve_with(name: Octets, options: &[Named<'_>]) -> Option<Request>
 {
     let to = to(options)?;
     let pace = pace(options)?;
-    Some(Request::Serve { name, to, pace })
+    let from = from(options)?;
+    Some(Request::Serve {
+        name,
+        to,
+        pace,
+        from,
+    })
 }
 
-// serve NAME [--to ADDR] [--pace MS]
+// serve NAME [--to ADDR] [--pace MS] [--from N]
 #[tactic(auto, unfolding(crate::specs::Asking::serve_of))]
 fn serve(alloc: Global, texts: &[&str], options: &[Named<'_>]) -> Result<Request, WordsFault>
     ensures gives { Gives result (serve_of (map (λ text. text.now) texts.now) (map option_said options.now)) }
@@ -88,7 +94,7 @@ fn serve(alloc: Global, texts: &[&str], options: &[Named<'_>]) -> Result<Request
     let [name] = texts else {
         return Err(WordsFault::Words);
     };
-    if !are_of(&["to", "pace"], options) {
+    if !are_of(&["to", "pace", "from"], options) {
         return Err(WordsFault::Words);
     }
     let name = octets(alloc, name)?;

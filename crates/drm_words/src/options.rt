@@ -3,7 +3,7 @@
 ghost use Rattle.std.specs.Prelude.{◌≡◌, ◌≤◌, IfSome, map, option_map, codes};
 ghost use Rattle.word_forms.specs.Arguing.{option_said};
 ghost use Rattle.drm_words.specs.Table.{told};
-ghost use Rattle.drm_words.specs.Asking.{is_one_of, are_of, number_or, number_or_none, window_of, first_of, frames_of, stretch_of, reading_of, idle_of, limit_of, pace_of, to_of};
+ghost use Rattle.drm_words.specs.Asking.{is_one_of, are_of, number_or, number_or_none, window_of, first_of, frames_of, stretch_of, reading_of, idle_of, limit_of, pace_of, from_of, to_of};
 
 use drm_links::Address;
 use word_forms::{Named, address, within};
@@ -160,6 +160,15 @@ pub(crate) fn pace(options: &[Named<'_>]) -> Option<u32>
     ensures { result ≡ pace_of (map option_said options.now) }
 {
     let number = number_or(0, 0, 10_000, told(options, "pace"))?;
+    Some(number as u32)
+}
+
+/// The super frame from which on datagrams are sent or written.
+#[tactic(auto, unfolding(crate::specs::Asking::from_of))]
+pub(crate) fn from(options: &[Named<'_>]) -> Option<u32>
+    ensures { result ≡ from_of (map option_said options.now) }
+{
+    let number = number_or(0, 0, 1_000_000, told(options, "from"))?;
     Some(number as u32)
 }
 

@@ -21,6 +21,8 @@ pub enum Request {
         to: Option<Address>,
         /// Milliseconds between packets.
         pace: u32,
+        /// The first super frame that is sent or written.
+        from: u32,
     },
     /// Report what links bring, or a capture.
     Receive {

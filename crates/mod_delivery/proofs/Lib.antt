@@ -16,3 +16,4 @@ pub mod Paired
 pub mod Strays
 pub mod ServedFrames
 pub mod AllAtOnce
+pub mod WaysLemmas

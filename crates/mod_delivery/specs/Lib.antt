@@ -1,3 +1,4 @@
 pub mod Sent
 pub mod Given
 pub mod Laws
+pub mod Ways

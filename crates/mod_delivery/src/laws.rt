@@ -1,6 +1,7 @@
 //! Laws from what is sent to what is given, each on a function that does nothing.
 
 ghost use Rattle.mod_delivery.specs.Laws.{Delivering, DeliveringEarly, StraysRefused, GivenInTime, SwitchesAtStarts, AllSwitches, AllFrames, AllAtOnce};
+ghost use Rattle.mod_delivery.specs.Ways.{TwoWays, LaterStart};
 
 use collect_laws::{collecting, giving_ends, one_reading, refusing, steps_join};
 use mod_feed::the_feed_tells_the_switches;
@@ -65,3 +66,13 @@ pub fn all_frames_are_given_at_once()
     collecting();
     giving_ends();
 }
+
+/// Two deliveries of a schedule, each in its own order, are one delivery of it, however they are mixed.
+pub fn two_ways_are_one_delivery()
+    ensures { TwoWays }
+{}
+
+/// Whatever comes of what is sent from a frame on is a delivery of the schedule, under the numbers of its frames.
+pub fn a_later_start_is_delivered()
+    ensures { LaterStart }
+{}

@@ -23,15 +23,16 @@ const ASKED: [(&str, &str); 63] = [
     ("|check|--|--", "check --"),
     ("|check|--|--window=4", "check --window=4"),
     ("|check|Ås -x", "check Ås -x"),
-    ("|serve|a", "serve a - 0"),
-    ("|serve|a|--pace|0", "serve a - 0"),
-    ("|serve|--pace|10000|a", "serve a - 10000"),
-    ("|serve|a|--to|127.0.0.1:5000", "serve a 127.0.0.1:5000 0"),
-    ("|serve|--to=0.0.0.0:1|a|--pace=25", "serve a 0.0.0.0:1 25"),
+    ("|serve|a", "serve a - 0 0"),
+    ("|serve|a|--pace|0", "serve a - 0 0"),
+    ("|serve|--pace|10000|a", "serve a - 10000 0"),
+    ("|serve|a|--to|127.0.0.1:5000", "serve a 127.0.0.1:5000 0 0"),
+    ("|serve|--to=0.0.0.0:1|a|--pace=25|--from=7", "serve a 0.0.0.0:1 25 7"),
     (
         "|serve|--pace=25|--to|255.255.255.255:65535|--|-",
-        "serve - 255.255.255.255:65535 25",
+        "serve - 255.255.255.255:65535 25 0",
     ),
+    ("|serve|a|--from|1000000", "serve a - 0 1000000"),
     ("|receive", "receive - 8 - - 50 4294967295"),
     ("|receive|--", "receive - 8 - - 50 4294967295"),
     (
@@ -185,9 +186,10 @@ fn serve_shown(
     name: &Octets,
     to: &Option<Address>,
     pace: u32,
+    from: u32,
 ) -> Result<String, AllocError> {
     let to = to_shown(alloc, to)?;
-    format!(in alloc; "serve {} {to} {pace}", text(name))
+    format!(in alloc; "serve {} {to} {pace} {from}", text(name))
 }
 
 // The window, the first number and how many frames.
@@ -206,7 +208,12 @@ fn shown(alloc: Global, request: &Request) -> Result<String, AllocError> {
     match request {
         Request::Fac => String::from_str(alloc, "fac"),
         Request::Check { name } => format!(in alloc; "check {}", text(name)),
-        Request::Serve { name, to, pace } => serve_shown(alloc, name, to, *pace),
+        Request::Serve {
+            name,
+            to,
+            pace,
+            from,
+        } => serve_shown(alloc, name, to, *pace, *from),
         Request::Receive {
             addresses,
             window,

@@ -1,4 +1,4 @@
-use Rattle.std.proofs.Common.{◌≡◌, ◌≤◌, ◌∙◌, ◌+◌, ℕ, List, ◌++◌, length, take, ap, subst, arith, length-append}
+use Rattle.std.proofs.Common.{◌≡◌, ◌≤◌, ◌∙◌, ◌+◌, ◌-◌, ℕ, List, ◌++◌, length, take, ap, subst, arith, length-append}
 use Rattle.std.proofs.lemmas.Result.{err_from_is_err_and}
 use Rattle.drm_schedule.specs.declared.plan.Plan.{Plan}
 use Rattle.dcp_pft.specs.Limits.{most_packet}
@@ -14,33 +14,35 @@ use Rattle.drm_server.proofs.serve.serve.Goals as goal
 
 pub returns-in_err-waiting-clause-front : goal.returns-in_err-waiting-clause-front
 returns-in_err-waiting-clause-front g c =
-    let i = c.loop-t.invariant in
+    let i = c.loop-n.invariant in
     let plan : Plan = c.args.loaded.now.plan in
-    let waits : List ℕ = take c.loop-t.waiting c.loop-t.room in
+    let waits : List ℕ = take c.loop-n.waiting c.loop-n.room in
     let p = err_from_is_err_and c.from_residual.result c.from_residual.ensures.1 in
-    let P : Serving → Type 0 = λ s. Outputs (g.O.Sink.known c.loop-t.out) (g.O.Sink.known c.gather_frame.new.out) (IsFrontOfFrame s.plan s.frame waits) in
-    let part = subst P (at_frame c.loop-t.loaded c.load.new.self plan c.loop-t.t c.load.ensures i.7) c.in_err-waiting.ensures.front in
-    rw p.1 (part_written plan c.loop-t.t i.0 waits (g.O.Sink.known c.args.out.now) (g.O.Sink.known c.loop-t.out) (g.O.Sink.known c.gather_frame.new.out)
-    (omega (arith, c.loop-t-test.true, c.frames-t-end.ensures.frames)) i.1 i.2 part)
+    let P : Serving → Type 0 = λ s. Outputs (g.O.Sink.known c.loop-n.out) (g.O.Sink.known c.gather_frame.new.out) (IsFrontOfFrame s.plan s.frame waits) in
+    let part = subst P (at_frame c.loop-n.loaded c.load.new.self plan (c.args.first + c.loop-n.n) c.load.ensures i.7) c.in_err-waiting.ensures.front in
+    rw p.1 (part_written plan c.args.first c.loop-n.n i.0 waits (g.O.Sink.known c.args.out.now) (g.O.Sink.known c.loop-n.out) (g.O.Sink.known c.gather_frame.new.out)
+    (omega (arith, c.loop-n-test.true, c.saturating_sub-n-end.ensures, c.frames.ensures.frames)) i.1 i.2 part)
 
-pub loop-t-preserved : goal.loop-t-preserved
-loop-t-preserved g c =
-    let i = c.loop-t.invariant in
+pub loop-n-preserved : goal.loop-n-preserved
+loop-n-preserved g c =
+    let i = c.loop-n.invariant in
     let plan : Plan = c.args.loaded.now.plan in
-    let t : ℕ = c.loop-t.t in
-    let then_waits : List ℕ = take c.loop-t.waiting c.loop-t.room in
+    let first : ℕ = c.args.first in
+    let n : ℕ = c.loop-n.n in
+    let t : ℕ = first + n in
+    let then_waits : List ℕ = take c.loop-n.waiting c.loop-n.room in
     let waits : List ℕ = take c.in_ok-waiting.waiting c.gather_frame.new.room in
-    let loaded = at_frame c.loop-t.loaded c.load.new.self plan t c.load.ensures i.7 in
-    let P : Serving → Type 0 = λ s. GathersFrame s.plan s.frame then_waits waits (g.O.Sink.known c.loop-t.out) (g.O.Sink.known c.gather_frame.new.out) in
+    let loaded = at_frame c.loop-n.loaded c.load.new.self plan t c.load.ensures i.7 in
+    let P : Serving → Type 0 = λ s. GathersFrame s.plan s.frame then_waits waits (g.O.Sink.known c.loop-n.out) (g.O.Sink.known c.gather_frame.new.out) in
     let w = subst P loaded c.in_ok-waiting.ensures.gathered in
     let has : HasDatagrams plan t c.fragments.result = subst (λ (s : Serving). HasDatagrams s.plan s.frame c.fragments.result) loaded c.fragments.ensures.datagrams in
     let count : w.1.0 ≡ c.fragments.result = one_count plan t w.1.0 c.fragments.result w.1.1 has in
     let size : length w.0 ≡ c.fragments.result = first_length plan t w.1.0 w.0 w.1.2 ∙ count in
     let long : length (i.0 ++ w.0) ≡ length i.0 + length w.0 = length-append i.0 w.0 in (
       i.0 ++ w.0,
-      next_frame plan t i.0 w.0 i.1 w.1,
-      gathers_frame i.0 w.0 then_waits waits (g.O.Sink.known c.args.out.now) (g.O.Sink.known c.loop-t.out) (g.O.Sink.known c.gather_frame.new.out) i.2 w.2,
-      (λ some. one_or_more plan t w.1.0 (omega (arith, c.loop-t-test.true, c.frames-t-end.ensures.frames)) (omega (arith, count, c.fragments.ensures.some)) i.0 w.0 i.1 w.1.2),
+      next_frame plan first n i.0 w.0 i.1 w.1,
+      gathers_frame i.0 w.0 then_waits waits (g.O.Sink.known c.args.out.now) (g.O.Sink.known c.loop-n.out) (g.O.Sink.known c.gather_frame.new.out) i.2 w.2,
+      (λ some. one_or_more plan first n w.1.0 (omega (arith, c.loop-n-test.true, c.saturating_sub-n-end.ensures, c.frames.ensures.frames)) (omega (arith, count, c.fragments.ensures.some)) i.0 w.0 i.1 w.1.2),
       subst (λ (p : Plan). c.in_ok-waiting.waiting + most_packet p.carry ≤ length c.gather_frame.new.room) (ap (λ (s : Serving). s.plan) c.load.ensures ∙ i.7) c.in_ok-waiting.ensures.left,
       c.gather_frame.ensures.long ∙ i.5,
       omega (arith, i.6, c.gather_frame.ensures.cause.later),
@@ -51,24 +53,25 @@ loop-t-preserved g c =
 
 pub returns-in_err-write_all-clause-front : goal.returns-in_err-write_all-clause-front
 returns-in_err-write_all-clause-front g c =
-    let i = c.loop-t.invariant in
+    let i = c.loop-n.invariant in
     let plan : Plan = c.args.loaded.now.plan in
-    let all : c.loop-t.t ≡ frame_count plan = omega (arith, c.loop-t-test.false, c.loop-t.auto.t-end, c.frames-t-end.ensures.frames) in
+    let all : c.loop-n.n ≡ frame_count plan - c.args.first = omega (arith, c.loop-n-test.false, c.loop-n.auto.n-end, c.saturating_sub-n-end.ensures, c.frames.ensures.frames) in
     let p = err_from_is_err_and c.from_residual-in_err-write_all.result c.from_residual-in_err-write_all.ensures.1 in
-    rw p.1 (end_written plan c.loop-t.t i.0 (take c.loop-t.waiting c.loop-t.room) (g.O.Sink.known c.args.out.now) (g.O.Sink.known c.loop-t.out) (g.O.Sink.known c.write_all.new.out)
-    (omega (arith, all)) i.1 (i.3 (omega (arith, all, c.frames-t-end.ensures.frames, c.frames-t-end.ensures.some))) i.2 c.in_err-write_all.ensures.front)
+    let some = i.3 (omega arith) in
+    rw p.1 (end_written plan c.args.first c.loop-n.n i.0 (take c.loop-n.waiting c.loop-n.room) (g.O.Sink.known c.args.out.now) (g.O.Sink.known c.loop-n.out) (g.O.Sink.known c.write_all.new.out)
+    (omega (arith, all, some.2.within)) i.1 some i.2 c.in_err-write_all.ensures.front)
 
 pub returns-clause-whole : goal.returns-clause-whole
 returns-clause-whole g c =
-    let i = c.loop-t.invariant in
+    let i = c.loop-n.invariant in
     let plan : Plan = c.args.loaded.now.plan in
-    let all : c.loop-t.t ≡ frame_count plan = omega (arith, c.loop-t-test.false, c.loop-t.auto.t-end, c.frames-t-end.ensures.frames) in
-    all_written plan i.0 (take c.loop-t.waiting c.loop-t.room) (g.O.Sink.known c.args.out.now) (g.O.Sink.known c.loop-t.out) (g.O.Sink.known c.write_all.new.out)
-    (subst (λ k. AreOfFrames plan k i.0) all i.1) i.2 c.in_ok-write_all.ensures.whole
+    let all : c.loop-n.n ≡ frame_count plan - c.args.first = omega (arith, c.loop-n-test.false, c.loop-n.auto.n-end, c.saturating_sub-n-end.ensures, c.frames.ensures.frames) in
+    all_written plan c.args.first i.0 (take c.loop-n.waiting c.loop-n.room) (g.O.Sink.known c.args.out.now) (g.O.Sink.known c.loop-n.out) (g.O.Sink.known c.write_all.new.out)
+    (subst (λ k. AreOfFrames plan c.args.first k i.0) all i.1) i.2 c.in_ok-write_all.ensures.whole
 
 pub returns-clause-count : goal.returns-clause-count
 returns-clause-count g c =
-    let i = c.loop-t.invariant in
+    let i = c.loop-n.invariant in
     let plan : Plan = c.args.loaded.now.plan in
-    let all : c.loop-t.t ≡ frame_count plan = omega (arith, c.loop-t-test.false, c.loop-t.auto.t-end, c.frames-t-end.ensures.frames) in
-    (i.0, subst (λ k. AreOfFrames plan k i.0) all i.1, i.8)
+    let all : c.loop-n.n ≡ frame_count plan - c.args.first = omega (arith, c.loop-n-test.false, c.loop-n.auto.n-end, c.saturating_sub-n-end.ensures, c.frames.ensures.frames) in
+    (i.0, subst (λ k. AreOfFrames plan c.args.first k i.0) all i.1, i.8)
