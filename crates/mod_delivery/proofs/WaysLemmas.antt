@@ -1,38 +1,37 @@
 -- Two ways, and a later start.
-use Rattle.std.proofs.Common.{ℕ, zero, suc, ◌≡◌, ◌+◌, ◌-◌, ◌<◌, ◌≤◌, ◌⊎◌, inl, inr, ⊎_elim, List, [], ◌∷◌, ◌++◌, length, All, refl, sym, ap, subst, ◌∙◌, arith}
+use Rattle.std.proofs.Common.{ℕ, zero, suc, ◌≡◌, ◌+◌, ◌-◌, ◌<◌, inl, inr, ⊎_elim, List, [], ◌∷◌, All, refl, subst, arith}
 use Rattle.std.specs.List.{AllZip, Contains, slice_index_or}
 use Rattle.std.proofs.lemmas.List.Elements.{Contains-append_cases}
 use Rattle.drm_schedule.specs.declared.plan.Plan.{Plan}
 use Rattle.drm_timeline.specs.Numbers.{frame_count}
-use Rattle.drm_server.specs.Datagrams.{IsDatagramAt, AreFirst, AreOfFrames, AreDatagrams}
-use Rattle.mod_delivery.specs.Sent.{Arrival, OfSchedule, IsArrival}
+use Rattle.drm_server.specs.Datagrams.{IsDatagramAt, AreFirst, AreOfFrames}
+use Rattle.mod_delivery.specs.Sent.{OfSchedule, IsArrival}
 use Rattle.mod_delivery.specs.Ways.{IsMixture, TwoWays, IsFrom, LaterStart}
 
 -- ---- two ways
 
 -- what stands for a mixture is a mixture of what stands for its parts
 module _ {A B : Type 0} (R : A → B → Type 0) where
+  none : (ps : List A) → AllZip R ps [] → ps ≡ []
+  none [] each = refl
+  none (p ∷ ps) each = absurd each
+
+  -- the first one of a list that stands for one that begins with z
+  first_of : (ps : List A) (z : B) (rest : List B) → AllZip R ps (z ∷ rest) → (p : A) × (front : List A) × (ps ≡ p ∷ front) × R p z × AllZip R front rest
+  first_of [] z rest each = absurd each
+  first_of (p ∷ front) z rest (pair, each) = (p, front, refl, pair, each)
+
   mixed : (ps qs : List A) (xs ys zs : List B) → AllZip R ps xs → AllZip R qs ys → IsMixture xs ys zs → (rs : List A) × AllZip R rs zs × IsMixture ps qs rs
   mixed ps qs xs ys [] each others (no_x, no_y) =
-      ([], tt, none ps (subst (λ l. AllZip R ps l) no_x each), none qs (subst (λ l. AllZip R qs l) no_y others))
-    where
-      none : (ps : List A) → AllZip R ps [] → ps ≡ []
-      none [] each = refl
-      none (p ∷ ps) each = absurd each
-  mixed ps qs xs ys (z ∷ zs) each others (inl (rest, is, mix)) = at ps refl (subst (λ l. AllZip R ps l) is each)
-    where
-      at : (front : List A) → ps ≡ front → AllZip R front (z ∷ rest) → (rs : List A) × AllZip R rs (z ∷ zs) × IsMixture ps qs rs
-      at [] same pairs = absurd pairs
-      at (p ∷ front) same (pair, pairs) =
-          let (rs, all, mixture) = mixed front qs rest ys zs pairs others mix in
-          (p ∷ rs, (pair, all), inl (front, same, mixture))
-  mixed ps qs xs ys (z ∷ zs) each others (inr (rest, is, mix)) = at qs refl (subst (λ l. AllZip R qs l) is others)
-    where
-      at : (front : List A) → qs ≡ front → AllZip R front (z ∷ rest) → (rs : List A) × AllZip R rs (z ∷ zs) × IsMixture ps qs rs
-      at [] same pairs = absurd pairs
-      at (q ∷ front) same (pair, pairs) =
-          let (rs, all, mixture) = mixed ps front xs rest zs each pairs mix in
-          (q ∷ rs, (pair, all), inr (front, same, mixture))
+      ([], tt, (none ps (subst (λ l. AllZip R ps l) no_x each), none qs (subst (λ l. AllZip R qs l) no_y others)))
+  mixed ps qs xs ys (z ∷ zs) each others (inl (rest, is, mix)) =
+      let (p, front, same, pair, pairs) = first_of ps z rest (subst (λ l. AllZip R ps l) is each) in
+      let (rs, all, mixture) = mixed front qs rest ys zs pairs others mix in
+      (p ∷ rs, (pair, all), inl (front, same, mixture))
+  mixed ps qs xs ys (z ∷ zs) each others (inr (rest, is, mix)) =
+      let (q, front, same, pair, pairs) = first_of qs z rest (subst (λ l. AllZip R qs l) is others) in
+      let (rs, all, mixture) = mixed ps front xs rest zs each pairs mix in
+      (q ∷ rs, (pair, all), inr (front, same, mixture))
 
 pub two_ways : TwoWays
 two_ways plan arrivals others one other both each all mixture = mixed (IsArrival plan) arrivals others one other both each all mixture
@@ -68,12 +67,16 @@ of_frames plan first (suc n) datagrams datagram (before, last, are, (count, some
     (n, k, omega arith, is))
     (Contains-append_cases before last datagram (subst (λ l. Contains l datagram) same has))
 
+one_more : {X : Type 0} (P : X → Type 0) (x : X) (xs : List X) → P x → All P xs → All P (x ∷ xs)
+one_more P x xs here others zero d within = here
+one_more P x xs here others (suc k) d within = others k d (omega (arith, within))
+
 pub later_start : LaterStart
-later_start plan first sent [] are all = ([], tt, tt)
-later_start plan first sent (datagram ∷ came) are (one, all) =
-    let (m, k, within, is) = of_frames plan first (frame_count plan - first) sent datagram are one in
-    let (arrivals, arrive, from) = later_start plan first sent came are all in (
+later_start plan first sent [] are all = ([], tt, λ k d within. absurd (omega (arith, within)))
+later_start plan first sent (datagram ∷ came) are all =
+    let (m, k, within, is) = of_frames plan first (frame_count plan - first) sent datagram are (all 0 datagram (omega arith)) in
+    let (arrivals, arrive, from) = later_start plan first sent came are (λ j d less. all (suc j) d (omega (arith, less))) in (
       OfSchedule (first + m, k) ∷ arrivals,
       (record { within = omega (arith, within); is = is }, arrive),
-      (omega arith, from),
+      one_more (IsFrom first) (OfSchedule (first + m, k)) arrivals (omega arith) from,
     )
