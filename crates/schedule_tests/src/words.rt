@@ -9,7 +9,7 @@ use std::alloc::{AllocError, Global};
 // Lines of words, each word behind a `|`, and what they ask for: the command, then the plain words and the options in
 // the order of the command's row, `-` where one isn't told. By hand from the rules of the command line; a reader of the
 // same rules in Python gives the same.
-const ASKED: [(&str, &str); 63] = [
+const ASKED: [(&str, &str); 64] = [
     ("|fac", "fac"),
     ("|fac|--", "fac"),
     ("|show", "show"),
@@ -27,7 +27,10 @@ const ASKED: [(&str, &str); 63] = [
     ("|serve|a|--pace|0", "serve a - 0 0"),
     ("|serve|--pace|10000|a", "serve a - 10000 0"),
     ("|serve|a|--to|127.0.0.1:5000", "serve a 127.0.0.1:5000 0 0"),
-    ("|serve|--to=0.0.0.0:1|a|--pace=25|--from=7", "serve a 0.0.0.0:1 25 7"),
+    (
+        "|serve|--to=0.0.0.0:1|a|--pace=25|--from=7",
+        "serve a 0.0.0.0:1 25 7",
+    ),
     (
         "|serve|--pace=25|--to|255.255.255.255:65535|--|-",
         "serve - 255.255.255.255:65535 25 0",
