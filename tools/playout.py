@@ -13,8 +13,7 @@ Each schedule begins when the one before it ends, 3 frames of its pace for each 
 from there, so that receivers run on. What isn't so is named, with the line or the moment that would be right, and nothing is sent.
 
 `drmcast serve` is run for each schedule, with one pace between the last frame of one and the first of the next. If the playout is
-started within a schedule, or a server fails, it goes on at the next super frame. For that `drmcast serve` has to know --from; without
-it, what is left of that schedule isn't sent, which is said, and the next one begins at its moment.
+started within a schedule, or a server fails, it goes on at the next super frame.
 
 The status is 0 after the last schedule, and after Ctrl-C or TERM; 3 if the list is wrong or has ended; and that of `drmcast` if it
 refuses a schedule or the words.
@@ -36,8 +35,6 @@ FRAMES = 3
 NUMBERS, COUNTS = 1 << 16, 1 << 32
 WRONG_LIST = 3
 PLAYED, FOR_GOOD = (0, 7), (2, 3, 4)
-# More super frames than a schedule may have, so that nothing is sent: only whether the option is known is asked.
-MOST_SUPER_FRAMES = 1_000_000
 START_MILLIS, RETRY_SECONDS, LOOK_SECONDS = 200, 1.0, 10.0
 
 
@@ -155,14 +152,6 @@ class Playout:
     def __init__(self, program, to, pace, stop):
         self.program, self.to, self.pace, self.stop = program, to, pace, stop
         self.free = None
-        self.has_from = None
-
-    def knows_from(self, one):
-        """Whether this `drmcast serve` knows --from."""
-        if self.has_from is None:
-            words = [self.program, "serve", "--from", str(MOST_SUPER_FRAMES), "--", one.name]
-            self.has_from = subprocess.run(words, stdin=subprocess.DEVNULL, stdout=subprocess.DEVNULL, stderr=subprocess.DEVNULL, check=False).returncode == 0
-        return self.has_from
 
     def wait(self, at):
         """Waits for a moment of the day, and until `free`; gives when that was, or None after a stop."""
@@ -195,9 +184,6 @@ class Playout:
             return 0, one.begin
         later, at = place(one, self.pace, now() if now() <= one.begin else now() + START_MILLIS)
         if later >= one.super_frames:
-            return None
-        if later and not self.knows_from(one):
-            command_line.complain(f"{one.name} has been on air since {moment(one.begin)}, and {self.program} can't go on within it (it has no --from)")
             return None
         return later, at
 

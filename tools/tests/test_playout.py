@@ -8,8 +8,8 @@ import running
 
 import playout
 
-# `check` prints the schedule's text. `serve` notes when it was begun with which words, and lasts as long as it would; it knows --from if
-# there is a file of this name, and fails once with the status in another.
+# `check` prints the schedule's text. `serve` notes when it was begun with which words, and lasts as long as it would; it fails once with the
+# status in a file, if there is one.
 PROGRAM = """#!/bin/sh
 for name; do :; done
 if grep -q wrong "$name"; then
@@ -25,7 +25,6 @@ while [ $# -gt 1 ]; do
     esac
     shift
 done
-[ $since = 0 ] || [ -e {folder}/from ] || exit 2
 frames=$((3 * ($(sed -n 's/^length //p' "$name") - since)))
 [ $frames -gt 0 ] || exit 0
 echo "$(date +%s%N) $words" >> {folder}/log
@@ -48,7 +47,6 @@ class Playout(unittest.TestCase):
         self.program = self.folder / "drmcast"
         self.program.write_text(PROGRAM.replace("{folder}", folder.name), encoding="ascii")
         self.program.chmod(0o755)
-        self.folder.joinpath("from").touch()
 
     def list(self, *lines):
         """A list of these lines, each a moment and a name, or as it stands."""
@@ -125,19 +123,6 @@ class Playout(unittest.TestCase):
         self.assertGreater(later, 16)
         self.assertGreaterEqual(at, begin + later * 3 * PACE)
         self.assertEqual(words, ["serve", "--to", "127.0.0.1:9", "--pace", str(PACE), "--from", str(later), "--", "a.plan"])
-
-    def test_without_from_the_next_one_is_waited_for(self):
-        self.folder.joinpath("from").unlink()
-        self.plan("a.plan", 0, 0, 50)
-        self.plan("b.plan", 150, 150, 50)
-        begin = playout.now() - 100
-        self.list((begin, "a.plan"), (begin + 150 * PACE, "b.plan"))
-        status, err = self.stopped_after(1)
-        self.assertEqual((status, err), (0, f"playout.py: a.plan has been on air since {playout.moment(begin)}, and {self.program} can't go on within it "
-                                            "(it has no --from)\n"))
-        at, words = self.log()[0]
-        self.assertEqual(words[-1], "b.plan")
-        self.assertGreaterEqual(at, begin + 150 * PACE)
 
     def test_a_server_that_fails(self):
         self.plan("a.plan", 0, 0, 1000)
