@@ -1,0 +1,5 @@
+pub mod OpeningLemmas
+pub mod ReachLemmas
+pub mod CloseLemmas
+pub mod RunLemmas
+pub mod TookLemmas

@@ -1,0 +1,62 @@
+use Rattle.std.proofs.Common.{◌≡◌, ℕ, ◌+◌, ◌<◌, ◌≤◌, refl, slice_index_or, ◌∙◌, ap, arith, length, length-append, [], ◌∷◌, ◌++◌, true, subst, sym, All, le_trans}
+use Rattle.std.proofs.lemmas.List.Elements.{All-push}
+use Rattle.drm_links.specs.declared.dock.Address.{Address}
+use Rattle.drm_links.proofs.ToldLemmas.{Tells-weaker}
+use Rattle.several_links.specs.Openings.{Docked, HasLink}
+use Rattle.several_links.specs.declared.member.Member.{Member}
+use Rattle.several_links.proofs.OpeningLemmas.{docked_still, each_more}
+use Rattle.several_links.proofs.ReachLemmas.{Reached, HaveFirst, found_reach, reached_now, missed_now, first_links, few_reached}
+use Rattle.several_links.proofs.reaching.reach_each.Goals as goal
+
+pub returns-in-Failed-clause-failed : goal.returns-in-Failed-clause-failed
+returns-in-Failed-clause-failed g c = λ failed.
+    let i = c.loop-k.invariant in
+    let k : ℕ = c.loop-k.k in
+    let ats = c.args.addresses.now in
+    let within : k < length ats = (let less = c.loop-k-test.true in let end = c.len-k-end.ensures in omega (arith, less, end)) in
+    let a = g.D.Dock.known c.args.dock.now in
+    let b = g.D.Dock.known c.loop-k.dock in
+    let d = g.D.Dock.known c.reach.new.self in
+    let known = g.D.L.Link.known in
+    few_reached known ats c.loop-k.members.items k a d (g.D.Dock.known c.close_each.new.dock) within i.1
+    (docked_still (λ told. HaveFirst known told ats c.loop-k.members.items k) a b d
+    (first_links known ats c.loop-k.members.items k (Reached ats k) a b i.5 i.6) c.in-Failed.ensures.told)
+    (missed_now ats k c.get.result.now within c.get.ensures known a b d c.requires i.5 c.in-Failed.ensures.opened c.in-Failed.ensures.told)
+    c.close_each.ensures.closed
+
+pub loop-k-preserved : goal.loop-k-preserved
+loop-k-preserved g c =
+    let i = c.loop-k.invariant in
+    let k : ℕ = c.loop-k.k in
+    let ats = c.args.addresses.now in
+    let at : Address = c.get.result.now in
+    let within : k < length ats = (let less = c.loop-k-test.true in let end = c.len-k-end.ensures in omega (arith, less, end)) in
+    let a = g.D.Dock.known c.args.dock.now in
+    let b = g.D.Dock.known c.loop-k.dock in
+    let d = g.D.Dock.known c.reach.new.self in
+    let known = g.D.L.Link.known in
+    let member : Member g.row.D-L.Denot = record { link = c.in-Link.link; up = true } in
+    let size : length c.loop-k.members.items ≡ k = i.1 in
+    let Q : ℕ → Member g.row.D-L.Denot → Type 0 = λ n m. (e : Address) → Docked a d (λ told. HasLink known told n (slice_index_or ats n e) m.link) in
+    let old : (n : ℕ) (j : Member g.row.D-L.Denot) → n < k → Q n (slice_index_or c.loop-k.members.items n j)
+    = λ n j less e. docked_still (λ told. HasLink known told n (slice_index_or ats n e) (slice_index_or c.loop-k.members.items n j).link) a b d (i.6 n j less e) c.in-Link.ensures.told in
+    let more : c.push.new.self.items ≡ c.loop-k.members.items ++ member ∷ [] = c.in-Ok.ensures.items in
+    let many : length c.push.new.self.items ≡ k + 1 = ap length more ∙ length-append c.loop-k.members.items (member ∷ []) ∙ omega (arith, size) in (
+      (let len = c.in-Ok.ensures.len in let before = i.0 in omega (arith, len, before)),
+      many,
+      (let room = c.in-Ok.ensures.capacity in let before = i.2 in omega (arith, room, before)),
+      subst (λ ms. All (λ (m : Member g.row.D-L.Denot). m.up ≡ true) ms) (sym more) (All-push (λ (m : Member g.row.D-L.Denot). m.up ≡ true) c.loop-k.members.items member i.3 refl),
+      le_trans i.4 c.in-Link.ensures.cause.later,
+      reached_now ats k at within c.get.ensures known c.in-Link.link a b d i.5 c.in-Link.ensures.opened c.in-Link.ensures.told,
+      each_more Q c.loop-k.members.items c.push.new.self.items member k size more old
+          (λ e. found_reach ats k at within c.get.ensures known c.in-Link.link a b d c.requires i.5 c.in-Link.ensures.opened c.in-Link.ensures.told e),
+    )
+
+pub returns-clause-links : goal.returns-clause-links
+returns-clause-links g c =
+    let i = c.loop-k.invariant in
+    let all : length c.args.addresses.now ≤ c.loop-k.k = (let last = c.loop-k-test.false in let end = c.len-k-end.ensures in omega (arith, last, end)) in
+    let a = g.D.Dock.known c.args.dock.now in
+    let b = g.D.Dock.known c.loop-k.dock in
+    Tells-weaker _ _ a b (first_links g.D.L.Link.known c.args.addresses.now c.loop-k.members.items c.loop-k.k (Reached c.args.addresses.now c.loop-k.k) a b i.5 i.6)
+    (λ x y first k at none within. first k at none (omega (arith, within, all)))

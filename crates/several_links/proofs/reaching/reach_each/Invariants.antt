@@ -1,0 +1,19 @@
+use Rattle.std.proofs.Common.{◌≡◌, ℕ, ◌<◌, ◌≤◌, vec_len, vec_capacity, slice_index_or, length}
+use Rattle.drm_links.specs.Told.{Tells}
+use Rattle.drm_links.specs.declared.dock.Address.{Address}
+use Rattle.several_links.specs.Openings.{Docked, HasLink}
+use Rattle.several_links.specs.Reaching.{AreUp}
+use Rattle.several_links.specs.declared.member.Member.{Member}
+use Rattle.several_links.proofs.ReachLemmas.{Reached}
+use Rattle.several_links.proofs.reaching.reach_each.Given as goal
+
+-- each link so far is that of its address
+abbrev pub invariant-loop-k : goal.invariant-loop-k
+invariant-loop-k g l =
+    (vec_len l.members ≡ l.k) × (length l.members.items ≡ l.k)
+    × (length l.addresses ≤ vec_capacity l.members)
+    × AreUp l.members.items
+    × ((g.D.Dock.known l.fn.dock).faults ≤ (g.D.Dock.known l.dock).faults)
+    × Tells (g.D.Dock.known l.fn.dock) (g.D.Dock.known l.dock) (Reached l.addresses l.k)
+    × ((k : ℕ) (d : Member g.row.D-L.Denot) → k < l.k → (at : Address)
+    → Docked (g.D.Dock.known l.fn.dock) (g.D.Dock.known l.dock) (λ told. HasLink g.D.L.Link.known told k (slice_index_or l.addresses k at) (slice_index_or l.members.items k d).link))

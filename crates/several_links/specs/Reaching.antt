@@ -1,0 +1,102 @@
+-- Several links that are opened to send over them, and closed again.
+use Rattle.std.specs.Prelude.{ℕ, ◌≡◌, ◌+◌, ◌<◌, true, false, List, [], ◌∷◌, length, take, replicate, slice_index_or, All, Some}
+use Rattle.std.specs.FinMap as map
+use Rattle.std.specs.Ordering.{nat_cmp}
+use Rattle.std.specs.Cmp.Lexicographic.{slice_cmp}
+use Rattle.drm_links.specs.Told.{Known}
+use Rattle.drm_links.specs.Link.{Traffic, rests_of}
+use Rattle.drm_links.specs.Dock.{DockContents, LinkStart, address_key, after_failure, after_close}
+use Rattle.drm_links.specs.declared.dock.Address.{Address}
+use Rattle.several_links.specs.Openings.{Finds, FindsNone, HasLink, after_openings}
+use Rattle.several_links.specs.declared.member.Member.{Member}
+
+-- ---- openings
+
+-- what a dock tells once so many more openings by `reach` are counted
+abbrev pub with_reaches : ℕ → DockContents → DockContents
+with_reaches n told = record told { reaches = told.reaches + n }
+
+-- and after links were opened at these addresses, one after another, to send over them
+abbrev pub after_reaches : List Address → DockContents → DockContents
+after_reaches addresses told = after_openings addresses (with_reaches (length addresses) told)
+
+-- the members have the links of these addresses, in their order
+abbrev pub HaveLinks : {L : Type 0} → (L → Known Traffic) → DockContents → List Address → List (Member L) → Type 0
+HaveLinks {L} known told addresses members =
+    (k : ℕ) (at : Address) (none : Member L) → k < length addresses
+    → HasLink known told k (slice_index_or addresses k at) (slice_index_or members k none).link
+
+-- no link has failed
+abbrev pub AreUp : {L : Type 0} → List (Member L) → Type 0
+AreUp members = All (λ member. member.up ≡ true) members
+
+-- each link has failed
+abbrev pub AreDown : {L : Type 0} → List (Member L) → Type 0
+AreDown members = All (λ member. member.up ≡ false) members
+
+-- ---- closings, in the order of the openings
+
+-- what had gone over a link that is closed, and how long it rested before each datagram and after the last
+pub record Over : Type 0 where
+  pub gone : List (List ℕ)
+  pub rests : List ℕ
+
+-- nothing had
+abbrev pub nothing : Over
+nothing = record { gone = []; rests = 0 ∷ [] }
+
+-- what a dock tells after links were closed at these addresses over which this had gone
+abbrev pub after_closes : List Over → List Address → DockContents → DockContents
+after_closes [] addresses told = told
+after_closes (over ∷ overs) [] told = told
+after_closes (over ∷ overs) (at ∷ addresses) told = after_closes overs addresses (after_close at over.gone over.rests told)
+
+-- this has gone over a link that tells it
+abbrev pub HasGone : {L : Type 0} → (L → Known Traffic) → L → Over → Type 0
+HasGone known link over = (traffic : Traffic) × ((known link).told ≡ Some traffic) × (traffic.gone ≡ over.gone) × (rests_of traffic ≡ over.rests)
+
+-- and over each of several
+pub record HaveGone {L : Type 0} (known : L → Known Traffic) (members : List (Member L)) (overs : List Over) : Type 0 where
+  pub as_many : length overs ≡ length members
+  pub each : (k : ℕ) (d : Member L) (none : Over) → k < length members → HasGone known (slice_index_or members k d).link (slice_index_or overs k none)
+
+-- ---- an opening that fails
+
+-- opening a link at some of these addresses, one after another, is to fail
+pub record ReachesNone (told : DockContents) (addresses : List Address) : Type 0 where
+  pub k : ℕ
+  pub within : k < length addresses
+  pub fails : (at : Address) → FindsNone told k (slice_index_or addresses k at)
+
+-- The openings at the first k addresses were made, to send, and the next one failed. The links that were opened are closed: nothing
+-- has gone over them.
+pub record ReachesFew (addresses : List Address) (before after : DockContents) : Type 0 where
+  pub k : ℕ
+  pub within : k < length addresses
+  pub fails : (at : Address) → FindsNone before k (slice_index_or addresses k at)
+  pub told : after ≡ after_closes (replicate k nothing) addresses (after_failure (after_openings (take k addresses) (with_reaches (k + 1) before)))
+
+-- ---- a run over several links
+
+-- What goes over the link at each address is what Goes says of its place, of how it starts, and of this.
+pub record EachGoes (Goes : ℕ → LinkStart → Over → Type 0) (told : DockContents) (addresses : List Address) (overs : List Over) : Type 0 where
+  pub as_many : length overs ≡ length addresses
+  pub each : (k : ℕ) (at : Address) (none : Over) → k < length addresses
+      → (start : LinkStart) × Finds told k (slice_index_or addresses k at) start × Goes k start (slice_index_or overs k none)
+
+-- A link was opened at each address, this went over them, and they were closed.
+pub record GoesOver (Goes : ℕ → LinkStart → Over → Type 0) (addresses : List Address) (before after : DockContents) : Type 0 where
+  pub overs : List Over
+  pub goes : EachGoes Goes before addresses overs
+  pub told : after ≡ after_closes overs addresses (after_reaches addresses before)
+
+-- ---- nothing is sent
+
+-- what had gone over closed links, once links were closed at these addresses with nothing gone
+abbrev pub with_none : List Address → map.FinMap (slice_cmp nat_cmp) (List (List ℕ)) → map.FinMap (slice_cmp nat_cmp) (List (List ℕ))
+with_none [] gone = gone
+with_none (at ∷ addresses) gone = with_none addresses (map.insert gone (address_key at) [])
+
+-- What had gone is as before, but for links that were closed with nothing gone.
+abbrev pub NothingSent : DockContents → DockContents → Type 0
+NothingSent before after = (addresses : List Address) × (after.gone ≡ with_none addresses before.gone)

@@ -1,0 +1,28 @@
+-- What one of several links took of the datagrams that were sent over all of them.
+use Rattle.std.specs.Prelude.{ℕ, ◌≡◌, ◌≤◌, Bool, true, false, List, ◌++◌, length}
+use Rattle.drm_links.specs.Told.{Known, HasFailed}
+use Rattle.drm_links.specs.Link.{Traffic}
+use Rattle.drm_links.specs.Transmission.{Transmits, SendsAll, SendsNoMore}
+use Rattle.several_links.specs.declared.member.Member.{Member}
+
+-- It took them all.
+pub record TookAll (datagrams : List (List ℕ)) (start now : Known Traffic) : Type 0 where
+  pub sent : Transmits start now (SendsAll datagrams)
+  pub later : start.faults ≤ now.faults
+
+-- It took some first ones, and not the next.
+pub record TookSome (datagrams : List (List ℕ)) (start now : Known Traffic) : Type 0 where
+  pub front : List (List ℕ)
+  pub rest : List (List ℕ)
+  pub are : datagrams ≡ front ++ rest
+  pub some : 1 ≤ length rest
+  pub sent : Transmits start now (SendsNoMore front)
+  pub rose : HasFailed start now
+
+abbrev pub TookBy : Bool → List (List ℕ) → Known Traffic → Known Traffic → Type 0
+TookBy true datagrams start now = TookAll datagrams start now
+TookBy false datagrams start now = TookSome datagrams start now
+
+-- a link that told this at the start took them all, or failed before
+abbrev pub Took : {L : Type 0} → (L → Known Traffic) → List (List ℕ) → Known Traffic → Member L → Type 0
+Took known datagrams start member = TookBy member.up datagrams start (known member.link)

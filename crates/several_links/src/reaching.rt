@@ -1,0 +1,68 @@
+//! Links that are opened to send over them.
+
+ghost use Rattle.std.specs.Prelude.{◌≡◌, ◌≤◌, Err, length, vec_len, IfOk};
+ghost use Rattle.drm_links.specs.Told.{HasFailed, Tells};
+ghost use Rattle.word_forms.specs.Addresses.{AreDifferent};
+ghost use Rattle.several_links.specs.Openings.{Docked};
+ghost use Rattle.several_links.specs.Reaching.{HaveLinks, AreUp, ReachesFew, after_reaches};
+
+use crate::{Member, close_each};
+use drm_links::{Dock, Opened};
+use std::alloc::{AllocError, Global};
+use word_forms::Addresses;
+
+/// Why links weren't opened.
+#[derive(Clone, Copy, Debug, PartialEq, Eq)]
+pub enum ReachFault {
+    NoMemory,
+    /// An opening failed.
+    Link,
+}
+
+impl From<AllocError> for ReachFault {
+    ghost use Rattle.std.specs.Prelude.{◌≡◌};
+    ghost use Rattle.several_links.specs.declared.reaching.ReachFault.TheVariants as faults;
+
+    ghost from_gives = { λ _ fault. fault ≡ faults.NoMemory };
+
+    fn from(_: AllocError) -> Self {
+        ReachFault::NoMemory
+    }
+}
+
+/// Opens a link to each address, in their order. Where an opening fails no further one is made, and those that were opened are
+/// closed. Memory is taken before the first opening.
+pub fn reach_each<D: Dock>(
+    alloc: Global,
+    addresses: &Addresses,
+    dock: &mut D,
+) -> Result<Vec<Member<D::L>>, ReachFault>
+    requires { AreDifferent addresses.now }
+    ensures many { IfOk result (λ members. vec_len members ≡ length addresses.now) }
+    ensures up { IfOk result (λ members. AreUp members.items) }
+    ensures opened { IfOk result (λ _. Tells (D.known dock.old) (D.known dock.new)
+        (λ before after. after ≡ after_reaches addresses.now before)) }
+    ensures links { IfOk result (λ members. Docked (D.known dock.old) (D.known dock.new) (λ told.
+        HaveLinks D.L.known told addresses.now members.items)) }
+    ensures failed { result ≡ Err ReachFault.Link → Tells (D.known dock.old) (D.known dock.new)
+        (λ before after. ReachesFew addresses.now before after) }
+    ensures rose { result ≡ Err ReachFault.Link → HasFailed (D.known dock.old) (D.known dock.new) }
+    ensures untouched { result ≡ Err ReachFault.NoMemory → dock.new ≡ dock.old }
+    ensures later { (D.known dock.old).faults ≤ (D.known dock.new).faults }
+{
+    let mut members = Vec::with_capacity(alloc, addresses.len())?;
+    for k in 0..addresses.len() {
+        match dock.reach(*addresses.get(k)) {
+            Opened::Link(link) => {
+                let Ok(()) = members.push(Member { link, up: true }) else {
+                    unreachable!()
+                };
+            }
+            Opened::Failed => {
+                close_each(dock, addresses, members);
+                return Err(ReachFault::Link);
+            }
+        }
+    }
+    Ok(members)
+}
