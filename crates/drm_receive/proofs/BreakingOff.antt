@@ -4,7 +4,7 @@ use Rattle.drm_links.specs.Dock.{DockContents, LinkStart}
 use Rattle.drm_links.specs.declared.dock.Address.{Address}
 use Rattle.mod_receiver.specs.Hearing.{AreNext}
 use Rattle.mod_receiver.specs.declared.rules.Rules.{Rules}
-use Rattle.drm_receive.specs.Receive.{Finds, FindsNone}
+use Rattle.several_links.specs.Openings.{Finds, FindsNone}
 use Rattle.mod_receiver.specs.Ahead.{Report, IsReportOf, BreaksOff}
 use Rattle.mod_receiver.proofs.OneReading.{finished_whole}
 

@@ -21,9 +21,10 @@ use Rattle.mod_receiver.proofs.JobLemmas.{rules_are, live_report, live_given, li
 use Rattle.drm_faults.specs.declared.fault.Fault.{Fault}
 use Rattle.drm_faults.specs.declared.fault.Fault.TheVariants as faults
 use Rattle.drm_receive.specs.Stopping.{ending_live}
-use Rattle.drm_receive.specs.Opening.{HasLink, HaveLinks}
-use Rattle.drm_receive.specs.Receive.{Docked, Finds, FindsNone, FailsSome, OpensEach, after_openings, WritesLive, ReceiveRun}
-use Rattle.drm_receive.proofs.OpeningLemmas.{docked_weaker}
+use Rattle.several_links.specs.Openings.{HasLink, Docked, Finds, FindsNone, after_openings}
+use Rattle.drm_receive.specs.Opening.{HaveLinks}
+use Rattle.drm_receive.specs.Receive.{FailsSome, OpensEach, WritesLive, ReceiveRun}
+use Rattle.several_links.proofs.OpeningLemmas.{docked_weaker}
 use Rattle.drm_receive.proofs.BreakingOff.{report_whole}
 use Rattle.drm_receive.proofs.ReceiveStatus.{receive_run}
 use Rattle.drm_receive.proofs.ReceiveLemmas.{inner, no_fault}

@@ -1,224 +1,28 @@
--- Openings, one after another.
-use Rattle.std.proofs.Common.{◌≡◌, ℕ, zero, suc, ◌+◌, ◌<◌, ◌≤◌, inl, inr, Bool, true, false, cond, List, [], ◌∷◌, ◌++◌, length, take, slice_index_or, Option, None, Some, IsNone, Contains, Result, Err, refl, sym, ◌∙◌, ap, subst, arith}
-use Rattle.std.specs.Prelude.{◌≢◌}
-use Rattle.std.specs.List.{AllByRecursion}
-use Rattle.std.specs.FinMap as map
-use Rattle.std.specs.FinMap.{get-remove}
-use Rattle.std.specs.Ordering.{nat_cmp, eq_by_cmp}
-use Rattle.std.specs.Cmp.Lexicographic.{slice_cmp, nat_list_cmp_total}
-use Rattle.std.proofs.lemmas.Map.Views.{tells_apart}
-use Rattle.std.proofs.lemmas.Grind.{take_at_read}
-use Rattle.std.proofs.lemmas.List.{take_all}
-use Rattle.drm_links.specs.Told.{Known, WhileTold, CountsCall, BothTold, CountsTold, ToldThrough, Tells}
+-- Openings, one after another, of receivers.
+use Rattle.std.proofs.Common.{◌≡◌, ℕ, ◌+◌, ◌<◌, ◌≤◌, inl, inr, Bool, List, length, take, slice_index_or, Option, None, Some, Result, Err, refl, sym, ◌∙◌, ap, arith}
+use Rattle.drm_links.specs.Told.{Known, WhileTold, CountsCall, ToldThrough, Tells}
 use Rattle.drm_links.specs.Link.{Traffic}
-use Rattle.drm_links.specs.Dock.{DockContents, Opens, SendsNothing, after_opening, after_failure, address_key}
+use Rattle.drm_links.specs.Dock.{DockContents, Opens, SendsNothing, after_opening}
 use Rattle.drm_links.specs.declared.dock.Address.{Address}
 use Rattle.drm_links.specs.declared.dock.Opened.TheVariants as opened
-use Rattle.drm_links.proofs.ToldLemmas.{Opens-started, Tells-then, Tells-weaker, Tells-one, Tells-nothing}
+use Rattle.drm_links.proofs.ToldLemmas.{Tells-weaker}
 use Rattle.word_forms.specs.Addresses.{AreDifferent}
+use Rattle.several_links.specs.Openings.{Docked, HasLink}
+use Rattle.several_links.proofs.OpeningLemmas.{Opened, docks_more, docks_while, next, not_found, openings_gone}
 use Rattle.drm_faults.specs.declared.fault.Fault.{Fault}
 use Rattle.drm_faults.specs.declared.fault.Fault.TheVariants as faults
-use Rattle.drm_receive.specs.Receive.{Docked, after_openings, FailsAfter, OpensEach}
-use Rattle.drm_receive.specs.Opening.{HasLink, HaveLinks, StopsOpening}
+use Rattle.drm_receive.specs.Receive.{OpensEach}
+use Rattle.drm_receive.specs.Opening.{HaveLinks, StopsOpening}
 use Rattle.mod_receiver.specs.declared.job.Job.{Job}
-use Rattle.mod_receiver.proofs.JobLemmas.{same_index}
-
--- ---- addresses that are different
-
-ends_same : (xs ys : List ℕ) (x y : ℕ) → xs ++ x ∷ [] ≡ ys ++ y ∷ [] → (xs ≡ ys) × (x ≡ y)
-ends_same [] [] x y is = (refl, cc)
-ends_same [] (b ∷ []) x y is = cc
-ends_same [] (b ∷ (d ∷ ys)) x y is = cc
-ends_same (a ∷ []) [] x y is = cc
-ends_same (a ∷ (c ∷ xs)) [] x y is = cc
-ends_same (a ∷ xs) (b ∷ ys) x y is =
-    let first : a ≡ b = cc in
-    let rest : xs ++ x ∷ [] ≡ ys ++ y ∷ [] = cc in
-    let same = ends_same xs ys x y rest in
-    ((λ i. first i ∷ same.0 i), same.1)
-
-one_address : (a b : Address) → address_key a ≡ address_key b → a ≡ b
-one_address a b is =
-    let same = ends_same a.ip b.ip a.port b.port is in
-    λ i. record { ip = same.0 i; port = same.1 i }
-
-all_at : {X : Type 0} (P : X → Type 0) (xs : List X) (k : ℕ) (none : X) → AllByRecursion P xs → k < length xs → P (slice_index_or xs k none)
-all_at P [] k none all within = absurd (omega arith)
-all_at P (x ∷ xs) zero none all within = all.0
-all_at P (x ∷ xs) (suc k) none all within = all_at P xs k none all.1 (omega arith)
-
-apart : (addresses : List Address) → AreDifferent addresses → (i j : ℕ) (d e : Address) → i < j → j < length addresses
-    → slice_index_or addresses i d ≡ slice_index_or addresses j e → ⊥
-apart [] different i j d e before within is = absurd (omega arith)
-apart (a ∷ others) different i zero d e before within is = absurd (omega arith)
-apart (a ∷ others) different zero (suc j) d e before within is =
-    all_at (λ other. other ≢ a) others j e different.0 (omega arith) (sym is)
-apart (a ∷ others) different (suc i) (suc j) d e before within is = apart others different.1 i j d e (omega arith) (omega arith) is
-
--- ---- what a dock tells, over several calls
-
-pub docks_more : (P S Q : DockContents → DockContents → Type 0) (a b c : Known DockContents) → Tells a b P → WhileTold b c S → CountsCall (λ (d : DockContents). d.calls) b c
-    → ((x y z : DockContents) → P x y → S y z → Q x z) → Tells a c Q
-docks_more P S Q a b c first second counts both =
-    Tells-then P S Q a b c first (Tells-one (λ (d : DockContents). d.calls) S b c counts second) both
-
-while_told : (P Q : DockContents → DockContents → Type 0) (a b : Option DockContents) → ToldThrough a b P → ((x y : DockContents) → P x y → Q x y) → BothTold a b Q
-while_told P Q None b first weaker = tt
-while_told P Q (Some x) None first weaker = tt
-while_told P Q (Some x) (Some y) first weaker = weaker x y first
-
-pub docks_while : (P Q : DockContents → DockContents → Type 0) (a b : Known DockContents) → Tells a b P → ((x y : DockContents) → P x y → Q x y) → WhileTold a b Q
-docks_while P Q a b = while_told P Q a.told b.told
-
-pub docked_weaker : (P Q : DockContents → Type 0) (a b : Known DockContents) → Docked a b P → ((x : DockContents) → P x → Q x) → Docked a b Q
-docked_weaker P Q a b first weaker = Tells-weaker (λ x _. P x) (λ x _. Q x) a b first (λ x y. weaker x)
-
-pub docked_both : (P Q : DockContents → Type 0) (a b : Known DockContents) → Docked a b P → Docked a b Q → Docked a b (λ told. P told × Q told)
-docked_both P Q a b = both_docked a.told b.told
-  where
-    both_docked : (a b : Option DockContents) → ToldThrough a b (λ x _. P x) → ToldThrough a b (λ x _. Q x) → ToldThrough a b (λ x _. P x × Q x)
-    both_docked a None p q = tt
-    both_docked None (Some after) p q = p
-    both_docked (Some before) (Some after) p q = (p, q)
-
--- what held, after one more call
-pub docked_still : (P : DockContents → Type 0) (a b c : Known DockContents) → Docked a b P → CountsCall (λ (d : DockContents). d.calls) b c → Docked a c P
-docked_still P a b c = still a.told b.told c.told
-  where
-    still : (a b c : Option DockContents) → ToldThrough a b (λ x _. P x) → CountsTold (λ (d : DockContents). d.calls) b c → ToldThrough a c (λ x _. P x)
-    still a b None first counts = tt
-    still a None (Some z) first counts = cc
-    still None (Some y) (Some z) first counts = absurd first
-    still (Some x) (Some y) (Some z) first counts = first
-
--- ---- the dock after the openings at the first k addresses
-
--- one more opening
-openings_more : (addresses : List Address) (at : Address) (told : DockContents) → after_openings (addresses ++ at ∷ []) told ≡ after_opening at (after_openings addresses told)
-openings_more [] at told = refl
-openings_more (a ∷ addresses) at told = openings_more addresses at (after_opening a told)
-
-take_next : (addresses : List Address) (k : ℕ) (d : Address) → k < length addresses → take (k + 1) addresses ≡ take k addresses ++ slice_index_or addresses k d ∷ []
-take_next addresses k d within = (take_at_read addresses k d within).1
-
-openings_next : (addresses : List Address) (k : ℕ) (at : Address) (told : DockContents) → k < length addresses → at ≡ slice_index_or addresses k at
-    → after_openings (take (k + 1) addresses) told ≡ after_opening at (after_openings (take k addresses) told)
-openings_next addresses k at told within is =
-    ap (λ l. after_openings l told) (take_next addresses k at within ∙ ap (λ a. take k addresses ++ a ∷ []) (sym is))
-    ∙ openings_more (take k addresses) at told
-
-record AreOpened (addresses : List Address) (k : ℕ) (before after : DockContents) : Type 0 where
-  pub openings : after.openings ≡ before.openings + k
-  pub failing : after.failing ≡ before.failing
-  pub links : (q : List ℕ) → ((i : ℕ) (at : Address) → i < k → address_key (slice_index_or addresses i at) ≡ q → ⊥)
-      → map.get after.links q ≡ map.get before.links q
-
-opened_none : (addresses : List Address) (told : DockContents) → AreOpened addresses 0 told told
-opened_none addresses told = record { openings = omega arith; failing = refl; links = λ q none. refl }
-
-other_key_by : (q key : List ℕ) (b : Bool) → eq_by_cmp (slice_cmp nat_cmp) q key ≡ b → (q ≡ key → ⊥) → eq_by_cmp (slice_cmp nat_cmp) q key ≡ false
-other_key_by q key true is other = absurd (other (tells_apart (map.slice_cmp-IsAntisymmetric map.nat_cmp-IsAntisymmetric) q key is))
-other_key_by q key false is other = is
-
-other_key : (q key : List ℕ) → (q ≡ key → ⊥) → eq_by_cmp (slice_cmp nat_cmp) q key ≡ false
-other_key q key other = other_key_by q key (eq_by_cmp (slice_cmp nat_cmp) q key) refl other
-
-opened_more : (addresses : List Address) (k : ℕ) (at : Address) → k < length addresses → at ≡ slice_index_or addresses k at
-    → (x y : DockContents) → AreOpened addresses k x y → AreOpened addresses (k + 1) x (after_opening at y)
-opened_more addresses k at within is x y before = record {
-  openings = (let b = before.openings in omega (arith, b));
-  failing = before.failing;
-  links = λ q none.
-      let other : q ≡ address_key at → ⊥ = λ e. none k at (omega arith) (ap address_key (sym is) ∙ sym e) in
-      get-remove nat_list_cmp_total y.links (address_key at) q
-      ∙ ap (λ b. cond b None (map.get y.links q)) (other_key q (address_key at) other)
-      ∙ before.links q (λ i e less e_is. none i e (omega arith) e_is);
-}
-
--- what the dock tells after the first k openings
-are_opened : (addresses : List Address) (k : ℕ) (told : DockContents) → k ≤ length addresses → AreOpened addresses k told (after_openings (take k addresses) told)
-are_opened addresses zero told within = opened_none addresses told
-are_opened addresses (suc k) told within =
-    let d : Address = record { ip = []; port = 0 } in
-    let at : Address = slice_index_or addresses k d in
-    let less : k < length addresses = omega (arith, within) in
-    let is : at ≡ slice_index_or addresses k at = same_index addresses k d at less in
-    let next : after_openings (take (k + 1) addresses) told ≡ after_opening at (after_openings (take k addresses) told) = openings_next addresses k at told less is in
-    let more = opened_more addresses k at less is told (after_openings (take k addresses) told) (are_opened addresses k told (omega (arith, within))) in
-    subst (λ n. AreOpened addresses n told (after_openings (take n addresses) told)) (omega arith)
-    (subst (λ (y : DockContents). AreOpened addresses (k + 1) told y) (sym next) more)
-
--- the dock tells what it does after the first k openings
-abbrev pub Opened : List Address → ℕ → DockContents → DockContents → Type 0
-Opened addresses k before after = after ≡ after_openings (take k addresses) before
-
-pub opened_first : (addresses : List Address) (a : Known DockContents) → Tells a a (Opened addresses 0)
-opened_first addresses a = Tells-nothing (Opened addresses 0) a (λ x. refl)
 
 module _ (addresses : List Address) (k : ℕ) (at : Address) (within : k < length addresses) (is : at ≡ slice_index_or addresses k at) where
-  so_far : (x y : DockContents) → Opened addresses k x y → AreOpened addresses k x y
-  so_far x y before = subst (λ (d : DockContents). AreOpened addresses k x d) (sym before) (are_opened addresses k x (omega (arith, within)))
-
-  not_before : AreDifferent addresses → (i : ℕ) (e : Address) → i < k → address_key (slice_index_or addresses i e) ≡ address_key at → ⊥
-  not_before different i e before same =
-      apart addresses different i k e at before within (one_address (slice_index_or addresses i e) at same ∙ is)
-
-  same_at : (d : Address) → slice_index_or addresses k d ≡ at
-  same_at d = same_index addresses k d at within ∙ sym is
-
-  -- one more link was opened
-  next : (x y z : DockContents) → Opened addresses k x y → z ≡ after_opening at y → Opened addresses (k + 1) x z
-  next x y z before now = now ∙ ap (after_opening at) before ∙ sym (openings_next addresses k at x within is)
-
-  found : {L : Type 0} (known : L → Known Traffic) (link : L) (x y z : DockContents) → AreDifferent addresses
-      → Opened addresses k x y → Opens known at (opened.Link link) y z → (d : Address) → HasLink known x k (slice_index_or addresses k d) link
-  found known link x y z different before now d =
-      let are = so_far x y before in
-      let started = Opens-started known at link y z now in (
-        started.0,
-        record {
-          allowed = λ fails.
-              now.0 (subst (λ m. Contains y.failing m) (let a = are.openings in omega (arith, a)) (subst (λ l. Contains l (x.openings + k)) (sym are.failing) fails));
-          stands = ap (λ a. map.get x.links (address_key a)) (same_at d) ∙ sym (are.links (address_key at) (not_before different)) ∙ started.1;
-        },
-        started.2,
-      )
-
-  not_found : {L : Type 0} (known : L → Known Traffic) (x y z : DockContents) → AreDifferent addresses
-      → Opened addresses k x y → Opens known at opened.Failed y z → FailsAfter addresses x z
-  not_found known x y z different before now =
-      let are = so_far x y before in
-      record {
-        k = k;
-        within = within;
-        fails = λ d. elim now.0 [
-          | inl fails ↦ inl (subst (λ l. Contains l (x.openings + k)) are.failing (subst (λ m. Contains y.failing m) (let a = are.openings in omega (arith, a)) fails))
-          | inr none ↦ inr (subst (λ a. IsNone (map.get x.links (address_key a))) (sym (same_at d)) (subst (λ m. IsNone m) (are.links (address_key at) (not_before different)) none))
-        ];
-        told = now.1 ∙ ap after_failure before;
-      }
-
-  pub found_now : {L : Type 0} (known : L → Known Traffic) (link : L) (a b c : Known DockContents) → AreDifferent addresses
-      → Tells a b (Opened addresses k) → WhileTold b c (Opens known at (opened.Link link)) → CountsCall (λ (d : DockContents). d.calls) b c
-      → (d : Address) → Docked a c (λ told. HasLink known told k (slice_index_or addresses k d) link)
-  found_now known link a b c different before now counts d =
-      docks_more (Opened addresses k) (Opens known at (opened.Link link)) (λ x _. HasLink known x k (slice_index_or addresses k d) link) a b c before now counts
-      (λ x y z p q. found known link x y z different p q d)
-
-  pub opened_now : {L : Type 0} (known : L → Known Traffic) (link : L) (a b c : Known DockContents)
-      → Tells a b (Opened addresses k) → WhileTold b c (Opens known at (opened.Link link)) → CountsCall (λ (d : DockContents). d.calls) b c
-      → Tells a c (Opened addresses (k + 1))
-  opened_now known link a b c before now counts =
-      docks_more (Opened addresses k) (Opens known at (opened.Link link)) (Opened addresses (k + 1)) a b c before now counts
-      (λ x y z p q. next x y z p q.2)
-
   -- the opening failed
   pub failed_now : {L : Type 0} (known : L → Known Traffic) (fault : Fault) (a b c : Known DockContents) → AreDifferent addresses → fault ≡ faults.Link
       → Tells a b (Opened addresses k) → WhileTold b c (Opens known at opened.Failed) → CountsCall (λ (d : DockContents). d.calls) b c
       → Tells a c (StopsOpening addresses fault)
   failed_now known fault a b c different kind before now counts =
       docks_more (Opened addresses k) (Opens known at opened.Failed) (StopsOpening addresses fault) a b c before now counts
-      (λ x y z p q. inr (kind, not_found known x y z different p q))
+      (λ x y z p q. inr (kind, not_found addresses k at within is known x y z different p q))
 
   -- memory ran out after it
   pub stopped_now : (fault : Fault) (a b c : Known DockContents) → fault ≡ faults.NoMemory
@@ -226,26 +30,12 @@ module _ (addresses : List Address) (k : ℕ) (at : Address) (within : k < lengt
       → Tells a c (StopsOpening addresses fault)
   stopped_now fault a b c kind before now counts =
       docks_more (Opened addresses k) (λ x y. y ≡ after_opening at x) (StopsOpening addresses fault) a b c before now counts
-      (λ x y z p q. inl (kind, record { k = k + 1; within = omega (arith, within); told = next x y z p q }))
+      (λ x y z p q. inl (kind, record { k = k + 1; within = omega (arith, within); told = next addresses k at within is x y z p q }))
 
 -- memory ran out behind some openings
 pub stopped_behind : (addresses : List Address) (k : ℕ) (fault : Fault) (a b : Known DockContents) → k ≤ length addresses → fault ≡ faults.NoMemory → Tells a b (Opened addresses k) → Tells a b (StopsOpening addresses fault)
 stopped_behind addresses k fault a b within kind opened =
     Tells-weaker (Opened addresses k) (StopsOpening addresses fault) a b opened (λ x y is. inl (kind, record { k = k; within = within; told = is }))
-
--- all links were opened
-pub opened_all : (addresses : List Address) (k : ℕ) (a b : Known DockContents) → length addresses ≤ k → Tells a b (Opened addresses k) → Tells a b (λ before after. after ≡ after_openings addresses before)
-opened_all addresses k a b last opened =
-    Tells-weaker (Opened addresses k) (λ before after. after ≡ after_openings addresses before) a b opened
-    (λ x y is. is ∙ ap (λ l. after_openings l x) (take_all k addresses last))
-
-pub docked_any : (P : DockContents → DockContents → Type 0) (a b : Known DockContents) → Tells a b P → Docked a b (λ _. Unit {0})
-docked_any P a b told = Tells-weaker P (λ _ _. Unit {0}) a b told (λ x y any. tt)
-
--- nothing has gone over any link
-pub openings_gone : (addresses : List Address) (told : DockContents) → (after_openings addresses told).gone ≡ told.gone
-openings_gone [] told = refl
-openings_gone (at ∷ addresses) told = openings_gone addresses (after_opening at told)
 
 opens_gone : (addresses : List Address) (ending : Result Bool Fault) (x y : DockContents) → OpensEach addresses ending x y → y.gone ≡ x.gone
 opens_gone addresses ending x y (inl all) = ap (λ (d : DockContents). d.gone) all ∙ openings_gone addresses x

@@ -21,10 +21,11 @@ use Rattle.mod_receiver.specs.declared.stop.Stop.TheVariants as stops
 use Rattle.drm_receive.specs.Stopping.{ending_of}
 use Rattle.mod_receiver.specs.Following.{HeadlinesFollow, CompletesFollow, NoneBreaksOff}
 use Rattle.drm_faults.specs.Fault.{UnlessMemory}
-use Rattle.drm_receive.specs.Receive.{Docked, FindsNone, AreReports, all_texts, FailsSome, FailsAfter, OpensEach, after_openings, WritesReports, WritesAll, IsLive, ReceiveRun}
+use Rattle.several_links.specs.Openings.{Docked, FindsNone, FailsAfter, after_openings}
+use Rattle.drm_receive.specs.Receive.{AreReports, all_texts, FailsSome, OpensEach, WritesReports, WritesAll, IsLive, ReceiveRun}
 use Rattle.drm_receive.proofs.ReceiveStatus.{receive_run}
 use Rattle.mod_receiver.specs.Ahead.{Report, IsReportOf}
-use Rattle.drm_receive.proofs.OpeningLemmas.{docked_weaker}
+use Rattle.several_links.proofs.OpeningLemmas.{docked_weaker}
 use Rattle.drm_receive.proofs.BreakingOff.{report_whole}
 use Rattle.mod_receiver.proofs.JobLemmas.{told_of, job_report, job_breaks, index_of, map_at, map_size, flat_map_map, all_told, SomeFailed, some_failed}
 

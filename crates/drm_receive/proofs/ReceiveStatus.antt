@@ -12,10 +12,11 @@ use Rattle.mod_receiver.specs.declared.rules.Rules.{Rules}
 use Rattle.drm_faults.specs.declared.fault.Fault.{Fault}
 use Rattle.drm_faults.specs.declared.fault.Fault.TheVariants as faults
 use Rattle.drm_faults.specs.Fault.{UnlessMemory}
-use Rattle.drm_receive.specs.Receive.{Docked, Finds, AreReports, AreClean, all_texts, FailsSome, OpensEach, WritesReports, WritesAll, WroteReports, AreInTime, IsLive, ReceiveRun}
+use Rattle.several_links.specs.Openings.{Docked, Finds}
+use Rattle.drm_receive.specs.Receive.{AreReports, AreClean, all_texts, FailsSome, OpensEach, WritesReports, WritesAll, WroteReports, AreInTime, IsLive, ReceiveRun}
 use Rattle.mod_receiver.specs.Ahead.{IsInTimeAhead, Report, IsReportOf, BreaksOff}
 use Rattle.mod_receiver.specs.Following.{NoneBreaksOff}
-use Rattle.drm_receive.proofs.OpeningLemmas.{docked_weaker, docked_both}
+use Rattle.several_links.proofs.OpeningLemmas.{docked_weaker, docked_both}
 
 pub is_true : IsTrue true
 is_true = refl

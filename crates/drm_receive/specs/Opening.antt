@@ -1,17 +1,13 @@
 -- Links that are opened, for receivers.
-use Rattle.std.specs.Prelude.{ℕ, ◌≡◌, ◌<◌, ◌⊎◌, List, length, slice_index_or, Some}
+use Rattle.std.specs.Prelude.{ℕ, ◌≡◌, ◌<◌, ◌⊎◌, List, length, slice_index_or}
 use Rattle.drm_links.specs.Told.{Known}
 use Rattle.drm_links.specs.Link.{Traffic}
-use Rattle.drm_links.specs.Dock.{DockContents, LinkStart, first_traffic}
+use Rattle.drm_links.specs.Dock.{DockContents}
 use Rattle.drm_links.specs.declared.dock.Address.{Address}
 use Rattle.drm_faults.specs.declared.fault.Fault.{Fault}
 use Rattle.drm_faults.specs.declared.fault.Fault.TheVariants as faults
 use Rattle.mod_receiver.specs.declared.job.Job.{Job}
-use Rattle.drm_receive.specs.Receive.{Finds, FailsAfter, StopsAfter}
-
--- the link of the k-th opening from here starts with what stood at its address
-abbrev pub HasLink : {L : Type 0} → (L → Known Traffic) → DockContents → ℕ → Address → L → Type 0
-HasLink known told k at link = (start : LinkStart) × Finds told k at start × ((known link).told ≡ Some (first_traffic start))
+use Rattle.several_links.specs.Openings.{FailsAfter, StopsAfter, HasLink}
 
 -- the receivers have the links of these addresses, in their order
 abbrev pub HaveLinks : {L : Type 0} → (L → Known Traffic) → DockContents → List Address → List (Job L) → Type 0

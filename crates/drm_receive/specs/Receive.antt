@@ -5,26 +5,14 @@ use Rattle.std.specs.List.{flat_map, All}
 use Rattle.drm_links.specs.Told.{HasFailed, Known, HasCause, Tells}
 use Rattle.drm_links.specs.Link.{Answer}
 use Rattle.drm_links.specs.Sink.{Output, Outputs, IsFront}
-use Rattle.drm_links.specs.Dock.{DockContents, LinkStart, start_at, after_opening, after_failure}
+use Rattle.drm_links.specs.Dock.{DockContents, LinkStart}
 use Rattle.drm_links.specs.declared.dock.Address.{Address}
+use Rattle.several_links.specs.Openings.{Finds, FindsNone, Docked, after_openings, FailsAfter, StopsAfter}
 use Rattle.mod_receiver.specs.declared.rules.Rules.{Rules}
 use Rattle.mod_receiver.specs.Ahead.{IsInTimeAhead, Report, IsReportOf, BreaksOff, IsGivenOf, IsFrontOf}
 use Rattle.drm_faults.specs.Fault.{UnlessMemory}
 use Rattle.drm_faults.specs.declared.fault.Fault.{Fault}
 use Rattle.drm_faults.specs.declared.fault.Fault.TheVariants as faults
-
--- the k-th opening from here finds a link at this address that starts so
-pub record Finds (told : DockContents) (k : ℕ) (at : Address) (start : LinkStart) : Type 0 where
-  pub allowed : Contains told.failing (told.openings + k) → ⊥
-  pub stands : start_at told at ≡ Some start
-
--- it fails
-abbrev pub FindsNone : DockContents → ℕ → Address → Type 0
-FindsNone told k at = Contains told.failing (told.openings + k) ⊎ IsNone (start_at told at)
-
--- where a dock tells at the end, it told before, and P holds of what it told then
-abbrev pub Docked : Known DockContents → Known DockContents → (DockContents → Type 0) → Type 0
-Docked before after P = Tells before after (λ told _. P told)
 
 -- a report for each address, in their order
 pub record AreReports (rules : Rules) (told : DockContents) (addresses : List Address) (reports : List Report) : Type 0 where
@@ -79,24 +67,6 @@ WritesAll rules told addresses ending known out out' = WritesReports (AreReports
 -- the report is written as it is read: there is one link
 abbrev pub IsLive : List Address → Type 0
 IsLive addresses = length addresses ≡ 1
-
--- what a dock tells after links were opened at these addresses, one after another, to receive over them
-abbrev pub after_openings : List Address → DockContents → DockContents
-after_openings [] told = told
-after_openings (at ∷ addresses) told = after_openings addresses (after_opening at told)
-
--- The openings at the first k addresses were made, and the next one failed.
-pub record FailsAfter (addresses : List Address) (before after : DockContents) : Type 0 where
-  pub k : ℕ
-  pub within : k < length addresses
-  pub fails : (at : Address) → FindsNone before k (slice_index_or addresses k at)
-  pub told : after ≡ after_failure (after_openings (take k addresses) before)
-
--- Some first openings were made.
-pub record StopsAfter (addresses : List Address) (before after : DockContents) : Type 0 where
-  pub k : ℕ
-  pub within : k ≤ length addresses
-  pub told : after ≡ after_openings (take k addresses) before
 
 -- Each address is opened once, in their order, to receive; up to one that fails, or up to want of memory. Nothing else is
 -- asked of the dock.

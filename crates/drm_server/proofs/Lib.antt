@@ -14,3 +14,4 @@ pub mod SendingLemmas
 pub mod RestLemmas
 pub mod PaceLemmas
 pub mod FrameLemmas
+pub mod SeveralLemmas

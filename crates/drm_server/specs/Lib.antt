@@ -9,4 +9,5 @@ pub mod Sending
 pub mod Rests
 pub mod OneFrame
 pub mod Gathering
+pub mod Several
 pub mod Laws

@@ -1,4 +1,4 @@
-//! The packets of a schedule and the datagrams that carry them, one frame at a time: to a sink, or over a link.
+//! The packets of a schedule and the datagrams that carry them, one frame at a time: to a sink, or over links.
 #![tactic(auto)]
 
 mod laws;
@@ -14,6 +14,6 @@ pub use laws::{
     first_ones_are_front, one_capture, one_delivery, one_frame, one_packet,
     streams_make_the_multiplex_frame,
 };
-pub use send::serve_link;
+pub use send::serve_links;
 pub use serve::serve_sink;
 pub use server::Server;

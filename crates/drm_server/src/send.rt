@@ -1,48 +1,80 @@
-//! A schedule over a link.
+//! A schedule over several links.
 
-ghost use Rattle.std.specs.Prelude.{[], ◌≡◌, ◌+◌, ◌-◌, ◌*◌, ◌≤◌, replicate, IfOk, OnOk, OnErr, IsErr};
-ghost use Rattle.drm_links.specs.Told.{HasCause};
+ghost use Rattle.std.specs.Prelude.{ℕ, [], ◌≡◌, ◌+◌, ◌-◌, ◌<◌, ◌≤◌, length, replicate, slice_index_or, IfOk, OnErr, IsErr};
+ghost use Rattle.drm_links.specs.Told.{Known, HasCause};
+ghost use Rattle.drm_links.specs.Link.{Traffic};
 ghost use Rattle.drm_links.specs.ManyCalls.{MakesCalls};
 ghost use Rattle.drm_links.specs.Transmission.{Transmits, SendsAll, Waits};
+ghost use Rattle.several_links.specs.Reaching.{AreUp};
+ghost use Rattle.several_links.specs.declared.member.Member.{Member};
 ghost use Rattle.drm_timeline.specs.Numbers.{frame_count};
 ghost use Rattle.packet_sending.specs.Sending.{MadeCalls};
-ghost use Rattle.drm_server.specs.Capture.{IsCount};
-ghost use Rattle.drm_server.specs.Sending.{SendsSchedule, SendsPart};
 ghost use Rattle.dcp_pft.specs.Limits.{most_fragments};
-ghost use Rattle.drm_server.specs.Rests.{calls_of_frame, rests_before, rests_between, pause};
+ghost use Rattle.drm_server.specs.Rests.{rests_before, pause};
 ghost use Rattle.drm_server.specs.OneFrame.{SentFrame, SendsPartOfFrame};
+ghost use Rattle.drm_server.specs.Several.{Served};
 
 use crate::Server;
 use drm_links::{Link, LinkFault};
+use several_links::{Member, none_up};
 
-/// Sends the datagrams of the frames from frame `first` on, in order, and gives their number. Between the datagrams of two
-/// frames it rests for `pace` milliseconds, and nowhere else. Where there is no frame `first` nothing is sent.
-pub fn serve_link<L: Link>(
+/// Sends the datagrams of the frames from frame `first` on over each of the links, frame by frame, and over each as over it alone:
+/// between the datagrams of two frames it rests for `pace` milliseconds, and nowhere else. A link that fails is asked for nothing
+/// any more, and the others go on; where none is left no more is sent. Where there is no frame `first` nothing is sent.
+pub fn serve_links<L: Link>(
     server: &mut Server<'_>,
     first: u32,
-    link: &mut L,
+    members: &mut [Member<L>],
     pace: u32,
-) -> Result<u64, LinkFault>
-    ensures whole { OnOk result (Transmits (L.known link.old) (L.known link.new) (SendsSchedule server.old.plan first pace)) }
-    ensures count { IfOk result (IsCount server.old.plan first) }
-    ensures part { OnErr result (Transmits (L.known link.old) (L.known link.new) (SendsPart server.old.plan first pace)) }
-    ensures cause { HasCause (L.known link.old) (L.known link.new) (IsErr result) }
-    ensures idle { L.idles link.new ≡ L.idles link.old }
-    // One call for each datagram and, where there is a pace, for each rest between two frames.
-    ensures rests { IfOk result (λ n. Transmits (L.known link.old) (L.known link.new)
-        (MadeCalls (n + rests_between pace (frame_count server.old.plan - first)))) }
-    // So few calls a frame that a link that tells will tell at the end.
-    ensures calls { MakesCalls (λ traffic. traffic.calls) (calls_of_frame * frame_count server.old.plan)
-        (L.known link.old) (L.known link.new) }
+)
+    requires up { AreUp members.old }
+    ensures served { (k : ℕ) (d : Member L) → k < length members.old
+        → Served server.old.plan first pace (frame_count server.old.plan - first) L.known
+        (L.known (slice_index_or members.old k d).link) (slice_index_or members.new k d) }
+    ensures idle { (k : ℕ) (d : Member L) → k < length members.old
+        → L.idles (slice_index_or members.new k d).link ≡ L.idles (slice_index_or members.old k d).link }
     ensures schedule { server.new.plan ≡ server.old.plan }
 {
-    let mut sent = 0;
     for n in 0..server.frames().saturating_sub(first) {
-        rest_between(link, n, pace);
+        if none_up(members) {
+            break;
+        }
         server.load(first + n);
-        sent += send_frame(server, link)?;
+        serve_each(server, n, members, pace);
     }
-    Ok(sent)
+}
+
+// Sends the datagrams of the frame that is loaded, the one behind n others, over each link that is up.
+fn serve_each<L: Link>(server: &mut Server<'_>, n: u32, members: &mut [Member<L>], pace: u32)
+    ensures step { (k : ℕ) (d : Member L) (first : ℕ) (start : Known Traffic) → k < length members.old
+        → first + n < frame_count server.old.plan → server.old.frame ≡ first + n
+        → Served server.old.plan first pace n L.known start (slice_index_or members.old k d)
+        → Served server.old.plan first pace (n + 1) L.known start (slice_index_or members.new k d) }
+    ensures idle { (k : ℕ) (d : Member L) → k < length members.old
+        → L.idles (slice_index_or members.new k d).link ≡ L.idles (slice_index_or members.old k d).link }
+    ensures server { server.new ≡ server.old }
+{
+    for member in members.iter_mut() {
+        serve_one(server, n, member, pace);
+    }
+}
+
+// The same over one link, behind its rest.
+fn serve_one<L: Link>(server: &mut Server<'_>, n: u32, member: &mut Member<L>, pace: u32)
+    ensures step { (first : ℕ) (start : Known Traffic)
+        → first + n < frame_count server.old.plan → server.old.frame ≡ first + n
+        → Served server.old.plan first pace n L.known start member.old
+        → Served server.old.plan first pace (n + 1) L.known start member.new }
+    ensures idle { L.idles member.new.link ≡ L.idles member.old.link }
+    ensures server { server.new ≡ server.old }
+{
+    if member.up {
+        rest_between(&mut member.link, n, pace);
+        match send_frame(server, &mut member.link) {
+            Ok(_) => {}
+            Err(_) => member.up = false,
+        }
+    }
 }
 
 // Rests before a frame that is sent behind n others, but not before the first one.

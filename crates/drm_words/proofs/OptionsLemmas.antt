@@ -9,12 +9,12 @@ use Rattle.drm_words.specs.declared.request.Request.{Request}
 use Rattle.drm_words.specs.declared.options.Stretch.{Stretch}
 use Rattle.drm_words.specs.declared.options.Reading.{Reading}
 use Rattle.word_forms.specs.Reading.{within}
-use Rattle.word_forms.specs.Addressing.{address_of, addresses_of}
-use Rattle.drm_words.specs.Table.{Options, told, IsOneOf, AreOf, IsNumberOr, IsNumberOrNone, IsAddressOrNone, AreAddressesOrNone, IsStretch, IsReading}
-use Rattle.drm_words.specs.Asking.{is_one_of, are_of, number_or, number_or_none, address_or_none, addresses_or_none, with_options, window_of, first_of, frames_of, stretch_of, reading_of, idle_of, limit_of, pace_of, from_of, to_of}
+use Rattle.word_forms.specs.Addressing.{addresses_of}
+use Rattle.drm_words.specs.Table.{Options, told, IsOneOf, AreOf, IsNumberOr, IsNumberOrNone, AreAddressesIfTold, AreAddressesOrNone, IsStretch, IsReading}
+use Rattle.drm_words.specs.Asking.{is_one_of, are_of, number_or, number_or_none, addresses_if_told, addresses_or_none, with_options, window_of, first_of, frames_of, stretch_of, reading_of, idle_of, limit_of, pace_of, from_of, to_of}
 use Rattle.word_forms.proofs.OptionLemmas.{mapped, stepped}
 use Rattle.word_forms.proofs.NumberLemmas.{within_fits, within_is}
-use Rattle.word_forms.proofs.AddressLemmas.{address_fits, address_is, addresses_fit, addresses_are}
+use Rattle.word_forms.proofs.AddressLemmas.{addresses_fit, addresses_are}
 
 pub number_or_fits : (default least greatest : ℕ) (value : Option (List ℕ)) (n : ℕ) → number_or default least greatest value ≡ Some n → IsNumberOr default least greatest value n
 number_or_fits default least greatest None n e = sym (same_Some default n e)
@@ -34,15 +34,13 @@ pub number_or_none_is : (least greatest : ℕ) (value : Option (List ℕ)) (n : 
 number_or_none_is least greatest None n h = ap Some (sym h)
 number_or_none_is least greatest (Some text) n h = ap (option_map Some) (within_is least greatest text h.0 h.2) ∙ ap Some (sym h.1)
 
-pub address_or_none_fits : (value : Option (List ℕ)) (address : Option Address) → address_or_none value ≡ Some address → IsAddressOrNone value address
-address_or_none_fits None address e = sym (same_Some None address e)
-address_or_none_fits (Some text) address e =
-    let p = mapped (address_of text) Some address e in
-    (p.value, sym p.rest, address_fits text p.value p.is)
+pub addresses_if_told_fit : (value : Option (List ℕ)) (addresses : List Address) → addresses_if_told value ≡ Some addresses → AreAddressesIfTold value addresses
+addresses_if_told_fit None addresses e = sym (same_Some [] addresses e)
+addresses_if_told_fit (Some text) addresses e = addresses_fit text addresses e
 
-pub address_or_none_is : (value : Option (List ℕ)) (address : Option Address) → IsAddressOrNone value address → address_or_none value ≡ Some address
-address_or_none_is None address h = ap Some (sym h)
-address_or_none_is (Some text) address h = ap (option_map Some) (address_is text h.0 h.2) ∙ ap Some (sym h.1)
+pub addresses_if_told_are : (value : Option (List ℕ)) (addresses : List Address) → AreAddressesIfTold value addresses → addresses_if_told value ≡ Some addresses
+addresses_if_told_are None addresses h = ap Some (sym h)
+addresses_if_told_are (Some text) addresses h = addresses_are text addresses h
 
 pub addresses_or_none_fit : (texts : List (List ℕ)) (addresses : Option (List Address)) → addresses_or_none texts ≡ Some addresses → AreAddressesOrNone texts addresses
 addresses_or_none_fit [] addresses e = sym (same_Some None addresses e)
@@ -196,10 +194,10 @@ module _ (options : Options) where
   unfolding from_of
   from_is n h = number_or_is 0 0 1000000 (told (codes "from") options) n h
 
-  pub to_fits : (at : Option Address) → to_of options ≡ Some at → IsAddressOrNone (told (codes "to") options) at
+  pub to_fits : (at : List Address) → to_of options ≡ Some at → AreAddressesIfTold (told (codes "to") options) at
   unfolding to_of
-  to_fits at e = address_or_none_fits (told (codes "to") options) at e
+  to_fits at e = addresses_if_told_fit (told (codes "to") options) at e
 
-  pub to_is : (at : Option Address) → IsAddressOrNone (told (codes "to") options) at → to_of options ≡ Some at
+  pub to_is : (at : List Address) → AreAddressesIfTold (told (codes "to") options) at → to_of options ≡ Some at
   unfolding to_of
-  to_is at h = address_or_none_is (told (codes "to") options) at h
+  to_is at h = addresses_if_told_are (told (codes "to") options) at h

@@ -1,6 +1,6 @@
 -- The request that is read is the one of the table.
 use Rattle.std.proofs.Common.{◌≡◌, ℕ, Bool, true, false, cond, List, [], ◌∷◌, length, arith, Option, Some, refl, sym, ◌∙◌, subst}
-use Rattle.std.specs.Prelude.{codes}
+use Rattle.std.specs.Prelude.{codes, option_and_then}
 use Rattle.std.specs.Str.{bytes_eq}
 use Rattle.std.proofs.lemmas.Option.{same_Some, cond_some}
 use Rattle.std.proofs.lemmas.List.{nil_from_length}
@@ -52,7 +52,7 @@ serve_fits : (texts : List (List ℕ)) (options : Options) (r : Request) → ser
 unfolding serve_of
 serve_fits [] options r e = absurd cc
 serve_fits (name ∷ []) options r e =
-    let w = with_fits serve_names options (serve_with name options) r e in
+    let w = with_fits serve_names options (option_and_then (λ to. serve_with name to options) (to_of options)) r e in
     let to = stepped (to_of options) _ r w.1 in
     let pace = stepped (pace_of options) _ r to.rest in
     let from = stepped (from_of options) _ r pace.rest in
@@ -214,10 +214,10 @@ check_is : (name : List ℕ) (texts : List (List ℕ)) (options : Options) → I
 unfolding check_of
 check_is name texts options h = rw h.1 (with_is [] options (Some (Check name)) h.2)
 
-serve_is : (name : List ℕ) (to : Option Address) (pace from : ℕ) (texts : List (List ℕ)) (options : Options) → IsRequest (Serve name to pace from) (codes "serve") texts options → serve_of texts options ≡ Some (Serve name to pace from)
+serve_is : (name : List ℕ) (to : List Address) (pace from : ℕ) (texts : List (List ℕ)) (options : Options) → IsRequest (Serve name to pace from) (codes "serve") texts options → serve_of texts options ≡ Some (Serve name to pace from)
 unfolding serve_of
 serve_is name to pace from texts options h =
-    rw h.1 (with_is serve_names options (serve_with name options) h.2 ∙ rw (to_is options to h.3, pace_is options pace h.4, from_is options from h.5) refl)
+    rw h.1 (with_is serve_names options (option_and_then (λ to. serve_with name to options) (to_of options)) h.2 ∙ rw (to_is options to h.3, pace_is options pace h.4, from_is options from h.5) refl)
 
 receive_is : (addresses : Option (List Address)) (window : ℕ) (first frames : Option ℕ) (idle limit : ℕ) (texts : List (List ℕ)) (options : Options)
     → IsRequest (Receive addresses window first frames idle limit) (codes "receive") texts options → receive_of texts options ≡ Some (Receive addresses window first frames idle limit)

@@ -26,9 +26,9 @@ abbrev pub number_or_none : ℕ → ℕ → Option (List ℕ) → Option (Option
 number_or_none least greatest None = Some None
 number_or_none least greatest (Some text) = option_map Some (within least greatest text)
 
-abbrev pub address_or_none : Option (List ℕ) → Option (Option Address)
-address_or_none None = Some None
-address_or_none (Some text) = option_map Some (address_of text)
+abbrev pub addresses_if_told : Option (List ℕ) → Option (List Address)
+addresses_if_told None = Some []
+addresses_if_told (Some text) = addresses_of text
 
 -- what each option tells
 unfoldable pub window_of : Options → Option ℕ
@@ -67,8 +67,8 @@ pace_of options = number_or 0 0 10000 (told (codes "pace") options)
 unfoldable pub from_of : Options → Option ℕ
 from_of options = number_or 0 0 1000000 (told (codes "from") options)
 
-unfoldable pub to_of : Options → Option (Option Address)
-to_of options = address_or_none (told (codes "to") options)
+unfoldable pub to_of : Options → Option (List Address)
+to_of options = addresses_if_told (told (codes "to") options)
 
 abbrev pub addresses_or_none : List (List ℕ) → Option (Option (List Address))
 addresses_or_none [] = Some None
@@ -89,15 +89,14 @@ unfoldable pub check_of : List (List ℕ) → Options → Option Request
 check_of (name ∷ []) options = with_options [] options (Some (Check name))
 check_of _ options = None
 
-abbrev pub serve_with : List ℕ → Options → Option Request
-serve_with name options = do
-  to ← to_of options
+abbrev pub serve_with : List ℕ → List Address → Options → Option Request
+serve_with name to options = do
   pace ← pace_of options
   from ← from_of options
   Some (Serve name to pace from)
 
 unfoldable pub serve_of : List (List ℕ) → Options → Option Request
-serve_of (name ∷ []) options = with_options serve_names options (serve_with name options)
+serve_of (name ∷ []) options = with_options serve_names options (option_and_then (λ to. serve_with name to options) (to_of options))
 serve_of _ options = None
 
 abbrev pub receive_with : Options → Option (List Address) → Option Request

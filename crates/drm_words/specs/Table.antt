@@ -37,9 +37,9 @@ IsNumberOrNone least greatest None n = n ≡ None
 IsNumberOrNone least greatest (Some text) n = (number : ℕ) × (n ≡ Some number) × IsWithin least greatest text number
 
 -- the address of an option, or none where the option isn't told
-abbrev pub IsAddressOrNone : Option (List ℕ) → Option Address → Type 0
-IsAddressOrNone None address = address ≡ None
-IsAddressOrNone (Some text) address = (at : Address) × (address ≡ Some at) × IsAddress text at
+abbrev pub AreAddressesIfTold : Option (List ℕ) → List Address → Type 0
+AreAddressesIfTold None addresses = addresses ≡ []
+AreAddressesIfTold (Some text) addresses = AreAddresses text addresses
 
 -- no plain word and no addresses, or one plain word that is a list of addresses
 abbrev pub AreAddressesOrNone : List (List ℕ) → Option (List Address) → Type 0
@@ -47,7 +47,7 @@ AreAddressesOrNone [] addresses = addresses ≡ None
 AreAddressesOrNone (text ∷ []) addresses = (list : List Address) × (addresses ≡ Some list) × AreAddresses text list
 AreAddressesOrNone _ addresses = ⊥
 
--- [--to ADDR] [--pace MS] [--from N]: where datagrams go, how fast, and of which super frames
+-- [--to ADDRS] [--pace MS] [--from N]: where datagrams go, how fast, and of which super frames
 abbrev pub serve_names : List (List ℕ)
 serve_names = codes "to" ∷ codes "pace" ∷ codes "from" ∷ []
 
@@ -76,10 +76,10 @@ abbrev pub IsRequest : Request → List ℕ → List (List ℕ) → Options → 
 IsRequest Fac command texts options = (command ≡ codes "fac") × (texts ≡ []) × AreOf [] options
 -- check NAME
 IsRequest (Check name) command texts options = (command ≡ codes "check") × (texts ≡ name ∷ []) × AreOf [] options
--- serve NAME [--to ADDR] [--pace MS] [--from N]
+-- serve NAME [--to ADDRS] [--pace MS] [--from N]
 IsRequest (Serve name to pace from) command texts options =
     (command ≡ codes "serve") × (texts ≡ name ∷ []) × AreOf serve_names options
-    × IsAddressOrNone (told (codes "to") options) to
+    × AreAddressesIfTold (told (codes "to") options) to
     × IsNumberOr 0 0 10000 (told (codes "pace") options) pace
     × IsNumberOr 0 0 1000000 (told (codes "from") options) from
 -- receive [ADDRS] [--window W] [--first N] [--frames N] [--idle K] [--limit L]

@@ -69,12 +69,11 @@ fn check(alloc: Global, texts: &[&str], options: &[Named<'_>]) -> Result<Request
     Ok(Request::Check { name })
 }
 
-fn serve_with(name: Octets, options: &[Named<'_>]) -> Option<Request>
+fn serve_with(name: Octets, to: Addresses, options: &[Named<'_>]) -> Option<Request>
     requires { IsUtf8 name }
-    ensures value { result ≡ serve_with name (map option_said options.now) }
+    ensures value { result ≡ serve_with name to (map option_said options.now) }
     ensures text { IfSome result HasTextNames }
 {
-    let to = to(options)?;
     let pace = pace(options)?;
     let from = from(options)?;
     Some(Request::Serve {
@@ -85,7 +84,7 @@ fn serve_with(name: Octets, options: &[Named<'_>]) -> Option<Request>
     })
 }
 
-// serve NAME [--to ADDR] [--pace MS] [--from N]
+// serve NAME [--to ADDRS] [--pace MS] [--from N]
 #[tactic(auto, unfolding(crate::specs::Asking::serve_of))]
 fn serve(alloc: Global, texts: &[&str], options: &[Named<'_>]) -> Result<Request, WordsFault>
     ensures gives { Gives result (serve_of (map (λ text. text.now) texts.now) (map option_said options.now)) }
@@ -98,7 +97,8 @@ fn serve(alloc: Global, texts: &[&str], options: &[Named<'_>]) -> Result<Request
         return Err(WordsFault::Words);
     }
     let name = octets(alloc, name)?;
-    asked(serve_with(name, options))
+    let to = to(alloc, options)?;
+    asked(serve_with(name, to, options))
 }
 
 // No addresses, or those of the one plain word.

@@ -2,11 +2,12 @@
 
 ghost use Rattle.std.specs.Prelude.{◌≡◌, ◌≤◌, IfSome, map, option_map, codes};
 ghost use Rattle.word_forms.specs.Arguing.{option_said};
+ghost use Rattle.word_forms.specs.Gives.{Gives};
 ghost use Rattle.drm_words.specs.Table.{told};
 ghost use Rattle.drm_words.specs.Asking.{is_one_of, are_of, number_or, number_or_none, window_of, first_of, frames_of, stretch_of, reading_of, idle_of, limit_of, pace_of, from_of, to_of};
 
-use drm_links::Address;
-use word_forms::{Named, address, within};
+use std::alloc::Global;
+use word_forms::{Addresses, Named, WordsFault, read_addresses, within};
 
 /// Which packets are read, and how many frames of them.
 #[derive(Clone, Copy)]
@@ -174,12 +175,11 @@ pub(crate) fn from(options: &[Named<'_>]) -> Option<u32>
 
 /// Where datagrams are sent.
 #[tactic(auto, unfolding(crate::specs::Asking::to_of))]
-pub(crate) fn to(options: &[Named<'_>]) -> Option<Option<Address>>
-    ensures { result ≡ to_of (map option_said options.now) }
+pub(crate) fn to(alloc: Global, options: &[Named<'_>]) -> Result<Addresses, WordsFault>
+    ensures { Gives result (to_of (map option_said options.now)) }
 {
-    let Some(text) = told(options, "to") else {
-        return Some(None);
-    };
-    let address = address(text)?;
-    Some(Some(address))
+    match told(options, "to") {
+        Some(text) => read_addresses(alloc, text),
+        None => Ok(Addresses::none(alloc)),
+    }
 }

@@ -15,10 +15,10 @@ pub enum Request {
     Check {
         name: Octets,
     },
-    /// Send a schedule's datagrams to an address, or write them out as a capture.
+    /// Send a schedule's datagrams to addresses, or write them out as a capture where there is none.
     Serve {
         name: Octets,
-        to: Option<Address>,
+        to: Addresses,
         /// Milliseconds between packets.
         pace: u32,
         /// The first super frame that is sent or written.

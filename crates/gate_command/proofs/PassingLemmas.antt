@@ -15,7 +15,7 @@ use Rattle.mod_receiver.specs.Hearing.{AreNext, Heard, HeardTold}
 use Rattle.mod_receiver.specs.Ranges.{AreInRange}
 use Rattle.mod_receiver.specs.Reading.{most_answers}
 use Rattle.mod_receiver.proofs.JobLemmas.{few_answers}
-use Rattle.drm_receive.specs.Receive.{Finds, FindsNone}
+use Rattle.several_links.specs.Openings.{Finds, FindsNone}
 use Rattle.drm_gate.specs.declared.tally.Tally.{Tally}
 use Rattle.drm_gate.specs.declared.gate.GateEnded.{GateEnded}
 use Rattle.drm_gate.specs.declared.gate.GateEnded.TheVariants as ended

@@ -11,7 +11,7 @@ use Rattle.report_lines.specs.declared.report.EndWord.{EndWord}
 use Rattle.mod_receiver.specs.declared.rules.Rules.{Rules}
 use Rattle.mod_receiver.specs.Hearing.{AreNext, Heard}
 use Rattle.mod_receiver.specs.Reading.{datagrams, GoesOn, IsFinished, IsBroken, most_answers}
-use Rattle.drm_receive.specs.Receive.{Finds, FindsNone}
+use Rattle.several_links.specs.Openings.{Finds, FindsNone}
 use Rattle.drm_gate.specs.declared.tally.Tally.{Tally}
 use Rattle.drm_gate.specs.declared.gate.GateEnded.{GateEnded}
 use Rattle.drm_gate.specs.declared.gate.GateOptions.{GateOptions}

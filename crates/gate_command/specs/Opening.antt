@@ -2,7 +2,7 @@
 use Rattle.std.specs.Prelude.{ℕ, ◌⊎◌, List, [], ◌∷◌, ◌++◌, map}
 use Rattle.drm_links.specs.Dock.{DockContents, LinkStart, with_reach, after_opening, after_failure, after_close}
 use Rattle.drm_links.specs.declared.dock.Address.{Address}
-use Rattle.drm_receive.specs.Receive.{Finds, FindsNone}
+use Rattle.several_links.specs.Openings.{Finds, FindsNone}
 
 -- what the dock tells as the second link is opened, to send, once the first one was, to receive
 abbrev pub at_second : Address → DockContents → DockContents

@@ -5,7 +5,7 @@ use Rattle.drm_links.specs.Link.{Traffic}
 use Rattle.drm_links.specs.Dock.{DockContents, LinkStart}
 use Rattle.drm_links.specs.declared.dock.Address.{Address}
 use Rattle.mod_receiver.proofs.JobLemmas.{index_of}
-use Rattle.drm_receive.specs.Receive.{Finds, FindsNone}
+use Rattle.several_links.specs.Openings.{Finds, FindsNone}
 use Rattle.drm_paths.specs.Closing.{of_path}
 use Rattle.path_words.specs.declared.request.Request.{Request}
 use Rattle.path_command.specs.Ahead.{BreaksOff}

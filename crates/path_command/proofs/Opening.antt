@@ -6,9 +6,9 @@ use Rattle.drm_links.specs.Dock.{DockContents}
 use Rattle.drm_links.specs.declared.dock.Address.{Address}
 use Rattle.drm_links.proofs.ToldLemmas.{Tells-weaker}
 use Rattle.drm_faults.specs.declared.fault.Fault.TheVariants as low
-use Rattle.drm_receive.specs.Receive.{Docked}
-use Rattle.drm_receive.specs.Opening.{HasLink, StopsOpening as StopsReceiving}
-use Rattle.drm_receive.proofs.OpeningLemmas.{Opened}
+use Rattle.several_links.specs.Openings.{Docked, HasLink}
+use Rattle.drm_receive.specs.Opening.{StopsOpening as StopsReceiving}
+use Rattle.several_links.proofs.OpeningLemmas.{Opened}
 use Rattle.path_command.specs.Opening.{HaveLinks, StopsOpening}
 use Rattle.path_command.specs.declared.fault.Fault.TheVariants as faults
 

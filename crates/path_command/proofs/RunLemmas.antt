@@ -7,8 +7,8 @@ use Rattle.drm_links.specs.Dock.{DockContents}
 use Rattle.drm_links.specs.declared.dock.Address.{Address}
 use Rattle.drm_links.proofs.ToldLemmas.{Tells-weaker}
 use Rattle.mod_receiver.specs.Ahead.{Report}
-use Rattle.drm_receive.specs.Receive.{Docked, after_openings}
-use Rattle.drm_receive.proofs.OpeningLemmas.{docked_both, docked_weaker}
+use Rattle.several_links.specs.Openings.{Docked, after_openings}
+use Rattle.several_links.proofs.OpeningLemmas.{docked_both, docked_weaker}
 use Rattle.path_words.specs.declared.request.Request.{Request}
 use Rattle.path_command.specs.declared.fault.Fault.{Fault}
 use Rattle.path_command.specs.declared.fault.Fault.TheVariants as faults

@@ -4,8 +4,7 @@ use Rattle.drm_links.specs.Told.{Known}
 use Rattle.drm_links.specs.Link.{Traffic}
 use Rattle.drm_links.specs.Dock.{DockContents}
 use Rattle.drm_links.specs.declared.dock.Address.{Address}
-use Rattle.drm_receive.specs.Receive.{FailsAfter, StopsAfter}
-use Rattle.drm_receive.specs.Opening.{HasLink}
+use Rattle.several_links.specs.Openings.{FailsAfter, StopsAfter, HasLink}
 use Rattle.path_command.specs.declared.fault.Fault.{Fault}
 use Rattle.path_command.specs.declared.fault.Fault.TheVariants as faults
 

@@ -16,7 +16,7 @@ use Rattle.drm_paths.specs.declared.run.PathOptions.{PathOptions}
 use Rattle.drm_paths.specs.State.{settings_of}
 use Rattle.drm_paths.specs.Reading.{AreReasonable}
 use Rattle.drm_paths.specs.Closing.{of_path, IsDifference}
-use Rattle.drm_receive.specs.Receive.{Finds, FindsNone, Docked, after_openings, FailsAfter, StopsAfter}
+use Rattle.several_links.specs.Openings.{Finds, FindsNone, Docked, after_openings, FailsAfter, StopsAfter}
 use Rattle.path_command.specs.Ahead.{IsAllOf, BreaksOff}
 use Rattle.path_command.specs.Faults.{fault_line}
 use Rattle.path_command.specs.declared.fault.Fault.{Fault}

@@ -3,7 +3,7 @@
 ghost use Rattle.std.specs.Prelude.{◌≡◌, ◌≤◌, ◌⊎◌, length, vec_len, IfOk, IfErr};
 ghost use Rattle.drm_links.specs.Told.{Tells};
 ghost use Rattle.drm_receive.specs.Terms.{AreListed};
-ghost use Rattle.drm_receive.specs.Receive.{Docked, after_openings};
+ghost use Rattle.several_links.specs.Openings.{Docked, after_openings};
 ghost use Rattle.path_command.specs.Opening.{HaveLinks, StopsOpening};
 
 use crate::fault::Fault;

@@ -1,6 +1,6 @@
 //! Addresses, and lists of them.
 
-ghost use Rattle.std.specs.Prelude.{◌≡◌, ◌<◌, length, map, slice_index_or, IfSome};
+ghost use Rattle.std.specs.Prelude.{◌≡◌, ◌<◌, ◌↔◌, [], IsTrue, length, map, slice_index_or, IfSome};
 ghost use Rattle.std.specs.List.{list_any};
 ghost use Rattle.word_forms.specs.Reading.{within};
 ghost use Rattle.word_forms.specs.Addressing.{address_of, all_addresses, is_same, are_different, addresses_of};
@@ -16,7 +16,7 @@ use std::marker::Model;
 /// The most addresses of a list.
 const MOST_ADDRESSES: usize = 16;
 
-/// A list of one to sixteen addresses, all different.
+/// A list of at most sixteen addresses, all different.
 #[derive(Drop)]
 pub struct Addresses {
     list: Vec<Address>,
@@ -32,6 +32,21 @@ impl Model for Addresses {
 }
 
 impl Addresses {
+    /// No address.
+    pub fn none(alloc: Global) -> Addresses
+        ensures { result ≡ [] }
+    {
+        Addresses {
+            list: Vec::new(alloc),
+        }
+    }
+
+    pub fn is_empty(&self) -> bool
+        ensures { IsTrue result ↔ self.now ≡ [] }
+    {
+        self.list.is_empty()
+    }
+
     /// How many addresses there are.
     pub fn len(&self) -> usize
         ensures { result ≡ length self.now }

@@ -5,10 +5,11 @@ use Rattle.drm_links.specs.declared.dock.Address.{Address}
 use Rattle.mod_receiver.specs.declared.job.Job.{Job}
 use Rattle.drm_faults.specs.declared.fault.Fault.{Fault}
 use Rattle.drm_faults.specs.declared.fault.Fault.TheVariants as faults
-use Rattle.drm_receive.specs.Receive.{Docked}
-use Rattle.drm_receive.specs.Opening.{HasLink, StopsOpening}
+use Rattle.several_links.specs.Openings.{Docked, HasLink}
+use Rattle.drm_receive.specs.Opening.{StopsOpening}
 use Rattle.mod_receiver.specs.Jobs.{IsJob}
-use Rattle.drm_receive.proofs.OpeningLemmas.{found_now, opened_now, opened_all, failed_now, stopped_now, stopped_behind, docked_any, docked_still, all_links}
+use Rattle.several_links.proofs.OpeningLemmas.{found_now, opened_now, opened_all, docked_any, docked_still}
+use Rattle.drm_receive.proofs.OpeningLemmas.{failed_now, stopped_now, stopped_behind, all_links}
 use Rattle.mod_receiver.proofs.Listing.{each_more}
 use Rattle.drm_receive.proofs.receive_command.open_all.Goals as goal
 

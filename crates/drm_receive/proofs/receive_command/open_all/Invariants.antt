@@ -1,11 +1,10 @@
 use Rattle.std.proofs.Common.{◌≡◌, ℕ, ◌+◌, ◌<◌, ◌≤◌, vec_len, slice_index_or, length}
 use Rattle.drm_links.specs.declared.dock.Address.{Address}
 use Rattle.mod_receiver.specs.declared.job.Job.{Job}
-use Rattle.drm_receive.specs.Receive.{Docked}
-use Rattle.drm_receive.specs.Opening.{HasLink}
+use Rattle.several_links.specs.Openings.{Docked, HasLink}
 use Rattle.mod_receiver.specs.Jobs.{IsJob}
 use Rattle.drm_links.specs.Told.{Tells}
-use Rattle.drm_receive.proofs.OpeningLemmas.{Opened}
+use Rattle.several_links.proofs.OpeningLemmas.{Opened}
 use Rattle.drm_receive.proofs.receive_command.open_all.Given as goal
 
 -- each receiver so far has the link of its address

@@ -1,9 +1,9 @@
 use Rattle.std.proofs.Common.{◌≡◌, ℕ, ◌+◌, ◌<◌, ◌≤◌, refl, slice_index_or, ◌∙◌, ap, arith, length, length-append, [], ◌∷◌, le_trans}
 use Rattle.drm_links.specs.declared.dock.Address.{Address}
 use Rattle.drm_faults.specs.declared.fault.Fault.TheVariants as low
-use Rattle.drm_receive.specs.Receive.{Docked}
-use Rattle.drm_receive.specs.Opening.{HasLink}
-use Rattle.drm_receive.proofs.OpeningLemmas.{found_now, opened_now, docked_any, docked_still, failed_now}
+use Rattle.several_links.specs.Openings.{Docked, HasLink}
+use Rattle.several_links.proofs.OpeningLemmas.{found_now, opened_now, docked_any, docked_still}
+use Rattle.drm_receive.proofs.OpeningLemmas.{failed_now}
 use Rattle.path_command.proofs.Opening.{all_links, stopped_behind, failed_opening}
 use Rattle.mod_receiver.proofs.Listing.{each_more}
 use Rattle.path_command.proofs.open.open_links.Goals as goal

@@ -1,9 +1,8 @@
 use Rattle.std.proofs.Common.{◌≡◌, ℕ, ◌<◌, ◌≤◌, vec_len, slice_index_or, length}
 use Rattle.drm_links.specs.Told.{Tells}
 use Rattle.drm_links.specs.declared.dock.Address.{Address}
-use Rattle.drm_receive.specs.Receive.{Docked}
-use Rattle.drm_receive.specs.Opening.{HasLink}
-use Rattle.drm_receive.proofs.OpeningLemmas.{Opened}
+use Rattle.several_links.specs.Openings.{Docked, HasLink}
+use Rattle.several_links.proofs.OpeningLemmas.{Opened}
 use Rattle.path_command.proofs.open.open_links.Given as goal
 
 -- each link so far is that of its address
