@@ -1,3 +1,3 @@
 pub mod ScheduleRunLemmas
+pub mod OverLinksLemmas
 pub mod SendLemmas
-pub mod OverLinkLemmas

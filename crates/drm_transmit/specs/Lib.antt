@@ -2,4 +2,4 @@ pub mod ScheduleRun
 pub mod Check
 pub mod Serve
 pub mod Send
-pub mod OverLink
+pub mod OverLinks

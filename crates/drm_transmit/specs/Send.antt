@@ -1,14 +1,15 @@
--- The command `serve --to`: a schedule becomes datagrams over a link.
-use Rattle.std.specs.Prelude.{ℕ, ◌≡◌, ◌+◌, ◌*◌, ◌≤◌, ◌⊎◌, ◌↔◌, List, [], ◌∷◌, ◌++◌, length, Contains, Option, Some, IsNone, Result, Ok, Err, IfOk}
+-- The command `serve --to`: a schedule becomes datagrams over links.
+use Rattle.std.specs.Prelude.{ℕ, ◌≡◌, ◌*◌, ◌<◌, ◌≤◌, ◌⊎◌, ◌↔◌, Bool, true, false, List, [], ◌∷◌, ◌++◌, length, slice_index_or, Option, Some, Result, Ok, Err, IfOk}
 use Rattle.std.specs.FinMap as map
-use Rattle.drm_links.specs.Told.{HasFailed, Known, HasCause, WhileTold}
-use Rattle.drm_links.specs.Link.{Traffic}
+use Rattle.drm_links.specs.Told.{HasFailed, Known, HasCause, Tells}
 use Rattle.drm_links.specs.Shelf.{Files, Supplies}
-use Rattle.drm_links.specs.Dock.{DockContents, LinkStart, address_key, start_at, with_reach, after_opening, after_failure, after_close}
+use Rattle.drm_links.specs.Dock.{DockContents, LinkStart, address_key}
 use Rattle.drm_links.specs.Transmission.{TakesSends, TakesFewer}
 use Rattle.drm_links.specs.declared.dock.Address.{Address}
 use Rattle.drm_schedule.specs.declared.plan.Plan.{Plan}
 use Rattle.drm_schedule.specs.Valid.{IsSchedule}
+use Rattle.several_links.specs.Openings.{Finds, Docked}
+use Rattle.several_links.specs.Reaching.{ReachesNone, ReachesFew, GoesOver}
 use Rattle.drm_server.specs.Datagrams.{AreDatagrams, AreBefore}
 use Rattle.drm_server.specs.Rests.{ArePaced}
 use Rattle.drm_load.specs.Loading.{ReadBy}
@@ -19,46 +20,45 @@ use Rattle.drm_load.specs.declared.loading.ScheduleFault.{ScheduleFault}
 use Rattle.drm_faults.specs.declared.fault.Fault.{Fault}
 use Rattle.drm_faults.specs.declared.fault.Fault.TheVariants as faults
 
--- the next opening, at this address, is to fail
-abbrev pub OpeningFails : Address → DockContents → Type 0
-OpeningFails at told = Contains told.failing told.openings ⊎ IsNone (start_at told at)
-
--- it isn't: a link stands there that starts so
-abbrev pub OpensLink : Address → DockContents → LinkStart → Type 0
-OpensLink at told start = (Contains told.failing told.openings → ⊥) × (start_at told at ≡ Some start)
-
--- what the dock tells after a link was opened and closed over which these datagrams had gone, with these rests before each and
--- after the last
-abbrev pub after_link : Address → List (List ℕ) → List ℕ → DockContents → DockContents
-after_link at gone rests told = after_close at gone rests (after_opening at (with_reach told))
-
 -- The datagrams that go over a link that takes so many sends, and the rests before each and after the last: all of the
--- schedule that came from frame `first` on, at this pace, without a rest after the last; or some first ones, after which no more
--- are taken, with the rest before the next one. Where no schedule came, none, without a rest.
-abbrev pub Go : ℕ → ℕ → Result Plan ScheduleFault → Result (Unit {0}) Fault → Option ℕ → List (List ℕ) → List ℕ → Type 0
-Go pace first (Ok schedule) (Ok done) sends gone rests =
+-- schedule that came from frame `first` on, at this pace, without a rest after the last, where the link doesn't fail; where it
+-- does, some first ones, after which no more are taken, with the rest before the next one. Where no schedule came, none, without
+-- a rest.
+abbrev pub Go : ℕ → ℕ → Result Plan ScheduleFault → Bool → Option ℕ → List (List ℕ) → List ℕ → Type 0
+Go pace first (Ok schedule) true sends gone rests =
     AreDatagrams schedule first gone × TakesSends sends (length gone)
     × (waits : List ℕ) × ArePaced pace schedule first gone waits × (rests ≡ waits ++ 0 ∷ [])
-Go pace first (Ok schedule) (Err fault) sends gone rests =
+Go pace first (Ok schedule) false sends gone rests =
     (next : List ℕ) × AreBefore schedule first next gone × (sends ≡ Some (length gone))
     × ArePaced pace schedule first (gone ++ next ∷ []) rests
-Go pace first (Err fault) ending sends gone rests = (gone ≡ []) × (rests ≡ 0 ∷ [])
+Go pace first (Err fault) up sends gone rests = (gone ≡ []) × (rests ≡ 0 ∷ [])
 
 -- The link takes fewer sends than the schedule that came has datagrams from frame `first` on.
 abbrev pub LacksSends : ℕ → Result Plan ScheduleFault → Option ℕ → Type 0
 LacksSends first (Ok schedule) sends = (datagrams : List (List ℕ)) → AreDatagrams schedule first datagrams → TakesFewer sends (length datagrams)
 LacksSends first (Err fault) sends = ⊥
 
--- A run whose opening failed: nothing is read.
-pub record ClosedRun {S D : Type 0} (at : Address) (ending : Result (Unit {0}) Fault) (shelf shelf' : S)
+-- The link that is opened at some address takes fewer sends than the schedule that came has datagrams from frame `first` on.
+pub record LacksSome (first : ℕ) (came : Result Plan ScheduleFault) (told : DockContents) (addresses : List Address) : Type 0 where
+  pub k : ℕ
+  pub within : k < length addresses
+  pub lacks : (at : Address) → (start : LinkStart) × Finds told k (slice_index_or addresses k at) start × LacksSends first came start.sends
+
+-- The link that is opened at each address takes so many sends.
+abbrev pub TakeAll : DockContents → List Address → ℕ → Type 0
+TakeAll told addresses n =
+    (k : ℕ) (at : Address) → k < length addresses → (start : LinkStart) × Finds told k (slice_index_or addresses k at) start × TakesSends start.sends n
+
+-- A run of which an opening failed: those before it are closed, and nothing is read.
+pub record ClosedRun {S D : Type 0} (addresses : List Address) (ending : Result (Unit {0}) Fault) (shelf shelf' : S)
     (dock_known : D → Known DockContents) (dock dock' : D) : Type 0 where
   pub fault : ending ≡ Err faults.Link
   pub unread : shelf' ≡ shelf
-  pub told : WhileTold (dock_known dock) (dock_known dock') (λ before after. OpeningFails at before × (after ≡ after_failure (with_reach before)))
+  pub told : Tells (dock_known dock) (dock_known dock') (ReachesFew addresses)
   pub rose : HasFailed (dock_known dock) (dock_known dock')
 
--- A run whose link was opened, before the schedule of this name was read, and closed at the end.
-pub record LinkRun {S D : Type 0} (name : List ℕ) (at : Address) (pace from : ℕ) (ending : Result (Unit {0}) Fault)
+-- A run whose links were opened, before the schedule of this name was read, and closed at the end.
+pub record LinksRun {S D : Type 0} (name : List ℕ) (addresses : List Address) (pace from : ℕ) (ending : Result (Unit {0}) Fault)
     (shelf_known : S → Known Files) (shelf shelf' : S)
     (dock_known : D → Known DockContents) (dock dock' : D) : Type 0 where
   -- the schedule, or why there is none
@@ -68,30 +68,51 @@ pub record LinkRun {S D : Type 0} (name : List ℕ) (at : Address) (pace from : 
   -- Whatever it tells, what came is valid.
   pub sound : IfOk came IsSchedule
   pub ends : EndsBy faults.Link came ending
-  pub told : WhileTold (dock_known dock) (dock_known dock') (λ before after.
-      (start : LinkStart) × OpensLink at before start
-      × (gone : List (List ℕ)) × (rests : List ℕ) × Go pace (3 * from) came ending start.sends gone rests × (after ≡ after_link at gone rests before))
+  -- which links didn't fail
+  pub up : ℕ → Bool
+  -- Over each link goes what would go over it alone, whether another one fails or not.
+  pub told : Tells (dock_known dock) (dock_known dock')
+      (GoesOver (λ k start over. Go pace (3 * from) came (up k) start.sends over.gone over.rests) addresses)
+  pub failed : (ending ≡ Err faults.Link) ↔ ((k : ℕ) × (k < length addresses) × (up k ≡ false))
   pub later : (dock_known dock).faults ≤ (dock_known dock').faults
   -- A load fails only where the shelf's count of faults rose.
   pub read_cause : HasCause (shelf_known shelf) (shelf_known shelf') (ending ≡ Err faults.Read)
 
--- A run of `serve --to`, with this pace, from super frame `from` on.
-pub record SendRun {S D : Type 0} (name : List ℕ) (at : Address) (pace from : ℕ) (ending : Result (Unit {0}) Fault)
+-- A run for which there was no memory before the first opening.
+pub record UnopenedRun {S D : Type 0} (ending : Result (Unit {0}) Fault) (shelf shelf' : S) (dock dock' : D) : Type 0 where
+  pub fault : ending ≡ Err faults.NoMemory
+  pub unread : shelf' ≡ shelf
+  pub unopened : dock' ≡ dock
+
+-- A run of `serve --to` these addresses, with this pace, from super frame `from` on.
+pub record SendRun {S D : Type 0} (name : List ℕ) (addresses : List Address) (pace from : ℕ) (ending : Result (Unit {0}) Fault)
     (shelf_known : S → Known Files) (shelf shelf' : S)
     (dock_known : D → Known DockContents) (dock dock' : D) : Type 0 where
-  pub run : ClosedRun at ending shelf shelf' dock_known dock dock' ⊎ LinkRun name at pace from ending shelf_known shelf shelf' dock_known dock dock'
-  -- It fails by the link where the opening fails, and where the link takes fewer sends than the schedule has datagrams from there
-  -- on; nowhere else.
-  pub unopened : WhileTold (dock_known dock) (dock_known dock') (λ before _. OpeningFails at before → ending ≡ Err faults.Link)
-  pub cut : WhileTold (dock_known dock) (dock_known dock') (λ before _. (start : LinkStart) → OpensLink at before start
-      → Supplies (shelf_known shelf) (shelf_known shelf') (λ files _.
-      UnlessMemory ending ((ending ≡ Err faults.Link) ↔ LacksSends (3 * from) (schedule_named name files).came start.sends)))
-  -- Where the link takes them all, they have gone at its address.
-  pub complete : WhileTold (dock_known dock) (dock_known dock') (λ before after. (start : LinkStart) → OpensLink at before start
+  pub run : ClosedRun addresses ending shelf shelf' dock_known dock dock'
+      ⊎ LinksRun name addresses pace from ending shelf_known shelf shelf' dock_known dock dock'
+      ⊎ UnopenedRun ending shelf shelf' dock dock'
+  -- It fails by a link where an opening fails, and where a link takes fewer sends than the schedule has datagrams from there on;
+  -- nowhere else.
+  pub unopened : Docked (dock_known dock) (dock_known dock') (λ told. ReachesNone told addresses → UnlessMemory ending (ending ≡ Err faults.Link))
+  pub cut : Docked (dock_known dock) (dock_known dock') (λ told. Supplies (shelf_known shelf) (shelf_known shelf') (λ files _.
+      UnlessMemory ending ((ending ≡ Err faults.Link)
+          ↔ (ReachesNone told addresses ⊎ LacksSome (3 * from) (schedule_named name files).came told addresses))))
+  -- Where each opening finds a link, and one of these takes all datagrams, they have gone at its address, whatever becomes of the
+  -- others.
+  pub complete : Tells (dock_known dock) (dock_known dock') (λ before after. (ReachesNone before addresses → ⊥)
       → Supplies (shelf_known shelf) (shelf_known shelf') (λ files _. (schedule : Plan) (datagrams : List (List ℕ))
-      → (schedule_named name files).came ≡ Ok schedule → AreDatagrams schedule (3 * from) datagrams → TakesSends start.sends (length datagrams)
-      → UnlessMemory ending ((ending ≡ Ok tt) × (map.get after.gone (address_key at) ≡ Some datagrams))))
-  -- Unless the link failed it is refused exactly where its files are, with the line and the reason; a load fails exactly where
+      → (schedule_named name files).came ≡ Ok schedule → AreDatagrams schedule (3 * from) datagrams
+      → (k : ℕ) (at : Address) (start : LinkStart) → k < length addresses → Finds before k (slice_index_or addresses k at) start
+      → TakesSends start.sends (length datagrams)
+      → UnlessMemory ending (map.get after.gone (address_key (slice_index_or addresses k at)) ≡ Some datagrams)))
+  -- Where each takes them the run is done.
+  pub done : Docked (dock_known dock) (dock_known dock') (λ told. Supplies (shelf_known shelf) (shelf_known shelf') (λ files _.
+      (schedule : Plan) (datagrams : List (List ℕ)) → (schedule_named name files).came ≡ Ok schedule → AreDatagrams schedule (3 * from) datagrams
+      → TakeAll told addresses (length datagrams) → UnlessMemory ending (ending ≡ Ok tt)))
+  -- After a run that is done the same has gone at each address.
+  pub alike : ending ≡ Ok tt → Tells (dock_known dock) (dock_known dock') (λ _ after. (j k : ℕ) (at : Address) → j < length addresses → k < length addresses
+      → map.get after.gone (address_key (slice_index_or addresses j at)) ≡ map.get after.gone (address_key (slice_index_or addresses k at)))
+  -- Unless a link failed it is refused exactly where its files are, with the line and the reason; a load fails exactly where
   -- one is to fail.
   pub exactly : (ending ≡ Err faults.Link → ⊥)
       → Supplies (shelf_known shelf) (shelf_known shelf') (λ files _. UnlessMemory ending (EndsBy faults.Link (schedule_named name files).came ending))

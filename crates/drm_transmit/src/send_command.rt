@@ -1,67 +1,77 @@
-//! The command `serve` to an address.
+//! The command `serve` to addresses.
 
-ghost use Rattle.std.specs.Prelude.{◌≤◌, IsErrOf};
+ghost use Rattle.std.specs.Prelude.{◌≤◌, length, IsErrOf};
 ghost use Rattle.drm_links.specs.Told.{HasFailed, WhileTold};
-ghost use Rattle.drm_links.specs.Dock.{SendsNothing};
+ghost use Rattle.word_forms.specs.Addresses.{AreDifferent};
+ghost use Rattle.several_links.specs.Reaching.{AreUp, NothingSent};
 ghost use Rattle.drm_transmit.specs.Send.{SendRun};
-ghost use Rattle.drm_transmit.specs.OverLink.{OverLink};
+ghost use Rattle.drm_transmit.specs.OverLinks.{OverLinks};
 
 use drm_faults::Fault;
-use drm_links::{Address, Dock, Link, Opened, Shelf};
+use drm_links::{Dock, Link, Shelf};
 use drm_load::read_schedule;
-use drm_server::{Server, first_ones_are_front, one_delivery, serve_link};
+use drm_server::{Server, first_ones_are_front, one_delivery, serve_links};
+use several_links::{Member, ReachFault, all_up, close_each, reach_each};
 use std::alloc::Global;
+use word_forms::Addresses;
 
-/// Opens a link to the address, reads a schedule and sends its datagrams from super frame `from` on, and closes the link.
-/// Between the datagrams of two frames it rests for `pace` milliseconds.
+/// Opens a link to each address, reads a schedule, sends its datagrams from super frame `from` on over each of the links, and closes
+/// them. Between the datagrams of two frames each rests for `pace` milliseconds. A link that fails ends no other.
 pub fn send<S: Shelf, D: Dock>(
     alloc: Global,
     name: &str,
-    to: Address,
+    to: &Addresses,
     pace: u32,
     from: u32,
     shelf: &mut S,
     dock: &mut D,
 ) -> Result<(), Fault>
-    requires { from ≤ 1000000 }
-    ensures run { SendRun name.now to pace from result S.known shelf.old shelf.new
+    requires different { AreDifferent to.now }
+    requires from { from ≤ 1000000 }
+    ensures run { SendRun name.now to.now pace from result S.known shelf.old shelf.new
         D.known dock.old dock.new }
     // After want of memory nothing was sent. The words were judged before, and nothing is written.
     ensures unsent { IsErrOf result Fault.NoMemory
-        → WhileTold (D.known dock.old) (D.known dock.new) SendsNothing }
+        → WhileTold (D.known dock.old) (D.known dock.new) NothingSent }
     ensures read { IsErrOf result Fault.Read → HasFailed (S.known shelf.old) (S.known shelf.new) }
     ensures words { IsErrOf result Fault.Words → ⊥ }
     ensures write { IsErrOf result Fault.Write → ⊥ }
 {
     one_delivery();
     first_ones_are_front();
-    match dock.reach(to) {
-        Opened::Link(mut link) => {
-            let sent = send_over(alloc, name, pace, from, shelf, &mut link);
-            dock.close(to, link);
+    match reach_each(alloc, to, dock) {
+        Ok(mut members) => {
+            let sent = send_over(alloc, name, pace, from, shelf, members.as_mut_slice());
+            close_each(dock, to, members);
             sent
         }
-        Opened::Failed => Err(Fault::Link),
+        Err(ReachFault::NoMemory) => Err(Fault::NoMemory),
+        Err(ReachFault::Link) => Err(Fault::Link),
     }
 }
 
-// Reads a schedule and sends its datagrams from super frame `from` on over this link.
+// Reads a schedule and sends its datagrams from super frame `from` on over each of these links.
 fn send_over<S: Shelf, L: Link>(
     alloc: Global,
     name: &str,
     pace: u32,
     from: u32,
     shelf: &mut S,
-    link: &mut L,
+    members: &mut [Member<L>],
 ) -> Result<(), Fault>
-    requires { from ≤ 1000000 }
-    ensures run { OverLink name.now pace from result S.known shelf.old shelf.new
-        L.known link.old link.new }
+    requires from { from ≤ 1000000 }
+    requires up { AreUp members.old }
+    ensures run { OverLinks name.now pace from result S.known shelf.old shelf.new
+        L.known members.old members.new }
     ensures words { IsErrOf result Fault.Words → ⊥ }
     ensures write { IsErrOf result Fault.Write → ⊥ }
 {
     let schedule = read_schedule(alloc, shelf, name)?;
     let mut server = Server::make(alloc, &schedule)?;
-    serve_link(&mut server, 3 * from, link, pace)?;
-    Ok(())
+    serve_links(&mut server, 3 * from, members, pace);
+    if all_up(members) {
+        Ok(())
+    } else {
+        Err(Fault::Link)
+    }
 }
