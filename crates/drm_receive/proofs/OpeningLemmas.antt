@@ -1,13 +1,14 @@
 -- Openings, one after another, of receivers.
-use Rattle.std.proofs.Common.{◌≡◌, ℕ, ◌+◌, ◌<◌, ◌≤◌, inl, inr, Bool, List, length, take, slice_index_or, Option, None, Some, Result, Err, refl, sym, ◌∙◌, ap, arith}
+use Rattle.std.proofs.Common.{◌≡◌, ℕ, ◌+◌, ◌<◌, ◌≤◌, inl, inr, Bool, List, [], length, take, slice_index_or, Option, None, Some, Result, Err, refl, sym, ◌∙◌, ap, arith}
 use Rattle.drm_links.specs.Told.{Known, WhileTold, CountsCall, ToldThrough, Tells}
 use Rattle.drm_links.specs.Link.{Traffic}
-use Rattle.drm_links.specs.Dock.{DockContents, Opens, SendsNothing, after_opening}
+use Rattle.drm_links.specs.Dock.{DockContents, Opens, after_opening}
 use Rattle.drm_links.specs.declared.dock.Address.{Address}
 use Rattle.drm_links.specs.declared.dock.Opened.TheVariants as opened
 use Rattle.drm_links.proofs.ToldLemmas.{Tells-weaker}
 use Rattle.word_forms.specs.Addresses.{AreDifferent}
 use Rattle.several_links.specs.Openings.{Docked, HasLink}
+use Rattle.several_links.specs.Reaching.{NothingSent}
 use Rattle.several_links.proofs.OpeningLemmas.{Opened, docks_more, docks_while, next, not_found, openings_gone}
 use Rattle.drm_faults.specs.declared.fault.Fault.{Fault}
 use Rattle.drm_faults.specs.declared.fault.Fault.TheVariants as faults
@@ -43,8 +44,8 @@ opens_gone addresses ending x y (inr (inl (link, fails))) = ap (λ (d : DockCont
 opens_gone addresses ending x y (inr (inr (memory, stops))) = ap (λ (d : DockContents). d.gone) stops.told ∙ openings_gone (take stops.k addresses) x
 
 -- nothing is sent
-pub opens_unsent : (addresses : List Address) (ending : Result Bool Fault) (a b : Known DockContents) → Tells a b (OpensEach addresses ending) → WhileTold a b SendsNothing
-opens_unsent addresses ending a b opens = docks_while (OpensEach addresses ending) SendsNothing a b opens (λ x y each. inl (opens_gone addresses ending x y each))
+pub opens_unsent : (addresses : List Address) (ending : Result Bool Fault) (a b : Known DockContents) → Tells a b (OpensEach addresses ending) → WhileTold a b NothingSent
+opens_unsent addresses ending a b opens = docks_while (OpensEach addresses ending) NothingSent a b opens (λ x y each. ([], opens_gone addresses ending x y each))
 
 -- all links at once
 pub all_links : {L : Type 0} (known : L → Known Traffic) (addresses : List Address) (jobs : List (Job L)) (n : ℕ) (a b : Known DockContents) → length addresses ≤ n → Docked a b (λ _. Unit {0})

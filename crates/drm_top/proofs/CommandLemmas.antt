@@ -1,7 +1,8 @@
 -- The ends of runs that tell of no frames.
-use Rattle.std.proofs.Common.{◌≡◌, ◌⊎◌, inl, inr, Bool, true, false, Option, None, Some, Result, Ok, Err, refl, sym, ◌∙◌, ap, subst}
+use Rattle.std.proofs.Common.{◌≡◌, ◌⊎◌, inl, inr, Bool, true, false, [], Option, None, Some, Result, Ok, Err, refl, sym, ◌∙◌, ap, subst}
 use Rattle.drm_links.specs.Told.{Known, WhileTold, BothTold}
-use Rattle.drm_links.specs.Dock.{DockContents, SendsNothing}
+use Rattle.drm_links.specs.Dock.{DockContents}
+use Rattle.several_links.specs.Reaching.{NothingSent}
 use Rattle.drm_faults.specs.declared.fault.Fault.{Fault}
 use Rattle.drm_faults.specs.declared.fault.Fault.TheVariants as faults
 use Rattle.drm_faults.specs.Lines.{fault_line}
@@ -33,12 +34,12 @@ pub whole_lacks_none : (result : Result Bool Fault) (done : Result (Unit {0}) Fa
 whole_lacks_none result done whole is = lacks_none done (sym whole ∙ is)
 
 -- a dock that is left alone
-pub dock_still : (a : Known DockContents) → WhileTold a a SendsNothing
+pub dock_still : (a : Known DockContents) → WhileTold a a NothingSent
 dock_still a = still a.told
   where
-    still : (told : Option DockContents) → BothTold told told SendsNothing
+    still : (told : Option DockContents) → BothTold told told NothingSent
     still None = tt
-    still (Some x) = inl refl
+    still (Some x) = ([], refl)
 
 -- neither want of memory nor a failed write
 pub not_else : (fault : Fault) → (fault ≡ faults.NoMemory → ⊥) → (fault ≡ faults.Write → ⊥) → (fault ≡ faults.NoMemory) ⊎ (fault ≡ faults.Write) → ⊥

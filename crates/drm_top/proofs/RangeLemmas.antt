@@ -3,18 +3,19 @@ use Rattle.std.proofs.Common.{◌≡◌, ◌≤◌, ℕ, List, [], ◌∷◌, Op
 use Rattle.drm_links.specs.declared.dock.Address.{Address}
 use Rattle.drm_words.specs.declared.request.Request.{Request}
 use Rattle.drm_words.specs.declared.request.Request.TheVariants as requests
-use Rattle.drm_words.specs.Table.{Options, IsNumberOr, IsNumberOrNone, IsStretch, IsReading, AreAddressesOrNone, HasTextNames}
+use Rattle.drm_words.specs.Table.{Options, IsNumberOr, IsNumberOrNone, IsStretch, IsReading, AreAddressesOrNone, AreAddressesIfTold, HasTextNames}
 use Rattle.drm_words.specs.Line.{IsLine}
 use Rattle.mod_receiver.specs.declared.rules.Rules.{Rules}
 use Rattle.dcp_pft.specs.declared.carry.Carry.{Carry}
 use Rattle.dcp_pft.specs.declared.carry.Carry.TheVariants.{Plain, Pft}
 use Rattle.dcp_pft.specs.Carrying.{CarryFits}
 use Rattle.word_forms.specs.Carries.{IsCarry}
+use Rattle.word_forms.specs.Addresses.{AreDifferent}
 use Rattle.drm_receive.specs.Terms.{AreListed}
 use Rattle.mod_receiver.specs.Ranges.{AreInRange}
 use Rattle.drm_top.specs.Words.{request_of, IsInRange, IsInStretch}
 use Rattle.drm_top.specs.declared.words.Command.{Command}
-use Rattle.drm_top.specs.declared.words.Command.TheVariants.{Fac, Check, Serve, Send, Receive, ReceiveCapture, Air, Show, Exercise, Convert, Gate, Pack, Unpack, Texts}
+use Rattle.drm_top.specs.declared.words.Command.TheVariants.{Fac, Check, Serve, Receive, ReceiveCapture, Air, Show, Exercise, Convert, Gate, Pack, Unpack, Texts}
 
 within : (default least greatest n : ℕ) (value : Option (List ℕ)) → least ≤ default → default ≤ greatest → IsNumberOr default least greatest value n → (least ≤ n) × (n ≤ greatest)
 within default least greatest n None low high is = (omega (arith, is, low), omega (arith, is, high))
@@ -60,8 +61,12 @@ reads words addresses rules line = let asks = line.asks in in_reading _ rules as
 lists : (words : List (List ℕ)) (addresses : List Address) (rules : Rules) → IsLine words (reading_of (Some addresses) rules) → AreListed addresses
 lists words addresses rules line = let asks = line.asks in listed _ addresses asks.1
 
-serves : (words : List (List ℕ)) (name : List ℕ) (to : Option Address) (pace from : ℕ) → IsLine words (requests.Serve name to pace from) → from ≤ 1000000
-serves words name to pace from line = (within 0 0 1000000 from _ (omega arith) (omega arith) line.asks.5).1
+different : (value : Option (List ℕ)) (to : List Address) → AreAddressesIfTold value to → AreDifferent to
+different None to none = subst AreDifferent (sym none) tt
+different (Some text) to are = are.different
+
+serves : (words : List (List ℕ)) (name : List ℕ) (to : List Address) (pace from : ℕ) → IsLine words (requests.Serve name to pace from) → (from ≤ 1000000) × AreDifferent to
+serves words name to pace from line = ((within 0 0 1000000 from _ (omega arith) (omega arith) line.asks.5).1, different _ to line.asks.3)
 
 airs : (words : List (List ℕ)) (name script : List ℕ) (window : ℕ) → IsLine words (request_of (Air name script window)) → (1 ≤ window) × (window ≤ 64)
 airs words name script window line = within 8 1 64 window _ (omega arith) (omega arith) line.asks.3
@@ -107,10 +112,9 @@ tells_texts words stream window first frames line = (let few = line.asks.3.2 in 
 pub in_range : (came : Command) (request : Request) (words : List (List ℕ)) → request ≡ request_of came → IsLine words request → HasTextNames request → IsInRange came
 in_range Fac request words asks line text = tt
 in_range (Check name) request words asks line text = subst HasTextNames asks text
-in_range (Serve name pace from) request words asks line text =
-    (subst HasTextNames asks text, serves words name None pace from (subst (λ r. IsLine words r) asks line))
-in_range (Send name to pace from) request words asks line text =
-    (subst HasTextNames asks text, serves words name (Some to) pace from (subst (λ r. IsLine words r) asks line))
+in_range (Serve name to pace from) request words asks line text =
+    let range = serves words name to pace from (subst (λ r. IsLine words r) asks line) in
+    (subst HasTextNames asks text, range.0, range.1)
 in_range (Receive addresses rules) request words asks line text =
     let named : IsLine words (reading_of (Some addresses) rules) = subst (λ r. IsLine words r) asks line in
     (reads words (Some addresses) rules named, lists words addresses rules named)

@@ -6,15 +6,14 @@ use Rattle.drm_words.specs.declared.request.Request.{Request}
 use Rattle.drm_words.specs.declared.request.Request.TheVariants as requests
 use Rattle.drm_words.specs.Line.{IsLine}
 use Rattle.drm_top.specs.declared.words.Command.{Command}
-use Rattle.drm_top.specs.declared.words.Command.TheVariants.{Fac, Check, Serve, Send, Receive, ReceiveCapture, Air, Show, Exercise, Convert, Gate, Pack, Unpack, Texts}
+use Rattle.drm_top.specs.declared.words.Command.TheVariants.{Fac, Check, Serve, Receive, ReceiveCapture, Air, Show, Exercise, Convert, Gate, Pack, Unpack, Texts}
 use Rattle.drm_top.specs.Words.{request_of, AsksFor}
 
 -- the command that a request is asked by, where there is one
 abbrev command_by : Request → Command
 command_by requests.Fac = Fac
 command_by (requests.Check name) = Check name
-command_by (requests.Serve name None pace from) = Serve name pace from
-command_by (requests.Serve name (Some to) pace from) = Send name to pace from
+command_by (requests.Serve name to pace from) = Serve name to pace from
 command_by (requests.Receive (Some addresses) window first frames idle limit) =
     Receive addresses (record { window = window; first = first; frames = frames; idle = idle; limit = limit })
 command_by (requests.Receive None window first frames idle limit) =
@@ -32,8 +31,7 @@ command_by (requests.Texts stream window first frames) = Texts stream window fir
 same_command : (a : Command) → command_by (request_of a) ≡ a
 same_command Fac = refl
 same_command (Check name) = refl
-same_command (Serve name pace from) = refl
-same_command (Send name to pace from) = refl
+same_command (Serve name to pace from) = refl
 same_command (Receive addresses rules) = refl
 same_command (ReceiveCapture rules) = refl
 same_command (Air name script window) = refl

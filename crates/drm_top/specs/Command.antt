@@ -1,5 +1,5 @@
 -- The runs of the commands.
-use Rattle.std.specs.Prelude.{ℕ, ◌≡◌, ◌⊎◌, Bool, true, Result, Err}
+use Rattle.std.specs.Prelude.{ℕ, ◌≡◌, ◌⊎◌, Bool, true, [], ◌∷◌, Result, Err}
 use Rattle.drm_links.specs.Told.{Known}
 use Rattle.drm_links.specs.Shelf.{Files}
 use Rattle.drm_links.specs.Source.{Input}
@@ -23,7 +23,7 @@ use Rattle.drm_faults.specs.Fault.{done_of, whole_of, report_status, ReportsIf}
 use Rattle.drm_faults.specs.declared.fault.Fault.{Fault}
 use Rattle.drm_faults.specs.declared.fault.Fault.TheVariants.{NoMemory}
 use Rattle.drm_top.specs.declared.words.Command.{Command}
-use Rattle.drm_top.specs.declared.words.Command.TheVariants.{Fac, Check, Serve, Send, Receive, ReceiveCapture, Air, Show, Exercise, Convert, Gate, Pack, Unpack, Texts}
+use Rattle.drm_top.specs.declared.words.Command.TheVariants.{Fac, Check, Serve, Receive, ReceiveCapture, Air, Show, Exercise, Convert, Gate, Pack, Unpack, Texts}
 
 -- a run that tells of no frames
 abbrev pub Whole : Result Bool Fault → (Result (Unit {0}) Fault → Type 0) → Type 0
@@ -40,10 +40,10 @@ CommandRun Fac ending told shelf_known shelf shelf' input_known input input' out
     Whole ending (λ done. FacRun done input_known input input' out_known out out') × (shelf' ≡ shelf) × (dock' ≡ dock) × IsQuiet told err err'
 CommandRun (Check name) ending told shelf_known shelf shelf' input_known input input' out_known out out' err_known err err' dock_known dock dock' =
     Whole ending (λ done. CheckRun name done shelf_known shelf shelf' out_known out out') × (input' ≡ input) × (dock' ≡ dock) × IsQuiet told err err'
-CommandRun (Serve name pace from) ending told shelf_known shelf shelf' input_known input input' out_known out out' err_known err err' dock_known dock dock' =
+CommandRun (Serve name [] pace from) ending told shelf_known shelf shelf' input_known input input' out_known out out' err_known err err' dock_known dock dock' =
     Whole ending (λ done. ServeRun name from done shelf_known shelf shelf' out_known out out') × (input' ≡ input) × (dock' ≡ dock) × IsQuiet told err err'
-CommandRun (Send name to pace from) ending told shelf_known shelf shelf' input_known input input' out_known out out' err_known err err' dock_known dock dock' =
-    Whole ending (λ done. SendRun name to pace from done shelf_known shelf shelf' dock_known dock dock') × (input' ≡ input) × (out' ≡ out) × IsQuiet told err err'
+CommandRun (Serve name (at ∷ others) pace from) ending told shelf_known shelf shelf' input_known input input' out_known out out' err_known err err' dock_known dock dock' =
+    Whole ending (λ done. SendRun name (at ∷ others) pace from done shelf_known shelf shelf' dock_known dock dock') × (input' ≡ input) × (out' ≡ out) × IsQuiet told err err'
 CommandRun (Receive addresses rules) ending told shelf_known shelf shelf' input_known input input' out_known out out' err_known err err' dock_known dock dock' =
     ReceiveRun rules addresses ending dock_known dock dock' out_known out out' × (shelf' ≡ shelf) × (input' ≡ input) × IsQuiet told err err'
 CommandRun (ReceiveCapture rules) ending told shelf_known shelf shelf' input_known input input' out_known out out' err_known err err' dock_known dock dock' =
@@ -86,8 +86,8 @@ Ends ending told code known err err' = (code ≡ report_status ending) × Report
 abbrev pub OpensALink : Command → Type 0
 OpensALink Fac = ⊥
 OpensALink (Check name) = ⊥
-OpensALink (Serve name pace from) = ⊥
-OpensALink (Send name to pace from) = Unit {0}
+OpensALink (Serve name [] pace from) = ⊥
+OpensALink (Serve name (at ∷ others) pace from) = Unit {0}
 OpensALink (Receive addresses rules) = Unit {0}
 OpensALink (ReceiveCapture rules) = ⊥
 OpensALink (Air name script window) = ⊥
@@ -103,8 +103,7 @@ OpensALink (Texts stream window first frames) = ⊥
 abbrev pub WritesReport : Command → Type 0
 WritesReport Fac = ⊥
 WritesReport (Check name) = ⊥
-WritesReport (Serve name pace from) = ⊥
-WritesReport (Send name to pace from) = ⊥
+WritesReport (Serve name to pace from) = ⊥
 WritesReport (Receive addresses rules) = Unit {0}
 WritesReport (ReceiveCapture rules) = Unit {0}
 WritesReport (Air name script window) = Unit {0}

@@ -4,17 +4,17 @@ use Rattle.dcp_pft.specs.Carrying.{CarryFits}
 use Rattle.drm_words.specs.Line.{IsLine}
 use Rattle.drm_words.specs.declared.request.Request.{Request}
 use Rattle.drm_words.specs.declared.request.Request.TheVariants as requests
+use Rattle.word_forms.specs.Addresses.{AreDifferent}
 use Rattle.drm_receive.specs.Terms.{AreListed}
 use Rattle.mod_receiver.specs.Ranges.{AreInRange}
 use Rattle.drm_top.specs.declared.words.Command.{Command}
-use Rattle.drm_top.specs.declared.words.Command.TheVariants.{Fac, Check, Serve, Send, Receive, ReceiveCapture, Air, Show, Exercise, Convert, Gate, Pack, Unpack, Texts}
+use Rattle.drm_top.specs.declared.words.Command.TheVariants.{Fac, Check, Serve, Receive, ReceiveCapture, Air, Show, Exercise, Convert, Gate, Pack, Unpack, Texts}
 
 -- what a command is asked for with
 abbrev pub request_of : Command → Request
 request_of Fac = requests.Fac
 request_of (Check name) = requests.Check name
-request_of (Serve name pace from) = requests.Serve name None pace from
-request_of (Send name to pace from) = requests.Serve name (Some to) pace from
+request_of (Serve name to pace from) = requests.Serve name to pace from
 request_of (Receive addresses rules) = requests.Receive (Some addresses) rules.window rules.first rules.frames rules.idle rules.limit
 request_of (ReceiveCapture rules) = requests.Receive None rules.window rules.first rules.frames rules.idle rules.limit
 request_of (Air name script window) = requests.Air name script window
@@ -42,8 +42,7 @@ IsInStretch window frames = (1 ≤ window) × (window ≤ 64) × IfSome frames (
 abbrev pub IsInRange : Command → Type 0
 IsInRange Fac = Unit {0}
 IsInRange (Check name) = IsUtf8 name
-IsInRange (Serve name pace from) = IsUtf8 name × (from ≤ 1000000)
-IsInRange (Send name to pace from) = IsUtf8 name × (from ≤ 1000000)
+IsInRange (Serve name to pace from) = IsUtf8 name × (from ≤ 1000000) × AreDifferent to
 IsInRange (Receive addresses rules) = AreInRange rules × AreListed addresses
 IsInRange (ReceiveCapture rules) = AreInRange rules
 IsInRange (Air name script window) = IsUtf8 name × IsUtf8 script × (1 ≤ window) × (window ≤ 64)

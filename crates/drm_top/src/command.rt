@@ -4,7 +4,7 @@ ghost use Rattle.std.specs.Prelude.{◌≡◌, ◌≤◌, ◌⊎◌, map, string
 ghost use Rattle.drm_links.specs.Told.{HasCause, HasFailed, WhileTold};
 ghost use Rattle.drm_faults.specs.Lines.{fault_line};
 ghost use Rattle.drm_faults.specs.Fault.{WritesLine, whole_of};
-ghost use Rattle.drm_links.specs.Dock.{SendsNothing};
+ghost use Rattle.several_links.specs.Reaching.{NothingSent};
 ghost use Rattle.drm_top.specs.Command.{CommandRun, Runs, Ends, IsQuiet, IsUntouched, OpensALink, WritesReport};
 ghost use Rattle.drm_top.specs.Words.{AsksFor, AsksForNothing, IsInRange};
 ghost use Rattle.drm_top.specs.declared.words.Command.{Command};
@@ -29,7 +29,7 @@ use std::thread::Threads;
 ///
 /// `fac` reads the nine bytes of a FAC from `input` and writes its line to `out`. `check` reads a schedule and its files
 /// from `shelf` and writes its canonical text to `out`; `serve` reads them too and writes the datagrams of the schedule to
-/// `out` as a capture, or sends them over a link that it opens in `dock`. `receive` opens links in `dock`, or reads a capture
+/// `out` as a capture, or sends them over links that it opens in `dock`. `receive` opens links in `dock`, or reads a capture
 /// from `input`, and writes their reports to `out`: that of one link or of a capture as it is read, those of several links,
 /// which are read side by side, when all have ended. `air` does the same in memory with a schedule and a script from
 /// `shelf`, `exercise` with those that it makes itself; their reports come at the end. `gate` opens two links in `dock`, and
@@ -66,7 +66,7 @@ where
     // What the statuses say of any command. 1: neither read nor written was anything, and nothing was sent.
     ensures known { result.code ≤ 7 }
     ensures memory { result.code ≡ 1 → (input.new ≡ input.old) × (out.new ≡ out.old) }
-    ensures unsent { result.code ≡ 1 → WhileTold (D.known dock.old) (D.known dock.new) SendsNothing }
+    ensures unsent { result.code ≡ 1 → WhileTold (D.known dock.old) (D.known dock.new) NothingSent }
     // 2: the words are no command line of a command that is built.
     ensures words { result.code ≡ 2 → AsksForNothing (map string_bytes words.now) }
     // 4 and 5: the count of faults of input or shelf, or of out rose.
@@ -124,7 +124,7 @@ where
     ensures words { IsErrOf result Fault.Words → AsksForNothing (map string_bytes words.now) }
     ensures memory { IsErrOf result Fault.NoMemory → (input.new ≡ input.old) × (out.new ≡ out.old) }
     ensures unsent { IsErrOf result Fault.NoMemory
-        → WhileTold (D.known dock.old) (D.known dock.new) SendsNothing }
+        → WhileTold (D.known dock.old) (D.known dock.new) NothingSent }
     ensures read { IsErrOf result Fault.Read → HasFailed (I.known input.old) (I.known input.new)
         ⊎ HasFailed (S.known shelf.old) (S.known shelf.new) }
     ensures write { HasCause (O.known out.old) (O.known out.new) (IsErrOf result Fault.Write) }
@@ -168,19 +168,24 @@ where
     ensures link { IsErrOf result Fault.Link → OpensALink command.now }
     ensures lacking { result ≡ Ok false → WritesReport command.now }
     ensures unsent { IsErrOf result Fault.NoMemory
-        → WhileTold (D.known dock.old) (D.known dock.new) SendsNothing }
+        → WhileTold (D.known dock.old) (D.known dock.new) NothingSent }
     ensures dock { (OpensALink command.now → ⊥) → dock.new ≡ dock.old }
 {
     match command {
         Command::Fac => whole(fac(input, out)),
         Command::Check { name } => whole(check(alloc, text(name), shelf, out)),
-        Command::Serve { name, from, .. } => whole(serve(alloc, text(name), *from, shelf, out)),
-        Command::Send {
+        Command::Serve {
             name,
             to,
             pace,
             from,
-        } => whole(send(alloc, text(name), *to, *pace, *from, shelf, dock)),
+        } => {
+            if to.is_empty() {
+                whole(serve(alloc, text(name), *from, shelf, out))
+            } else {
+                whole(send(alloc, text(name), to, *pace, *from, shelf, dock))
+            }
+        }
         Command::Receive { addresses, rules } => receive(rt, alloc, rules, addresses, dock, out),
         Command::ReceiveCapture { rules } => receive_from_capture(alloc, rules, input, out),
         Command::Air {

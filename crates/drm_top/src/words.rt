@@ -19,16 +19,11 @@ pub enum Command {
     Check {
         name: Octets,
     },
-    /// `serve` without an address, from a super frame on; the pace, in milliseconds, has no effect then.
+    /// `serve` to these addresses, or as a capture where there is none, from a super frame on; the pace is the rest between
+    /// frames in milliseconds, and has no effect without an address.
     Serve {
         name: Octets,
-        pace: u32,
-        from: u32,
-    },
-    /// `serve` to an address, from a super frame on; the pace is the rest between frames in milliseconds.
-    Send {
-        name: Octets,
-        to: Address,
+        to: Addresses,
         pace: u32,
         from: u32,
     },
@@ -116,14 +111,11 @@ fn command_of(request: Request) -> Command
             to,
             pace,
             from,
-        } => match to {
-            None => Command::Serve { name, pace, from },
-            Some(to) => Command::Send {
-                name,
-                to,
-                pace,
-                from,
-            },
+        } => Command::Serve {
+            name,
+            to,
+            pace,
+            from,
         },
         Request::Receive {
             addresses,

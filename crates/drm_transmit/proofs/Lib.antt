@@ -1,3 +1,4 @@
 pub mod ScheduleRunLemmas
 pub mod OverLinksLemmas
+pub mod LinksLemmas
 pub mod SendLemmas

@@ -37,7 +37,7 @@ pub record OverLinks {S L : Type 0} (name : List ℕ) (pace from : ℕ) (ending 
   pub ends : EndsBy faults.Link came ending
   pub sent : (k : ℕ) (d : Member L) → k < length members
       → Transmits (link_known (slice_index_or members k d).link) (link_known (slice_index_or members' k d).link)
-          (GoOver pace (3 * from) came (slice_index_or members' k d).up)
+      (GoOver pace (3 * from) came (slice_index_or members' k d).up)
   pub calls : (k : ℕ) (d : Member L) → k < length members
       → MakesCalls (λ (t : Traffic). t.calls) most_calls (link_known (slice_index_or members k d).link) (link_known (slice_index_or members' k d).link)
   pub many : length members' ≡ length members

@@ -1,6 +1,6 @@
 -- A run that reads a schedule from the shelf and writes what becomes of it.
-use Rattle.std.specs.Prelude.{ℕ, ◌≡◌, ◌⊎◌, List, Option, Result, Ok, Err, IfOk}
-use Rattle.drm_links.specs.Told.{HasFailed, Known, HasCause, Rose}
+use Rattle.std.specs.Prelude.{ℕ, ◌≡◌, ◌⊎◌, List, Result, Ok, Err, IfOk}
+use Rattle.drm_links.specs.Told.{HasFailed, Known, HasCause}
 use Rattle.drm_links.specs.Shelf.{Files, Supplies}
 use Rattle.drm_links.specs.Sink.{Output, Outputs}
 use Rattle.drm_load.specs.Loading.{Reading, ReadBy}

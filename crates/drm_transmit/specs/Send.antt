@@ -96,7 +96,7 @@ pub record SendRun {S D : Type 0} (name : List ℕ) (addresses : List Address) (
   pub unopened : Docked (dock_known dock) (dock_known dock') (λ told. ReachesNone told addresses → UnlessMemory ending (ending ≡ Err faults.Link))
   pub cut : Docked (dock_known dock) (dock_known dock') (λ told. Supplies (shelf_known shelf) (shelf_known shelf') (λ files _.
       UnlessMemory ending ((ending ≡ Err faults.Link)
-          ↔ (ReachesNone told addresses ⊎ LacksSome (3 * from) (schedule_named name files).came told addresses))))
+      ↔ (ReachesNone told addresses ⊎ LacksSome (3 * from) (schedule_named name files).came told addresses))))
   -- Where each opening finds a link, and one of these takes all datagrams, they have gone at its address, whatever becomes of the
   -- others.
   pub complete : Tells (dock_known dock) (dock_known dock') (λ before after. (ReachesNone before addresses → ⊥)

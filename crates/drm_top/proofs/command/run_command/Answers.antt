@@ -1,6 +1,6 @@
 use Rattle.std.proofs.Common.{◌≡◌, inl, inr, Err, refl, sym, subst, le_refl}
 use Rattle.drm_links.specs.Told.{WhileTold}
-use Rattle.drm_links.specs.Dock.{SendsNothing}
+use Rattle.several_links.specs.Reaching.{NothingSent}
 use Rattle.drm_faults.specs.declared.fault.Fault.{Fault}
 use Rattle.drm_faults.specs.declared.fault.Fault.TheVariants as faults
 use Rattle.drm_top.proofs.CommandLemmas.{fault_of_whole, whole_lacks_none, dock_still, not_else, not_convert, not_a_link, not_gate, no_gate}
@@ -33,31 +33,11 @@ returns-in-Check g c = record {
   dock = λ none. refl;
 }
 
-pub returns-in-Serve : goal.returns-in-Serve
-returns-in-Serve g c = record {
-  words = λ e. c.serve.ensures.words (fault_of_whole c.whole-in-Serve.result c.serve.result faults.Words c.whole-in-Serve.ensures e);
-  memory = λ e. (refl, c.serve.ensures.memory (fault_of_whole c.whole-in-Serve.result c.serve.result faults.NoMemory c.whole-in-Serve.ensures e));
-  run = rw c.in-Serve.is ((c.serve.result, c.whole-in-Serve.ensures, rw (← c.text-in-Serve.ensures) c.serve.ensures.run), refl, refl, (c.requires.told, refl));
-  read = λ e. inr (c.serve.ensures.run.read_cause.rose (fault_of_whole c.whole-in-Serve.result c.serve.result faults.Read c.whole-in-Serve.ensures e));
-  write = record { later = c.serve.ensures.run.write_cause.later; rose = λ e. c.serve.ensures.run.write_cause.rose (fault_of_whole c.whole-in-Serve.result c.serve.result faults.Write c.whole-in-Serve.ensures e) };
-  link = λ e. absurd (c.serve.ensures.link (fault_of_whole c.whole-in-Serve.result c.serve.result faults.Link c.whole-in-Serve.ensures e));
-  lacking = λ e. absurd (whole_lacks_none c.whole-in-Serve.result c.serve.result c.whole-in-Serve.ensures e);
-  unsent = λ e. dock_still (g.D.Dock.known c.args.dock.now);
-  dock = λ none. refl;
-}
+pub returns-in-Serve-then-is_empty : goal.returns-in-Serve-then-is_empty
+returns-in-Serve-then-is_empty g c = ?
 
-pub returns-in-Send : goal.returns-in-Send
-returns-in-Send g c = record {
-  words = λ e. c.send.ensures.words (fault_of_whole c.whole-in-Send.result c.send.result faults.Words c.whole-in-Send.ensures e);
-  memory = λ e. (refl, refl);
-  run = rw c.in-Send.is ((c.send.result, c.whole-in-Send.ensures, rw (← c.text-in-Send.ensures) c.send.ensures.run), refl, refl, (c.requires.told, refl));
-  read = λ e. inr (c.send.ensures.read (fault_of_whole c.whole-in-Send.result c.send.result faults.Read c.whole-in-Send.ensures e));
-  write = record { later = le_refl _; rose = λ e. absurd (c.send.ensures.write (fault_of_whole c.whole-in-Send.result c.send.result faults.Write c.whole-in-Send.ensures e)) };
-  link = λ e. rw c.in-Send.is tt;
-  lacking = λ e. absurd (whole_lacks_none c.whole-in-Send.result c.send.result c.whole-in-Send.ensures e);
-  unsent = λ e. c.send.ensures.unsent (fault_of_whole c.whole-in-Send.result c.send.result faults.NoMemory c.whole-in-Send.ensures e);
-  dock = λ none. absurd (none (rw c.in-Send.is tt));
-}
+pub returns-in-Serve : goal.returns-in-Serve
+returns-in-Serve g c = ?
 
 pub returns-in-Receive-clause-run : goal.returns-in-Receive-clause-run
 returns-in-Receive-clause-run g c = rw c.in-Receive.is (c.receive.ensures.run, refl, refl, (c.requires.told, refl))
@@ -137,7 +117,7 @@ returns-in-Gate g c =
       link = λ e. rw c.in-Gate.is tt;
       lacking = λ e. rw c.in-Gate.is tt;
       unsent = λ e.
-          subst (λ d. WhileTold (g.D.Dock.known c.args.dock.now) (g.D.Dock.known d) SendsNothing)
+          subst (λ d. WhileTold (g.D.Dock.known c.args.dock.now) (g.D.Dock.known d) NothingSent)
           (sym (no_gate c.in-Gate.rules c.in-Gate.carry c.in-Gate.from c.in-Gate.to _ _ _ _ _ _ _ e run.run).0) (dock_still (g.D.Dock.known c.args.dock.now));
       dock = λ none. absurd (none (rw c.in-Gate.is tt));
     }

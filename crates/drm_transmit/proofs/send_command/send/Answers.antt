@@ -1,25 +1,58 @@
-use Rattle.std.proofs.Common.{◌*◌, refl, arith, ap, Err}
+use Rattle.std.proofs.Common.{◌≡◌, ◌++◌, List, take, drop, length, vec_len, refl, arith, ap, sym, ◌∙◌, subst, Err}
+use Rattle.std.proofs.lemmas.List.{take_at}
+use Rattle.drm_links.specs.Told.{Tells}
 use Rattle.drm_faults.specs.declared.fault.Fault.TheVariants as faults
-use Rattle.drm_transmit.proofs.OverLinkLemmas.{link_told}
-use Rattle.drm_transmit.proofs.SendLemmas.{closed, over_link}
+use Rattle.several_links.specs.Reaching.{Over, HaveGone, after_closes}
+use Rattle.several_links.specs.declared.member.Member.{Member}
+use Rattle.drm_transmit.specs.Send.{SendRun}
+use Rattle.drm_transmit.proofs.LinksLemmas.{links_run}
+use Rattle.drm_transmit.proofs.SendLemmas.{closed, unopened, over_links, nothing_sent}
 use Rattle.drm_transmit.proofs.send_command.send.Goals as goal
 
-pub returns-in-Link-clause-run : goal.returns-in-Link-clause-run
-returns-in-Link-clause-run g c =
+pub returns-in-Ok : goal.returns-in-Ok
+returns-in-Ok g c =
+    let known = g.D.L.Link.known in
+    let to = c.args.to.now in
+    let members : List (Member g.row.D-L.Denot) = c.in-Ok.members.items in
+    let before : List (Member g.row.D-L.Denot) = c.as_mut_slice.result.now in
+    let after : List (Member g.row.D-L.Denot) = c.send_over-sent.new.members in
+    let value : before ≡ members = c.as_mut_slice.ensures.value in
+    let many : length before ≡ length to = c.as_mut_slice.ensures.len ∙ c.in-Ok.ensures.many in
     let run = c.send_over-sent.ensures.run in
-    over_link c.one_delivery.ensures c.first_ones_are_front.ensures c.args.name.now c.args.to c.args.pace c.args.from c.send_over-sent.result g.S.Shelf.known c.args.shelf.now c.send_over-sent.new.shelf g.D.Dock.known c.args.dock.now c.close.new.self
-    (record {
-      came = run.came;
-      loads = run.loads;
-      sound = run.sound;
-      ends = run.ends;
-      told = link_told c.args.pace (3 * c.args.from) run.came c.send_over-sent.result c.args.to g.D.L.Link.known c.in-Link.link c.send_over-sent.new.link (g.D.Dock.known c.args.dock.now) (g.D.Dock.known c.reach.new.self) (g.D.Dock.known c.close.new.self)
-          c.in-Link.ensures.opened c.close.ensures.told c.close.ensures.gone run.sent run.calls;
-      later = omega (arith, c.in-Link.ensures.cause.later, c.close.ensures.cause);
-      read_cause = run.read_cause;
-    })
+    let size : length after ≡ vec_len c.in-Ok.members = run.many ∙ c.as_mut_slice.ensures.len in
+    let back : take c.in-Ok.members.len (after ++ drop (length after) members) ≡ after = take_at after (drop (length after) members) c.in-Ok.members.len size in
+    let a = g.D.Dock.known c.args.dock.now in
+    let b = g.D.Dock.known c.reach_each.new.dock in
+    let d = g.D.Dock.known c.close_each.new.dock in
+    let shut : Tells b d (λ x y. (overs : List Over) → HaveGone known after overs → y ≡ after_closes overs to x) =
+    subst (λ ms. Tells b d (λ x y. (overs : List Over) → HaveGone known ms overs → y ≡ after_closes overs to x)) back c.close_each.ensures.closed in
+    let later = c.in-Ok.ensures.later in
+    let same = c.close_each.ensures.cause in
+    let sent : SendRun c.args.name.now to c.args.pace c.args.from c.send_over-sent.result g.S.Shelf.known c.args.shelf.now c.send_over-sent.new.shelf g.D.Dock.known c.args.dock.now c.close_each.new.dock =
+    over_links c.one_delivery.ensures c.first_ones_are_front.ensures c.args.name.now to c.args.pace c.args.from c.send_over-sent.result g.S.Shelf.known c.args.shelf.now c.send_over-sent.new.shelf g.D.Dock.known c.args.dock.now c.close_each.new.dock
+    c.requires.different
+    (links_run c.args.name.now to c.args.pace c.args.from c.send_over-sent.result g.S.Shelf.known c.args.shelf.now c.send_over-sent.new.shelf g.D.Dock.known c.args.dock.now c.close_each.new.dock b known before after many run c.in-Ok.ensures.opened
+    (subst (λ ms. Rattle.several_links.specs.Openings.Docked a b (λ told. Rattle.several_links.specs.Reaching.HaveLinks known told to ms)) (sym value) c.in-Ok.ensures.links) shut (omega (arith, later, same))) in
+    record {
+      run = sent;
+      unsent = λ e. nothing_sent c.one_delivery.ensures c.first_ones_are_front.ensures c.args.name.now to c.args.pace c.args.from c.send_over-sent.result g.S.Shelf.known c.args.shelf.now c.send_over-sent.new.shelf g.D.Dock.known c.args.dock.now c.close_each.new.dock c.requires.different sent e;
+      read = λ e. run.read_cause.rose e;
+      words = λ e. c.send_over-sent.ensures.words e;
+      write = λ e. c.send_over-sent.ensures.write e;
+    }
 
-pub returns-in-Failed-clause-run : goal.returns-in-Failed-clause-run
-returns-in-Failed-clause-run g c =
-    closed c.one_delivery.ensures c.first_ones_are_front.ensures c.args.name.now c.args.to c.args.pace c.args.from (Err faults.Link) g.S.Shelf.known c.args.shelf.now c.args.shelf.now g.D.Dock.known c.args.dock.now c.reach.new.self
-    (record { fault = refl; unread = refl; told = c.in-Failed.ensures.opened; rose = c.in-Failed.ensures.cause.rose tt })
+pub returns-in-Err-NoMemory-clause-run : goal.returns-in-Err-NoMemory-clause-run
+returns-in-Err-NoMemory-clause-run g c =
+    unopened c.one_delivery.ensures c.first_ones_are_front.ensures c.args.name.now c.args.to.now c.args.pace c.args.from (Err faults.NoMemory) g.S.Shelf.known c.args.shelf.now c.args.shelf.now g.D.Dock.known c.args.dock.now c.reach_each.new.dock
+    (record { fault = refl; unread = refl; unopened = c.reach_each.ensures.untouched (c.in-Err-NoMemory.is ∙ ap Err c.in-Err-NoMemory.field-0-is) })
+
+pub returns-in-Err-NoMemory-clause-unsent : goal.returns-in-Err-NoMemory-clause-unsent
+returns-in-Err-NoMemory-clause-unsent g c = λ e.
+    nothing_sent c.one_delivery.ensures c.first_ones_are_front.ensures c.args.name.now c.args.to.now c.args.pace c.args.from (Err faults.NoMemory) g.S.Shelf.known c.args.shelf.now c.args.shelf.now g.D.Dock.known c.args.dock.now c.reach_each.new.dock c.requires.different
+    (unopened c.one_delivery.ensures c.first_ones_are_front.ensures c.args.name.now c.args.to.now c.args.pace c.args.from (Err faults.NoMemory) g.S.Shelf.known c.args.shelf.now c.args.shelf.now g.D.Dock.known c.args.dock.now c.reach_each.new.dock
+    (record { fault = refl; unread = refl; unopened = c.reach_each.ensures.untouched (c.in-Err-NoMemory.is ∙ ap Err c.in-Err-NoMemory.field-0-is) })) refl
+
+pub returns-in-Err-Link-clause-run : goal.returns-in-Err-Link-clause-run
+returns-in-Err-Link-clause-run g c =
+    closed c.one_delivery.ensures c.first_ones_are_front.ensures c.args.name.now c.args.to.now c.args.pace c.args.from (Err faults.Link) g.S.Shelf.known c.args.shelf.now c.args.shelf.now g.D.Dock.known c.args.dock.now c.reach_each.new.dock
+    (record { fault = refl; unread = refl; told = c.reach_each.ensures.failed (c.in-Err-Link.is ∙ ap Err c.in-Err-Link.field-0-is); rose = c.reach_each.ensures.rose (c.in-Err-Link.is ∙ ap Err c.in-Err-Link.field-0-is) })
