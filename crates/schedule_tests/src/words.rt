@@ -9,7 +9,7 @@ use std::alloc::{AllocError, Global};
 // Lines of words, each word behind a `|`, and what they ask for: the command, then the plain words and the options in
 // the order of the command's row, `-` where one isn't told. By hand from the rules of the command line; a reader of the
 // same rules in Python gives the same.
-const ASKED: [(&str, &str); 64] = [
+const ASKED: [(&str, &str); 65] = [
     ("|fac", "fac"),
     ("|fac|--", "fac"),
     ("|show", "show"),
@@ -27,6 +27,10 @@ const ASKED: [(&str, &str); 64] = [
     ("|serve|a|--pace|0", "serve a - 0 0"),
     ("|serve|--pace|10000|a", "serve a - 10000 0"),
     ("|serve|a|--to|127.0.0.1:5000", "serve a 127.0.0.1:5000 0 0"),
+    (
+        "|serve|a|--to|127.0.0.1:5001,127.0.0.1:5000",
+        "serve a 127.0.0.1:5001,127.0.0.1:5000 0 0",
+    ),
     (
         "|serve|--to=0.0.0.0:1|a|--pace=25|--from=7",
         "serve a 0.0.0.0:1 25 7",
@@ -152,11 +156,11 @@ fn address_shown(alloc: Global, address: &Address) -> Result<String, AllocError>
     format!(in alloc; "{a}.{b}.{c}.{d}:{port}")
 }
 
-fn to_shown(alloc: Global, to: &Option<Address>) -> Result<String, AllocError> {
-    match to {
-        Some(address) => address_shown(alloc, address),
-        None => String::from_str(alloc, "-"),
+fn to_shown(alloc: Global, to: &Addresses) -> Result<String, AllocError> {
+    if to.is_empty() {
+        return String::from_str(alloc, "-");
     }
+    list_shown(alloc, to)
 }
 
 fn list_shown(alloc: Global, list: &Addresses) -> Result<String, AllocError> {
@@ -187,7 +191,7 @@ fn carry_shown(alloc: Global, carry: Carry) -> Result<String, AllocError> {
 fn serve_shown(
     alloc: Global,
     name: &Octets,
-    to: &Option<Address>,
+    to: &Addresses,
     pace: u32,
     from: u32,
 ) -> Result<String, AllocError> {
