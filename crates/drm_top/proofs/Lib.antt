@@ -1,3 +1,4 @@
 pub mod WordsLemmas
 pub mod RangeLemmas
 pub mod CommandLemmas
+pub mod ServeLemmas

@@ -1,9 +1,10 @@
-use Rattle.std.proofs.Common.{◌≡◌, inl, inr, Err, refl, sym, subst, le_refl}
+use Rattle.std.proofs.Common.{◌≡◌, inl, inr, [], Err, refl, sym, subst, le_refl}
 use Rattle.drm_links.specs.Told.{WhileTold}
 use Rattle.several_links.specs.Reaching.{NothingSent}
 use Rattle.drm_faults.specs.declared.fault.Fault.{Fault}
 use Rattle.drm_faults.specs.declared.fault.Fault.TheVariants as faults
 use Rattle.drm_top.proofs.CommandLemmas.{fault_of_whole, whole_lacks_none, dock_still, not_else, not_convert, not_a_link, not_gate, no_gate}
+use Rattle.drm_top.proofs.ServeLemmas.{sends, opens_some}
 use Rattle.drm_receive.proofs.OpeningLemmas.{opens_unsent}
 use Rattle.drm_top.proofs.command.run_command.Goals as goal
 
@@ -33,11 +34,35 @@ returns-in-Check g c = record {
   dock = λ none. refl;
 }
 
-pub returns-in-Serve-then-is_empty : goal.returns-in-Serve-then-is_empty
-returns-in-Serve-then-is_empty g c = ?
+pub returns-then-is_empty : goal.returns-then-is_empty
+returns-then-is_empty g c =
+    let none : c.in-Serve.to ≡ [] = c.is_empty.ensures.0 c.if-is_empty.true in
+    record {
+      words = λ e. c.serve.ensures.words (fault_of_whole c.whole-then-is_empty.result c.serve.result faults.Words c.whole-then-is_empty.ensures e);
+      memory = λ e. (refl, c.serve.ensures.memory (fault_of_whole c.whole-then-is_empty.result c.serve.result faults.NoMemory c.whole-then-is_empty.ensures e));
+      run = rw (c.in-Serve.is, none) ((c.serve.result, c.whole-then-is_empty.ensures, rw (← c.text-then-is_empty.ensures) c.serve.ensures.run), refl, refl, (c.requires.told, refl));
+      read = λ e. inr (c.serve.ensures.run.read_cause.rose (fault_of_whole c.whole-then-is_empty.result c.serve.result faults.Read c.whole-then-is_empty.ensures e));
+      write = record { later = c.serve.ensures.run.write_cause.later; rose = λ e. c.serve.ensures.run.write_cause.rose (fault_of_whole c.whole-then-is_empty.result c.serve.result faults.Write c.whole-then-is_empty.ensures e) };
+      link = λ e. absurd (c.serve.ensures.link (fault_of_whole c.whole-then-is_empty.result c.serve.result faults.Link c.whole-then-is_empty.ensures e));
+      lacking = λ e. absurd (whole_lacks_none c.whole-then-is_empty.result c.serve.result c.whole-then-is_empty.ensures e);
+      unsent = λ e. dock_still (g.D.Dock.known c.args.dock.now);
+      dock = λ none. refl;
+    }
 
-pub returns-in-Serve : goal.returns-in-Serve
-returns-in-Serve g c = ?
+pub returns-else-is_empty : goal.returns-else-is_empty
+returns-else-is_empty g c =
+    let some : c.in-Serve.to ≡ [] → ⊥ = λ none. let yes = c.is_empty.ensures.1 none in let no = c.if-is_empty.false in absurd cc in
+    record {
+      words = λ e. c.send.ensures.words (fault_of_whole c.whole-else-is_empty.result c.send.result faults.Words c.whole-else-is_empty.ensures e);
+      memory = λ e. (refl, refl);
+      run = rw c.in-Serve.is (sends c.in-Serve.name c.in-Serve.to c.in-Serve.pace c.in-Serve.from c.whole-else-is_empty.result c.args.told.now g.S.Shelf.known c.args.shelf.now c.send.new.shelf g.I.Source.known c.args.input.now c.args.input.now g.O.Sink.known c.args.out.now c.args.out.now g.E.Sink.known c.args.err.now c.args.err.now g.D.Dock.known c.args.dock.now c.send.new.dock some ((c.send.result, c.whole-else-is_empty.ensures, rw (← c.text-else-is_empty.ensures) c.send.ensures.run), refl, refl, (c.requires.told, refl)));
+      read = λ e. inr (c.send.ensures.read (fault_of_whole c.whole-else-is_empty.result c.send.result faults.Read c.whole-else-is_empty.ensures e));
+      write = record { later = le_refl _; rose = λ e. absurd (c.send.ensures.write (fault_of_whole c.whole-else-is_empty.result c.send.result faults.Write c.whole-else-is_empty.ensures e)) };
+      link = λ e. rw c.in-Serve.is (opens_some c.in-Serve.name c.in-Serve.to c.in-Serve.pace c.in-Serve.from some);
+      lacking = λ e. absurd (whole_lacks_none c.whole-else-is_empty.result c.send.result c.whole-else-is_empty.ensures e);
+      unsent = λ e. c.send.ensures.unsent (fault_of_whole c.whole-else-is_empty.result c.send.result faults.NoMemory c.whole-else-is_empty.ensures e);
+      dock = λ none. absurd (none (rw c.in-Serve.is (opens_some c.in-Serve.name c.in-Serve.to c.in-Serve.pace c.in-Serve.from some)));
+    }
 
 pub returns-in-Receive-clause-run : goal.returns-in-Receive-clause-run
 returns-in-Receive-clause-run g c = rw c.in-Receive.is (c.receive.ensures.run, refl, refl, (c.requires.told, refl))
