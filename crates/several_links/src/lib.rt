@@ -8,4 +8,4 @@ mod reaching;
 
 pub use closing::close_each;
 pub use member::{Member, all_up, none_up};
-pub use reaching::{ReachFault, reach_each};
+pub use reaching::{ReachFault, reach_each, reach_in, room_for};

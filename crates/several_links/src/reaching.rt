@@ -1,14 +1,15 @@
 //! Links that are opened to send over them.
 
-ghost use Rattle.std.specs.Prelude.{◌≡◌, ◌≤◌, Err, length, vec_len, IfOk};
-ghost use Rattle.drm_links.specs.Told.{HasFailed, Tells};
+ghost use Rattle.std.specs.Prelude.{◌≡◌, ◌≤◌, Err, IsErr, length, vec_len, vec_capacity, IfOk, IfErr};
+ghost use Rattle.drm_links.specs.Told.{HasCause, HasFailed, Tells};
 ghost use Rattle.word_forms.specs.Addresses.{AreDifferent};
 ghost use Rattle.several_links.specs.Openings.{Docked};
 ghost use Rattle.several_links.specs.Reaching.{HaveLinks, AreUp, ReachesFew, after_reaches};
 
 use crate::{Member, close_each};
-use drm_links::{Dock, Opened};
-use std::alloc::{AllocError, Global};
+use drm_bits::NoMemory;
+use drm_links::{Dock, Link, LinkFault, Opened};
+use std::alloc::Global;
 use word_forms::Addresses;
 
 /// Why links weren't opened.
@@ -19,19 +20,63 @@ pub enum ReachFault {
     Link,
 }
 
-impl From<AllocError> for ReachFault {
+impl From<NoMemory> for ReachFault {
     ghost use Rattle.std.specs.Prelude.{◌≡◌};
     ghost use Rattle.several_links.specs.declared.reaching.ReachFault.TheVariants as faults;
 
     ghost from_gives = { λ _ fault. fault ≡ faults.NoMemory };
 
-    fn from(_: AllocError) -> Self {
+    fn from(_: NoMemory) -> Self {
         ReachFault::NoMemory
     }
 }
 
-/// Opens a link to each address, in their order. Where an opening fails no further one is made, and those that were opened are
-/// closed. Memory is taken before the first opening.
+/// Takes the memory for links to these addresses.
+pub fn room_for<L: Link>(alloc: Global, addresses: &Addresses) -> Result<Vec<Member<L>>, NoMemory>
+    ensures none { IfOk result (λ room. vec_len room ≡ 0) }
+    ensures all { IfOk result (λ room. length addresses.now ≤ vec_capacity room) }
+{
+    Ok(Vec::with_capacity(alloc, addresses.len())?)
+}
+
+/// Opens a link to each address, in their order, with memory that was taken before. Where an opening fails no further one is made,
+/// and those that were opened are closed.
+pub fn reach_in<D: Dock>(
+    room: Vec<Member<D::L>>,
+    addresses: &Addresses,
+    dock: &mut D,
+) -> Result<Vec<Member<D::L>>, LinkFault>
+    requires different { AreDifferent addresses.now }
+    requires none { vec_len room ≡ 0 }
+    requires all { length addresses.now ≤ vec_capacity room }
+    ensures many { IfOk result (λ members. vec_len members ≡ length addresses.now) }
+    ensures up { IfOk result (λ members. AreUp members.items) }
+    ensures opened { IfOk result (λ _. Tells (D.known dock.old) (D.known dock.new)
+        (λ before after. after ≡ after_reaches addresses.now before)) }
+    ensures links { IfOk result (λ members. Docked (D.known dock.old) (D.known dock.new) (λ told.
+        HaveLinks D.L.known told addresses.now members.items)) }
+    ensures failed { IfErr result (λ _. Tells (D.known dock.old) (D.known dock.new)
+        (λ before after. ReachesFew addresses.now before after)) }
+    ensures cause { HasCause (D.known dock.old) (D.known dock.new) (IsErr result) }
+{
+    let mut members = room;
+    for k in 0..addresses.len() {
+        match dock.reach(*addresses.get(k)) {
+            Opened::Link(link) => {
+                let Ok(()) = members.push(Member { link, up: true }) else {
+                    unreachable!()
+                };
+            }
+            Opened::Failed => {
+                close_each(dock, addresses, members);
+                return Err(LinkFault);
+            }
+        }
+    }
+    Ok(members)
+}
+
+/// Takes the memory for links to these addresses, and opens them.
 pub fn reach_each<D: Dock>(
     alloc: Global,
     addresses: &Addresses,
@@ -50,19 +95,9 @@ pub fn reach_each<D: Dock>(
     ensures untouched { result ≡ Err ReachFault.NoMemory → dock.new ≡ dock.old }
     ensures later { (D.known dock.old).faults ≤ (D.known dock.new).faults }
 {
-    let mut members = Vec::with_capacity(alloc, addresses.len())?;
-    for k in 0..addresses.len() {
-        match dock.reach(*addresses.get(k)) {
-            Opened::Link(link) => {
-                let Ok(()) = members.push(Member { link, up: true }) else {
-                    unreachable!()
-                };
-            }
-            Opened::Failed => {
-                close_each(dock, addresses, members);
-                return Err(ReachFault::Link);
-            }
-        }
+    let room = room_for(alloc, addresses)?;
+    match reach_in(room, addresses, dock) {
+        Ok(members) => Ok(members),
+        Err(_) => Err(ReachFault::Link),
     }
-    Ok(members)
 }

@@ -6,10 +6,10 @@ use Rattle.several_links.specs.Openings.{Docked, HasLink}
 use Rattle.several_links.specs.declared.member.Member.{Member}
 use Rattle.several_links.proofs.OpeningLemmas.{docked_still, each_more}
 use Rattle.several_links.proofs.ReachLemmas.{Reached, HaveFirst, found_reach, reached_now, missed_now, first_links, few_reached}
-use Rattle.several_links.proofs.reaching.reach_each.Goals as goal
+use Rattle.several_links.proofs.reaching.reach_in.Goals as goal
 
 pub returns-in-Failed-clause-failed : goal.returns-in-Failed-clause-failed
-returns-in-Failed-clause-failed g c = λ failed.
+returns-in-Failed-clause-failed g c =
     let i = c.loop-k.invariant in
     let k : ℕ = c.loop-k.k in
     let ats = c.args.addresses.now in
@@ -21,7 +21,7 @@ returns-in-Failed-clause-failed g c = λ failed.
     few_reached known ats c.loop-k.members.items k a d (g.D.Dock.known c.close_each.new.dock) within i.1
     (docked_still (λ told. HaveFirst known told ats c.loop-k.members.items k) a b d
     (first_links known ats c.loop-k.members.items k (Reached ats k) a b i.5 i.6) c.in-Failed.ensures.told)
-    (missed_now ats k c.get.result.now within c.get.ensures known a b d c.requires i.5 c.in-Failed.ensures.opened c.in-Failed.ensures.told)
+    (missed_now ats k c.get.result.now within c.get.ensures known a b d c.requires.different i.5 c.in-Failed.ensures.opened c.in-Failed.ensures.told)
     c.close_each.ensures.closed
 
 pub loop-k-preserved : goal.loop-k-preserved
@@ -49,7 +49,7 @@ loop-k-preserved g c =
       le_trans i.4 c.in-Link.ensures.cause.later,
       reached_now ats k at within c.get.ensures known c.in-Link.link a b d i.5 c.in-Link.ensures.opened c.in-Link.ensures.told,
       each_more Q c.loop-k.members.items c.push.new.self.items member k size more old
-          (λ e. found_reach ats k at within c.get.ensures known c.in-Link.link a b d c.requires i.5 c.in-Link.ensures.opened c.in-Link.ensures.told e),
+          (λ e. found_reach ats k at within c.get.ensures known c.in-Link.link a b d c.requires.different i.5 c.in-Link.ensures.opened c.in-Link.ensures.told e),
     )
 
 pub returns-clause-links : goal.returns-clause-links

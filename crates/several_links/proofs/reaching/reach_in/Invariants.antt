@@ -5,7 +5,7 @@ use Rattle.several_links.specs.Openings.{Docked, HasLink}
 use Rattle.several_links.specs.Reaching.{AreUp}
 use Rattle.several_links.specs.declared.member.Member.{Member}
 use Rattle.several_links.proofs.ReachLemmas.{Reached}
-use Rattle.several_links.proofs.reaching.reach_each.Given as goal
+use Rattle.several_links.proofs.reaching.reach_in.Given as goal
 
 -- each link so far is that of its address
 abbrev pub invariant-loop-k : goal.invariant-loop-k
