@@ -5,10 +5,6 @@ use Rattle.std.specs.List.{filter}
 use Rattle.std.proofs.lemmas.Bool.Decides.{nat_tests}
 use Rattle.std.proofs.lemmas.List.{append-nil}
 use Rattle.std.proofs.lemmas.List.Concat.{flat_map-append}
-use Rattle.drm_links.specs.Told.{Known}
-use Rattle.drm_links.specs.Link.{Traffic}
-use Rattle.drm_links.specs.Transmission.{Transmits, SendsAll}
-use Rattle.drm_links.proofs.TransmissionLemmas.{Transmits-nothing}
 use Rattle.dcp_pft.specs.declared.carry.Carry.{Carry}
 use Rattle.dcp_pft.specs.Limits.{most_fragments}
 use Rattle.dcp_collect.specs.Fragments.{Fragment, suffice, of_packet}
@@ -21,11 +17,11 @@ use Rattle.capture_items.specs.Reading.{Given, is_full}
 use Rattle.drm_convert.proofs.DrainingLemmas.{given_one, next_end}
 use Rattle.drm_gate.specs.declared.tally.Tally.{Tally}
 use Rattle.drm_gate.specs.Passing.{Fate, Sent, Bad, Large, Missing, Becomes, Begins, BecomeAll, datagrams_of, sent_of}
+use Rattle.drm_gate.specs.Targets.{Target, EachTakes, SomeUp}
 use Rattle.drm_gate.specs.Tallies.{plus, tally_one, tally_of, items_in}
 use Rattle.drm_gate.specs.Steps.{Passed, Broken}
 use Rattle.drm_gate.specs.Draining.{PassedAll, Drained, Stopped, KeepsPace, sent_or_kept}
-use Rattle.drm_gate.proofs.RestingLemmas.{no_sends, more_sends, few_sends}
-use Rattle.packet_sending.proofs.Links.{then_sent}
+use Rattle.drm_gate.proofs.TargetLemmas.{takes_nothing, then_takes, none_sent, more_sent, few_sent_each, none_weaker}
 use Rattle.drm_gate.proofs.Tallying.{plus_nothing, plus_assoc, tally_join, one_more, few_sent}
 use Rattle.drm_gate.proofs.Kept.{fewer_kept, packet_kept}
 
@@ -41,14 +37,14 @@ pub sent_join : (xs ys : List Fate) → sent_of (xs ++ ys) ≡ sent_of xs ++ sen
 sent_join xs ys = flat_map-append datagrams_of xs ys
 
 -- nothing was passed on yet
-pub all_none : (carry : Carry) (c : State) (t : Tally) (to : Known Traffic) → PassedAll carry c [] t t to to
-all_none carry c t to = record { fates = []; many = refl; become = λ first may. tt; tally = sym (plus_nothing t); sent = Transmits-nothing to; only = no_sends to }
+pub all_none : (carry : Carry) (c : State) (t : Tally) (to : List Target) → PassedAll carry c [] t t to to
+all_none carry c t to = record { fates = []; many = refl; become = λ first may. tt; tally = sym (plus_nothing t); sent = takes_nothing to; only = none_sent to }
 
 -- two stretches; what may be the first number of the later state may be that of the earlier one
-pub all_then : (carry : Carry) (c d : State) (items more : List Item) (t u v : Tally) (x y z : Known Traffic) → ((first : ℕ) → MayBeFirst d first → MayBeFirst c first)
+pub all_then : (carry : Carry) (c d : State) (items more : List Item) (t u v : Tally) (x y z : List Target) → ((first : ℕ) → MayBeFirst d first → MayBeFirst c first)
     → PassedAll carry c items t u x y → PassedAll carry d more u v y z → PassedAll carry d (items ++ more) t v x z
 all_then carry c d items more t u v x y z may first second =
-    let P : List (List ℕ) → Type 0 = λ l. Transmits x z (SendsAll l) in
+    let P : List (List ℕ) → Type 0 = λ l. EachTakes l x z in
     record {
       fates = first.fates ++ second.fates;
       many =
@@ -59,12 +55,12 @@ all_then carry c d items more t u v x y z may first second =
       tally = second.tally
           ∙ (ap (λ w. plus w (tally_of second.fates)) first.tally
           ∙ (plus_assoc t (tally_of first.fates) (tally_of second.fates) ∙ ap (plus t) (sym (tally_join first.fates second.fates))));
-      sent = subst P (sym (sent_join first.fates second.fates)) (then_sent (sent_of first.fates) (sent_of second.fates) x y z first.sent second.sent);
+      sent = subst P (sym (sent_join first.fates second.fates)) (then_takes (sent_of first.fates) (sent_of second.fates) x y z first.sent second.sent);
       only =
           let m : ℕ = most_fragments * (tally_of first.fates).given in
           let n : ℕ = most_fragments * (tally_of second.fates).given in
           let given : (tally_of (first.fates ++ second.fates)).given ≡ (tally_of first.fates).given + (tally_of second.fates).given = ap (λ (w : Tally). w.given) (tally_join first.fates second.fates) in
-          few_sends (m + n) (most_fragments * (tally_of (first.fates ++ second.fates)).given) x z (omega (arith, given)) (more_sends m n x y z first.only second.only);
+          few_sent_each (m + n) (most_fragments * (tally_of (first.fates ++ second.fates)).given) x z (omega (arith, given)) (more_sent m n x y z first.only second.only);
     }
 
 -- ---- the first number
@@ -100,16 +96,16 @@ becomes_at carry d (Lost q had total) fate first knows is may becomes = lost_at 
 becomes_at carry d (Damaged q) fate first knows is may becomes = damaged_at carry (unwrap_or d.first 0) first q fate becomes
 
 -- one item
-pub all_one : (carry : Carry) (d : State) (item : Item) (t u : Tally) (x y : Known Traffic) → KnowsFirst d → IsItem d item → Passed carry (unwrap_or d.first 0) item t u x y → PassedAll carry d (item ∷ []) t u x y
+pub all_one : (carry : Carry) (d : State) (item : Item) (t u : Tally) (x y : List Target) → KnowsFirst d → IsItem d item → Passed carry (unwrap_or d.first 0) item t u x y → PassedAll carry d (item ∷ []) t u x y
 all_one carry d item t u x y knows is one =
-    let P : List (List ℕ) → Type 0 = λ l. Transmits x y (SendsAll l) in
+    let P : List (List ℕ) → Type 0 = λ l. EachTakes l x y in
     record {
       fates = one.fate ∷ [];
       many = refl;
       become = λ first may. (becomes_at carry d item one.fate first knows is may one.becomes, tt);
       tally = one.tally ∙ ap (plus t) (sym (plus_nothing (tally_one one.fate)));
       sent = subst P (sym (append-nil (datagrams_of one.fate))) one.sent;
-      only = few_sends (most_fragments * (tally_one one.fate).given) (most_fragments * (tally_of (one.fate ∷ [])).given) x y (omega arith) one.only;
+      only = few_sent_each (most_fragments * (tally_one one.fate).given) (most_fragments * (tally_of (one.fate ∷ [])).given) x y (omega arith) one.only;
     }
 
 begins_at : (carry : Carry) (d : State) (item : Item) (first : ℕ) (datagrams : List (List ℕ)) → KnowsFirst d → IsItem d item → MayBeFirst d first → Begins carry (unwrap_or d.first 0) item datagrams → Begins carry first item datagrams
@@ -124,7 +120,7 @@ begins_at carry d (Damaged q) first datagrams knows is may begins = absurd begin
 next_is : (d : State) → ready d ≡ true → after_next d ≡ after_item d
 next_is d now = ap (λ (b : Bool). if b then after_item d else d) now
 
-pub all_same : (carry : Carry) (c d : State) (items : List Item) (t u : Tally) (x y : Known Traffic) → d.first ≡ c.first → PassedAll carry d items t u x y → PassedAll carry c items t u x y
+pub all_same : (carry : Carry) (c d : State) (items : List Item) (t u : Tally) (x y : List Target) → d.first ≡ c.first → PassedAll carry d items t u x y → PassedAll carry c items t u x y
 all_same carry c d items t u x y same all = record {
   fates = all.fates;
   many = all.many;
@@ -156,7 +152,7 @@ few_after carry first t u d item Large is becomes tally = unsent_few t u d (ap (
 few_after carry first t u d item Missing is becomes tally = unsent_few t u d (ap (λ (v : Tally). v.given) tally)
 
 -- a drain that has come so far
-pub record SoFar (told : Option ℕ) (carry : Carry) (c d : State) (t u : Tally) (x y : Known Traffic) (items : List Item) : Type 0 where
+pub record SoFar (told : Option ℕ) (carry : Carry) (c d : State) (t u : Tally) (x y : List Target) (items : List Item) : Type 0 where
   pub gives : Given c items d
   pub all : PassedAll carry c items t u x y
   pub knows : KnowsFirst d
@@ -165,11 +161,12 @@ pub record SoFar (told : Option ℕ) (carry : Carry) (c d : State) (t u : Tally)
   pub few : sent_or_kept d u ≤ sent_or_kept c t
   pub first : d.first ≡ c.first
   pub end : d.end ≡ c.end
+  pub up : SomeUp y
 
-pub so_far_none : (told : Option ℕ) (carry : Carry) (c : State) (t : Tally) (x : Known Traffic) → KnowsFirst c → IsFit c → KeepsPace told c t → SoFar told carry c c t t x x []
-so_far_none told carry c t x knows fit pace = record { gives = refl; all = all_none carry c t x; knows = knows; fit = fit; pace = pace; few = omega arith; first = refl; end = refl }
+pub so_far_none : (told : Option ℕ) (carry : Carry) (c : State) (t : Tally) (x : List Target) → SomeUp x → KnowsFirst c → IsFit c → KeepsPace told c t → SoFar told carry c c t t x x []
+so_far_none told carry c t x up knows fit pace = record { gives = refl; all = all_none carry c t x; knows = knows; fit = fit; pace = pace; few = omega arith; first = refl; end = refl; up = up }
 
-pub so_far_one : (told : Option ℕ) (carry used : Carry) (c d n : State) (t u v : Tally) (x y z : Known Traffic) (items : List Item) (item : Item) (first : ℕ)
+pub so_far_one : (told : Option ℕ) (carry used : Carry) (c d n : State) (t u v : Tally) (x y z : List Target) (items : List Item) (item : Item) (first : ℕ)
     → SoFar told carry c d t u x y items → is_full told (items_in u) ≡ false → ready d ≡ true → IsItem d item → d.next < 2 ^ 62 → n ≡ after_next d → used ≡ carry → first ≡ unwrap_or d.first 0
     → Passed used first item u v y z → SoFar told carry c n t v x z (items ++ item ∷ [])
 so_far_one told carry used c d n t u v x y z items item first s room now is small next same first_is one =
@@ -196,11 +193,12 @@ so_far_one told carry used c d n t u v x y z items item first s room now is smal
       few = let before = s.few in omega (arith, few, before);
       first = first_same ∙ s.first;
       end = ap (λ (k : State). k.end) next ∙ (next_end d ∙ s.end);
+      up = one.up;
     }
 
 -- ---- where it stops
 
-pub stopped : (told : Option ℕ) (carry used : Carry) (c d : State) (t u : Tally) (x y z : Known Traffic) (items : List Item) (item : Item) (first : ℕ)
+pub stopped : (told : Option ℕ) (carry used : Carry) (c d : State) (t u : Tally) (x y z : List Target) (items : List Item) (item : Item) (first : ℕ)
     → SoFar told carry c d t u x y items → is_full told (items_in u) ≡ false → ready d ≡ true → IsItem d item → used ≡ carry → first ≡ unwrap_or d.first 0
     → Broken used first item y z → Stopped told carry c t x z
 stopped told carry used c d t u x y z items item first s room now is same first_is broken =
@@ -216,9 +214,8 @@ stopped told carry used c d t u x y z items item first s room now is same first_
       within = room;
       between = y;
       all = s.all;
-      datagrams = here.datagrams;
-      begins = λ f may. begins_at carry d item f here.datagrams s.knows is (subst (λ (o : Option ℕ). IfSome o (λ m. m ≡ f)) (sym s.first) may) here.begins;
-      sent = here.sent;
+      none = none_weaker (Begins carry (unwrap_or d.first 0) item) (λ datagrams. (f : ℕ) → MayBeFirst c f → Begins carry f item datagrams) y z
+          (λ datagrams begins f may. begins_at carry d item f datagrams s.knows is (subst (λ (o : Option ℕ). IfSome o (λ m. m ≡ f)) (sym s.first) may) begins) here.none;
       only = here.only;
       few = let before = s.few in omega (arith, before);
     }
@@ -228,13 +225,13 @@ stopped told carry used c d t u x y z items item first s room now is same first_
 next_none : (d : State) → ready d ≡ false → after_next d ≡ d
 next_none d none = ap (λ (b : Bool). if b then after_item d else d) none
 
-pub drained_full : (told : Option ℕ) (carry : Carry) (c d : State) (t u : Tally) (x y : Known Traffic) (items : List Item) → SoFar told carry c d t u x y items → is_full told (items_in u) ≡ true → Drained told carry c d t u x y
+pub drained_full : (told : Option ℕ) (carry : Carry) (c d : State) (t u : Tally) (x y : List Target) (items : List Item) → SoFar told carry c d t u x y items → is_full told (items_in u) ≡ true → Drained told carry c d t u x y
 drained_full told carry c d t u x y items s full = record { items = items; gives = s.gives; all = s.all; ends = inr full }
 
-pub stays : (told : Option ℕ) (carry : Carry) (c d n : State) (t u : Tally) (x y : Known Traffic) (items : List Item) → SoFar told carry c d t u x y items → ready d ≡ false → n ≡ after_next d → SoFar told carry c n t u x y items
+pub stays : (told : Option ℕ) (carry : Carry) (c d n : State) (t u : Tally) (x y : List Target) (items : List Item) → SoFar told carry c d t u x y items → ready d ≡ false → n ≡ after_next d → SoFar told carry c n t u x y items
 stays told carry c d n t u x y items s none next = subst (λ (k : State). SoFar told carry c k t u x y items) (sym (next ∙ next_none d none)) s
 
-pub drained_none : (told : Option ℕ) (carry : Carry) (c d n : State) (t u : Tally) (x y : Known Traffic) (items : List Item) → SoFar told carry c d t u x y items → ready d ≡ false → n ≡ after_next d → Drained told carry c n t u x y
+pub drained_none : (told : Option ℕ) (carry : Carry) (c d n : State) (t u : Tally) (x y : List Target) (items : List Item) → SoFar told carry c d t u x y items → ready d ≡ false → n ≡ after_next d → Drained told carry c n t u x y
 drained_none told carry c d n t u x y items s none next =
     let same : n ≡ d = next ∙ next_none d none in
     let there = stays told carry c d n t u x y items s none next in

@@ -1,11 +1,15 @@
 -- A gateway's reading, at the answers that are no datagram, and how it ends.
-use Rattle.std.proofs.Common.{◌≡◌, ℕ, ◌+◌, ◌*◌, ◌<◌, ◌≤◌, Bool, true, false, List, [], ◌∷◌, ◌++◌, Option, None, Some, length, sym, subst, ap, ◌∙◌, refl, inl, inr, arith}
-use Rattle.std.specs.Prelude.{IfSome, Err}
+use Rattle.std.proofs.Common.{◌≡◌, ℕ, ◌+◌, ◌*◌, ◌<◌, ◌≤◌, Bool, true, false, List, [], ◌∷◌, ◌++◌, Option, None, Some, length, sym, subst, ap, ◌∙◌, refl, inl, inr, arith, append_assoc, length-append}
+use Rattle.std.specs.Prelude.{IfSome, Err, slice_index_or}
 use Rattle.std.proofs.Math.Nat.{mul-le-mul_right}
 use Rattle.std.proofs.lemmas.Bool.Decides.{nat_tests}
 use Rattle.std.proofs.lemmas.List.{append-nil}
-use Rattle.drm_links.specs.Told.{Known}
-use Rattle.drm_links.specs.Link.{Answer, Datagram, Idle, Failed, Traffic}
+use Rattle.drm_links.specs.Link.{Answer, Datagram, Idle, Failed}
+use Rattle.drm_links.specs.Told.{HasFailed}
+use Rattle.drm_links.specs.Transmission.{Transmits, SendsNoMore}
+use Rattle.drm_links.proofs.ToldLemmas.{later-Rose}
+use Rattle.several_links.specs.Took.{TookBy}
+use Rattle.several_links.proofs.TookLemmas.{took_none}
 use Rattle.dcp_pft.specs.declared.carry.Carry.{Carry}
 use Rattle.dcp_pft.specs.Limits.{most_fragments}
 use Rattle.dcp_collect.specs.declared.taken.Taken.{Taken}
@@ -24,15 +28,16 @@ use Rattle.drm_convert.specs.Run.{first_of}
 use Rattle.drm_convert.proofs.Taken.{may_taken, first_itself}
 use Rattle.drm_convert.proofs.Ways.{given_first, longer_full}
 use Rattle.drm_gate.specs.declared.tally.Tally.{Tally}
-use Rattle.drm_gate.specs.Passing.{Fate, sent_of, BecomeAll}
+use Rattle.drm_gate.specs.Passing.{Fate, Begins, sent_of, BecomeAll}
+use Rattle.drm_gate.specs.Targets.{Target, TakesMore, TakesNoMore, EachSends}
 use Rattle.drm_gate.specs.Tallies.{nothing, tally_of, items_in}
 use Rattle.drm_gate.specs.Draining.{PassedAll, Drained, Stopped, KeepsPace, sent_or_kept}
-use Rattle.drm_gate.specs.Run.{ComesTo, StopsAt, PassesAll, BreaksOff, StopsSending, most_sends}
+use Rattle.drm_gate.specs.declared.gate.GateEnded.{GateEnded}
+use Rattle.drm_gate.specs.Run.{ComesTo, StopsAt, IsFrontOfOnward, CountsOver, EndsAs, PassesAll, BreaksOff, StopsOver, StopsLast, StopsSending, most_sends}
 use Rattle.drm_gate.specs.declared.reading.Stop.{Stop}
 use Rattle.drm_gate.specs.declared.reading.Stop.TheVariants as stop
 use Rattle.drm_gate.specs.Reading.{TakesFirst, ReadsTo, StopsReading, EndsReading}
-use Rattle.drm_gate.specs.Resting.{MakesSends}
-use Rattle.drm_gate.proofs.RestingLemmas.{more_sends, few_sends}
+use Rattle.drm_gate.proofs.TargetLemmas.{more_sent, few_sent_each}
 use Rattle.drm_gate.proofs.SendingLemmas.{then_no_more}
 use Rattle.drm_gate.proofs.Tallying.{items_plus, items_all}
 use Rattle.drm_gate.proofs.DrainingLemmas.{all_then}
@@ -43,16 +48,16 @@ use Rattle.drm_gate.proofs.Reaching.{Reaches, behind, giving, reaches_open, room
 -- ---- how much was sent
 
 -- a stretch that began anew, and sent no more packets than datagrams were taken
-only_so_many : (rules : Rules) (carry : Carry) (c : State) (items : List Item) (t : Tally) (x y : Known Traffic) → t.given ≤ rules.limit → PassedAll carry c items nothing t x y
-    → MakesSends (most_fragments * rules.limit) x y
+only_so_many : (rules : Rules) (carry : Carry) (c : State) (items : List Item) (t : Tally) (x y : List Target) → t.given ≤ rules.limit → PassedAll carry c items nothing t x y
+    → EachSends (most_fragments * rules.limit) x y
 only_so_many rules carry c items t x y few all =
     let given : t.given ≡ (tally_of all.fates).given = ap (λ (u : Tally). u.given) (tally_is carry c items t x y all) in
-    few_sends (most_fragments * (tally_of all.fates).given) (most_fragments * rules.limit) x y (omega (arith, few, given)) all.only
+    few_sent_each (most_fragments * (tally_of all.fates).given) (most_fragments * rules.limit) x y (omega (arith, few, given)) all.only
 
-only_all : (rules : Rules) (carry : Carry) (c : State) (items : List Item) (t : Tally) (x y : Known Traffic) → t.given ≤ rules.limit → PassedAll carry c items nothing t x y
-    → MakesSends (most_sends rules) x y
+only_all : (rules : Rules) (carry : Carry) (c : State) (items : List Item) (t : Tally) (x y : List Target) → t.given ≤ rules.limit → PassedAll carry c items nothing t x y
+    → EachSends (most_sends rules) x y
 only_all rules carry c items t x y few all =
-    few_sends (most_fragments * rules.limit) (most_sends rules) x y (omega arith) (only_so_many rules carry c items t x y few all)
+    few_sent_each (most_fragments * rules.limit) (most_sends rules) x y (omega arith) (only_so_many rules carry c items t x y few all)
 
 -- ---- the next answer is `Idle`
 
@@ -67,7 +72,7 @@ pub record OnIdle (rules : Rules) (carry : Carry) (hears : List Answer → Type 
   pub not_ended : HaveEnded answers → ⊥
   pub few : length answers ≤ taken * rules.idle + (idles + 1)
 
-module _ (rules : Rules) (carry : Carry) (hears hears' : List Answer → Type 0) (x y : Known Traffic) (c : State) (t : Tally) (taken idles : ℕ) (r : Reaches rules carry hears x y c t taken idles) where
+module _ (rules : Rules) (carry : Carry) (hears hears' : List Answer → Type 0) (x y : List Target) (c : State) (t : Tally) (taken idles : ℕ) (r : Reaches rules carry hears x y c t taken idles) where
   pub on_idle : HearsMore hears hears' Idle → OnIdle rules carry hears' c taken idles r.items
   on_idle came =
       let l = one_longer r.answers Idle (taken * rules.idle + idles) r.few in
@@ -165,13 +170,67 @@ module _ (rules : Rules) (carry : Carry) (hears hears' : List Answer → Type 0)
 may_before : (state last : State) (items : List Item) (first : ℕ) → Given state items last → MayBeFirst last first → MayBeFirst state first
 may_before state last items first gives may = subst (λ (o : Option ℕ). IfSome o (λ n. n ≡ first)) (given_first items state last gives) may
 
-stops_at : (rules : Rules) (carry : Carry) (hears : List Answer → Type 0) (x y z : Known Traffic) (answers before later : List Answer) (took : List Taken) (items : List Item) (c state : State) (t : Tally)
+-- ---- over one link
+
+-- it was up from the start
+pub took_from : (datagrams : List (List ℕ)) (b m : Target) → b.up ≡ true → TakesMore datagrams b m → TookBy m.up datagrams b.known m.known
+took_from datagrams b m was more = more [] b.known (subst (λ (u : Bool). TookBy u [] b.known b.known) (sym was) (took_none b.known))
+
+module _ (rules : Rules) (carry : Carry) (answers : List Answer) (sent : List (List ℕ)) (IsPart : List (List ℕ) → Type 0)
+    (at : (part : List (List ℕ)) → IsPart part → StopsAt rules carry answers (sent ++ part)) (goes_on : GoesOn rules answers) where
+  front_at : (part : List (List ℕ)) → IsPart part → IsFrontOfOnward rules carry answers (sent ++ part)
+  front_at part holds = front_follows rules carry answers (sent ++ part) (at part holds) goes_on
+
+  -- what goes less far than these is a front, too
+  front_before : (front rest part : List (List ℕ)) → sent ≡ front ++ rest → 1 ≤ length rest → IsPart part → IsFrontOfOnward rules carry answers front
+  front_before front rest part are some holds more ending fates other onward =
+      let (others, any, whole) = front_at part holds more ending fates other onward in (
+        rest ++ (part ++ others),
+        omega (arith, some, length-append rest (part ++ others)),
+        whole ∙ (ap (λ l. (l ++ part) ++ others) are ∙ (append_assoc (front ++ rest) part others ∙ append_assoc front rest (part ++ others))),
+      )
+
+  over_by : (u : Bool) (b m a : Target) (last : List (List ℕ)) → IsPart last → m.up ≡ u → b.up ≡ true → TakesMore sent b m → TakesNoMore u IsPart m a → StopsOver rules carry answers b a
+  over_by true b m a last holds is was more (part, here, none, rose) =
+      let took = subst (λ (u : Bool). TookBy u sent b.known m.known) is (took_from sent b m was more) in
+      record {
+        datagrams = sent ++ part;
+        sent = then_no_more sent part b.known m.known a.known took.sent none;
+        rose = later-Rose b.known.faults m.known.faults a.known.faults took.later rose;
+        front = front_at part here;
+      }
+  over_by false b m a last holds is was more same =
+      let took = subst (λ (u : Bool). TookBy u sent b.known m.known) is (took_from sent b m was more) in
+      subst (λ (t : Target). StopsOver rules carry answers b t) (sym same)
+      (record { datagrams = took.front; sent = took.sent; rose = took.rose; front = front_before took.front took.rest last took.are took.some holds })
+
+  -- the last one
+  abbrev LastPart : Target → Target → Type 0
+  LastPart m a = (part : List (List ℕ)) × IsPart part × Transmits m.known a.known (SendsNoMore part) × HasFailed m.known a.known
+
+  last_part : (u : Bool) (m a : Target) → m.up ≡ u → m.up ≡ true → TakesNoMore u IsPart m a → LastPart m a
+  last_part true m a is was none = none
+  last_part false m a is was none = absurd (let clash : true ≡ false = sym was ∙ is in cc)
+
+  at_last : (b m a : Target) → m.up ≡ true → TakesMore sent b m → LastPart m a → StopsLast rules carry answers b a
+  at_last b m a was more (part, holds, none, rose) = record {
+    datagrams = sent ++ part;
+    sent = λ up.
+        let took = subst (λ (u : Bool). TookBy u sent b.known m.known) was (took_from sent b m up more) in
+        then_no_more sent part b.known m.known a.known took.sent none;
+    at = at part holds;
+  }
+
+-- ---- over all links
+
+stops_at : (rules : Rules) (carry : Carry) (hears : List Answer → Type 0) (x y z : List Target) (answers before later : List Answer) (took : List Taken) (items : List Item) (c state : State) (t : Tally)
     → hears answers → length answers ≤ most_answers rules → GoesOn rules answers → answers ≡ before ++ later → Gave rules before took items c → ComesTo rules answers later c state
     → ((first : ℕ) → MayBeFirst state first → MayBeFirst c first) → PassedAll carry c items nothing t x y → (st : Stopped rules.frames carry state t y z) → st.tally.given ≤ rules.limit → StopsSending rules carry hears x z
 stops_at rules carry hears x y z answers before later took items c state t heard few goes_on are gave comes may passed st few_given =
     let all : PassedAll carry state (items ++ st.items) nothing st.tally x st.between = all_then carry c state items st.items nothing t st.tally x y st.between may passed st.all in
     let count : items_in st.tally ≡ length (items ++ st.items) = count_of carry state (items ++ st.items) st.tally x st.between all in
-    let at : StopsAt rules carry answers (sent_of all.fates ++ st.datagrams) = record {
+    let IsPart : List (List ℕ) → Type 0 = λ part. (first : ℕ) → MayBeFirst state first → Begins carry first st.item part in
+    let at : (part : List (List ℕ)) → IsPart part → StopsAt rules carry answers (sent_of all.fates ++ part) = λ part begins. record {
       before = before;
       later = later;
       are = are;
@@ -190,26 +249,36 @@ stops_at rules carry hears x y z answers before later took items c state t heard
       within = ap (λ n. is_full rules.frames n) (sym count) ∙ st.within;
       fates = all.fates;
       become = λ f is. all.become f (may_before state st.mid st.items f st.gives is);
-      datagrams = st.datagrams;
-      begins = λ f is. st.begins f (may_before state st.mid st.items f st.gives is);
+      datagrams = part;
+      begins = λ f is. begins f (may_before state st.mid st.items f st.gives is);
       sent_is = refl;
     } in
+    let many = all.sent.as_many in
+    let last_at : (none : Target) → LastPart rules carry answers (sent_of all.fates) IsPart at goes_on (slice_index_or st.between st.none.last none) (slice_index_or z st.none.last none)
+    = λ none. last_part rules carry answers (sent_of all.fates) IsPart at goes_on (slice_index_or st.between st.none.last none).up (slice_index_or st.between st.none.last none) (slice_index_or z st.none.last none)
+    refl (st.none.was_up none) (st.none.each st.none.last none st.none.within) in
     record {
       answers = answers;
       heard = heard;
       few = few;
       goes_on = goes_on;
-      datagrams = sent_of all.fates ++ st.datagrams;
-      sent = then_no_more (sent_of all.fates) st.datagrams x st.between z all.sent st.sent;
+      as_many = st.none.as_many ∙ many;
+      down = λ k none within. st.none.down k none (omega (arith, within, many));
+      each = λ k none within up.
+          over_by rules carry answers (sent_of all.fates) IsPart at goes_on (slice_index_or st.between k none).up (slice_index_or x k none) (slice_index_or st.between k none) (slice_index_or z k none)
+          (last_at none).0 (last_at none).1 refl up (all.sent.each k none within) (st.none.each k none (omega (arith, within, many)));
       only =
-          few_sends (most_fragments * rules.limit + most_fragments) (most_sends rules) x z (omega arith)
-          (more_sends (most_fragments * rules.limit) most_fragments x st.between z (only_so_many rules carry state (items ++ st.items) st.tally x st.between few_given all) st.only);
-      at = at;
-      front = front_follows rules carry answers (sent_of all.fates ++ st.datagrams) at goes_on;
+          few_sent_each (most_fragments * rules.limit + most_fragments) (most_sends rules) x z (omega arith)
+          (more_sent (most_fragments * rules.limit) most_fragments x st.between z (only_so_many rules carry state (items ++ st.items) st.tally x st.between few_given all) st.only);
+      last = st.none.last;
+      within = (let within = st.none.within in omega (arith, within, many));
+      at_last = λ none.
+          at_last rules carry answers (sent_of all.fates) IsPart at goes_on (slice_index_or x st.none.last none) (slice_index_or st.between st.none.last none) (slice_index_or z st.none.last none)
+          (st.none.was_up none) (all.sent.each st.none.last none (let within = st.none.within in omega (arith, within, many))) (last_at none);
     }
 
 -- at what a datagram made ready
-pub on_stop : (rules : Rules) (carry : Carry) (hears hears' : List Answer → Type 0) (x y z : Known Traffic) (c : State) (t : Tally) (taken idles : ℕ) (bytes : List ℕ)
+pub on_stop : (rules : Rules) (carry : Carry) (hears hears' : List Answer → Type 0) (x y z : List Target) (c : State) (t : Tally) (taken idles : ℕ) (bytes : List ℕ)
     → Reaches rules carry hears x y c t taken idles → HearsMore hears hears' (Datagram bytes) → TakesFirst rules.frames carry bytes c t y z → StopsSending rules carry hears' x z
 on_stop rules carry hears hears' x y z c t taken idles bytes r came first =
     let long = one_turn (length (r.answers ++ Datagram bytes ∷ [])) taken idles rules.idle (one_longer r.answers (Datagram bytes) (taken * rules.idle + idles) r.few) r.fewer in
@@ -222,7 +291,7 @@ on_stop rules carry hears hears' x y z c t taken idles bytes r came first =
 -- ---- all that was read was taken
 
 -- more items are counted than before
-counted_more : (carry : Carry) (c : State) (items : List Item) (t u : Tally) (x y : Known Traffic) → PassedAll carry c items t u x y → items_in u ≡ items_in t + length items
+counted_more : (carry : Carry) (c : State) (items : List Item) (t u : Tally) (x y : List Target) → PassedAll carry c items t u x y → items_in u ≡ items_in t + length items
 counted_more carry c items t u x y all = ap items_in all.tally ∙ (items_plus t (tally_of all.fates) ∙ ap (λ n. items_in t + n) (items_all all.fates ∙ all.many))
 
 none_past : (told : Option ℕ) (m n k : ℕ) → is_full told m ≡ true → n ≡ m + k → IfSome told (λ b. n ≤ b) → k ≡ 0
@@ -237,7 +306,7 @@ become_none carry first [] none = tt
 become_none carry first (fate ∷ fates) none = absurd (omega (arith, none))
 
 -- nothing is passed on past the told number
-past_none : (told : Option ℕ) (carry : Carry) (c mid : State) (items : List Item) (t u : Tally) (x y : Known Traffic) → is_full told (items_in t) ≡ true → IfSome told (λ n. items_in u ≤ n)
+past_none : (told : Option ℕ) (carry : Carry) (c mid : State) (items : List Item) (t u : Tally) (x y : List Target) → is_full told (items_in t) ≡ true → IfSome told (λ n. items_in u ≤ n)
     → PassedAll carry c items t u x y → PassedAll carry mid [] t u x y
 past_none told carry c mid items t u x y full below all =
     let none : length items ≡ 0 = none_past told (items_in t) (items_in u) (length items) full (counted_more carry c items t u x y all) below in
@@ -250,7 +319,7 @@ past_none told carry c mid items t u x y full below all =
       only = all.only;
     }
 
-module _ (rules : Rules) (carry : Carry) (hears : List Answer → Type 0) (x y : Known Traffic) (c : State) (t : Tally) (r : ReadsTo rules carry hears x y c t) where
+module _ (rules : Rules) (carry : Carry) (hears : List Answer → Type 0) (x y : List Target) (c : State) (t : Tally) (r : ReadsTo rules carry hears x y c t) where
   -- where more may be given
   open_gave : c ≡ r.mid → Gave rules r.answers r.taken r.items c
   open_gave same = subst (λ (s : State). Gave rules r.answers r.taken r.items s) (sym same) r.gave
@@ -260,7 +329,7 @@ module _ (rules : Rules) (carry : Carry) (hears : List Answer → Type 0) (x y :
       let at_mid : PassedAll carry r.mid r.items nothing t x y = subst (λ (l : List Item). PassedAll carry r.mid l nothing t x y) all r.all in
       subst (λ (s : State). PassedAll carry s r.items nothing t x y) (sym same) at_mid
 
-  ends_open : (d : State) (u : Tally) (z : Known Traffic) → (c ≡ r.mid) × (up_to rules.frames r.items ≡ r.items) → Drained rules.frames carry (after_finish c rules.frames) d t u y z → KeepsPace rules.frames d u → IsFit d
+  ends_open : (d : State) (u : Tally) (z : List Target) → (c ≡ r.mid) × (up_to rules.frames r.items ≡ r.items) → Drained rules.frames carry (after_finish c rules.frames) d t u y z → KeepsPace rules.frames d u → IsFit d
       → u.given ≤ rules.limit → PassesAll rules carry hears x z u
   ends_open d u z same drained pace fit few =
       let h = behind rules.frames carry c (after_finish c rules.frames) d r.items t u x y z (λ f may. may) (open_passed same) drained pace fit in
@@ -282,7 +351,7 @@ module _ (rules : Rules) (carry : Carry) (hears : List Answer → Type 0) (x y :
         tally_is = tally_is carry (after_finish c rules.frames) (up_to rules.frames (r.items ++ h.more)) u x z h.all;
       }
 
-  ends_full : (d : State) (u : Tally) (z : Known Traffic) → is_full rules.frames (items_in t) ≡ true → Drained rules.frames carry (after_finish c rules.frames) d t u y z → KeepsPace rules.frames d u
+  ends_full : (d : State) (u : Tally) (z : List Target) → is_full rules.frames (items_in t) ≡ true → Drained rules.frames carry (after_finish c rules.frames) d t u y z → KeepsPace rules.frames d u
       → u.given ≤ rules.limit → PassesAll rules carry hears x z u
   ends_full d u z full drained pace few =
       let rest = giving (after_finish r.mid rules.frames) r.fit.0 r.fit.1 in
@@ -307,7 +376,7 @@ module _ (rules : Rules) (carry : Carry) (hears : List Answer → Type 0) (x y :
         tally_is = tally_is carry r.mid (up_to rules.frames r.items) u x z all;
       }
 
-  pub ends : (f d : State) (u : Tally) (z : Known Traffic) → f ≡ after_finish c rules.frames → Drained rules.frames carry f d t u y z → KeepsPace rules.frames d u → IsFit d → u.given ≤ rules.limit → PassesAll rules carry hears x z u
+  pub ends : (f d : State) (u : Tally) (z : List Target) → f ≡ after_finish c rules.frames → Drained rules.frames carry f d t u y z → KeepsPace rules.frames d u → IsFit d → u.given ≤ rules.limit → PassesAll rules carry hears x z u
   ends f d u z is drained pace fit few =
       by (is_full rules.frames (items_in t)) refl (subst (λ (s : State). Drained rules.frames carry s d t u y z) is drained)
     where
@@ -320,14 +389,14 @@ module _ (rules : Rules) (carry : Carry) (hears : List Answer → Type 0) (x y :
   room_by m n k true full is room = absurd (let clash : true ≡ false = sym (longer_full rules.frames m n (omega (arith, is)) full) ∙ room in cc)
   room_by m n k false still is room = still
 
-  stopped_here : (z : Known Traffic) → Stopped rules.frames carry (after_finish c rules.frames) t y z → sent_or_kept c t ≤ rules.limit → (c ≡ r.mid) × (up_to rules.frames r.items ≡ r.items)
+  stopped_here : (z : List Target) → Stopped rules.frames carry (after_finish c rules.frames) t y z → sent_or_kept c t ≤ rules.limit → (c ≡ r.mid) × (up_to rules.frames r.items ≡ r.items)
       → StopsSending rules carry hears x z
   stopped_here z st few same =
       stops_at rules carry hears x y z r.answers r.answers [] r.taken r.items c (after_finish c rules.frames) t
       r.heard r.few r.reading.goes_on (sym (append-nil r.answers)) (open_gave same.0) (inr (r.word, refl, r.reading.ends, refl))
       (λ f may. may) (open_passed same) st (let given = st.few in omega (arith, few, given))
 
-  pub ends_stopped : (f : State) (z : Known Traffic) → f ≡ after_finish c rules.frames → Stopped rules.frames carry f t y z → sent_or_kept c t ≤ rules.limit → StopsSending rules carry hears x z
+  pub ends_stopped : (f : State) (z : List Target) → f ≡ after_finish c rules.frames → Stopped rules.frames carry f t y z → sent_or_kept c t ≤ rules.limit → StopsSending rules carry hears x z
   ends_stopped f z is stopped few =
       let st : Stopped rules.frames carry (after_finish c rules.frames) t y z = subst (λ (s : State). Stopped rules.frames carry s t y z) is stopped in
       let count : items_in st.tally ≡ items_in t + length st.items = counted_more carry (after_finish c rules.frames) st.items t st.tally y st.between st.all in
@@ -336,6 +405,13 @@ module _ (rules : Rules) (carry : Carry) (hears : List Answer → Type 0) (x y :
 
 -- ---- what stopped a reading is how it ends
 
-pub stops_reading : (rules : Rules) (carry : Carry) (hears : List Answer → Type 0) (x y : Known Traffic) (why : Stop) → StopsReading rules carry hears x y why → EndsReading rules carry hears x y (Err why)
+pub stops_reading : (rules : Rules) (carry : Carry) (hears : List Answer → Type 0) (x y : List Target) (why : Stop) → StopsReading rules carry hears x y why → EndsReading rules carry hears x y (Err why)
 stops_reading rules carry hears x y stop.From is = is
 stops_reading rules carry hears x y stop.To is = is
+
+-- ---- and where it was finished, by whether some failed
+
+pub counts_over : (rules : Rules) (carry : Carry) (hears : List Answer → Type 0) (x y : List Target) (sent : Tally) (ended : GateEnded) → PassesAll rules carry hears x y sent → CountsOver y sent ended
+    → EndsAs rules carry hears x y ended
+counts_over rules carry hears x y sent ended passes (inl (up, is)) = subst (λ (e : GateEnded). EndsAs rules carry hears x y e) (sym is) (up, sent, passes, refl)
+counts_over rules carry hears x y sent ended passes (inr (not, is)) = subst (λ (e : GateEnded). EndsAs rules carry hears x y e) (sym is) (not, sent, passes)

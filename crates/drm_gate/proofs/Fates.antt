@@ -40,14 +40,14 @@ carried_same (Pft m mtu) sequence i packet a b some p q = sym (one_datagram m mt
 some_bytes : (packet : List ℕ) → IsAny packet → 1 ≤ length packet
 some_bytes packet any = let l = packet_long any.0 packet any.1 in omega (arith, l)
 
-one_sending : (carry : Carry) (sequence : ℕ) (packet : List ℕ) (xs ys : List (List ℕ)) → IsAny packet → AreOf carry sequence packet xs → AreOf carry sequence packet ys → xs ≡ ys
+pub one_sending : (carry : Carry) (sequence : ℕ) (packet : List ℕ) (xs ys : List (List ℕ)) → IsAny packet → AreOf carry sequence packet xs → AreOf carry sequence packet ys → xs ≡ ys
 one_sending carry sequence packet xs ys any a b =
     let size : length xs ≡ length ys = a.many ∙ sym b.many in
     let (rest, are) = front_list xs ys (omega (arith, size))
     (λ i none below. carried_same carry sequence i packet (slice_index_or xs i none) (slice_index_or ys i none) (some_bytes packet any) (a.each i none below) (b.each i none (omega (arith, below, size)))) in
     sym (no_rest xs ys rest are (omega (arith, size)))
 
-some_first : (carry : Carry) (sequence : ℕ) (packet : List ℕ) (xs ys : List (List ℕ)) → IsAny packet → AreSome carry sequence packet xs → AreOf carry sequence packet ys → IsFrontOf ys xs
+pub some_first : (carry : Carry) (sequence : ℕ) (packet : List ℕ) (xs ys : List (List ℕ)) → IsAny packet → AreSome carry sequence packet xs → AreOf carry sequence packet ys → IsFrontOf ys xs
 some_first carry sequence packet xs ys any a b =
     let less = a.fewer in
     let many = b.many in

@@ -1,5 +1,5 @@
 -- What was sent before a send failed is a front of all that would have been sent.
-use Rattle.std.proofs.Common.{◌≡◌, ℕ, List, [], ◌∷◌, ◌++◌, Option, Some, sym, subst, ap, ◌∙◌, refl, inl, inr, arith, append_assoc, length-append}
+use Rattle.std.proofs.Common.{◌≡◌, ℕ, List, [], ◌∷◌, ◌++◌, Option, Some, sym, subst, ap, ap₂, ◌∙◌, refl, inl, inr, arith, append_assoc, length-append}
 use Rattle.std.specs.Prelude.{IfSome}
 use Rattle.std.proofs.lemmas.List.{append-nil}
 use Rattle.std.proofs.lemmas.List.Elements.{filter_map-append}
@@ -7,7 +7,8 @@ use Rattle.drm_links.specs.Link.{Answer, Datagram, datagram_of}
 use Rattle.dcp_pft.specs.declared.carry.Carry.{Carry}
 use Rattle.dcp_collect.specs.declared.taken.Taken.{Taken}
 use Rattle.dcp_collect.specs.State.{State, made, after_finish}
-use Rattle.dcp_collect.specs.Runs.{Item, Takes, Steps}
+use Rattle.dcp_collect.specs.Runs.{Item, Takes, Gives, Steps, up_to}
+use Rattle.dcp_collect.proofs.Decoded.{one_decoding}
 use Rattle.report_lines.specs.declared.report.EndWord.{EndWord}
 use Rattle.mod_receiver.specs.declared.rules.Rules.{Rules}
 use Rattle.mod_receiver.specs.Reading.{datagrams, GoesOn, EndsBy}
@@ -18,6 +19,7 @@ use Rattle.capture_items.specs.Reading as converting
 use Rattle.drm_convert.specs.Run.{first_of}
 use Rattle.capture_items.specs.Reading.{ComesAt, Terms}
 use Rattle.collect_laws.proofs.Runs.{steps_part}
+use Rattle.collect_laws.proofs.Unique.{one_giving}
 use Rattle.mod_receiver.proofs.OneReading.{one_reading}
 use Rattle.drm_convert.proofs.Taken.{may_taken, first_itself}
 use Rattle.drm_convert.proofs.Ways.{Starts, starts_more, starts_up_to, taken_starts, taken_first, finished_starts, given_first, gives_first, one_way}
@@ -154,3 +156,14 @@ module _ (rules : Rules) (carry : Carry) (answers : List Answer) (sent : List (L
       by : ComesTo rules answers s.later s.mid s.state → IsFrontOf (sent_of fates) sent
       by (inl (bytes, answer, is, takes)) = taken_case more fates o bytes answer is takes
       by (inr (word, none, ends, is)) = finished_case more fates o none is (no_more one_reading rules answers more word ending goes_on ends other)
+
+-- ---- what becomes of datagrams is one
+
+pub one_onward : (rules : Rules) (carry : Carry) (ds : List (List ℕ)) (fs gs : List Fate) → IsOnward rules carry ds fs → IsOnward rules carry ds gs → sent_of fs ≡ sent_of gs
+one_onward rules carry ds fs gs a b =
+    let steps = one_way (made rules.window rules.first) a.run.mid b.run.mid ds a.taken b.taken a.run.during b.run.during a.run.steps b.run.steps in
+    let gives : Gives (after_finish a.run.mid rules.frames) b.run.rest b.run.after = subst (λ (s : State). Gives (after_finish s rules.frames) b.run.rest b.run.after) steps.2 b.run.gives in
+    let rest = one_giving one_decoding (after_finish a.run.mid rules.frames) a.run.after b.run.after a.run.rest b.run.rest a.run.gives gives in
+    let items : b.items ≡ a.items = b.run.are ∙ (ap₂ (λ x y. up_to rules.frames (x ++ y)) steps.1 rest.0 ∙ sym a.run.are) in
+    let become : BecomeAll carry (first_of a.run.mid) b.items gs = subst (λ (s : State). BecomeAll carry (first_of s) b.items gs) steps.2 b.become in
+    all_sent carry (first_of a.run.mid) a.items fs gs a.become (subst (λ (l : List Item). BecomeAll carry (first_of a.run.mid) l gs) items become)

@@ -9,3 +9,4 @@ pub mod RestingLemmas
 pub mod SendingLemmas
 pub mod TakingLemmas
 pub mod Tallying
+pub mod TargetLemmas

@@ -3,8 +3,7 @@ use Rattle.std.proofs.Common.{◌≡◌, ℕ, ◌+◌, ◌*◌, ◌<◌, ◌≤�
 use Rattle.std.specs.Prelude.{IfSome}
 use Rattle.std.proofs.lemmas.Bool.Decides.{nat_tests}
 use Rattle.std.proofs.lemmas.List.{take-append-le, take_all, take_at}
-use Rattle.drm_links.specs.Told.{Known}
-use Rattle.drm_links.specs.Link.{Answer, Datagram, Traffic}
+use Rattle.drm_links.specs.Link.{Answer, Datagram}
 use Rattle.dcp_pft.specs.declared.carry.Carry.{Carry}
 use Rattle.dcp_collect.specs.declared.taken.Taken.{Taken}
 use Rattle.dcp_collect.specs.State.{State, made, ready, after_item}
@@ -24,6 +23,7 @@ use Rattle.capture_items.specs.Reading.{Given, is_full}
 use Rattle.drm_convert.proofs.Taken.{may_taken}
 use Rattle.drm_convert.proofs.Ways.{gives_first, one_way, longer_full}
 use Rattle.drm_gate.specs.declared.tally.Tally.{Tally}
+use Rattle.drm_gate.specs.Targets.{Target}
 use Rattle.drm_gate.specs.Tallies.{nothing, tally_of, items_in}
 use Rattle.drm_gate.specs.Draining.{PassedAll, Drained, KeepsPace, sent_or_kept}
 use Rattle.drm_gate.specs.Reading.{TakesOne, ReadsTo}
@@ -62,14 +62,14 @@ up_to_enough None items more full = absurd (let clash : false ≡ true = full in
 up_to_enough (Some n) items more full = sym (take-append-le n items more (grind (arith, nat_tests)))
 
 -- the count of a stretch that began anew
-pub count_of : (carry : Carry) (c : State) (items : List Item) (t : Tally) (x y : Known Traffic) → PassedAll carry c items nothing t x y → items_in t ≡ length items
+pub count_of : (carry : Carry) (c : State) (items : List Item) (t : Tally) (x y : List Target) → PassedAll carry c items nothing t x y → items_in t ≡ length items
 count_of carry c items t x y all = ap items_in (all.tally ∙ nothing_plus (tally_of all.fates)) ∙ (items_all all.fates ∙ all.many)
 
-pub tally_is : (carry : Carry) (c : State) (items : List Item) (t : Tally) (x y : Known Traffic) → (all : PassedAll carry c items nothing t x y) → t ≡ tally_of all.fates
+pub tally_is : (carry : Carry) (c : State) (items : List Item) (t : Tally) (x y : List Target) → (all : PassedAll carry c items nothing t x y) → t ≡ tally_of all.fates
 tally_is carry c items t x y all = all.tally ∙ nothing_plus (tally_of all.fates)
 
 -- a stretch that was given and passed on behind what came before
-pub record Behind (told : Option ℕ) (carry : Carry) (state d : State) (items : List Item) (t : Tally) (x z : Known Traffic) : Type 0 where
+pub record Behind (told : Option ℕ) (carry : Carry) (state d : State) (items : List Item) (t : Tally) (x z : List Target) : Type 0 where
   pub more : List Item
   pub last : State
   pub gives : Gives state more last
@@ -81,7 +81,7 @@ pub record Behind (told : Option ℕ) (carry : Carry) (state d : State) (items :
 pub below_of : (told : Option ℕ) (m n : ℕ) → m ≡ n → IfSome told (λ t. m ≤ t) → IfSome told (λ t. n ≤ t)
 below_of told m n is below = subst (λ (k : ℕ). IfSome told (λ t. k ≤ t)) is below
 
-pub behind : (told : Option ℕ) (carry : Carry) (c state d : State) (items : List Item) (t u : Tally) (x y z : Known Traffic) → ((first : ℕ) → MayBeFirst state first → MayBeFirst c first)
+pub behind : (told : Option ℕ) (carry : Carry) (c state d : State) (items : List Item) (t u : Tally) (x y z : List Target) → ((first : ℕ) → MayBeFirst state first → MayBeFirst c first)
     → PassedAll carry c items nothing t x y → Drained told carry state d t u y z → KeepsPace told d u → IsFit d → Behind told carry state d items u x z
 behind told carry c state d items t u x y z may first drained pace fit =
     let all : PassedAll carry state (items ++ drained.items) nothing u x z = all_then carry c state items drained.items nothing t u x y z may first drained.all in
@@ -117,7 +117,7 @@ behind told carry c state d items t u x y z may first drained pace fit =
 
 -- ---- a reading that has come so far: nothing is finished yet
 
-pub record Reaches (rules : Rules) (carry : Carry) (hears : List Answer → Type 0) (x y : Known Traffic) (c : State) (t : Tally) (taken idles : ℕ) : Type 0 where
+pub record Reaches (rules : Rules) (carry : Carry) (hears : List Answer → Type 0) (x y : List Target) (c : State) (t : Tally) (taken idles : ℕ) : Type 0 where
   pub answers : List Answer
   pub heard : hears answers
   pub goes_on : GoesOn rules answers
@@ -147,7 +147,7 @@ room_at_start : (told : Option ℕ) → IfSome told (λ n. 0 < n) → is_full to
 room_at_start None some = refl
 room_at_start (Some n) some = let l : 0 < n = some in grind (arith, nat_tests)
 
-starts : (rules : Rules) (carry : Carry) (hears : List Answer → Type 0) (x : Known Traffic) → hears []
+starts : (rules : Rules) (carry : Carry) (hears : List Answer → Type 0) (x : List Target) → hears []
     → 1 ≤ rules.window → 0 < rules.limit → 0 < rules.idle → IfSome rules.frames (λ n. 0 < n) → Reaches rules carry hears x x (made rules.window rules.first) nothing 0 0
 starts rules carry hears x none window limit idle some = record {
   answers = [];
@@ -172,7 +172,7 @@ starts rules carry hears x none window limit idle some = record {
   few = omega arith;
 }
 
-pub at_start : (rules : Rules) (carry : Carry) (hears : List Answer → Type 0) (x : Known Traffic) (c : State) (t : Tally) → hears []
+pub at_start : (rules : Rules) (carry : Carry) (hears : List Answer → Type 0) (x : List Target) (c : State) (t : Tally) → hears []
     → c ≡ made rules.window rules.first → t ≡ nothing → 1 ≤ rules.window → 0 < rules.limit → 0 < rules.idle → IfSome rules.frames (λ n. 0 < n) → Reaches rules carry hears x x c t 0 0
 at_start rules carry hears x c t none is_made is_new window limit idle some =
     subst (λ (d : State). Reaches rules carry hears x x d t 0 0) (sym is_made)
@@ -192,7 +192,7 @@ enough_given : (rules : Rules) (told : Option ℕ) (answers : List Answer) (c : 
 enough_given rules None answers c took items gave full = absurd (let clash : false ≡ true = full in cc)
 enough_given rules (Some m) answers c took items gave full = (took, items, c, gave, grind (arith, nat_tests))
 
-pub room_of : (rules : Rules) (carry : Carry) (hears : List Answer → Type 0) (x y : Known Traffic) (c : State) (t : Tally) (taken idles : ℕ) (r : Reaches rules carry hears x y c t taken idles)
+pub room_of : (rules : Rules) (carry : Carry) (hears : List Answer → Type 0) (x y : List Target) (c : State) (t : Tally) (taken idles : ℕ) (r : Reaches rules carry hears x y c t taken idles)
     → is_full rules.frames (length r.items) ≡ false
 room_of rules carry hears x y c t taken idles r = ap (λ n. is_full rules.frames n) (sym (count_of carry c r.items t x y r.all)) ∙ r.room
 
@@ -200,7 +200,7 @@ pub not_given : (rules : Rules) (answers : List Answer) (c : State) (took : List
     → Gave rules answers took items c → is_full rules.frames (length items) ≡ false → HasGiven rules answers rules.frames → ⊥
 not_given rules answers c took items gave room = none_given rules answers rules.frames took items c one_way gave (few_given rules.frames items room)
 
-pub reaches_open : (rules : Rules) (carry : Carry) (hears : List Answer → Type 0) (x y : Known Traffic) (c : State) (t : Tally) (taken idles : ℕ) (r : Reaches rules carry hears x y c t taken idles)
+pub reaches_open : (rules : Rules) (carry : Carry) (hears : List Answer → Type 0) (x y : List Target) (c : State) (t : Tally) (taken idles : ℕ) (r : Reaches rules carry hears x y c t taken idles)
     → IsOpen rules r.answers
 reaches_open rules carry hears x y c t taken idles r =
     let d : length (datagrams r.answers) ≡ taken = r.taken_is in
@@ -211,7 +211,7 @@ reaches_open rules carry hears x y c t taken idles r =
 
 -- ---- the next answer is a datagram
 
-pub record OnDatagram (rules : Rules) (carry : Carry) (hears : List Answer → Type 0) (x y : Known Traffic) (d : State) (t : Tally) (taken : ℕ) : Type 0 where
+pub record OnDatagram (rules : Rules) (carry : Carry) (hears : List Answer → Type 0) (x y : List Target) (d : State) (t : Tally) (taken : ℕ) : Type 0 where
   pub answers : List Answer
   pub heard : hears answers
   pub goes_on : GoesOn rules answers
@@ -229,7 +229,7 @@ pub record OnDatagram (rules : Rules) (carry : Carry) (hears : List Answer → T
   pub not_ended : HaveEnded answers → ⊥
   pub few : length answers ≤ (taken + 1) * rules.idle
 
-pub on_datagram : (rules : Rules) (carry : Carry) (hears hears' : List Answer → Type 0) (x y z : Known Traffic) (c d : State) (t u : Tally) (taken idles : ℕ) (bytes : List ℕ)
+pub on_datagram : (rules : Rules) (carry : Carry) (hears hears' : List Answer → Type 0) (x y z : List Target) (c d : State) (t u : Tally) (taken idles : ℕ) (bytes : List ℕ)
     → Reaches rules carry hears x y c t taken idles → HearsMore hears hears' (Datagram bytes)
     → TakesOne rules.frames carry bytes c d t u y z → KeepsPace rules.frames d u → IsFit d
     → OnDatagram rules carry hears' x z d u taken
@@ -255,7 +255,7 @@ on_datagram rules carry hears hears' x y z c d t u taken idles bytes r came one 
     }
 
 -- and nothing is finished yet
-pub datagram_more : (rules : Rules) (carry : Carry) (hears : List Answer → Type 0) (x y : Known Traffic) (d : State) (t : Tally) (taken : ℕ)
+pub datagram_more : (rules : Rules) (carry : Carry) (hears : List Answer → Type 0) (x y : List Target) (d : State) (t : Tally) (taken : ℕ)
     → OnDatagram rules carry hears x y d t taken → is_full rules.frames (items_in t) ≡ false → taken + 1 < rules.limit → 0 < rules.idle
     → KnowsFirst d → KeepsPace rules.frames d t → IsFit d → d.end ≡ None → sent_or_kept d t ≤ taken + 1 → Reaches rules carry hears x y d t (taken + 1) 0
 datagram_more rules carry hears x y d t taken o room more idle knows pace fit unfinished few =
@@ -285,7 +285,7 @@ datagram_more rules carry hears x y d t taken o room more idle knows pace fit un
     }
 
 -- finished by the told number
-pub by_frames : (rules : Rules) (carry : Carry) (hears : List Answer → Type 0) (x y : Known Traffic) (d : State) (t : Tally) (taken : ℕ)
+pub by_frames : (rules : Rules) (carry : Carry) (hears : List Answer → Type 0) (x y : List Target) (d : State) (t : Tally) (taken : ℕ)
     → OnDatagram rules carry hears x y d t taken → is_full rules.frames (items_in t) ≡ true → taken < rules.limit → ReadsTo rules carry hears x y d t
 by_frames rules carry hears x y d t taken o full more = record {
   answers = o.answers;
@@ -304,7 +304,7 @@ by_frames rules carry hears x y d t taken o full more = record {
 }
 
 -- finished by the number of datagrams
-pub by_limit : (rules : Rules) (carry : Carry) (hears : List Answer → Type 0) (x y : Known Traffic) (d : State) (t : Tally) (taken : ℕ)
+pub by_limit : (rules : Rules) (carry : Carry) (hears : List Answer → Type 0) (x y : List Target) (d : State) (t : Tally) (taken : ℕ)
     → OnDatagram rules carry hears x y d t taken → is_full rules.frames (items_in t) ≡ false → taken < rules.limit → taken + 1 ≡ rules.limit → ReadsTo rules carry hears x y d t
 by_limit rules carry hears x y d t taken o room more last =
     let count : items_in t ≡ length o.items = count_of carry o.mid (up_to rules.frames o.items) t x y o.all ∙ ap length (o.same room).1 in

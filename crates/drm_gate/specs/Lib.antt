@@ -7,3 +7,4 @@ pub mod Run
 pub mod Sending
 pub mod Steps
 pub mod Tallies
+pub mod Targets

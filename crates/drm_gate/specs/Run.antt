@@ -1,13 +1,13 @@
--- What a gateway reads of one link, and what it sends of that over the other.
-use Rattle.std.specs.Prelude.{ℕ, ◌≡◌, ◌+◌, ◌*◌, ◌≤◌, ◌⊎◌, true, false, List, [], ◌∷◌, ◌++◌, length, Option}
+-- What a gateway reads of one link, and what it sends of that over the others.
+use Rattle.std.specs.Prelude.{ℕ, ◌≡◌, ◌+◌, ◌*◌, ◌<◌, ◌≤◌, ◌⊎◌, true, false, List, [], ◌∷◌, ◌++◌, length, slice_index_or, Option}
 use Rattle.dcp_pft.specs.declared.carry.Carry.{Carry}
 use Rattle.dcp_pft.specs.Limits.{most_fragments}
 use Rattle.dcp_collect.specs.declared.taken.Taken.{Taken}
 use Rattle.dcp_collect.specs.State.{State, made, ready, after_finish}
 use Rattle.dcp_collect.specs.Runs.{Item, IsItem, Takes, Steps, Run}
-use Rattle.drm_links.specs.Told.{Known}
+use Rattle.drm_links.specs.Told.{Known, HasFailed}
 use Rattle.drm_links.specs.Link.{Answer, Datagram, Traffic}
-use Rattle.drm_links.specs.Transmission.{Transmits, SendsAll, SendsNoMore}
+use Rattle.drm_links.specs.Transmission.{Transmits, SendsNoMore}
 use Rattle.report_lines.specs.declared.report.EndWord.{EndWord}
 use Rattle.mod_receiver.specs.Hearing.{Heard}
 use Rattle.mod_receiver.specs.declared.rules.Rules.{Rules}
@@ -18,10 +18,10 @@ use Rattle.capture_items.specs.Reading.{Given, is_full}
 use Rattle.drm_convert.specs.Run.{first_of}
 use Rattle.drm_gate.specs.declared.tally.Tally.{Tally}
 use Rattle.drm_gate.specs.declared.gate.GateEnded.{GateEnded}
-use Rattle.drm_gate.specs.declared.gate.GateEnded.TheVariants.{Done, FromFailed, ToFailed}
+use Rattle.drm_gate.specs.declared.gate.GateEnded.TheVariants.{Done, SomeFailed, FromFailed, ToFailed}
 use Rattle.drm_gate.specs.Passing.{Fate, Begins, BecomeAll, sent_of}
-use Rattle.drm_gate.specs.Resting.{MakesSends}
-use Rattle.drm_gate.specs.Tallies.{tally_of}
+use Rattle.drm_gate.specs.Targets.{Target, Each, EachTakes, EachSends, AllUp}
+use Rattle.drm_gate.specs.Tallies.{tally_of, over}
 
 -- What becomes of these datagrams: of what a collector gives of them, up to the told number, what is ready at their end
 -- included.
@@ -85,7 +85,7 @@ abbrev pub most_sends : Rules → ℕ
 most_sends rules = most_fragments * (rules.limit + 1)
 
 -- The reading was finished, and all that becomes of what was read was sent and counted.
-pub record PassesAll (rules : Rules) (carry : Carry) (hears : List Answer → Type 0) (to to' : Known Traffic) (tally : Tally) : Type 0 where
+pub record PassesAll (rules : Rules) (carry : Carry) (hears : List Answer → Type 0) (to to' : List Target) (tally : Tally) : Type 0 where
   pub answers : List Answer
   pub heard : hears answers
   pub few : length answers ≤ most_answers rules
@@ -93,12 +93,12 @@ pub record PassesAll (rules : Rules) (carry : Carry) (hears : List Answer → Ty
   pub reading : IsFinished rules answers word
   pub fates : List Fate
   pub onward : IsOnward rules carry (datagrams answers) fates
-  pub sent : Transmits to to' (SendsAll (sent_of fates))
-  pub only : MakesSends (most_sends rules) to to'
+  pub sent : EachTakes (sent_of fates) to to'
+  pub only : EachSends (most_sends rules) to to'
   pub tally_is : tally ≡ tally_of fates
 
 -- The reading ended in `Failed`, and what had been made ready before was sent.
-pub record BreaksOff (rules : Rules) (carry : Carry) (hears : List Answer → Type 0) (to to' : Known Traffic) : Type 0 where
+pub record BreaksOff (rules : Rules) (carry : Carry) (hears : List Answer → Type 0) (to to' : List Target) : Type 0 where
   pub answers : List Answer
   pub heard : hears answers
   pub few : length answers ≤ most_answers rules
@@ -106,27 +106,49 @@ pub record BreaksOff (rules : Rules) (carry : Carry) (hears : List Answer → Ty
   pub reading : IsBroken rules before answers
   pub fates : List Fate
   pub ready : IsReady rules carry (datagrams before) fates
-  pub sent : Transmits to to' (SendsAll (sent_of fates))
-  pub only : MakesSends (most_sends rules) to to'
+  pub sent : EachTakes (sent_of fates) to to'
+  pub only : EachSends (most_sends rules) to to'
 
--- A send failed: nothing shorter than what was read is finished, and a front of what becomes of it was sent.
-pub record StopsSending (rules : Rules) (carry : Carry) (hears : List Answer → Type 0) (to to' : Known Traffic) : Type 0 where
+-- A link took these datagrams, a front of what becomes of what was read, and no more.
+pub record StopsOver (rules : Rules) (carry : Carry) (answers : List Answer) (to to' : Target) : Type 0 where
+  pub datagrams : List (List ℕ)
+  pub sent : Transmits to.known to'.known (SendsNoMore datagrams)
+  pub rose : HasFailed to.known to'.known
+  pub front : IsFrontOfOnward rules carry answers datagrams
+
+-- The same of the link that was the last to fail, at the item at hand.
+pub record StopsLast (rules : Rules) (carry : Carry) (answers : List Answer) (to to' : Target) : Type 0 where
+  pub datagrams : List (List ℕ)
+  pub sent : to.up ≡ true → Transmits to.known to'.known (SendsNoMore datagrams)
+  pub at : StopsAt rules carry answers datagrams
+
+-- Each link failed, the last of them at the item at hand: nothing shorter than what was read is finished, and each took a front of what
+-- becomes of it.
+pub record StopsSending (rules : Rules) (carry : Carry) (hears : List Answer → Type 0) (to to' : List Target) : Type 0 where
   pub answers : List Answer
   pub heard : hears answers
   pub few : length answers ≤ most_answers rules
   pub goes_on : GoesOn rules answers
-  pub datagrams : List (List ℕ)
-  pub sent : Transmits to to' (SendsNoMore datagrams)
-  pub only : MakesSends (most_sends rules) to to'
-  pub at : StopsAt rules carry answers datagrams
-  pub front : IsFrontOfOnward rules carry answers datagrams
+  pub as_many : length to' ≡ length to
+  pub down : Each (λ b a. a.up ≡ false) to to'
+  pub each : Each (λ b a. b.up ≡ true → StopsOver rules carry answers b a) to to'
+  pub only : EachSends (most_sends rules) to to'
+  pub last : ℕ
+  pub within : last < length to
+  pub at_last : (none : Target) → StopsLast rules carry answers (slice_index_or to last none) (slice_index_or to' last none)
+
+-- Where no link failed, what was counted for one of them was counted for all.
+abbrev pub CountsOver : List Target → Tally → GateEnded → Type 0
+CountsOver to tally ended = (AllUp to × (ended ≡ Done (over (length to) tally))) ⊎ ((AllUp to → ⊥) × (ended ≡ SomeFailed))
 
 -- what each ending says
-abbrev pub EndsAs : Rules → Carry → (List Answer → Type 0) → Known Traffic → Known Traffic → GateEnded → Type 0
-EndsAs rules carry hears to to' (Done tally) = PassesAll rules carry hears to to' tally
+abbrev pub EndsAs : Rules → Carry → (List Answer → Type 0) → List Target → List Target → GateEnded → Type 0
+EndsAs rules carry hears to to' (Done tally) =
+    AllUp to' × (sent : Tally) × PassesAll rules carry hears to to' sent × (tally ≡ over (length to') sent)
+EndsAs rules carry hears to to' SomeFailed = (AllUp to' → ⊥) × (sent : Tally) × PassesAll rules carry hears to to' sent
 EndsAs rules carry hears to to' FromFailed = BreaksOff rules carry hears to to'
 EndsAs rules carry hears to to' ToFailed = StopsSending rules carry hears to to'
 
 -- a run of a gateway
-abbrev pub GateRun : Rules → Carry → Known Traffic → Known Traffic → Known Traffic → Known Traffic → GateEnded → Type 0
+abbrev pub GateRun : Rules → Carry → Known Traffic → Known Traffic → List Target → List Target → GateEnded → Type 0
 GateRun rules carry from from' to to' ended = EndsAs rules carry (Heard from from') to to' ended

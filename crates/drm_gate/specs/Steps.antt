@@ -3,34 +3,30 @@ use Rattle.std.specs.Prelude.{ℕ, ◌≡◌, ◌*◌, ◌≤◌, List, length, 
 use Rattle.dcp_pft.specs.declared.carry.Carry.{Carry}
 use Rattle.dcp_pft.specs.Limits.{most_fragments}
 use Rattle.dcp_collect.specs.Runs.{Item, Packet}
-use Rattle.drm_links.specs.Told.{Known}
-use Rattle.drm_links.specs.Link.{Traffic}
-use Rattle.drm_links.specs.Transmission.{Transmits, SendsAll, SendsNoMore}
 use Rattle.drm_links.specs.declared.link.LinkFault.{LinkFault}
 use Rattle.drm_gate.specs.declared.tally.Tally.{Tally}
 use Rattle.drm_gate.specs.Passing.{Fate, Becomes, Begins, datagrams_of}
-use Rattle.drm_gate.specs.Resting.{MakesSends}
 use Rattle.drm_gate.specs.Tallies.{plus, tally_one}
+use Rattle.drm_gate.specs.Targets.{Target, EachTakes, EachSends, NoneTakes, SomeUp}
 
--- It was sent, if it can be, and counted.
-pub record Passed (carry : Carry) (first : ℕ) (item : Item) (t t' : Tally) (to to' : Known Traffic) : Type 0 where
+-- It was sent, if it can be, and counted. Some link took it whole.
+pub record Passed (carry : Carry) (first : ℕ) (item : Item) (t t' : Tally) (to to' : List Target) : Type 0 where
   pub fate : Fate
   pub becomes : Becomes carry first item fate
   pub tally : t' ≡ plus t (tally_one fate)
   pub few : length (datagrams_of fate) ≤ most_fragments
-  pub sent : Transmits to to' (SendsAll (datagrams_of fate))
-  pub only : MakesSends (most_fragments * (tally_one fate).given) to to'
+  pub sent : EachTakes (datagrams_of fate) to to'
+  pub only : EachSends (most_fragments * (tally_one fate).given) to to'
+  pub up : SomeUp to'
 
--- A send failed: some of its datagrams were sent, and the link took no more.
-pub record Broken (carry : Carry) (first : ℕ) (item : Item) (to to' : Known Traffic) : Type 0 where
-  pub datagrams : List (List ℕ)
-  pub begins : Begins carry first item datagrams
-  pub sent : Transmits to to' (SendsNoMore datagrams)
-  pub only : MakesSends most_fragments to to'
+-- The last link failed: each that hadn't before took some of its datagrams, and no more.
+pub record Broken (carry : Carry) (first : ℕ) (item : Item) (to to' : List Target) : Type 0 where
+  pub none : NoneTakes (Begins carry first item) to to'
+  pub only : EachSends most_fragments to to'
 
-abbrev pub PassesOne : Result (Unit {0}) LinkFault → Carry → ℕ → Item → Tally → Tally → Known Traffic → Known Traffic → Type 0
+abbrev pub PassesOne : Result (Unit {0}) LinkFault → Carry → ℕ → Item → Tally → Tally → List Target → List Target → Type 0
 PassesOne (Ok _) carry first item t t' to to' = Passed carry first item t t' to to'
 PassesOne (Err _) carry first item t t' to to' = Broken carry first item to to' × (t' ≡ t)
 
-abbrev pub PassesPacket : Result (Unit {0}) LinkFault → Carry → ℕ → ℕ → List ℕ → Tally → Tally → Known Traffic → Known Traffic → Type 0
+abbrev pub PassesPacket : Result (Unit {0}) LinkFault → Carry → ℕ → ℕ → List ℕ → Tally → Tally → List Target → List Target → Type 0
 PassesPacket result carry first index bytes t t' to to' = PassesOne result carry first (Packet index bytes) t t' to to'

@@ -1,5 +1,5 @@
 -- How what a gateway did is counted.
-use Rattle.std.specs.Prelude.{ℕ, ◌+◌, List, [], ◌∷◌, length}
+use Rattle.std.specs.Prelude.{ℕ, ◌+◌, ◌*◌, List, [], ◌∷◌, length}
 use Rattle.drm_gate.specs.declared.tally.Tally.{Tally}
 use Rattle.drm_gate.specs.Passing.{Fate, Sent, Bad, Large, Missing}
 
@@ -25,6 +25,10 @@ tally_one Missing = record nothing { missing = 1 }
 abbrev pub tally_of : List Fate → Tally
 tally_of [] = nothing
 tally_of (fate ∷ fates) = plus (tally_one fate) (tally_of fates)
+
+-- the datagrams of all links together, where so many links take each
+abbrev pub over : ℕ → Tally → Tally
+over links t = record t { sent = links * t.sent }
 
 -- how many items it counts
 abbrev pub items_in : Tally → ℕ

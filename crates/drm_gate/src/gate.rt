@@ -1,12 +1,16 @@
-//! A gateway: what comes over one link is sent over another.
+//! A gateway: what comes over one link is sent over others.
 
-ghost use Rattle.std.specs.Prelude.{◌≡◌, ◌≤◌, length, IfOk};
+ghost use Rattle.std.specs.Prelude.{◌≡◌, ◌*◌, ◌≤◌, length, IfOk};
 ghost use Rattle.dcp_pft.specs.Carrying.{CarryFits};
+ghost use Rattle.dcp_pft.specs.Limits.{most_fragments};
 ghost use Rattle.dcp_collect.specs.State.{made};
 ghost use Rattle.drm_links.specs.Told.{HasCause, Tells};
 ghost use Rattle.drm_gate.specs.Gateway.{IsNew, IsReasonable, rules_of};
 ghost use Rattle.drm_gate.specs.Resting.{NeverRests};
-ghost use Rattle.drm_gate.specs.Run.{GateRun};
+ghost use Rattle.drm_gate.specs.Draining.{most_taken};
+ghost use Rattle.drm_gate.specs.Run.{GateRun, CountsOver};
+ghost use Rattle.drm_gate.specs.Targets.{targets};
+ghost use Rattle.several_links.specs.Reaching.{AreUp};
 
 use crate::reading::{Stop, pass_on};
 use crate::{Sender, Tally};
@@ -14,6 +18,7 @@ use dcp_collect::Collector;
 use dcp_pft::Carry;
 use drm_bits::NoMemory;
 use drm_links::Link;
+use several_links::{Member, all_up};
 use std::alloc::Global;
 use std::marker::Model;
 
@@ -31,11 +36,13 @@ pub struct GateOptions {
 /// How a gateway ended.
 #[derive(Clone, Copy, Debug, PartialEq, Eq)]
 pub enum GateEnded {
-    /// All that was to be read was passed on.
+    /// All that was to be read was passed on, and no link failed. It counts the datagrams of all links together.
     Done(Tally),
+    /// All that was to be read was passed on, and some of the links behind the gateway failed.
+    SomeFailed,
     /// The link that is read failed.
     FromFailed,
-    /// The link behind the gateway failed.
+    /// No link behind the gateway was left.
     ToFailed,
 }
 
@@ -72,36 +79,52 @@ impl Gate {
     }
 }
 
-/// Reads a link until it has read enough, and sends each packet that comes of it over another one as soon as it is given. The
-/// gateway is new. The buffer holds one datagram.
+/// Reads a link until it has read enough, and sends each packet that comes of it over each of the others that hasn't failed, in their
+/// order, as soon as it is given. It ends at once where none is left. The gateway is new. The buffer holds one datagram.
 pub fn gate_one<L: Link, K: Link>(
     gate: &mut Gate,
     from: &mut L,
-    to: &mut K,
+    to: &mut [Member<K>],
     options: &GateOptions,
     buffer: &mut [u8],
 ) -> GateEnded
     requires new { IsNew gate.old }
     requires buffer { 65536 ≤ length buffer.old }
     requires options { IsReasonable options.now }
-    // What was read of the one link, and what was sent of it over the other.
+    requires links { (1 ≤ length to.old) × (length to.old ≤ 16) }
+    requires up { AreUp to.old }
+    // What was read of the one link, and what was sent of it over each of the others.
     ensures ended { GateRun (rules_of gate.old.collector options.now) gate.old.carry
-        (L.known from.old) (L.known from.new) (K.known to.old) (K.known to.new) result }
-    // Neither link rests; the other one's part stands in the run.
+        (L.known from.old) (L.known from.new) (targets K.known to.old) (targets K.known to.new) result }
+    // No link rests; the others' part stands in the run.
     ensures still { Tells (L.known from.old) (L.known from.new) NeverRests }
     ensures from { HasCause (L.known from.old) (L.known from.new) (result ≡ GateEnded.FromFailed) }
-    ensures to { HasCause (K.known to.old) (K.known to.new) (result ≡ GateEnded.ToFailed) }
 {
-    match pass_on(
+    let passed = pass_on(
         &mut gate.collector,
         &mut gate.sender,
         from,
         to,
         options,
         buffer,
-    ) {
-        Ok(tally) => GateEnded::Done(tally),
-        Err(Stop::From) => GateEnded::FromFailed,
-        Err(Stop::To) => GateEnded::ToFailed,
+    );
+    let tally = match passed {
+        Ok(tally) => tally,
+        Err(Stop::From) => return GateEnded::FromFailed,
+        Err(Stop::To) => return GateEnded::ToFailed,
+    };
+    passed_all(&tally, to)
+}
+
+// How a gateway ended that passed on all, and counted this for each link that hasn't failed.
+fn passed_all<K: Link>(tally: &Tally, to: &[Member<K>]) -> GateEnded
+    requires sent { tally.now.sent ≤ most_fragments * most_taken }
+    requires links { length to.now ≤ 16 }
+    ensures { CountsOver (targets K.known to.now) tally.now result }
+{
+    if all_up(to) {
+        GateEnded::Done(tally.over(to.len() as u64))
+    } else {
+        GateEnded::SomeFailed
     }
 }

@@ -1,27 +1,29 @@
 //! What a collector gives, passed on.
 
-ghost use Rattle.std.specs.Prelude.{◌≡◌, ◌<◌, ◌≤◌, ◌^◌, true, false, length, IsErr};
-ghost use Rattle.drm_links.specs.Told.{HasCause};
+ghost use Rattle.std.specs.Prelude.{◌≡◌, ◌<◌, ◌^◌, true, false};
 ghost use Rattle.dcp_collect.specs.View.{item_of};
 ghost use Rattle.dcp_collect.specs.WholePackets.{IsAfIfWhole};
 ghost use Rattle.mod_feed.specs.Items.{number_of};
 ghost use Rattle.drm_convert.specs.Converting.{IsAny, sequence_of};
 ghost use Rattle.drm_gate.specs.Passing.{IsNone};
 ghost use Rattle.drm_gate.specs.Steps.{PassesOne, PassesPacket};
+ghost use Rattle.drm_gate.specs.Targets.{targets, SomeUp};
 
 use crate::Sender;
 use crate::tally::Tally;
 use dcp_af::read_af;
 use dcp_collect::Out;
 use drm_links::{Link, LinkFault};
+use several_links::{Member, none_up};
 
-/// Sends a packet, and counts it, or counts what is said in its place. The packet with number 0 has the first sequence number.
+/// Sends a packet over each link that hasn't failed, and counts it, or counts what is said in its place. It fails where no link is left.
+/// The packet with number 0 has the first sequence number.
 pub(crate) fn pass<K: Link>(
     sender: &mut Sender,
     first: u16,
     given: Out<'_>,
     tally: &mut Tally,
-    to: &mut K,
+    to: &mut [Member<K>],
 ) -> Result<(), LinkFault>
     requires missing { tally.old.missing < 2 ^ 62 }
     requires bad { tally.old.bad < 2 ^ 62 }
@@ -30,9 +32,10 @@ pub(crate) fn pass<K: Link>(
     requires sent { tally.old.sent < 2 ^ 62 }
     requires small { number_of (item_of given) < 2 ^ 62 }
     requires whole { IsAfIfWhole given }
-    ensures one { PassesOne result sender.old first (item_of given.entry) tally.old tally.new (K.known to.old) (K.known to.new) }
+    requires up { SomeUp (targets K.known to.old) }
+    ensures one { PassesOne result sender.old first (item_of given.entry) tally.old tally.new
+        (targets K.known to.old) (targets K.known to.new) }
     ensures carry { sender.new ≡ sender.old }
-    ensures cause { HasCause (K.known to.old) (K.known to.new) (IsErr result) }
 {
     match given {
         Out::Packet {
@@ -58,7 +61,7 @@ fn pass_packet<K: Link>(
     bytes: &[u8],
     whole: bool,
     tally: &mut Tally,
-    to: &mut K,
+    to: &mut [Member<K>],
 ) -> Result<(), LinkFault>
     requires bad { tally.old.bad < 2 ^ 62 }
     requires large { tally.old.large < 2 ^ 62 }
@@ -66,9 +69,10 @@ fn pass_packet<K: Link>(
     requires sent { tally.old.sent < 2 ^ 62 }
     requires small { index < 2 ^ 62 }
     requires whole { whole ≡ true → IsAny bytes.now }
-    ensures one { PassesPacket result sender.old first index bytes.now tally.old tally.new (K.known to.old) (K.known to.new) }
+    requires up { SomeUp (targets K.known to.old) }
+    ensures one { PassesPacket result sender.old first index bytes.now tally.old tally.new
+        (targets K.known to.old) (targets K.known to.new) }
     ensures carry { sender.new ≡ sender.old }
-    ensures cause { HasCause (K.known to.old) (K.known to.new) (IsErr result) }
 {
     if !is_af(bytes, whole) {
         tally.bad += 1;
@@ -78,7 +82,10 @@ fn pass_packet<K: Link>(
         tally.large += 1;
         return Ok(());
     }
-    let sent = sender.send(sequence(first, index), bytes, to)?;
+    let sent = sender.send(sequence(first, index), bytes, to);
+    if none_up(to) {
+        return Err(LinkFault);
+    }
     tally.given += 1;
     tally.sent += sent;
     Ok(())

@@ -1,7 +1,8 @@
 //! Reading a link: each datagram is taken, and what it makes ready is passed on before the next one is read.
 
-ghost use Rattle.std.specs.Prelude.{◌≡◌, ◌+◌, ◌≤◌, ◌<◌, length, false, None, Err, IfOk, IfErr, OnOk, OnErr, IsErr};
+ghost use Rattle.std.specs.Prelude.{◌≡◌, ◌+◌, ◌*◌, ◌≤◌, ◌<◌, length, false, None, Err, IfOk, IfErr, OnOk, OnErr};
 ghost use Rattle.drm_links.specs.Told.{HasCause, Tells};
+ghost use Rattle.dcp_pft.specs.Limits.{most_fragments};
 ghost use Rattle.dcp_collect.specs.State.{made, ready as is_ready};
 ghost use Rattle.collect_laws.specs.Laws.{IsFit};
 ghost use Rattle.mod_receiver.specs.Hearing.{Heard};
@@ -11,6 +12,7 @@ ghost use Rattle.drm_gate.specs.Tallies.{nothing};
 ghost use Rattle.drm_gate.specs.Draining.{KeepsPace, most_taken, sent_or_kept};
 ghost use Rattle.drm_gate.specs.Resting.{NeverRests};
 ghost use Rattle.drm_gate.specs.Reading.{TakesOne, TakesFirst, ReadsTo, StopsReading, EndsReading};
+ghost use Rattle.drm_gate.specs.Targets.{targets, SomeUp};
 ghost use Rattle.drm_gate.specs.declared.reading.Stop.{Stop};
 
 use crate::Sender;
@@ -19,8 +21,9 @@ use crate::gate::GateOptions;
 use crate::tally::Tally;
 use dcp_collect::Collector;
 use drm_links::{Came, Link, LinkFault};
+use several_links::Member;
 
-/// Which link failed.
+/// Whether the link that is read failed, or all those behind the gateway.
 #[derive(Clone, Copy, Debug, PartialEq, Eq)]
 pub(crate) enum Stop {
     From,
@@ -45,7 +48,7 @@ fn take<K: Link>(
     tally: &mut Tally,
     told: Option<u64>,
     datagram: &[u8],
-    to: &mut K,
+    to: &mut [Member<K>],
 ) -> Result<(), LinkFault>
     requires none_ready { is_ready collector.old ≡ false }
     requires unfinished { collector.old.end ≡ None }
@@ -53,16 +56,18 @@ fn take<K: Link>(
     requires fit { IsFit collector.old }
     requires pace { KeepsPace told collector.old tally.old }
     requires few { sent_or_kept collector.old tally.old < most_taken }
+    requires up { SomeUp (targets K.known to.old) }
     ensures taken { OnOk result (TakesOne told sender.old datagram.now collector.old collector.new tally.old tally.new
-        (K.known to.old) (K.known to.new)) }
-    ensures stopped { OnErr result (TakesFirst told sender.old datagram.now collector.old tally.old (K.known to.old) (K.known to.new)) }
+        (targets K.known to.old) (targets K.known to.new)) }
+    ensures stopped { OnErr result (TakesFirst told sender.old datagram.now collector.old tally.old
+        (targets K.known to.old) (targets K.known to.new)) }
+    ensures up { OnOk result (SomeUp (targets K.known to.new)) }
     ensures first { OnOk result (KnowsFirst collector.new) }
     ensures fit { OnOk result (IsFit collector.new) }
     ensures pace { OnOk result (KeepsPace told collector.new tally.new) }
     ensures few { OnOk result (sent_or_kept collector.new tally.new ≤ sent_or_kept collector.old tally.old + 1) }
     ensures end { OnOk result (collector.new.end ≡ None) }
     ensures carry { sender.new ≡ sender.old }
-    ensures cause { HasCause (K.known to.old) (K.known to.new) (IsErr result) }
 {
     let _ = collector.take(datagram);
     drain(collector, sender, told, tally, to)
@@ -74,7 +79,7 @@ fn read_all<L: Link, K: Link>(
     sender: &mut Sender,
     tally: &mut Tally,
     from: &mut L,
-    to: &mut K,
+    to: &mut [Member<K>],
     options: &GateOptions,
     buffer: &mut [u8],
 ) -> Result<(), Stop>
@@ -83,10 +88,12 @@ fn read_all<L: Link, K: Link>(
     requires window { 1 ≤ collector.old.window }
     requires collector { collector.old ≡ made collector.old.window collector.old.first }
     requires tally { tally.old ≡ nothing }
+    requires up { SomeUp (targets K.known to.old) }
+    ensures up { OnOk result (SomeUp (targets K.known to.new)) }
     ensures finished { OnOk result (ReadsTo (rules_of collector.old options.now) sender.old
-        (Heard (L.known from.old) (L.known from.new)) (K.known to.old) (K.known to.new) collector.new tally.new) }
+        (Heard (L.known from.old) (L.known from.new)) (targets K.known to.old) (targets K.known to.new) collector.new tally.new) }
     ensures stopped { IfErr result (StopsReading (rules_of collector.old options.now) sender.old
-        (Heard (L.known from.old) (L.known from.new)) (K.known to.old) (K.known to.new)) }
+        (Heard (L.known from.old) (L.known from.new)) (targets K.known to.old) (targets K.known to.new)) }
     ensures first { OnOk result (KnowsFirst collector.new) }
     ensures fit { OnOk result (IsFit collector.new) }
     ensures pace { OnOk result (KeepsPace options.now.frames collector.new tally.new) }
@@ -96,7 +103,6 @@ fn read_all<L: Link, K: Link>(
     ensures carry { sender.new ≡ sender.old }
     ensures still { Tells (L.known from.old) (L.known from.new) NeverRests }
     ensures from { HasCause (L.known from.old) (L.known from.new) (result ≡ Err Stop.From) }
-    ensures to { HasCause (K.known to.old) (K.known to.new) (result ≡ Err Stop.To) }
 {
     let mut taken = 0u32;
     let mut idles = 0u32;
@@ -129,7 +135,7 @@ pub(crate) fn pass_on<L: Link, K: Link>(
     collector: &mut Collector,
     sender: &mut Sender,
     from: &mut L,
-    to: &mut K,
+    to: &mut [Member<K>],
     options: &GateOptions,
     buffer: &mut [u8],
 ) -> Result<Tally, Stop>
@@ -137,11 +143,12 @@ pub(crate) fn pass_on<L: Link, K: Link>(
     requires options { IsReasonable options.now }
     requires window { 1 ≤ collector.old.window }
     requires collector { collector.old ≡ made collector.old.window collector.old.first }
+    requires up { SomeUp (targets K.known to.old) }
     ensures ends { EndsReading (rules_of collector.old options.now) sender.old
-        (Heard (L.known from.old) (L.known from.new)) (K.known to.old) (K.known to.new) result }
+        (Heard (L.known from.old) (L.known from.new)) (targets K.known to.old) (targets K.known to.new) result }
+    ensures few { IfOk result (λ tally. tally.sent ≤ most_fragments * most_taken) }
     ensures still { Tells (L.known from.old) (L.known from.new) NeverRests }
     ensures from { HasCause (L.known from.old) (L.known from.new) (result ≡ Err Stop.From) }
-    ensures to { HasCause (K.known to.old) (K.known to.new) (result ≡ Err Stop.To) }
 {
     let mut tally = Tally::new();
     read_all(collector, sender, &mut tally, from, to, options, buffer)?;

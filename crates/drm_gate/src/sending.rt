@@ -1,17 +1,22 @@
-//! Packets under a carry, over a link.
+//! Packets under a carry, over several links.
 
-ghost use Rattle.std.specs.Prelude.{◌≡◌, ◌≤◌, length, IfOk, OnErr, IsErr, false};
-ghost use Rattle.dcp_pft.specs.Limits.{most_fragments};
+ghost use Rattle.std.specs.Prelude.{ℕ, ◌≡◌, ◌<◌, ◌≤◌, length, slice_index_or, IfOk, IfSome, false};
+ghost use Rattle.dcp_pft.specs.Limits.{most_parity, most_fragment, most_fragments};
+ghost use Rattle.dcp_pft.specs.Cutting.{IsShapeOf};
 ghost use Rattle.dcp_pft.specs.Carrying.{CarryFits};
-ghost use Rattle.drm_links.specs.Told.{HasCause};
-ghost use Rattle.drm_gate.specs.Resting.{MakesSends};
-ghost use Rattle.drm_gate.specs.Sending.{is_large, SentPacket, SentSome};
+ghost use Rattle.drm_links.specs.Link.{longest_told};
+ghost use Rattle.packet_cutting.specs.Parity.{HoldsParity};
+ghost use Rattle.drm_gate.specs.Sending.{is_large, SentTo, CutOver};
+ghost use Rattle.drm_gate.specs.Targets.{target};
 
-use dcp_pft::{Carry, MOST_FRAGMENT, MOST_PARITY, cut_for, most_packet};
+use dcp_pft::{
+    Carry, MOST_FRAGMENT, MOST_PARITY, Shape, all_taken, cut_for, datagrams, most_packet,
+};
 use drm_bits::{NoMemory, zeros};
-use drm_links::{Link, LinkFault};
+use drm_links::Link;
 use packet_cutting::write_parity;
 use packet_sending::send_packet;
+use several_links::Member;
 use std::alloc::Global;
 use std::marker::Model;
 
@@ -61,19 +66,45 @@ impl Sender {
         len > most_packet(self.carry)
     }
 
-    /// Sends the datagrams of a packet with this sequence number, one after another, and gives their number.
-    pub fn send<K: Link>(&mut self, seq: u16, packet: &[u8], link: &mut K) -> Result<u64, LinkFault>
+    /// Sends the datagrams of a packet with this sequence number over each link that hasn't failed, in their order, and gives their
+    /// number. The packet is coded once.
+    pub fn send<K: Link>(&mut self, seq: u16, packet: &[u8], links: &mut [Member<K>]) -> u64
         requires some { 1 ≤ length packet.now }
         requires small { is_large self.old (length packet.now) ≡ false }
-        ensures sent { IfOk result (λ n. SentPacket self.old seq packet.now n (K.known link.old) (K.known link.new)) }
-        ensures few { IfOk result (λ n. n ≤ most_fragments) }
-        ensures part { OnErr result (SentSome self.old seq packet.now (K.known link.old) (K.known link.new)) }
-        ensures cause { HasCause (K.known link.old) (K.known link.new) (IsErr result) }
-        ensures only { MakesSends most_fragments (K.known link.old) (K.known link.new) }
+        ensures each { (k : ℕ) (d : _) → k < length links.old → SentTo self.old seq packet.now result
+            (target K.known (slice_index_or links.old k d)) (target K.known (slice_index_or links.new k d)) }
+        ensures few { result ≤ most_fragments }
         ensures carry { self.new ≡ self.old }
     {
+        all_taken();
         let cut = cut_for(self.carry, packet.len());
         write_parity(packet, cut, &mut self.parity);
-        send_packet(packet, cut, &self.parity, seq, &mut self.fragment, link)
+        for link in links.iter_mut() {
+            send_over(packet, cut, &self.parity, seq, &mut self.fragment, link);
+        }
+        u64::from(datagrams(cut))
+    }
+}
+
+// Sends the datagrams of a packet over a link, unless it has failed.
+fn send_over<K: Link>(
+    packet: &[u8],
+    cut: Option<Shape>,
+    parity: &[u8],
+    seq: u16,
+    room: &mut [u8],
+    link: &mut Member<K>,
+)
+    requires shaped { IfSome cut (IsShapeOf (length packet.now)) }
+    requires stands { HoldsParity cut packet.now parity.now }
+    requires all { length parity.now ≡ most_parity }
+    requires small { length packet.now ≤ longest_told }
+    requires room { most_fragment ≤ length room.old }
+    ensures sent { CutOver link.old.up cut seq packet.now (target K.known link.old) (target K.known link.new) }
+    ensures room { length room.new ≡ length room.old }
+{
+    if link.up {
+        let sent = send_packet(packet, cut, parity, seq, room, &mut link.link);
+        link.up = sent.is_ok();
     }
 }

@@ -1,7 +1,7 @@
 //! What a gateway counts.
 
-ghost use Rattle.std.specs.Prelude.{◌≡◌};
-ghost use Rattle.drm_gate.specs.Tallies.{nothing};
+ghost use Rattle.std.specs.Prelude.{◌≡◌, ◌*◌, ◌<◌, ◌^◌};
+ghost use Rattle.drm_gate.specs.Tallies.{nothing, over};
 
 /// How many packets were sent and how many weren't, and how many datagrams.
 #[derive(Clone, Copy, Debug, PartialEq, Eq)]
@@ -28,6 +28,16 @@ impl Tally {
             bad: 0,
             large: 0,
             sent: 0,
+        }
+    }
+    // The datagrams of so many links together, each of which took these.
+    pub(crate) fn over(&self, links: u64) -> Tally
+        requires { links * self.now.sent < 2 ^ 64 }
+        ensures { result ≡ over links self.now }
+    {
+        Tally {
+            sent: links * self.sent,
+            ..*self
         }
     }
 }
