@@ -11,7 +11,7 @@ use Rattle.dcp_pft.specs.declared.carry.Carry.{Carry}
 use Rattle.drm_words.specs.declared.request.Request.{Request}
 use Rattle.drm_words.specs.declared.request.Request.TheVariants.{Fac, Check, Serve, Receive, Air, Show, Convert, Exercise, Gate, Pack, Unpack, Texts}
 use Rattle.word_forms.specs.Reading.{within}
-use Rattle.word_forms.specs.Addressing.{address_of, carry_of}
+use Rattle.word_forms.specs.Addressing.{address_of, addresses_of, carry_of}
 use Rattle.drm_words.specs.declared.options.Stretch.{Stretch}
 use Rattle.drm_words.specs.declared.options.Reading.{Reading}
 use Rattle.drm_words.specs.Table.{Options, AreOf, IsRequest, serve_names, stretch_names, reading_names}
@@ -19,7 +19,7 @@ use Rattle.drm_words.specs.Asking.{addresses_or_none, window_of, stretch_of, rea
 use Rattle.word_forms.proofs.OptionLemmas.{stepped}
 use Rattle.word_forms.proofs.NumberLemmas.{within_fits, within_is}
 use Rattle.word_forms.proofs.CarryLemmas.{carry_fits, carry_is}
-use Rattle.word_forms.proofs.AddressLemmas.{address_fits, address_is}
+use Rattle.word_forms.proofs.AddressLemmas.{address_fits, address_is, addresses_fit, addresses_are}
 use Rattle.drm_words.proofs.OptionsLemmas.{addresses_or_none_fit, addresses_or_none_are, with_fits, with_is, none_of, window_fits, window_is, stretch_fits, stretch_is, reading_fits, reading_is, pace_fits, pace_is, from_fits, from_is, to_fits, to_is}
 
 bare_fits : (asked : Request) (texts : List (List ℕ)) (options : Options) (r : Request) → bare_of asked texts options ≡ Some r → (texts ≡ []) × (options ≡ []) × (asked ≡ r)
@@ -110,10 +110,10 @@ gate_fits [] options r e = absurd cc
 gate_fits (source ∷ []) options r e = absurd cc
 gate_fits (source ∷ target ∷ []) options r e = absurd cc
 gate_fits (source ∷ target ∷ text ∷ []) options r e =
-    let w = with_fits reading_names options (gate_with source target text options) r e in
-    let from = stepped (address_of source) _ r w.1 in
-    let to = stepped (address_of target) _ r from.rest in
-    let carry = stepped (carry_of text) _ r to.rest in
+    let w = with_fits reading_names options (option_and_then (λ to. gate_with source to text options) (addresses_of target)) r e in
+    let to = stepped (addresses_of target) _ r w.1 in
+    let from = stepped (address_of source) _ r to.rest in
+    let carry = stepped (carry_of text) _ r from.rest in
     let reading = stepped (reading_of options) _ r carry.rest in
     let taken : Reading = reading.value in
     subst (λ (x : Request). IsRequest x (codes "gate") (source ∷ target ∷ text ∷ []) options)
@@ -124,7 +124,7 @@ gate_fits (source ∷ target ∷ text ∷ []) options r e =
       text,
       refl,
       address_fits source from.value from.is,
-      address_fits target to.value to.is,
+      addresses_fit target to.value to.is,
       carry_fits text carry.value carry.is,
       w.0,
       reading_fits options taken reading.is,
@@ -240,12 +240,12 @@ exercise_is : (n : ℕ) (texts : List (List ℕ)) (options : Options) → IsRequ
 unfolding exercise_of
 exercise_is n texts options h = rw h.2 (with_is [] options (exercise_with h.1) h.4 ∙ rw (within_is 1 1000 h.1 n h.3) refl)
 
-gate_is : (from to : Address) (carry : Carry) (window : ℕ) (first frames : Option ℕ) (idle limit : ℕ) (texts : List (List ℕ)) (options : Options)
+gate_is : (from : Address) (to : List Address) (carry : Carry) (window : ℕ) (first frames : Option ℕ) (idle limit : ℕ) (texts : List (List ℕ)) (options : Options)
     → IsRequest (Gate from to carry window first frames idle limit) (codes "gate") texts options → gate_of texts options ≡ Some (Gate from to carry window first frames idle limit)
 unfolding gate_of
 gate_is from to carry window first frames idle limit texts options h =
-    rw h.4 (with_is reading_names options (gate_with h.1 h.2 h.3 options) h.8
-    ∙ rw (address_is h.1 from h.5, address_is h.2 to h.6, carry_is h.3 carry h.7, reading_is options window first frames idle limit h.9) refl)
+    rw h.4 (with_is reading_names options (option_and_then (λ to. gate_with h.1 to h.3 options) (addresses_of h.2)) h.8
+    ∙ rw (addresses_are h.2 to h.6, address_is h.1 from h.5, carry_is h.3 carry h.7, reading_is options window first frames idle limit h.9) refl)
 
 pack_is : (pid length : ℕ) (texts : List (List ℕ)) (options : Options) → IsRequest (Pack pid length) (codes "pack") texts options → pack_of texts options ≡ Some (Pack pid length)
 unfolding pack_of

@@ -132,16 +132,15 @@ unfoldable pub exercise_of : List (List ℕ) → Options → Option Request
 exercise_of (text ∷ []) options = with_options [] options (exercise_with text)
 exercise_of _ options = None
 
-abbrev pub gate_with : List ℕ → List ℕ → List ℕ → Options → Option Request
-gate_with from_text to_text text options = do
+abbrev pub gate_with : List ℕ → List Address → List ℕ → Options → Option Request
+gate_with from_text to text options = do
   from ← address_of from_text
-  to ← address_of to_text
   carry ← carry_of text
   reading ← reading_of options
   Some (Gate from to carry reading.stretch.window reading.stretch.first reading.stretch.frames reading.idle reading.limit)
 
 unfoldable pub gate_of : List (List ℕ) → Options → Option Request
-gate_of (from ∷ to ∷ text ∷ []) options = with_options reading_names options (gate_with from to text options)
+gate_of (from ∷ to ∷ text ∷ []) options = with_options reading_names options (option_and_then (λ to. gate_with from to text options) (addresses_of to))
 gate_of _ options = None
 
 abbrev pub pack_with : List ℕ → List ℕ → Option Request

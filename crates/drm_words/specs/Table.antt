@@ -99,10 +99,10 @@ IsRequest (Convert carry window first frames) command texts options =
 -- exercise N
 IsRequest (Exercise n) command texts options =
     (command ≡ codes "exercise") × (text : List ℕ) × (texts ≡ text ∷ []) × IsWithin 1 1000 text n × AreOf [] options
--- gate FROM TO CARRY [--window W] [--first N] [--frames N] [--idle K] [--limit L]
+-- gate FROM ADDRS CARRY [--window W] [--first N] [--frames N] [--idle K] [--limit L]
 IsRequest (Gate from to carry window first frames idle limit) command texts options =
     (command ≡ codes "gate") × (source target text : List ℕ) × (texts ≡ source ∷ target ∷ text ∷ [])
-    × IsAddress source from × IsAddress target to × IsCarry text carry
+    × IsAddress source from × AreAddresses target to × IsCarry text carry
     × AreOf reading_names options × IsReading options window first frames idle limit
 -- pack PID LENGTH
 IsRequest (Pack pid length) command texts options =

@@ -226,12 +226,11 @@ fn exercise(texts: &[&str], options: &[Named<'_>]) -> Result<Request, WordsFault
     asked(exercise_with(text))
 }
 
-fn gate_with(from: &str, to: &str, text: &str, options: &[Named<'_>]) -> Option<Request>
-    ensures value { result ≡ gate_with from.now to.now text.now (map option_said options.now) }
+fn gate_with(from: &str, to: Addresses, text: &str, options: &[Named<'_>]) -> Option<Request>
+    ensures value { result ≡ gate_with from.now to text.now (map option_said options.now) }
     ensures text { IfSome result HasTextNames }
 {
     let from = address(from)?;
-    let to = address(to)?;
     let carry = carry(text)?;
     let reading = told_reading(options)?;
     Some(Request::Gate {
@@ -246,9 +245,9 @@ fn gate_with(from: &str, to: &str, text: &str, options: &[Named<'_>]) -> Option<
     })
 }
 
-// gate FROM TO CARRY [--window W] [--first N] [--frames N] [--idle K] [--limit L]
+// gate FROM ADDRS CARRY [--window W] [--first N] [--frames N] [--idle K] [--limit L]
 #[tactic(auto, unfolding(crate::specs::Asking::gate_of))]
-fn gate(texts: &[&str], options: &[Named<'_>]) -> Result<Request, WordsFault>
+fn gate(alloc: Global, texts: &[&str], options: &[Named<'_>]) -> Result<Request, WordsFault>
     ensures gives { Gives result (gate_of (map (λ text. text.now) texts.now) (map option_said options.now)) }
     ensures text { IfOk result HasTextNames }
 {
@@ -258,6 +257,7 @@ fn gate(texts: &[&str], options: &[Named<'_>]) -> Result<Request, WordsFault>
     if !are_of(&["window", "first", "frames", "idle", "limit"], options) {
         return Err(WordsFault::Words);
     }
+    let to = read_addresses(alloc, to)?;
     asked(gate_with(from, to, text, options))
 }
 
@@ -376,7 +376,7 @@ pub(crate) fn request(
     } else if command == "exercise" {
         exercise(texts, options)
     } else if command == "gate" {
-        gate(texts, options)
+        gate(alloc, texts, options)
     } else if command == "pack" {
         pack(texts, options)
     } else if command == "unpack" {

@@ -59,10 +59,10 @@ pub enum Request {
     Exercise {
         n: u32,
     },
-    /// Pass the packets of a link on over another one, carried in this way.
+    /// Pass the packets of a link on over others, carried in this way.
     Gate {
         from: Address,
-        to: Address,
+        to: Addresses,
         carry: Carry,
         /// In packets.
         window: u8,
