@@ -1,32 +1,42 @@
 -- What a dock tells where links are opened in it, passed over and closed.
-use Rattle.std.proofs.Common.{◌≡◌, ℕ, ◌≤◌, ◌^◌, ◌⊎◌, inl, inr, List, [], ◌∷◌, ◌++◌, length, Option, None, Some, IsNone, Contains, Result, Ok, Err, refl, sym, subst, ap, ◌∙◌, arith}
+use Rattle.std.proofs.Common.{◌≡◌, ℕ, zero, suc, ◌<◌, ◌≤◌, ◌^◌, inl, inr, Bool, true, false, List, [], ◌∷◌, ◌++◌, length, Option, None, Some, Contains, Result, Ok, Err, refl, sym, subst, ap, ◌∙◌, arith}
+use Rattle.std.specs.Prelude.{slice_index_or}
 use Rattle.dcp_pft.specs.declared.carry.Carry.{Carry}
 use Rattle.drm_links.specs.Told.{Known, Tells, ToldThrough, WhileTold, CountsCall}
 use Rattle.drm_links.specs.Link.{Answer, Traffic, rests_of}
-use Rattle.drm_links.specs.Dock.{DockContents, LinkStart, Binds, Reaches, Closes, first_traffic, start_at, with_reach, after_opening, after_failure, after_close}
+use Rattle.drm_links.specs.Dock.{DockContents, LinkStart, Binds, Closes, first_traffic, start_at, after_opening, after_close}
 use Rattle.drm_links.specs.Transmission.{Transmits, SendsAll, SendsNoMore, TakesSends}
 use Rattle.drm_links.specs.ManyCalls.{CountsMany}
 use Rattle.drm_links.specs.declared.dock.Address.{Address}
 use Rattle.drm_links.specs.declared.dock.Opened.TheVariants as opened
 use Rattle.drm_links.specs.declared.link.LinkFault.{LinkFault}
-use Rattle.drm_links.proofs.ToldLemmas.{Opens-started, Tells-one, Tells-then}
+use Rattle.drm_links.proofs.ToldLemmas.{Opens-started, Tells-one, Tells-then, Tells-weaker}
 use Rattle.mod_receiver.specs.declared.rules.Rules.{Rules}
 use Rattle.mod_receiver.specs.Hearing.{AreNext, Heard, HeardTold}
 use Rattle.mod_receiver.specs.Ranges.{AreInRange}
 use Rattle.mod_receiver.specs.Reading.{most_answers}
 use Rattle.mod_receiver.proofs.JobLemmas.{few_answers}
-use Rattle.several_links.specs.Openings.{Finds, FindsNone}
+use Rattle.several_links.specs.Openings.{Docked, Finds}
+use Rattle.several_links.specs.Reaching.{Over, HasGone, HaveGone, HaveLinks, AreUp, ReachesFew, GoesOver, after_reaches, after_closes}
+use Rattle.several_links.specs.Took.{TookBy}
+use Rattle.several_links.specs.declared.member.Member.{Member}
+use Rattle.several_links.proofs.OpeningLemmas.{same_index}
+use Rattle.several_links.proofs.RunLemmas.{over_each}
+use Rattle.dcp_collect.specs.State.{State}
 use Rattle.drm_gate.specs.declared.tally.Tally.{Tally}
 use Rattle.drm_gate.specs.declared.gate.GateEnded.{GateEnded}
 use Rattle.drm_gate.specs.declared.gate.GateEnded.TheVariants as ended
-use Rattle.drm_gate.specs.Passing.{sent_of}
-use Rattle.drm_gate.specs.Resting.{HasNotRested, NeverRests, MakesSends}
-use Rattle.drm_gate.specs.Run.{GateRun, most_sends}
-use Rattle.gate_command.specs.Opening.{no_rests}
-use Rattle.dcp_collect.specs.State.{State}
 use Rattle.drm_gate.specs.declared.gate.GateOptions.{GateOptions}
 use Rattle.drm_gate.specs.Gateway.{rules_of}
-use Rattle.gate_command.specs.Between.{options_of, AreAhead, IsCutOff, GoesOver, passed_of, GoesOut}
+use Rattle.drm_gate.specs.Passing.{sent_of}
+use Rattle.drm_gate.specs.Tallies.{over}
+use Rattle.drm_gate.specs.Resting.{HasNotRested, NeverRests, MakesSends}
+use Rattle.drm_gate.specs.Run.{GateRun, IsFrontOf, IsFrontOfOnward, StopsAt, StopsOver, StopsLast, most_sends}
+use Rattle.drm_gate.specs.Targets.{Target, target, targets, Each, TakesMore, EachTakes, EachSends, AllUp}
+use Rattle.drm_gate.proofs.Ending.{took_from}
+use Rattle.drm_gate.proofs.TargetLemmas.{at_place, as_many_targets, all_up}
+use Rattle.gate_command.specs.Opening.{no_rests, after_source}
+use Rattle.gate_command.specs.Between.{options_of, AreAhead, Goes, GoesPart, GoesOut, passed_of, PassesTo}
 use Rattle.gate_command.specs.Run.{PassesOn}
 
 -- ---- by what it reads
@@ -46,10 +56,6 @@ told_both P (Some u) (Some v) x y is then_is holds =
     subst (λ w. P x w) second (subst (λ w. P w v) first holds)
 
 -- the next opening is the one behind no others
-none_at : (told : DockContents) (at : Address) → Contains told.failing told.openings ⊎ IsNone (start_at told at) → FindsNone told 0 at
-none_at told at (inl failing) = inl (subst (λ n. Contains told.failing n) (omega arith) failing)
-none_at told at (inr none) = inr none
-
 found_at : (told : DockContents) (at : Address) (start : LinkStart) → (Contains told.failing told.openings → ⊥) → start_at told at ≡ Some start → Finds told 0 at start
 found_at told at start allowed stands = record { allowed = λ failing. allowed (subst (λ n. Contains told.failing n) (omega arith) failing); stands = stands }
 
@@ -58,13 +64,6 @@ not_rested start = record { waits = refl; waiting = refl }
 
 rests_are : (traffic : Traffic) → HasNotRested traffic → rests_of traffic ≡ no_rests traffic.gone
 rests_are traffic still = (λ i. still.waits i ++ still.waiting i ∷ [])
-
--- ---- the link that datagrams go to
-
-only_of : (rules : Rules) (carry : Carry) (from from' to to' : Known Traffic) (ended : GateEnded) → GateRun rules carry from from' to to' ended → MakesSends (most_sends rules) to to'
-only_of rules carry from from' to to' (ended.Done tally) run = run.only
-only_of rules carry from from' to to' ended.FromFailed run = run.only
-only_of rules carry from from' to to' ended.ToFailed run = run.only
 
 few_calls : (rules : Rules) → AreInRange rules → most_sends rules ≤ 2 ^ 62
 few_calls rules valid = let few = valid.few_datagrams in omega (arith, few)
@@ -78,66 +77,220 @@ still_tells rules start (Some x) None valid is calls =
     let none : x.calls ≡ 0 = ap (λ (t : Traffic). t.calls) same in
     absurd (omega (arith, calls, none, few_calls rules valid))
 
--- what goes over a new link
-pub record Gone (rules : Rules) (carry : Carry) (hears : List Answer → Type 0) (sends : Option ℕ) (passed : Result Tally LinkFault) (traffic : Traffic) : Type 0 where
-  pub goes : GoesOver rules carry hears sends passed traffic.gone
+-- ---- over one of the links that are sent over
+
+-- what goes over a new link, and what it tells of that
+pub record Went (start : LinkStart) (a b : Known Traffic) : Type 0 where
+  pub traffic : Traffic
+  pub tells : b.told ≡ Some traffic
   pub still : HasNotRested traffic
+  pub all : (datagrams : List (List ℕ)) → Transmits a b (SendsAll datagrams) → (traffic.gone ≡ datagrams) × TakesSends start.sends (length traffic.gone)
+  pub some : (datagrams : List (List ℕ)) → Transmits a b (SendsNoMore datagrams) → (traffic.gone ≡ datagrams) × (start.sends ≡ Some (length traffic.gone))
 
 takes_as : (sends : Option ℕ) (xs ys : List (List ℕ)) → xs ≡ ys → TakesSends sends (length xs) → TakesSends sends (length ys)
 takes_as sends xs ys same takes = subst (λ (l : List (List ℕ)). TakesSends sends (length l)) same takes
 
-module _ (rules : Rules) (carry : Carry) (from from' to to' : Known Traffic) (start : LinkStart) (traffic : Traffic) (first : to.told ≡ Some (first_traffic start)) (last : to'.told ≡ Some traffic) where
-  sent_all : (datagrams : List (List ℕ)) → Transmits to to' (SendsAll datagrams) → (traffic.gone ≡ datagrams) × TakesSends start.sends (length traffic.gone)
-  sent_all datagrams sent =
-      let all : SendsAll datagrams (first_traffic start) traffic = told_both (SendsAll datagrams) to.told to'.told (first_traffic start) traffic first last sent in
-      (all.gone, takes_as start.sends datagrams traffic.gone (sym all.gone) all.taken)
+went_over : (rules : Rules) → AreInRange rules → (start : LinkStart) (a b : Known Traffic) → a.told ≡ Some (first_traffic start) → MakesSends (most_sends rules) a b → Went start a b
+went_over rules valid start a b new only =
+    let (traffic, tells) = still_tells rules start a.told b.told valid new only.calls in
+    record {
+      traffic = traffic;
+      tells = tells;
+      still = told_both NeverRests a.told b.told (first_traffic start) traffic new tells only.still (not_rested start);
+      all = λ datagrams sent.
+          let all : SendsAll datagrams (first_traffic start) traffic = told_both (SendsAll datagrams) a.told b.told (first_traffic start) traffic new tells sent in
+          (all.gone, takes_as start.sends datagrams traffic.gone (sym all.gone) all.taken);
+      some = λ datagrams sent.
+          let all : SendsNoMore datagrams (first_traffic start) traffic = told_both (SendsNoMore datagrams) a.told b.told (first_traffic start) traffic new tells sent in
+          (all.gone, all.no_more ∙ ap (λ (l : List (List ℕ)). Some (length l)) (sym all.gone));
+    }
 
-  sent_some : (datagrams : List (List ℕ)) → Transmits to to' (SendsNoMore datagrams) → (traffic.gone ≡ datagrams) × (start.sends ≡ Some (length traffic.gone))
-  sent_some datagrams sent =
-      let all : SendsNoMore datagrams (first_traffic start) traffic = told_both (SendsNoMore datagrams) to.told to'.told (first_traffic start) traffic first last sent in
-      (all.gone, all.no_more ∙ ap (λ (l : List (List ℕ)). Some (length l)) (sym all.gone))
+module _ (start : LinkStart) (a b : Known Traffic) (w : Went start a b) where
+  abbrev over_it : Over
+  over_it = record { gone = w.traffic.gone; rests = no_rests w.traffic.gone }
 
-  goes_over : (ended : GateEnded) → GateRun rules carry from from' to to' ended → GoesOver rules carry (Heard from from') start.sends (passed_of ended) traffic.gone
-  goes_over (ended.Done tally) run =
-      let (gone, takes) = sent_all (sent_of run.fates) run.sent in
-      (run.fates, record { answers = run.answers; heard = run.heard; few = run.few; word = run.word; reading = run.reading; onward = run.onward }, gone, takes, run.tally_is)
-  goes_over ended.FromFailed run =
-      let (gone, takes) = sent_all (sent_of run.fates) run.sent in
-      inl (run.fates, record { answers = run.answers; heard = run.heard; few = run.few; before = run.before; reading = run.reading; ready = run.ready }, gone, takes)
-  goes_over ended.ToFailed run =
-      let (gone, takes) = sent_some run.datagrams run.sent in
-      let cut : IsCutOff rules carry (Heard from from') run.datagrams = record { answers = run.answers; heard = run.heard; few = run.few; goes_on = run.goes_on; at = run.at; front = run.front } in
-      inr (subst (λ (l : List (List ℕ)). IsCutOff rules carry (Heard from from') l) (sym gone) cut, takes)
+  goes_by : (up : Bool) (datagrams : List (List ℕ)) → TookBy up datagrams a b → Goes up datagrams start over_it
+  goes_by true datagrams took = let (gone, takes) = w.all datagrams took.sent in (gone, takes, refl)
+  goes_by false datagrams took =
+      let (gone, no_more) = w.some took.front took.sent in
+      (subst (λ (l : List (List ℕ)). IsFrontOf datagrams l) (sym gone) (took.rest, took.some, took.are), no_more, refl)
 
-  gone_over : (ended : GateEnded) → GateRun rules carry from from' to to' ended → Gone rules carry (Heard from from') start.sends (passed_of ended) traffic
-  gone_over ended run = record {
-    goes = goes_over ended run;
-    still = told_both NeverRests to.told to'.told (first_traffic start) traffic first last (only_of rules carry from from' to to' ended run).still (not_rested start);
-  }
+  goes_part : (rules : Rules) (carry : Carry) (answers : List Answer) (last k : ℕ) (was up : Bool) → was ≡ true → StopsOver rules carry answers (record { up = was; known = a }) (record { up = up; known = b })
+      → (k ≡ last → StopsLast rules carry answers (record { up = was; known = a }) (record { up = up; known = b })) → GoesPart rules carry answers last k start over_it
+  goes_part rules carry answers last k was up is stops at =
+      let (gone, no_more) = w.some stops.datagrams stops.sent in
+      record {
+        front = subst (λ (l : List (List ℕ)). IsFrontOfOnward rules carry answers l) (sym gone) stops.front;
+        no_more = no_more;
+        still = refl;
+        at = λ here.
+            let (same, also) = w.some (at here).datagrams ((at here).sent is) in
+            subst (λ (l : List (List ℕ)). StopsAt rules carry answers l) (sym same) (at here).at;
+      }
 
--- and what the dock tells once it is closed
-closed_out : (rules : Rules) (carry : Carry) (to : Address) (from from' : Known Traffic) (start : LinkStart) (passed : Result Tally LinkFault) (x y z : DockContents) (last : Option Traffic) (traffic : Traffic)
-    → last ≡ Some traffic → Gone rules carry (Heard from from') start.sends passed traffic → Finds (with_reach x) 0 to start → y ≡ after_opening to (with_reach x) → Closes last to y z
-    → GoesOut rules carry to from from' passed x z
-closed_out rules carry to from from' start passed x y z None traffic is gone found at closes = absurd cc
-closed_out rules carry to from from' start passed x y z (Some t) traffic is gone found at closes =
-    let same : t ≡ traffic = cc in
-    let rests : rests_of t ≡ no_rests traffic.gone = ap rests_of same ∙ rests_are traffic gone.still in
-    inr (start, found, traffic.gone, gone.goes, closes ∙ (λ i. after_close to ((same i).gone) (rests i) (at i)))
+-- ---- over all of them
 
-pub goes_out : {L : Type 0} (rules : Rules) (carry : Carry) (to : Address) (known : L → Known Traffic) (first last : L) (from from' : Known Traffic) (ended : GateEnded) (a b c : Known DockContents)
-    → AreInRange rules → WhileTold a b (Reaches known to (opened.Link first)) → CountsCall (λ (d : DockContents). d.calls) a b
-    → GateRun rules carry from from' (known first) (known last) ended
-    → WhileTold b c (Closes (known last).told to) → CountsCall (λ (d : DockContents). d.calls) b c → Tells a c (GoesOut rules carry to from from' (passed_of ended))
-goes_out rules carry to known first last from from' ended a b c valid opens counts run closes counts_close =
-    Tells-then (Reaches known to (opened.Link first)) (Closes (known last).told to) (GoesOut rules carry to from from' (passed_of ended)) a b c
-    (Tells-one (λ (d : DockContents). d.calls) (Reaches known to (opened.Link first)) a b counts opens)
-    (Tells-one (λ (d : DockContents). d.calls) (Closes (known last).told to) b c counts_close closes)
-    (λ x y z opening closing.
-    let (start, stands, new) = Opens-started known to first (with_reach x) y opening in
-    let (traffic, tells) = still_tells rules start (known first).told (known last).told valid new (only_of rules carry from from' (known first) (known last) ended run).calls in
-    closed_out rules carry to from from' start (passed_of ended) x y z (known last).told traffic tells
-    (gone_over rules carry from from' (known first) (known last) start traffic new tells ended run) (found_at (with_reach x) to start opening.0 stands) opening.2 closing)
+-- one that failed, where not all are up
+abbrev SomeDown : List Target → Type 0
+SomeDown to = (k : ℕ) × (k < length to) × ((none : Target) → (slice_index_or to k none).up ≡ false)
+
+down_by : (t : Target) (to : List Target) (b : Bool) → t.up ≡ b → (AllUp (t ∷ to) → ⊥) → ((AllUp to → ⊥) → SomeDown to) → SomeDown (t ∷ to)
+down_by t to false is not more = (0, omega arith, λ none. is)
+down_by t to true is not more =
+    let rest = more (λ all. not (all_more all)) in
+    (suc rest.0, (let less = rest.1 in omega (arith, less)), rest.2)
+  where
+    all_more : AllUp to → (k : ℕ) (none : Target) → k < length (t ∷ to) → (slice_index_or (t ∷ to) k none).up ≡ true
+    all_more all zero none within = is
+    all_more all (suc k) none within = all k none (omega (arith, within))
+
+some_down : (to : List Target) → (AllUp to → ⊥) → SomeDown to
+some_down [] not = absurd (not (λ k none within. absurd (omega (arith, within))))
+some_down (t ∷ to) not = down_by t to t.up refl not (some_down to)
+
+abbrev any_target : Target
+any_target = record { up = true; known = record { faults = 0; told = None } }
+
+module _ {L : Type 0} (rules : Rules) (valid : AreInRange rules) (carry : Carry) (to : List Address) (known : L → Known Traffic) (members members' : List (Member L))
+    (many : length members ≡ length to) (many' : length members' ≡ length to) (up : AreUp members) (a b c : Known DockContents)
+    (opens : Tells a b (λ before after. after ≡ after_reaches to before)) (links : Docked a b (λ told. HaveLinks known told to members))
+    (closed : Tells b c (λ before after. (overs : List Over) → HaveGone known members' overs → after ≡ after_closes overs to before))
+    (only : EachSends (most_sends rules) (targets known members) (targets known members')) where
+  abbrev olds : List Target
+  olds = targets known members
+
+  abbrev news : List Target
+  news = targets known members'
+
+  -- what holds of a link before and after, by its place
+  at_link : (P : Target → Target → Type 0) → Each P olds news → (k : ℕ) (d : Member L) → k < length to → P (target known (slice_index_or members k d)) (target known (slice_index_or members' k d))
+  at_link P each k d within =
+      let size = as_many_targets known members in
+      let here = each k any_target (omega (arith, within, many, size)) in
+      subst (λ (t : Target). P t (target known (slice_index_or members' k d))) (at_place known members k any_target d (omega (arith, within, many)))
+      (subst (λ (t : Target). P (slice_index_or olds k any_target) t) (at_place known members' k any_target d (omega (arith, within, many'))) here)
+
+  went_at : (k : ℕ) (d : Member L) (start : LinkStart) → k < length to → (known (slice_index_or members k d).link).told ≡ Some (first_traffic start)
+      → Went start (known (slice_index_or members k d).link) (known (slice_index_or members' k d).link)
+  went_at k d start within new =
+      went_over rules valid start (known (slice_index_or members k d).link) (known (slice_index_or members' k d).link) new
+      (at_link (λ x y. MakesSends (most_sends rules) x.known y.known) only.each k d within)
+
+  has_gone : (k : ℕ) (d : Member L) (start : LinkStart) → (w : Went start (known (slice_index_or members k d).link) (known (slice_index_or members' k d).link))
+      → HasGone known (slice_index_or members' k d).link (over_it start (known (slice_index_or members k d).link) (known (slice_index_or members' k d).link) w)
+  has_gone k d start w = (w.traffic, w.tells, refl, rests_are w.traffic w.still)
+
+  took_at : (datagrams : List (List ℕ)) → EachTakes datagrams olds news → (k : ℕ) (d : Member L) → k < length to
+      → TookBy (slice_index_or members' k d).up datagrams (known (slice_index_or members k d).link) (known (slice_index_or members' k d).link)
+  took_at datagrams sent k d within =
+      took_from datagrams (target known (slice_index_or members k d)) (target known (slice_index_or members' k d)) (up k d (omega (arith, within, many)))
+      (at_link (TakesMore datagrams) sent.each k d within)
+
+  -- these were sent over each that is up
+  goes_all : (datagrams : List (List ℕ)) (ups : ℕ → Bool) → EachTakes datagrams olds news → ((k : ℕ) (none : Target) → k < length to → (slice_index_or news k none).up ≡ ups k)
+      → Tells a c (GoesOver (λ k start went. Goes (ups k) datagrams start went) to)
+  goes_all datagrams ups sent are =
+      over_each (λ k start went. Goes (ups k) datagrams start went) known to members members' many many' a b c opens links
+      (λ k d start within new.
+      let w = went_at k d start within new in
+      let x = known (slice_index_or members k d).link in
+      let y = known (slice_index_or members' k d).link in
+      let is : (slice_index_or members' k d).up ≡ ups k = ap (λ (t : Target). t.up) (sym (at_place known members' k any_target d (omega (arith, within, many')))) ∙ are k any_target within in (
+        over_it start x y w,
+        has_gone k d start w,
+        subst (λ u. Goes u datagrams start (over_it start x y w)) is (goes_by start x y w (slice_index_or members' k d).up datagrams (took_at datagrams sent k d within)),
+      ))
+      closed
+
+  goes_short : (answers : List Answer) (last : ℕ) → Each (λ x y. x.up ≡ true → StopsOver rules carry answers x y) olds news
+      → ((none : Target) → StopsLast rules carry answers (slice_index_or olds last none) (slice_index_or news last none)) → Tells a c (GoesOver (GoesPart rules carry answers last) to)
+  goes_short answers last each at_last =
+      over_each (GoesPart rules carry answers last) known to members members' many many' a b c opens links
+      (λ k d start within new.
+      let w = went_at k d start within new in
+      let x = known (slice_index_or members k d).link in
+      let y = known (slice_index_or members' k d).link in
+      let was : (slice_index_or members k d).up ≡ true = up k d (omega (arith, within, many)) in
+      let first : slice_index_or olds k any_target ≡ target known (slice_index_or members k d) = at_place known members k any_target d (omega (arith, within, many)) in
+      let second : slice_index_or news k any_target ≡ target known (slice_index_or members' k d) = at_place known members' k any_target d (omega (arith, within, many')) in (
+        over_it start x y w,
+        has_gone k d start w,
+        goes_part start x y w rules carry answers last k (slice_index_or members k d).up (slice_index_or members' k d).up was
+            (at_link (λ x y. x.up ≡ true → StopsOver rules carry answers x y) each k d within was)
+            (λ here.
+            subst (λ (t : Target). StopsLast rules carry answers t (target known (slice_index_or members' k d))) first
+            (subst (λ (t : Target). StopsLast rules carry answers (slice_index_or olds k any_target) t) second
+            (subst (λ n. StopsLast rules carry answers (slice_index_or olds n any_target) (slice_index_or news n any_target)) (sym here) (at_last any_target)))),
+      ))
+      closed
+
+  as_many : length news ≡ length to
+  as_many = as_many_targets known members' ∙ many'
+
+  same_up : (k : ℕ) (none : Target) → k < length news → (slice_index_or news k none).up ≡ (slice_index_or news k any_target).up
+  same_up k none within = ap (λ (t : Target). t.up) (same_index news k none any_target within)
+
+  pub goes_out : (from from' : Known Traffic) (ended : GateEnded) → GateRun rules carry from from' olds news ended → Tells a c (GoesOut rules carry (Heard from from') to (passed_of ended))
+  goes_out from from' (ended.Done tally) (all_up, sent, all, is) =
+      Tells-weaker (GoesOver (λ k start went. Goes true (sent_of all.fates) start went) to) (GoesOut rules carry (Heard from from') to (Ok tally)) a c
+      (goes_all (sent_of all.fates) (λ k. true) all.sent (λ k none within. all_up k none (omega (arith, within, as_many))))
+      (λ x z goes. (
+        record {
+          fates = all.fates;
+          passed = record { answers = all.answers; heard = all.heard; few = all.few; word = all.word; reading = all.reading; onward = all.onward };
+          goes = goes;
+        },
+        is ∙ (λ i. over (as_many i) (all.tally_is i)),
+      ))
+  goes_out from from' ended.SomeFailed (not_up, sent, all) =
+      let ups : ℕ → Bool = λ k. (slice_index_or news k any_target).up in
+      let down = some_down news not_up in
+      Tells-weaker (GoesOver (λ k start went. Goes (ups k) (sent_of all.fates) start went) to) (GoesOut rules carry (Heard from from') to (Err (record {}))) a c
+      (goes_all (sent_of all.fates) ups all.sent (λ k none within. same_up k none (omega (arith, within, as_many))))
+      (λ x z goes. inl (
+        ups,
+        (down.0, (let less = down.1 in omega (arith, less, as_many)), down.2 any_target),
+        record {
+          fates = all.fates;
+          passed = record { answers = all.answers; heard = all.heard; few = all.few; word = all.word; reading = all.reading; onward = all.onward };
+          goes = goes;
+        },
+      ))
+  goes_out from from' ended.FromFailed run =
+      let ups : ℕ → Bool = λ k. (slice_index_or news k any_target).up in
+      Tells-weaker (GoesOver (λ k start went. Goes (ups k) (sent_of run.fates) start went) to) (GoesOut rules carry (Heard from from') to (Err (record {}))) a c
+      (goes_all (sent_of run.fates) ups run.sent (λ k none within. same_up k none (omega (arith, within, as_many))))
+      (λ x z goes. inr (inl (
+        ups,
+        record {
+          fates = run.fates;
+          broken = record { answers = run.answers; heard = run.heard; few = run.few; before = run.before; reading = run.reading; ready = run.ready };
+          goes = goes;
+        },
+      )))
+  goes_out from from' ended.ToFailed run =
+      Tells-weaker (GoesOver (GoesPart rules carry run.answers run.last) to) (GoesOut rules carry (Heard from from') to (Err (record {}))) a c
+      (goes_short run.answers run.last run.each run.at_last)
+      (λ x z goes. inr (inr (record {
+        answers = run.answers;
+        heard = run.heard;
+        few = run.few;
+        goes_on = run.goes_on;
+        last = run.last;
+        within = (let less = run.within in omega (arith, less, as_many_targets known members, many));
+        goes = goes;
+      })))
+
+pub opened_out : (rules : Rules) (carry : Carry) (to : List Address) (from from' : Known Traffic) (passed : Result Tally LinkFault) (a c : Known DockContents)
+    → Tells a c (GoesOut rules carry (Heard from from') to passed) → Tells a c (PassesTo rules carry to from from' passed)
+opened_out rules carry to from from' passed a c goes = Tells-weaker (GoesOut rules carry (Heard from from') to passed) (PassesTo rules carry to from from' passed) a c goes (λ x z out. inr out)
+
+-- how many calls each link gets, however it ends
+pub only_of : (rules : Rules) (carry : Carry) (from from' : Known Traffic) (to to' : List Target) (ended : GateEnded) → GateRun rules carry from from' to to' ended → EachSends (most_sends rules) to to'
+only_of rules carry from from' to to' (ended.Done tally) (up, sent, all, is) = all.only
+only_of rules carry from from' to to' ended.SomeFailed (not_up, sent, all) = all.only
+only_of rules carry from from' to to' ended.FromFailed run = run.only
+only_of rules carry from from' to to' ended.ToFailed run = run.only
 
 -- ---- the link that datagrams come from
 
@@ -158,20 +311,67 @@ heard_all rules start answers (Some x) (Some y) valid few heard is =
     (y, refl, record { ahead = (y.ahead, subst (λ (t : Traffic). AreNext t.ahead answers y.ahead) same heard.ahead); gone = heard.gone ∙ ap (λ (t : Traffic). t.gone) same })
 
 -- a new link of which something was heard
-heard_some : (rules : Rules) (carry : Carry) (start : LinkStart) (a b : Known Traffic) (sends : Option ℕ) (passed : Result Tally LinkFault) (gone : List (List ℕ)) → AreInRange rules → a.told ≡ Some (first_traffic start)
-    → GoesOver rules carry (Heard a b) sends passed gone → (traffic : Traffic) × (b.told ≡ Some traffic) × (traffic.gone ≡ []) × GoesOver rules carry (AreAhead start.ahead) sends passed gone
-heard_some rules carry start a b sends (Ok tally) gone valid new (fates, p, same, takes, counted) =
-    let (traffic, tells, all) = heard_all rules start p.answers a.told b.told valid p.few p.heard new in
-    (traffic, tells, all.gone, (fates, record { answers = p.answers; heard = all.ahead; few = p.few; word = p.word; reading = p.reading; onward = p.onward }, same, takes, counted))
-heard_some rules carry start a b sends (Err fault) gone valid new (inl (fates, p, same, takes)) =
-    let (traffic, tells, all) = heard_all rules start p.answers a.told b.told valid p.few p.heard new in
-    (traffic, tells, all.gone, inl (fates, record { answers = p.answers; heard = all.ahead; few = p.few; before = p.before; reading = p.reading; ready = p.ready }, same, takes))
-heard_some rules carry start a b sends (Err fault) gone valid new (inr (p, takes)) =
-    let (traffic, tells, all) = heard_all rules start p.answers a.told b.told valid p.few p.heard new in
-    (traffic, tells, all.gone, inr (record { answers = p.answers; heard = all.ahead; few = p.few; goes_on = p.goes_on; at = p.at; front = p.front }, takes))
+module _ (rules : Rules) (valid : AreInRange rules) (carry : Carry) (start : LinkStart) (a b : Known Traffic) (new : a.told ≡ Some (first_traffic start)) (to : List Address) (x z : DockContents) where
+  abbrev HasHeard : Type 0 → Type 0
+  HasHeard Of = (traffic : Traffic) × (b.told ≡ Some traffic) × (traffic.gone ≡ []) × Of
+
+  heard_some : (passed : Result Tally LinkFault) → GoesOut rules carry (Heard a b) to passed x z → HasHeard (GoesOut rules carry (AreAhead start.ahead) to passed x z)
+  heard_some (Ok tally) (p, counted) =
+      let q = p.passed in
+      let (traffic, tells, all) = heard_all rules start q.answers a.told b.told valid q.few q.heard new in (
+        traffic,
+        tells,
+        all.gone,
+        (
+          record {
+            fates = p.fates;
+            passed = record { answers = q.answers; heard = all.ahead; few = q.few; word = q.word; reading = q.reading; onward = q.onward };
+            goes = p.goes;
+          },
+          counted,
+        ),
+      )
+  heard_some (Err fault) (inl (up, down, p)) =
+      let q = p.passed in
+      let (traffic, tells, all) = heard_all rules start q.answers a.told b.told valid q.few q.heard new in (
+        traffic,
+        tells,
+        all.gone,
+        inl (
+          up,
+          down,
+          record {
+            fates = p.fates;
+            passed = record { answers = q.answers; heard = all.ahead; few = q.few; word = q.word; reading = q.reading; onward = q.onward };
+            goes = p.goes;
+          },
+        ),
+      )
+  heard_some (Err fault) (inr (inl (up, p))) =
+      let q = p.broken in
+      let (traffic, tells, all) = heard_all rules start q.answers a.told b.told valid q.few q.heard new in (
+        traffic,
+        tells,
+        all.gone,
+        inr (inl (
+          up,
+          record {
+            fates = p.fates;
+            broken = record { answers = q.answers; heard = all.ahead; few = q.few; before = q.before; reading = q.reading; ready = q.ready };
+            goes = p.goes;
+          },
+        )),
+      )
+  heard_some (Err fault) (inr (inr p)) =
+      let (traffic, tells, all) = heard_all rules start p.answers a.told b.told valid p.few p.heard new in (
+        traffic,
+        tells,
+        all.gone,
+        inr (inr (record { answers = p.answers; heard = all.ahead; few = p.few; goes_on = p.goes_on; last = p.last; within = p.within; goes = p.goes })),
+      )
 
 -- the link is closed over which nothing went
-closed_none : (at : Address) (last : Option Traffic) (traffic : Traffic) (z w : DockContents) → last ≡ Some traffic → traffic.gone ≡ [] → HasNotRested traffic → Closes last at z w → w ≡ after_close at [] (no_rests []) z
+closed_none : (at : Address) (last : Option Traffic) (traffic : Traffic) (z w : DockContents) → last ≡ Some traffic → traffic.gone ≡ [] → HasNotRested traffic → Closes last at z w → w ≡ after_source at z
 closed_none at None traffic z w is gone still closes = absurd cc
 closed_none at (Some t) traffic z w is gone still closes =
     let same : t ≡ traffic = cc in
@@ -179,37 +379,30 @@ closed_none at (Some t) traffic z w is gone still closes =
     let rests : rests_of t ≡ no_rests [] = ap rests_of same ∙ (rests_are traffic still ∙ ap no_rests gone) in
     closes ∙ (λ i. after_close at (none i) (rests i) z)
 
-module _ (rules : Rules) (valid : AreInRange rules) (carry : Carry) (from to : Address) (start : LinkStart) (a b : Known Traffic) (new : a.told ≡ Some (first_traffic start)) (still : Tells a b NeverRests)
+module _ (rules : Rules) (valid : AreInRange rules) (carry : Carry) (from : Address) (to : List Address) (start : LinkStart) (a b : Known Traffic) (new : a.told ≡ Some (first_traffic start)) (still : Tells a b NeverRests)
     (x y z w : DockContents) (found : Finds x 0 from start) (at : y ≡ after_opening from x) (closes : Closes b.told from z w) where
-  both_closed : (passed : Result Tally LinkFault) → GoesOut rules carry to a b passed y z → PassesOn rules carry from to passed x w
-  both_closed passed (inl (failed, none, same, after)) =
+  all_closed : (passed : Result Tally LinkFault) → PassesTo rules carry to a b passed y z → PassesOn rules carry from to passed x w
+  all_closed passed (inl (failed, same, few)) =
       let tells : b.told ≡ Some (first_traffic start) = ap (λ (k : Known Traffic). k.told) same ∙ new in
-      let shut : w ≡ after_close from [] (no_rests []) z = closed_none from b.told (first_traffic start) z w tells refl (not_rested start) closes in
-      inr (inl (failed, start, found, subst (λ (d : DockContents). FindsNone (with_reach d) 0 to) at none, shut ∙ (λ i. after_close from [] (no_rests []) ((after ∙ (λ j. after_failure (with_reach (at j)))) i))))
-  both_closed passed (inr (target, second, gone, goes, after)) =
-      let (traffic, tells, none, over) = heard_some rules carry start a b target.sends passed gone valid new goes in
+      let shut : w ≡ after_source from z = closed_none from b.told (first_traffic start) z w tells refl (not_rested start) closes in
+      inr (start, found, z, shut, inl (failed, subst (λ (d : DockContents). ReachesFew to d z) at few))
+  all_closed passed (inr goes) =
+      let (traffic, tells, none, over) = heard_some rules valid carry start a b new to y z passed goes in
       let rested : HasNotRested traffic = told_both NeverRests a.told b.told (first_traffic start) traffic new tells still (not_rested start) in
-      let shut : w ≡ after_close from [] (no_rests []) z = closed_none from b.told traffic z w tells none rested closes in
-      inr (inr (
-        start,
-        target,
-        record { first = found; second = subst (λ (d : DockContents). Finds (with_reach d) 0 to target) at second },
-        gone,
-        over,
-        shut ∙ (λ i. after_close from [] (no_rests []) ((after ∙ (λ j. after_close to gone (no_rests gone) (after_opening to (with_reach (at j))))) i)),
-      ))
+      let shut : w ≡ after_source from z = closed_none from b.told traffic z w tells none rested closes in
+      inr (start, found, z, shut, inr (subst (λ (d : DockContents). GoesOut rules carry (AreAhead start.ahead) to passed d z) at over))
 
-pub passes_on : {L : Type 0} (rules : Rules) (carry : Carry) (from to : Address) (known : L → Known Traffic) (first last : L) (passed : Result Tally LinkFault) (a b c d : Known DockContents)
+pub passes_on : {L : Type 0} (rules : Rules) (carry : Carry) (from : Address) (to : List Address) (known : L → Known Traffic) (first last : L) (passed : Result Tally LinkFault) (a b c d : Known DockContents)
     → AreInRange rules → WhileTold a b (Binds known from (opened.Link first)) → CountsCall (λ (e : DockContents). e.calls) a b
-    → Tells b c (GoesOut rules carry to (known first) (known last) passed) → Tells (known first) (known last) NeverRests
+    → Tells b c (PassesTo rules carry to (known first) (known last) passed) → Tells (known first) (known last) NeverRests
     → WhileTold c d (Closes (known last).told from) → CountsCall (λ (e : DockContents). e.calls) c d → Tells a d (PassesOn rules carry from to passed)
 passes_on rules carry from to known first last passed a b c d valid opens counts goes still closes counts_close =
-    let Out : DockContents → DockContents → Type 0 = λ x z. (y : DockContents) × Binds known from (opened.Link first) x y × GoesOut rules carry to (known first) (known last) passed y z in
+    let Out : DockContents → DockContents → Type 0 = λ x z. (y : DockContents) × Binds known from (opened.Link first) x y × PassesTo rules carry to (known first) (known last) passed y z in
     let out : Tells a c Out =
-    Tells-then (Binds known from (opened.Link first)) (GoesOut rules carry to (known first) (known last) passed) Out a b c
+    Tells-then (Binds known from (opened.Link first)) (PassesTo rules carry to (known first) (known last) passed) Out a b c
     (Tells-one (λ (e : DockContents). e.calls) (Binds known from (opened.Link first)) a b counts opens) goes (λ x y z p q. (y, p, q)) in
     Tells-then Out (Closes (known last).told from) (PassesOn rules carry from to passed) a c d out
     (Tells-one (λ (e : DockContents). e.calls) (Closes (known last).told from) c d counts_close closes)
     (λ x z w (y, opening, over) closing.
     let (start, stands, new) = Opens-started known from first x y opening in
-    both_closed rules valid carry from to start (known first) (known last) new still x y z w (found_at x from start opening.0 stands) opening.2 closing passed over)
+    all_closed rules valid carry from to start (known first) (known last) new still x y z w (found_at x from start opening.0 stands) opening.2 closing passed over)

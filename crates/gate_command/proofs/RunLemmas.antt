@@ -1,110 +1,263 @@
 -- A run of the command, by how it ends.
-use Rattle.std.proofs.Common.{◌≡◌, ℕ, ◌≤◌, ◌⊎◌, ◌↔◌, inl, inr, Bool, true, false, cond, List, [], length, None, Some, Result, Ok, Err, refl, sym, subst, ap, ◌∙◌, arith}
+use Rattle.std.proofs.Common.{◌≡◌, ℕ, ◌<◌, ◌≤◌, ◌⊎◌, ◌↔◌, inl, inr, Bool, true, false, cond, List, [], length, None, Some, Result, Ok, Err, refl, sym, subst, ap, ◌∙◌, arith}
+use Rattle.std.specs.Prelude.{slice_index_or}
 use Rattle.std.specs.FinMap as map
-use Rattle.std.specs.FinMap.{gets, get-remove, get-insert}
+use Rattle.std.specs.FinMap.{get-remove, get-insert}
 use Rattle.std.specs.Ordering.{nat_cmp, eq_by_cmp}
 use Rattle.std.specs.Cmp.Lexicographic.{slice_cmp, nat_list_cmp_total}
-use Rattle.std.proofs.lemmas.Grind.{common_steps}
 use Rattle.dcp_pft.specs.declared.carry.Carry.{Carry}
 use Rattle.drm_links.specs.Told.{HasFailed, Known, HasCause, Tells}
+use Rattle.drm_links.specs.Link.{Answer}
 use Rattle.drm_links.specs.Sink.{Output, Outputs}
-use Rattle.drm_links.specs.Dock.{DockContents, LinkStart, address_key, start_at}
-use Rattle.drm_links.specs.Transmission.{TakesSends}
+use Rattle.drm_links.specs.Dock.{DockContents, LinkStart, address_key, start_at, after_opening}
+use Rattle.drm_links.specs.Transmission.{TakesSends, TakesFewer}
 use Rattle.drm_links.specs.declared.dock.Address.{Address}
 use Rattle.drm_links.specs.declared.link.LinkFault.{LinkFault}
-use Rattle.drm_links.proofs.ToldLemmas.{Tells-weaker}
+use Rattle.drm_links.proofs.ToldLemmas.{Tells-nothing, Tells-weaker}
 use Rattle.mod_receiver.specs.declared.rules.Rules.{Rules}
+use Rattle.mod_receiver.specs.Ahead.{BreaksOff}
+use Rattle.word_forms.specs.Addresses.{AreDifferent}
+use Rattle.several_links.specs.Openings.{Finds}
+use Rattle.several_links.specs.Reaching.{Over, nothing, ReachesNone, ReachesFew, GoesOver, after_reaches}
+use Rattle.several_links.proofs.RunLemmas as several
+use Rattle.drm_receive.proofs.BreakingOff.{found_once, is_found}
 use Rattle.drm_receive.proofs.ReceiveLemmas.{inner, no_fault}
 use Rattle.drm_faults.specs.Fault.{UnlessMemory}
 use Rattle.drm_faults.specs.declared.fault.Fault.{Fault}
 use Rattle.drm_faults.specs.declared.fault.Fault.TheVariants as faults
 use Rattle.drm_gate.specs.declared.tally.Tally.{Tally}
+use Rattle.drm_gate.specs.Passing.{Fate, sent_of}
 use Rattle.gate_command.specs.Line.{gate_line, is_clean}
-use Rattle.gate_command.specs.Opening.{at_second, after_both}
-use Rattle.gate_command.specs.Run.{PassesOn, WritesTally, FailsGate, PassedAll, GateCommandRun}
-use Rattle.gate_command.proofs.ReadingLemmas.{fails, fails_not}
+use Rattle.gate_command.specs.Opening.{FailsOpening, after_source}
+use Rattle.gate_command.specs.Between.{AreAhead, IsPassedOn, Goes, GoesPart, PassesAll, PassesPart, GoesOut}
+use Rattle.gate_command.specs.Run.{PassesOn, WritesTally, LacksSome, FailsGate, HasAll, PassedAll, GateCommandRun}
+use Rattle.gate_command.proofs.ReadingLemmas.{broken, whole, one_passed, front_of_all, takes_fewer, not_both}
 
--- ---- what has gone at the second address
+any_address : Address
+any_address = record { ip = []; port = 0 }
 
-apart_by : (told : DockContents) (from to : Address) (start : LinkStart) (b : Bool) → eq_by_cmp (slice_cmp nat_cmp) (address_key to) (address_key from) ≡ b → start_at (at_second from told) to ≡ Some start
-    → eq_by_cmp (slice_cmp nat_cmp) (address_key to) (address_key from) ≡ false
-apart_by told from to start false is stands = is
-apart_by told from to start true is stands =
-    let none : start_at (at_second from told) to ≡ None =
-    get-remove nat_list_cmp_total told.links (address_key from) (address_key to) ∙ ap (λ b. cond b None (map.get told.links (address_key to))) is in
-    let clash : None ≡ Some start = sym none ∙ stands in
-    absurd cc
+few_reached : (to : List Address) (x z : DockContents) → ReachesFew to x z → ReachesNone x to
+few_reached to x z few = record { k = few.k; within = few.within; fails = few.fails }
 
-gone_at : (told : DockContents) (from to : Address) (start : LinkStart) (gone : List (List ℕ)) → start_at (at_second from told) to ≡ Some start → map.get (after_both from to gone told).gone (address_key to) ≡ Some gone
-gone_at told from to start gone stands =
-    let other = apart_by told from to start (eq_by_cmp (slice_cmp nat_cmp) (address_key to) (address_key from)) refl stands in
-    let there : map.get (map.insert told.gone (address_key to) gone) (address_key to) ≡ Some gone = grind (arith, gets, common_steps) in
-    get-insert nat_list_cmp_total (map.insert told.gone (address_key to) gone) (address_key from) [] (address_key to)
-    ∙ (ap (λ b. cond b (Some []) (map.get (map.insert told.gone (address_key to) gone) (address_key to))) other ∙ there)
+-- ---- what had gone at an address
+
+module _ (told : DockContents) (from : Address) where
+  apart_by : (at : Address) (start : LinkStart) (b : Bool) → eq_by_cmp (slice_cmp nat_cmp) (address_key at) (address_key from) ≡ b → start_at (after_opening from told) at ≡ Some start
+      → eq_by_cmp (slice_cmp nat_cmp) (address_key at) (address_key from) ≡ false
+  apart_by at start false is stands = is
+  apart_by at start true is stands =
+      let none : start_at (after_opening from told) at ≡ None =
+      get-remove nat_list_cmp_total told.links (address_key from) (address_key at) ∙ ap (λ b. cond b None (map.get told.links (address_key at))) is in
+      let clash : None ≡ Some start = sym none ∙ stands in
+      absurd cc
+
+  -- the link that was read had another one
+  gone_at : (Goes : ℕ → LinkStart → Over → Type 0) (to : List Address) (mid : DockContents) → AreDifferent to → (goes : GoesOver Goes to (after_opening from told) mid) → (k : ℕ) (at : Address) → k < length to
+      → map.get (after_source from mid).gone (address_key (slice_index_or to k at)) ≡ Some (slice_index_or goes.overs k nothing).gone
+  gone_at Goes to mid different goes k at within =
+      let here : Address = slice_index_or to k at in
+      let (start, finds, goes_there) = goes.goes.each k at nothing within in
+      let other = apart_by here start (eq_by_cmp (slice_cmp nat_cmp) (address_key here) (address_key from)) refl finds.stands in
+      get-insert nat_list_cmp_total mid.gone (address_key from) [] (address_key here)
+      ∙ (ap (λ b. cond b (Some []) (map.get mid.gone (address_key here))) other
+      ∙ (ap (λ (d : DockContents). map.get d.gone (address_key here)) goes.told
+      ∙ several.gone_at goes.overs to (after_reaches to (after_opening from told)) different goes.goes.as_many k at nothing within))
+
+-- ---- what goes over one of the links, and what becomes of all that is read
+
+module _ (rules : Rules) (carry : Carry) (ahead : List Answer) (fates : List Fate) (passed : IsPassedOn rules carry (AreAhead ahead) fates) where
+  -- it lacks sends where it fails
+  lacks_by : (up : Bool) (fs : List Fate) (start : LinkStart) (went : Over) → IsPassedOn rules carry (AreAhead ahead) fs → up ≡ false → Goes up (sent_of fs) start went → TakesFewer start.sends (length (sent_of fates))
+  lacks_by true fs start went is down goes = absurd (let clash : true ≡ false = down in cc)
+  lacks_by false fs start went is down (front, no_more, still) =
+      subst (λ (l : List (List ℕ)). TakesFewer start.sends (length l)) (one_passed rules carry ahead fs fates is passed) (takes_fewer start.sends (sent_of fs) went.gone no_more front)
+
+  lacks_part : (answers : List Answer) (to : List Address) (x z : DockContents) (p : PassesPart rules carry (AreAhead ahead) to x z) (k : ℕ) (start : LinkStart) (went : Over)
+      → GoesPart rules carry p.answers p.last k start went → TakesFewer start.sends (length (sent_of fates))
+  lacks_part answers to x z p k start went goes =
+      takes_fewer start.sends (sent_of fates) went.gone goes.no_more (front_of_all rules carry ahead fates p.answers went.gone p.heard p.goes_on goes.front passed)
+
+  -- and where it takes all, all goes over it
+  all_by : (up : Bool) (fs : List Fate) (start : LinkStart) (went : Over) → IsPassedOn rules carry (AreAhead ahead) fs → Goes up (sent_of fs) start went → TakesSends start.sends (length (sent_of fates)) → went.gone ≡ sent_of fates
+  all_by true fs start went is (gone, takes, still) enough = gone ∙ one_passed rules carry ahead fs fates is passed
+  all_by false fs start went is goes enough = absurd (not_both start.sends (length (sent_of fates)) (lacks_by false fs start went is refl goes) enough)
 
 -- ---- a run that came to its links
 
-module _ {O : Type 0} (rules : Rules) (carry : Carry) (from to : Address) (ending : Result Bool Fault) (known : O → Known Output) (out out' : O) where
+module _ (rules : Rules) (carry : Carry) (from : Address) (to : List Address) where
+  -- one of them fails
+  fails_out : (fault : LinkFault) (x z : DockContents) (source : LinkStart) → GoesOut rules carry (AreAhead source.ahead) to (Err fault) (after_opening from x) z
+      → BreaksOff rules source.ahead ⊎ LacksSome rules carry source.ahead (after_opening from x) to
+  fails_out fault x z source (inl (up, (k, within, down), p)) = inr (record {
+    k = k;
+    within = within;
+    lacks = λ at.
+        let (start, finds, goes) = p.goes.goes.each k at nothing within in
+        (start, finds, λ fates passed. lacks_by rules carry source.ahead fates passed (up k) p.fates start (slice_index_or p.goes.overs k nothing) p.passed down goes);
+  })
+  fails_out fault x z source (inr (inl (up, p))) = inl (broken rules carry source.ahead p.fates p.broken)
+  fails_out fault x z source (inr (inr p)) = inr (record {
+    k = p.last;
+    within = p.within;
+    lacks = λ at.
+        let (start, finds, goes) = p.goes.goes.each p.last at nothing p.within in
+        (start, finds, λ fates passed. lacks_part rules carry source.ahead fates passed p.answers to (after_opening from x) z p p.last start (slice_index_or p.goes.overs p.last nothing) goes);
+  })
+
   fails_by : (fault : LinkFault) (x y : DockContents) → PassesOn rules carry from to (Err fault) x y → FailsGate rules carry from to x
   fails_by fault x y (inl (failed, none, after)) = inl (inl none)
-  fails_by fault x y (inr (inl (failed, source, found, none, after))) = inl (inr (source, found, none))
-  fails_by fault x y (inr (inr (source, target, both, gone, goes, after))) = fails rules carry from to x source target fault gone both goes
+  fails_by fault x y (inr (source, found, mid, after, inl (failed, few))) = inl (inr (source, found, few_reached to (after_opening from x) mid few))
+  fails_by fault x y (inr (source, found, mid, after, inr goes)) = inr (source, found, fails_out fault x mid source goes)
+
+  -- none of them fails
+  module _ (x z : DockContents) (source : LinkStart) (found : Finds x 0 from source) (p : PassesAll rules carry (AreAhead source.ahead) to (λ k. true) (after_opening from x) z) where
+    opens : FailsOpening x from to → ⊥
+    opens (inl none) = is_found x 0 from source found none
+    opens (inr (start, there, none)) =
+        let (other, finds, goes) = p.goes.goes.each none.k any_address nothing none.within in
+        is_found (after_opening from x) none.k (slice_index_or to none.k any_address) other finds (none.fails any_address)
+
+    takes : (start : LinkStart) → start ≡ source → LacksSome rules carry start.ahead (after_opening from x) to → ⊥
+    takes start same lacks =
+        let k : ℕ = lacks.k in
+        let (other, finds, goes) = p.goes.goes.each k any_address nothing lacks.within in
+        let (first, there, few) = lacks.lacks any_address in
+        let one : first ≡ other = found_once (after_opening from x) k (slice_index_or to k any_address) first other there finds in
+        let less : TakesFewer other.sends (length (sent_of p.fates)) = subst (λ (s : LinkStart). TakesFewer s.sends (length (sent_of p.fates))) one
+        (few p.fates (subst (λ (s : LinkStart). IsPassedOn rules carry (AreAhead s.ahead) p.fates) (sym same) p.passed)) in
+        not_both other.sends (length (sent_of p.fates)) less (subst (λ (l : List (List ℕ)). TakesSends other.sends (length l)) goes.0 goes.1)
+
+    none_fails : FailsGate rules carry from to x → ⊥
+    none_fails (inl fails) = opens fails
+    none_fails (inr (start, there, inl breaks)) =
+        whole rules carry source.ahead p.fates p.passed (subst (λ (s : LinkStart). BreaksOff rules s.ahead) (found_once x 0 from start source there found) breaks)
+    none_fails (inr (start, there, inr lacks)) = takes start (found_once x 0 from start source there found) lacks
 
   passes_not : (tally : Tally) (x y : DockContents) → PassesOn rules carry from to (Ok tally) x y → FailsGate rules carry from to x → ⊥
   passes_not tally x y (inl (failed, none, after)) fail = let clash : false ≡ true = failed in absurd cc
-  passes_not tally x y (inr (inl (failed, source, found, none, after))) fail = let clash : false ≡ true = failed in absurd cc
-  passes_not tally x y (inr (inr (source, target, both, gone, (fates, passed, same, takes, counted), after))) fail =
-      fails_not rules carry from to x source target both fates passed (subst (λ (l : List (List ℕ)). TakesSends target.sends (length l)) same takes) fail
+  passes_not tally x y (inr (source, found, mid, after, inl (failed, few))) fail = let clash : false ≡ true = failed in absurd cc
+  passes_not tally x y (inr (source, found, mid, after, inr (p, counted))) fail = none_fails x mid source found p fail
 
-  not_link : (tally : Tally) → WritesTally (Ok tally) ending known out out' → ending ≡ Err faults.Link → ⊥
-  not_link tally (inl (is, text)) link = no_fault (is_clean tally) faults.Link (sym is ∙ link)
-  not_link tally (inr (is, text)) link = let one : faults.Write ≡ faults.Link = inner faults.Write faults.Link (sym is ∙ link) in absurd cc
+  -- ---- what has gone over each of them
 
-  exactly_by : (passed : Result Tally LinkFault) (x y : DockContents) → WritesTally passed ending known out out' → PassesOn rules carry from to passed x y
-      → UnlessMemory ending ((ending ≡ Err faults.Link) ↔ FailsGate rules carry from to x)
-  exactly_by (Ok tally) x y writes passes = inr (λ link. absurd (not_link tally writes link), λ fail. absurd (passes_not tally x y passes fail))
-  exactly_by (Err fault) x y writes passes = inr (λ link. fails_by fault x y passes, λ fail. writes.0)
+  module _ (different : AreDifferent to) (x y mid : DockContents) (is : y ≡ after_source from mid) (source : LinkStart) (fates : List Fate) (passed : IsPassedOn rules carry (AreAhead source.ahead) fates) where
+    has : (Goes : ℕ → LinkStart → Over → Type 0) (goes : GoesOver Goes to (after_opening from x) mid) (k : ℕ) → k < length to → (slice_index_or goes.overs k nothing).gone ≡ sent_of fates → HasAll fates to k y
+    has Goes goes k within same at = ap (λ (d : DockContents). map.get d.gone (address_key (slice_index_or to k at))) is ∙ (gone_at x from Goes to mid different goes k at within ∙ ap Some same)
 
-  all_by : (tally : Tally) (x y : DockContents) → ending ≡ Ok (is_clean tally) → Outputs (known out) (known out') (λ text. text ≡ gate_line tally) → PassesOn rules carry from to (Ok tally) x y
-      → PassedAll rules carry from to ending x y known out out'
-  all_by tally x y is text (inl (failed, none, after)) = let clash : false ≡ true = failed in absurd cc
-  all_by tally x y is text (inr (inl (failed, source, found, none, after))) = let clash : false ≡ true = failed in absurd cc
-  all_by tally x y is text (inr (inr (source, target, both, gone, (fates, passed, same, takes, counted), after))) = record {
-    source = source;
-    finds = both.first;
-    fates = fates;
-    passed = passed;
-    gone = ap (λ (d : DockContents). map.get d.gone (address_key to)) after ∙ (gone_at x from to target gone both.second.stands ∙ ap Some same);
-    line = subst (λ (t : Tally). Outputs (known out) (known out') (λ written. written ≡ gate_line t)) counted text;
-    clean = is ∙ ap (λ (t : Tally). Ok (is_clean t)) counted;
-  }
+    module _ (k : ℕ) (at : Address) (start : LinkStart) (within : k < length to) (finds : Finds (after_opening from x) k (slice_index_or to k at) start) (enough : TakesSends start.sends (length (sent_of fates))) where
+      of_all : (up : ℕ → Bool) → PassesAll rules carry (AreAhead source.ahead) to up (after_opening from x) mid → HasAll fates to k y
+      of_all up p =
+          let (other, there, goes) = p.goes.goes.each k at nothing within in
+          let one : start ≡ other = found_once (after_opening from x) k (slice_index_or to k at) start other finds there in
+          has (λ j s went. Goes (up j) (sent_of p.fates) s went) p.goes k within
+          (all_by rules carry source.ahead fates passed (up k) p.fates other (slice_index_or p.goes.overs k nothing) p.passed goes (subst (λ (s : LinkStart). TakesSends s.sends (length (sent_of fates))) one enough))
 
-  complete_by : (passed : Result Tally LinkFault) (x y : DockContents) → HasCause (known out) (known out') (ending ≡ Err faults.Write) → (HasFailed (known out) (known out') → ⊥)
-      → WritesTally passed ending known out out' → PassesOn rules carry from to passed x y → (FailsGate rules carry from to x → ⊥) → UnlessMemory ending (PassedAll rules carry from to ending x y known out out')
-  complete_by (Ok tally) x y cause none (inl (is, text)) passes fail = inr (all_by tally x y is text passes)
-  complete_by (Ok tally) x y cause none (inr (is, text)) passes fail = absurd (none (cause.rose is))
-  complete_by (Err fault) x y cause none writes passes fail = absurd (fail (fails_by fault x y passes))
+      of_out : (result : Result Tally LinkFault) → GoesOut rules carry (AreAhead source.ahead) to result (after_opening from x) mid → HasAll fates to k y
+      of_out (Ok tally) (p, counted) = of_all (λ j. true) p
+      of_out (Err fault) (inl (up, down, p)) = of_all up p
+      of_out (Err fault) (inr (inl (up, p))) = absurd (whole rules carry source.ahead fates passed (broken rules carry source.ahead p.fates p.broken))
+      of_out (Err fault) (inr (inr p)) =
+          let (other, there, goes) = p.goes.goes.each k at nothing within in
+          let one : start ≡ other = found_once (after_opening from x) k (slice_index_or to k at) start other finds there in
+          absurd
+          (not_both other.sends (length (sent_of fates))
+          (lacks_part rules carry source.ahead fates passed p.answers to (after_opening from x) mid p k other (slice_index_or p.goes.overs k nothing) goes)
+          (subst (λ (s : LinkStart). TakesSends s.sends (length (sent_of fates))) one enough))
 
-  kind_by : (passed : Result Tally LinkFault) → WritesTally passed ending known out out' → (fault : Fault) → ending ≡ Err fault → (fault ≡ faults.NoMemory) ⊎ (fault ≡ faults.Link) ⊎ (fault ≡ faults.Write)
-  kind_by (Ok tally) (inl (is, text)) fault failed = absurd (no_fault (is_clean tally) fault (sym is ∙ failed))
-  kind_by (Ok tally) (inr (is, text)) fault failed = inr (inr (inner fault faults.Write (sym failed ∙ is)))
-  kind_by (Err link) (is, same) fault failed = inr (inl (inner fault faults.Link (sym failed ∙ is)))
+  each_by : AreDifferent to → (result : Result Tally LinkFault) (x y : DockContents) → PassesOn rules carry from to result x y → (FailsOpening x from to → ⊥) → (source : LinkStart) (fates : List Fate) → Finds x 0 from source
+      → IsPassedOn rules carry (AreAhead source.ahead) fates → (k : ℕ) (at : Address) (start : LinkStart) → k < length to → Finds (after_opening from x) k (slice_index_or to k at) start
+      → TakesSends start.sends (length (sent_of fates)) → HasAll fates to k y
+  each_by different result x y (inl (failed, none, after)) fine source fates found passed k at start within finds enough = absurd (fine (inl none))
+  each_by different result x y (inr (first, there, mid, after, inl (failed, few))) fine source fates found passed k at start within finds enough =
+      absurd (fine (inr (first, there, few_reached to (after_opening from x) mid few)))
+  each_by different result x y (inr (first, there, mid, after, inr goes)) fine source fates found passed k at start within finds enough =
+      let one : source ≡ first = found_once x 0 from source first found there in
+      of_out different x y mid after first fates (subst (λ (s : LinkStart). IsPassedOn rules carry (AreAhead s.ahead) fates) one passed) k at start within finds enough result goes
 
-  not_memory : (passed : Result Tally LinkFault) → WritesTally passed ending known out out' → ending ≡ Err faults.NoMemory → ⊥
-  not_memory (Ok tally) (inl (is, text)) memory = no_fault (is_clean tally) faults.NoMemory (sym is ∙ memory)
-  not_memory (Ok tally) (inr (is, text)) memory = let one : faults.Write ≡ faults.NoMemory = inner faults.Write faults.NoMemory (sym is ∙ memory) in absurd cc
-  not_memory (Err fault) (is, same) memory = let one : faults.Link ≡ faults.NoMemory = inner faults.Link faults.NoMemory (sym is ∙ memory) in absurd cc
+  -- where none fails all has gone over each
+  all_gone : AreDifferent to → (x y mid : DockContents) → y ≡ after_source from mid → (source : LinkStart) (p : PassesAll rules carry (AreAhead source.ahead) to (λ k. true) (after_opening from x) mid)
+      → (k : ℕ) → k < length to → HasAll p.fates to k y
+  all_gone different x y mid is source p k within at =
+      let (other, there, goes) = p.goes.goes.each k at nothing within in
+      has different x y mid is source p.fates p.passed (λ j s went. Goes true (sent_of p.fates) s went) p.goes k within goes.0 at
 
-  module _ {D : Type 0} (dock_known : D → Known DockContents) (dock dock' : D) where
-    pub links_run : (passed : Result Tally LinkFault) → Tells (dock_known dock) (dock_known dock') (PassesOn rules carry from to passed) → WritesTally passed ending known out out'
-        → (dock_known dock).faults ≤ (dock_known dock').faults → HasCause (known out) (known out') (ending ≡ Err faults.Write)
-        → GateCommandRun rules carry from to ending dock_known dock dock' known out out'
-    links_run passed told writes later cause = record {
-      run = inr (record { passed = passed; told = told; writes = writes });
-      kind = kind_by passed writes;
-      untouched = λ is. absurd (not_memory passed writes is);
-      exactly = Tells-weaker (PassesOn rules carry from to passed) _ (dock_known dock) (dock_known dock') told (λ x y passes. exactly_by passed x y writes passes);
-      complete = λ none. Tells-weaker (PassesOn rules carry from to passed) _ (dock_known dock) (dock_known dock') told (λ x y passes. complete_by passed x y cause none writes passes);
-      later = later;
-      write_cause = cause;
+  -- ---- the whole run
+
+  module _ {O : Type 0} (different : AreDifferent to) (ending : Result Bool Fault) (known : O → Known Output) (out out' : O) where
+    not_link : (tally : Tally) → WritesTally (Ok tally) ending known out out' → ending ≡ Err faults.Link → ⊥
+    not_link tally (inl (is, text)) link = no_fault (is_clean tally) faults.Link (sym is ∙ link)
+    not_link tally (inr (is, text)) link = let one : faults.Write ≡ faults.Link = inner faults.Write faults.Link (sym is ∙ link) in absurd cc
+
+    exactly_by : (passed : Result Tally LinkFault) (x y : DockContents) → WritesTally passed ending known out out' → PassesOn rules carry from to passed x y
+        → UnlessMemory ending ((ending ≡ Err faults.Link) ↔ FailsGate rules carry from to x)
+    exactly_by (Ok tally) x y writes passes = inr (λ link. absurd (not_link tally writes link), λ fail. absurd (passes_not tally x y passes fail))
+    exactly_by (Err fault) x y writes passes = inr (λ link. fails_by fault x y passes, λ fail. writes.0)
+
+    passed_by : (tally : Tally) (x y : DockContents) → ending ≡ Ok (is_clean tally) → Outputs (known out) (known out') (λ text. text ≡ gate_line tally) → PassesOn rules carry from to (Ok tally) x y
+        → PassedAll rules carry from to ending x y known out out'
+    passed_by tally x y is text (inl (failed, none, after)) = let clash : false ≡ true = failed in absurd cc
+    passed_by tally x y is text (inr (source, found, mid, after, inl (failed, few))) = let clash : false ≡ true = failed in absurd cc
+    passed_by tally x y is text (inr (source, found, mid, after, inr (p, counted))) = record {
+      source = source;
+      finds = found;
+      fates = p.fates;
+      passed = p.passed;
+      gone = λ k within. all_gone different x y mid after source p k within;
+      line = subst (λ (t : Tally). Outputs (known out) (known out') (λ written. written ≡ gate_line t)) counted text;
+      clean = is ∙ ap (λ (t : Tally). Ok (is_clean t)) counted;
     }
+
+    complete_by : (passed : Result Tally LinkFault) (x y : DockContents) → HasCause (known out) (known out') (ending ≡ Err faults.Write) → (HasFailed (known out) (known out') → ⊥)
+        → WritesTally passed ending known out out' → PassesOn rules carry from to passed x y → (FailsGate rules carry from to x → ⊥) → UnlessMemory ending (PassedAll rules carry from to ending x y known out out')
+    complete_by (Ok tally) x y cause none (inl (is, text)) passes fail = inr (passed_by tally x y is text passes)
+    complete_by (Ok tally) x y cause none (inr (is, text)) passes fail = absurd (none (cause.rose is))
+    complete_by (Err fault) x y cause none writes passes fail = absurd (fail (fails_by fault x y passes))
+
+    alike_by : (passed : Result Tally LinkFault) (clean : Bool) (x y : DockContents) → WritesTally passed ending known out out' → ending ≡ Ok clean → PassesOn rules carry from to passed x y
+        → (j k : ℕ) (at : Address) → j < length to → k < length to → map.get y.gone (address_key (slice_index_or to j at)) ≡ map.get y.gone (address_key (slice_index_or to k at))
+    alike_by (Ok tally) clean x y writes done (inl (failed, none, after)) j k at first second = let clash : false ≡ true = failed in absurd cc
+    alike_by (Ok tally) clean x y writes done (inr (source, found, mid, after, inl (failed, few))) j k at first second = let clash : false ≡ true = failed in absurd cc
+    alike_by (Ok tally) clean x y writes done (inr (source, found, mid, after, inr (p, counted))) j k at first second =
+        all_gone different x y mid after source p j first at ∙ sym (all_gone different x y mid after source p k second at)
+    alike_by (Err fault) clean x y writes done passes j k at first second = absurd (no_fault clean faults.Link (sym done ∙ writes.0))
+
+    kind_by : (passed : Result Tally LinkFault) → WritesTally passed ending known out out' → (fault : Fault) → ending ≡ Err fault → (fault ≡ faults.NoMemory) ⊎ (fault ≡ faults.Link) ⊎ (fault ≡ faults.Write)
+    kind_by (Ok tally) (inl (is, text)) fault failed = absurd (no_fault (is_clean tally) fault (sym is ∙ failed))
+    kind_by (Ok tally) (inr (is, text)) fault failed = inr (inr (inner fault faults.Write (sym failed ∙ is)))
+    kind_by (Err link) (is, same) fault failed = inr (inl (inner fault faults.Link (sym failed ∙ is)))
+
+    not_memory : (passed : Result Tally LinkFault) → WritesTally passed ending known out out' → ending ≡ Err faults.NoMemory → ⊥
+    not_memory (Ok tally) (inl (is, text)) memory = no_fault (is_clean tally) faults.NoMemory (sym is ∙ memory)
+    not_memory (Ok tally) (inr (is, text)) memory = let one : faults.Write ≡ faults.NoMemory = inner faults.Write faults.NoMemory (sym is ∙ memory) in absurd cc
+    not_memory (Err fault) (is, same) memory = let one : faults.Link ≡ faults.NoMemory = inner faults.Link faults.NoMemory (sym is ∙ memory) in absurd cc
+
+    -- memory was wanting
+    pub no_run : {D : Type 0} (dock_known : D → Known DockContents) (dock : D) → ending ≡ Err faults.NoMemory → GateCommandRun rules carry from to ending dock_known dock dock known out out
+    no_run dock_known dock is = record {
+      run = inl (is, refl, refl);
+      kind = λ fault failed. inl (inner fault faults.NoMemory (sym failed ∙ is));
+      untouched = λ memory. (refl, refl);
+      exactly = Tells-nothing _ (dock_known dock) (λ x. inl is);
+      each = Tells-nothing _ (dock_known dock) (λ x fine source fates found passed k at start within finds enough. inl is);
+      complete = λ none. Tells-nothing _ (dock_known dock) (λ x fine. inl is);
+      alike = λ clean done. absurd (no_fault clean faults.NoMemory (sym done ∙ is));
+      later = omega arith;
+      write_cause = record { later = omega arith; rose = λ write. let one : faults.Write ≡ faults.NoMemory = inner faults.Write faults.NoMemory (sym write ∙ is) in absurd cc };
+    }
+
+    module _ {D : Type 0} (dock_known : D → Known DockContents) (dock dock' : D) where
+      pub links_run : (passed : Result Tally LinkFault) → Tells (dock_known dock) (dock_known dock') (PassesOn rules carry from to passed) → WritesTally passed ending known out out'
+          → (dock_known dock).faults ≤ (dock_known dock').faults → HasCause (known out) (known out') (ending ≡ Err faults.Write)
+          → GateCommandRun rules carry from to ending dock_known dock dock' known out out'
+      links_run passed told writes later cause = record {
+        run = inr (record { passed = passed; told = told; writes = writes });
+        kind = kind_by passed writes;
+        untouched = λ is. absurd (not_memory passed writes is);
+        exactly = Tells-weaker (PassesOn rules carry from to passed) _ (dock_known dock) (dock_known dock') told (λ x y passes. exactly_by passed x y writes passes);
+        each = Tells-weaker (PassesOn rules carry from to passed) _ (dock_known dock) (dock_known dock') told
+            (λ x y passes fine source fates found is k at start within finds enough. inr (each_by different passed x y passes fine source fates found is k at start within finds enough));
+        complete = λ none. Tells-weaker (PassesOn rules carry from to passed) _ (dock_known dock) (dock_known dock') told (λ x y passes. complete_by passed x y cause none writes passes);
+        alike = λ clean done. Tells-weaker (PassesOn rules carry from to passed) _ (dock_known dock) (dock_known dock') told (λ x y passes. alike_by passed clean x y writes done passes);
+        later = later;
+        write_cause = cause;
+      }

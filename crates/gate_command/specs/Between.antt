@@ -1,9 +1,9 @@
--- What goes over one link of what is heard of another one.
-use Rattle.std.specs.Prelude.{ℕ, ◌≡◌, ◌≤◌, ◌⊎◌, List, length, Option, Some, Result, Ok, Err, IsErr}
+-- What goes over several links of what is heard of another one.
+use Rattle.std.specs.Prelude.{ℕ, ◌≡◌, ◌<◌, ◌≤◌, ◌⊎◌, Bool, true, false, List, length, Some, Result, Ok, Err, IsErr}
 use Rattle.dcp_pft.specs.declared.carry.Carry.{Carry}
 use Rattle.drm_links.specs.Told.{Known}
 use Rattle.drm_links.specs.Link.{Answer, Traffic}
-use Rattle.drm_links.specs.Dock.{DockContents, LinkStart, with_reach, after_opening, after_failure, after_close}
+use Rattle.drm_links.specs.Dock.{DockContents, LinkStart}
 use Rattle.drm_links.specs.Transmission.{TakesSends}
 use Rattle.drm_links.specs.declared.dock.Address.{Address}
 use Rattle.drm_links.specs.declared.link.LinkFault.{LinkFault}
@@ -11,14 +11,14 @@ use Rattle.report_lines.specs.declared.report.EndWord.{EndWord}
 use Rattle.mod_receiver.specs.declared.rules.Rules.{Rules}
 use Rattle.mod_receiver.specs.Hearing.{AreNext, Heard}
 use Rattle.mod_receiver.specs.Reading.{datagrams, GoesOn, IsFinished, IsBroken, most_answers}
-use Rattle.several_links.specs.Openings.{Finds, FindsNone}
+use Rattle.several_links.specs.Reaching.{Over, ReachesFew, GoesOver}
 use Rattle.drm_gate.specs.declared.tally.Tally.{Tally}
 use Rattle.drm_gate.specs.declared.gate.GateEnded.{GateEnded}
 use Rattle.drm_gate.specs.declared.gate.GateOptions.{GateOptions}
 use Rattle.drm_gate.specs.declared.gate.GateEnded.TheVariants as ended
 use Rattle.drm_gate.specs.Passing.{Fate, sent_of}
-use Rattle.drm_gate.specs.Tallies.{tally_of}
-use Rattle.drm_gate.specs.Run.{IsOnward, IsReady, StopsAt, IsFrontOfOnward}
+use Rattle.drm_gate.specs.Tallies.{tally_of, over}
+use Rattle.drm_gate.specs.Run.{IsOnward, IsReady, StopsAt, IsFrontOf, IsFrontOfOnward}
 use Rattle.gate_command.specs.Opening.{no_rests}
 
 -- these are the first of the answers ahead of a link
@@ -43,23 +43,58 @@ pub record IsBrokenOff (rules : Rules) (carry : Carry) (hears : List Answer → 
   pub reading : IsBroken rules before answers
   pub ready : IsReady rules carry (datagrams before) fates
 
--- Nothing shorter than what is heard is finished, and these are a front of what becomes of it.
-pub record IsCutOff (rules : Rules) (carry : Carry) (hears : List Answer → Type 0) (sent : List (List ℕ)) : Type 0 where
+-- ---- over one of the links
+
+-- Of these datagrams all go over a link that doesn't fail; over one that does some first ones, after which it takes no more. It never
+-- rests.
+abbrev pub Goes : Bool → List (List ℕ) → LinkStart → Over → Type 0
+Goes true datagrams start went = (went.gone ≡ datagrams) × TakesSends start.sends (length went.gone) × (went.rests ≡ no_rests went.gone)
+Goes false datagrams start went = IsFrontOf datagrams went.gone × (start.sends ≡ Some (length went.gone)) × (went.rests ≡ no_rests went.gone)
+
+-- Where each link fails: a front of what becomes of what was heard goes over the k-th, after which it takes no more, and over the last
+-- one to fail all that was sent before it did.
+pub record GoesPart (rules : Rules) (carry : Carry) (answers : List Answer) (last k : ℕ) (start : LinkStart) (went : Over) : Type 0 where
+  pub front : IsFrontOfOnward rules carry answers went.gone
+  pub no_more : start.sends ≡ Some (length went.gone)
+  pub still : went.rests ≡ no_rests went.gone
+  pub at : k ≡ last → StopsAt rules carry answers went.gone
+
+-- ---- over all of them
+
+-- Over each link at these addresses goes all that becomes of what is heard, unless it fails.
+pub record PassesAll (rules : Rules) (carry : Carry) (hears : List Answer → Type 0) (to : List Address) (up : ℕ → Bool) (before after : DockContents) : Type 0 where
+  pub fates : List Fate
+  pub passed : IsPassedOn rules carry hears fates
+  pub goes : GoesOver (λ k start went. Goes (up k) (sent_of fates) start went) to before after
+
+-- What is heard ends in `Failed`: all that was ready before, unless it fails.
+pub record PassesReady (rules : Rules) (carry : Carry) (hears : List Answer → Type 0) (to : List Address) (up : ℕ → Bool) (before after : DockContents) : Type 0 where
+  pub fates : List Fate
+  pub broken : IsBrokenOff rules carry hears fates
+  pub goes : GoesOver (λ k start went. Goes (up k) (sent_of fates) start went) to before after
+
+-- Each link fails, and nothing shorter than what is heard is finished.
+pub record PassesPart (rules : Rules) (carry : Carry) (hears : List Answer → Type 0) (to : List Address) (before after : DockContents) : Type 0 where
   pub answers : List Answer
   pub heard : hears answers
   pub few : length answers ≤ most_answers rules
   pub goes_on : GoesOn rules answers
-  pub at : StopsAt rules carry answers sent
-  pub front : IsFrontOfOnward rules carry answers sent
+  pub last : ℕ
+  pub within : last < length to
+  pub goes : GoesOver (GoesPart rules carry answers last) to before after
 
--- These go over a link that takes so many sends: all that becomes of what is heard, which is counted; or, where one of the links
--- fails, what was ready before, or as many as are taken.
-abbrev pub GoesOver : Rules → Carry → (List Answer → Type 0) → Option ℕ → Result Tally LinkFault → List (List ℕ) → Type 0
-GoesOver rules carry hears sends (Ok tally) gone =
-    (fates : List Fate) × IsPassedOn rules carry hears fates × (gone ≡ sent_of fates) × TakesSends sends (length gone) × (tally ≡ tally_of fates)
-GoesOver rules carry hears sends (Err fault) gone =
-    ((fates : List Fate) × IsBrokenOff rules carry hears fates × (gone ≡ sent_of fates) × TakesSends sends (length gone))
-    ⊎ (IsCutOff rules carry hears gone × (sends ≡ Some (length gone)))
+-- one of them fails
+abbrev pub SomeFails : List Address → (ℕ → Bool) → Type 0
+SomeFails to up = (k : ℕ) × (k < length to) × (up k ≡ false)
+
+-- Where no link fails all is counted, the datagrams of all links together.
+abbrev pub GoesOut : Rules → Carry → (List Answer → Type 0) → List Address → Result Tally LinkFault → DockContents → DockContents → Type 0
+GoesOut rules carry hears to (Ok tally) before after =
+    (all : PassesAll rules carry hears to (λ _. true) before after) × (tally ≡ over (length to) (tally_of all.fates))
+GoesOut rules carry hears to (Err fault) before after =
+    ((up : ℕ → Bool) × SomeFails to up × PassesAll rules carry hears to up before after)
+    ⊎ ((up : ℕ → Bool) × PassesReady rules carry hears to up before after)
+    ⊎ PassesPart rules carry hears to before after
 
 -- by what it reads
 abbrev pub options_of : Rules → GateOptions
@@ -68,14 +103,13 @@ options_of rules = record { frames = rules.frames; idle = rules.idle; limit = ru
 -- what was counted, or that a link failed
 abbrev pub passed_of : GateEnded → Result Tally LinkFault
 passed_of (ended.Done tally) = Ok tally
+passed_of ended.SomeFailed = Err (record {})
 passed_of ended.FromFailed = Err (record {})
 passed_of ended.ToFailed = Err (record {})
 
--- What a dock tells where a link is opened in it, to send over it what is heard of another one, and closed: no opening was made
--- and nothing heard; or these have gone.
-abbrev pub GoesOut : Rules → Carry → Address → Known Traffic → Known Traffic → Result Tally LinkFault → DockContents → DockContents → Type 0
-GoesOut rules carry to source source' passed before after =
-    (IsErr passed × FindsNone (with_reach before) 0 to × (source' ≡ source) × (after ≡ after_failure (with_reach before)))
-    ⊎ ((target : LinkStart) × Finds (with_reach before) 0 to target
-    × (gone : List (List ℕ)) × GoesOver rules carry (Heard source source') target.sends passed gone
-    × (after ≡ after_close to gone (no_rests gone) (after_opening to (with_reach before))))
+-- What a dock tells where links are opened in it, to send over them what is heard of another one, and closed: an opening failed, and
+-- nothing was heard; or this has gone.
+abbrev pub PassesTo : Rules → Carry → List Address → Known Traffic → Known Traffic → Result Tally LinkFault → DockContents → DockContents → Type 0
+PassesTo rules carry to source source' passed before after =
+    (IsErr passed × (source' ≡ source) × ReachesFew to before after)
+    ⊎ GoesOut rules carry (Heard source source') to passed before after

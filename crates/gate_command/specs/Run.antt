@@ -1,37 +1,38 @@
--- The command `gate`: what comes over one link goes out over another, under another carry.
-use Rattle.std.specs.Prelude.{ℕ, ◌≡◌, ◌≤◌, ◌⊎◌, ◌↔◌, Bool, List, length, Option, Some, Result, Ok, Err, IsErr}
+-- The command `gate`: what comes over one link goes out over others, under another carry.
+use Rattle.std.specs.Prelude.{ℕ, ◌≡◌, ◌<◌, ◌≤◌, ◌⊎◌, ◌↔◌, Bool, List, length, slice_index_or, Option, Some, Result, Ok, Err, IsErr}
 use Rattle.std.specs.FinMap as map
 use Rattle.dcp_pft.specs.declared.carry.Carry.{Carry}
 use Rattle.drm_links.specs.Told.{HasFailed, Known, HasCause, Tells}
 use Rattle.drm_links.specs.Link.{Answer}
 use Rattle.drm_links.specs.Sink.{Output, Outputs, IsFront}
-use Rattle.drm_links.specs.Dock.{DockContents, LinkStart, address_key, after_failure}
-use Rattle.drm_links.specs.Transmission.{TakesFewer}
+use Rattle.drm_links.specs.Dock.{DockContents, LinkStart, address_key, after_opening, after_failure}
+use Rattle.drm_links.specs.Transmission.{TakesSends, TakesFewer}
 use Rattle.drm_links.specs.declared.dock.Address.{Address}
 use Rattle.drm_links.specs.declared.link.LinkFault.{LinkFault}
 use Rattle.mod_receiver.specs.declared.rules.Rules.{Rules}
 use Rattle.mod_receiver.specs.Ahead.{BreaksOff}
 use Rattle.several_links.specs.Openings.{Finds, FindsNone}
+use Rattle.several_links.specs.Reaching.{ReachesFew}
 use Rattle.drm_faults.specs.Fault.{UnlessMemory}
 use Rattle.drm_faults.specs.declared.fault.Fault.{Fault}
 use Rattle.drm_faults.specs.declared.fault.Fault.TheVariants as faults
 use Rattle.drm_gate.specs.declared.tally.Tally.{Tally}
 use Rattle.drm_gate.specs.Passing.{Fate, sent_of}
-use Rattle.drm_gate.specs.Tallies.{tally_of}
+use Rattle.drm_gate.specs.Tallies.{tally_of, over}
 use Rattle.gate_command.specs.Line.{gate_line, is_clean}
-use Rattle.gate_command.specs.Opening.{FindsBoth, FailsOpening, at_second, after_one, after_both}
-use Rattle.gate_command.specs.Between.{AreAhead, IsPassedOn, GoesOver}
+use Rattle.gate_command.specs.Opening.{FailsOpening, after_source}
+use Rattle.gate_command.specs.Between.{AreAhead, IsPassedOn, GoesOut}
 
 -- ---- what goes out
 
--- What the dock tells: an opening failed; or both links were found, these went over the second one of what was ahead of the first,
--- and both were closed.
-abbrev pub PassesOn : Rules → Carry → Address → Address → Result Tally LinkFault → DockContents → DockContents → Type 0
+-- What the dock tells: an opening failed, and the links that were opened are closed; or all links were opened, this went over those
+-- that are sent over of what was ahead of the one that is read, and they were closed, that one last.
+abbrev pub PassesOn : Rules → Carry → Address → List Address → Result Tally LinkFault → DockContents → DockContents → Type 0
 PassesOn rules carry from to passed before after =
     (IsErr passed × FindsNone before 0 from × (after ≡ after_failure before))
-    ⊎ (IsErr passed × (source : LinkStart) × Finds before 0 from source × FindsNone (at_second from before) 0 to × (after ≡ after_one from before))
-    ⊎ ((source : LinkStart) × (target : LinkStart) × FindsBoth before from to source target
-    × (gone : List (List ℕ)) × GoesOver rules carry (AreAhead source.ahead) target.sends passed gone × (after ≡ after_both from to gone before))
+    ⊎ ((source : LinkStart) × Finds before 0 from source × (mid : DockContents) × (after ≡ after_source from mid)
+    × ((IsErr passed × ReachesFew to (after_opening from before) mid)
+    ⊎ GoesOut rules carry (AreAhead source.ahead) to passed (after_opening from before) mid))
 
 -- How the run ends, and what is written: where all was counted the line of it, or after a failed write a front of that; where a link
 -- failed nothing.
@@ -42,7 +43,7 @@ WritesTally (Ok tally) ending known out out' =
 WritesTally (Err fault) ending known out out' = (ending ≡ Err faults.Link) × (out' ≡ out)
 
 -- A run that came to its links.
-pub record LinksRun {D O : Type 0} (rules : Rules) (carry : Carry) (from to : Address) (ending : Result Bool Fault)
+pub record LinksRun {D O : Type 0} (rules : Rules) (carry : Carry) (from : Address) (to : List Address) (ending : Result Bool Fault)
     (dock_known : D → Known DockContents) (dock dock' : D) (out_known : O → Known Output) (out out' : O) : Type 0 where
   -- what was counted, or that a link failed
   pub passed : Result Tally LinkFault
@@ -59,41 +60,59 @@ NoRun ending dock dock' out out' = (ending ≡ Err faults.NoMemory) × (dock' �
 abbrev pub LacksSends : Rules → Carry → List Answer → Option ℕ → Type 0
 LacksSends rules carry ahead sends = (fates : List Fate) → IsPassedOn rules carry (AreAhead ahead) fates → TakesFewer sends (length (sent_of fates))
 
--- An opening fails; or what is ahead of the first link breaks off, or the second one takes too few sends.
-abbrev pub FailsGate : Rules → Carry → Address → Address → DockContents → Type 0
+-- The link that is opened at one of these addresses does.
+pub record LacksSome (rules : Rules) (carry : Carry) (ahead : List Answer) (told : DockContents) (to : List Address) : Type 0 where
+  pub k : ℕ
+  pub within : k < length to
+  pub lacks : (at : Address) → (start : LinkStart) × Finds told k (slice_index_or to k at) start × LacksSends rules carry ahead start.sends
+
+-- An opening fails; or what is ahead of the link that is read breaks off, or one of the others takes too few sends.
+abbrev pub FailsGate : Rules → Carry → Address → List Address → DockContents → Type 0
 FailsGate rules carry from to told =
     FailsOpening told from to
-    ⊎ ((source : LinkStart) × (target : LinkStart) × FindsBoth told from to source target
-    × (BreaksOff rules source.ahead ⊎ LacksSends rules carry source.ahead target.sends))
+    ⊎ ((source : LinkStart) × Finds told 0 from source
+    × (BreaksOff rules source.ahead ⊎ LacksSome rules carry source.ahead (after_opening from told) to))
 
 -- ---- the whole run
 
--- All that becomes of what was ahead of the first link has gone at the other address, and the line of it is written.
-pub record PassedAll {O : Type 0} (rules : Rules) (carry : Carry) (from to : Address) (ending : Result Bool Fault) (before after : DockContents)
+-- All that becomes of what was ahead of the link that is read has gone at this address.
+abbrev pub HasAll : List Fate → List Address → ℕ → DockContents → Type 0
+HasAll fates to k after = (at : Address) → map.get after.gone (address_key (slice_index_or to k at)) ≡ Some (sent_of fates)
+
+-- It has gone at each address, and the line of it is written.
+pub record PassedAll {O : Type 0} (rules : Rules) (carry : Carry) (from : Address) (to : List Address) (ending : Result Bool Fault) (before after : DockContents)
     (known : O → Known Output) (out out' : O) : Type 0 where
   pub source : LinkStart
   pub finds : Finds before 0 from source
   pub fates : List Fate
   pub passed : IsPassedOn rules carry (AreAhead source.ahead) fates
-  pub gone : map.get after.gone (address_key to) ≡ Some (sent_of fates)
-  pub line : Outputs (known out) (known out') (λ text. text ≡ gate_line (tally_of fates))
+  pub gone : (k : ℕ) → k < length to → HasAll fates to k after
+  pub line : Outputs (known out) (known out') (λ text. text ≡ gate_line (over (length to) (tally_of fates)))
   pub clean : ending ≡ Ok (is_clean (tally_of fates))
 
 -- A run of `gate`.
-pub record GateCommandRun {D O : Type 0} (rules : Rules) (carry : Carry) (from to : Address) (ending : Result Bool Fault)
+pub record GateCommandRun {D O : Type 0} (rules : Rules) (carry : Carry) (from : Address) (to : List Address) (ending : Result Bool Fault)
     (dock_known : D → Known DockContents) (dock dock' : D) (out_known : O → Known Output) (out out' : O) : Type 0 where
   pub run : NoRun ending dock dock' out out' ⊎ LinksRun rules carry from to ending dock_known dock dock' out_known out out'
   -- It ends well, or for want of memory, by a failed link or by a failed write.
   pub kind : (fault : Fault) → ending ≡ Err fault → (fault ≡ faults.NoMemory) ⊎ (fault ≡ faults.Link) ⊎ (fault ≡ faults.Write)
   -- After want of memory nothing was opened or written.
   pub untouched : ending ≡ Err faults.NoMemory → (dock' ≡ dock) × (out' ≡ out)
-  -- It fails by a link exactly where an opening fails, what is read of the first link ends in `Failed`, or the second one takes fewer
-  -- sends than what becomes of what is read has datagrams.
+  -- It fails by a link exactly where an opening fails, what is read of the first link ends in `Failed`, or one of the others takes
+  -- fewer sends than what becomes of what is read has datagrams.
   pub exactly : Tells (dock_known dock) (dock_known dock') (λ told _. UnlessMemory ending ((ending ≡ Err faults.Link) ↔ FailsGate rules carry from to told))
-  -- Where no link and no write fails, all has gone, and the line of it is written.
+  -- Where no opening fails, all has gone over each link that takes all, whatever becomes of the others.
+  pub each : Tells (dock_known dock) (dock_known dock') (λ before after. (FailsOpening before from to → ⊥)
+      → (source : LinkStart) (fates : List Fate) → Finds before 0 from source → IsPassedOn rules carry (AreAhead source.ahead) fates
+      → (k : ℕ) (at : Address) (start : LinkStart) → k < length to → Finds (after_opening from before) k (slice_index_or to k at) start
+      → TakesSends start.sends (length (sent_of fates)) → UnlessMemory ending (HasAll fates to k after))
+  -- Where no link and no write fails, all has gone over each, and the line of it is written.
   pub complete : (HasFailed (out_known out) (out_known out') → ⊥)
       → Tells (dock_known dock) (dock_known dock') (λ before after. (FailsGate rules carry from to before → ⊥)
       → UnlessMemory ending (PassedAll rules carry from to ending before after out_known out out'))
+  -- After a run that ends well the same has gone at each address.
+  pub alike : (clean : Bool) → ending ≡ Ok clean → Tells (dock_known dock) (dock_known dock') (λ _ after. (j k : ℕ) (at : Address) → j < length to → k < length to
+      → map.get after.gone (address_key (slice_index_or to j at)) ≡ map.get after.gone (address_key (slice_index_or to k at)))
   -- The counts of faults never fall, and a write failed only where out's rose.
   pub later : (dock_known dock).faults ≤ (dock_known dock').faults
   pub write_cause : HasCause (out_known out) (out_known out') (ending ≡ Err faults.Write)

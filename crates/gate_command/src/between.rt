@@ -1,24 +1,28 @@
-//! Two links that are opened, passed over, and closed.
+//! A link that is read and others that are sent over: they are opened, passed over, and closed.
 
-ghost use Rattle.std.specs.Prelude.{◌≡◌, ◌≤◌, length};
+ghost use Rattle.std.specs.Prelude.{◌≡◌, ◌≤◌, length, vec_len, vec_capacity};
 ghost use Rattle.drm_links.specs.Told.{Tells};
 ghost use Rattle.mod_receiver.specs.Ranges.{AreInRange};
+ghost use Rattle.drm_receive.specs.Terms.{AreListed};
 ghost use Rattle.drm_gate.specs.Gateway.{IsNew};
 ghost use Rattle.drm_gate.specs.Resting.{NeverRests};
-ghost use Rattle.gate_command.specs.Between.{GoesOut, options_of, passed_of};
+ghost use Rattle.gate_command.specs.Between.{PassesTo, options_of, passed_of};
 ghost use Rattle.gate_command.specs.Run.{PassesOn};
 
 use drm_gate::{Gate, GateEnded, GateOptions, Tally, gate_one};
 use drm_links::{Address, Dock, Link, LinkFault, Opened};
 use mod_receiver::Rules;
+use several_links::{Member, close_each, reach_in};
+use word_forms::Addresses;
 
-// Opens a link that receives at the one address and one that sends to the other, passes on what comes, and closes what was
-// opened. The gateway is new, and goes by these rules.
+// Opens a link that receives at the one address and links that send to the others, passes on what comes, and closes what was
+// opened. The gateway is new, and goes by these rules; there is room for the links.
 pub(crate) fn pass_between<D: Dock>(
     gate: &mut Gate,
     rules: &Rules,
     from: Address,
-    to: Address,
+    to: &Addresses,
+    room: Vec<Member<D::L>>,
     buffer: &mut [u8],
     dock: &mut D,
 ) -> Result<Tally, LinkFault>
@@ -26,13 +30,16 @@ pub(crate) fn pass_between<D: Dock>(
     requires rules { AreInRange rules.now }
     requires window { gate.old.collector.window ≡ rules.now.window }
     requires first { gate.old.collector.first ≡ rules.now.first }
+    requires listed { AreListed to.now }
+    requires none { vec_len room ≡ 0 }
+    requires all { length to.now ≤ vec_capacity room }
     requires buffer { 65536 ≤ length buffer.old }
-    ensures told { Tells (D.known dock.old) (D.known dock.new) (PassesOn rules.now gate.old.carry from to result) }
+    ensures told { Tells (D.known dock.old) (D.known dock.new) (PassesOn rules.now gate.old.carry from to.now result) }
     ensures later { (D.known dock.old).faults ≤ (D.known dock.new).faults }
 {
     match dock.bind(from) {
         Opened::Link(mut source) => {
-            let passed = pass_to(gate, rules, &mut source, to, buffer, dock);
+            let passed = pass_to(gate, rules, &mut source, to, room, buffer, dock);
             dock.close(from, source);
             passed
         }
@@ -40,12 +47,13 @@ pub(crate) fn pass_between<D: Dock>(
     }
 }
 
-// Opens a link that sends to the address, passes on over it what comes over the other one, and closes it.
+// Opens links that send to the addresses, passes on over them what comes over the other one, and closes them.
 fn pass_to<L: Link, D: Dock>(
     gate: &mut Gate,
     rules: &Rules,
     source: &mut L,
-    to: Address,
+    to: &Addresses,
+    room: Vec<Member<D::L>>,
     buffer: &mut [u8],
     dock: &mut D,
 ) -> Result<Tally, LinkFault>
@@ -53,19 +61,28 @@ fn pass_to<L: Link, D: Dock>(
     requires rules { AreInRange rules.now }
     requires window { gate.old.collector.window ≡ rules.now.window }
     requires first { gate.old.collector.first ≡ rules.now.first }
+    requires listed { AreListed to.now }
+    requires none { vec_len room ≡ 0 }
+    requires all { length to.now ≤ vec_capacity room }
     requires buffer { 65536 ≤ length buffer.old }
     ensures told { Tells (D.known dock.old) (D.known dock.new)
-        (GoesOut rules.now gate.old.carry to (L.known source.old) (L.known source.new) result) }
+        (PassesTo rules.now gate.old.carry to.now (L.known source.old) (L.known source.new) result) }
     ensures still { Tells (L.known source.old) (L.known source.new) NeverRests }
     ensures later { (D.known dock.old).faults ≤ (D.known dock.new).faults }
 {
-    match dock.reach(to) {
-        Opened::Link(mut target) => {
-            let ended = gate_one(gate, source, &mut target, &options(rules), buffer);
-            dock.close(to, target);
+    match reach_in(room, to, dock) {
+        Ok(mut members) => {
+            let ended = gate_one(
+                gate,
+                source,
+                members.as_mut_slice(),
+                &options(rules),
+                buffer,
+            );
+            close_each(dock, to, members);
             passed(ended)
         }
-        Opened::Failed => Err(LinkFault),
+        Err(fault) => Err(fault),
     }
 }
 
@@ -84,6 +101,6 @@ fn passed(ended: GateEnded) -> Result<Tally, LinkFault>
 {
     match ended {
         GateEnded::Done(tally) => Ok(tally),
-        GateEnded::FromFailed | GateEnded::ToFailed => Err(LinkFault),
+        GateEnded::SomeFailed | GateEnded::FromFailed | GateEnded::ToFailed => Err(LinkFault),
     }
 }

@@ -1,8 +1,8 @@
 //! The command `gate`.
 
-ghost use Rattle.std.specs.Prelude.{◌≡◌};
 ghost use Rattle.dcp_pft.specs.Carrying.{CarryFits};
 ghost use Rattle.mod_receiver.specs.Ranges.{AreInRange};
+ghost use Rattle.drm_receive.specs.Terms.{AreListed};
 ghost use Rattle.gate_command.specs.Run.{GateCommandRun};
 
 use crate::between::pass_between;
@@ -13,29 +13,34 @@ use drm_faults::Fault;
 use drm_gate::Gate;
 use drm_links::{Address, Dock, Sink};
 use mod_receiver::Rules;
+use several_links::room_for;
 use std::alloc::Global;
+use word_forms::Addresses;
 
 /// In bytes, of a datagram.
 const MOST_BYTES: usize = 65_536;
 
-/// Opens a link that receives at `from` and one that sends to `to`, sends over the one what comes over the other, each packet under
-/// the carry as soon as it is given, and closes both. Writes what was counted to `out`, and answers whether each packet was sent.
+/// Opens a link that receives at `from` and links that send to the addresses in `to`, sends over these what comes over the first, each
+/// packet under the carry as soon as it is given, and closes all of them. A link that fails ends no other. Writes what was counted to
+/// `out`, and answers whether each packet was sent. All memory is taken before the first opening.
 pub fn gate<D: Dock, O: Sink>(
     alloc: Global,
     rules: &Rules,
     carry: Carry,
     from: Address,
-    to: Address,
+    to: &Addresses,
     dock: &mut D,
     out: &mut O,
 ) -> Result<bool, Fault>
     requires rules { AreInRange rules.now }
     requires carry { CarryFits carry }
-    ensures { GateCommandRun rules.now carry from to result D.known dock.old dock.new O.known out.old out.new }
+    requires listed { AreListed to.now }
+    ensures { GateCommandRun rules.now carry from to.now result D.known dock.old dock.new O.known out.old out.new }
 {
     let mut gate = Gate::make(alloc, rules.window, rules.first, carry)?;
     let mut buffer = zeros(alloc, MOST_BYTES)?;
-    let tally = pass_between(&mut gate, rules, from, to, &mut buffer, dock)?;
+    let room = room_for(alloc, to)?;
+    let tally = pass_between(&mut gate, rules, from, to, room, &mut buffer, dock)?;
     write_tally(out, &tally)?;
     Ok(is_clean(&tally))
 }

@@ -1,4 +1,4 @@
-//! The command `gate`: what comes over one link goes out over another, under another carry.
+//! The command `gate`: what comes over one link goes out over others, under another carry.
 #![tactic(auto)]
 
 mod between;

@@ -1,13 +1,40 @@
-use Rattle.std.proofs.Common.{subst}
+use Rattle.std.proofs.Common.{◌≡◌, ◌++◌, List, take, drop, length, vec_len, ◌∙◌, sym, subst}
+use Rattle.std.proofs.lemmas.List.{take_at}
+use Rattle.drm_links.specs.Told.{Tells}
 use Rattle.mod_receiver.specs.declared.rules.Rules.{Rules}
+use Rattle.several_links.specs.Openings.{Docked}
+use Rattle.several_links.specs.Reaching.{Over, AreUp, HaveGone, HaveLinks, after_closes}
+use Rattle.several_links.specs.declared.member.Member.{Member}
 use Rattle.drm_gate.specs.Run.{GateRun}
-use Rattle.gate_command.proofs.PassingLemmas.{rules_same, goes_out}
+use Rattle.drm_gate.specs.Targets.{targets}
+use Rattle.gate_command.specs.Between.{passed_of}
+use Rattle.gate_command.proofs.PassingLemmas.{rules_same, only_of, goes_out, opened_out}
 use Rattle.gate_command.proofs.between.pass_to.Goals as goal
 
-pub returns-in-Link-clause-told : goal.returns-in-Link-clause-told
-returns-in-Link-clause-told g c =
+pub returns-in-Ok-clause-told : goal.returns-in-Ok-clause-told
+returns-in-Ok-clause-told g c =
+    let known = g.D.L.Link.known in
+    let to = c.args.to.now in
+    let members : List (Member g.row.D-L.Denot) = c.in-Ok.members.items in
+    let before : List (Member g.row.D-L.Denot) = c.as_mut_slice.result.now in
+    let after : List (Member g.row.D-L.Denot) = c.gate_one-ended.new.to in
+    let value : before ≡ members = c.as_mut_slice.ensures.value in
+    let many : length before ≡ length to = c.as_mut_slice.ensures.len ∙ c.in-Ok.ensures.many in
+    let many' : length after ≡ length to = c.gate_one-ended.auto.to ∙ many in
+    let size : length after ≡ vec_len c.in-Ok.members = c.gate_one-ended.auto.to ∙ c.as_mut_slice.ensures.len in
+    let back : take c.in-Ok.members.len (after ++ drop (length after) members) ≡ after = take_at after (drop (length after) members) c.in-Ok.members.len size in
+    let a = g.D.Dock.known c.args.dock.now in
+    let b = g.D.Dock.known c.reach_in.new.dock in
+    let d = g.D.Dock.known c.close_each.new.dock in
+    let shut : Tells b d (λ x y. (overs : List Over) → HaveGone known after overs → y ≡ after_closes overs to x) =
+    subst (λ ms. Tells b d (λ x y. (overs : List Over) → HaveGone known ms overs → y ≡ after_closes overs to x)) back c.close_each.ensures.closed in
+    let links : Docked a b (λ told. HaveLinks known told to before) = subst (λ ms. Docked a b (λ told. HaveLinks known told to ms)) (sym value) c.in-Ok.ensures.links in
+    let up : AreUp before = subst (λ (ms : List (Member g.row.D-L.Denot)). AreUp ms) (sym value) c.in-Ok.ensures.up in
+    let from = g.L.Link.known c.args.source.now in
+    let from' = g.L.Link.known c.gate_one-ended.new.from in
     let same = rules_same c.args.gate.now.collector c.options.result c.args.rules.now c.requires.window c.requires.first c.options.ensures in
-    let run = subst (λ (r : Rules). GateRun r c.args.gate.now.carry (g.L.Link.known c.args.source.now) (g.L.Link.known c.gate_one-ended.new.from) (g.D.L.Link.known c.in-Link.target) (g.D.L.Link.known c.gate_one-ended.new.to) c.gate_one-ended.result) same c.gate_one-ended.ensures.ended in
+    let run = subst (λ (r : Rules). GateRun r c.args.gate.now.carry from from' (targets known before) (targets known after) c.gate_one-ended.result) same c.gate_one-ended.ensures.ended in
     rw c.passed.ensures
-    (goes_out c.args.rules.now c.args.gate.now.carry c.args.to g.D.L.Link.known c.in-Link.target c.gate_one-ended.new.to (g.L.Link.known c.args.source.now) (g.L.Link.known c.gate_one-ended.new.from) c.gate_one-ended.result
-    (g.D.Dock.known c.args.dock.now) (g.D.Dock.known c.reach.new.self) (g.D.Dock.known c.close.new.self) c.requires.rules c.in-Link.ensures.opened c.reach.ensures.told run c.close.ensures.gone c.close.ensures.told)
+    (opened_out c.args.rules.now c.args.gate.now.carry to from from' (passed_of c.gate_one-ended.result) a d
+    (goes_out c.args.rules.now c.requires.rules c.args.gate.now.carry to known before after many many' up a b d c.in-Ok.ensures.opened links shut
+    (only_of c.args.rules.now c.args.gate.now.carry from from' (targets known before) (targets known after) c.gate_one-ended.result run) from from' c.gate_one-ended.result run))

@@ -6,31 +6,37 @@ use Rattle.drm_receive.proofs.ReceiveLemmas.{inner, no_fault}
 use Rattle.drm_faults.specs.declared.fault.Fault.TheVariants as faults
 use Rattle.drm_gate.specs.Gateway.{Gateway}
 use Rattle.gate_command.specs.Run.{PassesOn}
-use Rattle.gate_command.proofs.RunLemmas.{links_run}
+use Rattle.gate_command.proofs.RunLemmas.{no_run, links_run}
 use Rattle.gate_command.proofs.command.gate.Goals as goal
+
+pub returns-in_err-room : goal.returns-in_err-room
+returns-in_err-room g c =
+    let p = err_from_is_err_and c.from_residual-in_err-room.result c.from_residual-in_err-room.ensures.1 in
+    rw (p.1 ∙ ap Err p.2)
+    (no_run c.args.rules.now c.args.carry c.args.from c.args.to.now c.requires.listed.different (Err faults.NoMemory) g.O.Sink.known c.args.out.now c.args.out.now g.D.Dock.known c.args.dock.now refl)
 
 pub returns-in_err-tally : goal.returns-in_err-tally
 returns-in_err-tally g c =
     let p = err_from_is_err_and c.from_residual-in_err-tally.result c.from_residual-in_err-tally.ensures.1 in
     let carry = ap (λ (v : Gateway). v.carry) c.in_ok-gate.ensures in
-    let told = subst (λ (k : Carry). Tells (g.D.Dock.known c.args.dock.now) (g.D.Dock.known c.pass_between.new.dock) (PassesOn c.args.rules.now k c.args.from c.args.to (Err c.in_err-tally.field-0.0))) carry c.in_err-tally.ensures.told in
+    let told = subst (λ (k : Carry). Tells (g.D.Dock.known c.args.dock.now) (g.D.Dock.known c.pass_between.new.dock) (PassesOn c.args.rules.now k c.args.from c.args.to.now (Err c.in_err-tally.field-0.0))) carry c.in_err-tally.ensures.told in
     rw (p.1 ∙ ap Err p.2)
-    (links_run c.args.rules.now c.args.carry c.args.from c.args.to (Err faults.Link) g.O.Sink.known c.args.out.now c.args.out.now g.D.Dock.known c.args.dock.now c.pass_between.new.dock (Err c.in_err-tally.field-0.0) told (refl, refl)
+    (links_run c.args.rules.now c.args.carry c.args.from c.args.to.now c.requires.listed.different (Err faults.Link) g.O.Sink.known c.args.out.now c.args.out.now g.D.Dock.known c.args.dock.now c.pass_between.new.dock (Err c.in_err-tally.field-0.0) told (refl, refl)
     c.in_err-tally.ensures.later (record { later = omega arith; rose = λ is. let one = inner faults.Link faults.Write is in absurd cc }))
 
 pub returns-in_err-write_tally : goal.returns-in_err-write_tally
 returns-in_err-write_tally g c =
     let p = err_from_is_err_and c.from_residual-in_err-write_tally.result c.from_residual-in_err-write_tally.ensures.1 in
     let carry = ap (λ (v : Gateway). v.carry) c.in_ok-gate.ensures in
-    let told = subst (λ (k : Carry). Tells (g.D.Dock.known c.args.dock.now) (g.D.Dock.known c.pass_between.new.dock) (PassesOn c.args.rules.now k c.args.from c.args.to (Ok c.in_ok-tally.tally))) carry c.in_ok-tally.ensures.told in
+    let told = subst (λ (k : Carry). Tells (g.D.Dock.known c.args.dock.now) (g.D.Dock.known c.pass_between.new.dock) (PassesOn c.args.rules.now k c.args.from c.args.to.now (Ok c.in_ok-tally.tally))) carry c.in_ok-tally.ensures.told in
     rw (p.1 ∙ ap Err p.2)
-    (links_run c.args.rules.now c.args.carry c.args.from c.args.to (Err faults.Write) g.O.Sink.known c.args.out.now c.write_tally.new.out g.D.Dock.known c.args.dock.now c.pass_between.new.dock (Ok c.in_ok-tally.tally) told
+    (links_run c.args.rules.now c.args.carry c.args.from c.args.to.now c.requires.listed.different (Err faults.Write) g.O.Sink.known c.args.out.now c.write_tally.new.out g.D.Dock.known c.args.dock.now c.pass_between.new.dock (Ok c.in_ok-tally.tally) told
     (inr (refl, c.in_err-write_tally.ensures.front)) c.in_ok-tally.ensures.later (record { later = c.in_err-write_tally.ensures.cause.later; rose = λ is. c.in_err-write_tally.ensures.cause.rose refl }))
 
 pub returns : goal.returns
 returns g c =
     let carry = ap (λ (v : Gateway). v.carry) c.in_ok-gate.ensures in
-    let told = subst (λ (k : Carry). Tells (g.D.Dock.known c.args.dock.now) (g.D.Dock.known c.pass_between.new.dock) (PassesOn c.args.rules.now k c.args.from c.args.to (Ok c.in_ok-tally.tally))) carry c.in_ok-tally.ensures.told in
+    let told = subst (λ (k : Carry). Tells (g.D.Dock.known c.args.dock.now) (g.D.Dock.known c.pass_between.new.dock) (PassesOn c.args.rules.now k c.args.from c.args.to.now (Ok c.in_ok-tally.tally))) carry c.in_ok-tally.ensures.told in
     rw c.is_clean.ensures
-    (links_run c.args.rules.now c.args.carry c.args.from c.args.to (Ok _) g.O.Sink.known c.args.out.now c.write_tally.new.out g.D.Dock.known c.args.dock.now c.pass_between.new.dock (Ok c.in_ok-tally.tally) told
+    (links_run c.args.rules.now c.args.carry c.args.from c.args.to.now c.requires.listed.different (Ok _) g.O.Sink.known c.args.out.now c.write_tally.new.out g.D.Dock.known c.args.dock.now c.pass_between.new.dock (Ok c.in_ok-tally.tally) told
     (inl (refl, c.in_ok-write_tally.ensures.whole)) c.in_ok-tally.ensures.later (record { later = c.write_tally.ensures.cause.later; rose = λ is. absurd (no_fault _ faults.Write is) }))
