@@ -1,5 +1,5 @@
 -- The ends of runs that tell of no frames.
-use Rattle.std.proofs.Common.{◌≡◌, ◌⊎◌, inl, inr, Bool, true, false, [], Option, None, Some, Result, Ok, Err, refl, sym, ◌∙◌, ap, subst}
+use Rattle.std.proofs.Common.{◌≡◌, ◌⊎◌, inl, inr, Bool, List, true, false, [], Option, None, Some, Result, Ok, Err, refl, sym, ◌∙◌, ap, subst}
 use Rattle.drm_links.specs.Told.{Known, WhileTold, BothTold}
 use Rattle.drm_links.specs.Dock.{DockContents}
 use Rattle.several_links.specs.Reaching.{NothingSent}
@@ -61,7 +61,7 @@ not_gate fault memory link write (inr (inl is)) = link is
 not_gate fault memory link write (inr (inr is)) = write is
 
 -- where memory is wanting it touches nothing
-pub no_gate : {D O : Type 0} (rules : Rules) (carry : Carry) (from to : Address) (ending : Result Bool Fault) (dock_known : D → Known DockContents) (dock dock' : D)
+pub no_gate : {D O : Type 0} (rules : Rules) (carry : Carry) (from : Address) (to : List Address) (ending : Result Bool Fault) (dock_known : D → Known DockContents) (dock dock' : D)
     (out_known : O → Known Output) (out out' : O) → ending ≡ Err faults.NoMemory
     → NoRun ending dock dock' out out' ⊎ LinksRun rules carry from to ending dock_known dock dock' out_known out out' → (dock' ≡ dock) × (out' ≡ out)
 no_gate rules carry from to ending dock_known dock dock' out_known out out' is (inl none) = (none.1, none.2)

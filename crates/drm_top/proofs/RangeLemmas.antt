@@ -91,8 +91,10 @@ in_stretch options window first frames stretch =
 converts : (words : List (List ℕ)) (carry : Carry) (window : ℕ) (first frames : Option ℕ) → IsLine words (request_of (Convert carry window first frames)) → IsInRange (Convert carry window first frames)
 converts words carry window first frames line = (carry_fits line.asks.1 carry line.asks.3, in_stretch _ window first frames line.asks.5)
 
-gates : (words : List (List ℕ)) (from to : Address) (carry : Carry) (rules : Rules) → IsLine words (request_of (Gate from to carry rules)) → IsInRange (Gate from to carry rules)
-gates words from to carry rules line = (carry_fits line.asks.3 carry line.asks.7, in_reading _ rules line.asks.9)
+gates : (words : List (List ℕ)) (from : Address) (to : List Address) (carry : Carry) (rules : Rules) → IsLine words (request_of (Gate from to carry rules)) → IsInRange (Gate from to carry rules)
+gates words from to carry rules line =
+    let are = line.asks.6 in
+    (carry_fits line.asks.3 carry line.asks.7, in_reading _ rules line.asks.9, record { some = are.some; few = are.few; different = are.different })
 
 packs : (words : List (List ℕ)) (pid length : ℕ) → IsLine words (request_of (Pack pid length)) → IsInRange (Pack pid length)
 packs words pid length line = (let few = line.asks.4.2 in omega (arith, few), line.asks.5.1)

@@ -32,8 +32,8 @@ use std::thread::Threads;
 /// `out` as a capture, or sends them over links that it opens in `dock`. `receive` opens links in `dock`, or reads a capture
 /// from `input`, and writes their reports to `out`: that of one link or of a capture as it is read, those of several links,
 /// which are read side by side, when all have ended. `air` does the same in memory with a schedule and a script from
-/// `shelf`, `exercise` with those that it makes itself; their reports come at the end. `gate` opens two links in `dock`, and
-/// sends over the second what comes over the first. Of a capture in `input` `show` writes what is in it, `convert` another
+/// `shelf`, `exercise` with those that it makes itself; their reports come at the end. `gate` opens links in `dock`, and
+/// sends over all but the first what comes over that one. Of a capture in `input` `show` writes what is in it, `convert` another
 /// capture, `unpack` and `texts` the data in a stream; `pack` makes the packets of such data.
 ///
 /// The statuses are 0 done, 1 no memory, 2 no command line, 3 no FAC, no schedule, no script, no capture or no units, 4 a read
@@ -208,7 +208,7 @@ where
             to,
             carry,
             rules,
-        } => gate(alloc, rules, *carry, *from, *to, dock, out),
+        } => gate(alloc, rules, *carry, *from, to, dock, out),
         Command::Pack { pid, length } => whole(pack(alloc, *pid, *length, input, out)),
         Command::Unpack {
             stream,

@@ -54,10 +54,10 @@ pub enum Command {
         first: Option<u16>,
         frames: Option<u64>,
     },
-    /// `gate` from one address to another one.
+    /// `gate` from one address to others.
     Gate {
         from: Address,
-        to: Address,
+        to: Addresses,
         carry: Carry,
         rules: Rules,
     },
