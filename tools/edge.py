@@ -60,8 +60,10 @@ class Case:
         self.links, self.sent, self.asks = {}, {}, set()
 
     def targets(self):
-        """The addresses to which the program sends: over a link that `gate` receives from nothing goes."""
-        return [at for at in self.sent if not (self.words[:1] == [b"gate"] and at.encode() == self.words[1])]
+        """The addresses to which the program sends: over a link that `gate` receives from, its first address, nothing goes."""
+        words = [word.decode(errors="replace") for word in self.words]
+        source = next((word for word in words if words[0] == "gate" and ADDRESS.fullmatch(word)), None)
+        return [at for at in self.sent if at != source]
 
 
 def cases_of(path):
