@@ -1,15 +1,10 @@
 -- A gateway's reading, at the answers that are no datagram, and how it ends.
-use Rattle.std.proofs.Common.{◌≡◌, ℕ, ◌+◌, ◌*◌, ◌<◌, ◌≤◌, Bool, true, false, List, [], ◌∷◌, ◌++◌, Option, None, Some, length, sym, subst, ap, ◌∙◌, refl, inl, inr, arith, append_assoc, length-append}
+use Rattle.std.proofs.Common.{◌≡◌, ℕ, ◌+◌, ◌*◌, ◌<◌, ◌≤◌, Bool, true, false, List, [], ◌∷◌, ◌++◌, Option, None, Some, length, sym, subst, ap, ◌∙◌, refl, inl, inr, arith}
 use Rattle.std.specs.Prelude.{IfSome, Err, slice_index_or}
 use Rattle.std.proofs.Math.Nat.{mul-le-mul_right}
 use Rattle.std.proofs.lemmas.Bool.Decides.{nat_tests}
 use Rattle.std.proofs.lemmas.List.{append-nil}
 use Rattle.drm_links.specs.Link.{Answer, Datagram, Idle, Failed}
-use Rattle.drm_links.specs.Told.{HasFailed}
-use Rattle.drm_links.specs.Transmission.{Transmits, SendsNoMore}
-use Rattle.drm_links.proofs.ToldLemmas.{later-Rose}
-use Rattle.several_links.specs.Took.{TookBy}
-use Rattle.several_links.proofs.TookLemmas.{took_none}
 use Rattle.dcp_pft.specs.declared.carry.Carry.{Carry}
 use Rattle.dcp_pft.specs.Limits.{most_fragments}
 use Rattle.dcp_collect.specs.declared.taken.Taken.{Taken}
@@ -29,19 +24,18 @@ use Rattle.drm_convert.proofs.Taken.{may_taken, first_itself}
 use Rattle.drm_convert.proofs.Ways.{given_first, longer_full}
 use Rattle.drm_gate.specs.declared.tally.Tally.{Tally}
 use Rattle.drm_gate.specs.Passing.{Fate, Begins, sent_of, BecomeAll}
-use Rattle.drm_gate.specs.Targets.{Target, TakesMore, TakesNoMore, EachSends}
+use Rattle.drm_gate.specs.Targets.{Target, EachSends}
 use Rattle.drm_gate.specs.Tallies.{nothing, tally_of, items_in}
 use Rattle.drm_gate.specs.Draining.{PassedAll, Drained, Stopped, KeepsPace, sent_or_kept}
 use Rattle.drm_gate.specs.declared.gate.GateEnded.{GateEnded}
-use Rattle.drm_gate.specs.Run.{ComesTo, StopsAt, IsFrontOfOnward, CountsOver, EndsAs, PassesAll, BreaksOff, StopsOver, StopsLast, StopsSending, most_sends}
+use Rattle.drm_gate.specs.Run.{ComesTo, StopsAt, CountsOver, EndsAs, PassesAll, BreaksOff, StopsSending, most_sends}
 use Rattle.drm_gate.specs.declared.reading.Stop.{Stop}
 use Rattle.drm_gate.specs.declared.reading.Stop.TheVariants as stop
 use Rattle.drm_gate.specs.Reading.{TakesFirst, ReadsTo, StopsReading, EndsReading}
 use Rattle.drm_gate.proofs.TargetLemmas.{more_sent, few_sent_each}
-use Rattle.drm_gate.proofs.SendingLemmas.{then_no_more}
+use Rattle.drm_gate.proofs.Stopping.{LastPart, over_by, last_part, at_last}
 use Rattle.drm_gate.proofs.Tallying.{items_plus, items_all}
 use Rattle.drm_gate.proofs.DrainingLemmas.{all_then}
-use Rattle.drm_gate.proofs.Fronts.{front_follows}
 use Rattle.drm_gate.proofs.Kept.{kept_taken}
 use Rattle.drm_gate.proofs.Reaching.{Reaches, behind, giving, reaches_open, room_of, not_given, count_of, tally_is, up_to_all, up_to_enough, below_of}
 
@@ -169,59 +163,6 @@ module _ (rules : Rules) (carry : Carry) (hears hears' : List Answer → Type 0)
 
 may_before : (state last : State) (items : List Item) (first : ℕ) → Given state items last → MayBeFirst last first → MayBeFirst state first
 may_before state last items first gives may = subst (λ (o : Option ℕ). IfSome o (λ n. n ≡ first)) (given_first items state last gives) may
-
--- ---- over one link
-
--- it was up from the start
-pub took_from : (datagrams : List (List ℕ)) (b m : Target) → b.up ≡ true → TakesMore datagrams b m → TookBy m.up datagrams b.known m.known
-took_from datagrams b m was more = more [] b.known (subst (λ (u : Bool). TookBy u [] b.known b.known) (sym was) (took_none b.known))
-
-module _ (rules : Rules) (carry : Carry) (answers : List Answer) (sent : List (List ℕ)) (IsPart : List (List ℕ) → Type 0)
-    (at : (part : List (List ℕ)) → IsPart part → StopsAt rules carry answers (sent ++ part)) (goes_on : GoesOn rules answers) where
-  front_at : (part : List (List ℕ)) → IsPart part → IsFrontOfOnward rules carry answers (sent ++ part)
-  front_at part holds = front_follows rules carry answers (sent ++ part) (at part holds) goes_on
-
-  -- what goes less far than these is a front, too
-  front_before : (front rest part : List (List ℕ)) → sent ≡ front ++ rest → 1 ≤ length rest → IsPart part → IsFrontOfOnward rules carry answers front
-  front_before front rest part are some holds more ending fates other onward =
-      let (others, any, whole) = front_at part holds more ending fates other onward in (
-        rest ++ (part ++ others),
-        omega (arith, some, length-append rest (part ++ others)),
-        whole ∙ (ap (λ l. (l ++ part) ++ others) are ∙ (append_assoc (front ++ rest) part others ∙ append_assoc front rest (part ++ others))),
-      )
-
-  over_by : (u : Bool) (b m a : Target) (last : List (List ℕ)) → IsPart last → m.up ≡ u → b.up ≡ true → TakesMore sent b m → TakesNoMore u IsPart m a → StopsOver rules carry answers b a
-  over_by true b m a last holds is was more (part, here, none, rose) =
-      let took = subst (λ (u : Bool). TookBy u sent b.known m.known) is (took_from sent b m was more) in
-      record {
-        datagrams = sent ++ part;
-        sent = then_no_more sent part b.known m.known a.known took.sent none;
-        rose = later-Rose b.known.faults m.known.faults a.known.faults took.later rose;
-        front = front_at part here;
-      }
-  over_by false b m a last holds is was more same =
-      let took = subst (λ (u : Bool). TookBy u sent b.known m.known) is (took_from sent b m was more) in
-      subst (λ (t : Target). StopsOver rules carry answers b t) (sym same)
-      (record { datagrams = took.front; sent = took.sent; rose = took.rose; front = front_before took.front took.rest last took.are took.some holds })
-
-  -- the last one
-  abbrev LastPart : Target → Target → Type 0
-  LastPart m a = (part : List (List ℕ)) × IsPart part × Transmits m.known a.known (SendsNoMore part) × HasFailed m.known a.known
-
-  last_part : (u : Bool) (m a : Target) → m.up ≡ u → m.up ≡ true → TakesNoMore u IsPart m a → LastPart m a
-  last_part true m a is was none = none
-  last_part false m a is was none = absurd (let clash : true ≡ false = sym was ∙ is in cc)
-
-  at_last : (b m a : Target) → m.up ≡ true → TakesMore sent b m → LastPart m a → StopsLast rules carry answers b a
-  at_last b m a was more (part, holds, none, rose) = record {
-    datagrams = sent ++ part;
-    sent = λ up.
-        let took = subst (λ (u : Bool). TookBy u sent b.known m.known) was (took_from sent b m up more) in
-        then_no_more sent part b.known m.known a.known took.sent none;
-    at = at part holds;
-  }
-
--- ---- over all links
 
 stops_at : (rules : Rules) (carry : Carry) (hears : List Answer → Type 0) (x y z : List Target) (answers before later : List Answer) (took : List Taken) (items : List Item) (c state : State) (t : Tally)
     → hears answers → length answers ≤ most_answers rules → GoesOn rules answers → answers ≡ before ++ later → Gave rules before took items c → ComesTo rules answers later c state

@@ -7,6 +7,7 @@ pub mod Kept
 pub mod Reaching
 pub mod RestingLemmas
 pub mod SendingLemmas
+pub mod Stopping
 pub mod TakingLemmas
 pub mod Tallying
 pub mod TargetLemmas

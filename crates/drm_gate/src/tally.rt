@@ -30,6 +30,7 @@ impl Tally {
             sent: 0,
         }
     }
+
     // The datagrams of so many links together, each of which took these.
     pub(crate) fn over(&self, links: u64) -> Tally
         requires { links * self.now.sent < 2 ^ 64 }

@@ -33,7 +33,7 @@ use Rattle.drm_gate.specs.Tallies.{over}
 use Rattle.drm_gate.specs.Resting.{HasNotRested, NeverRests, MakesSends}
 use Rattle.drm_gate.specs.Run.{GateRun, IsFrontOf, IsFrontOfOnward, StopsAt, StopsOver, StopsLast, most_sends}
 use Rattle.drm_gate.specs.Targets.{Target, target, targets, Each, TakesMore, EachTakes, EachSends, AllUp}
-use Rattle.drm_gate.proofs.Ending.{took_from}
+use Rattle.drm_gate.proofs.Stopping.{took_from}
 use Rattle.drm_gate.proofs.TargetLemmas.{at_place, as_many_targets, all_up}
 use Rattle.gate_command.specs.Opening.{no_rests, after_source}
 use Rattle.gate_command.specs.Between.{options_of, AreAhead, Goes, GoesPart, GoesOut, passed_of, PassesTo}
