@@ -1,5 +1,5 @@
 -- A plan that a text can give is still one with the bytes of a file.
-use Rattle.std.proofs.Common.{◌≡◌, ℕ, ◌≤◌, zero, suc, List, [], ◌∷◌, length, refl, ap}
+use Rattle.std.proofs.Common.{◌≡◌, ℕ, zero, suc, List, [], ◌∷◌, length, refl, ap}
 use Rattle.std.specs.Prelude.{All}
 use Rattle.std.proofs.lemmas.List.Elements.{All-nil, All-cons, All-head, All-tail}
 use Rattle.drm_schedule.specs.declared.config.Config.{Config}
@@ -22,12 +22,12 @@ changed_all P f keeps k [] all = All-nil P
 changed_all P f keeps zero (x ∷ xs) all = All-cons P (f x) xs (keeps x (All-head P x xs all)) (All-tail P x xs all)
 changed_all P f keeps (suc k) (x ∷ xs) all = All-cons P x (changed f k xs) (All-head P x xs all) (changed_all P f keeps k xs (All-tail P x xs all))
 
-filled_fits : (bytes : List ℕ) → length bytes ≤ 4194304 → (content : Content) → ContentInLines content → ContentInLines (filled bytes content)
-filled_fits bytes small (Fill byte) fits = fits
-filled_fits bytes small (File name old) fits = (fits.0, small)
+filled_fits : (bytes : List ℕ) → (content : Content) → ContentInLines content → ContentInLines (filled bytes content)
+filled_fits bytes (Fill byte) fits = fits
+filled_fits bytes (File name old) fits = fits
 
-stream_fits : (bytes : List ℕ) → length bytes ≤ 4194304 → (s : Stream) → StreamInLines s → StreamInLines (filled_stream bytes s)
-stream_fits bytes small s fits = record { a_fits = fits.a_fits; b_fits = fits.b_fits; not_empty = fits.not_empty; contents = filled_fits bytes small s.content fits.contents }
+stream_fits : (bytes : List ℕ) → (s : Stream) → StreamInLines s → StreamInLines (filled_stream bytes s)
+stream_fits bytes s fits = record { a_fits = fits.a_fits; b_fits = fits.b_fits; not_empty = fits.not_empty; contents = filled_fits bytes s.content fits.contents }
 
 -- as many other streams
 pub with_streams : (c : Config) (streams : List Stream) → length streams ≡ length c.streams → All StreamInLines streams → ConfigInLines c → ConfigInLines (record c { streams = streams })
@@ -51,13 +51,13 @@ with_streams c streams same each fits =
       each_block = fits.each_block;
     }
 
-config_fits : (j : ℕ) (bytes : List ℕ) → length bytes ≤ 4194304 → (c : Config) → ConfigInLines c → ConfigInLines (filled_config j bytes c)
-config_fits j bytes small c fits =
+config_fits : (j : ℕ) (bytes : List ℕ) → (c : Config) → ConfigInLines c → ConfigInLines (filled_config j bytes c)
+config_fits j bytes c fits =
     with_streams c (filled_config j bytes c).streams (changed_length (filled_stream bytes) j c.streams)
-    (changed_all StreamInLines (filled_stream bytes) (stream_fits bytes small) j c.streams fits.each_stream) fits
+    (changed_all StreamInLines (filled_stream bytes) (stream_fits bytes) j c.streams fits.each_stream) fits
 
-pub with_file_fits : (file : Filed) (bytes : List ℕ) (plan : Plan) → length bytes ≤ 4194304 → InLines plan → InLines (with_file file bytes plan)
-with_file_fits file bytes plan small fits =
+pub with_file_fits : (file : Filed) (bytes : List ℕ) (plan : Plan) → InLines plan → InLines (with_file file bytes plan)
+with_file_fits file bytes plan fits =
     let same = changed_length (filled_config file.stream bytes) file.config plan.configs in
     record {
       carry_fits = fits.carry_fits;
@@ -67,5 +67,5 @@ with_file_fits file bytes plan small fits =
       few_frames = fits.few_frames;
       some_config = rw same fits.some_config;
       few_configs = rw same fits.few_configs;
-      each_config = changed_all ConfigInLines (filled_config file.stream bytes) (config_fits file.stream bytes small) file.config plan.configs fits.each_config;
+      each_config = changed_all ConfigInLines (filled_config file.stream bytes) (config_fits file.stream bytes) file.config plan.configs fits.each_config;
     }

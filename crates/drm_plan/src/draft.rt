@@ -79,7 +79,6 @@ impl Draft {
     /// Gives a file its bytes, in place of those that it may have. A file without has none.
     pub fn attach(&mut self, k: usize, bytes: Octets)
         requires file { k < length self.old.files }
-        requires small { length bytes ≤ 4194304 }
         ensures { self.new ≡ attached self.old k bytes }
     {
         let file = *self.files.get(k);

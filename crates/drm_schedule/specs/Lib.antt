@@ -1,5 +1,7 @@
 pub mod Ranges
 pub mod Sizes
+pub mod Contents
+pub mod Live
 pub mod Announcement
 pub mod SameLines
 pub mod Services

@@ -34,10 +34,10 @@ pub record IsLabel (text : List ℕ) : Type 0 where
   pub few : length (chars text) ≤ 16
   pub short : length text ≤ 64
 
--- a byte for all frames, or a file, which holds at most 4 MiB
+-- a byte for all frames, or a file; what it holds may be of any length
 abbrev pub ContentInLines : Content → Type 0
 ContentInLines (Fill byte) = byte < 2 ^ 8
-ContentInLines (File name bytes) = IsName name × (length bytes ≤ 4194304)
+ContentInLines (File name bytes) = IsName name
 
 pub record StreamInLines (s : Stream) : Type 0 where
   pub a_fits : s.a < 2 ^ 12

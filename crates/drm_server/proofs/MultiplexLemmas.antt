@@ -17,7 +17,8 @@ use Rattle.drm_schedule.specs.Valid.{IsSchedule}
 use Rattle.drm_timeline.specs.Standing.{has_started, config_of}
 use Rattle.drm_timeline.specs.Description.{description_of, parts_of}
 use Rattle.drm_timeline.proofs.StandingLemmas.{last_passing_has}
-use Rattle.drm_server.specs.Frames.{stream_bytes, IsFrameAt}
+use Rattle.drm_schedule.specs.Contents.{stream_bytes}
+use Rattle.drm_server.specs.Frames.{IsFrameAt}
 use Rattle.drm_server.specs.Multiplex.{part_a, part_b, multiplex_of, multiplex_at}
 use Rattle.drm_server.proofs.StreamLemmas.{is_description}
 

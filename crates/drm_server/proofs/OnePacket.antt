@@ -13,7 +13,8 @@ use Rattle.drm_bits.proofs.Checks.{one_check}
 use Rattle.mdi_items.specs.RoundTrip.{Parts, BlockBytes, IsWrittenOf}
 use Rattle.mdi_items.proofs.SpellingLemmas as spellings
 use Rattle.drm_timeline.specs.Numbers.{sequence_number}
-use Rattle.drm_server.specs.Frames.{stream_bytes, HasBlockWhere, IsFrameAt, IsPacketAt}
+use Rattle.drm_schedule.specs.Contents.{stream_bytes}
+use Rattle.drm_server.specs.Frames.{HasBlockWhere, IsFrameAt, IsPacketAt}
 use Rattle.drm_server.proofs.ByteLemmas.{bytes_before, bytes_behind}
 use Rattle.drm_server.proofs.OneBlock.{one_block}
 

@@ -11,7 +11,8 @@ use Rattle.mdi_items.specs.declared.writer.MdiWriter.{MdiWriter}
 use Rattle.mdi_items.specs.Written.{written, behind, IsHead, spelling, stream_pieces}
 use Rattle.mdi_items.specs.RoundTrip.{Parts, BlockBytes, block_pieces, IsWrittenOf}
 use Rattle.mdi_items.proofs.RoundTripLemmas.{spelling-append}
-use Rattle.drm_server.specs.Frames.{HasBlockWhere, IsFrameAt, stream_bytes}
+use Rattle.drm_schedule.specs.Contents.{stream_bytes}
+use Rattle.drm_server.specs.Frames.{HasBlockWhere, IsFrameAt}
 
 -- all that was written
 pub front : (w : MdiWriter) (all room : ℕ) → all ≡ length w.into.now → room ≡ length (behind w) → take (all - room) w.into.now ≡ written w

@@ -1,5 +1,5 @@
 -- The frames and packets of a schedule, each read off the schedule for itself (ES 201 980, TS 102 820).
-use Rattle.std.specs.Prelude.{ℕ, ◌≡◌, ◌+◌, ◌-◌, ◌*◌, ◌/◌, ◌%◌, ◌^◌, ◌==◌, true, false, Bool, List, map, take, drop, replicate, length, Option, Some, None}
+use Rattle.std.specs.Prelude.{ℕ, ◌≡◌, ◌+◌, ◌-◌, ◌*◌, ◌/◌, ◌%◌, ◌^◌, ◌==◌, true, false, Bool, List, map, take, drop, length, Option, Some, None}
 use Rattle.drm_bits.specs.Bits.{bits_of, IsBytes}
 use Rattle.drm_bits.specs.Crc.{zeros}
 use Rattle.drm_sdc.specs.declared.block.Block.{Block}
@@ -9,10 +9,7 @@ use Rattle.dcp_af.specs.Packet.{IsAf}
 use Rattle.mdi_items.specs.RoundTrip.{Parts, BlockBytes, IsWrittenOf}
 use Rattle.drm_schedule.specs.declared.config.Config.{Config}
 use Rattle.drm_schedule.specs.declared.plan.Plan.{Plan}
-use Rattle.drm_schedule.specs.declared.stream.Content.{Content}
-use Rattle.drm_schedule.specs.declared.stream.Content.TheVariants.{Fill, File}
-use Rattle.drm_schedule.specs.declared.stream.Stream.{Stream}
-use Rattle.drm_schedule.specs.Sizes.{stream_size}
+use Rattle.drm_schedule.specs.Contents.{stream_bytes}
 use Rattle.drm_timeline.specs.Standing.{config_of}
 use Rattle.drm_timeline.specs.Numbers.{sequence_number}
 use Rattle.drm_timeline.specs.FastAccess.{fac_of}
@@ -22,14 +19,6 @@ use Rattle.drm_timeline.specs.Blocks.{block_of}
 -- the most bytes of a payload: a packet has 12 around it
 abbrev pub longest_payload : ℕ
 longest_payload = longest_packet - 12
-
--- the bytes of a stream in the frame with this number of its configuration
-abbrev pub stream_bytes : ℕ → Stream → List ℕ
-stream_bytes frame s = of s.content
-  where
-    of : Content → List ℕ
-    of (Fill byte) = replicate (stream_size s) byte
-    of (File name bytes) = take (stream_size s) (drop (frame * stream_size s) bytes)
 
 -- The bits and the bytes are those of the block of super frame sf, and four zero bits behind it.
 pub record IsBlockAt (plan : Plan) (sf : ℕ) (room : ℕ) (b : BlockBytes) : Type 0 where

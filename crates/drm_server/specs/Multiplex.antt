@@ -4,7 +4,7 @@ use Rattle.std.specs.List.{flat_map}
 use Rattle.drm_schedule.specs.declared.plan.Plan.{Plan}
 use Rattle.drm_schedule.specs.declared.stream.Stream.{Stream}
 use Rattle.drm_timeline.specs.Standing.{config_of}
-use Rattle.drm_server.specs.Frames.{stream_bytes}
+use Rattle.drm_schedule.specs.Contents.{stream_bytes}
 
 -- part A of a stream's bytes in the frame with this number of its configuration, and part B behind it
 abbrev pub part_a : ℕ → Stream → List ℕ

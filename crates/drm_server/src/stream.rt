@@ -4,7 +4,7 @@ ghost use Rattle.std.specs.Prelude.{◌≡◌, ◌+◌, ◌*◌, ◌<◌, ◌≤
 ghost use Rattle.mdi_items.specs.Names.{sdc_, str};
 ghost use Rattle.mdi_items.specs.Written.{written, behind, next, lender, spelled, spelling, whole, stream_pieces};
 ghost use Rattle.drm_schedule.specs.Sizes.{stream_size};
-ghost use Rattle.drm_server.specs.Frames.{stream_bytes};
+ghost use Rattle.drm_schedule.specs.Contents.{stream_bytes};
 ghost use Rattle.drm_server.specs.Placing.{IsBefore, IsBeforeStream, IsReady, AreReady};
 
 use drm_schedule::{Content, Stream};

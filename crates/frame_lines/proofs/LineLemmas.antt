@@ -18,7 +18,8 @@ use Rattle.mdi_items.specs.Frame.{Frame as MdiFrame}
 use Rattle.mdi_items.specs.RoundTrip.{Parts, IsFrameOf}
 use Rattle.mod_feed.specs.Items.{Item}
 use Rattle.mod_delivery.specs.Given.{IsServed}
-use Rattle.drm_server.specs.Frames.{stream_bytes, IsFrameAt}
+use Rattle.drm_schedule.specs.Contents.{stream_bytes}
+use Rattle.drm_server.specs.Frames.{IsFrameAt}
 use Rattle.drm_server.proofs.MultiplexLemmas.{of_parts}
 use Rattle.drm_server.proofs.OnePacket.{one_frame}
 use Rattle.report_lines.specs.FrameLine.{block_text, description_text, bytes_text, frame_bytes, frame_line}

@@ -18,7 +18,7 @@ use Rattle.drm_plan.specs.Lookup.{at}
 use Rattle.drm_plan.specs.Projection.{Drafted}
 use Rattle.plan_said.specs.Rules.{Fault}
 use Rattle.drm_plan.specs.Text.{draft_of, IsText}
-use Rattle.plan_laws.proofs.AttachLaw.{Fills, at_seam, files_come, files_came, fills_fit, fills_same, each_small, each_weaker}
+use Rattle.plan_laws.proofs.AttachLaw.{Fills, at_seam, files_come, files_came, fills_fit, fills_same, each_weaker}
 use Rattle.plan_laws.proofs.WholeLaw.{came_of, given_by, canonical_is_text}
 use Rattle.drm_load.specs.declared.loading.ScheduleFault.{ScheduleFault}
 use Rattle.load_laws.specs.Again.{HasFiles, HasText, HasAll, NoLoadFails}
@@ -190,13 +190,13 @@ schedule_came name told schedule is =
     let said = given_by text.x draft.x gives in
     let loaded : (from_files draft.x.files draft.x (after_one told)).came ≡ Ok whole.x = sym (ap (λ (s : Step Drafted). s.came) (all_in_turn draft.x (after_one told))) ∙ whole.first in
     let fills = files_loaded draft.x.files draft.x whole.x (after_one told) loaded in
-    let fits = fills_fit (Has longest_file told) (λ n bytes has. has.1) draft.x.files draft.x.plan whole.x.plan fills said.in_lines in
+    let fits = fills_fit (Has longest_file told) draft.x.files draft.x.plan whole.x.plan fills said.in_lines in
     let each = files_came (Has longest_file told) draft.x.plan whole.x.plan (subst (λ (fs : List Filed). Fills (Has longest_file told) fs draft.x.plan whole.x.plan) said.files fills) in
     let there = load_came told 0 name text.x longest_text text.first in
     let is_text : IsText whole.x.plan text.x = record { draft = draft.x; gives = gives; same = fills_same (Has longest_file told) draft.x.files draft.x.plan whole.x.plan fills } in
     subst (λ (p : Plan). IsSchedule p × HasFiles told p × HasText told name p) valid.same (
       record { in_lines = fits; valid = valid.valid },
-      each_weaker (Has longest_file told) (λ n bytes. file_at told n ≡ Some bytes) (λ n bytes has. has.0) whole.x.plan each,
+      each,
       record { text = text.x; there = there.0; is = is_text },
     )
 
@@ -208,8 +208,7 @@ schedule_comes schedule name told is files has none =
     let draft = has.is.draft in
     let said = given_by has.text draft has.is.gives in
     let small = (came_of has.text draft has.is.gives).short in
-    let each = each_small (λ n bytes. file_at told n ≡ Some bytes) schedule is.in_lines files in
-    let bare : Fills (Has longest_file told) (config_files 0 draft.plan.configs) draft.plan schedule = files_come (Has longest_file told) draft.plan schedule has.is.same each in
+    let bare : Fills (Has longest_file told) (config_files 0 draft.plan.configs) draft.plan schedule = files_come (Has longest_file told) draft.plan schedule has.is.same files in
     let fills : Fills (Has longest_file told) draft.files draft.plan schedule = subst (λ (fs : List Filed). Fills (Has longest_file told) fs draft.plan schedule) (sym said.files) bare in
     let later = none_later told none in
     let loaded : (with_files (length draft.files) 0 draft (after_one told)).came ≡ Ok (with_plan draft schedule) =
@@ -238,6 +237,6 @@ printed_checked name again text first second printed small there all none =
     let came = then_came (schedule_named name) (λ s. given (Ok (canonical s))) first text printed in
     let same : canonical came.x ≡ text = text_is (canonical came.x) text came.second in
     let found = schedule_came name first came.x came.first in
-    let files = each_weaker (λ n bytes. file_at first n ≡ Some bytes) (λ n bytes. file_at second n ≡ Some bytes) all came.x found.1 in
+    let files = each_weaker (Has longest_file first) (Has longest_file second) (λ n bytes has. (all n bytes has.0, has.1)) came.x found.1 in
     canonical_checked came.x again second found.0 (subst (λ (t : List ℕ). length t ≤ longest_text) (sym same) small) (there ∙ ap (λ (t : List ℕ). Some t) (sym same)) files none
     ∙ ap text_ok same

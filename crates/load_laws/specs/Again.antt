@@ -6,11 +6,11 @@ use Rattle.drm_schedule.specs.Valid.{IsSchedule}
 use Rattle.plan_writing.specs.Canonical.{canonical}
 use Rattle.drm_plan.specs.Text.{IsText}
 use Rattle.plan_laws.specs.Texts.{EachFile}
-use Rattle.drm_load.specs.Schedule.{longest_text, schedule_named, checked}
+use Rattle.drm_load.specs.Schedule.{longest_text, longest_file, schedule_named, checked}
 
--- each file of the schedule is on the shelf, under its name
+-- each file of the schedule is on the shelf, under its name, and isn't too long to be loaded
 abbrev pub HasFiles : Files → Plan → Type 0
-HasFiles told schedule = EachFile (λ name bytes. file_at told name ≡ Some bytes) schedule
+HasFiles told schedule = EachFile (λ name bytes. (file_at told name ≡ Some bytes) × (length bytes ≤ longest_file)) schedule
 
 -- each file of the first shelf is on the second
 abbrev pub HasAll : Files → Files → Type 0

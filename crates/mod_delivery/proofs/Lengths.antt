@@ -25,7 +25,8 @@ use Rattle.mdi_items.specs.Written.{Piece, IsHead, spelled, spelling, whole, blo
 use Rattle.mdi_items.specs.RoundTrip.{Parts, BlockBytes, IsWrittenOf, block_pieces}
 use Rattle.mdi_items.proofs.RoundTripLemmas.{spelling-append}
 use Rattle.drm_timeline.specs.Standing.{config_of}
-use Rattle.drm_server.specs.Frames.{stream_bytes, HasBlockWhere, IsFrameAt, IsPacketAt}
+use Rattle.drm_schedule.specs.Contents.{stream_bytes}
+use Rattle.drm_server.specs.Frames.{HasBlockWhere, IsFrameAt, IsPacketAt}
 use Rattle.drm_timeline.proofs.FilesReach.{files_reach, frame_reached}
 use Rattle.drm_timeline.specs.Numbers.{frame_count, packet_size, sequence_number}
 use Rattle.drm_timeline.proofs.PacketSizes.{size_is}

@@ -23,7 +23,8 @@ use Rattle.mdi_items.proofs.RoundTripLemmas.{written_is_read}
 use Rattle.mod_feed.specs.Items.{Item, Frame, CarriesFrame, IsItemOf}
 use Rattle.mod_feed.proofs.ItemLemmas.{item_is_one}
 use Rattle.drm_timeline.specs.Numbers.{frame_count, sequence_number}
-use Rattle.drm_server.specs.Frames.{stream_bytes, HasBlockWhere, IsFrameAt, IsPacketAt}
+use Rattle.drm_schedule.specs.Contents.{stream_bytes}
+use Rattle.drm_server.specs.Frames.{HasBlockWhere, IsFrameAt, IsPacketAt}
 use Rattle.drm_server.proofs.StreamLemmas.{is_description}
 use Rattle.mod_delivery.specs.Given.{IsServed}
 use Rattle.mod_delivery.proofs.Configurations.{config_is}

@@ -1,5 +1,5 @@
 -- Files that come one after another make a plan whole, and a whole plan has the bytes that came.
-use Rattle.std.proofs.Common.{◌≡◌, ℕ, zero, suc, ◌+◌, ◌≤◌, List, [], ◌∷◌, ◌++◌, Some, length, map, refl, sym, ap, subst, ◌∙◌, append_assoc}
+use Rattle.std.proofs.Common.{◌≡◌, ℕ, zero, suc, ◌+◌, List, [], ◌∷◌, ◌++◌, Some, length, map, refl, sym, ap, subst, ◌∙◌, append_assoc}
 use Rattle.std.specs.Prelude.{All}
 use Rattle.std.proofs.lemmas.List.{length-append}
 use Rattle.std.proofs.lemmas.List.Elements.{All-nil, All-cons, All-head, All-tail}
@@ -8,7 +8,7 @@ use Rattle.drm_schedule.specs.declared.stream.Content.{Content}
 use Rattle.drm_schedule.specs.declared.stream.Content.TheVariants.{Fill, File}
 use Rattle.drm_schedule.specs.declared.stream.Stream.{Stream}
 use Rattle.drm_schedule.specs.declared.plan.Plan.{Plan}
-use Rattle.drm_schedule.specs.Ranges.{ContentInLines, StreamInLines, ConfigInLines, InLines}
+use Rattle.drm_schedule.specs.Ranges.{InLines}
 use Rattle.drm_plan.specs.declared.files.Filed.{Filed}
 use Rattle.drm_plan.specs.Files.{file_here, stream_files, config_files, filled, filled_stream, filled_config, with_file, name_in, name_of_stream, name_of_config, name_of, emptied, without_bytes, config_without_bytes, without_files}
 use Rattle.plan_laws.specs.Texts.{OfFile, EachFile}
@@ -204,16 +204,11 @@ module _ (P : List ℕ → List ℕ → Type 0) where
       subst (EachFile P) came.is came.have
 
   -- a plan that a text can give is still one
-  pub fills_fit : ((name bytes : List ℕ) → P name bytes → length bytes ≤ 4194304) → (files : List Filed) (plan whole : Plan) → Fills P files plan whole → InLines plan → InLines whole
-  fills_fit small [] plan whole fills fits = subst InLines fills fits
-  fills_fit small (file ∷ files) plan whole fills fits =
-      fills_fit small files (with_file file fills.0 plan) whole fills.2 (with_file_fits file fills.0 plan (small (name_of file plan) fills.0 fills.1) fits)
+  pub fills_fit : (files : List Filed) (plan whole : Plan) → Fills P files plan whole → InLines plan → InLines whole
+  fills_fit [] plan whole fills fits = subst InLines fills fits
+  fills_fit (file ∷ files) plan whole fills fits = fills_fit files (with_file file fills.0 plan) whole fills.2 (with_file_fits file fills.0 plan fits)
 
 -- ---- what holds of each file
-
-content_small : (P : List ℕ → List ℕ → Type 0) (content : Content) → ContentInLines content → OfFile P content → OfFile (λ name bytes. P name bytes × (length bytes ≤ 4194304)) content
-content_small P (Fill byte) fits has = tt
-content_small P (File name bytes) fits has = (has, fits.1)
 
 content_weaker : (P Q : List ℕ → List ℕ → Type 0) → ((name bytes : List ℕ) → P name bytes → Q name bytes) → (content : Content) → OfFile P content → OfFile Q content
 content_weaker P Q weaker (Fill byte) has = tt
@@ -222,14 +217,6 @@ content_weaker P Q weaker (File name bytes) has = weaker name bytes has
 both_all : {X : Type 0} (P Q R : X → Type 0) → ((x : X) → P x → Q x → R x) → (xs : List X) → All P xs → All Q xs → All R xs
 both_all P Q R of [] all also = All-nil R
 both_all P Q R of (x ∷ xs) all also = All-cons R x xs (of x (All-head P x xs all) (All-head Q x xs also)) (both_all P Q R of xs (All-tail P x xs all) (All-tail Q x xs also))
-
--- a plan that a text can give has short files
-pub each_small : (P : List ℕ → List ℕ → Type 0) (plan : Plan) → InLines plan → EachFile P plan → EachFile (λ name bytes. P name bytes × (length bytes ≤ 4194304)) plan
-each_small P plan fits each =
-    let Small : List ℕ → List ℕ → Type 0 = λ name bytes. P name bytes × (length bytes ≤ 4194304) in
-    both_all ConfigInLines (AllFilled P) (AllFilled Small)
-    (λ c config_fits has. both_all StreamInLines (Filled P) (Filled Small) (λ s stream_fits file. content_small P s.content stream_fits.contents file) c.streams config_fits.each_stream has)
-    plan.configs fits.each_config each
 
 pub each_weaker : (P Q : List ℕ → List ℕ → Type 0) → ((name bytes : List ℕ) → P name bytes → Q name bytes) → (plan : Plan) → EachFile P plan → EachFile Q plan
 each_weaker P Q weaker plan each =

@@ -1,16 +1,13 @@
 -- A plan whose files get the bytes of another's, which is the same but for these, becomes that one.
-use Rattle.std.proofs.Common.{◌≡◌, ℕ, ◌+◌, ◌≤◌, List, [], ◌∷◌, ◌++◌, length, map, refl, sym, ap, subst, ◌∙◌, append_assoc, arith}
-use Rattle.std.specs.Prelude.{All}
+use Rattle.std.proofs.Common.{◌≡◌, ℕ, ◌+◌, List, [], ◌∷◌, ◌++◌, length, map, refl, sym, ap, ◌∙◌, append_assoc, arith}
 use Rattle.std.specs.List.{flat_map}
 use Rattle.std.proofs.lemmas.List.{length-append}
 use Rattle.std.proofs.lemmas.List.Concat.{flat_map-cons}
-use Rattle.std.proofs.lemmas.List.Elements.{All-nil, All-cons, All-head, All-tail, All-append}
 use Rattle.drm_schedule.specs.declared.config.Config.{Config}
 use Rattle.drm_schedule.specs.declared.stream.Content.{Content}
 use Rattle.drm_schedule.specs.declared.stream.Content.TheVariants.{Fill, File}
 use Rattle.drm_schedule.specs.declared.stream.Stream.{Stream}
 use Rattle.drm_schedule.specs.declared.plan.Plan.{Plan}
-use Rattle.drm_schedule.specs.Ranges.{ContentInLines, StreamInLines, ConfigInLines, InLines}
 use Rattle.drm_plan.specs.declared.files.Filed.{Filed}
 use Rattle.drm_plan.specs.Files.{file_here, stream_files, config_files, with_file, name_in, emptied, without_bytes, config_without_bytes, without_files}
 use Rattle.plan_laws.specs.Whole.{file_in, files_of, files_in}
@@ -193,24 +190,3 @@ pub plan_with : (plan : Plan) (all : List (List ℕ)) → length all ≡ length 
 plan_with plan all count =
     let r = configs_with 0 plan.configs all count in
     record { whole = with_configs plan r.configs; alike = ap (with_configs plan) r.alike; are = r.are }
-
--- ---- short files
-
-abbrev IsSmall : List ℕ → Type 0
-IsSmall bytes = length bytes ≤ 4194304
-
-content_small : (content : Content) → ContentInLines content → All IsSmall (file_in content)
-content_small (Fill byte) fits = All-nil IsSmall
-content_small (File name bytes) fits = All-cons IsSmall bytes [] fits.1 (All-nil IsSmall)
-
-each_in : {X : Type 0} (f : X → List (List ℕ)) (P : X → Type 0) → ((x : X) → P x → All IsSmall (f x)) → (xs : List X) → All P xs → All IsSmall (flat_map f xs)
-each_in f P is [] all = All-nil IsSmall
-each_in f P is (x ∷ xs) all =
-    subst (All IsSmall) (sym (flat_map-cons f x xs))
-    (All-append IsSmall (f x) (flat_map f xs) (is x (All-head P x xs all)) (each_in f P is xs (All-tail P x xs all)))
-
-pub files_small : (plan : Plan) → InLines plan → All (λ (bytes : List ℕ). length bytes ≤ 4194304) (files_in plan)
-files_small plan fits =
-    each_in files_of ConfigInLines
-    (λ c config_fits. each_in stream_file StreamInLines (λ s stream_fits. content_small s.content stream_fits.contents) c.streams config_fits.each_stream)
-    plan.configs fits.each_config

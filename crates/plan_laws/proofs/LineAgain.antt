@@ -63,7 +63,7 @@ kind_token false = record { word = record { some = refl; whole = refl }; line = 
 
 content_tokens : (content : Content) → ContentInLines content → AllByRecursion IsToken (content_words content)
 content_tokens (Fill byte) fits = (record { word = record { some = refl; whole = refl }; line = refl }, (hex_token byte [], tt))
-content_tokens (File name bytes) fits = (record { word = record { some = refl; whole = refl }; line = refl }, (name_token name fits.0, tt))
+content_tokens (File name bytes) fits = (record { word = record { some = refl; whole = refl }; line = refl }, (name_token name fits, tt))
 
 config_tokens : (config : List ℕ) → AllByRecursion IsToken (config_words config)
 config_tokens [] = tt

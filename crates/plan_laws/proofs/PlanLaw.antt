@@ -60,7 +60,7 @@ each f P is (x ∷ xs) all = (is x (All-head P x xs all), each f P is xs (All-ta
 
 content_fits : (content : Content) → ContentInLines content → ContentInLines (emptied content)
 content_fits (Fill byte) fits = fits
-content_fits (File name bytes) fits = (fits.0, omega arith)
+content_fits (File name bytes) fits = fits
 
 stream_fits : (s : Stream) → StreamInLines s → StreamInLines (without_bytes s)
 stream_fits s fits = record { a_fits = fits.a_fits; b_fits = fits.b_fits; not_empty = fits.not_empty; contents = content_fits s.content fits.contents }

@@ -181,5 +181,5 @@ stream_again s fits = by s.content fits.contents
         read_as (number 0 4095 (decimal s.a) ∷ number 0 4095 (decimal s.b) ∷ name 255 file ∷ some_of (decimal s.a) (decimal s.b) ∷ [])
         (lines.Stream (record { a = value (decimal s.a); b = value (decimal s.b); content = File file [] }))
         (lines.Stream (record { a = s.a; b = s.b; content = File file [] }))
-        (a_good, (b_good, (record { spelled = refl; ranged = le-leb (length file) 255 small.0.few }, (sum, tt))))
+        (a_good, (b_good, (record { spelled = refl; ranged = le-leb (length file) 255 small.few }, (sum, tt))))
         (rw (decimal_value s.a (omega (arith, fits_a)), decimal_value s.b (omega (arith, fits_b))) refl)

@@ -112,7 +112,7 @@ kind false = low _ refl
 
 content : (content : Content) → ContentInLines content → AllByRecursion IsUtf8 (content_words content)
 content (Fill byte) fits = (low _ refl, (hex (byte ∷ []), tt))
-content (File name bytes) fits = (low _ refl, (fits.0.utf8, tt))
+content (File name bytes) fits = (low _ refl, (fits.utf8, tt))
 
 config : (config : List ℕ) → AllByRecursion IsUtf8 (config_words config)
 config [] = tt

@@ -1,10 +1,9 @@
 -- A text and files make a schedule exactly where they are those of the schedule.
 use Rattle.std.proofs.Common.{◌≡◌, ℕ, ◌+◌, ◌≤◌, Bool, true, false, List, [], ◌∷◌, ◌++◌, Option, Some, None, Result, Ok, Err, IsUtf8, length, map, if◌then◌else◌, refl, sym, ap, subst, ◌∙◌, append_assoc, arith}
-use Rattle.std.specs.Prelude.{All, nat_lt}
+use Rattle.std.specs.Prelude.{nat_lt}
 use Rattle.std.specs.Str.{is_utf8}
 use Rattle.std.proofs.lemmas.Bool.{ltb-false}
 use Rattle.std.proofs.lemmas.List.{length-append}
-use Rattle.std.proofs.lemmas.List.Elements.{All-head, All-tail}
 use Rattle.std.proofs.lemmas.Str.{IsUtf8-from_is_utf8}
 use Rattle.text_lines.specs.Faults.{fault}
 use Rattle.text_lines.specs.Lines.{lines_of, bad_line_of}
@@ -30,7 +29,7 @@ use Rattle.drm_plan.proofs.FileLemmas.{with_file_fits}
 use Rattle.drm_plan.proofs.TextLemmas.{right_text}
 use Rattle.plan_laws.specs.Whole.{files_in, with_all, Makes}
 use Rattle.plan_laws.proofs.AttachLaw.{at_seam}
-use Rattle.plan_laws.proofs.FillLaw.{filled_with, plan_fills, plan_count, plan_with, files_small}
+use Rattle.plan_laws.proofs.FillLaw.{filled_with, plan_fills, plan_count, plan_with}
 use Rattle.plan_laws.proofs.GivenLaw.{IsGiven, lines_given}
 use Rattle.plan_laws.proofs.PlanLaw.{read_again, canonical_utf8}
 
@@ -51,18 +50,13 @@ in_turn before (file ∷ files) (bytes ∷ all) draft is count =
     ∙ ap (λ (k : ℕ). with_all k all (with_plan draft (with_file file bytes draft.plan))) longer
     ∙ in_turn (before ++ file ∷ []) files all (with_plan draft (with_file file bytes draft.plan)) (is ∙ sym (append_assoc before (file ∷ []) files)) fewer
 
-abbrev IsSmall : List ℕ → Type 0
-IsSmall bytes = length bytes ≤ 4194304
+with_bytes_fit : (file : Option Filed) (bytes : List ℕ) (plan : Plan) → InLines plan → InLines (with_bytes file bytes plan)
+with_bytes_fit None bytes plan fits = fits
+with_bytes_fit (Some file) bytes plan fits = with_file_fits file bytes plan fits
 
-with_bytes_fit : (file : Option Filed) (bytes : List ℕ) (plan : Plan) → IsSmall bytes → InLines plan → InLines (with_bytes file bytes plan)
-with_bytes_fit None bytes plan small fits = fits
-with_bytes_fit (Some file) bytes plan small fits = with_file_fits file bytes plan small fits
-
-all_fit : (k : ℕ) (all : List (List ℕ)) (draft : Drafted) → All IsSmall all → InLines draft.plan → InLines (with_all k all draft).plan
-all_fit k [] draft small fits = fits
-all_fit k (bytes ∷ all) draft small fits =
-    all_fit (k + 1) all (attached draft k bytes) (All-tail IsSmall bytes all small)
-    (with_bytes_fit (at k draft.files) bytes draft.plan (All-head IsSmall bytes all small) fits)
+all_fit : (k : ℕ) (all : List (List ℕ)) (draft : Drafted) → InLines draft.plan → InLines (with_all k all draft).plan
+all_fit k [] draft fits = fits
+all_fit k (bytes ∷ all) draft fits = all_fit (k + 1) all (attached draft k bytes) (with_bytes_fit (at k draft.files) bytes draft.plan fits)
 
 -- ---- what a draft came of
 
@@ -124,7 +118,7 @@ made text files schedule makes =
     let valid = is_valid (with_all 0 files draft) schedule makes.valid in
     let filled : with_all 0 files draft ≡ with_plan draft w.whole = all_filled draft w.whole files given w.alike w.are in
     let whole : w.whole ≡ schedule = sym (ap (λ (d : Drafted). d.plan) filled) ∙ valid.same in
-    let fits : InLines (with_all 0 files draft).plan = all_fit 0 files draft makes.small given.in_lines in (
+    let fits : InLines (with_all 0 files draft).plan = all_fit 0 files draft given.in_lines in (
       record { draft = draft; gives = makes.gives; same = w.alike ∙ ap without_files whole },
       record { in_lines = subst InLines valid.same fits; valid = ap first_invalid (sym valid.same) ∙ valid.valid },
       sym w.are ∙ ap files_in whole,
@@ -139,7 +133,6 @@ makes text files schedule is =
       draft = draft;
       gives = is.0.gives;
       one_each = ap (λ (bs : List (List ℕ)). length bs) is.2 ∙ plan_count draft.plan schedule is.0.same ∙ ap (λ (fs : List Filed). length fs) (sym given.files);
-      small = subst (All IsSmall) (sym is.2) (files_small schedule is.1.in_lines);
       valid = ap valid_of filled ∙ ap (λ (o : Option Invalid). valid_unless o (with_plan draft schedule)) is.1.valid;
     }
 

@@ -1,5 +1,5 @@
 -- A text with its files.
-use Rattle.std.specs.Prelude.{ℕ, ◌≡◌, ◌+◌, ◌≤◌, ◌↔◌, List, [], ◌∷◌, length, All, Ok}
+use Rattle.std.specs.Prelude.{ℕ, ◌≡◌, ◌+◌, ◌≤◌, ◌↔◌, List, [], ◌∷◌, length, Ok}
 use Rattle.std.specs.List.{flat_map}
 use Rattle.drm_schedule.specs.declared.config.Config.{Config}
 use Rattle.drm_schedule.specs.declared.stream.Content.{Content}
@@ -33,7 +33,6 @@ pub record Makes (text : List ℕ) (files : List (List ℕ)) (schedule : Plan) :
   pub draft : Drafted
   pub gives : draft_of text ≡ Ok draft
   pub one_each : length files ≡ length draft.files
-  pub small : All (λ bytes. length bytes ≤ 4194304) files
   pub valid : valid_of (with_all 0 files draft) ≡ Ok schedule
 
 -- A text and files make a schedule exactly where it is a text of it, the schedule is valid, and the files are its own.

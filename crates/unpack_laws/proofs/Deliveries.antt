@@ -10,7 +10,7 @@ use Rattle.drm_bits.specs.declared.description.MuxDesc.{MuxDesc}
 use Rattle.drm_schedule.specs.declared.config.Config.{Config}
 use Rattle.drm_schedule.specs.declared.plan.Plan.{Plan}
 use Rattle.drm_timeline.specs.Numbers.{frame_count}
-use Rattle.drm_server.specs.Frames.{stream_bytes}
+use Rattle.drm_schedule.specs.Contents.{stream_bytes}
 use Rattle.drm_switches.specs.Tracker.{new_tracker}
 use Rattle.mdi_items.specs.Frame.{Frame as MdiFrame}
 use Rattle.collect_laws.specs.Delivery.{got, newest_of}

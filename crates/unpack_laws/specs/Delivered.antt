@@ -6,7 +6,7 @@ use Rattle.drm_schedule.specs.declared.plan.Plan.{Plan}
 use Rattle.drm_schedule.specs.Valid.{IsSchedule}
 use Rattle.drm_timeline.specs.Standing.{config_of}
 use Rattle.drm_timeline.specs.Numbers.{frame_count}
-use Rattle.drm_server.specs.Frames.{stream_bytes}
+use Rattle.drm_schedule.specs.Contents.{stream_bytes}
 use Rattle.dcp_pft.specs.Loss.{is_recoverable}
 use Rattle.dcp_collect.specs.declared.taken.Taken.{Taken}
 use Rattle.dcp_collect.specs.Numbers.{end_of}

@@ -2,7 +2,7 @@ use Rattle.std.proofs.Common.{◌≡◌, ◌≤◌, ◌++◌, length, drop, map,
 use Rattle.mdi_items.specs.Names.{sdc_, str}
 use Rattle.mdi_items.specs.Written.{written, behind, next, lender, spelling, stream_pieces}
 use Rattle.drm_schedule.specs.Sizes.{stream_size}
-use Rattle.drm_server.specs.Frames.{stream_bytes}
+use Rattle.drm_schedule.specs.Contents.{stream_bytes}
 use Rattle.drm_server.proofs.stream.write_streams.Given as goal
 
 -- what is written, and what the streams left will be written as, are the whole; there is room for these

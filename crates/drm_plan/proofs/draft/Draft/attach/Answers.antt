@@ -4,7 +4,7 @@ use Rattle.drm_plan.proofs.FileLemmas.{with_file_fits}
 use Rattle.drm_plan.proofs.draft.Draft.attach.Goals as goal
 
 pub invariant_of-self : goal.invariant_of-self
-invariant_of-self c = rw c.put_bytes.ensures (with_file_fits c.get-file.result.now c.args.bytes c.self.inside.plan c.requires.small c.self.invariant)
+invariant_of-self c = rw c.put_bytes.ensures (with_file_fits c.get-file.result.now c.args.bytes c.self.inside.plan c.self.invariant)
 
 pub returns : goal.returns
 returns c =
