@@ -1,0 +1,10 @@
+pub mod LikeLemmas
+pub mod Placing
+pub mod SizeLemmas
+pub mod FrameFiles
+pub mod FrameLemmas
+pub mod FaultlessRows
+pub mod ScheduleLemmas
+pub mod InputLemmas
+pub mod PlainLemmas
+pub mod TakenLemmas
