@@ -1,9 +1,10 @@
 //! The command `air`.
 
-ghost use Rattle.std.specs.Prelude.{ℕ, ◌≡◌, ◌≤◌, ◌⊎◌, ◌++◌, [], ◌∷◌, List, length, vec_len, All, IfOk, OnOk, Err};
+ghost use Rattle.std.specs.Prelude.{ℕ, ◌≡◌, ◌<◌, ◌≤◌, ◌⊎◌, ◌++◌, [], ◌∷◌, List, length, vec_len, All, IfOk, OnOk, Err};
 ghost use Rattle.drm_links.specs.Told.{HasCause};
 ghost use Rattle.mod_delivery.specs.Sent.{IsSent};
 ghost use Rattle.script_lines.specs.Script.{IsDelivery, fragment_count};
+ghost use Rattle.drm_timeline.specs.Numbers as numbers;
 ghost use Rattle.drm_server.specs.Datagrams.{HasDatagrams};
 ghost use Rattle.drm_faults.specs.declared.fault.Fault.{Fault};
 ghost use Rattle.mod_receiver.specs.Jobs.{AreJobs};
@@ -121,9 +122,11 @@ fn link_for(
     server: &mut Server<'_>,
     deliveries: &[Delivery],
 ) -> Result<MemLink, NoMemory>
-    requires each { All (IsDelivery server.old.plan) deliveries.now }
-    ensures link { IfOk result (BringsFeed server.old.plan deliveries.now) }
-    ensures plan { server.new.plan ≡ server.old.plan }
+    requires each { All (IsDelivery server.old.base) deliveries.now }
+    requires own { server.old.plan ≡ server.old.base }
+    ensures link { IfOk result (BringsFeed server.old.base deliveries.now) }
+    ensures schedule { server.new.base ≡ server.old.base }
+    ensures own { server.new.plan ≡ server.new.base }
 {
     let mut link = MemLink::make(alloc, &[], &[], 0)?;
     for delivery in deliveries {
@@ -139,16 +142,27 @@ fn deliver(
     delivery: Delivery,
     link: &mut MemLink,
 ) -> Result<(), NoMemory>
-    requires delivery { IsDelivery server.old.plan delivery }
-    ensures brought { OnOk result ((datagram : List ℕ) × IsSent server.old.plan (delivery.packet, delivery.fragment) datagram
+    requires delivery { IsDelivery server.old.base delivery }
+    requires own { server.old.plan ≡ server.old.base }
+    ensures brought { OnOk result ((datagram : List ℕ) × IsSent server.old.base (delivery.packet, delivery.fragment) datagram
         × (link.new ≡ record link.old { coming = link.old.coming ++ datagram ∷ [] })) }
-    ensures plan { server.new.plan ≡ server.old.plan }
+    ensures schedule { server.new.base ≡ server.old.base }
+    ensures own { server.new.plan ≡ server.new.base }
 {
-    if server.frame() != delivery.packet {
-        server.load(delivery.packet);
-    }
+    load_own(server, delivery.packet);
     datagrams_are_counted(server);
     link.bring(alloc, server.datagram(delivery.fragment))
+}
+
+// Loads a frame, where it isn't the one that is loaded.
+fn load_own(server: &mut Server<'_>, t: u32)
+    requires within { t < numbers.frame_count server.old.base }
+    requires own { server.old.plan ≡ server.old.base }
+    ensures { server.new ≡ record { base = server.old.base; plan = server.old.base; frame = t } }
+{
+    if server.frame() != t {
+        server.load(t);
+    }
 }
 
 // The frame that is loaded has as many datagrams as a script counts.

@@ -201,3 +201,17 @@ module _ (plan : Plan) (from : ℕ) where
   all_written datagrams waits a b c are first second =
       Outputs-then (λ s. concat datagrams ≡ s ++ waits) (λ text. text ≡ waits) (IsCapture plan from) a b c first second
       (λ s u is last. (datagrams, are, ap (λ l. s ++ l) last ∙ sym is))
+
+-- all that waits of one frame, and a front of it
+pub frame_written : (datagrams : List (List ℕ)) (waits : List ℕ) (a b c : Known Output) → Gathers [] (concat datagrams) waits a b → Outputs b c (λ text. text ≡ waits)
+    → Outputs a c (λ text. text ≡ concat datagrams)
+frame_written datagrams waits a b c first second =
+    Outputs-then (λ s. concat datagrams ≡ s ++ waits) (λ text. text ≡ waits) (λ text. text ≡ concat datagrams) a b c first second
+    (λ s u is last. ap (λ l. s ++ l) last ∙ sym is)
+
+pub frame_front : (plan : Plan) (t count : ℕ) (datagrams : List (List ℕ)) (waits : List ℕ) (a b c : Known Output) → 1 ≤ count → AreFirst plan t count datagrams
+    → Gathers [] (concat datagrams) waits a b → Outputs b c (IsFront waits) → Outputs a c (IsFrontOfFrame plan t [])
+frame_front plan t zero datagrams waits a b c some are first second = absurd (omega (arith, some))
+frame_front plan t (suc i) datagrams waits a b c some are first second =
+    Outputs-then (λ s. concat datagrams ≡ s ++ waits) (IsFront waits) (IsFrontOfFrame plan t []) a b c first second
+    (λ s u is (rest, front). (i, datagrams, are, (rest, is ∙ ap (λ l. s ++ l) front ∙ sym (append_assoc s u rest))))

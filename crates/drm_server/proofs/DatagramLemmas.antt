@@ -27,6 +27,6 @@ first_length plan t (suc i) datagrams (before, datagram, are, is, same) =
     let whole : length datagrams ≡ length before + 1 = ap length same ∙ length-append before (datagram ∷ []) in
     omega (arith, whole, first_length plan t i before are)
 
--- the server that loaded frame t
-pub at_frame : (old new : Serving) (plan : Plan) (t : ℕ) → new ≡ record old { frame = t } → old.plan ≡ plan → new ≡ record { plan = plan; frame = t }
-at_frame old new plan t is same = is ∙ ap (λ (p : Plan). record { plan = p; frame = t }) same
+-- the server that loaded frame t of its schedule
+pub at_frame : (old new : Serving) (plan : Plan) (t : ℕ) → new ≡ record { base = old.base; plan = old.base; frame = t } → old.base ≡ plan → new ≡ record { base = plan; plan = plan; frame = t }
+at_frame old new plan t is same = is ∙ ap (λ (p : Plan). record { base = p; plan = p; frame = t }) same

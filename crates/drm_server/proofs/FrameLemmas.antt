@@ -1,5 +1,5 @@
 -- The datagrams of a packet that is sent are those of its frame.
-use Rattle.std.proofs.Common.{◌≡◌, ◌+◌, ◌<◌, ◌≤◌, ℕ, zero, suc, List, [], ◌∷◌, ◌++◌, length, take, Option, None, Some, refl, sym, ◌∙◌, ap, subst, arith}
+use Rattle.std.proofs.Common.{◌≡◌, ◌+◌, ◌<◌, ◌≤◌, ℕ, zero, suc, List, [], length, take, Option, None, Some, refl, sym, ◌∙◌, ap, subst, arith}
 use Rattle.std.specs.Prelude.{slice_index_or, replicate, Result, Ok, Err, IfOk, OnErr}
 use Rattle.drm_links.specs.declared.link.LinkFault.{LinkFault}
 use Rattle.std.proofs.lemmas.Grind.{take_at_read}

@@ -15,3 +15,6 @@ pub mod RestLemmas
 pub mod PaceLemmas
 pub mod FrameLemmas
 pub mod SeveralLemmas
+pub mod PieceLemmas
+pub mod LiveLemmas
+pub mod SameFrame

@@ -4,11 +4,11 @@ use Rattle.std.proofs.lemmas.List.{append-nil}
 use Rattle.drm_schedule.specs.declared.plan.Plan.{Plan}
 use Rattle.drm_links.specs.Told.{Known}
 use Rattle.drm_links.specs.Link.{Traffic}
-use Rattle.drm_links.specs.Transmission.{Transmits, SendsAll, SendsNoMore, Waits, since, still}
+use Rattle.drm_links.specs.Transmission.{Transmits, SendsAll, Waits, still}
 use Rattle.drm_links.proofs.TransmissionLemmas.{Transmits-then, Transmits-weaker, Transmits-both, SendsAll-no_more, Waits-then}
 use Rattle.packet_sending.proofs.Links.{then_sent, then_waited}
 use Rattle.drm_timeline.specs.Numbers.{frame_count}
-use Rattle.drm_server.specs.Datagrams.{IsDatagramAt, AreFirst, AreOfFrames, AreDatagrams}
+use Rattle.drm_server.specs.Datagrams.{AreFirst, AreOfFrames, AreDatagrams}
 use Rattle.drm_server.specs.Sending.{SendsSchedule, SendsPart}
 use Rattle.drm_server.specs.OneFrame.{SendsPartOfFrame}
 use Rattle.drm_server.specs.Rests.{ArePaced, pause}

@@ -1,5 +1,5 @@
 -- A schedule over several links, frame by frame.
-use Rattle.std.proofs.Common.{◌≡◌, ◌+◌, ◌*◌, ◌<◌, ◌≤◌, ℕ, Bool, true, false, List, [], ◌++◌, length, replicate, refl, sym, ap, subst, ◌∙◌, arith, length-append}
+use Rattle.std.proofs.Common.{◌≡◌, ◌+◌, ◌*◌, ◌<◌, ◌≤◌, ℕ, Bool, true, false, [], ◌++◌, length, replicate, refl, sym, subst, ◌∙◌, arith, length-append}
 use Rattle.drm_schedule.specs.declared.plan.Plan.{Plan}
 use Rattle.dcp_pft.specs.Limits.{most_fragments}
 use Rattle.drm_links.specs.Told.{Known, HasFailed}
@@ -13,9 +13,9 @@ use Rattle.packet_sending.specs.Sending.{MadeCalls}
 use Rattle.packet_sending.proofs.Links.{then_sent, made_none, made_then}
 use Rattle.several_links.specs.declared.member.Member.{Member}
 use Rattle.drm_timeline.specs.Numbers.{frame_count}
-use Rattle.drm_server.specs.Datagrams.{AreFirst, AreOfFrames}
+use Rattle.drm_server.specs.Datagrams.{AreFirst}
 use Rattle.drm_server.specs.OneFrame.{SentFrame, SendsPartOfFrame}
-use Rattle.drm_server.specs.Rests.{calls_of_frame, rests_before, rests_between, ArePaced, pause}
+use Rattle.drm_server.specs.Rests.{calls_of_frame, rests_before, rests_between, pause}
 use Rattle.drm_server.specs.Several.{SentFrames, SentPart, Served, ServedBy}
 use Rattle.drm_server.proofs.DatagramLemmas.{next_frame, first_length}
 use Rattle.drm_server.proofs.RestLemmas.{one_more_rest}

@@ -30,6 +30,11 @@ abbrev pub IsFrontOfFrame : Plan → ℕ → List ℕ → List ℕ → Type 0
 IsFrontOfFrame plan t waited text =
     (i : ℕ) × (datagrams : List (List ℕ)) × AreFirst plan t (suc i) datagrams × IsFront (waited ++ concat datagrams) text
 
+-- The datagrams of frame t were written, and they are n.
+abbrev pub WroteFrame : Plan → ℕ → ℕ → Known Output → Known Output → Type 0
+WroteFrame plan t n before after =
+    (datagrams : List (List ℕ)) × AreOfFrame plan t datagrams × (n ≡ length datagrams) × Outputs before after (λ text. text ≡ concat datagrams)
+
 -- There is a datagram with this number, and so much room behind what waits that any fits.
 pub record HasPlace (plan : Plan) (t i waiting : ℕ) (bytes : List ℕ) : Type 0 where
   pub within : HasDatagram plan t i

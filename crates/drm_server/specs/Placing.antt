@@ -3,12 +3,16 @@ use Rattle.std.specs.Prelude.{ℕ, ◌≡◌, ◌+◌, ◌<◌, ◌≤◌, false
 use Rattle.mdi_items.specs.declared.writer.MdiWriter.{MdiWriter}
 use Rattle.mdi_items.specs.Names.{sdc_, str}
 use Rattle.mdi_items.specs.Written.{written, behind, next}
+use Rattle.drm_schedule.specs.declared.live.Live.{Live}
 use Rattle.drm_schedule.specs.declared.config.Config.{Config}
 use Rattle.drm_schedule.specs.declared.plan.Plan.{Plan}
 use Rattle.drm_schedule.specs.declared.stream.Stream.{Stream}
 use Rattle.drm_schedule.specs.Ranges.{ConfigInLines, StreamInLines}
 use Rattle.drm_schedule.specs.Valid.{is_short}
 use Rattle.drm_timeline.specs.Standing.{config_of}
+use Rattle.mdi_items.specs.RoundTrip.{Parts, IsWrittenOf}
+use Rattle.live_streams.specs.Live.{streams_with}
+use Rattle.drm_server.specs.Frames.{IsFrameAt}
 
 -- The writer has written nothing, and has so many bytes.
 pub record IsNew (bytes : ℕ) (w : MdiWriter) : Type 0 where
@@ -42,3 +46,8 @@ pub record AreReady (frame : ℕ) (streams : List Stream) : Type 0 where
   pub few : length streams ≤ 4
   pub fit : All StreamInLines streams
   pub enough : All (λ (s : Stream). is_short (frame + 1) s ≡ false) streams
+
+-- The bytes are the one spelling of frame t of a schedule, where its live streams have this piece.
+abbrev pub IsPayloadWith : Live → List ℕ → Plan → ℕ → List ℕ → Type 0
+IsPayloadWith live piece plan t payload =
+    (parts : Parts) × IsFrameAt plan t parts × IsWrittenOf (record parts { streams = streams_with live (Some piece) parts.streams }) payload

@@ -14,6 +14,6 @@ pub use laws::{
     first_ones_are_front, one_capture, one_delivery, one_frame, one_packet,
     streams_make_the_multiplex_frame,
 };
-pub use send::serve_links;
-pub use serve::serve_sink;
+pub use send::{serve_each, serve_links};
+pub use serve::{serve_sink, write_frame};
 pub use server::Server;

@@ -1,6 +1,6 @@
 //! One frame of a schedule, ready to be sent.
 
-ghost use Rattle.std.specs.Prelude.{ℕ, List, ◌≡◌, ◌<◌, ◌≤◌, length, take, replicate, true, IfOk, OnErr, IsErr};
+ghost use Rattle.std.specs.Prelude.{ℕ, List, [], ◌≡◌, ◌<◌, ◌≤◌, length, take, replicate, true, IfOk, OnErr, IsErr};
 ghost use Rattle.dcp_pft.specs.Limits.{longest_packet, most_packet, most_fragments, most_parity};
 ghost use Rattle.drm_links.specs.Told.{HasCause};
 ghost use Rattle.drm_links.specs.ManyCalls.{MakesCalls};
@@ -8,6 +8,8 @@ ghost use Rattle.drm_links.specs.Transmission.{Transmits, Waits};
 ghost use Rattle.packet_sending.specs.Sending.{MadeCalls};
 ghost use Rattle.drm_timeline.specs.Numbers as numbers;
 ghost use Rattle.drm_timeline.specs.Numbers.{packet_size};
+ghost use Rattle.live_streams.specs.Live.{piece_at, live_schedule};
+ghost use Rattle.drm_server.specs.Serving.{only_at};
 ghost use Rattle.drm_server.specs.Frames.{IsPacketAt};
 ghost use Rattle.drm_server.specs.Datagrams.{HasDatagrams, HasDatagram, IsDatagramAt};
 ghost use Rattle.drm_server.specs.OneFrame.{SentFrame, SendsPartOfFrame};
@@ -17,8 +19,9 @@ use crate::payload::Rooms;
 use dcp_pft::{LONGEST_PACKET, MOST_PARITY, Shape, all_taken, cut_for, datagrams, most_packet};
 use drm_bits::{NoMemory, zeros};
 use drm_links::{Link, LinkFault};
-use drm_schedule::Schedule;
+use drm_schedule::{Live, Schedule};
 use drm_timeline::{frame_count, sequence_number};
+use live_streams::{MOST_PIECE, piece_len};
 use packet_cutting::{write_cut, write_parity};
 use packet_sending::send_packet;
 use std::alloc::Global;
@@ -29,6 +32,10 @@ use std::marker::Model;
 pub struct Loaded<'a> {
     plan: &'a Schedule,
     frame: u32,
+    // The streams that have bytes which came from outside, and these bytes, at the front.
+    live: Live,
+    piece: Vec<u8>,
+    piece_len: usize,
     // The packet stands at the front.
     buffer: Vec<u8>,
     len: usize,
@@ -46,56 +53,69 @@ impl<'a> Model for Loaded<'a> {
     ghost use Rattle.drm_timeline.specs.Numbers.{frame_count, packet_size};
     ghost use Rattle.drm_server.specs.Frames.{IsPacketAt};
     ghost use Rattle.packet_cutting.specs.Parity.{HoldsParity};
-    ghost use Rattle.drm_server.specs.Serving.{Serving};
+    ghost use Rattle.live_streams.specs.Live.{live_schedule};
+    ghost use Rattle.drm_server.specs.Serving.{Serving, only_at};
 
     ghost Value = { Serving };
 
-    ghost view = { λ s. record { plan = s.plan.now; frame = s.frame } };
+    ghost view = { λ s. record {
+      base = s.plan.now;
+      plan = live_schedule s.live (only_at s.frame (take s.piece_len s.piece.items)) s.plan.now;
+      frame = s.frame;
+    } };
 
     ghost invariant = { λ s. (s.frame < frame_count s.plan.now)
         × (length s.buffer.items ≡ longest_packet)
         × (s.len ≤ longest_packet)
         × (1 ≤ s.len)
-        × IsPacketAt s.plan.now s.frame (take s.len s.buffer.items)
+        × IsPacketAt (live_schedule s.live (only_at s.frame (take s.piece_len s.piece.items)) s.plan.now) s.frame (take s.len s.buffer.items)
         × (s.len ≡ packet_size s.plan.now s.frame)
         × (s.cut ≡ cut_of s.plan.now.carry s.len)
         × IfSome s.cut (IsShapeOf s.len)
         × (length s.parity.items ≡ most_parity)
         × HoldsParity s.cut (take s.len s.buffer.items) s.parity.items
-        × (s.len ≤ most_packet s.plan.now.carry) };
+        × (s.len ≤ most_packet s.plan.now.carry)
+        × (length s.piece.items ≡ 32760) };
 }
 
 impl<'a> Loaded<'a> {
     /// Frame 0 of this schedule.
     pub fn first(alloc: Global, plan: &'a Schedule) -> Result<Loaded<'a>, NoMemory>
-        ensures { IfOk result (λ loaded. loaded ≡ record { plan = plan.now; frame = 0 }) }
+        ensures { IfOk result (λ loaded. loaded ≡ record { base = plan.now; plan = plan.now; frame = 0 }) }
     {
         let buffer = zeros(alloc, LONGEST_PACKET)?;
         let parity = zeros(alloc, MOST_PARITY)?;
+        let piece = zeros(alloc, MOST_PIECE)?;
         let Ok(rooms) = Box::new(alloc, Rooms::new()) else {
             return Err(NoMemory);
         };
-        Ok(Loaded::in_room(plan, buffer, parity, rooms))
+        Ok(Loaded::in_room(plan, buffer, parity, piece, rooms))
     }
 
-    // Frame 0, in room for the longest packet and its parity.
+    // Frame 0, in room for the longest packet, its parity, and the longest piece.
     fn in_room(
         plan: &'a Schedule,
         mut buffer: Vec<u8>,
         mut parity: Vec<u8>,
+        piece: Vec<u8>,
         mut rooms: Box<Rooms>,
     ) -> Loaded<'a>
         requires buffer { length buffer.items ≡ longest_packet }
         requires parity { length parity.items ≡ most_parity }
-        ensures { result ≡ record { plan = plan.now; frame = 0 } }
+        requires piece { length piece.items ≡ 32760 }
+        ensures { result ≡ record { base = plan.now; plan = plan.now; frame = 0 } }
     {
         plan.always_valid();
-        let len = write_packet(plan, 0, &mut buffer, &mut rooms);
+        let live = Live::none();
+        let len = write_packet(plan, 0, &live, &[], &mut buffer, &mut rooms);
         let cut = cut_for(plan.carry(), len);
         write_parity(&buffer[..len], cut, &mut parity);
         Loaded {
             plan,
             frame: 0,
+            live,
+            piece,
+            piece_len: 0,
             buffer,
             len,
             cut,
@@ -104,9 +124,16 @@ impl<'a> Loaded<'a> {
         }
     }
 
+    /// The schedule.
+    pub fn schedule(&self) -> &Schedule
+        ensures { result.now ≡ self.now.base }
+    {
+        self.plan
+    }
+
     /// How many frames the schedule has.
     pub fn frames(&self) -> u32
-        ensures frames { result ≡ numbers.frame_count self.now.plan }
+        ensures frames { result ≡ numbers.frame_count self.now.base }
         ensures some { 1 ≤ result }
         ensures few { result ≤ 3000000 }
     {
@@ -129,11 +156,28 @@ impl<'a> Loaded<'a> {
 
     /// Loads frame `t` in its place.
     pub fn load(&mut self, t: u32)
-        requires { t < numbers.frame_count self.old.plan }
-        ensures { self.new ≡ record self.old { frame = t } }
+        requires { t < numbers.frame_count self.old.base }
+        ensures { self.new ≡ record { base = self.old.base; plan = self.old.base; frame = t } }
+    {
+        self.load_live(t, &Live::none(), &[]);
+    }
+
+    /// Loads frame `t` with this piece as the bytes of its live streams.
+    pub fn load_live(&mut self, t: u32, live: &Live, piece: &[u8])
+        requires frame { t < numbers.frame_count self.old.base }
+        requires piece { length piece.now ≡ piece_at live.now self.old.base t }
+        ensures { self.new ≡ record {
+          base = self.old.base;
+          plan = live_schedule live.now (only_at t piece.now) self.old.base;
+          frame = t;
+        } }
     {
         self.plan.always_valid();
-        self.len = write_packet(self.plan, t, &mut self.buffer, &mut self.rooms);
+        // For its clauses alone: they say that there is room for the piece.
+        let _ = piece_len(self.plan, live, t);
+        self.piece_len = write_front(piece, &mut self.piece);
+        self.live = *live;
+        self.len = write_packet(self.plan, t, live, piece, &mut self.buffer, &mut self.rooms);
         self.cut = cut_for(self.plan.carry(), self.len);
         write_parity(&self.buffer[..self.len], self.cut, &mut self.parity);
         self.frame = t;
@@ -202,7 +246,7 @@ impl<'a> Loaded<'a> {
     {
         let packet = &self.buffer[..self.len];
         match self.cut {
-            None => write_whole(packet, into),
+            None => write_front(packet, into),
             Some(shape) => {
                 let seq = sequence_number(self.plan, self.frame);
                 write_cut(packet, &shape, &self.parity, seq, i, into)
@@ -211,13 +255,13 @@ impl<'a> Loaded<'a> {
     }
 }
 
-// Writes a packet to the front, and gives its length.
-fn write_whole(packet: &[u8], into: &mut [u8]) -> usize
-    requires { length packet.now ≤ length into.old }
-    ensures packet { take result into.new ≡ packet.now }
-    ensures len { result ≡ length packet.now }
+// Writes bytes to the front, and gives their number.
+fn write_front(bytes: &[u8], into: &mut [u8]) -> usize
+    requires { length bytes.now ≤ length into.old }
+    ensures front { take result into.new ≡ bytes.now }
+    ensures len { result ≡ length bytes.now }
     ensures long { length into.new ≡ length into.old }
 {
-    into[..packet.len()].copy_from_slice(packet);
-    packet.len()
+    into[..bytes.len()].copy_from_slice(bytes);
+    bytes.len()
 }

@@ -9,14 +9,15 @@ ghost use Rattle.drm_timeline.specs.FastAccess.{fac_of};
 ghost use Rattle.drm_timeline.specs.Description.{description_of};
 ghost use Rattle.mdi_items.specs.Names.{sdc_, str};
 ghost use Rattle.mdi_items.specs.Written.{written, behind, next, lender, spelled, spelling, block_piece, IsHead, head_length};
-ghost use Rattle.mdi_items.specs.RoundTrip.{Parts, BlockBytes, block_pieces, IsWrittenOf};
+ghost use Rattle.mdi_items.specs.RoundTrip.{BlockBytes, block_pieces};
+ghost use Rattle.live_streams.specs.Live.{piece_at};
 ghost use Rattle.dcp_pft.specs.Limits.{most_packet};
-ghost use Rattle.drm_server.specs.Frames.{IsBlockAt, HasBlockWhere, IsFrameAt, longest_payload};
-ghost use Rattle.drm_server.specs.Placing.{IsNew, IsBefore, HoldsIn};
+ghost use Rattle.drm_server.specs.Frames.{IsBlockAt, HasBlockWhere, longest_payload};
+ghost use Rattle.drm_server.specs.Placing.{IsNew, IsBefore, HoldsIn, IsPayloadWith};
 
 use crate::stream::{MOST, write_streams};
 use dcp_pft::LONGEST_PACKET;
-use drm_schedule::{Config, Schedule};
+use drm_schedule::{Config, Live, Schedule};
 use drm_timeline::{block_into, config_of_frame, description, fac_at, packet_len};
 use mdi_items::MdiWriter;
 
@@ -42,15 +43,18 @@ impl Rooms {
     }
 }
 
-/// Writes the payload of the packet of frame `t`, and gives its length.
+/// Writes the payload of the packet of frame `t`, whose live streams have this piece, and gives its length.
 pub fn write_payload(
     plan: &Schedule,
     t: u32,
+    live: &Live,
+    piece: &[u8],
     into: &mut [u8; MOST_PAYLOAD],
     rooms: &mut Rooms,
 ) -> usize
-    requires { t < frame_count plan.now }
-    ensures written { (parts : Parts) × IsFrameAt plan.now t parts × IsWrittenOf parts (take result into.new) }
+    requires frame { t < frame_count plan.now }
+    requires piece { length piece.now ≡ piece_at live.now plan.now t }
+    ensures written { IsPayloadWith live.now piece.now plan.now t (take result into.new) }
     ensures len { result + 12 ≡ packet_size plan.now t }
     ensures small { result + 12 ≤ most_packet plan.now.carry }
     ensures within { result ≤ longest_payload }
@@ -67,6 +71,8 @@ pub fn write_payload(
         &mut writer,
         config.streams.as_slice(),
         frame,
+        live,
+        piece,
         &mut rooms.fill,
     );
     let room = writer.room();

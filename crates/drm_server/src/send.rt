@@ -7,11 +7,13 @@ ghost use Rattle.drm_links.specs.ManyCalls.{MakesCalls};
 ghost use Rattle.drm_links.specs.Transmission.{Transmits, SendsAll, Waits};
 ghost use Rattle.several_links.specs.Reaching.{AreUp};
 ghost use Rattle.several_links.specs.declared.member.Member.{Member};
+ghost use Rattle.drm_schedule.specs.declared.plan.Plan.{Plan};
 ghost use Rattle.drm_timeline.specs.Numbers.{frame_count};
 ghost use Rattle.packet_sending.specs.Sending.{MadeCalls};
 ghost use Rattle.dcp_pft.specs.Limits.{most_fragments};
 ghost use Rattle.drm_server.specs.Rests.{rests_before, pause};
 ghost use Rattle.drm_server.specs.OneFrame.{SentFrame, SendsPartOfFrame};
+ghost use Rattle.drm_server.specs.Serving.{HasFrame};
 ghost use Rattle.drm_server.specs.Several.{Served};
 
 use crate::Server;
@@ -29,11 +31,11 @@ pub fn serve_links<L: Link>(
 )
     requires up { AreUp members.old }
     ensures served { (k : ℕ) (d : Member L) → k < length members.old
-        → Served server.old.plan first pace (frame_count server.old.plan - first) L.known
+        → Served server.old.base first pace (frame_count server.old.base - first) L.known
         (L.known (slice_index_or members.old k d).link) (slice_index_or members.new k d) }
     ensures idle { (k : ℕ) (d : Member L) → k < length members.old
         → L.idles (slice_index_or members.new k d).link ≡ L.idles (slice_index_or members.old k d).link }
-    ensures schedule { server.new.plan ≡ server.old.plan }
+    ensures schedule { server.new.base ≡ server.old.base }
 {
     for n in 0..server.frames().saturating_sub(first) {
         if none_up(members) {
@@ -44,12 +46,13 @@ pub fn serve_links<L: Link>(
     }
 }
 
-// Sends the datagrams of the frame that is loaded, the one behind n others, over each link that is up.
-fn serve_each<L: Link>(server: &mut Server<'_>, n: u32, members: &mut [Member<L>], pace: u32)
-    ensures step { (k : ℕ) (d : Member L) (first : ℕ) (start : Known Traffic) → k < length members.old
-        → first + n < frame_count server.old.plan → server.old.frame ≡ first + n
-        → Served server.old.plan first pace n L.known start (slice_index_or members.old k d)
-        → Served server.old.plan first pace (n + 1) L.known start (slice_index_or members.new k d) }
+/// Sends the datagrams of the frame that is loaded, the one behind `n` others, over each link that is up, behind a rest of `pace`
+/// milliseconds where others were sent before. A link that fails is up no more.
+pub fn serve_each<L: Link>(server: &mut Server<'_>, n: u32, members: &mut [Member<L>], pace: u32)
+    ensures step { (k : ℕ) (d : Member L) (plan : Plan) (first : ℕ) (start : Known Traffic) → k < length members.old
+        → HasFrame server.old plan → first + n < frame_count plan → server.old.frame ≡ first + n
+        → Served plan first pace n L.known start (slice_index_or members.old k d)
+        → Served plan first pace (n + 1) L.known start (slice_index_or members.new k d) }
     ensures idle { (k : ℕ) (d : Member L) → k < length members.old
         → L.idles (slice_index_or members.new k d).link ≡ L.idles (slice_index_or members.old k d).link }
     ensures server { server.new ≡ server.old }
@@ -61,10 +64,10 @@ fn serve_each<L: Link>(server: &mut Server<'_>, n: u32, members: &mut [Member<L>
 
 // The same over one link, behind its rest.
 fn serve_one<L: Link>(server: &mut Server<'_>, n: u32, member: &mut Member<L>, pace: u32)
-    ensures step { (first : ℕ) (start : Known Traffic)
-        → first + n < frame_count server.old.plan → server.old.frame ≡ first + n
-        → Served server.old.plan first pace n L.known start member.old
-        → Served server.old.plan first pace (n + 1) L.known start member.new }
+    ensures step { (plan : Plan) (first : ℕ) (start : Known Traffic)
+        → HasFrame server.old plan → first + n < frame_count plan → server.old.frame ≡ first + n
+        → Served plan first pace n L.known start member.old
+        → Served plan first pace (n + 1) L.known start member.new }
     ensures idle { L.idles member.new.link ≡ L.idles member.old.link }
     ensures server { server.new ≡ server.old }
 {

@@ -1,11 +1,11 @@
 //! A schedule to a sink, which is called once for some KiB.
 
-ghost use Rattle.std.specs.Prelude.{◌≡◌, ◌+◌, ◌≤◌, ◌++◌, ℕ, length, take, IfOk, OnOk, OnErr, IsErr};
+ghost use Rattle.std.specs.Prelude.{◌≡◌, ◌+◌, ◌≤◌, ◌++◌, ℕ, [], length, take, IfOk, OnOk, OnErr, IsErr};
 ghost use Rattle.drm_links.specs.Told.{HasCause};
 ghost use Rattle.drm_links.specs.Sink.{Outputs, IsFront};
-ghost use Rattle.dcp_pft.specs.Limits.{most_packet};
+ghost use Rattle.dcp_pft.specs.Limits.{most_packet, most_fragments};
 ghost use Rattle.drm_server.specs.Capture.{IsCapture, IsFrontOfCapture, IsCount};
-ghost use Rattle.drm_server.specs.Gathering.{HasPlace, Waits, GathersDatagram, IsFrontWithDatagram, GathersFrame, IsFrontOfFrame};
+ghost use Rattle.drm_server.specs.Gathering.{HasPlace, Waits, GathersDatagram, IsFrontWithDatagram, GathersFrame, IsFrontOfFrame, WroteFrame};
 
 use crate::Server;
 use crate::loaded::Loaded;
@@ -18,28 +18,62 @@ pub fn serve_sink<O: Sink>(
     first: u32,
     out: &mut O,
 ) -> Result<u64, WriteFault>
-    ensures whole { OnOk result (Outputs (O.known out.old) (O.known out.new) (IsCapture server.old.plan first)) }
-    ensures count { IfOk result (IsCount server.old.plan first) }
-    ensures front { OnErr result (Outputs (O.known out.old) (O.known out.new) (IsFrontOfCapture server.old.plan first)) }
+    ensures whole { OnOk result (Outputs (O.known out.old) (O.known out.new) (IsCapture server.old.base first)) }
+    ensures count { IfOk result (IsCount server.old.base first) }
+    ensures front { OnErr result (Outputs (O.known out.old) (O.known out.new) (IsFrontOfCapture server.old.base first)) }
     ensures cause { HasCause (O.known out.old) (O.known out.new) (IsErr result) }
-    ensures schedule { server.new.plan ≡ server.old.plan }
+    ensures schedule { server.new.base ≡ server.old.base }
 {
     serve(&mut server.loaded, first, &mut server.waiting, out)
 }
 
+/// Writes all datagrams of the frame that is loaded, and gives their number.
+pub fn write_frame<O: Sink>(server: &mut Server<'_>, out: &mut O) -> Result<u64, WriteFault>
+    ensures whole { IfOk result (λ n. WroteFrame server.old.plan server.old.frame n (O.known out.old) (O.known out.new)) }
+    ensures front { OnErr result (Outputs (O.known out.old) (O.known out.new)
+        (IsFrontOfFrame server.old.plan server.old.frame [])) }
+    ensures few { IfOk result (λ n. n ≤ most_fragments) }
+    ensures cause { HasCause (O.known out.old) (O.known out.new) (IsErr result) }
+    ensures server { server.new ≡ server.old }
+{
+    write_loaded(&server.loaded, &mut server.waiting, out)
+}
+
 // Writes them by way of this room.
+fn write_loaded<O: Sink>(
+    loaded: &Loaded<'_>,
+    room: &mut [u8],
+    out: &mut O,
+) -> Result<u64, WriteFault>
+    requires room { most_packet loaded.now.plan.carry ≤ length room.old }
+    ensures whole { IfOk result (λ n. WroteFrame loaded.now.plan loaded.now.frame n (O.known out.old) (O.known out.new)) }
+    ensures front { OnErr result (Outputs (O.known out.old) (O.known out.new)
+        (IsFrontOfFrame loaded.now.plan loaded.now.frame [])) }
+    ensures few { IfOk result (λ n. n ≤ most_fragments) }
+    ensures cause { HasCause (O.known out.old) (O.known out.new) (IsErr result) }
+    ensures long { length room.new ≡ length room.old }
+{
+    let count = loaded.fragments();
+    let waiting = gather_frame(loaded, room, 0, out)?;
+    write_all(out, &room[..waiting])?;
+    Ok(u64::from(count))
+}
+
+// Writes the datagrams of all frames from frame `first` on, by way of this room.
 fn serve<O: Sink>(
     loaded: &mut Loaded<'_>,
     first: u32,
     room: &mut [u8],
     out: &mut O,
 ) -> Result<u64, WriteFault>
-    requires room { most_packet loaded.old.plan.carry ≤ length room.old }
-    ensures whole { OnOk result (Outputs (O.known out.old) (O.known out.new) (IsCapture loaded.old.plan first)) }
-    ensures count { IfOk result (IsCount loaded.old.plan first) }
-    ensures front { OnErr result (Outputs (O.known out.old) (O.known out.new) (IsFrontOfCapture loaded.old.plan first)) }
+    requires carry { loaded.old.plan.carry ≡ loaded.old.base.carry }
+    requires room { most_packet loaded.old.base.carry ≤ length room.old }
+    ensures whole { OnOk result (Outputs (O.known out.old) (O.known out.new) (IsCapture loaded.old.base first)) }
+    ensures count { IfOk result (IsCount loaded.old.base first) }
+    ensures front { OnErr result (Outputs (O.known out.old) (O.known out.new) (IsFrontOfCapture loaded.old.base first)) }
     ensures cause { HasCause (O.known out.old) (O.known out.new) (IsErr result) }
-    ensures schedule { loaded.new.plan ≡ loaded.old.plan }
+    ensures schedule { loaded.new.base ≡ loaded.old.base }
+    ensures carry { loaded.new.plan.carry ≡ loaded.new.base.carry }
     ensures long { length room.new ≡ length room.old }
 {
     let mut waiting = 0;

@@ -4,6 +4,8 @@ ghost use Rattle.std.specs.Prelude.{◌≡◌, ◌<◌, ◌≤◌, length, IfOk,
 ghost use Rattle.std.specs.Borrow.{sem};
 ghost use Rattle.dcp_pft.specs.Limits.{longest_packet, most_packet, most_fragments};
 ghost use Rattle.drm_timeline.specs.Numbers.{frame_count, packet_size};
+ghost use Rattle.live_streams.specs.Live.{piece_at, live_schedule};
+ghost use Rattle.drm_server.specs.Serving.{only_at};
 ghost use Rattle.drm_server.specs.Frames.{IsPacketAt};
 ghost use Rattle.drm_server.specs.Datagrams.{HasDatagrams, HasDatagram, IsDatagramAt};
 ghost use Rattle.drm_server.specs.Lending.{Stays};
@@ -11,7 +13,7 @@ ghost use Rattle.drm_server.specs.Lending.{Stays};
 use crate::loaded::Loaded;
 use dcp_pft::{LONGEST_PACKET, most_packet};
 use drm_bits::{NoMemory, zeros};
-use drm_schedule::Schedule;
+use drm_schedule::{Live, Schedule};
 use std::alloc::Global;
 use std::marker::Model;
 
@@ -38,14 +40,15 @@ impl<'a> Model for Server<'a> {
 
     ghost view = { λ s. s.loaded };
 
-    ghost invariant = { λ s. (most_packet s.loaded.plan.carry ≤ length s.datagram.items)
+    ghost invariant = { λ s. (s.loaded.plan.carry ≡ s.loaded.base.carry)
+        × (most_packet s.loaded.plan.carry ≤ length s.datagram.items)
         × (most_packet s.loaded.plan.carry ≤ length s.waiting.items) };
 }
 
 impl<'a> Server<'a> {
     /// A server of this schedule, which has frame 0 loaded.
     pub fn make(alloc: Global, plan: &'a Schedule) -> Result<Server<'a>, NoMemory>
-        ensures { IfOk result (λ server. server ≡ record { plan = plan.now; frame = 0 }) }
+        ensures { IfOk result (λ server. server ≡ record { base = plan.now; plan = plan.now; frame = 0 }) }
     {
         let loaded = Loaded::first(alloc, plan)?;
         let datagram = zeros(alloc, most_packet(plan.carry()))?;
@@ -57,9 +60,16 @@ impl<'a> Server<'a> {
         })
     }
 
+    /// The schedule itself.
+    pub fn schedule(&self) -> &Schedule
+        ensures { result.now ≡ self.now.base }
+    {
+        self.loaded.schedule()
+    }
+
     /// How many frames there are.
     pub fn frames(&self) -> u32
-        ensures frames { result ≡ frame_count self.now.plan }
+        ensures frames { result ≡ frame_count self.now.base }
         ensures some { 1 ≤ result }
         ensures few { result ≤ 3000000 }
     {
@@ -75,10 +85,23 @@ impl<'a> Server<'a> {
 
     /// Loads frame `t`.
     pub fn load(&mut self, t: u32)
-        requires { t < frame_count self.old.plan }
-        ensures { self.new ≡ record self.old { frame = t } }
+        requires { t < frame_count self.old.base }
+        ensures { self.new ≡ record { base = self.old.base; plan = self.old.base; frame = t } }
     {
         self.loaded.load(t);
+    }
+
+    /// Loads frame `t` with this piece as the bytes of its live streams.
+    pub fn load_live(&mut self, t: u32, live: &Live, piece: &[u8])
+        requires frame { t < frame_count self.old.base }
+        requires piece { length piece.now ≡ piece_at live.now self.old.base t }
+        ensures { self.new ≡ record {
+          base = self.old.base;
+          plan = live_schedule live.now (only_at t piece.now) self.old.base;
+          frame = t;
+        } }
+    {
+        self.loaded.load_live(t, live, piece);
     }
 
     /// The packet of the frame that is loaded.

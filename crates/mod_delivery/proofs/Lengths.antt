@@ -1,9 +1,7 @@
 -- A packet has the bytes that are counted for it.
-use Rattle.std.proofs.Common.{ℕ, zero, suc, ◌≡◌, ◌+◌, ◌-◌, ◌*◌, ◌/◌, ◌%◌, ◌^◌, ◌<◌, ◌≤◌, ◌==◌, Bool, true, false, if◌then◌else◌, List, [], ◌∷◌, ◌++◌, map, drop, replicate, length, sum_by, All, Option, Some, refl, sym, ap, ◌∙◌, arith, length-append, length-drop}
+use Rattle.std.proofs.Common.{ℕ, zero, suc, ◌≡◌, ◌+◌, ◌-◌, ◌*◌, ◌/◌, ◌%◌, ◌<◌, ◌≤◌, ◌==◌, Bool, true, false, if◌then◌else◌, List, [], ◌∷◌, ◌++◌, map, replicate, length, sum_by, All, Option, Some, refl, sym, ap, ◌∙◌, arith, length-append}
 use Rattle.std.specs.Prelude.{codes}
 use Rattle.std.specs.Int.{w16, w32, to_be_bytes}
-use Rattle.std.proofs.lemmas.Bool.{ltb-false}
-use Rattle.std.proofs.lemmas.List.{length-take-le, length-replicate}
 use Rattle.std.proofs.lemmas.List.Elements.{All-head, All-tail}
 use Rattle.std.proofs.lemmas.List.Sums.{sum_by-cons}
 use Rattle.dcp_af.specs.Packet.{AfPacket, IsAf, head as af_head}
@@ -14,8 +12,6 @@ use Rattle.drm_mux.proofs.SdciLemmas.{length-value}
 use Rattle.drm_schedule.specs.declared.config.Config.{Config}
 use Rattle.drm_fac.specs.declared.mode.Mode.{Mode}
 use Rattle.drm_schedule.specs.declared.plan.Plan.{Plan}
-use Rattle.drm_schedule.specs.declared.stream.Content.{Content}
-use Rattle.drm_schedule.specs.declared.stream.Content.TheVariants.{Fill, File}
 use Rattle.drm_schedule.specs.declared.stream.Stream.{Stream}
 use Rattle.drm_schedule.specs.Sizes.{packet_len, stream_size}
 use Rattle.drm_schedule.specs.Valid.{IsSchedule, is_short}
@@ -30,17 +26,8 @@ use Rattle.drm_server.specs.Frames.{HasBlockWhere, IsFrameAt, IsPacketAt}
 use Rattle.drm_timeline.proofs.FilesReach.{files_reach, frame_reached}
 use Rattle.drm_timeline.specs.Numbers.{frame_count, packet_size, sequence_number}
 use Rattle.drm_timeline.proofs.PacketSizes.{size_is}
+use Rattle.drm_server.proofs.PieceLemmas.{stream_length}
 use Rattle.mod_delivery.proofs.Configurations.{IsConfig, config_is, faultless}
-
--- each stream has its bytes, where its file is long enough
-pub stream_length : (frame : ℕ) (s : Stream) → is_short (frame + 1) s ≡ false → length (stream_bytes frame s) ≡ stream_size s
-stream_length frame s enough = by s.content refl
-  where
-    by : (content : Content) → s.content ≡ content → length (stream_bytes frame s) ≡ stream_size s
-    by (Fill byte) is = rw is (length-replicate (stream_size s) byte)
-    by (File name bytes) is =
-        let long : stream_size s * (frame + 1) ≤ length bytes = ltb-false (length bytes) (stream_size s * (frame + 1)) (rw is at enough) in
-        rw is (length-take-le (stream_size s) (drop (frame * stream_size s) bytes) (omega (arith, long, length-drop (frame * stream_size s) bytes)))
 
 -- the files of the configuration that holds reach to the end of each frame
 pub are_long : (plan : Plan) (t : ℕ) (c : Config) → IsSchedule plan → t < frame_count plan → IsConfig plan (t / 3) c → (holds : config_of plan (t / 3) ≡ Some c)

@@ -28,7 +28,8 @@ use Rattle.drm_server.specs.Frames.{HasBlockWhere, IsFrameAt, IsPacketAt}
 use Rattle.drm_server.proofs.StreamLemmas.{is_description}
 use Rattle.mod_delivery.specs.Given.{IsServed}
 use Rattle.mod_delivery.proofs.Configurations.{config_is}
-use Rattle.mod_delivery.proofs.Lengths.{stream_length, are_long}
+use Rattle.drm_server.proofs.PieceLemmas.{stream_length}
+use Rattle.mod_delivery.proofs.Lengths.{are_long}
 use Rattle.mod_delivery.proofs.Places.{there_at, length_mapped}
 use Rattle.mod_delivery.proofs.Seeing.{channel_is}
 

@@ -27,9 +27,10 @@ loop-k-preserved c =
     let many : length c.push.new.self.items ≡ k + 1 = ap length c.in-Ok.ensures.items ∙ length-append c.loop-k.jobs.items (c.in_ok-job.job ∷ []) ∙ omega (arith, size) in (
       (let len = c.in-Ok.ensures.len in let before = i.0 in omega (arith, len, before)),
       many,
-      c.in_ok-link.ensures.plan ∙ i.2,
+      c.in_ok-link.ensures.schedule ∙ i.2,
       each_more P c.loop-k.jobs.items c.push.new.self.items c.in_ok-job.job k size c.in-Ok.ensures.items i.3 job,
       each_more Q c.loop-k.jobs.items c.push.new.self.items c.in_ok-job.job k size c.in-Ok.ensures.items i.4 new,
+      c.in_ok-link.ensures.own,
     )
 
 pub returns-clause-feeds : goal.returns-clause-feeds

@@ -10,7 +10,8 @@ use Rattle.drm_air.proofs.air_command.feed_all.Given as goal
 -- each receiver so far has a link that brings its feed
 abbrev pub invariant-loop-k : goal.invariant-loop-k
 invariant-loop-k l =
-    (vec_len l.jobs ≡ l.k) × (length l.jobs.items ≡ l.k) × (l.server.plan ≡ l.plan)
+    (vec_len l.jobs ≡ l.k) × (length l.jobs.items ≡ l.k) × (l.server.base ≡ l.plan)
     × AreJobs (air_rules l.plan l.window) l.k l.jobs.items
     × ((k : ℕ) (none : Job LinkState) → k < l.k → (feed : List Delivery)
     → BringsFeed l.plan (slice_index_or l.script k feed) (slice_index_or l.jobs.items k none).link)
+    × (l.server.plan ≡ l.server.base)

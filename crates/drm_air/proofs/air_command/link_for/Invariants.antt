@@ -7,5 +7,5 @@ use Rattle.drm_air.proofs.air_command.link_for.Given as goal
 -- the datagrams of the deliveries before this one were brought
 abbrev pub invariant-loop-delivery : goal.invariant-loop-delivery
 invariant-loop-delivery l =
-    (datagrams : List (List ℕ)) × AreSent l.fn.server.plan (pairs_of (take l.delivery-index l.deliveries)) datagrams
-    × (l.link ≡ link_of datagrams) × (l.server.plan ≡ l.fn.server.plan)
+    (datagrams : List (List ℕ)) × AreSent l.fn.server.base (pairs_of (take l.delivery-index l.deliveries)) datagrams
+    × (l.link ≡ link_of datagrams) × (l.server.base ≡ l.fn.server.base) × (l.server.plan ≡ l.server.base)

@@ -1,8 +1,9 @@
-use Rattle.std.proofs.Common.{◌≡◌, ◌+◌, ◌%◌, ◌==◌, length, sum_by, ap, ◌∙◌, arith}
+use Rattle.std.proofs.Common.{◌≡◌, ◌+◌, ◌%◌, ◌==◌, length, sum_by, ap, sym, ◌∙◌, arith}
 use Rattle.drm_schedule.specs.declared.stream.Stream.{Stream}
 use Rattle.drm_schedule.specs.Sizes.{packet_len, stream_size}
 use Rattle.drm_timeline.proofs.PacketSizes.{size_is}
-use Rattle.drm_server.proofs.PayloadLemmas.{front, payload_is}
+use Rattle.live_streams.specs.Live.{size_from}
+use Rattle.drm_server.proofs.PayloadLemmas.{front, piece_is, payload_is}
 use Rattle.drm_server.proofs.payload.write_payload.Goals as goal
 
 pub returns-clause-written : goal.returns-clause-written
@@ -10,7 +11,7 @@ returns-clause-written c =
     let config = c.config_of_frame-config in
     let h = c.write_head.ensures.written in
     let b = c.write_block_where.ensures.written in
-    payload_is c.args.plan.now c.args.t config.result.now c.as_slice.result.now _ _ b.0 h.0 _ config.ensures.config c.as_slice.ensures h.1 h.2 b.1 b.2
+    payload_is c.args.live.now c.args.piece.now c.args.plan.now c.args.t config.result.now c.as_slice.result.now _ _ b.0 h.0 _ config.ensures.config c.as_slice.ensures h.1 h.2 b.1 b.2
     (front c.write_streams.new.writer c.total.result c.room-room.result c.total.ensures.all c.room-room.ensures ∙ c.write_streams.ensures.written)
 
 pub returns-clause-len : goal.returns-clause-len
@@ -33,3 +34,8 @@ write_streams-requires-clause-place c =
       order = c.write_block_where.ensures.to;
       room = omega (arith, len, streams, c.packet_len.ensures.small, c.packet_len.ensures.within, ap length c.new-writer.ensures.behind, c.told-into, c.write_head.ensures.left, c.write_block_where.ensures.left);
     }
+
+pub write_streams-requires-clause-piece : goal.write_streams-requires-clause-piece
+write_streams-requires-clause-piece c =
+    let config = c.config_of_frame-config in
+    c.requires.piece ∙ piece_is c.args.live.now c.args.plan.now c.args.t config.result.now config.ensures.config ∙ ap (size_from c.args.live.now 0) (sym c.as_slice.ensures)

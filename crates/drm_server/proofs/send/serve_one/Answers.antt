@@ -1,16 +1,15 @@
-use Rattle.std.proofs.Common.{◌≡◌, ◌+◌, ℕ, Bool, refl, sym, subst, true}
-use Rattle.drm_schedule.specs.declared.plan.Plan.{Plan}
-use Rattle.drm_links.specs.Told.{Known}
-use Rattle.drm_links.specs.Link.{Traffic}
+use Rattle.std.proofs.Common.{◌+◌, ℕ, Bool, refl, sym, subst}
 use Rattle.drm_links.specs.Transmission.{Transmits}
 use Rattle.drm_server.specs.OneFrame.{SentFrame, SendsPartOfFrame}
 use Rattle.drm_server.specs.Several.{ServedBy, SentFrames}
+use Rattle.drm_server.specs.Serving.{Serving}
+use Rattle.drm_server.proofs.SameFrame.{same_sent, same_part}
 use Rattle.drm_server.proofs.SeveralLemmas.{one_more_frame, cut_off}
 use Rattle.drm_server.proofs.send.serve_one.Goals as goal
 
 pub returns-in-Ok-clause-step : goal.returns-in-Ok-clause-step
-returns-in-Ok-clause-step g c = λ first start within at before.
-    let plan : Plan = c.args.server.now.plan in
+returns-in-Ok-clause-step g c = λ plan first start has within at before.
+    let server : Serving = c.args.server.now in
     let pace = c.args.pace in
     let n = c.args.n in
     let sent = c.in-Ok.field-0 in
@@ -25,11 +24,11 @@ returns-in-Ok-clause-step g c = λ first start within at before.
     let s = c.in-Ok.ensures in
     subst Q (sym c.if-member.true)
     (one_more_frame plan first pace n start b m a so_far (record { none = r.none; waits = r.waits; counted = r.rests; calls = r.calls; same = r.cause }) sent
-    (record { whole = subst F at s.whole; waited = s.waits; some = s.some; counted = s.counted; later = s.cause.later; calls = s.calls }))
+    (record { whole = subst F at (same_sent server plan has sent m a s.whole); waited = s.waits; some = s.some; counted = s.counted; later = s.cause.later; calls = s.calls }))
 
 pub returns-in-Err-clause-step : goal.returns-in-Err-clause-step
-returns-in-Err-clause-step g c = λ first start within at before.
-    let plan : Plan = c.args.server.now.plan in
+returns-in-Err-clause-step g c = λ plan first start has within at before.
+    let server : Serving = c.args.server.now in
     let pace = c.args.pace in
     let n = c.args.n in
     let b = g.L.Link.known c.args.member.now.link in
@@ -40,4 +39,4 @@ returns-in-Err-clause-step g c = λ first start within at before.
     let F : ℕ → Type 0 = λ f. Transmits m a (SendsPartOfFrame plan f) in
     let r = c.rest_between.ensures in
     cut_off plan first pace n start b m a so_far (record { none = r.none; waits = r.waits; counted = r.rests; calls = r.calls; same = r.cause }) within
-    (subst F at c.in-Err.ensures.part) (c.in-Err.ensures.cause.rose refl) c.in-Err.ensures.calls
+    (subst F at (same_part server plan has m a c.in-Err.ensures.part)) (c.in-Err.ensures.cause.rose refl) c.in-Err.ensures.calls

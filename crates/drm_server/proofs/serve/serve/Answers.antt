@@ -1,4 +1,4 @@
-use Rattle.std.proofs.Common.{◌≡◌, ◌≤◌, ◌∙◌, ◌+◌, ◌-◌, ℕ, List, ◌++◌, length, take, ap, subst, arith, length-append}
+use Rattle.std.proofs.Common.{◌≡◌, ◌≤◌, ◌∙◌, ◌+◌, ◌-◌, ℕ, List, ◌++◌, length, take, ap, sym, subst, arith, length-append}
 use Rattle.std.proofs.lemmas.Result.{err_from_is_err_and}
 use Rattle.drm_schedule.specs.declared.plan.Plan.{Plan}
 use Rattle.dcp_pft.specs.Limits.{most_packet}
@@ -15,7 +15,7 @@ use Rattle.drm_server.proofs.serve.serve.Goals as goal
 pub returns-in_err-waiting-clause-front : goal.returns-in_err-waiting-clause-front
 returns-in_err-waiting-clause-front g c =
     let i = c.loop-n.invariant in
-    let plan : Plan = c.args.loaded.now.plan in
+    let plan : Plan = c.args.loaded.now.base in
     let waits : List ℕ = take c.loop-n.waiting c.loop-n.room in
     let p = err_from_is_err_and c.from_residual.result c.from_residual.ensures.1 in
     let P : Serving → Type 0 = λ s. Outputs (g.O.Sink.known c.loop-n.out) (g.O.Sink.known c.gather_frame.new.out) (IsFrontOfFrame s.plan s.frame waits) in
@@ -26,7 +26,7 @@ returns-in_err-waiting-clause-front g c =
 pub loop-n-preserved : goal.loop-n-preserved
 loop-n-preserved g c =
     let i = c.loop-n.invariant in
-    let plan : Plan = c.args.loaded.now.plan in
+    let plan : Plan = c.args.loaded.now.base in
     let first : ℕ = c.args.first in
     let n : ℕ = c.loop-n.n in
     let t : ℕ = first + n in
@@ -43,18 +43,19 @@ loop-n-preserved g c =
       next_frame plan first n i.0 w.0 i.1 w.1,
       gathers_frame i.0 w.0 then_waits waits (g.O.Sink.known c.args.out.now) (g.O.Sink.known c.loop-n.out) (g.O.Sink.known c.gather_frame.new.out) i.2 w.2,
       (λ some. one_or_more plan first n w.1.0 (omega (arith, c.loop-n-test.true, c.saturating_sub-n-end.ensures, c.frames.ensures.frames)) (omega (arith, count, c.fragments.ensures.some)) i.0 w.0 i.1 w.1.2),
-      subst (λ (p : Plan). c.in_ok-waiting.waiting + most_packet p.carry ≤ length c.gather_frame.new.room) (ap (λ (s : Serving). s.plan) c.load.ensures ∙ i.7) c.in_ok-waiting.ensures.left,
+      subst (λ (s : Serving). c.in_ok-waiting.waiting + most_packet s.plan.carry ≤ length c.gather_frame.new.room) loaded c.in_ok-waiting.ensures.left,
       c.gather_frame.ensures.long ∙ i.5,
       omega (arith, i.6, c.gather_frame.ensures.cause.later),
-      ap (λ (s : Serving). s.plan) c.load.ensures ∙ i.7,
+      ap (λ (s : Serving). s.base) loaded,
       omega (arith, i.8, size, long, c.from-written.ensures),
       omega (arith, i.9, c.from-written.ensures, c.fragments.ensures.few),
+      ap (λ (s : Serving). s.plan.carry) loaded ∙ sym (ap (λ (s : Serving). s.base.carry) loaded),
     )
 
 pub returns-in_err-write_all-clause-front : goal.returns-in_err-write_all-clause-front
 returns-in_err-write_all-clause-front g c =
     let i = c.loop-n.invariant in
-    let plan : Plan = c.args.loaded.now.plan in
+    let plan : Plan = c.args.loaded.now.base in
     let all : c.loop-n.n ≡ frame_count plan - c.args.first = omega (arith, c.loop-n-test.false, c.loop-n.auto.n-end, c.saturating_sub-n-end.ensures, c.frames.ensures.frames) in
     let p = err_from_is_err_and c.from_residual-in_err-write_all.result c.from_residual-in_err-write_all.ensures.1 in
     let some = i.3 (omega arith) in
@@ -64,7 +65,7 @@ returns-in_err-write_all-clause-front g c =
 pub returns-clause-whole : goal.returns-clause-whole
 returns-clause-whole g c =
     let i = c.loop-n.invariant in
-    let plan : Plan = c.args.loaded.now.plan in
+    let plan : Plan = c.args.loaded.now.base in
     let all : c.loop-n.n ≡ frame_count plan - c.args.first = omega (arith, c.loop-n-test.false, c.loop-n.auto.n-end, c.saturating_sub-n-end.ensures, c.frames.ensures.frames) in
     all_written plan c.args.first i.0 (take c.loop-n.waiting c.loop-n.room) (g.O.Sink.known c.args.out.now) (g.O.Sink.known c.loop-n.out) (g.O.Sink.known c.write_all.new.out)
     (subst (λ k. AreOfFrames plan c.args.first k i.0) all i.1) i.2 c.in_ok-write_all.ensures.whole
@@ -72,6 +73,6 @@ returns-clause-whole g c =
 pub returns-clause-count : goal.returns-clause-count
 returns-clause-count g c =
     let i = c.loop-n.invariant in
-    let plan : Plan = c.args.loaded.now.plan in
+    let plan : Plan = c.args.loaded.now.base in
     let all : c.loop-n.n ≡ frame_count plan - c.args.first = omega (arith, c.loop-n-test.false, c.loop-n.auto.n-end, c.saturating_sub-n-end.ensures, c.frames.ensures.frames) in
     (i.0, subst (λ k. AreOfFrames plan c.args.first k i.0) all i.1, i.8)

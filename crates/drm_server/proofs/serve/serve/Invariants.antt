@@ -9,12 +9,13 @@ use Rattle.drm_server.proofs.serve.serve.Given as goal
 -- the datagrams of the frames before this one were written, or wait
 abbrev pub invariant-loop-n : goal.invariant-loop-n
 invariant-loop-n g l =
-    (datagrams : List (List ℕ)) × AreOfFrames l.fn.loaded.plan l.fn.first l.n datagrams
+    (datagrams : List (List ℕ)) × AreOfFrames l.fn.loaded.base l.fn.first l.n datagrams
     × Gathers [] (concat datagrams) (take l.waiting l.room) (g.O.Sink.known l.fn.out) (g.O.Sink.known l.out)
-    × (0 < l.waiting → IsFrontOfCapture l.fn.loaded.plan l.fn.first (concat datagrams))
-    × (l.waiting + most_packet l.fn.loaded.plan.carry ≤ length l.room)
+    × (0 < l.waiting → IsFrontOfCapture l.fn.loaded.base l.fn.first (concat datagrams))
+    × (l.waiting + most_packet l.fn.loaded.base.carry ≤ length l.room)
     × (length l.room ≡ length l.fn.room)
     × ((g.O.Sink.known l.fn.out).faults ≤ (g.O.Sink.known l.out).faults)
-    × (l.loaded.plan ≡ l.fn.loaded.plan)
+    × (l.loaded.base ≡ l.fn.loaded.base)
     × (l.written ≡ length datagrams)
     × (l.written ≤ most_fragments * l.n)
+    × (l.loaded.plan.carry ≡ l.loaded.base.carry)

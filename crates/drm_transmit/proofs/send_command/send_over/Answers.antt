@@ -29,7 +29,7 @@ returns-in_err-server-clause-run g c =
 pub returns-then-all_up-clause-run : goal.returns-then-all_up-clause-run
 returns-then-all_up-clause-run g c =
     let plan : Plan = c.in_ok-schedule.schedule in
-    let same : c.in_ok-server.server.plan ≡ plan = ap (λ (s : Serving). s.plan) c.in_ok-server.ensures in
+    let same : c.in_ok-server.server.base ≡ plan = ap (λ (s : Serving). s.base) c.in_ok-server.ensures in
     let valid : IsSchedule plan = rw (← c.schedule.view_is) c.schedule.invariant in
     let members = c.args.members.now in
     let after = c.serve_links.new.members in
@@ -41,7 +41,7 @@ returns-then-all_up-clause-run g c =
 pub returns-clause-run : goal.returns-clause-run
 returns-clause-run g c =
     let plan : Plan = c.in_ok-schedule.schedule in
-    let same : c.in_ok-server.server.plan ≡ plan = ap (λ (s : Serving). s.plan) c.in_ok-server.ensures in
+    let same : c.in_ok-server.server.base ≡ plan = ap (λ (s : Serving). s.base) c.in_ok-server.ensures in
     let valid : IsSchedule plan = rw (← c.schedule.view_is) c.schedule.invariant in
     let members = c.args.members.now in
     let after = c.serve_links.new.members in

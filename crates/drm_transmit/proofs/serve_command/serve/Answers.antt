@@ -20,7 +20,7 @@ returns-in_err-server-clause-run g c =
 
 pub returns-clause-run : goal.returns-clause-run
 returns-clause-run g c =
-    let same : c.in_ok-server.server.plan ≡ c.in_ok-schedule.schedule = ap (λ (s : Serving). s.plan) c.in_ok-server.ensures in
+    let same : c.in_ok-server.server.base ≡ c.in_ok-schedule.schedule = ap (λ (s : Serving). s.base) c.in_ok-server.ensures in
     let whole : Outputs (g.O.Sink.known c.args.out.now) (g.O.Sink.known c.serve_sink.new.out) (IsCapture c.in_ok-schedule.schedule (3 * c.args.from)) =
     subst (λ (plan : Plan). Outputs (g.O.Sink.known c.args.out.now) (g.O.Sink.known c.serve_sink.new.out) (IsCapture plan (3 * c.args.from))) same c.in_ok-serve_sink.ensures.whole in
     whole_run (schedule_named c.args.name.now) IsSchedule (λ (plan : Plan). IsCapture plan (3 * c.args.from)) (λ (plan : Plan). IsFrontOfCapture plan (3 * c.args.from)) g.S.Shelf.known c.args.shelf.now c.read_schedule.new.shelf g.O.Sink.known c.in_ok-schedule.schedule
@@ -29,7 +29,7 @@ returns-clause-run g c =
 pub returns-in_err-serve_sink-clause-run : goal.returns-in_err-serve_sink-clause-run
 returns-in_err-serve_sink-clause-run g c =
     let p = err_from_is_err_and c.from_residual-in_err-serve_sink.result c.from_residual-in_err-serve_sink.ensures.1 in
-    let same : c.in_ok-server.server.plan ≡ c.in_ok-schedule.schedule = ap (λ (s : Serving). s.plan) c.in_ok-server.ensures in
+    let same : c.in_ok-server.server.base ≡ c.in_ok-schedule.schedule = ap (λ (s : Serving). s.base) c.in_ok-server.ensures in
     let front : Outputs (g.O.Sink.known c.args.out.now) (g.O.Sink.known c.serve_sink.new.out) (IsFrontOfCapture c.in_ok-schedule.schedule (3 * c.args.from)) =
     subst (λ (plan : Plan). Outputs (g.O.Sink.known c.args.out.now) (g.O.Sink.known c.serve_sink.new.out) (IsFrontOfCapture plan (3 * c.args.from))) same c.in_err-serve_sink.ensures.front in
     rw (p.1 ∙ ap Err p.2)

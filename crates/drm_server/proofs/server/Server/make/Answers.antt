@@ -8,8 +8,10 @@ use Rattle.drm_server.proofs.server.Server.make.Goals as goal
 pub invariant_of-result : goal.invariant_of-result
 invariant_of-result c =
     let plan : c.in_ok-loaded.loaded.plan ≡ c.args.plan.now = ap (λ (s : Serving). s.plan) c.in_ok-loaded.ensures in
+    let base : c.in_ok-loaded.loaded.base ≡ c.args.plan.now = ap (λ (s : Serving). s.base) c.in_ok-loaded.ensures in
     let limit : c.most_packet.result ≡ most_packet c.in_ok-loaded.loaded.plan.carry =
     c.most_packet.ensures.is ∙ ap most_packet (c.carry.ensures ∙ sym (ap (λ (p : Plan). p.carry) plan)) in (
+      ap (λ (p : Plan). p.carry) (plan ∙ sym base),
       omega (arith, limit, c.in_ok-datagram.ensures.length),
       omega (arith, (limit_is c.in_ok-loaded.loaded.plan.carry).1, c.in_ok-waiting.ensures.length),
     )

@@ -1,0 +1,89 @@
+-- What is sent or written of a frame that a server has loaded is that of the frame of each schedule that has it.
+use Rattle.std.proofs.Common.{◌≡◌, ◌+◌, ◌%◌, ◌^◌, ◌<◌, ℕ, zero, suc, List, length, Some, None, refl, ap, sym, ◌∙◌, subst}
+use Rattle.drm_links.specs.Told.{Known}
+use Rattle.drm_links.specs.Link.{Traffic}
+use Rattle.drm_links.specs.Sink.{Output, Outputs}
+use Rattle.drm_links.specs.Transmission.{Transmits}
+use Rattle.drm_links.proofs.ToldLemmas.{Outputs-weaker}
+use Rattle.drm_links.proofs.TransmissionLemmas.{Transmits-weaker}
+use Rattle.drm_schedule.specs.declared.live.Live.{Live}
+use Rattle.drm_schedule.specs.declared.plan.Plan.{Plan}
+use Rattle.drm_schedule.specs.Valid.{IsSchedule}
+use Rattle.dcp_pft.specs.declared.carry.Carry.{Carry}
+use Rattle.dcp_pft.specs.Carrying.{datagram_count, Carries}
+use Rattle.drm_timeline.specs.Numbers.{frame_count, sequence_number}
+use Rattle.live_streams.specs.Live.{Given, AreWhole, piece_at, live_schedule}
+use Rattle.live_streams.proofs.FrameLemmas.{same_carry, same_seq}
+use Rattle.drm_server.specs.Datagrams.{HasDatagrams, IsDatagramAt, AreFirst, AreOfFrame}
+use Rattle.drm_server.specs.OneFrame.{SentFrame, SendsPartOfFrame}
+use Rattle.drm_server.specs.Gathering.{WroteFrame, IsFrontOfFrame}
+use Rattle.drm_server.specs.Serving.{Serving, HasFrame, only_at}
+use Rattle.drm_server.proofs.LiveLemmas.{only_here, only_whole, same_frame, plain_frame, empty_frame}
+
+-- the frame of the schedule itself
+pub own_frame : (server : Serving) (plan : Plan) → server.plan ≡ plan → HasFrame server plan
+own_frame server plan same = subst (HasFrame server) same (record { carry = refl; seq = refl; packet = λ packet is. is })
+
+-- the frame of a schedule whose live streams have what came for each frame, where this piece came for the one that is loaded
+module _ (live : Live) (given : Given) (base : Plan) (t : ℕ) (valid : IsSchedule base) (whole : AreWhole live given base) (within : t < frame_count base) where
+  pub live_has : (piece : List ℕ) → given t ≡ Some piece → HasFrame (record { base = base; plan = live_schedule live (only_at t piece) base; frame = t }) (live_schedule live given base)
+  live_has piece came = record {
+    carry = same_carry live given base ∙ sym (same_carry live (only_at t piece) base);
+    seq = same_seq live given base ∙ sym (same_seq live (only_at t piece) base);
+    packet = same_frame live (only_at t piece) given base t valid (only_whole live base t piece (whole t piece came)) whole within (only_here t piece ∙ sym came);
+  }
+
+  -- where none came for it
+  pub plain_has : given t ≡ None → HasFrame (record { base = base; plan = base; frame = t }) (live_schedule live given base)
+  plain_has nothing = record { carry = same_carry live given base; seq = same_seq live given base; packet = plain_frame live given base t valid whole within nothing }
+
+  -- and where it has no bytes to be given, whatever came
+  pub empty_has : piece_at live base t ≡ 0 → HasFrame (record { base = base; plan = base; frame = t }) (live_schedule live given base)
+  empty_has empty = record { carry = same_carry live given base; seq = same_seq live given base; packet = empty_frame live given base t valid whole within empty }
+
+module _ (server : Serving) (plan : Plan) (has : HasFrame server plan) where
+  abbrev t : ℕ
+  t = server.frame
+
+  pub same_count : (count : ℕ) → HasDatagrams server.plan t count → HasDatagrams plan t count
+  same_count count h = record {
+    packet = h.packet;
+    is_packet = has.packet h.packet h.is_packet;
+    is = h.is ∙ ap (λ (c : Carry). datagram_count c (length h.packet)) (sym has.carry);
+  }
+
+  pub same_datagram : (i : ℕ) (datagram : List ℕ) → IsDatagramAt server.plan t i datagram → IsDatagramAt plan t i datagram
+  same_datagram i datagram d =
+      let number : sequence_number server.plan t ≡ sequence_number plan t = ap (λ (n : ℕ). (n + t) % 2 ^ 16) (sym has.seq) in
+      record {
+        packet = d.packet;
+        is_packet = has.packet d.packet d.is_packet;
+        within = subst (λ (c : Carry). i < datagram_count c (length d.packet)) (sym has.carry) d.within;
+        is = subst (λ (n : ℕ). Carries plan.carry n d.packet i datagram) number
+            (subst (λ (c : Carry). Carries c (sequence_number server.plan t) d.packet i datagram) (sym has.carry) d.is);
+      }
+
+  pub same_first : (i : ℕ) (datagrams : List (List ℕ)) → AreFirst server.plan t i datagrams → AreFirst plan t i datagrams
+  same_first zero datagrams none = none
+  same_first (suc i) datagrams (before, datagram, are, is, all) = (before, datagram, same_first i before are, same_datagram i datagram is, all)
+
+  pub same_of_frame : (datagrams : List (List ℕ)) → AreOfFrame server.plan t datagrams → AreOfFrame plan t datagrams
+  same_of_frame datagrams (count, counted, are) = (count, same_count count counted, same_first count datagrams are)
+
+  -- sent
+  pub same_sent : (n : ℕ) (before after : Known Traffic) → SentFrame server.plan t n before after → SentFrame plan t n before after
+  same_sent n before after (datagrams, are, size, sent) = (datagrams, same_of_frame datagrams are, size, sent)
+
+  pub same_part : (before after : Known Traffic) → Transmits before after (SendsPartOfFrame server.plan t) → Transmits before after (SendsPartOfFrame plan t)
+  same_part before after sent =
+      Transmits-weaker (SendsPartOfFrame server.plan t) (SendsPartOfFrame plan t) before after sent
+      (λ x y (i, next, datagrams, stand, none, waits). (i, next, datagrams, (same_datagram i next stand.0, same_first i datagrams stand.1), none, waits))
+
+  -- and written
+  pub same_written : (n : ℕ) (before after : Known Output) → WroteFrame server.plan t n before after → WroteFrame plan t n before after
+  same_written n before after (datagrams, are, size, written) = (datagrams, same_of_frame datagrams are, size, written)
+
+  pub same_front : (waited : List ℕ) (before after : Known Output) → Outputs before after (IsFrontOfFrame server.plan t waited) → Outputs before after (IsFrontOfFrame plan t waited)
+  same_front waited before after written =
+      Outputs-weaker (IsFrontOfFrame server.plan t waited) (IsFrontOfFrame plan t waited) before after written
+      (λ text (i, datagrams, are, front). (i, datagrams, same_first (suc i) datagrams are, front))
