@@ -1,4 +1,3 @@
 pub mod Files
-pub mod Filling
 pub mod Written
 pub mod Runs

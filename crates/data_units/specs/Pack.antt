@@ -8,7 +8,8 @@ use Rattle.drm_faults.specs.declared.units.UnitsFault.{UnitsFault}
 use Rattle.drm_faults.specs.declared.fault.Fault.{Fault}
 use Rattle.drm_faults.specs.declared.fault.Fault.TheVariants as faults
 use Rattle.data_units.specs.Units.{ComesTo}
-use Rattle.data_units.specs.Input.{ReadsFile, FailsBehind}
+use Rattle.data_units.specs.Input.{ReadsFile}
+use Rattle.input_front.specs.Input.{FailsBehind}
 use Rattle.data_units.specs.Packed.{ArePacked}
 
 -- what comes of the bytes that were read

@@ -1,7 +1,6 @@
 //! The command `pack`: the units of an input become packets.
 #![tactic(auto)]
 
-mod input;
 mod pack_command;
 mod packing;
 mod units;

@@ -4,12 +4,12 @@ ghost use Rattle.std.specs.Prelude.{◌≡◌, ◌<◌, ◌≤◌, Err, IfOk, le
 ghost use Rattle.drm_links.specs.Told.{HasCause};
 ghost use Rattle.data_units.specs.Pack.{Ends, PackRun, Judges};
 
-use crate::input::read_front;
 use crate::packing::write_packets;
 use crate::units::judge;
 use drm_bits::{NoMemory, zeros};
 use drm_faults::{Fault, UnitsFault, UnitsReason};
 use drm_links::{Sink, Source};
+use input_front::read_front;
 use std::alloc::Global;
 
 /// The most bytes of an input.

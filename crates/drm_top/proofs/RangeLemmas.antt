@@ -1,6 +1,7 @@
 -- The numbers of a command that was read are in their ranges.
 use Rattle.std.proofs.Common.{◌≡◌, ◌≤◌, ℕ, List, [], ◌∷◌, Option, None, Some, IfSome, IfOk, IsUtf8, Result, Ok, Err, sym, subst, arith}
 use Rattle.drm_links.specs.declared.dock.Address.{Address}
+use Rattle.drm_schedule.specs.declared.live.Live.{Live}
 use Rattle.drm_words.specs.declared.request.Request.{Request}
 use Rattle.drm_words.specs.declared.request.Request.TheVariants as requests
 use Rattle.drm_words.specs.Table.{Options, IsNumberOr, IsNumberOrNone, IsStretch, IsReading, AreAddressesOrNone, AreAddressesIfTold, HasTextNames}
@@ -65,8 +66,8 @@ different : (value : Option (List ℕ)) (to : List Address) → AreAddressesIfTo
 different None to none = subst AreDifferent (sym none) tt
 different (Some text) to are = are.different
 
-serves : (words : List (List ℕ)) (name : List ℕ) (to : List Address) (pace from : ℕ) → IsLine words (requests.Serve name to pace from) → (from ≤ 1000000) × AreDifferent to
-serves words name to pace from line = ((within 0 0 1000000 from _ (omega arith) (omega arith) line.asks.5).1, different _ to line.asks.3)
+serves : (words : List (List ℕ)) (name : List ℕ) (to : List Address) (pace from : ℕ) (live : Live) → IsLine words (requests.Serve name to pace from live) → (from ≤ 1000000) × AreDifferent to
+serves words name to pace from live line = ((within 0 0 1000000 from _ (omega arith) (omega arith) line.asks.5).1, different _ to line.asks.3)
 
 airs : (words : List (List ℕ)) (name script : List ℕ) (window : ℕ) → IsLine words (request_of (Air name script window)) → (1 ≤ window) × (window ≤ 64)
 airs words name script window line = within 8 1 64 window _ (omega arith) (omega arith) line.asks.3
@@ -114,8 +115,8 @@ tells_texts words stream window first frames line = (let few = line.asks.3.2 in 
 pub in_range : (came : Command) (request : Request) (words : List (List ℕ)) → request ≡ request_of came → IsLine words request → HasTextNames request → IsInRange came
 in_range Fac request words asks line text = tt
 in_range (Check name) request words asks line text = subst HasTextNames asks text
-in_range (Serve name to pace from) request words asks line text =
-    let range = serves words name to pace from (subst (λ r. IsLine words r) asks line) in
+in_range (Serve name to pace from live) request words asks line text =
+    let range = serves words name to pace from live (subst (λ r. IsLine words r) asks line) in
     (subst HasTextNames asks text, range.0, range.1)
 in_range (Receive addresses rules) request words asks line text =
     let named : IsLine words (reading_of (Some addresses) rules) = subst (λ r. IsLine words r) asks line in

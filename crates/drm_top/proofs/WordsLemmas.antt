@@ -13,7 +13,7 @@ use Rattle.drm_top.specs.Words.{request_of, AsksFor}
 abbrev command_by : Request → Command
 command_by requests.Fac = Fac
 command_by (requests.Check name) = Check name
-command_by (requests.Serve name to pace from) = Serve name to pace from
+command_by (requests.Serve name to pace from live) = Serve name to pace from live
 command_by (requests.Receive (Some addresses) window first frames idle limit) =
     Receive addresses (record { window = window; first = first; frames = frames; idle = idle; limit = limit })
 command_by (requests.Receive None window first frames idle limit) =
@@ -31,7 +31,7 @@ command_by (requests.Texts stream window first frames) = Texts stream window fir
 same_command : (a : Command) → command_by (request_of a) ≡ a
 same_command Fac = refl
 same_command (Check name) = refl
-same_command (Serve name to pace from) = refl
+same_command (Serve name to pace from live) = refl
 same_command (Receive addresses rules) = refl
 same_command (ReceiveCapture rules) = refl
 same_command (Air name script window) = refl

@@ -1,15 +1,20 @@
 -- The runs of the commands.
-use Rattle.std.specs.Prelude.{ℕ, ◌≡◌, ◌⊎◌, Bool, true, [], ◌∷◌, Result, Err}
+use Rattle.std.specs.Prelude.{ℕ, ◌≡◌, ◌⊎◌, Bool, true, false, IsTrue, List, [], ◌∷◌, Result, Err}
 use Rattle.drm_links.specs.Told.{Known}
 use Rattle.drm_links.specs.Shelf.{Files}
 use Rattle.drm_links.specs.Source.{Input}
 use Rattle.drm_links.specs.Sink.{Output}
 use Rattle.drm_links.specs.Dock.{DockContents}
+use Rattle.drm_links.specs.declared.dock.Address.{Address}
 use Rattle.drm_inspect.specs.Fac.{FacRun}
 use Rattle.drm_inspect.specs.Show.{ShowRun}
 use Rattle.drm_transmit.specs.Check.{CheckRun}
 use Rattle.drm_transmit.specs.Serve.{ServeRun}
 use Rattle.drm_transmit.specs.Send.{SendRun}
+use Rattle.drm_transmit.specs.Live.{LiveServeRun, LiveSendRun}
+use Rattle.drm_load.specs.Schedule.{schedule_named}
+use Rattle.drm_schedule.specs.declared.live.Live.{Live}
+use Rattle.drm_schedule.specs.Live.{is_any}
 use Rattle.drm_receive.specs.Receive.{ReceiveRun}
 use Rattle.drm_receive.specs.Capture.{CaptureRun}
 use Rattle.drm_air.specs.Air.{AirRun}
@@ -33,6 +38,22 @@ Whole ending P = (done : Result (Unit {0}) Fault) × (ending ≡ whole_of done) 
 abbrev pub IsQuiet : {E : Type 0} → Bool → E → E → Type 0
 IsQuiet told err err' = (told ≡ true) × (err' ≡ err)
 
+-- A run of `serve` to out: where no stream is live input is left alone, and else the live ones take their bytes from it.
+abbrev pub ServesOut : {S I O : Type 0} → Bool → List ℕ → ℕ → Live → Result Bool Fault
+    → (S → Known Files) → S → S → (I → Known Input) → I → I → (O → Known Output) → O → O → Type 0
+ServesOut false name from live ending shelf_known shelf shelf' input_known input input' out_known out out' =
+    Whole ending (λ done. ServeRun name from done shelf_known shelf shelf' out_known out out') × (input' ≡ input)
+ServesOut true name from live ending shelf_known shelf shelf' input_known input input' out_known out out' =
+    LiveServeRun name from live ending shelf_known shelf shelf' input_known input input' out_known out out'
+
+-- and over links
+abbrev pub ServesOver : {S I D : Type 0} → Bool → List ℕ → List Address → ℕ → ℕ → Live → Result Bool Fault
+    → (S → Known Files) → S → S → (I → Known Input) → I → I → (D → Known DockContents) → D → D → Type 0
+ServesOver false name addresses pace from live ending shelf_known shelf shelf' input_known input input' dock_known dock dock' =
+    Whole ending (λ done. SendRun (schedule_named name) addresses pace from done shelf_known shelf shelf' dock_known dock dock') × (input' ≡ input)
+ServesOver true name addresses pace from live ending shelf_known shelf shelf' input_known input input' dock_known dock dock' =
+    LiveSendRun name addresses pace from live ending shelf_known shelf shelf' input_known input input' dock_known dock dock'
+
 -- A run of this command with this ending: what it doesn't use stays as it is. Where `told` doesn't hold, err failed.
 abbrev pub CommandRun : {S I O E D : Type 0} → Command → Result Bool Fault → Bool
     → (S → Known Files) → S → S → (I → Known Input) → I → I → (O → Known Output) → O → O → (E → Known Output) → E → E → (D → Known DockContents) → D → D → Type 0
@@ -40,10 +61,10 @@ CommandRun Fac ending told shelf_known shelf shelf' input_known input input' out
     Whole ending (λ done. FacRun done input_known input input' out_known out out') × (shelf' ≡ shelf) × (dock' ≡ dock) × IsQuiet told err err'
 CommandRun (Check name) ending told shelf_known shelf shelf' input_known input input' out_known out out' err_known err err' dock_known dock dock' =
     Whole ending (λ done. CheckRun name done shelf_known shelf shelf' out_known out out') × (input' ≡ input) × (dock' ≡ dock) × IsQuiet told err err'
-CommandRun (Serve name [] pace from) ending told shelf_known shelf shelf' input_known input input' out_known out out' err_known err err' dock_known dock dock' =
-    Whole ending (λ done. ServeRun name from done shelf_known shelf shelf' out_known out out') × (input' ≡ input) × (dock' ≡ dock) × IsQuiet told err err'
-CommandRun (Serve name (at ∷ others) pace from) ending told shelf_known shelf shelf' input_known input input' out_known out out' err_known err err' dock_known dock dock' =
-    Whole ending (λ done. SendRun name (at ∷ others) pace from done shelf_known shelf shelf' dock_known dock dock') × (input' ≡ input) × (out' ≡ out) × IsQuiet told err err'
+CommandRun (Serve name [] pace from live) ending told shelf_known shelf shelf' input_known input input' out_known out out' err_known err err' dock_known dock dock' =
+    ServesOut (is_any live) name from live ending shelf_known shelf shelf' input_known input input' out_known out out' × (dock' ≡ dock) × IsQuiet told err err'
+CommandRun (Serve name (at ∷ others) pace from live) ending told shelf_known shelf shelf' input_known input input' out_known out out' err_known err err' dock_known dock dock' =
+    ServesOver (is_any live) name (at ∷ others) pace from live ending shelf_known shelf shelf' input_known input input' dock_known dock dock' × (out' ≡ out) × IsQuiet told err err'
 CommandRun (Receive addresses rules) ending told shelf_known shelf shelf' input_known input input' out_known out out' err_known err err' dock_known dock dock' =
     ReceiveRun rules addresses ending dock_known dock dock' out_known out out' × (shelf' ≡ shelf) × (input' ≡ input) × IsQuiet told err err'
 CommandRun (ReceiveCapture rules) ending told shelf_known shelf shelf' input_known input input' out_known out out' err_known err err' dock_known dock dock' =
@@ -86,8 +107,8 @@ Ends ending told code known err err' = (code ≡ report_status ending) × Report
 abbrev pub OpensALink : Command → Type 0
 OpensALink Fac = ⊥
 OpensALink (Check name) = ⊥
-OpensALink (Serve name [] pace from) = ⊥
-OpensALink (Serve name (at ∷ others) pace from) = Unit {0}
+OpensALink (Serve name [] pace from live) = ⊥
+OpensALink (Serve name (at ∷ others) pace from live) = Unit {0}
 OpensALink (Receive addresses rules) = Unit {0}
 OpensALink (ReceiveCapture rules) = ⊥
 OpensALink (Air name script window) = ⊥
@@ -99,11 +120,11 @@ OpensALink (Pack pid length) = ⊥
 OpensALink (Unpack stream pid length window first frames) = ⊥
 OpensALink (Texts stream window first frames) = ⊥
 
--- a command that tells of frames or packets, some of which may be missing or bad
+-- a command that tells of frames or packets, some of which may be missing or bad, or sends frames that may lack bytes of input
 abbrev pub WritesReport : Command → Type 0
 WritesReport Fac = ⊥
 WritesReport (Check name) = ⊥
-WritesReport (Serve name to pace from) = ⊥
+WritesReport (Serve name to pace from live) = IsTrue (is_any live)
 WritesReport (Receive addresses rules) = Unit {0}
 WritesReport (ReceiveCapture rules) = Unit {0}
 WritesReport (Air name script window) = Unit {0}

@@ -14,7 +14,7 @@ use Rattle.drm_top.specs.declared.words.Command.TheVariants.{Fac, Check, Serve, 
 abbrev pub request_of : Command → Request
 request_of Fac = requests.Fac
 request_of (Check name) = requests.Check name
-request_of (Serve name to pace from) = requests.Serve name to pace from
+request_of (Serve name to pace from live) = requests.Serve name to pace from live
 request_of (Receive addresses rules) = requests.Receive (Some addresses) rules.window rules.first rules.frames rules.idle rules.limit
 request_of (ReceiveCapture rules) = requests.Receive None rules.window rules.first rules.frames rules.idle rules.limit
 request_of (Air name script window) = requests.Air name script window
@@ -42,7 +42,7 @@ IsInStretch window frames = (1 ≤ window) × (window ≤ 64) × IfSome frames (
 abbrev pub IsInRange : Command → Type 0
 IsInRange Fac = Unit {0}
 IsInRange (Check name) = IsUtf8 name
-IsInRange (Serve name to pace from) = IsUtf8 name × (from ≤ 1000000) × AreDifferent to
+IsInRange (Serve name to pace from live) = IsUtf8 name × (from ≤ 1000000) × AreDifferent to
 IsInRange (Receive addresses rules) = AreInRange rules × AreListed addresses
 IsInRange (ReceiveCapture rules) = AreInRange rules
 IsInRange (Air name script window) = IsUtf8 name × IsUtf8 script × (1 ≤ window) × (window ≤ 64)

@@ -19,7 +19,7 @@ use drm_faults::Fault;
 use drm_inspect::{fac, show};
 use drm_links::{Dock, Link, Shelf, Sink, Source, Status};
 use drm_receive::{receive, receive_from_capture};
-use drm_transmit::{check, send, serve};
+use drm_transmit::{check, send, send_live, serve, serve_live};
 use drm_words::WordsFault;
 use gate_command::gate;
 use std::alloc::Global;
@@ -29,7 +29,7 @@ use std::thread::Threads;
 ///
 /// `fac` reads the nine bytes of a FAC from `input` and writes its line to `out`. `check` reads a schedule and its files
 /// from `shelf` and writes its canonical text to `out`; `serve` reads them too and writes the datagrams of the schedule to
-/// `out` as a capture, or sends them over links that it opens in `dock`. `receive` opens links in `dock`, or reads a capture
+/// `out` as a capture, or sends them over links that it opens in `dock`; its live streams take their bytes from `input`. `receive` opens links in `dock`, or reads a capture
 /// from `input`, and writes their reports to `out`: that of one link or of a capture as it is read, those of several links,
 /// which are read side by side, when all have ended. `air` does the same in memory with a schedule and a script from
 /// `shelf`, `exercise` with those that it makes itself; their reports come at the end. `gate` opens links in `dock`, and
@@ -38,7 +38,7 @@ use std::thread::Threads;
 ///
 /// The statuses are 0 done, 1 no memory, 2 no command line, 3 no FAC, no schedule, no script, no capture or no units, 4 a read
 /// of `input` or a load from `shelf` failed, 5 a write to `out` failed, 6 a link couldn't be opened or failed, 7 done, and
-/// something is missing or bad; each from 1 to 6 writes a line to `err`.
+/// something is missing or bad, or `input` had too few bytes for live streams; each from 1 to 6 writes a line to `err`.
 pub fn run<R: Threads + Sync, S: Shelf, I: Source, O: Sink, E: Sink, D: Dock>(
     rt: &R,
     alloc: Global,
@@ -78,7 +78,7 @@ where
         × AsksFor command (map string_bytes words.now) }
     ensures dock { ((command : Command) → OpensALink command
         → AsksFor command (map string_bytes words.now) → ⊥) → dock.new ≡ dock.old }
-    // 7: the command reports what was received.
+    // 7: the command reports what was received, or takes bytes of live streams from input.
     ensures lacking { result.code ≡ 7 → (command : Command) × WritesReport command
         × AsksFor command (map string_bytes words.now) }
 {
@@ -179,11 +179,19 @@ where
             to,
             pace,
             from,
+            live,
         } => {
-            if to.is_empty() {
-                whole(serve(alloc, text(name), *from, shelf, out))
+            let name = text(name);
+            if live.any() {
+                if to.is_empty() {
+                    serve_live(alloc, name, *from, live, shelf, input, out)
+                } else {
+                    send_live(alloc, name, to, *pace, *from, live, shelf, input, dock)
+                }
+            } else if to.is_empty() {
+                whole(serve(alloc, name, *from, shelf, out))
             } else {
-                whole(send(alloc, text(name), to, *pace, *from, shelf, dock))
+                whole(send(alloc, name, to, *pace, *from, shelf, dock))
             }
         }
         Command::Receive { addresses, rules } => receive(rt, alloc, rules, addresses, dock, out),

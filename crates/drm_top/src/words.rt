@@ -8,6 +8,7 @@ ghost use Rattle.drm_top.specs.declared.words.Command.{Command};
 use dcp_pft::Carry;
 use drm_bits::Octets;
 use drm_links::Address;
+use drm_schedule::Live;
 use drm_words::{Addresses, Request, WordsFault, read_words};
 use mod_receiver::Rules;
 use std::alloc::Global;
@@ -20,12 +21,13 @@ pub enum Command {
         name: Octets,
     },
     /// `serve` to these addresses, or as a capture where there is none, from a super frame on; the pace is the rest between
-    /// frames in milliseconds, and has no effect without an address.
+    /// frames in milliseconds, and has no effect without an address. The live streams take their bytes from input.
     Serve {
         name: Octets,
         to: Addresses,
         pace: u32,
         from: u32,
+        live: Live,
     },
     /// `receive` from links at these addresses.
     Receive {
@@ -111,11 +113,13 @@ fn command_of(request: Request) -> Command
             to,
             pace,
             from,
+            live,
         } => Command::Serve {
             name,
             to,
             pace,
             from,
+            live,
         },
         Request::Receive {
             addresses,

@@ -10,16 +10,18 @@ use Rattle.several_links.specs.Reaching.{Over, HaveGone, HaveLinks, AreUp, after
 use Rattle.several_links.specs.declared.member.Member.{Member}
 use Rattle.several_links.proofs.OpeningLemmas.{index_of}
 use Rattle.several_links.proofs.RunLemmas.{over_each}
+use Rattle.drm_schedule.specs.declared.plan.Plan.{Plan}
+use Rattle.drm_load.specs.Loading.{Reading}
 use Rattle.drm_faults.specs.declared.fault.Fault.{Fault}
 use Rattle.drm_transmit.specs.Send.{Go, LinksRun}
 use Rattle.drm_transmit.specs.OverLinks.{OverLinks}
-use Rattle.drm_transmit.proofs.OverLinksLemmas.{gone_over}
+use Rattle.drm_transmit.proofs.OverLinksLemmas.{gone_by}
 
 -- whether the link at each place is up
-abbrev ups : {L : Type 0} → List (Member L) → ℕ → Bool
+abbrev pub ups : {L : Type 0} → List (Member L) → ℕ → Bool
 ups members k = slice_index_or (map (λ m. m.up) members) k true
 
-up_at : {L : Type 0} (members : List (Member L)) (k : ℕ) (d : Member L) → k < length members → (slice_index_or members k d).up ≡ ups members k
+pub up_at : {L : Type 0} (members : List (Member L)) (k : ℕ) (d : Member L) → k < length members → (slice_index_or members k d).up ≡ ups members k
 up_at [] k d within = absurd (omega (arith, within))
 up_at (m ∷ members) zero d within = refl
 up_at (m ∷ members) (suc k) d within = up_at members k d (omega (arith, within))
@@ -37,18 +39,18 @@ down_by {L} m members true is none more =
     all_up all zero d within = is
     all_up all (suc k) d within = all k d (omega (arith, within))
 
-some_down : {L : Type 0} (members : List (Member L)) → (AreUp members → ⊥) → (k : ℕ) × (k < length members) × (ups members k ≡ false)
+pub some_down : {L : Type 0} (members : List (Member L)) → (AreUp members → ⊥) → (k : ℕ) × (k < length members) × (ups members k ≡ false)
 some_down [] none = absurd (none (λ k d within. absurd (omega (arith, within))))
 some_down (m ∷ members) none = down_by m members m.up refl none (some_down members)
 
-module _ {S D L : Type 0} (name : List ℕ) (addresses : List Address) (pace from : ℕ) (ending : Result (Unit {0}) Fault) (shelf_known : S → Known Files) (shelf shelf' : S)
+module _ {S D L : Type 0} (reading : Reading Plan) (addresses : List Address) (pace from : ℕ) (ending : Result (Unit {0}) Fault) (shelf_known : S → Known Files) (shelf shelf' : S)
     (dock_known : D → Known DockContents) (dock dock' : D) (opened : Known DockContents) (known : L → Known Traffic) (members members' : List (Member L)) where
-  pub links_run : length members ≡ length addresses → OverLinks name pace from ending shelf_known shelf shelf' known members members'
+  pub links_run : length members ≡ length addresses → OverLinks reading pace from ending shelf_known shelf shelf' known members members'
       → Tells (dock_known dock) opened (λ before after. after ≡ after_reaches addresses before)
       → Docked (dock_known dock) opened (λ told. HaveLinks known told addresses members)
       → Tells opened (dock_known dock') (λ before after. (overs : List Over) → HaveGone known members' overs → after ≡ after_closes overs addresses before)
       → (dock_known dock).faults ≤ (dock_known dock').faults
-      → LinksRun name addresses pace from ending shelf_known shelf shelf' dock_known dock dock'
+      → LinksRun reading addresses pace from ending shelf_known shelf shelf' dock_known dock dock'
   links_run many run opens links closed later =
       let many' : length members' ≡ length addresses = run.many ∙ many in
       record {
@@ -61,7 +63,7 @@ module _ {S D L : Type 0} (name : List ℕ) (addresses : List Address) (pace fro
             (λ k d start within told.
             let among : k < length members = omega (arith, within, many) in
             let there : k < length members' = omega (arith, within, many') in
-            let made = gone_over pace (3 * from) run.came (slice_index_or members' k d).up known (slice_index_or members k d).link (slice_index_or members' k d).link start told (run.sent k d among) (run.calls k d among) in
+            let made = gone_by (Go pace (3 * from) run.came (slice_index_or members' k d).up) known (slice_index_or members k d).link (slice_index_or members' k d).link start told (run.sent k d among) (run.calls k d among) in
             (made.0, made.1, subst (λ b. Go pace (3 * from) run.came b start.sends made.0.gone made.0.rests) (up_at members' k d there) made.2))
             closed;
         failed = (

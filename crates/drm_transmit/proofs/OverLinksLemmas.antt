@@ -21,11 +21,10 @@ use Rattle.drm_faults.specs.declared.fault.Fault.TheVariants.{Link, Read}
 use Rattle.drm_load.specs.declared.loading.ScheduleFault.{ScheduleFault}
 use Rattle.drm_load.specs.declared.loading.ScheduleFault.TheVariants as schedule
 use Rattle.drm_load.specs.Faults.{fault_of_schedule}
-use Rattle.drm_load.specs.Loading.{ReadBy}
-use Rattle.drm_load.specs.Schedule.{schedule_named}
+use Rattle.drm_load.specs.Loading.{Reading, ReadBy}
 use Rattle.drm_transmit.specs.ScheduleRun.{EndsBy}
-use Rattle.drm_transmit.specs.Send.{Go}
-use Rattle.drm_transmit.specs.OverLinks.{OverLinks, GoOver, most_calls}
+use Rattle.drm_transmit.specs.Send.{GoFrames}
+use Rattle.drm_transmit.specs.OverLinks.{OverLinks, GoesBy, GoOver, most_calls}
 use Rattle.drm_transmit.proofs.ScheduleRunLemmas.{is_read}
 
 not_link : (fault : ScheduleFault) → (let ended : Result (Unit {0}) Fault = Err (fault_of_schedule fault) in ended ≡ Err Link) → ⊥
@@ -54,42 +53,42 @@ since_none (wait ∷ waits) = let same : 0 + wait ≡ wait = omega arith in ap (
 
 -- ---- what goes over one of the links
 
--- the frames of a schedule, or some first ones
-served_over : (plan : Plan) (first pace : ℕ) (up : Bool) (a b : Known Traffic) → ServedBy up plan first pace (frame_count plan - first) a b → Transmits a b (GoOver pace first (Ok plan) up)
-served_over plan first pace true a b served =
-    Transmits-weaker (λ x y. SendsAll served.datagrams x y × Waits served.waits 0 x y) (GoOver pace first (Ok plan) true) a b
+-- so many frames of a schedule, or some first datagrams
+pub served_frames : (plan : Plan) (first pace n : ℕ) (up : Bool) (a b : Known Traffic) → ServedBy up plan first pace n a b → Transmits a b (GoesBy (GoFrames pace first n plan up))
+served_frames plan first pace n true a b served =
+    Transmits-weaker (λ x y. SendsAll served.datagrams x y × Waits served.waits 0 x y) (GoesBy (GoFrames pace first n plan true)) a b
     (Transmits-both (SendsAll served.datagrams) (Waits served.waits 0) a b served.sent served.waited)
     (λ x y both. (served.datagrams, served.waits ++ 0 ∷ [], (served.are, both.0.taken, served.waits, served.paced, refl), both.0.gone, rests_after served.waits 0 x y both.1))
-served_over plan first pace false a b served =
-    Transmits-weaker (SendsPart plan first pace) (GoOver pace first (Ok plan) false) a b served.part
+served_frames plan first pace n false a b served =
+    Transmits-weaker (SendsPart plan first pace) (GoesBy (GoFrames pace first n plan false)) a b served.part
     (λ x y part. (part.1, part.4 ++ part.5 ∷ [], (part.0, part.2, part.3.no_more, part.6), part.3.gone, rests_after part.4 part.5 x y part.7))
 
-served_calls : (plan : Plan) (first pace : ℕ) (up : Bool) (a b : Known Traffic) → plan.length ≤ 1000000 → ServedBy up plan first pace (frame_count plan - first) a b → MakesCalls (λ (t : Traffic). t.calls) most_calls a b
-served_calls plan first pace true a b few served = few_calls plan (frame_count plan - first) a b few (omega arith) served.calls
-served_calls plan first pace false a b few served = few_calls plan (frame_count plan) a b few (omega arith) served.calls
+pub frames_calls : (plan : Plan) (first pace n : ℕ) (up : Bool) (a b : Known Traffic) → plan.length ≤ 1000000 → n ≤ frame_count plan → ServedBy up plan first pace n a b → MakesCalls (λ (t : Traffic). t.calls) most_calls a b
+frames_calls plan first pace n true a b few within served = few_calls plan n a b few within served.calls
+frames_calls plan first pace n false a b few within served = few_calls plan (frame_count plan) a b few (omega arith) served.calls
 
 -- a link that was just opened tells at the end
-pub gone_over : {L : Type 0} (pace first : ℕ) (came : Result Plan ScheduleFault) (up : Bool) (known : L → Known Traffic) (link link' : L) (start : LinkStart) → (known link).told ≡ Some (first_traffic start)
-    → Transmits (known link) (known link') (GoOver pace first came up) → MakesCalls (λ (t : Traffic). t.calls) most_calls (known link) (known link')
-    → (over : Over) × HasGone known link' over × Go pace first came up start.sends over.gone over.rests
-gone_over pace first came up known link link' start told sent calls =
-    let P : Option Traffic → Type 0 = λ t. ToldThrough t (known link').told (GoOver pace first came up) in
-    let Q : Option Traffic → Type 0 = λ t. CountsMany (λ (t : Traffic). t.calls) most_calls t (known link').told in
-    by_last (known link').told refl (subst P told sent) (subst Q told calls)
+pub gone_by : {L : Type 0} (P : Option ℕ → List (List ℕ) → List ℕ → Type 0) (known : L → Known Traffic) (link link' : L) (start : LinkStart) → (known link).told ≡ Some (first_traffic start)
+    → Transmits (known link) (known link') (GoesBy P) → MakesCalls (λ (t : Traffic). t.calls) most_calls (known link) (known link')
+    → (over : Over) × HasGone known link' over × P start.sends over.gone over.rests
+gone_by P known link link' start told sent calls =
+    let Q : Option Traffic → Type 0 = λ t. ToldThrough t (known link').told (GoesBy P) in
+    let R : Option Traffic → Type 0 = λ t. CountsMany (λ (t : Traffic). t.calls) most_calls t (known link').told in
+    by_last (known link').told refl (subst Q told sent) (subst R told calls)
   where
-    by_last : (last : Option Traffic) → (known link').told ≡ last → ToldThrough (Some (first_traffic start)) last (GoOver pace first came up) → CountsMany (λ (t : Traffic). t.calls) most_calls (Some (first_traffic start)) last
-        → (over : Over) × HasGone known link' over × Go pace first came up start.sends over.gone over.rests
+    by_last : (last : Option Traffic) → (known link').told ≡ last → ToldThrough (Some (first_traffic start)) last (GoesBy P) → CountsMany (λ (t : Traffic). t.calls) most_calls (Some (first_traffic start)) last
+        → (over : Over) × HasGone known link' over × P start.sends over.gone over.rests
     by_last None is sent calls = absurd (omega (arith, calls))
     by_last (Some traffic) is sent calls =
         (record { gone = sent.0; rests = sent.1 }, (traffic, is, sent.3, sent.4 ∙ since_none sent.1), sent.2)
 
 -- ---- the whole run
 
-module _ {S L : Type 0} (name : List ℕ) (pace from : ℕ) (shelf_known : S → Known Files) (shelf shelf' : S) (link_known : L → Known Traffic) where
+module _ {S L : Type 0} (reading : Reading Plan) (pace from : ℕ) (shelf_known : S → Known Files) (shelf shelf' : S) (link_known : L → Known Traffic) where
   -- no schedule came, and nothing was sent
-  pub unsent : (fault : ScheduleFault) (members : List (Member L)) → AreUp members → ReadBy (schedule_named name) (Err fault) (shelf_known shelf) (shelf_known shelf')
+  pub unsent : (fault : ScheduleFault) (members : List (Member L)) → AreUp members → ReadBy reading (Err fault) (shelf_known shelf) (shelf_known shelf')
       → (shelf_known shelf).faults ≤ (shelf_known shelf').faults → (fault ≡ schedule.Read → HasFailed (shelf_known shelf) (shelf_known shelf'))
-      → OverLinks name pace from (Err (fault_of_schedule fault)) shelf_known shelf shelf' link_known members members
+      → OverLinks reading pace from (Err (fault_of_schedule fault)) shelf_known shelf shelf' link_known members members
   unsent fault members up comes later rose = record {
     came = Err fault;
     loads = comes;
@@ -110,18 +109,18 @@ module _ {S L : Type 0} (name : List ℕ) (pace from : ℕ) (shelf_known : S →
 
   -- its datagrams were sent
   pub sent_over : (plan : Plan) → IsSchedule plan → (ending : Result (Unit {0}) Fault) (members members' : List (Member L)) → length members' ≡ length members
-      → ReadBy (schedule_named name) (Ok plan) (shelf_known shelf) (shelf_known shelf') → (shelf_known shelf).faults ≤ (shelf_known shelf').faults
+      → ReadBy reading (Ok plan) (shelf_known shelf) (shelf_known shelf') → (shelf_known shelf).faults ≤ (shelf_known shelf').faults
       → EndsBy Link (Ok plan) ending → (ending ≡ Err Read → ⊥) → (ending ≡ Err Link) ↔ (AreUp members' → ⊥)
       → ((k : ℕ) (d : Member L) → k < length members → Served plan (3 * from) pace (frame_count plan - 3 * from) link_known (link_known (slice_index_or members k d).link) (slice_index_or members' k d))
-      → OverLinks name pace from ending shelf_known shelf shelf' link_known members members'
+      → OverLinks reading pace from ending shelf_known shelf shelf' link_known members members'
   sent_over plan valid ending members members' many comes later ends no_read failed served = record {
     came = Ok plan;
     loads = comes;
     sound = valid;
     ends = ends;
-    sent = λ k d within. served_over plan (3 * from) pace (slice_index_or members' k d).up (link_known (slice_index_or members k d).link) (link_known (slice_index_or members' k d).link) (served k d within);
+    sent = λ k d within. served_frames plan (3 * from) pace (frame_count plan - 3 * from) (slice_index_or members' k d).up (link_known (slice_index_or members k d).link) (link_known (slice_index_or members' k d).link) (served k d within);
     calls = λ k d within.
-        served_calls plan (3 * from) pace (slice_index_or members' k d).up (link_known (slice_index_or members k d).link) (link_known (slice_index_or members' k d).link) valid.in_lines.few_frames (served k d within);
+        frames_calls plan (3 * from) pace (frame_count plan - 3 * from) (slice_index_or members' k d).up (link_known (slice_index_or members k d).link) (link_known (slice_index_or members' k d).link) valid.in_lines.few_frames (omega arith) (served k d within);
     many = many;
     failed = failed;
     read_cause = record { later = later; rose = λ is. absurd (no_read is) };

@@ -15,7 +15,7 @@ use Rattle.several_links.proofs.OpeningLemmas.{docks_while}
 use Rattle.several_links.proofs.RunLemmas as several
 use Rattle.drm_server.specs.Datagrams.{AreDatagrams, AreBefore}
 use Rattle.drm_server.specs.Laws.{HasOneDelivery, FirstOnesAreFront}
-use Rattle.drm_load.specs.Schedule.{schedule_named}
+use Rattle.drm_load.specs.Loading.{Reading}
 use Rattle.drm_faults.specs.declared.fault.Fault.{Fault}
 use Rattle.drm_faults.specs.declared.fault.Fault.TheVariants as faults
 use Rattle.drm_load.specs.declared.loading.ScheduleFault.{ScheduleFault}
@@ -114,12 +114,12 @@ came_by (Err fault) ending ends (inr done) = let e : ending ≡ Ok tt = done in 
 
 -- ---- the whole run
 
-module _ {S D : Type 0} (one : HasOneDelivery) (front : FirstOnesAreFront) (name : List ℕ) (addresses : List Address) (pace from : ℕ) (ending : Ending) (shelf_known : S → Known Files) (shelf shelf' : S) (dock_known : D → Known DockContents) (dock dock' : D) where
+module _ {S D : Type 0} (one : HasOneDelivery) (front : FirstOnesAreFront) (reading : Reading Plan) (addresses : List Address) (pace from : ℕ) (ending : Ending) (shelf_known : S → Known Files) (shelf shelf' : S) (dock_known : D → Known DockContents) (dock dock' : D) where
   -- nothing was loaded
   unread : (P : Files → Type 0) → shelf' ≡ shelf → ((x : Files) → P x) → Supplies (shelf_known shelf) (shelf_known shelf') (λ x _. P x)
   unread P same all = subst (λ s. Supplies (shelf_known shelf) (shelf_known s) (λ x _. P x)) (sym same) (Tells-nothing (λ x _. P x) (shelf_known shelf) all)
 
-  pub closed : ClosedRun addresses ending shelf shelf' dock_known dock dock' → SendRun name addresses pace from ending shelf_known shelf shelf' dock_known dock dock'
+  pub closed : ClosedRun addresses ending shelf shelf' dock_known dock dock' → SendRun reading addresses pace from ending shelf_known shelf shelf' dock_known dock dock'
   closed run = record {
     run = inl run;
     unopened = Tells-weaker (ReachesFew addresses) _ (dock_known dock) (dock_known dock') run.told (λ x y few none. inr run.fault);
@@ -134,7 +134,7 @@ module _ {S D : Type 0} (one : HasOneDelivery) (front : FirstOnesAreFront) (name
     exactly = λ none. absurd (none run.fault);
   }
 
-  pub unopened : UnopenedRun ending shelf shelf' dock dock' → SendRun name addresses pace from ending shelf_known shelf shelf' dock_known dock dock'
+  pub unopened : UnopenedRun ending shelf shelf' dock dock' → SendRun reading addresses pace from ending shelf_known shelf shelf' dock_known dock dock'
   unopened run = record {
     run = inr (inr run);
     unopened = untold _ (λ x none. inl run.fault);
@@ -148,7 +148,7 @@ module _ {S D : Type 0} (one : HasOneDelivery) (front : FirstOnesAreFront) (name
       untold : (P : DockContents → DockContents → Type 0) → ((x : DockContents) → P x x) → Tells (dock_known dock) (dock_known dock') P
       untold P all = subst (λ d. Tells (dock_known dock) (dock_known d) P) (sym run.unopened) (Tells-nothing P (dock_known dock) all)
 
-  module _ (different : AreDifferent addresses) (run : LinksRun name addresses pace from ending shelf_known shelf shelf' dock_known dock dock') where
+  module _ (different : AreDifferent addresses) (run : LinksRun reading addresses pace from ending shelf_known shelf shelf' dock_known dock dock') where
     abbrev Goes : ℕ → LinkStart → Over → Type 0
     Goes k start over = Go pace (3 * from) run.came (run.up k) start.sends over.gone over.rests
 
@@ -210,25 +210,25 @@ module _ {S D : Type 0} (one : HasOneDelivery) (front : FirstOnesAreFront) (name
           | inr down ↦ let link = run.failed.1 (k, within, down) in absurd (let other = sym link ∙ e in cc)
         ]
 
-    pub over_links : SendRun name addresses pace from ending shelf_known shelf shelf' dock_known dock dock'
+    pub over_links : SendRun reading addresses pace from ending shelf_known shelf shelf' dock_known dock dock'
     over_links = record {
       run = inr (inl run);
       unopened = Tells-weaker (GoesOver Goes addresses) _ (dock_known dock) (dock_known dock') run.told (λ x y over none. none_fails Goes addresses x y over none);
       cut = Tells-weaker (GoesOver Goes addresses) _ (dock_known dock) (dock_known dock') run.told
           (λ x y over. Tells-weaker _ _ (shelf_known shelf) (shelf_known shelf') run.loads
-          (λ p q is. elim (came_or_memory (schedule_named name) run.came p q is) [
+          (λ p q is. elim (came_or_memory reading run.came p q is) [
             | inl memory ↦ inl (ends_memory faults.Link run.came ending run.ends memory)
             | inr came ↦ inr (subst (λ v. (ending ≡ Err faults.Link) ↔ (ReachesNone x addresses ⊎ LacksSome (3 * from) v x addresses)) came (link_by x y over))
           ]));
       complete = Tells-weaker (GoesOver Goes addresses) _ (dock_known dock) (dock_known dock') run.told
           (λ x y over some. Tells-weaker _ _ (shelf_known shelf) (shelf_known shelf') run.loads
-          (λ p q is plan datagrams gives are k at start within finds takes. elim (came_or_memory (schedule_named name) run.came p q is) [
+          (λ p q is plan datagrams gives are k at start within finds takes. elim (came_or_memory reading run.came p q is) [
             | inl memory ↦ inl (ends_memory faults.Link run.came ending run.ends memory)
             | inr came ↦ inr (gone_by x y over k at within ∙ ap Some (all_gone x y plan datagrams (came ∙ gives) over are k at start within finds takes over).1)
           ]));
       done = Tells-weaker (GoesOver Goes addresses) _ (dock_known dock) (dock_known dock') run.told
           (λ x y over. Tells-weaker _ _ (shelf_known shelf) (shelf_known shelf') run.loads
-          (λ p q is plan datagrams gives are takes. elim (came_or_memory (schedule_named name) run.came p q is) [
+          (λ p q is plan datagrams gives are takes. elim (came_or_memory reading run.came p q is) [
             | inl memory ↦ inl (ends_memory faults.Link run.came ending run.ends memory)
             | inr came ↦ inr (elim (subst (λ v. EndsBy faults.Link v ending) (came ∙ gives) run.ends) [
               | inl done ↦ done
@@ -247,7 +247,7 @@ module _ {S D : Type 0} (one : HasOneDelivery) (front : FirstOnesAreFront) (name
           ∙ (ap Some (one came.0 (3 * from) (slice_index_or over.overs j nothing).gone (slice_index_or over.overs k nothing).gone
           (done_gone e x y over came.0 came.1 j first) (done_gone e x y over came.0 came.1 k second))
           ∙ sym (gone_by x y over k at second)));
-      exactly = λ none. ends_exactly faults.Link (schedule_named name) run.came ending (shelf_known shelf) (shelf_known shelf') run.loads run.ends;
+      exactly = λ none. ends_exactly faults.Link reading run.came ending (shelf_known shelf) (shelf_known shelf') run.loads run.ends;
     }
 
     none_sent : ending ≡ Err faults.NoMemory → WhileTold (dock_known dock) (dock_known dock') NothingSent
@@ -256,7 +256,7 @@ module _ {S D : Type 0} (one : HasOneDelivery) (front : FirstOnesAreFront) (name
         (λ x y over. several.nothing_sent Goes addresses x y over
         (λ k start o goes. none_by pace (3 * from) run.came ending (run.up k) start.sends o.gone o.rests run.ends goes memory))
 
-  pub nothing_sent : AreDifferent addresses → SendRun name addresses pace from ending shelf_known shelf shelf' dock_known dock dock' → ending ≡ Err faults.NoMemory → WhileTold (dock_known dock) (dock_known dock') NothingSent
+  pub nothing_sent : AreDifferent addresses → SendRun reading addresses pace from ending shelf_known shelf shelf' dock_known dock dock' → ending ≡ Err faults.NoMemory → WhileTold (dock_known dock) (dock_known dock') NothingSent
   nothing_sent different sent memory = elim sent.run [
     | inl run ↦ let other : faults.Link ≡ faults.NoMemory = inner faults.Link faults.NoMemory (sym run.fault ∙ memory) in absurd cc
     | inr others ↦ elim others [

@@ -3,3 +3,5 @@ pub mod Check
 pub mod Serve
 pub mod Send
 pub mod OverLinks
+pub mod Live
+pub mod OverLiveLinks

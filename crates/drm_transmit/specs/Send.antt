@@ -1,5 +1,5 @@
 -- The command `serve --to`: a schedule becomes datagrams over links.
-use Rattle.std.specs.Prelude.{ℕ, ◌≡◌, ◌*◌, ◌<◌, ◌≤◌, ◌⊎◌, ◌↔◌, Bool, true, false, List, [], ◌∷◌, ◌++◌, length, slice_index_or, Option, Some, Result, Ok, Err, IfOk}
+use Rattle.std.specs.Prelude.{ℕ, ◌≡◌, ◌-◌, ◌*◌, ◌<◌, ◌≤◌, ◌⊎◌, ◌↔◌, Bool, true, false, List, [], ◌∷◌, ◌++◌, length, slice_index_or, Option, Some, Result, Ok, Err, IfOk}
 use Rattle.std.specs.FinMap as map
 use Rattle.drm_links.specs.Told.{HasFailed, Known, HasCause, Tells}
 use Rattle.drm_links.specs.Shelf.{Files, Supplies}
@@ -10,27 +10,30 @@ use Rattle.drm_schedule.specs.declared.plan.Plan.{Plan}
 use Rattle.drm_schedule.specs.Valid.{IsSchedule}
 use Rattle.several_links.specs.Openings.{Finds, Docked}
 use Rattle.several_links.specs.Reaching.{ReachesNone, ReachesFew, GoesOver}
-use Rattle.drm_server.specs.Datagrams.{AreDatagrams, AreBefore}
+use Rattle.drm_timeline.specs.Numbers.{frame_count}
+use Rattle.drm_server.specs.Datagrams.{AreDatagrams, AreBefore, AreOfFrames}
 use Rattle.drm_server.specs.Rests.{ArePaced}
-use Rattle.drm_load.specs.Loading.{ReadBy}
-use Rattle.drm_load.specs.Schedule.{schedule_named}
+use Rattle.drm_load.specs.Loading.{Reading, ReadBy}
 use Rattle.drm_transmit.specs.ScheduleRun.{EndsBy}
 use Rattle.drm_faults.specs.Fault.{UnlessMemory}
 use Rattle.drm_load.specs.declared.loading.ScheduleFault.{ScheduleFault}
 use Rattle.drm_faults.specs.declared.fault.Fault.{Fault}
 use Rattle.drm_faults.specs.declared.fault.Fault.TheVariants as faults
 
--- The datagrams that go over a link that takes so many sends, and the rests before each and after the last: all of the
--- schedule that came from frame `first` on, at this pace, without a rest after the last, where the link doesn't fail; where it
--- does, some first ones, after which no more are taken, with the rest before the next one. Where no schedule came, none, without
--- a rest.
-abbrev pub Go : ℕ → ℕ → Result Plan ScheduleFault → Bool → Option ℕ → List (List ℕ) → List ℕ → Type 0
-Go pace first (Ok schedule) true sends gone rests =
-    AreDatagrams schedule first gone × TakesSends sends (length gone)
+-- What goes over a link that takes so many sends, of n frames of a schedule from frame `first` on, and the rests before each datagram
+-- and after the last: all of their datagrams, at this pace, without a rest after the last, where the link doesn't fail; where it does,
+-- some first ones of the schedule's from there on, after which no more are taken, with the rest before the next one.
+abbrev pub GoFrames : ℕ → ℕ → ℕ → Plan → Bool → Option ℕ → List (List ℕ) → List ℕ → Type 0
+GoFrames pace first n schedule true sends gone rests =
+    AreOfFrames schedule first n gone × TakesSends sends (length gone)
     × (waits : List ℕ) × ArePaced pace schedule first gone waits × (rests ≡ waits ++ 0 ∷ [])
-Go pace first (Ok schedule) false sends gone rests =
+GoFrames pace first n schedule false sends gone rests =
     (next : List ℕ) × AreBefore schedule first next gone × (sends ≡ Some (length gone))
     × ArePaced pace schedule first (gone ++ next ∷ []) rests
+
+-- All frames of the schedule that came from frame `first` on; where none came nothing, without a rest.
+abbrev pub Go : ℕ → ℕ → Result Plan ScheduleFault → Bool → Option ℕ → List (List ℕ) → List ℕ → Type 0
+Go pace first (Ok schedule) up sends gone rests = GoFrames pace first (frame_count schedule - first) schedule up sends gone rests
 Go pace first (Err fault) up sends gone rests = (gone ≡ []) × (rests ≡ 0 ∷ [])
 
 -- The link takes fewer sends than the schedule that came has datagrams from frame `first` on.
@@ -57,14 +60,14 @@ pub record ClosedRun {S D : Type 0} (addresses : List Address) (ending : Result 
   pub told : Tells (dock_known dock) (dock_known dock') (ReachesFew addresses)
   pub rose : HasFailed (dock_known dock) (dock_known dock')
 
--- A run whose links were opened, before the schedule of this name was read, and closed at the end.
-pub record LinksRun {S D : Type 0} (name : List ℕ) (addresses : List Address) (pace from : ℕ) (ending : Result (Unit {0}) Fault)
+-- A run whose links were opened, before the schedule was read, and closed at the end.
+pub record LinksRun {S D : Type 0} (reading : Reading Plan) (addresses : List Address) (pace from : ℕ) (ending : Result (Unit {0}) Fault)
     (shelf_known : S → Known Files) (shelf shelf' : S)
     (dock_known : D → Known DockContents) (dock dock' : D) : Type 0 where
   -- the schedule, or why there is none
   pub came : Result Plan ScheduleFault
   -- Where the shelf tells, that is what its files come to, and these loads were made.
-  pub loads : ReadBy (schedule_named name) came (shelf_known shelf) (shelf_known shelf')
+  pub loads : ReadBy reading came (shelf_known shelf) (shelf_known shelf')
   -- Whatever it tells, what came is valid.
   pub sound : IfOk came IsSchedule
   pub ends : EndsBy faults.Link came ending
@@ -84,30 +87,30 @@ pub record UnopenedRun {S D : Type 0} (ending : Result (Unit {0}) Fault) (shelf 
   pub unread : shelf' ≡ shelf
   pub unopened : dock' ≡ dock
 
--- A run of `serve --to` these addresses, with this pace, from super frame `from` on.
-pub record SendRun {S D : Type 0} (name : List ℕ) (addresses : List Address) (pace from : ℕ) (ending : Result (Unit {0}) Fault)
+-- A run of `serve --to` these addresses, of the schedule that is read so, with this pace, from super frame `from` on.
+pub record SendRun {S D : Type 0} (reading : Reading Plan) (addresses : List Address) (pace from : ℕ) (ending : Result (Unit {0}) Fault)
     (shelf_known : S → Known Files) (shelf shelf' : S)
     (dock_known : D → Known DockContents) (dock dock' : D) : Type 0 where
   pub run : ClosedRun addresses ending shelf shelf' dock_known dock dock'
-      ⊎ LinksRun name addresses pace from ending shelf_known shelf shelf' dock_known dock dock'
+      ⊎ LinksRun reading addresses pace from ending shelf_known shelf shelf' dock_known dock dock'
       ⊎ UnopenedRun ending shelf shelf' dock dock'
   -- It fails by a link where an opening fails, and where a link takes fewer sends than the schedule has datagrams from there on;
   -- nowhere else.
   pub unopened : Docked (dock_known dock) (dock_known dock') (λ told. ReachesNone told addresses → UnlessMemory ending (ending ≡ Err faults.Link))
   pub cut : Docked (dock_known dock) (dock_known dock') (λ told. Supplies (shelf_known shelf) (shelf_known shelf') (λ files _.
       UnlessMemory ending ((ending ≡ Err faults.Link)
-      ↔ (ReachesNone told addresses ⊎ LacksSome (3 * from) (schedule_named name files).came told addresses))))
+      ↔ (ReachesNone told addresses ⊎ LacksSome (3 * from) (reading files).came told addresses))))
   -- Where each opening finds a link, and one of these takes all datagrams, they have gone at its address, whatever becomes of the
   -- others.
   pub complete : Tells (dock_known dock) (dock_known dock') (λ before after. (ReachesNone before addresses → ⊥)
       → Supplies (shelf_known shelf) (shelf_known shelf') (λ files _. (schedule : Plan) (datagrams : List (List ℕ))
-      → (schedule_named name files).came ≡ Ok schedule → AreDatagrams schedule (3 * from) datagrams
+      → (reading files).came ≡ Ok schedule → AreDatagrams schedule (3 * from) datagrams
       → (k : ℕ) (at : Address) (start : LinkStart) → k < length addresses → Finds before k (slice_index_or addresses k at) start
       → TakesSends start.sends (length datagrams)
       → UnlessMemory ending (map.get after.gone (address_key (slice_index_or addresses k at)) ≡ Some datagrams)))
   -- Where each takes them the run is done.
   pub done : Docked (dock_known dock) (dock_known dock') (λ told. Supplies (shelf_known shelf) (shelf_known shelf') (λ files _.
-      (schedule : Plan) (datagrams : List (List ℕ)) → (schedule_named name files).came ≡ Ok schedule → AreDatagrams schedule (3 * from) datagrams
+      (schedule : Plan) (datagrams : List (List ℕ)) → (reading files).came ≡ Ok schedule → AreDatagrams schedule (3 * from) datagrams
       → TakeAll told addresses (length datagrams) → UnlessMemory ending (ending ≡ Ok tt)))
   -- After a run that is done the same has gone at each address.
   pub alike : ending ≡ Ok tt → Tells (dock_known dock) (dock_known dock') (λ _ after. (j k : ℕ) (at : Address) → j < length addresses → k < length addresses
@@ -115,4 +118,4 @@ pub record SendRun {S D : Type 0} (name : List ℕ) (addresses : List Address) (
   -- Unless a link failed it is refused exactly where its files are, with the line and the reason; a load fails exactly where
   -- one is to fail.
   pub exactly : (ending ≡ Err faults.Link → ⊥)
-      → Supplies (shelf_known shelf) (shelf_known shelf') (λ files _. UnlessMemory ending (EndsBy faults.Link (schedule_named name files).came ending))
+      → Supplies (shelf_known shelf) (shelf_known shelf') (λ files _. UnlessMemory ending (EndsBy faults.Link (reading files).came ending))

@@ -2,9 +2,11 @@
 #![tactic(auto)]
 
 mod check_command;
+mod live_command;
 mod send_command;
 mod serve_command;
 
 pub use check_command::check;
+pub use live_command::{send_live, serve_live};
 pub use send_command::send;
 pub use serve_command::serve;

@@ -4,6 +4,7 @@ ghost use Rattle.std.specs.Prelude.{◌≤◌, length, IsErrOf};
 ghost use Rattle.drm_links.specs.Told.{HasFailed, WhileTold};
 ghost use Rattle.word_forms.specs.Addresses.{AreDifferent};
 ghost use Rattle.several_links.specs.Reaching.{AreUp, NothingSent};
+ghost use Rattle.drm_load.specs.Schedule.{schedule_named};
 ghost use Rattle.drm_transmit.specs.Send.{SendRun};
 ghost use Rattle.drm_transmit.specs.OverLinks.{OverLinks};
 
@@ -28,7 +29,7 @@ pub fn send<S: Shelf, D: Dock>(
 ) -> Result<(), Fault>
     requires different { AreDifferent to.now }
     requires from { from ≤ 1000000 }
-    ensures run { SendRun name.now to.now pace from result S.known shelf.old shelf.new
+    ensures run { SendRun (schedule_named name.now) to.now pace from result S.known shelf.old shelf.new
         D.known dock.old dock.new }
     // After want of memory nothing was sent. The words were judged before, and nothing is written.
     ensures unsent { IsErrOf result Fault.NoMemory
@@ -61,7 +62,7 @@ fn send_over<S: Shelf, L: Link>(
 ) -> Result<(), Fault>
     requires from { from ≤ 1000000 }
     requires up { AreUp members.old }
-    ensures run { OverLinks name.now pace from result S.known shelf.old shelf.new
+    ensures run { OverLinks (schedule_named name.now) pace from result S.known shelf.old shelf.new
         L.known members.old members.new }
     ensures words { IsErrOf result Fault.Words → ⊥ }
     ensures write { IsErrOf result Fault.Write → ⊥ }

@@ -10,11 +10,14 @@ use Rattle.drm_words.specs.declared.options.Stretch.{Stretch}
 use Rattle.drm_words.specs.declared.options.Reading.{Reading}
 use Rattle.word_forms.specs.Reading.{within}
 use Rattle.word_forms.specs.Addressing.{addresses_of}
-use Rattle.drm_words.specs.Table.{Options, told, IsOneOf, AreOf, IsNumberOr, IsNumberOrNone, AreAddressesIfTold, AreAddressesOrNone, IsStretch, IsReading}
-use Rattle.drm_words.specs.Asking.{is_one_of, are_of, number_or, number_or_none, addresses_if_told, addresses_or_none, with_options, window_of, first_of, frames_of, stretch_of, reading_of, idle_of, limit_of, pace_of, from_of, to_of}
+use Rattle.drm_words.specs.Table.{Options, told, IsOneOf, AreOf, IsNumberOr, IsNumberOrNone, AreAddressesIfTold, AreStreamsIfTold, AreAddressesOrNone, IsStretch, IsReading}
+use Rattle.drm_words.specs.Asking.{is_one_of, are_of, number_or, number_or_none, addresses_if_told, live_if_told, addresses_or_none, with_options, window_of, first_of, frames_of, stretch_of, reading_of, idle_of, limit_of, pace_of, from_of, to_of, live_told}
 use Rattle.word_forms.proofs.OptionLemmas.{mapped, stepped}
 use Rattle.word_forms.proofs.NumberLemmas.{within_fits, within_is}
 use Rattle.word_forms.proofs.AddressLemmas.{addresses_fit, addresses_are}
+use Rattle.word_forms.proofs.StreamLemmas.{live_fits, live_is}
+use Rattle.drm_schedule.specs.declared.live.Live.{Live}
+use Rattle.drm_schedule.specs.Live as live
 
 pub number_or_fits : (default least greatest : ℕ) (value : Option (List ℕ)) (n : ℕ) → number_or default least greatest value ≡ Some n → IsNumberOr default least greatest value n
 number_or_fits default least greatest None n e = sym (same_Some default n e)
@@ -41,6 +44,14 @@ addresses_if_told_fit (Some text) addresses e = addresses_fit text addresses e
 pub addresses_if_told_are : (value : Option (List ℕ)) (addresses : List Address) → AreAddressesIfTold value addresses → addresses_if_told value ≡ Some addresses
 addresses_if_told_are None addresses h = ap Some (sym h)
 addresses_if_told_are (Some text) addresses h = addresses_are text addresses h
+
+pub live_if_told_fits : (value : Option (List ℕ)) (streams : Live) → live_if_told value ≡ Some streams → AreStreamsIfTold value streams
+live_if_told_fits None streams e = sym (same_Some live.none streams e)
+live_if_told_fits (Some text) streams e = live_fits text streams e
+
+pub live_if_told_is : (value : Option (List ℕ)) (streams : Live) → AreStreamsIfTold value streams → live_if_told value ≡ Some streams
+live_if_told_is None streams h = ap Some (sym h)
+live_if_told_is (Some text) streams h = live_is text streams h
 
 pub addresses_or_none_fit : (texts : List (List ℕ)) (addresses : Option (List Address)) → addresses_or_none texts ≡ Some addresses → AreAddressesOrNone texts addresses
 addresses_or_none_fit [] addresses e = sym (same_Some None addresses e)
@@ -201,3 +212,11 @@ module _ (options : Options) where
   pub to_is : (at : List Address) → AreAddressesIfTold (told (codes "to") options) at → to_of options ≡ Some at
   unfolding to_of
   to_is at h = addresses_if_told_are (told (codes "to") options) at h
+
+  pub live_told_fits : (streams : Live) → live_told options ≡ Some streams → AreStreamsIfTold (told (codes "live") options) streams
+  unfolding live_told
+  live_told_fits streams e = live_if_told_fits (told (codes "live") options) streams e
+
+  pub live_told_is : (streams : Live) → AreStreamsIfTold (told (codes "live") options) streams → live_told options ≡ Some streams
+  unfolding live_told
+  live_told_is streams h = live_if_told_is (told (codes "live") options) streams h

@@ -7,6 +7,7 @@ use Rattle.std.proofs.lemmas.List.{nil_from_length}
 use Rattle.std.proofs.lemmas.Bool.Decides.{nat_tests}
 use Rattle.std.proofs.lemmas.Slice.Eq.{bytes_eq-Decides}
 use Rattle.drm_links.specs.declared.dock.Address.{Address}
+use Rattle.drm_schedule.specs.declared.live.Live.{Live}
 use Rattle.dcp_pft.specs.declared.carry.Carry.{Carry}
 use Rattle.drm_words.specs.declared.request.Request.{Request}
 use Rattle.drm_words.specs.declared.request.Request.TheVariants.{Fac, Check, Serve, Receive, Air, Show, Convert, Exercise, Gate, Pack, Unpack, Texts}
@@ -15,12 +16,12 @@ use Rattle.word_forms.specs.Addressing.{address_of, addresses_of, carry_of}
 use Rattle.drm_words.specs.declared.options.Stretch.{Stretch}
 use Rattle.drm_words.specs.declared.options.Reading.{Reading}
 use Rattle.drm_words.specs.Table.{Options, AreOf, IsRequest, serve_names, stretch_names, reading_names}
-use Rattle.drm_words.specs.Asking.{addresses_or_none, window_of, stretch_of, reading_of, pace_of, from_of, to_of, is_bare, bare_of, check_of, serve_with, serve_of, receive_with, receive_of, air_with, air_of, convert_with, convert_of, exercise_with, exercise_of, gate_with, gate_of, pack_with, pack_of, unpack_with, unpack_of, texts_with, texts_of, request_of}
+use Rattle.drm_words.specs.Asking.{addresses_or_none, window_of, stretch_of, reading_of, pace_of, from_of, to_of, live_told, is_bare, bare_of, check_of, serve_asked, serve_of, receive_with, receive_of, air_with, air_of, convert_with, convert_of, exercise_with, exercise_of, gate_with, gate_of, pack_with, pack_of, unpack_with, unpack_of, texts_with, texts_of, request_of}
 use Rattle.word_forms.proofs.OptionLemmas.{stepped}
 use Rattle.word_forms.proofs.NumberLemmas.{within_fits, within_is}
 use Rattle.word_forms.proofs.CarryLemmas.{carry_fits, carry_is}
 use Rattle.word_forms.proofs.AddressLemmas.{address_fits, address_is, addresses_fit, addresses_are}
-use Rattle.drm_words.proofs.OptionsLemmas.{addresses_or_none_fit, addresses_or_none_are, with_fits, with_is, none_of, window_fits, window_is, stretch_fits, stretch_is, reading_fits, reading_is, pace_fits, pace_is, from_fits, from_is, to_fits, to_is}
+use Rattle.drm_words.proofs.OptionsLemmas.{addresses_or_none_fit, addresses_or_none_are, with_fits, with_is, none_of, window_fits, window_is, stretch_fits, stretch_is, reading_fits, reading_is, pace_fits, pace_is, from_fits, from_is, to_fits, to_is, live_told_fits, live_told_is}
 
 bare_fits : (asked : Request) (texts : List (List ℕ)) (options : Options) (r : Request) → bare_of asked texts options ≡ Some r → (texts ≡ []) × (options ≡ []) × (asked ≡ r)
 bare_fits asked texts options r e =
@@ -52,12 +53,13 @@ serve_fits : (texts : List (List ℕ)) (options : Options) (r : Request) → ser
 unfolding serve_of
 serve_fits [] options r e = absurd cc
 serve_fits (name ∷ []) options r e =
-    let w = with_fits serve_names options (option_and_then (λ to. serve_with name to options) (to_of options)) r e in
+    let w = with_fits serve_names options (serve_asked name options) r e in
     let to = stepped (to_of options) _ r w.1 in
-    let pace = stepped (pace_of options) _ r to.rest in
+    let live = stepped (live_told options) _ r to.rest in
+    let pace = stepped (pace_of options) _ r live.rest in
     let from = stepped (from_of options) _ r pace.rest in
-    subst (λ (x : Request). IsRequest x (codes "serve") (name ∷ []) options) (same_Some (Serve name to.value pace.value from.value) r from.rest)
-    (refl, refl, w.0, to_fits options to.value to.is, pace_fits options pace.value pace.is, from_fits options from.value from.is)
+    subst (λ (x : Request). IsRequest x (codes "serve") (name ∷ []) options) (same_Some (Serve name to.value pace.value from.value live.value) r from.rest)
+    (refl, refl, w.0, to_fits options to.value to.is, pace_fits options pace.value pace.is, from_fits options from.value from.is, live_told_fits options live.value live.is)
 serve_fits (name ∷ other ∷ more) options r e = absurd cc
 
 receive_fits : (texts : List (List ℕ)) (options : Options) (r : Request) → receive_of texts options ≡ Some r → IsRequest r (codes "receive") texts options
@@ -214,10 +216,11 @@ check_is : (name : List ℕ) (texts : List (List ℕ)) (options : Options) → I
 unfolding check_of
 check_is name texts options h = rw h.1 (with_is [] options (Some (Check name)) h.2)
 
-serve_is : (name : List ℕ) (to : List Address) (pace from : ℕ) (texts : List (List ℕ)) (options : Options) → IsRequest (Serve name to pace from) (codes "serve") texts options → serve_of texts options ≡ Some (Serve name to pace from)
+serve_is : (name : List ℕ) (to : List Address) (pace from : ℕ) (live : Live) (texts : List (List ℕ)) (options : Options) → IsRequest (Serve name to pace from live) (codes "serve") texts options
+    → serve_of texts options ≡ Some (Serve name to pace from live)
 unfolding serve_of
-serve_is name to pace from texts options h =
-    rw h.1 (with_is serve_names options (option_and_then (λ to. serve_with name to options) (to_of options)) h.2 ∙ rw (to_is options to h.3, pace_is options pace h.4, from_is options from h.5) refl)
+serve_is name to pace from live texts options h =
+    rw h.1 (with_is serve_names options (serve_asked name options) h.2 ∙ rw (to_is options to h.3, live_told_is options live h.6, pace_is options pace h.4, from_is options from h.5) refl)
 
 receive_is : (addresses : Option (List Address)) (window : ℕ) (first frames : Option ℕ) (idle limit : ℕ) (texts : List (List ℕ)) (options : Options)
     → IsRequest (Receive addresses window first frames idle limit) (codes "receive") texts options → receive_of texts options ≡ Some (Receive addresses window first frames idle limit)
@@ -269,7 +272,7 @@ pub request_is : (r : Request) (command : List ℕ) (texts : List (List ℕ)) (o
 unfolding request_of
 request_is Fac command texts options h = rw h.0 (bare_is Fac texts options h.1 (none_of options h.2))
 request_is (Check name) command texts options h = rw h.0 (check_is name texts options (refl, h.1, h.2))
-request_is (Serve name to pace from) command texts options h = rw h.0 (serve_is name to pace from texts options (refl, h.1, h.2, h.3, h.4, h.5))
+request_is (Serve name to pace from live) command texts options h = rw h.0 (serve_is name to pace from live texts options (refl, h.1, h.2, h.3, h.4, h.5, h.6))
 request_is (Receive addresses window first frames idle limit) command texts options h =
     rw h.0 (receive_is addresses window first frames idle limit texts options (refl, h.1, h.2, h.3))
 request_is (Air name script window) command texts options h = rw h.0 (air_is name script window texts options (refl, h.1, h.2, h.3))

@@ -8,6 +8,9 @@ use Rattle.word_forms.specs.Reading.{within}
 use Rattle.word_forms.specs.Addressing.{◌>>=◌, address_of, addresses_of, carry_of}
 use Rattle.drm_words.specs.declared.options.Stretch.{Stretch}
 use Rattle.drm_words.specs.declared.options.Reading.{Reading}
+use Rattle.drm_schedule.specs.declared.live.Live.{Live}
+use Rattle.drm_schedule.specs.Live.{none}
+use Rattle.word_forms.specs.Streams.{live_of}
 use Rattle.drm_words.specs.Table.{Options, told, serve_names, stretch_names, reading_names}
 
 abbrev pub is_one_of : List (List ℕ) → List ℕ → Bool
@@ -70,6 +73,13 @@ from_of options = number_or 0 0 1000000 (told (codes "from") options)
 unfoldable pub to_of : Options → Option (List Address)
 to_of options = addresses_if_told (told (codes "to") options)
 
+abbrev pub live_if_told : Option (List ℕ) → Option Live
+live_if_told None = Some none
+live_if_told (Some text) = live_of text
+
+unfoldable pub live_told : Options → Option Live
+live_told options = live_if_told (told (codes "live") options)
+
 abbrev pub addresses_or_none : List (List ℕ) → Option (Option (List Address))
 addresses_or_none [] = Some None
 addresses_or_none (text ∷ []) = option_map Some (addresses_of text)
@@ -89,14 +99,20 @@ unfoldable pub check_of : List (List ℕ) → Options → Option Request
 check_of (name ∷ []) options = with_options [] options (Some (Check name))
 check_of _ options = None
 
-abbrev pub serve_with : List ℕ → List Address → Options → Option Request
-serve_with name to options = do
+abbrev pub serve_with : List ℕ → List Address → Live → Options → Option Request
+serve_with name to live options = do
   pace ← pace_of options
   from ← from_of options
-  Some (Serve name to pace from)
+  Some (Serve name to pace from live)
+
+abbrev pub serve_asked : List ℕ → Options → Option Request
+serve_asked name options = do
+  to ← to_of options
+  live ← live_told options
+  serve_with name to live options
 
 unfoldable pub serve_of : List (List ℕ) → Options → Option Request
-serve_of (name ∷ []) options = with_options serve_names options (option_and_then (λ to. serve_with name to options) (to_of options))
+serve_of (name ∷ []) options = with_options serve_names options (serve_asked name options)
 serve_of _ options = None
 
 abbrev pub receive_with : Options → Option (List Address) → Option Request

@@ -7,6 +7,9 @@ use Rattle.drm_words.specs.declared.request.Request.TheVariants.{Fac, Check, Ser
 use Rattle.word_forms.specs.Numbers.{IsWithin}
 use Rattle.word_forms.specs.Addresses.{IsAddress, AreAddresses}
 use Rattle.word_forms.specs.Carries.{IsCarry}
+use Rattle.word_forms.specs.Streams.{AreStreams}
+use Rattle.drm_schedule.specs.declared.live.Live.{Live}
+use Rattle.drm_schedule.specs.Live.{none}
 
 -- the options that stand behind a command: names and values
 abbrev pub Options : Type 0
@@ -41,15 +44,21 @@ abbrev pub AreAddressesIfTold : Option (List ℕ) → List Address → Type 0
 AreAddressesIfTold None addresses = addresses ≡ []
 AreAddressesIfTold (Some text) addresses = AreAddresses text addresses
 
+-- the streams of an option, or none where the option isn't told
+abbrev pub AreStreamsIfTold : Option (List ℕ) → Live → Type 0
+AreStreamsIfTold None live = live ≡ none
+AreStreamsIfTold (Some text) live = AreStreams text live
+
 -- no plain word and no addresses, or one plain word that is a list of addresses
 abbrev pub AreAddressesOrNone : List (List ℕ) → Option (List Address) → Type 0
 AreAddressesOrNone [] addresses = addresses ≡ None
 AreAddressesOrNone (text ∷ []) addresses = (list : List Address) × (addresses ≡ Some list) × AreAddresses text list
 AreAddressesOrNone _ addresses = ⊥
 
--- [--to ADDRS] [--pace MS] [--from N]: where datagrams go, how fast, and of which super frames
+-- [--to ADDRS] [--pace MS] [--from N] [--live LIST]: where datagrams go, how fast, of which super frames, and which streams take
+-- their bytes from input
 abbrev pub serve_names : List (List ℕ)
-serve_names = codes "to" ∷ codes "pace" ∷ codes "from" ∷ []
+serve_names = codes "to" ∷ codes "pace" ∷ codes "from" ∷ codes "live" ∷ []
 
 -- [--window W] [--first N] [--frames N]: which packets are read, and how many frames of them
 abbrev pub stretch_names : List (List ℕ)
@@ -76,12 +85,13 @@ abbrev pub IsRequest : Request → List ℕ → List (List ℕ) → Options → 
 IsRequest Fac command texts options = (command ≡ codes "fac") × (texts ≡ []) × AreOf [] options
 -- check NAME
 IsRequest (Check name) command texts options = (command ≡ codes "check") × (texts ≡ name ∷ []) × AreOf [] options
--- serve NAME [--to ADDRS] [--pace MS] [--from N]
-IsRequest (Serve name to pace from) command texts options =
+-- serve NAME [--to ADDRS] [--pace MS] [--from N] [--live LIST]
+IsRequest (Serve name to pace from live) command texts options =
     (command ≡ codes "serve") × (texts ≡ name ∷ []) × AreOf serve_names options
     × AreAddressesIfTold (told (codes "to") options) to
     × IsNumberOr 0 0 10000 (told (codes "pace") options) pace
     × IsNumberOr 0 0 1000000 (told (codes "from") options) from
+    × AreStreamsIfTold (told (codes "live") options) live
 -- receive [ADDRS] [--window W] [--first N] [--frames N] [--idle K] [--limit L]
 IsRequest (Receive addresses window first frames idle limit) command texts options =
     (command ≡ codes "receive") × AreAddressesOrNone texts addresses
@@ -121,6 +131,6 @@ IsRequest (Texts stream window first frames) command texts options =
 -- each name is text
 abbrev pub HasTextNames : Request → Type 0
 HasTextNames (Check name) = IsUtf8 name
-HasTextNames (Serve name to pace from) = IsUtf8 name
+HasTextNames (Serve name to pace from live) = IsUtf8 name
 HasTextNames (Air name script window) = IsUtf8 name × IsUtf8 script
 HasTextNames _ = Unit {0}

@@ -7,9 +7,10 @@ ghost use Rattle.word_forms.specs.Gives.{Gives};
 ghost use Rattle.drm_words.specs.Table.{HasTextNames};
 ghost use Rattle.word_forms.specs.declared.fault.WordsFault.TheVariants as faults;
 
-use crate::options::{are_of, from, pace, to, told_reading, told_stretch, window};
+use crate::options::{are_of, from, live, pace, to, told_reading, told_stretch, window};
 use crate::request::Request;
 use drm_bits::Octets;
+use drm_schedule::Live;
 use std::alloc::Global;
 use word_forms::{Addresses, Named, WordsFault, address, carry, read_addresses, within};
 
@@ -69,9 +70,9 @@ fn check(alloc: Global, texts: &[&str], options: &[Named<'_>]) -> Result<Request
     Ok(Request::Check { name })
 }
 
-fn serve_with(name: Octets, to: Addresses, options: &[Named<'_>]) -> Option<Request>
+fn serve_with(name: Octets, to: Addresses, live: Live, options: &[Named<'_>]) -> Option<Request>
     requires { IsUtf8 name }
-    ensures value { result ≡ serve_with name to (map option_said options.now) }
+    ensures value { result ≡ serve_with name to live (map option_said options.now) }
     ensures text { IfSome result HasTextNames }
 {
     let pace = pace(options)?;
@@ -81,10 +82,11 @@ fn serve_with(name: Octets, to: Addresses, options: &[Named<'_>]) -> Option<Requ
         to,
         pace,
         from,
+        live,
     })
 }
 
-// serve NAME [--to ADDRS] [--pace MS] [--from N]
+// serve NAME [--to ADDRS] [--pace MS] [--from N] [--live LIST]
 #[tactic(auto, unfolding(crate::specs::Asking::serve_of))]
 fn serve(alloc: Global, texts: &[&str], options: &[Named<'_>]) -> Result<Request, WordsFault>
     ensures gives { Gives result (serve_of (map (λ text. text.now) texts.now) (map option_said options.now)) }
@@ -93,12 +95,13 @@ fn serve(alloc: Global, texts: &[&str], options: &[Named<'_>]) -> Result<Request
     let [name] = texts else {
         return Err(WordsFault::Words);
     };
-    if !are_of(&["to", "pace", "from"], options) {
+    if !are_of(&["to", "pace", "from", "live"], options) {
         return Err(WordsFault::Words);
     }
     let name = octets(alloc, name)?;
     let to = to(alloc, options)?;
-    asked(serve_with(name, to, options))
+    let live = live(alloc, options)?;
+    asked(serve_with(name, to, live, options))
 }
 
 // No addresses, or those of the one plain word.

@@ -4,10 +4,11 @@ ghost use Rattle.std.specs.Prelude.{◌≡◌, ◌≤◌, IfSome, map, option_ma
 ghost use Rattle.word_forms.specs.Arguing.{option_said};
 ghost use Rattle.word_forms.specs.Gives.{Gives};
 ghost use Rattle.drm_words.specs.Table.{told};
-ghost use Rattle.drm_words.specs.Asking.{is_one_of, are_of, number_or, number_or_none, window_of, first_of, frames_of, stretch_of, reading_of, idle_of, limit_of, pace_of, from_of, to_of};
+ghost use Rattle.drm_words.specs.Asking.{is_one_of, are_of, number_or, number_or_none, window_of, first_of, frames_of, stretch_of, reading_of, idle_of, limit_of, pace_of, from_of, to_of, live_told};
 
+use drm_schedule::Live;
 use std::alloc::Global;
-use word_forms::{Addresses, Named, WordsFault, read_addresses, within};
+use word_forms::{Addresses, Named, WordsFault, read_addresses, read_live, within};
 
 /// Which packets are read, and how many frames of them.
 #[derive(Clone, Copy)]
@@ -181,5 +182,16 @@ pub(crate) fn to(alloc: Global, options: &[Named<'_>]) -> Result<Addresses, Word
     match told(options, "to") {
         Some(text) => read_addresses(alloc, text),
         None => Ok(Addresses::none(alloc)),
+    }
+}
+
+/// The streams that take their bytes from input.
+#[tactic(auto, unfolding(crate::specs::Asking::live_told))]
+pub(crate) fn live(alloc: Global, options: &[Named<'_>]) -> Result<Live, WordsFault>
+    ensures { Gives result (live_told (map option_said options.now)) }
+{
+    match told(options, "live") {
+        Some(text) => read_live(alloc, text),
+        None => Ok(Live::none()),
     }
 }

@@ -2,7 +2,7 @@
 
 use drm_bits::Octets;
 use drm_links::Address;
-use drm_schedule::Carry;
+use drm_schedule::{Carry, Live};
 use word_forms::Addresses;
 
 /// What a command line asks for, a variant for each command. Names are UTF-8; where an option isn't told and has a
@@ -23,6 +23,8 @@ pub enum Request {
         pace: u32,
         /// The first super frame that is sent or written.
         from: u32,
+        /// The streams that take their bytes from input.
+        live: Live,
     },
     /// Report what links bring, or a capture.
     Receive {

@@ -6,3 +6,4 @@ pub mod ArgumentLemmas
 pub mod SpellingLemmas
 pub mod AddressLemmas
 pub mod CarryLemmas
+pub mod StreamLemmas

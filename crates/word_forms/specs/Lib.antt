@@ -6,3 +6,4 @@ pub mod Reading
 pub mod Addressing
 pub mod Arguing
 pub mod Gives
+pub mod Streams

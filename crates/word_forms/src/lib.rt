@@ -6,6 +6,7 @@ mod arguments;
 mod carries;
 mod cuts;
 mod fault;
+mod live;
 mod numbers;
 mod word;
 
@@ -13,5 +14,6 @@ pub use addresses::{Addresses, address, read_addresses};
 pub use arguments::{Arguments, read_arguments};
 pub use carries::carry;
 pub use fault::WordsFault;
+pub use live::read_live;
 pub use numbers::within;
 pub use word::Named;

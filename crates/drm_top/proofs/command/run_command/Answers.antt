@@ -1,4 +1,5 @@
-use Rattle.std.proofs.Common.{◌≡◌, inl, inr, [], Err, refl, sym, subst, le_refl}
+use Rattle.std.proofs.Common.{◌≡◌, ◌∙◌, inl, inr, true, false, [], Err, refl, sym, subst, le_refl}
+use Rattle.drm_schedule.specs.Live.{is_any}
 use Rattle.drm_links.specs.Told.{WhileTold}
 use Rattle.several_links.specs.Reaching.{NothingSent}
 use Rattle.drm_faults.specs.declared.fault.Fault.{Fault}
@@ -34,34 +35,75 @@ returns-in-Check g c = record {
   dock = λ none. refl;
 }
 
+-- a capture of a schedule whose live streams take their bytes from input
 pub returns-then-is_empty : goal.returns-then-is_empty
 returns-then-is_empty g c =
     let none : c.in-Serve.to ≡ [] = c.is_empty.ensures.0 c.if-is_empty.true in
+    let live : is_any c.in-Serve.live ≡ true = sym c.any.ensures ∙ c.if-any.true in
     record {
-      words = λ e. c.serve.ensures.words (fault_of_whole c.whole-then-is_empty.result c.serve.result faults.Words c.whole-then-is_empty.ensures e);
-      memory = λ e. (refl, c.serve.ensures.memory (fault_of_whole c.whole-then-is_empty.result c.serve.result faults.NoMemory c.whole-then-is_empty.ensures e));
-      run = rw (c.in-Serve.is, none) ((c.serve.result, c.whole-then-is_empty.ensures, rw (← c.text-then-is_empty.ensures) c.serve.ensures.run), refl, refl, (c.requires.told, refl));
-      read = λ e. inr (c.serve.ensures.run.read_cause.rose (fault_of_whole c.whole-then-is_empty.result c.serve.result faults.Read c.whole-then-is_empty.ensures e));
-      write = record { later = c.serve.ensures.run.write_cause.later; rose = λ e. c.serve.ensures.run.write_cause.rose (fault_of_whole c.whole-then-is_empty.result c.serve.result faults.Write c.whole-then-is_empty.ensures e) };
-      link = λ e. absurd (c.serve.ensures.link (fault_of_whole c.whole-then-is_empty.result c.serve.result faults.Link c.whole-then-is_empty.ensures e));
-      lacking = λ e. absurd (whole_lacks_none c.whole-then-is_empty.result c.serve.result c.whole-then-is_empty.ensures e);
+      words = λ e. c.serve_live.ensures.words e;
+      memory = λ e. c.serve_live.ensures.memory e;
+      run = rw (c.in-Serve.is, none, live) (rw (← c.text-name.ensures) c.serve_live.ensures.run, refl, (c.requires.told, refl));
+      read = λ e. c.serve_live.ensures.read e;
+      write = c.serve_live.ensures.write;
+      link = λ e. absurd (c.serve_live.ensures.link e);
+      lacking = λ e. rw (c.in-Serve.is, live) refl;
       unsent = λ e. dock_still (g.D.Dock.known c.args.dock.now);
       dock = λ none. refl;
     }
 
+-- and over links
 pub returns-else-is_empty : goal.returns-else-is_empty
 returns-else-is_empty g c =
     let some : c.in-Serve.to ≡ [] → ⊥ = λ none. let yes = c.is_empty.ensures.1 none in let no = c.if-is_empty.false in absurd cc in
+    let live : is_any c.in-Serve.live ≡ true = sym c.any.ensures ∙ c.if-any.true in
     record {
-      words = λ e. c.send.ensures.words (fault_of_whole c.whole-else-is_empty.result c.send.result faults.Words c.whole-else-is_empty.ensures e);
+      words = λ e. c.send_live.ensures.words e;
+      memory = λ e. (c.send_live.ensures.memory e, refl);
+      run = rw c.in-Serve.is (sends c.in-Serve.name c.in-Serve.to c.in-Serve.pace c.in-Serve.from c.in-Serve.live c.send_live.result c.args.told.now g.S.Shelf.known c.args.shelf.now c.send_live.new.shelf g.I.Source.known c.args.input.now c.send_live.new.input
+          g.O.Sink.known c.args.out.now c.args.out.now g.E.Sink.known c.args.err.now c.args.err.now g.D.Dock.known c.args.dock.now c.send_live.new.dock some
+          (rw live (rw (← c.text-name.ensures) c.send_live.ensures.run), refl, (c.requires.told, refl)));
+      read = λ e. c.send_live.ensures.read e;
+      write = record { later = le_refl _; rose = λ e. absurd (c.send_live.ensures.write e) };
+      link = λ e. rw c.in-Serve.is (opens_some c.in-Serve.name c.in-Serve.to c.in-Serve.pace c.in-Serve.from c.in-Serve.live some);
+      lacking = λ e. rw (c.in-Serve.is, live) refl;
+      unsent = λ e. c.send_live.ensures.unsent e;
+      dock = λ none. absurd (none (rw c.in-Serve.is (opens_some c.in-Serve.name c.in-Serve.to c.in-Serve.pace c.in-Serve.from c.in-Serve.live some)));
+    }
+
+-- a capture of the schedule itself
+pub returns-then-is_empty-2 : goal.returns-then-is_empty-2
+returns-then-is_empty-2 g c =
+    let none : c.in-Serve.to ≡ [] = c.is_empty-else-any.ensures.0 c.if-is_empty-2.true in
+    let plain : is_any c.in-Serve.live ≡ false = sym c.any.ensures ∙ c.if-any.false in
+    record {
+      words = λ e. c.serve.ensures.words (fault_of_whole c.whole-then-is_empty-2.result c.serve.result faults.Words c.whole-then-is_empty-2.ensures e);
+      memory = λ e. (refl, c.serve.ensures.memory (fault_of_whole c.whole-then-is_empty-2.result c.serve.result faults.NoMemory c.whole-then-is_empty-2.ensures e));
+      run = rw (c.in-Serve.is, none, plain) (((c.serve.result, c.whole-then-is_empty-2.ensures, rw (← c.text-name.ensures) c.serve.ensures.run), refl), refl, (c.requires.told, refl));
+      read = λ e. inr (c.serve.ensures.run.read_cause.rose (fault_of_whole c.whole-then-is_empty-2.result c.serve.result faults.Read c.whole-then-is_empty-2.ensures e));
+      write = record { later = c.serve.ensures.run.write_cause.later; rose = λ e. c.serve.ensures.run.write_cause.rose (fault_of_whole c.whole-then-is_empty-2.result c.serve.result faults.Write c.whole-then-is_empty-2.ensures e) };
+      link = λ e. absurd (c.serve.ensures.link (fault_of_whole c.whole-then-is_empty-2.result c.serve.result faults.Link c.whole-then-is_empty-2.ensures e));
+      lacking = λ e. absurd (whole_lacks_none c.whole-then-is_empty-2.result c.serve.result c.whole-then-is_empty-2.ensures e);
+      unsent = λ e. dock_still (g.D.Dock.known c.args.dock.now);
+      dock = λ none. refl;
+    }
+
+pub returns-else-is_empty-2 : goal.returns-else-is_empty-2
+returns-else-is_empty-2 g c =
+    let some : c.in-Serve.to ≡ [] → ⊥ = λ none. let yes = c.is_empty-else-any.ensures.1 none in let no = c.if-is_empty-2.false in absurd cc in
+    let plain : is_any c.in-Serve.live ≡ false = sym c.any.ensures ∙ c.if-any.false in
+    record {
+      words = λ e. c.send.ensures.words (fault_of_whole c.whole-else-is_empty-2.result c.send.result faults.Words c.whole-else-is_empty-2.ensures e);
       memory = λ e. (refl, refl);
-      run = rw c.in-Serve.is (sends c.in-Serve.name c.in-Serve.to c.in-Serve.pace c.in-Serve.from c.whole-else-is_empty.result c.args.told.now g.S.Shelf.known c.args.shelf.now c.send.new.shelf g.I.Source.known c.args.input.now c.args.input.now g.O.Sink.known c.args.out.now c.args.out.now g.E.Sink.known c.args.err.now c.args.err.now g.D.Dock.known c.args.dock.now c.send.new.dock some ((c.send.result, c.whole-else-is_empty.ensures, rw (← c.text-else-is_empty.ensures) c.send.ensures.run), refl, refl, (c.requires.told, refl)));
-      read = λ e. inr (c.send.ensures.read (fault_of_whole c.whole-else-is_empty.result c.send.result faults.Read c.whole-else-is_empty.ensures e));
-      write = record { later = le_refl _; rose = λ e. absurd (c.send.ensures.write (fault_of_whole c.whole-else-is_empty.result c.send.result faults.Write c.whole-else-is_empty.ensures e)) };
-      link = λ e. rw c.in-Serve.is (opens_some c.in-Serve.name c.in-Serve.to c.in-Serve.pace c.in-Serve.from some);
-      lacking = λ e. absurd (whole_lacks_none c.whole-else-is_empty.result c.send.result c.whole-else-is_empty.ensures e);
-      unsent = λ e. c.send.ensures.unsent (fault_of_whole c.whole-else-is_empty.result c.send.result faults.NoMemory c.whole-else-is_empty.ensures e);
-      dock = λ none. absurd (none (rw c.in-Serve.is (opens_some c.in-Serve.name c.in-Serve.to c.in-Serve.pace c.in-Serve.from some)));
+      run = rw c.in-Serve.is (sends c.in-Serve.name c.in-Serve.to c.in-Serve.pace c.in-Serve.from c.in-Serve.live c.whole-else-is_empty-2.result c.args.told.now g.S.Shelf.known c.args.shelf.now c.send.new.shelf g.I.Source.known c.args.input.now c.args.input.now
+          g.O.Sink.known c.args.out.now c.args.out.now g.E.Sink.known c.args.err.now c.args.err.now g.D.Dock.known c.args.dock.now c.send.new.dock some
+          (rw plain ((c.send.result, c.whole-else-is_empty-2.ensures, rw (← c.text-name.ensures) c.send.ensures.run), refl), refl, (c.requires.told, refl)));
+      read = λ e. inr (c.send.ensures.read (fault_of_whole c.whole-else-is_empty-2.result c.send.result faults.Read c.whole-else-is_empty-2.ensures e));
+      write = record { later = le_refl _; rose = λ e. absurd (c.send.ensures.write (fault_of_whole c.whole-else-is_empty-2.result c.send.result faults.Write c.whole-else-is_empty-2.ensures e)) };
+      link = λ e. rw c.in-Serve.is (opens_some c.in-Serve.name c.in-Serve.to c.in-Serve.pace c.in-Serve.from c.in-Serve.live some);
+      lacking = λ e. absurd (whole_lacks_none c.whole-else-is_empty-2.result c.send.result c.whole-else-is_empty-2.ensures e);
+      unsent = λ e. c.send.ensures.unsent (fault_of_whole c.whole-else-is_empty-2.result c.send.result faults.NoMemory c.whole-else-is_empty-2.ensures e);
+      dock = λ none. absurd (none (rw c.in-Serve.is (opens_some c.in-Serve.name c.in-Serve.to c.in-Serve.pace c.in-Serve.from c.in-Serve.live some)));
     }
 
 pub returns-in-Receive-clause-run : goal.returns-in-Receive-clause-run

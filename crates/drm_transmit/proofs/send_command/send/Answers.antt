@@ -4,6 +4,7 @@ use Rattle.drm_links.specs.Told.{Tells}
 use Rattle.drm_faults.specs.declared.fault.Fault.TheVariants as faults
 use Rattle.several_links.specs.Reaching.{Over, HaveGone, after_closes}
 use Rattle.several_links.specs.declared.member.Member.{Member}
+use Rattle.drm_load.specs.Schedule.{schedule_named}
 use Rattle.drm_transmit.specs.Send.{SendRun}
 use Rattle.drm_transmit.proofs.LinksLemmas.{links_run}
 use Rattle.drm_transmit.proofs.SendLemmas.{closed, unopened, over_links, nothing_sent}
@@ -28,14 +29,14 @@ returns-in-Ok g c =
     subst (λ ms. Tells b d (λ x y. (overs : List Over) → HaveGone known ms overs → y ≡ after_closes overs to x)) back c.close_each.ensures.closed in
     let later = c.in-Ok.ensures.later in
     let same = c.close_each.ensures.cause in
-    let sent : SendRun c.args.name.now to c.args.pace c.args.from c.send_over-sent.result g.S.Shelf.known c.args.shelf.now c.send_over-sent.new.shelf g.D.Dock.known c.args.dock.now c.close_each.new.dock =
-    over_links c.one_delivery.ensures c.first_ones_are_front.ensures c.args.name.now to c.args.pace c.args.from c.send_over-sent.result g.S.Shelf.known c.args.shelf.now c.send_over-sent.new.shelf g.D.Dock.known c.args.dock.now c.close_each.new.dock
+    let sent : SendRun (schedule_named c.args.name.now) to c.args.pace c.args.from c.send_over-sent.result g.S.Shelf.known c.args.shelf.now c.send_over-sent.new.shelf g.D.Dock.known c.args.dock.now c.close_each.new.dock =
+    over_links c.one_delivery.ensures c.first_ones_are_front.ensures (schedule_named c.args.name.now) to c.args.pace c.args.from c.send_over-sent.result g.S.Shelf.known c.args.shelf.now c.send_over-sent.new.shelf g.D.Dock.known c.args.dock.now c.close_each.new.dock
     c.requires.different
-    (links_run c.args.name.now to c.args.pace c.args.from c.send_over-sent.result g.S.Shelf.known c.args.shelf.now c.send_over-sent.new.shelf g.D.Dock.known c.args.dock.now c.close_each.new.dock b known before after many run c.in-Ok.ensures.opened
+    (links_run (schedule_named c.args.name.now) to c.args.pace c.args.from c.send_over-sent.result g.S.Shelf.known c.args.shelf.now c.send_over-sent.new.shelf g.D.Dock.known c.args.dock.now c.close_each.new.dock b known before after many run c.in-Ok.ensures.opened
     (subst (λ ms. Rattle.several_links.specs.Openings.Docked a b (λ told. Rattle.several_links.specs.Reaching.HaveLinks known told to ms)) (sym value) c.in-Ok.ensures.links) shut (omega (arith, later, same))) in
     record {
       run = sent;
-      unsent = λ e. nothing_sent c.one_delivery.ensures c.first_ones_are_front.ensures c.args.name.now to c.args.pace c.args.from c.send_over-sent.result g.S.Shelf.known c.args.shelf.now c.send_over-sent.new.shelf g.D.Dock.known c.args.dock.now c.close_each.new.dock c.requires.different sent e;
+      unsent = λ e. nothing_sent c.one_delivery.ensures c.first_ones_are_front.ensures (schedule_named c.args.name.now) to c.args.pace c.args.from c.send_over-sent.result g.S.Shelf.known c.args.shelf.now c.send_over-sent.new.shelf g.D.Dock.known c.args.dock.now c.close_each.new.dock c.requires.different sent e;
       read = λ e. run.read_cause.rose e;
       words = λ e. c.send_over-sent.ensures.words e;
       write = λ e. c.send_over-sent.ensures.write e;
@@ -43,16 +44,16 @@ returns-in-Ok g c =
 
 pub returns-in-Err-NoMemory-clause-run : goal.returns-in-Err-NoMemory-clause-run
 returns-in-Err-NoMemory-clause-run g c =
-    unopened c.one_delivery.ensures c.first_ones_are_front.ensures c.args.name.now c.args.to.now c.args.pace c.args.from (Err faults.NoMemory) g.S.Shelf.known c.args.shelf.now c.args.shelf.now g.D.Dock.known c.args.dock.now c.reach_each.new.dock
+    unopened c.one_delivery.ensures c.first_ones_are_front.ensures (schedule_named c.args.name.now) c.args.to.now c.args.pace c.args.from (Err faults.NoMemory) g.S.Shelf.known c.args.shelf.now c.args.shelf.now g.D.Dock.known c.args.dock.now c.reach_each.new.dock
     (record { fault = refl; unread = refl; unopened = c.reach_each.ensures.untouched (c.in-Err-NoMemory.is ∙ ap Err c.in-Err-NoMemory.field-0-is) })
 
 pub returns-in-Err-NoMemory-clause-unsent : goal.returns-in-Err-NoMemory-clause-unsent
 returns-in-Err-NoMemory-clause-unsent g c = λ e.
-    nothing_sent c.one_delivery.ensures c.first_ones_are_front.ensures c.args.name.now c.args.to.now c.args.pace c.args.from (Err faults.NoMemory) g.S.Shelf.known c.args.shelf.now c.args.shelf.now g.D.Dock.known c.args.dock.now c.reach_each.new.dock c.requires.different
-    (unopened c.one_delivery.ensures c.first_ones_are_front.ensures c.args.name.now c.args.to.now c.args.pace c.args.from (Err faults.NoMemory) g.S.Shelf.known c.args.shelf.now c.args.shelf.now g.D.Dock.known c.args.dock.now c.reach_each.new.dock
+    nothing_sent c.one_delivery.ensures c.first_ones_are_front.ensures (schedule_named c.args.name.now) c.args.to.now c.args.pace c.args.from (Err faults.NoMemory) g.S.Shelf.known c.args.shelf.now c.args.shelf.now g.D.Dock.known c.args.dock.now c.reach_each.new.dock c.requires.different
+    (unopened c.one_delivery.ensures c.first_ones_are_front.ensures (schedule_named c.args.name.now) c.args.to.now c.args.pace c.args.from (Err faults.NoMemory) g.S.Shelf.known c.args.shelf.now c.args.shelf.now g.D.Dock.known c.args.dock.now c.reach_each.new.dock
     (record { fault = refl; unread = refl; unopened = c.reach_each.ensures.untouched (c.in-Err-NoMemory.is ∙ ap Err c.in-Err-NoMemory.field-0-is) })) refl
 
 pub returns-in-Err-Link-clause-run : goal.returns-in-Err-Link-clause-run
 returns-in-Err-Link-clause-run g c =
-    closed c.one_delivery.ensures c.first_ones_are_front.ensures c.args.name.now c.args.to.now c.args.pace c.args.from (Err faults.Link) g.S.Shelf.known c.args.shelf.now c.args.shelf.now g.D.Dock.known c.args.dock.now c.reach_each.new.dock
+    closed c.one_delivery.ensures c.first_ones_are_front.ensures (schedule_named c.args.name.now) c.args.to.now c.args.pace c.args.from (Err faults.Link) g.S.Shelf.known c.args.shelf.now c.args.shelf.now g.D.Dock.known c.args.dock.now c.reach_each.new.dock
     (record { fault = refl; unread = refl; told = c.reach_each.ensures.failed (c.in-Err-Link.is ∙ ap Err c.in-Err-Link.field-0-is); rose = c.reach_each.ensures.rose (c.in-Err-Link.is ∙ ap Err c.in-Err-Link.field-0-is) })

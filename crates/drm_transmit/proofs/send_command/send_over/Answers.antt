@@ -9,6 +9,7 @@ use Rattle.drm_server.specs.Several.{Served}
 use Rattle.drm_faults.specs.declared.fault.Fault.TheVariants as faults
 use Rattle.drm_load.specs.declared.loading.ScheduleFault.TheVariants as schedule
 use Rattle.drm_load.proofs.ScheduleLemmas.{schedule_ran_out}
+use Rattle.drm_load.specs.Schedule.{schedule_named}
 use Rattle.drm_transmit.proofs.OverLinksLemmas.{unsent, sent_over}
 use Rattle.drm_transmit.proofs.send_command.send_over.Goals as goal
 
@@ -16,14 +17,14 @@ pub returns-in_err-schedule-clause-run : goal.returns-in_err-schedule-clause-run
 returns-in_err-schedule-clause-run g c =
     let p = err_from_is_err_and c.from_residual.result c.from_residual.ensures.1 in
     rw (p.1 ∙ ap Err p.2)
-    (unsent c.args.name.now c.args.pace c.args.from g.S.Shelf.known c.args.shelf.now c.read_schedule.new.shelf g.L.Link.known c.in_err-schedule.field-0.0 c.args.members.now c.requires.up
+    (unsent (schedule_named c.args.name.now) c.args.pace c.args.from g.S.Shelf.known c.args.shelf.now c.read_schedule.new.shelf g.L.Link.known c.in_err-schedule.field-0.0 c.args.members.now c.requires.up
     c.in_err-schedule.ensures.reads c.in_err-schedule.ensures.cause.later (λ is. c.in_err-schedule.ensures.cause.rose (ap Err is)))
 
 pub returns-in_err-server-clause-run : goal.returns-in_err-server-clause-run
 returns-in_err-server-clause-run g c =
     let p = err_from_is_err_and c.from_residual-in_err-server.result c.from_residual-in_err-server.ensures.1 in
     rw (p.1 ∙ ap Err p.2)
-    (unsent c.args.name.now c.args.pace c.args.from g.S.Shelf.known c.args.shelf.now c.read_schedule.new.shelf g.L.Link.known schedule.NoMemory c.args.members.now c.requires.up
+    (unsent (schedule_named c.args.name.now) c.args.pace c.args.from g.S.Shelf.known c.args.shelf.now c.read_schedule.new.shelf g.L.Link.known schedule.NoMemory c.args.members.now c.requires.up
     (schedule_ran_out c.args.name.now c.in_ok-schedule.schedule (g.S.Shelf.known c.args.shelf.now) (g.S.Shelf.known c.read_schedule.new.shelf) c.in_ok-schedule.ensures.reads) c.in_ok-schedule.ensures.cause.later (λ is. cc))
 
 pub returns-then-all_up-clause-run : goal.returns-then-all_up-clause-run
@@ -34,7 +35,7 @@ returns-then-all_up-clause-run g c =
     let members = c.args.members.now in
     let after = c.serve_links.new.members in
     let up : AreUp after = c.all_up.ensures.0 c.if-all_up.true in
-    sent_over c.args.name.now c.args.pace c.args.from g.S.Shelf.known c.args.shelf.now c.read_schedule.new.shelf g.L.Link.known plan valid (Ok tt) members after c.serve_links.auto.members
+    sent_over (schedule_named c.args.name.now) c.args.pace c.args.from g.S.Shelf.known c.args.shelf.now c.read_schedule.new.shelf g.L.Link.known plan valid (Ok tt) members after c.serve_links.auto.members
     c.in_ok-schedule.ensures.reads c.in_ok-schedule.ensures.cause.later (inl refl) (λ is. cc) ((λ e. absurd cc), λ none. absurd (none up))
     (λ k d within. subst (λ (p : Plan). Served p (3 * c.args.from) c.args.pace (frame_count p - 3 * c.args.from) g.L.Link.known (g.L.Link.known (slice_index_or members k d).link) (slice_index_or after k d)) same (c.serve_links.ensures.served k d within))
 
@@ -46,6 +47,6 @@ returns-clause-run g c =
     let members = c.args.members.now in
     let after = c.serve_links.new.members in
     let down : AreUp after → ⊥ = λ up. let yes = c.all_up.ensures.1 up in let no = c.if-all_up.false in absurd cc in
-    sent_over c.args.name.now c.args.pace c.args.from g.S.Shelf.known c.args.shelf.now c.read_schedule.new.shelf g.L.Link.known plan valid (Err faults.Link) members after c.serve_links.auto.members
+    sent_over (schedule_named c.args.name.now) c.args.pace c.args.from g.S.Shelf.known c.args.shelf.now c.read_schedule.new.shelf g.L.Link.known plan valid (Err faults.Link) members after c.serve_links.auto.members
     c.in_ok-schedule.ensures.reads c.in_ok-schedule.ensures.cause.later (inr refl) (λ is. cc) ((λ e. down), λ none. refl)
     (λ k d within. subst (λ (p : Plan). Served p (3 * c.args.from) c.args.pace (frame_count p - 3 * c.args.from) g.L.Link.known (g.L.Link.known (slice_index_or members k d).link) (slice_index_or after k d)) same (c.serve_links.ensures.served k d within))

@@ -1,9 +1,9 @@
 use Rattle.std.proofs.Common.{◌≡◌, ◌≤◌, length, ◌+◌, ◌-◌, take, drop, subst, arith}
 use Rattle.std.proofs.Math.Nat.{le_trans}
 use Rattle.std.proofs.lemmas.Grind.{common_steps}
-use Rattle.data_units.proofs.Filling.{filled_more, filled_failed}
-use Rattle.data_units.specs.Input.{FailsBehind}
-use Rattle.data_units.proofs.input.read_front.Goals as goal
+use Rattle.input_front.proofs.Filling.{filled_more, filled_failed}
+use Rattle.input_front.specs.Input.{FailsBehind}
+use Rattle.input_front.proofs.reading.read_front.Goals as goal
 
 pub loop-len-preserved : goal.loop-len-preserved
 loop-len-preserved g c =

@@ -1,14 +1,14 @@
-//! An input, read whole.
+//! The front of an input.
 
 ghost use Rattle.std.specs.Prelude.{◌≡◌, ◌≤◌, IfOk, IfErr, OnErr, Err, length, take};
 ghost use Rattle.drm_links.specs.Told.{HasCause};
-ghost use Rattle.data_units.specs.Input.{ReadsFront, FailsBehind};
+ghost use Rattle.input_front.specs.Input.{ReadsFront, FailsBehind};
 
 use drm_faults::Fault;
 use drm_links::{ReadOut, Source};
 
 /// Reads an input into the front of the room, until it ends or the room is full. Answers how many bytes came.
-pub(crate) fn read_front<I: Source>(input: &mut I, room: &mut [u8]) -> Result<usize, Fault>
+pub fn read_front<I: Source>(input: &mut I, room: &mut [u8]) -> Result<usize, Fault>
     ensures read { IfOk result (λ len. (len ≤ length room.old)
         × ReadsFront (length room.old) (take len room.new) (I.known input.old) (I.known input.new)) }
     ensures failed { OnErr result (FailsBehind (length room.old) (I.known input.old) (I.known input.new)) }

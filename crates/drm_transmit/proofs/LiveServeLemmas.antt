@@ -1,0 +1,96 @@
+-- A capture of a schedule with live streams.
+use Rattle.std.proofs.Common.{◌≡◌, ℕ, ◌+◌, ◌*◌, ◌≤◌, inl, inr, not, Bool, List, ◌++◌, Result, Ok, Err, refl, ap}
+use Rattle.drm_links.specs.Told.{HasFailed, Known, HasCause}
+use Rattle.drm_links.specs.Shelf.{Files}
+use Rattle.drm_links.specs.Source.{Input}
+use Rattle.drm_links.specs.Sink.{Output}
+use Rattle.drm_schedule.specs.declared.live.Live.{Live}
+use Rattle.drm_schedule.specs.declared.plan.Plan.{Plan}
+use Rattle.drm_schedule.specs.Valid.{IsSchedule}
+use Rattle.live_streams.specs.Laws.{InputMakesASchedule}
+use Rattle.drm_server.specs.Capture.{IsCapture, IsFrontOfCapture}
+use Rattle.drm_load.specs.Loading.{Reading, ReadBy}
+use Rattle.drm_load.specs.Schedule.{schedule_named}
+use Rattle.drm_load.specs.Faults.{fault_of_schedule}
+use Rattle.drm_load.specs.declared.loading.ScheduleFault.{ScheduleFault}
+use Rattle.drm_load.specs.declared.loading.ScheduleFault.TheVariants as schedule
+use Rattle.drm_faults.specs.Fault.{done_of}
+use Rattle.drm_faults.specs.declared.fault.Fault.{Fault}
+use Rattle.drm_faults.specs.declared.fault.Fault.TheVariants.{NoMemory, Words, FacLength, FacOver, FacCrc, Schedule, Script, Capture, CaptureTooLong, PacketSize, Units, Read, Write, Link}
+use Rattle.live_server.specs.Feeding.{fed}
+use Rattle.live_server.specs.Capture.{WroteLive}
+use Rattle.drm_transmit.specs.ScheduleRun.{ScheduleRun}
+use Rattle.drm_transmit.specs.Live.{live_named, LiveServeRun}
+use Rattle.drm_transmit.proofs.ScheduleRunLemmas.{refused_run, cut_run, whole_run}
+use Rattle.drm_transmit.proofs.LiveLemmas.{live_reads, live_stops, unfed, was_fed}
+
+module _ {S I O : Type 0} (name : List ℕ) (from : ℕ) (live : Live) (shelf_known : S → Known Files) (shelf shelf' : S) (input_known : I → Known Input) (out_known : O → Known Output) where
+  abbrev whole : Plan → List ℕ → Type 0
+  whole schedule = IsCapture schedule (3 * from)
+
+  abbrev front : Plan → List ℕ → Type 0
+  front schedule = IsFrontOfCapture schedule (3 * from)
+
+  -- a run of a schedule that is read so
+  abbrev RunOf : Result Bool Fault → O → O → Reading Plan → Type 0
+  RunOf ending out out' reading = ScheduleRun reading IsSchedule whole front (done_of ending) shelf_known shelf shelf' out_known out out'
+
+  -- no schedule came, and nothing was read of input or written
+  pub live_refused : (fault : ScheduleFault) (input : I) (out : O) → ReadBy (schedule_named name) (Err fault) (shelf_known shelf) (shelf_known shelf')
+      → (shelf_known shelf).faults ≤ (shelf_known shelf').faults → (fault ≡ schedule.Read → HasFailed (shelf_known shelf) (shelf_known shelf'))
+      → LiveServeRun name from live (Err (fault_of_schedule fault)) shelf_known shelf shelf' input_known input input out_known out out
+  live_refused fault input out comes later rose =
+      inl (unfed name live (3 * from) shelf_known shelf shelf' (fault_of_schedule fault) (input_known input) (RunOf (Err (fault_of_schedule fault)) out out)
+      (λ bytes. refused_run (live_named name live (3 * from) bytes) IsSchedule whole front shelf_known shelf shelf' out_known fault out
+      (live_stops name live (3 * from) bytes (shelf_known shelf) (shelf_known shelf') fault comes) later rose))
+
+  module _ (makes : InputMakesASchedule) (plan : Plan) (valid : IsSchedule plan) (comes : ReadBy (schedule_named name) (Ok plan) (shelf_known shelf) (shelf_known shelf'))
+      (later : (shelf_known shelf).faults ≤ (shelf_known shelf').faults) (input input' : I) (out out' : O) where
+    abbrev Ran : Result Bool Fault → Type 0
+    Ran result = LiveServeRun name from live result shelf_known shelf shelf' input_known input input' out_known out out'
+
+    -- one came, and its frames were written
+    pub live_served : (result : Result Bool Fault) → HasCause (input_known input) (input_known input') (result ≡ Err Read) → HasCause (out_known out) (out_known out') (result ≡ Err Write)
+        → WroteLive live plan (3 * from) result (input_known input) (input_known input') (out_known out) (out_known out') → Ran result
+    live_served (Ok all) read write wrote =
+        inl (was_fed name live (3 * from) shelf_known shelf shelf' (Ok all) (input_known input) (input_known input') (RunOf (Ok all) out out') plan (not all) wrote.bytes comes wrote.read
+        (λ more last.
+        let bytes = wrote.bytes ++ more in
+        whole_run (live_named name live (3 * from) bytes) IsSchedule whole front shelf_known shelf shelf' out_known (fed live plan (3 * from) bytes) (makes live plan (3 * from) bytes valid)
+        (live_reads name live (3 * from) bytes (shelf_known shelf) (shelf_known shelf') plan comes) later out out' write.later (wrote.written more last))
+        (λ other is. ((let same : all ≡ other = cc in ap not same), wrote.taken)))
+    live_served (Err Write) read write wrote =
+        inl (was_fed name live (3 * from) shelf_known shelf shelf' (Err Write) (input_known input) (input_known input') (RunOf (Err Write) out out') plan wrote.ended wrote.bytes comes wrote.read
+        (λ more last.
+        let bytes = wrote.bytes ++ more in
+        cut_run (live_named name live (3 * from) bytes) IsSchedule whole front shelf_known shelf shelf' out_known (fed live plan (3 * from) bytes) (makes live plan (3 * from) bytes valid)
+        (live_reads name live (3 * from) bytes (shelf_known shelf) (shelf_known shelf') plan comes) later out out' write.later (wrote.written more last) (write.rose refl))
+        (λ other is. absurd cc))
+    live_served (Err Read) read write wrote =
+        inr (
+          refl,
+          record {
+            plan = plan;
+            loads = comes;
+            sound = valid;
+            bytes = wrote.bytes;
+            read = wrote.read;
+            n = wrote.n;
+            within = wrote.within;
+            breaks = wrote.breaks;
+            made = wrote.written;
+            rose = read.rose refl;
+          },
+        )
+    live_served (Err NoMemory) read write wrote = absurd wrote
+    live_served (Err Link) read write wrote = absurd wrote
+    live_served (Err Words) read write wrote = absurd wrote
+    live_served (Err (FacLength n)) read write wrote = absurd wrote
+    live_served (Err FacOver) read write wrote = absurd wrote
+    live_served (Err (FacCrc s c)) read write wrote = absurd wrote
+    live_served (Err (Schedule l r)) read write wrote = absurd wrote
+    live_served (Err (Script l r)) read write wrote = absurd wrote
+    live_served (Err (Capture f)) read write wrote = absurd wrote
+    live_served (Err CaptureTooLong) read write wrote = absurd wrote
+    live_served (Err (PacketSize p)) read write wrote = absurd wrote
+    live_served (Err (Units p)) read write wrote = absurd wrote

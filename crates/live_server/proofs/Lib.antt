@@ -1,0 +1,3 @@
+pub mod LoadingLemmas
+pub mod GoingLemmas
+pub mod WritingLemmas

@@ -1,0 +1,122 @@
+use Rattle.std.proofs.Common.{◌≡◌, ℕ, true, List, [], ◌++◌, length, take, refl, sym, ap, subst, ◌∙◌, arith}
+use Rattle.std.proofs.lemmas.List.{length-take-le, take_all}
+use Rattle.std.proofs.lemmas.Result.{err_from_is_err_and}
+use Rattle.drm_links.specs.Source.{Inputs}
+use Rattle.drm_links.proofs.ToldLemmas.{Inputs-nothing}
+use Rattle.drm_schedule.specs.declared.plan.Plan.{Plan}
+use Rattle.drm_schedule.specs.Valid.{IsSchedule}
+use Rattle.input_front.specs.Input.{FailsBehind}
+use Rattle.live_streams.specs.Live.{piece_at}
+use Rattle.live_server.specs.Feeding.{AreTaken}
+use Rattle.live_server.specs.Loading.{LoadsBehind}
+use Rattle.live_server.proofs.LoadingLemmas.{loads_ended, loads_nothing, loads_cut, loads_whole}
+use Rattle.live_server.proofs.feeding.load_next.Goals as goal
+
+-- input has ended before
+pub returns-then-ended-clause-loaded : goal.returns-then-ended-clause-loaded
+returns-then-ended-clause-loaded g c = λ first bytes behind.
+    let plan : Plan = c.args.server.now.base in
+    let valid : IsSchedule plan = subst IsSchedule c.schedule.ensures c.always_valid.ensures.schedule in
+    let is = c.if-ended.true in
+    record {
+      got = [];
+      still = λ end. (refl, is, refl);
+      read = Inputs-nothing (λ left rest. left ≡ [] ++ rest) (g.I.Source.known c.args.input.now) (λ left. refl);
+      all = λ no end. absurd (let yes = is in cc);
+      behind = λ taken.
+          subst (λ e. LoadsBehind c.args.live.now first c.args.t e e c.args.server.now c.load.new.self bytes []) (sym is)
+          (loads_ended c.args.live.now plan first c.args.t valid c.requires.frame behind c.args.server.now c.load.new.self bytes refl c.load.ensures
+          (subst (λ e. AreTaken e c.args.live.now plan first c.args.t bytes) is taken));
+    }
+
+-- the frame asks for nothing
+pub returns-then-len-eq0-clause-loaded : goal.returns-then-len-eq0-clause-loaded
+returns-then-len-eq0-clause-loaded g c = λ first bytes behind.
+    let plan : Plan = c.args.server.now.base in
+    let valid : IsSchedule plan = subst IsSchedule c.schedule.ensures c.always_valid.ensures.schedule in
+    let going = c.if-ended.false in
+    let size : piece_at c.args.live.now plan c.args.t ≡ 0 =
+    ap (λ p. piece_at c.args.live.now p c.args.t) (sym c.schedule-2.ensures) ∙ (sym c.piece_len-len.ensures.len ∙ c.if-len-eq0.true) in
+    record {
+      got = [];
+      still = λ end. absurd (let no = going in cc);
+      read = Inputs-nothing (λ left rest. left ≡ [] ++ rest) (g.I.Source.known c.args.input.now) (λ left. refl);
+      all = λ no end. absurd cc;
+      behind = λ taken.
+          subst (λ e. LoadsBehind c.args.live.now first c.args.t e e c.args.server.now c.load-then-len-eq0.new.self bytes []) (sym going)
+          (loads_nothing c.args.live.now plan first c.args.t valid c.requires.frame behind c.args.server.now c.load-then-len-eq0.new.self bytes refl c.load-then-len-eq0.ensures size
+          (subst (λ e. AreTaken e c.args.live.now plan first c.args.t bytes) going taken));
+    }
+
+pub returns-in_err-came-clause-failed : goal.returns-in_err-came-clause-failed
+returns-in_err-came-clause-failed g c =
+    let len = c.piece_len-len.result in
+    let room = c.requires.room in
+    let most = c.piece_len-len.ensures.most in
+    let size : length (take len c.args.room.now) ≡ len = length-take-le len c.args.room.now (omega (arith, room, most)) in
+    let asked : len ≡ piece_at c.args.live.now c.args.server.now.base c.args.t =
+    c.piece_len-len.ensures.len ∙ ap (λ p. piece_at c.args.live.now p c.args.t) c.schedule-2.ensures in
+    let p = err_from_is_err_and c.from_residual.result c.from_residual.ensures.1 in
+    rw p.1 (subst (λ n. FailsBehind n (g.I.Source.known c.args.input.now) (g.I.Source.known c.read_front.new.input)) (size ∙ asked) c.in_err-came.ensures.failed)
+
+-- its piece is cut
+pub returns-then-came-len-clause-loaded : goal.returns-then-came-len-clause-loaded
+returns-then-came-len-clause-loaded g c = λ first bytes behind.
+    let plan : Plan = c.args.server.now.base in
+    let valid : IsSchedule plan = subst IsSchedule c.schedule.ensures c.always_valid.ensures.schedule in
+    let going = c.if-ended.false in
+    let len = c.piece_len-len.result in
+    let came = c.in_ok-came.came in
+    let room = c.requires.room in
+    let most = c.piece_len-len.ensures.most in
+    let size : length (take len c.args.room.now) ≡ len = length-take-le len c.args.room.now (omega (arith, room, most)) in
+    let asked : len ≡ piece_at c.args.live.now plan c.args.t =
+    c.piece_len-len.ensures.len ∙ ap (λ p. piece_at c.args.live.now p c.args.t) c.schedule-2.ensures in
+    let got : List ℕ = take came c.read_front.new.room in
+    let within = c.in_ok-came.ensures.read.0 in
+    let same = c.read_front.auto.room in
+    let less = c.if-came-len.true in
+    let long : length got ≡ came = length-take-le came c.read_front.new.room (omega (arith, within, same)) in
+    let front = c.in_ok-came.ensures.read.1 in
+    record {
+      got = got;
+      still = λ end. absurd (let no = going in cc);
+      read = front.front;
+      all = λ no end. front.all (omega (arith, size, long, less));
+      behind = λ taken.
+          subst (λ e. LoadsBehind c.args.live.now first c.args.t e true c.args.server.now c.load-then-came-len.new.self bytes got) (sym going)
+          (loads_cut c.args.live.now plan first c.args.t valid c.requires.frame behind c.args.server.now c.load-then-came-len.new.self bytes got refl c.load-then-came-len.ensures
+          (omega (arith, asked, long, less))
+          (subst (λ e. AreTaken e c.args.live.now plan first c.args.t bytes) going taken));
+    }
+
+-- it came whole
+pub returns-else-came-len-clause-loaded : goal.returns-else-came-len-clause-loaded
+returns-else-came-len-clause-loaded g c = λ first bytes behind.
+    let plan : Plan = c.args.server.now.base in
+    let valid : IsSchedule plan = subst IsSchedule c.schedule.ensures c.always_valid.ensures.schedule in
+    let going = c.if-ended.false in
+    let len = c.piece_len-len.result in
+    let came = c.in_ok-came.came in
+    let room = c.requires.room in
+    let most = c.piece_len-len.ensures.most in
+    let size : length (take len c.args.room.now) ≡ len = length-take-le len c.args.room.now (omega (arith, room, most)) in
+    let asked : len ≡ piece_at c.args.live.now plan c.args.t =
+    c.piece_len-len.ensures.len ∙ ap (λ p. piece_at c.args.live.now p c.args.t) c.schedule-2.ensures in
+    let piece : List ℕ = c.read_front.new.room in
+    let within = c.in_ok-came.ensures.read.0 in
+    let same = c.read_front.auto.room in
+    let all = c.if-came-len.false in
+    let whole : take came piece ≡ piece = take_all came piece (omega (arith, within, same, size, all)) in
+    let front = c.in_ok-came.ensures.read.1 in
+    record {
+      got = piece;
+      still = λ end. absurd (let no = going in cc);
+      read = subst (λ (l : List ℕ). Inputs (g.I.Source.known c.args.input.now) (g.I.Source.known c.read_front.new.input) (λ left rest. left ≡ l ++ rest)) whole front.front;
+      all = λ no end. absurd cc;
+      behind = λ taken.
+          subst (λ e. LoadsBehind c.args.live.now first c.args.t e e c.args.server.now c.load_live.new.self bytes piece) (sym going)
+          (loads_whole c.args.live.now plan first c.args.t valid c.requires.frame behind c.args.server.now c.load_live.new.self bytes piece refl c.load_live.ensures
+          (omega (arith, asked, same, size))
+          (subst (λ e. AreTaken e c.args.live.now plan first c.args.t bytes) going taken));
+    }

@@ -1,0 +1,5 @@
+pub mod Feeding
+pub mod Loading
+pub mod Links
+pub mod Capture
+pub mod Going
