@@ -53,7 +53,7 @@ for name in drmcast drmpaths; do
     sed -i "1s/\"drmcast[^\"]*\"/\"drmcast $version\"/" "$into/share/man/man1/$name.1"
     install -D -m 644 "$here/contrib/drmcast.bash" "$into/share/bash-completion/completions/$name"
 done
-for script in watch check_drmcast playout report pcap explain record pace units messages; do
+for script in watch check_drmcast playout interleave report pcap explain record pace units messages; do
     install -D -m 755 "$here/tools/$script.py" "$into/lib/drmcast/$script.py"
 done
 for shared in command_line datagrams metrics reports; do
