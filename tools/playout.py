@@ -13,7 +13,8 @@ Each schedule begins when the one before it ends, 3 frames of its pace for each 
 from there, so that receivers run on. What isn't so is named, with the line or the moment that would be right, and nothing is sent.
 
 `drmcast serve` is run for each schedule, with one pace between the last frame of one and the first of the next. If the playout is
-started within a schedule, or a server fails, it goes on at the next super frame.
+started within a schedule, or a server fails, it goes on at the next super frame. With --live one server after another takes the bytes
+of these streams from standard input, and none takes more than its frames need.
 
 The status is 0 after the last schedule, and after Ctrl-C or TERM; 3 if the list is wrong or has ended; and that of `drmcast` if it
 refuses a schedule or the words.
@@ -149,8 +150,8 @@ class Playout:
     """Runs the servers. `free` is the moment, by the clock that nobody sets, from which the next schedule may begin; None if none was played
     to its end just before, so that the moment of the day alone says where to begin."""
 
-    def __init__(self, program, to, pace, stop):
-        self.program, self.to, self.pace, self.stop = program, to, pace, stop
+    def __init__(self, program, to, pace, live, stop):
+        self.program, self.to, self.pace, self.live, self.stop = program, to, pace, live, stop
         self.free = None
 
     def wait(self, at):
@@ -167,9 +168,10 @@ class Playout:
 
     def serve(self, one, later):
         """Runs the server from this super frame on; gives its status, or None after a stop."""
-        words = [self.program, "serve", "--to", self.to, "--pace", str(self.pace), *(["--from", str(later)] if later else []), "--", one.name]
+        words = [self.program, "serve", "--to", self.to, "--pace", str(self.pace), *(["--live", self.live] if self.live else []),
+                 *(["--from", str(later)] if later else []), "--", one.name]
         # It writes nothing to its output, which ends with it.
-        with subprocess.Popen(words, stdin=subprocess.DEVNULL, stdout=subprocess.PIPE) as server:
+        with subprocess.Popen(words, stdin=None if self.live else subprocess.DEVNULL, stdout=subprocess.PIPE) as server:
             say(f"begins: {one.name}, super frame {later} of {one.super_frames}, until {moment(following(one, self.pace)[0])}")
             try:
                 self.stop.waits(server.stdout, None)
@@ -213,8 +215,9 @@ class Playout:
 def main():
     parser = command_line.parser(__doc__)
     parser.add_argument("list", metavar="LIST", type=command_line.file)
-    parser.add_argument("--to", metavar="ADDR", help="send there; without it the list is checked alone")
+    parser.add_argument("--to", metavar="ADDR", help="send there, also to several, joined by commas; without it the list is checked alone")
     parser.add_argument("--pace", type=command_line.number(1, 10_000), default=400, metavar="MS", help="milliseconds a frame (400)")
+    parser.add_argument("--live", metavar="LIST", help="streams that take their bytes from standard input, as 0 or 0,1")
     parser.add_argument("--program", type=command_line.program, default="drmcast", help="the program (drmcast, by the path)")
     options = parser.parse_args()
     entries = read(options.list, options.program, options.pace)
@@ -223,7 +226,7 @@ def main():
     if options.to is None:
         return 0
     stop = command_line.Stop()
-    playout = Playout(options.program, options.to, options.pace, stop)
+    playout = Playout(options.program, options.to, options.pace, options.live, stop)
     for one in entries:
         status = playout.play(one)
         if status or stop.asked:

@@ -8,8 +8,8 @@ import running
 
 import playout
 
-# `check` prints the schedule's text. `serve` notes when it was begun with which words, and lasts as long as it would; it fails once with the
-# status in a file, if there is one.
+# `check` prints the schedule's text. `serve` notes when it was begun with which words, and lasts as long as it would; with live streams it
+# takes a byte for each frame. It fails once with the status in a file, if there is one.
 PROGRAM = """#!/bin/sh
 for name; do :; done
 if grep -q wrong "$name"; then
@@ -17,11 +17,12 @@ if grep -q wrong "$name"; then
     exit 3
 fi
 case $1 in check) exec cat "$name" ;; esac
-since=0 pace=0 words=$*
+since=0 pace=0 live= words=$*
 while [ $# -gt 1 ]; do
     case $1 in
         --from) since=$2 ;;
         --pace) pace=$2 ;;
+        --live) live=$2 ;;
     esac
     shift
 done
@@ -33,6 +34,7 @@ if [ -e {folder}/failing ]; then
     rm {folder}/failing
     exit "$status"
 fi
+[ -z "$live" ] || head -c $frames >> {folder}/taken
 millis=$(((frames - 1) * pace))
 exec sleep $((millis / 1000)).$(printf %03d $((millis % 1000)))
 """
@@ -59,8 +61,8 @@ class Playout(unittest.TestCase):
     def words(self, *more):
         return "playout.py", "it.list", "--program", self.program, "--pace", PACE, *more
 
-    def ran(self, *more):
-        return running.run(*self.words(*more), cwd=self.folder)
+    def ran(self, *more, given=""):
+        return running.run(*self.words(*more), cwd=self.folder, given=given)
 
     def log(self):
         """When each server was begun, and its words."""
@@ -112,6 +114,13 @@ class Playout(unittest.TestCase):
         said = [line.partition(" ")[2] for line in out.splitlines()]
         self.assertEqual(said[0], f"nothing is on air; a.plan begins at {playout.moment(begin)}")
         self.assertEqual(said[-1], "the list has ended")
+
+    def test_live_streams_of_one_after_another(self):
+        lines = self.three(playout.now() + 500)
+        given = bytes(range(100))
+        self.assertEqual(self.ran("--to", "127.0.0.1:9", "--live", "0,1", given=given)[::2], (0, ""))
+        self.assertEqual([words for _, words in self.log()], [["serve", "--to", "127.0.0.1:9", "--pace", str(PACE), "--live", "0,1", "--", name] for _, name in lines])
+        self.assertEqual(self.folder.joinpath("taken").read_bytes(), given[:3 * 23])
 
     def test_it_goes_on_within_a_schedule(self):
         self.plan("a.plan", 0, 0, 1000)
