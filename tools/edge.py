@@ -216,7 +216,7 @@ def differences(program, case):
         for it in workers:
             it.start()
         try:
-            out, err = ran.communicate(bytes(case.input), timeout=40)
+            out, err = ran.communicate(bytes(case.input), timeout=90)
         except subprocess.TimeoutExpired:
             ran.kill()
             out, err = ran.communicate()
