@@ -37,10 +37,10 @@ _drmcast() {
         return
     fi
     case ${words[at - 1]} in
-        --to | --pace | --from | --window | --first | --frames | --idle | --limit) return ;;
+        --to | --pace | --from | --live | --window | --first | --frames | --idle | --limit) return ;;
     esac
     case ${words[1]}:$at:${words[at]} in
-        serve:*:-*) _drmcast_among '--to --pace --from' ;;
+        serve:*:-*) _drmcast_among '--to --pace --from --live' ;;
         receive:*:-* | gate:*:-*) _drmcast_among "$common --idle --limit" ;;
         convert:*:-* | unpack:*:-* | texts:*:-*) _drmcast_among "$common" ;;
         air:*:-*) _drmcast_among '--window' ;;

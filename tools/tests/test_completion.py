@@ -73,6 +73,7 @@ class Completion(unittest.TestCase):
                              ("drmcast gate 127.0.0.1:5000 127.0.0.1:5001 pft:1:", ["gate", "127.0.0.1:5000", "127.0.0.1:5001", "pft:1:1400"]),
                              ("drmcast gate 127.0.0.1:5000 127.0.0.1:5001 pl", ["gate", "127.0.0.1:5000", "127.0.0.1:5001", "plain"]),
                              ("drmcast receive 0.0.0.0:5000 --id", ["receive", "0.0.0.0:5000", "--idle"]), ("drmcast serve --pa", ["serve", "--pace"]), ("drmcast serve --fr", ["serve", "--from"]),
+                             ("drmcast serve --li", ["serve", "--live"]),
                              ("drmcast check my", ["check", "my evening.plan"]), ("drmpaths 127.0.0.1:5000,127.0.0.1:5001 --li", ["127.0.0.1:5000,127.0.0.1:5001", "--limit"])):
             with self.subTest(line=line):
                 self.assertEqual(self.completed(line), wanted)
