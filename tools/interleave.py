@@ -128,12 +128,17 @@ class Interleaving:
         begins = self.begins()
         return begins is not None and time.monotonic() >= begins or any(source.is_whole() for source in self.sources)
 
+    def have_ended(self):
+        """Whether nothing can come any more."""
+        return all(source.has_ended and not source.is_whole() for source in self.sources)
+
     def has_frame(self):
         """Waits for the next frame; gives whether there is one."""
-        while not self.is_begun():
-            if self.stop.asked or all(source.has_ended for source in self.sources):
-                return False
+        self.wait(time.monotonic())
+        while not self.is_begun() and not self.have_ended() and not self.stop.asked:
             self.wait(self.begins())
+        if self.have_ended() or self.stop.asked:
+            return False
         until = time.monotonic() + self.late
         # Once more for what has come by now, also of a stream that isn't waited for.
         self.wait(time.monotonic())

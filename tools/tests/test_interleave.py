@@ -66,6 +66,12 @@ class Interleave(unittest.TestCase):
             self.assertEqual(script.stdout.read(), bytes.fromhex("a0a0a0c0c0a1a1a1c1c1"))
             self.assertEqual(self.said(script), (["2 frames; replaced 0 of stream 0, 0 of stream 2"], 0))
 
+    def test_a_pace_adds_nothing_to_files(self):
+        a, b = self.file("a", pieces(0, 3, 9)), self.file("b", pieces(1, 1, 9))
+        with self.started(f"0:3:{a}", f"1:1:{b}", "--pace", 1) as script:
+            self.assertEqual(len(script.stdout.read()), 36)
+            self.assertEqual(self.said(script), (["9 frames; replaced 0 of stream 0, 0 of stream 1"], 0))
+
     def test_a_file_that_ends_is_replaced_without_its_cut_piece(self):
         a, b = self.file("a", pieces(0, 3, 1) + b"xx"), self.file("b", pieces(1, 2, 3))
         with self.started(f"0:3:{a}", f"1:2:{b}", "--fill", "5a", "--late", LONG) as script:
