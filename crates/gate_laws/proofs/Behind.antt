@@ -16,7 +16,7 @@ use Rattle.frame_lines.specs.Laws.{ServedLines}
 use Rattle.convert_laws.specs.Laws.{under}
 use Rattle.convert_laws.proofs.OtherCarry.{frame_under}
 use Rattle.drm_gate.specs.Passing.{sent_of}
-use Rattle.gate_laws.specs.Laws.{IsAmong, IsPassedOn, PassesSchedules, ComesAgain, GivesServed, ServedBehindTwo, pairs_given}
+use Rattle.gate_laws.specs.Laws.{IsAmong, IsPassedOn, PassesSchedules, ComesAgain, GivesServed, ServedBehindOne, ServedBehindTwo, pairs_given}
 
 -- ---- it comes again
 
@@ -63,18 +63,30 @@ served_by : (plan : Plan) (base : ℤ) (q : ℕ) (kept : ℕ → Bool) (item : I
 served_by plan base q kept item None at is frame = absurd (subst IsAFrame is frame)
 served_by plan base q kept item (Some t) at is frame = (t, (frame_is plan (base +ℤ pos q) t at).0, served_where plan t q kept item (is_recoverable (shape_at plan t) kept) is frame)
 
-module _ (passes : PassesSchedules) (delivering : Delivering) (lines : ServedLines) where
-  gives_served : (plan : Plan) (carry : Carry) (later : List (List ℕ)) (again : List Arrival) (schedule : IsSchedule (under carry plan)) → AllZip (IsArrival (under carry plan)) again later → GivesServed plan later again
-  gives_served plan carry later again schedule arrive window first told base answers collected steps after some (based, within) run feeds q step at frame =
-      let followed : IsFollowed (under carry plan) first base again later = record { arrive = arrive; based = based; within_span = within } in
-      let (given, suits) = delivering (under carry plan) window first told base again later answers collected steps after schedule some followed run feeds in
-      let (t, place, served) = served_by (under carry plan) base q (got window base (pairs_in again) q) step.item (frame_of_number (under carry plan) base q) refl (given.items q step at) frame in
+module _ (lines : ServedLines) where
+  gives_under : (plan : Plan) (carry : Carry) (later : List (List ℕ)) (again : List Arrival) → GivesServed (under carry plan) later again → GivesServed plan later again
+  gives_under plan carry later again gives window first told base answers collected steps after some based run feeds q step at frame =
+      let (t, place, served, line) = gives window first told base answers collected steps after some based run feeds q step at frame in
       let is : IsServed plan t q step.item = served_under plan carry t q step.item served in
       (t, place, is, lines plan t q step.item is)
 
-  pub served_behind_two : ServedBehindTwo
-  served_behind_two plan one other rules rules' base arrivals datagrams datagrams' fates fates' passed schedule some among onward =
-      let (arrivals', arrive) = comes_again passes plan one rules base arrivals datagrams fates passed datagrams' among in (
+  module _ (delivering : Delivering) (passes : PassesSchedules) where
+    gives_served : (plan : Plan) (later : List (List ℕ)) (again : List Arrival) → IsSchedule plan → AllZip (IsArrival plan) again later → GivesServed plan later again
+    gives_served plan later again schedule arrive window first told base answers collected steps after some (based, within) run feeds q step at frame =
+        let followed : IsFollowed plan first base again later = record { arrive = arrive; based = based; within_span = within } in
+        let (given, suits) = delivering plan window first told base again later answers collected steps after schedule some followed run feeds in
+        let (t, place, is) = served_by plan base q (got window base (pairs_in again) q) step.item (frame_of_number plan base q) refl (given.items q step at) frame in
+        (t, place, is, lines plan t q step.item is)
+
+    pub served_behind_one : ServedBehindOne
+    served_behind_one plan carry rules base arrivals datagrams fates passed later among =
+        let (again, arrive) = comes_again passes plan carry rules base arrivals datagrams fates passed later among in
+        (again, arrive, gives_under plan carry later again (gives_served (under carry plan) later again passed.other arrive))
+
+  -- the first gateway's schedule is one under the second one's carry
+  pub served_behind_two : ComesAgain → ServedBehindOne → ServedBehindTwo
+  served_behind_two comes served plan one other rules rules' base arrivals datagrams datagrams' fates fates' passed schedule some among onward =
+      let (arrivals', arrive) = comes plan one rules base arrivals datagrams fates passed datagrams' among in (
         arrivals',
         arrive,
         λ base' later (based, within) among_later.
@@ -85,6 +97,6 @@ module _ (passes : PassesSchedules) (delivering : Delivering) (lines : ServedLin
               followed = record { arrive = arrive; based = based; within_span = within };
               onward = onward;
             } in
-            let (again, is) = comes_again passes (under one plan) other rules' base' arrivals' datagrams' fates' second later among_later in
-            (again, is, gives_served plan other later again schedule is),
+            let (again, is, gives) = served (under one plan) other rules' base' arrivals' datagrams' fates' second later among_later in
+            (again, is, gives_under plan one later again gives),
       )

@@ -120,6 +120,15 @@ GivesServed plan later again =
     (window : ℕ) (first told : Option ℕ) (base : ℤ) (answers : List Taken) (collected : List Item) (steps : List FeedStep) (after : TrackerState)
     → 1 ≤ window → HaveBase plan first base again → Run window first told later answers collected → Feeds new_tracker collected steps after → AreServed plan base steps
 
+-- Over one gateway: what comes of what it sends is a delivery of the schedule, and where a receiver follows that, each frame that it
+-- gives is the server's.
+abbrev pub ServedBehindOne : Type 0
+ServedBehindOne =
+    (plan : Plan) (carry : Carry) (rules : Rules) (base : ℤ) (arrivals : List Arrival) (datagrams : List (List ℕ)) (fates : List Fate)
+    → IsPassedOn plan carry rules base arrivals datagrams fates
+    → (later : List (List ℕ)) → AllByRecursion (IsAmong (sent_of fates)) later
+    → (again : List Arrival) × AllZip (IsArrival (under carry plan)) again later × GivesServed plan later again
+
 -- Over two gateways: what comes of what the first one sends is a delivery of the schedule; where the second one follows that, so is
 -- what comes of what it sends; and where a receiver follows that, each frame that it gives is the server's.
 abbrev pub ServedBehindTwo : Type 0

@@ -1,6 +1,6 @@
 //! The laws of a gateway, each on a function that does nothing.
 
-ghost use Rattle.gate_laws.specs.Laws.{PassesDeliveries, PassesSchedules, ComesAgain, ServedBehindTwo};
+ghost use Rattle.gate_laws.specs.Laws.{PassesDeliveries, PassesSchedules, ComesAgain, ServedBehindOne, ServedBehindTwo};
 
 use collect_laws::{collecting, giving_ends, one_reading, one_run};
 use frame_lines::served_frames_are_printed;
@@ -32,11 +32,20 @@ pub fn what_is_passed_on_comes_again()
     schedules_are_passed_on();
 }
 
+/// A frame that a receiver behind a gateway gives is the server's, and is printed as that.
+pub fn frames_behind_a_gateway_are_served()
+    ensures { ServedBehindOne }
+{
+    schedules_are_passed_on();
+    modulators_give();
+    served_frames_are_printed();
+}
+
 /// A frame that a receiver behind two gateways gives is the server's, and is printed as that.
 pub fn frames_behind_two_gateways_are_served()
     ensures { ServedBehindTwo }
 {
-    schedules_are_passed_on();
-    modulators_give();
+    what_is_passed_on_comes_again();
+    frames_behind_a_gateway_are_served();
     served_frames_are_printed();
 }

@@ -5,6 +5,6 @@
 mod laws;
 
 pub use laws::{
-    deliveries_are_passed_on, frames_behind_two_gateways_are_served, schedules_are_passed_on,
-    what_is_passed_on_comes_again,
+    deliveries_are_passed_on, frames_behind_a_gateway_are_served,
+    frames_behind_two_gateways_are_served, schedules_are_passed_on, what_is_passed_on_comes_again,
 };
