@@ -20,13 +20,12 @@ use Rattle.dcp_pft.specs.Loss.{is_recoverable}
 use Rattle.mod_delivery.specs.Sent.{pairs_in, frame_at, frame_of_number, shape_at}
 use Rattle.mod_delivery.proofs.Numbering.{frame_within}
 use Rattle.drm_data.specs.Packet.{Packet}
-use Rattle.drm_data.specs.Units.{packets}
 use Rattle.drm_data.specs.Joining.{Event, Gap, State, made, closed}
 use Rattle.data_laws.specs.Runs.{answers, cuts_in}
 use Rattle.mod_feed.specs.Items.{Item, Missing}
 use Rattle.mod_feed.specs.Feeding.{FeedStep}
 use Rattle.capture_data.specs.Streams.{What, UnitsOf, stream_of, pieces_of, entries_of, entries_at}
-use Rattle.unpack_laws.specs.Frames.{Carried, IsSome, came_of, packets_of, Brings, BringAll}
+use Rattle.unpack_laws.specs.Frames.{Carried, came_of, packets_of, Brings, BringAll}
 use Rattle.unpack_laws.specs.Delivered.{CarriesAt, CarryFrom, is_given, is_given_at, carried_from, carried_by, together, UnpacksDeliveries}
 use Rattle.unpack_laws.proofs.LostFrames.{Same, same_one, same_front, none_said}
 use Rattle.unpack_laws.proofs.Ends.{to_end, same_self, unpacked_by}
@@ -250,10 +249,6 @@ module _ (plan : Plan) (window : ℕ) (base : ℤ) (pairs : List (ℕ × ℕ)) (
   packets_are t [] = refl
   packets_are t (ps ∷ frames) = ap (λ l. ps ++ l) (packets_are (t + 1) frames)
 
-  some_in : (t : ℕ) (frames : List (List Packet)) → CarryFrom plan k id d t frames → AllByRecursion IsSome (carried t frames)
-  some_in t [] carry = tt
-  some_in t (ps ∷ frames) carry = (carry.0.some, some_in (t + 1) frames carry.1)
-
 -- the item of a step, by its place among the items
 step_at : (steps : List FeedStep) (q : ℕ) (item : Item) → slice_get (map (λ (s : FeedStep). s.item) steps) q ≡ Some item
     → (step : FeedStep) × (slice_get steps q ≡ Some step) × (step.item ≡ item)
@@ -276,5 +271,5 @@ unpacks_deliveries delivering plan window first told base arrivals datagrams ans
     let shows = shows_all plan window base pairs end k id d base items frames refl many carries.all carries.carry
     (λ q item at. subst (λ n. IsItemAt plan window base pairs n item) (omega arith) (at_each q item at)) in
     unpacked_by k id d units (carried_by plan window base told pairs frames) shows.shown items text clean carries.some_length carries.are_units
-    (some_in plan window base pairs end k id d 0 frames carries.carry) (packets_are plan window base pairs end k id d 0 frames ∙ carries.packets_are)
+    (packets_are plan window base pairs end k id d 0 frames ∙ carries.packets_are)
     shows.bring (shows.same (made id d)) whole

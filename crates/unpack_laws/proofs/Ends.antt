@@ -13,7 +13,7 @@ use Rattle.mod_feed.specs.Items.{Item}
 use Rattle.capture_data.specs.Streams.{What, UnitsOf, reading, bad_in, missing_in}
 use Rattle.capture_data.specs.Lines.{cut_line, answer_text, answers_text, units_end, units_end_text, is_clean}
 use Rattle.capture_data.specs.Printed.{IsWholeText, unit_counts, refused_at, refused_in}
-use Rattle.unpack_laws.specs.Frames.{Carried, IsSome, came_of, events_of, packets_of, BringAll}
+use Rattle.unpack_laws.specs.Frames.{Carried, came_of, events_of, packets_of, BringAll}
 use Rattle.unpack_laws.specs.Laws.{Unpacked, UnpacksWhatIsWhole}
 use Rattle.unpack_laws.proofs.LostFrames.{Same, all_events, one_reading, gives_what_frames_bring}
 
@@ -92,13 +92,13 @@ module _ (k id d : ℕ) (items : List Item) (said : List Answer) (begun : Option
 
 -- Items show frames that a joiner can't tell from others, up to the end: what is printed gives of the others what is whole.
 pub unpacked_by : (k id d : ℕ) (units : List (List ℕ)) (frames shown : List Carried) (items : List Item) (text : List ℕ) (clean : Bool)
-    → 1 ≤ d → AllByRecursion IsUnit units → AllByRecursion IsSome frames → packets_of frames ≡ packets id d units
+    → 1 ≤ d → AllByRecursion IsUnit units → packets_of frames ≡ packets id d units
     → BringAll (UnitsOf k id d) d items shown → Same (made id d) (to_end shown) (to_end frames) → IsWholeText (UnitsOf k id d) items text clean
     → Unpacked k id d units frames items text clean
-unpacked_by k id d units frames shown items text clean some are_units are_some are bring same (events, are_events, (text_is, clean_is)) =
+unpacked_by k id d units frames shown items text clean some are_units are bring same (events, are_events, (text_is, clean_is)) =
     let what : What = UnitsOf k id d in
     let s : State = made id d in
-    let law = gives_what_frames_bring id d units frames some are_units are_some are in
+    let law = gives_what_frames_bring id d units frames some are_units are in
     let same_events : events ≡ events_of shown = one_reading d (reading what items) events (events_of shown) are_events (all_events what d items shown bring) in
     let here : events ++ Gap ∷ [] ≡ to_end shown = ap (λ l. l ++ Gap ∷ []) same_events ∙ sym (end_is shown) in
     let begun : Option Begun = (after_all s events).begun in
@@ -124,5 +124,5 @@ pub same_self : (s : State) (xs : List Event) → Same s xs xs
 same_self s xs = record { units = refl; cuts = refl; after = refl }
 
 pub unpacks_what_is_whole : UnpacksWhatIsWhole
-unpacks_what_is_whole k id d units frames items text clean some are_units are_some are bring is =
-    unpacked_by k id d units frames frames items text clean some are_units are_some are bring (same_self (made id d) (to_end frames)) is
+unpacks_what_is_whole k id d units frames items text clean some are_units are bring is =
+    unpacked_by k id d units frames frames items text clean some are_units are bring (same_self (made id d) (to_end frames)) is

@@ -1,3 +1,5 @@
+pub mod Alike
+pub mod Kept
 pub mod LostFrames
 pub mod Ends
 pub mod Numbered

@@ -1,11 +1,9 @@
--- A frame that is lost is one gap in the place of its packets.
-use Rattle.std.proofs.Common.{◌≡◌, ℕ, zero, suc, ◌+◌, ◌≤◌, Bool, true, false, List, [], ◌∷◌, ◌++◌, length, map, replicate, Option, None, Some, refl, sym, ap, ap₂, subst, ◌∙◌, arith, length-append}
-use Rattle.std.specs.List.{AllByRecursion}
+-- What comes of frames, some of which are lost.
+use Rattle.std.proofs.Common.{◌≡◌, ℕ, ◌+◌, Bool, true, false, List, [], ◌∷◌, ◌++◌, length, map, Option, None, Some, refl, sym, ap, ap₂, subst, ◌∙◌, arith}
 use Rattle.std.specs.Int.{from_bool}
-use Rattle.std.proofs.lemmas.List.{length-replicate}
 use Rattle.drm_data.specs.Packet.{Packet}
 use Rattle.drm_data.specs.Units.{packets}
-use Rattle.drm_data.specs.Joining.{Event, Came, Gap, State, made, closed, answer, after}
+use Rattle.drm_data.specs.Joining.{Event, Came, Gap, State, made, answer, after}
 use Rattle.drm_data.proofs.Joinings.{one_event}
 use Rattle.data_laws.specs.Losses as losses
 use Rattle.data_laws.specs.Readings.{AreEvents}
@@ -14,8 +12,10 @@ use Rattle.data_laws.proofs.LostPackets.{gives_what_is_whole}
 use Rattle.mod_feed.specs.Items.{Item}
 use Rattle.capture_data.specs.Streams.{What, entries_at, reading}
 use Rattle.capture_data.proofs.Joining.{events_join}
-use Rattle.unpack_laws.specs.Frames.{Carried, IsSome, came_of, events_of, packets_of, kept_of, ArePackets, Brings, BringAll}
+use Rattle.unpack_laws.specs.Frames.{Carried, came_of, events_of, packets_of, kept_of, ArePackets, Brings, BringAll}
 use Rattle.unpack_laws.specs.Laws.{GivesWhatFramesBring}
+use Rattle.unpack_laws.proofs.Alike.{Alike, same_cuts}
+use Rattle.unpack_laws.proofs.Kept.{AreMine, all_mine, alike, kept_size}
 
 -- a joiner gives the same of both, and comes to the same
 pub record Same (s : State) (xs ys : List Event) : Type 0 where
@@ -34,56 +34,15 @@ same_front (p ∷ ps) s xs ys h = same_one s (Came p) (map Came ps ++ xs) (map C
 pub none_said : (n : ℕ) → n ≡ 0 + n
 none_said n = omega arith
 
-drop_gaps : (n : ℕ) (s : State) (xs ys : List Event) → ((t : State) → Same t xs ys) → Same (closed s) xs (replicate n Gap ++ ys)
-drop_gaps zero s xs ys h = h (closed s)
-drop_gaps (suc n) s xs ys h =
-    let more = drop_gaps n s xs ys h in
-    record { units = more.units; cuts = more.cuts ∙ none_said (cuts_in (answers (closed s) (replicate n Gap ++ ys))); after = more.after }
-
--- the packets of one frame and those of the others
-kept_front : (g : Bool) (ps qs : List Packet) (kept : List Bool) → losses.kept_of (replicate (length ps) g ++ kept) (ps ++ qs) ≡ map (losses.came_of g) ps ++ losses.kept_of kept qs
-kept_front g [] qs kept = refl
-kept_front g (p ∷ ps) qs kept = ap (λ l. losses.came_of g p ∷ l) (kept_front g ps qs kept)
-
-lost_gaps : (ps : List Packet) → map (losses.came_of false) ps ≡ replicate (length ps) Gap
-lost_gaps [] = refl
-lost_gaps (p ∷ ps) = ap (λ l. Gap ∷ l) (lost_gaps ps)
-
-given_all : (ps : List Packet) → map (losses.came_of true) ps ≡ map Came ps
-given_all [] = refl
-given_all (p ∷ ps) = ap (λ l. Came p ∷ l) (given_all ps)
-
-same_frame : (g : Bool) (ps : List Packet) (s : State) (xs ys : List Event) → 1 ≤ length ps → ((t : State) → Same t xs ys) → Same s (came_of g ps ++ xs) (map (losses.came_of g) ps ++ ys)
-same_frame true ps s xs ys some h = subst (λ l. Same s (map Came ps ++ xs) (l ++ ys)) (sym (given_all ps)) (same_front ps s xs ys h)
-same_frame false [] s xs ys some h = absurd (omega (arith, some))
-same_frame false (p ∷ ps) s xs ys some h =
-    subst (λ l. Same s (Gap ∷ xs) (l ++ ys)) (sym (lost_gaps (p ∷ ps))) (same_one s Gap xs (replicate (length ps) Gap ++ ys) (drop_gaps (length ps) s xs ys h))
-
-same_frames : (frames : List Carried) → AllByRecursion IsSome frames → (s : State) → Same s (events_of frames) (losses.kept_of (kept_of frames) (packets_of frames))
-same_frames [] some s = record { units = refl; cuts = refl; after = refl }
-same_frames (frame ∷ frames) some s =
-    subst (λ l. Same s (came_of frame.given frame.packets ++ events_of frames) l) (sym (kept_front frame.given frame.packets (packets_of frames) (kept_of frames)))
-    (same_frame frame.given frame.packets s (events_of frames) (losses.kept_of (kept_of frames) (packets_of frames)) some.0 (same_frames frames some.1))
-
-kept_size : (frames : List Carried) → length (kept_of frames) ≡ length (packets_of frames)
-kept_size [] = refl
-kept_size (frame ∷ frames) =
-    omega (
-      arith,
-      length-append (replicate (length frame.packets) frame.given) (kept_of frames),
-      length-append frame.packets (packets_of frames),
-      length-replicate {A = Bool} (length frame.packets) frame.given,
-      kept_size frames,
-    )
-
 pub gives_what_frames_bring : GivesWhatFramesBring
-gives_what_frames_bring id d units frames some are_units are_some are =
-    let same = same_frames frames are_some (made id d) in
-    let law = gives_what_is_whole id d units (kept_of frames) some are_units (kept_size frames ∙ ap length are) in
-    let kept : losses.kept_of (kept_of frames) (packets_of frames) ≡ losses.kept_of (kept_of frames) (packets id d units) = ap (losses.kept_of (kept_of frames)) are in (
-      same.units ∙ (ap (λ l. units_in (answers (made id d) l)) kept ∙ law.0),
-      same.cuts ∙ (ap (λ l. cuts_in (answers (made id d) l)) kept ∙ law.1),
-      ap (λ (s : State). s.begun) same.after ∙ (ap (λ l. (after_all (made id d) l).begun) kept ∙ law.2),
+gives_what_frames_bring id d units frames some are_units are =
+    let kept : losses.kept_of (kept_of frames) (packets_of frames) ≡ losses.kept_of (kept_of frames) (packets id d units) = ap (losses.kept_of (kept_of frames)) are in
+    let mine = subst (AreMine id d) (sym are) (all_mine id d units) in
+    let same = subst (λ l. Alike (made id d) (events_of frames) l) kept (alike id d frames true mine None) in
+    let law = gives_what_is_whole id d units (kept_of frames) some are_units (kept_size true frames ∙ ap length are) in (
+      same.units ∙ law.0,
+      same_cuts (made id d) (events_of frames) (losses.kept_of (kept_of frames) (packets id d units)) same law.2 ∙ law.1,
+      same.none law.2,
     )
 
 -- ---- what the items bring

@@ -28,14 +28,13 @@ pub record IsStreamAt (plan : Plan) (k t : ℕ) (bytes : List ℕ) : Type 0 wher
   pub holds : config_of plan (t / 3) ≡ Some config
   pub is : slice_get (map (stream_bytes (t - 3 * config.start)) config.streams) k ≡ Some bytes
 
--- They are these packets of data, one after another, and one at least.
+-- They are these packets of data, one after another, or none.
 pub record CarriesAt (plan : Plan) (k id d t : ℕ) (ps : List Packet) : Type 0 where
   pub bytes : List ℕ
   pub stream : IsStreamAt plan k t bytes
   pub pieces : List (List ℕ)
   pub cut : pieces_in (UnitsOf k id d) bytes ≡ Some pieces
   pub are : ArePackets d pieces ps
-  pub some : 1 ≤ length ps
 
 -- the frames from t on carry these, each its own
 abbrev pub CarryFrom : Plan → ℕ → ℕ → ℕ → ℕ → List (List Packet) → Type 0
@@ -73,8 +72,8 @@ carried_from plan window base pairs end t (ps ∷ frames) =
 abbrev pub carried_by : Plan → ℕ → ℤ → Option ℕ → List (ℕ × ℕ) → List (List Packet) → List Carried
 carried_by plan window base told pairs frames = carried_from plan window base pairs (end_of told (newest_of base None pairs)) 0 frames
 
--- Of a delivery of such a schedule, with any strays in it, what is printed gives exactly those units all of whose packets came in frames
--- that are given, and tells one cut for each other unit whose first packet came.
+-- Of a delivery of such a schedule, with any strays in it, what is printed gives exactly those units for which each frame is given from
+-- that of the first packet to that of the last, and tells one cut for each other unit whose first packet came.
 abbrev pub UnpacksDeliveries : Type 0
 UnpacksDeliveries =
     (plan : Plan) (window : ℕ) (first told : Option ℕ) (base : ℤ) (arrivals : List Arrival) (datagrams : List (List ℕ))

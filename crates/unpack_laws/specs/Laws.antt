@@ -9,14 +9,14 @@ use Rattle.mod_feed.specs.Items.{Item}
 use Rattle.capture_data.specs.Streams.{UnitsOf}
 use Rattle.capture_data.specs.Lines.{answers_text, units_end, is_clean}
 use Rattle.capture_data.specs.Printed.{unit_counts, IsWholeText}
-use Rattle.unpack_laws.specs.Frames.{Carried, IsSome, events_of, packets_of, kept_of, BringAll}
+use Rattle.unpack_laws.specs.Frames.{Carried, events_of, packets_of, kept_of, BringAll}
 
--- Of the packets of units in frames with at least one packet each, some of which are lost, a joiner gives exactly the units of which no
--- packet is lost, and tells one cut for each other unit whose first packet came. At the end no unit is open.
+-- Of the packets of units in frames, some of which are lost, a joiner gives exactly the units for which each frame is given from that of the
+-- first packet to that of the last, and tells one cut for each other unit whose first packet came. At the end no unit is open.
 abbrev pub GivesWhatFramesBring : Type 0
 GivesWhatFramesBring =
     (id d : ℕ) (units : List (List ℕ)) (frames : List Carried)
-    → 1 ≤ d → AllByRecursion IsUnit units → AllByRecursion IsSome frames → packets_of frames ≡ packets id d units
+    → 1 ≤ d → AllByRecursion IsUnit units → packets_of frames ≡ packets id d units
     → (units_in (answers (made id d) (events_of frames)) ≡ whole_units d (kept_of frames) units)
     × (cuts_in (answers (made id d) (events_of frames)) ≡ cut_count d (kept_of frames) units)
     × ((after_all (made id d) (events_of frames)).begun ≡ None)
@@ -32,6 +32,6 @@ pub record Unpacked (k id d : ℕ) (units : List (List ℕ)) (frames : List Carr
 abbrev pub UnpacksWhatIsWhole : Type 0
 UnpacksWhatIsWhole =
     (k id d : ℕ) (units : List (List ℕ)) (frames : List Carried) (items : List Item) (text : List ℕ) (clean : Bool)
-    → 1 ≤ d → AllByRecursion IsUnit units → AllByRecursion IsSome frames → packets_of frames ≡ packets id d units
+    → 1 ≤ d → AllByRecursion IsUnit units → packets_of frames ≡ packets id d units
     → BringAll (UnitsOf k id d) d items frames → IsWholeText (UnitsOf k id d) items text clean
     → Unpacked k id d units frames items text clean

@@ -5,7 +5,7 @@ ghost use Rattle.unpack_laws.specs.Laws.{GivesWhatFramesBring, UnpacksWhatIsWhol
 
 use mod_delivery::modulators_give;
 
-/// Of the packets of units in frames, some of which are lost, a joiner gives those units of which all frames are there.
+/// Of the packets of units in frames, some of which are lost, a joiner gives those units of which all frames are given.
 pub fn gives_what_frames_bring()
     ensures { GivesWhatFramesBring }
 {}
