@@ -8,13 +8,13 @@ use Rattle.std.proofs.lemmas.Grind.{flat_map-append}
 use Rattle.drm_links.specs.Told.{Known, HasCause, ToldThrough}
 use Rattle.drm_links.specs.Source.{Input, Inputs, LeftBy}
 use Rattle.drm_links.specs.Sink.{Output, Outputs, IsFront}
-use Rattle.drm_links.proofs.ToldLemmas.{Inputs-weaker, Outputs-then, Outputs-weaker}
+use Rattle.drm_links.proofs.ToldLemmas.{Inputs-nothing, Inputs-weaker, Outputs-then, Outputs-weaker}
 use Rattle.drm_capture.specs.declared.packets.CaptureStop.{CaptureStop}
 use Rattle.drm_capture.specs.declared.packets.CaptureStop.TheVariants as stops
 use Rattle.drm_capture.specs.Capture as capture
 use Rattle.drm_capture.specs.Laws.{ReadOneWay}
 use Rattle.drm_capture.specs.Walking.{WalkerState, new_walker}
-use Rattle.drm_capture.specs.Reading.{HasRead, Stops, Breaks}
+use Rattle.drm_capture.specs.Reading.{HasRead, Stops}
 use Rattle.packet_lines.specs.declared.packet.ShowFault.{ShowFault}
 use Rattle.packet_lines.specs.Text.{IsPacketText}
 use Rattle.packet_lines.specs.Laws.{HasOneText}
@@ -23,7 +23,7 @@ use Rattle.drm_faults.specs.Fault.{UnlessMemory}
 use Rattle.drm_faults.specs.declared.fault.Fault.{Fault}
 use Rattle.drm_faults.specs.declared.fault.Fault.TheVariants as faults
 use Rattle.drm_faults.specs.Captures.{EndsEarly, stop_fault}
-use Rattle.drm_inspect.specs.Show.{PacketText, AreTexts, all_texts, capture_text, are_clean, IsShown, IsFrontBehind, WritesShown, EndsByIt, ShowRun}
+use Rattle.drm_inspect.specs.Show.{PacketText, AreTexts, all_texts, capture_text, are_clean, IsShown, IsFrontBehind, Ends, EndsByIt, ShowRun}
 
 -- ---- texts one after another
 
@@ -123,57 +123,52 @@ shown_more reader after_reader before after a b d count bytes clean has packet t
 front_behind : (text line : List ℕ) (a b o : Known Output) → Outputs a b (λ t. t ≡ text) → Outputs b o (IsFront line) → Outputs a o (IsFrontBehind text line)
 front_behind text line a b o wrote broken = Outputs-then (λ t. t ≡ text) (IsFront line) (IsFrontBehind text line) a b o wrote broken (λ s t p q. (t, q, ap (λ l. l ++ t) p))
 
-module _ {O : Type 0} (known : O → Known Output) (out now : O) (reader : WalkerState) (before after : Known Input) (count bytes : ℕ) (clean : Bool) (has : HasShown reader before after (known out) (known now) count bytes clean) where
-  pub stopped : (stop : CaptureStop) (later : Known Input) → Stops has.packets stop before later → Inputs before later (λ left rest. WritesShown left rest (Err (stop_fault stop)) known out now)
-  stopped stops.Read later is = Inputs-weaker (Breaks has.packets) _ before later is (λ left rest breaks. (has.packets, has.texts, record { is = breaks; are = has.are }, has.wrote))
-  stopped (stops.Capture fault) later is = Inputs-weaker (λ left _. capture.IsCaptureOf left has.packets (capture.Fault fault)) _ before later is (λ left rest ends. (has.packets, has.texts, record { is = ends; are = has.are }, has.wrote))
-  stopped stops.TooLong later is = Inputs-weaker (λ left _. capture.IsCaptureOf left has.packets capture.TooLong) _ before later is (λ left rest ends. (has.packets, has.texts, record { is = ends; are = has.are }, has.wrote))
+module _ (o now : Known Output) (reader : WalkerState) (before after : Known Input) (count bytes : ℕ) (clean : Bool) (has : HasShown reader before after o now count bytes clean) where
+  pub stopped : (stop : CaptureStop) (later : Known Input) → Stops has.packets stop before later → Ends (Err (stop_fault stop)) before later o now
+  stopped stops.Read later is = (has.packets, has.texts, has.are, has.read.whole, is, has.wrote)
+  stopped (stops.Capture fault) later is = (has.packets, has.texts, has.are, has.read.whole, is, has.wrote)
+  stopped stops.TooLong later is = (has.packets, has.texts, has.are, has.read.whole, is, has.wrote)
 
-  pub cut : (after_reader : WalkerState) (packet text : List ℕ) (bad : Bool) (out' : O) → HasRead (has.packets ++ packet ∷ []) after_reader before after → IsPacketText (length (concat has.packets)) packet text bad
-      → Outputs (known now) (known out') (IsFront text) → Inputs before after (λ left rest. WritesShown left rest (Err faults.Write) known out out')
-  cut after_reader packet text bad out' read is front =
-      Inputs-weaker (λ left rest. left ≡ concat (has.packets ++ packet ∷ []) ++ (after_reader.held ++ rest)) _ before after read.bytes
-      (λ left rest bytes. (
-        has.packets,
-        has.texts,
-        inl (
-          packet,
-          shown_as text bad,
-          texts_more 0 has.packets has.texts packet (shown_as text bad) has.are (let same : length (concat has.packets) ≡ 0 + length (concat has.packets) = omega arith in subst (λ k. IsPacketText k packet text bad) same is),
-          after_reader.held ++ rest,
-          bytes,
-          front_behind (all_texts has.texts) text (known out) (known now) (known out') has.wrote front,
-        ),
-      ))
+  pub cut : (after_reader : WalkerState) (packet text : List ℕ) (bad : Bool) (o' : Known Output) → HasRead (has.packets ++ packet ∷ []) after_reader before after → IsPacketText (length (concat has.packets)) packet text bad
+      → Outputs now o' (IsFront text) → Ends (Err faults.Write) before after o o'
+  cut after_reader packet text bad o' read is front = (
+    has.packets,
+    has.texts,
+    inl (
+      packet,
+      shown_as text bad,
+      texts_more 0 has.packets has.texts packet (shown_as text bad) has.are (let same : length (concat has.packets) ≡ 0 + length (concat has.packets) = omega arith in subst (λ k. IsPacketText k packet text bad) same is),
+      (after_reader, read),
+      front_behind (all_texts has.texts) text o now o' has.wrote front,
+    ),
+  )
 
   module _ (ended : Inputs before after (λ left _. capture.IsCaptureOf left has.packets capture.End)) where
     end_text : end_packets_line count bytes ≡ end_packets_line (length has.packets) (length (concat has.packets))
     end_text = ap (λ k. end_packets_line k bytes) has.count_is ∙ ap (end_packets_line (length has.packets)) has.bytes_are
 
-    pub done : (out' : O) → Outputs (known now) (known out') (λ t. t ≡ end_packets_line count bytes) → Inputs before after (λ left rest. WritesShown left rest (Ok clean) known out out')
-    done out' wrote =
-        Inputs-weaker (λ left _. capture.IsCaptureOf left has.packets capture.End) _ before after ended
-        (λ left rest is. (
-          has.packets,
-          has.texts,
-          record { is = is; are = has.are },
-          Outputs-then (λ t. t ≡ all_texts has.texts) (λ t. t ≡ end_packets_line count bytes) (λ t. t ≡ capture_text has.packets has.texts) (known out) (known now) (known out') has.wrote wrote
-              (λ s t p q. ap (λ l. l ++ t) p ∙ ap (λ l. all_texts has.texts ++ l) (q ∙ end_text)),
-          has.clean_is,
-        ))
+    pub done : (o' : Known Output) → Outputs now o' (λ t. t ≡ end_packets_line count bytes) → Ends (Ok clean) before after o o'
+    done o' wrote = (
+      has.packets,
+      has.texts,
+      has.are,
+      ended,
+      Outputs-then (λ t. t ≡ all_texts has.texts) (λ t. t ≡ end_packets_line count bytes) (λ t. t ≡ capture_text has.packets has.texts) o now o' has.wrote wrote
+          (λ s t p q. ap (λ l. l ++ t) p ∙ ap (λ l. all_texts has.texts ++ l) (q ∙ end_text)),
+      has.clean_is,
+    )
 
-    pub cut_end : (out' : O) → Outputs (known now) (known out') (IsFront (end_packets_line count bytes)) → Inputs before after (λ left rest. WritesShown left rest (Err faults.Write) known out out')
-    cut_end out' front =
-        Inputs-weaker (λ left _. capture.IsCaptureOf left has.packets capture.End) _ before after ended
-        (λ left rest is. (
-          has.packets,
-          has.texts,
-          inr (
-            record { is = is; are = has.are },
-            subst (λ l. Outputs (known out) (known out') (IsFrontBehind (all_texts has.texts) l)) end_text
-                (front_behind (all_texts has.texts) (end_packets_line count bytes) (known out) (known now) (known out') has.wrote front),
-          ),
-        ))
+    pub cut_end : (o' : Known Output) → Outputs now o' (IsFront (end_packets_line count bytes)) → Ends (Err faults.Write) before after o o'
+    cut_end o' front = (
+      has.packets,
+      has.texts,
+      inr (
+        has.are,
+        ended,
+        subst (λ l. Outputs o o' (IsFrontBehind (all_texts has.texts) l)) end_text
+            (front_behind (all_texts has.texts) (end_packets_line count bytes) o now o' has.wrote front),
+      ),
+    )
 
 -- ---- the whole run
 
@@ -181,74 +176,102 @@ abbrev of_fault : Fault → Result Bool Fault
 of_fault fault = Err fault
 
 module _ {I O : Type 0} (one_way : ReadOneWay) (one_text : HasOneText) (input_known : I → Known Input) (input input' : I) (out_known : O → Known Output) (out out' : O) where
-  ends_exactly : (left rest : List ℕ) (ending : Result Bool Fault) → ((fault : Fault) → ending ≡ Err fault → EndsEarly fault) → (ending ≡ Err faults.Read → ⊥) → (ending ≡ Err faults.Write → ⊥) → WritesShown left rest ending out_known out out'
-      → UnlessMemory ending ((why : capture.Ending) (packets : List (List ℕ)) → capture.IsCaptureOf left packets why → EndsByIt ending why)
-  ends_exactly left rest (Ok clean) kind no_read no_write (packets, texts, shown, wrote, is) =
-      inr (λ why others read. subst (EndsByIt (Ok clean)) (one_way left packets others capture.End why shown.is read).1 (clean, refl))
-  ends_exactly left rest (Err faults.NoMemory) kind no_read no_write writes = inl refl
-  ends_exactly left rest (Err faults.Read) kind no_read no_write writes = absurd (no_read refl)
-  ends_exactly left rest (Err faults.Write) kind no_read no_write writes = absurd (no_write refl)
-  ends_exactly left rest (Err (faults.Capture f)) kind no_read no_write (packets, texts, shown, wrote) =
-      inr (λ why others read. subst (EndsByIt (Err (faults.Capture f))) (one_way left packets others (capture.Fault f) why shown.is read).1 refl)
-  ends_exactly left rest (Err faults.CaptureTooLong) kind no_read no_write (packets, texts, shown, wrote) =
-      inr (λ why others read. subst (EndsByIt (Err faults.CaptureTooLong)) (one_way left packets others capture.TooLong why shown.is read).1 refl)
-  ends_exactly left rest (Err faults.Words) kind no_read no_write writes = absurd (kind faults.Words refl)
-  ends_exactly left rest (Err (faults.FacLength n)) kind no_read no_write writes = absurd (kind (faults.FacLength n) refl)
-  ends_exactly left rest (Err faults.FacOver) kind no_read no_write writes = absurd (kind faults.FacOver refl)
-  ends_exactly left rest (Err (faults.FacCrc s c)) kind no_read no_write writes = absurd (kind (faults.FacCrc s c) refl)
-  ends_exactly left rest (Err (faults.Schedule l r)) kind no_read no_write writes = absurd (kind (faults.Schedule l r) refl)
-  ends_exactly left rest (Err (faults.Script l r)) kind no_read no_write writes = absurd (kind (faults.Script l r) refl)
-  ends_exactly left rest (Err (faults.PacketSize p)) kind no_read no_write writes = absurd (kind (faults.PacketSize p) refl)
-  ends_exactly left rest (Err (faults.Units p)) kind no_read no_write writes = absurd (kind (faults.Units p) refl)
-  ends_exactly left rest (Err faults.Link) kind no_read no_write writes = absurd (kind faults.Link refl)
+  abbrev i : Known Input
+  i = input_known input
+
+  abbrev i' : Known Input
+  i' = input_known input'
+
+  abbrev o : Known Output
+  o = out_known out
+
+  abbrev o' : Known Output
+  o' = out_known out'
+
+  -- nothing was read, and this holds of whatever is left
+  unread : (P : List ℕ → List ℕ → Type 0) → i' ≡ i → ((left : List ℕ) → P left left) → Inputs i i' P
+  unread P same holds = subst (λ (now : Known Input). Inputs i now P) (sym same) (Inputs-nothing P i holds)
+
+  abbrev Exactly : Result Bool Fault → List ℕ → Type 0
+  Exactly ending left = UnlessMemory ending ((why : capture.Ending) (packets : List (List ℕ)) → capture.IsCaptureOf left packets why → EndsByIt ending why)
+
+  -- it ends as these bytes do
+  as_they_end : (ending : Result Bool Fault) (is : capture.Ending) (packets : List (List ℕ)) (left : List ℕ) → EndsByIt ending is → capture.IsCaptureOf left packets is → Exactly ending left
+  as_they_end ending is packets left by of = inr (λ why others read. subst (EndsByIt ending) (one_way left packets others is why of read).1 by)
+
+  ends_exactly : (ending : Result Bool Fault) → (ending ≡ Err faults.Read → ⊥) → (ending ≡ Err faults.Write → ⊥) → Ends ending i i' o o' → Inputs i i' (λ left _. Exactly ending left)
+  ends_exactly (Ok clean) no_read no_write (packets, texts, are, is, wrote, same) =
+      Inputs-weaker (λ left _. capture.IsCaptureOf left packets capture.End) (λ left _. Exactly (Ok clean) left) i i' is (λ left rest of. as_they_end (Ok clean) capture.End packets left (clean, refl) of)
+  ends_exactly (Err faults.NoMemory) no_read no_write (same, none) = unread (λ left _. Exactly (Err faults.NoMemory) left) same (λ left. inl refl)
+  ends_exactly (Err faults.Read) no_read no_write ends = absurd (no_read refl)
+  ends_exactly (Err faults.Write) no_read no_write ends = absurd (no_write refl)
+  ends_exactly (Err (faults.Capture f)) no_read no_write (packets, texts, are, whole, is, wrote) =
+      Inputs-weaker (λ left _. capture.IsCaptureOf left packets (capture.Fault f)) (λ left _. Exactly (Err (faults.Capture f)) left) i i' is (λ left rest of. as_they_end (Err (faults.Capture f)) (capture.Fault f) packets left refl of)
+  ends_exactly (Err faults.CaptureTooLong) no_read no_write (packets, texts, are, whole, is, wrote) =
+      Inputs-weaker (λ left _. capture.IsCaptureOf left packets capture.TooLong) (λ left _. Exactly (Err faults.CaptureTooLong) left) i i' is (λ left rest of. as_they_end (Err faults.CaptureTooLong) capture.TooLong packets left refl of)
+  ends_exactly (Err faults.Words) no_read no_write ends = absurd ends
+  ends_exactly (Err (faults.FacLength n)) no_read no_write ends = absurd ends
+  ends_exactly (Err faults.FacOver) no_read no_write ends = absurd ends
+  ends_exactly (Err (faults.FacCrc s c)) no_read no_write ends = absurd ends
+  ends_exactly (Err (faults.Schedule l r)) no_read no_write ends = absurd ends
+  ends_exactly (Err (faults.Script l r)) no_read no_write ends = absurd ends
+  ends_exactly (Err (faults.PacketSize p)) no_read no_write ends = absurd ends
+  ends_exactly (Err (faults.Units p)) no_read no_write ends = absurd ends
+  ends_exactly (Err faults.Link) no_read no_write ends = absurd ends
+
+  abbrev Wanted : List (List ℕ) → List PacketText → Result Bool Fault → Type 0
+  Wanted packets texts ending = (ending ≡ Ok (are_clean texts)) × Outputs o o' (λ text. text ≡ capture_text packets texts)
+
+  abbrev Complete : Result Bool Fault → List ℕ → Type 0
+  Complete ending left = (packets : List (List ℕ)) (texts : List PacketText) → IsShown left capture.End packets texts → UnlessMemory ending (Wanted packets texts ending)
 
   -- a capture is no other one, and has one text
-  module _ (left : List ℕ) (packets : List (List ℕ)) (texts : List PacketText) (shown : IsShown left capture.End packets texts) where
-    abbrev Wanted : Result Bool Fault → Type 0
-    Wanted ending = (ending ≡ Ok (are_clean texts)) × Outputs (out_known out) (out_known out') (λ text. text ≡ capture_text packets texts)
+  is_wanted : (left : List ℕ) (packets : List (List ℕ)) (texts : List PacketText) → IsShown left capture.End packets texts → (clean : Bool) (others : List (List ℕ)) (other_texts : List PacketText)
+      → capture.IsCaptureOf left others capture.End → AreTexts 0 others other_texts → Outputs o o' (λ text. text ≡ capture_text others other_texts) → clean ≡ are_clean other_texts → Wanted packets texts (Ok clean)
+  is_wanted left packets texts shown clean others other_texts also are wrote is =
+      let same : others ≡ packets = (one_way left others packets capture.End capture.End also shown.is).0 in
+      let same_texts : other_texts ≡ texts = one_texts one_text 0 packets other_texts texts (subst (λ ps. AreTexts 0 ps other_texts) same are) shown.are in (
+        ap Ok (is ∙ ap are_clean same_texts),
+        Outputs-weaker (λ text. text ≡ capture_text others other_texts) (λ text. text ≡ capture_text packets texts) o o' wrote
+            (λ t p. p ∙ ap (λ ps. capture_text ps other_texts) same ∙ ap (capture_text packets) same_texts),
+      )
 
-    is_wanted : (clean : Bool) (others : List (List ℕ)) (other_texts : List PacketText) → IsShown left capture.End others other_texts → Outputs (out_known out) (out_known out') (λ text. text ≡ capture_text others other_texts)
-        → clean ≡ are_clean other_texts → Wanted (Ok clean)
-    is_wanted clean others other_texts also wrote is =
-        let same : others ≡ packets = (one_way left others packets capture.End capture.End also.is shown.is).0 in
-        let same_texts : other_texts ≡ texts = one_texts one_text 0 packets other_texts texts (subst (λ ps. AreTexts 0 ps other_texts) same also.are) shown.are in (
-          ap Ok (is ∙ ap are_clean same_texts),
-          Outputs-weaker (λ text. text ≡ capture_text others other_texts) (λ text. text ≡ capture_text packets texts) (out_known out) (out_known out') wrote
-              (λ t p. p ∙ ap (λ ps. capture_text ps other_texts) same ∙ ap (capture_text packets) same_texts),
-        )
+  -- a capture doesn't end by a fault
+  not_faulty : (left : List ℕ) (packets : List (List ℕ)) (texts : List PacketText) → IsShown left capture.End packets texts → (why : capture.Ending) (others : List (List ℕ)) → capture.IsCaptureOf left others why → capture.End ≡ why
+  not_faulty left packets texts shown why others is = (one_way left packets others capture.End why shown.is is).1
 
-    not_faulty : (why : capture.Ending) (others : List (List ℕ)) → capture.IsCaptureOf left others why → capture.End ≡ why
-    not_faulty why others is = (one_way left packets others capture.End why shown.is is).1
+  completes : (ending : Result Bool Fault) → (ending ≡ Err faults.Read → ⊥) → (ending ≡ Err faults.Write → ⊥) → Ends ending i i' o o' → Inputs i i' (λ left _. Complete ending left)
+  completes (Ok clean) no_read no_write (others, other_texts, are, is, wrote, same) =
+      Inputs-weaker (λ left _. capture.IsCaptureOf left others capture.End) (λ left _. Complete (Ok clean) left) i i' is
+      (λ left rest also packets texts shown. inr (is_wanted left packets texts shown clean others other_texts also are wrote same))
+  completes (Err faults.NoMemory) no_read no_write (same, none) = unread (λ left _. Complete (Err faults.NoMemory) left) same (λ left packets texts shown. inl refl)
+  completes (Err faults.Read) no_read no_write ends = absurd (no_read refl)
+  completes (Err faults.Write) no_read no_write ends = absurd (no_write refl)
+  completes (Err (faults.Capture f)) no_read no_write (others, other_texts, are, whole, is, wrote) =
+      Inputs-weaker (λ left _. capture.IsCaptureOf left others (capture.Fault f)) (λ left _. Complete (Err (faults.Capture f)) left) i i' is
+      (λ left rest also packets texts shown. absurd (let x : capture.End ≡ capture.Fault f = not_faulty left packets texts shown (capture.Fault f) others also in cc))
+  completes (Err faults.CaptureTooLong) no_read no_write (others, other_texts, are, whole, is, wrote) =
+      Inputs-weaker (λ left _. capture.IsCaptureOf left others capture.TooLong) (λ left _. Complete (Err faults.CaptureTooLong) left) i i' is
+      (λ left rest also packets texts shown. absurd (let x : capture.End ≡ capture.TooLong = not_faulty left packets texts shown capture.TooLong others also in cc))
+  completes (Err faults.Words) no_read no_write ends = absurd ends
+  completes (Err (faults.FacLength n)) no_read no_write ends = absurd ends
+  completes (Err faults.FacOver) no_read no_write ends = absurd ends
+  completes (Err (faults.FacCrc s c)) no_read no_write ends = absurd ends
+  completes (Err (faults.Schedule l r)) no_read no_write ends = absurd ends
+  completes (Err (faults.Script l r)) no_read no_write ends = absurd ends
+  completes (Err (faults.PacketSize p)) no_read no_write ends = absurd ends
+  completes (Err (faults.Units p)) no_read no_write ends = absurd ends
+  completes (Err faults.Link) no_read no_write ends = absurd ends
 
-    completes : (rest : List ℕ) (ending : Result Bool Fault) → ((fault : Fault) → ending ≡ Err fault → EndsEarly fault) → (ending ≡ Err faults.Read → ⊥) → (ending ≡ Err faults.Write → ⊥) → WritesShown left rest ending out_known out out'
-        → UnlessMemory ending (Wanted ending)
-    completes rest (Ok clean) kind no_read no_write (others, other_texts, also, wrote, is) = inr (is_wanted clean others other_texts also wrote is)
-    completes rest (Err faults.NoMemory) kind no_read no_write writes = inl refl
-    completes rest (Err faults.Read) kind no_read no_write writes = absurd (no_read refl)
-    completes rest (Err faults.Write) kind no_read no_write writes = absurd (no_write refl)
-    completes rest (Err (faults.Capture f)) kind no_read no_write (others, other_texts, also, wrote) = absurd (let x : capture.End ≡ capture.Fault f = not_faulty (capture.Fault f) others also.is in cc)
-    completes rest (Err faults.CaptureTooLong) kind no_read no_write (others, other_texts, also, wrote) = absurd (let x : capture.End ≡ capture.TooLong = not_faulty capture.TooLong others also.is in cc)
-    completes rest (Err faults.Words) kind no_read no_write writes = absurd (kind faults.Words refl)
-    completes rest (Err (faults.FacLength n)) kind no_read no_write writes = absurd (kind (faults.FacLength n) refl)
-    completes rest (Err faults.FacOver) kind no_read no_write writes = absurd (kind faults.FacOver refl)
-    completes rest (Err (faults.FacCrc s c)) kind no_read no_write writes = absurd (kind (faults.FacCrc s c) refl)
-    completes rest (Err (faults.Schedule l r)) kind no_read no_write writes = absurd (kind (faults.Schedule l r) refl)
-    completes rest (Err (faults.Script l r)) kind no_read no_write writes = absurd (kind (faults.Script l r) refl)
-    completes rest (Err (faults.PacketSize p)) kind no_read no_write writes = absurd (kind (faults.PacketSize p) refl)
-    completes rest (Err (faults.Units p)) kind no_read no_write writes = absurd (kind (faults.Units p) refl)
-    completes rest (Err faults.Link) kind no_read no_write writes = absurd (kind faults.Link refl)
-
-  pub show_run : (ending : Result Bool Fault) → ((fault : Fault) → ending ≡ Err fault → EndsEarly fault) → Inputs (input_known input) (input_known input') (λ left rest. WritesShown left rest ending out_known out out')
-      → (ending ≡ Err faults.NoMemory → (input' ≡ input) × (out' ≡ out)) → HasCause (input_known input) (input_known input') (ending ≡ Err faults.Read) → HasCause (out_known out) (out_known out') (ending ≡ Err faults.Write)
+  pub show_run : (ending : Result Bool Fault) → ((fault : Fault) → ending ≡ Err fault → EndsEarly fault) → Ends ending i i' o o'
+      → (ending ≡ Err faults.NoMemory → (input' ≡ input) × (out' ≡ out)) → HasCause i i' (ending ≡ Err faults.Read) → HasCause o o' (ending ≡ Err faults.Write)
       → ShowRun ending input_known input input' out_known out out'
-  show_run ending kind writes untouched read_cause write_cause = record {
+  show_run ending kind ends untouched read_cause write_cause = record {
     kind = kind;
-    writes = writes;
+    ends = ends;
     untouched = untouched;
-    exactly = λ no_read no_write. Inputs-weaker (λ left rest. WritesShown left rest ending out_known out out') _ (input_known input) (input_known input') writes (λ left rest w. ends_exactly left rest ending kind no_read no_write w);
-    complete = λ no_failed_read no_failed_write.
-        Inputs-weaker (λ left rest. WritesShown left rest ending out_known out out') _ (input_known input) (input_known input') writes
-        (λ left rest w packets texts shown. completes left packets texts shown rest ending kind (λ is. no_failed_read (read_cause.rose is)) (λ is. no_failed_write (write_cause.rose is)) w);
+    exactly = λ no_read no_write. ends_exactly ending no_read no_write ends;
+    complete = λ no_failed_read no_failed_write. completes ending (λ is. no_failed_read (read_cause.rose is)) (λ is. no_failed_write (write_cause.rose is)) ends;
     read_cause = read_cause;
     write_cause = write_cause;
   }

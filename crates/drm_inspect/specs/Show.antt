@@ -1,11 +1,15 @@
 -- The command `show`: what is in each packet of a capture.
-use Rattle.std.specs.Prelude.{ℕ, ◌≡◌, ◌+◌, ◌⊎◌, Bool, not, List, [], ◌∷◌, ◌++◌, length, Result, Ok, Err}
+use Rattle.std.specs.Prelude.{ℕ, ◌≡◌, ◌+◌, ◌⊎◌, All, Bool, not, List, [], ◌∷◌, ◌++◌, length, Result, Ok, Err}
 use Rattle.std.specs.List.{concat, flat_map, list_all}
 use Rattle.drm_links.specs.Told.{HasFailed, Known, HasCause}
 use Rattle.drm_links.specs.Source.{Input, Inputs}
 use Rattle.drm_links.specs.Sink.{Output, Outputs, IsFront}
+use Rattle.drm_capture.specs.declared.packets.CaptureStop.{CaptureStop}
+use Rattle.drm_capture.specs.declared.packets.CaptureStop.TheVariants as stops
+use Rattle.drm_capture.specs.Front.{IsWhole}
 use Rattle.drm_capture.specs.Capture as capture
-use Rattle.drm_capture.specs.Reading.{Breaks}
+use Rattle.drm_capture.specs.Walking.{WalkerState}
+use Rattle.drm_capture.specs.Reading.{HasRead, Stops}
 use Rattle.packet_lines.specs.Text.{IsPacketText}
 use Rattle.packet_lines.specs.Lines.{end_packets_line}
 use Rattle.drm_faults.specs.Captures.{EndsEarly}
@@ -41,42 +45,44 @@ pub record IsShown (left : List ℕ) (ending : capture.Ending) (packets : List (
   pub is : capture.IsCaptureOf left packets ending
   pub are : AreTexts 0 packets texts
 
--- Packets that are whole in the bytes taken, and their texts.
-pub record IsTaken (left rest : List ℕ) (packets : List (List ℕ)) (texts : List PacketText) : Type 0 where
-  pub is : Breaks packets left rest
-  pub are : AreTexts 0 packets texts
+-- All packets of the input are read, and the whole text is written.
+abbrev pub WritesAll : Bool → Known Input → Known Input → Known Output → Known Output → Type 0
+WritesAll clean before after out out' =
+    (packets : List (List ℕ)) × (texts : List PacketText) × AreTexts 0 packets texts
+    × Inputs before after (λ left _. capture.IsCaptureOf left packets capture.End)
+    × Outputs out out' (λ text. text ≡ capture_text packets texts) × (clean ≡ are_clean texts)
 
--- P holds of some packets and their texts, and these are written.
-abbrev pub WritesSome : {O : Type 0} → (List (List ℕ) → List PacketText → Type 0) → (O → Known Output) → O → O → Type 0
-WritesSome P known out out' =
-    (packets : List (List ℕ)) × (texts : List PacketText) × P packets texts × Outputs (known out) (known out') (λ text. text ≡ all_texts texts)
+-- No more can be read for this reason: the texts of the packets that are whole in the bytes taken are written.
+abbrev pub WritesUntil : CaptureStop → Known Input → Known Input → Known Output → Known Output → Type 0
+WritesUntil stop before after out out' =
+    (packets : List (List ℕ)) × (texts : List PacketText) × AreTexts 0 packets texts
+    × All IsWhole packets × Stops packets stop before after
+    × Outputs out out' (λ text. text ≡ all_texts texts)
 
 -- all that was written before, and a front of what comes behind it
 abbrev pub IsFrontBehind : List ℕ → List ℕ → List ℕ → Type 0
 IsFrontBehind written behind text = (front : List ℕ) × IsFront behind front × (text ≡ written ++ front)
 
--- The texts of some packets that the bytes begin with are written, and a front of that of the next packet; or those of all packets of the
--- capture that they are, and a front of the last line.
-abbrev pub WritesFront : {O : Type 0} → List ℕ → (O → Known Output) → O → O → Type 0
-WritesFront left known out out' =
+-- A write failed. The texts of some packets are written and a front of that of the next one, which is the last that was read; or
+-- those of all packets, and a front of the last line.
+abbrev pub WritesFront : Known Input → Known Input → Known Output → Known Output → Type 0
+WritesFront before after out out' =
     (packets : List (List ℕ)) × (texts : List PacketText)
     × (((packet : List ℕ) × (shown : PacketText) × AreTexts 0 (packets ++ packet ∷ []) (texts ++ shown ∷ [])
-    × (more : List ℕ) × (left ≡ concat (packets ++ packet ∷ []) ++ more) × Outputs (known out) (known out') (IsFrontBehind (all_texts texts) shown.text))
-    ⊎ (IsShown left capture.End packets texts
-    × Outputs (known out) (known out') (IsFrontBehind (all_texts texts) (end_packets_line (length packets) (length (concat packets))))))
+    × ((reader : WalkerState) × HasRead (packets ++ packet ∷ []) reader before after)
+    × Outputs out out' (IsFrontBehind (all_texts texts) shown.text))
+    ⊎ (AreTexts 0 packets texts × Inputs before after (λ left _. capture.IsCaptureOf left packets capture.End)
+    × Outputs out out' (IsFrontBehind (all_texts texts) (end_packets_line (length packets) (length (concat packets))))))
 
--- What is written where these bytes were left of the input, and then the rest of them: the whole text; after a failed write what
--- was written before, and a front of the next lines; after a fault of the capture the texts of the packets before it; after a failed read those of the packets that are
--- whole in the bytes taken; where memory is wanting, nothing.
-abbrev pub WritesShown : {O : Type 0} → List ℕ → List ℕ → Result Bool Fault → (O → Known Output) → O → O → Type 0
-WritesShown left rest (Ok clean) known out out' =
-    (packets : List (List ℕ)) × (texts : List PacketText) × IsShown left capture.End packets texts
-    × Outputs (known out) (known out') (λ text. text ≡ capture_text packets texts) × (clean ≡ are_clean texts)
-WritesShown left rest (Err faults.Write) known out out' = WritesFront left known out out'
-WritesShown left rest (Err (faults.Capture fault)) known out out' = WritesSome (IsShown left (capture.Fault fault)) known out out'
-WritesShown left rest (Err faults.CaptureTooLong) known out out' = WritesSome (IsShown left capture.TooLong) known out out'
-WritesShown left rest (Err faults.Read) known out out' = WritesSome (IsTaken left rest) known out out'
-WritesShown left rest (Err fault) known out out' = out' ≡ out
+-- What is read and written; where memory is wanting, nothing.
+abbrev pub Ends : Result Bool Fault → Known Input → Known Input → Known Output → Known Output → Type 0
+Ends (Ok clean) before after out out' = WritesAll clean before after out out'
+Ends (Err faults.Write) before after out out' = WritesFront before after out out'
+Ends (Err faults.Read) before after out out' = WritesUntil stops.Read before after out out'
+Ends (Err (faults.Capture fault)) before after out out' = WritesUntil (stops.Capture fault) before after out out'
+Ends (Err faults.CaptureTooLong) before after out out' = WritesUntil stops.TooLong before after out out'
+Ends (Err faults.NoMemory) before after out out' = (after ≡ before) × (out' ≡ out)
+Ends (Err fault) before after out out' = ⊥
 
 -- the run ends as the bytes end behind their packets
 abbrev pub EndsByIt : Result Bool Fault → capture.Ending → Type 0
@@ -90,8 +96,8 @@ pub record ShowRun {I O : Type 0} (ending : Result Bool Fault)
     (out_known : O → Known Output) (out out' : O) : Type 0 where
   -- It ends well, or for want of memory, by a fault of the capture, by a failed read or by a failed write.
   pub kind : (fault : Fault) → ending ≡ Err fault → EndsEarly fault
-  -- Where the input tells: what is written is the text of what was left of it. Nothing else is written.
-  pub writes : Inputs (input_known input) (input_known input') (λ left rest. WritesShown left rest ending out_known out out')
+  -- What is written is the text of the packets that were read. After a failed write no more is read.
+  pub ends : Ends ending (input_known input) (input_known input') (out_known out) (out_known out')
   -- After want of memory nothing was read or written.
   pub untouched : ending ≡ Err faults.NoMemory → (input' ≡ input) × (out' ≡ out)
   -- It ends as the input does behind its packets, with the byte and the field, unless a read or a write failed before.

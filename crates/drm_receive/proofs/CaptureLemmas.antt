@@ -3,7 +3,7 @@ use Rattle.std.proofs.Common.{◌≡◌, ℕ, ◌≤◌, ◌⊎◌, inl, inr, Bo
 use Rattle.std.specs.Prelude.{All}
 use Rattle.std.specs.List.{concat}
 use Rattle.drm_links.specs.Told.{Known}
-use Rattle.drm_links.specs.Link.{Answer, Datagram, Failed, End}
+use Rattle.drm_links.specs.Link.{Answer, Datagram, End}
 use Rattle.drm_links.specs.Source.{Input, Inputs}
 use Rattle.drm_links.specs.Sink.{Output}
 use Rattle.drm_links.proofs.ToldLemmas.{Inputs-nothing, Inputs-weaker}
@@ -20,16 +20,16 @@ use Rattle.mod_receiver.specs.Hearing.{AreNext}
 use Rattle.mod_receiver.specs.Reading.{most_answers}
 use Rattle.mod_receiver.specs.Ranges.{AreInRange}
 use Rattle.mod_receiver.specs.Received.{Reported, Broken, Stopped}
-use Rattle.mod_receiver.specs.Ahead.{IsGivenOf}
 use Rattle.mod_receiver.specs.Captures.{answers_of, Brings, ArePackets, HeardOf, HeardUntil, EndsReceiving}
 use Rattle.mod_receiver.specs.Following.{HeadlinesFollow, CompletesFollow}
-use Rattle.mod_receiver.proofs.JobLemmas.{report_ahead, front_ahead}
+use Rattle.mod_receiver.proofs.JobLemmas.{report_ahead}
 use Rattle.drm_faults.specs.declared.fault.Fault.{Fault}
 use Rattle.drm_faults.specs.declared.fault.Fault.TheVariants as faults
 use Rattle.drm_faults.specs.Captures.{EndsEarly}
-use Rattle.drm_receive.specs.Capture.{WritesCapture}
+use Rattle.drm_receive.specs.Capture.{BreaksOffBy, Ends, WritesReport}
 use Rattle.drm_receive.specs.Stopping.{ending_captured}
 use Rattle.capture_laws.proofs.CaptureFronts.{packets_front}
+use Rattle.drm_receive.proofs.CaptureStatus.{Says}
 use Rattle.drm_receive.proofs.ReceiveLemmas.{inner, no_fault}
 
 -- ---- what was heard stood ahead
@@ -85,52 +85,62 @@ alone_next rules ahead answers later next others same few = (later, subst (λ l.
 
 module _ {O : Type 0} (rules : Rules) (valid : AreInRange rules) (headlines : HeadlinesFollow) (completes : CompletesFollow) (some : ReadSomeWay)
     (before after : Known Input) (known : O → Known Output) (out out' : O) where
-  reported : (clean : Bool) → Reported rules 1 (HeardOf before after) (known out) (known out') clean → Inputs before after (λ left rest. WritesCapture rules left rest (Ok clean) known out out')
+  reported : (clean : Bool) → Reported rules 1 (HeardOf before after) (known out) (known out') clean → Inputs before after (λ left rest. WritesReport rules left clean known out out')
   reported clean r =
       let alone : Reported rules 1 (Alone r.answers) (known out) (known out') clean = record { answers = r.answers; heard = refl; few = r.few; at_once = r.at_once; whole = r.whole; is = r.is; text = r.text } in
-      Inputs-weaker (λ left rest. Begin left r.answers) (λ left rest. WritesCapture rules left rest (Ok clean) known out out') before after (began before after r.answers r.heard)
+      Inputs-weaker (λ left rest. Begin left r.answers) (λ left rest. WritesReport rules left clean known out out') before after (began before after r.answers r.heard)
       (λ left rest begins.
       let (ahead, brings, later, next) = next_of some left r.answers begins in
       let (report, is, text, same) = report_ahead rules 1 ahead (Alone r.answers) (known out) (known out') (alone_next rules ahead r.answers later next) headlines completes valid.some_window clean alone in
       (ahead, brings, report, is, text, same))
 
-  stopped : Stopped rules 1 (HeardOf before after) (known out) (known out') → Inputs before after (λ left rest. WritesCapture rules left rest (ending_captured (Err unfinished.Write)) known out out')
-  stopped r =
-      let alone : Stopped rules 1 (Alone r.answers) (known out) (known out') = record { answers = r.answers; heard = refl; few = r.few; at_once = r.at_once; goes_on = r.goes_on; text = r.text } in
-      Inputs-weaker (λ left rest. Begin left r.answers) (λ left rest. WritesCapture rules left rest (ending_captured (Err unfinished.Write)) known out out') before after (began before after r.answers r.heard)
-      (λ left rest begins.
-      let (ahead, brings, later, next) = next_of some left r.answers begins in
-      (ahead, brings, front_ahead rules 1 ahead (Alone r.answers) (known out) (known out') (alone_next rules ahead r.answers later next) alone))
+  -- a reading that stopped was one of these bytes
+  abbrev Quiet : Type 0
+  Quiet = Inputs before after (λ left rest. Unit {0})
 
-  given : (stop : CaptureStop) (r : Broken rules 1 (HeardUntil stop before after) (known out) (known out')) → IsGivenOf rules 1 (map Datagram r.heard.0 ++ Failed ∷ []) r.whole
-  given stop r = record {
-    answers = r.answers;
-    rest = [];
-    next = subst (λ l. AreNext (answers_of r.heard.0 capture.TooLong) l []) (sym r.heard.3) (next_whole r.heard.0 capture.TooLong);
-    is = r.is;
+  stopped : Stopped rules 1 (HeardOf before after) (known out) (known out') → Quiet
+  stopped r = Inputs-weaker (λ left rest. Begin left r.answers) (λ left rest. Unit {0}) before after (began before after r.answers r.heard) (λ left rest begins. tt)
+
+  breaks : (stop : CaptureStop) (ending : capture.Ending) (left : List ℕ) (r : Broken rules 1 (HeardUntil stop before after) (known out) (known out')) → capture.IsCaptureOf left r.heard.0 ending → answers_of r.heard.0 ending ≡ r.answers → BreaksOffBy rules left ending
+  breaks stop ending left r is are = record {
+    packets = r.heard.0;
+    is = is;
+    breaks = record {
+      before = r.is.before;
+      answers = r.answers;
+      rest = [];
+      next = subst (λ l. AreNext (answers_of r.heard.0 ending) l []) are (next_whole r.heard.0 ending);
+      reading = r.is.reading;
+    };
   }
 
   broken : (stop : CaptureStop) → Broken rules 1 (HeardUntil stop before after) (known out) (known out')
-      → Inputs before after (λ left rest. WritesCapture rules left rest (ending_captured (Err (unfinished.Stopped stop))) known out out')
-  broken stops.Read r =
-      Inputs-weaker (Breaks r.heard.0) (λ left rest. WritesCapture rules left rest (ending_captured (Err (unfinished.Stopped stops.Read))) known out out') before after r.heard.2
-      (λ left rest is. (r.heard.0, (r.heard.1, is), r.whole, given stops.Read r, r.text))
+      → Inputs before after (λ left rest. Says rules left (ending_captured (Err (unfinished.Stopped stop))) known out out')
+  broken stops.Read r = Inputs-weaker (Breaks r.heard.0) (λ left rest. Unit {0}) before after r.heard.2 (λ left rest is. tt)
   broken (stops.Capture fault) r =
-      Inputs-weaker (λ left rest. capture.IsCaptureOf left r.heard.0 (capture.Fault fault)) (λ left rest. WritesCapture rules left rest (ending_captured (Err (unfinished.Stopped (stops.Capture fault)))) known out out') before after r.heard.2
-      (λ left rest is. (r.heard.0, is, r.whole, given (stops.Capture fault) r, r.text))
+      Inputs-weaker (λ left rest. capture.IsCaptureOf left r.heard.0 (capture.Fault fault)) (λ left rest. BreaksOffBy rules left (capture.Fault fault)) before after r.heard.2
+      (λ left rest is. breaks (stops.Capture fault) (capture.Fault fault) left r is (sym r.heard.3))
   broken stops.TooLong r =
-      Inputs-weaker (λ left rest. capture.IsCaptureOf left r.heard.0 capture.TooLong) (λ left rest. WritesCapture rules left rest (ending_captured (Err (unfinished.Stopped stops.TooLong))) known out out') before after r.heard.2
-      (λ left rest is. (r.heard.0, is, r.whole, given stops.TooLong r, r.text))
+      Inputs-weaker (λ left rest. capture.IsCaptureOf left r.heard.0 capture.TooLong) (λ left rest. BreaksOffBy rules left capture.TooLong) before after r.heard.2
+      (λ left rest is. breaks stops.TooLong capture.TooLong left r is (sym r.heard.3))
 
-  pub written : (result : Result Bool Unfinished) → EndsReceiving rules before after (known out) (known out') result → (result ≡ Err unfinished.NoMemory → out' ≡ out)
-      → Inputs before after (λ left rest. WritesCapture rules left rest (ending_captured result) known out out')
-  written (Ok clean) ends memory = reported clean ends
-  written (Err (unfinished.Stopped stop)) ends memory = broken stop ends
-  written (Err unfinished.Write) ends memory = stopped ends
-  written (Err unfinished.NoMemory) ends memory =
-      subst (λ (now : Known Input). Inputs before now (λ left rest. out' ≡ out)) (sym ends.0) (Inputs-nothing (λ left rest. out' ≡ out) before (λ left. memory refl))
+  pub written : (result : Result Bool Unfinished) → EndsReceiving rules before after (known out) (known out') result
+      → Inputs before after (λ left rest. Says rules left (ending_captured result) known out out')
+  written (Ok clean) ends = reported clean ends
+  written (Err (unfinished.Stopped stop)) ends = broken stop ends
+  written (Err unfinished.Write) ends = stopped ends
+  written (Err unfinished.NoMemory) ends =
+      subst (λ (now : Known Input). Inputs before now (λ left rest. Unit {0})) (sym ends.0) (Inputs-nothing (λ left rest. Unit {0}) before (λ left. tt))
 
 -- ---- by what it ended
+
+pub ended_as : (rules : Rules) (before after : Known Input) (a b : Known Output) (received : Result Bool Unfinished) → EndsReceiving rules before after a b received → Ends rules (ending_captured received) before after a b
+ended_as rules before after a b (Ok clean) ends = ends
+ended_as rules before after a b (Err (unfinished.Stopped stops.Read)) ends = ends
+ended_as rules before after a b (Err (unfinished.Stopped (stops.Capture why))) ends = ends
+ended_as rules before after a b (Err (unfinished.Stopped stops.TooLong)) ends = ends
+ended_as rules before after a b (Err unfinished.Write) ends = ends
+ended_as rules before after a b (Err unfinished.NoMemory) ends = ends
 
 pub ended_early : (received : Result Bool Unfinished) (fault : Fault) → ending_captured received ≡ Err fault → EndsEarly fault
 ended_early (Ok clean) fault is = absurd (no_fault clean fault is)

@@ -10,7 +10,7 @@ use Rattle.drm_capture.specs.Capture as capture
 use Rattle.drm_capture.proofs.CaptureLaws.{read_one_way}
 use Rattle.mod_receiver.specs.declared.rules.Rules.{Rules}
 use Rattle.mod_receiver.specs.Hearing.{AreNext}
-use Rattle.mod_receiver.specs.Ahead.{IsInTimeAhead, Report, IsReportOf, BreaksOff, IsGivenOf}
+use Rattle.mod_receiver.specs.Ahead.{IsInTimeAhead, Report, IsReportOf}
 use Rattle.mod_receiver.specs.Captures.{answers_of, Brings}
 use Rattle.mod_receiver.specs.Following.{NoneBreaksOff}
 use Rattle.mod_receiver.proofs.OneReading.{finished_whole}
@@ -18,7 +18,7 @@ use Rattle.drm_faults.specs.Fault.{UnlessMemory}
 use Rattle.drm_faults.specs.declared.fault.Fault.{Fault}
 use Rattle.drm_faults.specs.declared.fault.Fault.TheVariants as faults
 use Rattle.drm_faults.specs.Captures.{EndsEarly}
-use Rattle.drm_receive.specs.Capture.{BreaksOffBy, WritesCapture, EndsByIt, WroteReport, CaptureRun}
+use Rattle.drm_receive.specs.Capture.{BreaksOffBy, Ends, WritesReport, EndsByIt, WroteReport, CaptureRun}
 use Rattle.drm_receive.proofs.ReceiveStatus.{clean_in_time}
 
 -- ---- bytes bring one thing
@@ -42,17 +42,14 @@ whole_report rules left ahead r why brings report by =
     finished_whole rules ahead report.rest b.rest report.answers b.before b.answers report.is.word report.next
     (subst (λ l. AreNext l b.answers b.rest) (sym same) b.next) report.is.reading b.reading
 
-given_breaks : (rules : Rules) (ahead : List Answer) (given : List ℕ) → IsGivenOf rules 1 ahead given → BreaksOff rules ahead
-given_breaks rules ahead given g = record { before = g.is.before; answers = g.answers; rest = g.rest; next = g.next; reading = g.is.reading }
+-- What an ending says of the bytes that were left: their report is written, or the reading breaks off by them.
+abbrev pub Says : {O : Type 0} → Rules → List ℕ → Result Bool Fault → (O → Known Output) → O → O → Type 0
+Says rules left (Ok clean) known out out' = WritesReport rules left clean known out out'
+Says rules left (Err (faults.Capture fault)) known out out' = BreaksOffBy rules left (capture.Fault fault)
+Says rules left (Err faults.CaptureTooLong) known out out' = BreaksOffBy rules left capture.TooLong
+Says rules left (Err fault) known out out' = Unit {0}
 
-module _ {O : Type 0} (rules : Rules) (left rest : List ℕ) (known : O → Known Output) (out out' : O) where
-  -- what was given before a fault breaks off by it
-  by_fault : (fault : CaptureFault) → WritesCapture rules left rest (Err (faults.Capture fault)) known out out' → BreaksOffBy rules left (capture.Fault fault)
-  by_fault fault (packets, of, given, is, text) = record { packets = packets; is = of; breaks = given_breaks rules (answers_of packets (capture.Fault fault)) given is }
-
-  by_length : WritesCapture rules left rest (Err faults.CaptureTooLong) known out out' → BreaksOffBy rules left capture.TooLong
-  by_length (packets, of, given, is, text) = record { packets = packets; is = of; breaks = given_breaks rules (answers_of packets capture.TooLong) given is }
-
+module _ {O : Type 0} (rules : Rules) (left : List ℕ) (known : O → Known Output) (out out' : O) where
   -- ---- exactly there
 
   abbrev Exactly : Result Bool Fault → Type 0
@@ -73,20 +70,20 @@ module _ {O : Type 0} (rules : Rules) (left rest : List ℕ) (known : O → Know
   length_ends breaks (capture.Fault other) is = absurd (cc)
   length_ends breaks capture.TooLong is = breaks
 
-  exact_by : (ending : Result Bool Fault) → ((fault : Fault) → ending ≡ Err fault → EndsEarly fault) → WritesCapture rules left rest ending known out out'
+  exact_by : (ending : Result Bool Fault) → ((fault : Fault) → ending ≡ Err fault → EndsEarly fault) → Says rules left ending known out out'
       → (ending ≡ Err faults.Read → ⊥) → (ending ≡ Err faults.Write → ⊥) → UnlessMemory ending (Exactly ending)
   exact_by (Ok clean) kind (ahead, brings, r, report, text, is) no_read no_write =
       inr (λ why. ((λ ends. absurd (none_ends clean why ends)), (λ breaks. absurd (whole_report rules left ahead r why brings report breaks))))
   exact_by (Err faults.NoMemory) kind wrote no_read no_write = inl refl
   exact_by (Err (faults.Capture fault)) kind wrote no_read no_write =
       inr (λ why. (
-        fault_ends fault (by_fault fault wrote) why,
-        λ breaks. subst (λ e. EndsByIt (Err (faults.Capture fault)) e) (one_ending left wrote.0 (capture.Fault fault) rules why wrote.1 breaks) refl,
+        fault_ends fault wrote why,
+        λ breaks. subst (λ e. EndsByIt (Err (faults.Capture fault)) e) (one_ending left wrote.packets (capture.Fault fault) rules why wrote.is breaks) refl,
       ))
   exact_by (Err faults.CaptureTooLong) kind wrote no_read no_write =
       inr (λ why. (
-        length_ends (by_length wrote) why,
-        λ breaks. subst (λ e. EndsByIt (Err faults.CaptureTooLong) e) (one_ending left wrote.0 capture.TooLong rules why wrote.1 breaks) refl,
+        length_ends wrote why,
+        λ breaks. subst (λ e. EndsByIt (Err faults.CaptureTooLong) e) (one_ending left wrote.packets capture.TooLong rules why wrote.is breaks) refl,
       ))
   exact_by (Err faults.Read) kind wrote no_read no_write = absurd (no_read refl)
   exact_by (Err faults.Write) kind wrote no_read no_write = absurd (no_write refl)
@@ -102,13 +99,13 @@ module _ {O : Type 0} (rules : Rules) (left rest : List ℕ) (known : O → Know
 
   -- ---- nothing is lost
 
-  whole_by : (ending : Result Bool Fault) → ((fault : Fault) → ending ≡ Err fault → EndsEarly fault) → WritesCapture rules left rest ending known out out'
+  whole_by : (ending : Result Bool Fault) → ((fault : Fault) → ending ≡ Err fault → EndsEarly fault) → Says rules left ending known out out'
       → (ending ≡ Err faults.Read → ⊥) → (ending ≡ Err faults.Write → ⊥) → ((why : capture.Ending) → BreaksOffBy rules left why → ⊥)
-      → UnlessMemory ending (WroteReport rules left rest ending known out out')
+      → UnlessMemory ending (WroteReport rules left ending known out out')
   whole_by (Ok clean) kind wrote no_read no_write none = inr (clean, refl, wrote)
   whole_by (Err faults.NoMemory) kind wrote no_read no_write none = inl refl
-  whole_by (Err (faults.Capture fault)) kind wrote no_read no_write none = absurd (none (capture.Fault fault) (by_fault fault wrote))
-  whole_by (Err faults.CaptureTooLong) kind wrote no_read no_write none = absurd (none capture.TooLong (by_length wrote))
+  whole_by (Err (faults.Capture fault)) kind wrote no_read no_write none = absurd (none (capture.Fault fault) wrote)
+  whole_by (Err faults.CaptureTooLong) kind wrote no_read no_write none = absurd (none capture.TooLong wrote)
   whole_by (Err faults.Read) kind wrote no_read no_write none = absurd (no_read refl)
   whole_by (Err faults.Write) kind wrote no_read no_write none = absurd (no_write refl)
   whole_by (Err faults.Words) kind wrote no_read no_write none = absurd (kind faults.Words refl)
@@ -124,7 +121,7 @@ module _ {O : Type 0} (rules : Rules) (left rest : List ℕ) (known : O → Know
   is_clean : (clean : Bool) → IsTrue clean → clean ≡ true
   is_clean clean is = is
 
-  clean_by : (ending : Result Bool Fault) (ahead : List Answer) → Brings left ahead → IsInTimeAhead rules ahead → UnlessMemory ending (WroteReport rules left rest ending known out out') → UnlessMemory ending (ending ≡ Ok true)
+  clean_by : (ending : Result Bool Fault) (ahead : List Answer) → Brings left ahead → IsInTimeAhead rules ahead → UnlessMemory ending (WroteReport rules left ending known out out') → UnlessMemory ending (ending ≡ Ok true)
   clean_by ending ahead brings time (inl memory) = inl memory
   clean_by ending ahead brings time (inr (clean, is, (others, other, r, report, text, same))) =
       let there : IsInTimeAhead rules others = subst (IsInTimeAhead rules) (one_ahead left ahead others brings other) time in
@@ -138,28 +135,30 @@ module _ {O : Type 0} (rules : Rules) (left rest : List ℕ) (known : O → Know
 
 pub capture_run : NoneBreaksOff → {I O : Type 0} (rules : Rules) (ending : Result Bool Fault) (input_known : I → Known Input) (input input' : I) (out_known : O → Known Output) (out out' : O)
     → ((fault : Fault) → ending ≡ Err fault → EndsEarly fault)
-    → Inputs (input_known input) (input_known input') (λ left rest. WritesCapture rules left rest ending out_known out out')
+    → Ends rules ending (input_known input) (input_known input') (out_known out) (out_known out')
+    → Inputs (input_known input) (input_known input') (λ left _. Says rules left ending out_known out out')
     → (ending ≡ Err faults.NoMemory → (input' ≡ input) × (out' ≡ out))
     → HasCause (input_known input) (input_known input') (ending ≡ Err faults.Read)
     → HasCause (out_known out) (out_known out') (ending ≡ Err faults.Write)
     → CaptureRun rules ending input_known input input' out_known out out'
-capture_run law {I} {O} rules ending input_known input input' out_known out out' kind writes untouched read_cause write_cause = record {
+capture_run law {I} {O} rules ending input_known input input' out_known out out' kind ends writes untouched read_cause write_cause = record {
   kind = kind;
-  writes = writes;
+  ends = ends;
+  writes = λ clean is. subst (λ e. Inputs (input_known input) (input_known input') (λ left _. Says rules left e out_known out out')) is writes;
   untouched = untouched;
   exactly = λ no_read no_write.
       Inputs-weaker Writes (λ left rest. UnlessMemory ending ((why : capture.Ending) → EndsByIt ending why ↔ BreaksOffBy rules left why)) (input_known input) (input_known input') writes
-      (λ left rest wrote. exact_by rules left rest out_known out out' ending kind wrote no_read no_write);
+      (λ left rest wrote. exact_by rules left out_known out out' ending kind wrote no_read no_write);
   complete = λ reads goes.
-      Inputs-weaker Writes (λ left rest. ((why : capture.Ending) → BreaksOffBy rules left why → ⊥) → UnlessMemory ending (WroteReport rules left rest ending out_known out out')) (input_known input) (input_known input') writes
-      (λ left rest wrote none. whole_by rules left rest out_known out out' ending kind wrote (λ is. reads (read_cause.rose is)) (λ is. goes (write_cause.rose is)) none);
+      Inputs-weaker Writes (λ left rest. ((why : capture.Ending) → BreaksOffBy rules left why → ⊥) → UnlessMemory ending (WroteReport rules left ending out_known out out')) (input_known input) (input_known input') writes
+      (λ left rest wrote none. whole_by rules left out_known out out' ending kind wrote (λ is. reads (read_cause.rose is)) (λ is. goes (write_cause.rose is)) none);
   in_time = λ reads goes.
       Inputs-weaker Writes (λ left rest. (ahead : List Answer) → Brings left ahead → IsInTimeAhead rules ahead → UnlessMemory ending (ending ≡ Ok true)) (input_known input) (input_known input') writes
-      (λ left rest wrote ahead brings time. clean_by rules left rest out_known out out' ending ahead brings time
-      (whole_by rules left rest out_known out out' ending kind wrote (λ is. reads (read_cause.rose is)) (λ is. goes (write_cause.rose is)) (never_breaks rules left rest out_known out out' law ahead brings time)));
+      (λ left rest wrote ahead brings time. clean_by rules left out_known out out' ending ahead brings time
+      (whole_by rules left out_known out out' ending kind wrote (λ is. reads (read_cause.rose is)) (λ is. goes (write_cause.rose is)) (never_breaks rules left out_known out out' law ahead brings time)));
   read_cause = read_cause;
   write_cause = write_cause;
 }
   where
     Writes : List ℕ → List ℕ → Type 0
-    Writes left rest = WritesCapture rules left rest ending out_known out out'
+    Writes left rest = Says rules left ending out_known out out'

@@ -29,7 +29,7 @@ returns-in_err-find g c =
     rw (p.1 ∙ ap Err p.2)
     (show_run c.read_one_way.ensures c.one_text.ensures g.I.Source.known c.args.input.now c.find.new.input g.O.Sink.known c.args.out.now c.loop-lines.out (Err (stop_fault stop))
     (λ fault is. early (stop_fault stop) fault (stop_early stop) is)
-    (stopped g.O.Sink.known c.args.out.now c.loop-lines.out c.loop-lines.packets before (g.I.Source.known c.loop-lines.input) c.loop-lines.count c.loop-lines.bytes c.loop-lines.clean i.0 stop (g.I.Source.known c.find.new.input)
+    (stopped (g.O.Sink.known c.args.out.now) (g.O.Sink.known c.loop-lines.out) c.loop-lines.packets before (g.I.Source.known c.loop-lines.input) c.loop-lines.count c.loop-lines.bytes c.loop-lines.clean i.0 stop (g.I.Source.known c.find.new.input)
     (c.in_err-find.ensures.stops i.0.packets before i.0.read))
     (λ is. absurd (stop_no_memory stop is))
     (record { later = le_trans i.2 c.find.ensures.cause.later; rose = λ is. later-Rose _ _ _ i.2 (c.find.ensures.cause.rose (c.in_err-find.was ∙ ap Err (stop_is_read stop is))) })
@@ -49,7 +49,7 @@ returns-in_default g c =
     record { packets = i.0.packets; read = read; texts = i.0.texts; are = i.0.are; wrote = i.0.wrote; count_is = i.0.count_is; bytes_are = i.0.bytes_are; clean_is = i.0.clean_is } in
     show_run c.read_one_way.ensures c.one_text.ensures g.I.Source.known c.args.input.now c.find.new.input g.O.Sink.known c.args.out.now c.show_packet.new.out (Err faults.Write)
     (λ fault is. early faults.Write fault tt is)
-    (cut g.O.Sink.known c.args.out.now c.loop-lines.out c.find.new.self before after c.loop-lines.count c.loop-lines.bytes c.loop-lines.clean has c.next.follows.lender-at-none bytes shown.text shown.bad c.show_packet.new.out more is
+    (cut (g.O.Sink.known c.args.out.now) (g.O.Sink.known c.loop-lines.out) c.find.new.self before after c.loop-lines.count c.loop-lines.bytes c.loop-lines.clean has c.next.follows.lender-at-none bytes shown.text shown.bad (g.O.Sink.known c.show_packet.new.out) more is
     (not_shown c.show_packet.result _ c.in_default.not-Ok shown.front))
     (λ is. absurd (write_no_memory is))
     (record { later = le_trans i.2 c.find.ensures.cause.later; rose = λ is. absurd (write_no_read is) })
@@ -114,7 +114,7 @@ returns-in_err-write_end_packets g c =
     rw (p.1 ∙ ap Err p.2)
     (show_run c.read_one_way.ensures c.one_text.ensures g.I.Source.known c.args.input.now c.find.new.input g.O.Sink.known c.args.out.now c.write_end_packets.new.out (Err faults.Write)
     (λ fault is. early faults.Write fault tt is)
-    (cut_end g.O.Sink.known c.args.out.now c.loop-lines.out c.find.new.self before after c.loop-lines.count c.loop-lines.bytes c.loop-lines.clean has ended c.write_end_packets.new.out
+    (cut_end (g.O.Sink.known c.args.out.now) (g.O.Sink.known c.loop-lines.out) c.find.new.self before after c.loop-lines.count c.loop-lines.bytes c.loop-lines.clean has ended (g.O.Sink.known c.write_end_packets.new.out)
     (Writes-front c.in_err-write_end_packets.was c.write_end_packets.ensures))
     (λ is. absurd (write_no_memory is))
     (record { later = le_trans i.2 c.find.ensures.cause.later; rose = λ is. absurd (write_no_read is) })
@@ -131,7 +131,7 @@ returns g c =
     let ended = c.find.ensures.ended i.0.packets before i.0.read (c.in_ok-find.was ∙ ap Ok c.if-branch.false) in
     show_run c.read_one_way.ensures c.one_text.ensures g.I.Source.known c.args.input.now c.find.new.input g.O.Sink.known c.args.out.now c.write_end_packets.new.out (Ok c.loop-lines.clean)
     (λ fault is. absurd cc)
-    (done g.O.Sink.known c.args.out.now c.loop-lines.out c.find.new.self before after c.loop-lines.count c.loop-lines.bytes c.loop-lines.clean has ended c.write_end_packets.new.out
+    (done (g.O.Sink.known c.args.out.now) (g.O.Sink.known c.loop-lines.out) c.find.new.self before after c.loop-lines.count c.loop-lines.bytes c.loop-lines.clean has ended (g.O.Sink.known c.write_end_packets.new.out)
     (Writes-done c.in_ok-write_end_packets.was c.write_end_packets.ensures))
     (λ is. absurd cc)
     (record { later = le_trans i.2 c.find.ensures.cause.later; rose = λ is. absurd cc })

@@ -1,5 +1,5 @@
 use Rattle.drm_receive.specs.Stopping.{ending_captured}
-use Rattle.drm_receive.proofs.CaptureLemmas.{written, ended_early, ended_memory, ended_read, ended_write}
+use Rattle.drm_receive.proofs.CaptureLemmas.{written, ended_as, ended_early, ended_memory, ended_read, ended_write}
 use Rattle.drm_receive.proofs.CaptureStatus.{capture_run}
 use Rattle.drm_receive.proofs.capture_command.receive_from_capture.Goals as goal
 
@@ -11,8 +11,9 @@ returns g c =
       run = rw c.captured_ending.ensures
           (capture_run c.in_time_is_unbroken.ensures c.args.rules.now (ending_captured came) g.I.Source.known c.args.input.now c.receive_capture.new.input g.O.Sink.known c.args.out.now c.receive_capture.new.out
           (ended_early came)
+          (ended_as c.args.rules.now (g.I.Source.known c.args.input.now) (g.I.Source.known c.receive_capture.new.input) (g.O.Sink.known c.args.out.now) (g.O.Sink.known c.receive_capture.new.out) came run.ended)
           (written c.args.rules.now c.requires c.reports_follow.ensures.headlines c.reports_follow.ensures.completes c.read_some_way.ensures (g.I.Source.known c.args.input.now) (g.I.Source.known c.receive_capture.new.input)
-          g.O.Sink.known c.args.out.now c.receive_capture.new.out came run.ended (λ is. (run.memory is).1))
+          g.O.Sink.known c.args.out.now c.receive_capture.new.out came run.ended)
           (λ is. run.memory (ended_memory came is))
           (record { later = run.read.later; rose = λ is. run.read.rose (ended_read came is) })
           (record { later = run.write.later; rose = λ is. run.write.rose (ended_write came is) }));
