@@ -1,5 +1,5 @@
 -- A whole report, and fronts of one.
-use Rattle.std.proofs.Common.{◌≡◌, ℕ, zero, suc, ◌≤◌, inl, inr, Bool, true, false, IsTrue, ◌&&◌, ◌↔◌, if◌then◌else◌, List, [], ◌∷◌, ◌++◌, length, Option, None, Some, Result, Err, refl, sym, ◌∙◌, ap, subst, arith, append_assoc}
+use Rattle.std.proofs.Common.{◌≡◌, ℕ, ◌≤◌, inl, inr, Bool, true, false, IsTrue, ◌&&◌, ◌↔◌, if◌then◌else◌, List, [], ◌∷◌, ◌++◌, length, Option, Result, Err, refl, sym, ◌∙◌, ap, subst, arith, append_assoc}
 use Rattle.std.specs.List.{filter}
 use Rattle.std.proofs.lemmas.List.{append-nil}
 use Rattle.circular_buffer.specs.Buffer.{keep_last}
@@ -21,15 +21,14 @@ use Rattle.mod_receiver.specs.declared.stop.Stop.TheVariants as stop
 use Rattle.mod_receiver.specs.Reading.{datagrams, IsFinished, most_answers}
 use Rattle.mod_receiver.specs.Reports.{is_given, is_missing, is_bad, refusals, refused_text, steps_text, sums_of, report, is_clean}
 use Rattle.mod_receiver.specs.Tallies.{Tallied, counted}
-use Rattle.mod_receiver.specs.Received.{IsReport, GivesSome, IsReportFront, Reported, Broken, Stopped}
+use Rattle.mod_receiver.specs.Received.{IsReport, IsFrontBehind, IsReportFront, Reported, Broken, Stopped}
 use Rattle.mod_receiver.specs.Printed.{items_in, steps_before, with_steps, tally_of, KeepsPace, PrintsReady, PrintsFront, ReadsTo, ReadsBroken, ReadsFront, StopsReading, WritesRest, RestFront}
 use Rattle.mod_receiver.proofs.AtOnce.{few_given}
 use Rattle.mod_receiver.proofs.Going.{goes_none}
-use Rattle.mod_receiver.proofs.Giving.{gave_none}
 use Rattle.mod_receiver.proofs.Refusing.{AreTold}
 use Rattle.mod_receiver.proofs.Tallying.{steps_counted, refusals_told, last_told}
-use Rattle.mod_receiver.proofs.Printing.{front_more, front_then, Rest, the_rest, the_front}
-use Rattle.mod_receiver.proofs.Reaching.{feeds_more, texts_join, front_joins}
+use Rattle.mod_receiver.proofs.Printing.{front_more, front_then, front_behind, front_further, Rest, the_rest, the_front}
+use Rattle.mod_receiver.proofs.Reaching.{feeds_more, texts_join}
 
 -- ---- texts behind one another
 
@@ -176,47 +175,29 @@ reported rules some feed hears a b d e t word clean w refused last is =
 -- a front of the whole report was written
 front_of_whole : (rules : Rules) (some : 1 ≤ rules.window) (feed : ℕ) (hears : List Answer → Type 0) (a b e : Known Output) (t : Tallied) (word : EndWord) (w : WroteItems rules feed hears a b t word)
     → Outputs b e (IsFront (tail_of w.steps w.taken word)) → Stopped rules feed hears a e
+unfolding report_of
 front_of_whole rules some feed hears a b e t word w tail = record {
   answers = w.answers;
   heard = w.heard;
   few = w.few;
   at_once = few_given rules w.answers some;
   goes_on = w.reading.goes_on;
-  text = Outputs-weaker (IsFront ((feed_line feed ++ steps_text w.steps) ++ tail_of w.steps w.taken word)) (IsReportFront rules feed w.answers) a e
-      (front_then (feed_line feed ++ steps_text w.steps) (tail_of w.steps w.taken word) a b e w.text tail)
-      (λ x f. inr (
+  text = Outputs-weaker (IsFrontBehind (feed_line feed ++ steps_text w.steps) (tail_of w.steps w.taken word)) (IsReportFront rules feed w.answers) a e
+      (front_behind (feed_line feed ++ steps_text w.steps) (tail_of w.steps w.taken word) a b e w.text tail)
+      (λ x f. inr (inr (
         report feed w.steps (refusals w.taken) word,
         is_clean w.steps,
         report_of rules feed hears a b t word w,
-        subst (λ l. IsFront l x) (whole_is feed w.steps w.taken word) f,
-      ));
+        tail_of w.steps w.taken word,
+        sym (whole_is feed w.steps w.taken word),
+        f,
+      )));
 }
 
 tail_front : (rules : Rules) (some : 1 ≤ rules.window) (feed : ℕ) (hears : List Answer → Type 0) (a b e : Known Output) (t : Tallied) (word : EndWord)
     → WroteItems rules feed hears a b t word → Outputs b e (IsFront (refused_text t.refused ++ end_line word t.sums)) → Stopped rules feed hears a e
 tail_front rules some feed hears a b e t word w tail =
     front_of_whole rules some feed hears a b e t word w (subst (λ (u : Tallied). Outputs b e (IsFront (refused_text u.refused ++ end_line word u.sums))) w.tally tail)
-
-none_given : (rules : Rules) → GivesSome rules [] (up_to rules.frames [])
-none_given rules = record {
-  before = [];
-  later = [];
-  are = refl;
-  taken = [];
-  during = [];
-  mid = made rules.window rules.first;
-  gave = gave_none rules;
-  state = made rules.window rules.first;
-  comes = inl refl;
-  more = [];
-  gives = tt;
-  items_are = refl;
-}
-
-none_fed : (told : Option ℕ) → Feeds new_tracker (up_to told []) [] new_tracker
-none_fed None = refl
-none_fed (Some zero) = refl
-none_fed (Some (suc n)) = refl
 
 -- nothing was read yet
 pub first_front : (rules : Rules) (some : 1 ≤ rules.window) (feed : ℕ) (hears : List Answer → Type 0) (a b : Known Output) → hears [] → Outputs a b (IsFront (feed_line feed)) → Stopped rules feed hears a b
@@ -227,7 +208,7 @@ first_front rules some feed hears a b none text = record {
   at_once = few_given rules [] some;
   goes_on = goes_none rules;
   text = Outputs-weaker (IsFront (feed_line feed)) (IsReportFront rules feed []) a b text
-      (λ x f. inl (up_to rules.frames [], none_given rules, [], new_tracker, none_fed rules.frames, front_more (feed_line feed) [] x f));
+      (λ x f. inl (refl, f));
 }
 
 pub reading_front : (rules : Rules) (some : 1 ≤ rules.window) (feed : ℕ) (hears : List Answer → Type 0) (a0 a b : Known Output) → Outputs a0 a (λ x. x ≡ feed_line feed) → ReadsFront rules hears a b → Stopped rules feed hears a0 b
@@ -237,9 +218,9 @@ reading_front rules some feed hears a0 a b first read = record {
   few = read.few;
   at_once = few_given rules read.answers some;
   goes_on = read.goes_on;
-  text = Outputs-weaker (IsFront (feed_line feed ++ steps_text read.steps)) (IsReportFront rules feed read.answers) a0 b
-      (front_then (feed_line feed) (steps_text read.steps) a0 a b first read.text)
-      (λ x f. inl (read.items, read.some, read.steps, read.last, read.feeds, f));
+  text = Outputs-weaker (IsFrontBehind (feed_line feed ++ steps_text read.earlier) (steps_text read.later)) (IsReportFront rules feed read.answers) a0 b
+      (front_further (feed_line feed) (steps_text read.earlier) (steps_text read.later) a0 a b first read.text)
+      (λ x f. inr (inl (read.earlier, read.later, read.stepped, f)));
 }
 
 -- the reading stopped by a write
@@ -297,29 +278,34 @@ rest_front rules some feed hears a0 a b d c c' f t word first read counted finis
       few = read.few;
       at_once = few_given rules read.answers some;
       goes_on = s.goes_on;
-      text = Outputs-weaker (IsFront (feed_line feed ++ steps_text (s.steps ++ rest.steps))) (IsReportFront rules feed read.answers) a0 d
-          (front_then (feed_line feed) (steps_text (s.steps ++ rest.steps)) a0 a d first (front_joins s.steps rest.steps a b d s.text rest.text))
-          (λ x h. inl (
-            up_to rules.frames (s.items ++ rest.items),
+      text = Outputs-weaker (IsFrontBehind (feed_line feed ++ steps_text s.steps) (steps_text rest.steps)) (IsReportFront rules feed read.answers) a0 d
+          (front_behind (feed_line feed ++ steps_text s.steps) (steps_text rest.steps) a0 b d (text_then (feed_line feed) (steps_text s.steps) a0 a b first s.text) rest.text)
+          (λ x h. inr (inl (
+            s.steps,
+            rest.steps,
             record {
-              before = read.answers;
-              later = [];
-              are = sym (append-nil read.answers);
-              taken = s.taken;
-              during = s.items;
-              mid = read.mid;
-              gave = s.gave;
-              state = after_finish read.mid rules.frames;
-              comes = inr (inr (word, refl, read.ends, refl));
-              more = rest.items;
-              gives = rest.gives;
-              items_are = refl;
+              items = up_to rules.frames (s.items ++ rest.items);
+              some = record {
+                before = read.answers;
+                later = [];
+                are = sym (append-nil read.answers);
+                taken = s.taken;
+                during = s.items;
+                mid = read.mid;
+                gave = s.gave;
+                state = after_finish read.mid rules.frames;
+                comes = inr (word, refl, read.ends, refl);
+                more = rest.items;
+                gives = rest.gives;
+                items_are = refl;
+              };
+              mid = f;
+              before = s.feeds;
+              last = rest.after;
+              feeds = feeds_more rules.frames f rest.after s.items rest.items s.steps rest.steps s.feeds rest.feeds;
             },
-            s.steps ++ rest.steps,
-            rest.after,
-            feeds_more rules.frames f rest.after s.items rest.items s.steps rest.steps s.feeds rest.feeds,
             h,
-          ));
+          )));
     }
 
 -- ---- the rest of a report

@@ -1,5 +1,5 @@
 -- A reading, at the answers that are no datagram, and where it stops.
-use Rattle.std.proofs.Common.{◌≡◌, ℕ, ◌+◌, ◌*◌, ◌<◌, ◌≤◌, inl, inr, List, [], ◌∷◌, ◌++◌, length, refl, ◌∙◌, ap, arith}
+use Rattle.std.proofs.Common.{◌≡◌, ℕ, ◌+◌, ◌*◌, ◌<◌, ◌≤◌, inl, List, [], ◌∷◌, ◌++◌, length, refl, ◌∙◌, ap, arith}
 use Rattle.std.proofs.Math.Nat.{mul-le-mul_right}
 use Rattle.drm_links.specs.Link.{Answer, Datagram, Idle, Failed, End}
 use Rattle.drm_links.specs.Told.{Known}
@@ -14,7 +14,9 @@ use Rattle.mod_receiver.specs.Tallies.{Tallied}
 use Rattle.mod_receiver.specs.Printed.{TakesFront, SoFar, ReadsTo, ReadsBroken, ReadsFront}
 use Rattle.mod_receiver.proofs.Going.{goes_more, datagrams_idle, idles_idle, idles_end, datagrams_end, not_ended}
 use Rattle.mod_receiver.proofs.Giving.{gave_idle, gave_end}
-use Rattle.mod_receiver.proofs.Reaching.{Reaches, HearsMore, feeds_more, front_joins, so_far_open, not_given, one_longer, one_turn, short_enough}
+use Rattle.mod_receiver.specs.Reports.{steps_text}
+use Rattle.mod_receiver.proofs.Printing.{front_behind}
+use Rattle.mod_receiver.proofs.Reaching.{Reaches, HearsMore, feeds_more, so_far_open, not_given, one_longer, one_turn, short_enough}
 
 -- the next answer is `Idle`
 pub record OnIdle (rules : Rules) (hears : List Answer → Type 0) (a b : Known Output) (c : State) (f : TrackerState) (t : Tallied) (taken idles : ℕ) : Type 0 where
@@ -165,23 +167,28 @@ on_stop rules hears hears' a b d c f t taken idles bytes r came stops =
       heard = came r.answers s.heard;
       few = short_enough rules (length (r.answers ++ Datagram bytes ∷ [])) taken r.more (one_turn (length (r.answers ++ Datagram bytes ∷ [])) taken idles rules.idle size r.fewer);
       goes_on = goes_more rules r.answers (Datagram bytes) s.goes_on (so_far_open rules hears a b c f t taken idles r) tt;
-      items = up_to rules.frames (s.items ++ p.items);
-      some = record {
-        before = r.answers;
-        later = Datagram bytes ∷ [];
-        are = refl;
-        taken = s.taken;
-        during = s.items;
-        mid = c;
-        gave = s.gave;
-        state = stops.kept;
-        comes = inr (inl (bytes, stops.answer, refl, stops.takes));
-        more = p.items;
-        gives = p.gives;
-        items_are = refl;
+      earlier = s.steps;
+      later = p.steps;
+      stepped = record {
+        items = up_to rules.frames (s.items ++ p.items);
+        some = record {
+          before = r.answers;
+          later = Datagram bytes ∷ [];
+          are = refl;
+          taken = s.taken;
+          during = s.items;
+          mid = c;
+          gave = s.gave;
+          state = stops.kept;
+          comes = inl (bytes, stops.answer, refl, stops.takes);
+          more = p.items;
+          gives = p.gives;
+          items_are = refl;
+        };
+        mid = f;
+        before = s.feeds;
+        last = p.after;
+        feeds = feeds_more rules.frames f p.after s.items p.items s.steps p.steps s.feeds p.feeds;
       };
-      steps = s.steps ++ p.steps;
-      last = p.after;
-      feeds = feeds_more rules.frames f p.after s.items p.items s.steps p.steps s.feeds p.feeds;
-      text = front_joins s.steps p.steps a b d s.text p.text;
+      text = front_behind (steps_text s.steps) (steps_text p.steps) a b d s.text p.text;
     }

@@ -19,7 +19,7 @@ use Rattle.mod_receiver.specs.declared.stop.Stop.TheVariants as stop
 use Rattle.mod_receiver.specs.Reading.{Gave, EndsBy, GoesOn, IsBroken, most_answers}
 use Rattle.mod_receiver.specs.Reports.{refusals, refused_text, steps_text, sums_of}
 use Rattle.mod_receiver.specs.Tallies.{Tallied, counted, noted}
-use Rattle.mod_receiver.specs.Received.{GivesFirst, GivesSome}
+use Rattle.mod_receiver.specs.Received.{GivesFirst, Stepped, IsFrontBehind}
 
 -- how many items these sums count
 abbrev pub items_in : Sums → ℕ
@@ -130,18 +130,16 @@ pub record ReadsBroken (rules : Rules) (hears : List Answer → Type 0) (a b : K
   pub feeds : Feeds new_tracker (up_to rules.frames items) steps last
   pub text : Outputs a b (λ text. text ≡ steps_text steps)
 
--- the reading stopped, and a front of the lines of some first items was written
+-- the reading stopped: what was given before the last answer was written, and a front of what that one made ready
 pub record ReadsFront (rules : Rules) (hears : List Answer → Type 0) (a b : Known Output) : Type 0 where
   pub answers : List Answer
   pub heard : hears answers
   pub few : length answers ≤ most_answers rules
   pub goes_on : GoesOn rules answers
-  pub items : List Item
-  pub some : GivesSome rules answers items
-  pub steps : List FeedStep
-  pub last : TrackerState
-  pub feeds : Feeds new_tracker items steps last
-  pub text : Outputs a b (IsFront (steps_text steps))
+  pub earlier : List FeedStep
+  pub later : List FeedStep
+  pub stepped : Stepped rules answers earlier later
+  pub text : Outputs a b (IsFrontBehind (steps_text earlier) (steps_text later))
 
 -- The rest of a report was written: what is ready once the collector is finished, the refusals, and why the report ends.
 pub record WritesRest (told : Option ℕ) (word : EndWord) (c : State) (f : TrackerState) (t : Tallied) (a b : Known Output) (clean : Bool) : Type 0 where

@@ -50,11 +50,10 @@ abbrev pub GivesFirst : State → List Item → Type 0
 GivesFirst c [] = Unit {0}
 GivesFirst c (item ∷ items) = (ready c ≡ true) × IsItem c item × GivesFirst (after_item c) items
 
--- a collector after the last of these answers: as it was, or with that datagram taken, or finished where the reading is
+-- what a collector comes to by the last of these answers: it takes that datagram, or it is finished where the reading is
 abbrev pub ComesTo : Rules → List Answer → List Answer → State → State → Type 0
 ComesTo rules answers later mid c =
-    (c ≡ mid)
-    ⊎ ((bytes : List ℕ) × (answer : Taken) × (later ≡ Datagram bytes ∷ []) × Takes mid bytes answer c)
+    ((bytes : List ℕ) × (answer : Taken) × (later ≡ Datagram bytes ∷ []) × Takes mid bytes answer c)
     ⊎ ((word : EndWord) × (later ≡ []) × EndsBy rules answers word × (c ≡ after_finish mid rules.frames))
 
 -- These are some first items of those that the answers give: all that was given before the last of them, and then some.
@@ -72,12 +71,29 @@ pub record GivesSome (rules : Rules) (answers : List Answer) (items : List Item)
   pub gives : GivesFirst state more
   pub items_are : items ≡ up_to rules.frames (during ++ more)
 
--- What is written is a front of the first line and of the lines of some first items, or of the whole report.
+-- the steps of all that was given before the last answer, and of what came then
+pub record Stepped (rules : Rules) (answers : List Answer) (earlier later : List FeedStep) : Type 0 where
+  pub items : List Item
+  pub some : GivesSome rules answers items
+  pub mid : TrackerState
+  pub before : Feeds new_tracker (up_to rules.frames some.during) earlier mid
+  pub last : TrackerState
+  pub feeds : Feeds new_tracker items (earlier ++ later) last
+
+-- all that was written before, and a front of what comes behind it
+abbrev pub IsFrontBehind : List ℕ → List ℕ → List ℕ → Type 0
+IsFrontBehind written behind text = (front : List ℕ) × IsFront behind front × (text ≡ written ++ front)
+
+-- What is written where a write failed: a front of the first line, before anything is read; all that was given before the last
+-- answer, and a front of what that one made ready; or the lines of all items, and a front of what ends the report.
 abbrev pub IsReportFront : Rules → ℕ → List Answer → List ℕ → Type 0
 IsReportFront rules feed answers text =
-    ((items : List Item) × GivesSome rules answers items × (steps : List FeedStep) × (after : TrackerState)
-    × Feeds new_tracker items steps after × IsFront (feed_line feed ++ steps_text steps) text)
-    ⊎ ((whole : List ℕ) × (clean : Bool) × IsReport rules feed answers whole clean × IsFront whole text)
+    ((answers ≡ []) × IsFront (feed_line feed) text)
+    ⊎ ((earlier later : List FeedStep) × Stepped rules answers earlier later
+    × IsFrontBehind (feed_line feed ++ steps_text earlier) (steps_text later) text)
+    ⊎ ((whole : List ℕ) × (clean : Bool) × (is : IsReport rules feed answers whole clean)
+    × (behind : List ℕ) × (whole ≡ (feed_line feed ++ steps_text is.steps) ++ behind)
+    × IsFrontBehind (feed_line feed ++ steps_text is.steps) behind text)
 
 -- The reading was finished, and the report of what was read was written. What was heard says which answers it can be: of a
 -- link those that it gave in between.
@@ -100,7 +116,7 @@ pub record Broken (rules : Rules) (feed : ℕ) (hears : List Answer → Type 0) 
   pub is : IsBrokenOff rules feed answers whole
   pub text : Outputs a b (λ text. text ≡ whole)
 
--- A write failed: nothing shorter than what was read is finished, and a front of its report was written.
+-- A write failed: nothing shorter than what was read is finished, and what was written is all that was given before, and a front.
 pub record Stopped (rules : Rules) (feed : ℕ) (hears : List Answer → Type 0) (a b : Known Output) : Type 0 where
   pub answers : List Answer
   pub heard : hears answers
