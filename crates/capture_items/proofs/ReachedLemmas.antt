@@ -44,6 +44,7 @@ read_none before reader is =
       whole = All-nil IsWhole;
       at = at;
       few = omega (arith, at, ap length held);
+      room = omega (arith, ap length held);
       bytes = Inputs-nothing (λ left rest. left ≡ [] ++ (reader.held ++ rest)) before (λ left. ap (λ l. l ++ left) (sym held));
     }
 

@@ -31,6 +31,7 @@ fetch_got old new a b n put left buf lent cut size some whole room few more same
       record {
         at = place;
         few = omega (arith, place, size', size, few, more);
+        room = omega (arith, size', count, all, long');
         bytes = Inputs-weaker (λ x y. x ≡ take n buf ++ y) (λ left rest. old.held ++ left ≡ new.held ++ rest) a b (Inputs-got n buf a b told counts)
             (λ x y e. ap (λ l. old.held ++ l) e ∙ (sym (append_assoc old.held (take n buf) y) ∙ ap (λ l. l ++ y) (sym held)));
       },

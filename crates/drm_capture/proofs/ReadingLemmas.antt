@@ -35,6 +35,7 @@ read_on packets old new before a b read more = record {
   whole = read.whole;
   at = more.at ∙ read.at;
   few = more.few;
+  room = omega (arith, read.room, more.room);
   bytes = Inputs-then (λ left rest. left ≡ concat packets ++ (old.held ++ rest)) (λ left rest. old.held ++ left ≡ new.held ++ rest) (λ left rest. left ≡ concat packets ++ (new.held ++ rest))
       before a b read.bytes more.bytes (λ x y z p q. p ∙ ap (λ l. concat packets ++ l) q);
 }
@@ -160,6 +161,7 @@ read_one packets packet old new before after whole held at read =
       whole = All-push IsWhole packets packet read.whole whole;
       at = omega (arith, at, read.at, ap length all, length-append (concat packets) packet);
       few = omega (arith, at, read.few, ap length held, length-append packet new.held);
+      room = omega (arith, read.room, ap length held, length-append packet new.held);
       bytes = Inputs-weaker (λ left rest. left ≡ concat packets ++ (old.held ++ rest)) (λ left rest. left ≡ concat (packets ++ packet ∷ []) ++ (new.held ++ rest)) before after read.bytes
           (λ x y is. is ∙ (ap (λ l. concat packets ++ l) (ap (λ l. l ++ y) held ∙ append_assoc packet new.held y) ∙ (sym (append_assoc (concat packets) packet (new.held ++ y)) ∙ ap (λ l. l ++ (new.held ++ y)) (sym all))));
     }

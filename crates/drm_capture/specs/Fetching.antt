@@ -8,13 +8,14 @@ use Rattle.drm_capture.specs.declared.packets.CaptureStop.{CaptureStop}
 use Rattle.drm_capture.specs.declared.packets.CaptureStop.TheVariants as stop
 use Rattle.drm_capture.specs.Front.{Wrong, Cut, Begins}
 use Rattle.drm_capture.specs.Capture.{most_bytes}
-use Rattle.drm_capture.specs.Walking.{WalkerState, IsCut}
+use Rattle.drm_capture.specs.Walking.{WalkerState, most_held, IsCut}
 use Rattle.drm_capture.specs.Reading.{HasNext}
 
 -- Bytes of the input came behind those that were held.
 pub record Fetched (old new : WalkerState) (before after : Known Input) : Type 0 where
   pub at : new.at ≡ old.at
   pub few : new.at + length new.held ≤ most_bytes
+  pub room : length new.held ≤ max (length old.held) most_held
   pub bytes : Inputs before after (λ left rest. old.held ++ left ≡ new.held ++ rest)
 
 -- The reader is full, and more bytes came, which it doesn't hold.

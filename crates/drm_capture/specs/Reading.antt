@@ -8,13 +8,15 @@ use Rattle.drm_capture.specs.declared.packets.CaptureStop.{CaptureStop}
 use Rattle.drm_capture.specs.declared.packets.CaptureStop.TheVariants as stop
 use Rattle.drm_capture.specs.Front.{Packet, Cut, Begins, IsWhole}
 use Rattle.drm_capture.specs.Capture.{most_bytes, Fault, TooLong, IsCaptureOf}
-use Rattle.drm_capture.specs.Walking.{WalkerState}
+use Rattle.drm_capture.specs.Walking.{WalkerState, most_held}
 
--- Of what was left of the input before, these packets were given, and the bytes that the reader holds are taken.
+-- Of what was left of the input before, these packets were given, and the bytes that the reader holds are taken, at most as many
+-- as it has room for.
 pub record HasRead (packets : List (List ℕ)) (reader : WalkerState) (before after : Known Input) : Type 0 where
   pub whole : All IsWhole packets
   pub at : reader.at ≡ length (concat packets)
   pub few : reader.at + length reader.held ≤ most_bytes
+  pub room : length reader.held ≤ most_held
   pub bytes : Inputs before after (λ left rest. left ≡ concat packets ++ (reader.held ++ rest))
 
 -- The next packet is whole in what the reader holds.

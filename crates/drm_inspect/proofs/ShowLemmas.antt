@@ -71,7 +71,7 @@ none_left (Some input) = refl
 pub read_none : (before : Known Input) (reader : WalkerState) → reader ≡ new_walker → HasRead [] reader before before
 read_none before reader new =
     subst (λ r. HasRead [] r before before) (sym new)
-    (record { whole = λ k d within. absurd (omega (arith, within)); at = refl; few = omega arith; bytes = none_left before.told })
+    (record { whole = λ k d within. absurd (omega (arith, within)); at = refl; few = omega arith; room = omega arith; bytes = none_left before.told })
 
 -- So many packets and bytes were shown, of what was read so far, and whether none is bad.
 pub record HasShown (reader : WalkerState) (before after : Known Input) (a b : Known Output) (count bytes : ℕ) (clean : Bool) : Type 0 where

@@ -27,7 +27,7 @@ none_told (Some input) = refl
 pub read_none : (before : Known Input) (reader : WalkerState) → reader ≡ new_walker → HasRead [] reader before before
 read_none before reader new =
     subst (λ r. HasRead [] r before before) (sym new)
-    (record { whole = λ k d within. absurd (omega (arith, within)); at = refl; few = omega arith; bytes = none_told before.told })
+    (record { whole = λ k d within. absurd (omega (arith, within)); at = refl; few = omega arith; room = omega arith; bytes = none_told before.told })
 
 pub heard_nothing : (before : Known Input) → HeardOf before before []
 heard_nothing before = ([], inl (new_walker, read_none before new_walker refl, refl))
