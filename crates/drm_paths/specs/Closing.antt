@@ -1,9 +1,9 @@
 -- What a journal has of its paths.
-use Rattle.std.specs.Prelude.{ℕ, ◌≡◌, ◌≢◌, ◌<◌, ◌==◌, if◌then◌else◌, List, [], ◌∷◌, length, take, slice_get, slice_index_or, Option, sum_by}
+use Rattle.std.specs.Prelude.{ℕ, ◌≡◌, ◌≢◌, ◌<◌, ◌==◌, if◌then◌else◌, false, List, [], ◌∷◌, length, take, slice_get, slice_index_or, Option, sum_by}
 use Rattle.path_book.specs.declared.settings.Settings.{Settings}
-use Rattle.path_book.specs.Journal.{datagrams}
+use Rattle.path_book.specs.Journal.{JournalState, datagrams}
 use Rattle.path_book.specs.Report.{IsReportOf}
-use Rattle.drm_paths.specs.State.{PathState}
+use Rattle.drm_paths.specs.State.{PathState, AreNumbered}
 use Rattle.drm_paths.specs.declared.close.Difference.{Difference}
 use Rattle.drm_paths.specs.declared.close.Closed.{Closed}
 use Rattle.drm_paths.specs.declared.close.Closed.TheVariants.{Whole, Differ, NoMemory}
@@ -39,14 +39,17 @@ pub record Differs (entries : List (ℕ × List ℕ)) (paths : List PathState) (
   pub is : (none : PathState) → IsDifferenceOf entries (slice_index_or paths k none) d
   pub before : (j : ℕ) (none : PathState) → j < k → Agrees entries (slice_index_or paths j none)
 
--- There are as many entries as the paths took datagrams: none was dropped, invented or doubled.
-abbrev pub AreCounted : List (ℕ × List ℕ) → List PathState → Type 0
-AreCounted entries paths = length entries ≡ sum_by (λ p. length p.taken) paths
+-- Each entry is of one of these paths, and there are as many as these took datagrams: none was dropped, invented or doubled.
+pub record AreCounted (entries : List (ℕ × List ℕ)) (paths : List PathState) : Type 0 where
+  pub numbered : AreNumbered (length paths) entries
+  pub many : length entries ≡ sum_by (λ p. length p.taken) paths
 
--- What comes of a book that is closed, by its entries: they are those of its paths, and the report is that of all of them; or
--- they differ, and this is where.
-abbrev pub Closes : Settings → List PathState → Closed → Type 0
-Closes by paths (Whole ending) =
-    (entries : List (ℕ × List ℕ)) × AreCounted entries paths × AllAgree entries paths × IsReportOf by (datagrams entries) ending.text ending.clean
-Closes by paths (Differ difference) = (entries : List (ℕ × List ℕ)) × AreCounted entries paths × Differs entries paths difference
-Closes by paths NoMemory = Unit {0}
+-- What comes of a book with this journal that is closed. Unless its report has stopped, its entries are those of its paths, and
+-- the report is that of all of them; or they differ, and this is where.
+abbrev pub Closes : Settings → JournalState → List PathState → Closed → Type 0
+Closes by journal paths (Whole ending) =
+    (journal.stopped ≡ false) × AreCounted journal.entries paths × AllAgree journal.entries paths
+    × IsReportOf by (datagrams journal.entries) ending.text ending.clean
+Closes by journal paths (Differ difference) =
+    (journal.stopped ≡ false) × AreCounted journal.entries paths × Differs journal.entries paths difference
+Closes by journal paths NoMemory = Unit {0}

@@ -1,5 +1,5 @@
 -- What is seen of a path and of a book.
-use Rattle.std.specs.Prelude.{ℕ, ◌≡◌, ◌+◌, List, [], ◌∷◌, ◌++◌, length, Option}
+use Rattle.std.specs.Prelude.{ℕ, ◌≡◌, ◌+◌, ◌<◌, All, List, [], ◌∷◌, ◌++◌, length, Option}
 use Rattle.dcp_collect.specs.declared.taken.Taken.{Taken}
 use Rattle.path_book.specs.declared.settings.Settings.{Settings}
 use Rattle.path_book.specs.Journal.{JournalState, Enters}
@@ -29,6 +29,10 @@ new_path number = path_state number [] 1 0
 -- with one more datagram, which counts
 abbrev pub with_datagram : PathState → List ℕ → PathState
 with_datagram p datagram = path_state p.number (p.taken ++ datagram ∷ []) p.parts (p.amount + 1)
+
+-- each entry is of one of so many paths
+abbrev pub AreNumbered : ℕ → List (ℕ × List ℕ) → Type 0
+AreNumbered paths entries = All (λ e. e.0 < paths) entries
 
 -- a journal, and the total of the ledger
 pub record BookState : Type 0 where

@@ -5,7 +5,7 @@ ghost use Rattle.path_book.specs.Took.{IfTook};
 ghost use Rattle.path_book.specs.Journal.{IsKept, entry_of, datagrams};
 ghost use Rattle.path_book.specs.Report.{IsReportOf};
 ghost use Rattle.path_book.specs.declared.event.Event.{Event};
-ghost use Rattle.drm_paths.specs.State.{bytes_in, most_bytes, settings_of, IsEvent};
+ghost use Rattle.drm_paths.specs.State.{bytes_in, most_bytes, settings_of, AreNumbered, IsEvent};
 
 use crate::{Path, Road};
 use drm_bits::NoMemory;
@@ -23,14 +23,14 @@ pub struct Book<G: Road> {
 
 impl<G: Road> Model for Book<G> {
     ghost use Rattle.std.specs.Prelude.{◌≡◌, length};
-    ghost use Rattle.drm_paths.specs.State.{BookState, book_state, settings_of};
+    ghost use Rattle.drm_paths.specs.State.{BookState, book_state, settings_of, AreNumbered};
 
     ghost Value = { BookState };
 
     ghost view = { λ b. book_state b.journal b.total.total };
 
     ghost invariant = { λ b. (b.journal.settings ≡ settings_of G.window G.first G.frames)
-        × (length b.journal.entries ≡ b.total.total) };
+        × (length b.journal.entries ≡ b.total.total) × AreNumbered G.parts b.journal.entries };
 }
 
 impl<G: Road> Book<G> {
@@ -38,6 +38,7 @@ impl<G: Road> Book<G> {
     pub(crate) fn new(journal: Journal, total: Total<G>) -> Book<G>
         requires settings { journal.settings ≡ settings_of G.window G.first G.frames }
         requires counted { length journal.entries ≡ total.total }
+        requires numbered { AreNumbered G.parts journal.entries }
         ensures { result.journal ≡ journal }
     {
         Book { journal, total }
@@ -73,19 +74,21 @@ impl<G: Road> Book<G> {
         }
     }
 
-    /// What each book keeps: as many entries as the ledger counts, and the report so far of them, by what its type says; or a
-    /// front of that, where it has stopped.
+    /// What each book keeps: as many entries as the ledger counts, each of one of its paths, and the report so far of them, by
+    /// what its type says; or a front of that, where it has stopped.
     pub fn keeps_its_report(&self)
         ensures kept { IsKept self.now.journal }
         ensures settings { self.now.journal.settings ≡ settings_of G.window G.first G.frames }
         ensures counted { length self.now.journal.entries ≡ self.now.total }
+        ensures numbered { AreNumbered G.parts self.now.journal.entries }
     {
         self.journal.keeps_its_report();
     }
 
     // The entries.
     pub(crate) fn entries(&self) -> &[Entry]
-        ensures { map entry_of result.now ≡ self.now.journal.entries }
+        ensures are { map entry_of result.now ≡ self.now.journal.entries }
+        ensures numbered { AreNumbered G.parts self.now.journal.entries }
     {
         self.journal.entries()
     }

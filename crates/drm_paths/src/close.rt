@@ -5,8 +5,8 @@ ghost use Rattle.path_book.specs.Journal.{entry_of};
 ghost use Rattle.drm_paths.specs.State.{settings_of};
 ghost use Rattle.drm_paths.specs.Closing.{of_path, IsDifference, Agrees, AllAgree, IsDifferenceOf, Differs, Closes};
 
-use crate::shared::{Paths, Shared};
-use crate::{Path, Road};
+use crate::shared::Paths;
+use crate::{Book, Path, Road};
 use drm_bits::{NoMemory, Octets};
 use path_book::{Ending, Entry};
 use std::alloc::Global;
@@ -120,7 +120,8 @@ impl<G: Road> Path<G> {
 
     // Its share of the ledger.
     fn share(self) -> Share<G>
-        ensures { (result.parts ≡ self.parts) × (result.amount ≡ length self.taken) }
+        ensures parts { (result.parts ≡ self.parts) × (result.parts ≡ 1) }
+        ensures amount { result.amount ≡ length self.taken }
     {
         let Path { share, .. } = self;
         share
@@ -141,6 +142,7 @@ fn bytes_at(list: &[Vec<u8>], at: usize) -> Option<&[u8]>
 fn merged<G: Road>(mut paths: Vec<Path<G>>) -> Share<G>
     requires { 0 < vec_len paths }
     ensures parts { result.parts ≡ sum_by (λ p. p.parts) paths.items }
+    ensures one_each { result.parts ≡ length paths.items }
     ensures amount { result.amount ≡ sum_by (λ p. length p.taken) paths.items }
 {
     let Some(first) = paths.pop() else {
@@ -155,12 +157,11 @@ fn merged<G: Road>(mut paths: Vec<Path<G>>) -> Share<G>
 
 /// Closes a book whose paths these are, all of them: the ledger proves that its journal has as many entries as they took.
 /// Each path's entries are compared with what it took, and the report is ended.
-pub fn close_paths<G: Road>(alloc: Global, shared: Shared<G>, paths: Paths<G>) -> Closed
+pub fn close_paths<G: Road>(alloc: Global, mut book: Book<G>, paths: Paths<G>) -> Closed
     requires some { 0 < length paths }
     requires all { sum_by (λ p. p.parts) paths ≡ G.parts }
-    ensures { Closes (settings_of G.window G.first G.frames) paths result }
+    ensures { Closes (settings_of G.window G.first G.frames) book.journal paths result }
 {
-    let mut book = shared.into_book();
     if book.is_stopped() {
         return Closed::NoMemory;
     }

@@ -4,6 +4,7 @@
 
 mod book;
 mod close;
+mod crossing;
 mod path;
 mod road;
 mod run;
@@ -11,7 +12,9 @@ mod shared;
 
 pub use book::Book;
 pub use close::{Closed, Difference, close_paths};
+pub use crossing::paths_may_cross_threads;
 pub use path::Path;
+pub use path_book::{Ending, Entry, Event, Settings};
 pub use road::Road;
 pub use run::{PathEnded, PathOptions, run_path};
 pub use shared::{Given, Paths, Shared, open_paths};

@@ -1,6 +1,6 @@
 //! A path.
 
-ghost use Rattle.std.specs.Prelude.{◌≡◌, ◌≤◌, length};
+ghost use Rattle.std.specs.Prelude.{◌≡◌, ◌<◌, ◌≤◌, length};
 ghost use Rattle.drm_paths.specs.State.{new_path, bytes_in, most_bytes};
 
 use crate::Road;
@@ -18,7 +18,7 @@ pub struct Path<G: Road> {
 }
 
 impl<G: Road> Model for Path<G> {
-    ghost use Rattle.std.specs.Prelude.{◌≡◌, ◌≤◌, map, vec_len};
+    ghost use Rattle.std.specs.Prelude.{◌≡◌, ◌<◌, ◌≤◌, map, vec_len};
     ghost use Rattle.drm_paths.specs.State.{PathState, bytes_in, most_bytes, path_state};
 
     ghost Value = { PathState };
@@ -26,13 +26,15 @@ impl<G: Road> Model for Path<G> {
     ghost view = { λ p. path_state p.number (map (λ d. d.items) p.taken.items) p.share.parts p.share.amount };
 
     ghost invariant = { λ p. (p.share.parts ≡ 1) × (p.share.amount ≡ vec_len p.taken)
-        × (p.bytes ≡ bytes_in (map (λ d. d.items) p.taken.items)) × (p.bytes ≤ most_bytes) };
+        × (p.bytes ≡ bytes_in (map (λ d. d.items) p.taken.items)) × (p.bytes ≤ most_bytes)
+        × (p.number < G.parts) };
 }
 
 impl<G: Road> Path<G> {
     // A path that took nothing.
     pub(crate) fn new(alloc: Global, number: u8, share: Share<G>) -> Path<G>
-        requires { (share.parts ≡ 1) × (share.amount ≡ 0) }
+        requires share { (share.parts ≡ 1) × (share.amount ≡ 0) }
+        requires number { number < G.parts }
         ensures { result ≡ new_path number }
     {
         Path {
@@ -45,7 +47,8 @@ impl<G: Road> Path<G> {
 
     /// Its number among the paths of a run, from 0.
     pub fn number(&self) -> u8
-        ensures { result ≡ self.now.number }
+        ensures number { result ≡ self.now.number }
+        ensures below { result < G.parts }
     {
         self.number
     }

@@ -4,7 +4,7 @@ use Rattle.drm_links.specs.Told.{Known}
 use Rattle.drm_links.specs.Sink.{Output}
 use Rattle.dcp_collect.specs.State.{State, ready, after_item, after_next}
 use Rattle.dcp_collect.specs.Runs.{Item, IsItem, Gives}
-use Rattle.collect_laws.proofs.Runs.{Given, given_more, given_all}
+use Rattle.collect_laws.proofs.Runs.{Given, given_more, given_all, gives_given}
 use Rattle.drm_switches.specs.Tracker.{TrackerState}
 use Rattle.mod_receiver.specs.declared.text.Text.{Text}
 use Rattle.mod_receiver.specs.Texts.{text_known}
@@ -12,7 +12,7 @@ use Rattle.mod_receiver.specs.Reports.{steps_text}
 use Rattle.mod_receiver.specs.Tallies.{Tallied}
 use Rattle.mod_receiver.specs.Printed.{items_in, is_full, steps_before, KeepsPace}
 use Rattle.mod_receiver.proofs.Printing.{Drained, prints_then, prints_full}
-use Rattle.path_book.specs.Lines.{PrintsAll, WritesAll}
+use Rattle.path_book.specs.Lines.{PrintsAll, WritesAll, GivesFirst, CountsFirst}
 use Rattle.mod_receiver.proofs.JobLemmas.{text_written}
 
 is_next : (d e : State) → ready d ≡ true → e ≡ after_next d → e ≡ after_item d
@@ -58,6 +58,32 @@ drained_all told c d e f g t u a b items i r n =
 -- it is then as it was
 pub pace_still : (told : Option ℕ) (d e : State) (f : TrackerState) (t : Tallied) → KeepsPace told d f t → ready d ≡ false → e ≡ after_next d → KeepsPace told e f t
 pace_still told d e f t pace r n = subst (λ m. KeepsPace told m f t) (sym (n ∙ rw r refl)) pace
+
+-- ---- what was given where there was no room for a line
+
+first_given : (items : List Item) (c d : State) → Given c items d → GivesFirst c items d
+first_given [] c d g = g
+first_given (item ∷ items) c d g = (g.0, g.1, first_given items (after_item c) d g.2)
+
+-- what was given so far was counted
+pub counts_first : (told : Option ℕ) (c d : State) (f g : TrackerState) (t u : Tallied) (a b : Known Output) (items : List Item) → Drained told c d f g t u a b items → CountsFirst told c d f g t u
+counts_first told c d f g t u a b items i = record {
+  items = items;
+  gives = first_given items c d i.given;
+  steps = i.prints.steps;
+  feeds = i.prints.feeds;
+  counts = i.prints.tally;
+}
+
+-- and all of it
+pub counts_all : (told : Option ℕ) (c d : State) (f g : TrackerState) (t u : Tallied) (a b : Known Output) → PrintsAll told c d f g t u a b → CountsFirst told c d f g t u
+counts_all told c d f g t u a b p = record {
+  items = p.items;
+  gives = first_given p.items c d (gives_given p.items c d p.gives).0;
+  steps = p.prints.steps;
+  feeds = p.prints.feeds;
+  counts = p.prints.tally;
+}
 
 -- ---- lines in memory
 

@@ -22,7 +22,7 @@ use Rattle.mod_receiver.proofs.Reaching.{feeds_more}
 use Rattle.mod_receiver.proofs.Reporting.{clean_is}
 use Rattle.path_book.specs.declared.settings.Settings.{Settings}
 use Rattle.path_book.specs.Report.{IsReportSoFar, IsFrontSoFar, IsReportOf, word_for}
-use Rattle.path_book.specs.Lines.{WritesAll}
+use Rattle.path_book.specs.Lines.{WritesAll, CountsFirst}
 use Rattle.path_book.specs.declared.journal.Journal.TheInside.{Inside}
 use Rattle.path_book.specs.Journal.{JournalState, AreInRange, entry_of, datagrams, IsKept, Enters}
 use Rattle.path_book.specs.Sound.{IsOpen, IsSound}
@@ -238,16 +238,17 @@ module _ (by : Settings) (es es' : List (ℕ × List ℕ)) (path : ℕ) (bytes :
         (so_far_stops by (datagrams es) c f t text r bytes answer kept takes after fit (at_err result _ e err));
   }
 
-  pub enters : {T E : Type 0} (result : Result T E) → OnOk result (WritesAll by.frames kept d f g u v text after) → OnErr result (after ≡ text)
+  pub enters : {T E : Type 0} (result : Result T E) → OnOk result (WritesAll by.frames kept d f g u v text after) → OnErr result (after ≡ text) → OnErr result (CountsFirst by.frames kept d f g u v)
       → Enters (record { entries = es; settings = by; collector = c; feed = f; tally = t; text = text; stopped = false }) (path, bytes) answer
       (record { entries = es'; settings = by; collector = d; feed = g; tally = v; text = after; stopped = is_err result })
-  enters result ok err = record {
+  enters result ok err first = record {
     entries = more;
     settings = refl;
     kept = kept;
     takes = takes;
     writes = λ e. subst (λ (x : Tallied). WritesAll by.frames kept d f g x v text after) (notes ∙ ap (λ n. noted t n answer) is) (at_ok result _ e ok);
     stops = λ e. at_err result _ e err;
+    first = λ e. subst (λ (x : Tallied). CountsFirst by.frames kept d f g x v) (notes ∙ ap (λ n. noted t n answer) is) (at_err result _ e first);
   }
 
 -- it goes on where the lines found room

@@ -9,7 +9,7 @@ use Rattle.mod_receiver.specs.Tallies.{Tallied, new_tally, noted}
 use Rattle.path_book.specs.declared.journal.Entry.{Entry}
 use Rattle.path_book.specs.declared.settings.Settings.{Settings}
 use Rattle.path_book.specs.Report.{IsReportSoFar, IsFrontSoFar}
-use Rattle.path_book.specs.Lines.{WritesAll}
+use Rattle.path_book.specs.Lines.{WritesAll, CountsFirst}
 
 -- each number is in its range
 pub record AreInRange (by : Settings) : Type 0 where
@@ -53,7 +53,7 @@ pub record IsKept (s : JournalState) : Type 0 where
   pub front : s.stopped ≡ true → IsFrontSoFar s.settings (datagrams s.entries) s.text
 
 -- The entry stands behind the others, and its datagram was taken with this answer. All that it made ready was given, and its
--- lines stand behind the text; or the report has stopped, and its text is as it was.
+-- lines stand behind the text; or the report has stopped: some first ones of these were given, and the text is as it was.
 pub record Enters (s : JournalState) (entry : ℕ × List ℕ) (answer : Taken) (s' : JournalState) : Type 0 where
   pub entries : s'.entries ≡ s.entries ++ entry ∷ []
   pub settings : s'.settings ≡ s.settings
@@ -61,3 +61,4 @@ pub record Enters (s : JournalState) (entry : ℕ × List ℕ) (answer : Taken) 
   pub takes : Takes s.collector entry.1 answer kept
   pub writes : s'.stopped ≡ false → WritesAll s.settings.frames kept s'.collector s.feed s'.feed (noted s.tally (length s.entries) answer) s'.tally s.text s'.text
   pub stops : s'.stopped ≡ true → s'.text ≡ s.text
+  pub first : s'.stopped ≡ true → CountsFirst s.settings.frames kept s'.collector s.feed s'.feed (noted s.tally (length s.entries) answer) s'.tally

@@ -3,7 +3,7 @@
 ghost use Rattle.std.specs.Prelude.{◌≡◌, ◌≤◌, ◌<◌, ◌^◌, OnOk, OnErr, IfSome};
 ghost use Rattle.collect_laws.specs.Laws.{IsFit};
 ghost use Rattle.mod_receiver.specs.Printed.{items_in, is_full, KeepsPace};
-ghost use Rattle.path_book.specs.Lines.{PrintsAll, WritesAll};
+ghost use Rattle.path_book.specs.Lines.{PrintsAll, WritesAll, CountsFirst};
 
 use dcp_collect::Collector;
 use drm_bits::NoMemory;
@@ -39,6 +39,7 @@ fn drain<O: Sink>(
     ensures pace { OnOk result (KeepsPace told collector.new feed.new counts.new) }
     ensures ready { OnOk result (PrintsAll told collector.old collector.new feed.old feed.new
         counts.old counts.new (O.known out.old) (O.known out.new)) }
+    ensures first { OnErr result (CountsFirst told collector.old collector.new feed.old feed.new counts.old counts.new) }
     ensures end { collector.new.end ≡ collector.old.end }
 {
     while let Some(given) = collector.next() {
@@ -70,6 +71,7 @@ pub(crate) fn write_ready(
     ensures written { OnOk result (WritesAll told collector.old collector.new feed.old feed.new
         counts.old counts.new text.old.items text.new.items) }
     ensures none { OnErr result (text.new.items ≡ text.old.items) }
+    ensures first { OnErr result (CountsFirst told collector.old collector.new feed.old feed.new counts.old counts.new) }
     ensures end { collector.new.end ≡ collector.old.end }
 {
     let mut lines = Text::new(alloc);

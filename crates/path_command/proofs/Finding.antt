@@ -1,17 +1,20 @@
 -- What is read of links is what stood ahead of those that a dock had at their addresses.
-use Rattle.std.proofs.Common.{◌≡◌, ℕ, ◌<◌, inl, inr, List, [], length, slice_index_or, Option, None, Some, IsNone, All, subst, arith}
+use Rattle.std.proofs.Common.{◌≡◌, ℕ, ◌<◌, inl, inr, List, [], length, slice_index_or, Option, None, Some, IsNone, All, Err, sym, ◌∙◌, ap, subst, arith}
 use Rattle.drm_links.specs.Told.{Known}
 use Rattle.drm_links.specs.Link.{Traffic}
 use Rattle.drm_links.specs.Dock.{DockContents, LinkStart}
 use Rattle.drm_links.specs.declared.dock.Address.{Address}
 use Rattle.mod_receiver.proofs.JobLemmas.{index_of}
 use Rattle.several_links.specs.Openings.{Finds, FindsNone}
-use Rattle.drm_paths.specs.Closing.{of_path}
+use Rattle.drm_paths.specs.State.{PathState, new_path}
+use Rattle.drm_paths.specs.Closing.{of_path, AreCounted, AllAgree}
 use Rattle.path_words.specs.declared.request.Request.{Request}
-use Rattle.path_command.specs.Ahead.{BreaksOff}
+use Rattle.path_command.specs.declared.fault.Fault.TheVariants as faults
+use Rattle.path_command.specs.Ahead.{IsAllOf, BreaksOff}
 use Rattle.path_command.specs.Opening.{HaveLinks}
-use Rattle.path_command.specs.Run.{options_in, IsInRange, AreEntries, FailsSome, DiffersAt}
-use Rattle.path_command.specs.Links.{AreOfLinks, BreaksSome, AreWhole, DifferFrom}
+use Rattle.path_command.specs.Run.{options_in, IsInRange, AreEntries, FailsSome, ReadAll, DiffersAt}
+use Rattle.path_command.specs.Links.{BreaksSome, EndsLinks}
+use Rattle.path_command.specs.Links as Links
 use Rattle.path_command.proofs.OneReading.{whole_is_whole}
 use Rattle.path_command.proofs.Hearing.{read_ahead, whole_ahead}
 
@@ -30,14 +33,30 @@ one_start (Some x) start other is also = cc
 
 module _ {L : Type 0} (request : Request) (range : IsInRange request) (known : L → Known Traffic) (links : List L) (many : length links ≡ length request.addresses)
     (told : DockContents) (have : HaveLinks known told request.addresses links) where
-  pub entries_ahead : (entries : List (ℕ × List ℕ)) → AreOfLinks (options_in request) known links entries → AreEntries request told entries
-  entries_ahead entries are = record {
-    each = λ k at within.
+  pub read_all : (paths : List PathState) → Links.ReadAll (options_in request) known links paths → ReadAll request told paths
+  read_all paths read = record {
+    as_many = read.as_many ∙ many;
+    numbers = λ k d within. read.numbers k d (omega (arith, within, many));
+    each = λ k at d within.
         let (link, is) = index_of links k (omega (arith, within, many)) in
         let (start, finds, new) = have k at link within in
-        (start, finds, whole_ahead request range start (known (slice_index_or links k link)) new (of_path k entries) (are.each k link (omega (arith, within, many))));
-    others = subst (λ n. All (λ e. e.0 < n) entries) many are.others;
+        (start, finds, whole_ahead request range start (known (slice_index_or links k link)) new (slice_index_or paths k d).taken (read.each k link d (omega (arith, within, many))));
   }
+
+  -- a journal that agrees with them has what they read
+  pub entries_ahead : (paths : List PathState) (entries : List (ℕ × List ℕ)) → Links.ReadAll (options_in request) known links paths → AreCounted entries paths → AllAgree entries paths → AreEntries request told entries
+  entries_ahead paths entries read counted agree =
+      let all : ReadAll request told paths = read_all paths read in
+      let size : length paths ≡ length request.addresses = all.as_many in
+      let d : PathState = new_path 0 in
+      record {
+        each = λ k at within.
+            let (start, finds, is_all) = all.each k at d within in
+            let taken : of_path k entries ≡ (slice_index_or paths k d).taken =
+            ap (λ n. of_path n entries) (sym (all.numbers k d within)) ∙ agree k d (omega (arith, within, size)) in
+            (start, finds, subst (λ t. IsAllOf (options_in request) start.ahead t) (sym taken) is_all);
+        others = subst (λ n. All (λ e. e.0 < n) entries) size counted.numbered;
+      }
 
   pub fails_ahead : BreaksSome (options_in request) known links → FailsSome request told
   fails_ahead breaks =
@@ -52,14 +71,15 @@ module _ {L : Type 0} (request : Request) (range : IsInRange request) (known : L
             inr (start, finds, (taken, read_ahead request range start (known (slice_index_or links breaks.k link)) new taken _ reads));
       }
 
-  pub none_fails : AreWhole (options_in request) known links → FailsSome request told → ⊥
-  none_fails whole fails =
+  pub none_fails : (paths : List PathState) → Links.ReadAll (options_in request) known links paths → FailsSome request told → ⊥
+  none_fails paths read fails =
       let inside : fails.k < length links = (let w = fails.within in omega (arith, w, many)) in
       let (link, is) = index_of links fails.k inside in
       let at : Address = record { ip = []; port = 0 } in
       let (start, finds, new) = have fails.k at link fails.within in
-      let (taken, reads) = whole fails.k link inside in
-      let all = whole_ahead request range start (known (slice_index_or links fails.k link)) new taken reads in
+      let d : PathState = new_path 0 in
+      let taken = (slice_index_or paths fails.k d).taken in
+      let all = whole_ahead request range start (known (slice_index_or links fails.k link)) new taken (read.each fails.k link d inside) in
       elim (fails.fails at) [
         | inl none ↦ not_none told fails.k (slice_index_or request.addresses fails.k at) start finds none
         | inr found ↦
@@ -67,17 +87,6 @@ module _ {L : Type 0} (request : Request) (range : IsInRange request) (known : L
             whole_is_whole (options_in request) start.ahead taken all (subst (λ (s : LinkStart). BreaksOff (options_in request) s.ahead) same found.2)
       ]
 
-  pub differ_ahead : (path at : ℕ) → DifferFrom (options_in request) known links path at → DiffersAt request told path at
-  differ_ahead path at differ =
-      let within : path < length request.addresses = (let w = differ.within in omega (arith, w, many)) in
-      record {
-        within = within;
-        entries = differ.entries;
-        read = differ.read;
-        is_read = λ none.
-            let (link, is) = index_of links path differ.within in
-            let (start, finds, new) = have path none link within in
-            (start, finds, whole_ahead request range start (known (slice_index_or links path link)) new differ.read (differ.is_read link));
-        there = differ.there;
-        differs = differ.differs;
-      }
+  pub differ_ahead : (path at : ℕ) → EndsLinks request known links (Err (faults.Differs path at)) → DiffersAt request told path at
+  differ_ahead path at (difference, path_is, at_is, are) =
+      record { paths = are.paths; read = read_all are.paths are.read; journal = are.journal; difference = difference; closes = are.closes; path_is = path_is; at_is = at_is }

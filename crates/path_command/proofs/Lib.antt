@@ -1,5 +1,4 @@
 pub mod OneReading
-pub mod Counting
 pub mod Hearing
 pub mod Opening
 pub mod Finding

@@ -1,5 +1,5 @@
 -- Paths that ran side by side over their links.
-use Rattle.std.proofs.Common.{◌≡◌, ℕ, suc, ◌+◌, ◌<◌, inl, inr, Bool, true, false, List, [], ◌∷◌, length, map, slice_index_or, vec_len, Option, None, Some, MatchOption, All, refl, sym, ◌∙◌, ap, subst, arith}
+use Rattle.std.proofs.Common.{◌≡◌, ℕ, suc, ◌+◌, ◌<◌, ◌⊎◌, inl, inr, Bool, true, false, List, [], ◌∷◌, length, map, slice_index_or, vec_len, Option, None, Some, MatchOption, All, refl, sym, ◌∙◌, ap, subst, arith}
 use Rattle.std.specs.Prelude.{sum_by}
 use Rattle.std.specs.List.{list_any}
 use Rattle.std.proofs.lemmas.List.{length-map, get_or-map}
@@ -15,12 +15,12 @@ use Rattle.drm_paths.specs.declared.run.PathEnded.TheVariants as why
 use Rattle.drm_paths.specs.declared.close.Closed.{Closed}
 use Rattle.drm_paths.specs.declared.close.Closed.TheVariants as closed
 use Rattle.drm_paths.specs.State.{PathState, new_path}
-use Rattle.drm_paths.specs.Closing.{of_path, Closes, IsDifference}
+use Rattle.drm_paths.specs.Closing.{Closes}
+use Rattle.path_book.specs.Journal.{JournalState}
 use Rattle.path_command.specs.declared.job.PathJob.{PathJob}
-use Rattle.path_command.specs.Jobs.{IsReady, EndedAs, HasEnded, has_failed, has_run_out}
+use Rattle.path_command.specs.Jobs.{IsReady, HaveNewPaths, EndedAs, HasEnded, has_failed, has_run_out}
 use Rattle.path_command.specs.Run.{settings_in, options_in}
-use Rattle.path_command.specs.Links.{ReadsLink, ReadsWhole, BreaksSome, AreWhole, DifferFrom, EndsLinks, ending_of}
-use Rattle.path_command.proofs.Counting.{none_else}
+use Rattle.path_command.specs.Links.{ReadsLink, ReadsWhole, ReadAll, BreaksSome, BreaksNone, EndsLinks, ending_of}
 
 -- the paths are new, and each has its link
 pub record AreNew {G L : Type 0} (links : List L) (paths : List PathState) (jobs : List (PathJob G L)) : Type 0 where
@@ -60,6 +60,25 @@ link_at : {G L : Type 0} (links : List L) (paths : List PathState) (jobs : List 
     → slice_index_or links k none ≡ (slice_index_or jobs k d).link
 link_at links paths jobs new k d none within = ap (λ ls. slice_index_or ls k none) (sym new.links_are) ∙ get_or-map (λ job. job.link) jobs k d none within
 
+-- each job has a new path
+pub each_new : {G L : Type 0} (links : List L) (paths : List PathState) (jobs : List (PathJob G L)) → AreNew links paths jobs → HaveNewPaths jobs
+each_new links paths jobs new = path_at links paths jobs new
+
+-- so these are new, of the jobs themselves
+pub new_of : {G L : Type 0} (jobs : List (PathJob G L)) → HaveNewPaths jobs → AreNew (map (λ job. job.link) jobs) (map (λ job. job.path) jobs) jobs
+new_of {G} {L} jobs have = record {
+  many = length-map jobs (λ job. job.path) ∙ sym size;
+  are = λ k d within.
+      let inside : k < length jobs = omega (arith, within, size) in
+      let (job, is) = index_of jobs k inside in
+      get_or-map (λ job. job.path) jobs k job d inside ∙ have k job inside;
+  paths_are = refl;
+  links_are = refl;
+}
+  where
+    size : length (map (λ (job : PathJob G L). job.link) jobs) ≡ length jobs
+    size = length-map jobs (λ job. job.link)
+
 -- none has taken anything
 pub are_ready : {G L : Type 0} (links : List L) (paths : List PathState) (jobs : List (PathJob G L)) → AreNew links paths jobs → All (λ job. vec_len job.buffer ≡ 65536) jobs → All IsReady jobs
 are_ready links paths jobs new buffers k d within =
@@ -82,6 +101,14 @@ module _ {G L : Type 0} (known : L → Known Traffic) (options : PathOptions) (b
   whole_by (Some why.Limit) was failed out = inr (known after.link, was.reads)
   whole_by (Some why.LinkFailed) was failed out = absurd (failed refl)
   whole_by (Some why.NoMemory) was failed out = absurd (out refl)
+
+  unbroken_by : (ended : Option PathEnded) → Was ended → (has_failed ended ≡ true → ⊥)
+      → ReadsWhole options (known before.link) after.path.taken ⊎ ReadsLink options (known before.link) after.path.taken why.NoMemory
+  unbroken_by None was failed = absurd was
+  unbroken_by (Some why.Idle) was failed = inl (inl (known after.link, was.reads))
+  unbroken_by (Some why.Limit) was failed = inl (inr (known after.link, was.reads))
+  unbroken_by (Some why.LinkFailed) was failed = absurd (failed refl)
+  unbroken_by (Some why.NoMemory) was failed = inr (known after.link, was.reads)
 
   same_path : (ended : Option PathEnded) → Was ended → (after.path.number ≡ before.path.number) × (after.path.parts ≡ before.path.parts)
   same_path None was = absurd was
@@ -149,73 +176,46 @@ module _ {G L : Type 0} (known : L → Known Traffic) (options : PathOptions) (l
     pub then_parts : (d : PathState) → (slice_index_or taken_then k d).parts ≡ 1
     then_parts d = ap (λ (p : PathState). p.parts) (then_is d) ∙ same.1 ∙ ap (λ (p : PathState). p.parts) (path_at links paths jobs ran.new k job inside)
 
+    is_none : (p : PathJob G L → Bool) → list_any p after ≡ false → p (slice_index_or after k job) ≡ true → ⊥
+    is_none p not_any is = let any : list_any p after ≡ true = list_any_at p after k job behind is in let both : true ≡ false = sym any ∙ not_any in cc
+
+    pub then_unbroken : list_any (λ (j : PathJob G L). has_failed j.ended) after ≡ false → (none : L)
+        → ReadsWhole options (known (slice_index_or links k none)) now.taken ⊎ ReadsLink options (known (slice_index_or links k none)) now.taken why.NoMemory
+    then_unbroken failed none =
+        let reads = unbroken_by known options (slice_index_or jobs k job) (slice_index_or after k job) (slice_index_or after k job).ended (ran.ended k job inside) (is_none (λ j. has_failed j.ended) failed) in
+        subst (λ l. ReadsWhole options (known l) now.taken ⊎ ReadsLink options (known l) now.taken why.NoMemory) (sym (link_at links paths jobs ran.new k job none inside)) reads
+
     pub then_whole : list_any (λ (j : PathJob G L). has_failed j.ended) after ≡ false → list_any (λ (j : PathJob G L). has_run_out j.ended) after ≡ false
         → (none : L) (d : PathState) → ReadsWhole options (known (slice_index_or links k none)) (slice_index_or taken_then k d).taken
     then_whole failed out none d =
-        let no : (p : PathJob G L → Bool) → list_any p after ≡ false → p (slice_index_or after k job) ≡ true → ⊥ =
-        λ p not_any is. (let any : list_any p after ≡ true = list_any_at p after k job behind is in let both : true ≡ false = sym any ∙ not_any in cc) in
         let reads = whole_by known options (slice_index_or jobs k job) (slice_index_or after k job) (slice_index_or after k job).ended (ran.ended k job inside)
-        (no (λ j. has_failed j.ended) failed) (no (λ j. has_run_out j.ended) out) in
+        (is_none (λ j. has_failed j.ended) failed) (is_none (λ j. has_run_out j.ended) out) in
         subst (λ l. ReadsWhole options (known l) (slice_index_or taken_then k d).taken) (sym (link_at links paths jobs ran.new k job none inside))
         (subst (λ (p : PathState). ReadsWhole options (known (slice_index_or jobs k job).link) p.taken) (sym (then_is d)) reads)
+
+  -- none broke off
+  pub breaks_none : list_any (λ (j : PathJob G L). has_failed j.ended) after ≡ false → BreaksNone options known links
+  breaks_none failed k none within = ((now k within).taken, then_unbroken k within failed none)
 
   -- they have all parts of the ledger
   pub all_parts : sum_by (λ p. p.parts) taken_then ≡ length links
   all_parts = sum_ones taken_then (λ k d l. then_parts k (omega (arith, l, then_many)) d) ∙ then_many
 
--- what comes of the book where all links were read
-pub ends_by : {G L : Type 0} (request : Request) (known : L → Known Traffic) (links : List L) (paths : List PathState) (jobs after : List (PathJob G L))
-    → Ran known (options_in request) links paths jobs after
-    → list_any (λ (j : PathJob G L). has_failed j.ended) after ≡ false → list_any (λ (j : PathJob G L). has_run_out j.ended) after ≡ false
-    → (closed : Closed) → Closes (settings_in request) (map (λ job. job.path) after) closed → EndsLinks request known links (ending_of closed)
-ends_by {G} {L} request known links paths jobs after ran failed out = by
-  where
-    options : PathOptions
-    options = options_in request
+-- how the reading of their links ends
+module _ {G L : Type 0} (request : Request) (known : L → Known Traffic) (links : List L) (paths : List PathState) (jobs after : List (PathJob G L)) (ran : Ran known (options_in request) links paths jobs after) where
+  abbrev then_paths : List PathState
+  then_paths = map (λ job. job.path) after
 
-    then_paths : List PathState
-    then_paths = map (λ job. job.path) after
+  read_all : list_any (λ (j : PathJob G L). has_failed j.ended) after ≡ false → list_any (λ (j : PathJob G L). has_run_out j.ended) after ≡ false → ReadAll (options_in request) known links then_paths
+  read_all failed out = record {
+    as_many = then_many known (options_in request) links paths jobs after ran;
+    numbers = λ k d within. then_number known (options_in request) links paths jobs after ran k within d;
+    each = λ k none d within. then_whole known (options_in request) links paths jobs after ran k within failed out none d;
+  }
 
-    size : length then_paths ≡ length links
-    size = then_many known options links paths jobs after ran
-
-    whole : (k : ℕ) (within : k < length links) (none : L) (d : PathState) → ReadsWhole options (known (slice_index_or links k none)) (slice_index_or then_paths k d).taken
-    whole k within none d = then_whole known options links paths jobs after ran k within failed out none d
-
-    number : (k : ℕ) (within : k < length links) (d : PathState) → (slice_index_or then_paths k d).number ≡ k
-    number k within d = then_number known options links paths jobs after ran k within d
-
-    are_whole : AreWhole options known links
-    are_whole k none within = ((slice_index_or then_paths k (new_path 0)).taken, whole k within none (new_path 0))
-
-    by : (closed : Closed) → Closes (settings_in request) then_paths closed → EndsLinks request known links (ending_of closed)
-    by (closed.Whole ending) (entries, counted, agree, report) = (
-      are_whole,
-      (
-        entries,
-        record {
-          each = λ k none within.
-              let taken : of_path k entries ≡ (slice_index_or then_paths k (new_path 0)).taken =
-              ap (λ n. of_path n entries) (sym (number k within (new_path 0))) ∙ agree k (new_path 0) (omega (arith, within, size)) in
-              subst (λ t. ReadsWhole options (known (slice_index_or links k none)) t) (sym taken) (whole k within none (new_path 0));
-          others = subst (λ n. All (λ e. e.0 < n) entries) size (none_else then_paths entries (λ k d l. number k (omega (arith, l, size)) d) counted agree);
-        },
-        report,
-      ),
-    )
-    by (closed.Differ difference) (entries, counted, differs) =
-        let k = differs.k in
-        let within : k < length links = (let w = differs.within in omega (arith, w, size)) in
-        let is = differs.is (new_path 0) in
-        let path : difference.path ≡ k = is.path ∙ number k within (new_path 0) in
-        let taken = (slice_index_or then_paths k (new_path 0)).taken in
-        let found : DifferFrom options known links k difference.at = record {
-          within = within;
-          entries = entries;
-          read = taken;
-          is_read = λ none. whole k within none (new_path 0);
-          there = difference.journal;
-          differs = subst (λ n. IsDifference (of_path n entries) taken difference.at difference.journal) (number k within (new_path 0)) is.is;
-        } in
-        (are_whole, subst (λ n. DifferFrom options known links n difference.at) (sym path) found)
-    by closed.NoMemory closes = tt
+  -- where none failed, and their book was closed
+  pub ends_by : list_any (λ (j : PathJob G L). has_failed j.ended) after ≡ false → list_any (λ (j : PathJob G L). has_run_out j.ended) after ≡ false
+      → (journal : JournalState) (closed : Closed) → Closes (settings_in request) journal then_paths closed → EndsLinks request known links (ending_of closed)
+  ends_by failed out journal (closed.Whole ending) closes = record { paths = then_paths; read = read_all failed out; journal = journal; closes = closes }
+  ends_by failed out journal (closed.Differ difference) closes = (difference, refl, refl, record { paths = then_paths; read = read_all failed out; journal = journal; closes = closes })
+  ends_by failed out journal closed.NoMemory closes = breaks_none known (options_in request) links paths jobs after ran failed

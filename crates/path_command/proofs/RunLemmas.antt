@@ -10,11 +10,15 @@ use Rattle.mod_receiver.specs.Ahead.{Report}
 use Rattle.several_links.specs.Openings.{Docked, after_openings}
 use Rattle.several_links.proofs.OpeningLemmas.{docked_both, docked_weaker}
 use Rattle.path_words.specs.declared.request.Request.{Request}
+use Rattle.path_book.specs.Journal.{datagrams}
+use Rattle.path_book.specs.Report.{IsReportOf}
 use Rattle.path_command.specs.declared.fault.Fault.{Fault}
 use Rattle.path_command.specs.declared.fault.Fault.TheVariants as faults
 use Rattle.path_command.specs.Opening.{HaveLinks, StopsOpening}
 use Rattle.path_command.specs.Run.{settings_in, options_in, IsInRange, AreEntries, FailsSome, DiffersAt, WritesReport, WroteReport, IsDiffering, OpensEach, PathsRun}
-use Rattle.path_command.specs.Links.{EndsLinks, AreWhole}
+use Rattle.drm_paths.specs.State.{PathState}
+use Rattle.path_command.specs.Links.{EndsLinks}
+use Rattle.path_command.specs.Links as Links
 use Rattle.path_command.proofs.Finding.{entries_ahead, fails_ahead, none_fails, differ_ahead}
 
 -- it fails by a link exactly where some link does, unless memory runs out
@@ -108,6 +112,11 @@ opening_failed request fault dock_known dock dock' out_known out ends stopped la
 
 -- ---- all links were opened
 
+-- it ended well, so memory sufficed
+pub not_memory : (report : Report) (Q : Type 0) → ((let e : Result Report Fault = Ok report in e) ≡ Err faults.NoMemory) ⊎ Q → Q
+not_memory report Q (inl memory) = absurd (cc)
+not_memory report Q (inr q) = q
+
 module _ {D O L : Type 0} (request : Request) (range : IsInRange request) (dock_known : D → Known DockContents) (dock dock' : D) (out_known : O → Known Output) (known : L → Known Traffic) (links : List L)
     (many : length links ≡ length request.addresses)
     (opened : Tells (dock_known dock) (dock_known dock') (λ before after. after ≡ after_openings request.addresses before))
@@ -119,12 +128,25 @@ module _ {D O L : Type 0} (request : Request) (range : IsInRange request) (dock_
   opens : (ending : Result Bool Fault) → Tells (dock_known dock) (dock_known dock') (OpensEach request.addresses ending)
   opens ending = Tells-weaker (λ before after. after ≡ after_openings request.addresses before) (OpensEach request.addresses ending) (dock_known dock) (dock_known dock') opened (λ x y is. inl is)
 
-  none_ends : (ending : Result Bool Fault) → AreWhole (options_in request) known links → (ending ≡ Err faults.Link → ⊥) → (told : DockContents) → HaveLinks known told request.addresses links → Exactly request ending told
-  none_ends ending whole other told has =
-      inr (λ is. absurd (other is), λ fails. absurd (none_fails request range known links many told has whole fails))
+  none_ends : (ending : Result Bool Fault) (paths : List PathState) → Links.ReadAll (options_in request) known links paths → (ending ≡ Err faults.Link → ⊥) → (told : DockContents) → HaveLinks known told request.addresses links → Exactly request ending told
+  none_ends ending paths read other told has =
+      inr (λ is. absurd (other is), λ fails. absurd (none_fails request range known links many told has paths read fails))
+
+  -- there was no memory to begin the reading
+  not_begun : (out : O) → PathsRun request (Err faults.NoMemory) dock_known dock dock' out_known out out
+  not_begun out =
+      paths_run request (Err faults.NoMemory) dock_known dock dock' out_known out out
+      (λ is. cc)
+      (opens (Err faults.NoMemory))
+      (then_docked _ (λ told has. refl))
+      (λ other is any. refl)
+      (then_docked _ (λ told has. inl refl))
+      (then_docked _ (λ told has path at is. absurd (cc)))
+      later
+      (record { later = le_refl _; rose = λ is. absurd (cc) })
 
   -- reading or closing ended it early
-  pub links_failed : (fault : Fault) (out : O) → EndsLinks request known links (Err fault) → PathsRun request (Err fault) dock_known dock dock' out_known out out
+  links_failed : (fault : Fault) (out : O) → EndsLinks request known links (Err fault) → PathsRun request (Err fault) dock_known dock dock' out_known out out
   links_failed fault out ends =
       paths_run request (Err fault) dock_known dock dock' out_known out out
       (not_words fault ends)
@@ -163,7 +185,7 @@ module _ {D O L : Type 0} (request : Request) (range : IsInRange request) (dock_
       exactly faults.NoMemory ends told has = inl refl
       exactly faults.Link ends told has = inr (λ is. fails_ahead request range known links many told has ends, λ any. refl)
       exactly faults.Write ends told has = absurd ends
-      exactly (faults.Differs path at) ends told has = none_ends (Err (faults.Differs path at)) ends.0 (λ is. cc) told has
+      exactly (faults.Differs path at) ends told has = none_ends (Err (faults.Differs path at)) ends.3.paths ends.3.read (λ is. cc) told has
 
       differs : (fault : Fault) → EndsLinks request known links (Err fault) → (told : DockContents) → HaveLinks known told request.addresses links
           → (path at : ℕ) → (let e : Result Bool Fault = Err fault in e) ≡ Err (faults.Differs path at) → DiffersAt request told path at
@@ -175,9 +197,23 @@ module _ {D O L : Type 0} (request : Request) (range : IsInRange request) (dock_
           let same : faults.Differs p n ≡ faults.Differs path at = other_fault (faults.Differs p n) (faults.Differs path at) is in
           let same_path : p ≡ path = cc in
           let same_at : n ≡ at = cc in
-          subst (λ m. DiffersAt request told path m) same_at (subst (λ m. DiffersAt request told m n) same_path (differ_ahead request range known links many told has p n ends.1))
+          subst (λ m. DiffersAt request told path m) same_at (subst (λ m. DiffersAt request told m n) same_path (differ_ahead request range known links many told has p n ends))
+
+  -- either of these
+  pub links_ended : (fault : Fault) (out : O) → ((let e : Result Report Fault = Err fault in e) ≡ Err faults.NoMemory) ⊎ EndsLinks request known links (Err fault) → PathsRun request (Err fault) dock_known dock dock' out_known out out
+  links_ended fault out (inl memory) = let is : faults.NoMemory ≡ fault = cc in subst (λ f. PathsRun request (Err f) dock_known dock dock' out_known out out) is (not_begun out)
+  links_ended fault out (inr ends) = links_failed fault out ends
 
   module _ (report : Report) (ends : EndsLinks request known links (Ok report)) (out out' : O) where
+    abbrev entries : List (ℕ × List ℕ)
+    entries = ends.journal.entries
+
+    report_is : IsReportOf (settings_in request) (datagrams entries) report.text report.clean
+    report_is = ends.closes.3
+
+    are_entries : (told : DockContents) → HaveLinks known told request.addresses links → AreEntries request told entries
+    are_entries told has = entries_ahead request range known links many told has ends.paths entries ends.read ends.closes.1 ends.closes.2
+
     -- the report was written
     pub written : (clean : Bool) → clean ≡ report.clean → Outputs (out_known out) (out_known out') (λ text. text ≡ report.text) → HasCause (out_known out) (out_known out') (let e : Result Bool Fault = Ok clean in e ≡ Err faults.Write)
         → PathsRun request (Ok clean) dock_known dock dock' out_known out out'
@@ -185,9 +221,9 @@ module _ {D O L : Type 0} (request : Request) (range : IsInRange request) (dock_
         paths_run request (Ok clean) dock_known dock dock' out_known out out'
         (λ is. cc)
         (opens (Ok clean))
-        (then_docked _ (λ told has. (ends.1.0, entries_ahead request range known links many told has ends.1.0 ends.1.1, report, ends.1.2, text, clean_is)))
+        (then_docked _ (λ told has. (entries, are_entries told has, report, report_is, text, clean_is)))
         (λ fault is other. absurd (cc))
-        (then_docked _ (none_ends (Ok clean) ends.0 (λ is. cc)))
+        (then_docked _ (none_ends (Ok clean) ends.paths ends.read (λ is. cc)))
         (then_docked _ (λ told has path at is. absurd (cc)))
         later
         cause
@@ -199,9 +235,9 @@ module _ {D O L : Type 0} (request : Request) (range : IsInRange request) (dock_
         paths_run request (Err faults.Write) dock_known dock dock' out_known out out'
         (λ is. cc)
         (opens (Err faults.Write))
-        (then_docked _ (λ told has. (ends.1.0, entries_ahead request range known links many told has ends.1.0 ends.1.1, report, ends.1.2, text)))
+        (then_docked _ (λ told has. (entries, are_entries told has, report, report_is, text)))
         (λ fault is other. absurd (other (sym (other_fault faults.Write fault is))))
-        (then_docked _ (none_ends (Err faults.Write) ends.0 (λ is. cc)))
+        (then_docked _ (none_ends (Err faults.Write) ends.paths ends.read (λ is. cc)))
         (then_docked _ (λ told has path at is. absurd (cc)))
         later
         cause

@@ -1,12 +1,12 @@
 -- Paths side by side.
-use Rattle.std.specs.Prelude.{◌≡◌, Bool, true, false, [], vec_len, Option, Some, MatchOption}
+use Rattle.std.specs.Prelude.{ℕ, ◌≡◌, ◌<◌, List, length, slice_index_or, Bool, true, false, [], vec_len, Option, Some, MatchOption}
 use Rattle.drm_links.specs.Told.{Known, HasCause}
 use Rattle.drm_links.specs.Link.{Traffic}
 use Rattle.mod_receiver.specs.Hearing.{Heard}
 use Rattle.drm_paths.specs.declared.run.PathOptions.{PathOptions}
 use Rattle.drm_paths.specs.declared.run.PathEnded.{PathEnded}
 use Rattle.drm_paths.specs.declared.run.PathEnded.TheVariants.{LinkFailed, NoMemory}
-use Rattle.drm_paths.specs.State.{PathState}
+use Rattle.drm_paths.specs.State.{PathState, new_path}
 use Rattle.drm_paths.specs.Reading.{ReadsPath}
 use Rattle.path_command.specs.declared.job.PathJob.{PathJob}
 
@@ -15,6 +15,10 @@ pub record IsJob {G L : Type 0} (of_path : PathState) (over : L) (job : PathJob 
   pub path : job.path ≡ of_path
   pub link : job.link ≡ over
   pub buffer : vec_len job.buffer ≡ 65536
+
+-- the jobs' paths are new, and numbered from 0
+abbrev pub HaveNewPaths : {G L : Type 0} → List (PathJob G L) → Type 0
+HaveNewPaths {G} {L} jobs = (k : ℕ) (d : PathJob G L) → k < length jobs → (slice_index_or jobs k d).path ≡ new_path k
 
 -- Nothing was taken yet.
 pub record IsReady {G L : Type 0} (job : PathJob G L) : Type 0 where

@@ -1,17 +1,18 @@
 -- The links of a run, read side by side.
-use Rattle.std.specs.Prelude.{ℕ, ◌<◌, ◌⊎◌, All, List, length, slice_index_or, Option, Result, Ok, Err}
+use Rattle.std.specs.Prelude.{ℕ, ◌≡◌, ◌<◌, ◌⊎◌, List, length, slice_index_or, Result, Ok, Err}
 use Rattle.drm_links.specs.Told.{Known}
 use Rattle.drm_links.specs.Link.{Traffic}
 use Rattle.mod_receiver.specs.Hearing.{Heard}
 use Rattle.mod_receiver.specs.Ahead.{Report}
 use Rattle.path_words.specs.declared.request.Request.{Request}
-use Rattle.path_book.specs.Journal.{datagrams}
-use Rattle.path_book.specs.Report.{IsReportOf}
+use Rattle.path_book.specs.Journal.{JournalState}
 use Rattle.drm_paths.specs.declared.run.PathOptions.{PathOptions}
 use Rattle.drm_paths.specs.declared.run.PathEnded.{PathEnded}
-use Rattle.drm_paths.specs.declared.run.PathEnded.TheVariants.{Idle, Limit, LinkFailed}
+use Rattle.drm_paths.specs.declared.run.PathEnded.TheVariants.{Idle, Limit, LinkFailed, NoMemory}
+use Rattle.drm_paths.specs.State.{PathState}
 use Rattle.drm_paths.specs.Reading.{ReadsPath}
-use Rattle.drm_paths.specs.Closing.{of_path, IsDifference}
+use Rattle.drm_paths.specs.Closing.{Closes}
+use Rattle.drm_paths.specs.declared.close.Difference.{Difference}
 use Rattle.drm_paths.specs.declared.close.Closed.{Closed}
 use Rattle.drm_paths.specs.declared.close.Closed.TheVariants as closed
 use Rattle.path_command.specs.Run.{settings_in, options_in}
@@ -26,10 +27,12 @@ ReadsLink options link taken why = (after : Known Traffic) × ReadsPath options 
 abbrev pub ReadsWhole : PathOptions → Known Traffic → List (List ℕ) → Type 0
 ReadsWhole options link taken = ReadsLink options link taken Idle ⊎ ReadsLink options link taken Limit
 
--- The entries of path k are all datagrams that came over the k-th link, and there are no others.
-pub record AreOfLinks {L : Type 0} (options : PathOptions) (known : L → Known Traffic) (links : List L) (entries : List (ℕ × List ℕ)) : Type 0 where
-  pub each : (k : ℕ) (none : L) → k < length links → ReadsWhole options (known (slice_index_or links k none)) (of_path k entries)
-  pub others : All (λ e. e.0 < length links) entries
+-- These are the paths of the links: each took all datagrams that came over its link, and nothing failed.
+pub record ReadAll {L : Type 0} (options : PathOptions) (known : L → Known Traffic) (links : List L) (paths : List PathState) : Type 0 where
+  pub as_many : length paths ≡ length links
+  pub numbers : (k : ℕ) (d : PathState) → k < length links → (slice_index_or paths k d).number ≡ k
+  pub each : (k : ℕ) (none : L) (d : PathState) → k < length links
+      → ReadsWhole options (known (slice_index_or links k none)) (slice_index_or paths k d).taken
 
 -- the link of some path failed
 pub record BreaksSome {L : Type 0} (options : PathOptions) (known : L → Known Traffic) (links : List L) : Type 0 where
@@ -37,31 +40,28 @@ pub record BreaksSome {L : Type 0} (options : PathOptions) (known : L → Known 
   pub within : k < length links
   pub fails : (none : L) → (taken : List (List ℕ)) × ReadsLink options (known (slice_index_or links k none)) taken LinkFailed
 
--- no link failed, and no path was left without memory
-abbrev pub AreWhole : {L : Type 0} → PathOptions → (L → Known Traffic) → List L → Type 0
-AreWhole {L} options known links = (k : ℕ) (none : L) → k < length links → (taken : List (List ℕ)) × ReadsWhole options (known (slice_index_or links k none)) taken
+-- all were read, and none failed: each path ended well, or for want of memory
+abbrev pub BreaksNone : {L : Type 0} → PathOptions → (L → Known Traffic) → List L → Type 0
+BreaksNone {L} options known links =
+    (k : ℕ) (none : L) → k < length links
+    → (taken : List (List ℕ)) × (let link = known (slice_index_or links k none) in ReadsWhole options link taken ⊎ ReadsLink options link taken NoMemory)
 
--- what entries have of this path differs from what came over its link
-pub record DifferFrom {L : Type 0} (options : PathOptions) (known : L → Known Traffic) (links : List L) (path at : ℕ) : Type 0 where
-  pub within : path < length links
-  pub entries : List (ℕ × List ℕ)
-  pub read : List (List ℕ)
-  pub is_read : (none : L) → ReadsWhole options (known (slice_index_or links path none)) read
-  pub there : Option (List ℕ)
-  pub differs : IsDifference (of_path path entries) read at there
+-- All links were read, and their book was closed so.
+pub record AreClosed {L : Type 0} (request : Request) (known : L → Known Traffic) (links : List L) (closed : Closed) : Type 0 where
+  pub paths : List PathState
+  pub read : ReadAll (options_in request) known links paths
+  pub journal : JournalState
+  pub closes : Closes (settings_in request) journal paths closed
 
--- How a run over these links ends.
+-- How the reading of these links ends.
 abbrev pub EndsLinks : {L : Type 0} → Request → (L → Known Traffic) → List L → Result Report Fault → Type 0
-EndsLinks request known links (Ok ending) =
-    AreWhole (options_in request) known links
-    × ((entries : List (ℕ × List ℕ)) × AreOfLinks (options_in request) known links entries
-    × IsReportOf (settings_in request) (datagrams entries) ending.text ending.clean)
-EndsLinks request known links (Err faults.NoMemory) = Unit {0}
+EndsLinks request known links (Ok ending) = AreClosed request known links (closed.Whole ending)
+EndsLinks request known links (Err faults.NoMemory) = BreaksNone (options_in request) known links
 EndsLinks request known links (Err faults.Words) = ⊥
 EndsLinks request known links (Err faults.Write) = ⊥
 EndsLinks request known links (Err faults.Link) = BreaksSome (options_in request) known links
 EndsLinks request known links (Err (faults.Differs path at)) =
-    AreWhole (options_in request) known links × DifferFrom (options_in request) known links path at
+    (difference : Difference) × (path ≡ difference.path) × (at ≡ difference.at) × AreClosed request known links (closed.Differ difference)
 
 -- how a run ends that is closed so
 abbrev pub ending_of : Closed → Result Report Fault

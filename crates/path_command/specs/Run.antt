@@ -1,5 +1,5 @@
 -- The run of several paths.
-use Rattle.std.specs.Prelude.{ℕ, ◌≡◌, ◌<◌, ◌≤◌, ◌⊎◌, ◌↔◌, All, Bool, List, length, slice_index_or, Option, Result, Ok, Err}
+use Rattle.std.specs.Prelude.{ℕ, ◌≡◌, ◌<◌, ◌≤◌, ◌⊎◌, ◌↔◌, All, Bool, List, length, slice_index_or, Result, Ok, Err}
 use Rattle.drm_links.specs.Told.{Known, HasFailed, HasCause, Tells}
 use Rattle.drm_links.specs.Sink.{Output, Outputs, IsFront}
 use Rattle.drm_links.specs.Dock.{DockContents, LinkStart}
@@ -9,13 +9,15 @@ use Rattle.word_forms.specs.Addresses.{AreDifferent}
 use Rattle.path_words.specs.declared.request.Request.{Request}
 use Rattle.path_words.specs.Line.{IsPathsLine}
 use Rattle.path_book.specs.declared.settings.Settings.{Settings}
-use Rattle.path_book.specs.Journal.{AreInRange, datagrams}
+use Rattle.path_book.specs.Journal.{JournalState, AreInRange, datagrams}
 use Rattle.path_book.specs.Report.{IsReportOf}
 use Rattle.mod_receiver.specs.Ahead.{Report}
 use Rattle.drm_paths.specs.declared.run.PathOptions.{PathOptions}
-use Rattle.drm_paths.specs.State.{settings_of}
+use Rattle.drm_paths.specs.State.{PathState, settings_of}
 use Rattle.drm_paths.specs.Reading.{AreReasonable}
-use Rattle.drm_paths.specs.Closing.{of_path, IsDifference}
+use Rattle.drm_paths.specs.Closing.{of_path, Closes}
+use Rattle.drm_paths.specs.declared.close.Difference.{Difference}
+use Rattle.drm_paths.specs.declared.close.Closed.TheVariants.{Differ}
 use Rattle.several_links.specs.Openings.{Finds, FindsNone, Docked, after_openings, FailsAfter, StopsAfter}
 use Rattle.path_command.specs.Ahead.{IsAllOf, BreaksOff}
 use Rattle.path_command.specs.Faults.{fault_line}
@@ -53,15 +55,24 @@ pub record FailsSome (request : Request) (told : DockContents) : Type 0 where
   pub fails : (at : Address) → FindsNone told k (slice_index_or request.addresses k at)
       ⊎ ((start : LinkStart) × Finds told k (slice_index_or request.addresses k at) start × BreaksOff (options_in request) start.ahead)
 
--- All links are read, but what a journal has of this path differs from what is read of its link, at this place first.
+-- These are the paths of the request: each took all datagrams that are read of the link at its address.
+pub record ReadAll (request : Request) (told : DockContents) (paths : List PathState) : Type 0 where
+  pub as_many : length paths ≡ length request.addresses
+  pub numbers : (k : ℕ) (d : PathState) → k < length request.addresses → (slice_index_or paths k d).number ≡ k
+  pub each : (k : ℕ) (at : Address) (d : PathState) → k < length request.addresses
+      → (start : LinkStart) × Finds told k (slice_index_or request.addresses k at) start
+      × IsAllOf (options_in request) start.ahead (slice_index_or paths k d).taken
+
+-- All links are read, and their book is closed by a difference at this place of this path. What its journal has, as many entries
+-- as were read and each of one of the paths, differs there first from what was read.
 pub record DiffersAt (request : Request) (told : DockContents) (path at : ℕ) : Type 0 where
-  pub within : path < length request.addresses
-  pub entries : List (ℕ × List ℕ)
-  pub read : List (List ℕ)
-  pub is_read : (none : Address)
-      → (start : LinkStart) × Finds told path (slice_index_or request.addresses path none) start × IsAllOf (options_in request) start.ahead read
-  pub there : Option (List ℕ)
-  pub differs : IsDifference (of_path path entries) read at there
+  pub paths : List PathState
+  pub read : ReadAll request told paths
+  pub journal : JournalState
+  pub difference : Difference
+  pub closes : Closes (settings_in request) journal paths (Differ difference)
+  pub path_is : path ≡ difference.path
+  pub at_is : at ≡ difference.at
 
 -- What is written: the report of such entries; after a failed write a front of it; after another fault nothing.
 abbrev pub WritesReport : {O : Type 0} → Settings → (List (ℕ × List ℕ) → Type 0) → Result Bool Fault → (O → Known Output) → O → O → Type 0
@@ -103,7 +114,7 @@ pub record PathsRun {D O : Type 0} (request : Request) (ending : Result Bool Fau
   -- It fails by a link exactly where an opening fails, or what is read of some link ends in `Failed`.
   pub exactly : Docked (dock_known dock) (dock_known dock') (λ told.
       (ending ≡ Err faults.NoMemory) ⊎ ((ending ≡ Err faults.Link) ↔ FailsSome request told))
-  -- A difference is told only where there is one.
+  -- A difference is told only where the book was closed by it.
   pub differs : Docked (dock_known dock) (dock_known dock') (λ told.
       (path at : ℕ) → ending ≡ Err (faults.Differs path at) → DiffersAt request told path at)
   -- Where no link and no write fails, and memory suffices, the report is written, unless a difference was found.

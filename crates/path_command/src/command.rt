@@ -1,6 +1,6 @@
 //! The run of several paths.
 
-ghost use Rattle.std.specs.Prelude.{◌≡◌, ◌⊎◌, ◌≤◌, map, length, string_bytes, vec_len, Bool, Result, Err};
+ghost use Rattle.std.specs.Prelude.{◌≡◌, ◌⊎◌, ◌<◌, ◌≤◌, All, map, length, string_bytes, vec_len, Bool, Result, Err};
 ghost use Rattle.drm_links.specs.Told.{HasCause, HasFailed};
 ghost use Rattle.drm_paths.specs.State.{settings_of};
 ghost use Rattle.path_words.specs.declared.request.Request.{Request};
@@ -8,14 +8,15 @@ ghost use Rattle.path_words.specs.Line.{IsPathsLine};
 ghost use Rattle.path_command.specs.declared.fault.Fault.{Fault};
 ghost use Rattle.path_command.specs.Faults.{status_of, fault_line};
 ghost use Rattle.drm_faults.specs.Fault.{WritesLine};
+ghost use Rattle.path_command.specs.Jobs.{HaveNewPaths};
 ghost use Rattle.path_command.specs.Links.{EndsLinks, ending_of};
 ghost use Rattle.path_command.specs.Run.{IsInRange, settings_in, PathsRun, Runs, ReportsFault, AsksForNothing};
 
 use crate::fault::Fault;
-use crate::job::{jobs_of, paths_of, run_all, some_failed, some_ran_out};
+use crate::job::{PathJob, jobs_of, paths_of, run_all, some_failed, some_ran_out};
 use crate::open::open_links;
 use drm_links::{Dock, Link, Sink, Status};
-use drm_paths::{Closed, PathOptions, Road, close_paths, open_paths};
+use drm_paths::{Closed, PathOptions, Road, Shared, close_paths, open_paths};
 use path_book::{Ending, Settings};
 use path_words::{Request, read_paths};
 use std::alloc::Global;
@@ -124,19 +125,39 @@ fn run_links<G: Road + Send + Sync, R: Threads + Wait + Sync, L: Link + Send>(
     requires settings { settings_in request.now ≡ settings_of G.window G.first G.frames }
     requires range { IsInRange request.now }
     requires many { vec_len links ≡ length request.now.addresses }
-    ensures { EndsLinks request.now L.known links.items result }
+    // There is no memory to begin with, or they are read.
+    ensures { (result ≡ Err Fault.NoMemory) ⊎ EndsLinks request.now L.known links.items result }
 {
     let settings = Settings {
         window: request.window,
         first: request.first,
         frames: request.frames,
     };
+    let (shared, paths) = open_paths::<G>(alloc, blank, settings, links.len() as u8)?;
+    let jobs = jobs_of(alloc, paths, links)?;
+    read_links(rt, alloc, request, shared, jobs)
+}
+
+// Reads the links of these jobs, and ends their report. A link that failed goes before want of memory.
+fn read_links<G: Road + Send + Sync, R: Threads + Wait + Sync, L: Link + Send>(
+    rt: &R,
+    alloc: Global,
+    request: &Request,
+    shared: Shared<G>,
+    mut jobs: Vec<PathJob<G, L>>,
+) -> Result<Ending, Fault>
+    requires settings { settings_in request.now ≡ settings_of G.window G.first G.frames }
+    requires range { IsInRange request.now }
+    requires new { HaveNewPaths jobs.items }
+    requires buffers { All (λ job. vec_len job.buffer ≡ 65536) jobs.items }
+    requires some { 0 < vec_len jobs }
+    requires parts { G.parts ≡ vec_len jobs }
+    ensures { EndsLinks request.now L.known (map (λ job. job.link) jobs.items) result }
+{
     let options = PathOptions {
         idle: request.idle,
         limit: request.limit,
     };
-    let (shared, paths) = open_paths::<G>(alloc, blank, settings, links.len() as u8)?;
-    let mut jobs = jobs_of(alloc, paths, links)?;
     run_all(rt, alloc, &shared, &options, jobs.as_mut_slice());
     if some_failed(jobs.as_slice()) {
         return Err(Fault::Link);
@@ -145,7 +166,7 @@ fn run_links<G: Road + Send + Sync, R: Threads + Wait + Sync, L: Link + Send>(
         return Err(Fault::NoMemory);
     }
     let paths = paths_of(alloc, jobs)?;
-    closed(close_paths(alloc, shared, paths))
+    closed(close_paths(alloc, shared.into_book(), paths))
 }
 
 // How a run ends that is closed so.

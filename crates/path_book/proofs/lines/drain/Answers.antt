@@ -1,14 +1,17 @@
-use Rattle.std.proofs.Common.{◌∙◌, sym, ◌++◌, ◌∷◌, [], refl, ap, subst, arith, ◌≤◌}
+use Rattle.std.proofs.Common.{None, ◌∙◌, sym, ◌++◌, ◌∷◌, [], refl, ap, subst, arith, ◌≤◌}
+use Rattle.std.proofs.lemmas.Result.{err_from_is_err_and}
 use Rattle.collect_laws.specs.Laws.{IsFit}
 use Rattle.collect_laws.proofs.Fit.{fit_next}
 use Rattle.dcp_collect.specs.State.{State}
 use Rattle.dcp_collect.specs.View.{item_of}
 use Rattle.mod_feed.specs.Feeding.{step_of, IsStep}
+use Rattle.drm_links.specs.Told.{Known}
+use Rattle.drm_links.specs.Sink.{Output}
 use Rattle.drm_links.proofs.WritingLemmas.{Writes-done}
 use Rattle.mod_receiver.proofs.Printing.{in_number, in_order, pace_below, drained_none, drained_one, next_end}
 use Rattle.mod_receiver.proofs.Reaching.{full_fits}
 use Rattle.mod_receiver.specs.Printed.{items_in}
-use Rattle.path_book.proofs.Draining.{drained_past, drained_all, pace_still}
+use Rattle.path_book.proofs.Draining.{drained_past, drained_all, pace_still, counts_first}
 use Rattle.path_book.proofs.lines.drain.Goals as goal
 
 pub loop-given-init : goal.loop-given-init
@@ -58,6 +61,19 @@ loop-given-preserved g c =
       ap (λ (s : State). s.end) c.next.follows.holds-at-none ∙ next_end c.loop-given.collector ∙ i.2,
       subst IsFit (sym c.next.follows.holds-at-none) (fit_next c.loop-given.collector i.3),
     )
+
+pub returns-in_err-write_step-clause-first : goal.returns-in_err-write_step-clause-first
+returns-in_err-write_step-clause-first g c =
+    let i = c.loop-given.invariant in
+    let room = sym c.is_full.ensures ∙ c.if-is_full.false in
+    let is : IsStep c.loop-given.feed (item_of c.in-Some.given) (step_of c.step-step.result) =
+    record { in_order = in_number c.args.told c.loop-given.collector c.loop-given.feed c.loop-given.counts (item_of c.in-Some.given) i.1.pace room c.in-Some.ensures.out.1; item = c.step-step.ensures.item; before = c.step-step.ensures.before } in
+    let untold : Known Output = record { faults = 0; told = None } in
+    let p = err_from_is_err_and c.from_residual.result c.from_residual.ensures.1 in
+    rw p.1
+    (counts_first c.args.told c.args.collector.now _ c.args.feed.now c.step-step.new.self c.args.counts.now c.count.new.self (g.O.Sink.known c.args.out.now) untold (i.0 ++ item_of c.in-Some.given ∷ [])
+    (drained_one c.args.told c.args.collector.now c.loop-given.collector _ c.args.feed.now c.loop-given.feed c.step-step.new.self c.args.counts.now c.loop-given.counts c.count.new.self (g.O.Sink.known c.args.out.now) _ untold i.0 (item_of c.in-Some.given) (step_of c.step-step.result)
+    i.1 c.in-Some.ensures.out.0 c.in-Some.ensures.out.1 c.next.follows.holds-at-none room is c.step-step.ensures.after c.count.ensures tt))
 
 pub returns-in_err-write_step-clause-end : goal.returns-in_err-write_step-clause-end
 returns-in_err-write_step-clause-end g c = ap (λ (s : State). s.end) c.next.follows.holds-at-none ∙ next_end c.loop-given.collector ∙ c.loop-given.invariant.2

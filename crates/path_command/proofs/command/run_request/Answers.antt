@@ -1,6 +1,6 @@
 use Rattle.std.proofs.Common.{◌≡◌, length, Err, refl, ◌∙◌, ap, arith}
 use Rattle.std.proofs.lemmas.Result.{err_from_is_err_and}
-use Rattle.path_command.proofs.RunLemmas.{opening_failed, links_failed, written, unfinished}
+use Rattle.path_command.proofs.RunLemmas.{opening_failed, not_memory, links_ended, written, unfinished}
 use Rattle.path_command.proofs.command.run_request.Goals as goal
 
 pub returns-in_err-links : goal.returns-in_err-links
@@ -17,7 +17,7 @@ returns-in_err-ending g c =
     let size = c.in_ok-links.ensures.many in
     let many : length c.in_ok-links.links.items ≡ length c.args.request.now.addresses = omega (arith, ok, size) in
     rw (p.1 ∙ ap Err p.2)
-    (links_failed c.args.request.now c.requires g.D.Dock.known c.args.dock.now c.open_links.new.dock g.O.Sink.known g.D.L.Link.known c.in_ok-links.links.items
+    (links_ended c.args.request.now c.requires g.D.Dock.known c.args.dock.now c.open_links.new.dock g.O.Sink.known g.D.L.Link.known c.in_ok-links.links.items
     many c.in_ok-links.ensures.opened c.in_ok-links.ensures.links c.in_ok-links.ensures.later c.in_err-ending.field-0.0 c.args.out.now c.in_err-ending.ensures)
 
 pub returns-in_err-write : goal.returns-in_err-write
@@ -28,7 +28,7 @@ returns-in_err-write g c =
     let many : length c.in_ok-links.links.items ≡ length c.args.request.now.addresses = omega (arith, ok, size) in
     rw (p.1 ∙ ap Err p.2)
     (unfinished c.args.request.now c.requires g.D.Dock.known c.args.dock.now c.open_links.new.dock g.O.Sink.known g.D.L.Link.known c.in_ok-links.links.items
-    many c.in_ok-links.ensures.opened c.in_ok-links.ensures.links c.in_ok-links.ensures.later c.in_ok-ending.ending c.in_ok-ending.ensures c.args.out.now c.write.new.out c.in_err-write.ensures.front
+    many c.in_ok-links.ensures.opened c.in_ok-links.ensures.links c.in_ok-links.ensures.later c.in_ok-ending.ending (not_memory c.in_ok-ending.ending _ c.in_ok-ending.ensures) c.args.out.now c.write.new.out c.in_err-write.ensures.front
     (record { later = c.in_err-write.ensures.cause.later; rose = λ any. c.in_err-write.ensures.cause.rose refl }))
 
 pub returns : goal.returns
@@ -37,5 +37,5 @@ returns g c =
     let size = c.in_ok-links.ensures.many in
     let many : length c.in_ok-links.links.items ≡ length c.args.request.now.addresses = omega (arith, ok, size) in
     written c.args.request.now c.requires g.D.Dock.known c.args.dock.now c.open_links.new.dock g.O.Sink.known g.D.L.Link.known c.in_ok-links.links.items
-    many c.in_ok-links.ensures.opened c.in_ok-links.ensures.links c.in_ok-links.ensures.later c.in_ok-ending.ending c.in_ok-ending.ensures c.args.out.now c.write.new.out c.in_ok-write.field-0 c.in_ok-write.ensures.clean c.in_ok-write.ensures.whole
+    many c.in_ok-links.ensures.opened c.in_ok-links.ensures.links c.in_ok-links.ensures.later c.in_ok-ending.ending (not_memory c.in_ok-ending.ending _ c.in_ok-ending.ensures) c.args.out.now c.write.new.out c.in_ok-write.field-0 c.in_ok-write.ensures.clean c.in_ok-write.ensures.whole
     (record { later = c.in_ok-write.ensures.cause.later; rose = λ is. absurd (cc) })

@@ -52,7 +52,7 @@ returns-clause-took c =
     let number : c.len-number.result ≡ length es = (let is = c.len-number.ensures in let ok = j.entries.ok in let size : length es ≡ length j.entries.items = length-map j.entries.items entry_of in omega (arith, is, ok, size)) in
     let before : JournalState = record { entries = es; settings = j.settings; collector = j.collector; feed = j.feed; tally = j.counts; text = j.text.items; stopped = false } in
     let after = enters j.settings es (map entry_of c.push_entry.new.entries.items) c.args.path c.args.datagram.now j.collector c.take-taken.new.self w.collector j.feed w.feed j.counts c.note.new.self w.counts j.text.items w.text.items c.take-taken.result c.len-number.result
-    (c.self.invariant.kept.whole c.if-self.false) c.in-Ok.ensures.pushed number c.take-taken.ensures.takes c.note.ensures r c.write_ready-written.ensures.written c.write_ready-written.ensures.none in
+    (c.self.invariant.kept.whole c.if-self.false) c.in-Ok.ensures.pushed number c.take-taken.ensures.takes c.note.ensures r c.write_ready-written.ensures.written c.write_ready-written.ensures.none c.write_ready-written.ensures.first in
     let was : before ≡ c.args.self.now = ap (λ b. record before { stopped = b }) (sym c.if-self.false) ∙ c.self.view_is in
     subst (λ (x : JournalState). Enters x (c.args.path, c.args.datagram.now) c.take-taken.result s) was
     (subst (λ b. Enters before (c.args.path, c.args.datagram.now) c.take-taken.result (record s { stopped = b })) (sym c.is_err-self-inside.ensures.value) after)
