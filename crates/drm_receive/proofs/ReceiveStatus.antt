@@ -3,7 +3,7 @@ use Rattle.std.proofs.Common.{◌≡◌, ℕ, zero, suc, ◌<◌, ◌+◌, ◌�
 use Rattle.std.specs.Prelude.{IsNone}
 use Rattle.drm_links.specs.Told.{HasFailed, HasCause, Known, Tells}
 use Rattle.drm_links.specs.Link.{Answer}
-use Rattle.drm_links.specs.Sink.{Output}
+use Rattle.drm_links.specs.Sink.{Output, Outputs}
 use Rattle.drm_links.proofs.ToldLemmas.{Outputs-weaker}
 use Rattle.std.proofs.lemmas.List.{append-nil}
 use Rattle.drm_links.specs.Dock.{DockContents, LinkStart}
@@ -28,7 +28,7 @@ one_report : (rules : Rules) (told : DockContents) (at : Address) (start : LinkS
 one_report rules told at start r finds report zero d none within = (start, finds, report)
 one_report rules told at start r finds report (suc k) d none within = absurd (omega (arith, within))
 
-one_clean : (clean : Bool) (r : Report) → clean ≡ r.clean → IsTrue clean ↔ AreClean (r ∷ [])
+pub one_clean : (clean : Bool) (r : Report) → clean ≡ r.clean → IsTrue clean ↔ AreClean (r ∷ [])
 one_clean clean r is = (
   (λ is_clean k d within. each is_clean k d within),
   (λ all. subst IsTrue (sym is) (all 0 r (omega arith))),
@@ -38,14 +38,17 @@ one_clean clean r is = (
     each is_clean zero d within = subst IsTrue is is_clean
     each is_clean (suc k) d within = absurd (omega (arith, within))
 
+pub one_text : (r : Report) (a b : Known Output) → Outputs a b (λ t. t ≡ r.text) → Outputs a b (λ t. t ≡ all_texts (r ∷ []))
+one_text r a b text = Outputs-weaker (λ t. t ≡ r.text) (λ t. t ≡ all_texts (r ∷ [])) a b text (λ t e. e ∙ sym (append-nil r.text))
+
 -- where the run ends well the reports of all links are written, whether there is one or are several
-all_reports : {O : Type 0} (rules : Rules) (told : DockContents) (addresses : List Address) (clean : Bool) (known : O → Known Output) (out out' : O)
+pub all_reports : {O : Type 0} (rules : Rules) (told : DockContents) (addresses : List Address) (clean : Bool) (known : O → Known Output) (out out' : O)
     → WritesAll rules told addresses (Ok clean) known out out' → WritesReports (AreReports rules told addresses) (Ok clean) known out out'
 all_reports rules told [] clean known out out' writes = writes
 all_reports rules told (at ∷ []) clean known out out' (start, finds, (r, report, text, is)) = (
   r ∷ [],
   record { as_many = refl; each = one_report rules told at start r finds report },
-  Outputs-weaker (λ t. t ≡ r.text) (λ t. t ≡ all_texts (r ∷ [])) (known out) (known out') text (λ t e. e ∙ sym (append-nil r.text)),
+  one_text r (known out) (known out') text,
   one_clean clean r is,
 )
 all_reports rules told (at ∷ (other ∷ addresses)) clean known out out' writes = writes

@@ -3,9 +3,10 @@
 ghost use Rattle.std.specs.Prelude.{◌≡◌, ◌≤◌, ◌⊎◌, map, string_bytes, Result, Ok, IsErrOf, Bool, true, false};
 ghost use Rattle.drm_links.specs.Told.{HasCause, HasFailed, WhileTold};
 ghost use Rattle.drm_faults.specs.Lines.{fault_line};
-ghost use Rattle.drm_faults.specs.Fault.{WritesLine, whole_of};
+ghost use Rattle.drm_faults.specs.Fault.{WritesLine, whole_of, clean_status};
 ghost use Rattle.several_links.specs.Reaching.{NothingSent};
 ghost use Rattle.drm_top.specs.Command.{CommandRun, Runs, Ends, IsQuiet, IsUntouched, OpensALink, WritesReport};
+ghost use Rattle.drm_top.specs.Headline.{HeadlineOfRun};
 ghost use Rattle.drm_top.specs.Words.{AsksFor, AsksForNothing, IsInRange};
 ghost use Rattle.drm_top.specs.declared.words.Command.{Command};
 
@@ -62,6 +63,12 @@ where
         → (ending : Result Bool Fault) × Ends ending true result.code E.known err.old err.new
         × (IsErrOf ending Fault.Words ⊎ IsErrOf ending Fault.NoMemory)
         × IsUntouched shelf.old shelf.new input.old input.new out.old out.new dock.old dock.new }
+    // The headline. Where `receive` or `air` ends with 0 or 7, each report says of whatever delivery of whatever valid schedule
+    // came what that calls for.
+    ensures headline { (command : Command) → AsksFor command (map string_bytes words.now)
+        → (clean : Bool) → result.code ≡ clean_status clean
+        → HeadlineOfRun command clean S.known shelf.old shelf.new I.known input.old input.new
+        O.known out.old out.new D.known dock.old dock.new }
 
     // What the statuses say of any command. 1: neither read nor written was anything, and nothing was sent.
     ensures known { result.code ≤ 7 }

@@ -1,0 +1,161 @@
+-- The headline of a command that ended with a report.
+use Rattle.std.proofs.Common.{◌≡◌, inl, inr, ℕ, Bool, true, false, List, [], ◌∷◌, Result, Ok, Err, refl, sym, ◌∙◌}
+use Rattle.drm_links.specs.Told.{Known}
+use Rattle.drm_links.specs.Link.{Answer}
+use Rattle.drm_links.specs.Shelf.{Files}
+use Rattle.drm_links.specs.Source.{Input, Inputs}
+use Rattle.drm_links.specs.Sink.{Output}
+use Rattle.drm_links.specs.Dock.{DockContents}
+use Rattle.drm_links.proofs.ToldLemmas.{Inputs-weaker}
+use Rattle.several_links.proofs.OpeningLemmas.{docked_weaker}
+use Rattle.drm_links.specs.declared.dock.Address.{Address}
+use Rattle.several_links.specs.Openings.{Docked}
+use Rattle.drm_schedule.specs.declared.plan.Plan.{Plan}
+use Rattle.drm_schedule.specs.Valid.{IsSchedule}
+use Rattle.script_lines.specs.declared.delivery.Delivery.{Delivery}
+use Rattle.drm_load.specs.declared.loading.ScheduleFault.{ScheduleFault}
+use Rattle.drm_load.specs.Loading.{ReadBy}
+use Rattle.drm_load.specs.Faults.{fault_of_schedule, fault_of_script}
+use Rattle.drm_load.specs.Schedule.{schedule_named}
+use Rattle.drm_load.specs.Scripts.{script_named}
+use Rattle.mod_receiver.specs.Ahead.{Report, IsReportOf}
+use Rattle.mod_receiver.specs.Captures.{Brings}
+use Rattle.mod_receiver.specs.declared.rules.Rules.{Rules}
+use Rattle.drm_receive.specs.Receive.{AreReports, WritesAll, ReceiveRun}
+use Rattle.drm_receive.specs.Capture.{WritesReport, CaptureRun}
+use Rattle.drm_receive.proofs.ReceiveStatus.{all_reports, one_clean, one_text}
+use Rattle.drm_air.specs.Air.{BySchedule, ByScript}
+use Rattle.drm_faults.specs.declared.fault.Fault.{Fault}
+use Rattle.drm_faults.specs.declared.fault.Fault.TheVariants as faults
+use Rattle.drm_faults.specs.Fault.{clean_status, fault_status}
+use Rattle.drm_top.specs.declared.words.Command.{Command}
+use Rattle.drm_top.specs.declared.words.Command.TheVariants.{Fac, Check, Serve, Receive, ReceiveCapture, Air, Show, Exercise, Convert, Gate, Pack, Unpack, Texts}
+use Rattle.drm_top.specs.Command.{CommandRun, Runs}
+use Rattle.drm_top.specs.Headline.{Wrote, WroteFeeds, HeadlineOfRun}
+
+-- ---- the three commands that report
+
+no_fault : (clean : Bool) (fault : Fault) → Ok clean ≡ Err fault → ⊥
+no_fault clean fault is = cc
+
+-- what comes of the schedule, and then of the script
+module _ {S O : Type 0} (name script : List ℕ) (window : ℕ) (clean : Bool)
+    (known : S → Known Files) (shelf between shelf' : S) (out_known : O → Known Output) (out out' : O) where
+  abbrev Feeds : Type 0
+  Feeds = WroteFeeds name script window clean known shelf shelf' (out_known out) (out_known out')
+
+  of_script : (plan : Plan) (came : Result (List (List Delivery)) ScheduleFault) → IsSchedule plan
+      → ReadBy (schedule_named name) (Ok plan) (known shelf) (known between) → ReadBy (script_named plan script) came (known between) (known shelf')
+      → ByScript plan window came (Ok clean) out_known out out' → Feeds
+  of_script plan (Ok feeds) valid schedule deliveries (is, (reports, aired, text, cleans), kind) = record {
+    plan = plan;
+    valid = valid;
+    between = between;
+    schedule = schedule;
+    feeds = feeds;
+    deliveries = deliveries;
+    reports = reports;
+    aired = aired;
+    wrote = (text, cleans);
+  }
+  of_script plan (Err fault) valid schedule deliveries (is, still) = absurd (no_fault clean (fault_of_script fault) is)
+
+  of_schedule : (came : Result Plan ScheduleFault) → ReadBy (schedule_named name) came (known shelf) (known between)
+      → BySchedule script window came (Ok clean) known between shelf' out_known out out' → Feeds
+  of_schedule (Ok plan) schedule over = of_script plan over.came over.valid schedule over.loads over.writes
+  of_schedule (Err fault) schedule (is, unread, still) = absurd (no_fault clean (fault_of_schedule fault) is)
+
+-- the reports of links
+of_links : {D O : Type 0} (rules : Rules) (addresses : List Address) (clean : Bool)
+    (dock_known : D → Known DockContents) (dock dock' : D) (out_known : O → Known Output) (out out' : O)
+    → ReceiveRun rules addresses (Ok clean) dock_known dock dock' out_known out out'
+    → Docked (dock_known dock) (dock_known dock') (λ told. (reports : List Report) × AreReports rules told addresses reports × Wrote reports clean (out_known out) (out_known out'))
+of_links rules addresses clean dock_known dock dock' out_known out out' run =
+    docked_weaker (λ told. WritesAll rules told addresses (Ok clean) out_known out out')
+    (λ told. (reports : List Report) × AreReports rules told addresses reports × Wrote reports clean (out_known out) (out_known out'))
+    (dock_known dock) (dock_known dock') run.writes (λ told writes.
+    let (reports, are, text, cleans) = all_reports rules told addresses clean out_known out out' writes in (reports, are, (text, cleans)))
+
+-- the report of a capture
+module _ {I O : Type 0} (rules : Rules) (clean : Bool) (input_known : I → Known Input) (input input' : I) (out_known : O → Known Output) (out out' : O) where
+  abbrev IsReported : List ℕ → Type 0
+  IsReported left = (ahead : List Answer) × Brings left ahead × (report : Report) × IsReportOf rules 1 ahead report × Wrote (report ∷ []) clean (out_known out) (out_known out')
+
+  wrote : (left : List ℕ) → WritesReport rules left clean out_known out out' → IsReported left
+  wrote left (ahead, brings, report, is, text, same) = (ahead, brings, report, is, (one_text report (out_known out) (out_known out') text, one_clean clean report same))
+
+  of_capture : CaptureRun rules (Ok clean) input_known input input' out_known out out' → Inputs (input_known input) (input_known input') (λ left _. IsReported left)
+  of_capture run =
+      Inputs-weaker (λ left _. WritesReport rules left clean out_known out out') (λ left _. IsReported left) (input_known input) (input_known input')
+          (run.writes clean refl) (λ left rest. wrote left)
+
+-- ---- all commands
+
+one_status : (a b : Bool) → clean_status a ≡ clean_status b → a ≡ b
+one_status true true same = refl
+one_status true false same = cc
+one_status false true same = cc
+one_status false false same = refl
+
+module _ {S I O E D : Type 0} (clean told : Bool) (shelf_known : S → Known Files) (shelf shelf' : S) (input_known : I → Known Input) (input input' : I)
+    (out_known : O → Known Output) (out out' : O) (err_known : E → Known Output) (err err' : E) (dock_known : D → Known DockContents) (dock dock' : D) where
+  of_command : (command : Command)
+      → CommandRun command (Ok clean) told shelf_known shelf shelf' input_known input input' out_known out out' err_known err err' dock_known dock dock'
+      → HeadlineOfRun command clean shelf_known shelf shelf' input_known input input' out_known out out' dock_known dock dock'
+  of_command Fac run = tt
+  of_command (Check name) run = tt
+  of_command (Serve name to pace from live) run = tt
+  of_command (Receive addresses rules) run = of_links rules addresses clean dock_known dock dock' out_known out out' run.0
+  of_command (ReceiveCapture rules) run = of_capture rules clean input_known input input' out_known out out' run.0
+  of_command (Air name script window) run =
+      of_schedule name script window clean shelf_known shelf run.0.between shelf' out_known out out' run.0.came run.0.loads run.0.runs
+  of_command Show run = tt
+  of_command (Exercise n) run = tt
+  of_command (Convert carry window first frames) run = tt
+  of_command (Gate from to carry rules) run = tt
+  of_command (Pack pid length) run = tt
+  of_command (Unpack stream pid length window first frames) run = tt
+  of_command (Texts stream window first frames) run = tt
+
+  of_runs : (command : Command)
+      → Runs command (Ok clean) told shelf_known shelf shelf' input_known input input' out_known out out' err_known err err' dock_known dock dock'
+      → HeadlineOfRun command clean shelf_known shelf shelf' input_known input input' out_known out out' dock_known dock dock'
+  of_runs command (inl run) = of_command command run
+  of_runs command (inr (memory, untouched, quiet)) = absurd (no_fault clean faults.NoMemory memory)
+
+  -- whatever Bool has this status is the one with which the run ended
+  pub headline_of : (command : Command) (other : Bool) → clean_status clean ≡ clean_status other
+      → Runs command (Ok clean) told shelf_known shelf shelf' input_known input input' out_known out out' err_known err err' dock_known dock dock'
+      → HeadlineOfRun command other shelf_known shelf shelf' input_known input input' out_known out out' dock_known dock dock'
+  headline_of command other same runs = rw (← one_status clean other same) (of_runs command runs)
+
+-- the statuses 0 and 7 are those of no fault
+pub not_a_fault : (fault : Fault) (clean : Bool) → fault_status fault ≡ clean_status clean → ⊥
+not_a_fault faults.NoMemory true is = cc
+not_a_fault faults.NoMemory false is = cc
+not_a_fault faults.Words true is = cc
+not_a_fault faults.Words false is = cc
+not_a_fault (faults.FacLength n) true is = cc
+not_a_fault (faults.FacLength n) false is = cc
+not_a_fault faults.FacOver true is = cc
+not_a_fault faults.FacOver false is = cc
+not_a_fault (faults.FacCrc s c) true is = cc
+not_a_fault (faults.FacCrc s c) false is = cc
+not_a_fault (faults.Schedule l r) true is = cc
+not_a_fault (faults.Schedule l r) false is = cc
+not_a_fault (faults.Script l r) true is = cc
+not_a_fault (faults.Script l r) false is = cc
+not_a_fault (faults.Capture f) true is = cc
+not_a_fault (faults.Capture f) false is = cc
+not_a_fault faults.CaptureTooLong true is = cc
+not_a_fault faults.CaptureTooLong false is = cc
+not_a_fault (faults.PacketSize p) true is = cc
+not_a_fault (faults.PacketSize p) false is = cc
+not_a_fault (faults.Units f) true is = cc
+not_a_fault (faults.Units f) false is = cc
+not_a_fault faults.Read true is = cc
+not_a_fault faults.Read false is = cc
+not_a_fault faults.Write true is = cc
+not_a_fault faults.Write false is = cc
+not_a_fault faults.Link true is = cc
+not_a_fault faults.Link false is = cc
