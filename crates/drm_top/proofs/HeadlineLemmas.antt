@@ -1,5 +1,5 @@
 -- The headline of a command that ended with a report.
-use Rattle.std.proofs.Common.{◌≡◌, inl, inr, ℕ, Bool, true, false, List, [], ◌∷◌, Result, Ok, Err, refl, sym, ◌∙◌}
+use Rattle.std.proofs.Common.{◌≡◌, inl, inr, ℕ, Bool, true, false, List, [], ◌∷◌, Result, Ok, Err, refl}
 use Rattle.drm_links.specs.Told.{Known}
 use Rattle.drm_links.specs.Link.{Answer}
 use Rattle.drm_links.specs.Shelf.{Files}
@@ -28,6 +28,7 @@ use Rattle.drm_air.specs.Air.{BySchedule, ByScript}
 use Rattle.drm_faults.specs.declared.fault.Fault.{Fault}
 use Rattle.drm_faults.specs.declared.fault.Fault.TheVariants as faults
 use Rattle.drm_faults.specs.Fault.{clean_status, fault_status}
+use Rattle.drm_top.specs.Outside.{Outside}
 use Rattle.drm_top.specs.declared.words.Command.{Command}
 use Rattle.drm_top.specs.declared.words.Command.TheVariants.{Fac, Check, Serve, Receive, ReceiveCapture, Air, Show, Exercise, Convert, Gate, Pack, Unpack, Texts}
 use Rattle.drm_top.specs.Command.{CommandRun, Runs}
@@ -97,18 +98,15 @@ one_status true false same = cc
 one_status false true same = cc
 one_status false false same = refl
 
-module _ {S I O E D : Type 0} (clean told : Bool) (shelf_known : S → Known Files) (shelf shelf' : S) (input_known : I → Known Input) (input input' : I)
-    (out_known : O → Known Output) (out out' : O) (err_known : E → Known Output) (err err' : E) (dock_known : D → Known DockContents) (dock dock' : D) where
-  of_command : (command : Command)
-      → CommandRun command (Ok clean) told shelf_known shelf shelf' input_known input input' out_known out out' err_known err err' dock_known dock dock'
-      → HeadlineOfRun command clean shelf_known shelf shelf' input_known input input' out_known out out' dock_known dock dock'
+module _ {S I O E D : Type 0} (clean told : Bool) (o : Outside S I O E D) where
+  of_command : (command : Command) → CommandRun command (Ok clean) told o → HeadlineOfRun command clean o
   of_command Fac run = tt
   of_command (Check name) run = tt
   of_command (Serve name to pace from live) run = tt
-  of_command (Receive addresses rules) run = of_links rules addresses clean dock_known dock dock' out_known out out' run.0
-  of_command (ReceiveCapture rules) run = of_capture rules clean input_known input input' out_known out out' run.0
+  of_command (Receive addresses rules) run = of_links rules addresses clean o.dock.known o.dock.before o.dock.after o.out.known o.out.before o.out.after run.0
+  of_command (ReceiveCapture rules) run = of_capture rules clean o.input.known o.input.before o.input.after o.out.known o.out.before o.out.after run.0
   of_command (Air name script window) run =
-      of_schedule name script window clean shelf_known shelf run.0.between shelf' out_known out out' run.0.came run.0.loads run.0.runs
+      of_schedule name script window clean o.shelf.known o.shelf.before run.0.between o.shelf.after o.out.known o.out.before o.out.after run.0.came run.0.loads run.0.runs
   of_command Show run = tt
   of_command (Exercise n) run = tt
   of_command (Convert carry window first frames) run = tt
@@ -117,16 +115,12 @@ module _ {S I O E D : Type 0} (clean told : Bool) (shelf_known : S → Known Fil
   of_command (Unpack stream pid length window first frames) run = tt
   of_command (Texts stream window first frames) run = tt
 
-  of_runs : (command : Command)
-      → Runs command (Ok clean) told shelf_known shelf shelf' input_known input input' out_known out out' err_known err err' dock_known dock dock'
-      → HeadlineOfRun command clean shelf_known shelf shelf' input_known input input' out_known out out' dock_known dock dock'
+  of_runs : (command : Command) → Runs command (Ok clean) told o → HeadlineOfRun command clean o
   of_runs command (inl run) = of_command command run
   of_runs command (inr (memory, untouched, quiet)) = absurd (no_fault clean faults.NoMemory memory)
 
   -- whatever Bool has this status is the one with which the run ended
-  pub headline_of : (command : Command) (other : Bool) → clean_status clean ≡ clean_status other
-      → Runs command (Ok clean) told shelf_known shelf shelf' input_known input input' out_known out out' err_known err err' dock_known dock dock'
-      → HeadlineOfRun command other shelf_known shelf shelf' input_known input input' out_known out out' dock_known dock dock'
+  pub headline_of : (command : Command) (other : Bool) → clean_status clean ≡ clean_status other → Runs command (Ok clean) told o → HeadlineOfRun command other o
   headline_of command other same runs = rw (← one_status clean other same) (of_runs command runs)
 
 -- the statuses 0 and 7 are those of no fault

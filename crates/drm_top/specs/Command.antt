@@ -1,10 +1,7 @@
 -- The runs of the commands.
 use Rattle.std.specs.Prelude.{ℕ, ◌≡◌, ◌⊎◌, Bool, true, false, IsTrue, List, [], ◌∷◌, Result, Err}
 use Rattle.drm_links.specs.Told.{Known}
-use Rattle.drm_links.specs.Shelf.{Files}
-use Rattle.drm_links.specs.Source.{Input}
 use Rattle.drm_links.specs.Sink.{Output}
-use Rattle.drm_links.specs.Dock.{DockContents}
 use Rattle.drm_links.specs.declared.dock.Address.{Address}
 use Rattle.drm_inspect.specs.Fac.{FacRun}
 use Rattle.drm_inspect.specs.Show.{ShowRun}
@@ -27,6 +24,7 @@ use Rattle.capture_data.specs.Run.{DataRun}
 use Rattle.drm_faults.specs.Fault.{done_of, whole_of, report_status, ReportsIf}
 use Rattle.drm_faults.specs.declared.fault.Fault.{Fault}
 use Rattle.drm_faults.specs.declared.fault.Fault.TheVariants.{NoMemory}
+use Rattle.drm_top.specs.Outside.{Outside, IsStill}
 use Rattle.drm_top.specs.declared.words.Command.{Command}
 use Rattle.drm_top.specs.declared.words.Command.TheVariants.{Fac, Check, Serve, Receive, ReceiveCapture, Air, Show, Exercise, Convert, Gate, Pack, Unpack, Texts}
 
@@ -39,65 +37,61 @@ abbrev pub IsQuiet : {E : Type 0} → Bool → E → E → Type 0
 IsQuiet told err err' = (told ≡ true) × (err' ≡ err)
 
 -- A run of `serve` to out: where no stream is live input is left alone, and else the live ones take their bytes from it.
-abbrev pub ServesOut : {S I O : Type 0} → Bool → List ℕ → ℕ → Live → Result Bool Fault
-    → (S → Known Files) → S → S → (I → Known Input) → I → I → (O → Known Output) → O → O → Type 0
-ServesOut false name from live ending shelf_known shelf shelf' input_known input input' out_known out out' =
-    Whole ending (λ done. ServeRun name from done shelf_known shelf shelf' out_known out out') × (input' ≡ input)
-ServesOut true name from live ending shelf_known shelf shelf' input_known input input' out_known out out' =
-    LiveServeRun name from live ending shelf_known shelf shelf' input_known input input' out_known out out'
+abbrev pub ServesOut : {S I O E D : Type 0} → Bool → List ℕ → ℕ → Live → Result Bool Fault → Outside S I O E D → Type 0
+ServesOut false name from live ending o =
+    Whole ending (λ done. ServeRun name from done o.shelf.known o.shelf.before o.shelf.after o.out.known o.out.before o.out.after) × IsStill o.input
+ServesOut true name from live ending o =
+    LiveServeRun name from live ending o.shelf.known o.shelf.before o.shelf.after o.input.known o.input.before o.input.after o.out.known o.out.before o.out.after
 
 -- and over links
-abbrev pub ServesOver : {S I D : Type 0} → Bool → List ℕ → List Address → ℕ → ℕ → Live → Result Bool Fault
-    → (S → Known Files) → S → S → (I → Known Input) → I → I → (D → Known DockContents) → D → D → Type 0
-ServesOver false name addresses pace from live ending shelf_known shelf shelf' input_known input input' dock_known dock dock' =
-    Whole ending (λ done. SendRun (schedule_named name) addresses pace from done shelf_known shelf shelf' dock_known dock dock') × (input' ≡ input)
-ServesOver true name addresses pace from live ending shelf_known shelf shelf' input_known input input' dock_known dock dock' =
-    LiveSendRun name addresses pace from live ending shelf_known shelf shelf' input_known input input' dock_known dock dock'
+abbrev pub ServesOver : {S I O E D : Type 0} → Bool → List ℕ → List Address → ℕ → ℕ → Live → Result Bool Fault → Outside S I O E D → Type 0
+ServesOver false name addresses pace from live ending o =
+    Whole ending (λ done. SendRun (schedule_named name) addresses pace from done o.shelf.known o.shelf.before o.shelf.after o.dock.known o.dock.before o.dock.after) × IsStill o.input
+ServesOver true name addresses pace from live ending o =
+    LiveSendRun name addresses pace from live ending o.shelf.known o.shelf.before o.shelf.after o.input.known o.input.before o.input.after o.dock.known o.dock.before o.dock.after
 
 -- A run of this command with this ending: what it doesn't use stays as it is. Where `told` doesn't hold, err failed.
-abbrev pub CommandRun : {S I O E D : Type 0} → Command → Result Bool Fault → Bool
-    → (S → Known Files) → S → S → (I → Known Input) → I → I → (O → Known Output) → O → O → (E → Known Output) → E → E → (D → Known DockContents) → D → D → Type 0
-CommandRun Fac ending told shelf_known shelf shelf' input_known input input' out_known out out' err_known err err' dock_known dock dock' =
-    Whole ending (λ done. FacRun done input_known input input' out_known out out') × (shelf' ≡ shelf) × (dock' ≡ dock) × IsQuiet told err err'
-CommandRun (Check name) ending told shelf_known shelf shelf' input_known input input' out_known out out' err_known err err' dock_known dock dock' =
-    Whole ending (λ done. CheckRun name done shelf_known shelf shelf' out_known out out') × (input' ≡ input) × (dock' ≡ dock) × IsQuiet told err err'
-CommandRun (Serve name [] pace from live) ending told shelf_known shelf shelf' input_known input input' out_known out out' err_known err err' dock_known dock dock' =
-    ServesOut (is_any live) name from live ending shelf_known shelf shelf' input_known input input' out_known out out' × (dock' ≡ dock) × IsQuiet told err err'
-CommandRun (Serve name (at ∷ others) pace from live) ending told shelf_known shelf shelf' input_known input input' out_known out out' err_known err err' dock_known dock dock' =
-    ServesOver (is_any live) name (at ∷ others) pace from live ending shelf_known shelf shelf' input_known input input' dock_known dock dock' × (out' ≡ out) × IsQuiet told err err'
-CommandRun (Receive addresses rules) ending told shelf_known shelf shelf' input_known input input' out_known out out' err_known err err' dock_known dock dock' =
-    ReceiveRun rules addresses ending dock_known dock dock' out_known out out' × (shelf' ≡ shelf) × (input' ≡ input) × IsQuiet told err err'
-CommandRun (ReceiveCapture rules) ending told shelf_known shelf shelf' input_known input input' out_known out out' err_known err err' dock_known dock dock' =
-    CaptureRun rules ending input_known input input' out_known out out' × (shelf' ≡ shelf) × (dock' ≡ dock) × IsQuiet told err err'
-CommandRun (Air name script window) ending told shelf_known shelf shelf' input_known input input' out_known out out' err_known err err' dock_known dock dock' =
-    AirRun name script window ending shelf_known shelf shelf' out_known out out' × (input' ≡ input) × (dock' ≡ dock) × IsQuiet told err err'
-CommandRun Show ending told shelf_known shelf shelf' input_known input input' out_known out out' err_known err err' dock_known dock dock' =
-    ShowRun ending input_known input input' out_known out out' × (shelf' ≡ shelf) × (dock' ≡ dock) × IsQuiet told err err'
-CommandRun (Exercise n) ending told shelf_known shelf shelf' input_known input input' out_known out out' err_known err err' dock_known dock dock' =
-    ExerciseRun n ending out_known out out' × (shelf' ≡ shelf) × (input' ≡ input) × (dock' ≡ dock) × IsQuiet told err err'
-CommandRun (Convert carry window first frames) ending told shelf_known shelf shelf' input_known input input' out_known out out' err_known err err' dock_known dock dock' =
-    ConvertRun (record { window = window; first = first; told = frames }) carry ending told input_known input input' out_known out out' err_known err err' × (shelf' ≡ shelf) × (dock' ≡ dock)
-CommandRun (Gate from to carry rules) ending told shelf_known shelf shelf' input_known input input' out_known out out' err_known err err' dock_known dock dock' =
-    GateCommandRun rules carry from to ending dock_known dock dock' out_known out out' × (shelf' ≡ shelf) × (input' ≡ input) × IsQuiet told err err'
-CommandRun (Pack pid length) ending told shelf_known shelf shelf' input_known input input' out_known out out' err_known err err' dock_known dock dock' =
-    Whole ending (λ done. PackRun pid length done input_known input input' out_known out out') × (shelf' ≡ shelf) × (dock' ≡ dock) × IsQuiet told err err'
-CommandRun (Unpack stream pid length window first frames) ending told shelf_known shelf shelf' input_known input input' out_known out out' err_known err err' dock_known dock dock' =
-    DataRun (record { window = window; first = first; told = frames }) (UnitsOf stream pid length) ending input_known input input' out_known out out'
-    × (shelf' ≡ shelf) × (dock' ≡ dock) × IsQuiet told err err'
-CommandRun (Texts stream window first frames) ending told shelf_known shelf shelf' input_known input input' out_known out out' err_known err err' dock_known dock dock' =
-    DataRun (record { window = window; first = first; told = frames }) (TextsOf stream) ending input_known input input' out_known out out'
-    × (shelf' ≡ shelf) × (dock' ≡ dock) × IsQuiet told err err'
+abbrev pub CommandRun : {S I O E D : Type 0} → Command → Result Bool Fault → Bool → Outside S I O E D → Type 0
+CommandRun Fac ending told o =
+    Whole ending (λ done. FacRun done o.input.known o.input.before o.input.after o.out.known o.out.before o.out.after) × IsStill o.shelf × IsStill o.dock × IsQuiet told o.err.before o.err.after
+CommandRun (Check name) ending told o =
+    Whole ending (λ done. CheckRun name done o.shelf.known o.shelf.before o.shelf.after o.out.known o.out.before o.out.after) × IsStill o.input × IsStill o.dock × IsQuiet told o.err.before o.err.after
+CommandRun (Serve name [] pace from live) ending told o =
+    ServesOut (is_any live) name from live ending o × IsStill o.dock × IsQuiet told o.err.before o.err.after
+CommandRun (Serve name (at ∷ others) pace from live) ending told o =
+    ServesOver (is_any live) name (at ∷ others) pace from live ending o × IsStill o.out × IsQuiet told o.err.before o.err.after
+CommandRun (Receive addresses rules) ending told o =
+    ReceiveRun rules addresses ending o.dock.known o.dock.before o.dock.after o.out.known o.out.before o.out.after × IsStill o.shelf × IsStill o.input × IsQuiet told o.err.before o.err.after
+CommandRun (ReceiveCapture rules) ending told o =
+    CaptureRun rules ending o.input.known o.input.before o.input.after o.out.known o.out.before o.out.after × IsStill o.shelf × IsStill o.dock × IsQuiet told o.err.before o.err.after
+CommandRun (Air name script window) ending told o =
+    AirRun name script window ending o.shelf.known o.shelf.before o.shelf.after o.out.known o.out.before o.out.after × IsStill o.input × IsStill o.dock × IsQuiet told o.err.before o.err.after
+CommandRun Show ending told o =
+    ShowRun ending o.input.known o.input.before o.input.after o.out.known o.out.before o.out.after × IsStill o.shelf × IsStill o.dock × IsQuiet told o.err.before o.err.after
+CommandRun (Exercise n) ending told o =
+    ExerciseRun n ending o.out.known o.out.before o.out.after × IsStill o.shelf × IsStill o.input × IsStill o.dock × IsQuiet told o.err.before o.err.after
+CommandRun (Convert carry window first frames) ending told o =
+    ConvertRun (record { window = window; first = first; told = frames }) carry ending told o.input.known o.input.before o.input.after o.out.known o.out.before o.out.after o.err.known o.err.before o.err.after × IsStill o.shelf × IsStill o.dock
+CommandRun (Gate from to carry rules) ending told o =
+    GateCommandRun rules carry from to ending o.dock.known o.dock.before o.dock.after o.out.known o.out.before o.out.after × IsStill o.shelf × IsStill o.input × IsQuiet told o.err.before o.err.after
+CommandRun (Pack pid length) ending told o =
+    Whole ending (λ done. PackRun pid length done o.input.known o.input.before o.input.after o.out.known o.out.before o.out.after) × IsStill o.shelf × IsStill o.dock × IsQuiet told o.err.before o.err.after
+CommandRun (Unpack stream pid length window first frames) ending told o =
+    DataRun (record { window = window; first = first; told = frames }) (UnitsOf stream pid length) ending o.input.known o.input.before o.input.after o.out.known o.out.before o.out.after
+    × IsStill o.shelf × IsStill o.dock × IsQuiet told o.err.before o.err.after
+CommandRun (Texts stream window first frames) ending told o =
+    DataRun (record { window = window; first = first; told = frames }) (TextsOf stream) ending o.input.known o.input.before o.input.after o.out.known o.out.before o.out.after
+    × IsStill o.shelf × IsStill o.dock × IsQuiet told o.err.before o.err.after
 
 -- nothing of the outside was touched
 abbrev pub IsUntouched : {S I O D : Type 0} → S → S → I → I → O → O → D → D → Type 0
 IsUntouched shelf shelf' input input' out out' dock dock' = (shelf' ≡ shelf) × (input' ≡ input) × (out' ≡ out) × (dock' ≡ dock)
 
 -- What comes of words that ask for this command: a run of it; or memory ran out while they were read, and nothing was touched.
-abbrev pub Runs : {S I O E D : Type 0} → Command → Result Bool Fault → Bool
-    → (S → Known Files) → S → S → (I → Known Input) → I → I → (O → Known Output) → O → O → (E → Known Output) → E → E → (D → Known DockContents) → D → D → Type 0
-Runs command ending told shelf_known shelf shelf' input_known input input' out_known out out' err_known err err' dock_known dock dock' =
-    CommandRun command ending told shelf_known shelf shelf' input_known input input' out_known out out' err_known err err' dock_known dock dock'
-    ⊎ ((ending ≡ Err NoMemory) × IsUntouched shelf shelf' input input' out out' dock dock' × IsQuiet told err err')
+abbrev pub Runs : {S I O E D : Type 0} → Command → Result Bool Fault → Bool → Outside S I O E D → Type 0
+Runs command ending told o =
+    CommandRun command ending told o
+    ⊎ ((ending ≡ Err NoMemory) × IsUntouched o.shelf.before o.shelf.after o.input.before o.input.after o.out.before o.out.after o.dock.before o.dock.after × IsQuiet told o.err.before o.err.after)
 
 -- How a run ends: its status, and the line of its fault on err, behind what the command has written there, unless err failed.
 abbrev pub Ends : {E : Type 0} → Result Bool Fault → Bool → ℕ → (E → Known Output) → E → E → Type 0

@@ -3,9 +3,8 @@ use Rattle.std.specs.Prelude.{ℕ, ◌≡◌, ◌↔◌, Bool, IsTrue, List, [],
 use Rattle.drm_links.specs.Told.{Known}
 use Rattle.drm_links.specs.Link.{Answer}
 use Rattle.drm_links.specs.Shelf.{Files}
-use Rattle.drm_links.specs.Source.{Input, Inputs}
+use Rattle.drm_links.specs.Source.{Inputs}
 use Rattle.drm_links.specs.Sink.{Output, Outputs}
-use Rattle.drm_links.specs.Dock.{DockContents}
 use Rattle.several_links.specs.Openings.{Docked}
 use Rattle.drm_schedule.specs.declared.plan.Plan.{Plan}
 use Rattle.drm_schedule.specs.Valid.{IsSchedule}
@@ -17,6 +16,7 @@ use Rattle.mod_receiver.specs.Ahead.{Report, IsReportOf}
 use Rattle.mod_receiver.specs.Captures.{Brings}
 use Rattle.drm_receive.specs.Receive.{AreReports, AreClean, all_texts}
 use Rattle.drm_air.specs.Air.{AreAired}
+use Rattle.drm_top.specs.Outside.{Outside}
 use Rattle.drm_top.specs.declared.words.Command.{Command}
 use Rattle.drm_top.specs.declared.words.Command.TheVariants.{Receive, ReceiveCapture, Air}
 
@@ -39,15 +39,14 @@ pub record WroteFeeds {S : Type 0} (name script : List ℕ) (window : ℕ) (clea
 
 -- The headline where a command ended with a report: what was written is the report of what was ahead of the link at each address, of what the capture brings, or of what each
 -- feed delivers. Of each report `HeadlineOf` holds: whatever delivery of whatever valid schedule came, it says what that calls for.
-abbrev pub HeadlineOfRun : {S I O D : Type 0} → Command → Bool
-    → (S → Known Files) → S → S → (I → Known Input) → I → I → (O → Known Output) → O → O → (D → Known DockContents) → D → D → Type 0
-HeadlineOfRun (Receive addresses rules) clean shelf_known shelf shelf' input_known input input' out_known out out' dock_known dock dock' =
-    Docked (dock_known dock) (dock_known dock') (λ told.
-    (reports : List Report) × AreReports rules told addresses reports × Wrote reports clean (out_known out) (out_known out'))
-HeadlineOfRun (ReceiveCapture rules) clean shelf_known shelf shelf' input_known input input' out_known out out' dock_known dock dock' =
-    Inputs (input_known input) (input_known input') (λ left _.
+abbrev pub HeadlineOfRun : {S I O E D : Type 0} → Command → Bool → Outside S I O E D → Type 0
+HeadlineOfRun (Receive addresses rules) clean o =
+    Docked (o.dock.known o.dock.before) (o.dock.known o.dock.after) (λ told.
+    (reports : List Report) × AreReports rules told addresses reports × Wrote reports clean (o.out.known o.out.before) (o.out.known o.out.after))
+HeadlineOfRun (ReceiveCapture rules) clean o =
+    Inputs (o.input.known o.input.before) (o.input.known o.input.after) (λ left _.
     (ahead : List Answer) × Brings left ahead
-    × (report : Report) × IsReportOf rules 1 ahead report × Wrote (report ∷ []) clean (out_known out) (out_known out'))
-HeadlineOfRun (Air name script window) clean shelf_known shelf shelf' input_known input input' out_known out out' dock_known dock dock' =
-    WroteFeeds name script window clean shelf_known shelf shelf' (out_known out) (out_known out')
-HeadlineOfRun command clean shelf_known shelf shelf' input_known input input' out_known out out' dock_known dock dock' = Unit {0}
+    × (report : Report) × IsReportOf rules 1 ahead report × Wrote (report ∷ []) clean (o.out.known o.out.before) (o.out.known o.out.after))
+HeadlineOfRun (Air name script window) clean o =
+    WroteFeeds name script window clean o.shelf.known o.shelf.before o.shelf.after (o.out.known o.out.before) (o.out.known o.out.after)
+HeadlineOfRun command clean o = Unit {0}

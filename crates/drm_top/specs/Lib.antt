@@ -1,3 +1,4 @@
 pub mod Words
+pub mod Outside
 pub mod Command
 pub mod Headline

@@ -7,6 +7,7 @@ ghost use Rattle.drm_faults.specs.Fault.{WritesLine, whole_of, clean_status};
 ghost use Rattle.several_links.specs.Reaching.{NothingSent};
 ghost use Rattle.drm_top.specs.Command.{CommandRun, Runs, Ends, IsQuiet, IsUntouched, OpensALink, WritesReport};
 ghost use Rattle.drm_top.specs.Headline.{HeadlineOfRun};
+ghost use Rattle.drm_top.specs.Outside.{outside};
 ghost use Rattle.drm_top.specs.Words.{AsksFor, AsksForNothing, IsInRange};
 ghost use Rattle.drm_top.specs.declared.words.Command.{Command};
 
@@ -56,8 +57,8 @@ where
     // loaded, read, opened, written and sent, when each refusal comes, and that nothing is lost where nothing fails.
     ensures runs { (command : Command) → AsksFor command (map string_bytes words.now)
         → (ending : Result Bool Fault) × (told : Bool) × (mid : E) × Ends ending told result.code E.known mid err.new
-        × Runs command ending told S.known shelf.old shelf.new I.known input.old input.new
-        O.known out.old out.new E.known err.old mid D.known dock.old dock.new }
+        × Runs command ending told (outside S.known shelf.old shelf.new I.known input.old input.new
+        O.known out.old out.new E.known err.old mid D.known dock.old dock.new) }
     // Words that ask for none are refused, and nothing is touched.
     ensures nothing { AsksForNothing (map string_bytes words.now)
         → (ending : Result Bool Fault) × Ends ending true result.code E.known err.old err.new
@@ -67,8 +68,8 @@ where
     // came what that calls for.
     ensures headline { (command : Command) → AsksFor command (map string_bytes words.now)
         → (clean : Bool) → result.code ≡ clean_status clean
-        → HeadlineOfRun command clean S.known shelf.old shelf.new I.known input.old input.new
-        O.known out.old out.new D.known dock.old dock.new }
+        → HeadlineOfRun command clean (outside S.known shelf.old shelf.new I.known input.old input.new
+        O.known out.old out.new E.known err.old err.new D.known dock.old dock.new) }
 
     // What the statuses say of any command. 1: neither read nor written was anything, and nothing was sent.
     ensures known { result.code ≤ 7 }
@@ -122,8 +123,8 @@ where
     D::L: Link + Send,
     requires { told.old ≡ true }
     ensures runs { (command : Command) → AsksFor command (map string_bytes words.now)
-        → Runs command result told.new S.known shelf.old shelf.new I.known input.old input.new
-        O.known out.old out.new E.known err.old err.new D.known dock.old dock.new }
+        → Runs command result told.new (outside S.known shelf.old shelf.new I.known input.old input.new
+        O.known out.old out.new E.known err.old err.new D.known dock.old dock.new) }
     ensures nothing { AsksForNothing (map string_bytes words.now)
         → (IsErrOf result Fault.Words ⊎ IsErrOf result Fault.NoMemory)
         × IsQuiet told.new err.old err.new
@@ -166,9 +167,9 @@ where
     requires told { told.old ≡ true }
     ensures words { IsErrOf result Fault.Words → ⊥ }
     ensures memory { IsErrOf result Fault.NoMemory → (input.new ≡ input.old) × (out.new ≡ out.old) }
-    ensures run { CommandRun command.now result told.new S.known shelf.old shelf.new
+    ensures run { CommandRun command.now result told.new (outside S.known shelf.old shelf.new
         I.known input.old input.new O.known out.old out.new
-        E.known err.old err.new D.known dock.old dock.new }
+        E.known err.old err.new D.known dock.old dock.new) }
     ensures read { IsErrOf result Fault.Read → HasFailed (I.known input.old) (I.known input.new)
         ⊎ HasFailed (S.known shelf.old) (S.known shelf.new) }
     ensures write { HasCause (O.known out.old) (O.known out.new) (IsErrOf result Fault.Write) }

@@ -1,8 +1,8 @@
-use Rattle.std.proofs.Common.{◌≡◌, ◌∙◌, ℕ, sym, ap, refl, subst, Bool, Result, Ok, Err}
-use Rattle.drm_faults.specs.declared.fault.Fault.{Fault}
+use Rattle.std.proofs.Common.{◌∙◌, ℕ, sym, ap, subst, Ok, Err}
 use Rattle.drm_faults.specs.Fault.{clean_status, WritesLine}
 use Rattle.drm_faults.proofs.StatusLemmas.{two_is_words, four_is_read, five_is_write, six_is_link, one_is_memory}
 use Rattle.drm_faults.specs.Lines.{fault_line}
+use Rattle.drm_top.specs.Outside.{outside}
 use Rattle.drm_top.proofs.CommandLemmas.{done_told, fault_told}
 use Rattle.drm_top.proofs.HeadlineLemmas.{headline_of, not_a_fault}
 use Rattle.drm_top.proofs.command.run.Goals as goal
@@ -49,14 +49,16 @@ returns-in-Err-clause-nothing g c = λ none.
 
 pub returns-in-Ok-true-clause-headline : goal.returns-in-Ok-true-clause-headline
 returns-in-Ok-true-clause-headline g c = λ command asked clean is.
-    headline_of c.in-Ok-true.field-0 c.execute.new.told g.S.Shelf.known c.args.shelf.now c.execute.new.shelf g.I.Source.known c.args.input.now c.execute.new.input
-    g.O.Sink.known c.args.out.now c.execute.new.out g.E.Sink.known c.args.err.now c.execute.new.err g.D.Dock.known c.args.dock.now c.execute.new.dock
+    headline_of c.in-Ok-true.field-0 c.execute.new.told
+    (outside g.S.Shelf.known c.args.shelf.now c.execute.new.shelf g.I.Source.known c.args.input.now c.execute.new.input g.O.Sink.known c.args.out.now c.execute.new.out
+    g.E.Sink.known c.args.err.now c.execute.new.err g.D.Dock.known c.args.dock.now c.execute.new.dock)
     command clean (ap clean_status c.in-Ok-true.field-0-test ∙ is) (c.in-Ok-true.ensures.runs command asked)
 
 pub returns-in-Ok-false-clause-headline : goal.returns-in-Ok-false-clause-headline
 returns-in-Ok-false-clause-headline g c = λ command asked clean is.
-    headline_of c.in-Ok-false.field-0 c.execute.new.told g.S.Shelf.known c.args.shelf.now c.execute.new.shelf g.I.Source.known c.args.input.now c.execute.new.input
-    g.O.Sink.known c.args.out.now c.execute.new.out g.E.Sink.known c.args.err.now c.execute.new.err g.D.Dock.known c.args.dock.now c.execute.new.dock
+    headline_of c.in-Ok-false.field-0 c.execute.new.told
+    (outside g.S.Shelf.known c.args.shelf.now c.execute.new.shelf g.I.Source.known c.args.input.now c.execute.new.input g.O.Sink.known c.args.out.now c.execute.new.out
+    g.E.Sink.known c.args.err.now c.execute.new.err g.D.Dock.known c.args.dock.now c.execute.new.dock)
     command clean (ap clean_status c.in-Ok-false.field-0-test ∙ is) (c.in-Ok-false.ensures.runs command asked)
 
 pub returns-in-Err-clause-headline : goal.returns-in-Err-clause-headline

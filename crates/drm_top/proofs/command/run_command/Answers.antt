@@ -4,6 +4,7 @@ use Rattle.drm_links.specs.Told.{WhileTold}
 use Rattle.several_links.specs.Reaching.{NothingSent}
 use Rattle.drm_faults.specs.declared.fault.Fault.{Fault}
 use Rattle.drm_faults.specs.declared.fault.Fault.TheVariants as faults
+use Rattle.drm_top.specs.Outside.{outside}
 use Rattle.drm_top.proofs.CommandLemmas.{fault_of_whole, whole_lacks_none, dock_still, not_else, not_convert, not_a_link, not_gate, no_gate}
 use Rattle.drm_top.proofs.ServeLemmas.{sends, opens_some}
 use Rattle.drm_receive.proofs.OpeningLemmas.{opens_unsent}
@@ -60,8 +61,9 @@ returns-else-is_empty g c =
     record {
       words = λ e. c.send_live.ensures.words e;
       memory = λ e. (c.send_live.ensures.memory e, refl);
-      run = rw c.in-Serve.is (sends c.in-Serve.name c.in-Serve.to c.in-Serve.pace c.in-Serve.from c.in-Serve.live c.send_live.result c.args.told.now g.S.Shelf.known c.args.shelf.now c.send_live.new.shelf g.I.Source.known c.args.input.now c.send_live.new.input
-          g.O.Sink.known c.args.out.now c.args.out.now g.E.Sink.known c.args.err.now c.args.err.now g.D.Dock.known c.args.dock.now c.send_live.new.dock some
+      run = rw c.in-Serve.is (sends c.in-Serve.name c.in-Serve.to c.in-Serve.pace c.in-Serve.from c.in-Serve.live c.send_live.result c.args.told.now (outside
+          g.S.Shelf.known c.args.shelf.now c.send_live.new.shelf g.I.Source.known c.args.input.now c.send_live.new.input g.O.Sink.known c.args.out.now c.args.out.now
+          g.E.Sink.known c.args.err.now c.args.err.now g.D.Dock.known c.args.dock.now c.send_live.new.dock) some
           (rw live (rw (← c.text-name.ensures) c.send_live.ensures.run), refl, (c.requires.told, refl)));
       read = λ e. c.send_live.ensures.read e;
       write = record { later = le_refl _; rose = λ e. absurd (c.send_live.ensures.write e) };
@@ -95,8 +97,9 @@ returns-else-is_empty-2 g c =
     record {
       words = λ e. c.send.ensures.words (fault_of_whole c.whole-else-is_empty-2.result c.send.result faults.Words c.whole-else-is_empty-2.ensures e);
       memory = λ e. (refl, refl);
-      run = rw c.in-Serve.is (sends c.in-Serve.name c.in-Serve.to c.in-Serve.pace c.in-Serve.from c.in-Serve.live c.whole-else-is_empty-2.result c.args.told.now g.S.Shelf.known c.args.shelf.now c.send.new.shelf g.I.Source.known c.args.input.now c.args.input.now
-          g.O.Sink.known c.args.out.now c.args.out.now g.E.Sink.known c.args.err.now c.args.err.now g.D.Dock.known c.args.dock.now c.send.new.dock some
+      run = rw c.in-Serve.is (sends c.in-Serve.name c.in-Serve.to c.in-Serve.pace c.in-Serve.from c.in-Serve.live c.whole-else-is_empty-2.result c.args.told.now (outside
+          g.S.Shelf.known c.args.shelf.now c.send.new.shelf g.I.Source.known c.args.input.now c.args.input.now g.O.Sink.known c.args.out.now c.args.out.now
+          g.E.Sink.known c.args.err.now c.args.err.now g.D.Dock.known c.args.dock.now c.send.new.dock) some
           (rw plain ((c.send.result, c.whole-else-is_empty-2.ensures, rw (← c.text-name.ensures) c.send.ensures.run), refl), refl, (c.requires.told, refl)));
       read = λ e. inr (c.send.ensures.read (fault_of_whole c.whole-else-is_empty-2.result c.send.result faults.Read c.whole-else-is_empty-2.ensures e));
       write = record { later = le_refl _; rose = λ e. absurd (c.send.ensures.write (fault_of_whole c.whole-else-is_empty-2.result c.send.result faults.Write c.whole-else-is_empty-2.ensures e)) };
