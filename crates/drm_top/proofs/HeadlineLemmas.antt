@@ -88,7 +88,7 @@ module _ {I O : Type 0} (rules : Rules) (clean : Bool) (input_known : I → Know
   of_capture : CaptureRun rules (Ok clean) input_known input input' out_known out out' → Inputs (input_known input) (input_known input') (λ left _. IsReported left)
   of_capture run =
       Inputs-weaker (λ left _. WritesReport rules left clean out_known out out') (λ left _. IsReported left) (input_known input) (input_known input')
-          (run.writes clean refl) (λ left rest. wrote left)
+      (run.writes clean refl) (λ left rest. wrote left)
 
 -- ---- all commands
 

@@ -2,14 +2,14 @@
 
 use drm_bits::Octets;
 use drm_links::Address;
-use drm_schedule::Carry;
+use drm_schedule::{Carry, Live};
 use drm_words::{Addresses, Request, read_words};
 use std::alloc::{AllocError, Global};
 
 // Lines of words, each word behind a `|`, and what they ask for: the command, then the plain words and the options in
 // the order of the command's row, `-` where one isn't told. By hand from the rules of the command line; a reader of the
 // same rules in Python gives the same.
-const ASKED: [(&str, &str); 65] = [
+const ASKED: [(&str, &str); 69] = [
     ("|fac", "fac"),
     ("|fac|--", "fac"),
     ("|show", "show"),
@@ -40,6 +40,12 @@ const ASKED: [(&str, &str); 65] = [
         "serve - 255.255.255.255:65535 25 0",
     ),
     ("|serve|a|--from|1000000", "serve a - 0 1000000"),
+    ("|serve|a|--live|0", "serve a - 0 0 live 0"),
+    ("|serve|--live=0,1,2,3|a", "serve a - 0 0 live 0 1 2 3"),
+    (
+        "|serve|a|--live|1,3|--to|127.0.0.1:5000|--pace|400|--from|2",
+        "serve a 127.0.0.1:5000 400 2 live 1 3",
+    ),
     ("|receive", "receive - 8 - - 50 4294967295"),
     ("|receive|--", "receive - 8 - - 50 4294967295"),
     (
@@ -112,6 +118,10 @@ const ASKED: [(&str, &str); 65] = [
     (
         "|gate|1.2.3.4:5|1.2.3.4:5|pft:2:1400",
         "gate 1.2.3.4:5 1.2.3.4:5 pft:2:1400 8 - - 50 4294967295",
+    ),
+    (
+        "|gate|1.2.3.4:5|5.4.3.2:1,5.4.3.2:2|plain",
+        "gate 1.2.3.4:5 5.4.3.2:1,5.4.3.2:2 plain 8 - - 50 4294967295",
     ),
     (
         "|gate|--limit=8|1.2.3.4:5|--idle|7|5.4.3.2:1|--frames=6|--first=5|--|plain",
@@ -188,15 +198,31 @@ fn carry_shown(alloc: Global, carry: Carry) -> Result<String, AllocError> {
     }
 }
 
+fn live_shown(alloc: Global, live: &Live) -> Result<String, AllocError> {
+    let mut shown = String::new(alloc);
+    if live.any() {
+        shown.push_str(" live")?;
+    }
+    for k in 0..4 {
+        if live.has(k) {
+            let one = format!(in alloc; " {k}")?;
+            shown.push_str(&one)?;
+        }
+    }
+    Ok(shown)
+}
+
 fn serve_shown(
     alloc: Global,
     name: &Octets,
     to: &Addresses,
     pace: u32,
     from: u32,
+    live: &Live,
 ) -> Result<String, AllocError> {
     let to = to_shown(alloc, to)?;
-    format!(in alloc; "serve {} {to} {pace} {from}", text(name))
+    let live = live_shown(alloc, live)?;
+    format!(in alloc; "serve {} {to} {pace} {from}{live}", text(name))
 }
 
 // The window, the first number and how many frames.
@@ -220,7 +246,8 @@ fn shown(alloc: Global, request: &Request) -> Result<String, AllocError> {
             to,
             pace,
             from,
-        } => serve_shown(alloc, name, to, *pace, *from),
+            live,
+        } => serve_shown(alloc, name, to, *pace, *from, live),
         Request::Receive {
             addresses,
             window,
@@ -261,7 +288,7 @@ fn shown(alloc: Global, request: &Request) -> Result<String, AllocError> {
             limit,
         } => {
             let from = address_shown(alloc, from)?;
-            let to = address_shown(alloc, to)?;
+            let to = list_shown(alloc, to)?;
             let carry = carry_shown(alloc, *carry)?;
             let rules = rules_shown(alloc, *window, *first, *frames)?;
             format!(in alloc; "gate {from} {to} {carry} {rules} {idle} {limit}")
