@@ -1,4 +1,4 @@
-//! Paths work side by side: the first of two links brings nothing before the second one was asked.
+//! Paths work side by side: the first three of four links bring nothing before the fourth one was asked.
 
 ghost use Rattle.std.specs.Prelude.{◌≡◌, None, IfOk, OnOk};
 ghost use Rattle.drm_links.specs.Told.{Counts};
@@ -15,7 +15,7 @@ use std::sync::atomic::Ordering::SeqCst;
 use std::thread;
 use std::thread::Threads;
 
-// The packets of the small trial schedule. The first link brings the first two, the second one the last.
+// The packets of the small trial schedule.
 const PACKETS: [&[u8]; 3] = [
     b"AF\x00\x00\x00\x62\x00\x00\x90T*ptr\x00\x00\x00\x40DMDI\x00\x00\x00\x00dlfc\x00\x00\x00\x20\x00\x00\x00\x00fac_\x00\x00\x00\x48\x66\x08\x01\x23\x45\x60\xa1\x80\x6dsdci\x00\x00\x00\x20\x01\x00\x00\x04robm\x00\x00\x00\x08\x01sdc_\x00\x00\x00\x5c\x00\x60\x10\x00\x00\x40\x49\x02\x30\x06\xbe\x60str0\x00\x00\x00\x20\x55\x55\x55\x55\xf9\x59",
     b"AF\x00\x00\x00\x4e\x00\x01\x90T*ptr\x00\x00\x00\x40DMDI\x00\x00\x00\x00dlfc\x00\x00\x00\x20\x00\x00\x00\x01fac_\x00\x00\x00\x48\x26\x08\x01\x23\x45\x60\xa1\x80\x33sdci\x00\x00\x00\x20\x01\x00\x00\x04robm\x00\x00\x00\x08\x01str0\x00\x00\x00\x20\x55\x55\x55\x55\x87\x85",
@@ -41,7 +41,7 @@ fn bring(alloc: Global, link: &mut MemLink, packets: &[&[u8]]) -> Result<(), NoM
     Ok(())
 }
 
-/// A link that is idle until another one was asked, or that other one.
+/// A link that is idle until the fourth one was asked, or that one.
 #[derive(Drop)]
 struct Gated<'a> {
     inner: MemLink,
@@ -51,15 +51,16 @@ struct Gated<'a> {
 }
 
 impl<'a> Gated<'a> {
-    fn make(alloc: Global, waits: bool, asked: &'a AtomicU64) -> Result<Gated<'a>, NoMemory>
+    fn make(
+        alloc: Global,
+        waits: bool,
+        packets: &[&[u8]],
+        asked: &'a AtomicU64,
+    ) -> Result<Gated<'a>, NoMemory>
         ensures { IfOk result (λ link. (link.inner.faults ≡ 0) × (link.idles ≡ 0)) }
     {
         let mut inner = MemLink::make(alloc, &[], &[], 0)?;
-        if waits {
-            bring(alloc, &mut inner, &PACKETS[..2])?;
-        } else {
-            bring(alloc, &mut inner, &PACKETS[2..])?;
-        }
+        bring(alloc, &mut inner, packets)?;
         Ok(Gated {
             inner,
             waits,
@@ -76,7 +77,7 @@ impl<'a> Link for Gated<'a> {
 
     fn recv(&mut self, buf: &mut [u8]) -> Came {
         if self.waits && self.asked.load(SeqCst) == 0 {
-            // On a busy machine the other thread may not have begun.
+            // On a busy machine that one's thread may not have begun.
             thread::yield_now();
             self.idles = self.idles.saturating_add(1);
             return Came::Idle;
@@ -100,20 +101,26 @@ impl<'a> Link for Gated<'a> {
     }
 }
 
-/// Gives the link that waits at the first port, and the other one at the second.
+/// Gives the links that wait at the first three ports, and the fourth one at any other.
 #[derive(Drop)]
-struct Pair<'a> {
+struct Four<'a> {
     alloc: Global,
     asked: &'a AtomicU64,
     faults: u64,
 }
 
-impl<'a> Pair<'a> {
+impl<'a> Four<'a> {
     fn open(&mut self, at: Address) -> Opened<Gated<'a>>
         ensures fresh { IsFresh ⟦<Gated<'a> as Link>⟧.known ⟦<Gated<'a> as Link>⟧.idles result }
         ensures cause { Counts self.old.faults self.new.faults (IsFailed result) }
     {
-        match Gated::make(self.alloc, at.port == 5001, self.asked) {
+        let opened = match at.port {
+            5001 => Gated::make(self.alloc, true, &PACKETS[..1], self.asked),
+            5002 => Gated::make(self.alloc, true, &PACKETS[1..2], self.asked),
+            5003 => Gated::make(self.alloc, true, &PACKETS[..2], self.asked),
+            _ => Gated::make(self.alloc, false, &PACKETS[2..], self.asked),
+        };
+        match opened {
             Ok(link) => Opened::Link(link),
             Err(NoMemory) => {
                 self.faults = self.faults.saturating_add(1);
@@ -123,7 +130,7 @@ impl<'a> Pair<'a> {
     }
 }
 
-impl<'a> Dock for Pair<'a> {
+impl<'a> Dock for Four<'a> {
     type L = Gated<'a>;
 
     ghost known = { λ dock. record { faults = dock.faults; told = None } };
@@ -142,7 +149,7 @@ impl<'a> Dock for Pair<'a> {
 }
 
 const LINE: [&str; 4] = [
-    "127.0.0.1:5001,127.0.0.1:5002",
+    "127.0.0.1:5001,127.0.0.1:5002,127.0.0.1:5003,127.0.0.1:5004",
     "--first=0",
     "--frames=3",
     "--idle=1000000",
@@ -156,10 +163,10 @@ fn words_of(alloc: Global, line: &[&str]) -> Result<Vec<String>, AllocError> {
     Ok(words)
 }
 
-// Whether both links' datagrams are in the report, which is all that is written.
+// Whether all links' datagrams are in the report, which is all that is written.
 fn has_all<R: Threads + Wait + Sync>(rt: &R, alloc: Global) -> bool {
     let asked = AtomicU64::new(0);
-    let mut dock = Pair {
+    let mut dock = Four {
         alloc,
         asked: &asked,
         faults: 0,
