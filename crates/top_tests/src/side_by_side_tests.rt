@@ -1,18 +1,19 @@
-//! Receivers work side by side: the first of two links brings nothing before the second one was asked.
+//! Receivers work side by side: the first fifteen of sixteen links bring nothing before the last one was asked.
 
 ghost use Rattle.std.specs.Prelude.{◌≡◌, None, IfOk};
 ghost use Rattle.drm_links.specs.Told.{Counts};
 ghost use Rattle.drm_links.specs.Dock.{IsFresh, IsFailed};
 
-use crate::small::{REPORTS, bring_all, is_done};
+use crate::small::{FRAMES, bring_all, is_done};
 use drm_bits::NoMemory;
 use drm_links::{Address, Came, Dock, Link, MemLink, Opened, Sent};
-use std::alloc::Global;
+use std::alloc::{AllocError, Global};
 use std::sync::atomic::AtomicU64;
 use std::sync::atomic::Ordering::SeqCst;
 use std::thread;
+use std::thread::Threads;
 
-/// A link that is idle until another one was asked, or that other one.
+/// A link that is idle until the last one was asked, or that one.
 #[derive(Drop)]
 struct Gated<'a> {
     inner: MemLink,
@@ -43,7 +44,7 @@ impl<'a> Link for Gated<'a> {
 
     fn recv(&mut self, buf: &mut [u8]) -> Came {
         if self.waits && self.asked.load(SeqCst) == 0 {
-            // On a busy machine the other thread may not have begun.
+            // On a busy machine that one's thread may not have begun.
             thread::yield_now();
             self.idles = self.idles.saturating_add(1);
             return Came::Idle;
@@ -67,20 +68,20 @@ impl<'a> Link for Gated<'a> {
     }
 }
 
-/// Gives the link that waits at the first port, and the other one at the second.
+/// Gives the last link at the last port, and one that waits at any other.
 #[derive(Drop)]
-struct Pair<'a> {
+struct Sixteen<'a> {
     alloc: Global,
     asked: &'a AtomicU64,
     faults: u64,
 }
 
-impl<'a> Pair<'a> {
+impl<'a> Sixteen<'a> {
     fn open(&mut self, at: Address) -> Opened<Gated<'a>>
         ensures fresh { IsFresh ⟦<Gated<'a> as Link>⟧.known ⟦<Gated<'a> as Link>⟧.idles result }
         ensures cause { Counts self.old.faults self.new.faults (IsFailed result) }
     {
-        match Gated::make(self.alloc, at.port == 5001, self.asked) {
+        match Gated::make(self.alloc, at.port != 5016, self.asked) {
             Ok(link) => Opened::Link(link),
             Err(NoMemory) => {
                 self.faults = self.faults.saturating_add(1);
@@ -90,7 +91,7 @@ impl<'a> Pair<'a> {
     }
 }
 
-impl<'a> Dock for Pair<'a> {
+impl<'a> Dock for Sixteen<'a> {
     type L = Gated<'a>;
 
     ghost known = { λ dock. record { faults = dock.faults; told = None } };
@@ -110,18 +111,56 @@ impl<'a> Dock for Pair<'a> {
 
 const LINE: [&str; 4] = [
     "receive",
-    "127.0.0.1:5001,127.0.0.1:5002",
+    "127.0.0.1:5001,127.0.0.1:5002,127.0.0.1:5003,127.0.0.1:5004,127.0.0.1:5005,127.0.0.1:5006,127.0.0.1:5007,127.0.0.1:5008,127.0.0.1:5009,127.0.0.1:5010,127.0.0.1:5011,127.0.0.1:5012,127.0.0.1:5013,127.0.0.1:5014,127.0.0.1:5015,127.0.0.1:5016",
     "--frames=3",
     "--idle=1000000",
 ];
 
-#[test]
-fn receivers_work_side_by_side(rt: HostRuntime) {
+/// The first line of each report.
+const FEEDS: [&[u8]; 16] = [
+    b"feed 1\n",
+    b"feed 2\n",
+    b"feed 3\n",
+    b"feed 4\n",
+    b"feed 5\n",
+    b"feed 6\n",
+    b"feed 7\n",
+    b"feed 8\n",
+    b"feed 9\n",
+    b"feed 10\n",
+    b"feed 11\n",
+    b"feed 12\n",
+    b"feed 13\n",
+    b"feed 14\n",
+    b"feed 15\n",
+    b"feed 16\n",
+];
+
+// What they print that get all of it.
+fn reports(alloc: Global) -> Result<Vec<u8>, AllocError> {
+    let mut all = Vec::new(alloc);
+    for feed in &FEEDS {
+        all.extend_from_slice(feed)?;
+        all.extend_from_slice(FRAMES)?;
+    }
+    Ok(all)
+}
+
+// Whether all sixteen get all of it.
+fn all_get_it<R: Threads + Sync>(rt: &R, alloc: Global) -> bool {
     let asked = AtomicU64::new(0);
-    let mut dock = Pair {
-        alloc: rt.alloc(),
+    let mut dock = Sixteen {
+        alloc,
         asked: &asked,
         faults: 0,
     };
-    assert!(rt; is_done(&rt, rt.alloc(), &LINE, &mut dock, REPORTS));
+    match reports(alloc) {
+        Ok(reports) => is_done(rt, alloc, &LINE, &mut dock, &reports),
+        Err(_) => false,
+    }
+}
+
+#[test]
+fn receivers_work_side_by_side(rt: HostRuntime) {
+    assert!(rt; all_get_it(&rt, rt.alloc()));
 }

@@ -31,6 +31,14 @@ frame 2 dlfc 2 mode B fac 460801234560a18042 sdc - mux 01000004 msc 55555555
 end frames given 3 missing 0 bad 0 refused 0
 ";
 
+/// What one prints behind its first line.
+pub const FRAMES: &[u8] =
+    b"frame 0 dlfc 0 mode B fac 660801234560a1806d sdc 00601000004049023006be6 mux 01000004 msc 55555555
+frame 1 dlfc 1 mode B fac 260801234560a18033 sdc - mux 01000004 msc 55555555
+frame 2 dlfc 2 mode B fac 460801234560a18042 sdc - mux 01000004 msc 55555555
+end frames given 3 missing 0 bad 0 refused 0
+";
+
 /// Its packets, whole, for the link to bring.
 pub fn bring_all(alloc: Global, link: &mut MemLink) -> Result<(), NoMemory>
     requires { IsUntouched link.old }
@@ -59,7 +67,7 @@ fn with_the_schedule(alloc: Global) -> Result<Surroundings, NoMemory> {
     Ok(Surroundings {
         shelf,
         input: MemSource::make(alloc, &[], &[], 1)?,
-        out: MemSink::make(alloc, 2000, &[], 100)?,
+        out: MemSink::make(alloc, 8000, &[], 100)?,
         err: MemSink::make(alloc, 100, &[], 100)?,
     })
 }
