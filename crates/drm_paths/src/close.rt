@@ -1,11 +1,11 @@
 //! Closing a book: what its journal has of each path is compared with what the path took.
 
 ghost use Rattle.std.specs.Prelude.{◌≡◌, ◌<◌, ◌↔◌, IsTrue, Some, length, vec_len, map, slice_get, IfOk, IfSome, IfNone, sum_by, option_map};
-ghost use Rattle.path_book.specs.Journal.{entry_of};
+ghost use Rattle.path_book.specs.Journal.{JournalState, entry_of};
 ghost use Rattle.drm_paths.specs.State.{settings_of};
 ghost use Rattle.drm_paths.specs.Closing.{of_path, IsDifference, Agrees, AllAgree, IsDifferenceOf, Differs, Closes};
 
-use crate::shared::Paths;
+use crate::shared::{Paths, Shared};
 use crate::{Book, Path, Road};
 use drm_bits::{NoMemory, Octets};
 use path_book::{Ending, Entry};
@@ -155,9 +155,18 @@ fn merged<G: Road>(mut paths: Vec<Path<G>>) -> Share<G>
     all
 }
 
+/// Closes the book that these paths share, all of them, which hand nothing to it any more.
+pub fn close_paths<G: Road>(alloc: Global, shared: Shared<G>, paths: Paths<G>) -> Closed
+    requires some { 0 < length paths }
+    requires all { sum_by (λ p. p.parts) paths ≡ G.parts }
+    ensures { (journal : JournalState) × Closes (settings_of G.window G.first G.frames) journal paths result }
+{
+    close_book(alloc, shared.into_book(), paths)
+}
+
 /// Closes a book whose paths these are, all of them: the ledger proves that its journal has as many entries as they took.
 /// Each path's entries are compared with what it took, and the report is ended.
-pub fn close_paths<G: Road>(alloc: Global, mut book: Book<G>, paths: Paths<G>) -> Closed
+pub fn close_book<G: Road>(alloc: Global, mut book: Book<G>, paths: Paths<G>) -> Closed
     requires some { 0 < length paths }
     requires all { sum_by (λ p. p.parts) paths ≡ G.parts }
     ensures { Closes (settings_of G.window G.first G.frames) book.journal paths result }

@@ -11,7 +11,7 @@ mod run;
 mod shared;
 
 pub use book::Book;
-pub use close::{Closed, Difference, close_paths};
+pub use close::{Closed, Difference, close_book, close_paths};
 pub use crossing::paths_may_cross_threads;
 pub use path::Path;
 pub use path_book::{Ending, Entry, Event, Settings};

@@ -20,8 +20,8 @@ pub struct Shared<G: Road> {
 }
 
 impl<G: Road> Shared<G> {
-    /// The book, which no path hands anything to any more. Nothing is known of it but what each book keeps.
-    pub fn into_book(self) -> Book<G> {
+    // The book, which no path hands anything to any more. Nothing is known of it but what each book keeps.
+    pub(crate) fn into_book(self) -> Book<G> {
         let Shared { book } = self;
         book.into_inner()
     }

@@ -166,7 +166,7 @@ fn read_links<G: Road + Send + Sync, R: Threads + Wait + Sync, L: Link + Send>(
         return Err(Fault::NoMemory);
     }
     let paths = paths_of(alloc, jobs)?;
-    closed(close_paths(alloc, shared.into_book(), paths))
+    closed(close_paths(alloc, shared, paths))
 }
 
 // How a run ends that is closed so.

@@ -86,6 +86,6 @@ returns g c =
     (ends_by c.args.request.now g.L.Link.known links paths jobs after ran
     (ap (λ js. list_any (λ job. has_failed job.ended) js) (sym same) ∙ sym c.some_failed.ensures ∙ c.if-some_failed.false)
     (ap (λ js. list_any (λ job. has_run_out job.ended) js) (sym again) ∙ sym c.some_ran_out.ensures ∙ c.if-some_ran_out.false)
-    c.into_book.result.journal c.close_paths.result
-    (subst (λ ps. Closes (settings_in c.args.request.now) c.into_book.result.journal ps c.close_paths.result) then_paths
-    (subst (λ by. Closes by c.into_book.result.journal c.in_ok-paths.paths c.close_paths.result) (sym c.requires.settings) c.close_paths.ensures)))
+    c.close_paths.ensures.0 c.close_paths.result
+    (subst (λ ps. Closes (settings_in c.args.request.now) c.close_paths.ensures.0 ps c.close_paths.result) then_paths
+    (subst (λ by. Closes by c.close_paths.ensures.0 c.in_ok-paths.paths c.close_paths.result) (sym c.requires.settings) c.close_paths.ensures.1)))
