@@ -1,59 +1,41 @@
 -- The items of a delivery bring the frames of its schedule.
-use Rattle.std.proofs.Common.{◌≡◌, ◌∙◌, ℕ, zero, suc, ◌+◌, ◌-◌, ◌*◌, ◌<◌, ◌≤◌, Bool, true, false, cond, List, [], ◌∷◌, ◌++◌, length, map, take, drop, slice_index_or, slice_index, Option, None, Some, refl, sym, ap, subst, arith, lt-ltb, le-ltb, ◌&&◌}
+use Rattle.std.proofs.Common.{◌≡◌, ◌∙◌, ℕ, zero, suc, ◌+◌, ◌-◌, ◌*◌, ◌≤◌, Bool, true, false, List, [], ◌∷◌, ◌++◌, length, map, Option, None, Some, refl, sym, ap, subst, arith}
 use Rattle.std.specs.Prelude.{ℤ, pos, negsuc, ◌+ℤ◌, ◌-ℤ◌, slice_get}
 use Rattle.std.specs.List.{AllByRecursion}
 use Rattle.std.proofs.lemmas.Int.{ints}
-use Rattle.std.proofs.lemmas.List.{length-map}
-use Rattle.std.proofs.lemmas.Option.{slice_get_within, get_or_from_slice_get, same_Some}
+use Rattle.std.proofs.lemmas.Option.{same_Some}
 use Rattle.dcp_collect.specs.Numbers.{end_of}
-use Rattle.drm_bits.specs.declared.description.MuxDesc.{MuxDesc}
 use Rattle.drm_schedule.specs.declared.config.Config.{Config}
 use Rattle.drm_schedule.specs.declared.plan.Plan.{Plan}
 use Rattle.drm_timeline.specs.Numbers.{frame_count}
 use Rattle.drm_schedule.specs.Contents.{stream_bytes}
-use Rattle.drm_switches.specs.Tracker.{new_tracker}
-use Rattle.mdi_items.specs.Frame.{Frame as MdiFrame}
-use Rattle.collect_laws.specs.Delivery.{got, newest_of}
-use Rattle.mod_delivery.specs.Given.{IsServed, IsServedWhere, IsItemBy, IsItemAt, AreGiven}
+use Rattle.collect_laws.specs.Delivery.{newest_of}
+use Rattle.mod_delivery.specs.Given.{IsServed, IsServedWhere, IsItemBy}
 use Rattle.mod_delivery.specs.Laws.{Delivering}
 use Rattle.dcp_pft.specs.Loss.{is_recoverable}
-use Rattle.mod_delivery.specs.Sent.{pairs_in, frame_at, frame_of_number, shape_at}
+use Rattle.mod_delivery.specs.Sent.{pairs_in, frame_of_number, shape_at}
 use Rattle.mod_delivery.proofs.Numbering.{frame_within}
 use Rattle.drm_data.specs.Packet.{Packet}
 use Rattle.drm_data.specs.Joining.{Event, Gap, State, made, closed}
 use Rattle.data_laws.specs.Runs.{answers, cuts_in}
-use Rattle.mod_feed.specs.Items.{Item, Missing}
-use Rattle.mod_feed.specs.Feeding.{FeedStep}
+use Rattle.mod_feed.specs.Items.{Item}
 use Rattle.capture_data.specs.Streams.{What, UnitsOf, stream_of, pieces_of, entries_of, entries_at}
 use Rattle.unpack_laws.specs.Frames.{Carried, came_of, packets_of, Brings, BringAll}
-use Rattle.unpack_laws.specs.Delivered.{CarriesAt, CarryFrom, is_given, is_given_at, carried_from, carried_by, together, UnpacksDeliveries}
+use Rattle.unpack_laws.specs.Delivered.{CarriesAt, CarryFrom, is_given, carried_from, carried_by, together, UnpacksDeliveries}
 use Rattle.unpack_laws.proofs.LostFrames.{Same, same_one, same_front, none_said}
 use Rattle.unpack_laws.proofs.Ends.{to_end, same_self, unpacked_by}
-use Rattle.unpack_laws.proofs.Numbered.{Fed, fed, run_from}
+use Rattle.unpack_laws.proofs.Places.{AreMissing, AreAt, first_at, next_at, kept_at, missing_by, place_next, none_before, all_behind, given_within, lost_past, lost_early, stream_served, placed}
 
 -- ---- a frame that is given
-
-stream_there : (k : ℕ) (frame : MdiFrame) (payload bytes : List ℕ) → k < frame.mux.count
-    → take (slice_index frame.streams.len k) (drop (slice_index frame.streams.at k) payload) ≡ bytes → stream_of k frame payload ≡ Some bytes
-stream_there k frame payload bytes there is =
-    let cut : List ℕ = take (slice_index frame.streams.len k) (drop (slice_index frame.streams.at k) payload) in
-    ap (λ b. cond b (Some cut) None) (lt-ltb k frame.mux.count there) ∙ ap Some is
 
 -- it brings its packets
 brings_served : (plan : Plan) (k id d t q : ℕ) (item : Item) (ps : List Packet) → CarriesAt plan k id d t ps → IsServed plan t q item → Brings (UnitsOf k id d) d true item ps
 brings_served plan k id d t q item ps carries served =
     let what : What = UnitsOf k id d in
-    let bytes : List ℕ = carries.bytes in
     let at = carries.stream in
     let config : served.is_frame.config ≡ at.config = same_Some served.is_frame.config at.config (sym served.is_frame.holds ∙ at.holds) in
-    let streams : List (List ℕ) = map (stream_bytes (t - 3 * at.config.start)) at.config.streams in
-    let parts : served.parts.streams ≡ streams = served.is_frame.streams ∙ ap (λ (c : Config). map (stream_bytes (t - 3 * c.start)) c.streams) config in
-    let within : k < length streams = slice_get_within streams k bytes at.is in
-    let many : served.parts.mux.count ≡ length at.config.streams = ap (λ (m : MuxDesc). m.count) served.is_frame.mux ∙ ap (λ (c : Config). length c.streams) config in
-    let described : k < served.parts.mux.count = omega (arith, within, many, length-map at.config.streams (stream_bytes (t - 3 * at.config.start))) in
-    let there : k < served.read.frame.mux.count = omega (arith, described, ap (λ (m : MuxDesc). m.count) served.read.mux) in
-    let is : slice_index_or served.parts.streams k [] ≡ bytes = ap (λ l. slice_index_or l k []) parts ∙ get_or_from_slice_get streams k bytes [] at.is in
-    let stream : stream_of k served.read.frame served.payload ≡ Some bytes = stream_there k served.read.frame served.payload bytes there (served.read.streams k described ∙ is) in
+    let stream : stream_of k served.read.frame served.payload ≡ Some carries.bytes =
+    stream_served plan k t q item served ∙ (ap (λ (c : Config). slice_get (map (stream_bytes (t - 3 * c.start)) c.streams) k) config ∙ at.is) in
     let cut : pieces_of what (stream_of k served.read.frame served.payload) ≡ Some carries.pieces = ap (pieces_of what) stream ∙ carries.cut in
     (carries.pieces, ap (entries_at what) served.item_is ∙ ap entries_of cut, carries.are)
 
@@ -107,12 +89,9 @@ lost_behind (frame ∷ frames) lost s =
     subst (λ b. Same s (Gap ∷ []) (came_of b frame.packets ++ to_end frames)) (sym lost.0)
     (same_one s Gap [] (to_end frames) (same_through (closed s) [] (Gap ∷ []) (to_end frames) (same_none s) (lost_front frames lost.1 s)))
 
--- an item that is missing
+-- a frame that is lost
 abbrev none_there : Carried
 none_there = record { given = false; packets = [] }
-
-abbrev AreMissing : List Item → Type 0
-AreMissing items = AllByRecursion (λ item. (q : ℕ) × (item ≡ Missing q 0 0)) items
 
 lost_items : (k id d : ℕ) (items : List Item) → AreMissing items → (shown : List Carried) × BringAll (UnitsOf k id d) d items shown × AllLost shown
 lost_items k id d [] are = ([], refl, tt)
@@ -126,92 +105,49 @@ as_closed : (k id d : ℕ) (items : List Item) (frames : List Carried) → Shows
 as_closed k id d items frames h = record { shown = h.shown; bring = h.bring; same = λ s. h.same (closed s) }
 
 module _ (plan : Plan) (window : ℕ) (base : ℤ) (pairs : List (ℕ × ℕ)) (end k id d : ℕ) where
-  abbrev kept_at : ℕ → ℕ → Bool
-  kept_at q = got window base pairs q
-
   abbrev carried : ℕ → List (List Packet) → List Carried
   carried t frames = carried_from plan window base pairs end t frames
 
-  -- the items from number q on
-  abbrev AreAt : ℕ → List Item → Type 0
-  AreAt q items = (i : ℕ) (item : Item) → slice_get items i ≡ Some item → IsItemAt plan window base pairs (q + i) item
-
-  first_at : (q : ℕ) (item : Item) (items : List Item) → AreAt q (item ∷ items) → IsItemAt plan window base pairs q item
-  first_at q item items are = subst (λ n. IsItemAt plan window base pairs n item) (omega arith) (are 0 item refl)
-
-  next_at : (q : ℕ) (item : Item) (items : List Item) → AreAt q (item ∷ items) → AreAt (q + 1) items
-  next_at q item items are = λ i one at. subst (λ n. IsItemAt plan window base pairs n one) (omega arith) (are (suc i) one at)
-
-  number_is : (t q : ℕ) → (base +ℤ pos q) ≡ pos t → (pos t -ℤ base) ≡ pos q
-  number_is t q place = omega (arith, ints, place)
-
-  place_next : (t q : ℕ) → (base +ℤ pos q) ≡ pos t → (base +ℤ pos (q + 1)) ≡ pos (t + 1)
-  place_next t q place = omega (arith, ints, place)
-
-  -- a frame with a number below the end is given where it can be made again; no other frame is
-  given_within : (t q : ℕ) → (base +ℤ pos q) ≡ pos t → q < end → is_given plan window base pairs end t ≡ is_recoverable (shape_at plan t) (kept_at q)
-  given_within t q place below =
-      ap (is_given_at plan window base pairs end t) (number_is t q place) ∙ ap (λ b. b && is_recoverable (shape_at plan t) (kept_at q)) (lt-ltb q end below)
-
-  lost_past : (t q : ℕ) → (base +ℤ pos q) ≡ pos t → end ≤ q → is_given plan window base pairs end t ≡ false
-  lost_past t q place past =
-      ap (is_given_at plan window base pairs end t) (number_is t q place) ∙ ap (λ b. b && is_recoverable (shape_at plan t) (kept_at q)) (le-ltb q end past)
-
-  lost_early : (t : ℕ) (z : ℤ) (n : ℕ) → (z +ℤ pos (n + 1)) ≡ pos 0 → is_given_at plan window base pairs end t z ≡ false
-  lost_early t (pos m) n e = absurd (omega (arith, ints, e))
-  lost_early t (negsuc m) n e = refl
+  abbrev are_at : ℕ → List Item → Type 0
+  are_at q items = AreAt plan window base pairs q items
 
   all_past : (t q : ℕ) (frames : List (List Packet)) → (base +ℤ pos q) ≡ pos t → end ≤ q → AllLost (carried t frames)
   all_past t q [] place past = tt
-  all_past t q (ps ∷ frames) place past = (lost_past t q place past, all_past (t + 1) (q + 1) frames (place_next t q place) (omega (arith, past)))
-
-  -- items of no frame of the schedule are missing
-  missing_by : (q : ℕ) (item : Item) → frame_of_number plan base q ≡ None → IsItemAt plan window base pairs q item → item ≡ Missing q 0 0
-  missing_by q item none is = subst (λ (o : Option ℕ). IsItemBy plan o q (kept_at q) item) none is
-
-  none_behind : (t q : ℕ) → (base +ℤ pos q) ≡ pos t → frame_count plan ≤ t → frame_of_number plan base q ≡ None
-  none_behind t q place past = ap (frame_at plan) place ∙ ap (λ b. cond b (Some t) None) (le-ltb t (frame_count plan) past)
-
-  all_behind : (t q : ℕ) (items : List Item) → (base +ℤ pos q) ≡ pos t → frame_count plan ≤ t → AreAt q items → AreMissing items
-  all_behind t q [] place past are = tt
-  all_behind t q (item ∷ items) place past are = (
-    (q, missing_by q item (none_behind t q place past) (first_at q item items are)),
-    all_behind (t + 1) (q + 1) items (place_next t q place) (omega (arith, past)) (next_at q item items are),
-  )
+  all_past t q (ps ∷ frames) place past = (lost_past plan window base pairs end t q place past, all_past (t + 1) (q + 1) frames (place_next base t q place) (omega (arith, past)))
 
   -- where item q is of frame t
   aligned : (t q : ℕ) (items : List Item) (frames : List (List Packet)) → (base +ℤ pos q) ≡ pos t → q + length items ≡ end → t + length frames ≡ frame_count plan
-      → CarryFrom plan k id d t frames → AreAt q items → Shows k id d (λ s. s) items (carried t frames)
+      → CarryFrom plan k id d t frames → are_at q items → Shows k id d (λ s. s) items (carried t frames)
   aligned t q [] frames place many all carry are =
       record { shown = []; bring = refl; same = lost_behind (carried t frames) (all_past t q frames place (omega (arith, many))) }
   aligned t q (item ∷ items) [] place many all carry are =
-      let lost = lost_items k id d (item ∷ items) (all_behind t q (item ∷ items) place (omega (arith, all)) are) in
+      let lost = lost_items k id d (item ∷ items) (all_behind plan window base pairs t q (item ∷ items) place (omega (arith, all)) are) in
       record { shown = lost.0; bring = lost.1; same = λ s. same_back s (Gap ∷ []) (to_end lost.0) (lost_behind lost.0 lost.2 s) }
   aligned t q (item ∷ items) (ps ∷ frames) place many all carry are =
-      let more = aligned (t + 1) (q + 1) items frames (place_next t q place) (omega (arith, many)) (omega (arith, all)) carry.1 (next_at q item items are) in
-      let b : Bool = is_recoverable (shape_at plan t) (kept_at q) in
+      let more = aligned (t + 1) (q + 1) items frames (place_next base t q place) (omega (arith, many)) (omega (arith, all)) carry.1 (next_at plan window base pairs q item items are) in
+      let b : Bool = is_recoverable (shape_at plan t) (kept_at plan window base pairs q) in
       let there : frame_of_number plan base q ≡ Some t = frame_within plan (base +ℤ pos q) t place (omega (arith, all)) in
       let brings : Brings (UnitsOf k id d) d b item ps =
-      brings_where b plan k id d t q (kept_at q) item ps carry.0 (subst (λ (o : Option ℕ). IsItemBy plan o q (kept_at q) item) there (first_at q item items are)) in
+      brings_where b plan k id d t q (kept_at plan window base pairs q) item ps carry.0 (subst (λ (o : Option ℕ). IsItemBy plan o q (kept_at plan window base pairs q) item) there (first_at plan window base pairs q item items are)) in
       record {
         shown = record { given = b; packets = ps } ∷ more.shown;
         bring = (brings, more.bring);
         same = λ s. subst (λ c. Same s (came_of b ps ++ to_end more.shown) (came_of c ps ++ to_end (carried (t + 1) frames)))
-            (sym (given_within t q place (omega (arith, many))))
+            (sym (given_within plan window base pairs end t q place (omega (arith, many))))
             (same_came b ps s (to_end more.shown) (to_end (carried (t + 1) frames)) more.same);
       }
 
   -- where the first item is of a frame behind t
   from_later : (n t : ℕ) (items : List Item) (frames : List (List Packet)) → base ≡ pos (t + n) → length items ≡ end → t + length frames ≡ frame_count plan
-      → CarryFrom plan k id d t frames → AreAt 0 items → Shows k id d closed items (carried t frames)
+      → CarryFrom plan k id d t frames → are_at 0 items → Shows k id d closed items (carried t frames)
   from_later zero t items frames at many all carry are =
       as_closed k id d items (carried t frames) (aligned t 0 items frames (omega (arith, ints, at)) (omega (arith, many)) all carry are)
   from_later (suc n) t items [] at many all carry are =
-      let lost = lost_items k id d items (all_behind (t + suc n) 0 items (omega (arith, ints, at)) (omega (arith, all)) are) in
+      let lost = lost_items k id d items (all_behind plan window base pairs (t + suc n) 0 items (omega (arith, ints, at)) (omega (arith, all)) are) in
       record { shown = lost.0; bring = lost.1; same = λ s. same_back (closed s) (Gap ∷ []) (to_end lost.0) (lost_front lost.0 lost.2 s) }
   from_later (suc n) t items (ps ∷ frames) at many all carry are =
       let more = from_later n (t + 1) items frames (omega (arith, ints, at)) many (omega (arith, all)) carry.1 are in
-      let lost : is_given plan window base pairs end t ≡ false = lost_early t (pos t -ℤ base) n (omega (arith, ints, at)) in
+      let lost : is_given plan window base pairs end t ≡ false = lost_early plan window base pairs end t (pos t -ℤ base) n (omega (arith, ints, at)) in
       record {
         shown = more.shown;
         bring = more.bring;
@@ -221,27 +157,23 @@ module _ (plan : Plan) (window : ℕ) (base : ℤ) (pairs : List (ℕ × ℕ)) (
 
   -- where the first items are of no frame
   from_earlier : (m q : ℕ) (items : List Item) (frames : List (List Packet)) → (base +ℤ pos (q + m)) ≡ pos 0 → q + length items ≡ end → length frames ≡ frame_count plan
-      → CarryFrom plan k id d 0 frames → AreAt q items → Shows k id d closed items (carried 0 frames)
+      → CarryFrom plan k id d 0 frames → are_at q items → Shows k id d closed items (carried 0 frames)
   from_earlier zero q items frames place many all carry are =
       as_closed k id d items (carried 0 frames) (aligned 0 q items frames (omega (arith, ints, place)) many (omega (arith, all)) carry are)
   from_earlier (suc m) q [] frames place many all carry are =
       record { shown = []; bring = refl; same = lost_front (carried 0 frames) (all_past 0 (q + suc m) frames place (omega (arith, many))) }
   from_earlier (suc m) q (item ∷ items) frames place many all carry are =
-      let more = from_earlier m (q + 1) items frames (omega (arith, ints, place)) (omega (arith, many)) all carry (next_at q item items are) in
-      let none : frame_of_number plan base q ≡ None = none_before (base +ℤ pos q) m (omega (arith, ints, place)) in
+      let more = from_earlier m (q + 1) items frames (omega (arith, ints, place)) (omega (arith, many)) all carry (next_at plan window base pairs q item items are) in
+      let none : frame_of_number plan base q ≡ None = none_before plan (base +ℤ pos q) m (omega (arith, ints, place)) in
       record {
         shown = none_there ∷ more.shown;
-        bring = (ap (entries_at (UnitsOf k id d)) (missing_by q item none (first_at q item items are)), more.bring);
+        bring = (ap (entries_at (UnitsOf k id d)) (missing_by plan window base pairs q item none (first_at plan window base pairs q item items are)), more.bring);
         same = λ s. same_back (closed s) (to_end (carried 0 frames)) (Gap ∷ to_end more.shown)
             (same_gap s (to_end (carried 0 frames)) (to_end more.shown) (same_back (closed s) (to_end more.shown) (to_end (carried 0 frames)) (more.same s)));
       }
-    where
-      none_before : (z : ℤ) (m : ℕ) → (z +ℤ pos (m + 1)) ≡ pos 0 → frame_at plan z ≡ None
-      none_before (pos n) m e = absurd (omega (arith, ints, e))
-      none_before (negsuc n) m e = refl
 
   shows_all : (z : ℤ) (items : List Item) (frames : List (List Packet)) → base ≡ z → length items ≡ end → length frames ≡ frame_count plan
-      → CarryFrom plan k id d 0 frames → AreAt 0 items → Shows k id d closed items (carried 0 frames)
+      → CarryFrom plan k id d 0 frames → are_at 0 items → Shows k id d closed items (carried 0 frames)
   shows_all (pos n) items frames at many all carry are = from_later n 0 items frames (omega (arith, ints, at)) many (omega (arith, all)) carry are
   shows_all (negsuc n) items frames at many all carry are = from_earlier (n + 1) 0 items frames (omega (arith, ints, at)) (omega (arith, many)) all carry are
 
@@ -249,27 +181,12 @@ module _ (plan : Plan) (window : ℕ) (base : ℤ) (pairs : List (ℕ × ℕ)) (
   packets_are t [] = refl
   packets_are t (ps ∷ frames) = ap (λ l. ps ++ l) (packets_are (t + 1) frames)
 
--- the item of a step, by its place among the items
-step_at : (steps : List FeedStep) (q : ℕ) (item : Item) → slice_get (map (λ (s : FeedStep). s.item) steps) q ≡ Some item
-    → (step : FeedStep) × (slice_get steps q ≡ Some step) × (step.item ≡ item)
-step_at [] q item at = absurd (let none : None ≡ Some item = at in cc)
-step_at (step ∷ steps) zero item at = (step, refl, (let same : step.item ≡ item = cc in same))
-step_at (step ∷ steps) (suc q) item at = step_at steps q item at
-
 pub unpacks_deliveries : Delivering → UnpacksDeliveries
 unpacks_deliveries delivering plan window first told base arrivals datagrams answers collected k id d units frames items text clean is some followed carries run are whole =
     let pairs : List (ℕ × ℕ) = pairs_in arrivals in
     let end : ℕ = end_of told (newest_of base None pairs) in
-    let steps : Fed new_tracker collected items = fed new_tracker collected items (run_from window first told datagrams answers collected run) are in
-    let given : AreGiven plan window base told pairs steps.steps =
-    (delivering plan window first told base arrivals datagrams answers collected steps.steps steps.after is some followed run steps.feeds).0 in
-    let many : length items ≡ end = ap length (sym steps.items_are) ∙ (length-map steps.steps (λ (s : FeedStep). s.item) ∙ given.many) in
-    let at_each : (q : ℕ) (item : Item) → slice_get items q ≡ Some item → IsItemAt plan window base pairs q item =
-    λ q item at.
-    let step = step_at steps.steps q item (ap (λ l. slice_get l q) steps.items_are ∙ at) in
-    subst (λ one. IsItemAt plan window base pairs q one) step.2 (given.items q step.0 step.1) in
-    let shows = shows_all plan window base pairs end k id d base items frames refl many carries.all carries.carry
-    (λ q item at. subst (λ n. IsItemAt plan window base pairs n item) (omega arith) (at_each q item at)) in
+    let at = placed plan window first told base arrivals datagrams answers collected items delivering is some followed run are in
+    let shows = shows_all plan window base pairs end k id d base items frames refl at.many carries.all carries.carry at.at in
     unpacked_by k id d units (carried_by plan window base told pairs frames) shows.shown items text clean carries.some_length carries.are_units
     (packets_are plan window base pairs end k id d 0 frames ∙ carries.packets_are)
     shows.bring (shows.same (made id d)) whole

@@ -3,4 +3,7 @@ pub mod Kept
 pub mod LostFrames
 pub mod Ends
 pub mod Numbered
+pub mod Places
 pub mod Deliveries
+pub mod TextReadings
+pub mod TextDeliveries

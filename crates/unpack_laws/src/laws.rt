@@ -2,8 +2,10 @@
 
 ghost use Rattle.unpack_laws.specs.Delivered.{UnpacksDeliveries};
 ghost use Rattle.unpack_laws.specs.Laws.{GivesWhatFramesBring, UnpacksWhatIsWhole};
+ghost use Rattle.unpack_laws.specs.Texts.{TextsOfDeliveries};
 
 use mod_delivery::modulators_give;
+use text_laws::joins_messages;
 
 /// Of the packets of units in frames, some of which are lost, a joiner gives those units of which all frames are given.
 pub fn gives_what_frames_bring()
@@ -20,4 +22,12 @@ pub fn unpacks_deliveries()
     ensures { UnpacksDeliveries }
 {
     modulators_give();
+}
+
+/// Of a delivery of any schedule, what is printed of the messages of a stream is just those in the frames that are given.
+pub fn texts_of_deliveries()
+    ensures { TextsOfDeliveries }
+{
+    modulators_give();
+    joins_messages();
 }

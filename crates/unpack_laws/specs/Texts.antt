@@ -1,0 +1,52 @@
+-- What `texts` prints of a delivery of a schedule.
+use Rattle.std.specs.Prelude.{ℕ, ℤ, ◌≡◌, ◌-◌, ◌*◌, ◌/◌, ◌≤◌, ◌==◌, Bool, true, false, ◌&&◌, List, [], ◌∷◌, ◌++◌, length, map, slice_get, decimal, Option, None, Some}
+use Rattle.std.specs.List.{range_with_len, flat_map}
+use Rattle.drm_schedule.specs.declared.config.Config.{Config}
+use Rattle.drm_schedule.specs.declared.plan.Plan.{Plan}
+use Rattle.drm_schedule.specs.Valid.{IsSchedule}
+use Rattle.drm_schedule.specs.Contents.{stream_bytes}
+use Rattle.drm_timeline.specs.Standing.{config_of}
+use Rattle.drm_timeline.specs.Numbers.{frame_count}
+use Rattle.dcp_collect.specs.declared.taken.Taken.{Taken}
+use Rattle.dcp_collect.specs.Numbers.{end_of}
+use Rattle.dcp_collect.specs.Runs.{Item as Collected, Run}
+use Rattle.collect_laws.specs.Delivery.{newest_of}
+use Rattle.mod_delivery.specs.Sent.{Arrival, pairs_in, IsFollowed}
+use Rattle.text_laws.specs.Readings.{Reading, AreMessages}
+use Rattle.mod_feed.specs.Items.{Item}
+use Rattle.capture_data.specs.Streams.{TextsOf, pieces_of, entries_of, bad_in, missing_in}
+use Rattle.capture_data.specs.Lines.{text_line, texts_end_text}
+use Rattle.capture_data.specs.Printed.{AreItems, IsWholeText}
+use Rattle.unpack_laws.specs.Delivered.{is_given}
+
+-- the bytes of stream k in frame t of the schedule, where it has that stream
+abbrev pub bytes_in : ℕ → ℕ → Option Config → Option (List ℕ)
+bytes_in k t None = None
+bytes_in k t (Some config) = slice_get (map (stream_bytes (t - 3 * config.start)) config.streams) k
+
+-- What a frame is in a reading: the piece at the end of its stream, if it is given and has one; else a gap.
+abbrev pub entries_where : Bool → Plan → (k t : ℕ) → Reading
+entries_where true plan k t = entries_of (pieces_of (TextsOf k) (bytes_in k t (config_of plan (t / 3))))
+entries_where false plan k t = None ∷ []
+
+-- all frames of the schedule, in order, where a reading ends at the told number, or behind the newest one
+abbrev pub entries_by : Plan → ℕ → ℤ → Option ℕ → List (ℕ × ℕ) → ℕ → Reading
+entries_by plan window base told pairs k =
+    flat_map (λ t. entries_where (is_given plan window base pairs (end_of told (newest_of base None pairs)) t) plan k t) (range_with_len 0 (frame_count plan))
+
+-- The text is a line for each message in the reading, in order, and the last line.
+pub record ShowsMessages (k : ℕ) (reading : Reading) (items : List Item) (text : List ℕ) (clean : Bool) : Type 0 where
+  pub messages : List (List ℕ)
+  pub are : AreMessages [] reading messages
+  pub text_is : text ≡ flat_map text_line messages ++ texts_end_text (decimal (length messages)) (decimal (missing_in items)) (decimal (bad_in (TextsOf k) items))
+  pub clean_is : clean ≡ ((bad_in (TextsOf k) items == 0) && (missing_in items == 0))
+
+-- Of a delivery of any schedule, with any strays in it, what is printed of a stream is exactly the messages in the frames that are given,
+-- with a gap for each other frame.
+abbrev pub TextsOfDeliveries : Type 0
+TextsOfDeliveries =
+    (plan : Plan) (window : ℕ) (first told : Option ℕ) (base : ℤ) (arrivals : List Arrival) (datagrams : List (List ℕ))
+    (answers : List Taken) (collected : List Collected) (k : ℕ) (items : List Item) (text : List ℕ) (clean : Bool)
+    → IsSchedule plan → 1 ≤ window → IsFollowed plan first base arrivals datagrams → Run window first told datagrams answers collected
+    → AreItems collected items → IsWholeText (TextsOf k) items text clean
+    → ShowsMessages k (entries_by plan window base told (pairs_in arrivals) k) items text clean
