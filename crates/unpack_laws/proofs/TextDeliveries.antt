@@ -1,8 +1,9 @@
 -- The items of a delivery make the reading of the frames that are given, but for gaps at its ends.
-use Rattle.std.proofs.Common.{◌≡◌, ◌∙◌, ℕ, zero, suc, ◌+◌, ◌-◌, ◌≤◌, ◌/◌, Bool, true, false, cond, List, [], ◌∷◌, ◌++◌, length, drop, Option, None, Some, refl, sym, ap, subst, arith}
+use Rattle.std.proofs.Common.{◌≡◌, ◌∙◌, ℕ, zero, suc, ◌+◌, ◌-◌, ◌≤◌, ◌/◌, ◌==◌, Bool, true, false, cond, ◌&&◌, List, [], ◌∷◌, ◌++◌, length, drop, Option, None, Some, refl, sym, ap, subst, arith}
 use Rattle.std.specs.Prelude.{ℤ, pos, negsuc, ◌+ℤ◌, ◌-ℤ◌, nat_le}
 use Rattle.std.specs.List.{AllByRecursion, flat_map, range_with_len}
 use Rattle.std.proofs.lemmas.Int.{ints}
+use Rattle.std.proofs.lemmas.Bool.Decides.{nat_tests}
 use Rattle.std.proofs.lemmas.List.{length-drop}
 use Rattle.std.proofs.lemmas.Bool.{leb-true}
 use Rattle.drm_schedule.specs.declared.plan.Plan.{Plan}
@@ -19,12 +20,12 @@ use Rattle.mod_delivery.specs.Given.{IsServed, IsServedWhere, IsItemBy}
 use Rattle.mod_delivery.specs.Laws.{Delivering}
 use Rattle.mod_delivery.specs.Sent.{pairs_in, frame_of_number, shape_at}
 use Rattle.mod_delivery.proofs.Numbering.{frame_within}
-use Rattle.mod_feed.specs.Items.{Item}
-use Rattle.capture_data.specs.Streams.{TextsOf, pieces_of, entries_of, entries_at, reading}
+use Rattle.mod_feed.specs.Items.{Item, Frame, Missing, Bad}
+use Rattle.capture_data.specs.Streams.{TextsOf, stream_of, pieces_of, entries_of, entries_at, lacking, bad_at, missing_at, reading, bad_in, missing_in}
 use Rattle.unpack_laws.specs.Delivered.{is_given}
-use Rattle.unpack_laws.specs.Texts.{bytes_in, entries_where, entries_by, TextsOfDeliveries}
+use Rattle.unpack_laws.specs.Texts.{bytes_in, entries_where, entries_by, piece_count, TextsOfDeliveries}
 use Rattle.unpack_laws.proofs.Places.{AreMissing, AreAt, first_at, next_at, kept_at, missing_by, place_next, none_before, all_behind, given_within, lost_past, lost_early, stream_served, placed}
-use Rattle.unpack_laws.proofs.TextReadings.{GiveTheSame, AreGaps, same_front, gap_off, gap_on, gaps_off, gaps_on}
+use Rattle.unpack_laws.proofs.TextReadings.{piece_count-append, GiveTheSame, AreGaps, same_front, gap_off, gap_on, gaps_off, gaps_on}
 
 -- ---- one item
 
@@ -140,6 +141,29 @@ entries_all plan window base pairs end k t (suc n) =
     all_join IsEntry (entries_where (is_given plan window base pairs end t) plan k t) (entries_from plan window base pairs end k (t + 1) n)
     (entries_where_all (is_given plan window base pairs end t) plan k t) (entries_all plan window base pairs end k (t + 1) n)
 
+-- ---- each item is a piece, or bad, or missing
+
+one_piece : (bytes : List ℕ) (b : Bool) → (o : Option (List (List ℕ))) → o ≡ cond b (Some (drop (length bytes - 4) bytes ∷ [])) None → lacking o + piece_count (entries_of o) ≡ 1
+one_piece bytes true o is = ap (λ p. lacking p + piece_count (entries_of p)) is
+one_piece bytes false o is = ap (λ p. lacking p + piece_count (entries_of p)) is
+
+stream_counted : (k : ℕ) (bytes : Option (List ℕ)) → lacking (pieces_of (TextsOf k) bytes) + piece_count (entries_of (pieces_of (TextsOf k) bytes)) ≡ 1
+stream_counted k None = refl
+stream_counted k (Some bytes) = one_piece bytes (nat_le 4 (length bytes)) (pieces_of (TextsOf k) (Some bytes)) refl
+
+item_counted : (k : ℕ) (item : Item) → bad_at (TextsOf k) item + missing_at item + piece_count (entries_at (TextsOf k) item) ≡ 1
+item_counted k (Frame q frame payload) = omega (arith, stream_counted k (stream_of k frame payload))
+item_counted k (Missing q had total) = refl
+item_counted k (Bad q fault) = refl
+
+all_counted : (k : ℕ) (items : List Item) → bad_in (TextsOf k) items + missing_in items + piece_count (reading (TextsOf k) items) ≡ length items
+all_counted k [] = refl
+all_counted k (item ∷ items) =
+    omega (arith, item_counted k item, all_counted k items, piece_count-append (entries_at (TextsOf k) item) (reading (TextsOf k) items))
+
+clean_by : (bad missing pieces end : ℕ) → bad + missing + pieces ≡ end → ((bad == 0) && (missing == 0)) ≡ (pieces == end)
+clean_by bad missing pieces end is = grind (arith, nat_tests)
+
 -- ---- what is printed
 
 pub texts_of_deliveries : JoinsMessages → Delivering → TextsOfDeliveries
@@ -147,11 +171,13 @@ texts_of_deliveries joins delivering plan window first told base arrivals datagr
     let pairs : List (ℕ × ℕ) = pairs_in arrivals in
     let end : ℕ = end_of told (newest_of base None pairs) in
     let at = placed plan window first told base arrivals datagrams answers collected items delivering is some followed run are in
-    let frames : Reading = entries_by plan window base told pairs k in
-    let gives = same_all plan window base pairs end k base items refl at.many at.at said left runs in
+    let frames : Reading = entries_by plan window base pairs end k in
+    let same = same_all plan window base pairs end k base items refl at.many at.at in
+    let gives = same.gives said left runs in
+    let counted : bad_in (TextsOf k) items + missing_in items + piece_count frames ≡ end = omega (arith, all_counted k items, same.many, at.many) in
     record {
       messages = messages_in said;
       are = (joins frames gives.told (messages_in said) gives.left (entries_all plan window base pairs end k 0 (frame_count plan)) gives.runs).1 gives.same;
       text_is = text_is;
-      clean_is = clean_is;
+      clean_is = clean_is ∙ clean_by (bad_in (TextsOf k) items) (missing_in items) (piece_count frames) end counted;
     }

@@ -1,9 +1,10 @@
 -- A joiner of messages gives the same of two readings that differ by gaps at their ends.
-use Rattle.std.proofs.Common.{◌≡◌, ◌∙◌, ℕ, List, [], ◌∷◌, ◌++◌, Option, None, Some, refl, sym, ap, subst}
+use Rattle.std.proofs.Common.{◌≡◌, ◌∙◌, ℕ, ◌+◌, List, [], ◌∷◌, ◌++◌, Option, None, Some, refl, sym, ap, subst, arith}
 use Rattle.std.specs.List.{AllByRecursion}
 use Rattle.drm_text.specs.Joining.{State, made, after}
 use Rattle.text_laws.specs.Readings.{Reading}
 use Rattle.text_laws.specs.Runs.{Runs, with_message, messages_in}
+use Rattle.unpack_laws.specs.Texts.{piece_count}
 
 -- a run over a reading that gives the messages of these texts
 pub record Gives (s : State) (reading : Reading) (texts : List (Option (List ℕ))) : Type 0 where
@@ -12,38 +13,59 @@ pub record Gives (s : State) (reading : Reading) (texts : List (Option (List ℕ
   pub runs : Runs s reading told left
   pub same : messages_in texts ≡ messages_in told
 
--- whatever a run over the first gives, one over the second gives
-abbrev pub GiveTheSame : State → Reading → Reading → Type 0
-GiveTheSame s xs ys = (texts : List (Option (List ℕ))) (left : State) → Runs s xs texts left → Gives s ys texts
+-- Whatever a run over the first gives, one over the second gives. They have as many pieces.
+pub record GiveTheSame (s : State) (xs ys : Reading) : Type 0 where
+  pub gives : (texts : List (Option (List ℕ))) (left : State) → Runs s xs texts left → Gives s ys texts
+  pub many : piece_count xs ≡ piece_count ys
 
 abbrev pub AreGaps : Reading → Type 0
 AreGaps reading = AllByRecursion (λ x. x ≡ None) reading
 
-pub same_front : (front : Reading) (s : State) (xs ys : Reading) → ((t : State) → GiveTheSame t xs ys) → GiveTheSame s (front ++ xs) (front ++ ys)
-same_front [] s xs ys h texts left run = h s texts left run
-same_front (None ∷ front) s xs ys h [] left run = absurd run
-same_front (None ∷ front) s xs ys h (text ∷ texts) left run =
-    let more = same_front front made xs ys h texts left run.1 in
+give_front : (front : Reading) (s : State) (xs ys : Reading) → ((t : State) → GiveTheSame t xs ys) → (texts : List (Option (List ℕ))) (left : State)
+    → Runs s (front ++ xs) texts left → Gives s (front ++ ys) texts
+give_front [] s xs ys h texts left run = (h s).gives texts left run
+give_front (None ∷ front) s xs ys h [] left run = absurd run
+give_front (None ∷ front) s xs ys h (text ∷ texts) left run =
+    let more = give_front front made xs ys h texts left run.1 in
     record { told = text ∷ more.told; left = more.left; runs = (run.0, more.runs); same = ap (with_message text) more.same }
-same_front (Some piece ∷ front) s xs ys h [] left run = absurd run
-same_front (Some piece ∷ front) s xs ys h (text ∷ texts) left (read, reads, gives, rest) =
-    let more = same_front front (after s piece read) xs ys h texts left rest in
+give_front (Some piece ∷ front) s xs ys h [] left run = absurd run
+give_front (Some piece ∷ front) s xs ys h (text ∷ texts) left (read, reads, gives, rest) =
+    let more = give_front front (after s piece read) xs ys h texts left rest in
     record { told = text ∷ more.told; left = more.left; runs = (read, reads, gives, more.runs); same = ap (with_message text) more.same }
+
+pub piece_count-append : (xs ys : Reading) → piece_count (xs ++ ys) ≡ piece_count xs + piece_count ys
+piece_count-append [] ys = omega arith
+piece_count-append (None ∷ xs) ys = piece_count-append xs ys
+piece_count-append (Some piece ∷ xs) ys = omega (arith, piece_count-append xs ys)
+
+pub same_front : (front : Reading) (s : State) (xs ys : Reading) → ((t : State) → GiveTheSame t xs ys) → GiveTheSame s (front ++ xs) (front ++ ys)
+same_front front s xs ys h = record {
+  gives = give_front front s xs ys h;
+  many = piece_count-append front xs ∙ (ap (λ n. piece_count front + n) (h s).many ∙ sym (piece_count-append front ys));
+}
 
 -- a gap gives nothing, and a new joiner is new behind it
 pub gap_off : (xs ys : Reading) → GiveTheSame made xs ys → GiveTheSame made (None ∷ xs) ys
-gap_off xs ys h [] left run = absurd run
-gap_off xs ys h (text ∷ texts) left run =
-    let more = h texts left run.1 in
-    record { told = more.told; left = more.left; runs = more.runs; same = ap (λ o. with_message o (messages_in texts)) run.0 ∙ more.same }
+gap_off xs ys h = record { gives = gives; many = h.many }
+  where
+    gives : (texts : List (Option (List ℕ))) (left : State) → Runs made (None ∷ xs) texts left → Gives made ys texts
+    gives [] left run = absurd run
+    gives (text ∷ texts) left run =
+        let more = h.gives texts left run.1 in
+        record { told = more.told; left = more.left; runs = more.runs; same = ap (λ o. with_message o (messages_in texts)) run.0 ∙ more.same }
 
 gap_before : (s : State) (ys : Reading) (texts : List (Option (List ℕ))) → Gives made ys texts → Gives s (None ∷ ys) texts
 gap_before s ys texts more = record { told = None ∷ more.told; left = more.left; runs = (refl, more.runs); same = more.same }
 
 pub gap_on : (xs ys : Reading) → GiveTheSame made xs ys → GiveTheSame made xs (None ∷ ys)
-gap_on xs ys h texts left run = gap_before made ys texts (h texts left run)
+gap_on xs ys h = record { gives = λ texts left run. gap_before made ys texts (h.gives texts left run); many = h.many }
 
 -- only gaps
+
+no_pieces : (reading : Reading) → AreGaps reading → piece_count reading ≡ 0
+no_pieces [] are = refl
+no_pieces (None ∷ reading) are = no_pieces reading are.1
+no_pieces (Some piece ∷ reading) are = absurd (let none : Some piece ≡ None = are.0 in cc)
 
 quiet : (s : State) (xs : Reading) (texts : List (Option (List ℕ))) (left : State) → AreGaps xs → Runs s xs texts left → messages_in texts ≡ []
 quiet s [] texts left are run = ap messages_in run.0
@@ -52,7 +74,10 @@ quiet s (None ∷ xs) (text ∷ texts) left are run = ap (λ o. with_message o (
 quiet s (Some piece ∷ xs) texts left are run = absurd (let none : Some piece ≡ None = are.0 in cc)
 
 pub gaps_off : (s : State) (xs : Reading) → AreGaps xs → GiveTheSame s xs []
-gaps_off s xs are texts left run = record { told = []; left = s; runs = (refl, refl); same = quiet s xs texts left are run }
+gaps_off s xs are = record {
+  gives = λ texts left run. record { told = []; left = s; runs = (refl, refl); same = quiet s xs texts left are run };
+  many = no_pieces xs are;
+}
 
 quiet_run : (s : State) (ys : Reading) → AreGaps ys → Gives s ys []
 quiet_run s [] are = record { told = []; left = s; runs = (refl, refl); same = refl }
@@ -60,4 +85,7 @@ quiet_run s (None ∷ ys) are = gap_before s ys [] (quiet_run made ys are.1)
 quiet_run s (Some piece ∷ ys) are = absurd (let none : Some piece ≡ None = are.0 in cc)
 
 pub gaps_on : (s : State) (ys : Reading) → AreGaps ys → GiveTheSame s [] ys
-gaps_on s ys are texts left run = let none : texts ≡ [] = run.0 in subst (Gives s ys) (sym none) (quiet_run s ys are)
+gaps_on s ys are = record {
+  gives = λ texts left run. let none : texts ≡ [] = run.0 in subst (Gives s ys) (sym none) (quiet_run s ys are);
+  many = sym (no_pieces ys are);
+}

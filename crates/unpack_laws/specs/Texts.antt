@@ -1,5 +1,5 @@
 -- What `texts` prints of a delivery of a schedule.
-use Rattle.std.specs.Prelude.{ℕ, ℤ, ◌≡◌, ◌-◌, ◌*◌, ◌/◌, ◌≤◌, ◌==◌, Bool, true, false, ◌&&◌, List, [], ◌∷◌, ◌++◌, length, map, slice_get, decimal, Option, None, Some}
+use Rattle.std.specs.Prelude.{ℕ, ℤ, ◌≡◌, ◌+◌, ◌-◌, ◌*◌, ◌/◌, ◌≤◌, ◌==◌, Bool, true, false, List, [], ◌∷◌, ◌++◌, length, map, slice_get, decimal, Option, None, Some}
 use Rattle.std.specs.List.{range_with_len, flat_map}
 use Rattle.drm_schedule.specs.declared.config.Config.{Config}
 use Rattle.drm_schedule.specs.declared.plan.Plan.{Plan}
@@ -29,24 +29,31 @@ abbrev pub entries_where : Bool → Plan → (k t : ℕ) → Reading
 entries_where true plan k t = entries_of (pieces_of (TextsOf k) (bytes_in k t (config_of plan (t / 3))))
 entries_where false plan k t = None ∷ []
 
--- all frames of the schedule, in order, where a reading ends at the told number, or behind the newest one
-abbrev pub entries_by : Plan → ℕ → ℤ → Option ℕ → List (ℕ × ℕ) → ℕ → Reading
-entries_by plan window base told pairs k =
-    flat_map (λ t. entries_where (is_given plan window base pairs (end_of told (newest_of base None pairs)) t) plan k t) (range_with_len 0 (frame_count plan))
+-- all frames of the schedule, in order
+abbrev pub entries_by : Plan → ℕ → ℤ → List (ℕ × ℕ) → (end k : ℕ) → Reading
+entries_by plan window base pairs end k = flat_map (λ t. entries_where (is_given plan window base pairs end t) plan k t) (range_with_len 0 (frame_count plan))
 
--- The text is a line for each message in the reading, in order, and the last line.
-pub record ShowsMessages (k : ℕ) (reading : Reading) (items : List Item) (text : List ℕ) (clean : Bool) : Type 0 where
+abbrev pub piece_count : Reading → ℕ
+piece_count [] = 0
+piece_count (None ∷ reading) = piece_count reading
+piece_count (Some piece ∷ reading) = 1 + piece_count reading
+
+-- The text is a line for each message in the reading, in order, and the last line. It is clean exactly where each number up to the end
+-- brought a piece.
+pub record ShowsMessages (k end : ℕ) (reading : Reading) (items : List Item) (text : List ℕ) (clean : Bool) : Type 0 where
   pub messages : List (List ℕ)
   pub are : AreMessages [] reading messages
   pub text_is : text ≡ flat_map text_line messages ++ texts_end_text (decimal (length messages)) (decimal (missing_in items)) (decimal (bad_in (TextsOf k) items))
-  pub clean_is : clean ≡ ((bad_in (TextsOf k) items == 0) && (missing_in items == 0))
+  pub clean_is : clean ≡ (piece_count reading == end)
 
 -- Of a delivery of any schedule, with any strays in it, what is printed of a stream is exactly the messages in the frames that are given,
--- with a gap for each other frame.
+-- with a gap for each other frame. A reading ends at the told number, or behind the newest one.
 abbrev pub TextsOfDeliveries : Type 0
 TextsOfDeliveries =
     (plan : Plan) (window : ℕ) (first told : Option ℕ) (base : ℤ) (arrivals : List Arrival) (datagrams : List (List ℕ))
     (answers : List Taken) (collected : List Collected) (k : ℕ) (items : List Item) (text : List ℕ) (clean : Bool)
     → IsSchedule plan → 1 ≤ window → IsFollowed plan first base arrivals datagrams → Run window first told datagrams answers collected
     → AreItems collected items → IsWholeText (TextsOf k) items text clean
-    → ShowsMessages k (entries_by plan window base told (pairs_in arrivals) k) items text clean
+    → let pairs : List (ℕ × ℕ) = pairs_in arrivals in
+    let end : ℕ = end_of told (newest_of base None pairs) in
+    ShowsMessages k end (entries_by plan window base pairs end k) items text clean
