@@ -1,4 +1,4 @@
-use Rattle.std.proofs.Common.{ℕ, inr, List, subst, arith}
+use Rattle.std.proofs.Common.{inr, List, subst, arith}
 use Rattle.path_command.specs.declared.job.PathJob.{PathJob}
 use Rattle.path_command.specs.Links.{EndsLinks}
 use Rattle.path_command.proofs.Linking.{AreNew, are_new, each_new}
