@@ -1,13 +1,15 @@
 -- One read of an input.
-use Rattle.std.proofs.Common.{◌≡◌, ◌≢◌, ℕ, ◌+◌, ◌-◌, ◌<◌, ◌≤◌, List, [], ◌++◌, length, take, min, max, sym, subst, ap, ◌∙◌, refl, arith, append_assoc, length-append}
+use Rattle.std.proofs.Common.{◌≡◌, ℕ, ◌+◌, ◌-◌, ◌<◌, ◌≤◌, List, ◌++◌, length, take, min, max, Err, sym, subst, ap, ◌∙◌, arith, append_assoc, length-append}
 use Rattle.std.proofs.lemmas.List.{take-take, take_all, take-append-le, length-take-le}
 use Rattle.drm_links.specs.Told.{Known, WhileTold, CountsCall}
-use Rattle.drm_links.specs.Source.{Input, Inputs, Takes}
+use Rattle.drm_links.specs.Source.{Input, Takes}
 use Rattle.drm_links.specs.declared.source.ReadOut.TheVariants.{Got}
-use Rattle.drm_links.proofs.ToldLemmas.{Inputs-got, Inputs-weaker}
+use Rattle.drm_links.proofs.ToldLemmas.{Inputs-got, Inputs-then, Inputs-weaker}
 use Rattle.drm_capture.specs.Capture.{most_bytes}
 use Rattle.drm_capture.specs.Walking.{WalkerState, IsCut, after_put}
-use Rattle.drm_capture.specs.Fetching.{Fetched, IsFull}
+use Rattle.drm_capture.specs.declared.packets.CaptureStop.{CaptureStop}
+use Rattle.drm_capture.specs.declared.packets.CaptureStop.TheVariants as stop
+use Rattle.drm_capture.specs.Fetching.{Fetched, IsFull, Fetches, Finds}
 use Rattle.drm_capture.proofs.FrontLaws.{cut_size}
 
 -- the front of a room that was written
@@ -52,3 +54,29 @@ fetch_long old new a b n taken buf same count none few some whole told counts =
             (λ x y e. (take n buf, omega (arith, long, some), ap (λ l. old.held ++ l) e ∙ ap (λ (w : WalkerState). w.held ++ (take n buf ++ y)) (sym same)));
       },
     )
+
+-- ---- one read behind others
+
+fetched_then : (old mid new : WalkerState) (a b c : Known Input) → Fetched old mid a b → Fetched mid new b c → Fetched old new a c
+fetched_then old mid new a b c first second = record {
+  at = second.at ∙ first.at;
+  few = second.few;
+  room = omega (arith, first.room, second.room);
+  bytes = Inputs-then (λ left rest. old.held ++ left ≡ mid.held ++ rest) (λ left rest. mid.held ++ left ≡ new.held ++ rest) (λ left rest. old.held ++ left ≡ new.held ++ rest)
+      a b c first.bytes second.bytes (λ x y z p q. p ∙ q);
+}
+
+full_then : (old mid new : WalkerState) (a b c : Known Input) → Fetched old mid a b → IsFull mid new b c → IsFull old new a c
+full_then old mid new a b c first second = record {
+  at = second.at ∙ first.at;
+  full = second.full;
+  more = Inputs-then (λ left rest. old.held ++ left ≡ mid.held ++ rest) (λ left rest. (more : List ℕ) × (0 < length more) × (mid.held ++ left ≡ new.held ++ (more ++ rest)))
+      (λ left rest. (more : List ℕ) × (0 < length more) × (old.held ++ left ≡ new.held ++ (more ++ rest)))
+      a b c first.bytes second.more (λ x y z p q. (q.0, q.1, p ∙ q.2));
+}
+
+-- the last one fails
+pub finds_broken : (old mid new : WalkerState) (a b c : Known Input) (why : CaptureStop) → Fetched old mid a b → IsCut mid → Fetches (Err why) mid new b c → Finds (Err why) old new a c
+finds_broken old mid new a b c stop.Read first cut (same, second) = (fetched_then old mid new a b c first second, subst IsCut (sym same) cut)
+finds_broken old mid new a b c (stop.Capture fault) first cut never = absurd never
+finds_broken old mid new a b c stop.TooLong first cut (same, second) = (full_then old mid new a b c first second, subst IsCut (sym same) cut)

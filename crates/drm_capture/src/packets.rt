@@ -64,11 +64,13 @@ impl Packets {
         Ok(Packets { walker, room })
     }
 
-    /// Reads until the next packet is whole, or the input ends behind the last one: whether there is a next packet.
+    /// Reads until the next packet is whole, or the input ends behind the last one: whether there is a next packet. Where it is
+    /// whole already nothing is read, so a packet that came over a pipe doesn't wait for what comes behind it.
     pub fn find<I: Source>(&mut self, input: &mut I) -> Result<bool, CaptureStop>
         ensures more { (packets : List (List ℕ)) (before : Known Input) → HasRead packets self.old before (I.known input.old)
             → (result ≡ Err CaptureStop.TooLong → ⊥) → HasRead packets self.new before (I.known input.new) }
         ensures found { result ≡ Ok true → HasNext self.new }
+        ensures still { HasNext self.old → (result ≡ Ok true) × (self.new ≡ self.old) × (input.new ≡ input.old) }
         ensures ended { (packets : List (List ℕ)) (before : Known Input) → HasRead packets self.old before (I.known input.old)
             → result ≡ Ok false → Inputs before (I.known input.new) (λ left rest. IsCaptureOf left packets End) }
         ensures stops { (packets : List (List ℕ)) (before : Known Input) → HasRead packets self.old before (I.known input.old)
@@ -95,6 +97,7 @@ impl Packets {
     // Reads until it is known what becomes of the bytes held.
     fn seek<I: Source>(&mut self, input: &mut I) -> Result<bool, CaptureStop>
         ensures finds { Finds result self.old self.new (I.known input.old) (I.known input.new) }
+        ensures still { HasNext self.old → (result ≡ Ok true) × (self.new ≡ self.old) × (input.new ≡ input.old) }
         ensures cause { HasCause (I.known input.old) (I.known input.new) (result ≡ Err CaptureStop.Read) }
     {
         let _ = &self.walker;
