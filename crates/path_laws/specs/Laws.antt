@@ -1,0 +1,74 @@
+-- What the report of several paths says of a delivery, and what several paths bring.
+use Rattle.std.specs.Prelude.{ℕ, ℤ, pos, ◌≡◌, ◌<◌, ◌⊎◌, Bool, true, List, length, None, Some}
+use Rattle.std.specs.List.{AllZip}
+use Rattle.drm_schedule.specs.declared.plan.Plan.{Plan}
+use Rattle.drm_schedule.specs.Valid.{IsSchedule}
+use Rattle.drm_timeline.specs.Numbers.{frame_count}
+use Rattle.dcp_collect.specs.declared.taken.Taken.{Taken}
+use Rattle.dcp_collect.specs.State.{State, made}
+use Rattle.dcp_collect.specs.Runs.{Item, Steps}
+use Rattle.mod_feed.specs.Feeding.{FeedStep}
+use Rattle.mod_delivery.specs.Sent.{Arrival, IsArrival, pairs_in, IsFollowed, IsInTime}
+use Rattle.mod_delivery.specs.Given.{AreGiven, AreAllServed}
+use Rattle.mod_receiver.specs.Headline.{GivesInTime, PrintsFrames, TellsSwitches, strays}
+use Rattle.mod_receiver.specs.Reports.{report, is_clean}
+use Rattle.path_book.specs.declared.settings.Settings.{Settings}
+use Rattle.path_book.specs.Journal.{AreInRange, datagrams}
+use Rattle.path_book.specs.Report.{word_for, IsReportOf}
+use Rattle.drm_paths.specs.State.{AreNumbered}
+use Rattle.drm_paths.specs.Closing.{of_path}
+
+-- ---- the report
+
+-- A new collector that takes these datagrams, and gives all that is ready after each, has given so many items.
+abbrev pub HasGiven : Settings → List (List ℕ) → ℕ → Type 0
+HasGiven by came many = (taken : List Taken) × (items : List Item) × (mid : State) × Steps (made by.window by.first) came taken items mid × (length items ≡ many)
+
+-- The text is the report of what a delivery of a schedule calls for: of what was refused it names the strays, and last it says
+-- whether the told number of frames was given before all paths had ended.
+pub record ReportsDelivery (plan : Plan) (by : Settings) (base : ℤ) (arrivals : List Arrival) (came : List (List ℕ)) (text : List ℕ) (clean : Bool) : Type 0 where
+  pub steps : List FeedStep
+  pub given : AreGiven plan by.window base by.frames (pairs_in arrivals) steps
+  pub in_time : GivesInTime plan by.window base (pairs_in arrivals) steps
+  pub printed : PrintsFrames plan steps
+  pub switches : TellsSwitches plan base steps
+  pub many : ℕ
+  pub before_the_end : HasGiven by came many
+  pub text_is : text ≡ report 1 steps (strays arrivals) (word_for by.frames many)
+  pub clean_is : clean ≡ is_clean steps
+
+-- Whatever delivery of whatever valid schedule came over the paths: their report is that of what it calls for.
+abbrev pub ReportsDeliveries : Type 0
+ReportsDeliveries =
+    (plan : Plan) (by : Settings) (base : ℤ) (arrivals : List Arrival) (came : List (List ℕ)) (text : List ℕ) (clean : Bool)
+    → IsSchedule plan → AreInRange by → IsFollowed plan by.first base arrivals came → IsReportOf by came text clean
+    → ReportsDelivery plan by base arrivals came text clean
+
+-- It is the report of all frames of the schedule, each the server's, and nothing is missing.
+pub record ReportsAllFrames (plan : Plan) (by : Settings) (arrivals : List Arrival) (came : List (List ℕ)) (text : List ℕ) (clean : Bool) : Type 0 where
+  pub reports : ReportsDelivery plan by (pos 0) arrivals came text clean
+  pub count : length reports.steps ≡ frame_count plan
+  pub all : AreAllServed plan (pos 0) reports.steps
+  pub nothing_missing : clean ≡ true
+
+-- Whatever delivery came over the paths, from the schedule's first frame on and with each frame in time: all frames are given,
+-- whether their number is told or not.
+abbrev pub ReportsAll : Type 0
+ReportsAll =
+    (plan : Plan) (by : Settings) (arrivals : List Arrival) (came : List (List ℕ)) (text : List ℕ) (clean : Bool)
+    → IsSchedule plan → AreInRange by → (by.frames ≡ None) ⊎ (by.frames ≡ Some (frame_count plan))
+    → IsFollowed plan by.first (pos 0) arrivals came
+    → ((q : ℕ) → q < frame_count plan → IsInTime plan by.window (pos 0) (pairs_in arrivals) q)
+    → IsReportOf by came text clean → ReportsAllFrames plan by arrivals came text clean
+
+-- ---- the paths
+
+-- the datagrams are a delivery of the schedule, with any strays in it
+abbrev pub IsDelivery : Plan → List (List ℕ) → Type 0
+IsDelivery plan came = (arrivals : List Arrival) × AllZip (IsArrival plan) arrivals came
+
+-- Where what came over each path is a delivery of the schedule, all entries of these paths are, in whatever order.
+abbrev pub MixedPathsAreOneDelivery : Type 0
+MixedPathsAreOneDelivery =
+    (plan : Plan) (paths : ℕ) (entries : List (ℕ × List ℕ)) → AreNumbered paths entries
+    → ((k : ℕ) → k < paths → IsDelivery plan (of_path k entries)) → IsDelivery plan (datagrams entries)

@@ -1,0 +1,25 @@
+//! The laws of several paths, each on a function that does nothing.
+
+ghost use Rattle.path_laws.specs.Laws.{ReportsDeliveries, ReportsAll, MixedPathsAreOneDelivery};
+
+use mod_receiver::laws_of_deliveries;
+
+/// The report of several paths is that of what their delivery calls for: the server's frames, with its switches.
+pub fn paths_report_deliveries()
+    ensures { ReportsDeliveries }
+{
+    laws_of_deliveries();
+}
+
+/// Where each frame is in time, over whatever paths its datagrams came, it is that of all frames.
+pub fn paths_report_all_frames()
+    ensures { ReportsAll }
+{
+    laws_of_deliveries();
+    paths_report_deliveries();
+}
+
+/// Where each path brings a delivery of a schedule, all of them together do, however they are mixed.
+pub fn mixed_paths_are_one_delivery()
+    ensures { MixedPathsAreOneDelivery }
+{}
