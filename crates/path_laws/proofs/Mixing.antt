@@ -1,30 +1,56 @@
 -- Deliveries over several paths, mixed in any way.
-use Rattle.std.proofs.Common.{ℕ, suc, ◌≡◌, ◌==◌, if◌then◌else◌, Bool, true, false, List, [], ◌∷◌, subst, arith}
+use Rattle.std.proofs.Common.{ℕ, suc, ◌≡◌, ◌==◌, if◌then◌else◌, Bool, true, false, List, [], ◌∷◌, refl, sym, ◌∙◌, ap, subst, arith}
+use Rattle.std.specs.List.{AllZip}
 use Rattle.std.proofs.lemmas.Bool.Decides.{nat_tests}
 use Rattle.drm_schedule.specs.declared.plan.Plan.{Plan}
 use Rattle.mod_delivery.specs.Sent.{Arrival, IsArrival}
 use Rattle.drm_paths.specs.Closing.{of_path}
-use Rattle.path_laws.specs.Laws.{IsDelivery, MixedPathsAreOneDelivery}
+use Rattle.path_laws.specs.Laws.{arrivals_of, MixedPathsAreOneDelivery}
 
--- the first datagram of a delivery, and the delivery without it
-first_of : (plan : Plan) (datagram : List ℕ) (came : List (List ℕ)) → IsDelivery plan (datagram ∷ came) → (a : Arrival) × IsArrival plan a datagram
-first_of plan datagram came ([], each) = absurd each
-first_of plan datagram came (a ∷ arrivals, each) = (a, each.0)
+-- what stands for a list that isn't empty
+first_of : (plan : Plan) (arrivals : List Arrival) (datagram : List ℕ) (came : List (List ℕ)) → AllZip (IsArrival plan) arrivals (datagram ∷ came)
+    → (a : Arrival) × (rest : List Arrival) × (arrivals ≡ a ∷ rest) × IsArrival plan a datagram
+first_of plan [] datagram came are = absurd are
+first_of plan (a ∷ rest) datagram came are = (a, rest, refl, are.0)
 
-without : (plan : Plan) (datagram : List ℕ) (came : List (List ℕ)) (mine : Bool) → IsDelivery plan (if mine then datagram ∷ came else came) → IsDelivery plan came
-without plan datagram came true ([], each) = absurd each
-without plan datagram came true (a ∷ arrivals, each) = (arrivals, each.1)
-without plan datagram came false delivery = delivery
+-- the arrivals of a path without those of the first entry, where that is one of the path's own
+abbrev behind : Bool → List Arrival → List Arrival
+behind true (a ∷ arrivals) = arrivals
+behind true [] = []
+behind false arrivals = arrivals
 
-own : (k : ℕ) → (k == k) ≡ true
-own k = grind (arith, nat_tests)
+behind_are : (plan : Plan) (mine : Bool) (arrivals : List Arrival) (datagram : List ℕ) (came : List (List ℕ))
+    → AllZip (IsArrival plan) arrivals (if mine then datagram ∷ came else came) → AllZip (IsArrival plan) (behind mine arrivals) came
+behind_are plan true [] datagram came are = absurd are
+behind_are plan true (a ∷ arrivals) datagram came are = are.1
+behind_are plan false arrivals datagram came are = are
+
+-- with the first entry's before them they are all of the path's
+put_before : (mine : Bool) (a : Arrival) (rest arrivals later : List Arrival) → (mine ≡ true → arrivals ≡ a ∷ rest) → later ≡ behind mine arrivals → (if mine then a ∷ later else later) ≡ arrivals
+put_before true a rest arrivals later own same = ap (λ l. a ∷ l) (same ∙ ap (behind true) (own refl)) ∙ sym (own refl)
+put_before false a rest arrivals later own same = same
+
+is_own : (k : ℕ) → (k == k) ≡ true
+is_own k = grind (arith, nat_tests)
+
+same_path : (k j : ℕ) → (k == j) ≡ true → k ≡ j
+same_path k j same = grind (arith, nat_tests)
+
+none_of : (plan : Plan) (arrivals : List Arrival) → AllZip (IsArrival plan) arrivals [] → [] ≡ arrivals
+none_of plan [] are = refl
+none_of plan (a ∷ arrivals) are = absurd are
 
 pub mixed : MixedPathsAreOneDelivery
-mixed plan paths [] numbered each = ([], tt)
-mixed plan paths ((k, datagram) ∷ entries) numbered each =
-    let mine = of_path k entries in
-    let (a, is) =
-    first_of plan datagram mine (subst (λ (b : Bool). IsDelivery plan (if b then datagram ∷ mine else mine)) (own k) (each k (numbered 0 (k, datagram) (omega arith)))) in
-    let (arrivals, are) =
-    mixed plan paths entries (λ j e less. numbered (suc j) e (omega (arith, less))) (λ j within. without plan datagram (of_path j entries) (k == j) (each j within)) in
-    (a ∷ arrivals, (is, are))
+mixed plan paths [] each numbered are = ([], tt, λ k within. none_of plan (each k) (are k within))
+mixed plan paths ((k, datagram) ∷ entries) each numbered are =
+    let mine : AllZip (IsArrival plan) (each k) (datagram ∷ of_path k entries) =
+    subst (λ (b : Bool). AllZip (IsArrival plan) (each k) (if b then datagram ∷ of_path k entries else of_path k entries)) (is_own k) (are k (numbered 0 (k, datagram) (omega arith))) in
+    let (a, rest, own, is) = first_of plan (each k) datagram (of_path k entries) mine in
+    let (arrivals, come, stand) =
+    mixed plan paths entries (λ j. behind (k == j) (each j)) (λ j e less. numbered (suc j) e (omega (arith, less)))
+    (λ j within. behind_are plan (k == j) (each j) datagram (of_path j entries) (are j within)) in (
+      a ∷ arrivals,
+      (is, come),
+      λ j within.
+          put_before (k == j) a rest (each j) (arrivals_of j entries arrivals) (λ same. subst (λ (n : ℕ). each n ≡ a ∷ rest) (same_path k j same) own) (stand j within),
+    )

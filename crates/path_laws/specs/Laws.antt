@@ -1,5 +1,5 @@
 -- What the report of several paths says of a delivery, and what several paths bring.
-use Rattle.std.specs.Prelude.{ℕ, ℤ, pos, ◌≡◌, ◌<◌, ◌⊎◌, Bool, true, List, length, None, Some}
+use Rattle.std.specs.Prelude.{ℕ, ℤ, pos, ◌≡◌, ◌<◌, ◌==◌, ◌⊎◌, if◌then◌else◌, Bool, true, List, [], ◌∷◌, length, None, Some}
 use Rattle.std.specs.List.{AllZip}
 use Rattle.drm_schedule.specs.declared.plan.Plan.{Plan}
 use Rattle.drm_schedule.specs.Valid.{IsSchedule}
@@ -63,12 +63,15 @@ ReportsAll =
 
 -- ---- the paths
 
--- the datagrams are a delivery of the schedule, with any strays in it
-abbrev pub IsDelivery : Plan → List (List ℕ) → Type 0
-IsDelivery plan came = (arrivals : List Arrival) × AllZip (IsArrival plan) arrivals came
+-- those of the arrivals of these entries that came over path k, in their order
+abbrev pub arrivals_of : ℕ → List (ℕ × List ℕ) → List Arrival → List Arrival
+arrivals_of k (e ∷ entries) (a ∷ arrivals) = if e.0 == k then a ∷ arrivals_of k entries arrivals else arrivals_of k entries arrivals
+arrivals_of k entries arrivals = []
 
--- Where what came over each path is a delivery of the schedule, all entries of these paths are, in whatever order.
+-- Where what came over each path is a delivery of the schedule, with any strays in it, all entries of these paths are one, in
+-- whatever order: of each path it has the arrivals of that path's delivery, in their order.
 abbrev pub MixedPathsAreOneDelivery : Type 0
 MixedPathsAreOneDelivery =
-    (plan : Plan) (paths : ℕ) (entries : List (ℕ × List ℕ)) → AreNumbered paths entries
-    → ((k : ℕ) → k < paths → IsDelivery plan (of_path k entries)) → IsDelivery plan (datagrams entries)
+    (plan : Plan) (paths : ℕ) (entries : List (ℕ × List ℕ)) (each : ℕ → List Arrival) → AreNumbered paths entries
+    → ((k : ℕ) → k < paths → AllZip (IsArrival plan) (each k) (of_path k entries))
+    → (arrivals : List Arrival) × AllZip (IsArrival plan) arrivals (datagrams entries) × ((k : ℕ) → k < paths → arrivals_of k entries arrivals ≡ each k)
