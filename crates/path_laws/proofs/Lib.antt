@@ -1,2 +1,3 @@
 pub mod Reporting
 pub mod Mixing
+pub mod AnyOrder

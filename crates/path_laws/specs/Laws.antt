@@ -1,5 +1,5 @@
 -- What the report of several paths says of a delivery, and what several paths bring.
-use Rattle.std.specs.Prelude.{ℕ, ℤ, pos, ◌≡◌, ◌<◌, ◌==◌, ◌⊎◌, if◌then◌else◌, Bool, true, List, [], ◌∷◌, length, None, Some}
+use Rattle.std.specs.Prelude.{ℕ, ℤ, pos, ◌≡◌, ◌<◌, ◌≤◌, ◌==◌, ◌⊎◌, if◌then◌else◌, Bool, true, List, [], ◌∷◌, length, None, Some}
 use Rattle.std.specs.List.{AllZip}
 use Rattle.drm_schedule.specs.declared.plan.Plan.{Plan}
 use Rattle.drm_schedule.specs.Valid.{IsSchedule}
@@ -75,3 +75,10 @@ MixedPathsAreOneDelivery =
     (plan : Plan) (paths : ℕ) (entries : List (ℕ × List ℕ)) (each : ℕ → List Arrival) → AreNumbered paths entries
     → ((k : ℕ) → k < paths → AllZip (IsArrival plan) (each k) (of_path k entries))
     → (arrivals : List Arrival) × AllZip (IsArrival plan) arrivals (datagrams entries) × ((k : ℕ) → k < paths → arrivals_of k entries arrivals ≡ each k)
+
+-- A receiver that is told the schedule's first number can follow each delivery of a schedule of at most 32,768 frames, in
+-- whatever order it comes.
+abbrev pub FollowedInAnyOrder : Type 0
+FollowedInAnyOrder =
+    (plan : Plan) (arrivals : List Arrival) (came : List (List ℕ)) → frame_count plan ≤ 32768
+    → AllZip (IsArrival plan) arrivals came → IsFollowed plan (Some plan.seq) (pos 0) arrivals came

@@ -1,6 +1,6 @@
 //! The laws of several paths, each on a function that does nothing.
 
-ghost use Rattle.path_laws.specs.Laws.{ReportsDeliveries, ReportsAll, MixedPathsAreOneDelivery};
+ghost use Rattle.path_laws.specs.Laws.{ReportsDeliveries, ReportsAll, MixedPathsAreOneDelivery, FollowedInAnyOrder};
 
 use mod_receiver::laws_of_deliveries;
 
@@ -22,4 +22,9 @@ pub fn paths_report_all_frames()
 /// Where each path brings a delivery of a schedule, all of them together do, however they are mixed.
 pub fn mixed_paths_are_one_delivery()
     ensures { MixedPathsAreOneDelivery }
+{}
+
+/// Each delivery of a schedule of at most 32,768 frames can be followed from its first frame, in whatever order it comes.
+pub fn short_schedules_are_followed_in_any_order()
+    ensures { FollowedInAnyOrder }
 {}

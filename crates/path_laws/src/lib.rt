@@ -4,4 +4,7 @@
 
 mod laws;
 
-pub use laws::{mixed_paths_are_one_delivery, paths_report_all_frames, paths_report_deliveries};
+pub use laws::{
+    mixed_paths_are_one_delivery, paths_report_all_frames, paths_report_deliveries,
+    short_schedules_are_followed_in_any_order,
+};

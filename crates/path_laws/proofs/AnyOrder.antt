@@ -1,0 +1,38 @@
+-- Schedules so short that no number is too far from another one.
+use Rattle.std.proofs.Common.{ℕ, ◌≡◌, ◌<◌, ◌≤◌, List, [], ◌∷◌, Option, None, Some, ap, subst, sym, arith}
+use Rattle.std.specs.Prelude.{pos, unwrap_or}
+use Rattle.std.specs.List.{AllZip}
+use Rattle.std.proofs.lemmas.Int.{ints}
+use Rattle.dcp_collect.specs.Numbers.{newer}
+use Rattle.collect_laws.specs.Delivery.{number, newer_number, IsWithinSpan}
+use Rattle.drm_schedule.specs.declared.plan.Plan.{Plan}
+use Rattle.drm_timeline.specs.Numbers.{frame_count}
+use Rattle.mod_delivery.specs.Sent.{Arrival, OfSchedule, Stray, IsArrival, pairs_in}
+use Rattle.path_laws.specs.Laws.{FollowedInAnyOrder}
+
+from_first : (pair : ℕ × ℕ) → number (pos 0) pair ≡ pos pair.0
+from_first pair = omega (arith, ints)
+
+newer_below : (newest : Option ℕ) (n limit : ℕ) → unwrap_or newest 0 < limit → n < limit → unwrap_or (newer newest n) 0 < limit
+newer_below None n limit low below = below
+newer_below (Some m) n limit low below = omega (arith, low, below)
+
+within_span : (plan : Plan) (newest : Option ℕ) (arrivals : List Arrival) (came : List (List ℕ)) → frame_count plan ≤ 32768 → unwrap_or newest 0 < 32768
+    → AllZip (IsArrival plan) arrivals came → IsWithinSpan (pos 0) newest (pairs_in arrivals)
+within_span plan newest [] came short low are = tt
+within_span plan newest (a ∷ arrivals) [] short low are = absurd are
+within_span plan newest (Stray cause ∷ arrivals) (datagram ∷ came) short low are = within_span plan newest arrivals came short low are.1
+within_span plan newest (OfSchedule pair ∷ arrivals) (datagram ∷ came) short low are =
+    let below : pair.0 < 32768 = omega (arith, short, are.0.within) in
+    let here : newer_number newest (number (pos 0) pair) ≡ newer newest pair.0 = ap (newer_number newest) (from_first pair) in (
+      omega (arith, ints, below),
+      omega (arith, ints, low),
+      within_span plan (newer_number newest (number (pos 0) pair)) arrivals came short (subst (λ o. unwrap_or o 0 < 32768) (sym here) (newer_below newest pair.0 32768 low below)) are.1,
+    )
+
+pub followed_in_any_order : FollowedInAnyOrder
+followed_in_any_order plan arrivals came short are = record {
+  arrive = are;
+  based = (pos 0, omega (arith, ints));
+  within_span = within_span plan None arrivals came short (omega arith) are;
+}
