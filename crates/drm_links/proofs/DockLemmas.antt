@@ -173,7 +173,7 @@ reached_told result at before after counts reaches leaves =
 -- ---- a link that is closed
 
 closes_by : (traffic : Option Traffic) (at : Address) (before after : DockContents)
-    → after ≡ record before { gone = with_told (λ t. t.gone) traffic (address_key at) before.gone; rests = with_told rests_of traffic (address_key at) before.rests; calls = before.calls + 1 }
+    → after ≡ record before { answers = with_told (λ t. t.answers) traffic (address_key at) before.answers; gone = with_told (λ t. t.gone) traffic (address_key at) before.gone; rests = with_told rests_of traffic (address_key at) before.rests; calls = before.calls + 1 }
     → Closes traffic at before after
 closes_by None at before after is = is
 closes_by (Some traffic) at before after is = is

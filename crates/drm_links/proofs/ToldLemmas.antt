@@ -1,9 +1,9 @@
 -- What is told, over one call and over several.
-use Rattle.std.proofs.Common.{◌≡◌, ℕ, ◌+◌, ◌≤◌, inl, inr, List, [], ◌++◌, take, Option, None, Some, IsSome, MatchOption, refl, sym, ◌∙◌, ap, arith, append_assoc}
+use Rattle.std.proofs.Common.{◌≡◌, ℕ, ◌+◌, List, [], ◌++◌, take, Option, None, Some, IsSome, MatchOption, Result, Ok, Err, IsErr, refl, sym, ◌∙◌, ap, arith, append_assoc}
 use Rattle.std.proofs.lemmas.List.{append-nil}
 use Rattle.drm_links.specs.declared.sink.WriteOut.TheVariants.{Wrote, Failed}
 use Rattle.drm_links.specs.declared.source.ReadOut.TheVariants as read
-use Rattle.drm_links.specs.Told.{Known, WhileTold, CountsCall, BothTold, CountsTold, ToldThrough, Tells, Rose}
+use Rattle.drm_links.specs.Told.{Known, WhileTold, CountsCall, BothTold, CountsTold, ToldThrough, Tells, Counts, one_more}
 use Rattle.drm_links.specs.Sink.{Output, WritesText, Outputs, Appends}
 use Rattle.drm_links.specs.Source.{Input, LeftBy, Inputs, Takes}
 use Rattle.drm_links.specs.Shelf.{Files, Supplies, Loads, KeepsFiles, after_one}
@@ -16,15 +16,43 @@ use Rattle.std.specs.FinMap as map
 use Rattle.std.specs.FinMap.{gets}
 use Rattle.std.proofs.lemmas.Grind.{common_steps}
 
--- ---- counts that rise
+-- ---- counts
 
-pub Rose-later : (a b c : ℕ) → Rose a b → b ≤ c → Rose a c
-Rose-later a b c (inl more) later = inl (omega arith)
-Rose-later a b c (inr last) later = inr (omega arith)
+-- It happened.
+pub counts_one : {H : Type 0} {a b : ℕ} → H → b ≡ one_more a → Counts a b H
+counts_one here rose = record { once = λ _. rose; same = λ none. absurd (none here) }
 
-pub later-Rose : (a b c : ℕ) → a ≤ b → Rose b c → Rose a c
-later-Rose a b c later (inl more) = inl (omega arith)
-later-Rose a b c later (inr last) = inr last
+-- It didn't.
+pub counts_none : {H : Type 0} {a b : ℕ} → (H → ⊥) → b ≡ a → Counts a b H
+counts_none none same = record { once = λ here. absurd (none here); same = λ _. same }
+
+-- It didn't happen before.
+pub counts_then : {H : Type 0} {a b c : ℕ} → b ≡ a → Counts b c H → Counts a c H
+counts_then before counts = record { once = λ here. counts.once here ∙ ap one_more before; same = λ none. counts.same none ∙ before }
+
+-- It doesn't happen afterwards.
+pub then_counts : {H : Type 0} {a b c : ℕ} → Counts a b H → c ≡ b → Counts a c H
+then_counts counts after = record { once = λ here. after ∙ counts.once here; same = λ none. after ∙ counts.same none }
+
+-- It happens exactly where something else does.
+pub counts_as : {G H : Type 0} {a b : ℕ} → (H → G) → (G → H) → Counts a b G → Counts a b H
+counts_as to from counts = record { once = λ here. counts.once (to here); same = λ none. counts.same (λ there. none (from there)) }
+
+-- It rose once, and stood still before.
+pub once_then : {a b c : ℕ} → b ≡ a → c ≡ one_more b → c ≡ one_more a
+once_then before rose = rose ∙ ap one_more before
+
+-- A call that is done hasn't failed, and one with a fault has.
+pub done_is_no_fault : {T E : Type 0} {r : Result T E} {done : T} → r ≡ Ok done → IsErr r → ⊥
+done_is_no_fault {r = Ok same} is failed = cc
+done_is_no_fault {r = Err fault} is failed = cc
+
+pub done_counts : {T E : Type 0} {r : Result T E} {done : T} {a b : ℕ} → r ≡ Ok done → Counts a b (IsErr r) → b ≡ a
+done_counts is counts = counts.same (done_is_no_fault is)
+
+pub failed_counts : {T E : Type 0} {r : Result T E} {fault : E} {a b : ℕ} → r ≡ Err fault → Counts a b (IsErr r) → b ≡ one_more a
+failed_counts {r = Ok done} is counts = cc
+failed_counts {r = Err same} is counts = counts.once refl
 
 -- ---- what is told at all
 
@@ -159,7 +187,10 @@ started (Some s) traffic starts = (s, refl, starts)
 pub Opens-started : {L : Type 0} (known : L → Known Traffic) (at : Address) (link : L) (before after : DockContents) → Opens known at (opened.Link link) before after → (s : LinkStart) × (start_at before at ≡ Some s) × ((known link).told ≡ Some (first_traffic s))
 Opens-started known at link before after opens = started (start_at before at) (known link).told opens.1
 
--- What had gone over a link that still told stands at its address once it was closed, and how long it had rested.
+-- What a link had answered that still told stands at its address once it was closed, what had gone over it, and how long it had rested.
+pub Closes-answers : (traffic : Traffic) (at : Address) (before after : DockContents) → Closes (Some traffic) at before after → map.get after.answers (address_key at) ≡ Some traffic.answers
+Closes-answers traffic at before after closes = rw closes (grind (arith, gets, common_steps))
+
 pub Closes-gone : (traffic : Traffic) (at : Address) (before after : DockContents) → Closes (Some traffic) at before after → map.get after.gone (address_key at) ≡ Some traffic.gone
 Closes-gone traffic at before after closes = rw closes (grind (arith, gets, common_steps))
 

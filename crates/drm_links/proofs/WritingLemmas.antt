@@ -1,13 +1,13 @@
 -- Texts that are written one after another.
-use Rattle.std.proofs.Common.{◌≡◌, ℕ, ◌≤◌, List, ◌++◌, Result, Ok, Err, IsErr, refl, sym, ◌∙◌, ap, arith, append_assoc}
+use Rattle.std.proofs.Common.{◌≡◌, ℕ, List, ◌++◌, Result, Ok, Err, IsErr, refl, sym, ◌∙◌, ap, append_assoc}
 use Rattle.drm_links.specs.Told.{Known, HasCause}
-use Rattle.drm_links.specs.Sink.{Output, Outputs, IsFront, Writes}
-use Rattle.drm_links.proofs.ToldLemmas.{later-Rose, Outputs-then, Outputs-weaker}
+use Rattle.drm_links.specs.Sink.{Output, Outputs, IsFront, IsFrontBehind, Writes}
+use Rattle.drm_links.proofs.ToldLemmas.{counts_one, counts_none, once_then, counts_then, Outputs-then, Outputs-weaker}
 
 -- all of the text was written
-pub Writes-whole : {E : Type 0} (text : List ℕ) (a b : Known Output) → Outputs a b (λ t. t ≡ text) → a.faults ≤ b.faults
+pub Writes-whole : {E : Type 0} (text : List ℕ) (a b : Known Output) → Outputs a b (λ t. t ≡ text) → b.faults ≡ a.faults
     → (let done : Result (Unit {0}) E = Ok tt in Writes done a b text)
-Writes-whole text a b written later = record { whole = written; front = tt; cause = record { later = later; rose = λ failed. cc } }
+Writes-whole text a b written same = record { whole = written; front = tt; cause = counts_none (λ failed. cc) same }
 
 -- a front of the first text is a front of both
 pub Writes-cut : {E F : Type 0} (s t : List ℕ) (a b : Known Output) (r : Result (Unit {0}) E) (other : E) (fault : F) → r ≡ Err other → Writes r a b s
@@ -19,7 +19,7 @@ Writes-cut s t a b (Err same) other fault is writes =
       front =
           Outputs-weaker (IsFront s) (IsFront (s ++ t)) a b writes.front
           (λ text (rest, is_t). (rest ++ t, ap (λ l. l ++ t) is_t ∙ append_assoc text rest t));
-      cause = record { later = writes.cause.later; rose = λ failed. writes.cause.rose refl };
+      cause = counts_one refl (writes.cause.once refl);
     }
 
 -- the second text behind the first one, which was written whole
@@ -32,7 +32,7 @@ Writes-then s t a b c (Ok so) (Ok done) _ is writes second =
           Outputs-then (λ text. text ≡ s) (λ text. text ≡ t) (λ text. text ≡ s ++ t) a b c writes.whole second.whole
           (λ x y is_x is_y. ap (λ l. l ++ y) is_x ∙ ap (λ l. s ++ l) is_y);
       front = tt;
-      cause = record { later = omega (arith, writes.cause.later, second.cause.later); rose = λ failed. cc };
+      cause = counts_then (writes.cause.same (λ failed. cc)) second.cause;
     }
 Writes-then s t a b c (Ok so) (Err fault) done is writes second =
     record {
@@ -40,17 +40,14 @@ Writes-then s t a b c (Ok so) (Err fault) done is writes second =
       front =
           Outputs-then (λ text. text ≡ s) (IsFront t) (IsFront (s ++ t)) a b c writes.whole second.front
           (λ x y is_x (rest, is_y). (rest, ap (λ l. l ++ t) (sym is_x) ∙ (ap (λ l. x ++ l) is_y ∙ sym (append_assoc x y rest))));
-      cause = record {
-        later = omega (arith, writes.cause.later, second.cause.later);
-        rose = λ failed. later-Rose a.faults b.faults c.faults writes.cause.later (second.cause.rose failed);
-      };
+      cause = counts_then (writes.cause.same (λ failed. cc)) second.cause;
     }
 
 -- what was written, and a front of what is left
 pub Writes-broken : {E F : Type 0} (whole s rest : List ℕ) (a b c : Known Output) (r : Result (Unit {0}) E) (other : E) (fault : F) → Outputs a b (λ text. text ++ (s ++ rest) ≡ whole)
-    → a.faults ≤ b.faults → r ≡ Err other → Writes r b c s → (let broken : Result (Unit {0}) F = Err fault in Writes broken a c whole)
-Writes-broken whole s rest a b c (Ok done) other fault first later is second = cc
-Writes-broken whole s rest a b c (Err same) other fault first later is second =
+    → b.faults ≡ a.faults → r ≡ Err other → Writes r b c s → (let broken : Result (Unit {0}) F = Err fault in Writes broken a c whole)
+Writes-broken whole s rest a b c (Ok done) other fault first still is second = cc
+Writes-broken whole s rest a b c (Err other') other fault first still is second =
     record {
       whole = tt;
       front =
@@ -61,10 +58,7 @@ Writes-broken whole s rest a b c (Err same) other fault first later is second =
                 ∙ (ap (λ l. x ++ (l ++ rest)) is_y
                 ∙ (ap (λ l. x ++ l) (append_assoc y left rest) ∙ sym (append_assoc x y (left ++ rest)))),
           ));
-      cause = record {
-        later = omega (arith, later, second.cause.later);
-        rose = λ failed. later-Rose a.faults b.faults c.faults later (second.cause.rose refl);
-      };
+      cause = counts_one refl (once_then still (second.cause.once refl));
     }
 
 -- what was written, and the next part of what is left
@@ -85,15 +79,16 @@ Writes-front {r = Ok done} is writes = cc
 Writes-front {r = Err same} is writes = writes.front
 
 -- a front of a text, where the call failed
-pub Writes-part : {E F : Type 0} (text : List ℕ) (a b c : Known Output) (r : Result (Unit {0}) E) (other : E) (fault : F) → Outputs a c (IsFront text) → a.faults ≤ b.faults → r ≡ Err other
+pub Writes-part : {E F : Type 0} (text : List ℕ) (a b c : Known Output) (r : Result (Unit {0}) E) (other : E) (fault : F) → Outputs a c (IsFront text) → b.faults ≡ a.faults → r ≡ Err other
     → HasCause b c (IsErr r) → (let broken : Result (Unit {0}) F = Err fault in Writes broken a c text)
-Writes-part text a b c (Ok done) other fault front later is cause = cc
-Writes-part text a b c (Err same) other fault front later is cause =
+Writes-part text a b c (Ok done) other fault front still is cause = cc
+Writes-part text a b c (Err other') other fault front still is cause =
     record {
       whole = tt;
       front = front;
-      cause = record {
-        later = omega (arith, later, cause.later);
-        rose = λ failed. later-Rose a.faults b.faults c.faults later (cause.rose refl);
-      };
+      cause = counts_one refl (once_then still (cause.once refl));
     }
+
+-- what was written, and a front of what comes behind it
+pub front_behind : (xs ys : List ℕ) (a b c : Known Output) → Outputs a b (λ t. t ≡ xs) → Outputs b c (IsFront ys) → Outputs a c (IsFrontBehind xs ys)
+front_behind xs ys a b c first second = Outputs-then (λ t. t ≡ xs) (IsFront ys) (IsFrontBehind xs ys) a b c first second (λ s t is front. (t, front, ap (λ l. l ++ t) is))

@@ -15,14 +15,25 @@ pub record LinkStart : Type 0 where
   pub ahead : List Answer
   pub sends : Option ℕ
 
+-- what went over a link until it was closed: what its recvs answered, the datagrams that had gone, and how long it rested before
+-- each of these and after the last
+pub record Over : Type 0 where
+  pub answers : List Answer
+  pub gone : List (List ℕ)
+  pub rests : List ℕ
+
+abbrev pub over_of : Traffic → Over
+over_of traffic = record { answers = traffic.answers; gone = traffic.gone; rests = rests_of traffic }
+
 -- The number of openings so far, and of those by `reach`; the numbers of the openings, from 0, that are to fail; the links
--- that stand at addresses; what had gone over the links that were closed, and how long these had rested; and the number of
--- calls so far.
+-- that stand at addresses; what the links had answered that were closed, what had gone over them, and how long these had rested; and
+-- the number of calls so far.
 pub record DockContents : Type 0 where
   pub openings : ℕ
   pub reaches : ℕ
   pub failing : List ℕ
   pub links : map.FinMap (slice_cmp nat_cmp) LinkStart
+  pub answers : map.FinMap (slice_cmp nat_cmp) (List Answer)
   pub gone : map.FinMap (slice_cmp nat_cmp) (List (List ℕ))
   pub rests : map.FinMap (slice_cmp nat_cmp) (List ℕ)
   pub calls : ℕ
@@ -80,21 +91,16 @@ abbrev pub IsFailed : {L : Type 0} → Opened L → Type 0
 IsFailed (Link link) = ⊥
 IsFailed Failed = Unit {0}
 
--- what it tells after a link was closed at this address over which these datagrams had gone, with these rests before each and
--- after the last
-abbrev pub after_close : Address → List (List ℕ) → List ℕ → DockContents → DockContents
-after_close at gone rests told = record told {
-  gone = map.insert told.gone (address_key at) gone;
-  rests = map.insert told.rests (address_key at) rests;
+-- what it tells after a link was closed at this address over which this went
+abbrev pub after_close : Address → Over → DockContents → DockContents
+after_close at over told = record told {
+  answers = map.insert told.answers (address_key at) over.answers;
+  gone = map.insert told.gone (address_key at) over.gone;
+  rests = map.insert told.rests (address_key at) over.rests;
   calls = told.calls + 1;
 }
 
--- what it tells where nothing was sent: what had gone is as before, but for a link that was closed with nothing gone
-abbrev pub SendsNothing : DockContents → DockContents → Type 0
-SendsNothing before after = (after.gone ≡ before.gone) ⊎ ((at : Address) × (after.gone ≡ map.insert before.gone (address_key at) []))
-
--- A close of a link that still tells adds what had gone over it, and how long it had rested.
+-- A close of a link that still tells adds what went over it.
 abbrev pub Closes : Option Traffic → Address → DockContents → DockContents → Type 0
 Closes None at before after = after ≡ record before { calls = before.calls + 1 }
-Closes (Some traffic) at before after =
-    after ≡ after_close at traffic.gone (rests_of traffic) before
+Closes (Some traffic) at before after = after ≡ after_close at (over_of traffic) before

@@ -1,5 +1,5 @@
 -- What is known of an object of the outside: its count of faults, and what it tells of itself.
-use Rattle.std.specs.Prelude.{ℕ, ◌≡◌, ◌+◌, ◌-◌, ◌^◌, ◌<◌, ◌≤◌, ◌⊎◌, Option, None, Some, IsNone, MatchOption, min, nat_le, if◌then◌else◌}
+use Rattle.std.specs.Prelude.{ℕ, ◌≡◌, ◌+◌, ◌-◌, ◌^◌, ◌≤◌, Option, None, Some, IsNone, MatchOption, min, nat_le, if◌then◌else◌}
 
 -- How often a call of it has failed, up to the last value of a u64, and what it tells, where it tells anything.
 pub record Known (T : Type 0) : Type 0 where
@@ -8,20 +8,24 @@ pub record Known (T : Type 0) : Type 0 where
 
 -- ---- counts
 
--- The count rose: it is greater, or it stands at the last value of a u64.
-abbrev pub Rose : ℕ → ℕ → Type 0
-Rose old new = (old < new) ⊎ (2 ^ 64 - 1 ≤ new)
+-- a count of a u64 after one more, which stays at its last value
+abbrev pub one_more : ℕ → ℕ
+one_more count = min (count + 1) (2 ^ 64 - 1)
 
--- A count never falls, and it rose where this happened.
+-- and after so many more
+abbrev pub raised : ℕ → ℕ → ℕ
+raised count more = count + min more (2 ^ 64 - 1 - count)
+
+-- A count rose by one where this happened, and else it stayed.
 pub record Counts (old new : ℕ) (Happened : Type 0) : Type 0 where
-  pub later : old ≤ new
-  pub rose : Happened → Rose old new
+  pub once : Happened → new ≡ one_more old
+  pub same : (Happened → ⊥) → new ≡ old
 
--- A call of the object failed.
+-- One call of the object failed.
 abbrev pub HasFailed : {T : Type 0} → Known T → Known T → Type 0
-HasFailed before after = Rose before.faults after.faults
+HasFailed before after = after.faults ≡ one_more before.faults
 
--- The count of faults never falls, and it rose where the call failed.
+-- One call of the object failed where this happened, and else none did.
 abbrev pub HasCause : {T : Type 0} → Known T → Known T → Type 0 → Type 0
 HasCause before after Failed = Counts before.faults after.faults Failed
 
@@ -60,7 +64,3 @@ Tells before after P = ToldThrough before.told after.told P
 -- what a form in memory tells: its contents for its first 2 ^ 62 calls, and nothing afterwards
 abbrev pub told_for : {T : Type 0} → ℕ → T → Option T
 told_for calls contents = if nat_le calls (2 ^ 62) then Some contents else None
-
--- a count of a u64 after one more, which stays at its last value
-abbrev pub one_more : ℕ → ℕ
-one_more count = min (count + 1) (2 ^ 64 - 1)

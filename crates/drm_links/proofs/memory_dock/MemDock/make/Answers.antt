@@ -11,5 +11,6 @@ returns-clause-tells c =
     let failing : c.in_ok-to_vec.field-0.items ≡ c.args.fail.now = search rules in
     let links = ap (λ es. starts_of (map.from_entries es)) c.new.ensures.empty ∙ starts_of-empty in
     let gone = ap (λ nodes. kept_of (λ (traffic : Traffic). traffic.gone) (entries_of nodes)) c.new-2.ensures in
+    let answers = ap (λ nodes. kept_of (λ (traffic : Traffic). traffic.answers) (entries_of nodes)) c.new-2.ensures in
     let rests = ap (λ nodes. kept_of rests_of (entries_of nodes)) c.new-2.ensures in
-    λ i. Some (record { openings = 0; reaches = 0; failing = failing i; links = links i; gone = gone i; rests = rests i; calls = 0 })
+    λ i. Some (record { openings = 0; reaches = 0; failing = failing i; links = links i; answers = answers i; gone = gone i; rests = rests i; calls = 0 })
