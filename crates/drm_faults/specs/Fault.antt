@@ -48,7 +48,7 @@ abbrev pub report_status : Result Bool Fault → ℕ
 report_status (Ok clean) = clean_status clean
 report_status (Err fault) = fault_status fault
 
--- The line is written, or where the count of faults rose a front of it.
+-- The line is written, or where a call failed a front of it.
 pub record WritesLine {E : Type 0} (line : List ℕ) (known : E → Known Output) (old new : E) : Type 0 where
   pub front : Outputs (known old) (known new) (IsFront line)
   pub whole : (HasFailed (known old) (known new) → ⊥) → Outputs (known old) (known new) (λ text. text ≡ line)

@@ -1,5 +1,5 @@
 -- Texts that are written piece by piece.
-use Rattle.std.proofs.Common.{◌≡◌, ℕ, ◌+◌, ◌<◌, ◌≤◌, ◌==◌, true, arith, List, [], ◌∷◌, ◌++◌, length, take, drop, get_or, Result, Err, refl, sym, ◌∙◌, ap, append_assoc}
+use Rattle.std.proofs.Common.{◌≡◌, ℕ, ◌+◌, ◌<◌, ◌==◌, true, arith, List, [], ◌∷◌, ◌++◌, length, take, drop, get_or, Result, Err, refl, sym, ◌∙◌, ap, append_assoc}
 use Rattle.std.specs.List.{flat_map}
 use Rattle.std.proofs.lemmas.Bool.{eqb-true}
 use Rattle.std.proofs.lemmas.Grind.{flat_map-append}
@@ -18,15 +18,15 @@ flat_map-split f xs i d within =
 
 -- all before a piece, and a front of it
 pub next_broken : {X E F : Type 0} (f : X → List ℕ) (xs : List X) (i : ℕ) (d : X) → i < length xs → (a b c : Known Output) (r : Result (Unit {0}) E) (other : E) (fault : F)
-    → Outputs a b (λ t. t ≡ flat_map f (take i xs)) → a.faults ≤ b.faults → r ≡ Err other → Writes r b c (f (get_or xs i d))
+    → Outputs a b (λ t. t ≡ flat_map f (take i xs)) → b.faults ≡ a.faults → r ≡ Err other → Writes r b c (f (get_or xs i d))
     → (let broken : Result (Unit {0}) F = Err fault in Writes broken a c (flat_map f xs))
-next_broken f xs i d within a b c r other fault done later is writes =
+next_broken f xs i d within a b c r other fault done same is writes =
     let more : List ℕ = flat_map f (drop (i + 1) xs) in
     let first : List ℕ = f (get_or xs i d) in
     Writes-broken (flat_map f xs) first more a b c r other fault
     (Outputs-weaker (λ t. t ≡ flat_map f (take i xs)) (λ t. t ++ (first ++ more) ≡ flat_map f xs) a b done
-    (λ t same. ap (λ l. l ++ (first ++ more)) same ∙ sym (flat_map-split f xs i d within)))
-    later is writes
+    (λ t all. ap (λ l. l ++ (first ++ more)) all ∙ sym (flat_map-split f xs i d within)))
+    same is writes
 
 -- hex text is that of each byte
 pub encode_lower-is : (bytes : List ℕ) → encode_lower bytes ≡ flat_map (λ b. encode_lower (b ∷ [])) bytes

@@ -1,6 +1,7 @@
-use Rattle.std.proofs.Common.{◌≡◌, ◌++◌, ℕ, List, [], ◌∷◌, drop, refl, subst, arith}
+use Rattle.std.proofs.Common.{◌≡◌, ◌++◌, ℕ, List, [], ◌∷◌, drop, refl, subst, ◌∙◌}
 use Rattle.std.proofs.lemmas.Result.{err_from_is_err_and}
 use Rattle.drm_links.specs.Sink.{Outputs}
+use Rattle.drm_links.proofs.ToldLemmas.{done_counts}
 use Rattle.drm_links.proofs.WritingLemmas.{Writes-broken, Writes-more}
 use Rattle.report_lines.specs.HexBits.{hex_of_bits}
 use Rattle.report_lines.proofs.HexLemmas.{digit_then}
@@ -14,7 +15,7 @@ loop-n-preserved g c =
     let next = digit_then c.loop-n.bits c.take.new.self c.in-Ok.n c.digit.result c.in-Ok.ensures.taken c.in-Ok.ensures.number c.digit.ensures c.in-Ok.ensures.rest in (
       Writes-more all (c.digit.result ∷ []) (hex_of_bits c.take.new.self) a b (g.O.Sink.known c.write_all.new.out) c.write_all.result _
           (subst (λ l. Outputs a b (λ text. text ++ l ≡ all)) next c.loop-n.invariant.0) c.in_ok-write_all.was c.write_all.ensures,
-      omega (arith, c.loop-n.invariant.1, c.write_all.ensures.cause.later),
+      done_counts c.in_ok-write_all.was c.write_all.ensures.cause ∙ c.loop-n.invariant.1,
     )
 
 pub returns-in_err-write_all : goal.returns-in_err-write_all

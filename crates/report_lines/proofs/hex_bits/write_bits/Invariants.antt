@@ -1,4 +1,4 @@
-use Rattle.std.proofs.Common.{◌≡◌, ◌≤◌, ◌++◌, length}
+use Rattle.std.proofs.Common.{◌≡◌, ◌++◌, length}
 use Rattle.drm_links.specs.Sink.{Outputs}
 use Rattle.report_lines.specs.HexBits.{hex_of_bits}
 use Rattle.report_lines.proofs.hex_bits.write_bits.Given as goal
@@ -7,7 +7,7 @@ use Rattle.report_lines.proofs.hex_bits.write_bits.Given as goal
 abbrev pub invariant-loop-n : goal.invariant-loop-n
 invariant-loop-n g l =
     Outputs (g.O.Sink.known l.fn.out) (g.O.Sink.known l.out) (λ text. text ++ hex_of_bits l.bits ≡ hex_of_bits l.fn.bits)
-    × ((g.O.Sink.known l.fn.out).faults ≤ (g.O.Sink.known l.out).faults)
+    × ((g.O.Sink.known l.out).faults ≡ (g.O.Sink.known l.fn.out).faults)
 
 abbrev pub decreases-loop-n : goal.decreases-loop-n
 decreases-loop-n g l = length l.bits

@@ -1,4 +1,4 @@
-use Rattle.std.proofs.Common.{◌≡◌, ◌+◌, ◌-◌, ◌*◌, ◌≤◌, ◌++◌, length, take, drop}
+use Rattle.std.proofs.Common.{◌≡◌, ◌+◌, ◌-◌, ◌*◌, ◌++◌, length, take, drop}
 use Rattle.drm_links.specs.Sink.{Outputs}
 use Rattle.report_lines.specs.HexBits.{hex_of_bits}
 use Rattle.report_lines.proofs.hex_bits.write_digits.Given as goal
@@ -12,5 +12,5 @@ invariant-loop g l =
       written :
           Outputs (g.O.Sink.known l.fn.out) (g.O.Sink.known l.out) (λ text.
           text ++ hex_of_bits (take (4 * (l.count - l.counter)) l.bits) ≡ hex_of_bits (take (4 * l.count) l.fn.bits));
-      later : (g.O.Sink.known l.fn.out).faults ≤ (g.O.Sink.known l.out).faults;
+      same : (g.O.Sink.known l.out).faults ≡ (g.O.Sink.known l.fn.out).faults;
     }

@@ -1,9 +1,9 @@
-use Rattle.std.proofs.Common.{ℕ, List, [], ◌≡◌, ◌+◌, ◌-◌, ◌<◌, ◌++◌, drop, take, length, ap, sym, subst, arith}
+use Rattle.std.proofs.Common.{ℕ, List, [], ◌≡◌, ◌+◌, ◌-◌, ◌<◌, ◌++◌, drop, take, length, ap, sym, subst, ◌∙◌, arith}
 use Rattle.std.proofs.lemmas.List.{drop_all}
 use Rattle.std.proofs.lemmas.Result.{err_from_is_err_and}
 use Rattle.hex.specs.Hex.{encode_lower}
 use Rattle.drm_links.specs.Sink.{Outputs}
-use Rattle.drm_links.proofs.ToldLemmas.{Outputs-nothing}
+use Rattle.drm_links.proofs.ToldLemmas.{Outputs-nothing, done_counts}
 use Rattle.drm_links.proofs.WritingLemmas.{Writes-whole, Writes-broken, Writes-more}
 use Rattle.report_lines.specs.FrameLine.{bytes_text}
 use Rattle.drm_mux.specs.Frame.{multiplex_frame, streams_in}
@@ -61,7 +61,7 @@ loop-index-preserved g c =
     let is : slice ++ behind ≡ cut payload (drop c.loop-index.index parts) = one_part payload parts c.loop-index.index r below c.range-from.ensures.range in
     let done = subst (λ l. Outputs a b (λ text. text ++ l ≡ encode_lower frame)) (digits_parts slice behind _ is) c.loop-index.invariant.0 in (
       Writes-more (encode_lower frame) (encode_lower slice) (encode_lower behind) a b (g.O.Sink.known c.write_hex.new.out) c.write_hex.result _ done c.in_ok-write_hex.was c.write_hex.ensures,
-      omega (arith, c.loop-index.invariant.1, c.write_hex.ensures.cause.later),
+      done_counts c.in_ok-write_hex.was c.write_hex.ensures.cause ∙ c.loop-index.invariant.1,
     )
 
 pub returns : goal.returns

@@ -1,4 +1,4 @@
-use Rattle.std.proofs.Common.{◌≡◌, ◌++◌, ◌≤◌, drop}
+use Rattle.std.proofs.Common.{◌≡◌, ◌++◌, drop}
 use Rattle.hex.specs.Hex.{encode_lower}
 use Rattle.drm_links.specs.Sink.{Outputs}
 use Rattle.drm_mux.specs.Frame.{multiplex_frame, streams_in}
@@ -11,4 +11,4 @@ abbrev pub invariant-loop-index : goal.invariant-loop-index
 invariant-loop-index g l =
     Outputs (g.O.Sink.known l.fn.out) (g.O.Sink.known l.out) (λ text.
     text ++ encode_lower (cut l.payload (drop l.index (ranges l.mux l.streams))) ≡ encode_lower (multiplex_frame l.mux (streams_in l.payload l.streams)))
-    × ((g.O.Sink.known l.fn.out).faults ≤ (g.O.Sink.known l.out).faults)
+    × ((g.O.Sink.known l.out).faults ≡ (g.O.Sink.known l.fn.out).faults)

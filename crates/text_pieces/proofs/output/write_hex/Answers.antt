@@ -1,8 +1,9 @@
-use Rattle.std.proofs.Common.{◌≡◌, ◌++◌, ℕ, List, ap₂, sym, subst, ◌∙◌, arith}
+use Rattle.std.proofs.Common.{◌≡◌, ◌++◌, ℕ, List, ap₂, sym, subst, ◌∙◌}
 use Rattle.std.proofs.lemmas.List.{take-append-drop}
 use Rattle.std.proofs.lemmas.Result.{err_from_is_err_and}
 use Rattle.hex.specs.Hex.{encode_lower}
 use Rattle.drm_links.specs.Sink.{Outputs}
+use Rattle.drm_links.proofs.ToldLemmas.{done_counts}
 use Rattle.drm_links.proofs.WritingLemmas.{Writes-whole, Writes-broken, Writes-more}
 use Rattle.text_pieces.proofs.TextLemmas.{digits_parts, digits_all}
 use Rattle.text_pieces.proofs.output.write_hex.Goals as goal
@@ -30,7 +31,7 @@ loop-rest-preserved g c =
       Writes-more whole (encode_lower c.split_at.result.0.now) (encode_lower c.split_at.result.1.now) a b (g.O.Sink.known c.write_digits.new.out) c.write_digits.result _
           (subst (λ l. Outputs a b (λ text. text ++ l ≡ whole)) (digits_parts c.split_at.result.0.now c.split_at.result.1.now c.loop-rest.rest.now parts) c.loop-rest.invariant.0)
           c.in_ok-write_digits.was c.write_digits.ensures,
-      omega (arith, c.loop-rest.invariant.1, c.write_digits.ensures.cause.later),
+      done_counts c.in_ok-write_digits.was c.write_digits.ensures.cause ∙ c.loop-rest.invariant.1,
     )
 
 pub returns : goal.returns

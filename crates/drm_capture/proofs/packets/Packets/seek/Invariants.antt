@@ -1,4 +1,4 @@
-use Rattle.std.proofs.Common.{◌≡◌, ◌≤◌, ◌+◌, ◌-◌, length}
+use Rattle.std.proofs.Common.{◌≡◌, ◌+◌, ◌-◌, length}
 use Rattle.drm_capture.specs.Capture.{most_bytes}
 use Rattle.drm_capture.specs.Fetching.{Fetched}
 use Rattle.drm_capture.specs.Reading.{HasNext}
@@ -8,7 +8,7 @@ use Rattle.drm_capture.proofs.packets.Packets.seek.Given as goal
 abbrev pub invariant-loop-field : goal.invariant-loop-field
 invariant-loop-field g l = record {
   fetched : Fetched l.initial.self l.self (g.I.Source.known l.initial.input) (g.I.Source.known l.input);
-  later : (g.I.Source.known l.initial.input).faults ≤ (g.I.Source.known l.input).faults;
+  same : (g.I.Source.known l.input).faults ≡ (g.I.Source.known l.initial.input).faults;
   still : HasNext l.initial.self → (l.self ≡ l.initial.self) × (l.input ≡ l.initial.input);
 }
 
