@@ -1,14 +1,14 @@
 -- From the receivers of a script's feeds to the whole command.
-use Rattle.std.proofs.Common.{◌≡◌, ℕ, zero, suc, ◌+◌, ◌<◌, ◌≤◌, ◌⊎◌, inl, inr, Bool, List, [], ◌∷◌, ◌++◌, length, map, slice_index_or, Option, Some, Result, Ok, Err, refl, sym, ◌∙◌, subst, arith, le_refl, le_trans}
+use Rattle.std.proofs.Common.{◌≡◌, ℕ, zero, suc, ◌+◌, ◌<◌, ◌≤◌, ◌⊎◌, inl, inr, Bool, List, [], ◌∷◌, ◌++◌, length, map, slice_index_or, Option, Some, Result, Ok, Err, refl, sym, ◌∙◌, ap, subst, arith}
 use Rattle.std.specs.Prelude.{sum_by}
 use Rattle.std.specs.List.{All, AllByRecursion, fold}
-use Rattle.drm_links.specs.Told.{HasFailed, Known, HasCause, Rose}
+use Rattle.drm_links.specs.Told.{Known, HasCause}
 use Rattle.drm_links.specs.Link.{Answer, Datagram, Failed}
 use Rattle.drm_links.specs.Sink.{Output}
 use Rattle.drm_links.specs.Shelf.{Files}
 use Rattle.drm_links.specs.Dock.{LinkStart}
 use Rattle.drm_links.specs.MemoryLink.{LinkState, link_known}
-use Rattle.drm_links.proofs.ToldLemmas.{later-Rose}
+use Rattle.drm_links.proofs.ToldLemmas.{counts_none, counts_then, counts_as}
 use Rattle.collect_laws.specs.Laws.{OneRun}
 use Rattle.drm_schedule.specs.declared.plan.Plan.{Plan}
 use Rattle.drm_schedule.specs.Valid.{IsSchedule}
@@ -158,13 +158,13 @@ not_read ending kind is =
 pub ran_over : {S O : Type 0} (name text : List ℕ) (window : ℕ) (plan : Plan) (feeds : List (List Delivery)) (ending : Result Bool Fault) (shelf_known : S → Known Files) (shelf between shelf' : S)
     (out_known : O → Known Output) (out out' : O) → IsSchedule plan
     → ReadBy (schedule_named name) (Ok plan) (shelf_known shelf) (shelf_known between) → ReadBy (script_named plan text) (Ok feeds) (shelf_known between) (shelf_known shelf')
-    → (shelf_known shelf).faults ≤ (shelf_known between).faults → (shelf_known between).faults ≤ (shelf_known shelf').faults
+    → (shelf_known between).faults ≡ (shelf_known shelf).faults → (shelf_known shelf').faults ≡ (shelf_known between).faults
     → ByScript plan window (Ok feeds) ending out_known out out' → HasCause (out_known out) (out_known out') (ending ≡ Err faults.Write)
     → AirRun name text window ending shelf_known shelf shelf' out_known out out'
-ran_over name text window plan feeds ending shelf_known shelf between shelf' out_known out out' valid loads script_loads later later' writes cause =
+ran_over name text window plan feeds ending shelf_known shelf between shelf' out_known out out' valid loads script_loads same same' writes cause =
     air_run name text window ending shelf_known shelf between shelf' out_known out out' (Ok plan) loads
     (record { valid = valid; came = Ok feeds; loads = script_loads; writes = writes })
-    (record { later = le_trans later later'; rose = λ is. absurd (not_read ending writes.2 is) })
+    (counts_none (not_read ending writes.2) (same' ∙ same))
     cause
 
 -- what air_over asks of a script
@@ -172,6 +172,9 @@ pub feeds_are : (plan : Plan) (feeds : List (List Delivery)) → IsScript plan f
 feeds_are plan feeds script = record { some = script.some; few = script.few; each = script.each; few_deliveries = script.few_deliveries }
 
 -- ---- a run that ends before
+
+pub inner_fault : {T E : Type 0} {fault other : E} → (let r : Result T E = Err fault in r ≡ Err other) → fault ≡ other
+inner_fault is = cc
 
 abbrev of_fault : Fault → Result Bool Fault
 of_fault fault = Err fault
@@ -181,19 +184,19 @@ inner fault other is = cc
 
 module _ {S O : Type 0} (name text : List ℕ) (window : ℕ) (shelf_known : S → Known Files) (out_known : O → Known Output) (out : O) where
   pub no_schedule : (fault : ScheduleFault) (shelf shelf' : S) → ReadBy (schedule_named name) (Err fault) (shelf_known shelf) (shelf_known shelf')
-      → (shelf_known shelf).faults ≤ (shelf_known shelf').faults → (fault ≡ schedule.Read → HasFailed (shelf_known shelf) (shelf_known shelf'))
+      → HasCause (shelf_known shelf) (shelf_known shelf') (fault ≡ schedule.Read)
       → AirRun name text window (Err (fault_of_schedule fault)) shelf_known shelf shelf' out_known out out
-  no_schedule fault shelf shelf' loads later rose =
+  no_schedule fault shelf shelf' loads cause =
       air_run name text window (Err (fault_of_schedule fault)) shelf_known shelf shelf' shelf' out_known out out (Err fault) loads (refl, refl, refl)
-      (record { later = later; rose = λ is. rose (read_schedule fault (inner (fault_of_schedule fault) faults.Read is)) })
-      (record { later = le_refl _; rose = λ is. absurd (write_schedule fault (inner (fault_of_schedule fault) faults.Write is)) })
+      (counts_as (λ is. read_schedule fault (inner (fault_of_schedule fault) faults.Read is)) (λ is. ap (λ f. of_fault (fault_of_schedule f)) is) cause)
+      (counts_none (λ is. write_schedule fault (inner (fault_of_schedule fault) faults.Write is)) refl)
 
   pub no_script : (plan : Plan) (fault : ScheduleFault) (shelf between shelf' : S) → IsSchedule plan → ReadBy (schedule_named name) (Ok plan) (shelf_known shelf) (shelf_known between)
-      → ReadBy (script_named plan text) (Err fault) (shelf_known between) (shelf_known shelf') → (shelf_known shelf).faults ≤ (shelf_known between).faults → (shelf_known between).faults ≤ (shelf_known shelf').faults
-      → (fault ≡ schedule.Read → HasFailed (shelf_known between) (shelf_known shelf'))
+      → ReadBy (script_named plan text) (Err fault) (shelf_known between) (shelf_known shelf') → (shelf_known between).faults ≡ (shelf_known shelf).faults
+      → HasCause (shelf_known between) (shelf_known shelf') (fault ≡ schedule.Read)
       → AirRun name text window (Err (fault_of_script fault)) shelf_known shelf shelf' out_known out out
-  no_script plan fault shelf between shelf' valid loads script_loads later later' rose =
+  no_script plan fault shelf between shelf' valid loads script_loads same cause =
       air_run name text window (Err (fault_of_script fault)) shelf_known shelf between shelf' out_known out out (Ok plan) loads
       (record { valid = valid; came = Err fault; loads = script_loads; writes = (refl, refl) })
-      (record { later = le_trans later later'; rose = λ is. later-Rose _ _ _ later (rose (read_script fault (inner (fault_of_script fault) faults.Read is))) })
-      (record { later = le_refl _; rose = λ is. absurd (write_script fault (inner (fault_of_script fault) faults.Write is)) })
+      (counts_then same (counts_as (λ is. read_script fault (inner (fault_of_script fault) faults.Read is)) (λ is. ap (λ f. of_fault (fault_of_script f)) is) cause))
+      (counts_none (λ is. write_script fault (inner (fault_of_script fault) faults.Write is)) refl)

@@ -140,6 +140,6 @@ air_run {S} {O} name script window ending shelf_known shelf between shelf' out_k
         Tells-weaker _ _ (shelf_known shelf) (shelf_known shelf') is.files
         (λ x y files plan feeds gives. elim files [
           | inl memory ↦ inl memory
-          | inr same ↦ wrote name script window ending shelf_known out_known (plan, feeds) ending out out' (λ e. no_write (write_cause.rose e))
+          | inr same ↦ wrote name script window ending shelf_known out_known (plan, feeds) ending out out' (λ e. no_write (write_cause.once e))
               (subst (λ (b : Both). Ended window b ending out_known out out') (sym same ∙ gives) is.ended)
         ])

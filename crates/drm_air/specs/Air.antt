@@ -132,6 +132,6 @@ pub record AirRun {S O : Type 0} (name script : List ℕ) (window : ℕ) (ending
   pub in_time : (HasFailed (out_known out) (out_known out') → ⊥)
       → Supplies (shelf_known shelf) (shelf_known shelf') (λ before _. (plan : Plan) (feeds : List (List Delivery))
       → schedule_and_script name script before ≡ Ok (plan, feeds) → FeedsAreInTime plan window feeds → UnlessMemory ending (ending ≡ Ok true))
-  -- The faults of the outside come only where its count of faults rose.
+  -- The count of faults of the shelf rose, by one, exactly where a load ended the run, and that of out where a write did.
   pub read_cause : HasCause (shelf_known shelf) (shelf_known shelf') (ending ≡ Err faults.Read)
   pub write_cause : HasCause (out_known out) (out_known out') (ending ≡ Err faults.Write)

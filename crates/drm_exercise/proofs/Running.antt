@@ -3,7 +3,8 @@ use Rattle.std.proofs.Common.{◌≡◌, ℕ, zero, suc, ◌<◌, ◌≤◌, inl
 use Rattle.std.specs.Prelude.{if◌then◌else◌, nat_le, slice_index_or, ◌^◌}
 use Rattle.std.proofs.lemmas.List.{append-nil}
 use Rattle.drm_bits.specs.Crc.{IsCheckOf}
-use Rattle.drm_links.specs.Told.{Known, HasCause, ToldThrough, told_for}
+use Rattle.drm_links.specs.Told.{Known, HasFailed, ToldThrough, told_for}
+use Rattle.drm_links.proofs.ToldLemmas.{counts_one, counts_none}
 use Rattle.drm_links.specs.Sink.{Output, Outputs, WritesText, IsFront}
 use Rattle.mod_receiver.specs.Ahead.{Report}
 use Rattle.mod_receiver.specs.Texts.{text_known}
@@ -104,30 +105,30 @@ module _ {O : Type 0} (n : ℕ) (known : O → Known Output) (out : O) where
     kind = λ fault is. inl (sym (same faults.NoMemory fault is));
     untouched = λ is. refl;
     complete = λ no_write. inl refl;
-    write_cause = record { later = le_refl _; rose = λ is. absurd (let other : faults.NoMemory ≡ faults.Write = same faults.NoMemory faults.Write is in cc) };
+    write_cause = counts_none (λ is. let other : faults.NoMemory ≡ faults.Write = same faults.NoMemory faults.Write is in cc) refl;
   }
     where
       same : (fault other : Fault) → of_fault fault ≡ of_fault other → fault ≡ other
       same fault other is = cc
 
   pub is_done : (clean : Bool) (text : List ℕ) (count check : ℕ) (out' : O) → HasReport n clean text → count ≡ length (deliveries n) → IsCheckOf text check
-      → Outputs (known out) (known out') (λ t. t ≡ line n count text check) → (known out).faults ≤ (known out').faults → ExerciseRun n (Ok clean) known out out'
-  is_done clean text count check out' has many checks wrote later = record {
+      → Outputs (known out) (known out') (λ t. t ≡ line n count text check) → (known out').faults ≡ (known out).faults → ExerciseRun n (Ok clean) known out out'
+  is_done clean text count check out' has many checks wrote still = record {
     writes = (has.r, line n count text check, is_exercise n clean text count check has many checks, wrote, has.clean_is);
     kind = λ fault is. absurd cc;
     untouched = λ is. absurd cc;
     complete = λ no_write. inr (clean, refl);
-    write_cause = record { later = later; rose = λ is. absurd cc };
+    write_cause = counts_none (λ is. cc) still;
   }
 
   pub is_cut : (clean : Bool) (text : List ℕ) (count check : ℕ) (out' : O) → HasReport n clean text → count ≡ length (deliveries n) → IsCheckOf text check
-      → Outputs (known out) (known out') (IsFront (line n count text check)) → HasCause (known out) (known out') (Unit {0}) → ExerciseRun n (of_fault faults.Write) known out out'
-  is_cut clean text count check out' has many checks wrote cause = record {
+      → Outputs (known out) (known out') (IsFront (line n count text check)) → HasFailed (known out) (known out') → ExerciseRun n (of_fault faults.Write) known out out'
+  is_cut clean text count check out' has many checks wrote failed = record {
     writes = (has.r, line n count text check, is_exercise n clean text count check has many checks, wrote);
     kind = λ fault is. inr (sym (same faults.Write fault is));
     untouched = λ is. absurd (let other : faults.Write ≡ faults.NoMemory = same faults.Write faults.NoMemory is in cc);
-    complete = λ no_write. absurd (no_write (cause.rose tt));
-    write_cause = record { later = cause.later; rose = λ is. cause.rose tt };
+    complete = λ no_write. absurd (no_write failed);
+    write_cause = counts_one refl failed;
   }
     where
       same : (fault other : Fault) → of_fault fault ≡ of_fault other → fault ≡ other

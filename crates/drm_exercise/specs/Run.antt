@@ -38,5 +38,5 @@ pub record ExerciseRun {O : Type 0} (n : ℕ) (ending : Result Bool Fault) (know
   pub untouched : ending ≡ Err faults.NoMemory → out' ≡ out
   -- Where no write failed, the line is written.
   pub complete : (HasFailed (known out) (known out') → ⊥) → UnlessMemory ending ((clean : Bool) × (ending ≡ Ok clean))
-  -- A write failed only where out's count of faults rose.
+  -- Out's count of faults rose, by one, exactly where a write ended the run.
   pub write_cause : HasCause (known out) (known out') (ending ≡ Err faults.Write)

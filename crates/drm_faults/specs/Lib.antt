@@ -5,3 +5,4 @@ pub mod FacFaults
 pub mod Captures
 pub mod Units
 pub mod Fault
+pub mod Causes

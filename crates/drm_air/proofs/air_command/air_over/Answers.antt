@@ -6,6 +6,8 @@ use Rattle.mod_receiver.specs.declared.job.Job.{Job}
 use Rattle.mod_receiver.specs.Jobs.{HasEnded, IsReady}
 use Rattle.mod_receiver.specs.Settling.{Settles}
 use Rattle.drm_air.specs.Air.{air_rules}
+use Rattle.drm_links.proofs.ToldLemmas.{counts_as}
+use Rattle.drm_receive.specs.Stopping.{ending_of}
 use Rattle.drm_receive.proofs.ReceiveLemmas.{Ran, written_back, write_is}
 use Rattle.mod_receiver.proofs.JobLemmas.{jobs_ready}
 use Rattle.mod_receiver.proofs.Composing.{DeliveryLaws}
@@ -43,7 +45,7 @@ returns g c =
       kind = rw c.ending.ensures
           (kind_by plan c.args.window valid c.requires.some c.requires.few c.reports_follow.ensures.headlines c.reports_follow.ensures.completes feeds c.requires.feeds before after ran c.in_ok-jobs.ensures.feeds
           c.settle.result g.O.Sink.known c.args.out.now c.settle.new.out settled);
-      cause = record { later = c.settle.ensures.cause.later; rose = λ is. c.settle.ensures.cause.rose (write_is c.settle.result (sym c.ending.ensures ∙ is)) };
+      cause = counts_as (λ is. write_is c.settle.result (sym c.ending.ensures ∙ is)) (λ is. c.ending.ensures ∙ ap ending_of is) c.settle.ensures.cause;
     }
 
 pub run_all-requires-after_bounds : goal.run_all-requires-after_bounds

@@ -1,7 +1,8 @@
-use Rattle.std.proofs.Common.{◌≡◌, ◌∷◌, [], length, Ok, Err, IsSome, IsErr, refl, sym, ◌∙◌, ap, subst, rules}
+use Rattle.std.proofs.Common.{◌≡◌, ◌∷◌, [], length, Ok, Err, IsSome, refl, sym, ◌∙◌, ap, subst, rules}
 use Rattle.std.specs.Prelude.{slice_index_or}
 use Rattle.std.proofs.lemmas.Result.{err_from_is_err_and}
 use Rattle.drm_bits.specs.Crc.{IsCheckOf}
+use Rattle.drm_links.proofs.ToldLemmas.{done_counts, failed_counts}
 use Rattle.drm_links.proofs.WritingLemmas.{Writes-done, Writes-front}
 use Rattle.mod_receiver.specs.Texts.{text_known}
 use Rattle.drm_receive.specs.Receive.{WritesReports}
@@ -31,7 +32,7 @@ returns-in_err-write_line g c =
       run = rw (p.1 ∙ ap Err p.2)
           (is_cut n g.O.Sink.known c.args.out.now c.in-Ok.clean c.bytes.result.now (length c.deliveries.result.now) c.crc16.result c.write_line.new.out
           (subst (HasReport n c.in-Ok.clean) (sym c.bytes.ensures) has) (ap length same) (subst (λ t. IsCheckOf t c.crc16.result) (c.bytes-2.ensures ∙ sym c.bytes.ensures) checks)
-          (Writes-front c.in_err-write_line.was c.write_line.ensures) (record { later = c.write_line.ensures.cause.later; rose = λ t. c.write_line.ensures.cause.rose (subst IsErr (sym c.in_err-write_line.was) refl) }));
+          (Writes-front c.in_err-write_line.was c.write_line.ensures) (failed_counts c.in_err-write_line.was c.write_line.ensures.cause));
     }
 
 pub returns : goal.returns
@@ -47,5 +48,5 @@ returns g c =
     record {
       run = is_done n g.O.Sink.known c.args.out.now c.in-Ok.clean c.bytes.result.now (length c.deliveries.result.now) c.crc16.result c.write_line.new.out
           (subst (HasReport n c.in-Ok.clean) (sym c.bytes.ensures) has) (ap length same) (subst (λ t. IsCheckOf t c.crc16.result) (c.bytes-2.ensures ∙ sym c.bytes.ensures) checks)
-          (Writes-done c.in_ok-write_line.was c.write_line.ensures) c.write_line.ensures.cause.later;
+          (Writes-done c.in_ok-write_line.was c.write_line.ensures) (done_counts c.in_ok-write_line.was c.write_line.ensures.cause);
     }

@@ -1,0 +1,19 @@
+-- What failed of two objects, by what failed of one.
+use Rattle.std.proofs.Common.{◌≡◌, inl, inr, ◌∙◌}
+use Rattle.drm_links.specs.Told.{Known, HasCause}
+use Rattle.drm_faults.specs.Causes.{OneFailed}
+
+-- the other is left alone
+pub one_alone : {X Y H : Type 0} {a b : Known X} {c d : Known Y} → HasCause a b H → d.faults ≡ c.faults → OneFailed a b c d H
+one_alone cause still = record { once = λ here. inl (cause.once here, still); same = λ none. (cause.same none, still) }
+
+pub other_alone : {X Y H : Type 0} {a b : Known X} {c d : Known Y} → b.faults ≡ a.faults → HasCause c d H → OneFailed a b c d H
+other_alone still cause = record { once = λ here. inr (cause.once here, still); same = λ none. (still, cause.same none) }
+
+-- it didn't happen
+pub none_failed : {X Y H : Type 0} {a b : Known X} {c d : Known Y} → (H → ⊥) → b.faults ≡ a.faults → d.faults ≡ c.faults → OneFailed a b c d H
+none_failed none still still' = record { once = λ here. absurd (none here); same = λ _. (still, still') }
+
+-- it happens exactly where something else does
+pub one_failed_as : {X Y G H : Type 0} {a b : Known X} {c d : Known Y} → (H → G) → (G → H) → OneFailed a b c d G → OneFailed a b c d H
+one_failed_as to from failed = record { once = λ here. failed.once (to here); same = λ none. failed.same (λ there. none (from there)) }
