@@ -1,9 +1,9 @@
 -- The last part of a text, and what a packet's lines make of the answer.
-use Rattle.std.proofs.Common.{◌≡◌, ℕ, Bool, sym, ◌≤◌, List, [], ◌++◌, Result, Ok, Err, refl, ◌∙◌, ap, subst, arith, append-nil}
+use Rattle.std.proofs.Common.{◌≡◌, ℕ, Bool, sym, List, [], ◌++◌, Result, Ok, Err, refl, ◌∙◌, ap, subst, append-nil}
 use Rattle.std.specs.Prelude.{Option}
 use Rattle.drm_links.specs.Told.{Known}
 use Rattle.drm_links.specs.Sink.{Output, Outputs, Writes}
-use Rattle.drm_links.proofs.ToldLemmas.{Outputs-then, Outputs-weaker}
+use Rattle.drm_links.proofs.ToldLemmas.{counts_one, counts_none, counts_then, Outputs-then, Outputs-weaker}
 use Rattle.drm_links.proofs.WritingLemmas.{Writes-broken}
 use Rattle.drm_links.specs.declared.sink.WriteFault.{WriteFault}
 use Rattle.drm_sdc.specs.declared.block.Block.{Block}
@@ -17,19 +17,19 @@ use Rattle.packet_lines.specs.Text.{block_text, frame_text, items_text, front_te
 use Rattle.packet_lines.specs.Shown.{Shows, answer}
 
 -- what is left behind what was written
-pub last_written : {E : Type 0} (whole s : List ℕ) (a b c : Known Output) (r : Result (Unit {0}) E) → Outputs a b (λ text. text ++ s ≡ whole) → a.faults ≤ b.faults → Writes r b c s → Writes r a c whole
-last_written whole s a b c (Ok done) first later second =
+pub last_written : {E : Type 0} (whole s : List ℕ) (a b c : Known Output) (r : Result (Unit {0}) E) → Outputs a b (λ text. text ++ s ≡ whole) → b.faults ≡ a.faults → Writes r b c s → Writes r a c whole
+last_written whole s a b c (Ok done) first still second =
     record {
       whole =
           Outputs-then (λ text. text ++ s ≡ whole) (λ text. text ≡ s) (λ text. text ≡ whole) a b c first second.whole
           (λ x y is_x is_y. ap (λ l. x ++ l) is_y ∙ is_x);
       front = tt;
-      cause = record { later = omega (arith, later, second.cause.later); rose = λ failed. cc };
+      cause = counts_then still second.cause;
     }
-last_written whole s a b c (Err fault) first later second =
+last_written whole s a b c (Err fault) first still second =
     Writes-broken whole s [] a b c (Err fault) fault fault
     (Outputs-weaker (λ text. text ++ s ≡ whole) (λ text. text ++ (s ++ []) ≡ whole) a b first (λ text is. ap (λ l. text ++ l) (append-nil s) ∙ is))
-    later refl second
+    still refl second
 
 -- the lines of a frame, one after another
 pub frame_lines : (frame : Frame) (block : Option Block) → mdi_line frame ++ (fac_text frame.fac ++ (mux_line frame.mux ++ block_text block)) ≡ frame_text frame block
@@ -59,7 +59,7 @@ shows content at bytes a b (Ok done) bad r is same writes ends =
       is = (content, is, refl, refl);
       whole = (same, writes.whole);
       front = tt;
-      cause = record { later = writes.cause.later; rose = λ failed. cc };
+      cause = counts_none (λ failed. cc) (writes.cause.same (λ failed. cc));
       memory = λ none. cc;
     })
 shows content at bytes a b (Err fault) bad r is same writes ends =
@@ -70,6 +70,6 @@ shows content at bytes a b (Err fault) bad r is same writes ends =
       is = (content, is, refl, refl);
       whole = tt;
       front = writes.front;
-      cause = record { later = writes.cause.later; rose = λ failed. writes.cause.rose refl };
+      cause = counts_one refl (writes.cause.once refl);
       memory = λ none. cc;
     })

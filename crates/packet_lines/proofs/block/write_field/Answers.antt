@@ -1,7 +1,7 @@
 use Rattle.std.proofs.Common.{◌≡◌, ◌+◌, ◌-◌, ◌*◌, ◌++◌, ℕ, List, sym, ap, subst, ◌∙◌, refl, length, take, drop, arith, length-drop}
 use Rattle.std.proofs.lemmas.Result.{err_from_is_err_and}
 use Rattle.drm_links.specs.Sink.{Outputs}
-use Rattle.drm_links.proofs.ToldLemmas.{Outputs-nothing}
+use Rattle.drm_links.proofs.ToldLemmas.{done_counts, Outputs-nothing}
 use Rattle.drm_links.proofs.WritingLemmas.{Writes-broken, Writes-more}
 use Rattle.packet_lines.specs.Block.{Holds, head_text}
 use Rattle.packet_lines.specs.Lines.{tail_text}
@@ -18,7 +18,7 @@ loop-head-init g c =
         holds,
         Outputs-nothing (g.O.Sink.known c.args.out.now) (λ text. text ++ field_text entities tail ≡ field_text entities tail) refl,
       );
-      later = omega arith;
+      same = refl;
     }
 
 pub next_head-requires : goal.next_head-requires
@@ -53,7 +53,7 @@ returns-in_err-write_entity g c = λ entities tail holds.
     rw p.1
     (Writes-broken (field_text entities tail) line (field_text next.rest tail) a b (g.O.Sink.known c.write_entity.new.out) c.write_entity.result c.in_err-write_entity.field-0.0 p.0
     (subst (λ l. Outputs a b (λ text. text ++ l ≡ field_text entities tail)) (text_next so.0 next.rest tail next.e line next.are next.line) so.2)
-    c.loop-head.invariant.later c.in_err-write_entity.was (rw c.in-Some.ensures.rest at c.write_entity.ensures.written))
+    c.loop-head.invariant.same c.in_err-write_entity.was (rw c.in-Some.ensures.rest at c.write_entity.ensures.written))
 
 pub loop-head-preserved : goal.loop-head-preserved
 loop-head-preserved g c =
@@ -73,7 +73,7 @@ loop-head-preserved g c =
                 (subst (λ l. Outputs a b (λ text. text ++ l ≡ field_text entities tail)) (text_next so.0 next.rest tail next.e line next.are next.line) so.2)
                 c.in_ok-write_entity.was (rw c.in-Some.ensures.rest at c.write_entity.ensures.written),
           );
-      later = omega (arith, c.loop-head.invariant.later, c.write_entity.ensures.written.cause.later);
+      same = done_counts c.in_ok-write_entity.was c.write_entity.ensures.written.cause ∙ c.loop-head.invariant.same;
     }
 
 pub returns : goal.returns
@@ -84,4 +84,4 @@ returns g c = λ entities tail holds.
     let end = at_tail so.0 tail c.loop-head.left c.loop-head.bits so.1 c.in_default.ensures.tail in
     last_written (field_text entities tail) (tail_text c.loop-head.left) a b (g.O.Sink.known c.write_tail.new.out) c.write_tail.result
     (subst (λ l. Outputs a b (λ text. text ++ l ≡ field_text entities tail)) (text_last so.0 tail c.loop-head.left end.0 end.1) so.2)
-    c.loop-head.invariant.later c.write_tail.ensures
+    c.loop-head.invariant.same c.write_tail.ensures

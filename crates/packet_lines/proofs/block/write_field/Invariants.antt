@@ -1,4 +1,4 @@
-use Rattle.std.proofs.Common.{◌≡◌, ◌≤◌, ◌++◌, ℕ, List}
+use Rattle.std.proofs.Common.{◌≡◌, ◌++◌, ℕ, List}
 use Rattle.drm_links.specs.Sink.{Outputs}
 use Rattle.drm_sdc.specs.declared.entity.Entity.{Entity}
 use Rattle.packet_lines.specs.Block.{Holds}
@@ -11,7 +11,7 @@ invariant-loop-head g l =
     record {
       so_far : (entities : List Entity) (tail : List ℕ) → Holds entities tail l.fn.room l.fn.bits → (rest : List Entity) × Holds rest tail l.left l.bits
           × Outputs (g.O.Sink.known l.fn.out) (g.O.Sink.known l.out) (λ text. text ++ field_text rest tail ≡ field_text entities tail);
-      later : (g.O.Sink.known l.fn.out).faults ≤ (g.O.Sink.known l.out).faults;
+      same : (g.O.Sink.known l.out).faults ≡ (g.O.Sink.known l.fn.out).faults;
     }
 
 abbrev pub decreases-loop-head : goal.decreases-loop-head

@@ -1,4 +1,4 @@
-use Rattle.std.proofs.Common.{◌≡◌, ◌≤◌, take}
+use Rattle.std.proofs.Common.{◌≡◌, take}
 use Rattle.std.specs.List.{flat_map}
 use Rattle.drm_links.specs.Sink.{Outputs}
 use Rattle.packet_lines.specs.Lines.{name_byte}
@@ -8,4 +8,4 @@ use Rattle.packet_lines.proofs.tags.write_name.Given as goal
 abbrev pub invariant-loop-byte : goal.invariant-loop-byte
 invariant-loop-byte g l =
     Outputs (g.O.Sink.known l.fn.out) (g.O.Sink.known l.out) (λ text. text ≡ flat_map name_byte (take l.byte-index l.name))
-    × ((g.O.Sink.known l.fn.out).faults ≤ (g.O.Sink.known l.out).faults)
+    × ((g.O.Sink.known l.out).faults ≡ (g.O.Sink.known l.fn.out).faults)

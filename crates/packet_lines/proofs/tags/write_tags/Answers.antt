@@ -1,7 +1,7 @@
-use Rattle.std.proofs.Common.{◌≡◌, ◌++◌, sym, ap, subst, refl, arith}
+use Rattle.std.proofs.Common.{◌≡◌, ◌++◌, sym, ap, subst, refl, ◌∙◌}
 use Rattle.std.proofs.lemmas.Result.{err_from_is_err_and}
 use Rattle.drm_links.specs.Sink.{Outputs}
-use Rattle.drm_links.proofs.ToldLemmas.{Outputs-nothing}
+use Rattle.drm_links.proofs.ToldLemmas.{done_counts, Outputs-nothing}
 use Rattle.drm_links.proofs.WritingLemmas.{Writes-whole, Writes-broken, Writes-more}
 use Rattle.dcp_tag.specs.Place.{left}
 use Rattle.packet_lines.specs.Content.{AreItems}
@@ -18,7 +18,7 @@ loop-item-init g c =
         subst (AreItems items) (sym (ap left c.new-items.ensures)) are,
         Outputs-nothing (g.O.Sink.known c.args.out.now) (λ text. text ++ items_text items ≡ items_text items) refl,
       );
-      later = omega arith;
+      same = refl;
     }
 
 pub returns-in_err-write_tag : goal.returns-in_err-write_tag
@@ -33,7 +33,7 @@ returns-in_err-write_tag g c = λ items are.
     rw p.1
     (Writes-broken (items_text items) (tag_text item.name item.bits) (items_text next.0) a b (g.O.Sink.known c.write_tag.new.out) c.write_tag.result c.in_err-write_tag.field-0.0 p.0
     (subst (λ l. Outputs a b (λ text. text ++ l ≡ items_text items)) (text_then so.0 next.0 item c.loop-item.items c.next.new.items next.1 gives) so.2)
-    c.loop-item.invariant.later c.in_err-write_tag.was c.write_tag.ensures)
+    c.loop-item.invariant.same c.in_err-write_tag.was c.write_tag.ensures)
 
 pub loop-item-preserved : goal.loop-item-preserved
 loop-item-preserved g c =
@@ -51,7 +51,7 @@ loop-item-preserved g c =
                 (subst (λ l. Outputs a b (λ text. text ++ l ≡ items_text items)) (text_then so.0 next.0 item c.loop-item.items c.next.new.items next.1 gives) so.2)
                 c.in_ok-write_tag.was c.write_tag.ensures,
           );
-      later = omega (arith, c.loop-item.invariant.later, c.write_tag.ensures.cause.later);
+      same = done_counts c.in_ok-write_tag.was c.write_tag.ensures.cause ∙ c.loop-item.invariant.same;
     }
 
 pub returns : goal.returns
@@ -59,4 +59,4 @@ returns g c = λ items are.
     let a = g.O.Sink.known c.args.out.now in
     let b = g.O.Sink.known c.loop-item.out in
     let so = c.loop-item.invariant.so_far items are in
-    Writes-whole (items_text items) a b (all_items items so.0 (left c.loop-item.items) a b so.1 c.in_default.ensures.none so.2) c.loop-item.invariant.later
+    Writes-whole (items_text items) a b (all_items items so.0 (left c.loop-item.items) a b so.1 c.in_default.ensures.none so.2) c.loop-item.invariant.same

@@ -1,4 +1,4 @@
-use Rattle.std.proofs.Common.{◌≡◌, ◌≤◌, ◌++◌, List, length}
+use Rattle.std.proofs.Common.{◌≡◌, ◌++◌, List, length}
 use Rattle.drm_links.specs.Sink.{Outputs}
 use Rattle.dcp_tag.specs.Tag.{TagItem}
 use Rattle.dcp_tag.specs.Place.{left}
@@ -12,7 +12,7 @@ invariant-loop-item g l =
     record {
       so_far : (items : List TagItem) → AreItems items l.fn.payload → (rest : List TagItem) × AreItems rest (left l.items)
           × Outputs (g.O.Sink.known l.fn.out) (g.O.Sink.known l.out) (λ text. text ++ items_text rest ≡ items_text items);
-      later : (g.O.Sink.known l.fn.out).faults ≤ (g.O.Sink.known l.out).faults;
+      same : (g.O.Sink.known l.out).faults ≡ (g.O.Sink.known l.fn.out).faults;
     }
 
 abbrev pub decreases-loop-item : goal.decreases-loop-item
