@@ -59,7 +59,6 @@ impl<'a, R: Net + Clock> Dock for UdpDock<'a, R> {
     }
 
     fn close(&mut self, _at: Address, link: UdpLink<'a, R>) {
-        self.faults = self.faults.saturating_add(link.faults);
         drop(link);
     }
 }

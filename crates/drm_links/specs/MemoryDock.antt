@@ -5,7 +5,7 @@ use Rattle.std.specs.Ordering.{nat_cmp}
 use Rattle.std.specs.Cmp.Lexicographic.{slice_cmp}
 use Rattle.std.specs.FinMap as map
 use Rattle.std.specs.Coded.{Coded, code_by, coded×, coded_ℕ, coded_list}
-use Rattle.drm_links.specs.Told.{Known, one_more, raised, told_for}
+use Rattle.drm_links.specs.Told.{Known, one_more, told_for}
 use Rattle.drm_links.specs.Link.{Traffic, rests_of}
 use Rattle.drm_links.specs.Dock.{DockContents, LinkStart, address_key}
 use Rattle.drm_links.specs.MemoryLink.{LinkState, IsUntouched, traffic_of, link_known}
@@ -146,8 +146,4 @@ Leaves Failed at before after =
 
 -- the dock after this link was closed at this address
 abbrev pub after_close : Address → LinkState → DockState → DockState
-after_close at link dock = record dock {
-  closed = (address_key at, link) ∷ dock.closed;
-  calls = one_more dock.calls;
-  faults = raised dock.faults link.faults;
-}
+after_close at link dock = record dock { closed = (address_key at, link) ∷ dock.closed; calls = one_more dock.calls }

@@ -12,10 +12,6 @@ pub record Known (T : Type 0) : Type 0 where
 abbrev pub one_more : ℕ → ℕ
 one_more count = min (count + 1) (2 ^ 64 - 1)
 
--- and after so many more
-abbrev pub raised : ℕ → ℕ → ℕ
-raised count more = count + min more (2 ^ 64 - 1 - count)
-
 -- A count rose by one where this happened, and else it stayed.
 pub record Counts (old new : ℕ) (Happened : Type 0) : Type 0 where
   pub once : Happened → new ≡ one_more old

@@ -1,7 +1,7 @@
 //! Where links are opened.
 
 ghost use Rattle.std.specs.Prelude.{ℕ, ◌≡◌, Option};
-ghost use Rattle.drm_links.specs.Told.{Known, HasCause, CountsCall, WhileTold, raised};
+ghost use Rattle.drm_links.specs.Told.{Known, HasCause, CountsCall, WhileTold};
 ghost use Rattle.drm_links.specs.Dock.{DockContents, Binds, Reaches, Closes, IsFresh, IsFailed};
 
 use crate::Link;
@@ -22,8 +22,8 @@ pub enum Opened<L> {
 pub trait Dock {
     type L: Link;
 
-    /// How often a call has failed, of the dock or of a link that was closed; and the openings so far, the links that stand ready,
-    /// and what went over closed ones, where the dock tells them.
+    /// How often a call has failed, and the openings so far, the links that stand ready, and what went over closed ones, where
+    /// the dock tells them.
     ghost known: { Self → Known DockContents };
 
     /// Opens a link that receives at this address.
@@ -44,5 +44,5 @@ pub trait Dock {
     fn close(&mut self, at: Address, link: Self::L)
         ensures gone { WhileTold (known self.old) (known self.new) (Closes (Self.L.known link).told at) }
         ensures told { CountsCall (λ contents. contents.calls) (known self.old) (known self.new) }
-        ensures cause { (known self.new).faults ≡ raised (known self.old).faults (Self.L.known link).faults };
+        ensures cause { (known self.new).faults ≡ (known self.old).faults };
 }

@@ -57,13 +57,6 @@ impl DockedLink {
         link
     }
 
-    /// How many of its calls have failed, up to the last value of a u64.
-    pub fn faults(&self) -> u64
-        ensures { result ≡ self.now.faults }
-    {
-        self.link.faults()
-    }
-
     /// The node, which holds the link as one that was closed at this address.
     pub fn into_closed(self, at: Address) -> LinkedList<Option<Closed>>
         ensures { result ≡ Some (record { at = at; link = self }) ∷ [] }

@@ -3,7 +3,7 @@
 ghost use Rattle.std.specs.Prelude.{◌≡◌, ◌+◌, ◌^◌, ◌<◌, ◌≤◌, [], ◌∷◌, Some, IsNone, is_some, length, IfOk, IfErr, OnOk, OnErr};
 ghost use Rattle.std.specs.Option.{option_map, option_copied};
 ghost use Rattle.std.specs.FinMap as map;
-ghost use Rattle.drm_links.specs.Told.{HasCause, CountsCall, WhileTold, one_more, raised};
+ghost use Rattle.drm_links.specs.Told.{HasCause, CountsCall, WhileTold, one_more};
 ghost use Rattle.drm_links.specs.Dock.{Binds, Reaches, Closes, IsFresh, IsFailed, address_key};
 ghost use Rattle.drm_links.specs.MemoryLink.{IsUntouched};
 ghost use Rattle.drm_links.specs.MemoryDock.{Leaves, reached, after_close, link_at, closed_at, dock_known, start_of, with_start};
@@ -234,10 +234,9 @@ impl Dock for MemDock {
         ensures gone { WhileTold (dock_known self.old) (dock_known self.new)
             (Closes (⟦<DockedLink as Link>⟧.known link).told at) }
         ensures told { CountsCall (λ contents. contents.calls) (dock_known self.old) (dock_known self.new) }
-        ensures cause { self.new.faults ≡ raised self.old.faults (⟦<DockedLink as Link>⟧.known link).faults }
+        ensures cause { self.new.faults ≡ self.old.faults }
     {
         self.calls = self.calls.saturating_add(1);
-        self.faults = self.faults.saturating_add(link.faults());
         if self.closed.len() < MOST_CLOSED {
             let mut node = link.into_closed(at);
             let Ok(()) = node.append(&mut self.closed) else {

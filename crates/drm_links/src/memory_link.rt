@@ -164,13 +164,6 @@ impl MemLink {
         self.waits.get(k).copied()
     }
 
-    /// How many of its calls have failed, up to the last value of a u64.
-    pub(crate) fn faults(&self) -> u64
-        ensures { result ≡ self.now.faults }
-    {
-        self.faults
-    }
-
     // What is known of the link between its calls.
     fn counted(&self)
         ensures { IsCounted self.now }
