@@ -2,11 +2,11 @@
 use Rattle.std.proofs.Common.{◌≡◌, ℕ, ◌+◌, ◌-◌, ◌<◌, ◌≤◌, List, [], ◌∷◌, length, drop, slice_index_or, Some, refl, sym, ◌∙◌, ap, subst, arith}
 use Rattle.std.proofs.lemmas.List.{drop_more, drop_all, length-drop}
 use Rattle.drm_links.specs.Told.{Known, WhileTold, CountsCall, Tells}
-use Rattle.drm_links.specs.Link.{Traffic, rests_of}
-use Rattle.drm_links.specs.Dock.{DockContents, Closes, after_close}
+use Rattle.drm_links.specs.Link.{Traffic}
+use Rattle.drm_links.specs.Dock.{DockContents, Over, Closes, over_of, after_close}
 use Rattle.drm_links.specs.declared.dock.Address.{Address}
 use Rattle.drm_links.proofs.ToldLemmas.{Tells-nothing, Tells-weaker}
-use Rattle.several_links.specs.Reaching.{Over, HaveGone, after_closes, nothing}
+use Rattle.several_links.specs.Reaching.{HaveGone, after_closes, nothing}
 use Rattle.several_links.specs.declared.member.Member.{Member}
 use Rattle.several_links.proofs.OpeningLemmas.{docks_more}
 
@@ -38,8 +38,8 @@ module _ {L : Type 0} (known : L → Known Traffic) (members : List (Member L)) 
       let many = gone.as_many in
       let has = gone.each k any nothing there in
       let told : (known link).told ≡ Some has.0 = ap (λ l. (known l).told) (sym (links any)) ∙ has.1 in
-      let closed : z ≡ after_close at has.0.gone (rests_of has.0) y = subst (λ t. Closes t at y z) told now in
-      let so : z ≡ after_close at over.gone over.rests y = closed ∙ (λ i. after_close at (has.2 i) (has.3 i) y) in
+      let closed : z ≡ after_close at (over_of has.0) y = subst (λ t. Closes t at y z) told now in
+      let so : z ≡ after_close at over y = closed ∙ ap (λ o. after_close at o y) has.2 in
       let all_overs : drop k overs ≡ over ∷ drop (k + 1) overs = drop_more overs k nothing (omega (arith, many, there)) in
       let all_addresses : drop k addresses ≡ at ∷ drop (k + 1) addresses = drop_more addresses k at within ∙ ap (λ e. e ∷ drop (k + 1) addresses) (sym is) in
       ap (after_closes (drop (k + 1) overs) (drop (k + 1) addresses)) so

@@ -2,14 +2,14 @@
 use Rattle.std.proofs.Common.{◌≡◌, ℕ, ◌+◌, ◌<◌, List, [], ◌∷◌, length, take, replicate, slice_index_or, Option, None, Some, refl, sym, ◌∙◌, ap, subst, arith}
 use Rattle.std.proofs.lemmas.List.{take_all, get_or-replicate, length-replicate}
 use Rattle.drm_links.specs.Told.{Known, WhileTold, CountsCall, ToldThrough, Tells}
-use Rattle.drm_links.specs.Link.{Traffic, rests_of}
-use Rattle.drm_links.specs.Dock.{DockContents, Reaches, with_reach, after_opening, after_failure, first_traffic}
+use Rattle.drm_links.specs.Link.{Traffic}
+use Rattle.drm_links.specs.Dock.{DockContents, Over, over_of, Reaches, with_reach, after_opening, after_failure, first_traffic}
 use Rattle.drm_links.specs.declared.dock.Address.{Address}
 use Rattle.drm_links.specs.declared.dock.Opened.TheVariants as opened
 use Rattle.drm_links.proofs.ToldLemmas.{Tells-nothing, Tells-then, Tells-weaker}
 use Rattle.word_forms.specs.Addresses.{AreDifferent}
 use Rattle.several_links.specs.Openings.{Docked, FindsNone, HasLink, after_openings}
-use Rattle.several_links.specs.Reaching.{Over, HaveGone, ReachesFew, with_reaches, after_reaches, after_closes, nothing}
+use Rattle.several_links.specs.Reaching.{HaveGone, ReachesFew, with_reaches, after_reaches, after_closes, nothing}
 use Rattle.several_links.specs.declared.member.Member.{Member}
 use Rattle.several_links.proofs.OpeningLemmas.{Opened, docks_more, found, next, not_found_at}
 
@@ -110,8 +110,8 @@ nothing_gone {L} known told addresses members n size first = record {
       let less : k < n = omega (arith, within, size) in
       let there = first k at d less in
       let is : slice_index_or (replicate n nothing) k none ≡ nothing = get_or-replicate n k nothing none less in
-      let P : Over → Type 0 = λ over. (traffic : Traffic) × ((known (slice_index_or members k d).link).told ≡ Some traffic) × (traffic.gone ≡ over.gone) × (rests_of traffic ≡ over.rests) in
-      subst P (sym is) (first_traffic there.0, there.2, refl, refl);
+      let P : Over → Type 0 = λ over. (traffic : Traffic) × ((known (slice_index_or members k d).link).told ≡ Some traffic) × (over_of traffic ≡ over) in
+      subst P (sym is) (first_traffic there.0, there.2, refl);
 }
 
 -- those that were opened are closed

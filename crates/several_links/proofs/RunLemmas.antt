@@ -8,19 +8,19 @@ use Rattle.std.specs.Cmp.Lexicographic.{nat_list_cmp_total}
 use Rattle.std.proofs.lemmas.Grind.{common_steps}
 use Rattle.drm_links.specs.Told.{Known, ToldThrough, Tells}
 use Rattle.drm_links.specs.Link.{Traffic}
-use Rattle.drm_links.specs.Dock.{DockContents, LinkStart, address_key, first_traffic, after_close}
+use Rattle.drm_links.specs.Dock.{DockContents, LinkStart, Over, address_key, first_traffic, after_close}
 use Rattle.drm_links.specs.declared.dock.Address.{Address}
 use Rattle.drm_links.proofs.ToldLemmas.{Tells-then}
 use Rattle.word_forms.specs.Addresses.{AreDifferent}
 use Rattle.several_links.specs.Openings.{Docked, Finds}
-use Rattle.several_links.specs.Reaching.{Over, HasGone, HaveGone, HaveLinks, GoesOver, NothingSent, after_reaches, after_closes, with_none, with_reaches}
+use Rattle.several_links.specs.Reaching.{HasGone, HaveGone, HaveLinks, GoesOver, NothingSent, after_reaches, after_closes, with_none, with_reaches}
 use Rattle.several_links.specs.declared.member.Member.{Member}
 use Rattle.several_links.proofs.OpeningLemmas.{same_index, index_of, one_address, other_key, openings_gone}
 
 -- ---- what goes over each link
 
 -- one for each place
-choose : {X : Type 0} (n : ℕ) (P : ℕ → X → Type 0) → ((k : ℕ) → k < n → (x : X) × P k x)
+pub choose : {X : Type 0} (n : ℕ) (P : ℕ → X → Type 0) → ((k : ℕ) → k < n → (x : X) × P k x)
     → (xs : List X) × (length xs ≡ n) × ((k : ℕ) (d : X) → k < n → P k (slice_index_or xs k d))
 choose zero P each = ([], refl, λ k d within. absurd (omega (arith, within)))
 choose {X} (suc n) P each =
@@ -38,13 +38,13 @@ module _ {L : Type 0} (Goes : ℕ → LinkStart → Over → Type 0) (known : L 
   abbrev Made : DockContents → ℕ → Over → Type 0
   Made told k over =
       (start : LinkStart) × ((at : Address) → Finds told k (slice_index_or addresses k at) start)
-      × ((d : Member L) → HasGone known (slice_index_or members' k d).link over) × Goes k start over
+      × ((d : Member L) → HasGone known (slice_index_or members' k d).link over) × Goes k start over × (over.answers ≡ [])
 
   -- Where the dock tells, each link was opened as a new one, and tells at its end what went over it.
   pub over_each : (a b c : Known DockContents) → Tells a b (λ before after. after ≡ after_reaches addresses before)
       → Docked a b (λ told. HaveLinks known told addresses members)
       → ((k : ℕ) (d : Member L) (start : LinkStart) → k < length addresses → (known (slice_index_or members k d).link).told ≡ Some (first_traffic start)
-      → (over : Over) × HasGone known (slice_index_or members' k d).link over × Goes k start over)
+      → (over : Over) × HasGone known (slice_index_or members' k d).link over × Goes k start over × (over.answers ≡ []))
       → Tells b c (λ before after. (overs : List Over) → HaveGone known members' overs → after ≡ after_closes overs addresses before)
       → Tells a c (GoesOver Goes addresses)
   over_each a b c opened links each closed =
@@ -62,12 +62,13 @@ module _ {L : Type 0} (Goes : ℕ → LinkStart → Over → Type 0) (known : L 
           (λ at. subst (λ a. Finds x k a there.0) (same_index addresses k none at within) there.1),
           (λ e. subst (λ (m : Member L). HasGone known m.link over.0) (same_index members' k d e (omega (arith, within, many'))) over.1),
           over.2,
+          over.3,
         ),
       ) in
       let made = choose (length addresses) (Made x) one in
       record {
         overs = made.0;
-        goes = record { as_many = made.1; each = λ k at e within. let m = made.2 k e within in (m.0, m.1 at, m.3) };
+        goes = record { as_many = made.1; each = λ k at e within. let m = made.2 k e within in (m.0, m.1 at, m.3); received = λ k e within. (made.2 k e within).4 };
         told = q made.0 (record { as_many = made.1 ∙ sym many'; each = λ k d e within. (made.2 k e (omega (arith, within, many'))).2 d }) ∙ ap (after_closes made.0 addresses) p.0;
       })
     where
@@ -92,7 +93,7 @@ kept_at : (key : List ℕ) (overs : List Over) (addresses : List Address) (told 
 kept_at key [] addresses told others = refl
 kept_at key (over ∷ overs) [] told others = refl
 kept_at key (over ∷ overs) (at ∷ addresses) told others =
-    kept_at key overs addresses (after_close at over.gone over.rests told) others.1
+    kept_at key overs addresses (after_close at over told) others.1
     ∙ (get-insert nat_list_cmp_total told.gone (address_key at) over.gone key
     ∙ ap (λ b. cond b (Some over.gone) (map.get told.gone key)) (other_key key (address_key at) (λ same. others.0 (sym same))))
 
@@ -104,17 +105,17 @@ gone_at [] [] told different many k at none within = absurd (omega (arith, withi
 gone_at [] (a ∷ addresses) told different many k at none within = absurd (omega (arith, many))
 gone_at (over ∷ overs) [] told different many k at none within = absurd (omega (arith, many))
 gone_at (over ∷ overs) (a ∷ addresses) told different many zero at none within =
-    kept_at (address_key a) overs addresses (after_close a over.gone over.rests told) (other_keys a addresses different.0) ∙ grind (arith, gets, common_steps)
+    kept_at (address_key a) overs addresses (after_close a over told) (other_keys a addresses different.0) ∙ grind (arith, gets, common_steps)
 gone_at (over ∷ overs) (a ∷ addresses) told different many (suc k) at none within =
-    gone_at overs addresses (after_close a over.gone over.rests told) different.1 (omega (arith, many)) k at none (omega (arith, within))
+    gone_at overs addresses (after_close a over told) different.1 (omega (arith, many)) k at none (omega (arith, within))
 
-none_gone : (overs : List Over) (addresses : List Address) (told : DockContents) → length overs ≡ length addresses
+pub none_gone : (overs : List Over) (addresses : List Address) (told : DockContents) → length overs ≡ length addresses
     → ((k : ℕ) (none : Over) → k < length addresses → (slice_index_or overs k none).gone ≡ []) → (after_closes overs addresses told).gone ≡ with_none addresses told.gone
 none_gone [] [] told many each = refl
 none_gone [] (a ∷ addresses) told many each = absurd (omega (arith, many))
 none_gone (over ∷ overs) [] told many each = absurd (omega (arith, many))
 none_gone (over ∷ overs) (a ∷ addresses) told many each =
-    none_gone overs addresses (after_close a over.gone over.rests told) (omega (arith, many)) (λ k none within. each (suc k) none (omega (arith, within)))
+    none_gone overs addresses (after_close a over told) (omega (arith, many)) (λ k none within. each (suc k) none (omega (arith, within)))
     ∙ ap (λ gone. with_none addresses (map.insert told.gone (address_key a) gone)) (each zero over (omega arith))
 
 -- nothing was sent where nothing had gone over any of them

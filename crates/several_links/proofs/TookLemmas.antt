@@ -1,36 +1,35 @@
 -- More datagrams, over one of several links.
-use Rattle.std.proofs.Common.{◌≡◌, ◌≤◌, ℕ, List, [], ◌++◌, length, sym, ◌∙◌, ap, arith, append_assoc, length-append}
-use Rattle.drm_links.specs.Told.{Known, HasFailed}
+use Rattle.std.proofs.Common.{◌≡◌, ◌≤◌, ℕ, Bool, true, false, List, [], ◌++◌, length, refl, sym, ◌∙◌, ap, arith, append_assoc, length-append}
+use Rattle.drm_links.specs.Told.{Known, HasCause, HasFailed}
 use Rattle.drm_links.specs.Transmission.{Transmits, SendsAll, SendsNoMore}
-use Rattle.drm_links.proofs.ToldLemmas.{later-Rose}
+use Rattle.drm_links.proofs.ToldLemmas.{once_then, counts_one, counts_none}
 use Rattle.drm_links.specs.Link.{Traffic}
 use Rattle.drm_links.proofs.TransmissionLemmas.{Transmits-nothing, Transmits-then, SendsAll-then, SendsAll-no_more}
-use Rattle.several_links.specs.Took.{TookAll, TookSome}
+use Rattle.several_links.specs.Took.{TookAll, TookSome, TookBy}
 
 -- none yet
 pub took_none : (start : Known Traffic) → TookAll [] start start
-took_none start = record { sent = Transmits-nothing start; later = omega arith }
+took_none start = record { sent = Transmits-nothing start; same = refl }
 
 -- a link that took all before took these too
-pub took_more : (datagrams more : List (List ℕ)) (start before now : Known Traffic) → TookAll datagrams start before → Transmits before now (SendsAll more) → before.faults ≤ now.faults
+pub took_more : (datagrams more : List (List ℕ)) (start before now : Known Traffic) → TookAll datagrams start before → Transmits before now (SendsAll more) → now.faults ≡ before.faults
     → TookAll (datagrams ++ more) start now
-took_more datagrams more start before now took sent later =
-    let first = took.later in
+took_more datagrams more start before now took sent same =
     record {
       sent = Transmits-then (SendsAll datagrams) (SendsAll more) (SendsAll (datagrams ++ more)) start before now took.sent sent (λ x y z. SendsAll-then datagrams more x y z);
-      later = omega (arith, first, later);
+      same = same ∙ took.same;
     }
 
 -- it took some of these, and then it failed
 pub took_part : (datagrams more front rest : List (List ℕ)) (start before now : Known Traffic) → TookAll datagrams start before → more ≡ front ++ rest → 1 ≤ length rest
     → Transmits before now (SendsNoMore front) → HasFailed before now → TookSome (datagrams ++ more) start now
-took_part datagrams more front rest start before now took are some sent rose = record {
+took_part datagrams more front rest start before now took are some sent once = record {
   front = datagrams ++ front;
   rest = rest;
   are = ap (λ l. datagrams ++ l) are ∙ sym (append_assoc datagrams front rest);
   some = some;
   sent = Transmits-then (SendsAll datagrams) (SendsNoMore front) (SendsNoMore (datagrams ++ front)) start before now took.sent sent (λ x y z. SendsAll-no_more datagrams front x y z);
-  rose = later-Rose start.faults before.faults now.faults took.later rose;
+  once = once_then took.same once;
 }
 
 -- one that failed before took some of these too
@@ -41,5 +40,10 @@ still_some datagrams more start now took = record {
   are = ap (λ l. l ++ more) took.are ∙ append_assoc took.front took.rest more;
   some = (let long = length-append took.rest more in let some = took.some in omega (arith, long, some));
   sent = took.sent;
-  rose = took.rose;
+  once = took.once;
 }
+
+-- one call failed where it didn't take them all
+pub took_counts : (up : Bool) (datagrams : List (List ℕ)) (start now : Known Traffic) → TookBy up datagrams start now → HasCause start now (up ≡ false)
+took_counts true datagrams start now took = counts_none (λ down. cc) took.same
+took_counts false datagrams start now took = counts_one refl took.once

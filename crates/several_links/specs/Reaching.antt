@@ -3,9 +3,9 @@ use Rattle.std.specs.Prelude.{ℕ, ◌≡◌, ◌+◌, ◌<◌, true, false, Lis
 use Rattle.std.specs.FinMap as map
 use Rattle.std.specs.Ordering.{nat_cmp}
 use Rattle.std.specs.Cmp.Lexicographic.{slice_cmp}
-use Rattle.drm_links.specs.Told.{Known}
-use Rattle.drm_links.specs.Link.{Traffic, rests_of}
-use Rattle.drm_links.specs.Dock.{DockContents, LinkStart, address_key, after_failure, after_close}
+use Rattle.drm_links.specs.Told.{Known, raised}
+use Rattle.drm_links.specs.Link.{Traffic}
+use Rattle.drm_links.specs.Dock.{DockContents, LinkStart, Over, over_of, address_key, after_failure, after_close}
 use Rattle.drm_links.specs.declared.dock.Address.{Address}
 use Rattle.several_links.specs.Openings.{Finds, FindsNone, HasLink, after_openings}
 use Rattle.several_links.specs.declared.member.Member.{Member}
@@ -36,29 +36,35 @@ AreDown members = All (λ member. member.up ≡ false) members
 
 -- ---- closings, in the order of the openings
 
--- what had gone over a link that is closed, and how long it rested before each datagram and after the last
-pub record Over : Type 0 where
-  pub gone : List (List ℕ)
-  pub rests : List ℕ
-
--- nothing had
+-- nothing went over a link
 abbrev pub nothing : Over
-nothing = record { gone = []; rests = 0 ∷ [] }
+nothing = record { answers = []; gone = []; rests = 0 ∷ [] }
 
--- what a dock tells after links were closed at these addresses over which this had gone
+-- what a dock tells after links were closed at these addresses over which this went
 abbrev pub after_closes : List Over → List Address → DockContents → DockContents
 after_closes [] addresses told = told
 after_closes (over ∷ overs) [] told = told
-after_closes (over ∷ overs) (at ∷ addresses) told = after_closes overs addresses (after_close at over.gone over.rests told)
+after_closes (over ∷ overs) (at ∷ addresses) told = after_closes overs addresses (after_close at over told)
 
--- this has gone over a link that tells it
+-- this went over a link that tells it
 abbrev pub HasGone : {L : Type 0} → (L → Known Traffic) → L → Over → Type 0
-HasGone known link over = (traffic : Traffic) × ((known link).told ≡ Some traffic) × (traffic.gone ≡ over.gone) × (rests_of traffic ≡ over.rests)
+HasGone known link over = (traffic : Traffic) × ((known link).told ≡ Some traffic) × (over_of traffic ≡ over)
 
 -- and over each of several
 pub record HaveGone {L : Type 0} (known : L → Known Traffic) (members : List (Member L)) (overs : List Over) : Type 0 where
   pub as_many : length overs ≡ length members
   pub each : (k : ℕ) (d : Member L) (none : Over) → k < length members → HasGone known (slice_index_or members k d).link (slice_index_or overs k none)
+
+-- ---- counts of faults
+
+-- no call of any link has failed
+abbrev pub HaveNoFaults : {L : Type 0} → (L → Known Traffic) → List (Member L) → Type 0
+HaveNoFaults known members = All (λ member. (known member.link).faults ≡ 0) members
+
+-- the dock's count once these links were closed: each one adds its own
+abbrev pub with_faults : {L : Type 0} → (L → Known Traffic) → List (Member L) → ℕ → ℕ
+with_faults known [] count = count
+with_faults known (member ∷ members) count = with_faults known members (raised count (known member.link).faults)
 
 -- ---- an opening that fails
 
@@ -78,11 +84,12 @@ pub record ReachesFew (addresses : List Address) (before after : DockContents) :
 
 -- ---- a run over several links
 
--- What goes over the link at each address is what Goes says of its place, of how it starts, and of this.
+-- What goes over the link at each address is what Goes says of its place, of how it starts, and of this. Nothing is received on any.
 pub record EachGoes (Goes : ℕ → LinkStart → Over → Type 0) (told : DockContents) (addresses : List Address) (overs : List Over) : Type 0 where
   pub as_many : length overs ≡ length addresses
   pub each : (k : ℕ) (at : Address) (none : Over) → k < length addresses
       → (start : LinkStart) × Finds told k (slice_index_or addresses k at) start × Goes k start (slice_index_or overs k none)
+  pub received : (k : ℕ) (none : Over) → k < length addresses → (slice_index_or overs k none).answers ≡ []
 
 -- A link was opened at each address, this went over them, and they were closed.
 pub record GoesOver (Goes : ℕ → LinkStart → Over → Type 0) (addresses : List Address) (before after : DockContents) : Type 0 where

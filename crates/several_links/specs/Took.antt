@@ -5,19 +5,19 @@ use Rattle.drm_links.specs.Link.{Traffic}
 use Rattle.drm_links.specs.Transmission.{Transmits, SendsAll, SendsNoMore}
 use Rattle.several_links.specs.declared.member.Member.{Member}
 
--- It took them all.
+-- It took them all, and no call of it failed.
 pub record TookAll (datagrams : List (List ℕ)) (start now : Known Traffic) : Type 0 where
   pub sent : Transmits start now (SendsAll datagrams)
-  pub later : start.faults ≤ now.faults
+  pub same : now.faults ≡ start.faults
 
--- It took some first ones, and not the next.
+-- It took some first ones, and not the next: that call failed, and no other was made afterwards.
 pub record TookSome (datagrams : List (List ℕ)) (start now : Known Traffic) : Type 0 where
   pub front : List (List ℕ)
   pub rest : List (List ℕ)
   pub are : datagrams ≡ front ++ rest
   pub some : 1 ≤ length rest
   pub sent : Transmits start now (SendsNoMore front)
-  pub rose : HasFailed start now
+  pub once : HasFailed start now
 
 abbrev pub TookBy : Bool → List (List ℕ) → Known Traffic → Known Traffic → Type 0
 TookBy true datagrams start now = TookAll datagrams start now

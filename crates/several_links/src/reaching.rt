@@ -1,10 +1,10 @@
 //! Links that are opened to send over them.
 
 ghost use Rattle.std.specs.Prelude.{◌≡◌, ◌≤◌, Err, IsErr, length, vec_len, vec_capacity, IfOk, IfErr};
-ghost use Rattle.drm_links.specs.Told.{HasCause, HasFailed, Tells};
+ghost use Rattle.drm_links.specs.Told.{HasCause, Tells};
 ghost use Rattle.word_forms.specs.Addresses.{AreDifferent};
 ghost use Rattle.several_links.specs.Openings.{Docked};
-ghost use Rattle.several_links.specs.Reaching.{HaveLinks, AreUp, ReachesFew, after_reaches};
+ghost use Rattle.several_links.specs.Reaching.{HaveLinks, HaveNoFaults, AreUp, ReachesFew, after_reaches};
 
 use crate::{Member, close_each};
 use drm_bits::NoMemory;
@@ -51,6 +51,7 @@ pub fn reach_in<D: Dock>(
     requires all { length addresses.now ≤ vec_capacity room }
     ensures many { IfOk result (λ members. vec_len members ≡ length addresses.now) }
     ensures up { IfOk result (λ members. AreUp members.items) }
+    ensures fresh { IfOk result (λ members. HaveNoFaults D.L.known members.items) }
     ensures opened { IfOk result (λ _. Tells (D.known dock.old) (D.known dock.new)
         (λ before after. after ≡ after_reaches addresses.now before)) }
     ensures links { IfOk result (λ members. Docked (D.known dock.old) (D.known dock.new) (λ told.
@@ -85,15 +86,15 @@ pub fn reach_each<D: Dock>(
     requires { AreDifferent addresses.now }
     ensures many { IfOk result (λ members. vec_len members ≡ length addresses.now) }
     ensures up { IfOk result (λ members. AreUp members.items) }
+    ensures fresh { IfOk result (λ members. HaveNoFaults D.L.known members.items) }
     ensures opened { IfOk result (λ _. Tells (D.known dock.old) (D.known dock.new)
         (λ before after. after ≡ after_reaches addresses.now before)) }
     ensures links { IfOk result (λ members. Docked (D.known dock.old) (D.known dock.new) (λ told.
         HaveLinks D.L.known told addresses.now members.items)) }
     ensures failed { result ≡ Err ReachFault.Link → Tells (D.known dock.old) (D.known dock.new)
         (λ before after. ReachesFew addresses.now before after) }
-    ensures rose { result ≡ Err ReachFault.Link → HasFailed (D.known dock.old) (D.known dock.new) }
+    ensures cause { HasCause (D.known dock.old) (D.known dock.new) (result ≡ Err ReachFault.Link) }
     ensures untouched { result ≡ Err ReachFault.NoMemory → dock.new ≡ dock.old }
-    ensures later { (D.known dock.old).faults ≤ (D.known dock.new).faults }
 {
     let room = room_for(alloc, addresses)?;
     match reach_in(room, addresses, dock) {

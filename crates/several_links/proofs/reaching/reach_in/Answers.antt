@@ -1,11 +1,13 @@
-use Rattle.std.proofs.Common.{◌≡◌, ℕ, ◌+◌, ◌<◌, ◌≤◌, refl, slice_index_or, ◌∙◌, ap, arith, length, length-append, [], ◌∷◌, ◌++◌, true, subst, sym, All, le_trans}
+use Rattle.std.proofs.Common.{◌≡◌, ℕ, ◌+◌, ◌<◌, ◌≤◌, refl, slice_index_or, ◌∙◌, ap, arith, length, length-append, [], ◌∷◌, ◌++◌, true, subst, sym, All}
 use Rattle.std.proofs.lemmas.List.Elements.{All-push}
 use Rattle.drm_links.specs.declared.dock.Address.{Address}
-use Rattle.drm_links.proofs.ToldLemmas.{Tells-weaker}
+use Rattle.drm_links.proofs.ToldLemmas.{Tells-weaker, counts_one, once_then}
 use Rattle.several_links.specs.Openings.{Docked, HasLink}
+use Rattle.several_links.specs.Reaching.{HaveNoFaults}
 use Rattle.several_links.specs.declared.member.Member.{Member}
 use Rattle.several_links.proofs.OpeningLemmas.{docked_still, each_more}
 use Rattle.several_links.proofs.ReachLemmas.{Reached, HaveFirst, found_reach, reached_now, missed_now, first_links, few_reached}
+use Rattle.several_links.proofs.FaultLemmas.{none_add}
 use Rattle.several_links.proofs.reaching.reach_in.Goals as goal
 
 pub returns-in-Failed-clause-failed : goal.returns-in-Failed-clause-failed
@@ -23,6 +25,12 @@ returns-in-Failed-clause-failed g c =
     (first_links known ats c.loop-k.members.items k (Reached ats k) a b i.5 i.6) c.in-Failed.ensures.told)
     (missed_now ats k c.get.result.now within c.get.ensures known a b d c.requires.different i.5 c.in-Failed.ensures.opened c.in-Failed.ensures.told)
     c.close_each.ensures.closed
+
+pub returns-in-Failed-clause-cause : goal.returns-in-Failed-clause-cause
+returns-in-Failed-clause-cause g c =
+    let i = c.loop-k.invariant in
+    let closed = c.close_each.ensures.cause ∙ none_add g.D.L.Link.known c.loop-k.members.items (g.D.Dock.known c.reach.new.self).faults i.7 in
+    counts_one refl (closed ∙ once_then i.4 (c.in-Failed.ensures.cause.once tt))
 
 pub loop-k-preserved : goal.loop-k-preserved
 loop-k-preserved g c =
@@ -46,10 +54,11 @@ loop-k-preserved g c =
       many,
       (let room = c.in-Ok.ensures.capacity in let before = i.2 in omega (arith, room, before)),
       subst (λ ms. All (λ (m : Member g.row.D-L.Denot). m.up ≡ true) ms) (sym more) (All-push (λ (m : Member g.row.D-L.Denot). m.up ≡ true) c.loop-k.members.items member i.3 refl),
-      le_trans i.4 c.in-Link.ensures.cause.later,
+      c.in-Link.ensures.cause.same (λ failed. failed) ∙ i.4,
       reached_now ats k at within c.get.ensures known c.in-Link.link a b d i.5 c.in-Link.ensures.opened c.in-Link.ensures.told,
       each_more Q c.loop-k.members.items c.push.new.self.items member k size more old
           (λ e. found_reach ats k at within c.get.ensures known c.in-Link.link a b d c.requires.different i.5 c.in-Link.ensures.opened c.in-Link.ensures.told e),
+      subst (λ ms. HaveNoFaults known ms) (sym more) (All-push (λ (m : Member g.row.D-L.Denot). (known m.link).faults ≡ 0) c.loop-k.members.items member i.7 c.in-Link.ensures.fresh.0),
     )
 
 pub returns-clause-links : goal.returns-clause-links
