@@ -3,6 +3,7 @@ use Rattle.std.proofs.lemmas.Result.{err_from_is_err_and}
 use Rattle.dcp_pft.specs.Limits.{most_fragments}
 use Rattle.drm_links.specs.Link.{Traffic}
 use Rattle.drm_links.specs.Transmission.{Transmits, Waits}
+use Rattle.drm_links.proofs.ToldLemmas.{counts_one, done_counts, failed_counts, once_then}
 use Rattle.drm_links.proofs.ManyCallsLemmas.{no_calls, more_calls, at_most}
 use Rattle.drm_links.proofs.TransmissionLemmas.{Transmits-nothing}
 use Rattle.packet_cutting.proofs.Taken.{taken}
@@ -17,7 +18,7 @@ loop-i-init g c = (
   none_yet c.args.shape.now c.args.seq c.args.packet.now,
   refl,
   Transmits-nothing (g.L.Link.known c.args.link.now),
-  omega arith,
+  refl,
   refl,
   no_calls (λ (t : Traffic). t.calls) (g.L.Link.known c.args.link.now),
   made_none (g.L.Link.known c.args.link.now),
@@ -34,7 +35,7 @@ loop-i-preserved g c =
       one_more c.args.shape.now c.args.seq c.loop-i.i c.args.packet.now i.0 next i.1 i.2 c.write_cut-len.ensures.fragment,
       one_longer i.0 next c.loop-i.i i.2,
       then_sent i.0 (next ∷ []) (g.L.Link.known c.args.link.now) (g.L.Link.known c.loop-i.link) (g.L.Link.known c.send_datagram.new.link) i.3 c.in_ok-send_datagram.ensures.sent,
-      omega (arith, i.4, c.send_datagram.ensures.cause.later),
+      done_counts c.in_ok-send_datagram.was c.send_datagram.ensures.cause ∙ i.4,
       c.send_datagram.ensures.idle ∙ i.5,
       more_calls calls c.loop-i.i 1 (g.L.Link.known c.args.link.now) (g.L.Link.known c.loop-i.link) (g.L.Link.known c.send_datagram.new.link) i.6 c.send_datagram.ensures.calls,
       made_then c.loop-i.i 1 (c.loop-i.i + 1) (g.L.Link.known c.args.link.now) (g.L.Link.known c.loop-i.link) (g.L.Link.known c.send_datagram.new.link) refl i.7 c.send_datagram.ensures.counted,
@@ -64,6 +65,11 @@ returns-in_err-send_datagram-clause-calls g c =
     let calls : Traffic → ℕ = λ t. t.calls in
     at_most calls (c.loop-i.i + 1) most_fragments (g.L.Link.known c.args.link.now) (g.L.Link.known c.send_datagram.new.link) (omega (arith, c.loop-i-test.true, few))
     (more_calls calls c.loop-i.i 1 (g.L.Link.known c.args.link.now) (g.L.Link.known c.loop-i.link) (g.L.Link.known c.send_datagram.new.link) c.loop-i.invariant.6 c.send_datagram.ensures.calls)
+
+pub returns-in_err-send_datagram-clause-cause : goal.returns-in_err-send_datagram-clause-cause
+returns-in_err-send_datagram-clause-cause g c =
+    let p = err_from_is_err_and c.from_residual.result c.from_residual.ensures.1 in
+    rw p.1 (counts_one refl (once_then c.loop-i.invariant.4 (failed_counts c.in_err-send_datagram.was c.send_datagram.ensures.cause)))
 
 pub returns-clause-whole : goal.returns-clause-whole
 returns-clause-whole g c =
