@@ -9,7 +9,7 @@ use Rattle.drm_fac.proofs.FacLemmas.{one_fac, fac_or_fault, same_fault}
 use Rattle.drm_links.specs.Told.{HasFailed, Known, HasCause}
 use Rattle.drm_links.specs.Source.{Input, Inputs}
 use Rattle.drm_links.specs.Sink.{Output, Outputs, IsFront}
-use Rattle.drm_links.proofs.ToldLemmas.{Inputs-weaker}
+use Rattle.drm_links.proofs.ToldLemmas.{counts_as, counts_none, counts_one, Inputs-weaker}
 use Rattle.drm_faults.specs.declared.fault.Fault.{Fault}
 use Rattle.drm_faults.specs.declared.fault.Fault.TheVariants.{NoMemory, Words, FacLength, FacOver, FacCrc, Schedule, Script, Capture, CaptureTooLong, PacketSize, Units, Read, Write, Link}
 use Rattle.drm_inspect.specs.Input.{ReadsHead, FailsWithin}
@@ -263,14 +263,14 @@ run_complete : {O : Type 0} (came : Result Fac Fault) (ending : Result (Unit {0}
     → Reads came a b → WritesCame came ending out_known out out' → (ending ≡ Err Read → HasFailed a b) → (ending ≡ Err Write → HasFailed (out_known out) (out_known out'))
     → (HasFailed a b → ⊥) → (HasFailed (out_known out) (out_known out') → ⊥)
     → Inputs a b (λ left rest. (fac : Fac) → IsFac fac left → (ending ≡ Ok tt) × Outputs (out_known out) (out_known out') (λ text. text ≡ fac_line fac))
-run_complete came ending a b out_known out out' reads writes read_rose write_rose no_read no_write =
-    let reading : came ≡ Err Read → ⊥ = λ e. no_read (read_rose (read_ending came ending out_known out out' writes e)) in
+run_complete came ending a b out_known out out' reads writes read_failed write_failed no_read no_write =
+    let reading : came ≡ Err Read → ⊥ = λ e. no_read (read_failed (read_ending came ending out_known out out' writes e)) in
     Inputs-weaker (λ left rest. ComesTo left came)
     (λ left rest. (fac : Fac) → IsFac fac left → (ending ≡ Ok tt) × Outputs (out_known out) (out_known out') (λ text. text ≡ fac_line fac))
     a b (comes came a b reading reads)
     (λ left rest is fac is_fac.
     let P : Result Fac Fault → Type 0 = λ v. WritesCame v ending out_known out out' in
-    printed fac ending out_known out out' (subst P (comes_once left came (Ok fac) is is_fac) writes) (λ e. no_write (write_rose e)))
+    printed fac ending out_known out out' (subst P (comes_once left came (Ok fac) is is_fac) writes) (λ e. no_write (write_failed e)))
   where
     read_ending : {O : Type 0} (came : Result Fac Fault) (ending : Result (Unit {0}) Fault) (known : O → Known Output) (out out' : O) → WritesCame came ending known out out' → came ≡ Err Read → ending ≡ Err Read
     read_ending (Ok fac) ending known out out' writes is = cc
@@ -293,44 +293,46 @@ run_by came ending input_known input input' out_known out out' reads writes read
   writes = writes;
   only = comes_only came (input_known input) (input_known input') reads;
   refused = run_refused came ending (input_known input) (input_known input') out_known out out' reads writes;
-  complete = run_complete came ending (input_known input) (input_known input') out_known out out' reads writes read_cause.rose write_cause.rose;
+  complete = run_complete came ending (input_known input) (input_known input') out_known out out' reads writes read_cause.once write_cause.once;
   read_cause = read_cause;
   write_cause = write_cause;
 }
 
+abbrev refused : Fault → Result Fac Fault
+refused fault = Err fault
+
 -- nothing is written where nothing was read
 pub run_stopped : {I O : Type 0} (fault : Fault) (ending : Result (Unit {0}) Fault) (input_known : I → Known Input) (input input' : I) (out_known : O → Known Output) (out : O)
     → ending ≡ Err fault → Reads (Err fault) (input_known input) (input_known input')
-    → ((input_known input).faults ≤ (input_known input').faults) × (fault ≡ Read → HasFailed (input_known input) (input_known input'))
+    → HasCause (input_known input) (input_known input') (refused fault ≡ Err Read)
     → FacRun ending input_known input input' out_known out out
 run_stopped fault ending input_known input input' out_known out is reads cause =
     run_by (Err fault) ending input_known input input' out_known out out reads (is, refl)
-    (record { later = cause.0; rose = λ e. let same : fault ≡ Read = cc in cause.1 same })
-    (record {
-      later = omega arith;
-      rose = λ e.
-          let same : fault ≡ Write = cc in
-          let P : Fault → Type 0 = λ f. Reads (Err f) (input_known input) (input_known input') in
-          absurd (no_write (input_known input) (input_known input') (subst P same reads));
-    })
+    (counts_as (λ e. let same : fault ≡ Read = cc in ap refused same) (λ e. let same : fault ≡ Read = cc in is ∙ ap Err same) cause)
+    (counts_none
+    (λ e.
+    let same : fault ≡ Write = cc in
+    let P : Fault → Type 0 = λ f. Reads (Err f) (input_known input) (input_known input') in
+    no_write (input_known input) (input_known input') (subst P same reads))
+    refl)
 
 -- a write failed
 pub run_cut : {I O : Type 0} (fac : Fac) (ending : Result (Unit {0}) Fault) (input_known : I → Known Input) (input input' : I) (out_known : O → Known Output) (out out' : O)
-    → ending ≡ Err Write → Reads (Ok fac) (input_known input) (input_known input') → (input_known input).faults ≤ (input_known input').faults
-    → Outputs (out_known out) (out_known out') (IsFront (fac_line fac)) → ((out_known out).faults ≤ (out_known out').faults) × HasFailed (out_known out) (out_known out')
+    → ending ≡ Err Write → Reads (Ok fac) (input_known input) (input_known input') → (input_known input').faults ≡ (input_known input).faults
+    → Outputs (out_known out) (out_known out') (IsFront (fac_line fac)) → HasFailed (out_known out) (out_known out')
     → FacRun ending input_known input input' out_known out out'
-run_cut fac ending input_known input input' out_known out out' is reads later front cause =
+run_cut fac ending input_known input input' out_known out out' is reads same front failed =
     let P : Result (Unit {0}) Fault → Type 0 = λ e. WritesCame (Ok fac) e out_known out out' in
     run_by (Ok fac) ending input_known input input' out_known out out' reads (subst P (sym is) front)
-    (record { later = later; rose = λ e. cc }) (record { later = cause.0; rose = λ e. cause.1 })
+    (counts_none (λ e. cc) same) (counts_one is failed)
 
 -- the line was written
 pub run_done : {I O : Type 0} (fac : Fac) (input_known : I → Known Input) (input input' : I) (out_known : O → Known Output) (out out' : O)
-    → Reads (Ok fac) (input_known input) (input_known input') → (input_known input).faults ≤ (input_known input').faults
-    → Outputs (out_known out) (out_known out') (λ text. text ≡ fac_line fac) → (out_known out).faults ≤ (out_known out').faults
+    → Reads (Ok fac) (input_known input) (input_known input') → (input_known input').faults ≡ (input_known input).faults
+    → Outputs (out_known out) (out_known out') (λ text. text ≡ fac_line fac) → (out_known out').faults ≡ (out_known out).faults
     → FacRun (Ok tt) input_known input input' out_known out out'
-run_done fac input_known input input' out_known out out' reads later whole later' =
-    run_by (Ok fac) (Ok tt) input_known input input' out_known out out' reads whole (record { later = later; rose = λ e. cc }) (record { later = later'; rose = λ e. cc })
+run_done fac input_known input input' out_known out out' reads same whole same' =
+    run_by (Ok fac) (Ok tt) input_known input input' out_known out out' reads whole (counts_none (λ e. cc) same) (counts_none (λ e. cc) same')
 
 -- a run of the command ends with none of the faults that come before it
 pub run_ends : {I O : Type 0} (ending : Result (Unit {0}) Fault) (input_known : I → Known Input) (input input' : I) (out_known : O → Known Output) (out out' : O)

@@ -5,10 +5,11 @@ use Rattle.std.specs.List.{concat}
 use Rattle.std.proofs.lemmas.List.{append-nil}
 use Rattle.std.proofs.lemmas.List.Folds.{concat-append, list_all-append}
 use Rattle.std.proofs.lemmas.Grind.{flat_map-append}
-use Rattle.drm_links.specs.Told.{Known, HasCause, ToldThrough}
+use Rattle.drm_links.specs.Told.{Known, HasCause, Counts, ToldThrough}
 use Rattle.drm_links.specs.Source.{Input, Inputs, LeftBy}
-use Rattle.drm_links.specs.Sink.{Output, Outputs, IsFront}
-use Rattle.drm_links.proofs.ToldLemmas.{Inputs-nothing, Inputs-weaker, Outputs-then, Outputs-weaker}
+use Rattle.drm_links.specs.Sink.{Output, Outputs, IsFront, IsFrontBehind}
+use Rattle.drm_links.proofs.ToldLemmas.{counts_as, Inputs-nothing, Inputs-weaker, Outputs-then, Outputs-weaker}
+use Rattle.drm_links.proofs.WritingLemmas.{front_behind}
 use Rattle.drm_capture.specs.declared.packets.CaptureStop.{CaptureStop}
 use Rattle.drm_capture.specs.declared.packets.CaptureStop.TheVariants as stops
 use Rattle.drm_capture.specs.Capture as capture
@@ -17,13 +18,14 @@ use Rattle.drm_capture.specs.Walking.{WalkerState, new_walker}
 use Rattle.drm_capture.specs.Reading.{HasRead, Stops}
 use Rattle.packet_lines.specs.declared.packet.ShowFault.{ShowFault}
 use Rattle.packet_lines.specs.Text.{IsPacketText}
+use Rattle.packet_lines.specs.Shown.{Shows}
 use Rattle.packet_lines.specs.Laws.{HasOneText}
 use Rattle.packet_lines.specs.Lines.{end_packets_line}
 use Rattle.drm_faults.specs.Fault.{UnlessMemory}
 use Rattle.drm_faults.specs.declared.fault.Fault.{Fault}
 use Rattle.drm_faults.specs.declared.fault.Fault.TheVariants as faults
 use Rattle.drm_faults.specs.Captures.{EndsEarly, stop_fault}
-use Rattle.drm_inspect.specs.Show.{PacketText, AreTexts, all_texts, capture_text, are_clean, IsShown, IsFrontBehind, Ends, EndsByIt, ShowRun}
+use Rattle.drm_inspect.specs.Show.{PacketText, AreTexts, all_texts, capture_text, are_clean, IsShown, Ends, EndsByIt, ShowRun}
 
 -- ---- texts one after another
 
@@ -103,15 +105,40 @@ shown_none before a reader new = record {
 abbrev shown_as : List ℕ → Bool → PacketText
 shown_as text bad = record { text = text; bad = bad }
 
+-- more was read, and nothing shown meanwhile
+abbrev pub still_shown : {old reader : WalkerState} {before then after : Known Input} {a b : Known Output} {count bytes : ℕ} {clean : Bool} (has : HasShown old before then a b count bytes clean)
+    → HasRead has.packets reader before after → HasShown reader before after a b count bytes clean
+still_shown has read =
+    record { packets = has.packets; read = read; texts = has.texts; are = has.are; wrote = has.wrote; count_is = has.count_is; bytes_are = has.bytes_are; clean_is = has.clean_is }
+
+-- The packet behind those that were shown, and its text.
+pub record ShowsNext (reader : WalkerState) (before after : Known Input) (a b : Known Output) (count bytes : ℕ) (clean : Bool) (packet text : List ℕ) (bad : Bool) : Type 0 where
+  pub whole : WalkerState
+  pub has : HasShown whole before after a b count bytes clean
+  pub more : HasRead (has.packets ++ packet ∷ []) reader before after
+  pub is : IsPacketText (length (concat has.packets)) packet text bad
+
+pub shows_next : {old whole reader : WalkerState} {before then after : Known Input} {a b d : Known Output} {at count bytes : ℕ} {clean : Bool} {packet : List ℕ} {result : Result Bool ShowFault}
+    (has : HasShown old before then a b count bytes clean) → HasRead has.packets whole before after → HasRead (has.packets ++ packet ∷ []) reader before after → at ≡ whole.at
+    → (shown : Shows result b d at packet) → ShowsNext reader before after a b count bytes clean packet shown.text shown.bad
+shows_next {whole = whole} {packet = packet} has read more here shown =
+    record { whole = whole; has = still_shown has read; more = more; is = subst (λ k. IsPacketText k packet shown.text shown.bad) (here ∙ read.at) shown.is }
+
+texts_of_next : {reader : WalkerState} {before after : Known Input} {a b : Known Output} {count bytes : ℕ} {clean : Bool} {packet text : List ℕ} {bad : Bool}
+    (next : ShowsNext reader before after a b count bytes clean packet text bad) → AreTexts 0 (next.has.packets ++ packet ∷ []) (next.has.texts ++ shown_as text bad ∷ [])
+texts_of_next {packet = packet} {text = text} {bad = bad} next =
+    let same : length (concat next.has.packets) ≡ 0 + length (concat next.has.packets) = omega arith in
+    texts_more 0 next.has.packets next.has.texts packet (shown_as text bad) next.has.are (subst (λ k. IsPacketText k packet text bad) same next.is)
+
 -- a packet more
-pub shown_more : (reader after_reader : WalkerState) (before after : Known Input) (a b d : Known Output) (count bytes : ℕ) (clean : Bool) (has : HasShown reader before after a b count bytes clean) (packet text : List ℕ) (bad : Bool)
-    → HasRead (has.packets ++ packet ∷ []) after_reader before after → IsPacketText (length (concat has.packets)) packet text bad → Outputs b d (λ t. t ≡ text)
-    → HasShown after_reader before after a d (count + 1) (bytes + length packet) (clean && not bad)
-shown_more reader after_reader before after a b d count bytes clean has packet text bad read is wrote = record {
+pub shown_more : (reader : WalkerState) (before after : Known Input) (a b d : Known Output) (count bytes : ℕ) (clean : Bool) (packet text : List ℕ) (bad : Bool)
+    → ShowsNext reader before after a b count bytes clean packet text bad → Outputs b d (λ t. t ≡ text)
+    → HasShown reader before after a d (count + 1) (bytes + length packet) (clean && not bad)
+shown_more reader before after a b d count bytes clean packet text bad next wrote = let has = next.has in record {
   packets = has.packets ++ packet ∷ [];
-  read = read;
+  read = next.more;
   texts = has.texts ++ shown_as text bad ∷ [];
-  are = texts_more 0 has.packets has.texts packet (shown_as text bad) has.are (let same : length (concat has.packets) ≡ 0 + length (concat has.packets) = omega arith in subst (λ k. IsPacketText k packet text bad) same is);
+  are = texts_of_next next;
   wrote = Outputs-then (λ t. t ≡ all_texts has.texts) (λ t. t ≡ text) (λ t. t ≡ all_texts (has.texts ++ shown_as text bad ∷ [])) a b d has.wrote wrote (λ s t p q. ap (λ l. l ++ t) p ∙ ap (λ l. all_texts has.texts ++ l) q ∙ sym (all_more has.texts (shown_as text bad)));
   count_is = (let one = length-append has.packets (packet ∷ []) in let before = has.count_is in omega (arith, one, before));
   bytes_are = (let parts : length (concat (has.packets ++ packet ∷ [])) ≡ length (concat has.packets) + length packet = ap length (concat_more has.packets packet) ∙ length-append (concat has.packets) packet in let before = has.bytes_are in omega (arith, parts, before));
@@ -120,28 +147,11 @@ shown_more reader after_reader before after a b d count bytes clean has packet t
 
 -- ---- what each ending has written
 
-front_behind : (text line : List ℕ) (a b o : Known Output) → Outputs a b (λ t. t ≡ text) → Outputs b o (IsFront line) → Outputs a o (IsFrontBehind text line)
-front_behind text line a b o wrote broken = Outputs-then (λ t. t ≡ text) (IsFront line) (IsFrontBehind text line) a b o wrote broken (λ s t p q. (t, q, ap (λ l. l ++ t) p))
-
 module _ (o now : Known Output) (reader : WalkerState) (before after : Known Input) (count bytes : ℕ) (clean : Bool) (has : HasShown reader before after o now count bytes clean) where
   pub stopped : (stop : CaptureStop) (later : Known Input) → Stops has.packets stop before later → Ends (Err (stop_fault stop)) before later o now
   stopped stops.Read later is = (has.packets, has.texts, has.are, has.read.whole, is, has.wrote)
   stopped (stops.Capture fault) later is = (has.packets, has.texts, has.are, has.read.whole, is, has.wrote)
   stopped stops.TooLong later is = (has.packets, has.texts, has.are, has.read.whole, is, has.wrote)
-
-  pub cut : (after_reader : WalkerState) (packet text : List ℕ) (bad : Bool) (o' : Known Output) → HasRead (has.packets ++ packet ∷ []) after_reader before after → IsPacketText (length (concat has.packets)) packet text bad
-      → Outputs now o' (IsFront text) → Ends (Err faults.Write) before after o o'
-  cut after_reader packet text bad o' read is front = (
-    has.packets,
-    has.texts,
-    inl (
-      packet,
-      shown_as text bad,
-      texts_more 0 has.packets has.texts packet (shown_as text bad) has.are (let same : length (concat has.packets) ≡ 0 + length (concat has.packets) = omega arith in subst (λ k. IsPacketText k packet text bad) same is),
-      (after_reader, read),
-      front_behind (all_texts has.texts) text o now o' has.wrote front,
-    ),
-  )
 
   module _ (ended : Inputs before after (λ left _. capture.IsCaptureOf left has.packets capture.End)) where
     end_text : end_packets_line count bytes ≡ end_packets_line (length has.packets) (length (concat has.packets))
@@ -169,6 +179,15 @@ module _ (o now : Known Output) (reader : WalkerState) (before after : Known Inp
             (front_behind (all_texts has.texts) (end_packets_line count bytes) o now o' has.wrote front),
       ),
     )
+
+-- a write of the next packet's text failed
+pub cut : (reader : WalkerState) (before after : Known Input) (o now o' : Known Output) (count bytes : ℕ) (clean : Bool) (packet text : List ℕ) (bad : Bool)
+    → ShowsNext reader before after o now count bytes clean packet text bad → Outputs now o' (IsFront text) → Ends (Err faults.Write) before after o o'
+cut reader before after o now o' count bytes clean packet text bad next front = (
+  next.has.packets,
+  next.has.texts,
+  inl (packet, shown_as text bad, texts_of_next next, (reader, next.more), front_behind (all_texts next.has.texts) text o now o' next.has.wrote front),
+)
 
 -- ---- the whole run
 
@@ -271,7 +290,7 @@ module _ {I O : Type 0} (one_way : ReadOneWay) (one_text : HasOneText) (input_kn
     ends = ends;
     untouched = untouched;
     exactly = λ no_read no_write. ends_exactly ending no_read no_write ends;
-    complete = λ no_failed_read no_failed_write. completes ending (λ is. no_failed_read (read_cause.rose is)) (λ is. no_failed_write (write_cause.rose is)) ends;
+    complete = λ no_failed_read no_failed_write. completes ending (λ is. no_failed_read (read_cause.once is)) (λ is. no_failed_write (write_cause.once is)) ends;
     read_cause = read_cause;
     write_cause = write_cause;
   }
@@ -307,6 +326,15 @@ pub stop_is_read : (stop : CaptureStop) → of_fault (stop_fault stop) ≡ of_fa
 stop_is_read stops.Read is = refl
 stop_is_read (stops.Capture f) is = absurd (let x = same_fault _ _ is in cc)
 stop_is_read stops.TooLong is = absurd (let x = same_fault _ _ is in cc)
+
+-- the run ends by a failed read exactly where the reading does
+pub stopped_counts : {a b : ℕ} {result : Result Bool CaptureStop} {stop : CaptureStop} → result ≡ Err stop → Counts a b (result ≡ Err stops.Read) → Counts a b (of_fault (stop_fault stop) ≡ of_fault faults.Read)
+stopped_counts {stop = stop} was counts =
+    counts_as (λ is. was ∙ ap Err (stop_is_read stop is)) (λ is. let same : stop ≡ stops.Read = cc in ap (λ s. of_fault (stop_fault s)) same) counts
+
+-- no read failed where the reading came on
+pub found_counts : {a b : ℕ} {result : Result Bool CaptureStop} {found : Bool} → result ≡ Ok found → Counts a b (result ≡ Err stops.Read) → b ≡ a
+found_counts is counts = counts.same (λ failed. cc)
 
 pub write_no_memory : of_fault faults.Write ≡ of_fault faults.NoMemory → ⊥
 write_no_memory is = let x = same_fault faults.Write faults.NoMemory is in cc

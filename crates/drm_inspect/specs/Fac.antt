@@ -48,6 +48,6 @@ pub record FacRun {I O : Type 0} (ending : Result (Unit {0}) Fault)
   pub complete : (HasFailed (input_known input) (input_known input') → ⊥) → (HasFailed (out_known out) (out_known out') → ⊥)
       → Inputs (input_known input) (input_known input') (λ left _. (fac : Fac) → IsFac fac left
       → (ending ≡ Ok tt) × Outputs (out_known out) (out_known out') (λ text. text ≡ fac_line fac))
-  -- The faults of the outside come only where its count of faults rose.
+  -- A count of faults rose, by one, exactly where a read or a write ended the run.
   pub read_cause : HasCause (input_known input) (input_known input') (ending ≡ Err Read)
   pub write_cause : HasCause (out_known out) (out_known out') (ending ≡ Err Write)

@@ -3,7 +3,7 @@ use Rattle.std.specs.Prelude.{ℕ, ◌≡◌, ◌+◌, ◌⊎◌, All, Bool, not
 use Rattle.std.specs.List.{concat, flat_map, list_all}
 use Rattle.drm_links.specs.Told.{HasFailed, Known, HasCause}
 use Rattle.drm_links.specs.Source.{Input, Inputs}
-use Rattle.drm_links.specs.Sink.{Output, Outputs, IsFront}
+use Rattle.drm_links.specs.Sink.{Output, Outputs, IsFrontBehind}
 use Rattle.drm_capture.specs.declared.packets.CaptureStop.{CaptureStop}
 use Rattle.drm_capture.specs.declared.packets.CaptureStop.TheVariants as stops
 use Rattle.drm_capture.specs.Front.{IsWhole}
@@ -59,10 +59,6 @@ WritesUntil stop before after out out' =
     × All IsWhole packets × Stops packets stop before after
     × Outputs out out' (λ text. text ≡ all_texts texts)
 
--- all that was written before, and a front of what comes behind it
-abbrev pub IsFrontBehind : List ℕ → List ℕ → List ℕ → Type 0
-IsFrontBehind written behind text = (front : List ℕ) × IsFront behind front × (text ≡ written ++ front)
-
 -- A write failed. The texts of some packets are written and a front of that of the next one, which is the last that was read; or
 -- those of all packets, and a front of the last line.
 abbrev pub WritesFront : Known Input → Known Input → Known Output → Known Output → Type 0
@@ -109,6 +105,6 @@ pub record ShowRun {I O : Type 0} (ending : Result Bool Fault)
       → Inputs (input_known input) (input_known input') (λ left _. (packets : List (List ℕ)) (texts : List PacketText)
       → IsShown left capture.End packets texts
       → UnlessMemory ending ((ending ≡ Ok (are_clean texts)) × Outputs (out_known out) (out_known out') (λ text. text ≡ capture_text packets texts)))
-  -- The counts of faults never fall. A read or a write failed only where that of input or of out rose.
+  -- A count of faults rose, by one, exactly where a read or a write ended the run.
   pub read_cause : HasCause (input_known input) (input_known input') (ending ≡ Err faults.Read)
   pub write_cause : HasCause (out_known out) (out_known out') (ending ≡ Err faults.Write)

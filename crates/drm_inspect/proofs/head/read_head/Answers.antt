@@ -1,5 +1,4 @@
-use Rattle.std.proofs.Common.{◌≡◌, ◌≤◌, length, ◌+◌, ◌-◌, take, drop, arith}
-use Rattle.std.proofs.Math.Nat.{le_trans}
+use Rattle.std.proofs.Common.{◌≡◌, ◌≤◌, length, ◌+◌, ◌-◌, take, drop, ◌∙◌, arith}
 use Rattle.std.proofs.lemmas.Grind.{common_steps}
 use Rattle.std.proofs.lemmas.Slice.{take-put_mid_below}
 use borrow.Rule.Slice.PartMut.{put_mid}
@@ -16,7 +15,7 @@ loop-len-preserved g c =
       got_more (g.I.Source.known c.args.input.now) (g.I.Source.known c.loop-len.input) (g.I.Source.known c.read.new.self) c.loop-len.len c.in-Got.n (10 - c.loop-len.len) c.loop-len.bytes c.read.new.buf size within c.loop-len.invariant.0 c.in-Got.ensures.bytes c.in-Got.ensures.told,
       grind (arith, common_steps, c.loop-len.invariant.1, same, room),
       omega (arith, same, within, room, c.loop-len.invariant.2),
-      le_trans c.loop-len.invariant.3 c.in-Got.ensures.cause.later,
+      c.in-Got.ensures.cause.same (λ failed. cc) ∙ c.loop-len.invariant.3,
       asks_more c.loop-len.len (c.loop-len.len + c.in-Got.n) (g.I.Source.known c.args.input.now) (g.I.Source.known c.loop-len.input) (g.I.Source.known c.read.new.self) (omega (arith, c.in-Got.ensures.some.0)) c.loop-len.invariant.4 c.in-Got.ensures.told,
     )
 

@@ -9,7 +9,7 @@ invariant-loop-len g l =
     Inputs (g.I.Source.known l.fn.input) (g.I.Source.known l.input) (λ left rest. left ≡ take l.len l.bytes ++ rest)
     × (length l.bytes ≡ 10)
     × (l.len ≤ 10)
-    × ((g.I.Source.known l.fn.input).faults ≤ (g.I.Source.known l.input).faults)
+    × ((g.I.Source.known l.input).faults ≡ (g.I.Source.known l.fn.input).faults)
     × AsksAtMost l.len (g.I.Source.known l.fn.input) (g.I.Source.known l.input)
 
 abbrev pub decreases-loop-len : goal.decreases-loop-len

@@ -1,23 +1,20 @@
-use Rattle.std.proofs.Common.{ℕ, ◌+◌, List, length, Ok, Err, IsErr, refl, sym, ◌∙◌, ap, subst, arith, le_refl}
+use Rattle.std.proofs.Common.{ℕ, ◌+◌, List, length, Ok, Err, refl, sym, ◌∙◌, ap, subst, arith}
 use Rattle.std.specs.Prelude.{not, ◌&&◌}
-use Rattle.std.specs.List.{concat}
-use Rattle.std.proofs.Math.Nat.{le_trans}
 use Rattle.std.proofs.lemmas.Result.{err_from_is_err_and}
-use Rattle.drm_links.proofs.ToldLemmas.{later-Rose}
+use Rattle.drm_links.proofs.ToldLemmas.{counts_one, counts_none, counts_then, once_then, done_counts, failed_counts}
 use Rattle.drm_links.proofs.WritingLemmas.{Writes-done, Writes-front}
 use Rattle.drm_capture.proofs.FrontLaws.{packet_size}
 use Rattle.drm_faults.specs.declared.fault.Fault.TheVariants as faults
 use Rattle.drm_faults.specs.Captures.{stop_fault}
-use Rattle.packet_lines.specs.Text.{IsPacketText}
-use Rattle.drm_inspect.proofs.ShowLemmas.{HasShown, shown_none, shown_more, stopped, cut, done, cut_end, show_run, not_stopped, early, stop_early, stop_no_memory, stop_no_write, stop_is_read, write_no_memory, write_no_read, was_shown, not_shown, failed}
+use Rattle.drm_inspect.proofs.ShowLemmas.{HasShown, shown_none, still_shown, shows_next, shown_more, stopped, cut, done, cut_end, show_run, not_stopped, early, stop_early, stop_no_memory, stop_no_write, stopped_counts, found_counts, write_no_memory, write_no_read, was_shown, not_shown, failed}
 use Rattle.drm_inspect.proofs.show_command.show.Goals as goal
 
 pub loop-lines-init : goal.loop-lines-init
 loop-lines-init g c = (
   shown_none (g.I.Source.known c.args.input.now) (g.O.Sink.known c.args.out.now) c.in_ok-packets.packets c.in_ok-packets.ensures,
   omega arith,
-  le_refl _,
-  le_refl _,
+  refl,
+  refl,
 )
 
 pub returns-in_err-find : goal.returns-in_err-find
@@ -32,8 +29,8 @@ returns-in_err-find g c =
     (stopped (g.O.Sink.known c.args.out.now) (g.O.Sink.known c.loop-lines.out) c.loop-lines.packets before (g.I.Source.known c.loop-lines.input) c.loop-lines.count c.loop-lines.bytes c.loop-lines.clean i.0 stop (g.I.Source.known c.find.new.input)
     (c.in_err-find.ensures.stops i.0.packets before i.0.read))
     (λ is. absurd (stop_no_memory stop is))
-    (record { later = le_trans i.2 c.find.ensures.cause.later; rose = λ is. later-Rose _ _ _ i.2 (c.find.ensures.cause.rose (c.in_err-find.was ∙ ap Err (stop_is_read stop is))) })
-    (record { later = i.3; rose = λ is. absurd (stop_no_write stop is) }))
+    (counts_then i.2 (stopped_counts c.in_err-find.was c.find.ensures.cause))
+    (counts_none (stop_no_write stop) i.3))
 
 pub returns-in_default : goal.returns-in_default
 returns-in_default g c =
@@ -43,17 +40,14 @@ returns-in_default g c =
     let shown = c.show_packet.ensures in
     let bytes : List ℕ = c.next.result.bytes.now in
     let read = c.find.ensures.more i.0.packets before i.0.read (not_stopped c.find.result c.in_ok-find.field-0 c.in_ok-find.was) in
-    let more = c.next.follows.holds-at-none.reads i.0.packets before after read in
-    let is : IsPacketText (length (concat i.0.packets)) bytes shown.text shown.bad = subst (λ k. IsPacketText k bytes shown.text shown.bad) (c.next.ensures.at ∙ read.at) shown.is in
-    let has : HasShown c.find.new.self before after (g.O.Sink.known c.args.out.now) (g.O.Sink.known c.loop-lines.out) c.loop-lines.count c.loop-lines.bytes c.loop-lines.clean =
-    record { packets = i.0.packets; read = read; texts = i.0.texts; are = i.0.are; wrote = i.0.wrote; count_is = i.0.count_is; bytes_are = i.0.bytes_are; clean_is = i.0.clean_is } in
+    let next = shows_next i.0 read (c.next.follows.holds-at-none.reads i.0.packets before after read) c.next.ensures.at shown in
     show_run c.read_one_way.ensures c.one_text.ensures g.I.Source.known c.args.input.now c.find.new.input g.O.Sink.known c.args.out.now c.show_packet.new.out (Err faults.Write)
     (λ fault is. early faults.Write fault tt is)
-    (cut (g.O.Sink.known c.args.out.now) (g.O.Sink.known c.loop-lines.out) c.find.new.self before after c.loop-lines.count c.loop-lines.bytes c.loop-lines.clean has c.next.follows.lender-at-none bytes shown.text shown.bad (g.O.Sink.known c.show_packet.new.out) more is
+    (cut c.next.follows.lender-at-none before after (g.O.Sink.known c.args.out.now) (g.O.Sink.known c.loop-lines.out) (g.O.Sink.known c.show_packet.new.out) c.loop-lines.count c.loop-lines.bytes c.loop-lines.clean bytes shown.text shown.bad next
     (not_shown c.show_packet.result _ c.in_default.not-Ok shown.front))
     (λ is. absurd (write_no_memory is))
-    (record { later = le_trans i.2 c.find.ensures.cause.later; rose = λ is. absurd (write_no_read is) })
-    (record { later = le_trans i.3 shown.cause.later; rose = λ is. later-Rose _ _ _ i.3 (shown.cause.rose (failed c.show_packet.result c.in_default.not-Ok)) })
+    (counts_none write_no_read (found_counts c.in_ok-find.was c.find.ensures.cause ∙ i.2))
+    (counts_one refl (once_then i.3 (shown.cause.once (failed c.show_packet.result c.in_default.not-Ok))))
 
 pub loop-lines-preserved-then-clean : goal.loop-lines-preserved-then-clean
 loop-lines-preserved-then-clean g c =
@@ -63,19 +57,16 @@ loop-lines-preserved-then-clean g c =
     let shown = c.show_packet.ensures in
     let bytes : List ℕ = c.next.result.bytes.now in
     let read = c.find.ensures.more i.0.packets before i.0.read (not_stopped c.find.result c.in_ok-find.field-0 c.in_ok-find.was) in
-    let more = c.next.follows.holds-at-none.reads i.0.packets before after read in
-    let is : IsPacketText (length (concat i.0.packets)) bytes shown.text shown.bad = subst (λ k. IsPacketText k bytes shown.text shown.bad) (c.next.ensures.at ∙ read.at) shown.is in
-    let has : HasShown c.find.new.self before after (g.O.Sink.known c.args.out.now) (g.O.Sink.known c.loop-lines.out) c.loop-lines.count c.loop-lines.bytes c.loop-lines.clean =
-    record { packets = i.0.packets; read = read; texts = i.0.texts; are = i.0.are; wrote = i.0.wrote; count_is = i.0.count_is; bytes_are = i.0.bytes_are; clean_is = i.0.clean_is } in
+    let next = shows_next i.0 read (c.next.follows.holds-at-none.reads i.0.packets before after read) c.next.ensures.at shown in
     let whole = was_shown c.show_packet.result c.in-Ok.bad _ c.in-Ok.is shown.whole in
     let some = (packet_size bytes (length bytes) c.next.ensures.whole).0 in
     let few = i.1 in (
       subst (HasShown c.next.follows.lender-at-none before after (g.O.Sink.known c.args.out.now) (g.O.Sink.known c.show_packet.new.out) (c.loop-lines.count + 1) (c.loop-lines.bytes + length bytes))
           (ap (λ b. b && not shown.bad) c.if-clean.true ∙ ap not (sym whole.0))
-          (shown_more c.find.new.self c.next.follows.lender-at-none before after (g.O.Sink.known c.args.out.now) (g.O.Sink.known c.loop-lines.out) (g.O.Sink.known c.show_packet.new.out) c.loop-lines.count c.loop-lines.bytes c.loop-lines.clean has bytes shown.text shown.bad more is whole.1),
+          (shown_more c.next.follows.lender-at-none before after (g.O.Sink.known c.args.out.now) (g.O.Sink.known c.loop-lines.out) (g.O.Sink.known c.show_packet.new.out) c.loop-lines.count c.loop-lines.bytes c.loop-lines.clean bytes shown.text shown.bad next whole.1),
       omega (arith, some, few),
-      le_trans i.2 c.find.ensures.cause.later,
-      le_trans i.3 shown.cause.later,
+      found_counts c.in_ok-find.was c.find.ensures.cause ∙ i.2,
+      done_counts c.in-Ok.is shown.cause ∙ i.3,
     )
 
 pub loop-lines-preserved : goal.loop-lines-preserved
@@ -86,19 +77,16 @@ loop-lines-preserved g c =
     let shown = c.show_packet.ensures in
     let bytes : List ℕ = c.next.result.bytes.now in
     let read = c.find.ensures.more i.0.packets before i.0.read (not_stopped c.find.result c.in_ok-find.field-0 c.in_ok-find.was) in
-    let more = c.next.follows.holds-at-none.reads i.0.packets before after read in
-    let is : IsPacketText (length (concat i.0.packets)) bytes shown.text shown.bad = subst (λ k. IsPacketText k bytes shown.text shown.bad) (c.next.ensures.at ∙ read.at) shown.is in
-    let has : HasShown c.find.new.self before after (g.O.Sink.known c.args.out.now) (g.O.Sink.known c.loop-lines.out) c.loop-lines.count c.loop-lines.bytes c.loop-lines.clean =
-    record { packets = i.0.packets; read = read; texts = i.0.texts; are = i.0.are; wrote = i.0.wrote; count_is = i.0.count_is; bytes_are = i.0.bytes_are; clean_is = i.0.clean_is } in
+    let next = shows_next i.0 read (c.next.follows.holds-at-none.reads i.0.packets before after read) c.next.ensures.at shown in
     let whole = was_shown c.show_packet.result c.in-Ok.bad _ c.in-Ok.is shown.whole in
     let some = (packet_size bytes (length bytes) c.next.ensures.whole).0 in
     let few = i.1 in (
       subst (HasShown c.next.follows.lender-at-none before after (g.O.Sink.known c.args.out.now) (g.O.Sink.known c.show_packet.new.out) (c.loop-lines.count + 1) (c.loop-lines.bytes + length bytes))
           (ap (λ b. b && not shown.bad) c.if-clean.false ∙ sym c.if-clean.false)
-          (shown_more c.find.new.self c.next.follows.lender-at-none before after (g.O.Sink.known c.args.out.now) (g.O.Sink.known c.loop-lines.out) (g.O.Sink.known c.show_packet.new.out) c.loop-lines.count c.loop-lines.bytes c.loop-lines.clean has bytes shown.text shown.bad more is whole.1),
+          (shown_more c.next.follows.lender-at-none before after (g.O.Sink.known c.args.out.now) (g.O.Sink.known c.loop-lines.out) (g.O.Sink.known c.show_packet.new.out) c.loop-lines.count c.loop-lines.bytes c.loop-lines.clean bytes shown.text shown.bad next whole.1),
       omega (arith, some, few),
-      le_trans i.2 c.find.ensures.cause.later,
-      le_trans i.3 shown.cause.later,
+      found_counts c.in_ok-find.was c.find.ensures.cause ∙ i.2,
+      done_counts c.in-Ok.is shown.cause ∙ i.3,
     )
 
 pub returns-in_err-write_end_packets : goal.returns-in_err-write_end_packets
@@ -107,8 +95,7 @@ returns-in_err-write_end_packets g c =
     let before = g.I.Source.known c.args.input.now in
     let after = g.I.Source.known c.find.new.input in
     let read = c.find.ensures.more i.0.packets before i.0.read (not_stopped c.find.result c.in_ok-find.field-0 c.in_ok-find.was) in
-    let has : HasShown c.find.new.self before after (g.O.Sink.known c.args.out.now) (g.O.Sink.known c.loop-lines.out) c.loop-lines.count c.loop-lines.bytes c.loop-lines.clean =
-    record { packets = i.0.packets; read = read; texts = i.0.texts; are = i.0.are; wrote = i.0.wrote; count_is = i.0.count_is; bytes_are = i.0.bytes_are; clean_is = i.0.clean_is } in
+    let has = still_shown i.0 read in
     let ended = c.find.ensures.ended i.0.packets before i.0.read (c.in_ok-find.was ∙ ap Ok c.if-branch.false) in
     let p = err_from_is_err_and c.from_residual-in_err-write_end_packets.result c.from_residual-in_err-write_end_packets.ensures.1 in
     rw (p.1 ∙ ap Err p.2)
@@ -117,8 +104,8 @@ returns-in_err-write_end_packets g c =
     (cut_end (g.O.Sink.known c.args.out.now) (g.O.Sink.known c.loop-lines.out) c.find.new.self before after c.loop-lines.count c.loop-lines.bytes c.loop-lines.clean has ended (g.O.Sink.known c.write_end_packets.new.out)
     (Writes-front c.in_err-write_end_packets.was c.write_end_packets.ensures))
     (λ is. absurd (write_no_memory is))
-    (record { later = le_trans i.2 c.find.ensures.cause.later; rose = λ is. absurd (write_no_read is) })
-    (record { later = le_trans i.3 c.write_end_packets.ensures.cause.later; rose = λ is. later-Rose _ _ _ i.3 (c.write_end_packets.ensures.cause.rose (subst IsErr (sym c.in_err-write_end_packets.was) refl)) }))
+    (counts_none write_no_read (found_counts c.in_ok-find.was c.find.ensures.cause ∙ i.2))
+    (counts_one refl (once_then i.3 (failed_counts c.in_err-write_end_packets.was c.write_end_packets.ensures.cause))))
 
 pub returns : goal.returns
 returns g c =
@@ -126,13 +113,12 @@ returns g c =
     let before = g.I.Source.known c.args.input.now in
     let after = g.I.Source.known c.find.new.input in
     let read = c.find.ensures.more i.0.packets before i.0.read (not_stopped c.find.result c.in_ok-find.field-0 c.in_ok-find.was) in
-    let has : HasShown c.find.new.self before after (g.O.Sink.known c.args.out.now) (g.O.Sink.known c.loop-lines.out) c.loop-lines.count c.loop-lines.bytes c.loop-lines.clean =
-    record { packets = i.0.packets; read = read; texts = i.0.texts; are = i.0.are; wrote = i.0.wrote; count_is = i.0.count_is; bytes_are = i.0.bytes_are; clean_is = i.0.clean_is } in
+    let has = still_shown i.0 read in
     let ended = c.find.ensures.ended i.0.packets before i.0.read (c.in_ok-find.was ∙ ap Ok c.if-branch.false) in
     show_run c.read_one_way.ensures c.one_text.ensures g.I.Source.known c.args.input.now c.find.new.input g.O.Sink.known c.args.out.now c.write_end_packets.new.out (Ok c.loop-lines.clean)
     (λ fault is. absurd cc)
     (done (g.O.Sink.known c.args.out.now) (g.O.Sink.known c.loop-lines.out) c.find.new.self before after c.loop-lines.count c.loop-lines.bytes c.loop-lines.clean has ended (g.O.Sink.known c.write_end_packets.new.out)
     (Writes-done c.in_ok-write_end_packets.was c.write_end_packets.ensures))
     (λ is. absurd cc)
-    (record { later = le_trans i.2 c.find.ensures.cause.later; rose = λ is. absurd cc })
-    (record { later = le_trans i.3 c.write_end_packets.ensures.cause.later; rose = λ is. absurd cc })
+    (counts_none (λ is. cc) (found_counts c.in_ok-find.was c.find.ensures.cause ∙ i.2))
+    (counts_none (λ is. cc) (done_counts c.in_ok-write_end_packets.was c.write_end_packets.ensures.cause ∙ i.3))

@@ -1,4 +1,4 @@
-use Rattle.std.proofs.Common.{◌-◌, ◌≤◌}
+use Rattle.std.proofs.Common.{◌≡◌, ◌-◌, ◌≤◌}
 use Rattle.drm_capture.specs.Capture.{most_bytes}
 use Rattle.drm_inspect.proofs.ShowLemmas.{HasShown}
 use Rattle.drm_inspect.proofs.show_command.show.Given as goal
@@ -8,8 +8,8 @@ abbrev pub invariant-loop-lines : goal.invariant-loop-lines
 invariant-loop-lines g l =
     HasShown l.packets (g.I.Source.known l.fn.input) (g.I.Source.known l.input) (g.O.Sink.known l.fn.out) (g.O.Sink.known l.out) l.count l.bytes l.clean
     × (l.count ≤ l.bytes)
-    × ((g.I.Source.known l.fn.input).faults ≤ (g.I.Source.known l.input).faults)
-    × ((g.O.Sink.known l.fn.out).faults ≤ (g.O.Sink.known l.out).faults)
+    × ((g.I.Source.known l.input).faults ≡ (g.I.Source.known l.fn.input).faults)
+    × ((g.O.Sink.known l.out).faults ≡ (g.O.Sink.known l.fn.out).faults)
 
 abbrev pub decreases-loop-lines : goal.decreases-loop-lines
 decreases-loop-lines g l = most_bytes - l.packets.at
