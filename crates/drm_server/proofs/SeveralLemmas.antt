@@ -6,7 +6,7 @@ use Rattle.drm_links.specs.Told.{Known, HasFailed}
 use Rattle.drm_links.specs.Link.{Traffic}
 use Rattle.drm_links.specs.ManyCalls.{MakesCalls}
 use Rattle.drm_links.specs.Transmission.{Transmits, SendsAll, Waits}
-use Rattle.drm_links.proofs.ToldLemmas.{later-Rose}
+use Rattle.drm_links.proofs.ToldLemmas.{once_then}
 use Rattle.drm_links.proofs.TransmissionLemmas.{Transmits-nothing, Transmits-no_wait}
 use Rattle.drm_links.proofs.ManyCallsLemmas.{no_calls, more_calls, at_most}
 use Rattle.packet_sending.specs.Sending.{MadeCalls}
@@ -39,7 +39,7 @@ pub record SentOne (plan : Plan) (t n : ℕ) (m c : Known Traffic) : Type 0 wher
   pub waited : Transmits m c (Waits (replicate n 0) 0)
   pub some : 1 ≤ n
   pub counted : Transmits m c (MadeCalls n)
-  pub later : m.faults ≤ c.faults
+  pub same : c.faults ≡ m.faults
   pub calls : MakesCalls (λ (traffic : Traffic). traffic.calls) most_fragments m c
 
 module _ (plan : Plan) (first pace n : ℕ) (a b m c : Known Traffic) (s : SentFrames plan first pace n a b) (r : Rested pace n b m) where
@@ -58,9 +58,6 @@ module _ (plan : Plan) (first pace n : ℕ) (a b m c : Known Traffic) (s : SentF
       let w = frame.whole in
       let of_frame : AreFirst plan (first + n) sent w.0 = subst (λ k. AreFirst plan (first + n) k w.0) (sym (first_length plan (first + n) w.1.0 w.0 w.1.2) ∙ sym w.2) w.1.2 in
       let few : calls_of_frame * n + 1 + most_fragments ≤ calls_of_frame * (n + 1) = omega arith in
-      let before = s.later in
-      let same = r.same in
-      let later = frame.later in
       let long : length (s.datagrams ++ w.0) ≡ length s.datagrams + length w.0 = length-append s.datagrams w.0 in
       let size = w.2 in
       let one = one_more_rest pace n in
@@ -74,20 +71,18 @@ module _ (plan : Plan) (first pace n : ℕ) (a b m c : Known Traffic) (s : SentF
         waited = whole_frame_waited pace n sent s.waits a m c frame.some paused frame.waited;
         counted = made_then (so_far + rests_before pace n) sent (length (s.datagrams ++ w.0) + rests_between pace (n + 1)) a m c (omega (arith, long, size, one))
             (made_then so_far (rests_before pace n) (so_far + rests_before pace n) a b m refl s.counted r.counted) frame.counted;
-        later = omega (arith, before, same, later);
+        same = frame.same ∙ (r.same ∙ s.same);
         calls = at_most calls (calls_of_frame * n + 1 + most_fragments) (calls_of_frame * (n + 1)) a c few (so_many frame.calls);
       }
 
   -- a frame of which the link took a part
   pub cut_off : first + n < frame_count plan → Transmits m c (SendsPartOfFrame plan (first + n)) → HasFailed m c
       → MakesCalls (λ (traffic : Traffic). traffic.calls) most_fragments m c → SentPart plan first pace a c
-  cut_off within part rose many =
+  cut_off within part once many =
       let few : calls_of_frame * n + 1 + most_fragments ≤ calls_of_frame * frame_count plan = omega (arith, within) in
-      let before = s.later in
-      let same = r.same in
       record {
         part = part_sent plan first pace n s.datagrams s.waits a m c within s.are s.paced rested paused part;
-        rose = later-Rose a.faults m.faults c.faults (omega (arith, before, same)) rose;
+        once = once_then (r.same ∙ s.same) once;
         calls = at_most calls (calls_of_frame * n + 1 + most_fragments) (calls_of_frame * frame_count plan) a c few (so_many many);
       }
 
@@ -103,7 +98,7 @@ nothing_yet plan first pace a =
       paced = paced_none pace plan first;
       waited = Transmits-no_wait a;
       counted = subst (λ k. Transmits a a (MadeCalls k)) (no_rests pace) (made_none a);
-      later = omega arith;
+      same = refl;
       calls = subst (λ k. MakesCalls (λ (traffic : Traffic). traffic.calls) k a a) (sym none) (no_calls calls a);
     }
   where

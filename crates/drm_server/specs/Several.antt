@@ -1,5 +1,5 @@
 -- A schedule over several links, from a frame on: over each, what would go over it alone.
-use Rattle.std.specs.Prelude.{ℕ, ◌+◌, ◌*◌, ◌≤◌, Bool, true, false, List, length}
+use Rattle.std.specs.Prelude.{ℕ, ◌≡◌, ◌+◌, ◌*◌, Bool, true, false, List, length}
 use Rattle.drm_schedule.specs.declared.plan.Plan.{Plan}
 use Rattle.drm_links.specs.Told.{Known, HasFailed}
 use Rattle.drm_links.specs.Link.{Traffic}
@@ -12,7 +12,8 @@ use Rattle.drm_server.specs.Datagrams.{AreOfFrames}
 use Rattle.drm_server.specs.Rests.{ArePaced, calls_of_frame, rests_between}
 use Rattle.drm_server.specs.Sending.{SendsPart}
 
--- The datagrams of n frames from frame `first` on went over a link at this pace, and it didn't rest after the last one.
+-- The datagrams of n frames from frame `first` on went over a link at this pace, and it didn't rest after the last one. No call of it
+-- failed.
 pub record SentFrames (plan : Plan) (first pace n : ℕ) (start now : Known Traffic) : Type 0 where
   pub datagrams : List (List ℕ)
   pub are : AreOfFrames plan first n datagrams
@@ -22,13 +23,13 @@ pub record SentFrames (plan : Plan) (first pace n : ℕ) (start now : Known Traf
   pub waited : Transmits start now (Waits waits 0)
   -- one call for each datagram and, where there is a pace, for each rest between two frames
   pub counted : Transmits start now (MadeCalls (length datagrams + rests_between pace n))
-  pub later : start.faults ≤ now.faults
+  pub same : now.faults ≡ start.faults
   pub calls : MakesCalls (λ (traffic : Traffic). traffic.calls) (calls_of_frame * n) start now
 
--- Some first ones of the schedule's from frame `first` on went over it, and then it failed.
+-- Some first ones of the schedule's from frame `first` on went over it, and then it failed: no call was made afterwards.
 pub record SentPart (plan : Plan) (first pace : ℕ) (start now : Known Traffic) : Type 0 where
   pub part : Transmits start now (SendsPart plan first pace)
-  pub rose : HasFailed start now
+  pub once : HasFailed start now
   -- so few calls a frame that a link that tells will tell at the end
   pub calls : MakesCalls (λ (traffic : Traffic). traffic.calls) (calls_of_frame * frame_count plan) start now
 

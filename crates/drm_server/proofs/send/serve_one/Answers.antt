@@ -24,7 +24,7 @@ returns-in-Ok-clause-step g c = λ plan first start has within at before.
     let s = c.in-Ok.ensures in
     subst Q (sym c.if-member.true)
     (one_more_frame plan first pace n start b m a so_far (record { none = r.none; waits = r.waits; counted = r.rests; calls = r.calls; same = r.cause }) sent
-    (record { whole = subst F at (same_sent server plan has sent m a s.whole); waited = s.waits; some = s.some; counted = s.counted; later = s.cause.later; calls = s.calls }))
+    (record { whole = subst F at (same_sent server plan has sent m a s.whole); waited = s.waits; some = s.some; counted = s.counted; same = s.cause.same (λ failed. cc); calls = s.calls }))
 
 pub returns-in-Err-clause-step : goal.returns-in-Err-clause-step
 returns-in-Err-clause-step g c = λ plan first start has within at before.
@@ -39,4 +39,4 @@ returns-in-Err-clause-step g c = λ plan first start has within at before.
     let F : ℕ → Type 0 = λ f. Transmits m a (SendsPartOfFrame plan f) in
     let r = c.rest_between.ensures in
     cut_off plan first pace n start b m a so_far (record { none = r.none; waits = r.waits; counted = r.rests; calls = r.calls; same = r.cause }) within
-    (subst F at (same_part server plan has m a c.in-Err.ensures.part)) (c.in-Err.ensures.cause.rose refl) c.in-Err.ensures.calls
+    (subst F at (same_part server plan has m a c.in-Err.ensures.part)) (c.in-Err.ensures.cause.once refl) c.in-Err.ensures.calls

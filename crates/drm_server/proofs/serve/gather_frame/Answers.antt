@@ -14,7 +14,7 @@ loop-i-init g c = (
   Outputs-nothing (g.O.Sink.known c.args.out.now) (λ text. take c.args.waiting c.args.room.now ++ [] ≡ text ++ take c.args.waiting c.args.room.now) (append-nil (take c.args.waiting c.args.room.now)),
   c.requires.room,
   refl,
-  omega arith,
+  refl,
 )
 
 pub returns-in_err-waiting-clause-front : goal.returns-in_err-waiting-clause-front
@@ -34,7 +34,7 @@ loop-i-preserved g c =
           (g.O.Sink.known c.args.out.now) (g.O.Sink.known c.loop-i.out) (g.O.Sink.known c.gather.new.out) i.2 d.2,
       c.in_ok-waiting.ensures.left,
       c.gather.ensures.long ∙ i.4,
-      omega (arith, i.5, c.gather.ensures.cause.later),
+      c.in_ok-waiting.ensures.cause.same (λ failed. cc) ∙ i.5,
     )
 
 pub returns-clause-gathered : goal.returns-clause-gathered

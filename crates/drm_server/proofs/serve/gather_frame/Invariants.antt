@@ -12,4 +12,4 @@ invariant-loop-i g l =
     × Gathers (take l.fn.waiting l.fn.room) (concat datagrams) (take l.waiting l.room) (g.O.Sink.known l.fn.out) (g.O.Sink.known l.out)
     × (l.waiting + most_packet l.fn.loaded.plan.carry ≤ length l.room)
     × (length l.room ≡ length l.fn.room)
-    × ((g.O.Sink.known l.fn.out).faults ≤ (g.O.Sink.known l.out).faults)
+    × ((g.O.Sink.known l.out).faults ≡ (g.O.Sink.known l.fn.out).faults)

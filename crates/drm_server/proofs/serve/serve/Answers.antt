@@ -45,7 +45,7 @@ loop-n-preserved g c =
       (λ some. one_or_more plan first n w.1.0 (omega (arith, c.loop-n-test.true, c.saturating_sub-n-end.ensures, c.frames.ensures.frames)) (omega (arith, count, c.fragments.ensures.some)) i.0 w.0 i.1 w.1.2),
       subst (λ (s : Serving). c.in_ok-waiting.waiting + most_packet s.plan.carry ≤ length c.gather_frame.new.room) loaded c.in_ok-waiting.ensures.left,
       c.gather_frame.ensures.long ∙ i.5,
-      omega (arith, i.6, c.gather_frame.ensures.cause.later),
+      c.in_ok-waiting.ensures.cause.same (λ failed. cc) ∙ i.6,
       ap (λ (s : Serving). s.base) loaded,
       omega (arith, i.8, size, long, c.from-written.ensures),
       omega (arith, i.9, c.from-written.ensures, c.fragments.ensures.few),

@@ -14,7 +14,7 @@ invariant-loop-n g l =
     × (0 < l.waiting → IsFrontOfCapture l.fn.loaded.base l.fn.first (concat datagrams))
     × (l.waiting + most_packet l.fn.loaded.base.carry ≤ length l.room)
     × (length l.room ≡ length l.fn.room)
-    × ((g.O.Sink.known l.fn.out).faults ≤ (g.O.Sink.known l.out).faults)
+    × ((g.O.Sink.known l.out).faults ≡ (g.O.Sink.known l.fn.out).faults)
     × (l.loaded.base ≡ l.fn.loaded.base)
     × (l.written ≡ length datagrams)
     × (l.written ≤ most_fragments * l.n)
