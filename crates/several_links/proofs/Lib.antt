@@ -3,4 +3,3 @@ pub mod ReachLemmas
 pub mod CloseLemmas
 pub mod RunLemmas
 pub mod TookLemmas
-pub mod FaultLemmas

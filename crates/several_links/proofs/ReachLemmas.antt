@@ -101,7 +101,7 @@ first_links {L} known addresses members n P a b all = linked a.told b.told all
     linked (Some x) (Some y) any each = λ k at d within. each k d within at
 
 -- over links that were only opened nothing has gone
-nothing_gone : {L : Type 0} (known : L → Known Traffic) (told : DockContents) (addresses : List Address) (members : List (Member L)) (n : ℕ) → length members ≡ n
+pub nothing_gone : {L : Type 0} (known : L → Known Traffic) (told : DockContents) (addresses : List Address) (members : List (Member L)) (n : ℕ) → length members ≡ n
     → HaveFirst known told addresses members n → HaveGone known members (replicate n nothing)
 nothing_gone {L} known told addresses members n size first = record {
   as_many = length-replicate n nothing ∙ sym size;

@@ -1,11 +1,11 @@
 -- More datagrams, over one of several links.
-use Rattle.std.proofs.Common.{◌≡◌, ◌≤◌, ℕ, Bool, true, false, List, [], ◌++◌, length, refl, sym, ◌∙◌, ap, arith, append_assoc, length-append}
-use Rattle.drm_links.specs.Told.{Known, HasCause, HasFailed}
+use Rattle.std.proofs.Common.{◌≡◌, ◌≤◌, ℕ, List, [], ◌++◌, length, refl, sym, ◌∙◌, ap, arith, append_assoc, length-append}
+use Rattle.drm_links.specs.Told.{Known, HasFailed}
 use Rattle.drm_links.specs.Transmission.{Transmits, SendsAll, SendsNoMore}
-use Rattle.drm_links.proofs.ToldLemmas.{once_then, counts_one, counts_none}
+use Rattle.drm_links.proofs.ToldLemmas.{once_then}
 use Rattle.drm_links.specs.Link.{Traffic}
 use Rattle.drm_links.proofs.TransmissionLemmas.{Transmits-nothing, Transmits-then, SendsAll-then, SendsAll-no_more}
-use Rattle.several_links.specs.Took.{TookAll, TookSome, TookBy}
+use Rattle.several_links.specs.Took.{TookAll, TookSome}
 
 -- none yet
 pub took_none : (start : Known Traffic) → TookAll [] start start
@@ -42,8 +42,3 @@ still_some datagrams more start now took = record {
   sent = took.sent;
   once = took.once;
 }
-
--- one call failed where it didn't take them all
-pub took_counts : (up : Bool) (datagrams : List (List ℕ)) (start now : Known Traffic) → TookBy up datagrams start now → HasCause start now (up ≡ false)
-took_counts true datagrams start now took = counts_none (λ down. cc) took.same
-took_counts false datagrams start now took = counts_one refl took.once

@@ -3,7 +3,7 @@ use Rattle.std.specs.Prelude.{ℕ, ◌≡◌, ◌+◌, ◌<◌, true, false, Lis
 use Rattle.std.specs.FinMap as map
 use Rattle.std.specs.Ordering.{nat_cmp}
 use Rattle.std.specs.Cmp.Lexicographic.{slice_cmp}
-use Rattle.drm_links.specs.Told.{Known, raised}
+use Rattle.drm_links.specs.Told.{Known}
 use Rattle.drm_links.specs.Link.{Traffic}
 use Rattle.drm_links.specs.Dock.{DockContents, LinkStart, Over, over_of, address_key, after_failure, after_close}
 use Rattle.drm_links.specs.declared.dock.Address.{Address}
@@ -54,17 +54,6 @@ HasGone known link over = (traffic : Traffic) × ((known link).told ≡ Some tra
 pub record HaveGone {L : Type 0} (known : L → Known Traffic) (members : List (Member L)) (overs : List Over) : Type 0 where
   pub as_many : length overs ≡ length members
   pub each : (k : ℕ) (d : Member L) (none : Over) → k < length members → HasGone known (slice_index_or members k d).link (slice_index_or overs k none)
-
--- ---- counts of faults
-
--- no call of any link has failed
-abbrev pub HaveNoFaults : {L : Type 0} → (L → Known Traffic) → List (Member L) → Type 0
-HaveNoFaults known members = All (λ member. (known member.link).faults ≡ 0) members
-
--- the dock's count once these links were closed: each one adds its own
-abbrev pub with_faults : {L : Type 0} → (L → Known Traffic) → List (Member L) → ℕ → ℕ
-with_faults known [] count = count
-with_faults known (member ∷ members) count = with_faults known members (raised count (known member.link).faults)
 
 -- ---- an opening that fails
 

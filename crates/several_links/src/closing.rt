@@ -3,7 +3,7 @@
 ghost use Rattle.std.specs.Prelude.{◌≡◌, ◌≤◌, List, length, vec_len};
 ghost use Rattle.drm_links.specs.Told.{Tells};
 ghost use Rattle.drm_links.specs.Dock.{Over};
-ghost use Rattle.several_links.specs.Reaching.{HaveGone, after_closes, with_faults};
+ghost use Rattle.several_links.specs.Reaching.{HaveGone, after_closes};
 
 use crate::Member;
 use drm_links::Dock;
@@ -14,7 +14,7 @@ pub fn close_each<D: Dock>(dock: &mut D, addresses: &Addresses, members: Vec<Mem
     requires { vec_len members ≤ length addresses.now }
     ensures closed { Tells (D.known dock.old) (D.known dock.new) (λ before after.
         (overs : List Over) → HaveGone D.L.known members.items overs → after ≡ after_closes overs addresses.now before) }
-    ensures cause { (D.known dock.new).faults ≡ with_faults D.L.known members.items (D.known dock.old).faults }
+    ensures cause { (D.known dock.new).faults ≡ (D.known dock.old).faults }
 {
     let mut k = 0;
     for member in members {

@@ -4,7 +4,7 @@ ghost use Rattle.std.specs.Prelude.{◌≡◌, ◌≤◌, Err, IsErr, length, ve
 ghost use Rattle.drm_links.specs.Told.{HasCause, Tells};
 ghost use Rattle.word_forms.specs.Addresses.{AreDifferent};
 ghost use Rattle.several_links.specs.Openings.{Docked};
-ghost use Rattle.several_links.specs.Reaching.{HaveLinks, HaveNoFaults, AreUp, ReachesFew, after_reaches};
+ghost use Rattle.several_links.specs.Reaching.{HaveLinks, AreUp, ReachesFew, after_reaches};
 
 use crate::{Member, close_each};
 use drm_bits::NoMemory;
@@ -51,7 +51,6 @@ pub fn reach_in<D: Dock>(
     requires all { length addresses.now ≤ vec_capacity room }
     ensures many { IfOk result (λ members. vec_len members ≡ length addresses.now) }
     ensures up { IfOk result (λ members. AreUp members.items) }
-    ensures fresh { IfOk result (λ members. HaveNoFaults D.L.known members.items) }
     ensures opened { IfOk result (λ _. Tells (D.known dock.old) (D.known dock.new)
         (λ before after. after ≡ after_reaches addresses.now before)) }
     ensures links { IfOk result (λ members. Docked (D.known dock.old) (D.known dock.new) (λ told.
@@ -86,7 +85,6 @@ pub fn reach_each<D: Dock>(
     requires { AreDifferent addresses.now }
     ensures many { IfOk result (λ members. vec_len members ≡ length addresses.now) }
     ensures up { IfOk result (λ members. AreUp members.items) }
-    ensures fresh { IfOk result (λ members. HaveNoFaults D.L.known members.items) }
     ensures opened { IfOk result (λ _. Tells (D.known dock.old) (D.known dock.new)
         (λ before after. after ≡ after_reaches addresses.now before)) }
     ensures links { IfOk result (λ members. Docked (D.known dock.old) (D.known dock.new) (λ told.

@@ -2,7 +2,6 @@ use Rattle.std.proofs.Common.{rules, ◌≡◌, ℕ, ◌<◌, [], ◌∷◌, Lis
 use Rattle.std.specs.Vec.Iter.{into_iter_items}
 use Rattle.std.proofs.lemmas.List.{length-drop}
 use Rattle.std.proofs.lemmas.Grind.{common_steps}
-use Rattle.several_links.specs.Reaching.{with_faults}
 use Rattle.several_links.specs.declared.member.Member.{Member}
 use Rattle.several_links.proofs.CloseLemmas.{next_left, close_more, closed_all}
 use Rattle.several_links.proofs.closing.close_each.Goals as goal
@@ -10,7 +9,6 @@ use Rattle.several_links.proofs.closing.close_each.Goals as goal
 pub loop-member-preserved : goal.loop-member-preserved
 loop-member-preserved g c =
     let i = c.loop-member.invariant in
-    let known = g.D.L.Link.known in
     let k : ℕ = c.loop-member.k in
     let members : List (Member g.row.D-L.Denot) = c.args.members.items in
     let next : into_iter_items c.loop-member.member-iterator ≡ c.in-Some.member ∷ into_iter_items c.next.new.self = search rules in
@@ -23,7 +21,7 @@ loop-member-preserved g c =
           (g.D.Dock.known c.args.dock.now) (g.D.Dock.known c.loop-member.dock) (g.D.Dock.known c.close.new.self) i.0 c.close.ensures.gone c.close.ensures.told,
       left.2,
       omega (arith, there),
-      ap (with_faults known (into_iter_items c.next.new.self)) c.close.ensures.cause ∙ (ap (λ ms. with_faults known ms (g.D.Dock.known c.loop-member.dock).faults) (sym next) ∙ i.3),
+      c.close.ensures.cause ∙ i.3,
     )
 
 pub returns-clause-closed : goal.returns-clause-closed
@@ -33,8 +31,3 @@ returns-clause-closed g c =
     let size = ap length (sym none ∙ i.1) ∙ length-drop c.loop-member.k c.args.members.items in
     closed_all g.D.L.Link.known c.args.members.items c.args.addresses.now c.loop-member.k (g.D.Dock.known c.args.dock.now) (g.D.Dock.known c.loop-member.dock)
     (omega (arith, size)) i.0
-
-pub returns-clause-cause : goal.returns-clause-cause
-returns-clause-cause g c =
-    let none : into_iter_items c.loop-member.member-iterator ≡ [] = grind (arith, common_steps) in
-    ap (λ ms. with_faults g.D.L.Link.known ms (g.D.Dock.known c.loop-member.dock).faults) (sym none) ∙ c.loop-member.invariant.3

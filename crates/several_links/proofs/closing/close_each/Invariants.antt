@@ -2,10 +2,10 @@ use Rattle.std.proofs.Common.{◌≡◌, ◌≤◌, List, length, drop}
 use Rattle.std.specs.Vec.Iter.{into_iter_items}
 use Rattle.drm_links.specs.Told.{Tells}
 use Rattle.drm_links.specs.Dock.{Over}
-use Rattle.several_links.specs.Reaching.{HaveGone, after_closes, with_faults}
+use Rattle.several_links.specs.Reaching.{HaveGone, after_closes}
 use Rattle.several_links.proofs.closing.close_each.Given as goal
 
--- what the dock tells once the other links are closed, too, and counts
+-- what the dock tells once the other links are closed, too
 abbrev pub invariant-loop-member : goal.invariant-loop-member
 invariant-loop-member g l =
     Tells (g.D.Dock.known l.fn.dock) (g.D.Dock.known l.dock) (λ before after.
@@ -13,5 +13,4 @@ invariant-loop-member g l =
     → after_closes (drop l.k overs) (drop l.k l.addresses) after ≡ after_closes overs l.addresses before)
     × (into_iter_items l.member-iterator ≡ drop l.k l.fn.members.items)
     × (l.k ≤ length l.fn.members.items)
-    × (with_faults g.D.L.Link.known (into_iter_items l.member-iterator) (g.D.Dock.known l.dock).faults
-    ≡ with_faults g.D.L.Link.known l.fn.members.items (g.D.Dock.known l.fn.dock).faults)
+    × ((g.D.Dock.known l.dock).faults ≡ (g.D.Dock.known l.fn.dock).faults)

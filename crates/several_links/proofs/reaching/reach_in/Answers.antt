@@ -3,11 +3,9 @@ use Rattle.std.proofs.lemmas.List.Elements.{All-push}
 use Rattle.drm_links.specs.declared.dock.Address.{Address}
 use Rattle.drm_links.proofs.ToldLemmas.{Tells-weaker, counts_one, once_then}
 use Rattle.several_links.specs.Openings.{Docked, HasLink}
-use Rattle.several_links.specs.Reaching.{HaveNoFaults}
 use Rattle.several_links.specs.declared.member.Member.{Member}
 use Rattle.several_links.proofs.OpeningLemmas.{docked_still, each_more}
 use Rattle.several_links.proofs.ReachLemmas.{Reached, HaveFirst, found_reach, reached_now, missed_now, first_links, few_reached}
-use Rattle.several_links.proofs.FaultLemmas.{none_add}
 use Rattle.several_links.proofs.reaching.reach_in.Goals as goal
 
 pub returns-in-Failed-clause-failed : goal.returns-in-Failed-clause-failed
@@ -29,8 +27,7 @@ returns-in-Failed-clause-failed g c =
 pub returns-in-Failed-clause-cause : goal.returns-in-Failed-clause-cause
 returns-in-Failed-clause-cause g c =
     let i = c.loop-k.invariant in
-    let closed = c.close_each.ensures.cause ∙ none_add g.D.L.Link.known c.loop-k.members.items (g.D.Dock.known c.reach.new.self).faults i.7 in
-    counts_one refl (closed ∙ once_then i.4 (c.in-Failed.ensures.cause.once tt))
+    counts_one refl (c.close_each.ensures.cause ∙ once_then i.4 (c.in-Failed.ensures.cause.once tt))
 
 pub loop-k-preserved : goal.loop-k-preserved
 loop-k-preserved g c =
@@ -58,7 +55,6 @@ loop-k-preserved g c =
       reached_now ats k at within c.get.ensures known c.in-Link.link a b d i.5 c.in-Link.ensures.opened c.in-Link.ensures.told,
       each_more Q c.loop-k.members.items c.push.new.self.items member k size more old
           (λ e. found_reach ats k at within c.get.ensures known c.in-Link.link a b d c.requires.different i.5 c.in-Link.ensures.opened c.in-Link.ensures.told e),
-      subst (λ ms. HaveNoFaults known ms) (sym more) (All-push (λ (m : Member g.row.D-L.Denot). (known m.link).faults ≡ 0) c.loop-k.members.items member i.7 c.in-Link.ensures.fresh.0),
     )
 
 pub returns-clause-links : goal.returns-clause-links

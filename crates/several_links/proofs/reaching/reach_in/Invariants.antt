@@ -2,7 +2,7 @@ use Rattle.std.proofs.Common.{◌≡◌, ℕ, ◌<◌, ◌≤◌, vec_len, vec_c
 use Rattle.drm_links.specs.Told.{Tells}
 use Rattle.drm_links.specs.declared.dock.Address.{Address}
 use Rattle.several_links.specs.Openings.{Docked, HasLink}
-use Rattle.several_links.specs.Reaching.{AreUp, HaveNoFaults}
+use Rattle.several_links.specs.Reaching.{AreUp}
 use Rattle.several_links.specs.declared.member.Member.{Member}
 use Rattle.several_links.proofs.ReachLemmas.{Reached}
 use Rattle.several_links.proofs.reaching.reach_in.Given as goal
@@ -17,4 +17,3 @@ invariant-loop-k g l =
     × Tells (g.D.Dock.known l.fn.dock) (g.D.Dock.known l.dock) (Reached l.addresses l.k)
     × ((k : ℕ) (d : Member g.row.D-L.Denot) → k < l.k → (at : Address)
     → Docked (g.D.Dock.known l.fn.dock) (g.D.Dock.known l.dock) (λ told. HasLink g.D.L.Link.known told k (slice_index_or l.addresses k at) (slice_index_or l.members.items k d).link))
-    × HaveNoFaults g.D.L.Link.known l.members.items
