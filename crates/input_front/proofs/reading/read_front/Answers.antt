@@ -1,5 +1,4 @@
-use Rattle.std.proofs.Common.{◌≡◌, ◌≤◌, length, ◌+◌, ◌-◌, take, drop, subst, arith}
-use Rattle.std.proofs.Math.Nat.{le_trans}
+use Rattle.std.proofs.Common.{◌≡◌, ◌≤◌, length, ◌+◌, ◌-◌, take, drop, subst, ◌∙◌, arith}
 use Rattle.std.proofs.lemmas.Grind.{common_steps}
 use Rattle.input_front.proofs.Filling.{filled_more, filled_failed}
 use Rattle.input_front.specs.Input.{FailsBehind}
@@ -7,7 +6,7 @@ use Rattle.input_front.proofs.reading.read_front.Goals as goal
 
 pub loop-len-preserved : goal.loop-len-preserved
 loop-len-preserved g c =
-    let (filled, size, within, later) = c.loop-len.invariant in
+    let (filled, size, within, still) = c.loop-len.invariant in
     let n : length c.loop-len.room ≡ c.loop-len.len + (length c.loop-len.room - c.loop-len.len) = omega (arith, within) in
     let same : length c.read.new.buf ≡ length (take (length c.loop-len.room - c.loop-len.len) (drop c.loop-len.len c.loop-len.room)) = c.read.auto.buf in
     let room : length (take (length c.loop-len.room - c.loop-len.len) (drop c.loop-len.len c.loop-len.room)) ≡ length c.loop-len.room - c.loop-len.len = grind (arith, common_steps, within) in
@@ -15,11 +14,11 @@ loop-len-preserved g c =
       filled_more (g.I.Source.known c.args.input.now) (g.I.Source.known c.loop-len.input) (g.I.Source.known c.read.new.self) c.loop-len.len c.in-Got.n (length c.loop-len.room - c.loop-len.len) c.loop-len.room c.read.new.buf n few filled c.in-Got.ensures.bytes c.in-Got.ensures.told,
       grind (arith, common_steps, size, same, room, within),
       grind (arith, common_steps, same, room, few, within),
-      le_trans later c.in-Got.ensures.cause.later,
+      c.in-Got.ensures.cause.same (λ failed. cc) ∙ still,
     )
 
 pub returns-in-Failed-clause-failed : goal.returns-in-Failed-clause-failed
 returns-in-Failed-clause-failed g c =
-    let (filled, size, within, later) = c.loop-len.invariant in
+    let (filled, size, within, still) = c.loop-len.invariant in
     subst (λ n. FailsBehind n (g.I.Source.known c.args.input.now) (g.I.Source.known c.read.new.self)) size
     (filled_failed (g.I.Source.known c.args.input.now) (g.I.Source.known c.loop-len.input) (g.I.Source.known c.read.new.self) c.loop-len.len c.loop-len.room c.read.new.buf c.loop-len-test.true filled c.in-Failed.ensures.bytes c.in-Failed.ensures.told)

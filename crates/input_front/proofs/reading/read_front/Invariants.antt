@@ -8,7 +8,7 @@ invariant-loop-len g l =
     IsFilled l.len l.room (g.I.Source.known l.fn.input) (g.I.Source.known l.input)
     × (length l.room ≡ length l.fn.room)
     × (l.len ≤ length l.room)
-    × ((g.I.Source.known l.fn.input).faults ≤ (g.I.Source.known l.input).faults)
+    × ((g.I.Source.known l.input).faults ≡ (g.I.Source.known l.fn.input).faults)
 
 abbrev pub decreases-loop-len : goal.decreases-loop-len
 decreases-loop-len g l = length l.fn.room - l.len
