@@ -166,7 +166,7 @@ pack_run {I} {O} id d ending input_known input input' out_known out out' ends un
   ends = ends;
   untouched = untouched;
   exactly = exact id d before after out_known out out' ending ends;
-  complete = λ reads goes. whole id d before after out_known out out' ending ends (λ is. reads (read_cause.rose is)) (λ is. goes (write_cause.rose is));
+  complete = λ reads goes. whole id d before after out_known out out' ending ends (λ is. reads (read_cause.once is)) (λ is. goes (write_cause.once is));
   read_cause = read_cause;
   write_cause = write_cause;
 }

@@ -49,7 +49,7 @@ some_after id d continuity (unit ∷ units) small few =
 pub record Wrote (start : Packing) (unit : List ℕ) (k : ℕ) (p : Packing) (a b : Known Output) : Type 0 where
   pub written : List ℕ
   pub text : Outputs a b (λ t. t ≡ written)
-  pub later : a.faults ≤ b.faults
+  pub still : b.faults ≡ a.faults
   pub id : p.id ≡ start.id
   pub size : p.length ≡ start.length
   pub continuity : p.continuity ≡ (start.continuity + k) % 8
@@ -68,7 +68,7 @@ pub wrote_none : (start : Packing) (unit : List ℕ) (a : Known Output) → star
 wrote_none start unit a few = record {
   written = [];
   text = Outputs-nothing a (λ t. t ≡ []) refl;
-  later = omega arith;
+  still = refl;
   id = refl;
   size = refl;
   continuity = omega (arith, few);
@@ -95,13 +95,13 @@ next_all start p unit k a b bytes more i below one others =
     i.all (bytes ++ more) (step_by start.id start.length p.continuity unit k (packet_count start.length (length unit)) bytes more below (subst Q i.size (subst P i.id one)) others)
 
 pub wrote_one : (start p q : Packing) (unit : List ℕ) (k : ℕ) (a b c : Known Output) (bytes : List ℕ) → Wrote start unit k p a b → k < packet_count start.length (length unit)
-    → IsWritten start.length (unit_packet p.id p.length p.continuity unit k) bytes → q ≡ after_packet p → Outputs b c (λ t. t ≡ bytes) → b.faults ≤ c.faults → Wrote start unit (k + 1) q a c
-wrote_one start p q unit k a b c bytes i below one after text later =
+    → IsWritten start.length (unit_packet p.id p.length p.continuity unit k) bytes → q ≡ after_packet p → Outputs b c (λ t. t ≡ bytes) → c.faults ≡ b.faults → Wrote start unit (k + 1) q a c
+wrote_one start p q unit k a b c bytes i below one after text still =
     let next : q.continuity ≡ next_continuity p.continuity = ap (λ (x : Packing). x.continuity) after in
     record {
       written = i.written ++ bytes;
       text = Outputs-then (λ t. t ≡ i.written) (λ t. t ≡ bytes) (λ t. t ≡ i.written ++ bytes) a b c i.text text (λ x y u v. ap (λ l. l ++ y) u ∙ ap (λ l. i.written ++ l) v);
-      later = omega (arith, i.later, later);
+      still = still ∙ i.still;
       id = ap (λ (x : Packing). x.id) after ∙ i.id;
       size = ap (λ (x : Packing). x.length) after ∙ i.size;
       continuity = (let e = i.continuity in omega (arith, next, e));
@@ -125,7 +125,7 @@ wrote_broken start p unit k a b c bytes r other fault small i below one is write
       i.written ++ (bytes ++ more),
       next_all start p unit k a b bytes more i below one others,
       Writes-broken (i.written ++ (bytes ++ more)) bytes more a b c r other fault
-          (Outputs-weaker (λ t. t ≡ i.written) (λ t. t ++ (bytes ++ more) ≡ i.written ++ (bytes ++ more)) a b i.text (λ t e. ap (λ l. l ++ (bytes ++ more)) e)) i.later is writes,
+          (Outputs-weaker (λ t. t ≡ i.written) (λ t. t ++ (bytes ++ more) ≡ i.written ++ (bytes ++ more)) a b i.text (λ t e. ap (λ l. l ++ (bytes ++ more)) e)) i.still is writes,
     )
 
 pub wrote_all : {E : Type 0} (start p : Packing) (unit : List ℕ) (k : ℕ) (a b : Known Output) → Wrote start unit k p a b → packet_count start.length (length unit) ≤ k
@@ -136,7 +136,7 @@ wrote_all start p unit k a b i full =
     let all = i.all [] (subst (λ m. AreWritten start.length (packets_from start.id start.length p.continuity unit k m) []) (sym none) refl) in (
       i.written,
       subst (λ l. AreWritten start.length (unit_packets start.id start.length start.continuity unit) l) (append-nil i.written) all,
-      Writes-whole i.written a b i.text i.later,
+      Writes-whole i.written a b i.text i.still,
     )
 
 packing_by : (p : Packing) (id d n : ℕ) → p.id ≡ id → p.length ≡ d → p.continuity ≡ n → p ≡ record { id = id; length = d; continuity = n }
@@ -156,7 +156,7 @@ pub record Packs (id d : ℕ) (bytes rest : List ℕ) (p : Packing) (a b : Known
   pub id_is : p.id ≡ id
   pub size : p.length ≡ d
   pub few : p.continuity < 8
-  pub later : a.faults ≤ b.faults
+  pub still : b.faults ≡ a.faults
   pub all : (units : List (List ℕ)) → AreUnits units [] bytes
       → (left : List (List ℕ)) × (written : List ℕ) × AreUnits left [] rest × Outputs a b (λ t. t ≡ written)
       × ((more : List ℕ) → AreWritten d (packets_after id d p.continuity left) more → AreWritten d (packets id d units) (written ++ more))
@@ -168,7 +168,7 @@ packs_none id d bytes p a new =
       id_is = ap (λ (x : Packing). x.id) new;
       size = ap (λ (x : Packing). x.length) new;
       few = omega (arith, none);
-      later = omega arith;
+      still = refl;
       all = λ units are. (units, [], are, Outputs-nothing a (λ t. t ≡ []) refl, λ more written. subst (λ n. AreWritten d (packets_after id d n units) more) none written);
     }
 
@@ -185,9 +185,9 @@ next_unit (u ∷ left) unit behind rest (more, first, are) begins =
     record { others = left; is = ap (λ l. l ∷ left) same; are = subst (AreUnits left []) same_rest are }
 
 pub packs_one : (id d : ℕ) (bytes rest unit behind : List ℕ) (p q : Packing) (a b c : Known Output) (text : List ℕ)
-    → Packs id d bytes rest p a b → BeginsWith unit behind rest → AreWritten d (unit_packets p.id d p.continuity unit) text → Outputs b c (λ t. t ≡ text) → b.faults ≤ c.faults → q ≡ after_unit p unit
+    → Packs id d bytes rest p a b → BeginsWith unit behind rest → AreWritten d (unit_packets p.id d p.continuity unit) text → Outputs b c (λ t. t ≡ text) → c.faults ≡ b.faults → q ≡ after_unit p unit
     → Packs id d bytes behind q a c
-packs_one id d bytes rest unit behind p q a b c text i begins one out later after =
+packs_one id d bytes rest unit behind p q a b c text i begins one out still after =
     let count : ℕ = packet_count d (length unit) in
     let continuity : q.continuity ≡ (p.continuity + count) % 8 = ap (λ (x : Packing). x.continuity) after ∙ ap (λ n. (p.continuity + packet_count n (length unit)) % 8) i.size in
     let mine : AreWritten d (unit_packets id d p.continuity unit) text = subst (λ n. AreWritten d (unit_packets n d p.continuity unit) text) i.id_is one in
@@ -195,7 +195,7 @@ packs_one id d bytes rest unit behind p q a b c text i begins one out later afte
       id_is = ap (λ (x : Packing). x.id) after ∙ i.id_is;
       size = ap (λ (x : Packing). x.length) after ∙ i.size;
       few = omega (arith, continuity);
-      later = omega (arith, i.later, later);
+      still = still ∙ i.still;
       all = λ units are.
           let (left, written, are_left, came, all) = i.all units are in
           let next = next_unit left unit behind rest are_left begins in (
@@ -230,7 +230,7 @@ packs_broken id d bytes rest unit behind p a b c text r other fault small i begi
       written ++ (text ++ more),
       all (text ++ more) (subst (λ l. AreWritten d (packets_after id d p.continuity l) (text ++ more)) (sym next.is) whole),
       Writes-broken (written ++ (text ++ more)) text more a b c r other fault
-          (Outputs-weaker (λ t. t ≡ written) (λ t. t ++ (text ++ more) ≡ written ++ (text ++ more)) a b came (λ t e. ap (λ l. l ++ (text ++ more)) e)) i.later is writes,
+          (Outputs-weaker (λ t. t ≡ written) (λ t. t ++ (text ++ more) ≡ written ++ (text ++ more)) a b came (λ t e. ap (λ l. l ++ (text ++ more)) e)) i.still is writes,
     )
 
 -- no unit begins the rest
@@ -242,7 +242,7 @@ packs_all {E} id d bytes rest p a b i stuck units are =
     by : (left : List (List ℕ)) (written : List ℕ) → AreUnits left [] rest → Outputs a b (λ t. t ≡ written)
         → ((more : List ℕ) → AreWritten d (packets_after id d p.continuity left) more → AreWritten d (packets id d units) (written ++ more))
         → (text : List ℕ) × AreWritten d (packets id d units) text × (let done : Result (Unit {0}) E = Ok tt in Writes done a b text)
-    by [] written are_left came all = (written, subst (λ l. AreWritten d (packets id d units) l) (append-nil written) (all [] refl), Writes-whole written a b came i.later)
+    by [] written are_left came all = (written, subst (λ l. AreWritten d (packets id d units) l) (append-nil written) (all [] refl), Writes-whole written a b came i.still)
     by (u ∷ left) written (more, first, others) came all = absurd (stuck u more first)
 
 -- a number of packets, as it is computed

@@ -58,6 +58,6 @@ pub record PackRun {I O : Type 0} (id d : ℕ) (ending : Result (Unit {0}) Fault
   pub complete : (HasFailed (input_known input) (input_known input') → ⊥) → (HasFailed (out_known out) (out_known out') → ⊥)
       → Inputs (input_known input) (input_known input') (λ left _. (units : List (List ℕ)) → ComesTo left (Ok units)
       → UnlessMemory ending ((ending ≡ Ok tt) × Outputs (out_known out) (out_known out') (ArePacked id d units)))
-  -- The counts of faults never fall. A read or a write failed only where that of input or of out rose.
+  -- A count of faults rose, by one, exactly where a read or a write ended the run.
   pub read_cause : HasCause (input_known input) (input_known input') (ending ≡ Err faults.Read)
   pub write_cause : HasCause (out_known out) (out_known out') (ending ≡ Err faults.Write)

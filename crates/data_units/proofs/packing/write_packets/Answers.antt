@@ -1,5 +1,6 @@
 use Rattle.std.proofs.Common.{subst}
 use Rattle.std.proofs.lemmas.Result.{err_from_is_err_and}
+use Rattle.drm_links.proofs.ToldLemmas.{done_counts}
 use Rattle.drm_links.proofs.WritingLemmas.{Writes-done}
 use Rattle.data_units.specs.Units.{BeginsWith}
 use Rattle.data_units.proofs.Files.{none_begins, wrong_begin}
@@ -18,7 +19,7 @@ pub units-preserved : goal.units-preserved
 units-preserved g c =
     let (text, one, writes) = c.write_unit.ensures.writes in
     packs_one c.args.id c.args.length c.args.bytes.now c.units.rest.now c.in-Unit.unit.now c.in-Unit.behind.now c.units.packer c.write_unit.new.packer (g.O.Sink.known c.args.out.now) (g.O.Sink.known c.units.out) (g.O.Sink.known c.write_unit.new.out)
-    text c.units.invariant c.in-Unit.ensures one (Writes-done c.in_ok-write_unit-in-Unit.was writes) writes.cause.later c.in_ok-write_unit-in-Unit.ensures.after
+    text c.units.invariant c.in-Unit.ensures one (Writes-done c.in_ok-write_unit-in-Unit.was writes) (done_counts c.in_ok-write_unit-in-Unit.was writes.cause) c.in_ok-write_unit-in-Unit.ensures.after
 
 pub returns-in-End : goal.returns-in-End
 returns-in-End g c =
