@@ -52,7 +52,7 @@ pub fn differences<R: Threads + Wait + Sync + AllocGlobal>(
         compare(&mut found, "out", out.bytes(), &case.out.wanted)?;
     }
     compare(&mut found, "err", err.bytes(), &case.err.wanted)?;
-    compare_links(&mut found, &dock, case)?;
+    compare_links(&mut found, &dock, case, receives(program, case))?;
     Ok(found)
 }
 
@@ -71,13 +71,29 @@ fn compare(found: &mut String, name: &str, got: &[u8], wanted: &[u8]) -> Result<
     note(found, format_args!("{name} from byte {same}"))
 }
 
-// A link that the case doesn't name as one that has sent isn't to be closed.
-fn compare_links(found: &mut String, dock: &MemDock, case: &Case) -> Result<(), AllocError> {
+// Whether the links of this case are there to be read.
+fn receives(program: Program, case: &Case) -> bool {
+    match program {
+        Program::Drmcast => case.words.first().is_some_and(|word| word == "receive"),
+        Program::Drmpaths => true,
+    }
+}
+
+// A link that the case doesn't name as one that has sent isn't to be closed. Those that are read may be, with nothing sent.
+fn compare_links(
+    found: &mut String,
+    dock: &MemDock,
+    case: &Case,
+    are_read: bool,
+) -> Result<(), AllocError> {
     for sent in &case.sent {
         compare_sent(found, dock, sent)?;
     }
     for link in &case.links {
-        if dock.closed(link.at).is_some() && case.sent.iter().all(|sent| sent.at != link.at) {
+        if let Some(closed) = dock.closed(link.at)
+            && case.sent.iter().all(|sent| sent.at != link.at)
+            && !(are_read && closed.sent(0).is_none())
+        {
             note(found, "a link was closed")?;
         }
     }
