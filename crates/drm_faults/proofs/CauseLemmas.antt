@@ -1,7 +1,7 @@
 -- What failed of two objects, by what failed of one.
 use Rattle.std.proofs.Common.{◌≡◌, inl, inr, ◌∙◌}
 use Rattle.drm_links.specs.Told.{Known, HasCause}
-use Rattle.drm_faults.specs.Causes.{OneFailed}
+use Rattle.drm_faults.specs.Causes.{OneFailed, OpeningFailed}
 
 -- the other is left alone
 pub one_alone : {X Y H : Type 0} {a b : Known X} {c d : Known Y} → HasCause a b H → d.faults ≡ c.faults → OneFailed a b c d H
@@ -17,3 +17,8 @@ none_failed none still still' = record { once = λ here. absurd (none here); sam
 -- it happens exactly where something else does
 pub one_failed_as : {X Y G H : Type 0} {a b : Known X} {c d : Known Y} → (H → G) → (G → H) → OneFailed a b c d G → OneFailed a b c d H
 one_failed_as to from failed = record { once = λ here. failed.once (to here); same = λ none. failed.same (λ there. none (from there)) }
+
+-- the run ends so where it ends in another way
+pub opening_as : {X G H : Type 0} {a b : Known X} → (G → H) → OpeningFailed a b G → OpeningFailed a b H
+opening_as to (inl same) = inl same
+opening_as to (inr (here, failed)) = inr (to here, failed)

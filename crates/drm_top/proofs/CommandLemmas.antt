@@ -1,12 +1,14 @@
 -- The ends of runs that tell of no frames.
-use Rattle.std.proofs.Common.{◌≡◌, ◌⊎◌, inl, inr, Bool, List, true, false, [], Option, None, Some, Result, Ok, Err, refl, sym, ◌∙◌, ap, subst}
-use Rattle.drm_links.specs.Told.{Known, WhileTold, BothTold}
+use Rattle.std.proofs.Common.{◌≡◌, ℕ, ◌⊎◌, inl, inr, Bool, List, true, false, [], Option, None, Some, Result, Ok, Err, refl, sym, ◌∙◌, ap, subst}
+use Rattle.drm_links.specs.Told.{Known, HasCause, WhileTold, BothTold}
+use Rattle.drm_links.proofs.ToldLemmas.{counts_as}
 use Rattle.drm_links.specs.Dock.{DockContents}
 use Rattle.several_links.specs.Reaching.{NothingSent}
 use Rattle.drm_faults.specs.declared.fault.Fault.{Fault}
 use Rattle.drm_faults.specs.declared.fault.Fault.TheVariants as faults
 use Rattle.drm_faults.specs.Lines.{fault_line}
-use Rattle.drm_faults.specs.Fault.{whole_of, done_of, ReportsIf, WritesLine}
+use Rattle.drm_faults.specs.Fault.{whole_of, done_of, fault_status, ReportsIf, WritesLine}
+use Rattle.drm_faults.proofs.StatusLemmas.{four_is_read, five_is_write, six_is_link}
 use Rattle.dcp_pft.specs.declared.carry.Carry.{Carry}
 use Rattle.drm_links.specs.Source.{Input}
 use Rattle.drm_links.specs.Sink.{Output}
@@ -32,6 +34,38 @@ lacks_none (Err fault) is = cc
 -- it lacks no frame
 pub whole_lacks_none : (result : Result Bool Fault) (done : Result (Unit {0}) Fault) → result ≡ whole_of done → result ≡ Ok false → ⊥
 whole_lacks_none result done whole is = lacks_none done (sym whole ∙ is)
+
+-- a count of a run that tells of no frames
+pub whole_cause : {X : Type 0} {a b : Known X} (result : Result Bool Fault) (done : Result (Unit {0}) Fault) (fault : Fault) → result ≡ whole_of done → HasCause a b (done ≡ Err fault) → HasCause a b (result ≡ Err fault)
+whole_cause result done fault whole cause = counts_as (fault_of_whole result done fault whole) (λ is. whole ∙ ap whole_of is) cause
+
+-- ---- the counts by the status
+
+-- a run that ends by this fault
+abbrev pub ending_of : Fault → Result Bool Fault
+ending_of fault = Err fault
+
+inner : (fault other : Fault) → ending_of fault ≡ Err other → fault ≡ other
+inner fault other is = cc
+
+module _ (code : ℕ) (fault : Fault) (status : code ≡ fault_status fault) where
+  pub four_read : code ≡ 4 → ending_of fault ≡ Err faults.Read
+  four_read four = ap ending_of (four_is_read fault (sym status ∙ four))
+
+  pub read_four : ending_of fault ≡ Err faults.Read → code ≡ 4
+  read_four is = status ∙ ap fault_status (inner fault faults.Read is)
+
+  pub five_write : code ≡ 5 → ending_of fault ≡ Err faults.Write
+  five_write five = ap ending_of (five_is_write fault (sym status ∙ five))
+
+  pub write_five : ending_of fault ≡ Err faults.Write → code ≡ 5
+  write_five is = status ∙ ap fault_status (inner fault faults.Write is)
+
+  pub six_link : code ≡ 6 → ending_of fault ≡ Err faults.Link
+  six_link six = ap ending_of (six_is_link fault (sym status ∙ six))
+
+  pub link_six : ending_of fault ≡ Err faults.Link → code ≡ 6
+  link_six is = status ∙ ap fault_status (inner fault faults.Link is)
 
 -- a dock that is left alone
 pub dock_still : (a : Known DockContents) → WhileTold a a NothingSent

@@ -1,12 +1,9 @@
 -- The headline of a command that ended with a report.
 use Rattle.std.proofs.Common.{◌≡◌, inl, inr, ℕ, Bool, true, false, List, [], ◌∷◌, Result, Ok, Err, refl}
 use Rattle.drm_links.specs.Told.{Known}
-use Rattle.drm_links.specs.Link.{Answer}
 use Rattle.drm_links.specs.Shelf.{Files}
-use Rattle.drm_links.specs.Source.{Input, Inputs}
 use Rattle.drm_links.specs.Sink.{Output}
 use Rattle.drm_links.specs.Dock.{DockContents}
-use Rattle.drm_links.proofs.ToldLemmas.{Inputs-weaker}
 use Rattle.several_links.proofs.OpeningLemmas.{docked_weaker}
 use Rattle.drm_links.specs.declared.dock.Address.{Address}
 use Rattle.several_links.specs.Openings.{Docked}
@@ -18,12 +15,9 @@ use Rattle.drm_load.specs.Loading.{ReadBy}
 use Rattle.drm_load.specs.Faults.{fault_of_schedule, fault_of_script}
 use Rattle.drm_load.specs.Schedule.{schedule_named}
 use Rattle.drm_load.specs.Scripts.{script_named}
-use Rattle.mod_receiver.specs.Ahead.{Report, IsReportOf}
-use Rattle.mod_receiver.specs.Captures.{Brings}
 use Rattle.mod_receiver.specs.declared.rules.Rules.{Rules}
-use Rattle.drm_receive.specs.Receive.{AreReports, WritesAll, ReceiveRun}
-use Rattle.drm_receive.specs.Capture.{WritesReport, CaptureRun}
-use Rattle.drm_receive.proofs.ReceiveStatus.{all_reports, one_clean, one_text}
+use Rattle.drm_receive.specs.Receive.{AreReports, WritesReports, WritesAll, ReceiveRun}
+use Rattle.drm_receive.proofs.ReceiveStatus.{all_reports}
 use Rattle.drm_air.specs.Air.{BySchedule, ByScript}
 use Rattle.drm_faults.specs.declared.fault.Fault.{Fault}
 use Rattle.drm_faults.specs.declared.fault.Fault.TheVariants as faults
@@ -32,7 +26,7 @@ use Rattle.drm_top.specs.Outside.{Outside}
 use Rattle.drm_top.specs.declared.words.Command.{Command}
 use Rattle.drm_top.specs.declared.words.Command.TheVariants.{Fac, Check, Serve, Receive, ReceiveCapture, Air, Show, Exercise, Convert, Gate, Pack, Unpack, Texts}
 use Rattle.drm_top.specs.Command.{CommandRun, Runs}
-use Rattle.drm_top.specs.Headline.{Wrote, WroteFeeds, HeadlineOfRun}
+use Rattle.drm_top.specs.Headline.{WroteFeeds, HeadlineOfRun}
 
 -- ---- the three commands that report
 
@@ -43,21 +37,19 @@ no_fault clean fault is = cc
 module _ {S O : Type 0} (name script : List ℕ) (window : ℕ) (clean : Bool)
     (known : S → Known Files) (shelf between shelf' : S) (out_known : O → Known Output) (out out' : O) where
   abbrev Feeds : Type 0
-  Feeds = WroteFeeds name script window clean known shelf shelf' (out_known out) (out_known out')
+  Feeds = WroteFeeds name script window clean known shelf shelf' out_known out out'
 
   of_script : (plan : Plan) (came : Result (List (List Delivery)) ScheduleFault) → IsSchedule plan
       → ReadBy (schedule_named name) (Ok plan) (known shelf) (known between) → ReadBy (script_named plan script) came (known between) (known shelf')
       → ByScript plan window came (Ok clean) out_known out out' → Feeds
-  of_script plan (Ok feeds) valid schedule deliveries (is, (reports, aired, text, cleans), kind) = record {
+  of_script plan (Ok feeds) valid schedule deliveries (is, wrote, kind) = record {
     plan = plan;
     valid = valid;
     between = between;
     schedule = schedule;
     feeds = feeds;
     deliveries = deliveries;
-    reports = reports;
-    aired = aired;
-    wrote = (text, cleans);
+    wrote = wrote;
   }
   of_script plan (Err fault) valid schedule deliveries (is, still) = absurd (no_fault clean (fault_of_script fault) is)
 
@@ -70,25 +62,11 @@ module _ {S O : Type 0} (name script : List ℕ) (window : ℕ) (clean : Bool)
 of_links : {D O : Type 0} (rules : Rules) (addresses : List Address) (clean : Bool)
     (dock_known : D → Known DockContents) (dock dock' : D) (out_known : O → Known Output) (out out' : O)
     → ReceiveRun rules addresses (Ok clean) dock_known dock dock' out_known out out'
-    → Docked (dock_known dock) (dock_known dock') (λ told. (reports : List Report) × AreReports rules told addresses reports × Wrote reports clean (out_known out) (out_known out'))
+    → Docked (dock_known dock) (dock_known dock') (λ told. WritesReports (AreReports rules told addresses) (Ok clean) out_known out out')
 of_links rules addresses clean dock_known dock dock' out_known out out' run =
     docked_weaker (λ told. WritesAll rules told addresses (Ok clean) out_known out out')
-    (λ told. (reports : List Report) × AreReports rules told addresses reports × Wrote reports clean (out_known out) (out_known out'))
-    (dock_known dock) (dock_known dock') run.writes (λ told writes.
-    let (reports, are, text, cleans) = all_reports rules told addresses clean out_known out out' writes in (reports, are, (text, cleans)))
-
--- the report of a capture
-module _ {I O : Type 0} (rules : Rules) (clean : Bool) (input_known : I → Known Input) (input input' : I) (out_known : O → Known Output) (out out' : O) where
-  abbrev IsReported : List ℕ → Type 0
-  IsReported left = (ahead : List Answer) × Brings left ahead × (report : Report) × IsReportOf rules 1 ahead report × Wrote (report ∷ []) clean (out_known out) (out_known out')
-
-  wrote : (left : List ℕ) → WritesReport rules left clean out_known out out' → IsReported left
-  wrote left (ahead, brings, report, is, text, same) = (ahead, brings, report, is, (one_text report (out_known out) (out_known out') text, one_clean clean report same))
-
-  of_capture : CaptureRun rules (Ok clean) input_known input input' out_known out out' → Inputs (input_known input) (input_known input') (λ left _. IsReported left)
-  of_capture run =
-      Inputs-weaker (λ left _. WritesReport rules left clean out_known out out') (λ left _. IsReported left) (input_known input) (input_known input')
-      (run.writes clean refl) (λ left rest. wrote left)
+    (λ told. WritesReports (AreReports rules told addresses) (Ok clean) out_known out out')
+    (dock_known dock) (dock_known dock') run.writes (λ told writes. all_reports rules told addresses clean out_known out out' writes)
 
 -- ---- all commands
 
@@ -104,7 +82,7 @@ module _ {S I O E D : Type 0} (clean told : Bool) (o : Outside S I O E D) where
   of_command (Check name) run = tt
   of_command (Serve name to pace from live) run = tt
   of_command (Receive addresses rules) run = of_links rules addresses clean o.dock.known o.dock.before o.dock.after o.out.known o.out.before o.out.after run.0
-  of_command (ReceiveCapture rules) run = of_capture rules clean o.input.known o.input.before o.input.after o.out.known o.out.before o.out.after run.0
+  of_command (ReceiveCapture rules) run = run.0.writes clean refl
   of_command (Air name script window) run =
       of_schedule name script window clean o.shelf.known o.shelf.before run.0.between o.shelf.after o.out.known o.out.before o.out.after run.0.came run.0.loads run.0.runs
   of_command Show run = tt

@@ -1,7 +1,8 @@
 //! The top call.
 
 ghost use Rattle.std.specs.Prelude.{◌≡◌, ◌≤◌, ◌⊎◌, map, string_bytes, Result, Ok, IsErrOf, Bool, true, false};
-ghost use Rattle.drm_links.specs.Told.{HasCause, HasFailed, WhileTold};
+ghost use Rattle.drm_links.specs.Told.{HasCause, WhileTold};
+ghost use Rattle.drm_faults.specs.Causes.{OneFailed, OpeningFailed};
 ghost use Rattle.drm_faults.specs.Lines.{fault_line};
 ghost use Rattle.drm_faults.specs.Fault.{WritesLine, whole_of, clean_status};
 ghost use Rattle.several_links.specs.Reaching.{NothingSent};
@@ -77,13 +78,15 @@ where
     ensures unsent { result.code ≡ 1 → WhileTold (D.known dock.old) (D.known dock.new) NothingSent }
     // 2: the words are no command line of a command that is built.
     ensures words { result.code ≡ 2 → AsksForNothing (map string_bytes words.now) }
-    // 4 and 5: the count of faults of input or shelf, or of out rose.
-    ensures read { result.code ≡ 4 → HasFailed (I.known input.old) (I.known input.new)
-        ⊎ HasFailed (S.known shelf.old) (S.known shelf.new) }
-    ensures write { result.code ≡ 5 → HasFailed (O.known out.old) (O.known out.new) }
-    // 6: the command opens a link. Any other leaves the dock alone.
+    // 4: one read of input failed, or one load. With any other status but 6 none did: a failed link is told before a failed read.
+    ensures read { (result.code ≡ 6 → ⊥) → OneFailed (I.known input.old) (I.known input.new)
+        (S.known shelf.old) (S.known shelf.new) (result.code ≡ 4) }
+    // 5: one write to out failed, and with any other status none did.
+    ensures write { HasCause (O.known out.old) (O.known out.new) (result.code ≡ 5) }
+    // 6: the command opens a link. Any other leaves the dock alone. With any other status no opening failed.
     ensures link { result.code ≡ 6 → (command : Command) × OpensALink command
         × AsksFor command (map string_bytes words.now) }
+    ensures opening { OpeningFailed (D.known dock.old) (D.known dock.new) (result.code ≡ 6) }
     ensures dock { ((command : Command) → OpensALink command
         → AsksFor command (map string_bytes words.now) → ⊥) → dock.new ≡ dock.old }
     // 7: the command reports what was received, or takes bytes of live streams from input.
@@ -133,11 +136,12 @@ where
     ensures memory { IsErrOf result Fault.NoMemory → (input.new ≡ input.old) × (out.new ≡ out.old) }
     ensures unsent { IsErrOf result Fault.NoMemory
         → WhileTold (D.known dock.old) (D.known dock.new) NothingSent }
-    ensures read { IsErrOf result Fault.Read → HasFailed (I.known input.old) (I.known input.new)
-        ⊎ HasFailed (S.known shelf.old) (S.known shelf.new) }
+    ensures read { (IsErrOf result Fault.Link → ⊥) → OneFailed (I.known input.old) (I.known input.new)
+        (S.known shelf.old) (S.known shelf.new) (IsErrOf result Fault.Read) }
     ensures write { HasCause (O.known out.old) (O.known out.new) (IsErrOf result Fault.Write) }
     ensures link { IsErrOf result Fault.Link → (command : Command) × OpensALink command
         × AsksFor command (map string_bytes words.now) }
+    ensures opening { OpeningFailed (D.known dock.old) (D.known dock.new) (IsErrOf result Fault.Link) }
     ensures dock { ((command : Command) → OpensALink command
         → AsksFor command (map string_bytes words.now) → ⊥) → dock.new ≡ dock.old }
     ensures lacking { result ≡ Ok false → (command : Command) × WritesReport command
@@ -170,10 +174,11 @@ where
     ensures run { CommandRun command.now result told.new (outside S.known shelf.old shelf.new
         I.known input.old input.new O.known out.old out.new
         E.known err.old err.new D.known dock.old dock.new) }
-    ensures read { IsErrOf result Fault.Read → HasFailed (I.known input.old) (I.known input.new)
-        ⊎ HasFailed (S.known shelf.old) (S.known shelf.new) }
+    ensures read { (IsErrOf result Fault.Link → ⊥) → OneFailed (I.known input.old) (I.known input.new)
+        (S.known shelf.old) (S.known shelf.new) (IsErrOf result Fault.Read) }
     ensures write { HasCause (O.known out.old) (O.known out.new) (IsErrOf result Fault.Write) }
     ensures link { IsErrOf result Fault.Link → OpensALink command.now }
+    ensures opening { OpeningFailed (D.known dock.old) (D.known dock.new) (IsErrOf result Fault.Link) }
     ensures lacking { result ≡ Ok false → WritesReport command.now }
     ensures unsent { IsErrOf result Fault.NoMemory
         → WhileTold (D.known dock.old) (D.known dock.new) NothingSent }

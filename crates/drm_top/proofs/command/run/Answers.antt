@@ -1,9 +1,11 @@
 use Rattle.std.proofs.Common.{◌∙◌, ℕ, sym, ap, subst, Ok, Err}
 use Rattle.drm_faults.specs.Fault.{clean_status, WritesLine}
-use Rattle.drm_faults.proofs.StatusLemmas.{two_is_words, four_is_read, five_is_write, six_is_link, one_is_memory}
+use Rattle.drm_links.proofs.ToldLemmas.{counts_as}
+use Rattle.drm_faults.proofs.CauseLemmas.{one_failed_as, opening_as}
+use Rattle.drm_faults.proofs.StatusLemmas.{two_is_words, six_is_link, one_is_memory}
 use Rattle.drm_faults.specs.Lines.{fault_line}
 use Rattle.drm_top.specs.Outside.{outside}
-use Rattle.drm_top.proofs.CommandLemmas.{done_told, fault_told}
+use Rattle.drm_top.proofs.CommandLemmas.{done_told, fault_told, four_read, read_four, five_write, write_five, link_six}
 use Rattle.drm_top.proofs.HeadlineLemmas.{headline_of, not_a_fault}
 use Rattle.drm_top.proofs.command.run.Goals as goal
 
@@ -70,10 +72,17 @@ pub returns-in-Err-clause-words : goal.returns-in-Err-clause-words
 returns-in-Err-clause-words g c = λ two. c.in-Err.ensures.words (ap Err (two_is_words c.in-Err.fault (sym c.report_if.ensures.status ∙ two)))
 
 pub returns-in-Err-clause-read : goal.returns-in-Err-clause-read
-returns-in-Err-clause-read g c = λ four. c.in-Err.ensures.read (ap Err (four_is_read c.in-Err.fault (sym c.report_if.ensures.status ∙ four)))
+returns-in-Err-clause-read g c = λ unlinked.
+    let status = c.report_if.ensures.status in
+    one_failed_as (four_read _ c.in-Err.fault status) (read_four _ c.in-Err.fault status) (c.in-Err.ensures.read (λ is. unlinked (link_six _ c.in-Err.fault status is)))
 
 pub returns-in-Err-clause-write : goal.returns-in-Err-clause-write
-returns-in-Err-clause-write g c = λ five. c.in-Err.ensures.write.rose (ap Err (five_is_write c.in-Err.fault (sym c.report_if.ensures.status ∙ five)))
+returns-in-Err-clause-write g c =
+    let status = c.report_if.ensures.status in
+    counts_as (five_write _ c.in-Err.fault status) (write_five _ c.in-Err.fault status) c.in-Err.ensures.write
+
+pub returns-in-Err-clause-opening : goal.returns-in-Err-clause-opening
+returns-in-Err-clause-opening g c = opening_as (link_six _ c.in-Err.fault c.report_if.ensures.status) c.in-Err.ensures.opening
 
 pub returns-in-Err-clause-link : goal.returns-in-Err-clause-link
 returns-in-Err-clause-link g c = λ six. c.in-Err.ensures.link (ap Err (six_is_link c.in-Err.fault (sym c.report_if.ensures.status ∙ six)))

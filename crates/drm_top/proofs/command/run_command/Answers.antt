@@ -1,11 +1,14 @@
-use Rattle.std.proofs.Common.{◌≡◌, ◌∙◌, inl, inr, true, false, [], Err, refl, sym, subst, le_refl}
+use Rattle.std.proofs.Common.{◌≡◌, ◌∙◌, inl, true, false, [], Err, refl, sym, ap, subst}
 use Rattle.drm_schedule.specs.Live.{is_any}
 use Rattle.drm_links.specs.Told.{WhileTold}
 use Rattle.several_links.specs.Reaching.{NothingSent}
+use Rattle.drm_links.proofs.ToldLemmas.{counts_none}
+use Rattle.drm_faults.specs.Fault.{whole_of}
+use Rattle.drm_faults.proofs.CauseLemmas.{one_alone, other_alone, none_failed, opening_as}
 use Rattle.drm_faults.specs.declared.fault.Fault.{Fault}
 use Rattle.drm_faults.specs.declared.fault.Fault.TheVariants as faults
 use Rattle.drm_top.specs.Outside.{outside}
-use Rattle.drm_top.proofs.CommandLemmas.{fault_of_whole, whole_lacks_none, dock_still, not_else, not_convert, not_a_link, not_gate, no_gate}
+use Rattle.drm_top.proofs.CommandLemmas.{fault_of_whole, whole_cause, whole_lacks_none, dock_still, not_else, not_convert, not_a_link, not_gate, no_gate}
 use Rattle.drm_top.proofs.ServeLemmas.{sends, opens_some}
 use Rattle.drm_receive.proofs.OpeningLemmas.{opens_unsent}
 use Rattle.drm_top.proofs.command.run_command.Goals as goal
@@ -15,8 +18,9 @@ returns-in-Fac g c = record {
   words = λ e. c.fac.ensures.words (fault_of_whole c.whole.result c.fac.result faults.Words c.whole.ensures e);
   memory = λ e. absurd (c.fac.ensures.memory (fault_of_whole c.whole.result c.fac.result faults.NoMemory c.whole.ensures e));
   run = rw c.in-Fac.is ((c.fac.result, c.whole.ensures, c.fac.ensures.run), refl, refl, (c.requires.told, refl));
-  read = λ e. inl (c.fac.ensures.run.read_cause.rose (fault_of_whole c.whole.result c.fac.result faults.Read c.whole.ensures e));
-  write = record { later = c.fac.ensures.run.write_cause.later; rose = λ e. c.fac.ensures.run.write_cause.rose (fault_of_whole c.whole.result c.fac.result faults.Write c.whole.ensures e) };
+  read = λ _. one_alone (whole_cause c.whole.result c.fac.result faults.Read c.whole.ensures c.fac.ensures.run.read_cause) refl;
+  write = whole_cause c.whole.result c.fac.result faults.Write c.whole.ensures c.fac.ensures.run.write_cause;
+  opening = inl refl;
   link = λ e. absurd (c.fac.ensures.link (fault_of_whole c.whole.result c.fac.result faults.Link c.whole.ensures e));
   lacking = λ e. absurd (whole_lacks_none c.whole.result c.fac.result c.whole.ensures e);
   unsent = λ e. dock_still (g.D.Dock.known c.args.dock.now);
@@ -28,8 +32,9 @@ returns-in-Check g c = record {
   words = λ e. c.check.ensures.words (fault_of_whole c.whole-in-Check.result c.check.result faults.Words c.whole-in-Check.ensures e);
   memory = λ e. (refl, c.check.ensures.memory (fault_of_whole c.whole-in-Check.result c.check.result faults.NoMemory c.whole-in-Check.ensures e));
   run = rw c.in-Check.is ((c.check.result, c.whole-in-Check.ensures, rw (← c.text.ensures) c.check.ensures.run), refl, refl, (c.requires.told, refl));
-  read = λ e. inr (c.check.ensures.run.read_cause.rose (fault_of_whole c.whole-in-Check.result c.check.result faults.Read c.whole-in-Check.ensures e));
-  write = record { later = c.check.ensures.run.write_cause.later; rose = λ e. c.check.ensures.run.write_cause.rose (fault_of_whole c.whole-in-Check.result c.check.result faults.Write c.whole-in-Check.ensures e) };
+  read = λ _. other_alone refl (whole_cause c.whole-in-Check.result c.check.result faults.Read c.whole-in-Check.ensures c.check.ensures.run.read_cause);
+  write = whole_cause c.whole-in-Check.result c.check.result faults.Write c.whole-in-Check.ensures c.check.ensures.run.write_cause;
+  opening = inl refl;
   link = λ e. absurd (c.check.ensures.link (fault_of_whole c.whole-in-Check.result c.check.result faults.Link c.whole-in-Check.ensures e));
   lacking = λ e. absurd (whole_lacks_none c.whole-in-Check.result c.check.result c.whole-in-Check.ensures e);
   unsent = λ e. dock_still (g.D.Dock.known c.args.dock.now);
@@ -45,8 +50,9 @@ returns-then-is_empty g c =
       words = λ e. c.serve_live.ensures.words e;
       memory = λ e. c.serve_live.ensures.memory e;
       run = rw (c.in-Serve.is, none, live) (rw (← c.text-name.ensures) c.serve_live.ensures.run, refl, (c.requires.told, refl));
-      read = λ e. c.serve_live.ensures.read e;
+      read = λ _. c.serve_live.ensures.read;
       write = c.serve_live.ensures.write;
+      opening = inl refl;
       link = λ e. absurd (c.serve_live.ensures.link e);
       lacking = λ e. rw (c.in-Serve.is, live) refl;
       unsent = λ e. dock_still (g.D.Dock.known c.args.dock.now);
@@ -65,8 +71,9 @@ returns-else-is_empty g c =
           g.S.Shelf.known c.args.shelf.now c.send_live.new.shelf g.I.Source.known c.args.input.now c.send_live.new.input g.O.Sink.known c.args.out.now c.args.out.now
           g.E.Sink.known c.args.err.now c.args.err.now g.D.Dock.known c.args.dock.now c.send_live.new.dock) some
           (rw live (rw (← c.text-name.ensures) c.send_live.ensures.run), refl, (c.requires.told, refl)));
-      read = λ e. c.send_live.ensures.read e;
-      write = record { later = le_refl _; rose = λ e. absurd (c.send_live.ensures.write e) };
+      read = c.send_live.ensures.read;
+      write = counts_none c.send_live.ensures.write refl;
+      opening = c.send_live.ensures.opening;
       link = λ e. rw c.in-Serve.is (opens_some c.in-Serve.name c.in-Serve.to c.in-Serve.pace c.in-Serve.from c.in-Serve.live some);
       lacking = λ e. rw (c.in-Serve.is, live) refl;
       unsent = λ e. c.send_live.ensures.unsent e;
@@ -82,8 +89,9 @@ returns-then-is_empty-2 g c =
       words = λ e. c.serve.ensures.words (fault_of_whole c.whole-then-is_empty-2.result c.serve.result faults.Words c.whole-then-is_empty-2.ensures e);
       memory = λ e. (refl, c.serve.ensures.memory (fault_of_whole c.whole-then-is_empty-2.result c.serve.result faults.NoMemory c.whole-then-is_empty-2.ensures e));
       run = rw (c.in-Serve.is, none, plain) (((c.serve.result, c.whole-then-is_empty-2.ensures, rw (← c.text-name.ensures) c.serve.ensures.run), refl), refl, (c.requires.told, refl));
-      read = λ e. inr (c.serve.ensures.run.read_cause.rose (fault_of_whole c.whole-then-is_empty-2.result c.serve.result faults.Read c.whole-then-is_empty-2.ensures e));
-      write = record { later = c.serve.ensures.run.write_cause.later; rose = λ e. c.serve.ensures.run.write_cause.rose (fault_of_whole c.whole-then-is_empty-2.result c.serve.result faults.Write c.whole-then-is_empty-2.ensures e) };
+      read = λ _. other_alone refl (whole_cause c.whole-then-is_empty-2.result c.serve.result faults.Read c.whole-then-is_empty-2.ensures c.serve.ensures.run.read_cause);
+      write = whole_cause c.whole-then-is_empty-2.result c.serve.result faults.Write c.whole-then-is_empty-2.ensures c.serve.ensures.run.write_cause;
+      opening = inl refl;
       link = λ e. absurd (c.serve.ensures.link (fault_of_whole c.whole-then-is_empty-2.result c.serve.result faults.Link c.whole-then-is_empty-2.ensures e));
       lacking = λ e. absurd (whole_lacks_none c.whole-then-is_empty-2.result c.serve.result c.whole-then-is_empty-2.ensures e);
       unsent = λ e. dock_still (g.D.Dock.known c.args.dock.now);
@@ -101,8 +109,9 @@ returns-else-is_empty-2 g c =
           g.S.Shelf.known c.args.shelf.now c.send.new.shelf g.I.Source.known c.args.input.now c.args.input.now g.O.Sink.known c.args.out.now c.args.out.now
           g.E.Sink.known c.args.err.now c.args.err.now g.D.Dock.known c.args.dock.now c.send.new.dock) some
           (rw plain ((c.send.result, c.whole-else-is_empty-2.ensures, rw (← c.text-name.ensures) c.send.ensures.run), refl), refl, (c.requires.told, refl)));
-      read = λ e. inr (c.send.ensures.read (fault_of_whole c.whole-else-is_empty-2.result c.send.result faults.Read c.whole-else-is_empty-2.ensures e));
-      write = record { later = le_refl _; rose = λ e. absurd (c.send.ensures.write (fault_of_whole c.whole-else-is_empty-2.result c.send.result faults.Write c.whole-else-is_empty-2.ensures e)) };
+      read = λ _. other_alone refl (whole_cause c.whole-else-is_empty-2.result c.send.result faults.Read c.whole-else-is_empty-2.ensures c.send.ensures.read);
+      write = counts_none (λ e. c.send.ensures.write (fault_of_whole c.whole-else-is_empty-2.result c.send.result faults.Write c.whole-else-is_empty-2.ensures e)) refl;
+      opening = opening_as (λ is. c.whole-else-is_empty-2.ensures ∙ ap whole_of is) c.send.ensures.opening;
       link = λ e. rw c.in-Serve.is (opens_some c.in-Serve.name c.in-Serve.to c.in-Serve.pace c.in-Serve.from c.in-Serve.live some);
       lacking = λ e. absurd (whole_lacks_none c.whole-else-is_empty-2.result c.send.result c.whole-else-is_empty-2.ensures e);
       unsent = λ e. c.send.ensures.unsent (fault_of_whole c.whole-else-is_empty-2.result c.send.result faults.NoMemory c.whole-else-is_empty-2.ensures e);
@@ -112,8 +121,17 @@ returns-else-is_empty-2 g c =
 pub returns-in-Receive-clause-run : goal.returns-in-Receive-clause-run
 returns-in-Receive-clause-run g c = rw c.in-Receive.is (c.receive.ensures.run, refl, refl, (c.requires.told, refl))
 
+pub returns-in-Receive-clause-read : goal.returns-in-Receive-clause-read
+returns-in-Receive-clause-read g c = λ _. none_failed (λ e. not_gate faults.Read (λ is. cc) (λ is. cc) (λ is. cc) (c.receive.ensures.run.kind faults.Read e)) refl refl
+
+pub returns-in-Receive-clause-opening : goal.returns-in-Receive-clause-opening
+returns-in-Receive-clause-opening g c = c.receive.ensures.run.dock_cause
+
 pub returns-in-Receive-clause-unsent : goal.returns-in-Receive-clause-unsent
 returns-in-Receive-clause-unsent g c = λ e. opens_unsent c.in-Receive.addresses c.receive.result (g.D.Dock.known c.args.dock.now) (g.D.Dock.known c.receive.new.dock) c.receive.ensures.run.opens
+
+pub returns-in-Air-clause-read : goal.returns-in-Air-clause-read
+returns-in-Air-clause-read g c = λ _. other_alone refl c.air.ensures.run.read_cause
 
 pub returns-in-ReceiveCapture : goal.returns-in-ReceiveCapture
 returns-in-ReceiveCapture g c =
@@ -122,8 +140,9 @@ returns-in-ReceiveCapture g c =
       words = λ e. run.kind faults.Words e;
       memory = λ e. run.untouched e;
       run = rw c.in-ReceiveCapture.is (run, refl, refl, (c.requires.told, refl));
-      read = λ e. inl (run.read_cause.rose e);
+      read = λ _. one_alone run.read_cause refl;
       write = run.write_cause;
+      opening = inl refl;
       link = λ e. absurd (run.kind faults.Link e);
       lacking = λ e. rw c.in-ReceiveCapture.is tt;
       unsent = λ e. dock_still (g.D.Dock.known c.args.dock.now);
@@ -137,8 +156,9 @@ returns-in-Show g c =
       words = λ e. run.kind faults.Words e;
       memory = λ e. run.untouched e;
       run = rw c.in-Show.is (run, refl, refl, (c.requires.told, refl));
-      read = λ e. inl (run.read_cause.rose e);
+      read = λ _. one_alone run.read_cause refl;
       write = run.write_cause;
+      opening = inl refl;
       link = λ e. absurd (run.kind faults.Link e);
       lacking = λ e. rw c.in-Show.is tt;
       unsent = λ e. dock_still (g.D.Dock.known c.args.dock.now);
@@ -152,8 +172,9 @@ returns-in-Exercise g c =
       words = λ e. not_else faults.Words (λ is. cc) (λ is. cc) (run.kind faults.Words e);
       memory = λ e. (refl, run.untouched e);
       run = rw c.in-Exercise.is (run, refl, refl, refl, (c.requires.told, refl));
-      read = λ e. absurd (not_else faults.Read (λ is. cc) (λ is. cc) (run.kind faults.Read e));
+      read = λ _. none_failed (λ e. not_else faults.Read (λ is. cc) (λ is. cc) (run.kind faults.Read e)) refl refl;
       write = run.write_cause;
+      opening = inl refl;
       link = λ e. absurd (not_else faults.Link (λ is. cc) (λ is. cc) (run.kind faults.Link e));
       lacking = λ e. rw c.in-Exercise.is tt;
       unsent = λ e. dock_still (g.D.Dock.known c.args.dock.now);
@@ -167,8 +188,9 @@ returns-in-Convert g c =
       words = λ e. not_convert (record { window = c.in-Convert.window; first = c.in-Convert.first; told = c.in-Convert.frames }) c.in-Convert.carry _ _ _ _ _ _ _ _ run.ends e;
       memory = λ e. (let none = run.untouched e in (none.0, none.1));
       run = rw c.in-Convert.is (run, refl, refl);
-      read = λ e. inl (run.read_cause.rose e);
+      read = λ _. one_alone run.read_cause refl;
       write = run.write_cause;
+      opening = inl refl;
       link = λ e. absurd (not_a_link (record { window = c.in-Convert.window; first = c.in-Convert.first; told = c.in-Convert.frames }) c.in-Convert.carry _ _ _ _ _ _ _ _ run.ends e);
       lacking = λ e. rw c.in-Convert.is tt;
       unsent = λ e. dock_still (g.D.Dock.known c.args.dock.now);
@@ -182,8 +204,9 @@ returns-in-Gate g c =
       words = λ e. not_gate faults.Words (λ is. cc) (λ is. cc) (λ is. cc) (run.kind faults.Words e);
       memory = λ e. (refl, (no_gate c.in-Gate.rules c.in-Gate.carry c.in-Gate.from c.in-Gate.to _ _ _ _ _ _ _ e run.run).1);
       run = rw c.in-Gate.is (run, refl, refl, (c.requires.told, refl));
-      read = λ e. absurd (not_gate faults.Read (λ is. cc) (λ is. cc) (λ is. cc) (run.kind faults.Read e));
+      read = λ _. none_failed (λ e. not_gate faults.Read (λ is. cc) (λ is. cc) (λ is. cc) (run.kind faults.Read e)) refl refl;
       write = run.write_cause;
+      opening = run.dock_cause;
       link = λ e. rw c.in-Gate.is tt;
       lacking = λ e. rw c.in-Gate.is tt;
       unsent = λ e.
@@ -201,8 +224,9 @@ returns-in-Pack g c =
       words = λ e. run.kind faults.Words (fault faults.Words e);
       memory = λ e. run.untouched (fault faults.NoMemory e);
       run = rw c.in-Pack.is ((c.pack.result, c.whole-in-Pack.ensures, run), refl, refl, (c.requires.told, refl));
-      read = λ e. inl (run.read_cause.rose (fault faults.Read e));
-      write = record { later = run.write_cause.later; rose = λ e. run.write_cause.rose (fault faults.Write e) };
+      read = λ _. one_alone (whole_cause c.whole-in-Pack.result c.pack.result faults.Read c.whole-in-Pack.ensures run.read_cause) refl;
+      write = whole_cause c.whole-in-Pack.result c.pack.result faults.Write c.whole-in-Pack.ensures run.write_cause;
+      opening = inl refl;
       link = λ e. absurd (run.kind faults.Link (fault faults.Link e));
       lacking = λ e. absurd (whole_lacks_none c.whole-in-Pack.result c.pack.result c.whole-in-Pack.ensures e);
       unsent = λ e. dock_still (g.D.Dock.known c.args.dock.now);
@@ -216,8 +240,9 @@ returns-in-Unpack g c =
       words = λ e. run.kind faults.Words e;
       memory = λ e. run.untouched e;
       run = rw c.in-Unpack.is (run, refl, refl, (c.requires.told, refl));
-      read = λ e. inl (run.read_cause.rose e);
+      read = λ _. one_alone run.read_cause refl;
       write = run.write_cause;
+      opening = inl refl;
       link = λ e. absurd (run.kind faults.Link e);
       lacking = λ e. rw c.in-Unpack.is tt;
       unsent = λ e. dock_still (g.D.Dock.known c.args.dock.now);
@@ -231,8 +256,9 @@ returns-in-Texts g c =
       words = λ e. run.kind faults.Words e;
       memory = λ e. run.untouched e;
       run = rw c.in-Texts.is (run, refl, refl, (c.requires.told, refl));
-      read = λ e. inl (run.read_cause.rose e);
+      read = λ _. one_alone run.read_cause refl;
       write = run.write_cause;
+      opening = inl refl;
       link = λ e. absurd (run.kind faults.Link e);
       lacking = λ e. rw c.in-Texts.is tt;
       unsent = λ e. dock_still (g.D.Dock.known c.args.dock.now);
