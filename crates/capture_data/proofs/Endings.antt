@@ -5,7 +5,7 @@ use Rattle.drm_links.specs.Told.{Known, HasCause}
 use Rattle.drm_links.specs.Source.{Input, Inputs}
 use Rattle.drm_links.specs.Sink.{Output}
 use Rattle.drm_links.proofs.ToldLemmas.{Inputs-nothing, Inputs-weaker, Outputs-then}
-use Rattle.drm_links.proofs.WritingLemmas.{Writes-done, Writes-front}
+use Rattle.drm_links.proofs.WritingLemmas.{Writes-done, Writes-front, front_behind}
 use Rattle.drm_capture.specs.declared.fault.CaptureFault.{CaptureFault}
 use Rattle.drm_capture.specs.Capture as capture
 use Rattle.drm_capture.specs.Laws.{ReadOneWay}
@@ -24,7 +24,7 @@ use Rattle.capture_data.specs.Lines.{is_clean}
 use Rattle.capture_data.specs.Printed.{IsWholeText}
 use Rattle.capture_data.specs.Run.{WritesAll, WritesFront, Ends, EndsByIt, IsDone, DataRun}
 use Rattle.capture_data.specs.Taken.{counts_in, Took, TakesAll, EndsText}
-use Rattle.capture_data.proofs.Printing.{printed, front_behind}
+use Rattle.capture_data.proofs.Printing.{printed}
 
 -- ---- the end of what is printed
 
@@ -171,8 +171,8 @@ data_run {I} {O} one_way in_front terms what ending input_known input input' out
   untouched = untouched;
   exactly = exact one_way in_front terms what before after a b ending ends;
   complete = λ reads goes.
-      let no_read : ending ≡ Err faults.Read → ⊥ = λ is. reads (read_cause.rose is) in
-      let no_write : ending ≡ Err faults.Write → ⊥ = λ is. goes (write_cause.rose is) in
+      let no_read : ending ≡ Err faults.Read → ⊥ = λ is. reads (read_cause.once is) in
+      let no_write : ending ≡ Err faults.Write → ⊥ = λ is. goes (write_cause.once is) in
       Inputs-weaker (Exact one_way in_front terms what before after a b ending) (λ left _. ((why : capture.Ending) → BreaksOffBy terms left why → ⊥) → UnlessMemory ending (IsDone terms what ending before after a b))
       before after (exact one_way in_front terms what before after a b ending ends no_read no_write)
       (λ left rest exactly unbroken. done_by one_way in_front terms what before after a b left rest ending ends no_read no_write exactly unbroken);

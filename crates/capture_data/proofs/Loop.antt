@@ -6,7 +6,7 @@ use Rattle.drm_links.specs.Told.{Known}
 use Rattle.drm_links.specs.Source.{Input, Inputs}
 use Rattle.drm_links.specs.Sink.{Output, Outputs}
 use Rattle.drm_links.proofs.ToldLemmas.{Outputs-nothing, Outputs-then}
-use Rattle.drm_links.proofs.WritingLemmas.{Writes-done, Writes-front}
+use Rattle.drm_links.proofs.WritingLemmas.{Writes-done, Writes-front, front_behind}
 use Rattle.drm_capture.specs.Capture.{IsCaptureOf, End, most_bytes}
 use Rattle.drm_capture.specs.Walking.{WalkerState, new_walker}
 use Rattle.drm_capture.specs.Reading.{HasRead, Stops}
@@ -28,7 +28,7 @@ use Rattle.capture_data.specs.Printed.{AreItems}
 use Rattle.capture_data.specs.Run.{Ends, WritesUntil}
 use Rattle.capture_data.specs.Taken.{AreBelow, counts_in, IsReady, Took, TakesItem, TakesAll}
 use Rattle.capture_data.proofs.Items.{items_more}
-use Rattle.capture_data.proofs.Printing.{printed, front_behind}
+use Rattle.capture_data.proofs.Printing.{printed}
 use Rattle.capture_data.proofs.Pieces.{below_weaker}
 
 -- these items were read, given and taken, and what is printed of them was written
@@ -46,8 +46,8 @@ pub record Loop (terms : Terms) (first taker : Taker) (c : State) (reader : Walk
   pub calls_are : calls ≡ given
   pub is_ready : IsReady taker
   pub room : AreBelow (counts_in taker) (given * 2 ^ 64)
-  pub input_later : before.faults ≤ after.faults
-  pub output_later : a.faults ≤ b.faults
+  pub input_still : after.faults ≡ before.faults
+  pub output_still : b.faults ≡ a.faults
 
 pub loop_none : (terms : Terms) (taker : Taker) (c : State) (reader : WalkerState) (calls given : ℕ) (before : Known Input) (a : Known Output)
     → c ≡ made terms.window terms.first → reader ≡ new_walker → calls ≡ 0 → given ≡ 0 → 1 ≤ terms.window → IfSome terms.told (λ n. 1 ≤ n) → IsReady taker → AreBelow (counts_in taker) 0
@@ -68,8 +68,8 @@ loop_none terms taker c reader calls given before a is new none_called none_give
       calls_are = none_called ∙ sym none_given;
       is_ready = is_ready;
       room = below_weaker (counts_in taker) 0 (given * 2 ^ 64) (omega arith) none;
-      input_later = omega arith;
-      output_later = omega arith;
+      input_still = refl;
+      output_still = refl;
     }
 
 on_done : {T E : Type 0} (r : Result T E) (done : T) (P : Type 0) → r ≡ Ok done → OnOk r P → P
@@ -88,9 +88,9 @@ pub loop_given : {E : Type 0} (terms : Terms) (first taker taken : Taker) (c d :
     → Loop terms first taker c reader calls given ended before after a b → ready c ≡ true → IsItem c next → is_full terms.told given ≡ false → d ≡ after_next c
     → IsItemOf next item → calls' ≡ calls + 1 → given' ≡ given + 1
     → ((what : What) (items : List Item) (text : List ℕ) → Took what items text taker → TakesItem what items item text result taken b o)
-    → result ≡ Ok done → OnOk result (IsReady taken) → OnOk result ((n : ℕ) → AreBelow (counts_in taker) n → AreBelow (counts_in taken) (n + 2 ^ 64)) → b.faults ≤ o.faults
+    → result ≡ Ok done → OnOk result (IsReady taken) → OnOk result ((n : ℕ) → AreBelow (counts_in taker) n → AreBelow (counts_in taken) (n + 2 ^ 64)) → o.faults ≡ b.faults
     → Loop terms first taken d reader calls' given' ended before after a o
-loop_given terms first taker taken c d reader calls calls' given given' ended before after a b o next item result done i now is room is_next item_is called counted takes ok is_ready grows later = record {
+loop_given terms first taker taken c d reader calls calls' given given' ended before after a b o next item result done i now is room is_next item_is called counted takes ok is_ready grows still = record {
   packets = i.packets;
   all = i.all ++ next ∷ [];
   items = i.items ++ item ∷ [];
@@ -110,8 +110,8 @@ loop_given terms first taker taken c d reader calls calls' given given' ended be
   calls_are = omega (arith, called, counted, i.calls_are);
   is_ready = on_done result done (IsReady taken) ok is_ready;
   room = below_weaker (counts_in taken) (given * 2 ^ 64 + 2 ^ 64) (given' * 2 ^ 64) (omega (arith, counted)) (on_done result done _ ok grows (given * 2 ^ 64) i.room);
-  input_later = i.input_later;
-  output_later = omega (arith, i.output_later, later);
+  input_still = i.input_still;
+  output_still = still ∙ i.output_still;
 }
 
 pub loop_broken : {E : Type 0} (terms : Terms) (first taker taken last : Taker) (c : State) (reader : WalkerState) (calls given : ℕ) (ended : Bool) (before after : Known Input) (a b o : Known Output)
@@ -140,8 +140,8 @@ loop_broken terms first taker taken last c reader calls given ended before after
 -- a packet was taken
 pub loop_taken : (terms : Terms) (first taker : Taker) (c d : State) (reader further : WalkerState) (calls given : ℕ) (before after later : Known Input) (a b : Known Output)
     → (i : Loop terms first taker c reader calls given false before after a b) → ready c ≡ false → is_full terms.told given ≡ false
-    → TookOne i.packets c d further before later → IsFit d → after.faults ≤ later.faults → Loop terms first taker d further calls given false before later a b
-loop_taken terms first taker c d reader further calls given before after later a b i none room one fit rises =
+    → TookOne i.packets c d further before later → IsFit d → later.faults ≡ after.faults → Loop terms first taker d further calls given false before later a b
+loop_taken terms first taker c d reader further calls given before after later a b i none room one fit still =
     let unfinished = (drained terms i.packets i.all c i.reached none (room_at terms.told given i.all i.count room)).unfinished in
     record {
       packets = i.packets ++ one.bytes ∷ [];
@@ -158,16 +158,16 @@ loop_taken terms first taker c d reader further calls given before after later a
       calls_are = i.calls_are;
       is_ready = i.is_ready;
       room = i.room;
-      input_later = omega (arith, i.input_later, rises);
-      output_later = i.output_later;
+      input_still = still ∙ i.input_still;
+      output_still = i.output_still;
     }
 
 -- there is none, and the collector is finished
 pub loop_finished : (terms : Terms) (first taker : Taker) (c d : State) (reader further : WalkerState) (calls given : ℕ) (before after later : Known Input) (a b : Known Output)
     → (i : Loop terms first taker c reader calls given false before after a b) → ready c ≡ false → is_full terms.told given ≡ false
-    → d ≡ after_finish c terms.told → Inputs before later (λ left rest. IsCaptureOf left i.packets End) → HasRead i.packets further before later → IsFit d → after.faults ≤ later.faults
+    → d ≡ after_finish c terms.told → Inputs before later (λ left rest. IsCaptureOf left i.packets End) → HasRead i.packets further before later → IsFit d → later.faults ≡ after.faults
     → Loop terms first taker d further calls given true before later a b
-loop_finished terms first taker c d reader further calls given before after later a b i none room finished ended read fit rises = record {
+loop_finished terms first taker c d reader further calls given before after later a b i none room finished ended read fit still = record {
   packets = i.packets;
   all = i.all;
   items = i.items;
@@ -181,8 +181,8 @@ loop_finished terms first taker c d reader further calls given before after late
   calls_are = i.calls_are;
   is_ready = i.is_ready;
   room = i.room;
-  input_later = omega (arith, i.input_later, rises);
-  output_later = i.output_later;
+  input_still = still ∙ i.input_still;
+  output_still = i.output_still;
 }
 
 until : (terms : Terms) (what : What) (stop : CaptureStop) (before after : Known Input) (a b : Known Output) → WritesUntil terms what stop before after a b → Ends terms what (Err (stop_fault stop)) before after a b
@@ -236,12 +236,12 @@ loop_as terms first taker c d reader calls given ended before after a b same is 
 
 pub loop_on : (terms : Terms) (first taker : Taker) (c d : State) (reader further : WalkerState) (calls given : ℕ) (found : Bool) (before after later : Known Input) (a b : Known Output)
     → (i : Loop terms first taker c reader calls given false before after a b) → ready c ≡ false → is_full terms.told given ≡ false
-    → ReadsOn terms.told i.packets (Ok found) c d further before later → IsFit d → after.faults ≤ later.faults
+    → ReadsOn terms.told i.packets (Ok found) c d further before later → IsFit d → later.faults ≡ after.faults
     → Loop terms first taker d further calls given (not found) before later a b
-loop_on terms first taker c d reader further calls given true before after later a b i none room one fit rises =
-    loop_taken terms first taker c d reader further calls given before after later a b i none room one fit rises
-loop_on terms first taker c d reader further calls given false before after later a b i none room (finished, ended, read) fit rises =
-    loop_finished terms first taker c d reader further calls given before after later a b i none room finished ended read fit rises
+loop_on terms first taker c d reader further calls given true before after later a b i none room one fit still =
+    loop_taken terms first taker c d reader further calls given before after later a b i none room one fit still
+loop_on terms first taker c d reader further calls given false before after later a b i none room (finished, ended, read) fit still =
+    loop_finished terms first taker c d reader further calls given before after later a b i none room finished ended read fit still
 
 -- and the reading comes to an end
 abbrev pub ahead : WalkerState → State → Bool → ℕ

@@ -60,7 +60,7 @@ pub record Come (t u : UnitTaker) (bytes rest : List ℕ) (a b : Known Output) :
   pub written : List ℕ
   pub joins : Joins t u (map Some done) 0 0 written
   pub text : Outputs a b (λ l. l ≡ written)
-  pub later : a.faults ≤ b.faults
+  pub still : b.faults ≡ a.faults
   pub are : IsBytes rest
   pub joiner : IsJoinerOf u
   pub room : (m : ℕ) → AreBelow t.counts m → AreBelow u.counts (m + (length bytes - length rest))
@@ -75,7 +75,7 @@ come_none t bytes a whole joiner are = record {
   written = [];
   joins = joins_none t;
   text = Outputs-nothing a (λ l. l ≡ []) refl;
-  later = omega arith;
+  still = refl;
   joiner = joiner;
   room = λ m below. (let none : m ≡ m + (length bytes - length bytes) = omega arith in subst (AreBelow t.counts) none below);
 }
@@ -96,8 +96,8 @@ behind u joiner counts = record { stream = u.stream; length = u.length; joiner =
 pub come_one : (t u : UnitTaker) (bytes rest piece left : List ℕ) (event : Event) (joiner : State) (counts : Counts) (a b c : Known Output)
     → Come t u bytes rest a b → t.length + 3 ≤ length rest → piece ≡ take (t.length + 3) rest → left ≡ drop (t.length + 3) rest
     → Reads u.joiner.length piece event → joiner ≡ after u.joiner event → counts ≡ counted u.counts (answer u.joiner event)
-    → Outputs b c (λ l. l ≡ answer_text (answer u.joiner event)) → b.faults ≤ c.faults → Come t (behind u joiner counts) bytes left a c
-come_one t u bytes rest piece left event joiner counts a b c i enough piece_is left_is reads joins counts_are text later =
+    → Outputs b c (λ l. l ≡ answer_text (answer u.joiner event)) → c.faults ≡ b.faults → Come t (behind u joiner counts) bytes left a c
+come_one t u bytes rest piece left event joiner counts a b c i enough piece_is left_is reads joins counts_are text still =
     let n : ℕ = t.length + 3 in
     let line : List ℕ = answer_text (answer u.joiner event) in
     let size : length left ≡ length rest - n = ap length left_is ∙ length-drop n rest in
@@ -112,7 +112,7 @@ come_one t u bytes rest piece left event joiner counts a b c i enough piece_is l
       joins = subst (λ (l : List (Option (List ℕ))). Joins t (behind u joiner counts) l 0 0 (i.written ++ line)) (sym (map-append Some i.done (piece ∷ [])))
           (joins_then t u (behind u joiner counts) (map Some i.done) (Some piece ∷ []) 0 0 0 0 i.written line i.joins one);
       text = Outputs-then (λ l. l ≡ i.written) (λ l. l ≡ line) (λ l. l ≡ i.written ++ line) a b c i.text text (λ x y p q. ap (λ l. l ++ y) p ∙ ap (λ l. i.written ++ l) q);
-      later = omega (arith, i.later, later);
+      still = still ∙ i.still;
       are = subst IsBytes (sym left_is) (bytes_drop n rest i.are);
       joiner = (ap (λ (s : State). s.length) joins ∙ (after_length u.joiner event ∙ i.joiner.0), i.joiner.1);
       room = λ m below. (
@@ -144,7 +144,7 @@ come_broken {E} {F} t u v bytes rest piece left event joiner counts a b c r othe
       line = i.written ++ (line ++ more);
       joins = subst (λ (l : List (Option (List ℕ))). Joins t x l 0 0 (i.written ++ (line ++ more))) entries all;
       writes = Writes-broken (i.written ++ (line ++ more)) line more a b c r other fault
-          (Outputs-weaker (λ l. l ≡ i.written) (λ l. l ++ (line ++ more) ≡ i.written ++ (line ++ more)) a b i.text (λ l e. ap (λ k. k ++ (line ++ more)) e)) i.later is writes;
+          (Outputs-weaker (λ l. l ≡ i.written) (λ l. l ++ (line ++ more) ≡ i.written ++ (line ++ more)) a b i.text (λ l e. ap (λ k. k ++ (line ++ more)) e)) i.still is writes;
       after_is = tt;
     }
 
@@ -158,7 +158,7 @@ come_all t u bytes rest a b i few =
       after = u;
       line = i.written;
       joins = subst (λ (l : List (Option (List ℕ))). Joins t u l 0 0 i.written) (ap (λ l. map Some l) (sym all)) i.joins;
-      writes = Writes-whole i.written a b i.text i.later;
+      writes = Writes-whole i.written a b i.text i.still;
       after_is = refl;
     }
 

@@ -4,7 +4,7 @@ use Rattle.dcp_collect.specs.Runs.{Item as Given}
 use Rattle.mod_feed.specs.Items.{Item, IsItemOf}
 use Rattle.drm_links.specs.Told.{Known, HasFailed, HasCause}
 use Rattle.drm_links.specs.Source.{Input, Inputs}
-use Rattle.drm_links.specs.Sink.{Output, Outputs, IsFront}
+use Rattle.drm_links.specs.Sink.{Output, Outputs, IsFrontBehind}
 use Rattle.drm_capture.specs.Capture as capture
 use Rattle.drm_capture.specs.declared.packets.CaptureStop.{CaptureStop}
 use Rattle.drm_capture.specs.declared.packets.CaptureStop.TheVariants as stops
@@ -28,10 +28,6 @@ abbrev pub WritesUntil : Terms → What → CaptureStop → Known Input → Know
 WritesUntil terms what stop before after out out' =
     (given : List Given) × GivesUntil terms stop given before after × (items : List Item) × AreItems given items
     × (printed : List ℕ) × IsPrinted what items printed × Outputs out out' (λ text. text ≡ printed)
-
--- what was printed before, and a front of what comes behind it
-abbrev pub IsFrontBehind : List ℕ → List ℕ → List ℕ → Type 0
-IsFrontBehind printed behind text = (front : List ℕ) × IsFront behind front × (text ≡ printed ++ front)
 
 -- A write failed, of what is printed of an item or at the end: all that was printed before is written, and a front of that. Nothing
 -- more is read.
@@ -82,6 +78,6 @@ pub record DataRun {I O : Type 0} (terms : Terms) (what : What) (ending : Result
   pub complete : (HasFailed (input_known input) (input_known input') → ⊥) → (HasFailed (out_known out) (out_known out') → ⊥)
       → Inputs (input_known input) (input_known input') (λ left _. ((why : capture.Ending) → BreaksOffBy terms left why → ⊥)
       → UnlessMemory ending (IsDone terms what ending (input_known input) (input_known input') (out_known out) (out_known out')))
-  -- The counts of faults never fall. A read or a write failed only where that of input or of out rose.
+  -- A count of faults rose, by one, exactly where a read or a write ended the run.
   pub read_cause : HasCause (input_known input) (input_known input') (ending ≡ Err faults.Read)
   pub write_cause : HasCause (out_known out) (out_known out') (ending ≡ Err faults.Write)

@@ -5,6 +5,7 @@ use Rattle.drm_switches.specs.Tracker.{TrackerState}
 use Rattle.dcp_collect.specs.State.{State, ready}
 use Rattle.dcp_collect.specs.View.{item_of as given_of}
 use Rattle.mod_feed.specs.Items.{item_of}
+use Rattle.drm_links.proofs.ToldLemmas.{done_counts}
 use Rattle.capture_items.specs.Reading.{Terms}
 use Rattle.capture_data.proofs.Loop.{loop_none, loop_given, loop_broken, loop_stopped, loop_full, loop_end, loop_as, loop_on, loop_room, same_next, ahead, less_ahead, less_given, Loop}
 use Rattle.capture_data.proofs.reading.take_items.Goals as goal
@@ -59,7 +60,7 @@ items-preserved-in_default g c =
     (g.I.Source.known c.args.input.now) (g.I.Source.known c.items.input) (g.O.Sink.known c.args.out.now) (g.O.Sink.known c.items.out) same c.if-ended.false c.items.invariant.0 in (
       loop_on terms c.args.taker.now c.items.taker c.next.follows.lender-at-none c.read_on.new.collector c.items.packets c.read_on.new.packets c.items.feed.calls c.items.given c.in_ok-ended.field-0
           (g.I.Source.known c.args.input.now) (g.I.Source.known c.items.input) (g.I.Source.known c.read_on.new.input) (g.O.Sink.known c.args.out.now) (g.O.Sink.known c.items.out)
-          i (ap ready (sym same) ∙ none) (sym c.is_full.ensures ∙ c.items-test.true) (c.in_ok-ended.ensures.reads i.packets (g.I.Source.known c.args.input.now) i.read) c.in_ok-ended.ensures.fit c.read_on.ensures.cause.later,
+          i (ap ready (sym same) ∙ none) (sym c.is_full.ensures ∙ c.items-test.true) (c.in_ok-ended.ensures.reads i.packets (g.I.Source.known c.args.input.now) i.read) c.in_ok-ended.ensures.fit (c.in_ok-ended.ensures.cause.same (λ failed. cc)),
       c.items.invariant.1,
     )
 
@@ -74,7 +75,7 @@ items-preserved g c =
           (g.I.Source.known c.args.input.now) (g.I.Source.known c.items.input) (g.O.Sink.known c.args.out.now) (g.O.Sink.known c.items.out) (g.O.Sink.known c.take.new.out)
           (given_of c.in-Some.next) (item_of c.step.result.item) c.take.result c.in_ok-take.field-0
           c.items.invariant.0 c.in-Some.ensures.out.0 c.in-Some.ensures.out.1 (sym c.is_full.ensures ∙ c.items-test.true) c.next.follows.holds-at-none c.step.ensures.item c.step.ensures.counted refl
-          c.take.ensures.takes c.in_ok-take.was c.take.ensures.ready c.take.ensures.grows c.take.ensures.cause.later,
+          c.take.ensures.takes c.in_ok-take.was c.take.ensures.ready c.take.ensures.grows (done_counts c.in_ok-take.was c.take.ensures.cause),
       (let small = c.in-Some.ensures.small in let is = c.items.invariant.0.next in omega (arith, small, is)),
     )
 

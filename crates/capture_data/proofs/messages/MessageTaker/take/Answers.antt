@@ -47,7 +47,7 @@ returns-in-None-clause-takes g c = λ items text took.
       after = u;
       line = [];
       took = message_gap k items item text t u took entries refl c.gap.ensures refl refl (omega (arith, bad)) (omega (arith, missing));
-      writes = Writes-whole [] a a (Outputs-nothing a (λ l. l ≡ []) refl) (omega arith);
+      writes = Writes-whole [] a a (Outputs-nothing a (λ l. l ≡ []) refl) refl;
       after_is = refl;
     }
 
@@ -66,7 +66,7 @@ returns-in-Missing-clause-takes g c = λ items text took.
       after = u;
       line = [];
       took = message_gap k items item text t u took entries refl c.gap-in-Missing.ensures refl refl (omega (arith, bad)) (omega (arith, missing));
-      writes = Writes-whole [] a a (Outputs-nothing a (λ l. l ≡ []) refl) (omega arith);
+      writes = Writes-whole [] a a (Outputs-nothing a (λ l. l ≡ []) refl) refl;
       after_is = refl;
     }
 
@@ -85,6 +85,6 @@ returns-in-Bad-clause-takes g c = λ items text took.
       after = u;
       line = [];
       took = message_gap k items item text t u took entries refl c.gap-in-Bad.ensures refl refl (omega (arith, bad)) (omega (arith, missing));
-      writes = Writes-whole [] a a (Outputs-nothing a (λ l. l ≡ []) refl) (omega arith);
+      writes = Writes-whole [] a a (Outputs-nothing a (λ l. l ≡ []) refl) refl;
       after_is = refl;
     }

@@ -1,5 +1,6 @@
 use Rattle.std.proofs.Common.{◌≡◌, ◌+◌, ◌<◌, ◌^◌, length, take, drop, ap, ◌∙◌, arith}
 use Rattle.std.proofs.lemmas.Result.{err_from_is_err_and}
+use Rattle.drm_links.proofs.ToldLemmas.{done_counts}
 use Rattle.drm_links.proofs.WritingLemmas.{Writes-done}
 use Rattle.capture_data.proofs.Pieces.{come_none, come_one, come_broken, come_all, come_below, below_weaker}
 use Rattle.capture_data.proofs.units.UnitTaker.take_pieces.Goals as goal
@@ -32,7 +33,7 @@ pieces-preserved g c =
       come_one c.args.self.now c.pieces.self c.args.bytes.now c.pieces.rest.now c.split_at.result.0.now c.split_at.result.1.now event c.take_piece.new.joiner c.take_piece.new.counts
           (g.O.Sink.known c.args.out.now) (g.O.Sink.known c.pieces.out) (g.O.Sink.known c.take_piece.new.out)
           i.0 (omega (arith, size, c.pieces-test.true)) (c.split_at.ensures.front ∙ ap (λ n. take n c.pieces.rest.now) size) (c.split_at.ensures.back ∙ ap (λ n. drop n c.pieces.rest.now) size)
-          reads joiner counts (Writes-done c.in_ok-take_piece.was writes) writes.cause.later,
+          reads joiner counts (Writes-done c.in_ok-take_piece.was writes) (done_counts c.in_ok-take_piece.was writes.cause),
       i.1,
     )
 
