@@ -2,14 +2,13 @@
 use Rattle.std.proofs.Common.{◌≡◌, ℕ, ◌+◌, ◌≤◌, Bool, true, false, List, [], ◌∷◌, ◌++◌, Option, None, Some, sym, subst, ap, ◌∙◌, refl, inl, inr, arith, append_assoc, length-append}
 use Rattle.std.specs.Prelude.{◌&&◌, ◌==◌, not, IfSome, unwrap_or, if◌then◌else◌, Err}
 use Rattle.std.specs.List.{filter}
-use Rattle.std.proofs.Math.Nat.{le_trans}
 use Rattle.std.proofs.lemmas.Bool.Decides.{nat_tests}
 use Rattle.std.proofs.lemmas.List.{append-nil}
 use Rattle.std.proofs.lemmas.List.Concat.{flat_map-append}
 use Rattle.std.proofs.lemmas.List.Folds.{list_all-append}
 use Rattle.drm_links.specs.Told.{Known, HasFailed}
-use Rattle.drm_links.specs.Sink.{Output, Outputs, IsFront}
-use Rattle.drm_links.proofs.ToldLemmas.{Outputs-nothing, Outputs-then, Outputs-weaker, later-Rose}
+use Rattle.drm_links.specs.Sink.{Output, Outputs, IsFront, IsFrontBehind}
+use Rattle.drm_links.proofs.ToldLemmas.{Outputs-nothing, Outputs-then, Outputs-weaker, once_then}
 use Rattle.dcp_pft.specs.declared.carry.Carry.{Carry}
 use Rattle.dcp_collect.specs.Fragments.{Fragment, suffice, of_packet}
 use Rattle.dcp_collect.specs.State.{State, ready, after_item, after_next}
@@ -22,7 +21,6 @@ use Rattle.drm_convert.specs.declared.naming.Progress.{Progress}
 use Rattle.drm_convert.specs.Converting.{Part, Converts, ConvertsAll, IsTooLarge, text_of, lines_of}
 use Rattle.drm_convert.specs.Naming.{Names}
 use Rattle.drm_convert.specs.Steps.{Converted, Failing, ConvertsOne, has_none}
-use Rattle.drm_convert.specs.Run.{IsFrontBehind}
 use Rattle.drm_convert.specs.Draining.{MayBeFirst, ConvertedAll, are_clean, KnowsFirst, KeepsPace, Halts, Drained}
 use Rattle.capture_items.specs.Reading.{Given, is_full}
 use Rattle.drm_convert.proofs.ItemLemmas.{names_none}
@@ -52,25 +50,21 @@ front_then xs ys a b c first second =
     Outputs-then (λ t. t ≡ xs) (IsFront ys) (IsFront (xs ++ ys)) a b c first second
     (λ s t is front. (front.0, ap (λ l. xs ++ l) front.1 ∙ (sym (append_assoc xs t front.0) ∙ ap (λ l. (l ++ t) ++ front.0) (sym is))))
 
-pub front_behind : (xs ys : List ℕ) (a b c : Known Output) → Outputs a b (λ t. t ≡ xs) → Outputs b c (IsFront ys) → Outputs a c (IsFrontBehind xs ys)
-front_behind xs ys a b c first second = Outputs-then (λ t. t ≡ xs) (IsFront ys) (IsFrontBehind xs ys) a b c first second (λ s t is front. (t, front, ap (λ l. l ++ t) is))
-
 pub text_then : (xs ys : List ℕ) (a b c : Known Output) → Outputs a b (λ t. t ≡ xs) → Outputs b c (λ t. t ≡ ys) → Outputs a c (λ t. t ≡ xs ++ ys)
 text_then xs ys a b c first second = Outputs-then (λ t. t ≡ xs) (λ t. t ≡ ys) (λ t. t ≡ xs ++ ys) a b c first second (λ s t p q. ap (λ l. l ++ t) p ∙ ap (λ l. xs ++ l) q)
 
 -- nothing more after a failed call
 names_stop : (told told' : Bool) (a b c : Known Output) (x y : List ℕ) → told' ≡ false → Names told told' a b x → c ≡ b → Names told false a c (x ++ y)
-names_stop told told' a b c x y lost first same =
+names_stop told told' a b c x y lost first none_more =
     let P : Known Output → Type 0 = λ k. Outputs a k (IsFront (x ++ y)) in
-    let Q : Known Output → Type 0 = λ k. a.faults ≤ k.faults in
     let R : Known Output → Type 0 = λ k. HasFailed a k in
     record {
       held = λ v. absurd (let clash : false ≡ true = v in cc);
       whole = λ v. absurd (let clash : false ≡ true = v in cc);
-      front = subst P (sym same) (Outputs-weaker (IsFront x) (IsFront (x ++ y)) a b first.front (λ t. front_more x y t));
-      still = λ none. same ∙ first.still none;
-      later = subst Q (sym same) first.later;
-      rose = λ v none. subst R (sym same) (first.rose v lost);
+      front = subst P (sym none_more) (Outputs-weaker (IsFront x) (IsFront (x ++ y)) a b first.front (λ t. front_more x y t));
+      still = λ none. none_more ∙ first.still none;
+      same = λ v. absurd (let clash : false ≡ true = v in cc);
+      once = λ v none. subst R (sym none_more) (first.once v lost);
     }
 
 names_on : (told told' last : Bool) (a b c : Known Output) (x y : List ℕ) → told' ≡ true → Names told told' a b x → Names told' last b c y → Names told last a c (x ++ y)
@@ -79,8 +73,8 @@ names_on told told' last a b c x y held first second = record {
   whole = λ is. text_then x y a b c (first.whole held) (second.whole is);
   front = front_then x y a b c (first.whole held) second.front;
   still = λ none. let clash : true ≡ false = sym (first.held held) ∙ none in absurd cc;
-  later = le_trans first.later second.later;
-  rose = λ is none. later-Rose a.faults b.faults c.faults first.later (second.rose held none);
+  same = λ is. second.same is ∙ first.same held;
+  once = λ is none. once_then (first.same held) (second.once held none);
 }
 
 pub names_then : (told told' last : Bool) (a b c : Known Output) (x y : List ℕ) → Names told told' a b x → Names told' last b c y → Names told last a c (x ++ y)

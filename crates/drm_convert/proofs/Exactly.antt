@@ -358,8 +358,8 @@ module _ (one_way : ReadOneWay) (some_way : ReadSomeWay) (in_front : PacketsInFr
     untouched = untouched;
     exactly = exact told before after a b x y ending ends;
     complete = λ reads goes.
-        let no_read : ending ≡ Err faults.Read → ⊥ = λ is. reads (read_cause.rose is) in
-        let no_write : ending ≡ Err faults.Write → ⊥ = λ is. goes (write_cause.rose is) in
+        let no_read : ending ≡ Err faults.Read → ⊥ = λ is. reads (read_cause.once is) in
+        let no_write : ending ≡ Err faults.Write → ⊥ = λ is. goes (write_cause.once is) in
         Inputs-weaker (λ left _. UnlessMemory ending (EndsExactly terms carry left ending))
         (λ left _. ((why : Ending) → BreaksOffBy terms left why → ⊥) → ((number : ℕ) → Meets terms carry left number → ⊥) → UnlessMemory ending (IsDone terms carry ending told before after a b x y))
         before after (exact told before after a b x y ending ends no_read no_write)

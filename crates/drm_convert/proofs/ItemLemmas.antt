@@ -27,8 +27,8 @@ names_none told err = record {
   whole = λ is. Outputs-nothing err (λ text. text ≡ []) refl;
   front = Outputs-nothing err (IsFront []) ([], refl);
   still = λ is. refl;
-  later = omega arith;
-  rose = λ yes no. let clash : true ≡ false = sym yes ∙ no in absurd cc;
+  same = λ is. refl;
+  once = λ yes no. let clash : true ≡ false = sym yes ∙ no in absurd cc;
 }
 
 -- an item that is named

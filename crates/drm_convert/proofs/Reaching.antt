@@ -7,6 +7,7 @@ use Rattle.std.proofs.lemmas.List.{take-append-le, take_all, take_at}
 use Rattle.drm_links.specs.Told.{Known}
 use Rattle.drm_links.specs.Source.{Input, Inputs}
 use Rattle.drm_links.specs.Sink.{Output, Outputs, IsFront}
+use Rattle.drm_links.proofs.WritingLemmas.{front_behind}
 use Rattle.drm_capture.specs.Front.{IsWhole}
 use Rattle.drm_capture.specs.Capture.{IsCaptureOf, End}
 use Rattle.drm_capture.specs.Walking.{WalkerState}
@@ -35,7 +36,7 @@ use Rattle.drm_convert.specs.declared.reading.Unconverted.TheVariants as unconve
 use Rattle.drm_faults.specs.Captures.{stop_fault}
 use Rattle.drm_convert.proofs.Taken.{may_taken, first_itself}
 use Rattle.drm_convert.proofs.Ways.{given_first, gives_first, one_way, longer_full}
-use Rattle.drm_convert.proofs.DrainingLemmas.{all_none, all_then, all_same, all_join, front_behind}
+use Rattle.drm_convert.proofs.DrainingLemmas.{all_none, all_then, all_same, all_join}
 
 giving : GivingEnds
 giving = giving_ends decoded_or_none

@@ -7,7 +7,7 @@ use Rattle.dcp_collect.specs.State.{State, made}
 use Rattle.dcp_collect.specs.Runs.{Item, Steps, Run}
 use Rattle.drm_links.specs.Told.{Known, HasFailed, HasCause}
 use Rattle.drm_links.specs.Source.{Input, Inputs}
-use Rattle.drm_links.specs.Sink.{Output, Outputs, IsFront}
+use Rattle.drm_links.specs.Sink.{Output, Outputs, IsFrontBehind}
 use Rattle.drm_capture.specs.Front.{IsWhole}
 use Rattle.drm_capture.specs.Capture as capture
 use Rattle.drm_capture.specs.Capture.{IsCaptureOf, Ending, End}
@@ -67,10 +67,6 @@ WritesAll terms carry clean told before after out out' err err' =
     (packets : List (List ℕ)) × AreEnough terms packets before after × NoneShorter terms packets
     × (parts : List Part) × IsConversion terms carry packets parts
     × Outputs out out' (λ text. text ≡ text_of parts) × Names true told err err' (lines_of parts) × (clean ≡ are_clean parts)
-
--- all that was written before, and a front of what comes behind it
-abbrev pub IsFrontBehind : List ℕ → List ℕ → List ℕ → Type 0
-IsFrontBehind written behind text = (front : List ℕ) × IsFront behind front × (text ≡ written ++ front)
 
 -- What is written and named: all that the packets become; after a failed write what the items before became, and a front of what
 -- the one at hand became, and no more is read; where no more can be read, what the packets read so far become; at a packet that is
@@ -156,6 +152,6 @@ pub record ConvertRun {I O E : Type 0} (terms : Terms) (carry : Carry) (ending :
       → Inputs (input_known input) (input_known input') (λ left _.
       ((why : Ending) → BreaksOffBy terms left why → ⊥) → ((number : ℕ) → Meets terms carry left number → ⊥)
       → UnlessMemory ending (IsDone terms carry ending told (input_known input) (input_known input') (out_known out) (out_known out') (err_known err) (err_known err')))
-  -- The counts of faults never fall. A read or a write failed only where that of input or of out rose.
+  -- A count of faults rose, by one, exactly where a read or a write ended the run.
   pub read_cause : HasCause (input_known input) (input_known input') (ending ≡ Err faults.Read)
   pub write_cause : HasCause (out_known out) (out_known out') (ending ≡ Err faults.Write)

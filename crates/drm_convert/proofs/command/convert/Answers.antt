@@ -1,3 +1,5 @@
+use Rattle.std.proofs.Common.{ap}
+use Rattle.drm_links.proofs.ToldLemmas.{counts_as}
 use Rattle.drm_convert.specs.Reading.{ending_of}
 use Rattle.drm_convert.proofs.Endings.{not_memory, by_read, by_write, as_told}
 use Rattle.drm_convert.proofs.Exactly.{convert_run}
@@ -15,6 +17,6 @@ returns g c =
           (g.I.Source.known c.args.input.now) (g.I.Source.known run.new.input) (g.O.Sink.known c.args.out.now) (g.O.Sink.known run.new.out) (g.E.Sink.known c.args.err.now) (g.E.Sink.known run.new.err)
           c.in_ok-collector.ensures c.in_ok-cutter.ensures run.ensures.ends)
           (λ is. absurd (not_memory run.result clean is))
-          (record { later = run.ensures.read.later; rose = λ is. run.ensures.read.rose (by_read run.result clean is) })
-          (record { later = run.ensures.write.later; rose = λ is. run.ensures.write.rose (by_write run.result clean is) }));
+          (counts_as (by_read run.result clean) (λ is. ap (λ r. ending_of r clean) is) run.ensures.read)
+          (counts_as (by_write run.result clean) (λ is. ap (λ r. ending_of r clean) is) run.ensures.write));
     }

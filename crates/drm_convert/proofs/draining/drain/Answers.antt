@@ -1,6 +1,5 @@
 use Rattle.std.proofs.Common.{ℕ, ◌++◌, ◌∷◌, [], ◌∙◌, sym, ap, refl, arith, Option, Err}
 use Rattle.std.specs.Prelude.{unwrap_or}
-use Rattle.std.proofs.Math.Nat.{le_trans}
 use Rattle.std.proofs.lemmas.Result.{err_from_is_err_and}
 use Rattle.dcp_collect.specs.View.{item_of}
 use Rattle.drm_convert.proofs.DrainingLemmas.{so_far_none, so_far_one, halts, drained_none, drained_full}
@@ -8,7 +7,7 @@ use Rattle.drm_convert.proofs.draining.drain.Goals as goal
 
 pub loop-told-init : goal.loop-told-init
 loop-told-init g c =
-    ([], so_far_none c.args.told c.args.cutter.now c.args.collector.now c.args.progress.now (g.O.Sink.known c.args.out.now) (g.E.Sink.known c.args.err.now) c.requires.first c.requires.fit c.requires.pace, refl, omega arith)
+    ([], so_far_none c.args.told c.args.cutter.now c.args.collector.now c.args.progress.now (g.O.Sink.known c.args.out.now) (g.E.Sink.known c.args.err.now) c.requires.first c.requires.fit c.requires.pace, refl, refl)
 
 pub loop-told-preserved : goal.loop-told-preserved
 loop-told-preserved g c =
@@ -18,7 +17,7 @@ loop-told-preserved g c =
           i.0 (item_of c.in-Some.given) c.unwrap_or-first.result i.1 (sym c.is_full.ensures ∙ c.loop-told-test.true) c.in-Some.ensures.out.0 c.in-Some.ensures.out.1 c.next.follows.holds-at-none i.2
           (c.unwrap_or-first.ensures ∙ ap (λ (o : Option ℕ). unwrap_or o 0) c.first.ensures.first) c.in_ok-convert_item.ensures.one,
       c.convert_item.ensures.carry ∙ i.2,
-      le_trans i.3 c.convert_item.ensures.cause.later,
+      c.in_ok-convert_item.ensures.cause.same (λ failed. cc) ∙ i.3,
     )
 
 pub returns-in_err-convert_item-clause-halted : goal.returns-in_err-convert_item-clause-halted

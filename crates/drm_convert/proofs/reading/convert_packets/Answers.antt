@@ -1,5 +1,4 @@
 use Rattle.std.proofs.Common.{[], ◌∷◌, ◌++◌, Ok, Err, ap, arith, refl, sym, subst, ◌∙◌, inl, inr}
-use Rattle.std.proofs.Math.Nat.{le_trans}
 use Rattle.std.proofs.lemmas.List.{append-nil}
 use Rattle.std.proofs.lemmas.Result.{err_from_is_err_and}
 use Rattle.dcp_collect.specs.State.{State}
@@ -15,8 +14,8 @@ packets-init g c = (
   read_none (g.I.Source.known c.args.input.now) c.args.packets.now c.requires.packets,
   at_begin _ c.args.cutter.now c.args.collector.now c.args.progress.now (g.O.Sink.known c.args.out.now) (g.E.Sink.known c.args.err.now) c.requires.collector c.requires.progress c.requires.window.0 c.requires.some,
   refl,
-  omega arith,
-  omega arith,
+  refl,
+  refl,
 )
 
 pub returns-in_err-find-clause-ends : goal.returns-in_err-find-clause-ends
@@ -75,8 +74,8 @@ packets-preserved g c =
       packet_more _ _ _ _ _ _ _ _ _ (on_packet _ _ i.0 bytes _ _ _ _ _ _ _ _ _ _ _ _ i.2 c.take.ensures.takes.1 drained c.in_ok-drain.ensures.pace c.in_ok-drain.ensures.fit) (sym c.is_full.ensures ∙ c.if-is_full.false)
           c.in_ok-drain.ensures.first c.in_ok-drain.ensures.pace c.in_ok-drain.ensures.fit (c.in_ok-drain.ensures.end ∙ (end_taken c.packets.collector c.take.new.collector bytes c.take.ensures.takes.0 c.take.ensures.takes.1 ∙ i.2.unfinished)),
       c.drain.ensures.carry ∙ i.3,
-      le_trans i.4 c.find.ensures.cause.later,
-      le_trans i.5 c.drain.ensures.cause.later,
+      c.in_ok-find.ensures.cause.same (λ failed. cc) ∙ i.4,
+      c.in_ok-drain.ensures.cause.same (λ failed. cc) ∙ i.5,
     )
 
 pub returns-in_err-drain-2-clause-ends : goal.returns-in_err-drain-2-clause-ends
