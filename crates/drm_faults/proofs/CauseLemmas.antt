@@ -19,6 +19,6 @@ pub one_failed_as : {X Y G H : Type 0} {a b : Known X} {c d : Known Y} → (H �
 one_failed_as to from failed = record { once = λ here. failed.once (to here); same = λ none. failed.same (λ there. none (from there)) }
 
 -- the run ends so where it ends in another way
-pub opening_as : {X G H : Type 0} {a b : Known X} → (G → H) → OpeningFailed a b G → OpeningFailed a b H
-opening_as to (inl same) = inl same
-opening_as to (inr (here, failed)) = inr (to here, failed)
+pub opening_as : {X G H : Type 0} (a b : Known X) → (G → H) → OpeningFailed a b G → OpeningFailed a b H
+opening_as a b to (inl same) = inl same
+opening_as a b to (inr (here, failed)) = inr (to here, failed)

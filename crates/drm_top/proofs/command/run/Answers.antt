@@ -82,7 +82,7 @@ returns-in-Err-clause-write g c =
     counts_as (five_write _ c.in-Err.fault status) (write_five _ c.in-Err.fault status) c.in-Err.ensures.write
 
 pub returns-in-Err-clause-opening : goal.returns-in-Err-clause-opening
-returns-in-Err-clause-opening g c = opening_as (link_six _ c.in-Err.fault c.report_if.ensures.status) c.in-Err.ensures.opening
+returns-in-Err-clause-opening g c = opening_as (g.D.Dock.known c.args.dock.now) (g.D.Dock.known c.execute.new.dock) (link_six _ c.in-Err.fault c.report_if.ensures.status) c.in-Err.ensures.opening
 
 pub returns-in-Err-clause-link : goal.returns-in-Err-clause-link
 returns-in-Err-clause-link g c = λ six. c.in-Err.ensures.link (ap Err (six_is_link c.in-Err.fault (sym c.report_if.ensures.status ∙ six)))
