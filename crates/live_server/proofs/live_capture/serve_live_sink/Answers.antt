@@ -20,8 +20,8 @@ use Rattle.live_server.proofs.live_capture.serve_live_sink.Goals as goal
 pub loop-n-init : goal.loop-n-init
 loop-n-init g c = (
   ([], made_none c.args.live.now c.args.server.now.base c.args.first (g.I.Source.known c.args.input.now) (WroteEach c.args.first 0 (g.O.Sink.known c.args.out.now) (g.O.Sink.known c.args.out.now)) (λ plan. wrote_none plan c.args.first (g.O.Sink.known c.args.out.now))),
-  omega arith,
-  omega arith,
+  refl,
+  refl,
   refl,
   refl,
   refl,
@@ -77,11 +77,7 @@ loop-n-preserved g c =
     let y = g.O.Sink.known c.loop-n.out in
     let z = g.O.Sink.known c.write_frame.new.out in
     let e = c.in_ok-load_next.ensures in
-    let next : LoadsNext c.args.live.now first (first + n) c.loop-n.ended c.load_next.new.ended c.loop-n.server c.load_next.new.server i.0.0 b d = e.loaded first i.0.0 (omega arith) in
-    let before = i.1 in
-    let later = e.cause.later in
-    let wrote = i.2 in
-    let then_wrote = c.in_ok-write_frame.ensures.cause.later in (
+    let next : LoadsNext c.args.live.now first (first + n) c.loop-n.ended c.load_next.new.ended c.loop-n.server c.load_next.new.server i.0.0 b d = e.loaded first i.0.0 (omega arith) in (
       (
         i.0.0 ++ next.got,
         made_more c.args.live.now plan first n c.loop-n.ended c.load_next.new.ended c.loop-n.server c.load_next.new.server i.0.0 a b d (WroteEach first n x y) (WroteEach first (n + 1) x z) i.3 i.0.1 next
@@ -89,8 +85,8 @@ loop-n-preserved g c =
             wrote_more other first n c.in_ok-write_frame.field-0 x y z made
             (subst (λ t. WroteFrame other t c.in_ok-write_frame.field-0 y z) at (same_written c.load_next.new.server other has c.in_ok-write_frame.field-0 y z c.in_ok-write_frame.ensures.whole))),
       ),
-      omega (arith, before, later),
-      omega (arith, wrote, then_wrote),
+      e.cause.same (λ failed. cc) ∙ i.1,
+      c.in_ok-write_frame.ensures.cause.same (λ failed. cc) ∙ i.2,
       ap (λ (s : Serving). s.base) c.in_ok-write_frame.ensures.server ∙ (e.base ∙ i.3),
       e.room ∙ i.4,
       refl,

@@ -1,6 +1,6 @@
 use Rattle.std.proofs.Common.{◌≡◌, ◌<◌, ◌+◌, ◌-◌, ◌∙◌, ℕ, false, not, [], ◌++◌, get_or, refl, sym, ap, subst, inl, inr, arith}
 use Rattle.std.proofs.lemmas.Result.{err_from_is_err_and}
-use Rattle.drm_links.proofs.ToldLemmas.{later-Rose}
+use Rattle.drm_links.proofs.ToldLemmas.{counts_one, counts_none, once_then}
 use Rattle.drm_schedule.specs.declared.plan.Plan.{Plan}
 use Rattle.drm_timeline.specs.Numbers.{frame_count}
 use Rattle.live_streams.specs.Live.{piece_at}
@@ -21,7 +21,7 @@ loop-n-init g c = (
         (λ plan k d within. at_start plan c.args.first c.args.pace g.L.Link.known (get_or c.args.members.now k d) (c.requires.up k d within)),
   ),
   (λ k d within. refl),
-  omega arith,
+  refl,
   refl,
   refl,
   refl,
@@ -66,12 +66,8 @@ returns-in_err-load_next-clause-idle g c = c.loop-n.invariant.1
 
 pub returns-in_err-load_next-clause-cause : goal.returns-in_err-load_next-clause-cause
 returns-in_err-load_next-clause-cause g c =
-    let before = c.loop-n.invariant.2 in
-    let later = c.in_err-load_next.ensures.cause.later in
-    let a = (g.I.Source.known c.args.input.now).faults in
-    let b = (g.I.Source.known c.loop-n.input).faults in
-    let d = (g.I.Source.known c.load_next.new.input).faults in
-    record { later = omega (arith, before, later); rose = λ e. later-Rose a b d before (c.in_err-load_next.ensures.cause.rose refl) }
+    let p = err_from_is_err_and c.from_residual.result c.from_residual.ensures.1 in
+    rw p.1 (counts_one refl (once_then c.loop-n.invariant.2 (c.in_err-load_next.ensures.cause.once refl)))
 
 pub returns-in_err-load_next-clause-base : goal.returns-in_err-load_next-clause-base
 returns-in_err-load_next-clause-base g c = c.in_err-load_next.ensures.base ∙ c.loop-n.invariant.3
@@ -94,9 +90,7 @@ loop-n-preserved g c =
     let within : first + n < frame_count plan = omega (arith, same, less, end, many) in
     let e = c.in_ok-load_next.ensures in
     let next : LoadsNext c.args.live.now first (first + n) c.loop-n.ended c.load_next.new.ended c.loop-n.server c.load_next.new.server i.0.0 (g.I.Source.known c.loop-n.input) (g.I.Source.known c.load_next.new.input) =
-    e.loaded first i.0.0 (omega arith) in
-    let before = i.2 in
-    let later = e.cause.later in (
+    e.loaded first i.0.0 (omega arith) in (
       (
         i.0.0 ++ next.got,
         made_more c.args.live.now plan first n c.loop-n.ended c.load_next.new.ended c.loop-n.server c.load_next.new.server i.0.0 (g.I.Source.known c.args.input.now) (g.I.Source.known c.loop-n.input) (g.I.Source.known c.load_next.new.input)
@@ -105,7 +99,7 @@ loop-n-preserved g c =
             c.serve_each.ensures.step k d other first (known (get_or members k d).link) (omega (arith, there, long)) has (omega (arith, within, count)) at (sent k d there)),
       ),
       (λ k d there. c.serve_each.ensures.idle k d (omega (arith, there, long)) ∙ i.1 k d there),
-      omega (arith, before, later),
+      e.cause.same (λ failed. cc) ∙ i.2,
       ap (λ (s : _). s.base) c.serve_each.ensures.server ∙ (e.base ∙ base),
       c.serve_each.auto.members ∙ long,
       e.room ∙ i.5,
@@ -155,7 +149,7 @@ pub returns-clause-idle : goal.returns-clause-idle
 returns-clause-idle g c = c.loop-n.invariant.1
 
 pub returns-clause-cause : goal.returns-clause-cause
-returns-clause-cause g c = let later = c.loop-n.invariant.2 in record { later = later; rose = λ e. absurd cc }
+returns-clause-cause g c = counts_none (λ failed. cc) c.loop-n.invariant.2
 
 pub returns-clause-base : goal.returns-clause-base
 returns-clause-base g c = c.loop-n.invariant.3

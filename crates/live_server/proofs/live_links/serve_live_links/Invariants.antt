@@ -8,7 +8,7 @@ invariant-loop-n g l =
     ((bytes : List ℕ) × HasMade l.live l.fn.server.base l.first l.n l.ended bytes (g.I.Source.known l.fn.input) (g.I.Source.known l.input)
     (SentEach l.first l.pace l.n g.L.Link.known l.fn.members l.members))
     × ((k : ℕ) (d : _) → k < length l.fn.members → g.L.Link.idles (get_or l.members k d).link ≡ g.L.Link.idles (get_or l.fn.members k d).link)
-    × ((g.I.Source.known l.fn.input).faults ≤ (g.I.Source.known l.input).faults)
+    × ((g.I.Source.known l.input).faults ≡ (g.I.Source.known l.fn.input).faults)
     × (l.server.base ≡ l.fn.server.base)
     × (length l.members ≡ length l.fn.members)
     × (length l.room ≡ length l.fn.room)
