@@ -1,6 +1,6 @@
 -- What `show` has written, packet by packet, and how it ends.
-use Rattle.std.proofs.Common.{◌≡◌, ℕ, ◌+◌, inl, inr, Bool, true, false, List, [], ◌∷◌, ◌++◌, length, Option, None, Some, Result, Ok, Err, refl, sym, ◌∙◌, ap, subst, arith, length-append}
-use Rattle.std.specs.Prelude.{not, ◌&&◌, OnErr, IsErr, IfOk}
+use Rattle.std.proofs.Common.{◌≡◌, ℕ, ◌+◌, inl, inr, Bool, true, false, List, [], ◌∷◌, ◌++◌, length, Option, None, Some, Result, Ok, Err, refl, sym, ◌∙◌, ap, subst, arith, append_assoc, length-append}
+use Rattle.std.specs.Prelude.{All, not, ◌&&◌, OnErr, IsErr, IfOk}
 use Rattle.std.specs.List.{concat}
 use Rattle.std.proofs.lemmas.List.{append-nil}
 use Rattle.std.proofs.lemmas.List.Folds.{concat-append, list_all-append}
@@ -8,11 +8,12 @@ use Rattle.std.proofs.lemmas.Grind.{flat_map-append}
 use Rattle.drm_links.specs.Told.{Known, HasCause, Counts, ToldThrough}
 use Rattle.drm_links.specs.Source.{Input, Inputs, LeftBy}
 use Rattle.drm_links.specs.Sink.{Output, Outputs, IsFront, IsFrontBehind}
-use Rattle.drm_links.proofs.ToldLemmas.{counts_as, Inputs-nothing, Inputs-weaker, Outputs-then, Outputs-weaker}
+use Rattle.drm_links.proofs.ToldLemmas.{counts_as, counts_none, Inputs-nothing, Inputs-weaker, Outputs-nothing, Outputs-then, Outputs-weaker}
 use Rattle.drm_links.proofs.WritingLemmas.{front_behind}
 use Rattle.drm_capture.specs.declared.packets.CaptureStop.{CaptureStop}
 use Rattle.drm_capture.specs.declared.packets.CaptureStop.TheVariants as stops
 use Rattle.drm_capture.specs.Capture as capture
+use Rattle.drm_capture.specs.Front.{IsWhole}
 use Rattle.drm_capture.specs.Laws.{ReadOneWay}
 use Rattle.drm_capture.specs.Walking.{WalkerState, new_walker}
 use Rattle.drm_capture.specs.Reading.{HasRead, Stops}
@@ -25,7 +26,7 @@ use Rattle.drm_faults.specs.Fault.{UnlessMemory}
 use Rattle.drm_faults.specs.declared.fault.Fault.{Fault}
 use Rattle.drm_faults.specs.declared.fault.Fault.TheVariants as faults
 use Rattle.drm_faults.specs.Captures.{EndsEarly, stop_fault}
-use Rattle.drm_inspect.specs.Show.{PacketText, AreTexts, all_texts, capture_text, are_clean, IsShown, Ends, EndsByIt, ShowRun}
+use Rattle.drm_inspect.specs.Show.{PacketText, AreTexts, all_texts, capture_text, are_clean, IsShown, Ends, IsWholeText, IsFrontOfText, IsSound, EndsByIt, ShowRun}
 
 -- ---- texts one after another
 
@@ -147,47 +148,82 @@ shown_more reader before after a b d count bytes clean packet text bad next wrot
 
 -- ---- what each ending has written
 
+-- What is read and written at the end, and that it is a text whatever was read.
+pub record HasEnded (ending : Result Bool Fault) (before after : Known Input) (out out' : Known Output) : Type 0 where
+  pub ends : Ends ending before after out out'
+  pub sound : IsSound ending out out'
+
+-- a front of what stands behind something is a front of the whole
+front_within : (xs ys zs whole text : List ℕ) → whole ≡ xs ++ (ys ++ zs) → IsFrontBehind xs ys text → IsFront whole text
+front_within xs ys zs whole text is (front, (rest, ys_is), text_is) = (
+  rest ++ zs,
+  is
+      ∙ (ap (λ l. xs ++ (l ++ zs)) ys_is
+      ∙ (ap (λ l. xs ++ l) (append_assoc front rest zs) ∙ (sym (append_assoc xs front (rest ++ zs)) ∙ ap (λ l. l ++ (rest ++ zs)) (sym text_is)))),
+)
+
+front_of_text : (packets : List (List ℕ)) (texts : List PacketText) (text : List ℕ) → All IsWhole packets → AreTexts 0 packets texts → IsFront (capture_text packets texts) text → IsFrontOfText text
+front_of_text packets texts text whole are front = (are_clean texts, capture_text packets texts, (packets, whole, texts, are, refl, refl), front)
+
+-- nothing was read or written
+pub nothing_ended : (before : Known Input) (o : Known Output) → HasEnded (Err faults.NoMemory) before before o o
+nothing_ended before o = record {
+  ends = (refl, refl);
+  sound = Outputs-nothing o IsFrontOfText (front_of_text [] [] [] (λ k d within. absurd (omega (arith, within))) tt (capture_text [] [], refl));
+}
+
 module _ (o now : Known Output) (reader : WalkerState) (before after : Known Input) (count bytes : ℕ) (clean : Bool) (has : HasShown reader before after o now count bytes clean) where
-  pub stopped : (stop : CaptureStop) (later : Known Input) → Stops has.packets stop before later → Ends (Err (stop_fault stop)) before later o now
-  stopped stops.Read later is = (has.packets, has.texts, has.are, has.read.whole, is, has.wrote)
-  stopped (stops.Capture fault) later is = (has.packets, has.texts, has.are, has.read.whole, is, has.wrote)
-  stopped stops.TooLong later is = (has.packets, has.texts, has.are, has.read.whole, is, has.wrote)
+  front_so_far : Outputs o now IsFrontOfText
+  front_so_far =
+      Outputs-weaker (λ t. t ≡ all_texts has.texts) IsFrontOfText o now has.wrote
+      (λ t is. front_of_text has.packets has.texts t has.read.whole has.are (end_packets_line (length has.packets) (length (concat has.packets)), ap (λ l. l ++ end_packets_line (length has.packets) (length (concat has.packets))) (sym is)))
+
+  pub stopped : (stop : CaptureStop) (later : Known Input) → Stops has.packets stop before later → HasEnded (Err (stop_fault stop)) before later o now
+  stopped stops.Read later is = record { ends = (has.packets, has.texts, has.are, has.read.whole, is, has.wrote); sound = front_so_far }
+  stopped (stops.Capture fault) later is = record { ends = (has.packets, has.texts, has.are, has.read.whole, is, has.wrote); sound = front_so_far }
+  stopped stops.TooLong later is = record { ends = (has.packets, has.texts, has.are, has.read.whole, is, has.wrote); sound = front_so_far }
 
   module _ (ended : Inputs before after (λ left _. capture.IsCaptureOf left has.packets capture.End)) where
     end_text : end_packets_line count bytes ≡ end_packets_line (length has.packets) (length (concat has.packets))
     end_text = ap (λ k. end_packets_line k bytes) has.count_is ∙ ap (end_packets_line (length has.packets)) has.bytes_are
 
-    pub done : (o' : Known Output) → Outputs now o' (λ t. t ≡ end_packets_line count bytes) → Ends (Ok clean) before after o o'
-    done o' wrote = (
-      has.packets,
-      has.texts,
-      has.are,
-      ended,
-      Outputs-then (λ t. t ≡ all_texts has.texts) (λ t. t ≡ end_packets_line count bytes) (λ t. t ≡ capture_text has.packets has.texts) o now o' has.wrote wrote
-          (λ s t p q. ap (λ l. l ++ t) p ∙ ap (λ l. all_texts has.texts ++ l) (q ∙ end_text)),
-      has.clean_is,
-    )
+    whole_text : (o' : Known Output) → Outputs now o' (λ t. t ≡ end_packets_line count bytes) → Outputs o o' (λ t. t ≡ capture_text has.packets has.texts)
+    whole_text o' wrote =
+        Outputs-then (λ t. t ≡ all_texts has.texts) (λ t. t ≡ end_packets_line count bytes) (λ t. t ≡ capture_text has.packets has.texts) o now o' has.wrote wrote
+        (λ s t p q. ap (λ l. l ++ t) p ∙ ap (λ l. all_texts has.texts ++ l) (q ∙ end_text))
 
-    pub cut_end : (o' : Known Output) → Outputs now o' (IsFront (end_packets_line count bytes)) → Ends (Err faults.Write) before after o o'
-    cut_end o' front = (
-      has.packets,
-      has.texts,
-      inr (
-        has.are,
-        ended,
-        subst (λ l. Outputs o o' (IsFrontBehind (all_texts has.texts) l)) end_text
-            (front_behind (all_texts has.texts) (end_packets_line count bytes) o now o' has.wrote front),
-      ),
-    )
+    pub done : (o' : Known Output) → Outputs now o' (λ t. t ≡ end_packets_line count bytes) → HasEnded (Ok clean) before after o o'
+    done o' wrote = record {
+      ends = (has.packets, has.texts, has.are, ended, whole_text o' wrote, has.clean_is);
+      sound = Outputs-weaker (λ t. t ≡ capture_text has.packets has.texts) (IsWholeText clean) o o' (whole_text o' wrote) (λ t is. (has.packets, has.read.whole, has.texts, has.are, is, has.clean_is));
+    }
+
+    last_cut : (o' : Known Output) → Outputs now o' (IsFront (end_packets_line count bytes)) → Outputs o o' (IsFrontBehind (all_texts has.texts) (end_packets_line (length has.packets) (length (concat has.packets))))
+    last_cut o' front = subst (λ l. Outputs o o' (IsFrontBehind (all_texts has.texts) l)) end_text (front_behind (all_texts has.texts) (end_packets_line count bytes) o now o' has.wrote front)
+
+    pub cut_end : (o' : Known Output) → Outputs now o' (IsFront (end_packets_line count bytes)) → HasEnded (Err faults.Write) before after o o'
+    cut_end o' front =
+        let last : List ℕ = end_packets_line (length has.packets) (length (concat has.packets)) in
+        record {
+          ends = (has.packets, has.texts, inr (has.are, ended, last_cut o' front));
+          sound = Outputs-weaker (IsFrontBehind (all_texts has.texts) last) IsFrontOfText o o' (last_cut o' front)
+              (λ t behind. front_of_text has.packets has.texts t has.read.whole has.are (front_within (all_texts has.texts) last [] (capture_text has.packets has.texts) t (ap (λ l. all_texts has.texts ++ l) (sym (append-nil last))) behind));
+        }
 
 -- a write of the next packet's text failed
 pub cut : (reader : WalkerState) (before after : Known Input) (o now o' : Known Output) (count bytes : ℕ) (clean : Bool) (packet text : List ℕ) (bad : Bool)
-    → ShowsNext reader before after o now count bytes clean packet text bad → Outputs now o' (IsFront text) → Ends (Err faults.Write) before after o o'
-cut reader before after o now o' count bytes clean packet text bad next front = (
-  next.has.packets,
-  next.has.texts,
-  inl (packet, shown_as text bad, texts_of_next next, (reader, next.more), front_behind (all_texts next.has.texts) text o now o' next.has.wrote front),
-)
+    → ShowsNext reader before after o now count bytes clean packet text bad → Outputs now o' (IsFront text) → HasEnded (Err faults.Write) before after o o'
+cut reader before after o now o' count bytes clean packet text bad next front =
+    let before_it : List ℕ = all_texts next.has.texts in
+    let packets : List (List ℕ) = next.has.packets ++ packet ∷ [] in
+    let texts : List PacketText = next.has.texts ++ shown_as text bad ∷ [] in
+    let last : List ℕ = end_packets_line (length packets) (length (concat packets)) in
+    let behind : Outputs o o' (IsFrontBehind before_it text) = front_behind before_it text o now o' next.has.wrote front in
+    record {
+      ends = (next.has.packets, next.has.texts, inl (packet, shown_as text bad, texts_of_next next, (reader, next.more), behind));
+      sound = Outputs-weaker (IsFrontBehind before_it text) IsFrontOfText o o' behind
+          (λ t is. front_of_text packets texts t next.more.whole (texts_of_next next) (front_within before_it text last (capture_text packets texts) t (ap (λ l. l ++ last) (all_more next.has.texts (shown_as text bad)) ∙ append_assoc before_it text last) is));
+    }
 
 -- ---- the whole run
 
@@ -282,15 +318,16 @@ module _ {I O : Type 0} (one_way : ReadOneWay) (one_text : HasOneText) (input_kn
   completes (Err (faults.Units p)) no_read no_write ends = absurd ends
   completes (Err faults.Link) no_read no_write ends = absurd ends
 
-  pub show_run : (ending : Result Bool Fault) → ((fault : Fault) → ending ≡ Err fault → EndsEarly fault) → Ends ending i i' o o'
+  pub show_run : (ending : Result Bool Fault) → ((fault : Fault) → ending ≡ Err fault → EndsEarly fault) → HasEnded ending i i' o o'
       → (ending ≡ Err faults.NoMemory → (input' ≡ input) × (out' ≡ out)) → HasCause i i' (ending ≡ Err faults.Read) → HasCause o o' (ending ≡ Err faults.Write)
       → ShowRun ending input_known input input' out_known out out'
-  show_run ending kind ends untouched read_cause write_cause = record {
+  show_run ending kind ended untouched read_cause write_cause = record {
     kind = kind;
-    ends = ends;
+    ends = ended.ends;
+    sound = ended.sound;
     untouched = untouched;
-    exactly = λ no_read no_write. ends_exactly ending no_read no_write ends;
-    complete = λ no_failed_read no_failed_write. completes ending (λ is. no_failed_read (read_cause.once is)) (λ is. no_failed_write (write_cause.once is)) ends;
+    exactly = λ no_read no_write. ends_exactly ending no_read no_write ended.ends;
+    complete = λ no_failed_read no_failed_write. completes ending (λ is. no_failed_read (read_cause.once is)) (λ is. no_failed_write (write_cause.once is)) ended.ends;
     read_cause = read_cause;
     write_cause = write_cause;
   }
@@ -341,6 +378,16 @@ write_no_memory is = let x = same_fault faults.Write faults.NoMemory is in cc
 
 pub write_no_read : of_fault faults.Write ≡ of_fault faults.Read → ⊥
 write_no_read is = let x = same_fault faults.Write faults.Read is in cc
+
+memory_no_read : of_fault faults.NoMemory ≡ of_fault faults.Read → ⊥
+memory_no_read is = let x = same_fault faults.NoMemory faults.Read is in cc
+
+-- memory was wanting
+pub memory_run : {I O : Type 0} (one_way : ReadOneWay) (one_text : HasOneText) (input_known : I → Known Input) (input : I) (out_known : O → Known Output) (out : O)
+    → ShowRun (Err faults.NoMemory) input_known input input out_known out out
+memory_run one_way one_text input_known input out_known out =
+    show_run one_way one_text input_known input input out_known out out (Err faults.NoMemory) (λ fault is. early faults.NoMemory fault tt is) (nothing_ended (input_known input) (out_known out)) (λ is. (refl, refl))
+    (counts_none memory_no_read refl) (counts_none (λ is. write_no_memory (sym is)) refl)
 
 -- a packet that wasn't shown whole
 pub not_shown : (result : Result Bool ShowFault) (P : Type 0) → ((bad : Bool) → result ≡ Ok bad → ⊥) → OnErr result P → P

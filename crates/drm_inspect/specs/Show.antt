@@ -3,7 +3,7 @@ use Rattle.std.specs.Prelude.{ℕ, ◌≡◌, ◌+◌, ◌⊎◌, All, Bool, not
 use Rattle.std.specs.List.{concat, flat_map, list_all}
 use Rattle.drm_links.specs.Told.{HasFailed, Known, HasCause}
 use Rattle.drm_links.specs.Source.{Input, Inputs}
-use Rattle.drm_links.specs.Sink.{Output, Outputs, IsFrontBehind}
+use Rattle.drm_links.specs.Sink.{Output, Outputs, IsFront, IsFrontBehind}
 use Rattle.drm_capture.specs.declared.packets.CaptureStop.{CaptureStop}
 use Rattle.drm_capture.specs.declared.packets.CaptureStop.TheVariants as stops
 use Rattle.drm_capture.specs.Front.{IsWhole}
@@ -80,6 +80,20 @@ Ends (Err faults.CaptureTooLong) before after out out' = WritesUntil stops.TooLo
 Ends (Err faults.NoMemory) before after out out' = (after ≡ before) × (out' ≡ out)
 Ends (Err fault) before after out out' = ⊥
 
+-- the whole text of some packets, and whether no line of it says what is wrong
+abbrev pub IsWholeText : Bool → List ℕ → Type 0
+IsWholeText clean text =
+    (packets : List (List ℕ)) × All IsWhole packets × (texts : List PacketText) × AreTexts 0 packets texts
+    × (text ≡ capture_text packets texts) × (clean ≡ are_clean texts)
+
+abbrev pub IsFrontOfText : List ℕ → Type 0
+IsFrontOfText text = (clean : Bool) × (whole : List ℕ) × IsWholeText clean whole × IsFront whole text
+
+-- Where out tells, it got a text of packets: a whole one, which is as clean as the run says, or the front of one.
+abbrev pub IsSound : Result Bool Fault → Known Output → Known Output → Type 0
+IsSound (Ok clean) out out' = Outputs out out' (IsWholeText clean)
+IsSound (Err fault) out out' = Outputs out out' IsFrontOfText
+
 -- the run ends as the bytes end behind their packets
 abbrev pub EndsByIt : Result Bool Fault → capture.Ending → Type 0
 EndsByIt ending capture.End = (clean : Bool) × (ending ≡ Ok clean)
@@ -94,6 +108,8 @@ pub record ShowRun {I O : Type 0} (ending : Result Bool Fault)
   pub kind : (fault : Fault) → ending ≡ Err fault → EndsEarly fault
   -- What is written is the text of the packets that were read. After a failed write no more is read.
   pub ends : Ends ending (input_known input) (input_known input') (out_known out) (out_known out')
+  -- Whatever the input tells, out got no other text than one that packets have.
+  pub sound : IsSound ending (out_known out) (out_known out')
   -- After want of memory nothing was read or written.
   pub untouched : ending ≡ Err faults.NoMemory → (input' ≡ input) × (out' ≡ out)
   -- It ends as the input does behind its packets, with the byte and the field, unless a read or a write failed before.

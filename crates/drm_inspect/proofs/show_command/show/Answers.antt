@@ -6,8 +6,18 @@ use Rattle.drm_links.proofs.WritingLemmas.{Writes-done, Writes-front}
 use Rattle.drm_capture.proofs.FrontLaws.{packet_size}
 use Rattle.drm_faults.specs.declared.fault.Fault.TheVariants as faults
 use Rattle.drm_faults.specs.Captures.{stop_fault}
-use Rattle.drm_inspect.proofs.ShowLemmas.{HasShown, shown_none, still_shown, shows_next, shown_more, stopped, cut, done, cut_end, show_run, not_stopped, early, stop_early, stop_no_memory, stop_no_write, stopped_counts, found_counts, write_no_memory, write_no_read, was_shown, not_shown, failed}
+use Rattle.drm_inspect.proofs.ShowLemmas.{HasShown, shown_none, still_shown, shows_next, shown_more, stopped, cut, done, cut_end, show_run, memory_run, not_stopped, early, stop_early, stop_no_memory, stop_no_write, stopped_counts, found_counts, write_no_memory, write_no_read, was_shown, not_shown, failed}
 use Rattle.drm_inspect.proofs.show_command.show.Goals as goal
+
+pub returns-in_err-packets : goal.returns-in_err-packets
+returns-in_err-packets g c =
+    let p = err_from_is_err_and c.from_residual.result c.from_residual.ensures.1 in
+    rw (p.1 ∙ ap Err p.2) (memory_run c.read_one_way.ensures c.one_text.ensures g.I.Source.known c.args.input.now g.O.Sink.known c.args.out.now)
+
+pub returns-in_err-lines : goal.returns-in_err-lines
+returns-in_err-lines g c =
+    let p = err_from_is_err_and c.from_residual-in_err-lines.result c.from_residual-in_err-lines.ensures.1 in
+    rw (p.1 ∙ ap Err p.2) (memory_run c.read_one_way.ensures c.one_text.ensures g.I.Source.known c.args.input.now g.O.Sink.known c.args.out.now)
 
 pub loop-lines-init : goal.loop-lines-init
 loop-lines-init g c = (
