@@ -5,7 +5,7 @@ use Rattle.std.specs.List.{concat}
 use Rattle.std.proofs.lemmas.List.{append-nil}
 use Rattle.drm_links.specs.Told.{Known, ToldThrough}
 use Rattle.drm_links.specs.Source.{Input, Inputs, LeftBy}
-use Rattle.drm_links.specs.Sink.{Output, Outputs, IsFront}
+use Rattle.drm_links.specs.Sink.{Output, Outputs, IsFront, IsFrontBehind}
 use Rattle.drm_links.proofs.ToldLemmas.{Outputs-nothing, Outputs-weaker}
 use Rattle.drm_capture.specs.declared.fault.CaptureFault.{CaptureFault}
 use Rattle.drm_capture.specs.Capture as capture
@@ -22,7 +22,6 @@ use Rattle.drm_faults.specs.declared.fault.Fault.TheVariants as faults
 use Rattle.drm_convert.specs.Converting.{Part, text_of, lines_of}
 use Rattle.drm_convert.specs.Steps.{has_none}
 use Rattle.drm_convert.specs.Draining.{are_clean}
-use Rattle.drm_convert.specs.Run.{IsFrontBehind}
 use Rattle.drm_convert.proofs.DrainingLemmas.{front_of_all, no_lines_before}
 use Rattle.capture_items.specs.Reading.{AreEnough, AreReadBy, HasEnough, Terms}
 use Rattle.convert_laws.specs.Laws.{under, AllInTime, NoneIsTooLarge, ConversionsAreCaptures, IsOfFirstFrames, BrokenConversions, IsOfSomeFrames, HaltedConversions, CapturesAreConverted}
