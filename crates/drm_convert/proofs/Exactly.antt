@@ -12,7 +12,7 @@ use Rattle.dcp_collect.specs.Runs.{Item, Packet, Lost, Damaged, Takes, Steps}
 use Rattle.drm_links.specs.Told.{Known, HasCause}
 use Rattle.drm_links.specs.Source.{Input, Inputs}
 use Rattle.drm_links.specs.Sink.{Output}
-use Rattle.drm_links.proofs.ToldLemmas.{Inputs-nothing, Inputs-weaker}
+use Rattle.drm_links.proofs.ToldLemmas.{counts_none, Inputs-nothing, Inputs-weaker}
 use Rattle.drm_capture.specs.declared.fault.CaptureFault.{CaptureFault}
 use Rattle.drm_capture.specs.Capture as capture
 use Rattle.drm_capture.specs.Capture.{IsCaptureOf, Ending, End, most_bytes}
@@ -23,6 +23,7 @@ use Rattle.capture_laws.specs.Laws.{PacketsInFront}
 use Rattle.drm_faults.specs.Fault.{UnlessMemory}
 use Rattle.drm_faults.specs.declared.fault.Fault.{Fault}
 use Rattle.drm_faults.specs.declared.fault.Fault.TheVariants as faults
+use Rattle.drm_convert.proofs.Sound.{sound}
 use Rattle.drm_convert.specs.Converting.{Part, Converts, ConvertsAll, IsTooLarge}
 use Rattle.drm_convert.specs.Run.{first_of, IsConversion, IsBroken, ReadsTo, AreFirstOf, LeadsTo, AreSmall, Meets, EndsByIt, EndsExactly, Ends, IsDone, CanEnd, ConvertRun}
 use Rattle.capture_items.specs.Reading.{AreEnough, AreReadBy, BreaksOffBy, ComesTo, HasEnough, NoneShorter, Terms}
@@ -355,6 +356,7 @@ module _ (one_way : ReadOneWay) (some_way : ReadSomeWay) (in_front : PacketsInFr
   convert_run {I} {O} {E} ending told input_known input input' out_known out out' err_known err err' ends untouched read_cause write_cause = record {
     kind = can_end told before after a b x y ending ends;
     ends = ends;
+    sound = sound terms carry told before after a b x y ending ends;
     untouched = untouched;
     exactly = exact told before after a b x y ending ends;
     complete = λ reads goes.
@@ -388,3 +390,9 @@ module _ (one_way : ReadOneWay) (some_way : ReadSomeWay) (in_front : PacketsInFr
 
       y : Known Output
       y = err_known err'
+
+  -- memory was wanting
+  pub memory_run : {I O E : Type 0} (told : Bool) (input_known : I → Known Input) (input : I) (out_known : O → Known Output) (out : O) (err_known : E → Known Output) (err : E)
+      → ConvertRun terms carry (Err faults.NoMemory) told input_known input input out_known out out err_known err err
+  memory_run told input_known input out_known out err_known err =
+      convert_run (Err faults.NoMemory) told input_known input input out_known out out err_known err err (refl, refl, refl) (λ is. (refl, refl, refl)) (counts_none (λ is. cc) refl) (counts_none (λ is. cc) refl)

@@ -6,3 +6,4 @@ pub mod Ways
 pub mod Exactly
 pub mod Reaching
 pub mod Endings
+pub mod Sound

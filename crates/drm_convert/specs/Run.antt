@@ -7,7 +7,7 @@ use Rattle.dcp_collect.specs.State.{State, made}
 use Rattle.dcp_collect.specs.Runs.{Item, Steps, Run}
 use Rattle.drm_links.specs.Told.{Known, HasFailed, HasCause}
 use Rattle.drm_links.specs.Source.{Input, Inputs}
-use Rattle.drm_links.specs.Sink.{Output, Outputs, IsFrontBehind}
+use Rattle.drm_links.specs.Sink.{Output, Outputs, IsFront, IsFrontBehind}
 use Rattle.drm_capture.specs.Front.{IsWhole}
 use Rattle.drm_capture.specs.Capture as capture
 use Rattle.drm_capture.specs.Capture.{IsCaptureOf, Ending, End}
@@ -87,6 +87,16 @@ Ends terms carry (Err faults.CaptureTooLong) told before after out out' err err'
 Ends terms carry (Err faults.NoMemory) told before after out out' err err' = (after ≡ before) × (out' ≡ out) × (err' ≡ err)
 Ends terms carry (Err fault) told before after out out' err err' = ⊥
 
+-- a front of what some items become under the carry
+abbrev pub IsFrontOfParts : Carry → List ℕ → Type 0
+IsFrontOfParts carry text = (first : ℕ) × (items : List Item) × (parts : List Part) × ConvertsAll carry first items parts × IsFront (text_of parts) text
+
+-- Where out tells, it got what some packets become: all of it, which is as clean as the run says, or a front.
+abbrev pub IsSound : Terms → Carry → Result Bool Fault → Known Output → Known Output → Type 0
+IsSound terms carry (Ok clean) out out' =
+    Outputs out out' (λ text. (packets : List (List ℕ)) × (parts : List Part) × IsConversion terms carry packets parts × (text ≡ text_of parts) × (clean ≡ are_clean parts))
+IsSound terms carry (Err fault) out out' = Outputs out out' (IsFrontOfParts carry)
+
 -- ---- when it ends early
 
 -- These are first packets of the capture that the bytes are; where none was taken last, and the collector is finished, all.
@@ -142,6 +152,8 @@ pub record ConvertRun {I O E : Type 0} (terms : Terms) (carry : Carry) (ending :
   -- It ends well, or for want of memory, by a fault of the capture, by a packet's size, by a failed read or by a failed write.
   pub kind : (fault : Fault) → ending ≡ Err fault → CanEnd fault
   pub ends : Ends terms carry ending told (input_known input) (input_known input') (out_known out) (out_known out') (err_known err) (err_known err')
+  -- Whatever the input tells, out got nothing else than what packets become.
+  pub sound : IsSound terms carry ending (out_known out) (out_known out')
   -- After want of memory nothing was read, written or named.
   pub untouched : ending ≡ Err faults.NoMemory → (input' ≡ input) × (out' ≡ out) × (err' ≡ err)
   -- It ends by a fault of the capture, or by a packet's size, exactly where the input has it, unless a read or a write failed before.

@@ -1,9 +1,37 @@
-use Rattle.std.proofs.Common.{ap}
+use Rattle.std.proofs.Common.{ap, Err, ◌∙◌}
+use Rattle.std.proofs.lemmas.Result.{err_from_is_err_and}
 use Rattle.drm_links.proofs.ToldLemmas.{counts_as}
 use Rattle.drm_convert.specs.Reading.{ending_of}
 use Rattle.drm_convert.proofs.Endings.{not_memory, by_read, by_write, as_told}
-use Rattle.drm_convert.proofs.Exactly.{convert_run}
+use Rattle.drm_convert.proofs.Exactly.{convert_run, memory_run}
 use Rattle.drm_convert.proofs.command.convert.Goals as goal
+
+pub returns-in_err-collector : goal.returns-in_err-collector
+returns-in_err-collector g c =
+    let p = err_from_is_err_and c.from_residual.result c.from_residual.ensures.1 in
+    record {
+      run = rw (p.1 ∙ ap Err p.2)
+          (memory_run c.read_one_way.ensures c.read_some_way.ensures c.packets_in_front.ensures _ c.args.carry c.args.told.now
+          g.I.Source.known c.args.input.now g.O.Sink.known c.args.out.now g.E.Sink.known c.args.err.now);
+    }
+
+pub returns-in_err-cutter : goal.returns-in_err-cutter
+returns-in_err-cutter g c =
+    let p = err_from_is_err_and c.from_residual-in_err-cutter.result c.from_residual-in_err-cutter.ensures.1 in
+    record {
+      run = rw (p.1 ∙ ap Err p.2)
+          (memory_run c.read_one_way.ensures c.read_some_way.ensures c.packets_in_front.ensures _ c.args.carry c.args.told.now
+          g.I.Source.known c.args.input.now g.O.Sink.known c.args.out.now g.E.Sink.known c.args.err.now);
+    }
+
+pub returns-in_err-packets : goal.returns-in_err-packets
+returns-in_err-packets g c =
+    let p = err_from_is_err_and c.from_residual-in_err-packets.result c.from_residual-in_err-packets.ensures.1 in
+    record {
+      run = rw (p.1 ∙ ap Err p.2)
+          (memory_run c.read_one_way.ensures c.read_some_way.ensures c.packets_in_front.ensures _ c.args.carry c.args.told.now
+          g.I.Source.known c.args.input.now g.O.Sink.known c.args.out.now g.E.Sink.known c.args.err.now);
+    }
 
 pub returns : goal.returns
 returns g c =
