@@ -4,7 +4,7 @@ use Rattle.std.specs.Prelude.{◌↔◌, Option, Result, Ok, Err}
 use Rattle.drm_links.specs.Told.{Known, HasCause}
 use Rattle.drm_links.specs.Source.{Input, Inputs}
 use Rattle.drm_links.specs.Sink.{Output}
-use Rattle.drm_links.proofs.ToldLemmas.{Inputs-nothing, Inputs-weaker, Outputs-then}
+use Rattle.drm_links.proofs.ToldLemmas.{counts_none, Inputs-nothing, Inputs-weaker, Outputs-then}
 use Rattle.drm_links.proofs.WritingLemmas.{Writes-done, Writes-front, front_behind}
 use Rattle.drm_capture.specs.declared.fault.CaptureFault.{CaptureFault}
 use Rattle.drm_capture.specs.Capture as capture
@@ -25,6 +25,7 @@ use Rattle.capture_data.specs.Printed.{IsWholeText}
 use Rattle.capture_data.specs.Run.{WritesAll, WritesFront, Ends, EndsByIt, IsDone, DataRun}
 use Rattle.capture_data.specs.Taken.{counts_in, Took, TakesAll, EndsText}
 use Rattle.capture_data.proofs.Printing.{printed}
+use Rattle.capture_data.proofs.Sound.{sound}
 
 -- ---- the end of what is printed
 
@@ -168,6 +169,7 @@ pub data_run : {I O : Type 0} → ReadOneWay → PacketsInFront → (terms : Ter
 data_run {I} {O} one_way in_front terms what ending input_known input input' out_known out out' ends untouched read_cause write_cause = record {
   kind = can_end one_way in_front terms what before after a b ending ends;
   ends = ends;
+  sound = sound terms what before after a b ending ends;
   untouched = untouched;
   exactly = exact one_way in_front terms what before after a b ending ends;
   complete = λ reads goes.
@@ -191,3 +193,9 @@ data_run {I} {O} one_way in_front terms what ending input_known input input' out
 
     b : Known Output
     b = out_known out'
+
+-- memory was wanting
+pub memory_run : {I O : Type 0} → ReadOneWay → PacketsInFront → (terms : Terms) (what : What) (input_known : I → Known Input) (input : I) (out_known : O → Known Output) (out : O)
+    → DataRun terms what (Err faults.NoMemory) input_known input input out_known out out
+memory_run one_way in_front terms what input_known input out_known out =
+    data_run one_way in_front terms what (Err faults.NoMemory) input_known input input out_known out out (refl, refl) (λ is. (refl, refl)) (counts_none (λ is. cc) refl) (counts_none (λ is. cc) refl)

@@ -5,3 +5,4 @@ pub mod TakerLemmas
 pub mod Printing
 pub mod Loop
 pub mod Endings
+pub mod Sound

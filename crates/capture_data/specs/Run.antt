@@ -4,7 +4,7 @@ use Rattle.dcp_collect.specs.Runs.{Item as Given}
 use Rattle.mod_feed.specs.Items.{Item, IsItemOf}
 use Rattle.drm_links.specs.Told.{Known, HasFailed, HasCause}
 use Rattle.drm_links.specs.Source.{Input, Inputs}
-use Rattle.drm_links.specs.Sink.{Output, Outputs, IsFrontBehind}
+use Rattle.drm_links.specs.Sink.{Output, Outputs, IsFront, IsFrontBehind}
 use Rattle.drm_capture.specs.Capture as capture
 use Rattle.drm_capture.specs.declared.packets.CaptureStop.{CaptureStop}
 use Rattle.drm_capture.specs.declared.packets.CaptureStop.TheVariants as stops
@@ -51,6 +51,15 @@ Ends terms what (Err faults.CaptureTooLong) before after out out' = WritesUntil 
 Ends terms what (Err faults.NoMemory) before after out out' = (after ≡ before) × (out' ≡ out)
 Ends terms what (Err fault) before after out out' = ⊥
 
+-- a front of all that is printed of some items
+abbrev pub IsFrontOfText : What → List ℕ → Type 0
+IsFrontOfText what text = (items : List Item) × (whole : List ℕ) × (clean : Bool) × IsWholeText what items whole clean × IsFront whole text
+
+-- Where out tells, it got what is printed of some items: all of it, which is as clean as the run says, or a front.
+abbrev pub IsSound : What → Result Bool Fault → Known Output → Known Output → Type 0
+IsSound what (Ok clean) out out' = Outputs out out' (λ text. (items : List Item) × IsWholeText what items text clean)
+IsSound what (Err fault) out out' = Outputs out out' (IsFrontOfText what)
+
 -- the run ends by what is wrong behind the packets
 abbrev pub EndsByIt : Result Bool Fault → capture.Ending → Type 0
 EndsByIt ending capture.End = ⊥
@@ -68,6 +77,8 @@ pub record DataRun {I O : Type 0} (terms : Terms) (what : What) (ending : Result
   -- It ends well, or for want of memory, by a fault of the capture, by a failed read or by a failed write.
   pub kind : (fault : Fault) → ending ≡ Err fault → captures.EndsEarly fault
   pub ends : Ends terms what ending (input_known input) (input_known input') (out_known out) (out_known out')
+  -- Whatever the input tells, out got no other text than one that items have.
+  pub sound : IsSound what ending (out_known out) (out_known out')
   -- After want of memory nothing was read or written.
   pub untouched : ending ≡ Err faults.NoMemory → (input' ≡ input) × (out' ≡ out)
   -- It ends by a fault of the capture exactly where the reading breaks off by it, unless a read or a write failed before.

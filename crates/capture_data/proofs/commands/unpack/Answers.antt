@@ -1,8 +1,19 @@
+use Rattle.std.proofs.Common.{Err, ap, ◌∙◌}
+use Rattle.std.proofs.lemmas.Result.{err_from_is_err_and}
 use Rattle.capture_items.specs.Reading.{Terms}
 use Rattle.capture_data.specs.Streams.{UnitsOf}
 use Rattle.capture_data.proofs.TakerLemmas.{no_units}
-use Rattle.capture_data.proofs.Endings.{data_run}
+use Rattle.capture_data.proofs.Endings.{data_run, memory_run}
 use Rattle.capture_data.proofs.commands.unpack.Goals as goal
+
+pub returns-in_err-joiner : goal.returns-in_err-joiner
+returns-in_err-joiner g c =
+    let p = err_from_is_err_and c.from_residual.result c.from_residual.ensures.1 in
+    let terms : Terms = record { window = c.args.window; first = c.args.first; told = c.args.frames } in
+    record {
+      run = rw (p.1 ∙ ap Err p.2)
+          (memory_run c.read_one_way.ensures c.packets_in_front.ensures terms (UnitsOf c.args.stream c.args.id c.args.length) g.I.Source.known c.args.input.now g.O.Sink.known c.args.out.now);
+    }
 
 pub returns : goal.returns
 returns g c =
