@@ -12,7 +12,7 @@ next_append ahead mid rest (x ∷ xs) ys p q = (p.0, next_append (drop 1 ahead) 
 
 none_told : (a : Option Traffic) → HeardTold [] a a
 none_told None = tt
-none_told (Some t) = record { given = sym (append-nil t.answers); ahead = refl; gone = refl; sends = refl; calls = omega arith }
+none_told (Some t) = record { given = sym (append-nil t.answers); ahead = refl; gone = refl; waits = refl; waiting = refl; sends = refl; calls = omega arith }
 
 pub heard_none : (a : Known Traffic) → Heard a a []
 heard_none a = none_told a.told
@@ -31,6 +31,8 @@ then_told (Some x) (Some y) (Some z) xs ys p q = record {
   given = q.given ∙ ap (λ l. l ++ ys) p.given ∙ append_assoc x.answers xs ys;
   ahead = next_append x.ahead y.ahead z.ahead xs ys p.ahead q.ahead;
   gone = q.gone ∙ p.gone;
+  waits = q.waits ∙ p.waits;
+  waiting = q.waiting ∙ p.waiting;
   sends = q.sends ∙ p.sends;
   calls =
       let e : length (xs ++ ys) ≡ length xs + length ys = length-append xs ys in
@@ -50,6 +52,8 @@ one_told (Some x) (Some y) result buf told counts = record {
   given = told.answers ∙ ap (λ w. x.answers ++ w ∷ []) (sym told.next);
   ahead = (told.next, told.ahead);
   gone = told.gone;
+  waits = told.waits;
+  waiting = told.waiting;
   sends = told.sends;
   calls = counts.0;
 }

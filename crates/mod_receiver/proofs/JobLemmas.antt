@@ -190,12 +190,12 @@ module _ {L : Type 0} (known : L → Known Traffic) (rules : Rules) (valid : Are
       live_breaks rules valid before.options.feed start (known before.link) (known after.link) (text_known before.text) (text_known after.text) told
       (subst (λ r. Broken r before.options.feed (Heard (known before.link) (known after.link)) (text_known before.text) (text_known after.text)) same_rules raw)
 
--- the count of faults of the link of one that failed rose
+-- the count of faults of the link of one that failed rose by one
 pub job_rose : {L : Type 0} (known : L → Known Traffic) (before after : Job L) → HasEnded known before after → is_failed after.ended ≡ true → HasFailed (known before.link) (known after.link)
 job_rose {L} known before after ended failed =
     let P : Option Ended → Type 0 = λ o. MatchOption o ⊥ (EndedAs known before after) in
     let was : EndedAs known before after LinkFailed = subst P (failed_is after.ended failed) ended in
-    was.link.rose refl
+    was.link.once refl
 
 -- ---- by place
 

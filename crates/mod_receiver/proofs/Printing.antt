@@ -3,7 +3,7 @@ use Rattle.std.proofs.Common.{◌≡◌, ℕ, zero, suc, ◌+◌, ◌-◌, ◌<�
 use Rattle.std.proofs.lemmas.List.{append-nil}
 use Rattle.std.proofs.lemmas.List.Concat.{flat_map-append}
 use Rattle.drm_links.specs.Told.{Known}
-use Rattle.drm_links.specs.Sink.{Output, Outputs, IsFront}
+use Rattle.drm_links.specs.Sink.{Output, Outputs, IsFront, IsFrontBehind}
 use Rattle.drm_links.proofs.ToldLemmas.{Outputs-then, Outputs-nothing, Outputs-weaker}
 use Rattle.dcp_collect.specs.State.{State, ready, after_item, after_next, after_finish}
 use Rattle.dcp_collect.specs.Runs.{Item, Packet, Lost, Damaged, IsItem, Gives, up_to}
@@ -21,7 +21,7 @@ use Rattle.report_lines.specs.declared.report.Sums.{Sums}
 use Rattle.report_lines.specs.Report.{step_text}
 use Rattle.mod_receiver.specs.Reports.{steps_text}
 use Rattle.mod_receiver.specs.Tallies.{Tallied, counted, one_more_item}
-use Rattle.mod_receiver.specs.Received.{GivesFirst, IsFrontBehind}
+use Rattle.mod_receiver.specs.Received.{GivesFirst}
 use Rattle.mod_receiver.specs.Printed.{items_in, is_full, left_of, steps_before, with_steps, KeepsPace, Prints, PrintsReady, PrintsFront}
 
 -- whatever a collector keeps, giving what is ready comes to an end
@@ -184,10 +184,6 @@ front_then xs ys a b c p q = Outputs-then (λ t. t ≡ xs) (IsFront ys) (IsFront
     (λ s t e (rest, f). (rest, ap (λ l. l ++ ys) (sym e) ∙ ap (λ l. s ++ l) f ∙ sym (append_assoc s t rest)))
 
 -- a front behind what was written before
-pub front_behind : (xs ys : List ℕ) (a b c : Known Output) → Outputs a b (λ t. t ≡ xs) → Outputs b c (IsFront ys) → Outputs a c (IsFrontBehind xs ys)
-front_behind xs ys a b c p q = Outputs-then (λ t. t ≡ xs) (IsFront ys) (IsFrontBehind xs ys) a b c p q (λ s t e f. (t, f, ap (λ l. l ++ t) e))
-
--- and behind what was written before that
 pub front_further : (ws xs ys : List ℕ) (a b c : Known Output) → Outputs a b (λ t. t ≡ ws) → Outputs b c (IsFrontBehind xs ys) → Outputs a c (IsFrontBehind (ws ++ xs) ys)
 front_further ws xs ys a b c p q = Outputs-then (λ t. t ≡ ws) (IsFrontBehind xs ys) (IsFrontBehind (ws ++ xs) ys) a b c p q
     (λ s t e (front, f, is). (front, f, ap (λ l. l ++ t) e ∙ ap (λ l. ws ++ l) is ∙ sym (append_assoc ws xs front)))

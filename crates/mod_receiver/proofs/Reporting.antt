@@ -5,8 +5,9 @@ use Rattle.std.proofs.lemmas.List.{append-nil}
 use Rattle.circular_buffer.specs.Buffer.{keep_last}
 use Rattle.drm_links.specs.Told.{Known}
 use Rattle.drm_links.specs.Link.{Answer}
-use Rattle.drm_links.specs.Sink.{Output, Outputs, IsFront}
+use Rattle.drm_links.specs.Sink.{Output, Outputs, IsFront, IsFrontBehind}
 use Rattle.drm_links.proofs.ToldLemmas.{Outputs-then, Outputs-weaker}
+use Rattle.drm_links.proofs.WritingLemmas.{front_behind}
 use Rattle.dcp_collect.specs.declared.taken.Taken.{Taken}
 use Rattle.dcp_collect.specs.State.{State, made, after_finish}
 use Rattle.dcp_collect.specs.Runs.{Item as Given, Run, up_to}
@@ -21,13 +22,13 @@ use Rattle.mod_receiver.specs.declared.stop.Stop.TheVariants as stop
 use Rattle.mod_receiver.specs.Reading.{datagrams, IsFinished, most_answers}
 use Rattle.mod_receiver.specs.Reports.{is_given, is_missing, is_bad, refusals, refused_text, steps_text, sums_of, report, is_clean}
 use Rattle.mod_receiver.specs.Tallies.{Tallied, counted}
-use Rattle.mod_receiver.specs.Received.{IsReport, IsFrontBehind, IsReportFront, Reported, Broken, Stopped}
+use Rattle.mod_receiver.specs.Received.{IsReport, IsReportFront, Reported, Broken, Stopped}
 use Rattle.mod_receiver.specs.Printed.{items_in, steps_before, with_steps, tally_of, KeepsPace, PrintsReady, PrintsFront, ReadsTo, ReadsBroken, ReadsFront, StopsReading, WritesRest, RestFront}
 use Rattle.mod_receiver.proofs.AtOnce.{few_given}
 use Rattle.mod_receiver.proofs.Going.{goes_none}
 use Rattle.mod_receiver.proofs.Refusing.{AreTold}
 use Rattle.mod_receiver.proofs.Tallying.{steps_counted, refusals_told, last_told}
-use Rattle.mod_receiver.proofs.Printing.{front_more, front_then, front_behind, front_further, Rest, the_rest, the_front}
+use Rattle.mod_receiver.proofs.Printing.{front_more, front_then, front_further, Rest, the_rest, the_front}
 use Rattle.mod_receiver.proofs.Reaching.{feeds_more, texts_join}
 
 -- ---- texts behind one another

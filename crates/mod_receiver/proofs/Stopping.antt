@@ -15,7 +15,7 @@ use Rattle.mod_receiver.specs.Printed.{TakesFront, SoFar, ReadsTo, ReadsBroken, 
 use Rattle.mod_receiver.proofs.Going.{goes_more, datagrams_idle, idles_idle, idles_end, datagrams_end, not_ended}
 use Rattle.mod_receiver.proofs.Giving.{gave_idle, gave_end}
 use Rattle.mod_receiver.specs.Reports.{steps_text}
-use Rattle.mod_receiver.proofs.Printing.{front_behind}
+use Rattle.drm_links.proofs.WritingLemmas.{front_behind}
 use Rattle.mod_receiver.proofs.Reaching.{Reaches, HearsMore, feeds_more, so_far_open, not_given, one_longer, one_turn, short_enough}
 
 -- the next answer is `Idle`

@@ -8,11 +8,13 @@ abbrev pub AreNext : List Answer → List Answer → List Answer → Type 0
 AreNext ahead [] rest = rest ≡ ahead
 AreNext ahead (answer ∷ answers) rest = (answer ≡ next_answer ahead) × AreNext (drop 1 ahead) answers rest
 
--- Of what a link tells, these answers alone were taken.
+-- Of what a link tells, these answers alone were taken: nothing went over it, and it never rested.
 pub record TakesAnswers (answers : List Answer) (before after : Traffic) : Type 0 where
   pub given : after.answers ≡ before.answers ++ answers
   pub ahead : AreNext before.ahead answers after.ahead
   pub gone : after.gone ≡ before.gone
+  pub waits : after.waits ≡ before.waits
+  pub waiting : after.waiting ≡ before.waiting
   pub sends : after.sends ≡ before.sends
   pub calls : after.calls ≡ before.calls + length answers
 

@@ -11,10 +11,18 @@ use Rattle.mod_receiver.specs.declared.receiver.Options.{Options}
 use Rattle.mod_receiver.specs.declared.receiver.Ended.{Ended}
 use Rattle.mod_receiver.specs.declared.receiver.Ended.TheVariants.{Done, LinkFailed}
 use Rattle.mod_receiver.specs.declared.job.Job.{Job}
+use Rattle.mod_receiver.specs.declared.job.Seat.{Seat}
 
 -- by what the receiver with this number goes
 abbrev pub options_for : Rules → ℕ → Options
 options_for rules number = record { feed = number; frames = rules.frames; idle = rules.idle; limit = rules.limit }
+
+-- what a receiver with this number keeps that goes by these rules, before it has a link
+pub record IsSeat (rules : Rules) (number : ℕ) (seat : Seat) : Type 0 where
+  pub buffer : 65536 ≤ vec_len seat.buffer
+  pub options : seat.options ≡ options_for rules number
+  pub collector : seat.collector ≡ made rules.window rules.first
+  pub text : (text_known seat.text).told ≡ Some (record { written = []; calls = 0 })
 
 -- a receiver with this number, which goes by these rules
 pub record IsJob {L : Type 0} (rules : Rules) (number : ℕ) (job : Job L) : Type 0 where

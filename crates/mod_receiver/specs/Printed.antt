@@ -3,7 +3,7 @@ use Rattle.std.specs.Prelude.{ℕ, ◌≡◌, ◌≤◌, ◌+◌, ◌-◌, ◌�
 use Rattle.circular_buffer.specs.Buffer.{keep_last}
 use Rattle.drm_links.specs.Told.{Known}
 use Rattle.drm_links.specs.Link.{Answer}
-use Rattle.drm_links.specs.Sink.{Output, Outputs, IsFront}
+use Rattle.drm_links.specs.Sink.{Output, Outputs, IsFront, IsFrontBehind}
 use Rattle.dcp_collect.specs.declared.taken.Taken.{Taken}
 use Rattle.dcp_collect.specs.State.{State, after_finish}
 use Rattle.dcp_collect.specs.Runs.{Item, Takes, Gives, up_to}
@@ -19,7 +19,7 @@ use Rattle.mod_receiver.specs.declared.stop.Stop.TheVariants as stop
 use Rattle.mod_receiver.specs.Reading.{Gave, EndsBy, GoesOn, IsBroken, most_answers}
 use Rattle.mod_receiver.specs.Reports.{refusals, refused_text, steps_text, sums_of}
 use Rattle.mod_receiver.specs.Tallies.{Tallied, counted, noted}
-use Rattle.mod_receiver.specs.Received.{GivesFirst, Stepped, IsFrontBehind}
+use Rattle.mod_receiver.specs.Received.{GivesFirst, Stepped}
 
 -- how many items these sums count
 abbrev pub items_in : Sums → ℕ

@@ -2,7 +2,7 @@
 use Rattle.std.specs.Prelude.{ℕ, ◌≡◌, ◌≤◌, ◌<◌, ◌⊎◌, Bool, true, IfSome, List, [], ◌∷◌, ◌++◌, length}
 use Rattle.drm_links.specs.Told.{Known}
 use Rattle.drm_links.specs.Link.{Answer, Datagram, Traffic}
-use Rattle.drm_links.specs.Sink.{Output, Outputs, IsFront}
+use Rattle.drm_links.specs.Sink.{Output, Outputs, IsFront, IsFrontBehind}
 use Rattle.dcp_collect.specs.declared.taken.Taken.{Taken}
 use Rattle.dcp_collect.specs.State.{State, ready, after_item, after_finish}
 use Rattle.dcp_collect.specs.Runs.{Item, IsItem, Takes, Run, up_to}
@@ -79,10 +79,6 @@ pub record Stepped (rules : Rules) (answers : List Answer) (earlier later : List
   pub before : Feeds new_tracker (up_to rules.frames some.during) earlier mid
   pub last : TrackerState
   pub feeds : Feeds new_tracker items (earlier ++ later) last
-
--- all that was written before, and a front of what comes behind it
-abbrev pub IsFrontBehind : List ℕ → List ℕ → List ℕ → Type 0
-IsFrontBehind written behind text = (front : List ℕ) × IsFront behind front × (text ≡ written ++ front)
 
 -- What is written where a write failed: a front of the first line, before anything is read; all that was given before the last
 -- answer, and a front of what that one made ready; or the lines of all items, and a front of what ends the report.

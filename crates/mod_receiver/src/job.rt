@@ -4,7 +4,8 @@ ghost use Rattle.std.specs.Prelude.{ℕ, ◌≡◌, ◌<◌, ◌≤◌, ◌↔�
 ghost use Rattle.std.specs.List.{flat_map};
 ghost use Rattle.drm_links.specs.Told.{HasCause};
 ghost use Rattle.drm_links.specs.Sink.{Writes};
-ghost use Rattle.mod_receiver.specs.Jobs.{IsJob, IsReady, HasEnded, IsDone, is_failed, clean_of, text_of, job_rules};
+ghost use Rattle.mod_receiver.specs.declared.rules.Rules.{Rules};
+ghost use Rattle.mod_receiver.specs.Jobs.{IsSeat, IsJob, IsReady, HasEnded, IsDone, is_failed, clean_of, text_of, job_rules};
 ghost use Rattle.mod_receiver.specs.Received.{EndsAs};
 
 use crate::receiver::{Ended, Options, receive_one};
@@ -36,19 +37,25 @@ const MOST_THREADS: usize = 16;
 /// Room for the longest datagram.
 const MOST_BYTES: usize = 65536;
 
-/// A receiver of this link, under the number of its feed.
-pub fn job_for<L: Link>(alloc: Global, rules: &Rules, feed: u8, link: L) -> Result<Job<L>, NoMemory>
+/// What a receiver keeps, taken before it has a link.
+#[derive(Drop)]
+pub struct Seat {
+    pub collector: Collector,
+    pub options: Options,
+    pub buffer: Vec<u8>,
+    pub text: Text,
+}
+
+/// The seat of a receiver, under the number of its feed.
+pub fn seat_for(alloc: Global, rules: &Rules, feed: u8) -> Result<Seat, NoMemory>
     requires some { 1 ≤ rules.now.window }
     requires few { rules.now.window ≤ 64 }
-    ensures job { IfOk result (IsJob rules.now feed) }
-    ensures link { IfOk result (λ job. job.link ≡ link) }
+    ensures { IfOk result (IsSeat rules.now feed) }
 {
     let collector = Collector::make(alloc, rules.window, rules.first)?;
     let buffer = zeros(alloc, MOST_BYTES)?;
-    Ok(Job {
-        link,
+    Ok(Seat {
         collector,
-        feed: Feed::new(),
         options: Options {
             feed,
             frames: rules.frames,
@@ -57,8 +64,40 @@ pub fn job_for<L: Link>(alloc: Global, rules: &Rules, feed: u8, link: L) -> Resu
         },
         buffer,
         text: Text::new(alloc),
-        ended: None,
     })
+}
+
+/// The receiver of this link that has this seat.
+pub fn seated<L: Link>(seat: Seat, link: L) -> Job<L>
+    ensures job { (rules : Rules) (feed : ℕ) → IsSeat rules feed seat → IsJob rules feed result }
+    ensures link { result.link ≡ link }
+{
+    let Seat {
+        collector,
+        options,
+        buffer,
+        text,
+    } = seat;
+    Job {
+        link,
+        collector,
+        feed: Feed::new(),
+        options,
+        buffer,
+        text,
+        ended: None,
+    }
+}
+
+/// A receiver of this link, under the number of its feed.
+pub fn job_for<L: Link>(alloc: Global, rules: &Rules, feed: u8, link: L) -> Result<Job<L>, NoMemory>
+    requires some { 1 ≤ rules.now.window }
+    requires few { rules.now.window ≤ 64 }
+    ensures job { IfOk result (IsJob rules.now feed) }
+    ensures link { IfOk result (λ job. job.link ≡ link) }
+{
+    let seat = seat_for(alloc, rules, feed)?;
+    Ok(seated(seat, link))
 }
 
 fn run_one<L: Link>(alloc: Global, job: &mut Job<L>)

@@ -14,7 +14,7 @@ mod tally;
 mod text;
 
 pub use capture::{Unfinished, receive_capture};
-pub use job::{Job, job_for, run_all, run_live};
+pub use job::{Job, Seat, job_for, run_all, run_live, seat_for, seated};
 pub use reading_laws::{one_reading_of_a_link, one_report};
 pub use receiver::{Ended, Options, receive_one};
 pub use report_laws::{in_time_is_unbroken, laws_of_deliveries, reports_follow};

@@ -1,5 +1,4 @@
 use Rattle.std.proofs.Common.{[], ◌∷◌, ◌++◌, Ok, Err, ap, arith, refl, sym, ◌∙◌}
-use Rattle.std.proofs.Math.Nat.{le_trans}
 use Rattle.std.proofs.lemmas.Result.{err_from_is_err_and}
 use Rattle.mod_receiver.specs.Captures.{ArePackets, HeardOf, HeardUntil}
 use Rattle.mod_receiver.proofs.JobLemmas.{some_now}
@@ -14,8 +13,8 @@ packets-init g c = (
   read_none (g.I.Source.known c.args.input.now) c.args.packets.now c.requires.packets,
   at_start c.args.rules.now (ArePackets []) (g.O.Sink.known c.args.out.now) c.args.collector.now c.args.feed.now c.args.tally.now refl c.requires.collector c.requires.feed c.requires.tally
       c.requires.rules.some_window c.requires.rules.some_datagrams c.requires.rules.some_idles (some_now c.args.rules.now.frames c.requires.rules.some_frames),
-  omega arith,
-  omega arith,
+  refl,
+  refl,
 )
 
 pub returns-in_err-find-clause-stopped : goal.returns-in_err-find-clause-stopped
@@ -94,8 +93,8 @@ packets-preserved g c =
       c.next-packet.follows.holds-at-none.reads i.0 before after read,
       datagram_more c.args.rules.now _ _ _ c.take.new.collector c.take.new.feed c.take.new.tally c.packets.taken step c.in_ok-take.ensures.pace (sym c.is_full.ensures ∙ c.if-is_full.false)
           (omega (arith, below, other)) c.requires.rules.some_idles,
-      le_trans i.3 c.find.ensures.cause.later,
-      le_trans i.4 c.in_ok-take.ensures.cause.later,
+      c.in_ok-find.ensures.cause.same (λ failed. cc) ∙ i.3,
+      c.in_ok-take.ensures.cause.same (λ failed. cc) ∙ i.4,
     )
 
 pub returns-clause-finished : goal.returns-clause-finished

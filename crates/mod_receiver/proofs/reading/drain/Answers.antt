@@ -1,11 +1,11 @@
 use Rattle.std.proofs.Common.{◌∙◌, sym, ◌++◌, ◌∷◌, [], ap, subst}
-use Rattle.std.proofs.Math.Nat.{le_trans}
 use Rattle.std.proofs.lemmas.Result.{err_from_is_err_and}
 use Rattle.collect_laws.specs.Laws.{IsFit}
 use Rattle.collect_laws.proofs.Fit.{fit_next}
 use Rattle.dcp_collect.specs.State.{State}
 use Rattle.dcp_collect.specs.View.{item_of}
 use Rattle.mod_feed.specs.Feeding.{step_of, IsStep}
+use Rattle.drm_links.proofs.ToldLemmas.{done_counts}
 use Rattle.drm_links.proofs.WritingLemmas.{Writes-done, Writes-front}
 use Rattle.mod_receiver.proofs.Printing.{in_number, drained_one, drained_all, drained_full, drained_front, next_end}
 use Rattle.mod_receiver.proofs.Reaching.{full_fits}
@@ -23,7 +23,7 @@ loop-told-preserved g c =
       i.0 ++ item_of c.in-Some.given ∷ [],
       drained_one c.args.told c.args.collector.now c.loop-told.collector _ c.args.feed.now c.loop-told.feed c.step-step.new.self c.args.tally.now c.loop-told.tally c.write_item.new.self _ _ _ i.0 (item_of c.in-Some.given) (step_of c.step-step.result)
           i.1 c.in-Some.ensures.out.0 c.in-Some.ensures.out.1 c.next.follows.holds-at-none room is c.step-step.ensures.after (c.write_item.ensures.same ∙ c.count.ensures) (Writes-done c.in_ok-write_item.was c.write_item.ensures.writes),
-      le_trans i.2 c.write_item.ensures.writes.cause.later,
+      done_counts c.in_ok-write_item.was c.write_item.ensures.writes.cause ∙ i.2,
       ap (λ (s : State). s.end) c.next.follows.holds-at-none ∙ next_end c.loop-told.collector ∙ i.3,
       subst IsFit (sym c.next.follows.holds-at-none) (fit_next c.loop-told.collector i.4),
     )

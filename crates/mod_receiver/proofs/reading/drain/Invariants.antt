@@ -8,7 +8,7 @@ use Rattle.mod_receiver.proofs.reading.drain.Given as goal
 abbrev pub invariant-loop-told : goal.invariant-loop-told
 invariant-loop-told g l =
     (items : List Item) × Drained l.told l.fn.collector l.collector l.fn.feed l.feed l.fn.tally l.tally (g.O.Sink.known l.fn.out) (g.O.Sink.known l.out) items
-    × ((g.O.Sink.known l.fn.out).faults ≤ (g.O.Sink.known l.out).faults)
+    × ((g.O.Sink.known l.out).faults ≡ (g.O.Sink.known l.fn.out).faults)
     × (l.collector.end ≡ l.fn.collector.end)
     × IsFit l.collector
 

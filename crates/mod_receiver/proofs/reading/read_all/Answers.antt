@@ -1,5 +1,4 @@
 use Rattle.std.proofs.Common.{sym, ◌∙◌, ap, arith, refl, take, Err}
-use Rattle.std.proofs.Math.Nat.{le_trans}
 use Rattle.std.proofs.lemmas.Result.{err_from_is_err_and}
 use Rattle.drm_links.specs.declared.link.Came.TheVariants as recv
 use Rattle.mod_receiver.specs.declared.rules.Rules.{Rules}
@@ -14,8 +13,8 @@ pub answers-init : goal.answers-init
 answers-init g c = (
   at_start (rules_of c.args.collector.now c.args.options.now) (Heard (g.L.Link.known c.args.link.now) (g.L.Link.known c.args.link.now)) _ c.args.collector.now c.args.feed.now c.args.tally.now (heard_none (g.L.Link.known c.args.link.now)) c.requires.collector c.requires.feed c.requires.tally
       c.requires.window c.requires.options.limit c.requires.options.idle c.requires.options.some_frames,
-  omega arith,
-  omega arith,
+  refl,
+  refl,
   refl,
 )
 
@@ -62,8 +61,8 @@ answers-preserved-else-taken-options g c =
     let other = c.if-taken-options.false in (
       datagram_more rules _ _ _ c.take.new.collector c.take.new.feed c.take.new.tally c.answers.taken step c.in_ok-take-in-Datagram.ensures.pace (sym c.is_full.ensures ∙ c.if-is_full.false)
           (omega (arith, more, other)) c.requires.options.idle,
-      le_trans c.answers.invariant.1 c.in-Datagram.ensures.cause.later,
-      le_trans c.answers.invariant.2 c.in_ok-take-in-Datagram.ensures.cause.later,
+      c.in-Datagram.ensures.cause.same (λ failed. cc) ∙ c.answers.invariant.1,
+      c.in_ok-take-in-Datagram.ensures.cause.same (λ failed. cc) ∙ c.answers.invariant.2,
       c.recv.auto.buf ∙ c.answers.invariant.3,
     )
 
@@ -86,7 +85,7 @@ answers-preserved g c =
     let fewer = c.answers.invariant.0.fewer in
     let other = c.if-idles-options.false in (
       idle_more rules (Heard (g.L.Link.known c.args.link.now) (g.L.Link.known c.answers.link)) (Heard (g.L.Link.known c.args.link.now) (g.L.Link.known c.recv.new.self)) _ _ c.answers.collector c.answers.feed c.answers.tally c.answers.taken c.answers.idles c.answers.invariant.0 step (omega (arith, fewer, other)),
-      le_trans c.answers.invariant.1 c.in-Idle.ensures.cause.later,
+      c.in-Idle.ensures.cause.same (λ failed. cc) ∙ c.answers.invariant.1,
       c.answers.invariant.2,
       c.recv.auto.buf ∙ c.answers.invariant.3,
     )

@@ -1,4 +1,4 @@
-use Rattle.std.proofs.Common.{◌≡◌, ◌+◌, ◌-◌, ◌*◌, ◌≤◌, length}
+use Rattle.std.proofs.Common.{◌≡◌, ◌+◌, ◌-◌, ◌*◌, length}
 use Rattle.mod_receiver.specs.Received.{rules_of}
 use Rattle.mod_receiver.specs.Hearing.{Heard}
 use Rattle.mod_receiver.proofs.Reaching.{Reaches}
@@ -8,8 +8,8 @@ use Rattle.mod_receiver.proofs.reading.read_all.Given as goal
 abbrev pub invariant-answers : goal.invariant-answers
 invariant-answers g l =
     Reaches (rules_of l.fn.collector l.options) (Heard (g.L.Link.known l.fn.link) (g.L.Link.known l.link)) (g.O.Sink.known l.fn.out) (g.O.Sink.known l.out) l.collector l.feed l.tally l.taken l.idles
-    × ((g.L.Link.known l.fn.link).faults ≤ (g.L.Link.known l.link).faults)
-    × ((g.O.Sink.known l.fn.out).faults ≤ (g.O.Sink.known l.out).faults)
+    × ((g.L.Link.known l.link).faults ≡ (g.L.Link.known l.fn.link).faults)
+    × ((g.O.Sink.known l.out).faults ≡ (g.O.Sink.known l.fn.out).faults)
     × (length l.buffer ≡ length l.fn.buffer)
 
 abbrev pub decreases-answers : goal.decreases-answers

@@ -1,6 +1,6 @@
-use Rattle.std.proofs.Common.{◌≡◌, ◌∙◌, ap, arith}
-use Rattle.std.proofs.Math.Nat.{le_trans}
+use Rattle.std.proofs.Common.{◌≡◌, ◌∙◌, ap, refl}
 use Rattle.std.proofs.lemmas.Result.{err_from_is_err_and}
+use Rattle.drm_links.proofs.ToldLemmas.{done_counts}
 use Rattle.drm_links.proofs.WritingLemmas.{Writes-whole, Writes-part, Writes-done, Writes-front}
 use Rattle.mod_receiver.specs.Tallies.{Tallied}
 use Rattle.mod_receiver.specs.Reports.{refused_text}
@@ -15,14 +15,14 @@ loop-refusal-init g c =
     let is : c.into_iter-refusal-iterator.result ≡ c.args.self.now.refused = c.into_iter-refusal-iterator.ensures.into_iter_gives.0 ∙ ap (λ (t : Tallied). t.refused) c.self.view_is in (
       none_refused c.args.self.now.refused c.into_iter-refusal-iterator.result (g.O.Sink.known c.args.out.now) is,
       all_told c.args.self.now.refused c.into_iter-refusal-iterator.result is c.requires,
-      omega arith,
+      refl,
     )
 
 pub loop-refusal-preserved : goal.loop-refusal-preserved
 loop-refusal-preserved g c = (
   one_refused c.args.self.now.refused c.loop-refusal.refusal-iterator c.next.new.self c.in-Some.refusal.now (g.O.Sink.known c.args.out.now) (g.O.Sink.known c.loop-refusal.out) (g.O.Sink.known c.write_refused.new.out) c.in-Some.ensures.steps c.loop-refusal.invariant.0 (Writes-done c.in_ok-write_refused.was c.write_refused.ensures),
   (told_next c.loop-refusal.refusal-iterator c.next.new.self c.in-Some.refusal.now c.in-Some.ensures.steps c.loop-refusal.invariant.1).1,
-  le_trans c.loop-refusal.invariant.2 c.write_refused.ensures.cause.later,
+  done_counts c.in_ok-write_refused.was c.write_refused.ensures.cause ∙ c.loop-refusal.invariant.2,
 )
 
 pub returns-in_err-write_refused : goal.returns-in_err-write_refused

@@ -1,4 +1,4 @@
-use Rattle.std.proofs.Common.{◌≤◌}
+use Rattle.std.proofs.Common.{◌≡◌}
 use Rattle.drm_links.specs.Sink.{Outputs}
 use Rattle.mod_receiver.proofs.Refusing.{IsSoFar, AreTold}
 use Rattle.mod_receiver.proofs.tally.Tally.write_refused.Given as goal
@@ -8,4 +8,4 @@ abbrev pub invariant-loop-refusal : goal.invariant-loop-refusal
 invariant-loop-refusal g l =
     Outputs (g.O.Sink.known l.fn.out) (g.O.Sink.known l.out) (IsSoFar l.self.refused l.refusal-iterator)
     × AreTold l.refusal-iterator
-    × ((g.O.Sink.known l.fn.out).faults ≤ (g.O.Sink.known l.out).faults)
+    × ((g.O.Sink.known l.out).faults ≡ (g.O.Sink.known l.fn.out).faults)
