@@ -1,4 +1,4 @@
-use Rattle.std.proofs.Common.{◌∙◌, ap, length, Err, le_trans}
+use Rattle.std.proofs.Common.{◌∙◌, ap, length, Err}
 use Rattle.std.proofs.lemmas.Result.{err_from_is_err_and}
 use Rattle.drm_load.specs.Schedule.{with_files}
 use Rattle.drm_load.proofs.ScheduleLemmas.{files_next, files_fail}
@@ -16,5 +16,5 @@ loop-k-preserved g c = (
   files_next (with_files (length c.args.draft.files) 0 c.args.draft) c.files-files.result c.loop-k.k c.loop-k.draft c.attach.new.self c.file_line-line.result c.file_name.result.now c.in_ok-bytes.bytes (g.S.Shelf.known c.args.shelf.now) (g.S.Shelf.known c.loop-k.shelf) (g.S.Shelf.known c.load.new.shelf)
       c.loop-k-test.true c.file_line-line.ensures c.file_name.ensures c.attach.ensures c.loop-k.invariant.0 c.in_ok-bytes.ensures.reads,
   rw c.attach.ensures c.loop-k.invariant.1,
-  le_trans c.loop-k.invariant.2 c.in_ok-bytes.ensures.cause.later,
+  c.in_ok-bytes.ensures.cause.same (λ failed. cc) ∙ c.loop-k.invariant.2,
 )

@@ -1,4 +1,4 @@
-use Rattle.std.proofs.Common.{◌≡◌, ◌-◌, ◌≤◌, length}
+use Rattle.std.proofs.Common.{◌≡◌, ◌-◌, length}
 use Rattle.drm_links.specs.Shelf.{Supplies}
 use Rattle.drm_load.specs.Schedule.{with_files}
 use Rattle.drm_load.proofs.LoadingLemmas.{Reached}
@@ -9,4 +9,4 @@ abbrev pub invariant-loop-k : goal.invariant-loop-k
 invariant-loop-k g l =
     Supplies (g.S.Shelf.known l.fn.shelf) (g.S.Shelf.known l.shelf) (Reached (with_files (length l.fn.draft.files) 0 l.fn.draft) (with_files (l.files - l.k) l.k l.draft))
     × (length l.draft.files ≡ l.files)
-    × ((g.S.Shelf.known l.fn.shelf).faults ≤ (g.S.Shelf.known l.shelf).faults)
+    × ((g.S.Shelf.known l.shelf).faults ≡ (g.S.Shelf.known l.fn.shelf).faults)
