@@ -128,7 +128,7 @@ pub returns-in-Receive-clause-opening : goal.returns-in-Receive-clause-opening
 returns-in-Receive-clause-opening g c = c.receive.ensures.run.dock_cause
 
 pub returns-in-Receive-clause-unsent : goal.returns-in-Receive-clause-unsent
-returns-in-Receive-clause-unsent g c = λ e. opens_unsent c.in-Receive.addresses c.receive.result (g.D.Dock.known c.args.dock.now) (g.D.Dock.known c.receive.new.dock) c.receive.ensures.run.opens
+returns-in-Receive-clause-unsent g c = λ e. opens_unsent c.in-Receive.rules c.in-Receive.addresses c.receive.result g.O.Sink.known c.args.out.now c.receive.new.out (g.D.Dock.known c.args.dock.now) (g.D.Dock.known c.receive.new.dock) c.receive.ensures.run.opens
 
 pub returns-in-Air-clause-read : goal.returns-in-Air-clause-read
 returns-in-Air-clause-read g c = λ _. other_alone refl c.air.ensures.run.read_cause
