@@ -28,7 +28,8 @@ use Rattle.drm_gate.specs.Targets.{Target, EachSends}
 use Rattle.drm_gate.specs.Tallies.{nothing, tally_of, items_in}
 use Rattle.drm_gate.specs.Draining.{PassedAll, Drained, Stopped, KeepsPace, sent_or_kept}
 use Rattle.drm_gate.specs.declared.gate.GateEnded.{GateEnded}
-use Rattle.drm_gate.specs.Run.{ComesTo, StopsAt, CountsOver, EndsAs, PassesAll, BreaksOff, StopsSending, most_sends}
+use Rattle.mod_receiver.specs.Received.{ComesTo}
+use Rattle.drm_gate.specs.Run.{StopsAt, CountsOver, EndsAs, PassesAll, BreaksOff, StopsSending, most_sends}
 use Rattle.drm_gate.specs.declared.reading.Stop.{Stop}
 use Rattle.drm_gate.specs.declared.reading.Stop.TheVariants as stop
 use Rattle.drm_gate.specs.Reading.{TakesFirst, ReadsTo, StopsReading, EndsReading}

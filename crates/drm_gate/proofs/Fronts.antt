@@ -24,7 +24,8 @@ use Rattle.mod_receiver.proofs.OneReading.{one_reading}
 use Rattle.drm_convert.proofs.Taken.{may_taken, first_itself}
 use Rattle.drm_convert.proofs.Ways.{Starts, starts_more, starts_up_to, taken_starts, taken_first, finished_starts, given_first, gives_first, one_way}
 use Rattle.drm_gate.specs.Passing.{Fate, Begins, BecomeAll, sent_of}
-use Rattle.drm_gate.specs.Run.{IsOnward, IsFrontOf, IsFrontOfOnward, ComesTo, StopsAt}
+use Rattle.mod_receiver.specs.Received.{ComesTo}
+use Rattle.drm_gate.specs.Run.{IsOnward, IsFrontOf, IsFrontOfOnward, StopsAt}
 use Rattle.drm_gate.proofs.DrainingLemmas.{sent_join}
 use Rattle.drm_gate.proofs.Fates.{begins_front, all_sent, split}
 

@@ -38,16 +38,16 @@ module _ (carry : Carry) (seq n : ℕ) (bytes : List ℕ) (any : IsAny bytes) wh
   -- it took all these where another one did, or it failed
   takes_by : (u v : Bool) (b a : Target) (datagrams : List (List ℕ)) → b.up ≡ u → a.up ≡ v → AreOf carry seq bytes datagrams → SentOver u carry seq bytes n b a → TakesMore datagrams b a
   takes_by true true b a datagrams was is are s gone start took =
-      let ((others, are', many, sent), later) = subst (λ (w : Bool). SentBy w carry seq bytes n b.known a.known) is s.0 in
+      let ((others, are', many, sent), still) = subst (λ (w : Bool). SentBy w carry seq bytes n b.known a.known) is s.0 in
       let same : others ≡ datagrams = one_sending carry seq bytes others datagrams any are' are in
       subst (λ (w : Bool). TookBy w (gone ++ datagrams) start a.known) (sym is)
       (subst (λ (l : List (List ℕ)). TookBy true (gone ++ l) start a.known) same
-      (took_more gone others start b.known a.known (subst (λ (w : Bool). TookBy w gone start b.known) was took) sent later))
+      (took_more gone others start b.known a.known (subst (λ (w : Bool). TookBy w gone start b.known) was took) sent still))
   takes_by true false b a datagrams was is are s gone start took =
-      let ((part, some, sent), rose) = subst (λ (w : Bool). SentBy w carry seq bytes n b.known a.known) is s.0 in
+      let ((part, some, sent), once) = subst (λ (w : Bool). SentBy w carry seq bytes n b.known a.known) is s.0 in
       let (rest, more, whole) = some_first carry seq bytes part datagrams any some are in
       subst (λ (w : Bool). TookBy w (gone ++ datagrams) start a.known) (sym is)
-      (took_part gone datagrams part rest start b.known a.known (subst (λ (w : Bool). TookBy w gone start b.known) was took) whole more sent rose)
+      (took_part gone datagrams part rest start b.known a.known (subst (λ (w : Bool). TookBy w gone start b.known) was took) whole more sent once)
   takes_by false v b a datagrams was is are s gone start took =
       subst (λ (t : Target). TookBy t.up (gone ++ datagrams) start t.known) (sym s)
       (subst (λ (w : Bool). TookBy w (gone ++ datagrams) start b.known) (sym was) (still_some gone datagrams start b.known (subst (λ (w : Bool). TookBy w gone start b.known) was took)))
@@ -71,7 +71,7 @@ module _ (carry : Carry) (seq n : ℕ) (bytes : List ℕ) (any : IsAny bytes) wh
 
   whole_by : (u : Bool) (b a : Target) → b.up ≡ u → a.up ≡ true → SentOver u carry seq bytes n b a → Whole
   whole_by true b a was is s =
-      let ((datagrams, are, many, sent), later) = subst (λ (w : Bool). SentBy w carry seq bytes n b.known a.known) is s.0 in
+      let ((datagrams, are, many, sent), same) = subst (λ (w : Bool). SentBy w carry seq bytes n b.known a.known) is s.0 in
       (datagrams, are, many)
   whole_by false b a was is s = absurd (let clash : true ≡ false = sym is ∙ (ap (λ (t : Target). t.up) s ∙ was) in cc)
 
@@ -79,8 +79,8 @@ module _ (carry : Carry) (seq n : ℕ) (bytes : List ℕ) (any : IsAny bytes) wh
   part_by : (P : List (List ℕ) → Type 0) (u : Bool) (b a : Target) → b.up ≡ u → a.up ≡ false → ((part : List (List ℕ)) → AreSome carry seq bytes part → P part)
       → SentOver u carry seq bytes n b a → TakesNoMore u P b a
   part_by P true b a was is holds s =
-      let ((part, some, sent), rose) = subst (λ (w : Bool). SentBy w carry seq bytes n b.known a.known) is s.0 in
-      (part, holds part some, sent, rose)
+      let ((part, some, sent), once) = subst (λ (w : Bool). SentBy w carry seq bytes n b.known a.known) is s.0 in
+      (part, holds part some, sent, once)
   part_by P false b a was is holds s = s
 
 -- a packet that is sent

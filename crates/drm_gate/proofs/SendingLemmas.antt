@@ -61,8 +61,8 @@ some_of carry seq packet cut a b same (datagrams, each, fewer, next, is_next, se
 
 by_carry : (carry : Carry) (seq n : ℕ) (packet : List ℕ) (cut : Option Shape) (v : Bool) (a b : Known Traffic) → cut_of carry (length packet) ≡ cut → n ≡ datagram_count carry (length packet)
     → CutBy v cut seq packet a b → SentBy v carry seq packet n a b
-by_carry carry seq n packet cut true a b same is (m, sent, later) = (all_of carry seq n m packet cut a b same is sent, later)
-by_carry carry seq n packet cut false a b same is (some, rose) = (some_of carry seq packet cut a b same some, rose)
+by_carry carry seq n packet cut true a b same is (m, sent, still) = (all_of carry seq n m packet cut a b same is sent, still)
+by_carry carry seq n packet cut false a b same is (some, once) = (some_of carry seq packet cut a b same some, once)
 
 pub over_carry : (carry : Carry) (seq n : ℕ) (packet : List ℕ) (cut : Option Shape) (u : Bool) (before after : Target) → cut_of carry (length packet) ≡ cut → n ≡ datagram_count carry (length packet)
     → CutOver u cut seq packet before after → SentOver u carry seq packet n before after
@@ -82,8 +82,8 @@ some_still cut seq packet a b (datagrams, each, fewer, next, is_next, sent) = st
 sent_by : (cut : Option Shape) (seq : ℕ) (packet : List ℕ) (a b : Known Traffic) (result : Result ℕ LinkFault) → IfOk result (λ n. sending.SentPacket cut seq packet n a b)
     → IfOk result (λ n. Transmits a b (Waits (replicate n 0) 0)) → OnErr result (sending.SentSome cut seq packet a b) → HasCause a b (IsErr result)
     → CutBy (is_ok result) cut seq packet a b × Tells a b NeverRests
-sent_by cut seq packet a b (Ok n) sent waited part cause = ((n, sent, cause.later), all_still cut seq packet a b n sent waited)
-sent_by cut seq packet a b (Err fault) sent waited part cause = ((part, cause.rose refl), some_still cut seq packet a b part)
+sent_by cut seq packet a b (Ok n) sent waited part cause = ((n, sent, cause.same (λ failed. cc)), all_still cut seq packet a b n sent waited)
+sent_by cut seq packet a b (Err fault) sent waited part cause = ((part, cause.once refl), some_still cut seq packet a b part)
 
 pub sent_over : (cut : Option Shape) (seq : ℕ) (packet : List ℕ) (up v : Bool) (a b : Known Traffic) (result : Result ℕ LinkFault) → up ≡ true → v ≡ is_ok result
     → IfOk result (λ n. sending.SentPacket cut seq packet n a b) → IfOk result (λ n. Transmits a b (Waits (replicate n 0) 0)) → OnErr result (sending.SentSome cut seq packet a b)

@@ -3,7 +3,7 @@ use Rattle.std.proofs.Common.{◌≡◌, ℕ, ◌≤◌, Bool, true, false, List
 use Rattle.drm_links.specs.Link.{Answer}
 use Rattle.drm_links.specs.Told.{HasFailed}
 use Rattle.drm_links.specs.Transmission.{Transmits, SendsNoMore}
-use Rattle.drm_links.proofs.ToldLemmas.{later-Rose}
+use Rattle.drm_links.proofs.ToldLemmas.{once_then}
 use Rattle.several_links.specs.Took.{TookBy}
 use Rattle.several_links.proofs.TookLemmas.{took_none}
 use Rattle.dcp_pft.specs.declared.carry.Carry.{Carry}
@@ -33,18 +33,18 @@ module _ (rules : Rules) (carry : Carry) (answers : List Answer) (sent : List (L
       )
 
   pub over_by : (u : Bool) (b m a : Target) (last : List (List ℕ)) → IsPart last → m.up ≡ u → b.up ≡ true → TakesMore sent b m → TakesNoMore u IsPart m a → StopsOver rules carry answers b a
-  over_by true b m a last holds is was more (part, here, none, rose) =
+  over_by true b m a last holds is was more (part, here, none, once) =
       let took = subst (λ (u : Bool). TookBy u sent b.known m.known) is (took_from sent b m was more) in
       record {
         datagrams = sent ++ part;
         sent = then_no_more sent part b.known m.known a.known took.sent none;
-        rose = later-Rose b.known.faults m.known.faults a.known.faults took.later rose;
+        once = once_then took.same once;
         front = front_at part here;
       }
   over_by false b m a last holds is was more same =
       let took = subst (λ (u : Bool). TookBy u sent b.known m.known) is (took_from sent b m was more) in
       subst (λ (t : Target). StopsOver rules carry answers b t) (sym same)
-      (record { datagrams = took.front; sent = took.sent; rose = took.rose; front = front_before took.front took.rest last took.are took.some holds })
+      (record { datagrams = took.front; sent = took.sent; once = took.once; front = front_before took.front took.rest last took.are took.some holds })
 
   -- the last one
   abbrev pub LastPart : Target → Target → Type 0
@@ -55,7 +55,7 @@ module _ (rules : Rules) (carry : Carry) (answers : List Answer) (sent : List (L
   last_part false m a is was none = absurd (let clash : true ≡ false = sym was ∙ is in cc)
 
   pub at_last : (b m a : Target) → m.up ≡ true → TakesMore sent b m → LastPart m a → StopsLast rules carry answers b a
-  at_last b m a was more (part, holds, none, rose) = record {
+  at_last b m a was more (part, holds, none, once) = record {
     datagrams = sent ++ part;
     sent = λ up.
         let took = subst (λ (u : Bool). TookBy u sent b.known m.known) was (took_from sent b m up more) in

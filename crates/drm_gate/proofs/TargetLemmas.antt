@@ -46,7 +46,7 @@ few_sent_each m n x y few sends = record {
 -- ---- where none takes more
 
 takes_weaker : (P Q : List (List ℕ) → Type 0) (u : Bool) (b a : Target) → ((datagrams : List (List ℕ)) → P datagrams → Q datagrams) → TakesNoMore u P b a → TakesNoMore u Q b a
-takes_weaker P Q true b a follows (datagrams, holds, sent, rose) = (datagrams, follows datagrams holds, sent, rose)
+takes_weaker P Q true b a follows (datagrams, holds, sent, once) = (datagrams, follows datagrams holds, sent, once)
 takes_weaker P Q false b a follows same = same
 
 pub none_weaker : (P Q : List (List ℕ) → Type 0) (x y : List Target) → ((datagrams : List (List ℕ)) → P datagrams → Q datagrams) → NoneTakes P x y → NoneTakes Q x y

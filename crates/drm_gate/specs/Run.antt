@@ -1,18 +1,19 @@
 -- What a gateway reads of one link, and what it sends of that over the others.
-use Rattle.std.specs.Prelude.{ℕ, ◌≡◌, ◌+◌, ◌*◌, ◌<◌, ◌≤◌, ◌⊎◌, true, false, List, [], ◌∷◌, ◌++◌, length, slice_index_or, Option}
+use Rattle.std.specs.Prelude.{ℕ, ◌≡◌, ◌+◌, ◌*◌, ◌<◌, ◌≤◌, ◌⊎◌, true, false, List, ◌++◌, length, slice_index_or, Option}
 use Rattle.dcp_pft.specs.declared.carry.Carry.{Carry}
 use Rattle.dcp_pft.specs.Limits.{most_fragments}
 use Rattle.dcp_collect.specs.declared.taken.Taken.{Taken}
-use Rattle.dcp_collect.specs.State.{State, made, ready, after_finish}
-use Rattle.dcp_collect.specs.Runs.{Item, IsItem, Takes, Steps, Run}
+use Rattle.dcp_collect.specs.State.{State, made, ready}
+use Rattle.dcp_collect.specs.Runs.{Item, IsItem, Steps, Run}
 use Rattle.drm_links.specs.Told.{Known, HasFailed}
-use Rattle.drm_links.specs.Link.{Answer, Datagram, Traffic}
+use Rattle.drm_links.specs.Link.{Answer, Traffic}
 use Rattle.drm_links.specs.Transmission.{Transmits, SendsNoMore}
 use Rattle.report_lines.specs.declared.report.EndWord.{EndWord}
 use Rattle.mod_receiver.specs.Hearing.{Heard}
 use Rattle.mod_receiver.specs.declared.rules.Rules.{Rules}
-use Rattle.mod_receiver.specs.Reading.{datagrams, Gave, EndsBy, GoesOn, IsFinished, IsBroken, most_answers}
+use Rattle.mod_receiver.specs.Reading.{datagrams, Gave, GoesOn, IsFinished, IsBroken, most_answers}
 use Rattle.mod_receiver.specs.OneReading.{Ends}
+use Rattle.mod_receiver.specs.Received.{ComesTo}
 use Rattle.drm_convert.specs.Draining.{MayBeFirst}
 use Rattle.capture_items.specs.Reading.{Given, is_full}
 use Rattle.drm_convert.specs.Run.{first_of}
@@ -48,12 +49,6 @@ abbrev pub IsFrontOfOnward : Rules → Carry → List Answer → List (List ℕ)
 IsFrontOfOnward rules carry answers sent =
     (more : List Answer) (ending : Option EndWord) (fates : List Fate)
     → Ends rules (answers ++ more) ending → IsOnward rules carry (datagrams (answers ++ more)) fates → IsFrontOf (sent_of fates) sent
-
--- what a collector comes to before it gives what is ready: it takes one datagram more, or is finished where the reading is
-abbrev pub ComesTo : Rules → List Answer → List Answer → State → State → Type 0
-ComesTo rules answers later mid state =
-    ((bytes : List ℕ) × (answer : Taken) × (later ≡ Datagram bytes ∷ []) × Takes mid bytes answer state)
-    ⊎ ((word : EndWord) × (later ≡ []) × EndsBy rules answers word × (state ≡ after_finish mid rules.frames))
 
 -- Of a reading that began with these answers, these datagrams were sent, and then a send failed: they are what becomes of the
 -- items that were given so far, and some of the datagrams of the item behind them, which isn't past the told number.
@@ -113,7 +108,7 @@ pub record BreaksOff (rules : Rules) (carry : Carry) (hears : List Answer → Ty
 pub record StopsOver (rules : Rules) (carry : Carry) (answers : List Answer) (to to' : Target) : Type 0 where
   pub datagrams : List (List ℕ)
   pub sent : Transmits to.known to'.known (SendsNoMore datagrams)
-  pub rose : HasFailed to.known to'.known
+  pub once : HasFailed to.known to'.known
   pub front : IsFrontOfOnward rules carry answers datagrams
 
 -- The same of the link that was the last to fail, at the item at hand.

@@ -31,9 +31,10 @@ abbrev pub SentSome : Carry → ℕ → List ℕ → Known Traffic → Known Tra
 SentSome carry sequence packet before after =
     (datagrams : List (List ℕ)) × AreSome carry sequence packet datagrams × Transmits before after (SendsNoMore datagrams)
 
--- A packet over a link that hadn't failed, by whether it hasn't since: it took all its datagrams, or some first ones, and no more.
+-- A packet over a link that hadn't failed, by whether it hasn't since: it took all its datagrams, or some first ones, and no more. The
+-- one call that failed is the last.
 abbrev pub SentBy : Bool → Carry → ℕ → List ℕ → ℕ → Known Traffic → Known Traffic → Type 0
-SentBy true carry sequence packet n before after = SentPacket carry sequence packet n before after × (before.faults ≤ after.faults)
+SentBy true carry sequence packet n before after = SentPacket carry sequence packet n before after × (after.faults ≡ before.faults)
 SentBy false carry sequence packet n before after = SentSome carry sequence packet before after × HasFailed before after
 
 -- over a link, which isn't asked where it had failed
@@ -47,7 +48,7 @@ SentTo carry sequence packet n before after = SentOver before.up carry sequence 
 
 -- the same of a packet that is cut so
 abbrev pub CutBy : Bool → Option Shape → ℕ → List ℕ → Known Traffic → Known Traffic → Type 0
-CutBy true cut sequence packet before after = (n : ℕ) × sending.SentPacket cut sequence packet n before after × (before.faults ≤ after.faults)
+CutBy true cut sequence packet before after = (n : ℕ) × sending.SentPacket cut sequence packet n before after × (after.faults ≡ before.faults)
 CutBy false cut sequence packet before after = sending.SentSome cut sequence packet before after × HasFailed before after
 
 abbrev pub CutOver : Bool → Option Shape → ℕ → List ℕ → Target → Target → Type 0

@@ -1,5 +1,4 @@
 use Rattle.std.proofs.Common.{sym, subst, ◌∙◌, ap, arith, refl, take, Err, ℕ, List}
-use Rattle.std.proofs.Math.Nat.{le_trans}
 use Rattle.std.proofs.lemmas.Result.{err_from_is_err_and}
 use Rattle.dcp_pft.specs.declared.carry.Carry.{Carry}
 use Rattle.drm_links.specs.declared.link.Came.TheVariants as recv
@@ -18,7 +17,7 @@ pub answers-init : goal.answers-init
 answers-init g c = (
   at_start (rules_of c.args.collector.now c.args.options.now) c.args.sender.now (Heard (g.L.Link.known c.args.from.now) (g.L.Link.known c.args.from.now)) (targets g.K.Link.known c.args.to.now) c.args.collector.now c.args.tally.now
       (heard_none (g.L.Link.known c.args.from.now)) c.requires.collector c.requires.tally c.requires.window c.requires.options.limit c.requires.options.idle c.requires.options.some_frames,
-  omega arith,
+  refl,
   c.requires.up,
   refl,
   refl,
@@ -79,7 +78,7 @@ answers-preserved-else-taken-options g c =
     let sent = i.0.sent_few in (
       datagram_more rules c.args.sender.now _ _ _ c.take.new.collector c.take.new.tally c.answers.taken step (sym c.is_full.ensures ∙ c.if-is_full.false) (omega (arith, more, other)) c.requires.options.idle
           c.in_ok-take-in-Datagram.ensures.first c.in_ok-take-in-Datagram.ensures.pace c.in_ok-take-in-Datagram.ensures.fit c.in_ok-take-in-Datagram.ensures.end (omega (arith, sent, c.in_ok-take-in-Datagram.ensures.few)),
-      le_trans i.1 c.in-Datagram.ensures.cause.later,
+      c.in-Datagram.ensures.cause.same (λ is. cc) ∙ i.1,
       c.in_ok-take-in-Datagram.ensures.up,
       c.recv.auto.buf ∙ i.3,
       c.take.ensures.carry ∙ i.4,
@@ -101,7 +100,7 @@ answers-preserved g c =
     let fewer = i.0.fewer in
     let other = c.if-idles-options.false in (
       idle_more rules c.args.sender.now (Heard (g.L.Link.known c.args.from.now) (g.L.Link.known c.answers.from)) (Heard (g.L.Link.known c.args.from.now) (g.L.Link.known c.recv.new.self)) _ _ c.answers.collector c.answers.tally c.answers.taken c.answers.idles i.0 step (omega (arith, fewer, other)),
-      le_trans i.1 c.in-Idle.ensures.cause.later,
+      c.in-Idle.ensures.cause.same (λ is. cc) ∙ i.1,
       i.2,
       c.recv.auto.buf ∙ i.3,
       i.4,
