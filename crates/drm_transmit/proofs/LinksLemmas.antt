@@ -3,10 +3,10 @@ use Rattle.std.proofs.Common.{◌≡◌, ℕ, zero, suc, ◌*◌, ◌<◌, ◌�
 use Rattle.drm_links.specs.Told.{Known, Tells}
 use Rattle.drm_links.specs.Link.{Traffic}
 use Rattle.drm_links.specs.Shelf.{Files}
-use Rattle.drm_links.specs.Dock.{DockContents}
+use Rattle.drm_links.specs.Dock.{DockContents, Over}
 use Rattle.drm_links.specs.declared.dock.Address.{Address}
 use Rattle.several_links.specs.Openings.{Docked}
-use Rattle.several_links.specs.Reaching.{Over, HaveGone, HaveLinks, AreUp, after_reaches, after_closes}
+use Rattle.several_links.specs.Reaching.{HaveGone, HaveLinks, AreUp, after_reaches, after_closes}
 use Rattle.several_links.specs.declared.member.Member.{Member}
 use Rattle.several_links.proofs.OpeningLemmas.{index_of}
 use Rattle.several_links.proofs.RunLemmas.{over_each}
@@ -49,9 +49,9 @@ module _ {S D L : Type 0} (reading : Reading Plan) (addresses : List Address) (p
       → Tells (dock_known dock) opened (λ before after. after ≡ after_reaches addresses before)
       → Docked (dock_known dock) opened (λ told. HaveLinks known told addresses members)
       → Tells opened (dock_known dock') (λ before after. (overs : List Over) → HaveGone known members' overs → after ≡ after_closes overs addresses before)
-      → (dock_known dock).faults ≤ (dock_known dock').faults
+      → (dock_known dock').faults ≡ (dock_known dock).faults
       → LinksRun reading addresses pace from ending shelf_known shelf shelf' dock_known dock dock'
-  links_run many run opens links closed later =
+  links_run many run opens links closed same =
       let many' : length members' ≡ length addresses = run.many ∙ many in
       record {
         came = run.came;
@@ -64,7 +64,7 @@ module _ {S D L : Type 0} (reading : Reading Plan) (addresses : List Address) (p
             let among : k < length members = omega (arith, within, many) in
             let there : k < length members' = omega (arith, within, many') in
             let made = gone_by (Go pace (3 * from) run.came (slice_index_or members' k d).up) known (slice_index_or members k d).link (slice_index_or members' k d).link start told (run.sent k d among) (run.calls k d among) in
-            (made.0, made.1, subst (λ b. Go pace (3 * from) run.came b start.sends made.0.gone made.0.rests) (up_at members' k d there) made.2))
+            (made.0, made.1, subst (λ b. Go pace (3 * from) run.came b start.sends made.0.gone made.0.rests) (up_at members' k d there) made.2, made.3))
             closed;
         failed = (
           λ e. let down = some_down members' (run.failed.0 e) in let less = down.1 in (down.0, omega (arith, less, many'), down.2),
@@ -75,6 +75,6 @@ module _ {S D L : Type 0} (reading : Reading Plan) (addresses : List Address) (p
               let d : Member L = (index_of members' down.0 there).0 in
               let is = sym (all down.0 d there) ∙ (up_at members' down.0 d there ∙ down.2) in absurd cc),
         );
-        later = later;
+        same = same;
         read_cause = run.read_cause;
       }

@@ -44,20 +44,22 @@ module _ {S : Type 0} (name : List ℕ) (live : Live) (first : ℕ) (shelf_known
     bytes = [];
     ended = false;
     read = record { read = Inputs-nothing (λ left rest. left ≡ [] ++ rest) input (λ left. refl); all = λ is. absurd cc };
+    same = refl;
     runs = λ more ends. all ([] ++ more);
     taken = λ whole is. absurd cc;
   }
 
   -- these bytes were, for a schedule that came
   pub was_fed : (ending : Result Bool Fault) (input input' : Known Input) (Runs : Reading Plan → Type 0) (plan : Plan) (ended : Bool) (bytes : List ℕ)
-      → ReadBy (schedule_named name) (Ok plan) (shelf_known shelf) (shelf_known shelf') → HasRead ended bytes input input'
+      → ReadBy (schedule_named name) (Ok plan) (shelf_known shelf) (shelf_known shelf') → HasRead ended bytes input input' → input'.faults ≡ input.faults
       → ((more : List ℕ) → (ended ≡ true → more ≡ []) → Runs (live_named name live first (bytes ++ more)))
       → ((whole : Bool) → ending ≡ Ok whole → (ended ≡ not whole) × AreTaken ended live plan first (first + (frame_count plan - first)) bytes)
       → FedRun name live first ending shelf_known shelf shelf' input input' Runs
-  was_fed ending input input' Runs plan ended bytes loads read runs taken = record {
+  was_fed ending input input' Runs plan ended bytes loads read same runs taken = record {
     bytes = bytes;
     ended = ended;
     read = read;
+    same = same;
     runs = runs;
     taken = λ whole is.
         let t = taken whole is in

@@ -1,6 +1,6 @@
 -- A run with live streams over links that were opened.
 use Rattle.std.proofs.Common.{◌≡◌, ℕ, ◌+◌, ◌-◌, ◌*◌, ◌≤◌, inl, inr, ◌↔◌, not, Bool, true, false, List, [], ◌∷◌, ◌++◌, length, Result, Ok, Err, IfErr, IsErr, refl, sym, ap, subst, arith}
-use Rattle.drm_links.specs.Told.{HasFailed, Known}
+use Rattle.drm_links.specs.Told.{HasFailed, HasCause, Known}
 use Rattle.drm_links.specs.Shelf.{Files}
 use Rattle.drm_links.specs.Source.{Input}
 use Rattle.drm_links.specs.Link.{Traffic}
@@ -38,30 +38,30 @@ not_down (m ∷ members) some up down = let yes : m.up ≡ true = up 0 m (omega 
 module _ {S L : Type 0} (name : List ℕ) (pace from : ℕ) (live : Live) (shelf_known : S → Known Files) (shelf shelf' : S) (known : L → Known Traffic) (members : List (Member L)) where
   -- no schedule came, and nothing was read or sent
   pub live_unsent : (fault : ScheduleFault) (input : Known Input) → AreUp members → ReadBy (schedule_named name) (Err fault) (shelf_known shelf) (shelf_known shelf')
-      → (shelf_known shelf).faults ≤ (shelf_known shelf').faults → (fault ≡ schedule.Read → HasFailed (shelf_known shelf) (shelf_known shelf'))
+      → HasCause (shelf_known shelf) (shelf_known shelf') (fault ≡ schedule.Read)
       → OverLiveLinks name pace from live (Err (fault_of_schedule fault)) shelf_known shelf shelf' input input known members members
-  live_unsent fault input up comes later rose =
+  live_unsent fault input up comes cause =
       inl (unfed name live (3 * from) shelf_known shelf shelf' (fault_of_schedule fault) input
       (λ reading. OverLinks reading pace from (Err (fault_of_schedule fault)) shelf_known shelf shelf' known members members)
       (λ bytes. unsent (live_named name live (3 * from) bytes) pace from shelf_known shelf shelf' known fault members up
-      (live_stops name live (3 * from) bytes (shelf_known shelf) (shelf_known shelf') fault comes) later rose))
+      (live_stops name live (3 * from) bytes (shelf_known shelf) (shelf_known shelf') fault comes) cause))
 
   module _ (makes : InputMakesASchedule) (plan : Plan) (valid : IsSchedule plan) (comes : ReadBy (schedule_named name) (Ok plan) (shelf_known shelf) (shelf_known shelf'))
-      (later : (shelf_known shelf).faults ≤ (shelf_known shelf').faults) (members' : List (Member L)) (many : length members' ≡ length members) (input input' : Known Input) where
+      (same : (shelf_known shelf').faults ≡ (shelf_known shelf).faults) (members' : List (Member L)) (many : length members' ≡ length members) (input input' : Known Input) where
     -- no read failed
     pub live_sent : (ending : Result Bool Fault) (whole : Bool) → 1 ≤ length members → EndsBy faults.Link (let came : Result Plan ScheduleFault = Ok plan in came) (done_of ending) → (done_of ending ≡ Err faults.Read → ⊥)
         → (done_of ending ≡ Err faults.Link) ↔ (AreUp members' → ⊥) → ((other : Bool) → ending ≡ Ok other → (other ≡ whole) × AreUp members')
-        → ServedAll live plan (3 * from) pace whole input input' known members members'
+        → ServedAll live plan (3 * from) pace whole input input' known members members' → input'.faults ≡ input.faults
         → OverLiveLinks name pace from live ending shelf_known shelf shelf' input input' known members members'
-    live_sent ending whole some ends no_read failed done served =
+    live_sent ending whole some ends no_read failed done served still =
         inl (was_fed name live (3 * from) shelf_known shelf shelf' ending input input'
-        (λ reading. OverLinks reading pace from (done_of ending) shelf_known shelf shelf' known members members') plan (not whole) served.bytes comes served.read
+        (λ reading. OverLinks reading pace from (done_of ending) shelf_known shelf shelf' known members members') plan (not whole) served.bytes comes served.read still
         (λ more last.
         let all = served.bytes ++ more in
         let shown : Plan = fed live plan (3 * from) all in
         let frames : frame_count shown ≡ frame_count plan = same_frame_count live (pieces_of live plan (3 * from) all) plan in
         sent_over (live_named name live (3 * from) all) pace from shelf_known shelf shelf' known shown (makes live plan (3 * from) all valid) (done_of ending) members members' many
-        (live_reads name live (3 * from) all (shelf_known shelf) (shelf_known shelf') plan comes) later ends no_read failed
+        (live_reads name live (3 * from) all (shelf_known shelf) (shelf_known shelf') plan comes) same ends no_read failed
         (subst (λ n. ServedEach shown (3 * from) pace (n - 3 * from) known members members') (sym frames) (served.served more last)))
         (λ other is.
         let d = done other is in (
@@ -75,7 +75,7 @@ module _ {S L : Type 0} (name : List ℕ) (pace from : ℕ) (live : Live) (shelf
     -- one did
     pub live_broken : (ending : Result Bool Fault) → EndsBrokenOver members' ending → HasFailed input input' → ServedSome live plan (3 * from) pace input input' known members members'
         → OverLiveLinks name pace from live ending shelf_known shelf shelf' input input' known members members'
-    live_broken ending ends rose served =
+    live_broken ending ends once served =
         inr (record {
           many = many;
           ends = ends;
@@ -89,7 +89,8 @@ module _ {S L : Type 0} (name : List ℕ) (pace from : ℕ) (live : Live) (shelf
             within = served.within;
             breaks = served.breaks;
             made = served.served;
-            rose = rose;
+            once = once;
+            loaded = same;
           };
         })
 
@@ -97,15 +98,15 @@ module _ {S L : Type 0} (name : List ℕ) (pace from : ℕ) (live : Live) (shelf
     Sent result = ServedLive live plan (3 * from) pace result input input' known members members'
 
     -- each link is up: it ends as the sending did
-    pub live_up : (result : Result Bool Fault) → 1 ≤ length members → AreUp members' → IfErr result (λ fault. fault ≡ faults.Read) → (IsErr result → HasFailed input input') → Sent result
+    pub live_up : (result : Result Bool Fault) → 1 ≤ length members → AreUp members' → IfErr result (λ fault. fault ≡ faults.Read) → HasCause input input' (IsErr result) → Sent result
         → OverLiveLinks name pace from live result shelf_known shelf shelf' input input' known members members'
-    live_up (Ok whole) some up kind rose sent =
-        live_sent (Ok whole) whole some (inl refl) (λ is. cc) ((λ e. cc), λ none. absurd (none up)) (λ other is. ((let same : whole ≡ other = cc in sym same), up)) sent
-    live_up (Err fault) some up kind rose sent = live_broken (Err fault) (inl (ap Err kind, up)) (rose refl) sent
+    live_up (Ok whole) some up kind cause sent =
+        live_sent (Ok whole) whole some (inl refl) (λ is. cc) ((λ e. cc), λ none. absurd (none up)) (λ other is. ((let is : whole ≡ other = cc in sym is), up)) sent (cause.same (λ failed. cc))
+    live_up (Err fault) some up kind cause sent = live_broken (Err fault) (inl (ap Err kind, up)) (cause.once refl) sent
 
     -- one isn't
-    pub live_down : (result : Result Bool Fault) → 1 ≤ length members → (AreUp members' → ⊥) → (IsErr result → HasFailed input input') → Sent result
+    pub live_down : (result : Result Bool Fault) → 1 ≤ length members → (AreUp members' → ⊥) → HasCause input input' (IsErr result) → Sent result
         → OverLiveLinks name pace from live (Err faults.Link) shelf_known shelf shelf' input input' known members members'
-    live_down (Ok whole) some down rose sent =
-        live_sent (Err faults.Link) whole some (inr refl) (λ is. cc) ((λ e. down), λ none. refl) (λ other is. absurd cc) sent
-    live_down (Err fault) some down rose sent = live_broken (Err faults.Link) (inr (refl, down)) (rose refl) sent
+    live_down (Ok whole) some down cause sent =
+        live_sent (Err faults.Link) whole some (inr refl) (λ is. cc) ((λ e. down), λ none. refl) (λ other is. absurd cc) sent (cause.same (λ failed. cc))
+    live_down (Err fault) some down cause sent = live_broken (Err faults.Link) (inr (refl, down)) (cause.once refl) sent

@@ -4,7 +4,7 @@ use Rattle.drm_links.specs.Told.{Known, Tells, WhileTold}
 use Rattle.drm_links.specs.Shelf.{Files}
 use Rattle.drm_links.specs.Source.{Input}
 use Rattle.drm_links.specs.Link.{Traffic}
-use Rattle.drm_links.specs.Dock.{DockContents}
+use Rattle.drm_links.specs.Dock.{DockContents, Over}
 use Rattle.drm_links.specs.declared.dock.Address.{Address}
 use Rattle.drm_schedule.specs.declared.live.Live.{Live}
 use Rattle.drm_schedule.specs.declared.plan.Plan.{Plan}
@@ -15,13 +15,16 @@ use Rattle.live_streams.specs.Laws.{InputMakesASchedule}
 use Rattle.live_streams.proofs.FrameLemmas.{same_frame_count}
 use Rattle.word_forms.specs.Addresses.{AreDifferent}
 use Rattle.several_links.specs.Openings.{Docked}
-use Rattle.several_links.specs.Reaching.{Over, GoesOver, HaveGone, HaveLinks, AreUp, NothingSent, after_reaches, after_closes}
+use Rattle.several_links.specs.Reaching.{GoesOver, HaveGone, HaveLinks, AreUp, NothingSent, after_reaches, after_closes}
 use Rattle.several_links.specs.declared.member.Member.{Member}
 use Rattle.several_links.proofs.OpeningLemmas.{index_of}
 use Rattle.several_links.proofs.RunLemmas.{over_each}
 use Rattle.drm_server.specs.Laws.{HasOneDelivery, FirstOnesAreFront}
 use Rattle.drm_load.specs.Loading.{Reading}
 use Rattle.drm_faults.specs.Fault.{done_of}
+use Rattle.drm_faults.specs.Causes.{OneFailed, OpeningFailed}
+use Rattle.drm_faults.proofs.CauseLemmas.{one_alone, other_alone}
+use Rattle.drm_links.proofs.ToldLemmas.{counts_as, counts_one}
 use Rattle.drm_faults.specs.declared.fault.Fault.{Fault}
 use Rattle.drm_faults.specs.declared.fault.Fault.TheVariants as faults
 use Rattle.live_server.specs.Feeding.{fed}
@@ -33,6 +36,7 @@ use Rattle.drm_transmit.proofs.OverLinksLemmas.{served_frames, frames_calls, gon
 use Rattle.drm_transmit.proofs.LinksLemmas.{ups, up_at, some_down, links_run}
 use Rattle.drm_transmit.proofs.SendLemmas.{closed, unopened, over_links, nothing_sent}
 use Rattle.drm_transmit.proofs.LiveLemmas.{unfed}
+use Rattle.drm_transmit.proofs.LiveServeLemmas.{read_of}
 
 all_ups : {L : Type 0} (members : List (Member L)) → AreUp members → (k : ℕ) → k < length members → ups members k ≡ true
 all_ups members up k there = let d = (index_of members k there).0 in sym (up_at members k d there) ∙ up k d there
@@ -77,10 +81,28 @@ module _ {S D : Type 0} (one : HasOneDelivery) (front : FirstOnesAreFront) (name
       nothing_sent one front (live_named name live (3 * from) (fed.bytes ++ [])) addresses pace from (done_of ending) shelf_known shelf shelf' dock_known dock dock' different (fed.runs [] (λ end. refl)) (ap done_of memory)
   live_nothing_sent ending input input' different (inr broken) memory = absurd (not_memory addresses broken.up ending broken.ends memory)
 
+  -- unless a link failed, a read failed, of input or of the shelf, exactly where that is told
+  pub sent_read : (ending : Result Bool Fault) (input input' : Known Input) → Ran ending input input' → (ending ≡ Err faults.Link → ⊥) → OneFailed input input' (shelf_known shelf) (shelf_known shelf') (ending ≡ Err faults.Read)
+  sent_read ending input input' (inl fed) none = other_alone fed.same (counts_as (λ e. ap done_of e) (λ e. read_of ending faults.Read e) (fed.runs [] (λ end. refl)).read_cause)
+  sent_read ending input input' (inr broken) none = one_alone (counts_one (elim broken.ends [ inl read ↦ read.0 | inr link ↦ absurd (none link.0) ]) broken.run.once) broken.run.loaded
+
+  -- no load failed where one did
+  pub sent_unread : (ending : Result Bool Fault) (input input' : Known Input) → Ran ending input input' → ending ≡ Err faults.Link → (shelf_known shelf').faults ≡ (shelf_known shelf).faults
+  sent_unread ending input input' (inl fed) link = (fed.runs [] (λ end. refl)).read_cause.same (λ e. let both = sym link ∙ read_of ending faults.Read e in cc)
+  sent_unread ending input input' (inr broken) link = broken.run.loaded
+
+  -- the dock's count of faults rose only where an opening failed
+  pub sent_dock : (ending : Result Bool Fault) (input input' : Known Input) → Ran ending input input' → OpeningFailed (dock_known dock) (dock_known dock') (ending ≡ Err faults.Link)
+  sent_dock ending input input' (inl fed) = elim (fed.runs [] (λ end. refl)).dock_cause [
+    | inl same ↦ inl same
+    | inr failed ↦ inr (read_of ending faults.Link failed.0, failed.1)
+  ]
+  sent_dock ending input input' (inr broken) = inl broken.same
+
   module _ {L : Type 0} (makes : InputMakesASchedule) (different : AreDifferent addresses) (opened : Known DockContents) (known : L → Known Traffic) (members members' : List (Member L)) (many : length members ≡ length addresses)
       (opens : Tells (dock_known dock) opened (λ before after. after ≡ after_reaches addresses before)) (links : Docked (dock_known dock) opened (λ told. HaveLinks known told addresses members))
       (shut : Tells opened (dock_known dock') (λ before after. (overs : List Over) → HaveGone known members' overs → after ≡ after_closes overs addresses before))
-      (later : (dock_known dock).faults ≤ (dock_known dock').faults) (input input' : Known Input) where
+      (same_dock : (dock_known dock').faults ≡ (dock_known dock).faults) (input input' : Known Input) where
     -- over each link n frames of this schedule went
     went : (plan : Plan) (n : ℕ) → length members' ≡ length members → IsSchedule plan → n ≤ frame_count plan → ServedEach plan (3 * from) pace n known members members'
         → Tells (dock_known dock) (dock_known dock') (GoesOver (λ k start over. GoFrames pace (3 * from) n plan (ups members' k) start.sends over.gone over.rests) addresses)
@@ -95,7 +117,7 @@ module _ {S D : Type 0} (one : HasOneDelivery) (front : FirstOnesAreFront) (name
         let made = gone_by (GoFrames pace (3 * from) n plan m'.up) known m.link m'.link start told
         (served_frames plan (3 * from) pace n m'.up (known m.link) (known m'.link) (served k d among))
         (frames_calls plan (3 * from) pace n m'.up (known m.link) (known m'.link) valid.in_lines.few_frames few (served k d among)) in
-        (made.0, made.1, subst (λ b. GoFrames pace (3 * from) n plan b start.sends made.0.gone made.0.rests) (up_at members' k d there) made.2))
+        (made.0, made.1, subst (λ b. GoFrames pace (3 * from) n plan b start.sends made.0.gone made.0.rests) (up_at members' k d there) made.2, made.3))
         shut
 
     pub live_over : (ending : Result Bool Fault) → OverLiveLinks name pace from live ending shelf_known shelf shelf' input input' known members members' → Ran ending input input'
@@ -106,7 +128,8 @@ module _ {S D : Type 0} (one : HasOneDelivery) (front : FirstOnesAreFront) (name
       runs = λ more last.
           let reading = live_named name live (3 * from) (fed.bytes ++ more) in
           over_links one front reading addresses pace from (done_of ending) shelf_known shelf shelf' dock_known dock dock' different
-          (links_run reading addresses pace from (done_of ending) shelf_known shelf shelf' dock_known dock dock' opened known members members' many (fed.runs more last) opens links shut later);
+          (links_run reading addresses pace from (done_of ending) shelf_known shelf shelf' dock_known dock dock' opened known members members' many (fed.runs more last) opens links shut same_dock);
+      same = fed.same;
       taken = fed.taken;
     })
     live_over ending (inr broken) =
@@ -115,6 +138,7 @@ module _ {S D : Type 0} (one : HasOneDelivery) (front : FirstOnesAreFront) (name
         inr (record {
           up = ups members';
           ends = ends_of addresses members' ending (broken.many ∙ many) broken.ends;
+          same = same_dock;
           run = record {
             plan = run.plan;
             loads = run.loads;
@@ -129,6 +153,7 @@ module _ {S D : Type 0} (one : HasOneDelivery) (front : FirstOnesAreFront) (name
                 let shown : Plan = fed live run.plan (3 * from) bytes in
                 let frames : frame_count shown ≡ frame_count run.plan = same_frame_count live (pieces_of live run.plan (3 * from) bytes) run.plan in
                 went shown run.n broken.many (makes live run.plan (3 * from) bytes run.sound) (omega (arith, less, frames)) (run.made more last);
-            rose = run.rose;
+            once = run.once;
+            loaded = run.loaded;
           };
         })

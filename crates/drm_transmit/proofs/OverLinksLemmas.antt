@@ -1,18 +1,19 @@
 -- A run over links, by how it ends.
 use Rattle.std.proofs.Common.{◌≡◌, ℕ, ◌+◌, ◌-◌, ◌*◌, ◌<◌, ◌≤◌, ◌↔◌, Bool, true, false, List, [], ◌∷◌, ◌++◌, length, slice_index_or, Option, None, Some, Result, Ok, Err, refl, ◌∙◌, ap, subst, arith, append_assoc}
 use Rattle.drm_server.specs.Rests.{calls_of_frame}
-use Rattle.drm_links.specs.Told.{HasFailed, Known, ToldThrough}
-use Rattle.drm_links.specs.Dock.{LinkStart, first_traffic}
+use Rattle.drm_links.specs.Told.{HasCause, Known, ToldThrough}
+use Rattle.drm_links.specs.Dock.{LinkStart, Over, first_traffic}
 use Rattle.drm_links.specs.Link.{Traffic, rests_of}
 use Rattle.drm_links.specs.Shelf.{Files}
 use Rattle.drm_links.specs.ManyCalls.{MakesCalls, CountsMany}
 use Rattle.drm_links.specs.Transmission.{Transmits, SendsAll, Waits, since, still}
+use Rattle.drm_links.proofs.ToldLemmas.{counts_none, counts_as}
 use Rattle.drm_links.proofs.TransmissionLemmas.{Transmits-weaker, Transmits-both, Transmits-nothing, Transmits-no_wait}
 use Rattle.drm_links.proofs.ManyCallsLemmas.{no_calls, at_most}
 use Rattle.drm_schedule.specs.declared.plan.Plan.{Plan}
 use Rattle.drm_schedule.specs.Valid.{IsSchedule}
 use Rattle.drm_timeline.specs.Numbers.{frame_count}
-use Rattle.several_links.specs.Reaching.{Over, HasGone, AreUp}
+use Rattle.several_links.specs.Reaching.{HasGone, AreUp}
 use Rattle.several_links.specs.declared.member.Member.{Member}
 use Rattle.drm_server.specs.Sending.{SendsPart}
 use Rattle.drm_server.specs.Several.{ServedBy, Served}
@@ -25,7 +26,7 @@ use Rattle.drm_load.specs.Loading.{Reading, ReadBy}
 use Rattle.drm_transmit.specs.ScheduleRun.{EndsBy}
 use Rattle.drm_transmit.specs.Send.{GoFrames}
 use Rattle.drm_transmit.specs.OverLinks.{OverLinks, GoesBy, GoOver, most_calls}
-use Rattle.drm_transmit.proofs.ScheduleRunLemmas.{is_read}
+use Rattle.drm_transmit.proofs.ScheduleRunLemmas.{is_read, read_is}
 
 not_link : (fault : ScheduleFault) → (let ended : Result (Unit {0}) Fault = Err (fault_of_schedule fault) in ended ≡ Err Link) → ⊥
 not_link schedule.NoMemory is = cc
@@ -58,10 +59,10 @@ pub served_frames : (plan : Plan) (first pace n : ℕ) (up : Bool) (a b : Known 
 served_frames plan first pace n true a b served =
     Transmits-weaker (λ x y. SendsAll served.datagrams x y × Waits served.waits 0 x y) (GoesBy (GoFrames pace first n plan true)) a b
     (Transmits-both (SendsAll served.datagrams) (Waits served.waits 0) a b served.sent served.waited)
-    (λ x y both. (served.datagrams, served.waits ++ 0 ∷ [], (served.are, both.0.taken, served.waits, served.paced, refl), both.0.gone, rests_after served.waits 0 x y both.1))
+    (λ x y both. (served.datagrams, served.waits ++ 0 ∷ [], (served.are, both.0.taken, served.waits, served.paced, refl), both.0.gone, rests_after served.waits 0 x y both.1, both.0.kept.answers))
 served_frames plan first pace n false a b served =
     Transmits-weaker (SendsPart plan first pace) (GoesBy (GoFrames pace first n plan false)) a b served.part
-    (λ x y part. (part.1, part.4 ++ part.5 ∷ [], (part.0, part.2, part.3.no_more, part.6), part.3.gone, rests_after part.4 part.5 x y part.7))
+    (λ x y part. (part.1, part.4 ++ part.5 ∷ [], (part.0, part.2, part.3.no_more, part.6), part.3.gone, rests_after part.4 part.5 x y part.7, part.3.kept.answers))
 
 pub frames_calls : (plan : Plan) (first pace n : ℕ) (up : Bool) (a b : Known Traffic) → plan.length ≤ 1000000 → n ≤ frame_count plan → ServedBy up plan first pace n a b → MakesCalls (λ (t : Traffic). t.calls) most_calls a b
 frames_calls plan first pace n true a b few within served = few_calls plan n a b few within served.calls
@@ -70,26 +71,31 @@ frames_calls plan first pace n false a b few within served = few_calls plan (fra
 -- a link that was just opened tells at the end
 pub gone_by : {L : Type 0} (P : Option ℕ → List (List ℕ) → List ℕ → Type 0) (known : L → Known Traffic) (link link' : L) (start : LinkStart) → (known link).told ≡ Some (first_traffic start)
     → Transmits (known link) (known link') (GoesBy P) → MakesCalls (λ (t : Traffic). t.calls) most_calls (known link) (known link')
-    → (over : Over) × HasGone known link' over × P start.sends over.gone over.rests
+    → (over : Over) × HasGone known link' over × P start.sends over.gone over.rests × (over.answers ≡ [])
 gone_by P known link link' start told sent calls =
     let Q : Option Traffic → Type 0 = λ t. ToldThrough t (known link').told (GoesBy P) in
     let R : Option Traffic → Type 0 = λ t. CountsMany (λ (t : Traffic). t.calls) most_calls t (known link').told in
     by_last (known link').told refl (subst Q told sent) (subst R told calls)
   where
     by_last : (last : Option Traffic) → (known link').told ≡ last → ToldThrough (Some (first_traffic start)) last (GoesBy P) → CountsMany (λ (t : Traffic). t.calls) most_calls (Some (first_traffic start)) last
-        → (over : Over) × HasGone known link' over × P start.sends over.gone over.rests
+        → (over : Over) × HasGone known link' over × P start.sends over.gone over.rests × (over.answers ≡ [])
     by_last None is sent calls = absurd (omega (arith, calls))
     by_last (Some traffic) is sent calls =
-        (record { gone = sent.0; rests = sent.1 }, (traffic, is, sent.3, sent.4 ∙ since_none sent.1), sent.2)
+        let rested = sent.4 ∙ since_none sent.1 in (
+          record { answers = []; gone = sent.0; rests = sent.1 },
+          (traffic, is, λ i. record { answers = sent.5 i; gone = sent.3 i; rests = rested i }),
+          sent.2,
+          refl,
+        )
 
 -- ---- the whole run
 
 module _ {S L : Type 0} (reading : Reading Plan) (pace from : ℕ) (shelf_known : S → Known Files) (shelf shelf' : S) (link_known : L → Known Traffic) where
   -- no schedule came, and nothing was sent
   pub unsent : (fault : ScheduleFault) (members : List (Member L)) → AreUp members → ReadBy reading (Err fault) (shelf_known shelf) (shelf_known shelf')
-      → (shelf_known shelf).faults ≤ (shelf_known shelf').faults → (fault ≡ schedule.Read → HasFailed (shelf_known shelf) (shelf_known shelf'))
+      → HasCause (shelf_known shelf) (shelf_known shelf') (fault ≡ schedule.Read)
       → OverLinks reading pace from (Err (fault_of_schedule fault)) shelf_known shelf shelf' link_known members members
-  unsent fault members up comes later rose = record {
+  unsent fault members up comes cause = record {
     came = Err fault;
     loads = comes;
     sound = tt;
@@ -98,22 +104,22 @@ module _ {S L : Type 0} (reading : Reading Plan) (pace from : ℕ) (shelf_known 
         let a = link_known (slice_index_or members k d).link in
         Transmits-weaker (λ x y. SendsAll [] x y × Waits [] 0 x y) (GoOver pace (3 * from) (Err fault) (slice_index_or members k d).up) a a
         (Transmits-both (SendsAll []) (Waits [] 0) a a (Transmits-nothing a) (Transmits-no_wait a))
-        (λ x y none. ([], 0 ∷ [], (refl, refl), none.0.gone, rests_after [] 0 x y none.1));
+        (λ x y none. ([], 0 ∷ [], (refl, refl), none.0.gone, rests_after [] 0 x y none.1, none.0.kept.answers));
     calls = λ k d within.
         let a = link_known (slice_index_or members k d).link in
         at_most (λ (t : Traffic). t.calls) 0 most_calls a a (omega arith) (no_calls (λ (t : Traffic). t.calls) a);
     many = refl;
     failed = (λ e. absurd (not_link fault e), λ none. absurd (none up));
-    read_cause = record { later = later; rose = λ is. rose (is_read fault is) };
+    read_cause = counts_as (is_read fault) (read_is fault) cause;
   }
 
   -- its datagrams were sent
   pub sent_over : (plan : Plan) → IsSchedule plan → (ending : Result (Unit {0}) Fault) (members members' : List (Member L)) → length members' ≡ length members
-      → ReadBy reading (Ok plan) (shelf_known shelf) (shelf_known shelf') → (shelf_known shelf).faults ≤ (shelf_known shelf').faults
+      → ReadBy reading (Ok plan) (shelf_known shelf) (shelf_known shelf') → (shelf_known shelf').faults ≡ (shelf_known shelf).faults
       → EndsBy Link (Ok plan) ending → (ending ≡ Err Read → ⊥) → (ending ≡ Err Link) ↔ (AreUp members' → ⊥)
       → ((k : ℕ) (d : Member L) → k < length members → Served plan (3 * from) pace (frame_count plan - 3 * from) link_known (link_known (slice_index_or members k d).link) (slice_index_or members' k d))
       → OverLinks reading pace from ending shelf_known shelf shelf' link_known members members'
-  sent_over plan valid ending members members' many comes later ends no_read failed served = record {
+  sent_over plan valid ending members members' many comes same ends no_read failed served = record {
     came = Ok plan;
     loads = comes;
     sound = valid;
@@ -123,5 +129,5 @@ module _ {S L : Type 0} (reading : Reading Plan) (pace from : ℕ) (shelf_known 
         frames_calls plan (3 * from) pace (frame_count plan - 3 * from) (slice_index_or members' k d).up (link_known (slice_index_or members k d).link) (link_known (slice_index_or members' k d).link) valid.in_lines.few_frames (omega arith) (served k d within);
     many = many;
     failed = failed;
-    read_cause = record { later = later; rose = λ is. absurd (no_read is) };
+    read_cause = counts_none no_read same;
   }

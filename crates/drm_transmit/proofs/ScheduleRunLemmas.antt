@@ -3,7 +3,7 @@ use Rattle.std.proofs.Common.{◌≡◌, ℕ, ◌≤◌, ◌⊎◌, inl, inr, Li
 use Rattle.drm_links.specs.Told.{HasFailed, Known, HasCause}
 use Rattle.drm_links.specs.Shelf.{Files, Supplies}
 use Rattle.drm_links.specs.Sink.{Output, Outputs}
-use Rattle.drm_links.proofs.ToldLemmas.{Tells-weaker}
+use Rattle.drm_links.proofs.ToldLemmas.{Tells-weaker, counts_one, counts_none, counts_as}
 use Rattle.drm_faults.specs.declared.fault.Fault.{Fault}
 use Rattle.drm_faults.specs.declared.fault.Fault.TheVariants.{NoMemory, Words, FacLength, FacOver, FacCrc, Schedule, Script, Capture, CaptureTooLong, PacketSize, Units, Read, Write, Link}
 use Rattle.drm_load.specs.declared.loading.ScheduleFault.{ScheduleFault}
@@ -85,7 +85,7 @@ module _ {T S O : Type 0} (reading : Reading T) (is_sound : T → Type 0) (whole
         | inl memory ↦ inl (ends_memory Write came ending ends memory)
         | inr same ↦ inr (
             let P : Result T ScheduleFault → Type 0 = λ v. WritesCame whole front v ending out_known out out' in
-            all_written whole front x ending out_known out out' (subst P (same ∙ gives) writes) (λ e. no_write (write_cause.rose e)))
+            all_written whole front x ending out_known out out' (subst P (same ∙ gives) writes) (λ e. no_write (write_cause.once e)))
       ])
 
 -- ---- the run, by how it ends
@@ -94,6 +94,9 @@ pub is_read : (fault : ScheduleFault) → (let ended : Result (Unit {0}) Fault =
 is_read schedule.NoMemory is = cc
 is_read (schedule.Line l r) is = cc
 is_read schedule.Read is = refl
+
+pub read_is : (fault : ScheduleFault) → fault ≡ schedule.Read → (let ended : Result (Unit {0}) Fault = Err (fault_of_schedule fault) in ended ≡ Err Read)
+read_is fault is = ap (λ f. Err (fault_of_schedule f)) is
 
 not_write : (fault : ScheduleFault) → (let ended : Result (Unit {0}) Fault = Err (fault_of_schedule fault) in ended ≡ Err Write) → ⊥
 not_write schedule.NoMemory is = cc
@@ -118,16 +121,16 @@ module _ {T S O : Type 0} (reading : Reading T) (is_sound : T → Type 0) (whole
 
   -- nothing was read, and nothing is written
   pub refused_run : (fault : ScheduleFault) (out : O) → ReadBy reading (Err fault) (shelf_known shelf) (shelf_known shelf')
-      → (shelf_known shelf).faults ≤ (shelf_known shelf').faults → (fault ≡ schedule.Read → HasFailed (shelf_known shelf) (shelf_known shelf'))
+      → HasCause (shelf_known shelf) (shelf_known shelf') (fault ≡ schedule.Read)
       → ScheduleRun reading is_sound whole front (Err (fault_of_schedule fault)) shelf_known shelf shelf' out_known out out
-  refused_run fault out comes later rose =
+  refused_run fault out comes cause =
       run_by (Err (fault_of_schedule fault)) out out (Err fault) comes tt (refl, refl)
-      (record { later = later; rose = λ is. rose (is_read fault is) }) (record { later = omega arith; rose = λ is. absurd (not_write fault is) })
+      (counts_as (is_read fault) (read_is fault) cause) (counts_none (not_write fault) refl)
 
-  module _ (x : T) (sound : is_sound x) (comes : ReadBy reading (Ok x) (shelf_known shelf) (shelf_known shelf')) (later : (shelf_known shelf).faults ≤ (shelf_known shelf').faults) (out out' : O) (later' : (out_known out).faults ≤ (out_known out').faults) where
+  module _ (x : T) (sound : is_sound x) (comes : ReadBy reading (Ok x) (shelf_known shelf) (shelf_known shelf')) (same : (shelf_known shelf').faults ≡ (shelf_known shelf).faults) (out out' : O) where
     -- a write failed
     pub cut_run : Outputs (out_known out) (out_known out') (front x) → HasFailed (out_known out) (out_known out') → ScheduleRun reading is_sound whole front (Err Write) shelf_known shelf shelf' out_known out out'
-    cut_run written rose = run_by (Err Write) out out' (Ok x) comes sound written (record { later = later; rose = λ is. cc }) (record { later = later'; rose = λ is. rose })
+    cut_run written once = run_by (Err Write) out out' (Ok x) comes sound written (counts_none (λ is. cc) same) (counts_one refl once)
 
-    pub whole_run : Outputs (out_known out) (out_known out') (whole x) → ScheduleRun reading is_sound whole front (Ok tt) shelf_known shelf shelf' out_known out out'
-    whole_run written = run_by (Ok tt) out out' (Ok x) comes sound written (record { later = later; rose = λ is. cc }) (record { later = later'; rose = λ is. cc })
+    pub whole_run : Outputs (out_known out) (out_known out') (whole x) → (out_known out').faults ≡ (out_known out).faults → ScheduleRun reading is_sound whole front (Ok tt) shelf_known shelf shelf' out_known out out'
+    whole_run written still = run_by (Ok tt) out out' (Ok x) comes sound written (counts_none (λ is. cc) same) (counts_none (λ is. cc) still)

@@ -3,14 +3,14 @@ use Rattle.std.proofs.Common.{◌≡◌, ℕ, ◌+◌, ◌*◌, ◌<◌, ◌⊎�
 use Rattle.std.specs.FinMap as map
 use Rattle.drm_links.specs.Told.{Known, WhileTold, Tells}
 use Rattle.drm_links.specs.Shelf.{Files, Supplies}
-use Rattle.drm_links.specs.Dock.{DockContents, LinkStart, address_key, start_at}
+use Rattle.drm_links.specs.Dock.{DockContents, LinkStart, Over, address_key, start_at}
 use Rattle.drm_links.specs.Transmission.{TakesSends, TakesFewer}
 use Rattle.drm_links.specs.declared.dock.Address.{Address}
-use Rattle.drm_links.proofs.ToldLemmas.{Tells-weaker, Tells-nothing}
+use Rattle.drm_links.proofs.ToldLemmas.{Tells-weaker, Tells-nothing, counts_none}
 use Rattle.drm_schedule.specs.declared.plan.Plan.{Plan}
 use Rattle.word_forms.specs.Addresses.{AreDifferent}
 use Rattle.several_links.specs.Openings.{Finds, FindsNone}
-use Rattle.several_links.specs.Reaching.{Over, nothing, ReachesNone, ReachesFew, GoesOver, NothingSent, after_reaches}
+use Rattle.several_links.specs.Reaching.{nothing, ReachesNone, ReachesFew, GoesOver, NothingSent, after_reaches}
 use Rattle.several_links.proofs.OpeningLemmas.{docks_while}
 use Rattle.several_links.proofs.RunLemmas as several
 use Rattle.drm_server.specs.Datagrams.{AreDatagrams, AreBefore}
@@ -132,6 +132,8 @@ module _ {S D : Type 0} (one : HasOneDelivery) (front : FirstOnesAreFront) (read
         both x few.k (slice_index_or addresses few.k no_address) there.0 (few.fails no_address) there.1));
     alike = λ e. absurd (let other = sym run.fault ∙ e in cc);
     exactly = λ none. absurd (none run.fault);
+    dock_cause = inr (run.fault, run.once);
+    read_cause = counts_none (λ is. let other = sym run.fault ∙ is in cc) (ap (λ s. (shelf_known s).faults) run.unread);
   }
 
   pub unopened : UnopenedRun ending shelf shelf' dock dock' → SendRun reading addresses pace from ending shelf_known shelf shelf' dock_known dock dock'
@@ -143,6 +145,8 @@ module _ {S D : Type 0} (one : HasOneDelivery) (front : FirstOnesAreFront) (read
     done = untold _ (λ x. unread _ run.unread (λ files plan datagrams gives are takes. inl run.fault));
     alike = λ e. absurd (let other = sym run.fault ∙ e in cc);
     exactly = λ none. unread _ run.unread (λ files. inl run.fault);
+    dock_cause = inl (ap (λ d. (dock_known d).faults) run.unopened);
+    read_cause = counts_none (λ is. let other = sym run.fault ∙ is in cc) (ap (λ s. (shelf_known s).faults) run.unread);
   }
     where
       untold : (P : DockContents → DockContents → Type 0) → ((x : DockContents) → P x x) → Tells (dock_known dock) (dock_known dock') P
@@ -248,6 +252,8 @@ module _ {S D : Type 0} (one : HasOneDelivery) (front : FirstOnesAreFront) (read
           (done_gone e x y over came.0 came.1 j first) (done_gone e x y over came.0 came.1 k second))
           ∙ sym (gone_by x y over k at second)));
       exactly = λ none. ends_exactly faults.Link reading run.came ending (shelf_known shelf) (shelf_known shelf') run.loads run.ends;
+      dock_cause = inl run.same;
+      read_cause = run.read_cause;
     }
 
     none_sent : ending ≡ Err faults.NoMemory → WhileTold (dock_known dock) (dock_known dock') NothingSent

@@ -36,13 +36,14 @@ pub record FedRun {S : Type 0} (name : List ℕ) (live : Live) (first : ℕ) (en
   pub bytes : List ℕ
   pub ended : Bool
   pub read : HasRead ended bytes input input'
+  pub same : input'.faults ≡ input.faults
   pub runs : (more : List ℕ) → (ended ≡ true → more ≡ []) → Runs (live_named name live first (bytes ++ more))
   -- After a run that is done these are the pieces of all frames from there on, or, where some frame lacks its piece, all that input had.
   pub taken : (whole : Bool) → ending ≡ Ok whole
       → Supplies (shelf_known shelf) (shelf_known shelf') (λ files _. (plan : Plan) → (schedule_named name files).came ≡ Ok plan
       → (ended ≡ not whole) × AreTaken ended live plan first (first + (frame_count plan - first)) bytes)
 
--- A run that a failed read broke off, within the piece of the frame behind n others, of which `Made` holds.
+-- A run that a failed read of input broke off, within the piece of the frame behind n others, of which `Made` holds. No load failed.
 pub record BrokenRun {S : Type 0} (name : List ℕ) (live : Live) (first : ℕ) (shelf_known : S → Known Files) (shelf shelf' : S)
     (input input' : Known Input) (Made : Plan → ℕ → Type 0) : Type 0 where
   pub plan : Plan
@@ -54,7 +55,8 @@ pub record BrokenRun {S : Type 0} (name : List ℕ) (live : Live) (first : ℕ) 
   pub within : first + n < frame_count plan
   pub breaks : BreaksOff live plan first (first + n) bytes
   pub made : OfEach false live plan first bytes (λ p. Made p n)
-  pub rose : HasFailed input input'
+  pub once : HasFailed input input'
+  pub loaded : (shelf_known shelf').faults ≡ (shelf_known shelf).faults
 
 -- A run of `serve` to out: it writes the capture of the schedule that input makes, from super frame `from` on; or, where a read fails,
 -- that of the frames before.
@@ -78,6 +80,8 @@ pub record BrokenSend {S D : Type 0} (name : List ℕ) (addresses : List Address
   -- which links didn't fail
   pub up : ℕ → Bool
   pub ends : EndsBroken addresses up ending
+  -- no opening failed
+  pub same : (dock_known dock').faults ≡ (dock_known dock).faults
   pub run : BrokenRun name live (3 * from) shelf_known shelf shelf' input input' (λ p n. Tells (dock_known dock) (dock_known dock')
       (GoesOver (λ k start over. GoFrames pace (3 * from) n p (up k) start.sends over.gone over.rests) addresses))
 

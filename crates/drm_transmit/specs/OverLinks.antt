@@ -17,11 +17,12 @@ use Rattle.drm_load.specs.declared.loading.ScheduleFault.{ScheduleFault}
 use Rattle.drm_faults.specs.declared.fault.Fault.{Fault}
 use Rattle.drm_faults.specs.declared.fault.Fault.TheVariants as faults
 
--- Some datagrams went over a link, with some rests, of which P holds and of how many sends it takes.
+-- Some datagrams went over a link, with some rests, of which P holds and of how many sends it takes, and nothing was received on it.
 abbrev pub GoesBy : (Option ℕ → List (List ℕ) → List ℕ → Type 0) → Traffic → Traffic → Type 0
 GoesBy P before after =
     (gone : List (List ℕ)) × (rests : List ℕ) × P before.sends gone rests
     × (after.gone ≡ before.gone ++ gone) × (rests_of after ≡ before.waits ++ since before.waiting rests)
+    × (after.answers ≡ before.answers)
 
 -- as is called for where it is up in the end or not
 abbrev pub GoOver : ℕ → ℕ → Result Plan ScheduleFault → Bool → Traffic → Traffic → Type 0

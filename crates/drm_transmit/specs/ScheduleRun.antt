@@ -40,6 +40,6 @@ pub record ScheduleRun {T S O : Type 0} (reading : Reading T) (is_sound : T → 
   pub complete : (HasFailed (out_known out) (out_known out') → ⊥)
       → Supplies (shelf_known shelf) (shelf_known shelf') (λ before _. (x : T) → (reading before).came ≡ Ok x
       → UnlessMemory ending ((ending ≡ Ok tt) × Outputs (out_known out) (out_known out') (whole x)))
-  -- The faults of the outside come only where its count of faults rose.
+  -- A count of faults rose, by one, exactly where a load or a write ended the run.
   pub read_cause : HasCause (shelf_known shelf) (shelf_known shelf') (ending ≡ Err Read)
   pub write_cause : HasCause (out_known out) (out_known out') (ending ≡ Err Write)

@@ -16,6 +16,7 @@ use Rattle.drm_server.specs.Rests.{ArePaced}
 use Rattle.drm_load.specs.Loading.{Reading, ReadBy}
 use Rattle.drm_transmit.specs.ScheduleRun.{EndsBy}
 use Rattle.drm_faults.specs.Fault.{UnlessMemory}
+use Rattle.drm_faults.specs.Causes.{OpeningFailed}
 use Rattle.drm_load.specs.declared.loading.ScheduleFault.{ScheduleFault}
 use Rattle.drm_faults.specs.declared.fault.Fault.{Fault}
 use Rattle.drm_faults.specs.declared.fault.Fault.TheVariants as faults
@@ -58,7 +59,7 @@ pub record ClosedRun {S D : Type 0} (addresses : List Address) (ending : Result 
   pub fault : ending ≡ Err faults.Link
   pub unread : shelf' ≡ shelf
   pub told : Tells (dock_known dock) (dock_known dock') (ReachesFew addresses)
-  pub rose : HasFailed (dock_known dock) (dock_known dock')
+  pub once : HasFailed (dock_known dock) (dock_known dock')
 
 -- A run whose links were opened, before the schedule was read, and closed at the end.
 pub record LinksRun {S D : Type 0} (reading : Reading Plan) (addresses : List Address) (pace from : ℕ) (ending : Result (Unit {0}) Fault)
@@ -77,8 +78,8 @@ pub record LinksRun {S D : Type 0} (reading : Reading Plan) (addresses : List Ad
   pub told : Tells (dock_known dock) (dock_known dock')
       (GoesOver (λ k start over. Go pace (3 * from) came (up k) start.sends over.gone over.rests) addresses)
   pub failed : (ending ≡ Err faults.Link) ↔ ((k : ℕ) × (k < length addresses) × (up k ≡ false))
-  pub later : (dock_known dock).faults ≤ (dock_known dock').faults
-  -- A load fails only where the shelf's count of faults rose.
+  -- No opening failed. The shelf's count of faults rose, by one, exactly where a load ended the run.
+  pub same : (dock_known dock').faults ≡ (dock_known dock).faults
   pub read_cause : HasCause (shelf_known shelf) (shelf_known shelf') (ending ≡ Err faults.Read)
 
 -- A run for which there was no memory before the first opening.
@@ -119,3 +120,6 @@ pub record SendRun {S D : Type 0} (reading : Reading Plan) (addresses : List Add
   -- one is to fail.
   pub exactly : (ending ≡ Err faults.Link → ⊥)
       → Supplies (shelf_known shelf) (shelf_known shelf') (λ files _. UnlessMemory ending (EndsBy faults.Link (reading files).came ending))
+  -- The dock's count of faults rose, by one, only where an opening ended the run, and that of the shelf exactly where a load did.
+  pub dock_cause : OpeningFailed (dock_known dock) (dock_known dock') (ending ≡ Err faults.Link)
+  pub read_cause : HasCause (shelf_known shelf) (shelf_known shelf') (ending ≡ Err faults.Read)

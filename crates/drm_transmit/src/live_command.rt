@@ -1,9 +1,10 @@
 //! The command `serve` with live streams.
 
-ghost use Rattle.std.specs.Prelude.{◌≡◌, ◌≤◌, ◌⊎◌, length, IsErrOf};
-ghost use Rattle.drm_links.specs.Told.{HasCause, HasFailed, WhileTold};
+ghost use Rattle.std.specs.Prelude.{◌≡◌, ◌≤◌, length, IsErrOf};
+ghost use Rattle.drm_links.specs.Told.{HasCause, WhileTold};
 ghost use Rattle.word_forms.specs.Addresses.{AreDifferent};
 ghost use Rattle.several_links.specs.Reaching.{AreUp, NothingSent};
+ghost use Rattle.drm_faults.specs.Causes.{OneFailed, OpeningFailed};
 ghost use Rattle.drm_transmit.specs.Live.{LiveServeRun, LiveSendRun};
 ghost use Rattle.drm_transmit.specs.OverLiveLinks.{OverLiveLinks};
 
@@ -36,8 +37,8 @@ pub fn serve_live<S: Shelf, I: Source, O: Sink>(
     ensures link { IsErrOf result Fault.Link → ⊥ }
     ensures words { IsErrOf result Fault.Words → ⊥ }
     ensures memory { IsErrOf result Fault.NoMemory → (input.new ≡ input.old) × (out.new ≡ out.old) }
-    ensures read { IsErrOf result Fault.Read → HasFailed (I.known input.old) (I.known input.new)
-        ⊎ HasFailed (S.known shelf.old) (S.known shelf.new) }
+    ensures read { OneFailed (I.known input.old) (I.known input.new) (S.known shelf.old) (S.known shelf.new)
+        (IsErrOf result Fault.Read) }
     ensures write { HasCause (O.known out.old) (O.known out.new) (IsErrOf result Fault.Write) }
 {
     input_makes_a_schedule();
@@ -70,8 +71,11 @@ pub fn send_live<S: Shelf, I: Source, D: Dock>(
     ensures memory { IsErrOf result Fault.NoMemory → input.new ≡ input.old }
     ensures unsent { IsErrOf result Fault.NoMemory
         → WhileTold (D.known dock.old) (D.known dock.new) NothingSent }
-    ensures read { IsErrOf result Fault.Read → HasFailed (I.known input.old) (I.known input.new)
-        ⊎ HasFailed (S.known shelf.old) (S.known shelf.new) }
+    // A failed link is told before a failed read of input.
+    ensures read { (IsErrOf result Fault.Link → ⊥) → OneFailed (I.known input.old) (I.known input.new)
+        (S.known shelf.old) (S.known shelf.new) (IsErrOf result Fault.Read) }
+    ensures unread { IsErrOf result Fault.Link → (S.known shelf.new).faults ≡ (S.known shelf.old).faults }
+    ensures opening { OpeningFailed (D.known dock.old) (D.known dock.new) (IsErrOf result Fault.Link) }
     ensures words { IsErrOf result Fault.Words → ⊥ }
     ensures write { IsErrOf result Fault.Write → ⊥ }
 {
@@ -108,8 +112,6 @@ fn send_live_over<S: Shelf, I: Source, L: Link>(
         (I.known input.old) (I.known input.new) L.known members.old members.new }
     ensures many { length members.new ≡ length members.old }
     ensures memory { IsErrOf result Fault.NoMemory → input.new ≡ input.old }
-    ensures read { IsErrOf result Fault.Read → HasFailed (I.known input.old) (I.known input.new)
-        ⊎ HasFailed (S.known shelf.old) (S.known shelf.new) }
     ensures words { IsErrOf result Fault.Words → ⊥ }
     ensures write { IsErrOf result Fault.Write → ⊥ }
 {

@@ -1,12 +1,14 @@
-use Rattle.std.proofs.Common.{◌≡◌, ◌++◌, List, take, drop, length, vec_len, refl, arith, ap, sym, ◌∙◌, subst, Err}
+use Rattle.std.proofs.Common.{◌≡◌, ◌++◌, List, take, drop, length, vec_len, refl, ap, sym, ◌∙◌, subst, inl, inr, Err}
 use Rattle.std.proofs.lemmas.List.{take_at}
 use Rattle.drm_links.specs.Told.{Tells}
+use Rattle.drm_faults.proofs.CauseLemmas.{none_failed}
 use Rattle.drm_faults.specs.declared.fault.Fault.TheVariants as faults
 use Rattle.several_links.specs.Openings.{Docked}
-use Rattle.several_links.specs.Reaching.{Over, HaveGone, HaveLinks, after_closes}
+use Rattle.drm_links.specs.Dock.{Over}
+use Rattle.several_links.specs.Reaching.{HaveGone, HaveLinks, after_closes}
 use Rattle.several_links.specs.declared.member.Member.{Member}
 use Rattle.drm_transmit.specs.Live.{LiveSendRun}
-use Rattle.drm_transmit.proofs.LiveSendLemmas.{live_closed, live_unopened, live_over, live_nothing_sent}
+use Rattle.drm_transmit.proofs.LiveSendLemmas.{live_closed, live_unopened, live_over, live_nothing_sent, sent_read, sent_unread, sent_dock}
 use Rattle.drm_transmit.proofs.live_command.send_live.Goals as goal
 
 pub returns-in-Ok : goal.returns-in-Ok
@@ -27,19 +29,26 @@ returns-in-Ok g c =
     let y = g.I.Source.known c.send_live_over-sent.new.input in
     let shut : Tells b d (λ p q. (overs : List Over) → HaveGone known after overs → q ≡ after_closes overs to p) =
     subst (λ ms. Tells b d (λ p q. (overs : List Over) → HaveGone known ms overs → q ≡ after_closes overs to p)) back c.close_each.ensures.closed in
-    let later = c.in-Ok.ensures.later in
-    let same = c.close_each.ensures.cause in
+    let same : d.faults ≡ a.faults = c.close_each.ensures.cause ∙ c.in-Ok.ensures.cause.same (λ is. cc) in
     let links : Docked a b (λ told. HaveLinks known told to before) = subst (λ ms. Docked a b (λ told. HaveLinks known told to ms)) (sym value) c.in-Ok.ensures.links in
     let sent : LiveSendRun c.args.name.now to c.args.pace c.args.from c.args.live.now c.send_live_over-sent.result g.S.Shelf.known c.args.shelf.now c.send_live_over-sent.new.shelf g.I.Source.known c.args.input.now c.send_live_over-sent.new.input g.D.Dock.known c.args.dock.now c.close_each.new.dock =
     live_over c.one_delivery.ensures c.first_ones_are_front.ensures c.args.name.now to c.args.pace c.args.from c.args.live.now g.S.Shelf.known c.args.shelf.now c.send_live_over-sent.new.shelf g.D.Dock.known c.args.dock.now c.close_each.new.dock
-    c.input_makes_a_schedule.ensures c.requires.different b known before after many c.in-Ok.ensures.opened links shut (omega (arith, later, same)) x y c.send_live_over-sent.result c.send_live_over-sent.ensures.run in
+    c.input_makes_a_schedule.ensures c.requires.different b known before after many c.in-Ok.ensures.opened links shut same x y c.send_live_over-sent.result c.send_live_over-sent.ensures.run in
     record {
       run = sent;
       memory = λ e. c.send_live_over-sent.ensures.memory e;
       unsent = λ e.
           live_nothing_sent c.one_delivery.ensures c.first_ones_are_front.ensures c.args.name.now to c.args.pace c.args.from c.args.live.now g.S.Shelf.known c.args.shelf.now c.send_live_over-sent.new.shelf g.D.Dock.known c.args.dock.now c.close_each.new.dock
           c.send_live_over-sent.result x y c.requires.different sent e;
-      read = λ e. c.send_live_over-sent.ensures.read e;
+      read = λ none.
+          sent_read c.one_delivery.ensures c.first_ones_are_front.ensures c.args.name.now to c.args.pace c.args.from c.args.live.now g.S.Shelf.known c.args.shelf.now c.send_live_over-sent.new.shelf g.D.Dock.known c.args.dock.now c.close_each.new.dock
+          c.send_live_over-sent.result x y sent none;
+      unread = λ link.
+          sent_unread c.one_delivery.ensures c.first_ones_are_front.ensures c.args.name.now to c.args.pace c.args.from c.args.live.now g.S.Shelf.known c.args.shelf.now c.send_live_over-sent.new.shelf g.D.Dock.known c.args.dock.now c.close_each.new.dock
+          c.send_live_over-sent.result x y sent link;
+      opening =
+          sent_dock c.one_delivery.ensures c.first_ones_are_front.ensures c.args.name.now to c.args.pace c.args.from c.args.live.now g.S.Shelf.known c.args.shelf.now c.send_live_over-sent.new.shelf g.D.Dock.known c.args.dock.now c.close_each.new.dock
+          c.send_live_over-sent.result x y sent;
       words = λ e. c.send_live_over-sent.ensures.words e;
       write = λ e. c.send_live_over-sent.ensures.write e;
     }
@@ -62,4 +71,16 @@ pub returns-in-Err-Link-clause-run : goal.returns-in-Err-Link-clause-run
 returns-in-Err-Link-clause-run g c =
     live_closed c.one_delivery.ensures c.first_ones_are_front.ensures c.args.name.now c.args.to.now c.args.pace c.args.from c.args.live.now g.S.Shelf.known c.args.shelf.now c.args.shelf.now g.D.Dock.known c.args.dock.now c.reach_each.new.dock
     (g.I.Source.known c.args.input.now)
-    (record { fault = refl; unread = refl; told = c.reach_each.ensures.failed (c.in-Err-Link.is ∙ ap Err c.in-Err-Link.field-0-is); rose = c.reach_each.ensures.rose (c.in-Err-Link.is ∙ ap Err c.in-Err-Link.field-0-is) })
+    (record { fault = refl; unread = refl; told = c.reach_each.ensures.failed (c.in-Err-Link.is ∙ ap Err c.in-Err-Link.field-0-is); once = c.reach_each.ensures.cause.once (c.in-Err-Link.is ∙ ap Err c.in-Err-Link.field-0-is) })
+
+pub returns-in-Err-NoMemory-clause-read : goal.returns-in-Err-NoMemory-clause-read
+returns-in-Err-NoMemory-clause-read g c = λ none. none_failed (λ is. cc) refl refl
+
+pub returns-in-Err-NoMemory-clause-opening : goal.returns-in-Err-NoMemory-clause-opening
+returns-in-Err-NoMemory-clause-opening g c = inl (ap (λ d. (g.D.Dock.known d).faults) (c.reach_each.ensures.untouched (c.in-Err-NoMemory.is ∙ ap Err c.in-Err-NoMemory.field-0-is)))
+
+pub returns-in-Err-Link-clause-read : goal.returns-in-Err-Link-clause-read
+returns-in-Err-Link-clause-read g c = λ none. absurd (none refl)
+
+pub returns-in-Err-Link-clause-opening : goal.returns-in-Err-Link-clause-opening
+returns-in-Err-Link-clause-opening g c = inr (refl, c.reach_each.ensures.cause.once (c.in-Err-Link.is ∙ ap Err c.in-Err-Link.field-0-is))

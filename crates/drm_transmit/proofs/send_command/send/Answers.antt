@@ -1,8 +1,10 @@
-use Rattle.std.proofs.Common.{◌≡◌, ◌++◌, List, take, drop, length, vec_len, refl, arith, ap, sym, ◌∙◌, subst, Err}
+use Rattle.std.proofs.Common.{◌≡◌, ◌++◌, List, take, drop, length, vec_len, refl, ap, sym, ◌∙◌, subst, inl, inr, Err}
 use Rattle.std.proofs.lemmas.List.{take_at}
 use Rattle.drm_links.specs.Told.{Tells}
+use Rattle.drm_links.proofs.ToldLemmas.{counts_none}
 use Rattle.drm_faults.specs.declared.fault.Fault.TheVariants as faults
-use Rattle.several_links.specs.Reaching.{Over, HaveGone, after_closes}
+use Rattle.drm_links.specs.Dock.{Over}
+use Rattle.several_links.specs.Reaching.{HaveGone, after_closes}
 use Rattle.several_links.specs.declared.member.Member.{Member}
 use Rattle.drm_load.specs.Schedule.{schedule_named}
 use Rattle.drm_transmit.specs.Send.{SendRun}
@@ -27,17 +29,17 @@ returns-in-Ok g c =
     let d = g.D.Dock.known c.close_each.new.dock in
     let shut : Tells b d (λ x y. (overs : List Over) → HaveGone known after overs → y ≡ after_closes overs to x) =
     subst (λ ms. Tells b d (λ x y. (overs : List Over) → HaveGone known ms overs → y ≡ after_closes overs to x)) back c.close_each.ensures.closed in
-    let later = c.in-Ok.ensures.later in
-    let same = c.close_each.ensures.cause in
+    let same : d.faults ≡ a.faults = c.close_each.ensures.cause ∙ c.in-Ok.ensures.cause.same (λ is. cc) in
     let sent : SendRun (schedule_named c.args.name.now) to c.args.pace c.args.from c.send_over-sent.result g.S.Shelf.known c.args.shelf.now c.send_over-sent.new.shelf g.D.Dock.known c.args.dock.now c.close_each.new.dock =
     over_links c.one_delivery.ensures c.first_ones_are_front.ensures (schedule_named c.args.name.now) to c.args.pace c.args.from c.send_over-sent.result g.S.Shelf.known c.args.shelf.now c.send_over-sent.new.shelf g.D.Dock.known c.args.dock.now c.close_each.new.dock
     c.requires.different
     (links_run (schedule_named c.args.name.now) to c.args.pace c.args.from c.send_over-sent.result g.S.Shelf.known c.args.shelf.now c.send_over-sent.new.shelf g.D.Dock.known c.args.dock.now c.close_each.new.dock b known before after many run c.in-Ok.ensures.opened
-    (subst (λ ms. Rattle.several_links.specs.Openings.Docked a b (λ told. Rattle.several_links.specs.Reaching.HaveLinks known told to ms)) (sym value) c.in-Ok.ensures.links) shut (omega (arith, later, same))) in
+    (subst (λ ms. Rattle.several_links.specs.Openings.Docked a b (λ told. Rattle.several_links.specs.Reaching.HaveLinks known told to ms)) (sym value) c.in-Ok.ensures.links) shut same) in
     record {
       run = sent;
       unsent = λ e. nothing_sent c.one_delivery.ensures c.first_ones_are_front.ensures (schedule_named c.args.name.now) to c.args.pace c.args.from c.send_over-sent.result g.S.Shelf.known c.args.shelf.now c.send_over-sent.new.shelf g.D.Dock.known c.args.dock.now c.close_each.new.dock c.requires.different sent e;
-      read = λ e. run.read_cause.rose e;
+      read = sent.read_cause;
+      opening = sent.dock_cause;
       words = λ e. c.send_over-sent.ensures.words e;
       write = λ e. c.send_over-sent.ensures.write e;
     }
@@ -56,4 +58,16 @@ returns-in-Err-NoMemory-clause-unsent g c = λ e.
 pub returns-in-Err-Link-clause-run : goal.returns-in-Err-Link-clause-run
 returns-in-Err-Link-clause-run g c =
     closed c.one_delivery.ensures c.first_ones_are_front.ensures (schedule_named c.args.name.now) c.args.to.now c.args.pace c.args.from (Err faults.Link) g.S.Shelf.known c.args.shelf.now c.args.shelf.now g.D.Dock.known c.args.dock.now c.reach_each.new.dock
-    (record { fault = refl; unread = refl; told = c.reach_each.ensures.failed (c.in-Err-Link.is ∙ ap Err c.in-Err-Link.field-0-is); rose = c.reach_each.ensures.rose (c.in-Err-Link.is ∙ ap Err c.in-Err-Link.field-0-is) })
+    (record { fault = refl; unread = refl; told = c.reach_each.ensures.failed (c.in-Err-Link.is ∙ ap Err c.in-Err-Link.field-0-is); once = c.reach_each.ensures.cause.once (c.in-Err-Link.is ∙ ap Err c.in-Err-Link.field-0-is) })
+
+pub returns-in-Err-NoMemory-clause-read : goal.returns-in-Err-NoMemory-clause-read
+returns-in-Err-NoMemory-clause-read g c = counts_none (λ is. cc) refl
+
+pub returns-in-Err-NoMemory-clause-opening : goal.returns-in-Err-NoMemory-clause-opening
+returns-in-Err-NoMemory-clause-opening g c = inl (ap (λ d. (g.D.Dock.known d).faults) (c.reach_each.ensures.untouched (c.in-Err-NoMemory.is ∙ ap Err c.in-Err-NoMemory.field-0-is)))
+
+pub returns-in-Err-Link-clause-read : goal.returns-in-Err-Link-clause-read
+returns-in-Err-Link-clause-read g c = counts_none (λ is. cc) refl
+
+pub returns-in-Err-Link-clause-opening : goal.returns-in-Err-Link-clause-opening
+returns-in-Err-Link-clause-opening g c = inr (refl, c.reach_each.ensures.cause.once (c.in-Err-Link.is ∙ ap Err c.in-Err-Link.field-0-is))
