@@ -4,7 +4,7 @@ use Rattle.std.specs.Prelude.{slice_index_or}
 use Rattle.dcp_pft.specs.declared.carry.Carry.{Carry}
 use Rattle.drm_links.specs.Told.{Known, Tells, ToldThrough, WhileTold, CountsCall}
 use Rattle.drm_links.specs.Link.{Answer, Traffic, rests_of}
-use Rattle.drm_links.specs.Dock.{DockContents, LinkStart, Binds, Closes, first_traffic, start_at, after_opening, after_close}
+use Rattle.drm_links.specs.Dock.{DockContents, LinkStart, Over, Binds, Closes, first_traffic, start_at, after_opening, after_close}
 use Rattle.drm_links.specs.Transmission.{Transmits, SendsAll, SendsNoMore, TakesSends}
 use Rattle.drm_links.specs.ManyCalls.{CountsMany}
 use Rattle.drm_links.specs.declared.dock.Address.{Address}
@@ -17,7 +17,7 @@ use Rattle.mod_receiver.specs.Ranges.{AreInRange}
 use Rattle.mod_receiver.specs.Reading.{most_answers}
 use Rattle.mod_receiver.proofs.JobLemmas.{few_answers}
 use Rattle.several_links.specs.Openings.{Docked, Finds}
-use Rattle.several_links.specs.Reaching.{Over, HasGone, HaveGone, HaveLinks, AreUp, ReachesFew, GoesOver, after_reaches, after_closes}
+use Rattle.several_links.specs.Reaching.{HasGone, HaveGone, HaveLinks, AreUp, ReachesFew, GoesOver, after_reaches, after_closes}
 use Rattle.several_links.specs.Took.{TookBy}
 use Rattle.several_links.specs.declared.member.Member.{Member}
 use Rattle.several_links.proofs.OpeningLemmas.{same_index}
@@ -36,7 +36,7 @@ use Rattle.drm_gate.specs.Targets.{Target, target, targets, Each, TakesMore, Eac
 use Rattle.drm_gate.proofs.Stopping.{took_from}
 use Rattle.drm_gate.proofs.TargetLemmas.{at_place, as_many_targets, all_up}
 use Rattle.gate_command.specs.Opening.{no_rests, after_source}
-use Rattle.gate_command.specs.Between.{options_of, AreAhead, Goes, GoesPart, GoesOut, passed_of, PassesTo}
+use Rattle.gate_command.specs.Between.{options_of, AreAhead, AreRead, Goes, GoesPart, GoesOut, passed_of, PassesTo}
 use Rattle.gate_command.specs.Run.{PassesOn}
 
 -- ---- by what it reads
@@ -84,8 +84,8 @@ pub record Went (start : LinkStart) (a b : Known Traffic) : Type 0 where
   pub traffic : Traffic
   pub tells : b.told ≡ Some traffic
   pub still : HasNotRested traffic
-  pub all : (datagrams : List (List ℕ)) → Transmits a b (SendsAll datagrams) → (traffic.gone ≡ datagrams) × TakesSends start.sends (length traffic.gone)
-  pub some : (datagrams : List (List ℕ)) → Transmits a b (SendsNoMore datagrams) → (traffic.gone ≡ datagrams) × (start.sends ≡ Some (length traffic.gone))
+  pub all : (datagrams : List (List ℕ)) → Transmits a b (SendsAll datagrams) → (traffic.gone ≡ datagrams) × TakesSends start.sends (length traffic.gone) × (traffic.answers ≡ [])
+  pub some : (datagrams : List (List ℕ)) → Transmits a b (SendsNoMore datagrams) → (traffic.gone ≡ datagrams) × (start.sends ≡ Some (length traffic.gone)) × (traffic.answers ≡ [])
 
 takes_as : (sends : Option ℕ) (xs ys : List (List ℕ)) → xs ≡ ys → TakesSends sends (length xs) → TakesSends sends (length ys)
 takes_as sends xs ys same takes = subst (λ (l : List (List ℕ)). TakesSends sends (length l)) same takes
@@ -99,32 +99,37 @@ went_over rules valid start a b new only =
       still = told_both NeverRests a.told b.told (first_traffic start) traffic new tells only.still (not_rested start);
       all = λ datagrams sent.
           let all : SendsAll datagrams (first_traffic start) traffic = told_both (SendsAll datagrams) a.told b.told (first_traffic start) traffic new tells sent in
-          (all.gone, takes_as start.sends datagrams traffic.gone (sym all.gone) all.taken);
+          (all.gone, takes_as start.sends datagrams traffic.gone (sym all.gone) all.taken, all.kept.answers);
       some = λ datagrams sent.
           let all : SendsNoMore datagrams (first_traffic start) traffic = told_both (SendsNoMore datagrams) a.told b.told (first_traffic start) traffic new tells sent in
-          (all.gone, all.no_more ∙ ap (λ (l : List (List ℕ)). Some (length l)) (sym all.gone));
+          (all.gone, all.no_more ∙ ap (λ (l : List (List ℕ)). Some (length l)) (sym all.gone), all.kept.answers);
     }
 
 module _ (start : LinkStart) (a b : Known Traffic) (w : Went start a b) where
   abbrev over_it : Over
-  over_it = record { gone = w.traffic.gone; rests = no_rests w.traffic.gone }
+  over_it = record { answers = []; gone = w.traffic.gone; rests = no_rests w.traffic.gone }
 
   goes_by : (up : Bool) (datagrams : List (List ℕ)) → TookBy up datagrams a b → Goes up datagrams start over_it
-  goes_by true datagrams took = let (gone, takes) = w.all datagrams took.sent in (gone, takes, refl)
+  goes_by true datagrams took = let (gone, takes, none) = w.all datagrams took.sent in (gone, takes, refl)
   goes_by false datagrams took =
-      let (gone, no_more) = w.some took.front took.sent in
+      let (gone, no_more, none) = w.some took.front took.sent in
       (subst (λ (l : List (List ℕ)). IsFrontOf datagrams l) (sym gone) (took.rest, took.some, took.are), no_more, refl)
+
+  -- nothing was received on it
+  received_by : (up : Bool) (datagrams : List (List ℕ)) → TookBy up datagrams a b → w.traffic.answers ≡ []
+  received_by true datagrams took = (w.all datagrams took.sent).2
+  received_by false datagrams took = (w.some took.front took.sent).2
 
   goes_part : (rules : Rules) (carry : Carry) (answers : List Answer) (last k : ℕ) (was up : Bool) → was ≡ true → StopsOver rules carry answers (record { up = was; known = a }) (record { up = up; known = b })
       → (k ≡ last → StopsLast rules carry answers (record { up = was; known = a }) (record { up = up; known = b })) → GoesPart rules carry answers last k start over_it
   goes_part rules carry answers last k was up is stops at =
-      let (gone, no_more) = w.some stops.datagrams stops.sent in
+      let (gone, no_more, none) = w.some stops.datagrams stops.sent in
       record {
         front = subst (λ (l : List (List ℕ)). IsFrontOfOnward rules carry answers l) (sym gone) stops.front;
         no_more = no_more;
         still = refl;
         at = λ here.
-            let (same, also) = w.some (at here).datagrams ((at here).sent is) in
+            let (same, also, none) = w.some (at here).datagrams ((at here).sent is) in
             subst (λ (l : List (List ℕ)). StopsAt rules carry answers l) (sym same) (at here).at;
       }
 
@@ -176,9 +181,11 @@ module _ {L : Type 0} (rules : Rules) (valid : AreInRange rules) (carry : Carry)
       went_over rules valid start (known (slice_index_or members k d).link) (known (slice_index_or members' k d).link) new
       (at_link (λ x y. MakesSends (most_sends rules) x.known y.known) only.each k d within)
 
-  has_gone : (k : ℕ) (d : Member L) (start : LinkStart) → (w : Went start (known (slice_index_or members k d).link) (known (slice_index_or members' k d).link))
+  has_gone : (k : ℕ) (d : Member L) (start : LinkStart) → (w : Went start (known (slice_index_or members k d).link) (known (slice_index_or members' k d).link)) → w.traffic.answers ≡ []
       → HasGone known (slice_index_or members' k d).link (over_it start (known (slice_index_or members k d).link) (known (slice_index_or members' k d).link) w)
-  has_gone k d start w = (w.traffic, w.tells, refl, rests_are w.traffic w.still)
+  has_gone k d start w received =
+      let rests = rests_are w.traffic w.still in
+      (w.traffic, w.tells, λ i. record { answers = received i; gone = w.traffic.gone; rests = rests i })
 
   took_at : (datagrams : List (List ℕ)) → EachTakes datagrams olds news → (k : ℕ) (d : Member L) → k < length to
       → TookBy (slice_index_or members' k d).up datagrams (known (slice_index_or members k d).link) (known (slice_index_or members' k d).link)
@@ -197,8 +204,9 @@ module _ {L : Type 0} (rules : Rules) (valid : AreInRange rules) (carry : Carry)
       let y = known (slice_index_or members' k d).link in
       let is : (slice_index_or members' k d).up ≡ ups k = ap (λ (t : Target). t.up) (sym (at_place known members' k any_target d (omega (arith, within, many')))) ∙ are k any_target within in (
         over_it start x y w,
-        has_gone k d start w,
+        has_gone k d start w (received_by start x y w (slice_index_or members' k d).up datagrams (took_at datagrams sent k d within)),
         subst (λ u. Goes u datagrams start (over_it start x y w)) is (goes_by start x y w (slice_index_or members' k d).up datagrams (took_at datagrams sent k d within)),
+        refl,
       ))
       closed
 
@@ -212,15 +220,17 @@ module _ {L : Type 0} (rules : Rules) (valid : AreInRange rules) (carry : Carry)
       let y = known (slice_index_or members' k d).link in
       let was : (slice_index_or members k d).up ≡ true = up k d (omega (arith, within, many)) in
       let first : slice_index_or olds k any_target ≡ target known (slice_index_or members k d) = at_place known members k any_target d (omega (arith, within, many)) in
-      let second : slice_index_or news k any_target ≡ target known (slice_index_or members' k d) = at_place known members' k any_target d (omega (arith, within, many')) in (
+      let second : slice_index_or news k any_target ≡ target known (slice_index_or members' k d) = at_place known members' k any_target d (omega (arith, within, many')) in
+      let stops = at_link (λ x y. x.up ≡ true → StopsOver rules carry answers x y) each k d within was in (
         over_it start x y w,
-        has_gone k d start w,
+        has_gone k d start w (w.some stops.datagrams stops.sent).2,
         goes_part start x y w rules carry answers last k (slice_index_or members k d).up (slice_index_or members' k d).up was
-            (at_link (λ x y. x.up ≡ true → StopsOver rules carry answers x y) each k d within was)
+            stops
             (λ here.
             subst (λ (t : Target). StopsLast rules carry answers t (target known (slice_index_or members' k d))) first
             (subst (λ (t : Target). StopsLast rules carry answers (slice_index_or olds k any_target) t) second
             (subst (λ n. StopsLast rules carry answers (slice_index_or olds n any_target) (slice_index_or news n any_target)) (sym here) (at_last any_target)))),
+        refl,
       ))
       closed
 
@@ -294,9 +304,10 @@ only_of rules carry from from' to to' ended.ToFailed run = run.only
 
 -- ---- the link that datagrams come from
 
--- what was heard of a new link stood ahead of it, and nothing went over it
+-- what was heard of a new link stood ahead of it, and is what it tells; and nothing went over it
 pub record AllHeard (start : LinkStart) (answers : List Answer) (traffic : Traffic) : Type 0 where
   pub ahead : AreAhead start.ahead answers
+  pub told : traffic.answers ≡ answers
   pub gone : traffic.gone ≡ []
 
 heard_all : (rules : Rules) (start : LinkStart) (answers : List Answer) (a b : Option Traffic) → AreInRange rules → length answers ≤ most_answers rules → HeardTold answers a b → a ≡ Some (first_traffic start)
@@ -308,14 +319,14 @@ heard_all rules start answers (Some x) None valid few heard is =
     absurd (omega (arith, heard, none, few, few_answers rules valid))
 heard_all rules start answers (Some x) (Some y) valid few heard is =
     let same : x ≡ first_traffic start = cc in
-    (y, refl, record { ahead = (y.ahead, subst (λ (t : Traffic). AreNext t.ahead answers y.ahead) same heard.ahead); gone = heard.gone ∙ ap (λ (t : Traffic). t.gone) same })
+    (y, refl, record { ahead = (y.ahead, subst (λ (t : Traffic). AreNext t.ahead answers y.ahead) same heard.ahead); told = heard.given ∙ ap (λ (t : Traffic). t.answers ++ answers) same; gone = heard.gone ∙ ap (λ (t : Traffic). t.gone) same })
 
 -- a new link of which something was heard
 module _ (rules : Rules) (valid : AreInRange rules) (carry : Carry) (start : LinkStart) (a b : Known Traffic) (new : a.told ≡ Some (first_traffic start)) (to : List Address) (x z : DockContents) where
-  abbrev HasHeard : Type 0 → Type 0
-  HasHeard Of = (traffic : Traffic) × (b.told ≡ Some traffic) × (traffic.gone ≡ []) × Of
+  abbrev HasHeard : Result Tally LinkFault → Type 0
+  HasHeard passed = (traffic : Traffic) × (b.told ≡ Some traffic) × (traffic.gone ≡ []) × GoesOut rules carry (AreRead start.ahead traffic.answers) to passed x z
 
-  heard_some : (passed : Result Tally LinkFault) → GoesOut rules carry (Heard a b) to passed x z → HasHeard (GoesOut rules carry (AreAhead start.ahead) to passed x z)
+  heard_some : (passed : Result Tally LinkFault) → GoesOut rules carry (Heard a b) to passed x z → HasHeard passed
   heard_some (Ok tally) (p, counted) =
       let q = p.passed in
       let (traffic, tells, all) = heard_all rules start q.answers a.told b.told valid q.few q.heard new in (
@@ -325,7 +336,7 @@ module _ (rules : Rules) (valid : AreInRange rules) (carry : Carry) (start : Lin
         (
           record {
             fates = p.fates;
-            passed = record { answers = q.answers; heard = all.ahead; few = q.few; word = q.word; reading = q.reading; onward = q.onward };
+            passed = record { answers = q.answers; heard = (all.ahead, all.told); few = q.few; word = q.word; reading = q.reading; onward = q.onward };
             goes = p.goes;
           },
           counted,
@@ -342,7 +353,7 @@ module _ (rules : Rules) (valid : AreInRange rules) (carry : Carry) (start : Lin
           down,
           record {
             fates = p.fates;
-            passed = record { answers = q.answers; heard = all.ahead; few = q.few; word = q.word; reading = q.reading; onward = q.onward };
+            passed = record { answers = q.answers; heard = (all.ahead, all.told); few = q.few; word = q.word; reading = q.reading; onward = q.onward };
             goes = p.goes;
           },
         ),
@@ -357,7 +368,7 @@ module _ (rules : Rules) (valid : AreInRange rules) (carry : Carry) (start : Lin
           up,
           record {
             fates = p.fates;
-            broken = record { answers = q.answers; heard = all.ahead; few = q.few; before = q.before; reading = q.reading; ready = q.ready };
+            broken = record { answers = q.answers; heard = (all.ahead, all.told); few = q.few; before = q.before; reading = q.reading; ready = q.ready };
             goes = p.goes;
           },
         )),
@@ -367,30 +378,31 @@ module _ (rules : Rules) (valid : AreInRange rules) (carry : Carry) (start : Lin
         traffic,
         tells,
         all.gone,
-        inr (inr (record { answers = p.answers; heard = all.ahead; few = p.few; goes_on = p.goes_on; last = p.last; within = p.within; goes = p.goes })),
+        inr (inr (record { answers = p.answers; heard = (all.ahead, all.told); few = p.few; goes_on = p.goes_on; last = p.last; within = p.within; goes = p.goes })),
       )
 
--- the link is closed over which nothing went
-closed_none : (at : Address) (last : Option Traffic) (traffic : Traffic) (z w : DockContents) → last ≡ Some traffic → traffic.gone ≡ [] → HasNotRested traffic → Closes last at z w → w ≡ after_source at z
+-- the link is closed over which nothing went, and tells what it answered
+closed_none : (at : Address) (last : Option Traffic) (traffic : Traffic) (z w : DockContents) → last ≡ Some traffic → traffic.gone ≡ [] → HasNotRested traffic → Closes last at z w → w ≡ after_source at traffic.answers z
 closed_none at None traffic z w is gone still closes = absurd cc
 closed_none at (Some t) traffic z w is gone still closes =
     let same : t ≡ traffic = cc in
     let none : t.gone ≡ [] = ap (λ (u : Traffic). u.gone) same ∙ gone in
     let rests : rests_of t ≡ no_rests [] = ap rests_of same ∙ (rests_are traffic still ∙ ap no_rests gone) in
-    closes ∙ (λ i. after_close at (none i) (rests i) z)
+    let told : t.answers ≡ traffic.answers = ap (λ (u : Traffic). u.answers) same in
+    closes ∙ (λ i. after_close at (record { answers = told i; gone = none i; rests = rests i }) z)
 
 module _ (rules : Rules) (valid : AreInRange rules) (carry : Carry) (from : Address) (to : List Address) (start : LinkStart) (a b : Known Traffic) (new : a.told ≡ Some (first_traffic start)) (still : Tells a b NeverRests)
     (x y z w : DockContents) (found : Finds x 0 from start) (at : y ≡ after_opening from x) (closes : Closes b.told from z w) where
   all_closed : (passed : Result Tally LinkFault) → PassesTo rules carry to a b passed y z → PassesOn rules carry from to passed x w
   all_closed passed (inl (failed, same, few)) =
       let tells : b.told ≡ Some (first_traffic start) = ap (λ (k : Known Traffic). k.told) same ∙ new in
-      let shut : w ≡ after_source from z = closed_none from b.told (first_traffic start) z w tells refl (not_rested start) closes in
-      inr (start, found, z, shut, inl (failed, subst (λ (d : DockContents). ReachesFew to d z) at few))
+      let shut : w ≡ after_source from [] z = closed_none from b.told (first_traffic start) z w tells refl (not_rested start) closes in
+      inr (start, found, z, [], shut, inl (failed, refl, subst (λ (d : DockContents). ReachesFew to d z) at few))
   all_closed passed (inr goes) =
       let (traffic, tells, none, over) = heard_some rules valid carry start a b new to y z passed goes in
       let rested : HasNotRested traffic = told_both NeverRests a.told b.told (first_traffic start) traffic new tells still (not_rested start) in
-      let shut : w ≡ after_source from z = closed_none from b.told traffic z w tells none rested closes in
-      inr (start, found, z, shut, inr (subst (λ (d : DockContents). GoesOut rules carry (AreAhead start.ahead) to passed d z) at over))
+      let shut : w ≡ after_source from traffic.answers z = closed_none from b.told traffic z w tells none rested closes in
+      inr (start, found, z, traffic.answers, shut, inr (subst (λ (d : DockContents). GoesOut rules carry (AreRead start.ahead traffic.answers) to passed d z) at over))
 
 pub passes_on : {L : Type 0} (rules : Rules) (carry : Carry) (from : Address) (to : List Address) (known : L → Known Traffic) (first last : L) (passed : Result Tally LinkFault) (a b c d : Known DockContents)
     → AreInRange rules → WhileTold a b (Binds known from (opened.Link first)) → CountsCall (λ (e : DockContents). e.calls) a b

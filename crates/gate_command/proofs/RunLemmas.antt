@@ -1,5 +1,5 @@
 -- A run of the command, by how it ends.
-use Rattle.std.proofs.Common.{◌≡◌, ℕ, ◌<◌, ◌≤◌, ◌⊎◌, ◌↔◌, inl, inr, Bool, true, false, cond, List, [], length, None, Some, Result, Ok, Err, refl, sym, subst, ap, ◌∙◌, arith}
+use Rattle.std.proofs.Common.{◌≡◌, ℕ, ◌<◌, ◌≤◌, ◌⊎◌, ◌↔◌, inl, inr, Bool, true, false, cond, List, [], length, None, Some, Result, Ok, Err, IsErr, refl, sym, subst, ap, ◌∙◌, arith}
 use Rattle.std.specs.Prelude.{slice_index_or}
 use Rattle.std.specs.FinMap as map
 use Rattle.std.specs.FinMap.{get-remove, get-insert}
@@ -9,32 +9,65 @@ use Rattle.dcp_pft.specs.declared.carry.Carry.{Carry}
 use Rattle.drm_links.specs.Told.{HasFailed, Known, HasCause, Tells}
 use Rattle.drm_links.specs.Link.{Answer}
 use Rattle.drm_links.specs.Sink.{Output, Outputs}
-use Rattle.drm_links.specs.Dock.{DockContents, LinkStart, address_key, start_at, after_opening}
+use Rattle.drm_links.specs.Dock.{DockContents, LinkStart, Over, address_key, start_at, after_opening, after_failure}
 use Rattle.drm_links.specs.Transmission.{TakesSends, TakesFewer}
 use Rattle.drm_links.specs.declared.dock.Address.{Address}
 use Rattle.drm_links.specs.declared.link.LinkFault.{LinkFault}
-use Rattle.drm_links.proofs.ToldLemmas.{Tells-nothing, Tells-weaker}
+use Rattle.drm_links.proofs.ToldLemmas.{Tells-nothing, Tells-weaker, counts_none}
 use Rattle.mod_receiver.specs.declared.rules.Rules.{Rules}
 use Rattle.mod_receiver.specs.Ahead.{BreaksOff}
 use Rattle.word_forms.specs.Addresses.{AreDifferent}
-use Rattle.several_links.specs.Openings.{Finds}
-use Rattle.several_links.specs.Reaching.{Over, nothing, ReachesNone, ReachesFew, GoesOver, after_reaches}
+use Rattle.several_links.specs.Openings.{Finds, FindsNone}
+use Rattle.several_links.specs.Reaching.{nothing, ReachesNone, ReachesFew, GoesOver, after_reaches}
 use Rattle.several_links.proofs.RunLemmas as several
 use Rattle.drm_receive.proofs.BreakingOff.{found_once, is_found}
 use Rattle.drm_receive.proofs.ReceiveLemmas.{inner, no_fault}
 use Rattle.drm_faults.specs.Fault.{UnlessMemory}
+use Rattle.drm_faults.specs.Causes.{OpeningFailed}
 use Rattle.drm_faults.specs.declared.fault.Fault.{Fault}
 use Rattle.drm_faults.specs.declared.fault.Fault.TheVariants as faults
 use Rattle.drm_gate.specs.declared.tally.Tally.{Tally}
 use Rattle.drm_gate.specs.Passing.{Fate, sent_of}
 use Rattle.gate_command.specs.Line.{gate_line, is_clean}
 use Rattle.gate_command.specs.Opening.{FailsOpening, after_source}
-use Rattle.gate_command.specs.Between.{AreAhead, IsPassedOn, Goes, GoesPart, PassesAll, PassesPart, GoesOut}
+use Rattle.gate_command.specs.Between.{AreAhead, AreRead, IsPassedOn, Goes, GoesPart, PassesAll, PassesPart, GoesOut}
 use Rattle.gate_command.specs.Run.{PassesOn, WritesTally, LacksSome, FailsGate, HasAll, PassedAll, GateCommandRun}
 use Rattle.gate_command.proofs.ReadingLemmas.{broken, whole, one_passed, front_of_all, takes_fewer, not_both}
 
 any_address : Address
 any_address = record { ip = []; port = 0 }
+
+-- ---- what was ahead, whatever the link told that was read
+
+abbrev PassedOn : Rules → Carry → Address → List Address → Result Tally LinkFault → DockContents → DockContents → Type 0
+PassedOn rules carry from to passed before after =
+    (IsErr passed × FindsNone before 0 from × (after ≡ after_failure before))
+    ⊎ ((source : LinkStart) × Finds before 0 from source × (mid : DockContents) × (answers : List Answer) × (after ≡ after_source from answers mid)
+    × ((IsErr passed × ReachesFew to (after_opening from before) mid)
+    ⊎ GoesOut rules carry (AreAhead source.ahead) to passed (after_opening from before) mid))
+
+passed_ahead : (rules : Rules) (carry : Carry) (ahead told : List Answer) (fates : List Fate) → IsPassedOn rules carry (AreRead ahead told) fates → IsPassedOn rules carry (AreAhead ahead) fates
+passed_ahead rules carry ahead told fates p =
+    record { answers = p.answers; heard = p.heard.0; few = p.few; word = p.word; reading = p.reading; onward = p.onward }
+
+out_ahead : (rules : Rules) (carry : Carry) (ahead told : List Answer) (to : List Address) (passed : Result Tally LinkFault) (x z : DockContents)
+    → GoesOut rules carry (AreRead ahead told) to passed x z → GoesOut rules carry (AreAhead ahead) to passed x z
+out_ahead rules carry ahead told to (Ok tally) x z (p, counted) =
+    (record { fates = p.fates; passed = passed_ahead rules carry ahead told p.fates p.passed; goes = p.goes }, counted)
+out_ahead rules carry ahead told to (Err fault) x z (inl (up, down, p)) =
+    inl (up, down, record { fates = p.fates; passed = passed_ahead rules carry ahead told p.fates p.passed; goes = p.goes })
+out_ahead rules carry ahead told to (Err fault) x z (inr (inl (up, p))) =
+    let b = p.broken in
+    inr (inl (
+      up,
+      record {
+        fates = p.fates;
+        broken = record { answers = b.answers; heard = b.heard.0; few = b.few; before = b.before; reading = b.reading; ready = b.ready };
+        goes = p.goes;
+      },
+    ))
+out_ahead rules carry ahead told to (Err fault) x z (inr (inr p)) =
+    inr (inr (record { answers = p.answers; heard = p.heard.0; few = p.few; goes_on = p.goes_on; last = p.last; within = p.within; goes = p.goes }))
 
 few_reached : (to : List Address) (x z : DockContents) → ReachesFew to x z → ReachesNone x to
 few_reached to x z few = record { k = few.k; within = few.within; fails = few.fails }
@@ -52,9 +85,9 @@ module _ (told : DockContents) (from : Address) where
       absurd cc
 
   -- the link that was read had another one
-  gone_at : (Goes : ℕ → LinkStart → Over → Type 0) (to : List Address) (mid : DockContents) → AreDifferent to → (goes : GoesOver Goes to (after_opening from told) mid) → (k : ℕ) (at : Address) → k < length to
-      → map.get (after_source from mid).gone (address_key (slice_index_or to k at)) ≡ Some (slice_index_or goes.overs k nothing).gone
-  gone_at Goes to mid different goes k at within =
+  gone_at : (Goes : ℕ → LinkStart → Over → Type 0) (to : List Address) (answers : List Answer) (mid : DockContents) → AreDifferent to → (goes : GoesOver Goes to (after_opening from told) mid) → (k : ℕ) (at : Address) → k < length to
+      → map.get (after_source from answers mid).gone (address_key (slice_index_or to k at)) ≡ Some (slice_index_or goes.overs k nothing).gone
+  gone_at Goes to answers mid different goes k at within =
       let here : Address = slice_index_or to k at in
       let (start, finds, goes_there) = goes.goes.each k at nothing within in
       let other = apart_by here start (eq_by_cmp (slice_cmp nat_cmp) (address_key here) (address_key from)) refl finds.stands in
@@ -104,10 +137,10 @@ module _ (rules : Rules) (carry : Carry) (from : Address) (to : List Address) wh
         (start, finds, λ fates passed. lacks_part rules carry source.ahead fates passed p.answers to (after_opening from x) z p p.last start (slice_index_or p.goes.overs p.last nothing) goes);
   })
 
-  fails_by : (fault : LinkFault) (x y : DockContents) → PassesOn rules carry from to (Err fault) x y → FailsGate rules carry from to x
+  fails_by : (fault : LinkFault) (x y : DockContents) → PassedOn rules carry from to (Err fault) x y → FailsGate rules carry from to x
   fails_by fault x y (inl (failed, none, after)) = inl (inl none)
-  fails_by fault x y (inr (source, found, mid, after, inl (failed, few))) = inl (inr (source, found, few_reached to (after_opening from x) mid few))
-  fails_by fault x y (inr (source, found, mid, after, inr goes)) = inr (source, found, fails_out fault x mid source goes)
+  fails_by fault x y (inr (source, found, mid, answers, after, inl (failed, few))) = inl (inr (source, found, few_reached to (after_opening from x) mid few))
+  fails_by fault x y (inr (source, found, mid, answers, after, inr goes)) = inr (source, found, fails_out fault x mid source goes)
 
   -- none of them fails
   module _ (x z : DockContents) (source : LinkStart) (found : Finds x 0 from source) (p : PassesAll rules carry (AreAhead source.ahead) to (λ k. true) (after_opening from x) z) where
@@ -133,16 +166,16 @@ module _ (rules : Rules) (carry : Carry) (from : Address) (to : List Address) wh
         whole rules carry source.ahead p.fates p.passed (subst (λ (s : LinkStart). BreaksOff rules s.ahead) (found_once x 0 from start source there found) breaks)
     none_fails (inr (start, there, inr lacks)) = takes start (found_once x 0 from start source there found) lacks
 
-  passes_not : (tally : Tally) (x y : DockContents) → PassesOn rules carry from to (Ok tally) x y → FailsGate rules carry from to x → ⊥
+  passes_not : (tally : Tally) (x y : DockContents) → PassedOn rules carry from to (Ok tally) x y → FailsGate rules carry from to x → ⊥
   passes_not tally x y (inl (failed, none, after)) fail = let clash : false ≡ true = failed in absurd cc
-  passes_not tally x y (inr (source, found, mid, after, inl (failed, few))) fail = let clash : false ≡ true = failed in absurd cc
-  passes_not tally x y (inr (source, found, mid, after, inr (p, counted))) fail = none_fails x mid source found p fail
+  passes_not tally x y (inr (source, found, mid, answers, after, inl (failed, few))) fail = let clash : false ≡ true = failed in absurd cc
+  passes_not tally x y (inr (source, found, mid, answers, after, inr (p, counted))) fail = none_fails x mid source found p fail
 
   -- ---- what has gone over each of them
 
-  module _ (different : AreDifferent to) (x y mid : DockContents) (is : y ≡ after_source from mid) (source : LinkStart) (fates : List Fate) (passed : IsPassedOn rules carry (AreAhead source.ahead) fates) where
+  module _ (different : AreDifferent to) (x y mid : DockContents) (answers : List Answer) (is : y ≡ after_source from answers mid) (source : LinkStart) (fates : List Fate) (passed : IsPassedOn rules carry (AreAhead source.ahead) fates) where
     has : (Goes : ℕ → LinkStart → Over → Type 0) (goes : GoesOver Goes to (after_opening from x) mid) (k : ℕ) → k < length to → (slice_index_or goes.overs k nothing).gone ≡ sent_of fates → HasAll fates to k y
-    has Goes goes k within same at = ap (λ (d : DockContents). map.get d.gone (address_key (slice_index_or to k at))) is ∙ (gone_at x from Goes to mid different goes k at within ∙ ap Some same)
+    has Goes goes k within same at = ap (λ (d : DockContents). map.get d.gone (address_key (slice_index_or to k at))) is ∙ (gone_at x from Goes to answers mid different goes k at within ∙ ap Some same)
 
     module _ (k : ℕ) (at : Address) (start : LinkStart) (within : k < length to) (finds : Finds (after_opening from x) k (slice_index_or to k at) start) (enough : TakesSends start.sends (length (sent_of fates))) where
       of_all : (up : ℕ → Bool) → PassesAll rules carry (AreAhead source.ahead) to up (after_opening from x) mid → HasAll fates to k y
@@ -164,61 +197,72 @@ module _ (rules : Rules) (carry : Carry) (from : Address) (to : List Address) wh
           (lacks_part rules carry source.ahead fates passed p.answers to (after_opening from x) mid p k other (slice_index_or p.goes.overs k nothing) goes)
           (subst (λ (s : LinkStart). TakesSends s.sends (length (sent_of fates))) one enough))
 
-  each_by : AreDifferent to → (result : Result Tally LinkFault) (x y : DockContents) → PassesOn rules carry from to result x y → (FailsOpening x from to → ⊥) → (source : LinkStart) (fates : List Fate) → Finds x 0 from source
+  each_by : AreDifferent to → (result : Result Tally LinkFault) (x y : DockContents) → PassedOn rules carry from to result x y → (FailsOpening x from to → ⊥) → (source : LinkStart) (fates : List Fate) → Finds x 0 from source
       → IsPassedOn rules carry (AreAhead source.ahead) fates → (k : ℕ) (at : Address) (start : LinkStart) → k < length to → Finds (after_opening from x) k (slice_index_or to k at) start
       → TakesSends start.sends (length (sent_of fates)) → HasAll fates to k y
   each_by different result x y (inl (failed, none, after)) fine source fates found passed k at start within finds enough = absurd (fine (inl none))
-  each_by different result x y (inr (first, there, mid, after, inl (failed, few))) fine source fates found passed k at start within finds enough =
+  each_by different result x y (inr (first, there, mid, answers, after, inl (failed, few))) fine source fates found passed k at start within finds enough =
       absurd (fine (inr (first, there, few_reached to (after_opening from x) mid few)))
-  each_by different result x y (inr (first, there, mid, after, inr goes)) fine source fates found passed k at start within finds enough =
+  each_by different result x y (inr (first, there, mid, answers, after, inr goes)) fine source fates found passed k at start within finds enough =
       let one : source ≡ first = found_once x 0 from source first found there in
-      of_out different x y mid after first fates (subst (λ (s : LinkStart). IsPassedOn rules carry (AreAhead s.ahead) fates) one passed) k at start within finds enough result goes
+      of_out different x y mid answers after first fates (subst (λ (s : LinkStart). IsPassedOn rules carry (AreAhead s.ahead) fates) one passed) k at start within finds enough result goes
 
   -- where none fails all has gone over each
-  all_gone : AreDifferent to → (x y mid : DockContents) → y ≡ after_source from mid → (source : LinkStart) (p : PassesAll rules carry (AreAhead source.ahead) to (λ k. true) (after_opening from x) mid)
+  all_gone : AreDifferent to → (x y mid : DockContents) (answers : List Answer) → y ≡ after_source from answers mid → (source : LinkStart) (p : PassesAll rules carry (AreAhead source.ahead) to (λ k. true) (after_opening from x) mid)
       → (k : ℕ) → k < length to → HasAll p.fates to k y
-  all_gone different x y mid is source p k within at =
+  all_gone different x y mid answers is source p k within at =
       let (other, there, goes) = p.goes.goes.each k at nothing within in
-      has different x y mid is source p.fates p.passed (λ j s went. Goes true (sent_of p.fates) s went) p.goes k within goes.0 at
+      has different x y mid answers is source p.fates p.passed (λ j s went. Goes true (sent_of p.fates) s went) p.goes k within goes.0 at
 
   -- ---- the whole run
+
+  forget : (passed : Result Tally LinkFault) (x y : DockContents) → PassesOn rules carry from to passed x y → PassedOn rules carry from to passed x y
+  forget passed x y (inl fails) = inl fails
+  forget passed x y (inr (source, found, mid, answers, after, inl (failed, none, few))) = inr (source, found, mid, answers, after, inl (failed, few))
+  forget passed x y (inr (source, found, mid, answers, after, inr goes)) =
+      inr (source, found, mid, answers, after, inr (out_ahead rules carry source.ahead answers to passed (after_opening from x) mid goes))
 
   module _ {O : Type 0} (different : AreDifferent to) (ending : Result Bool Fault) (known : O → Known Output) (out out' : O) where
     not_link : (tally : Tally) → WritesTally (Ok tally) ending known out out' → ending ≡ Err faults.Link → ⊥
     not_link tally (inl (is, text)) link = no_fault (is_clean tally) faults.Link (sym is ∙ link)
     not_link tally (inr (is, text)) link = let one : faults.Write ≡ faults.Link = inner faults.Write faults.Link (sym is ∙ link) in absurd cc
 
-    exactly_by : (passed : Result Tally LinkFault) (x y : DockContents) → WritesTally passed ending known out out' → PassesOn rules carry from to passed x y
+    -- it ends by a link where that was told
+    to_link : (passed : Result Tally LinkFault) → WritesTally passed ending known out out' → IsErr passed → ending ≡ Err faults.Link
+    to_link (Ok tally) writes failed = absurd (let clash : false ≡ true = failed in cc)
+    to_link (Err fault) writes failed = writes.0
+
+    exactly_by : (passed : Result Tally LinkFault) (x y : DockContents) → WritesTally passed ending known out out' → PassedOn rules carry from to passed x y
         → UnlessMemory ending ((ending ≡ Err faults.Link) ↔ FailsGate rules carry from to x)
     exactly_by (Ok tally) x y writes passes = inr (λ link. absurd (not_link tally writes link), λ fail. absurd (passes_not tally x y passes fail))
     exactly_by (Err fault) x y writes passes = inr (λ link. fails_by fault x y passes, λ fail. writes.0)
 
-    passed_by : (tally : Tally) (x y : DockContents) → ending ≡ Ok (is_clean tally) → Outputs (known out) (known out') (λ text. text ≡ gate_line tally) → PassesOn rules carry from to (Ok tally) x y
+    passed_by : (tally : Tally) (x y : DockContents) → ending ≡ Ok (is_clean tally) → Outputs (known out) (known out') (λ text. text ≡ gate_line tally) → PassedOn rules carry from to (Ok tally) x y
         → PassedAll rules carry from to ending x y known out out'
     passed_by tally x y is text (inl (failed, none, after)) = let clash : false ≡ true = failed in absurd cc
-    passed_by tally x y is text (inr (source, found, mid, after, inl (failed, few))) = let clash : false ≡ true = failed in absurd cc
-    passed_by tally x y is text (inr (source, found, mid, after, inr (p, counted))) = record {
+    passed_by tally x y is text (inr (source, found, mid, answers, after, inl (failed, few))) = let clash : false ≡ true = failed in absurd cc
+    passed_by tally x y is text (inr (source, found, mid, answers, after, inr (p, counted))) = record {
       source = source;
       finds = found;
       fates = p.fates;
       passed = p.passed;
-      gone = λ k within. all_gone different x y mid after source p k within;
+      gone = λ k within. all_gone different x y mid answers after source p k within;
       line = subst (λ (t : Tally). Outputs (known out) (known out') (λ written. written ≡ gate_line t)) counted text;
       clean = is ∙ ap (λ (t : Tally). Ok (is_clean t)) counted;
     }
 
     complete_by : (passed : Result Tally LinkFault) (x y : DockContents) → HasCause (known out) (known out') (ending ≡ Err faults.Write) → (HasFailed (known out) (known out') → ⊥)
-        → WritesTally passed ending known out out' → PassesOn rules carry from to passed x y → (FailsGate rules carry from to x → ⊥) → UnlessMemory ending (PassedAll rules carry from to ending x y known out out')
+        → WritesTally passed ending known out out' → PassedOn rules carry from to passed x y → (FailsGate rules carry from to x → ⊥) → UnlessMemory ending (PassedAll rules carry from to ending x y known out out')
     complete_by (Ok tally) x y cause none (inl (is, text)) passes fail = inr (passed_by tally x y is text passes)
-    complete_by (Ok tally) x y cause none (inr (is, text)) passes fail = absurd (none (cause.rose is))
+    complete_by (Ok tally) x y cause none (inr (is, text)) passes fail = absurd (none (cause.once is))
     complete_by (Err fault) x y cause none writes passes fail = absurd (fail (fails_by fault x y passes))
 
-    alike_by : (passed : Result Tally LinkFault) (clean : Bool) (x y : DockContents) → WritesTally passed ending known out out' → ending ≡ Ok clean → PassesOn rules carry from to passed x y
+    alike_by : (passed : Result Tally LinkFault) (clean : Bool) (x y : DockContents) → WritesTally passed ending known out out' → ending ≡ Ok clean → PassedOn rules carry from to passed x y
         → (j k : ℕ) (at : Address) → j < length to → k < length to → map.get y.gone (address_key (slice_index_or to j at)) ≡ map.get y.gone (address_key (slice_index_or to k at))
     alike_by (Ok tally) clean x y writes done (inl (failed, none, after)) j k at first second = let clash : false ≡ true = failed in absurd cc
-    alike_by (Ok tally) clean x y writes done (inr (source, found, mid, after, inl (failed, few))) j k at first second = let clash : false ≡ true = failed in absurd cc
-    alike_by (Ok tally) clean x y writes done (inr (source, found, mid, after, inr (p, counted))) j k at first second =
-        all_gone different x y mid after source p j first at ∙ sym (all_gone different x y mid after source p k second at)
+    alike_by (Ok tally) clean x y writes done (inr (source, found, mid, answers, after, inl (failed, few))) j k at first second = let clash : false ≡ true = failed in absurd cc
+    alike_by (Ok tally) clean x y writes done (inr (source, found, mid, answers, after, inr (p, counted))) j k at first second =
+        all_gone different x y mid answers after source p j first at ∙ sym (all_gone different x y mid answers after source p k second at)
     alike_by (Err fault) clean x y writes done passes j k at first second = absurd (no_fault clean faults.Link (sym done ∙ writes.0))
 
     kind_by : (passed : Result Tally LinkFault) → WritesTally passed ending known out out' → (fault : Fault) → ending ≡ Err fault → (fault ≡ faults.NoMemory) ⊎ (fault ≡ faults.Link) ⊎ (fault ≡ faults.Write)
@@ -241,23 +285,26 @@ module _ (rules : Rules) (carry : Carry) (from : Address) (to : List Address) wh
       each = Tells-nothing _ (dock_known dock) (λ x fine source fates found passed k at start within finds enough. inl is);
       complete = λ none. Tells-nothing _ (dock_known dock) (λ x fine. inl is);
       alike = λ clean done. absurd (no_fault clean faults.NoMemory (sym done ∙ is));
-      later = omega arith;
-      write_cause = record { later = omega arith; rose = λ write. let one : faults.Write ≡ faults.NoMemory = inner faults.Write faults.NoMemory (sym write ∙ is) in absurd cc };
+      dock_cause = inl refl;
+      write_cause = counts_none (λ write. let one : faults.Write ≡ faults.NoMemory = inner faults.Write faults.NoMemory (sym write ∙ is) in absurd cc) refl;
     }
 
     module _ {D : Type 0} (dock_known : D → Known DockContents) (dock dock' : D) where
       pub links_run : (passed : Result Tally LinkFault) → Tells (dock_known dock) (dock_known dock') (PassesOn rules carry from to passed) → WritesTally passed ending known out out'
-          → (dock_known dock).faults ≤ (dock_known dock').faults → HasCause (known out) (known out') (ending ≡ Err faults.Write)
+          → OpeningFailed (dock_known dock) (dock_known dock') (IsErr passed) → HasCause (known out) (known out') (ending ≡ Err faults.Write)
           → GateCommandRun rules carry from to ending dock_known dock dock' known out out'
-      links_run passed told writes later cause = record {
+      links_run passed told writes failed cause = record {
         run = inr (record { passed = passed; told = told; writes = writes });
         kind = kind_by passed writes;
         untouched = λ is. absurd (not_memory passed writes is);
-        exactly = Tells-weaker (PassesOn rules carry from to passed) _ (dock_known dock) (dock_known dock') told (λ x y passes. exactly_by passed x y writes passes);
+        exactly = Tells-weaker (PassesOn rules carry from to passed) _ (dock_known dock) (dock_known dock') told (λ x y passes. exactly_by passed x y writes (forget passed x y passes));
         each = Tells-weaker (PassesOn rules carry from to passed) _ (dock_known dock) (dock_known dock') told
-            (λ x y passes fine source fates found is k at start within finds enough. inr (each_by different passed x y passes fine source fates found is k at start within finds enough));
-        complete = λ none. Tells-weaker (PassesOn rules carry from to passed) _ (dock_known dock) (dock_known dock') told (λ x y passes. complete_by passed x y cause none writes passes);
-        alike = λ clean done. Tells-weaker (PassesOn rules carry from to passed) _ (dock_known dock) (dock_known dock') told (λ x y passes. alike_by passed clean x y writes done passes);
-        later = later;
+            (λ x y passes fine source fates found is k at start within finds enough. inr (each_by different passed x y (forget passed x y passes) fine source fates found is k at start within finds enough));
+        complete = λ none. Tells-weaker (PassesOn rules carry from to passed) _ (dock_known dock) (dock_known dock') told (λ x y passes. complete_by passed x y cause none writes (forget passed x y passes));
+        alike = λ clean done. Tells-weaker (PassesOn rules carry from to passed) _ (dock_known dock) (dock_known dock') told (λ x y passes. alike_by passed clean x y writes done (forget passed x y passes));
+        dock_cause = elim failed [
+          | inl same ↦ inl same
+          | inr once ↦ inr (to_link passed writes once.0, once.1)
+        ];
         write_cause = cause;
       }

@@ -3,15 +3,18 @@ use Rattle.std.specs.Prelude.{ℕ, ◌≡◌, ◌<◌, ◌≤◌, ◌⊎◌, Boo
 use Rattle.dcp_pft.specs.declared.carry.Carry.{Carry}
 use Rattle.drm_links.specs.Told.{Known}
 use Rattle.drm_links.specs.Link.{Answer, Traffic}
-use Rattle.drm_links.specs.Dock.{DockContents, LinkStart}
+use Rattle.drm_links.specs.Dock.{DockContents, LinkStart, Over}
 use Rattle.drm_links.specs.Transmission.{TakesSends}
 use Rattle.drm_links.specs.declared.dock.Address.{Address}
 use Rattle.drm_links.specs.declared.link.LinkFault.{LinkFault}
 use Rattle.report_lines.specs.declared.report.EndWord.{EndWord}
 use Rattle.mod_receiver.specs.declared.rules.Rules.{Rules}
 use Rattle.mod_receiver.specs.Hearing.{AreNext, Heard}
+use Rattle.mod_receiver.specs.Ranges.{AreInRange}
 use Rattle.mod_receiver.specs.Reading.{datagrams, GoesOn, IsFinished, IsBroken, most_answers}
-use Rattle.several_links.specs.Reaching.{Over, ReachesFew, GoesOver}
+use Rattle.several_links.specs.Reaching.{ReachesFew, GoesOver}
+use Rattle.drm_receive.specs.Terms.{AreListed}
+use Rattle.drm_gate.specs.Gateway.{Gateway, IsNew}
 use Rattle.drm_gate.specs.declared.tally.Tally.{Tally}
 use Rattle.drm_gate.specs.declared.gate.GateEnded.{GateEnded}
 use Rattle.drm_gate.specs.declared.gate.GateOptions.{GateOptions}
@@ -21,9 +24,25 @@ use Rattle.drm_gate.specs.Tallies.{tally_of, over}
 use Rattle.drm_gate.specs.Run.{IsOnward, IsReady, StopsAt, IsFrontOf, IsFrontOfOnward}
 use Rattle.gate_command.specs.Opening.{no_rests}
 
+-- What a run between links stands on: a new gateway that goes by these rules, addresses that are listed, room for a link to each, in
+-- which none stands yet, and a buffer for a datagram.
+pub record IsSetUp (gateway : Gateway) (rules : Rules) (to : List Address) (links room buffer : ℕ) : Type 0 where
+  pub new : IsNew gateway
+  pub in_range : AreInRange rules
+  pub window : gateway.collector.window ≡ rules.window
+  pub first : gateway.collector.first ≡ rules.first
+  pub listed : AreListed to
+  pub none : links ≡ 0
+  pub all : length to ≤ room
+  pub long : 65536 ≤ buffer
+
 -- these are the first of the answers ahead of a link
 abbrev pub AreAhead : List Answer → List Answer → Type 0
 AreAhead ahead answers = (rest : List Answer) × AreNext ahead answers rest
+
+-- these are the first of those ahead, and the link told at its end that it gave just them
+abbrev pub AreRead : List Answer → List Answer → List Answer → Type 0
+AreRead ahead told answers = AreAhead ahead answers × (told ≡ answers)
 
 -- What is heard is finished, and this becomes of it.
 pub record IsPassedOn (rules : Rules) (carry : Carry) (hears : List Answer → Type 0) (fates : List Fate) : Type 0 where

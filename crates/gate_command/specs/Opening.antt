@@ -1,5 +1,6 @@
 -- Links that are opened, one to read and others to send over.
 use Rattle.std.specs.Prelude.{ℕ, ◌⊎◌, List, [], ◌∷◌, ◌++◌, map}
+use Rattle.drm_links.specs.Link.{Answer}
 use Rattle.drm_links.specs.Dock.{DockContents, LinkStart, after_opening, after_close}
 use Rattle.drm_links.specs.declared.dock.Address.{Address}
 use Rattle.several_links.specs.Openings.{Finds, FindsNone}
@@ -13,6 +14,6 @@ FailsOpening told from to = FindsNone told 0 from ⊎ ((source : LinkStart) × F
 abbrev pub no_rests : List (List ℕ) → List ℕ
 no_rests gone = map (λ _. 0) gone ++ 0 ∷ []
 
--- where the link that was read was closed, over which nothing had gone
-abbrev pub after_source : Address → DockContents → DockContents
-after_source from told = after_close from [] (no_rests []) told
+-- where the link that was read was closed, which had given these answers: nothing had gone over it
+abbrev pub after_source : Address → List Answer → DockContents → DockContents
+after_source from answers told = after_close from (record { answers = answers; gone = []; rests = no_rests [] }) told

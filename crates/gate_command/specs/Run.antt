@@ -1,5 +1,5 @@
 -- The command `gate`: what comes over one link goes out over others, under another carry.
-use Rattle.std.specs.Prelude.{ℕ, ◌≡◌, ◌<◌, ◌≤◌, ◌⊎◌, ◌↔◌, Bool, List, length, slice_index_or, Option, Some, Result, Ok, Err, IsErr}
+use Rattle.std.specs.Prelude.{ℕ, ◌≡◌, ◌<◌, ◌⊎◌, ◌↔◌, Bool, List, [], length, slice_index_or, Option, Some, Result, Ok, Err, IsErr}
 use Rattle.std.specs.FinMap as map
 use Rattle.dcp_pft.specs.declared.carry.Carry.{Carry}
 use Rattle.drm_links.specs.Told.{HasFailed, Known, HasCause, Tells}
@@ -14,6 +14,7 @@ use Rattle.mod_receiver.specs.Ahead.{BreaksOff}
 use Rattle.several_links.specs.Openings.{Finds, FindsNone}
 use Rattle.several_links.specs.Reaching.{ReachesFew}
 use Rattle.drm_faults.specs.Fault.{UnlessMemory}
+use Rattle.drm_faults.specs.Causes.{OpeningFailed}
 use Rattle.drm_faults.specs.declared.fault.Fault.{Fault}
 use Rattle.drm_faults.specs.declared.fault.Fault.TheVariants as faults
 use Rattle.drm_gate.specs.declared.tally.Tally.{Tally}
@@ -21,18 +22,19 @@ use Rattle.drm_gate.specs.Passing.{Fate, sent_of}
 use Rattle.drm_gate.specs.Tallies.{tally_of, over}
 use Rattle.gate_command.specs.Line.{gate_line, is_clean}
 use Rattle.gate_command.specs.Opening.{FailsOpening, after_source}
-use Rattle.gate_command.specs.Between.{AreAhead, IsPassedOn, GoesOut}
+use Rattle.gate_command.specs.Between.{AreAhead, AreRead, IsPassedOn, GoesOut}
 
 -- ---- what goes out
 
 -- What the dock tells: an opening failed, and the links that were opened are closed; or all links were opened, this went over those
--- that are sent over of what was ahead of the one that is read, and they were closed, that one last.
+-- that are sent over of what was ahead of the one that is read, and they were closed, that one last. It had given the answers of which
+-- this became, and no others; where an opening failed none.
 abbrev pub PassesOn : Rules → Carry → Address → List Address → Result Tally LinkFault → DockContents → DockContents → Type 0
 PassesOn rules carry from to passed before after =
     (IsErr passed × FindsNone before 0 from × (after ≡ after_failure before))
-    ⊎ ((source : LinkStart) × Finds before 0 from source × (mid : DockContents) × (after ≡ after_source from mid)
-    × ((IsErr passed × ReachesFew to (after_opening from before) mid)
-    ⊎ GoesOut rules carry (AreAhead source.ahead) to passed (after_opening from before) mid))
+    ⊎ ((source : LinkStart) × Finds before 0 from source × (mid : DockContents) × (answers : List Answer) × (after ≡ after_source from answers mid)
+    × ((IsErr passed × (answers ≡ []) × ReachesFew to (after_opening from before) mid)
+    ⊎ GoesOut rules carry (AreRead source.ahead answers) to passed (after_opening from before) mid))
 
 -- How the run ends, and what is written: where all was counted the line of it, or after a failed write a front of that; where a link
 -- failed nothing.
@@ -113,6 +115,6 @@ pub record GateCommandRun {D O : Type 0} (rules : Rules) (carry : Carry) (from :
   -- After a run that ends well the same has gone at each address.
   pub alike : (clean : Bool) → ending ≡ Ok clean → Tells (dock_known dock) (dock_known dock') (λ _ after. (j k : ℕ) (at : Address) → j < length to → k < length to
       → map.get after.gone (address_key (slice_index_or to j at)) ≡ map.get after.gone (address_key (slice_index_or to k at)))
-  -- The counts of faults never fall, and a write failed only where out's rose.
-  pub later : (dock_known dock).faults ≤ (dock_known dock').faults
+  -- The dock's count of faults rose, by one, only where an opening ended the run, and that of out exactly where a write did.
+  pub dock_cause : OpeningFailed (dock_known dock) (dock_known dock') (ending ≡ Err faults.Link)
   pub write_cause : HasCause (out_known out) (out_known out') (ending ≡ Err faults.Write)

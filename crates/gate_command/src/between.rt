@@ -1,12 +1,10 @@
 //! A link that is read and others that are sent over: they are opened, passed over, and closed.
 
-ghost use Rattle.std.specs.Prelude.{◌≡◌, ◌≤◌, length, vec_len, vec_capacity};
+ghost use Rattle.std.specs.Prelude.{◌≡◌, IsErr, length, vec_len, vec_capacity};
 ghost use Rattle.drm_links.specs.Told.{Tells};
-ghost use Rattle.mod_receiver.specs.Ranges.{AreInRange};
-ghost use Rattle.drm_receive.specs.Terms.{AreListed};
-ghost use Rattle.drm_gate.specs.Gateway.{IsNew};
+ghost use Rattle.drm_faults.specs.Causes.{OpeningFailed};
 ghost use Rattle.drm_gate.specs.Resting.{NeverRests};
-ghost use Rattle.gate_command.specs.Between.{PassesTo, options_of, passed_of};
+ghost use Rattle.gate_command.specs.Between.{IsSetUp, PassesTo, options_of, passed_of};
 ghost use Rattle.gate_command.specs.Run.{PassesOn};
 
 use drm_gate::{Gate, GateEnded, GateOptions, Tally, gate_one};
@@ -26,16 +24,9 @@ pub(crate) fn pass_between<D: Dock>(
     buffer: &mut [u8],
     dock: &mut D,
 ) -> Result<Tally, LinkFault>
-    requires new { IsNew gate.old }
-    requires rules { AreInRange rules.now }
-    requires window { gate.old.collector.window ≡ rules.now.window }
-    requires first { gate.old.collector.first ≡ rules.now.first }
-    requires listed { AreListed to.now }
-    requires none { vec_len room ≡ 0 }
-    requires all { length to.now ≤ vec_capacity room }
-    requires buffer { 65536 ≤ length buffer.old }
+    requires { IsSetUp gate.old rules.now to.now (vec_len room) (vec_capacity room) (length buffer.old) }
     ensures told { Tells (D.known dock.old) (D.known dock.new) (PassesOn rules.now gate.old.carry from to.now result) }
-    ensures later { (D.known dock.old).faults ≤ (D.known dock.new).faults }
+    ensures cause { OpeningFailed (D.known dock.old) (D.known dock.new) (IsErr result) }
 {
     match dock.bind(from) {
         Opened::Link(mut source) => {
@@ -57,18 +48,11 @@ fn pass_to<L: Link, D: Dock>(
     buffer: &mut [u8],
     dock: &mut D,
 ) -> Result<Tally, LinkFault>
-    requires new { IsNew gate.old }
-    requires rules { AreInRange rules.now }
-    requires window { gate.old.collector.window ≡ rules.now.window }
-    requires first { gate.old.collector.first ≡ rules.now.first }
-    requires listed { AreListed to.now }
-    requires none { vec_len room ≡ 0 }
-    requires all { length to.now ≤ vec_capacity room }
-    requires buffer { 65536 ≤ length buffer.old }
+    requires { IsSetUp gate.old rules.now to.now (vec_len room) (vec_capacity room) (length buffer.old) }
     ensures told { Tells (D.known dock.old) (D.known dock.new)
         (PassesTo rules.now gate.old.carry to.now (L.known source.old) (L.known source.new) result) }
     ensures still { Tells (L.known source.old) (L.known source.new) NeverRests }
-    ensures later { (D.known dock.old).faults ≤ (D.known dock.new).faults }
+    ensures cause { OpeningFailed (D.known dock.old) (D.known dock.new) (IsErr result) }
 {
     match reach_in(room, to, dock) {
         Ok(mut members) => {

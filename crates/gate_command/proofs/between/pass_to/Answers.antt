@@ -1,9 +1,10 @@
-use Rattle.std.proofs.Common.{◌≡◌, ◌++◌, List, take, drop, length, vec_len, ◌∙◌, sym, subst}
+use Rattle.std.proofs.Common.{◌≡◌, ◌++◌, List, take, drop, length, vec_len, ◌∙◌, inl, inr, refl, sym, subst}
 use Rattle.std.proofs.lemmas.List.{take_at}
 use Rattle.drm_links.specs.Told.{Tells}
 use Rattle.mod_receiver.specs.declared.rules.Rules.{Rules}
 use Rattle.several_links.specs.Openings.{Docked}
-use Rattle.several_links.specs.Reaching.{Over, AreUp, HaveGone, HaveLinks, after_closes}
+use Rattle.drm_links.specs.Dock.{Over}
+use Rattle.several_links.specs.Reaching.{AreUp, HaveGone, HaveLinks, after_closes}
 use Rattle.several_links.specs.declared.member.Member.{Member}
 use Rattle.drm_gate.specs.Run.{GateRun}
 use Rattle.drm_gate.specs.Targets.{targets}
@@ -36,5 +37,11 @@ returns-in-Ok-clause-told g c =
     let run = subst (λ (r : Rules). GateRun r c.args.gate.now.carry from from' (targets known before) (targets known after) c.gate_one-ended.result) same c.gate_one-ended.ensures.ended in
     rw c.passed.ensures
     (opened_out c.args.rules.now c.args.gate.now.carry to from from' (passed_of c.gate_one-ended.result) a d
-    (goes_out c.args.rules.now c.requires.rules c.args.gate.now.carry to known before after many many' up a b d c.in-Ok.ensures.opened links shut
+    (goes_out c.args.rules.now c.requires.in_range c.args.gate.now.carry to known before after many many' up a b d c.in-Ok.ensures.opened links shut
     (only_of c.args.rules.now c.args.gate.now.carry from from' (targets known before) (targets known after) c.gate_one-ended.result run) from from' c.gate_one-ended.result run))
+
+pub returns-in-Ok-clause-cause : goal.returns-in-Ok-clause-cause
+returns-in-Ok-clause-cause g c = inl (c.close_each.ensures.cause ∙ c.in-Ok.ensures.cause.same (λ failed. cc))
+
+pub returns-in-Err-clause-cause : goal.returns-in-Err-clause-cause
+returns-in-Err-clause-cause g c = inr (refl, c.in-Err.ensures.cause.once refl)

@@ -2,6 +2,7 @@ use Rattle.std.proofs.Common.{subst, ap, ◌∙◌, refl, inl, inr, arith, Ok, E
 use Rattle.std.proofs.lemmas.Result.{err_from_is_err_and}
 use Rattle.dcp_pft.specs.declared.carry.Carry.{Carry}
 use Rattle.drm_links.specs.Told.{Tells}
+use Rattle.drm_links.proofs.ToldLemmas.{counts_one, counts_none}
 use Rattle.drm_receive.proofs.ReceiveLemmas.{inner, no_fault}
 use Rattle.drm_faults.specs.declared.fault.Fault.TheVariants as faults
 use Rattle.drm_gate.specs.Gateway.{Gateway}
@@ -22,7 +23,7 @@ returns-in_err-tally g c =
     let told = subst (λ (k : Carry). Tells (g.D.Dock.known c.args.dock.now) (g.D.Dock.known c.pass_between.new.dock) (PassesOn c.args.rules.now k c.args.from c.args.to.now (Err c.in_err-tally.field-0.0))) carry c.in_err-tally.ensures.told in
     rw (p.1 ∙ ap Err p.2)
     (links_run c.args.rules.now c.args.carry c.args.from c.args.to.now c.requires.listed.different (Err faults.Link) g.O.Sink.known c.args.out.now c.args.out.now g.D.Dock.known c.args.dock.now c.pass_between.new.dock (Err c.in_err-tally.field-0.0) told (refl, refl)
-    c.in_err-tally.ensures.later (record { later = omega arith; rose = λ is. let one = inner faults.Link faults.Write is in absurd cc }))
+    c.in_err-tally.ensures.cause (counts_none (λ is. let one = inner faults.Link faults.Write is in absurd cc) refl))
 
 pub returns-in_err-write_tally : goal.returns-in_err-write_tally
 returns-in_err-write_tally g c =
@@ -31,7 +32,7 @@ returns-in_err-write_tally g c =
     let told = subst (λ (k : Carry). Tells (g.D.Dock.known c.args.dock.now) (g.D.Dock.known c.pass_between.new.dock) (PassesOn c.args.rules.now k c.args.from c.args.to.now (Ok c.in_ok-tally.tally))) carry c.in_ok-tally.ensures.told in
     rw (p.1 ∙ ap Err p.2)
     (links_run c.args.rules.now c.args.carry c.args.from c.args.to.now c.requires.listed.different (Err faults.Write) g.O.Sink.known c.args.out.now c.write_tally.new.out g.D.Dock.known c.args.dock.now c.pass_between.new.dock (Ok c.in_ok-tally.tally) told
-    (inr (refl, c.in_err-write_tally.ensures.front)) c.in_ok-tally.ensures.later (record { later = c.in_err-write_tally.ensures.cause.later; rose = λ is. c.in_err-write_tally.ensures.cause.rose refl }))
+    (inr (refl, c.in_err-write_tally.ensures.front)) c.in_ok-tally.ensures.cause (counts_one refl (c.in_err-write_tally.ensures.cause.once refl)))
 
 pub returns : goal.returns
 returns g c =
@@ -39,4 +40,4 @@ returns g c =
     let told = subst (λ (k : Carry). Tells (g.D.Dock.known c.args.dock.now) (g.D.Dock.known c.pass_between.new.dock) (PassesOn c.args.rules.now k c.args.from c.args.to.now (Ok c.in_ok-tally.tally))) carry c.in_ok-tally.ensures.told in
     rw c.is_clean.ensures
     (links_run c.args.rules.now c.args.carry c.args.from c.args.to.now c.requires.listed.different (Ok _) g.O.Sink.known c.args.out.now c.write_tally.new.out g.D.Dock.known c.args.dock.now c.pass_between.new.dock (Ok c.in_ok-tally.tally) told
-    (inl (refl, c.in_ok-write_tally.ensures.whole)) c.in_ok-tally.ensures.later (record { later = c.write_tally.ensures.cause.later; rose = λ is. absurd (no_fault _ faults.Write is) }))
+    (inl (refl, c.in_ok-write_tally.ensures.whole)) c.in_ok-tally.ensures.cause (counts_none (λ is. absurd (no_fault _ faults.Write is)) (c.in_ok-write_tally.ensures.cause.same (λ failed. cc))))
