@@ -1,5 +1,4 @@
 use Rattle.std.proofs.Common.{◌≡◌, ◌+◌, ◌<◌, ◌⊎◌, ◌∙◌, refl, sym, take, ap, subst, arith}
-use Rattle.std.proofs.Math.Nat.{le_trans}
 use Rattle.drm_links.specs.declared.link.Came.TheVariants as recv
 use Rattle.mod_receiver.specs.Hearing.{Heard}
 use Rattle.mod_receiver.proofs.Hearing.{heard_none, heard_more}
@@ -11,7 +10,7 @@ use Rattle.drm_paths.proofs.run.run_path.Goals as goal
 pub answers-init : goal.answers-init
 answers-init g c = (
   starts c.args.options.now (Heard (g.L.Link.known c.args.link.now) (g.L.Link.known c.args.link.now)) c.args.path.now.taken (heard_none (g.L.Link.known c.args.link.now)) c.requires.options c.requires.new,
-  omega arith,
+  refl,
   c.requires.buffer,
   refl,
   refl,
@@ -36,7 +35,7 @@ answers-preserved-else-is_full g c = (
       (λ xs h. heard_more (g.L.Link.known c.args.link.now) (g.L.Link.known c.answers.link) (g.L.Link.known c.recv.new.self) xs (recv.Datagram c.in-Datagram.len) c.recv.new.buf h c.in-Datagram.ensures.answer c.in-Datagram.ensures.told)
       c.give.new.self.taken (ap (λ (p : PathState). p.taken) (c.in-Took.ensures.took refl))
       (λ full. not_false (c.if-is_full.ensures.1 (subst (λ n. (c.answers.taken + 1 ≡ c.args.options.now.limit) ⊎ (most_bytes < n + 65536)) (sym c.bytes.ensures.bytes) full))) c.requires.options,
-  le_trans c.answers.invariant.1 c.in-Datagram.ensures.cause.later,
+  c.in-Datagram.ensures.cause.same (λ failed. cc) ∙ c.answers.invariant.1,
   c.recv.auto.buf ∙ c.answers.invariant.2,
   ap (λ (p : PathState). p.number) (c.in-Took.ensures.took refl) ∙ c.answers.invariant.3,
   ap (λ (p : PathState). p.parts) (c.in-Took.ensures.took refl) ∙ c.answers.invariant.4,
@@ -53,7 +52,7 @@ answers-preserved g c = (
   on_idle c.args.options.now (Heard (g.L.Link.known c.args.link.now) (g.L.Link.known c.answers.link)) (Heard (g.L.Link.known c.args.link.now) (g.L.Link.known c.recv.new.self)) c.answers.path.taken c.answers.taken c.answers.idles c.answers.invariant.0
       (λ xs h. heard_more (g.L.Link.known c.args.link.now) (g.L.Link.known c.answers.link) (g.L.Link.known c.recv.new.self) xs recv.Idle c.recv.new.buf h c.in-Idle.ensures.answer c.in-Idle.ensures.told)
       c.if-idles-options.false,
-  le_trans c.answers.invariant.1 c.in-Idle.ensures.cause.later,
+  c.in-Idle.ensures.cause.same (λ failed. cc) ∙ c.answers.invariant.1,
   c.recv.auto.buf ∙ c.answers.invariant.2,
   c.answers.invariant.3,
   c.answers.invariant.4,

@@ -7,7 +7,7 @@ use Rattle.drm_paths.proofs.run.run_path.Given as goal
 abbrev pub invariant-answers : goal.invariant-answers
 invariant-answers g l =
     Reaches l.options (Heard (g.L.Link.known l.fn.link) (g.L.Link.known l.link)) l.path.taken l.taken l.idles
-    × ((g.L.Link.known l.fn.link).faults ≤ (g.L.Link.known l.link).faults)
+    × ((g.L.Link.known l.link).faults ≡ (g.L.Link.known l.fn.link).faults)
     × (length l.buffer ≡ 65536)
     × (l.path.number ≡ l.fn.path.number)
     × (l.path.parts ≡ l.fn.path.parts)
