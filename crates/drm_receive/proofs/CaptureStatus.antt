@@ -151,11 +151,11 @@ capture_run law {I} {O} rules ending input_known input input' out_known out out'
       (λ left rest wrote. exact_by rules left out_known out out' ending kind wrote no_read no_write);
   complete = λ reads goes.
       Inputs-weaker Writes (λ left rest. ((why : capture.Ending) → BreaksOffBy rules left why → ⊥) → UnlessMemory ending (WroteReport rules left ending out_known out out')) (input_known input) (input_known input') writes
-      (λ left rest wrote none. whole_by rules left out_known out out' ending kind wrote (λ is. reads (read_cause.rose is)) (λ is. goes (write_cause.rose is)) none);
+      (λ left rest wrote none. whole_by rules left out_known out out' ending kind wrote (λ is. reads (read_cause.once is)) (λ is. goes (write_cause.once is)) none);
   in_time = λ reads goes.
       Inputs-weaker Writes (λ left rest. (ahead : List Answer) → Brings left ahead → IsInTimeAhead rules ahead → UnlessMemory ending (ending ≡ Ok true)) (input_known input) (input_known input') writes
       (λ left rest wrote ahead brings time. clean_by rules left out_known out out' ending ahead brings time
-      (whole_by rules left out_known out out' ending kind wrote (λ is. reads (read_cause.rose is)) (λ is. goes (write_cause.rose is)) (never_breaks rules left out_known out out' law ahead brings time)));
+      (whole_by rules left out_known out out' ending kind wrote (λ is. reads (read_cause.once is)) (λ is. goes (write_cause.once is)) (never_breaks rules left out_known out out' law ahead brings time)));
   read_cause = read_cause;
   write_cause = write_cause;
 }

@@ -1,5 +1,6 @@
 pub mod OpeningLemmas
 pub mod BreakingOff
+pub mod HearingLemmas
 pub mod ReceiveLemmas
 pub mod ReceiveStatus
 pub mod LiveLemmas

@@ -1,11 +1,11 @@
 -- From the receiver of one link that ended to the whole command.
-use Rattle.std.proofs.Common.{◌≡◌, ℕ, zero, suc, ◌<◌, ◌≤◌, ◌⊎◌, ◌↔◌, inl, inr, Bool, List, [], ◌∷◌, length, slice_index_or, Err, refl, sym, ap, subst, arith}
-use Rattle.drm_links.specs.Told.{Known, HasCause, Tells}
-use Rattle.drm_links.proofs.ToldLemmas.{Tells-weaker}
+use Rattle.std.proofs.Common.{◌≡◌, ℕ, zero, suc, ◌<◌, ◌≤◌, ◌^◌, ◌⊎◌, ◌↔◌, ◌∙◌, inl, inr, Bool, List, [], ◌∷◌, length, slice_index_or, Option, None, Some, Ok, Err, refl, sym, ap, subst, arith, le_trans}
+use Rattle.drm_links.specs.Told.{Known, HasCause, WhileTold, CountsCall, ToldThrough, Tells}
+use Rattle.drm_links.proofs.ToldLemmas.{counts_as, Tells-weaker}
 use Rattle.drm_faults.specs.Fault.{UnlessMemory}
-use Rattle.drm_links.specs.Link.{Traffic}
+use Rattle.drm_links.specs.Link.{Answer, Traffic}
 use Rattle.drm_links.specs.Sink.{Output}
-use Rattle.drm_links.specs.Dock.{DockContents, LinkStart}
+use Rattle.drm_links.specs.Dock.{DockContents, LinkStart, Over, Closes, first_traffic, after_close}
 use Rattle.drm_links.specs.declared.dock.Address.{Address}
 use Rattle.mod_receiver.specs.declared.rules.Rules.{Rules}
 use Rattle.mod_receiver.specs.declared.receiver.Ended.{Ended}
@@ -14,17 +14,22 @@ use Rattle.mod_receiver.specs.Ranges.{AreInRange}
 use Rattle.mod_receiver.specs.declared.receiver.Options.{Options}
 use Rattle.mod_receiver.specs.declared.job.Job.{Job}
 use Rattle.mod_receiver.specs.Jobs.{IsJob, AreJobs, job_rules}
+use Rattle.mod_receiver.specs.Hearing.{Heard}
+use Rattle.mod_receiver.specs.Reading.{most_answers}
 use Rattle.mod_receiver.specs.Received.{EndsAs}
 use Rattle.mod_receiver.specs.Following.{HeadlinesFollow, CompletesFollow, NoneBreaksOff}
 use Rattle.mod_receiver.specs.Ahead.{BreaksOff}
-use Rattle.mod_receiver.proofs.JobLemmas.{rules_are, live_report, live_given, live_breaks, live_front}
+use Rattle.mod_receiver.proofs.Hearing.{heard_none}
+use Rattle.mod_receiver.proofs.JobLemmas.{few_answers, rules_are, live_report, live_given, live_breaks, live_front}
 use Rattle.drm_faults.specs.declared.fault.Fault.{Fault}
 use Rattle.drm_faults.specs.declared.fault.Fault.TheVariants as faults
 use Rattle.drm_receive.specs.Stopping.{ending_live}
 use Rattle.several_links.specs.Openings.{HasLink, Docked, Finds, FindsNone, after_openings}
 use Rattle.drm_receive.specs.Opening.{HaveLinks}
-use Rattle.drm_receive.specs.Receive.{FailsSome, OpensEach, WritesLive, ReceiveRun}
-use Rattle.several_links.proofs.OpeningLemmas.{docked_weaker}
+use Rattle.drm_receive.specs.Hearing.{Hears, HearsEach}
+use Rattle.drm_receive.specs.Receive.{FailsSome, OpensEach, ReadsLive, WritesLive, ReceiveRun}
+use Rattle.several_links.proofs.OpeningLemmas.{docked_weaker, docked_still, docks_more}
+use Rattle.drm_receive.proofs.HearingLemmas.{WentOver, went_over}
 use Rattle.drm_receive.proofs.BreakingOff.{report_whole}
 use Rattle.drm_receive.proofs.ReceiveStatus.{receive_run}
 use Rattle.drm_receive.proofs.ReceiveLemmas.{inner, no_fault}
@@ -97,13 +102,13 @@ module _ {D L O : Type 0} (rules : Rules) (valid : AreInRange rules) (headlines 
   live_exactly NoMemory ends no_write told has = inl refl
 
   pub live_run : NoneBreaksOff → (ended : Ended) → Ends ended → (ended ≡ NoMemory → out' ≡ out)
-      → Tells (dock_known dock) (dock_known dock') (λ x y. y ≡ after_openings (at ∷ []) x) → (dock_known dock).faults ≤ (dock_known dock').faults
+      → Tells (dock_known dock) (dock_known dock') (OpensEach rules (at ∷ []) (ending_live ended) out_known out out') → (dock_known dock').faults ≡ (dock_known dock).faults
       → HasCause (out_known out) (out_known out') (ended ≡ WriteFailed)
       → ReceiveRun rules (at ∷ []) (ending_live ended) dock_known dock dock' out_known out out'
-  live_run law ended ends memory opened later write_cause =
+  live_run law ended ends memory opens same write_cause =
       receive_run law rules (at ∷ []) (ending_live ended) dock_known dock dock' out_known out out'
       (ended_kind ended)
-      (Tells-weaker (λ x y. y ≡ after_openings (at ∷ []) x) (OpensEach (at ∷ []) (ending_live ended)) (dock_known dock) (dock_known dock') opened (λ x y is. inl is))
+      opens
       (docked_weaker (λ told. HasLink link_known told 0 at link) (λ told. WritesLive rules told at (ending_live ended) out_known out out') (dock_known dock) (dock_known dock') found
       (written ended ends memory))
       (λ any. elim any [
@@ -112,30 +117,87 @@ module _ {D L O : Type 0} (rules : Rules) (valid : AreInRange rules) (headlines 
       ])
       (λ unless. docked_weaker (λ told. HasLink link_known told 0 at link) (λ told. UnlessMemory (ending_live ended) ((ending_live ended ≡ Err faults.Link) ↔ FailsSome rules told (at ∷ []))) (dock_known dock) (dock_known dock') found
       (live_exactly ended ends (unless refl)))
-      later
-      (record { later = write_cause.later; rose = λ is. write_cause.rose (ended_write ended is) })
+      (inl same)
+      (counts_as (ended_write ended) (λ is. ap ending_live is) write_cause)
 
 one_of : (addresses : List Address) → length addresses ≡ 1 → (at : Address) × (addresses ≡ at ∷ [])
 one_of [] is = absurd (omega (arith, is))
 one_of (at ∷ []) is = (at, refl)
 one_of (at ∷ (other ∷ addresses)) is = absurd (omega (arith, is))
 
--- the only one of the receivers that were opened ended
+-- ---- what was read
+
+-- The only link was opened at this address, what is said was read of it, and it was closed.
+pub one_hears : {L : Type 0} (known : L → Known Traffic) (P : List Answer → Type 0) (at : Address) (link link' : L) (a b c : Known DockContents)
+    → Tells a b (λ x y. (y ≡ after_openings (at ∷ []) x) × HasLink known x 0 at link)
+    → ((start : LinkStart) → (known link).told ≡ Some (first_traffic start) → WentOver known P link' start)
+    → WhileTold b c (Closes (known link').told at) → CountsCall (λ (d : DockContents). d.calls) b c
+    → Tells a c (HearsEach P (at ∷ []))
+one_hears {L} known P at link link' a b c opened went closed counts =
+    docks_more (λ x y. (y ≡ after_openings (at ∷ []) x) × HasLink known x 0 at link) (Closes (known link').told at) (HearsEach P (at ∷ [])) a b c opened closed counts
+    (λ x y z p q.
+    let start : LinkStart = p.1.0 in
+    let over = went start p.1.2 in
+    let closes : Closes (Some over.1.0) at y z = subst (λ t. Closes t at y z) over.1.1 q in
+    record {
+      overs = over.0 ∷ [];
+      as_many = refl;
+      each = each x start p.1.1 over.0 over.2;
+      told = closes ∙ (ap (λ o. after_close at o y) over.1.2 ∙ ap (after_close at over.0) p.0);
+    })
+  where
+    each : (told : DockContents) (start : LinkStart) → Finds told 0 at start → (over : Over) → Hears P start over
+        → (k : ℕ) (d : Address) (none : Over) → k < 1 → (s : LinkStart) × Finds told k (slice_index_or (at ∷ []) k d) s × Hears P s (slice_index_or (over ∷ []) k none)
+    each told start finds over hears zero d none within = (start, finds, hears)
+    each told start finds over hears (suc k) d none within = absurd (omega (arith, within))
+
+module _ {L O : Type 0} (known : L → Known Traffic) (rules : Rules) (valid : AreInRange rules) (link link' : L) (start : LinkStart) (out_known : O → Known Output) (out out' : O)
+    (told : (known link).told ≡ Some (first_traffic start)) where
+  short : (answers : List Answer) → length answers ≤ most_answers rules → length answers ≤ 2 ^ 62
+  short answers few = le_trans few (few_answers rules valid)
+
+  -- what the only receiver has read
+  pub live_went : (ended : Ended) → EndsAs rules 1 (known link) (known link') (out_known out) (out_known out') ended → WentOver known (ReadsLive rules (ending_live ended) out_known out out') link' start
+  live_went (Done clean) r =
+      went_over known (ReadsLive rules (Ok clean) out_known out out') link link' start r.answers told r.heard (short r.answers r.few)
+      (record { answers = r.answers; heard = refl; few = r.few; at_once = r.at_once; whole = r.whole; is = r.is; text = r.text })
+  live_went LinkFailed r =
+      went_over known (ReadsLive rules (Err faults.Link) out_known out out') link link' start r.answers told r.heard (short r.answers r.few)
+      (record { answers = r.answers; heard = refl; few = r.few; at_once = r.at_once; whole = r.whole; is = r.is; text = r.text })
+  live_went WriteFailed r =
+      went_over known (ReadsLive rules (Err faults.Write) out_known out out') link link' start r.answers told r.heard (short r.answers r.few)
+      (record { answers = r.answers; heard = refl; few = r.few; at_once = r.at_once; goes_on = r.goes_on; text = r.text })
+  live_went NoMemory r =
+      went_over known (ReadsLive rules (Err faults.NoMemory) out_known out out') link link' start [] told
+      (subst (λ now. Heard (known link) now []) (sym r.0) (heard_none (known link))) (omega arith) refl
+
+both_opened : {L : Type 0} (known : L → Known Traffic) (at : Address) (link : L) (a b : Option DockContents)
+    → ToldThrough a b (λ x y. y ≡ after_openings (at ∷ []) x) → ToldThrough a b (λ x _. HasLink known x 0 at link)
+    → ToldThrough a b (λ x y. (y ≡ after_openings (at ∷ []) x) × HasLink known x 0 at link)
+both_opened known at link a None first second = tt
+both_opened known at link None (Some y) first second = first
+both_opened known at link (Some x) (Some y) first second = (first, second)
+
+-- The only one of the receivers that were opened ended, and its link was closed.
 pub only_run : NoneBreaksOff → {D L O : Type 0} (rules : Rules) (valid : AreInRange rules) (headlines : HeadlinesFollow) (completes : CompletesFollow) (addresses : List Address) (jobs : List (Job L)) (job job' : Job L) (ended : Ended)
-    (dock_known : D → Known DockContents) (dock dock' : D) (link_known : L → Known Traffic)
+    (dock_known : D → Known DockContents) (dock mid dock' : D) (link_known : L → Known Traffic)
     (out_known : O → Known Output) (out out' : O)
     → length addresses ≡ 1 → slice_index_or jobs 0 job ≡ job → AreJobs rules (length addresses) jobs
-    → Docked (dock_known dock) (dock_known dock') (λ told. HaveLinks link_known told addresses jobs)
-    → Tells (dock_known dock) (dock_known dock') (λ x y. y ≡ after_openings addresses x) → (dock_known dock).faults ≤ (dock_known dock').faults
+    → Docked (dock_known dock) (dock_known mid) (λ told. HaveLinks link_known told addresses jobs)
+    → Tells (dock_known dock) (dock_known mid) (λ x y. y ≡ after_openings addresses x) → (dock_known dock').faults ≡ (dock_known dock).faults
     → EndsAs (job_rules job) job.options.feed (link_known job.link) (link_known job'.link) (out_known out) (out_known out') ended → (ended ≡ NoMemory → out' ≡ out)
     → HasCause (out_known out) (out_known out') (ended ≡ WriteFailed)
+    → ((d : Address) → WhileTold (dock_known mid) (dock_known dock') (Closes (link_known job'.link).told (slice_index_or addresses 0 d))) → CountsCall (λ (d : DockContents). d.calls) (dock_known mid) (dock_known dock')
     → ReceiveRun rules addresses (ending_live ended) dock_known dock dock' out_known out out'
-only_run law {D} {L} {O} rules valid headlines completes addresses jobs job job' ended dock_known dock dock' link_known out_known out out' one first are links opened later ends memory write_cause =
+only_run law {D} {L} {O} rules valid headlines completes addresses jobs job job' ended dock_known dock mid dock' link_known out_known out out' one first are links opened same ends memory write_cause closed counts =
     let (at, only) = one_of addresses one in
+    let a = dock_known dock in
+    let b = dock_known mid in
+    let e = dock_known dock' in
     let within : 0 < length addresses = omega (arith, one) in
     let is : IsJob rules 1 job = subst (λ (j : Job L). IsJob rules 1 j) first (are 0 job within) in
-    let found : Docked (dock_known dock) (dock_known dock') (λ told. HasLink link_known told 0 at job.link) =
-    docked_weaker (λ told. HaveLinks link_known told addresses jobs) (λ told. HasLink link_known told 0 at job.link) (dock_known dock) (dock_known dock') links
+    let found : Docked a b (λ told. HasLink link_known told 0 at job.link) =
+    docked_weaker (λ told. HaveLinks link_known told addresses jobs) (λ told. HasLink link_known told 0 at job.link) a b links
     (λ told has. subst (λ (j : Job L). HasLink link_known told 0 at j.link) first
     (subst (λ xs. HasLink link_known told 0 (slice_index_or xs 0 at) (slice_index_or jobs 0 job).link) only (has 0 at job within))) in
     let rules_is = rules_are rules 1 job.collector job.options is.collector is.options in
@@ -143,6 +205,14 @@ only_run law {D} {L} {O} rules valid headlines completes addresses jobs job job'
     subst (λ r. EndsAs r job.options.feed (link_known job.link) (link_known job'.link) (out_known out) (out_known out') ended) rules_is ends in
     let named : EndsAs rules 1 (link_known job.link) (link_known job'.link) (out_known out) (out_known out') ended =
     subst (λ n. EndsAs rules n (link_known job.link) (link_known job'.link) (out_known out) (out_known out') ended) (ap (λ (o : Options). o.feed) is.options) raw in
+    let now : WhileTold b e (Closes (link_known job'.link).told at) = subst (λ xs. WhileTold b e (Closes (link_known job'.link).told (slice_index_or xs 0 at))) only (closed at) in
+    let all : Tells a b (λ x y. y ≡ after_openings (at ∷ []) x) = subst (λ xs. Tells a b (λ x y. y ≡ after_openings xs x)) only opened in
+    let hears : Tells a e (HearsEach (ReadsLive rules (ending_live ended) out_known out out') (at ∷ [])) =
+    one_hears link_known (ReadsLive rules (ending_live ended) out_known out out') at job.link job'.link a b e (both_opened link_known at job.link a.told b.told all found)
+    (λ start told. live_went link_known rules valid job.link job'.link start out_known out out' told ended named) now counts in
     subst (λ xs. ReceiveRun rules xs (ending_live ended) dock_known dock dock' out_known out out') (sym only)
-    (live_run rules valid headlines completes at dock_known dock dock' link_known job.link job'.link out_known out out' found
-    law ended named memory (subst (λ xs. Tells (dock_known dock) (dock_known dock') (λ x y. y ≡ after_openings xs x)) only opened) later write_cause)
+    (live_run rules valid headlines completes at dock_known dock dock' link_known job.link job'.link out_known out out'
+    (docked_still (λ told. HasLink link_known told 0 at job.link) a b e found counts)
+    law ended named memory
+    (Tells-weaker (HearsEach (ReadsLive rules (ending_live ended) out_known out out') (at ∷ [])) (OpensEach rules (at ∷ []) (ending_live ended) out_known out out') a e hears (λ x y each. inl each))
+    same write_cause)

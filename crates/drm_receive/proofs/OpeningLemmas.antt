@@ -1,64 +1,144 @@
--- Openings, one after another, of receivers.
-use Rattle.std.proofs.Common.{◌≡◌, ℕ, ◌+◌, ◌<◌, ◌≤◌, inl, inr, Bool, List, [], length, take, slice_index_or, Option, None, Some, Result, Err, sym, ◌∙◌, ap, arith}
-use Rattle.drm_links.specs.Told.{Known, WhileTold, CountsCall, ToldThrough, Tells}
-use Rattle.drm_links.specs.Link.{Traffic}
-use Rattle.drm_links.specs.Dock.{DockContents, Opens, after_opening}
+-- Openings, one after another, of receivers, and the closings where they end early.
+use Rattle.std.proofs.Common.{◌≡◌, ℕ, zero, suc, ◌+◌, ◌<◌, ◌≤◌, inl, inr, Bool, List, [], ◌∷◌, length, map, take, replicate, slice_index_or, Option, None, Some, Result, Err, refl, sym, ◌∙◌, ap, subst, arith}
+use Rattle.std.specs.FinMap as map
+use Rattle.drm_links.specs.Told.{Counts, Known, WhileTold, CountsCall, ToldThrough, Tells}
+use Rattle.drm_links.specs.Link.{Answer, Traffic}
+use Rattle.drm_links.specs.Sink.{Output}
+use Rattle.drm_links.specs.Dock.{DockContents, Over, Opens, after_close, after_failure, address_key}
 use Rattle.drm_links.specs.declared.dock.Address.{Address}
 use Rattle.drm_links.specs.declared.dock.Opened.TheVariants as opened
-use Rattle.drm_links.proofs.ToldLemmas.{Tells-weaker}
+use Rattle.drm_links.proofs.ToldLemmas.{counts_as, counts_then, Tells-then}
 use Rattle.word_forms.specs.Addresses.{AreDifferent}
-use Rattle.several_links.specs.Openings.{Docked, HasLink}
-use Rattle.several_links.specs.Reaching.{NothingSent}
-use Rattle.several_links.proofs.OpeningLemmas.{Opened, docks_more, docks_while, next, not_found, openings_gone}
+use Rattle.several_links.specs.Openings.{Docked, FindsNone, HasLink, after_openings}
+use Rattle.several_links.specs.Reaching.{HaveGone, NothingSent, after_closes, nothing, with_none}
+use Rattle.several_links.specs.declared.member.Member.{Member}
+use Rattle.several_links.proofs.OpeningLemmas.{Opened, docks_more, docks_while, not_found_at, openings_gone}
+use Rattle.several_links.proofs.ReachLemmas.{nothing_gone}
+use Rattle.several_links.proofs.RunLemmas.{none_gone}
 use Rattle.drm_faults.specs.declared.fault.Fault.{Fault}
-use Rattle.drm_faults.specs.declared.fault.Fault.TheVariants as faults
-use Rattle.drm_receive.specs.Receive.{OpensEach}
-use Rattle.drm_receive.specs.Opening.{HaveLinks, StopsOpening}
 use Rattle.mod_receiver.specs.declared.job.Job.{Job}
+use Rattle.mod_receiver.specs.declared.rules.Rules.{Rules}
+use Rattle.mod_receiver.proofs.JobLemmas.{index_of, map_size}
+use Rattle.drm_receive.specs.Hearing.{HearsEach, BindsFew, StopsBehind}
+use Rattle.drm_receive.specs.Receive.{OpensEach, ReadsBy}
+use Rattle.drm_receive.specs.Opening.{HaveLinks, member_of, members_of}
+use Rattle.drm_receive.proofs.HearingLemmas.{member_at}
 
-module _ (addresses : List Address) (k : ℕ) (at : Address) (within : k < length addresses) (is : at ≡ slice_index_or addresses k at) where
-  -- the opening failed
-  pub failed_now : {L : Type 0} (known : L → Known Traffic) (fault : Fault) (a b c : Known DockContents) → AreDifferent addresses → fault ≡ faults.Link
-      → Tells a b (Opened addresses k) → WhileTold b c (Opens known at opened.Failed) → CountsCall (λ (d : DockContents). d.calls) b c
-      → Tells a c (StopsOpening addresses fault)
-  failed_now known fault a b c different kind before now counts =
-      docks_more (Opened addresses k) (Opens known at opened.Failed) (StopsOpening addresses fault) a b c before now counts
-      (λ x y z p q. inr (kind, not_found addresses k at within is known x y z different p q))
+-- the opening at this address that comes after the first k failed
+abbrev pub Missed : List Address → ℕ → DockContents → DockContents → Type 0
+Missed addresses k before after =
+    ((at : Address) → FindsNone before k (slice_index_or addresses k at)) × (after ≡ after_failure (after_openings (take k addresses) before))
 
-  -- memory ran out after it
-  pub stopped_now : (fault : Fault) (a b c : Known DockContents) → fault ≡ faults.NoMemory
-      → Tells a b (Opened addresses k) → WhileTold b c (λ x y. y ≡ after_opening at x) → CountsCall (λ (d : DockContents). d.calls) b c
-      → Tells a c (StopsOpening addresses fault)
-  stopped_now fault a b c kind before now counts =
-      docks_more (Opened addresses k) (λ x y. y ≡ after_opening at x) (StopsOpening addresses fault) a b c before now counts
-      (λ x y z p q. inl (kind, record { k = k + 1; within = omega (arith, within); told = next addresses k at within is x y z p q }))
+pub missed_now : (addresses : List Address) (k : ℕ) (at : Address) (within : k < length addresses) (is : at ≡ slice_index_or addresses k at)
+    → {L : Type 0} (known : L → Known Traffic) (a b c : Known DockContents) → AreDifferent addresses
+    → Tells a b (Opened addresses k) → WhileTold b c (Opens known at opened.Failed) → CountsCall (λ (d : DockContents). d.calls) b c
+    → Tells a c (Missed addresses k)
+missed_now addresses k at within is known a b c different before now counts =
+    docks_more (Opened addresses k) (Opens known at opened.Failed) (Missed addresses k) a b c before now counts
+    (λ x y z p q. not_found_at addresses k at within is known x y z different p q)
 
--- memory ran out behind some openings
-pub stopped_behind : (addresses : List Address) (k : ℕ) (fault : Fault) (a b : Known DockContents) → k ≤ length addresses → fault ≡ faults.NoMemory → Tells a b (Opened addresses k) → Tells a b (StopsOpening addresses fault)
-stopped_behind addresses k fault a b within kind opened =
-    Tells-weaker (Opened addresses k) (StopsOpening addresses fault) a b opened (λ x y is. inl (kind, record { k = k; within = within; told = is }))
+-- what a dock tells once the links of these receivers are closed
+abbrev pub Closed : {L : Type 0} → (L → Known Traffic) → List Address → List (Job L) → DockContents → DockContents → Type 0
+Closed known addresses jobs before after = (overs : List Over) → HaveGone known (members_of jobs) overs → after ≡ after_closes overs addresses before
 
-opens_gone : (addresses : List Address) (ending : Result Bool Fault) (x y : DockContents) → OpensEach addresses ending x y → y.gone ≡ x.gone
-opens_gone addresses ending x y (inl all) = ap (λ (d : DockContents). d.gone) all ∙ openings_gone addresses x
-opens_gone addresses ending x y (inr (inl (link, fails))) = ap (λ (d : DockContents). d.gone) fails.told ∙ openings_gone (take fails.k addresses) x
-opens_gone addresses ending x y (inr (inr (memory, stops))) = ap (λ (d : DockContents). d.gone) stops.told ∙ openings_gone (take stops.k addresses) x
+-- the first k receivers have the links of the first k addresses
+abbrev pub HaveFirst : {L : Type 0} → (L → Known Traffic) → List Address → List (Job L) → ℕ → DockContents → Type 0
+HaveFirst {L} known addresses jobs k told =
+    (n : ℕ) (at : Address) (d : Job L) → n < k → HasLink known told n (slice_index_or addresses n at) (slice_index_or jobs n d).link
+
+module _ {L : Type 0} (known : L → Known Traffic) (addresses : List Address) (jobs : List (Job L)) (k : ℕ) (size : length jobs ≡ k) where
+  first_gone : (told : DockContents) → HaveFirst known addresses jobs k told → HaveGone known (members_of jobs) (replicate k nothing)
+  first_gone told first =
+      nothing_gone known told addresses (members_of jobs) k (map_size (λ (job : Job L). member_of job) jobs ∙ size)
+      (λ n at m less.
+      let within : n < length jobs = omega (arith, less, size) in
+      let d : Job L = (index_of jobs n within).0 in
+      subst (λ (x : Member L). HasLink known told n (slice_index_or addresses n at) x.link) (sym (member_at jobs n d m within)) (first n at d less))
+
+  both_told : (P : DockContents → DockContents → Type 0) (a b : Option DockContents) → ToldThrough a b (λ told _. HaveFirst known addresses jobs k told) → ToldThrough a b P
+      → ToldThrough a b (λ x y. HaveFirst known addresses jobs k x × P x y)
+  both_told P a None first second = tt
+  both_told P None (Some y) first second = first
+  both_told P (Some x) (Some y) first second = (first, second)
+
+  -- memory ran out behind these openings, and their links are closed
+  pub stopped_few : (a b c : Known DockContents) → k ≤ length addresses → Docked a b (HaveFirst known addresses jobs k) → Tells a b (Opened addresses k) → Tells b c (Closed known addresses jobs)
+      → Tells a c (StopsBehind addresses)
+  stopped_few a b c within first opened closed =
+      Tells-then (λ x y. HaveFirst known addresses jobs k x × Opened addresses k x y) (Closed known addresses jobs) (StopsBehind addresses) a b c (both_told (Opened addresses k) a.told b.told first opened) closed
+      (λ x y z p q. record {
+        k = k;
+        within = within;
+        told = q (replicate k nothing) (first_gone x p.0) ∙ ap (after_closes (replicate k nothing) addresses) p.1;
+      })
+
+  -- the next one failed
+  pub failed_few : (a b c : Known DockContents) → k < length addresses → Docked a b (HaveFirst known addresses jobs k) → Tells a b (Missed addresses k) → Tells b c (Closed known addresses jobs)
+      → Tells a c (BindsFew addresses)
+  failed_few a b c within first missed closed =
+      Tells-then (λ x y. HaveFirst known addresses jobs k x × Missed addresses k x y) (Closed known addresses jobs) (BindsFew addresses) a b c (both_told (Missed addresses k) a.told b.told first missed) closed
+      (λ x y z p q. record {
+        k = k;
+        within = within;
+        fails = p.1.0;
+        told = q (replicate k nothing) (first_gone x p.0) ∙ ap (after_closes (replicate k nothing) addresses) p.1.1;
+      })
+
+-- ---- nothing is sent
+
+none_gone_few : (k : ℕ) (addresses : List Address) (told : DockContents) → k ≤ length addresses → (after_closes (replicate k nothing) addresses told).gone ≡ with_none (take k addresses) told.gone
+none_gone_few zero addresses told within = refl
+none_gone_few (suc k) [] told within = absurd (omega (arith, within))
+none_gone_few (suc k) (at ∷ addresses) told within = none_gone_few k addresses (after_close at nothing told) (omega (arith, within))
+
+hears_nothing_gone : (P : List Answer → Type 0) (addresses : List Address) (x y : DockContents) → HearsEach P addresses x y → y.gone ≡ with_none addresses x.gone
+hears_nothing_gone P addresses x y hears =
+    ap (λ (d : DockContents). d.gone) hears.told
+    ∙ (none_gone hears.overs addresses (after_openings addresses x) hears.as_many
+    (λ k none within. ap (λ (o : Over). o.gone) (hears.each k (record { ip = []; port = 0 }) none within).2.over_is)
+    ∙ ap (with_none addresses) (openings_gone addresses x))
+
+opens_gone : {O : Type 0} (rules : Rules) (addresses : List Address) (ending : Result Bool Fault) (known : O → Known Output) (out out' : O) (x y : DockContents)
+    → OpensEach rules addresses ending known out out' x y → NothingSent x y
+opens_gone rules addresses ending known out out' x y (inl hears) = (addresses, hears_nothing_gone (ReadsBy rules addresses ending known out out') addresses x y hears)
+opens_gone rules addresses ending known out out' x y (inr (inl (link, few))) = (
+  take few.k addresses,
+  ap (λ (d : DockContents). d.gone) few.told
+      ∙ (none_gone_few few.k addresses (after_failure (after_openings (take few.k addresses) x)) (let within = few.within in omega (arith, within))
+      ∙ ap (with_none (take few.k addresses)) (openings_gone (take few.k addresses) x)),
+)
+opens_gone rules addresses ending known out out' x y (inr (inr (memory, stops))) = (
+  take stops.k addresses,
+  ap (λ (d : DockContents). d.gone) stops.told
+      ∙ (none_gone_few stops.k addresses (after_openings (take stops.k addresses) x) stops.within ∙ ap (with_none (take stops.k addresses)) (openings_gone (take stops.k addresses) x)),
+)
 
 -- nothing is sent
-pub opens_unsent : (addresses : List Address) (ending : Result Bool Fault) (a b : Known DockContents) → Tells a b (OpensEach addresses ending) → WhileTold a b NothingSent
-opens_unsent addresses ending a b opens = docks_while (OpensEach addresses ending) NothingSent a b opens (λ x y each. ([], opens_gone addresses ending x y each))
+pub opens_unsent : {O : Type 0} (rules : Rules) (addresses : List Address) (ending : Result Bool Fault) (known : O → Known Output) (out out' : O) (a b : Known DockContents)
+    → Tells a b (OpensEach rules addresses ending known out out') → WhileTold a b NothingSent
+opens_unsent rules addresses ending known out out' a b opens =
+    docks_while (OpensEach rules addresses ending known out out') NothingSent a b opens (opens_gone rules addresses ending known out out')
 
--- all links at once
-pub all_links : {L : Type 0} (known : L → Known Traffic) (addresses : List Address) (jobs : List (Job L)) (n : ℕ) (a b : Known DockContents) → length addresses ≤ n → Docked a b (λ _. Unit {0})
+-- ---- all links at once
+
+pub all_links : {L : Type 0} (known : L → Known Traffic) (addresses : List Address) (jobs : List (Job L)) (n : ℕ) (a b : Known DockContents) → Docked a b (λ _. Unit {0})
     → ((k : ℕ) (d : Job L) → k < n → (at : Address) → Docked a b (λ told. HasLink known told k (slice_index_or addresses k at) (slice_index_or jobs k d).link))
-    → Docked a b (λ told. HaveLinks known told addresses jobs)
-all_links {L} known addresses jobs n a b all = linked a.told b.told
+    → Docked a b (HaveFirst known addresses jobs n)
+all_links {L} known addresses jobs n a b = linked a.told b.told
   where
     linked : (a b : Option DockContents) → ToldThrough a b (λ _ _. Unit {0})
         → ((k : ℕ) (d : Job L) → k < n → (at : Address) → ToldThrough a b (λ told _. HasLink known told k (slice_index_or addresses k at) (slice_index_or jobs k d).link))
-        → ToldThrough a b (λ told _. HaveLinks known told addresses jobs)
+        → ToldThrough a b (λ told _. HaveFirst known addresses jobs n told)
     linked a None any each = tt
     linked None (Some y) any each = any
-    linked (Some x) (Some y) any each = λ k at d within. each k d (omega (arith, within, all)) at
+    linked (Some x) (Some y) any each = λ k at d within. each k d within at
+
+pub inner_fault : {T : Type 0} (x y : Fault) → (let e : Result T Fault = Err x in e) ≡ Err y → x ≡ y
+inner_fault x y is = cc
+
+-- a call that returned early with the fault of another
+pub same_fault_counts : {T U : Type 0} {a b c : ℕ} (x fault : Fault) → b ≡ a → Counts b c ((let e : Result T Fault = Err x in e) ≡ Err fault) → Counts a c ((let e : Result U Fault = Err x in e) ≡ Err fault)
+same_fault_counts x fault before counts = counts_then before (counts_as (λ is. ap Err (inner_fault x fault is)) (λ is. ap Err (inner_fault x fault is)) counts)
 
 -- the fault with which a call returned early
 pub same_fault : {T F : Type 0} (result : Result T F) (x y fault : F) → result ≡ Err x → x ≡ y → result ≡ Err fault → y ≡ fault

@@ -1,28 +1,35 @@
 -- From receivers that ended to the whole command.
-use Rattle.std.proofs.Common.{◌≡◌, ℕ, zero, suc, ◌+◌, ◌<◌, ◌≤◌, ◌⊎◌, ◌↔◌, inl, inr, Bool, false, List, [], ◌∷◌, ◌++◌, length, map, slice_index_or, take, drop, Result, Ok, Err, refl, sym, ◌∙◌, ap, subst, arith, le_refl}
+use Rattle.std.proofs.Common.{◌≡◌, ℕ, zero, suc, ◌+◌, ◌<◌, ◌≤◌, ◌⊎◌, ◌↔◌, inl, inr, Bool, true, false, IsTrue, List, [], ◌∷◌, ◌++◌, length, map, slice_index_or, take, drop, Some, Result, Ok, Err, refl, sym, ◌∙◌, ap, subst, arith}
+use Rattle.std.specs.Prelude.{not}
 use Rattle.std.specs.List.{All}
 use Rattle.std.proofs.lemmas.List.{take_at}
 use Rattle.drm_links.specs.Told.{Known, HasCause, Tells}
-use Rattle.drm_links.specs.Link.{Traffic}
+use Rattle.drm_links.specs.Link.{Answer, Traffic}
 use Rattle.drm_links.specs.Sink.{Output, Outputs, IsFront}
-use Rattle.drm_links.specs.Dock.{DockContents}
+use Rattle.drm_links.specs.Dock.{DockContents, LinkStart, Over, first_traffic}
 use Rattle.drm_links.specs.declared.dock.Address.{Address}
-use Rattle.drm_links.proofs.ToldLemmas.{Outputs-weaker, Tells-weaker}
+use Rattle.drm_links.proofs.ToldLemmas.{counts_as, counts_none, Outputs-weaker, Tells-weaker}
 use Rattle.mod_receiver.specs.declared.rules.Rules.{Rules}
 use Rattle.drm_faults.specs.declared.fault.Fault.{Fault}
 use Rattle.drm_faults.specs.declared.fault.Fault.TheVariants as faults
 use Rattle.mod_receiver.specs.declared.job.Job.{Job}
 use Rattle.mod_receiver.specs.Ranges.{AreInRange}
-use Rattle.mod_receiver.specs.Jobs.{HasEnded, IsDone, AreJobs, NoneFailed}
-use Rattle.drm_receive.specs.Opening.{HaveLinks, EndsOpening, StopsOpening}
+use Rattle.mod_receiver.specs.Reading.{GoesOn}
+use Rattle.mod_receiver.specs.declared.receiver.Ended.{Ended}
+use Rattle.mod_receiver.specs.declared.receiver.Ended.TheVariants.{Done, LinkFailed, WriteFailed, NoMemory}
+use Rattle.mod_receiver.specs.Jobs.{HasEnded, IsDone, AreJobs, NoneFailed, clean_of, is_failed}
+use Rattle.drm_receive.specs.Opening.{HaveLinks, EndsOpening, StopsOpening, members_of}
+use Rattle.several_links.specs.Reaching.{HaveGone, after_closes}
 use Rattle.mod_receiver.specs.Settling.{job_texts, Settles}
 use Rattle.mod_receiver.specs.declared.stop.Stop.{Stop}
 use Rattle.mod_receiver.specs.declared.stop.Stop.TheVariants as stops
 use Rattle.drm_receive.specs.Stopping.{ending_of}
 use Rattle.mod_receiver.specs.Following.{HeadlinesFollow, CompletesFollow, NoneBreaksOff}
 use Rattle.drm_faults.specs.Fault.{UnlessMemory}
-use Rattle.several_links.specs.Openings.{Docked, FindsNone, FailsAfter, after_openings}
-use Rattle.drm_receive.specs.Receive.{AreReports, all_texts, FailsSome, OpensEach, WritesReports, WritesAll, IsLive, ReceiveRun}
+use Rattle.several_links.specs.Openings.{Docked, FindsNone, after_openings}
+use Rattle.drm_receive.specs.Hearing.{BindsFew, HearsEach}
+use Rattle.drm_receive.specs.Receive.{AreReports, AreAll, AreBroken, ReadsOne, ReadsBy, all_texts, FailsSome, OpensEach, WritesReports, WritesAll, IsLive, ReceiveRun}
+use Rattle.drm_receive.proofs.HearingLemmas.{ReadAs, went_weaker, has_read, hears_each}
 use Rattle.drm_receive.proofs.ReceiveStatus.{receive_run}
 use Rattle.mod_receiver.specs.Ahead.{Report, IsReportOf}
 use Rattle.several_links.proofs.OpeningLemmas.{docked_weaker}
@@ -108,6 +115,31 @@ all_several rules told [] ending known out out' several writes = writes
 all_several rules told (at ∷ []) ending known out out' several writes = absurd (several refl)
 all_several rules told (at ∷ (other ∷ addresses)) ending known out out' several writes = writes
 
+-- what is read of one of several
+several_by : {O : Type 0} (rules : Rules) (addresses : List Address) (ending : Result Bool Fault) (known : O → Known Output) (out out' : O) → (IsLive addresses → ⊥)
+    → (answers : List Answer) → ReadsOne rules ending answers → ReadsBy rules addresses ending known out out' answers
+several_by rules [] ending known out out' several answers reads = reads
+several_by rules (at ∷ []) ending known out out' several answers reads = absurd (several refl)
+several_by rules (at ∷ (other ∷ addresses)) ending known out out' several answers reads = reads
+
+inner_some : (x y : Ended) → Some x ≡ Some y → x ≡ y
+inner_some x y is = cc
+
+whole_of : (rules : Rules) (ended : Ended) (clean : Bool) → ended ≡ Done clean → (answers : List Answer) → ReadAs rules ended answers → AreAll rules answers
+whole_of rules ended clean is answers read = subst (λ e. ReadAs rules e answers) is read
+
+any_of : (rules : Rules) (ended : Ended) (answers : List Answer) → ReadAs rules ended answers → GoesOn rules answers ⊎ AreBroken rules answers
+any_of rules (Done clean) answers read = inl read.1.goes_on
+any_of rules LinkFailed answers read = inr read
+any_of rules WriteFailed answers read = inl read
+any_of rules NoMemory answers read = inl read
+
+sound_of : (rules : Rules) (ended : Ended) → IsTrue (not (is_failed (Some ended))) → (answers : List Answer) → ReadAs rules ended answers → GoesOn rules answers
+sound_of rules (Done clean) up answers read = read.1.goes_on
+sound_of rules LinkFailed up answers read = absurd (let same : false ≡ true = up in cc)
+sound_of rules WriteFailed up answers read = read
+sound_of rules NoMemory up answers read = read
+
 -- all are done, where the texts are written
 all_done : {L O : Type 0} (jobs : List (Job L)) (stopped : Result Bool Stop) (known : O → Known Output) (out out' : O) → Settles jobs stopped known out out'
     → (ending_of stopped ≡ Err faults.Link → ⊥) → (ending_of stopped ≡ Err faults.NoMemory → ⊥) → All IsDone jobs
@@ -183,13 +215,40 @@ module _ {L : Type 0} (link_known : L → Known Traffic) (rules : Rules) (valid 
   settled_exactly (Err stops.Link) known out out' settled told has = inr (λ is. fails_some told has (failed_where settled.0), λ fails. refl)
   settled_exactly (Err stops.NoMemory) known out out' settled told has = inl refl
 
+  -- what each link has read, by how all of them ended
+  read_by : {O : Type 0} (stopped : Result Bool Stop) (known : O → Known Output) (out out' : O) → Settles after stopped known out out' → (k : ℕ) (d : Job L) → k < length after
+      → (ended : Ended) → (slice_index_or after k d).ended ≡ Some ended → (answers : List Answer) → ReadAs rules ended answers → ReadsOne rules (ending_of stopped) answers
+  read_by (Ok clean) known out out' settled k d within ended is answers read = whole_of rules ended (clean_of (slice_index_or after k d)) (inner_some ended (Done (clean_of (slice_index_or after k d))) (sym is ∙ (settled.0 k d within).0)) answers read
+  read_by (Err stops.Write) known out out' settled k d within ended is answers read = whole_of rules ended (clean_of (slice_index_or after k d)) (inner_some ended (Done (clean_of (slice_index_or after k d))) (sym is ∙ (settled.0 k d within).0)) answers read
+  read_by (Err stops.Link) known out out' settled k d within ended is answers read = any_of rules ended answers read
+  read_by (Err stops.NoMemory) known out out' settled k d within ended is answers read = sound_of rules ended (subst (λ o. IsTrue (not (is_failed o))) is (settled.0 k d within)) answers read
+
+  -- Each link was opened, what is said was read of it, and it was closed.
+  pub settled_hears : {O : Type 0} (stopped : Result Bool Stop) (known : O → Known Output) (out out' : O) (a b c : Known DockContents) → Settles after stopped known out out' → (IsLive addresses → ⊥)
+      → Tells a b (λ x y. y ≡ after_openings addresses x) → Docked a b (λ told. HaveLinks link_known told addresses before)
+      → Tells b c (λ x y. (overs : List Over) → HaveGone link_known (members_of after) overs → y ≡ after_closes overs addresses x)
+      → Tells a c (OpensEach rules addresses (ending_of stopped) known out out')
+  settled_hears stopped known out out' a b c settled several opened links closed =
+      let P : List Answer → Type 0 = ReadsBy rules addresses (ending_of stopped) known out out' in
+      Tells-weaker (HearsEach P addresses) (OpensEach rules addresses (ending_of stopped) known out out') a c
+      (hears_each link_known P addresses before after ran.size (ran.still ∙ ran.size) a b c opened links
+      (λ k d start within told.
+      let first : k < length before = (let size = ran.size in omega (arith, size, within)) in
+      let last : k < length after = (let still = ran.still in omega (arith, still, first)) in
+      let r = has_read link_known rules valid (k + 1) start (slice_index_or before k d) (slice_index_or after k d) (ran.jobs k d within) told (ran.ended k d first) in
+      went_weaker link_known (ReadAs rules r.0) P (slice_index_or after k d).link start
+      (λ answers read. several_by rules addresses (ending_of stopped) known out out' several answers (read_by stopped known out out' settled k d last r.0 r.1 answers read))
+      r.2)
+      closed)
+      (λ x y each. inl each)
+
   pub settled_run : NoneBreaksOff → {D O : Type 0} (stopped : Result Bool Stop) (dock_known : D → Known DockContents) (dock dock' : D)
       (out_known : O → Known Output) (out out' : O)
       → Docked (dock_known dock) (dock_known dock') (λ told. HaveLinks link_known told addresses before)
-      → Tells (dock_known dock) (dock_known dock') (λ x y. y ≡ after_openings addresses x) → (dock_known dock).faults ≤ (dock_known dock').faults
+      → Tells (dock_known dock) (dock_known dock') (OpensEach rules addresses (ending_of stopped) out_known out out') → (dock_known dock').faults ≡ (dock_known dock).faults
       → (IsLive addresses → ⊥) → Settles after stopped out_known out out' → HasCause (out_known out) (out_known out') (stopped ≡ Err stops.Write)
       → ReceiveRun rules addresses (ending_of stopped) dock_known dock dock' out_known out out'
-  settled_run law stopped dock_known dock dock' out_known out out' links opened later several settled cause =
+  settled_run law stopped dock_known dock dock' out_known out out' links opens same several settled cause =
       receive_run law rules addresses (ending_of stopped) dock_known dock dock' out_known out out'
       (λ fault is.
       elim (ending_kind after stopped out_known out out' settled fault is) [
@@ -199,14 +258,14 @@ module _ {L : Type 0} (link_known : L → Known Traffic) (rules : Rules) (valid 
           | inr write ↦ inr (inr write)
         ]
       ])
-      (Tells-weaker (λ x y. y ≡ after_openings addresses x) (OpensEach addresses (ending_of stopped)) (dock_known dock) (dock_known dock') opened (λ x y is. inl is))
+      opens
       (docked_weaker (λ told. HaveLinks link_known told addresses before) (λ told. WritesAll rules told addresses (ending_of stopped) out_known out out') (dock_known dock) (dock_known dock') links
       (λ told has. all_several rules told addresses (ending_of stopped) out_known out out' several (reports_written after stopped (AreReports rules told addresses) out_known out out' (are_reports told has) settled)))
       (λ any. settled_unwritten after stopped out_known out out' settled (either any))
       (λ unless. docked_weaker (λ told. HaveLinks link_known told addresses before) (λ told. UnlessMemory (ending_of stopped) ((ending_of stopped ≡ Err faults.Link) ↔ FailsSome rules told addresses)) (dock_known dock) (dock_known dock') links
       (settled_exactly stopped out_known out out' settled))
-      later
-      (record { later = cause.later; rose = λ is. cause.rose (write_is stopped is) })
+      (inl same)
+      (counts_as (write_is stopped) (λ is. ap ending_of is) cause)
 
 -- ---- a run that ends while links are opened
 
@@ -219,10 +278,13 @@ unwritten_memory rules told [] known out = refl
 unwritten_memory rules told (at ∷ []) known out = refl
 unwritten_memory rules told (at ∷ (other ∷ addresses)) known out = refl
 
-unwritten_link : {O : Type 0} (rules : Rules) (told after : DockContents) (addresses : List Address) (known : O → Known Output) (out : O) → FailsAfter addresses told after → WritesAll rules told addresses (Err faults.Link) known out out
+unwritten_link : {O : Type 0} (rules : Rules) (told after : DockContents) (addresses : List Address) (known : O → Known Output) (out : O) → BindsFew addresses told after → WritesAll rules told addresses (Err faults.Link) known out out
 unwritten_link rules told after [] known out fails = refl
 unwritten_link rules told after (at ∷ []) known out fails = inl (none_found told at fails.k fails.within (fails.fails at), refl)
 unwritten_link rules told after (at ∷ (other ∷ addresses)) known out fails = refl
+
+not_link : (fault : Fault) → fault ≡ faults.NoMemory → of_fault fault ≡ Err faults.Link → ⊥
+not_link fault memory is = let one : faults.NoMemory ≡ faults.Link = sym memory ∙ inner fault faults.Link is in cc
 
 not_write : (fault : Fault) → EndsOpening fault → of_fault fault ≡ Err faults.Write → ⊥
 not_write fault (inl memory) is = let one : faults.NoMemory ≡ faults.Write = sym memory ∙ inner fault faults.Write is in cc
@@ -233,7 +295,7 @@ opening_kind fault other (inl memory) is = inl (sym (inner fault other is) ∙ m
 opening_kind fault other (inr link) is = inr (inl (sym (inner fault other is) ∙ link))
 
 module _ {O : Type 0} (rules : Rules) (addresses : List Address) (fault : Fault) (out_known : O → Known Output) (out : O) (told after : DockContents) where
-  opens_each : StopsOpening addresses fault told after → OpensEach addresses (Err fault) told after
+  opens_each : StopsOpening addresses fault told after → OpensEach rules addresses (Err fault) out_known out out told after
   opens_each (inl (memory, stops)) = inr (inr (ap Err memory, stops))
   opens_each (inr (link, fails)) = inr (inl (ap Err link, fails))
 
@@ -247,19 +309,19 @@ module _ {O : Type 0} (rules : Rules) (addresses : List Address) (fault : Fault)
 
 pub opening_failed : NoneBreaksOff → {D O : Type 0} (rules : Rules) (addresses : List Address) (fault : Fault) (dock_known : D → Known DockContents) (dock dock' : D)
     (out_known : O → Known Output) (out : O)
-    → EndsOpening fault → Tells (dock_known dock) (dock_known dock') (StopsOpening addresses fault) → (dock_known dock).faults ≤ (dock_known dock').faults
+    → EndsOpening fault → Tells (dock_known dock) (dock_known dock') (StopsOpening addresses fault) → HasCause (dock_known dock) (dock_known dock') (of_fault fault ≡ Err faults.Link)
     → ReceiveRun rules addresses (Err fault) dock_known dock dock' out_known out out
-opening_failed law rules addresses fault dock_known dock dock' out_known out ends stopped later =
+opening_failed law rules addresses fault dock_known dock dock' out_known out ends stopped cause =
     let a = dock_known dock in
     let b = dock_known dock' in
     receive_run law rules addresses (Err fault) dock_known dock dock' out_known out out
     (λ other is. opening_kind fault other ends is)
-    (Tells-weaker (StopsOpening addresses fault) (OpensEach addresses (Err fault)) a b stopped (opens_each rules addresses fault out_known out))
+    (Tells-weaker (StopsOpening addresses fault) (OpensEach rules addresses (Err fault) out_known out out) a b stopped (opens_each rules addresses fault out_known out))
     (Tells-weaker (StopsOpening addresses fault) (λ told _. WritesAll rules told addresses (Err fault) out_known out out) a b stopped (nothing_written rules addresses fault out_known out))
     (λ any. refl)
     (λ unless. Tells-weaker (StopsOpening addresses fault) (λ told _. UnlessMemory (of_fault fault) ((of_fault fault ≡ Err faults.Link) ↔ FailsSome rules told addresses)) a b stopped (fails_exactly rules addresses fault out_known out))
-    later
-    (record { later = le_refl _; rose = λ is. absurd (not_write fault ends is) })
+    (elim ends [ inl memory ↦ inl (cause.same (λ is. not_link fault memory is)) | inr link ↦ inr (ap Err link, cause.once (ap Err link)) ])
+    (counts_none (not_write fault ends) refl)
 
 -- what a vector holds after its slice was lent
 pub written_back : {X : Type 0} (n : ℕ) (xs ys zs : List X) → n ≡ length xs → zs ≡ take n (xs ++ drop (length xs) ys) → zs ≡ xs

@@ -11,6 +11,7 @@ use Rattle.drm_links.specs.declared.dock.Address.{Address}
 use Rattle.mod_receiver.specs.declared.rules.Rules.{Rules}
 use Rattle.drm_faults.specs.declared.fault.Fault.{Fault}
 use Rattle.drm_faults.specs.declared.fault.Fault.TheVariants as faults
+use Rattle.drm_faults.specs.Causes.{OpeningFailed}
 use Rattle.drm_faults.specs.Fault.{UnlessMemory}
 use Rattle.several_links.specs.Openings.{Docked, Finds}
 use Rattle.drm_receive.specs.Receive.{AreReports, AreClean, all_texts, FailsSome, OpensEach, WritesReports, WritesAll, WroteReports, AreInTime, IsLive, ReceiveRun}
@@ -112,14 +113,14 @@ none_fails law rules told addresses time some =
 
 pub receive_run : NoneBreaksOff → {D O : Type 0} (rules : Rules) (addresses : List Address) (ending : Result Bool Fault) (dock_known : D → Known DockContents) (dock dock' : D) (out_known : O → Known Output) (out out' : O)
     → ((fault : Fault) → ending ≡ Err fault → (fault ≡ faults.NoMemory) ⊎ (fault ≡ faults.Link) ⊎ (fault ≡ faults.Write))
-    → Tells (dock_known dock) (dock_known dock') (OpensEach addresses ending)
+    → Tells (dock_known dock) (dock_known dock') (OpensEach rules addresses ending out_known out out')
     → Docked (dock_known dock) (dock_known dock') (λ told. WritesAll rules told addresses ending out_known out out')
     → ((ending ≡ Err faults.NoMemory) ⊎ ((ending ≡ Err faults.Link) × (IsLive addresses → ⊥)) → out' ≡ out)
     → ((IsLive addresses → ending ≡ Err faults.Write → ⊥) → Docked (dock_known dock) (dock_known dock') (λ told. UnlessMemory ending ((ending ≡ Err faults.Link) ↔ FailsSome rules told addresses)))
-    → (dock_known dock).faults ≤ (dock_known dock').faults
+    → OpeningFailed (dock_known dock) (dock_known dock') (ending ≡ Err faults.Link)
     → HasCause (out_known out) (out_known out') (ending ≡ Err faults.Write)
     → ReceiveRun rules addresses ending dock_known dock dock' out_known out out'
-receive_run law {D} {O} rules addresses ending dock_known dock dock' out_known out out' kind opens writes unwritten exactly later write_cause = record {
+receive_run law {D} {O} rules addresses ending dock_known dock dock' out_known out out' kind opens writes unwritten exactly dock_cause write_cause = record {
   kind = kind;
   opens = opens;
   writes = writes;
@@ -130,13 +131,13 @@ receive_run law {D} {O} rules addresses ending dock_known dock dock' out_known o
       docked_weaker (λ told. (FailsSome rules told addresses → ⊥) → UnlessMemory ending (WroteReports ending (AreReports rules told addresses) out_known out out'))
       (λ told. AreInTime rules told addresses → UnlessMemory ending (ending ≡ Ok true)) (dock_known dock) (dock_known dock') (all_wrote no_write)
       (λ told wrote time. all_given rules told addresses ending out_known out out' (wrote (none_fails law rules told addresses time)) time);
-  later = later;
+  dock_cause = dock_cause;
   write_cause = write_cause;
 }
   where
     all_wrote : (HasFailed (out_known out) (out_known out') → ⊥) → Docked (dock_known dock) (dock_known dock') (λ told. (FailsSome rules told addresses → ⊥) → UnlessMemory ending (WroteReports ending (AreReports rules told addresses) out_known out out'))
     all_wrote no_write =
-        let none : ending ≡ Err faults.Write → ⊥ = λ is. no_write (write_cause.rose is) in
+        let none : ending ≡ Err faults.Write → ⊥ = λ is. no_write (write_cause.once is) in
         docked_weaker (λ told. WritesAll rules told addresses ending out_known out out' × UnlessMemory ending ((ending ≡ Err faults.Link) ↔ FailsSome rules told addresses))
         (λ told. (FailsSome rules told addresses → ⊥) → UnlessMemory ending (WroteReports ending (AreReports rules told addresses) out_known out out')) (dock_known dock) (dock_known dock')
         (docked_both (λ told. WritesAll rules told addresses ending out_known out out') (λ told. UnlessMemory ending ((ending ≡ Err faults.Link) ↔ FailsSome rules told addresses)) (dock_known dock) (dock_known dock') writes (exactly (λ live is. none is)))

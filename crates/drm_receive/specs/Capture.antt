@@ -74,6 +74,6 @@ pub record CaptureRun {I O : Type 0} (rules : Rules) (ending : Result Bool Fault
   pub in_time : (HasFailed (input_known input) (input_known input') → ⊥) → (HasFailed (out_known out) (out_known out') → ⊥)
       → Inputs (input_known input) (input_known input') (λ left _. (ahead : List Answer) → Brings left ahead → IsInTimeAhead rules ahead
       → UnlessMemory ending (ending ≡ Ok true))
-  -- The counts of faults never fall. A read or a write failed only where that of input or of out rose.
+  -- A count of faults rose, by one, exactly where a read or a write ended the run.
   pub read_cause : HasCause (input_known input) (input_known input') (ending ≡ Err faults.Read)
   pub write_cause : HasCause (out_known out) (out_known out') (ending ≡ Err faults.Write)

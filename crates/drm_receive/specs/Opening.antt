@@ -1,5 +1,5 @@
 -- Links that are opened, for receivers.
-use Rattle.std.specs.Prelude.{ℕ, ◌≡◌, ◌<◌, ◌⊎◌, List, length, slice_index_or}
+use Rattle.std.specs.Prelude.{ℕ, ◌≡◌, ◌<◌, ◌⊎◌, List, length, map, true, slice_index_or}
 use Rattle.drm_links.specs.Told.{Known}
 use Rattle.drm_links.specs.Link.{Traffic}
 use Rattle.drm_links.specs.Dock.{DockContents}
@@ -7,13 +7,22 @@ use Rattle.drm_links.specs.declared.dock.Address.{Address}
 use Rattle.drm_faults.specs.declared.fault.Fault.{Fault}
 use Rattle.drm_faults.specs.declared.fault.Fault.TheVariants as faults
 use Rattle.mod_receiver.specs.declared.job.Job.{Job}
-use Rattle.several_links.specs.Openings.{FailsAfter, StopsAfter, HasLink}
+use Rattle.several_links.specs.declared.member.Member.{Member}
+use Rattle.several_links.specs.Openings.{HasLink}
+use Rattle.drm_receive.specs.Hearing.{BindsFew, StopsBehind}
 
 -- the receivers have the links of these addresses, in their order
 abbrev pub HaveLinks : {L : Type 0} → (L → Known Traffic) → DockContents → List Address → List (Job L) → Type 0
 HaveLinks {L} known told addresses jobs =
     (k : ℕ) (at : Address) (none : Job L) → k < length addresses
     → HasLink known told k (slice_index_or addresses k at) (slice_index_or jobs k none).link
+
+-- a receiver's link
+abbrev pub member_of : {L : Type 0} → Job L → Member L
+member_of job = record { link = job.link; up = true }
+
+abbrev pub members_of : {L : Type 0} → List (Job L) → List (Member L)
+members_of jobs = map (λ job. member_of job) jobs
 
 -- Opening ends for want of memory, or by an opening that failed.
 abbrev pub EndsOpening : Fault → Type 0
@@ -22,4 +31,4 @@ EndsOpening fault = (fault ≡ faults.NoMemory) ⊎ (fault ≡ faults.Link)
 -- what the dock tells then
 abbrev pub StopsOpening : List Address → Fault → DockContents → DockContents → Type 0
 StopsOpening addresses fault before after =
-    ((fault ≡ faults.NoMemory) × StopsAfter addresses before after) ⊎ ((fault ≡ faults.Link) × FailsAfter addresses before after)
+    ((fault ≡ faults.NoMemory) × StopsBehind addresses before after) ⊎ ((fault ≡ faults.Link) × BindsFew addresses before after)

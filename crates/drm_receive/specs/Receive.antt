@@ -7,12 +7,17 @@ use Rattle.drm_links.specs.Link.{Answer}
 use Rattle.drm_links.specs.Sink.{Output, Outputs, IsFront}
 use Rattle.drm_links.specs.Dock.{DockContents, LinkStart}
 use Rattle.drm_links.specs.declared.dock.Address.{Address}
-use Rattle.several_links.specs.Openings.{Finds, FindsNone, Docked, after_openings, FailsAfter, StopsAfter}
+use Rattle.several_links.specs.Openings.{Finds, FindsNone, Docked}
 use Rattle.mod_receiver.specs.declared.rules.Rules.{Rules}
+use Rattle.report_lines.specs.declared.report.EndWord.{EndWord}
+use Rattle.mod_receiver.specs.Reading.{GoesOn, IsFinished, IsBroken}
+use Rattle.mod_receiver.specs.Received.{Reported, Broken, Stopped}
 use Rattle.mod_receiver.specs.Ahead.{IsInTimeAhead, Report, IsReportOf, BreaksOff, IsGivenOf, IsFrontOf}
+use Rattle.drm_faults.specs.Causes.{OpeningFailed}
 use Rattle.drm_faults.specs.Fault.{UnlessMemory}
 use Rattle.drm_faults.specs.declared.fault.Fault.{Fault}
 use Rattle.drm_faults.specs.declared.fault.Fault.TheVariants as faults
+use Rattle.drm_receive.specs.Hearing.{HearsEach, BindsFew, StopsBehind}
 
 -- a report for each address, in their order
 pub record AreReports (rules : Rules) (told : DockContents) (addresses : List Address) (reports : List Report) : Type 0 where
@@ -68,13 +73,48 @@ WritesAll rules told addresses ending known out out' = WritesReports (AreReports
 abbrev pub IsLive : List Address → Type 0
 IsLive addresses = length addresses ≡ 1
 
--- Each address is opened once, in their order, to receive; up to one that fails, or up to want of memory. Nothing else is
--- asked of the dock.
-abbrev pub OpensEach : List Address → Result Bool Fault → DockContents → DockContents → Type 0
-OpensEach addresses ending before after =
-    (after ≡ after_openings addresses before)
-    ⊎ ((ending ≡ Err faults.Link) × FailsAfter addresses before after)
-    ⊎ ((ending ≡ Err faults.NoMemory) × StopsAfter addresses before after)
+-- ---- what is read
+
+-- the reading of these answers is finished
+abbrev pub AreAll : Rules → List Answer → Type 0
+AreAll rules answers = (word : EndWord) × IsFinished rules answers word
+
+-- it ends in `Failed`
+abbrev pub AreBroken : Rules → List Answer → Type 0
+AreBroken rules answers = (before : List Answer) × IsBroken rules before answers
+
+-- What is read of one of several links: all up to the end of its reading. Where memory was wanting, or another link failed, that may not
+-- have come.
+abbrev pub ReadsOne : Rules → Result Bool Fault → List Answer → Type 0
+ReadsOne rules (Ok clean) answers = AreAll rules answers
+ReadsOne rules (Err faults.Write) answers = AreAll rules answers
+ReadsOne rules (Err faults.Link) answers = GoesOn rules answers ⊎ AreBroken rules answers
+ReadsOne rules (Err fault) answers = GoesOn rules answers
+
+abbrev pub Alone : List Answer → List Answer → Type 0
+Alone answers others = others ≡ answers
+
+-- What is read of one link, whose report is written as it is read: all up to the end of the reading, of which the report is. Where a write
+-- failed, what was given before the last of these was written, and a front of what that one made ready. Where memory was wanting,
+-- nothing was read.
+abbrev pub ReadsLive : {O : Type 0} → Rules → Result Bool Fault → (O → Known Output) → O → O → List Answer → Type 0
+ReadsLive rules (Ok clean) known out out' answers = Reported rules 1 (Alone answers) (known out) (known out') clean
+ReadsLive rules (Err faults.Write) known out out' answers = Stopped rules 1 (Alone answers) (known out) (known out')
+ReadsLive rules (Err faults.Link) known out out' answers = Broken rules 1 (Alone answers) (known out) (known out')
+ReadsLive rules (Err fault) known out out' answers = answers ≡ []
+
+-- what is read of each link at these addresses
+abbrev pub ReadsBy : {O : Type 0} → Rules → List Address → Result Bool Fault → (O → Known Output) → O → O → List Answer → Type 0
+ReadsBy rules (at ∷ []) ending known out out' answers = ReadsLive rules ending known out out' answers
+ReadsBy rules addresses ending known out out' answers = ReadsOne rules ending answers
+
+-- Each address is opened once, in their order, to receive; up to one that fails, or up to want of memory. What is said of reading is read
+-- of each link, nothing is sent over it, and it is closed. Nothing else is asked of the dock.
+abbrev pub OpensEach : {O : Type 0} → Rules → List Address → Result Bool Fault → (O → Known Output) → O → O → DockContents → DockContents → Type 0
+OpensEach rules addresses ending known out out' before after =
+    HearsEach (ReadsBy rules addresses ending known out out') addresses before after
+    ⊎ ((ending ≡ Err faults.Link) × BindsFew addresses before after)
+    ⊎ ((ending ≡ Err faults.NoMemory) × StopsBehind addresses before after)
 
 -- The run is done: the reports are written, all of them, and it is clean exactly where no line of them is missing or bad.
 abbrev pub WroteReports : {O : Type 0} → Result Bool Fault → (List Report → Type 0) → (O → Known Output) → O → O → Type 0
@@ -92,7 +132,8 @@ pub record ReceiveRun {D O : Type 0} (rules : Rules) (addresses : List Address) 
     (out_known : O → Known Output) (out out' : O) : Type 0 where
   -- It ends well, or for want of memory, by a failed link or by a failed write.
   pub kind : (fault : Fault) → ending ≡ Err fault → (fault ≡ faults.NoMemory) ⊎ (fault ≡ faults.Link) ⊎ (fault ≡ faults.Write)
-  pub opens : Tells (dock_known dock) (dock_known dock') (OpensEach addresses ending)
+  -- Where the dock tells: what is read of the links is this, and nothing else is asked of them.
+  pub opens : Tells (dock_known dock) (dock_known dock') (OpensEach rules addresses ending out_known out out')
   -- Where the dock tells: the reports are those of what was ahead of the links that it opened. Nothing else is written.
   pub writes : Docked (dock_known dock) (dock_known dock') (λ told. WritesAll rules told addresses ending out_known out out')
   -- After want of memory nothing is written, and where one of several links failed.
@@ -109,6 +150,6 @@ pub record ReceiveRun {D O : Type 0} (rules : Rules) (addresses : List Address) 
   -- Where each link brings each frame of a schedule in time, none is missing, and none fails.
   pub in_time : (HasFailed (out_known out) (out_known out') → ⊥)
       → Docked (dock_known dock) (dock_known dock') (λ told. AreInTime rules told addresses → UnlessMemory ending (ending ≡ Ok true))
-  -- The counts of faults never fall, and a write failed only where out's rose.
-  pub later : (dock_known dock).faults ≤ (dock_known dock').faults
+  -- The count of faults of the dock rose, by one, exactly where an opening failed; that of out exactly where a write ended the run.
+  pub dock_cause : OpeningFailed (dock_known dock) (dock_known dock') (ending ≡ Err faults.Link)
   pub write_cause : HasCause (out_known out) (out_known out') (ending ≡ Err faults.Write)

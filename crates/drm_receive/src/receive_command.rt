@@ -1,29 +1,30 @@
 //! The command `receive` with addresses.
 
-ghost use Rattle.std.specs.Prelude.{◌≡◌, ◌≤◌, length, vec_len, IfOk, IfErr, Err};
-ghost use Rattle.drm_links.specs.Told.{CountsCall, Tells, WhileTold};
-ghost use Rattle.drm_links.specs.Dock.{Opens, after_opening};
+ghost use Rattle.std.specs.Prelude.{◌≡◌, ◌≤◌, List, length, vec_len, vec_capacity, IfOk, IfErr, Err};
+ghost use Rattle.drm_links.specs.Told.{HasCause, CountsCall, Tells, WhileTold};
+ghost use Rattle.drm_links.specs.Dock.{Opens, Over};
 ghost use Rattle.mod_receiver.specs.Ranges.{AreInRange};
 ghost use Rattle.drm_receive.specs.Terms.{AreListed};
 ghost use Rattle.several_links.specs.Openings.{Docked, after_openings};
+ghost use Rattle.several_links.specs.Reaching.{HaveGone, after_closes};
 ghost use Rattle.drm_receive.specs.Receive.{ReceiveRun};
 ghost use Rattle.mod_receiver.specs.Jobs.{IsJob, AreJobs};
-ghost use Rattle.drm_receive.specs.Opening.{HaveLinks, EndsOpening, StopsOpening};
+ghost use Rattle.drm_receive.specs.Opening.{HaveLinks, EndsOpening, StopsOpening, members_of};
 ghost use Rattle.drm_receive.specs.Stopping.{ending_of, ending_live};
 
 use drm_faults::Fault;
 use drm_links::{Address, Dock, Link, Opened, Sink};
 use mod_receiver::{
-    Ended, Job, Rules, Stop, in_time_is_unbroken, job_for, reports_follow, run_all, run_live,
-    settle,
+    Ended, Job, Rules, Stop, in_time_is_unbroken, reports_follow, run_all, run_live, seat_for,
+    seated, settle,
 };
 use std::alloc::Global;
 use std::thread::Threads;
 use word_forms::Addresses;
 
 /// Opens a link at each address and reads each until it has read enough. The report of one link is written as it is read;
-/// several are read in threads of their own, and their reports written at the end, in the order of the addresses. Answers
-/// whether no frame is missing or bad.
+/// several are read in threads of their own, and their reports written at the end, in the order of the addresses. Then the links
+/// are closed. Answers whether no frame is missing or bad.
 pub fn receive<R: Threads + Sync, D: Dock, O: Sink>(
     rt: &R,
     alloc: Global,
@@ -43,13 +44,34 @@ where
     in_time_is_unbroken();
     let mut jobs = open_all(alloc, rules, addresses, dock)?;
     if addresses.len() == 1 {
-        return live_ending(run_live(alloc, &mut jobs[0], out));
+        let Some(mut job) = jobs.pop() else {
+            unreachable!()
+        };
+        let ended = run_live(alloc, &mut job, out);
+        let Job { link, .. } = job;
+        dock.close(*addresses.get(0), link);
+        return live_ending(ended);
     }
     run_all(rt, alloc, jobs.as_mut_slice());
-    ending(settle(jobs.as_slice(), out))
+    let settled = settle(jobs.as_slice(), out);
+    close_all(dock, addresses, jobs);
+    ending(settled)
 }
 
-// Opens the links at all addresses, in their order, and makes their receivers.
+// Takes the memory for receivers of these addresses.
+fn room_for<L: Link>(alloc: Global, addresses: &Addresses) -> Result<Vec<Job<L>>, Fault>
+    ensures none { IfOk result (λ room. vec_len room ≡ 0) }
+    ensures all { IfOk result (λ room. length addresses.now ≤ vec_capacity room) }
+    ensures ends { IfErr result (λ fault. fault ≡ Fault.NoMemory) }
+{
+    match Vec::with_capacity(alloc, addresses.len()) {
+        Ok(room) => Ok(room),
+        Err(_) => Err(Fault::NoMemory),
+    }
+}
+
+// Opens the links at all addresses, in their order, and makes their receivers. Where that ends early, the links that were opened are
+// closed.
 fn open_all<D: Dock>(
     alloc: Global,
     rules: &Rules,
@@ -67,19 +89,22 @@ fn open_all<D: Dock>(
     ensures ends { IfErr result EndsOpening }
     ensures stopped { IfErr result (λ fault. Tells (D.known dock.old) (D.known dock.new)
         (StopsOpening addresses.now fault)) }
-    ensures later { (D.known dock.old).faults ≤ (D.known dock.new).faults }
+    ensures cause { HasCause (D.known dock.old) (D.known dock.new) (result ≡ Err Fault.Link) }
 {
-    let mut jobs = Vec::new(alloc);
+    let mut jobs = room_for(alloc, addresses)?;
     for k in 0..addresses.len() {
-        let job = open_one(alloc, rules, k as u8 + 1, *addresses.get(k), dock)?;
-        let Ok(()) = jobs.push(job) else {
-            return Err(Fault::NoMemory);
-        };
+        match open_one(alloc, rules, k as u8 + 1, *addresses.get(k), dock) {
+            Ok(job) => jobs.push_reserved(job),
+            Err(fault) => {
+                close_all(dock, addresses, jobs);
+                return Err(fault);
+            }
+        }
     }
     Ok(jobs)
 }
 
-// Opens the link at an address, and makes its receiver.
+// Takes the memory of a receiver, opens the link at its address, and makes it.
 fn open_one<D: Dock>(
     alloc: Global,
     rules: &Rules,
@@ -93,15 +118,31 @@ fn open_one<D: Dock>(
         WhileTold (D.known dock.old) (D.known dock.new) (Opens D.L.known at (Opened.Link job.link))) }
     ensures failed { result ≡ Err Fault.Link
         → WhileTold (D.known dock.old) (D.known dock.new) (Opens D.L.known at Opened.Failed) }
-    ensures stopped { result ≡ Err Fault.NoMemory → WhileTold (D.known dock.old) (D.known dock.new)
-        (λ before after. after ≡ after_opening at before) }
-    ensures told { CountsCall (λ contents. contents.calls) (D.known dock.old) (D.known dock.new) }
+    ensures untouched { result ≡ Err Fault.NoMemory → dock.new ≡ dock.old }
+    ensures told { (result ≡ Err Fault.NoMemory → ⊥)
+        → CountsCall (λ contents. contents.calls) (D.known dock.old) (D.known dock.new) }
     ensures ends { IfErr result EndsOpening }
-    ensures later { (D.known dock.old).faults ≤ (D.known dock.new).faults }
+    ensures cause { HasCause (D.known dock.old) (D.known dock.new) (result ≡ Err Fault.Link) }
 {
+    let seat = seat_for(alloc, rules, feed)?;
     match dock.bind(at) {
-        Opened::Link(link) => Ok(job_for(alloc, rules, feed, link)?),
+        Opened::Link(link) => Ok(seated(seat, link)),
         Opened::Failed => Err(Fault::Link),
+    }
+}
+
+// Closes the links of these receivers, in the order of their addresses.
+fn close_all<D: Dock>(dock: &mut D, addresses: &Addresses, jobs: Vec<Job<D::L>>)
+    requires { vec_len jobs ≤ length addresses.now }
+    ensures closed { Tells (D.known dock.old) (D.known dock.new) (λ before after.
+        (overs : List Over) → HaveGone D.L.known (members_of jobs.items) overs → after ≡ after_closes overs addresses.now before) }
+    ensures cause { (D.known dock.new).faults ≡ (D.known dock.old).faults }
+{
+    let mut k = 0;
+    for job in jobs {
+        let Job { link, .. } = job;
+        dock.close(*addresses.get(k), link);
+        k += 1;
     }
 }
 

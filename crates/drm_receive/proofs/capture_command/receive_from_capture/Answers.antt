@@ -1,3 +1,5 @@
+use Rattle.std.proofs.Common.{ap}
+use Rattle.drm_links.proofs.ToldLemmas.{counts_as}
 use Rattle.drm_receive.specs.Stopping.{ending_captured}
 use Rattle.drm_receive.proofs.CaptureLemmas.{written, ended_as, ended_early, ended_memory, ended_read, ended_write}
 use Rattle.drm_receive.proofs.CaptureStatus.{capture_run}
@@ -15,6 +17,6 @@ returns g c =
           (written c.args.rules.now c.requires c.reports_follow.ensures.headlines c.reports_follow.ensures.completes c.read_some_way.ensures (g.I.Source.known c.args.input.now) (g.I.Source.known c.receive_capture.new.input)
           g.O.Sink.known c.args.out.now c.receive_capture.new.out came run.ended)
           (λ is. run.memory (ended_memory came is))
-          (record { later = run.read.later; rose = λ is. run.read.rose (ended_read came is) })
-          (record { later = run.write.later; rose = λ is. run.write.rose (ended_write came is) }));
+          (counts_as (ended_read came) (λ is. ap ending_captured is) run.read)
+          (counts_as (ended_write came) (λ is. ap ending_captured is) run.write));
     }

@@ -1,17 +1,27 @@
-use Rattle.std.proofs.Common.{◌≡◌, ℕ, ◌+◌, ◌<◌, ◌≤◌, inl, inr, refl, slice_index_or, ◌∙◌, ap, arith, length, length-append, [], ◌∷◌, Err, le_trans}
+use Rattle.std.proofs.Common.{◌≡◌, ℕ, ◌+◌, ◌<◌, ◌≤◌, inl, inr, refl, sym, subst, slice_index_or, ◌∙◌, ap, arith, length, length-append, [], ◌∷◌, Err}
 use Rattle.std.proofs.lemmas.Result.{err_from_is_err_and}
-use Rattle.drm_links.specs.Told.{Tells}
+use Rattle.drm_links.specs.Told.{Known, Tells}
+use Rattle.drm_links.specs.Dock.{DockContents}
 use Rattle.drm_links.specs.declared.dock.Address.{Address}
+use Rattle.drm_links.proofs.ToldLemmas.{counts_none, then_counts, Tells-nothing, Tells-weaker}
 use Rattle.mod_receiver.specs.declared.job.Job.{Job}
 use Rattle.drm_faults.specs.declared.fault.Fault.{Fault}
 use Rattle.drm_faults.specs.declared.fault.Fault.TheVariants as faults
 use Rattle.several_links.specs.Openings.{Docked, HasLink}
+use Rattle.drm_receive.specs.Hearing.{BindsFew, StopsBehind}
 use Rattle.drm_receive.specs.Opening.{StopsOpening}
 use Rattle.mod_receiver.specs.Jobs.{IsJob}
-use Rattle.several_links.proofs.OpeningLemmas.{found_now, opened_now, opened_all, docked_any, docked_still}
-use Rattle.drm_receive.proofs.OpeningLemmas.{failed_now, stopped_now, stopped_behind, all_links}
+use Rattle.several_links.proofs.OpeningLemmas.{Opened, found_now, opened_now, opened_all, docked_any, docked_still}
+use Rattle.drm_receive.proofs.OpeningLemmas.{HaveFirst, missed_now, stopped_few, failed_few, all_links, same_fault_counts}
 use Rattle.mod_receiver.proofs.Listing.{each_more}
 use Rattle.drm_receive.proofs.receive_command.open_all.Goals as goal
+
+pub returns-in_err-jobs-clause-stopped : goal.returns-in_err-jobs-clause-stopped
+returns-in_err-jobs-clause-stopped g c =
+    let p = err_from_is_err_and c.from_residual.result c.from_residual.ensures.1 in
+    rw (p.1 ∙ ap Err p.2)
+    (Tells-nothing (StopsOpening c.args.addresses.now c.in_err-jobs.field-0.0) (g.D.Dock.known c.args.dock.now)
+    (λ x. inl (c.in_err-jobs.ensures.ends, record { k = 0; within = omega arith; told = refl })))
 
 pub loop-k-preserved : goal.loop-k-preserved
 loop-k-preserved g c =
@@ -22,65 +32,67 @@ loop-k-preserved g c =
     let a = g.D.Dock.known c.args.dock.now in
     let b = g.D.Dock.known c.loop-k.dock in
     let d = g.D.Dock.known c.open_one.new.dock in
+    let told = c.in-Ok.ensures.told (λ e. cc) in
     let size : length c.loop-k.jobs.items ≡ k = i.1 in
     let P : ℕ → Job g.row.D-L.Denot → Type 0 = λ n job. IsJob c.args.rules.now (n + 1) job in
     let Q : ℕ → Job g.row.D-L.Denot → Type 0 = λ n job. (e : Address) → Docked a d (λ told. HasLink g.D.L.Link.known told n (slice_index_or c.args.addresses.now n e) job.link) in
     let old : (n : ℕ) (j : Job g.row.D-L.Denot) → n < k → Q n (slice_index_or c.loop-k.jobs.items n j)
-    = λ n j less e. docked_still (λ told. HasLink g.D.L.Link.known told n (slice_index_or c.args.addresses.now n e) (slice_index_or c.loop-k.jobs.items n j).link) a b d (i.5 n j less e) c.in_ok-job.ensures.told in
-    let many : length c.push.new.self.items ≡ k + 1 = ap length c.in-Ok.ensures.items ∙ length-append c.loop-k.jobs.items (c.in_ok-job.job ∷ []) ∙ omega (arith, size) in (
-      (let len = c.in-Ok.ensures.len in let before = i.0 in omega (arith, len, before)),
+    = λ n j less e. docked_still (λ told. HasLink g.D.L.Link.known told n (slice_index_or c.args.addresses.now n e) (slice_index_or c.loop-k.jobs.items n j).link) a b d (i.5 n j less e) told in
+    let many : length c.push_reserved.new.self.items ≡ k + 1 = ap length c.push_reserved.ensures.items ∙ length-append c.loop-k.jobs.items (c.in-Ok.job ∷ []) ∙ omega (arith, size) in (
+      (let len = c.push_reserved.ensures.len in let before = i.0 in omega (arith, len, before)),
       many,
-      le_trans i.2 c.in_ok-job.ensures.later,
-      opened_now c.args.addresses.now k at within c.get.ensures g.D.L.Link.known c.in_ok-job.job.link a b d i.3 c.in_ok-job.ensures.opened c.in_ok-job.ensures.told,
-      each_more P c.loop-k.jobs.items c.push.new.self.items c.in_ok-job.job k size c.in-Ok.ensures.items i.4 c.in_ok-job.ensures.job,
-      each_more Q c.loop-k.jobs.items c.push.new.self.items c.in_ok-job.job k size c.in-Ok.ensures.items old
-          (λ e. found_now c.args.addresses.now k at within c.get.ensures g.D.L.Link.known c.in_ok-job.job.link a b d c.requires.listed.different i.3 c.in_ok-job.ensures.opened c.in_ok-job.ensures.told e),
+      c.in-Ok.ensures.cause.same (λ failed. cc) ∙ i.2,
+      opened_now c.args.addresses.now k at within c.get.ensures g.D.L.Link.known c.in-Ok.job.link a b d i.3 c.in-Ok.ensures.opened told,
+      each_more P c.loop-k.jobs.items c.push_reserved.new.self.items c.in-Ok.job k size c.push_reserved.ensures.items i.4 c.in-Ok.ensures.job,
+      each_more Q c.loop-k.jobs.items c.push_reserved.new.self.items c.in-Ok.job k size c.push_reserved.ensures.items old
+          (λ e. found_now c.args.addresses.now k at within c.get.ensures g.D.L.Link.known c.in-Ok.job.link a b d c.requires.listed.different i.3 c.in-Ok.ensures.opened told e),
+      (let room = c.push_reserved.ensures.capacity in let before = i.6 in omega (arith, room, before)),
     )
 
-pub returns-in_err-job-clause-stopped : goal.returns-in_err-job-clause-stopped
-returns-in_err-job-clause-stopped g c =
-    let p = err_from_is_err_and c.from_residual.result c.from_residual.ensures.1 in
+pub returns-in-Err-clause-stopped : goal.returns-in-Err-clause-stopped
+returns-in-Err-clause-stopped g c =
+    let i = c.loop-k.invariant in
     let k : ℕ = c.loop-k.k in
+    let ats = c.args.addresses.now in
     let at : Address = c.get.result.now in
-    let within : k < length c.args.addresses.now = (let less = c.loop-k-test.true in let end = c.len-k-end.ensures in omega (arith, less, end)) in
+    let within : k < length ats = (let less = c.loop-k-test.true in let end = c.len-k-end.ensures in omega (arith, less, end)) in
     let a = g.D.Dock.known c.args.dock.now in
     let b = g.D.Dock.known c.loop-k.dock in
     let d = g.D.Dock.known c.open_one.new.dock in
-    let fault : Fault = c.in_err-job.field-0.0 in
-    let stopped : Tells a d (StopsOpening c.args.addresses.now fault) =
-    elim c.in_err-job.ensures.ends [
-      | inl memory ↦ stopped_now c.args.addresses.now k at within c.get.ensures fault a b d memory c.loop-k.invariant.3 (c.in_err-job.ensures.stopped (ap Err memory)) c.in_err-job.ensures.told
-      | inr link ↦ failed_now c.args.addresses.now k at within c.get.ensures g.D.L.Link.known fault a b d c.requires.listed.different link c.loop-k.invariant.3 (c.in_err-job.ensures.failed (ap Err link)) c.in_err-job.ensures.told
-    ] in
-    rw (p.1 ∙ ap Err p.2) stopped
+    let e = g.D.Dock.known c.close_all.new.dock in
+    let known = g.D.L.Link.known in
+    let jobs = c.loop-k.jobs.items in
+    let fault : Fault = c.in-Err.fault in
+    let first : Docked a b (HaveFirst known ats jobs k) = all_links known ats jobs k a b (docked_any _ a b i.3) i.5 in
+    let by_memory : fault ≡ faults.NoMemory → Tells a e (StopsOpening ats fault) = λ memory.
+    let still : d ≡ b = ap g.D.Dock.known (c.in-Err.ensures.untouched (ap Err memory)) in
+    Tells-weaker (StopsBehind ats) (StopsOpening ats fault) a e
+    (stopped_few known ats jobs k i.1 a d e (omega (arith, within)) (subst (λ (m : Known DockContents). Docked a m (HaveFirst known ats jobs k)) (sym still) first)
+    (subst (λ (m : Known DockContents). Tells a m (Opened ats k)) (sym still) i.3) c.close_all.ensures.closed)
+    (λ x y stops. inl (memory, stops)) in
+    let by_link : fault ≡ faults.Link → Tells a e (StopsOpening ats fault) = λ link.
+    let told = c.in-Err.ensures.told (λ memory. let one : fault ≡ faults.NoMemory = cc in let other : faults.Link ≡ faults.NoMemory = sym link ∙ one in cc) in
+    Tells-weaker (BindsFew ats) (StopsOpening ats fault) a e
+    (failed_few known ats jobs k i.1 a d e within (docked_still (HaveFirst known ats jobs k) a b d first told)
+    (missed_now ats k at within c.get.ensures known a b d c.requires.listed.different i.3 (c.in-Err.ensures.failed (ap Err link)) told) c.close_all.ensures.closed)
+    (λ x y few. inr (link, few)) in
+    elim c.in-Err.ensures.ends [ inl memory ↦ by_memory memory | inr link ↦ by_link link ]
 
-pub returns-in_err-job-clause-later : goal.returns-in_err-job-clause-later
-returns-in_err-job-clause-later g c = le_trans c.loop-k.invariant.2 c.in_err-job.ensures.later
-
-pub returns-in_default-clause-stopped : goal.returns-in_default-clause-stopped
-returns-in_default-clause-stopped g c =
-    let k : ℕ = c.loop-k.k in
-    let at : Address = c.get.result.now in
-    let within : k < length c.args.addresses.now = (let less = c.loop-k-test.true in let end = c.len-k-end.ensures in omega (arith, less, end)) in
-    let a = g.D.Dock.known c.args.dock.now in
-    let b = g.D.Dock.known c.loop-k.dock in
-    let d = g.D.Dock.known c.open_one.new.dock in
-    stopped_behind c.args.addresses.now (k + 1) faults.NoMemory a d (omega (arith, within)) refl
-    (opened_now c.args.addresses.now k at within c.get.ensures g.D.L.Link.known c.in_ok-job.job.link a b d c.loop-k.invariant.3 c.in_ok-job.ensures.opened c.in_ok-job.ensures.told)
-
-pub returns-in_default-clause-later : goal.returns-in_default-clause-later
-returns-in_default-clause-later g c = le_trans c.loop-k.invariant.2 c.in_ok-job.ensures.later
+pub returns-in-Err-clause-cause : goal.returns-in-Err-clause-cause
+returns-in-Err-clause-cause g c = then_counts (same_fault_counts c.in-Err.fault faults.Link c.loop-k.invariant.2 c.in-Err.ensures.cause) c.close_all.ensures.cause
 
 pub returns-clause-links : goal.returns-clause-links
 returns-clause-links g c =
     let all : length c.args.addresses.now ≤ c.loop-k.k = (let last = c.loop-k-test.false in let end = c.len-k-end.ensures in omega (arith, last, end)) in
-    all_links g.D.L.Link.known c.args.addresses.now c.loop-k.jobs.items c.loop-k.k (g.D.Dock.known c.args.dock.now) (g.D.Dock.known c.loop-k.dock) all
-    (docked_any _ (g.D.Dock.known c.args.dock.now) (g.D.Dock.known c.loop-k.dock) c.loop-k.invariant.3) c.loop-k.invariant.5
+    let a = g.D.Dock.known c.args.dock.now in
+    let b = g.D.Dock.known c.loop-k.dock in
+    Tells-weaker _ _ a b (all_links g.D.L.Link.known c.args.addresses.now c.loop-k.jobs.items c.loop-k.k a b (docked_any _ a b c.loop-k.invariant.3) c.loop-k.invariant.5)
+    (λ x y first k at none within. first k at none (omega (arith, within, all)))
 
 pub returns-clause-opened : goal.returns-clause-opened
 returns-clause-opened g c =
     let all : length c.args.addresses.now ≤ c.loop-k.k = (let last = c.loop-k-test.false in let end = c.len-k-end.ensures in omega (arith, last, end)) in
     opened_all c.args.addresses.now c.loop-k.k (g.D.Dock.known c.args.dock.now) (g.D.Dock.known c.loop-k.dock) all c.loop-k.invariant.3
 
-pub returns-clause-later : goal.returns-clause-later
-returns-clause-later g c = c.loop-k.invariant.2
+pub returns-clause-cause : goal.returns-clause-cause
+returns-clause-cause g c = counts_none (λ is. cc) c.loop-k.invariant.2

@@ -1,4 +1,4 @@
-use Rattle.std.proofs.Common.{◌≡◌, ℕ, ◌+◌, ◌<◌, ◌≤◌, vec_len, slice_index_or, length}
+use Rattle.std.proofs.Common.{◌≡◌, ℕ, ◌+◌, ◌<◌, ◌≤◌, vec_len, vec_capacity, slice_index_or, length}
 use Rattle.drm_links.specs.declared.dock.Address.{Address}
 use Rattle.mod_receiver.specs.declared.job.Job.{Job}
 use Rattle.several_links.specs.Openings.{Docked, HasLink}
@@ -11,8 +11,9 @@ use Rattle.drm_receive.proofs.receive_command.open_all.Given as goal
 abbrev pub invariant-loop-k : goal.invariant-loop-k
 invariant-loop-k g l =
     (vec_len l.jobs ≡ l.k) × (length l.jobs.items ≡ l.k)
-    × ((g.D.Dock.known l.fn.dock).faults ≤ (g.D.Dock.known l.dock).faults)
+    × ((g.D.Dock.known l.dock).faults ≡ (g.D.Dock.known l.fn.dock).faults)
     × Tells (g.D.Dock.known l.fn.dock) (g.D.Dock.known l.dock) (Opened l.addresses l.k)
     × ((k : ℕ) (d : Job g.row.D-L.Denot) → k < l.k → IsJob l.rules (k + 1) (slice_index_or l.jobs.items k d))
     × ((k : ℕ) (d : Job g.row.D-L.Denot) → k < l.k → (at : Address)
     → Docked (g.D.Dock.known l.fn.dock) (g.D.Dock.known l.dock) (λ told. HasLink g.D.L.Link.known told k (slice_index_or l.addresses k at) (slice_index_or l.jobs.items k d).link))
+    × (length l.addresses ≤ vec_capacity l.jobs)
