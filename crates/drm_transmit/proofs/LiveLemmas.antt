@@ -10,7 +10,6 @@ use Rattle.drm_timeline.specs.Numbers.{frame_count}
 use Rattle.drm_load.specs.Loading.{Reading, ReadBy, given}
 use Rattle.drm_load.specs.Schedule.{schedule_named}
 use Rattle.drm_load.specs.declared.loading.ScheduleFault.{ScheduleFault}
-use Rattle.drm_load.specs.declared.loading.ScheduleFault.TheVariants as schedule
 use Rattle.drm_load.proofs.LoadingLemmas.{given_only, ReadBy-then, ReadBy-stops, ReadBy-given}
 use Rattle.drm_load.proofs.ScheduleLemmas.{schedule_only}
 use Rattle.drm_faults.specs.declared.fault.Fault.{Fault}

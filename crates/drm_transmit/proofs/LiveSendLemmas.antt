@@ -1,5 +1,5 @@
 -- A run with live streams over links that were opened and closed.
-use Rattle.std.proofs.Common.{◌≡◌, ℕ, ◌+◌, ◌-◌, ◌*◌, ◌<◌, ◌≤◌, ◌⊎◌, inl, inr, Bool, true, List, [], ◌++◌, length, slice_index_or, Result, Err, refl, sym, ◌∙◌, ap, subst, arith}
+use Rattle.std.proofs.Common.{◌≡◌, ℕ, ◌+◌, ◌*◌, ◌<◌, ◌≤◌, ◌⊎◌, inl, inr, Bool, true, List, [], ◌++◌, length, slice_index_or, Result, Err, refl, sym, ◌∙◌, ap, subst, arith}
 use Rattle.drm_links.specs.Told.{Known, Tells, WhileTold}
 use Rattle.drm_links.specs.Shelf.{Files}
 use Rattle.drm_links.specs.Source.{Input}

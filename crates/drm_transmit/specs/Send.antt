@@ -1,5 +1,5 @@
 -- The command `serve --to`: a schedule becomes datagrams over links.
-use Rattle.std.specs.Prelude.{ℕ, ◌≡◌, ◌-◌, ◌*◌, ◌<◌, ◌≤◌, ◌⊎◌, ◌↔◌, Bool, true, false, List, [], ◌∷◌, ◌++◌, length, slice_index_or, Option, Some, Result, Ok, Err, IfOk}
+use Rattle.std.specs.Prelude.{ℕ, ◌≡◌, ◌-◌, ◌*◌, ◌<◌, ◌⊎◌, ◌↔◌, Bool, true, false, List, [], ◌∷◌, ◌++◌, length, slice_index_or, Option, Some, Result, Ok, Err, IfOk}
 use Rattle.std.specs.FinMap as map
 use Rattle.drm_links.specs.Told.{HasFailed, Known, HasCause, Tells}
 use Rattle.drm_links.specs.Shelf.{Files, Supplies}

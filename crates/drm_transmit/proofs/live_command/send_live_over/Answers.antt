@@ -1,4 +1,4 @@
-use Rattle.std.proofs.Common.{◌≡◌, ◌*◌, ◌∙◌, ap, refl, subst, inl, Err}
+use Rattle.std.proofs.Common.{◌≡◌, ◌*◌, ◌∙◌, ap, subst, Err}
 use Rattle.std.proofs.lemmas.Result.{err_from_is_err_and}
 use Rattle.drm_links.proofs.ToldLemmas.{counts_as, counts_none}
 use Rattle.drm_schedule.specs.declared.plan.Plan.{Plan}

@@ -1,4 +1,4 @@
-use Rattle.std.proofs.Common.{◌≡◌, ◌≤◌, ℕ, List, length}
+use Rattle.std.proofs.Common.{◌≡◌, ℕ, List, length}
 use Rattle.live_server.specs.Going.{HasMade, WroteEach}
 use Rattle.live_server.proofs.live_capture.serve_live_sink.Given as goal
 

@@ -1,4 +1,4 @@
-use Rattle.std.proofs.Common.{◌≡◌, ◌<◌, ◌≤◌, ℕ, List, length, get_or}
+use Rattle.std.proofs.Common.{◌≡◌, ◌<◌, ℕ, List, length, get_or}
 use Rattle.live_server.specs.Going.{HasMade, SentEach}
 use Rattle.live_server.proofs.live_links.serve_live_links.Given as goal
 
