@@ -1,5 +1,5 @@
 -- A packet that is sent under a carry.
-use Rattle.std.specs.Prelude.{ℕ, ◌≡◌, ◌<◌, ◌≤◌, Bool, true, false, nat_lt, List, length, Option, slice_index_or}
+use Rattle.std.specs.Prelude.{ℕ, ◌≡◌, ◌<◌, Bool, true, false, nat_lt, List, length, Option, slice_index_or}
 use Rattle.dcp_pft.specs.declared.carry.Carry.{Carry}
 use Rattle.dcp_pft.specs.declared.shape.Shape.{Shape}
 use Rattle.packet_sending.specs.Sending as sending

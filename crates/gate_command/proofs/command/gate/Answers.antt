@@ -1,4 +1,4 @@
-use Rattle.std.proofs.Common.{subst, ap, ◌∙◌, refl, inl, inr, arith, Ok, Err}
+use Rattle.std.proofs.Common.{subst, ap, ◌∙◌, refl, inl, inr, Ok, Err}
 use Rattle.std.proofs.lemmas.Result.{err_from_is_err_and}
 use Rattle.dcp_pft.specs.declared.carry.Carry.{Carry}
 use Rattle.drm_links.specs.Told.{Tells}
