@@ -2,7 +2,7 @@
 use Rattle.std.proofs.Common.{◌≡◌, ℕ, ◌<◌, ◌⊎◌, inl, inr, Bool, true, false, IsTrue, List, [], length, Option, Result, Ok, Err, refl, sym, ◌∙◌, ap, subst, arith}
 use Rattle.drm_schedule.specs.declared.plan.Plan.{Plan}
 use Rattle.script_lines.specs.declared.delivery.Delivery.{Delivery}
-use Rattle.drm_links.specs.Told.{HasFailed, HasCause, Known, Rose}
+use Rattle.drm_links.specs.Told.{HasFailed, HasCause, Known}
 use Rattle.drm_links.specs.Shelf.{Files, Supplies}
 use Rattle.drm_links.specs.Sink.{Output}
 use Rattle.drm_links.proofs.ToldLemmas.{Tells-then, Tells-weaker}

@@ -4,7 +4,7 @@ use Rattle.drm_schedule.specs.declared.plan.Plan.{Plan}
 use Rattle.drm_schedule.specs.Valid.{IsSchedule}
 use Rattle.script_lines.specs.declared.delivery.Delivery.{Delivery}
 use Rattle.script_lines.specs.Script.{IsScript, IsDelivery}
-use Rattle.drm_links.specs.Told.{HasFailed, Known, HasCause, Rose}
+use Rattle.drm_links.specs.Told.{HasFailed, Known, HasCause}
 use Rattle.drm_links.specs.Shelf.{Files, Supplies}
 use Rattle.drm_links.specs.Link.{Datagram}
 use Rattle.drm_links.specs.Sink.{Output}
