@@ -1,15 +1,16 @@
 -- Links that are opened, one for each path.
-use Rattle.std.proofs.Common.{ℕ, ◌<◌, ◌≤◌, inl, inr, List, length, slice_index_or, Option, None, Some, refl, arith}
-use Rattle.drm_links.specs.Told.{Known, Tells, ToldThrough}
+use Rattle.std.proofs.Common.{◌≡◌, ℕ, ◌<◌, ◌≤◌, inl, inr, List, length, slice_index_or, Option, None, Some, Result, Err, refl, arith}
+use Rattle.drm_links.specs.Told.{Known, WhileTold, CountsCall, Tells, ToldThrough}
 use Rattle.drm_links.specs.Link.{Traffic}
-use Rattle.drm_links.specs.Dock.{DockContents}
+use Rattle.drm_links.specs.Dock.{DockContents, Opens}
+use Rattle.drm_links.specs.declared.dock.Opened.TheVariants as opened
 use Rattle.drm_links.specs.declared.dock.Address.{Address}
 use Rattle.drm_links.proofs.ToldLemmas.{Tells-weaker}
-use Rattle.drm_faults.specs.declared.fault.Fault.TheVariants as low
 use Rattle.several_links.specs.Openings.{Docked, HasLink}
-use Rattle.drm_receive.specs.Opening.{StopsOpening as StopsReceiving}
-use Rattle.several_links.proofs.OpeningLemmas.{Opened}
+use Rattle.word_forms.specs.Addresses.{AreDifferent}
+use Rattle.several_links.proofs.OpeningLemmas.{Opened, docks_more, not_found}
 use Rattle.path_command.specs.Opening.{HaveLinks, StopsOpening}
+use Rattle.path_command.specs.declared.fault.Fault.{Fault}
 use Rattle.path_command.specs.declared.fault.Fault.TheVariants as faults
 
 -- all links at once
@@ -25,15 +26,19 @@ all_links {L} known addresses links n a b all = linked a.told b.told
     linked None (Some y) any each = any
     linked (Some x) (Some y) any each = λ k at d within. each k d (omega (arith, within, all)) at
 
+pub inner_fault : {T : Type 0} (x y : Fault) → (let e : Result T Fault = Err x in e) ≡ Err y → x ≡ y
+inner_fault x y is = cc
+
 -- memory ran out behind some openings
 pub stopped_behind : (addresses : List Address) (k : ℕ) (a b : Known DockContents) → k ≤ length addresses → Tells a b (Opened addresses k) → Tells a b (StopsOpening addresses faults.NoMemory)
 stopped_behind addresses k a b within opened =
     Tells-weaker (Opened addresses k) (StopsOpening addresses faults.NoMemory) a b opened (λ x y is. inl (refl, record { k = k; within = within; told = is }))
 
-failed_by : (addresses : List Address) (x y : DockContents) → StopsReceiving addresses low.Link x y → StopsOpening addresses faults.Link x y
-failed_by addresses x y (inl (memory, stops)) = absurd (cc)
-failed_by addresses x y (inr (link, fails)) = inr (refl, fails)
-
 -- one failed
-pub failed_opening : (addresses : List Address) (a b : Known DockContents) → Tells a b (StopsReceiving addresses low.Link) → Tells a b (StopsOpening addresses faults.Link)
-failed_opening addresses a b stops = Tells-weaker (StopsReceiving addresses low.Link) (StopsOpening addresses faults.Link) a b stops (failed_by addresses)
+pub failed_now : (addresses : List Address) (k : ℕ) (at : Address) (within : k < length addresses) (is : at ≡ slice_index_or addresses k at)
+    → {L : Type 0} (known : L → Known Traffic) (a b c : Known DockContents) → AreDifferent addresses
+    → Tells a b (Opened addresses k) → WhileTold b c (Opens known at opened.Failed) → CountsCall (λ (d : DockContents). d.calls) b c
+    → Tells a c (StopsOpening addresses faults.Link)
+failed_now addresses k at within is known a b c different before now counts =
+    docks_more (Opened addresses k) (Opens known at opened.Failed) (StopsOpening addresses faults.Link) a b c before now counts
+    (λ x y z p q. inr (refl, not_found addresses k at within is known x y z different p q))

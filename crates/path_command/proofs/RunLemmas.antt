@@ -1,11 +1,12 @@
 -- Runs by how they end.
-use Rattle.std.proofs.Common.{◌≡◌, ℕ, ◌≤◌, ◌⊎◌, ◌↔◌, inl, inr, Bool, List, length, Result, Ok, Err, refl, sym, ◌∙◌, ap, subst, le_refl}
-use Rattle.drm_links.specs.Told.{Known, HasCause, Tells}
+use Rattle.std.proofs.Common.{◌≡◌, ℕ, ◌⊎◌, ◌↔◌, inl, inr, Bool, List, length, Result, Ok, Err, refl, sym, ◌∙◌, ap, subst}
+use Rattle.drm_links.specs.Told.{Known, HasFailed, HasCause, Tells}
 use Rattle.drm_links.specs.Link.{Traffic}
 use Rattle.drm_links.specs.Sink.{Output, Outputs, IsFront}
+use Rattle.drm_faults.specs.Causes.{OpeningFailed}
 use Rattle.drm_links.specs.Dock.{DockContents}
 use Rattle.drm_links.specs.declared.dock.Address.{Address}
-use Rattle.drm_links.proofs.ToldLemmas.{Tells-weaker}
+use Rattle.drm_links.proofs.ToldLemmas.{counts_none, Tells-weaker}
 use Rattle.mod_receiver.specs.Ahead.{Report}
 use Rattle.several_links.specs.Openings.{Docked, after_openings}
 use Rattle.several_links.proofs.OpeningLemmas.{docked_both, docked_weaker}
@@ -48,10 +49,10 @@ pub paths_run : {D O : Type 0} (request : Request) (ending : Result Bool Fault) 
     → ((fault : Fault) → ending ≡ Err fault → (fault ≡ faults.Write → ⊥) → out' ≡ out)
     → Docked (dock_known dock) (dock_known dock') (Exactly request ending)
     → Docked (dock_known dock) (dock_known dock') (λ told. (path at : ℕ) → ending ≡ Err (faults.Differs path at) → DiffersAt request told path at)
-    → (dock_known dock).faults ≤ (dock_known dock').faults
+    → OpeningFailed (dock_known dock) (dock_known dock') (ending ≡ Err faults.Link)
     → HasCause (out_known out) (out_known out') (ending ≡ Err faults.Write)
     → PathsRun request ending dock_known dock dock' out_known out out'
-paths_run request ending dock_known dock dock' out_known out out' kind opens writes unwritten exactly differs later cause =
+paths_run request ending dock_known dock dock' out_known out out' kind opens writes unwritten exactly differs dock_cause cause =
     let W : DockContents → Type 0 = λ told. WritesReport (settings_in request) (AreEntries request told) ending out_known out out' in
     let E : DockContents → Type 0 = Exactly request ending in
     let a = dock_known dock in
@@ -64,8 +65,8 @@ paths_run request ending dock_known dock dock' out_known out out' kind opens wri
       exactly = exactly;
       differs = differs;
       complete = λ taken. docked_weaker (λ told. W told × E told) (Done request ending out_known out out') a b (docked_both W E a b writes exactly)
-          (λ told both. done_by request ending out_known out out' told kind (λ is. taken (cause.rose is)) both.0 both.1);
-      later = later;
+          (λ told both. done_by request ending out_known out out' told kind (λ is. taken (cause.once is)) both.0 both.1);
+      dock_cause = dock_cause;
       write_cause = cause;
     }
 
@@ -91,10 +92,13 @@ exactly_by request fault told after (inr (link, fails)) = inr (λ is. record { k
 other_fault : (fault other : Fault) → (let e : Result Bool Fault = Err fault in e) ≡ Err other → fault ≡ other
 other_fault fault other is = cc
 
+not_link : (fault : Fault) → fault ≡ faults.NoMemory → (let e : Result Bool Fault = Err fault in e) ≡ Err faults.Link → ⊥
+not_link fault memory is = let one : faults.NoMemory ≡ faults.Link = sym memory ∙ other_fault fault faults.Link is in cc
+
 pub opening_failed : {D O : Type 0} (request : Request) (fault : Fault) (dock_known : D → Known DockContents) (dock dock' : D) (out_known : O → Known Output) (out : O)
     → (fault ≡ faults.NoMemory) ⊎ (fault ≡ faults.Link) → Tells (dock_known dock) (dock_known dock') (StopsOpening request.addresses fault)
-    → (dock_known dock).faults ≤ (dock_known dock').faults → PathsRun request (Err fault) dock_known dock dock' out_known out out
-opening_failed request fault dock_known dock dock' out_known out ends stopped later =
+    → HasCause (dock_known dock) (dock_known dock') ((let e : Result Bool Fault = Err fault in e) ≡ Err faults.Link) → PathsRun request (Err fault) dock_known dock dock' out_known out out
+opening_failed request fault dock_known dock dock' out_known out ends stopped cause =
     let a = dock_known dock in
     let b = dock_known dock' in
     let not : (other : Fault) → (faults.NoMemory ≡ other → ⊥) → (faults.Link ≡ other → ⊥) → fault ≡ other → ⊥ =
@@ -107,8 +111,8 @@ opening_failed request fault dock_known dock dock' out_known out ends stopped la
     (Tells-weaker (StopsOpening request.addresses fault) (λ told _. Exactly request (Err fault) told) a b stopped (exactly_by request fault))
     (Tells-weaker (StopsOpening request.addresses fault) (λ told _. (path at : ℕ) → (let e : Result Bool Fault = Err fault in e) ≡ Err (faults.Differs path at) → DiffersAt request told path at) a b stopped
     (λ told after stops path at is. absurd (not (faults.Differs path at) (λ e. cc) (λ e. cc) (other_fault fault (faults.Differs path at) is))))
-    later
-    (record { later = le_refl _; rose = λ is. absurd (not faults.Write (λ e. cc) (λ e. cc) (other_fault fault faults.Write is)) })
+    (elim ends [ inl memory ↦ inl (cause.same (λ is. not_link fault memory is)) | inr link ↦ inr (ap Err link, cause.once (ap Err link)) ])
+    (counts_none (λ is. not faults.Write (λ e. cc) (λ e. cc) (other_fault fault faults.Write is)) refl)
 
 -- ---- all links were opened
 
@@ -121,7 +125,7 @@ module _ {D O L : Type 0} (request : Request) (range : IsInRange request) (dock_
     (many : length links ≡ length request.addresses)
     (opened : Tells (dock_known dock) (dock_known dock') (λ before after. after ≡ after_openings request.addresses before))
     (have : Docked (dock_known dock) (dock_known dock') (λ told. HaveLinks known told request.addresses links))
-    (later : (dock_known dock).faults ≤ (dock_known dock').faults) where
+    (still : (dock_known dock').faults ≡ (dock_known dock).faults) where
   then_docked : (P : DockContents → Type 0) → ((told : DockContents) → HaveLinks known told request.addresses links → P told) → Docked (dock_known dock) (dock_known dock') P
   then_docked P then_is = docked_weaker (λ told. HaveLinks known told request.addresses links) P (dock_known dock) (dock_known dock') have then_is
 
@@ -142,8 +146,8 @@ module _ {D O L : Type 0} (request : Request) (range : IsInRange request) (dock_
       (λ other is any. refl)
       (then_docked _ (λ told has. inl refl))
       (then_docked _ (λ told has path at is. absurd (cc)))
-      later
-      (record { later = le_refl _; rose = λ is. absurd (cc) })
+      (inl still)
+      (counts_none (λ is. cc) refl)
 
   -- reading or closing ended it early
   links_failed : (fault : Fault) (out : O) → EndsLinks request known links (Err fault) → PathsRun request (Err fault) dock_known dock dock' out_known out out
@@ -155,8 +159,8 @@ module _ {D O L : Type 0} (request : Request) (range : IsInRange request) (dock_
       (λ other is any. refl)
       (then_docked _ (exactly fault ends))
       (then_docked _ (differs fault ends))
-      later
-      (record { later = le_refl _; rose = λ is. absurd (not_write fault ends is) })
+      (inl still)
+      (counts_none (not_write fault ends) refl)
     where
       not_words : (fault : Fault) → EndsLinks request known links (Err fault) → (let e : Result Bool Fault = Err fault in e) ≡ Err faults.Words → ⊥
       not_words faults.Words ends is = ends
@@ -225,7 +229,7 @@ module _ {D O L : Type 0} (request : Request) (range : IsInRange request) (dock_
         (λ fault is other. absurd (cc))
         (then_docked _ (none_ends (Ok clean) ends.paths ends.read (λ is. cc)))
         (then_docked _ (λ told has path at is. absurd (cc)))
-        later
+        (inl still)
         cause
 
     -- a write failed
@@ -239,5 +243,5 @@ module _ {D O L : Type 0} (request : Request) (range : IsInRange request) (dock_
         (λ fault is other. absurd (other (sym (other_fault faults.Write fault is))))
         (then_docked _ (none_ends (Err faults.Write) ends.paths ends.read (λ is. cc)))
         (then_docked _ (λ told has path at is. absurd (cc)))
-        later
+        (inl still)
         cause

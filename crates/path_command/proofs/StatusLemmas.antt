@@ -10,3 +10,10 @@ words_fault faults.Words is = refl
 words_fault faults.Write is = absurd (cc)
 words_fault faults.Link is = absurd (cc)
 words_fault (faults.Differs path at) is = absurd (cc)
+
+pub write_fault : (fault : Fault) → fault_status fault ≡ 5 → fault ≡ faults.Write
+write_fault faults.NoMemory is = absurd (cc)
+write_fault faults.Words is = absurd (cc)
+write_fault faults.Write is = refl
+write_fault faults.Link is = absurd (cc)
+write_fault (faults.Differs path at) is = absurd (cc)

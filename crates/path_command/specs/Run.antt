@@ -4,6 +4,7 @@ use Rattle.drm_links.specs.Told.{Known, HasFailed, HasCause, Tells}
 use Rattle.drm_links.specs.Sink.{Output, Outputs, IsFront}
 use Rattle.drm_links.specs.Dock.{DockContents, LinkStart}
 use Rattle.drm_links.specs.declared.dock.Address.{Address}
+use Rattle.drm_faults.specs.Causes.{OpeningFailed}
 use Rattle.drm_faults.specs.Fault.{WritesLine}
 use Rattle.word_forms.specs.Addresses.{AreDifferent}
 use Rattle.path_words.specs.declared.request.Request.{Request}
@@ -121,8 +122,8 @@ pub record PathsRun {D O : Type 0} (request : Request) (ending : Result Bool Fau
   pub complete : (HasFailed (out_known out) (out_known out') → ⊥) → Docked (dock_known dock) (dock_known dock') (λ told.
       (FailsSome request told → ⊥) → (ending ≡ Err faults.NoMemory) ⊎ (IsDiffering ending
       ⊎ WroteReport (settings_in request) (AreEntries request told) ending out_known out out'))
-  -- The counts of faults never fall, and a write failed only where out's rose.
-  pub later : (dock_known dock).faults ≤ (dock_known dock').faults
+  -- The count of faults of the dock rose, by one, exactly where an opening failed; that of out exactly where a write ended the run.
+  pub dock_cause : OpeningFailed (dock_known dock) (dock_known dock') (ending ≡ Err faults.Link)
   pub write_cause : HasCause (out_known out) (out_known out') (ending ≡ Err faults.Write)
 
 -- What a run writes to err: the line of its fault, and else nothing.

@@ -1,7 +1,7 @@
 //! The run of several paths.
 
 ghost use Rattle.std.specs.Prelude.{◌≡◌, ◌⊎◌, ◌<◌, ◌≤◌, All, map, length, string_bytes, vec_len, Bool, Result, Err};
-ghost use Rattle.drm_links.specs.Told.{HasCause, HasFailed};
+ghost use Rattle.drm_links.specs.Told.{HasCause};
 ghost use Rattle.drm_paths.specs.State.{settings_of};
 ghost use Rattle.path_words.specs.declared.request.Request.{Request};
 ghost use Rattle.path_words.specs.Line.{IsPathsLine};
@@ -52,8 +52,8 @@ where
         × ((ending ≡ Err Fault.Words) ⊎ (ending ≡ Err Fault.NoMemory)) × (dock.new ≡ dock.old) × (out.new ≡ out.old) }
     // 2: the words ask for nothing.
     ensures words { result.code ≡ 2 → AsksForNothing (map string_bytes words.now) }
-    // 5: the count of faults of out rose.
-    ensures write { result.code ≡ 5 → HasFailed (O.known out.old) (O.known out.new) }
+    // 5: the count of faults of out rose, by one; else it stayed.
+    ensures write { HasCause (O.known out.old) (O.known out.new) (result.code ≡ 5) }
     ensures known { result.code ≤ 8 }
 {
     match execute(rt, alloc, words, out, dock) {

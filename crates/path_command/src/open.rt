@@ -1,7 +1,7 @@
 //! The links of a run.
 
-ghost use Rattle.std.specs.Prelude.{◌≡◌, ◌≤◌, ◌⊎◌, length, vec_len, IfOk, IfErr};
-ghost use Rattle.drm_links.specs.Told.{Tells};
+ghost use Rattle.std.specs.Prelude.{◌≡◌, ◌⊎◌, Err, length, vec_len, IfOk, IfErr};
+ghost use Rattle.drm_links.specs.Told.{HasCause, Tells};
 ghost use Rattle.drm_receive.specs.Terms.{AreListed};
 ghost use Rattle.several_links.specs.Openings.{Docked, after_openings};
 ghost use Rattle.path_command.specs.Opening.{HaveLinks, StopsOpening};
@@ -26,7 +26,7 @@ pub(crate) fn open_links<D: Dock>(
     ensures ends { IfErr result (λ fault. (fault ≡ Fault.NoMemory) ⊎ (fault ≡ Fault.Link)) }
     ensures stopped { IfErr result (λ fault. Tells (D.known dock.old) (D.known dock.new)
         (StopsOpening addresses.now fault)) }
-    ensures later { (D.known dock.old).faults ≤ (D.known dock.new).faults }
+    ensures cause { HasCause (D.known dock.old) (D.known dock.new) (result ≡ Err Fault.Link) }
 {
     let mut links = Vec::new(alloc);
     for k in 0..addresses.len() {

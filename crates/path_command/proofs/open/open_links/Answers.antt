@@ -1,10 +1,9 @@
-use Rattle.std.proofs.Common.{◌≡◌, ℕ, ◌+◌, ◌<◌, ◌≤◌, refl, slice_index_or, ◌∙◌, ap, arith, length, length-append, [], ◌∷◌, le_trans}
+use Rattle.std.proofs.Common.{◌≡◌, ℕ, ◌+◌, ◌<◌, ◌≤◌, refl, slice_index_or, ◌∙◌, ap, arith, length, length-append, [], ◌∷◌}
 use Rattle.drm_links.specs.declared.dock.Address.{Address}
-use Rattle.drm_faults.specs.declared.fault.Fault.TheVariants as low
 use Rattle.several_links.specs.Openings.{Docked, HasLink}
 use Rattle.several_links.proofs.OpeningLemmas.{found_now, opened_now, docked_any, docked_still}
-use Rattle.drm_receive.proofs.OpeningLemmas.{failed_now}
-use Rattle.path_command.proofs.Opening.{all_links, stopped_behind, failed_opening}
+use Rattle.drm_links.proofs.ToldLemmas.{counts_one, counts_none, once_then}
+use Rattle.path_command.proofs.Opening.{all_links, stopped_behind, failed_now}
 use Rattle.mod_receiver.proofs.Listing.{each_more}
 use Rattle.path_command.proofs.open.open_links.Goals as goal
 
@@ -24,7 +23,7 @@ loop-k-preserved g c =
     let many : length c.push.new.self.items ≡ k + 1 = ap length c.in-Ok.ensures.items ∙ length-append c.loop-k.links.items (c.in-Link.link ∷ []) ∙ omega (arith, size) in (
       (let len = c.in-Ok.ensures.len in let before = i.0 in omega (arith, len, before)),
       many,
-      le_trans i.2 c.in-Link.ensures.cause.later,
+      c.in-Link.ensures.cause.same (λ failed. failed) ∙ i.2,
       opened_now c.args.addresses.now k at within c.get.ensures g.D.L.Link.known c.in-Link.link a b d i.3 c.in-Link.ensures.opened c.in-Link.ensures.told,
       each_more Q c.loop-k.links.items c.push.new.self.items c.in-Link.link k size c.in-Ok.ensures.items old
           (λ e. found_now c.args.addresses.now k at within c.get.ensures g.D.L.Link.known c.in-Link.link a b d c.requires.listed.different i.3 c.in-Link.ensures.opened c.in-Link.ensures.told e),
@@ -38,8 +37,7 @@ returns-in-Failed-clause-stopped g c =
     let a = g.D.Dock.known c.args.dock.now in
     let b = g.D.Dock.known c.loop-k.dock in
     let d = g.D.Dock.known c.bind.new.self in
-    failed_opening c.args.addresses.now a d
-    (failed_now c.args.addresses.now k at within c.get.ensures g.D.L.Link.known low.Link a b d c.requires.listed.different refl c.loop-k.invariant.3 c.in-Failed.ensures.opened c.in-Failed.ensures.told)
+    failed_now c.args.addresses.now k at within c.get.ensures g.D.L.Link.known a b d c.requires.listed.different c.loop-k.invariant.3 c.in-Failed.ensures.opened c.in-Failed.ensures.told
 
 pub returns-in_default-clause-stopped : goal.returns-in_default-clause-stopped
 returns-in_default-clause-stopped g c =
@@ -52,8 +50,11 @@ returns-in_default-clause-stopped g c =
     stopped_behind c.args.addresses.now (k + 1) a d (omega (arith, within))
     (opened_now c.args.addresses.now k at within c.get.ensures g.D.L.Link.known c.in-Link.link a b d c.loop-k.invariant.3 c.in-Link.ensures.opened c.in-Link.ensures.told)
 
-pub returns-in_default-clause-later : goal.returns-in_default-clause-later
-returns-in_default-clause-later g c = le_trans c.loop-k.invariant.2 c.in-Link.ensures.cause.later
+pub returns-in-Failed-clause-cause : goal.returns-in-Failed-clause-cause
+returns-in-Failed-clause-cause g c = counts_one refl (once_then c.loop-k.invariant.2 (c.in-Failed.ensures.cause.once tt))
+
+pub returns-in_default-clause-cause : goal.returns-in_default-clause-cause
+returns-in_default-clause-cause g c = counts_none (λ is. cc) (c.in-Link.ensures.cause.same (λ failed. failed) ∙ c.loop-k.invariant.2)
 
 pub returns-clause-links : goal.returns-clause-links
 returns-clause-links g c =
