@@ -1,6 +1,6 @@
 -- The ends of runs that tell of no frames.
 use Rattle.std.proofs.Common.{◌≡◌, ℕ, ◌⊎◌, inl, inr, Bool, List, true, false, [], Option, None, Some, Result, Ok, Err, refl, sym, ◌∙◌, ap, subst}
-use Rattle.drm_links.specs.Told.{Known, HasCause, WhileTold, BothTold}
+use Rattle.drm_links.specs.Told.{Known, Counts, WhileTold, BothTold}
 use Rattle.drm_links.proofs.ToldLemmas.{counts_as}
 use Rattle.drm_links.specs.Dock.{DockContents}
 use Rattle.several_links.specs.Reaching.{NothingSent}
@@ -36,7 +36,7 @@ pub whole_lacks_none : (result : Result Bool Fault) (done : Result (Unit {0}) Fa
 whole_lacks_none result done whole is = lacks_none done (sym whole ∙ is)
 
 -- a count of a run that tells of no frames
-pub whole_cause : {X : Type 0} {a b : Known X} (result : Result Bool Fault) (done : Result (Unit {0}) Fault) (fault : Fault) → result ≡ whole_of done → HasCause a b (done ≡ Err fault) → HasCause a b (result ≡ Err fault)
+pub whole_cause : {a b : ℕ} (result : Result Bool Fault) (done : Result (Unit {0}) Fault) (fault : Fault) → result ≡ whole_of done → Counts a b (done ≡ Err fault) → Counts a b (result ≡ Err fault)
 whole_cause result done fault whole cause = counts_as (fault_of_whole result done fault whole) (λ is. whole ∙ ap whole_of is) cause
 
 -- ---- the counts by the status
