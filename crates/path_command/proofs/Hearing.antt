@@ -24,7 +24,7 @@ heard_next (Some x) (Some y) start answers heard is few =
     let same : x ≡ first_traffic start = cc in
     (y.ahead, subst (λ (t : Traffic). AreNext t.ahead answers y.ahead) same heard.ahead)
 
-few_answers : (request : Request) → IsInRange request → most_answers (options_in request) ≤ 2 ^ 62
+pub few_answers : (request : Request) → IsInRange request → most_answers (options_in request) ≤ 2 ^ 62
 few_answers request range =
     let l : request.limit ≤ 1000000 = range.options.few in
     let i : request.idle ≤ 1000000 = range.few_idles in

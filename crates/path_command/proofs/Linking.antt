@@ -1,5 +1,5 @@
 -- Paths that ran side by side over their links.
-use Rattle.std.proofs.Common.{◌≡◌, ℕ, suc, ◌+◌, ◌<◌, ◌⊎◌, inl, inr, Bool, true, false, List, [], ◌∷◌, length, map, slice_index_or, vec_len, Option, None, Some, MatchOption, All, refl, sym, ◌∙◌, ap, subst, arith}
+use Rattle.std.proofs.Common.{◌≡◌, ℕ, suc, ◌+◌, ◌<◌, ◌⊎◌, inl, inr, Bool, true, false, List, [], ◌∷◌, length, map, slice_index_or, vec_len, Option, None, Some, MatchOption, Result, All, refl, sym, ◌∙◌, ap, subst, arith}
 use Rattle.std.specs.Prelude.{sum_by}
 use Rattle.std.specs.List.{list_any}
 use Rattle.std.proofs.lemmas.List.{length-map, get_or-map}
@@ -20,7 +20,10 @@ use Rattle.path_book.specs.Journal.{JournalState}
 use Rattle.path_command.specs.declared.job.PathJob.{PathJob}
 use Rattle.path_command.specs.Jobs.{IsReady, HaveNewPaths, EndedAs, HasEnded, has_failed, has_run_out}
 use Rattle.path_command.specs.Run.{settings_in, options_in}
-use Rattle.path_command.specs.Links.{ReadsLink, ReadsWhole, ReadAll, BreaksSome, BreaksNone, EndsLinks, ending_of}
+use Rattle.mod_receiver.specs.Hearing.{Heard}
+use Rattle.drm_paths.specs.Reading.{ReadsPath}
+use Rattle.path_command.specs.declared.fault.Fault.{Fault}
+use Rattle.path_command.specs.Links.{ReadsLink, ReadsWhole, ReadAll, BreaksSome, BreaksNone, EndsLinks, Fits, AreRead, ending_of}
 
 -- the paths are new, and each has its link
 pub record AreNew {G L : Type 0} (links : List L) (paths : List PathState) (jobs : List (PathJob G L)) : Type 0 where
@@ -179,6 +182,25 @@ module _ {G L : Type 0} (known : L → Known Traffic) (options : PathOptions) (l
     is_none : (p : PathJob G L → Bool) → list_any p after ≡ false → p (slice_index_or after k job) ≡ true → ⊥
     is_none p not_any is = let any : list_any p after ≡ true = list_any_at p after k job behind is in let both : true ≡ false = sym any ∙ not_any in cc
 
+    ended_so : (o : Option PathEnded) → (slice_index_or after k job).ended ≡ o → Was known options (slice_index_or jobs k job) (slice_index_or after k job) o
+        → (w : PathEnded) × ((slice_index_or after k job).ended ≡ Some w) × ReadsPath options (Heard (known (slice_index_or jobs k job).link) (known (slice_index_or after k job).link)) now.taken w
+    ended_so None is was = absurd was
+    ended_so (Some w) is was = (w, is, was.reads)
+
+    -- how it has read its link
+    then_read : (d : L) → (w : PathEnded) × ((slice_index_or after k job).ended ≡ Some w)
+        × ReadsPath options (Heard (known (slice_index_or links k d)) (known (slice_index_or (map (λ j. j.link) after) k d))) now.taken w
+    then_read d =
+        let r = ended_so (slice_index_or after k job).ended refl (ran.ended k job inside) in (
+          r.0,
+          r.1,
+          subst (λ l. ReadsPath options (Heard (known l) (known (slice_index_or (map (λ j. j.link) after) k d))) now.taken r.0) (sym (link_at links paths jobs ran.new k job d inside))
+              (subst (λ l. ReadsPath options (Heard (known (slice_index_or jobs k job).link) (known l)) now.taken r.0) (sym (get_or-map (λ j. j.link) after k job d behind)) r.2),
+        )
+
+    some_so : (p : PathJob G L → Bool) → p (slice_index_or after k job) ≡ true → list_any p after ≡ true
+    some_so p is = list_any_at p after k job behind is
+
     pub then_unbroken : list_any (λ (j : PathJob G L). has_failed j.ended) after ≡ false → (none : L)
         → ReadsWhole options (known (slice_index_or links k none)) now.taken ⊎ ReadsLink options (known (slice_index_or links k none)) now.taken why.NoMemory
     then_unbroken failed none =
@@ -193,6 +215,22 @@ module _ {G L : Type 0} (known : L → Known Traffic) (options : PathOptions) (l
         subst (λ l. ReadsWhole options (known l) (slice_index_or taken_then k d).taken) (sym (link_at links paths jobs ran.new k job none inside))
         (subst (λ (p : PathState). ReadsWhole options (known (slice_index_or jobs k job).link) p.taken) (sym (then_is d)) reads)
 
+  -- what all have read of their links
+  pub are_read : {T : Type 0} (result : Result T Fault)
+      → ((w : PathEnded) → (has_failed (Some w) ≡ true → list_any (λ (j : PathJob G L). has_failed j.ended) after ≡ true)
+      → (has_run_out (Some w) ≡ true → list_any (λ (j : PathJob G L). has_run_out j.ended) after ≡ true) → Fits result w)
+      → AreRead options known links (map (λ j. j.link) after) result
+  are_read result fits = record {
+    as_many = length-map after (λ j. j.link) ∙ ran.still ∙ many;
+    each = λ k d within.
+        let r = then_read k within d in (
+          r.0,
+          (now k within).taken,
+          r.2,
+          fits r.0 (λ failed. some_so k within (λ j. has_failed j.ended) (ap has_failed r.1 ∙ failed)) (λ out. some_so k within (λ j. has_run_out j.ended) (ap has_run_out r.1 ∙ out)),
+        );
+  }
+
   -- none broke off
   pub breaks_none : list_any (λ (j : PathJob G L). has_failed j.ended) after ≡ false → BreaksNone options known links
   breaks_none failed k none within = ((now k within).taken, then_unbroken k within failed none)
@@ -200,6 +238,23 @@ module _ {G L : Type 0} (known : L → Known Traffic) (options : PathOptions) (l
   -- they have all parts of the ledger
   pub all_parts : sum_by (λ p. p.parts) taken_then ≡ length links
   all_parts = sum_ones taken_then (λ k d l. then_parts k (omega (arith, l, then_many)) d) ∙ then_many
+
+-- ---- what may end a path
+
+pub not_so : {b : Bool} → b ≡ false → b ≡ true → ⊥
+not_so is other = let both : false ≡ true = sym is ∙ other in cc
+
+pub fits_whole : (w : PathEnded) → (has_failed (Some w) ≡ true → ⊥) → (has_run_out (Some w) ≡ true → ⊥) → (w ≡ why.Idle) ⊎ (w ≡ why.Limit)
+fits_whole why.Idle failed out = inl refl
+fits_whole why.Limit failed out = inr refl
+fits_whole why.LinkFailed failed out = absurd (failed refl)
+fits_whole why.NoMemory failed out = absurd (out refl)
+
+-- where a book was closed after all paths
+pub fits_closed : (c : Closed) (w : PathEnded) → (has_failed (Some w) ≡ true → ⊥) → (has_run_out (Some w) ≡ true → ⊥) → Fits (ending_of c) w
+fits_closed (closed.Whole ending) w failed out = fits_whole w failed out
+fits_closed (closed.Differ difference) w failed out = fits_whole w failed out
+fits_closed closed.NoMemory w failed out = λ is. failed (ap (λ v. has_failed (Some v)) is)
 
 -- how the reading of their links ends
 module _ {G L : Type 0} (request : Request) (known : L → Known Traffic) (links : List L) (paths : List PathState) (jobs after : List (PathJob G L)) (ran : Ran known (options_in request) links paths jobs after) where

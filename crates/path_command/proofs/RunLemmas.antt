@@ -1,26 +1,33 @@
 -- Runs by how they end.
-use Rattle.std.proofs.Common.{◌≡◌, ℕ, ◌⊎◌, ◌↔◌, inl, inr, Bool, List, length, Result, Ok, Err, refl, sym, ◌∙◌, ap, subst}
+use Rattle.std.proofs.Common.{◌≡◌, ℕ, ◌⊎◌, ◌↔◌, inl, inr, Bool, List, length, slice_index_or, Result, Ok, Err, refl, sym, ◌∙◌, ap, subst, arith, le_trans}
 use Rattle.drm_links.specs.Told.{Known, HasFailed, HasCause, Tells}
-use Rattle.drm_links.specs.Link.{Traffic}
+use Rattle.drm_links.specs.Link.{Answer, Traffic}
 use Rattle.drm_links.specs.Sink.{Output, Outputs, IsFront}
-use Rattle.drm_faults.specs.Causes.{OpeningFailed}
 use Rattle.drm_links.specs.Dock.{DockContents}
-use Rattle.drm_links.specs.declared.dock.Address.{Address}
-use Rattle.drm_links.proofs.ToldLemmas.{counts_none, Tells-weaker}
+use Rattle.drm_links.proofs.ToldLemmas.{counts_none, Tells-nothing, Tells-weaker}
+use Rattle.drm_faults.specs.Causes.{OpeningFailed}
 use Rattle.mod_receiver.specs.Ahead.{Report}
-use Rattle.several_links.specs.Openings.{Docked, after_openings}
+use Rattle.several_links.specs.Openings.{Docked}
 use Rattle.several_links.proofs.OpeningLemmas.{docked_both, docked_weaker}
+use Rattle.drm_receive.specs.Hearing.{HearsEach, BindsFew}
+use Rattle.drm_receive.proofs.HearingLemmas.{docked_then, went_over}
 use Rattle.path_words.specs.declared.request.Request.{Request}
 use Rattle.path_book.specs.Journal.{datagrams}
 use Rattle.path_book.specs.Report.{IsReportOf}
+use Rattle.drm_paths.specs.declared.run.PathOptions.{PathOptions}
+use Rattle.drm_paths.specs.declared.run.PathEnded.{PathEnded}
+use Rattle.drm_paths.specs.declared.run.PathEnded.TheVariants as ended
+use Rattle.drm_paths.specs.Reading.{Ends}
 use Rattle.path_command.specs.declared.fault.Fault.{Fault}
 use Rattle.path_command.specs.declared.fault.Fault.TheVariants as faults
-use Rattle.path_command.specs.Opening.{HaveLinks, StopsOpening}
-use Rattle.path_command.specs.Run.{settings_in, options_in, IsInRange, AreEntries, FailsSome, DiffersAt, WritesReport, WroteReport, IsDiffering, OpensEach, PathsRun}
+use Rattle.path_command.specs.Opening.{HaveLinks, IsClosed}
+use Rattle.path_command.specs.Run.{settings_in, options_in, IsInRange, AreEntries, FailsSome, DiffersAt, WritesReport, WroteReport, IsDiffering, AreAll, AreCut, AreBroken, ReadsBy, OpensEach, PathsRun}
 use Rattle.drm_paths.specs.State.{PathState}
-use Rattle.path_command.specs.Links.{EndsLinks}
+use Rattle.path_command.specs.Links.{EndsLinks, Fits, RunsOver, RunsLinks}
 use Rattle.path_command.specs.Links as Links
 use Rattle.path_command.proofs.Finding.{entries_ahead, fails_ahead, none_fails, differ_ahead}
+use Rattle.path_command.proofs.Hearing.{few_answers}
+use Rattle.path_command.proofs.Opening.{hears_each}
 
 -- it fails by a link exactly where some link does, unless memory runs out
 abbrev Exactly : Request → Result Bool Fault → DockContents → Type 0
@@ -44,7 +51,7 @@ done_by request (Err (faults.Differs path at)) known out out' told words write w
 -- what follows from the rest: where nothing fails the report is written
 pub paths_run : {D O : Type 0} (request : Request) (ending : Result Bool Fault) (dock_known : D → Known DockContents) (dock dock' : D) (out_known : O → Known Output) (out out' : O)
     → (ending ≡ Err faults.Words → ⊥)
-    → Tells (dock_known dock) (dock_known dock') (OpensEach request.addresses ending)
+    → Tells (dock_known dock) (dock_known dock') (OpensEach request ending)
     → Docked (dock_known dock) (dock_known dock') (λ told. WritesReport (settings_in request) (AreEntries request told) ending out_known out out')
     → ((fault : Fault) → ending ≡ Err fault → (fault ≡ faults.Write → ⊥) → out' ≡ out)
     → Docked (dock_known dock) (dock_known dock') (Exactly request ending)
@@ -70,91 +77,118 @@ paths_run request ending dock_known dock dock' out_known out out' kind opens wri
       write_cause = cause;
     }
 
--- ---- an opening failed, or memory ran out between openings
-
-opens_by : (addresses : List Address) (fault : Fault) (x y : DockContents) → StopsOpening addresses fault x y → OpensEach addresses (Err fault) x y
-opens_by addresses fault x y (inl (memory, stops)) = inr (inr (ap Err memory, stops))
-opens_by addresses fault x y (inr (link, fails)) = inr (inl (ap Err link, fails))
-
-module _ {O : Type 0} (request : Request) (known : O → Known Output) (out : O) where
-  nothing_by : (fault : Fault) (told after : DockContents) → StopsOpening request.addresses fault told after → WritesReport (settings_in request) (AreEntries request told) (Err fault) known out out
-  nothing_by faults.NoMemory told after stops = refl
-  nothing_by faults.Words told after stops = refl
-  nothing_by faults.Link told after stops = refl
-  nothing_by (faults.Differs path at) told after stops = refl
-  nothing_by faults.Write told after (inl (memory, stops)) = absurd (cc)
-  nothing_by faults.Write told after (inr (link, fails)) = absurd (cc)
-
-exactly_by : (request : Request) (fault : Fault) (told after : DockContents) → StopsOpening request.addresses fault told after → Exactly request (Err fault) told
-exactly_by request fault told after (inl (memory, stops)) = inl (ap Err memory)
-exactly_by request fault told after (inr (link, fails)) = inr (λ is. record { k = fails.k; within = fails.within; fails = λ at. inl (fails.fails at) }, λ any. ap Err link)
+-- ---- an opening failed, or there was no memory to begin with
 
 other_fault : (fault other : Fault) → (let e : Result Bool Fault = Err fault in e) ≡ Err other → fault ≡ other
 other_fault fault other is = cc
 
-not_link : (fault : Fault) → fault ≡ faults.NoMemory → (let e : Result Bool Fault = Err fault in e) ≡ Err faults.Link → ⊥
-not_link fault memory is = let one : faults.NoMemory ≡ faults.Link = sym memory ∙ other_fault fault faults.Link is in cc
-
-pub opening_failed : {D O : Type 0} (request : Request) (fault : Fault) (dock_known : D → Known DockContents) (dock dock' : D) (out_known : O → Known Output) (out : O)
-    → (fault ≡ faults.NoMemory) ⊎ (fault ≡ faults.Link) → Tells (dock_known dock) (dock_known dock') (StopsOpening request.addresses fault)
-    → HasCause (dock_known dock) (dock_known dock') ((let e : Result Bool Fault = Err fault in e) ≡ Err faults.Link) → PathsRun request (Err fault) dock_known dock dock' out_known out out
-opening_failed request fault dock_known dock dock' out_known out ends stopped cause =
+pub opening_failed : {D O : Type 0} (request : Request) (dock_known : D → Known DockContents) (dock dock' : D) (out_known : O → Known Output) (out : O)
+    → Tells (dock_known dock) (dock_known dock') (BindsFew request.addresses) → HasFailed (dock_known dock) (dock_known dock')
+    → PathsRun request (Err faults.Link) dock_known dock dock' out_known out out
+opening_failed request dock_known dock dock' out_known out few failed =
     let a = dock_known dock in
     let b = dock_known dock' in
-    let not : (other : Fault) → (faults.NoMemory ≡ other → ⊥) → (faults.Link ≡ other → ⊥) → fault ≡ other → ⊥ =
-    λ other memory link is. elim ends [ inl m ↦ memory (sym m ∙ is) | inr l ↦ link (sym l ∙ is) ] in
-    paths_run request (Err fault) dock_known dock dock' out_known out out
-    (λ is. not faults.Words (λ e. cc) (λ e. cc) (other_fault fault faults.Words is))
-    (Tells-weaker (StopsOpening request.addresses fault) (OpensEach request.addresses (Err fault)) a b stopped (opens_by request.addresses fault))
-    (Tells-weaker (StopsOpening request.addresses fault) (λ told _. WritesReport (settings_in request) (AreEntries request told) (Err fault) out_known out out) a b stopped (nothing_by request out_known out fault))
+    paths_run request (Err faults.Link) dock_known dock dock' out_known out out
+    (λ is. cc)
+    (Tells-weaker (BindsFew request.addresses) (OpensEach request (Err faults.Link)) a b few (λ x y binds. inr (inl (refl, binds))))
+    (Tells-weaker (BindsFew request.addresses) (λ told _. WritesReport (settings_in request) (AreEntries request told) (Err faults.Link) out_known out out) a b few (λ x y binds. refl))
     (λ other is any. refl)
-    (Tells-weaker (StopsOpening request.addresses fault) (λ told _. Exactly request (Err fault) told) a b stopped (exactly_by request fault))
-    (Tells-weaker (StopsOpening request.addresses fault) (λ told _. (path at : ℕ) → (let e : Result Bool Fault = Err fault in e) ≡ Err (faults.Differs path at) → DiffersAt request told path at) a b stopped
-    (λ told after stops path at is. absurd (not (faults.Differs path at) (λ e. cc) (λ e. cc) (other_fault fault (faults.Differs path at) is))))
-    (elim ends [ inl memory ↦ inl (cause.same (λ is. not_link fault memory is)) | inr link ↦ inr (ap Err link, cause.once (ap Err link)) ])
-    (counts_none (λ is. not faults.Write (λ e. cc) (λ e. cc) (other_fault fault faults.Write is)) refl)
+    (Tells-weaker (BindsFew request.addresses) (λ told _. Exactly request (Err faults.Link) told) a b few
+    (λ x y binds. inr (λ is. record { k = binds.k; within = binds.within; fails = λ at. inl (binds.fails at) }, λ any. refl)))
+    (Tells-weaker (BindsFew request.addresses) (λ told _. (path at : ℕ) → (let e : Result Bool Fault = Err faults.Link in e) ≡ Err (faults.Differs path at) → DiffersAt request told path at) a b few
+    (λ x y binds path at is. absurd (cc)))
+    (inr (refl, failed))
+    (counts_none (λ is. cc) refl)
+
+-- what holds of what a dock tells that wasn't touched
+untouched : (P : DockContents → DockContents → Type 0) (a b : Known DockContents) → b ≡ a → ((x : DockContents) → P x x) → Tells a b P
+untouched P a b same holds = subst (λ m. Tells a m P) (sym same) (Tells-nothing P a holds)
+
+pub not_begun : {D O : Type 0} (request : Request) (dock_known : D → Known DockContents) (dock dock' : D) (out_known : O → Known Output) (out : O)
+    → dock_known dock' ≡ dock_known dock → PathsRun request (Err faults.NoMemory) dock_known dock dock' out_known out out
+not_begun request dock_known dock dock' out_known out same =
+    let a = dock_known dock in
+    let b = dock_known dock' in
+    paths_run request (Err faults.NoMemory) dock_known dock dock' out_known out out
+    (λ is. cc)
+    (untouched (OpensEach request (Err faults.NoMemory)) a b same (λ x. inr (inr (refl, refl))))
+    (untouched (λ told _. WritesReport (settings_in request) (AreEntries request told) (Err faults.NoMemory) out_known out out) a b same (λ x. refl))
+    (λ other is any. refl)
+    (untouched (λ told _. Exactly request (Err faults.NoMemory) told) a b same (λ x. inl refl))
+    (untouched (λ told _. (path at : ℕ) → (let e : Result Bool Fault = Err faults.NoMemory in e) ≡ Err (faults.Differs path at) → DiffersAt request told path at) a b same (λ x path at is. absurd (cc)))
+    (inl (ap (λ (k : Known DockContents). k.faults) same))
+    (counts_none (λ is. cc) refl)
+
+-- ---- what is read of each link
+
+either_end : (options : PathOptions) (why : PathEnded) → (why ≡ ended.Idle) ⊎ (why ≡ ended.Limit) → (answers : List Answer) (taken : List (List ℕ)) → Ends options answers taken why → AreAll options answers
+either_end options why (inl idle) answers taken ends = (taken, inl (subst (λ w. Ends options answers taken w) idle ends))
+either_end options why (inr limit) answers taken ends = (taken, inr (subst (λ w. Ends options answers taken w) limit ends))
+
+reads_link : (options : PathOptions) (why : PathEnded) (answers : List Answer) (taken : List (List ℕ)) → Ends options answers taken why → AreAll options answers ⊎ AreCut options answers ⊎ AreBroken options answers
+reads_link options ended.Idle answers taken ends = inl (taken, inl ends)
+reads_link options ended.Limit answers taken ends = inl (taken, inr ends)
+reads_link options ended.NoMemory answers taken ends = inr (inl (taken, ends))
+reads_link options ended.LinkFailed answers taken ends = inr (inr (taken, ends))
+
+reads_memory : (options : PathOptions) (why : PathEnded) → (why ≡ ended.LinkFailed → ⊥) → (answers : List Answer) (taken : List (List ℕ)) → Ends options answers taken why → AreAll options answers ⊎ AreCut options answers
+reads_memory options ended.Idle sound answers taken ends = inl (taken, inl ends)
+reads_memory options ended.Limit sound answers taken ends = inl (taken, inr ends)
+reads_memory options ended.NoMemory sound answers taken ends = inr (taken, ends)
+reads_memory options ended.LinkFailed sound answers taken ends = absurd (sound refl)
+
+reads_fault : (options : PathOptions) (fault : Fault) (why : PathEnded) → Fits (let r : Result Report Fault = Err fault in r) why → (answers : List Answer) (taken : List (List ℕ)) → Ends options answers taken why
+    → ReadsBy options (Err fault) answers
+reads_fault options faults.Link why fits answers taken ends = reads_link options why answers taken ends
+reads_fault options faults.NoMemory why fits answers taken ends = reads_memory options why fits answers taken ends
+reads_fault options faults.Words why fits answers taken ends = either_end options why fits answers taken ends
+reads_fault options faults.Write why fits answers taken ends = either_end options why fits answers taken ends
+reads_fault options (faults.Differs path at) why fits answers taken ends = either_end options why fits answers taken ends
 
 -- ---- all links were opened
 
--- it ended well, so memory sufficed
-pub not_memory : (report : Report) (Q : Type 0) → ((let e : Result Report Fault = Ok report in e) ≡ Err faults.NoMemory) ⊎ Q → Q
-not_memory report Q (inl memory) = absurd (cc)
-not_memory report Q (inr q) = q
+module _ {D O L : Type 0} (request : Request) (range : IsInRange request) (dock_known : D → Known DockContents) (dock dock' : D) (out_known : O → Known Output) (known : L → Known Traffic)
+    (result : Result Report Fault) (run : RunsOver request known result (dock_known dock) (dock_known dock')) where
+  abbrev links : List L
+  links = run.links
 
-module _ {D O L : Type 0} (request : Request) (range : IsInRange request) (dock_known : D → Known DockContents) (dock dock' : D) (out_known : O → Known Output) (known : L → Known Traffic) (links : List L)
-    (many : length links ≡ length request.addresses)
-    (opened : Tells (dock_known dock) (dock_known dock') (λ before after. after ≡ after_openings request.addresses before))
-    (have : Docked (dock_known dock) (dock_known dock') (λ told. HaveLinks known told request.addresses links))
-    (still : (dock_known dock').faults ≡ (dock_known dock).faults) where
+  many : length links ≡ length request.addresses
+  many = run.many
+
+  still : (dock_known dock').faults ≡ (dock_known dock).faults
+  still = run.still
+
+  have : Docked (dock_known dock) (dock_known dock') (λ told. HaveLinks known told request.addresses links)
+  have = docked_then (λ told. HaveLinks known told request.addresses links) (IsClosed known request.addresses run.read.last) (dock_known dock) run.mid (dock_known dock') run.have run.read.closed
+
   then_docked : (P : DockContents → Type 0) → ((told : DockContents) → HaveLinks known told request.addresses links → P told) → Docked (dock_known dock) (dock_known dock') P
   then_docked P then_is = docked_weaker (λ told. HaveLinks known told request.addresses links) P (dock_known dock) (dock_known dock') have then_is
 
-  opens : (ending : Result Bool Fault) → Tells (dock_known dock) (dock_known dock') (OpensEach request.addresses ending)
-  opens ending = Tells-weaker (λ before after. after ≡ after_openings request.addresses before) (OpensEach request.addresses ending) (dock_known dock) (dock_known dock') opened (λ x y is. inl is)
+  -- what was read of each link
+  opens : (ending : Result Bool Fault)
+      → ((why : PathEnded) → Fits result why → (answers : List Answer) (taken : List (List ℕ)) → Ends (options_in request) answers taken why → ReadsBy (options_in request) ending answers)
+      → Tells (dock_known dock) (dock_known dock') (OpensEach request ending)
+  opens ending reads =
+      Tells-weaker (HearsEach (ReadsBy (options_in request) ending) request.addresses) (OpensEach request ending) (dock_known dock) (dock_known dock')
+      (hears_each known (ReadsBy (options_in request) ending) request.addresses links run.read.last many (run.read.read.as_many ∙ many) (dock_known dock) run.mid (dock_known dock') run.opened run.have
+      (λ k d start within told.
+      let r = run.read.read.each k d (omega (arith, within, many)) in
+      went_over known (ReadsBy (options_in request) ending) (slice_index_or links k d) (slice_index_or run.read.last k d) start r.2.answers told r.2.heard (le_trans r.2.few (few_answers request range))
+      (reads r.0 r.3 r.2.answers r.1 r.2.ends))
+      run.read.closed)
+      (λ x y each. inl each)
 
   none_ends : (ending : Result Bool Fault) (paths : List PathState) → Links.ReadAll (options_in request) known links paths → (ending ≡ Err faults.Link → ⊥) → (told : DockContents) → HaveLinks known told request.addresses links → Exactly request ending told
   none_ends ending paths read other told has =
       inr (λ is. absurd (other is), λ fails. absurd (none_fails request range known links many told has paths read fails))
 
-  -- there was no memory to begin the reading
-  not_begun : (out : O) → PathsRun request (Err faults.NoMemory) dock_known dock dock' out_known out out
-  not_begun out =
-      paths_run request (Err faults.NoMemory) dock_known dock dock' out_known out out
-      (λ is. cc)
-      (opens (Err faults.NoMemory))
-      (then_docked _ (λ told has. refl))
-      (λ other is any. refl)
-      (then_docked _ (λ told has. inl refl))
-      (then_docked _ (λ told has path at is. absurd (cc)))
-      (inl still)
-      (counts_none (λ is. cc) refl)
-
   -- reading or closing ended it early
-  links_failed : (fault : Fault) (out : O) → EndsLinks request known links (Err fault) → PathsRun request (Err fault) dock_known dock dock' out_known out out
-  links_failed fault out ends =
+  pub links_failed : (fault : Fault) (out : O) → result ≡ Err fault → PathsRun request (Err fault) dock_known dock dock' out_known out out
+  links_failed fault out is =
+      let ends : EndsLinks request known links (Err fault) = subst (EndsLinks request known links) is run.ends in
       paths_run request (Err fault) dock_known dock dock' out_known out out
       (not_words fault ends)
-      (opens (Err fault))
+      (opens (Err fault) (λ why fits answers taken ends. reads_fault (options_in request) fault why (subst (λ r. Fits r why) is fits) answers taken ends))
       (then_docked _ (nothing fault ends))
       (λ other is any. refl)
       (then_docked _ (exactly fault ends))
@@ -203,12 +237,13 @@ module _ {D O L : Type 0} (request : Request) (range : IsInRange request) (dock_
           let same_at : n ≡ at = cc in
           subst (λ m. DiffersAt request told path m) same_at (subst (λ m. DiffersAt request told m n) same_path (differ_ahead request range known links many told has p n ends))
 
-  -- either of these
-  pub links_ended : (fault : Fault) (out : O) → ((let e : Result Report Fault = Err fault in e) ≡ Err faults.NoMemory) ⊎ EndsLinks request known links (Err fault) → PathsRun request (Err fault) dock_known dock dock' out_known out out
-  links_ended fault out (inl memory) = let is : faults.NoMemory ≡ fault = cc in subst (λ f. PathsRun request (Err f) dock_known dock dock' out_known out out) is (not_begun out)
-  links_ended fault out (inr ends) = links_failed fault out ends
+  module _ (report : Report) (is : result ≡ Ok report) (out out' : O) where
+    ends : EndsLinks request known links (Ok report)
+    ends = subst (EndsLinks request known links) is run.ends
 
-  module _ (report : Report) (ends : EndsLinks request known links (Ok report)) (out out' : O) where
+    all_of : (why : PathEnded) → Fits result why → (answers : List Answer) (taken : List (List ℕ)) → Ends (options_in request) answers taken why → AreAll (options_in request) answers
+    all_of why fits answers taken done = either_end (options_in request) why (subst (λ r. Fits r why) is fits) answers taken done
+
     abbrev entries : List (ℕ × List ℕ)
     entries = ends.journal.entries
 
@@ -224,7 +259,7 @@ module _ {D O L : Type 0} (request : Request) (range : IsInRange request) (dock_
     written clean clean_is text cause =
         paths_run request (Ok clean) dock_known dock dock' out_known out out'
         (λ is. cc)
-        (opens (Ok clean))
+        (opens (Ok clean) all_of)
         (then_docked _ (λ told has. (entries, are_entries told has, report, report_is, text, clean_is)))
         (λ fault is other. absurd (cc))
         (then_docked _ (none_ends (Ok clean) ends.paths ends.read (λ is. cc)))
@@ -238,10 +273,28 @@ module _ {D O L : Type 0} (request : Request) (range : IsInRange request) (dock_
     unfinished text cause =
         paths_run request (Err faults.Write) dock_known dock dock' out_known out out'
         (λ is. cc)
-        (opens (Err faults.Write))
+        (opens (Err faults.Write) all_of)
         (then_docked _ (λ told has. (entries, are_entries told has, report, report_is, text)))
         (λ fault is other. absurd (other (sym (other_fault faults.Write fault is))))
         (then_docked _ (none_ends (Err faults.Write) ends.paths ends.read (λ is. cc)))
         (then_docked _ (λ told has path at is. absurd (cc)))
         (inl still)
         cause
+
+-- a run that ends early, by how its links ended
+pub ended_early : {D O L : Type 0} (request : Request) (range : IsInRange request) (dock_known : D → Known DockContents) (dock dock' : D) (out_known : O → Known Output) (known : L → Known Traffic) (fault : Fault) (out : O)
+    → RunsLinks request known (let r : Result Report Fault = Err fault in r) (dock_known dock) (dock_known dock') → PathsRun request (Err fault) dock_known dock dock' out_known out out
+ended_early request range dock_known dock dock' out_known known fault out (inl (memory, same)) =
+    let is : faults.NoMemory ≡ fault = cc in
+    subst (λ f. PathsRun request (Err f) dock_known dock dock' out_known out out) is (not_begun request dock_known dock dock' out_known out same)
+ended_early request range dock_known dock dock' out_known known fault out (inr (inl (link, few, failed))) =
+    let is : faults.Link ≡ fault = cc in
+    subst (λ f. PathsRun request (Err f) dock_known dock dock' out_known out out) is (opening_failed request dock_known dock dock' out_known out few failed)
+ended_early request range dock_known dock dock' out_known known fault out (inr (inr run)) = links_failed request range dock_known dock dock' out_known known (Err fault) run fault out refl
+
+-- its links were run over where it has a report
+pub ran_over : {L : Type 0} (request : Request) (known : L → Known Traffic) (report : Report) (a b : Known DockContents) → RunsLinks request known (let r : Result Report Fault = Ok report in r) a b
+    → RunsOver request known (Ok report) a b
+ran_over request known report a b (inl (memory, same)) = absurd (cc)
+ran_over request known report a b (inr (inl (link, few, failed))) = absurd (cc)
+ran_over request known report a b (inr (inr run)) = run

@@ -10,12 +10,6 @@ use Rattle.drm_paths.specs.State.{PathState, new_path}
 use Rattle.drm_paths.specs.Reading.{ReadsPath}
 use Rattle.path_command.specs.declared.job.PathJob.{PathJob}
 
--- a job of this path over this link
-pub record IsJob {G L : Type 0} (of_path : PathState) (over : L) (job : PathJob G L) : Type 0 where
-  pub path : job.path ≡ of_path
-  pub link : job.link ≡ over
-  pub buffer : vec_len job.buffer ≡ 65536
-
 -- the jobs' paths are new, and numbered from 0
 abbrev pub HaveNewPaths : {G L : Type 0} → List (PathJob G L) → Type 0
 HaveNewPaths {G} {L} jobs = (k : ℕ) (d : PathJob G L) → k < length jobs → (slice_index_or jobs k d).path ≡ new_path k

@@ -1,7 +1,10 @@
 -- The links of a run, read side by side.
 use Rattle.std.specs.Prelude.{ℕ, ◌≡◌, ◌<◌, ◌⊎◌, List, length, slice_index_or, Result, Ok, Err}
-use Rattle.drm_links.specs.Told.{Known}
+use Rattle.drm_links.specs.Told.{Known, HasFailed, Tells}
 use Rattle.drm_links.specs.Link.{Traffic}
+use Rattle.drm_links.specs.Dock.{DockContents}
+use Rattle.several_links.specs.Openings.{Docked, after_openings}
+use Rattle.drm_receive.specs.Hearing.{BindsFew}
 use Rattle.mod_receiver.specs.Hearing.{Heard}
 use Rattle.mod_receiver.specs.Ahead.{Report}
 use Rattle.path_words.specs.declared.request.Request.{Request}
@@ -15,6 +18,7 @@ use Rattle.drm_paths.specs.Closing.{Closes}
 use Rattle.drm_paths.specs.declared.close.Difference.{Difference}
 use Rattle.drm_paths.specs.declared.close.Closed.{Closed}
 use Rattle.drm_paths.specs.declared.close.Closed.TheVariants as closed
+use Rattle.path_command.specs.Opening.{HaveLinks, IsClosed}
 use Rattle.path_command.specs.Run.{settings_in, options_in}
 use Rattle.path_command.specs.declared.fault.Fault.{Fault}
 use Rattle.path_command.specs.declared.fault.Fault.TheVariants as faults
@@ -62,6 +66,43 @@ EndsLinks request known links (Err faults.Write) = ⊥
 EndsLinks request known links (Err faults.Link) = BreaksSome (options_in request) known links
 EndsLinks request known links (Err (faults.Differs path at)) =
     (difference : Difference) × (path ≡ difference.path) × (at ≡ difference.at) × AreClosed request known links (closed.Differ difference)
+
+-- what may end a path of a run that ends so
+abbrev pub Fits : {T : Type 0} → Result T Fault → PathEnded → Type 0
+Fits (Err faults.Link) why = Unit {0}
+Fits (Err faults.NoMemory) why = why ≡ LinkFailed → ⊥
+Fits result why = (why ≡ Idle) ⊎ (why ≡ Limit)
+
+-- These links were read by paths, of a run that ends so, and now are the last ones.
+pub record AreRead {L T : Type 0} (options : PathOptions) (known : L → Known Traffic) (links last : List L) (result : Result T Fault) : Type 0 where
+  pub as_many : length last ≡ length links
+  pub each : (k : ℕ) (d : L) → k < length links
+      → (why : PathEnded) × (taken : List (List ℕ))
+      × ReadsPath options (Heard (known (slice_index_or links k d)) (known (slice_index_or last k d))) taken why × Fits result why
+
+-- These links were read, and then closed.
+pub record ReadsAndCloses {L T : Type 0} (request : Request) (known : L → Known Traffic) (links : List L) (result : Result T Fault) (before after : Known DockContents) : Type 0 where
+  pub last : List L
+  pub read : AreRead (options_in request) known links last result
+  pub closed : Tells before after (IsClosed known request.addresses last)
+
+-- The links were opened, read and closed.
+pub record RunsOver {L : Type 0} (request : Request) (known : L → Known Traffic) (result : Result Report Fault) (before after : Known DockContents) : Type 0 where
+  pub links : List L
+  pub many : length links ≡ length request.addresses
+  pub mid : Known DockContents
+  pub opened : Tells before mid (λ told told'. told' ≡ after_openings request.addresses told)
+  pub have : Docked before mid (λ told. HaveLinks known told request.addresses links)
+  pub ends : EndsLinks request known links result
+  pub read : ReadsAndCloses request known links result mid after
+  pub still : after.faults ≡ before.faults
+
+-- There was no memory to begin with, or an opening failed, or the links were read.
+abbrev pub RunsLinks : {L : Type 0} → Request → (L → Known Traffic) → Result Report Fault → Known DockContents → Known DockContents → Type 0
+RunsLinks request known result before after =
+    ((result ≡ Err faults.NoMemory) × (after ≡ before))
+    ⊎ ((result ≡ Err faults.Link) × Tells before after (BindsFew request.addresses) × HasFailed before after)
+    ⊎ RunsOver request known result before after
 
 -- how a run ends that is closed so
 abbrev pub ending_of : Closed → Result Report Fault

@@ -1,12 +1,12 @@
--- Links that are opened, one for each path.
-use Rattle.std.specs.Prelude.{ℕ, ◌≡◌, ◌<◌, ◌⊎◌, List, length, slice_index_or}
+-- Links that are opened, one for each path, and closed again.
+use Rattle.std.specs.Prelude.{ℕ, ◌≡◌, ◌<◌, true, List, length, map, slice_index_or}
 use Rattle.drm_links.specs.Told.{Known}
 use Rattle.drm_links.specs.Link.{Traffic}
-use Rattle.drm_links.specs.Dock.{DockContents}
+use Rattle.drm_links.specs.Dock.{DockContents, Over}
 use Rattle.drm_links.specs.declared.dock.Address.{Address}
-use Rattle.several_links.specs.Openings.{FailsAfter, StopsAfter, HasLink}
-use Rattle.path_command.specs.declared.fault.Fault.{Fault}
-use Rattle.path_command.specs.declared.fault.Fault.TheVariants as faults
+use Rattle.several_links.specs.Openings.{HasLink}
+use Rattle.several_links.specs.Reaching.{HaveGone, after_closes}
+use Rattle.several_links.specs.declared.member.Member.{Member}
 
 -- the links are those of these addresses, in their order
 abbrev pub HaveLinks : {L : Type 0} → (L → Known Traffic) → DockContents → List Address → List L → Type 0
@@ -14,7 +14,10 @@ HaveLinks {L} known told addresses links =
     (k : ℕ) (at : Address) (none : L) → k < length addresses
     → HasLink known told k (slice_index_or addresses k at) (slice_index_or links k none)
 
--- what the dock tells where memory ran out between the openings, or one of them failed
-abbrev pub StopsOpening : List Address → Fault → DockContents → DockContents → Type 0
-StopsOpening addresses fault before after =
-    ((fault ≡ faults.NoMemory) × StopsAfter addresses before after) ⊎ ((fault ≡ faults.Link) × FailsAfter addresses before after)
+abbrev pub member_of : {L : Type 0} → L → Member L
+member_of link = record { link = link; up = true }
+
+-- what a dock tells once these links are closed at these addresses
+abbrev pub IsClosed : {L : Type 0} → (L → Known Traffic) → List Address → List L → DockContents → DockContents → Type 0
+IsClosed known addresses links before after =
+    (overs : List Over) → HaveGone known (map (λ link. member_of link) links) overs → after ≡ after_closes overs addresses before

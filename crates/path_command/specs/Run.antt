@@ -1,6 +1,7 @@
 -- The run of several paths.
 use Rattle.std.specs.Prelude.{ℕ, ◌≡◌, ◌<◌, ◌≤◌, ◌⊎◌, ◌↔◌, All, Bool, List, length, slice_index_or, Result, Ok, Err}
 use Rattle.drm_links.specs.Told.{Known, HasFailed, HasCause, Tells}
+use Rattle.drm_links.specs.Link.{Answer}
 use Rattle.drm_links.specs.Sink.{Output, Outputs, IsFront}
 use Rattle.drm_links.specs.Dock.{DockContents, LinkStart}
 use Rattle.drm_links.specs.declared.dock.Address.{Address}
@@ -15,11 +16,13 @@ use Rattle.path_book.specs.Report.{IsReportOf}
 use Rattle.mod_receiver.specs.Ahead.{Report}
 use Rattle.drm_paths.specs.declared.run.PathOptions.{PathOptions}
 use Rattle.drm_paths.specs.State.{PathState, settings_of}
-use Rattle.drm_paths.specs.Reading.{AreReasonable}
+use Rattle.drm_paths.specs.declared.run.PathEnded.TheVariants.{Idle, Limit, LinkFailed, NoMemory}
+use Rattle.drm_paths.specs.Reading.{AreReasonable, Ends}
 use Rattle.drm_paths.specs.Closing.{of_path, Closes}
 use Rattle.drm_paths.specs.declared.close.Difference.{Difference}
 use Rattle.drm_paths.specs.declared.close.Closed.TheVariants.{Differ}
-use Rattle.several_links.specs.Openings.{Finds, FindsNone, Docked, after_openings, FailsAfter, StopsAfter}
+use Rattle.several_links.specs.Openings.{Finds, FindsNone, Docked}
+use Rattle.drm_receive.specs.Hearing.{HearsEach, BindsFew}
 use Rattle.path_command.specs.Ahead.{IsAllOf, BreaksOff}
 use Rattle.path_command.specs.Faults.{fault_line}
 use Rattle.path_command.specs.declared.fault.Fault.{Fault}
@@ -93,20 +96,37 @@ WroteReport by are ending known out out' = (clean : Bool) × (ending ≡ Ok clea
 abbrev pub IsDiffering : Result Bool Fault → Type 0
 IsDiffering ending = (path : ℕ) × (at : ℕ) × (ending ≡ Err (faults.Differs path at))
 
--- Each address is opened once, in their order, to receive; up to one that fails, or up to want of memory. Nothing else is
--- asked of the dock.
-abbrev pub OpensEach : List Address → Result Bool Fault → DockContents → DockContents → Type 0
-OpensEach addresses ending before after =
-    (after ≡ after_openings addresses before)
-    ⊎ ((ending ≡ Err faults.Link) × FailsAfter addresses before after)
-    ⊎ ((ending ≡ Err faults.NoMemory) × StopsAfter addresses before after)
+-- a path ends after these answers by its options, for want of memory, or by a link that failed
+abbrev pub AreAll : PathOptions → List Answer → Type 0
+AreAll options answers = (taken : List (List ℕ)) × (Ends options answers taken Idle ⊎ Ends options answers taken Limit)
+
+abbrev pub AreCut : PathOptions → List Answer → Type 0
+AreCut options answers = (taken : List (List ℕ)) × Ends options answers taken NoMemory
+
+abbrev pub AreBroken : PathOptions → List Answer → Type 0
+AreBroken options answers = (taken : List (List ℕ)) × Ends options answers taken LinkFailed
+
+-- What is read of each link: all up to the end of its path. Where memory was wanting, or a link failed, some path ended by that.
+abbrev pub ReadsBy : PathOptions → Result Bool Fault → List Answer → Type 0
+ReadsBy options (Err faults.Link) answers = AreAll options answers ⊎ AreCut options answers ⊎ AreBroken options answers
+ReadsBy options (Err faults.NoMemory) answers = AreAll options answers ⊎ AreCut options answers
+ReadsBy options ending answers = AreAll options answers
+
+-- Each address is opened once, in their order, to receive, up to one that fails; or memory was wanting before. What is said of reading is
+-- read of each link, nothing is sent over it, and it is closed. Nothing else is asked of the dock.
+abbrev pub OpensEach : Request → Result Bool Fault → DockContents → DockContents → Type 0
+OpensEach request ending before after =
+    HearsEach (ReadsBy (options_in request) ending) request.addresses before after
+    ⊎ ((ending ≡ Err faults.Link) × BindsFew request.addresses before after)
+    ⊎ ((ending ≡ Err faults.NoMemory) × (after ≡ before))
 
 -- A run of a request.
 pub record PathsRun {D O : Type 0} (request : Request) (ending : Result Bool Fault)
     (dock_known : D → Known DockContents) (dock dock' : D)
     (out_known : O → Known Output) (out out' : O) : Type 0 where
   pub kind : ending ≡ Err faults.Words → ⊥
-  pub opens : Tells (dock_known dock) (dock_known dock') (OpensEach request.addresses ending)
+  -- Where the dock tells: what is read of the links is this, and nothing else is asked of them.
+  pub opens : Tells (dock_known dock) (dock_known dock') (OpensEach request ending)
   -- Where the dock tells: the report is that of all that is read of the links that it opened. Nothing else is written.
   pub writes : Docked (dock_known dock) (dock_known dock') (λ told.
       WritesReport (settings_in request) (AreEntries request told) ending out_known out out')

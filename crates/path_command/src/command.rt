@@ -9,12 +9,12 @@ ghost use Rattle.path_command.specs.declared.fault.Fault.{Fault};
 ghost use Rattle.path_command.specs.Faults.{status_of, fault_line};
 ghost use Rattle.drm_faults.specs.Fault.{WritesLine};
 ghost use Rattle.path_command.specs.Jobs.{HaveNewPaths};
-ghost use Rattle.path_command.specs.Links.{EndsLinks, ending_of};
+ghost use Rattle.path_command.specs.Links.{EndsLinks, ReadsAndCloses, RunsLinks, ending_of};
 ghost use Rattle.path_command.specs.Run.{IsInRange, settings_in, PathsRun, Runs, ReportsFault, AsksForNothing};
 
 use crate::fault::Fault;
-use crate::job::{PathJob, jobs_of, paths_of, run_all, some_failed, some_ran_out};
-use crate::open::open_links;
+use crate::job::{PathJob, run_all, seats_of, some_failed, some_ran_out};
+use crate::open::{close_links, open_links, room_for};
 use drm_links::{Dock, Link, Sink, Status};
 use drm_paths::{Closed, PathOptions, Road, Shared, close_paths, open_paths};
 use path_book::{Ending, Settings};
@@ -107,65 +107,78 @@ where
     requires { IsInRange request.now }
     ensures { PathsRun request.now result D.known dock.old dock.new O.known out.old out.new }
 {
-    let links = open_links(alloc, &request.addresses, dock)?;
-    let blank = Blank::new(links.len() as u64);
-    let ending = run_links::<Brand, R, D::L>(rt, alloc, blank, request, links)?;
+    let blank = Blank::new(request.addresses.len() as u64);
+    let ending = run_links::<Brand, R, D>(rt, alloc, blank, request, dock)?;
     Ok(ending.write(out)?)
 }
 
-// Reads all links, and ends their report.
-fn run_links<G: Road + Send + Sync, R: Threads + Wait + Sync, L: Link + Send>(
+// Takes all memory that reading wants, opens all links, reads and closes them, and ends their report.
+fn run_links<G: Road + Send + Sync, R: Threads + Wait + Sync, D: Dock>(
     rt: &R,
     alloc: Global,
     blank: Blank,
     request: &Request,
-    links: Vec<L>,
+    dock: &mut D,
 ) -> Result<Ending, Fault>
-    requires blank { (blank.name ≡ G.name) × (blank.parts ≡ G.parts) × (G.parts ≡ vec_len links) }
+where
+    D::L: Link + Send,
+    requires blank { (blank.name ≡ G.name) × (blank.parts ≡ G.parts) × (G.parts ≡ length request.now.addresses) }
     requires settings { settings_in request.now ≡ settings_of G.window G.first G.frames }
     requires range { IsInRange request.now }
-    requires many { vec_len links ≡ length request.now.addresses }
-    // There is no memory to begin with, or they are read.
-    ensures { (result ≡ Err Fault.NoMemory) ⊎ EndsLinks request.now L.known links.items result }
+    ensures { RunsLinks request.now D.L.known result (D.known dock.old) (D.known dock.new) }
 {
     let settings = Settings {
         window: request.window,
         first: request.first,
         frames: request.frames,
     };
-    let (shared, paths) = open_paths::<G>(alloc, blank, settings, links.len() as u8)?;
-    let jobs = jobs_of(alloc, paths, links)?;
-    read_links(rt, alloc, request, shared, jobs)
+    let (shared, paths) = open_paths::<G>(alloc, blank, settings, request.addresses.len() as u8)?;
+    let seats = seats_of(alloc, paths)?;
+    let room = room_for(alloc, &request.addresses)?;
+    match open_links(alloc, room, seats, &request.addresses, dock) {
+        Ok(jobs) => read_links(rt, alloc, request, shared, dock, jobs),
+        Err(_) => Err(Fault::Link),
+    }
 }
 
-// Reads the links of these jobs, and ends their report. A link that failed goes before want of memory.
-fn read_links<G: Road + Send + Sync, R: Threads + Wait + Sync, L: Link + Send>(
+// Reads the links of these jobs, closes them, and ends their report. A link that failed goes before want of memory.
+fn read_links<G: Road + Send + Sync, R: Threads + Wait + Sync, D: Dock>(
     rt: &R,
     alloc: Global,
     request: &Request,
     shared: Shared<G>,
-    mut jobs: Vec<PathJob<G, L>>,
+    dock: &mut D,
+    mut jobs: Vec<PathJob<G, D::L>>,
 ) -> Result<Ending, Fault>
+where
+    D::L: Link + Send,
     requires settings { settings_in request.now ≡ settings_of G.window G.first G.frames }
     requires range { IsInRange request.now }
     requires new { HaveNewPaths jobs.items }
     requires buffers { All (λ job. vec_len job.buffer ≡ 65536) jobs.items }
     requires some { 0 < vec_len jobs }
     requires parts { G.parts ≡ vec_len jobs }
-    ensures { EndsLinks request.now L.known (map (λ job. job.link) jobs.items) result }
+    requires many { vec_len jobs ≡ length request.now.addresses }
+    ensures ends { EndsLinks request.now D.L.known (map (λ job. job.link) jobs.items) result }
+    ensures closed { ReadsAndCloses request.now D.L.known (map (λ job. job.link) jobs.items) result
+        (D.known dock.old) (D.known dock.new) }
+    ensures cause { (D.known dock.new).faults ≡ (D.known dock.old).faults }
 {
     let options = PathOptions {
         idle: request.idle,
         limit: request.limit,
     };
     run_all(rt, alloc, &shared, &options, jobs.as_mut_slice());
-    if some_failed(jobs.as_slice()) {
+    let failed = some_failed(jobs.as_slice());
+    let ran_out = some_ran_out(jobs.as_slice());
+    let handed = close_links(alloc, dock, &request.addresses, jobs);
+    if failed {
         return Err(Fault::Link);
     }
-    if some_ran_out(jobs.as_slice()) {
+    if ran_out {
         return Err(Fault::NoMemory);
     }
-    let paths = paths_of(alloc, jobs)?;
+    let paths = handed?;
     closed(close_paths(alloc, shared, paths))
 }
 

@@ -3,16 +3,22 @@
 ghost use Rattle.std.specs.Prelude.{ℕ, ◌≡◌, ◌<◌, length, map, vec_len, All, IfOk, slice_index_or};
 ghost use Rattle.std.specs.List.{list_any};
 ghost use Rattle.drm_paths.specs.Reading.{AreReasonable};
-ghost use Rattle.path_command.specs.Jobs.{IsJob, IsReady, HasEnded, has_failed, has_run_out};
+ghost use Rattle.path_command.specs.Jobs.{IsReady, HasEnded, has_failed, has_run_out};
 
 use drm_bits::{NoMemory, zeros};
 use drm_links::Link;
 use drm_paths::{Path, PathEnded, PathOptions, Paths, Road, Shared, run_path};
-use owned_items::Items;
 use std::alloc::Global;
 use std::sync::Wait;
 use std::thread;
 use std::thread::Threads;
+
+/// A path before it has a link, with room for the longest datagram.
+#[derive(Drop)]
+pub struct Seat<G: Road> {
+    pub path: Path<G>,
+    pub buffer: Vec<u8>,
+}
 
 /// A path with its link, and how it ended.
 #[derive(Drop)]
@@ -29,57 +35,42 @@ const LONGEST: usize = 65_536;
 /// The most paths of a run, each with a thread.
 const MOST_THREADS: usize = 4;
 
-fn job_for<G: Road, L: Link>(
-    alloc: Global,
-    path: Path<G>,
-    link: L,
-) -> Result<PathJob<G, L>, NoMemory>
-    ensures { IfOk result (IsJob path link) }
+fn seat_for<G: Road>(alloc: Global, path: Path<G>) -> Result<Seat<G>, NoMemory>
+    ensures path { IfOk result (λ seat. seat.path ≡ path) }
+    ensures buffer { IfOk result (λ seat. vec_len seat.buffer ≡ 65536) }
 {
     let buffer = zeros(alloc, LONGEST)?;
-    Ok(PathJob {
+    Ok(Seat { path, buffer })
+}
+
+/// The seats of these paths, in their order.
+pub(crate) fn seats_of<G: Road>(alloc: Global, paths: Paths<G>) -> Result<Vec<Seat<G>>, NoMemory>
+    ensures paths { IfOk result (λ seats. map (λ seat. seat.path) seats.items ≡ paths) }
+    ensures buffers { IfOk result (λ seats. All (λ seat. vec_len seat.buffer ≡ 65536) seats.items) }
+{
+    let mut seats = Vec::new(alloc);
+    for path in paths.into_vec() {
+        let seat = seat_for(alloc, path)?;
+        let Ok(()) = seats.push(seat) else {
+            return Err(NoMemory);
+        };
+    }
+    Ok(seats)
+}
+
+/// The job of this seat over this link.
+pub(crate) fn job_for<G: Road, L: Link>(seat: Seat<G>, link: L) -> PathJob<G, L>
+    ensures path { result.path ≡ seat.path }
+    ensures link { result.link ≡ link }
+    ensures buffer { result.buffer ≡ seat.buffer }
+{
+    let Seat { path, buffer } = seat;
+    PathJob {
         path,
         link,
         buffer,
         ended: None,
-    })
-}
-
-/// A job for each path, with the link of its number.
-pub(crate) fn jobs_of<G: Road, L: Link>(
-    alloc: Global,
-    paths: Paths<G>,
-    links: Vec<L>,
-) -> Result<Vec<PathJob<G, L>>, NoMemory>
-    requires { length paths ≡ vec_len links }
-    ensures paths { IfOk result (λ jobs. map (λ job. job.path) jobs.items ≡ paths) }
-    ensures links { IfOk result (λ jobs. map (λ job. job.link) jobs.items ≡ links.items) }
-    ensures buffers { IfOk result (λ jobs. All (λ job. vec_len job.buffer ≡ 65536) jobs.items) }
-{
-    let mut waiting = paths.into_vec();
-    let mut jobs = Vec::new(alloc);
-    for link in links {
-        let job = job_for(alloc, waiting.remove(0), link)?;
-        let Ok(()) = jobs.push(job) else {
-            return Err(NoMemory);
-        };
     }
-    Ok(jobs)
-}
-
-/// The paths of jobs, in their order.
-pub(crate) fn paths_of<G: Road, L: Link>(
-    alloc: Global,
-    jobs: Vec<PathJob<G, L>>,
-) -> Result<Paths<G>, NoMemory>
-    ensures { IfOk result (λ paths. paths ≡ map (λ job. job.path) jobs.items) }
-{
-    let mut paths = Items::new(alloc);
-    for job in jobs {
-        let PathJob { path, .. } = job;
-        paths.push(path)?;
-    }
-    Ok(paths)
 }
 
 fn run_one<R: Wait, G: Road, L: Link>(
