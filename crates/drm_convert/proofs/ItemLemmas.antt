@@ -1,5 +1,5 @@
 -- What becomes of an item.
-use Rattle.std.proofs.Common.{◌≡◌, ℕ, ◌+◌, Bool, true, false, List, [], length, sym, subst, ap, ◌∙◌, refl, inl, arith}
+use Rattle.std.proofs.Common.{◌≡◌, ℕ, ◌+◌, Bool, true, false, List, [], length, sym, subst, ap, ◌∙◌, refl, inl}
 use Rattle.std.specs.Prelude.{◌&&◌}
 use Rattle.drm_links.specs.Told.{Known}
 use Rattle.drm_links.specs.Sink.{Output, Outputs, IsFront}

@@ -6,7 +6,7 @@ use Rattle.std.proofs.lemmas.Bool.Decides.{nat_tests}
 use Rattle.std.proofs.lemmas.List.{take-append-le, take_all, take_at}
 use Rattle.drm_links.specs.Told.{Known}
 use Rattle.drm_links.specs.Source.{Input, Inputs}
-use Rattle.drm_links.specs.Sink.{Output, Outputs, IsFront}
+use Rattle.drm_links.specs.Sink.{Output}
 use Rattle.drm_links.proofs.WritingLemmas.{front_behind}
 use Rattle.drm_capture.specs.Front.{IsWhole}
 use Rattle.drm_capture.specs.Capture.{IsCaptureOf, End}
@@ -26,8 +26,7 @@ use Rattle.collect_laws.proofs.Fit.{fit_given}
 use Rattle.drm_convert.specs.declared.item.Halt.{Halt}
 use Rattle.drm_convert.specs.declared.item.Halt.TheVariants as halt
 use Rattle.drm_convert.specs.declared.naming.Progress.{Progress}
-use Rattle.drm_convert.specs.Converting.{text_of, lines_of}
-use Rattle.drm_convert.specs.Naming.{Names}
+use Rattle.drm_convert.specs.Converting.{text_of}
 use Rattle.drm_convert.specs.Draining.{MayBeFirst, ConvertedAll, Drained, Halts, KnowsFirst, KeepsPace}
 use Rattle.capture_items.specs.Reading.{AreReadBy, ComesTo, Given, HasEnough, NoneShorter, Terms, is_full}
 use Rattle.drm_convert.specs.Run.{first_of, ReadsTo, Ends, EndsEarly}

@@ -1,4 +1,4 @@
-use Rattle.std.proofs.Common.{◌≡◌, ◌+◌, ◌<◌, ◌⊎◌, ◌∙◌, refl, sym, take, ap, subst, arith}
+use Rattle.std.proofs.Common.{◌≡◌, ◌+◌, ◌<◌, ◌⊎◌, ◌∙◌, refl, sym, take, ap, subst}
 use Rattle.drm_links.specs.declared.link.Came.TheVariants as recv
 use Rattle.mod_receiver.specs.Hearing.{Heard}
 use Rattle.mod_receiver.proofs.Hearing.{heard_none, heard_more}

@@ -1,4 +1,4 @@
-use Rattle.std.proofs.Common.{◌≡◌, ◌≤◌, ◌-◌, ◌^◌, List}
+use Rattle.std.proofs.Common.{◌≡◌, ◌-◌, ◌^◌, List}
 use Rattle.dcp_collect.specs.Runs.{Item}
 use Rattle.collect_laws.specs.Laws.{IsFit}
 use Rattle.mod_receiver.proofs.Printing.{Drained}
