@@ -1,5 +1,5 @@
 -- What went over links that were opened to receive over them, and closed.
-use Rattle.std.proofs.Common.{◌≡◌, ℕ, ◌+◌, ◌<◌, ◌≤◌, ◌^◌, List, [], ◌∷◌, ◌++◌, length, map, slice_index_or, Option, None, Some, MatchOption, refl, sym, ◌∙◌, ap, subst, arith, le_trans}
+use Rattle.std.proofs.Common.{◌≡◌, ℕ, ◌<◌, ◌≤◌, ◌^◌, List, [], ◌∷◌, ◌++◌, length, slice_index_or, Option, None, Some, MatchOption, refl, sym, ◌∙◌, ap, subst, arith, le_trans}
 use Rattle.drm_links.specs.Told.{Known, ToldThrough, Tells}
 use Rattle.drm_links.specs.Link.{Answer, Traffic}
 use Rattle.drm_links.specs.Sink.{Output}
@@ -19,7 +19,7 @@ use Rattle.mod_receiver.specs.declared.job.Job.{Job}
 use Rattle.mod_receiver.proofs.Going.{goes_none}
 use Rattle.mod_receiver.proofs.Hearing.{heard_none}
 use Rattle.mod_receiver.proofs.JobLemmas.{few_answers, rules_are, index_of, map_at, map_size}
-use Rattle.several_links.specs.Openings.{Docked, Finds, HasLink, after_openings}
+use Rattle.several_links.specs.Openings.{Docked, Finds, after_openings}
 use Rattle.several_links.specs.Reaching.{HasGone, HaveGone, after_closes}
 use Rattle.several_links.specs.declared.member.Member.{Member}
 use Rattle.several_links.proofs.OpeningLemmas.{same_index}

@@ -1,10 +1,9 @@
 -- Openings, one after another, of receivers, and the closings where they end early.
-use Rattle.std.proofs.Common.{◌≡◌, ℕ, zero, suc, ◌+◌, ◌<◌, ◌≤◌, inl, inr, Bool, List, [], ◌∷◌, length, map, take, replicate, slice_index_or, Option, None, Some, Result, Err, refl, sym, ◌∙◌, ap, subst, arith}
-use Rattle.std.specs.FinMap as map
+use Rattle.std.proofs.Common.{◌≡◌, ℕ, zero, suc, ◌<◌, ◌≤◌, inl, inr, Bool, List, [], ◌∷◌, length, take, replicate, slice_index_or, Option, None, Some, Result, Err, refl, sym, ◌∙◌, ap, subst, arith}
 use Rattle.drm_links.specs.Told.{Counts, Known, WhileTold, CountsCall, ToldThrough, Tells}
 use Rattle.drm_links.specs.Link.{Answer, Traffic}
 use Rattle.drm_links.specs.Sink.{Output}
-use Rattle.drm_links.specs.Dock.{DockContents, Over, Opens, after_close, after_failure, address_key}
+use Rattle.drm_links.specs.Dock.{DockContents, Over, Opens, after_close, after_failure}
 use Rattle.drm_links.specs.declared.dock.Address.{Address}
 use Rattle.drm_links.specs.declared.dock.Opened.TheVariants as opened
 use Rattle.drm_links.proofs.ToldLemmas.{counts_as, counts_then, Tells-then}
@@ -21,7 +20,7 @@ use Rattle.mod_receiver.specs.declared.rules.Rules.{Rules}
 use Rattle.mod_receiver.proofs.JobLemmas.{index_of, map_size}
 use Rattle.drm_receive.specs.Hearing.{HearsEach, BindsFew, StopsBehind}
 use Rattle.drm_receive.specs.Receive.{OpensEach, ReadsBy}
-use Rattle.drm_receive.specs.Opening.{HaveLinks, member_of, members_of}
+use Rattle.drm_receive.specs.Opening.{member_of, members_of}
 use Rattle.drm_receive.proofs.HearingLemmas.{member_at}
 
 -- the opening at this address that comes after the first k failed

@@ -1,6 +1,6 @@
 -- The command `receive` with addresses: a report for each link. That of one link is written as it is read, those of several
 -- together at their end.
-use Rattle.std.specs.Prelude.{ℕ, ◌≡◌, ◌+◌, ◌<◌, ◌≤◌, ◌⊎◌, ◌↔◌, IsTrue, Bool, true, List, [], ◌∷◌, length, slice_index_or, Result, Ok, Err}
+use Rattle.std.specs.Prelude.{ℕ, ◌≡◌, ◌+◌, ◌<◌, ◌⊎◌, ◌↔◌, IsTrue, Bool, true, List, [], ◌∷◌, length, slice_index_or, Result, Ok, Err}
 use Rattle.std.specs.List.{flat_map, All}
 use Rattle.drm_links.specs.Told.{HasFailed, Known, HasCause, Tells}
 use Rattle.drm_links.specs.Link.{Answer}
