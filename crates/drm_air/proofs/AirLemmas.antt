@@ -1,5 +1,5 @@
 -- From the receivers of a script's feeds to the whole command.
-use Rattle.std.proofs.Common.{◌≡◌, ℕ, zero, suc, ◌+◌, ◌<◌, ◌≤◌, ◌⊎◌, inl, inr, Bool, List, [], ◌∷◌, ◌++◌, length, map, slice_index_or, Option, Some, Result, Ok, Err, refl, sym, ◌∙◌, ap, subst, arith}
+use Rattle.std.proofs.Common.{◌≡◌, ℕ, zero, suc, ◌+◌, ◌<◌, ◌≤◌, ◌⊎◌, inl, inr, Bool, List, [], ◌∷◌, ◌++◌, length, map, slice_index_or, Some, Result, Ok, Err, refl, sym, ◌∙◌, ap, subst, arith}
 use Rattle.std.specs.Prelude.{sum_by}
 use Rattle.std.specs.List.{All, AllByRecursion, fold}
 use Rattle.drm_links.specs.Told.{Known, HasCause}
@@ -29,7 +29,6 @@ use Rattle.drm_load.specs.Faults.{fault_of_schedule, fault_of_script}
 use Rattle.mod_receiver.specs.Jobs.{IsDone, NoneFailed}
 use Rattle.mod_receiver.specs.Settling.{Settles}
 use Rattle.mod_receiver.specs.declared.stop.Stop.{Stop}
-use Rattle.mod_receiver.specs.declared.stop.Stop.TheVariants as stops
 use Rattle.drm_receive.specs.Receive.{WritesReports}
 use Rattle.drm_receive.specs.Stopping.{ending_of}
 use Rattle.drm_air.specs.Feeds.{BringsFeed, BringFeeds}

@@ -1,4 +1,4 @@
-use Rattle.std.proofs.Common.{◌≡◌, ◌∙◌, ap, Err, rules}
+use Rattle.std.proofs.Common.{◌∙◌, ap, Err, rules}
 use Rattle.std.proofs.lemmas.Result.{err_from_is_err_and}
 use Rattle.drm_schedule.specs.Valid.{IsSchedule}
 use Rattle.drm_links.proofs.ToldLemmas.{counts_as}
