@@ -1,13 +1,13 @@
 -- Links that are opened, one for each path, read, and closed again.
-use Rattle.std.proofs.Common.{◌≡◌, ℕ, ◌+◌, ◌<◌, ◌≤◌, ◌^◌, List, [], ◌∷◌, ◌++◌, length, map, take, replicate, slice_index_or, Option, None, Some, Result, Err, refl, sym, ◌∙◌, ap, subst, arith}
+use Rattle.std.proofs.Common.{◌≡◌, ℕ, ◌<◌, List, [], length, map, replicate, slice_index_or, Option, None, Some, Result, Err, sym, ◌∙◌, ap, subst, arith}
 use Rattle.std.proofs.lemmas.List.{length-map, get_or-map}
 use Rattle.drm_links.specs.Told.{Known, Tells, ToldThrough}
 use Rattle.drm_links.specs.Link.{Answer, Traffic}
-use Rattle.drm_links.specs.Dock.{DockContents, LinkStart, Over, first_traffic, after_failure}
+use Rattle.drm_links.specs.Dock.{DockContents, LinkStart, Over, first_traffic}
 use Rattle.drm_links.specs.declared.dock.Address.{Address}
 use Rattle.drm_links.proofs.ToldLemmas.{Tells-then}
 use Rattle.mod_receiver.proofs.JobLemmas.{index_of}
-use Rattle.several_links.specs.Openings.{Docked, Finds, FindsNone, HasLink, after_openings}
+use Rattle.several_links.specs.Openings.{Docked, Finds, HasLink, after_openings}
 use Rattle.several_links.specs.Reaching.{HasGone, HaveGone, after_closes, nothing}
 use Rattle.several_links.specs.declared.member.Member.{Member}
 use Rattle.several_links.proofs.OpeningLemmas.{same_index}

@@ -6,7 +6,7 @@ use Rattle.mod_receiver.specs.Hearing.{Heard}
 use Rattle.drm_paths.specs.declared.run.PathOptions.{PathOptions}
 use Rattle.drm_paths.specs.declared.run.PathEnded.{PathEnded}
 use Rattle.drm_paths.specs.declared.run.PathEnded.TheVariants.{LinkFailed, NoMemory}
-use Rattle.drm_paths.specs.State.{PathState, new_path}
+use Rattle.drm_paths.specs.State.{new_path}
 use Rattle.drm_paths.specs.Reading.{ReadsPath}
 use Rattle.path_command.specs.declared.job.PathJob.{PathJob}
 

@@ -1,4 +1,4 @@
-use Rattle.std.proofs.Common.{◌≡◌, inl, inr}
+use Rattle.std.proofs.Common.{◌≡◌, inl}
 use Rattle.drm_top.proofs.WordsLemmas.{command_read}
 use Rattle.drm_top.proofs.command.execute.Goals as goal
 

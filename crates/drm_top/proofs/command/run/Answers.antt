@@ -1,4 +1,4 @@
-use Rattle.std.proofs.Common.{◌∙◌, ℕ, sym, ap, subst, Ok, Err}
+use Rattle.std.proofs.Common.{◌∙◌, sym, ap, subst, Ok, Err}
 use Rattle.drm_faults.specs.Fault.{clean_status, WritesLine}
 use Rattle.drm_links.proofs.ToldLemmas.{counts_as}
 use Rattle.drm_faults.proofs.CauseLemmas.{one_failed_as, opening_as}

@@ -1,4 +1,4 @@
-use Rattle.std.proofs.Common.{◌≡◌, ◌≤◌, true, List, ◌++◌, length, map, drop}
+use Rattle.std.proofs.Common.{◌≡◌, ◌≤◌, true, ◌++◌, length, map, drop}
 use Rattle.std.specs.Vec.Iter.{into_iter_items}
 use Rattle.drm_links.specs.Told.{Tells}
 use Rattle.several_links.proofs.CloseLemmas.{Closing}
