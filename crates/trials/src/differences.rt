@@ -74,7 +74,10 @@ fn compare(found: &mut String, name: &str, got: &[u8], wanted: &[u8]) -> Result<
 // Whether the links of this case are there to be read.
 fn receives(program: Program, case: &Case) -> bool {
     match program {
-        Program::Drmcast => case.words.first().is_some_and(|word| word == "receive"),
+        Program::Drmcast => case
+            .words
+            .first()
+            .is_some_and(|word| word.as_str() == "receive"),
         Program::Drmpaths => true,
     }
 }
