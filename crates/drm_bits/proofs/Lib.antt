@@ -5,6 +5,7 @@ pub mod FieldLemmas
 pub mod Polynomials
 pub mod Registers
 pub mod Checks
+mod EightBytes
 mod EightShifts
 pub mod BitWrites
 pub mod SinkLemmas

@@ -1,14 +1,14 @@
-use Rattle.std.proofs.Common.{rules, ◌≡◌, ℕ, suc, ◌+◌, ◌-◌, ◌*◌, ◌<◌, ◌^◌, ◌∷◌, [], ◌++◌, List, Bool, length, take, drop, replicate, arith, refl, sym, subst, ◌∙◌, ap, append_assoc}
+use Rattle.std.proofs.Common.{rules, ◌≡◌, ℕ, suc, ◌+◌, ◌-◌, ◌<◌, ◌^◌, ◌∷◌, [], ◌++◌, List, Bool, length, take, drop, replicate, arith, refl, sym, subst, ◌∙◌, ap, append_assoc}
 use Rattle.std.proofs.Math.Nat.{sub-zero}
 use Rattle.std.proofs.Math.ListN.{set, length-set}
 use Rattle.std.proofs.lemmas.List.{append-nil, take_more_set, drop-set-lt, drop-drop, take-append-drop}
 use Rattle.std.proofs.lemmas.List.Elements.{All-set}
 use Rattle.drm_bits.specs.Bits.{front}
 use Rattle.drm_bits.specs.Fields.{AreFields}
-use Rattle.drm_bits.specs.Description.{IsDescription, description_fields, parts_from, description_from}
+use Rattle.drm_bits.specs.Description.{description_fields, parts_from, description_from}
 use Rattle.drm_bits.specs.declared.description.Part.{Part}
 use Rattle.drm_bits.specs.declared.description.MuxDesc.{MuxDesc}
-use Rattle.drm_bits.proofs.PartLemmas.{description_made, is_description_from}
+use Rattle.drm_bits.proofs.PartLemmas.{description_made}
 use Rattle.drm_bits.proofs.description.MuxDesc.read.Goals as goal
 
 step : (parts : List Part) (bits next : List Bool) (p : Part) (k n : ℕ) → k < length parts → k < n → p ≡ record { a = front 12 bits; b = front 12 (drop 12 bits) } → next ≡ drop 12 (drop 12 bits)
