@@ -12,10 +12,9 @@ use Rattle.std.specs.BTreeMap as tree
 use Rattle.std.specs.BTreeMap.{BTreeMap, is_at}
 use Rattle.std.specs.FinMap as map
 use Rattle.drm_links.specs.Told.{WhileTold, one_more}
-use Rattle.drm_links.specs.Link.{Traffic, rests_of}
-use Rattle.drm_links.specs.Dock.{DockContents, LinkStart, Opens, Reaches, Closes, address_key, start_at, first_traffic, with_reach}
+use Rattle.drm_links.specs.Dock.{LinkStart, Opens, Reaches, address_key, start_at, first_traffic, with_reach}
 use Rattle.drm_links.specs.MemoryLink.{LinkState, IsUntouched, link_known}
-use Rattle.drm_links.specs.MemoryDock.{DockState, Leaves, reached, after_close, link_at, start_of, starts_of, with_told, contents_of, dock_known, with_start}
+use Rattle.drm_links.specs.MemoryDock.{DockState, Leaves, reached, link_at, start_of, starts_of, contents_of, dock_known, with_start}
 use Rattle.drm_links.specs.ClosedLinks.{entries_of}
 use Rattle.drm_links.specs.declared.dock.Address.{Address}
 use Rattle.drm_links.specs.declared.docked_link.Closed.{Closed}
@@ -169,21 +168,6 @@ reached_told result at before after counts reaches leaves =
   where
     one_reach : (dock : DockState) → dock.reaches ≤ dock.calls → dock.calls ≤ 2 ^ 62 → contents_of (reached dock) ≡ with_reach (contents_of dock)
     one_reach dock reaches told = let one : one_more dock.reaches ≡ dock.reaches + 1 = omega arith in rw one refl
-
--- ---- a link that is closed
-
-closes_by : (traffic : Option Traffic) (at : Address) (before after : DockContents)
-    → after ≡ record before { answers = with_told (λ t. t.answers) traffic (address_key at) before.answers; gone = with_told (λ t. t.gone) traffic (address_key at) before.gone; rests = with_told rests_of traffic (address_key at) before.rests; calls = before.calls + 1 }
-    → Closes traffic at before after
-closes_by None at before after is = is
-closes_by (Some traffic) at before after is = is
-
-pub close_told : (dock after : DockState) (at : Address) (link : LinkState) → after ≡ after_close at link dock → WhileTold (dock_known dock) (dock_known after) (Closes (link_known link).told at)
-close_told dock after at link is_after =
-    rw is_after
-    (while_told_for dock.calls (one_more dock.calls) _ _ (Closes (link_known link).told at)
-    (λ told. let calls : one_more dock.calls ≡ dock.calls + 1 = omega arith in
-    closes_by (link_known link).told at _ _ (rw calls refl)))
 
 -- ---- the links that are kept
 

@@ -7,3 +7,4 @@ pub mod FilesLemmas
 pub mod LoadLemmas
 pub mod ManyCallsLemmas
 pub mod WritingLemmas
+pub mod Places

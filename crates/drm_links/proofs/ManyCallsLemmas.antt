@@ -1,6 +1,6 @@
 -- Some calls after others.
 use Rattle.std.proofs.Common.{ℕ, ◌+◌, ◌≤◌, Option, None, Some, refl, arith}
-use Rattle.drm_links.specs.Told.{Known, CountsTold, CountsCall}
+use Rattle.drm_links.specs.Told.{Known, CountsTold}
 use Rattle.drm_links.specs.ManyCalls.{CountsMany, MakesCalls}
 
 module _ {T : Type 0} (calls : T → ℕ) where
@@ -15,9 +15,6 @@ module _ {T : Type 0} (calls : T → ℕ) where
   one None b counts = counts
   one (Some x) None counts = omega (arith, counts)
   one (Some x) (Some y) counts = omega (arith, counts.0)
-
-  pub one_call : (a b : Known T) → CountsCall calls a b → MakesCalls calls 1 a b
-  one_call a b = one a.told b.told
 
   more : (m n : ℕ) (a b c : Option T) → CountsMany calls m a b → CountsMany calls n b c → CountsMany calls (m + n) a c
   more m n None None c first second = second

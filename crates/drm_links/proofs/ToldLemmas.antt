@@ -1,20 +1,18 @@
 -- What is told, over one call and over several.
-use Rattle.std.proofs.Common.{◌≡◌, ℕ, ◌+◌, List, [], ◌++◌, take, Option, None, Some, IsSome, MatchOption, Result, Ok, Err, IsErr, refl, sym, ◌∙◌, ap, arith, append_assoc}
-use Rattle.std.proofs.lemmas.List.{append-nil}
-use Rattle.drm_links.specs.declared.sink.WriteOut.TheVariants.{Wrote, Failed}
+use Rattle.std.proofs.Common.{◌≡◌, ℕ, ◌+◌, ◌<◌, ◌≤◌, List, [], ◌++◌, length, take, Option, None, Some, IsSome, MatchOption, Result, Ok, Err, IsErr, refl, sym, ◌∙◌, ap, subst, arith, append_assoc, length-append}
+use Rattle.std.proofs.lemmas.List.{append-nil, length-take-le}
+use Rattle.drm_links.specs.declared.sink.WriteOut.TheVariants.{Failed}
 use Rattle.drm_links.specs.declared.source.ReadOut.TheVariants as read
 use Rattle.drm_links.specs.Told.{Known, WhileTold, CountsCall, BothTold, CountsTold, ToldThrough, Tells, Counts, one_more}
-use Rattle.drm_links.specs.Sink.{Output, WritesText, Outputs, Appends}
-use Rattle.drm_links.specs.Source.{Input, LeftBy, Inputs, Takes}
-use Rattle.drm_links.specs.Shelf.{Files, Supplies, Loads, KeepsFiles, after_one}
+use Rattle.drm_links.specs.Sink.{Output, WritesText, Outputs, FewWrites}
+use Rattle.drm_links.specs.Source.{Input, LeftBy, Inputs, FewReads, Takes}
+use Rattle.drm_links.specs.Shelf.{Files, Supplies, Loads, KeepsFiles, after_load}
 use Rattle.drm_links.specs.declared.shelf.Loaded.{Loaded}
-use Rattle.drm_links.specs.Link.{Traffic, rests_of}
-use Rattle.drm_links.specs.Dock.{DockContents, LinkStart, Opens, Closes, address_key, start_at, first_traffic}
+use Rattle.drm_links.specs.Link.{Traffic}
+use Rattle.drm_links.specs.Dock.{DockContents, LinkStart, Opens, start_at, first_traffic}
 use Rattle.drm_links.specs.declared.dock.Address.{Address}
 use Rattle.drm_links.specs.declared.dock.Opened.TheVariants as opened
 use Rattle.std.specs.FinMap as map
-use Rattle.std.specs.FinMap.{gets}
-use Rattle.std.proofs.lemmas.Grind.{common_steps}
 
 -- ---- counts
 
@@ -65,24 +63,6 @@ told_so calls (Some x) b counts told = refl
 pub told_before : {T : Type 0} (calls : T → ℕ) (a b : Known T) → CountsCall calls a b → IsSome b.told → IsSome a.told
 told_before calls a b = told_so calls a.told b.told
 
-both_then : {T : Type 0} (calls : T → ℕ) (P Q R : T → T → Type 0) (a b c : Option T) → CountsTold calls b c → BothTold a b P → BothTold b c Q → ((x y z : T) → P x y → Q y z → R x z) → BothTold a c R
-both_then calls P Q R None b c counts first second both = tt
-both_then calls P Q R (Some x) b None counts first second both = tt
-both_then calls P Q R (Some x) None (Some z) counts first second both = cc
-both_then calls P Q R (Some x) (Some y) (Some z) counts first second both = both x y z first second
-
--- what holds of a call and what holds of the next one
-pub WhileTold-then : {T : Type 0} (calls : T → ℕ) (P Q R : T → T → Type 0) (a b c : Known T) → CountsCall calls b c → WhileTold a b P → WhileTold b c Q → ((x y z : T) → P x y → Q y z → R x z) → WhileTold a c R
-WhileTold-then calls P Q R a b c = both_then calls P Q R a.told b.told c.told
-
-both_weaker : {T : Type 0} (P Q : T → T → Type 0) (a b : Option T) → BothTold a b P → ((x y : T) → P x y → Q x y) → BothTold a b Q
-both_weaker P Q None b holds weaker = tt
-both_weaker P Q (Some x) None holds weaker = tt
-both_weaker P Q (Some x) (Some y) holds weaker = weaker x y holds
-
-pub WhileTold-weaker : {T : Type 0} (P Q : T → T → Type 0) (a b : Known T) → WhileTold a b P → ((x y : T) → P x y → Q x y) → WhileTold a b Q
-WhileTold-weaker P Q a b = both_weaker P Q a.told b.told
-
 -- ---- over many calls
 
 through_none : {T : Type 0} (P : T → T → Type 0) (a : Option T) → ((x : T) → P x x) → ToldThrough a a P
@@ -110,6 +90,15 @@ through_weaker P Q (Some x) (Some y) first weaker = weaker x y first
 pub Tells-weaker : {T : Type 0} (P Q : T → T → Type 0) (a b : Known T) → Tells a b P → ((x y : T) → P x y → Q x y) → Tells a b Q
 Tells-weaker P Q a b = through_weaker P Q a.told b.told
 
+both_through : {T : Type 0} (P Q : T → T → Type 0) (a b : Option T) → ToldThrough a b P → ToldThrough a b Q → ToldThrough a b (λ x y. P x y × Q x y)
+both_through P Q a None first second = tt
+both_through P Q None (Some y) first second = first
+both_through P Q (Some x) (Some y) first second = (first, second)
+
+-- two things that hold of the same calls
+pub Tells-both : {T : Type 0} (P Q : T → T → Type 0) (a b : Known T) → Tells a b P → Tells a b Q → Tells a b (λ x y. P x y × Q x y)
+Tells-both P Q a b = both_through P Q a.told b.told
+
 one_through : {T : Type 0} (calls : T → ℕ) (P : T → T → Type 0) (a b : Option T) → CountsTold calls a b → BothTold a b P → ToldThrough a b P
 one_through calls P a None counts holds = tt
 one_through calls P None (Some y) counts holds = cc
@@ -119,62 +108,143 @@ one_through calls P (Some x) (Some y) counts holds = holds
 pub Tells-one : {T : Type 0} (calls : T → ℕ) (P : T → T → Type 0) (a b : Known T) → CountsCall calls a b → WhileTold a b P → Tells a b P
 Tells-one calls P a b = one_through calls P a.told b.told
 
+-- what is told before and at the end
+told_some : {T : Type 0} (P : T → T → Type 0) (a b : Option T) (x y : T) → a ≡ Some x → b ≡ Some y → ToldThrough a b P → P x y
+told_some P a b x y first last holds = subst (λ told. ToldThrough (Some x) told P) last (subst (λ told. ToldThrough told b P) first holds)
+
+pub told_through : {T : Type 0} (P : T → T → Type 0) (a b : Known T) (x y : T) → a.told ≡ Some x → b.told ≡ Some y → Tells a b P → P x y
+told_through P a b = told_some P a.told b.told
+
+-- one call, with what follows from its number
+one_counted : {T : Type 0} (calls : T → ℕ) (P Q : T → T → Type 0) (a b : Option T) → CountsTold calls a b → BothTold a b P → ((x y : T) → calls y ≡ calls x + 1 → P x y → Q x y) → ToldThrough a b Q
+one_counted calls P Q a None counts holds also = tt
+one_counted calls P Q None (Some y) counts holds also = cc
+one_counted calls P Q (Some x) (Some y) counts holds also = also x y counts.0 holds
+
 -- ---- what is written
 
+writes_none : (f : ℕ) (x : Output) → FewWrites f f x x
+writes_none f x = record { rises = λ _. omega arith; few = λ _. omega arith }
+
+writes_then : (f g h : ℕ) (x y z : Output) → FewWrites f g x y → FewWrites g h y z → FewWrites f h x z
+writes_then f g h x y z first second = record {
+  rises = λ few.
+      let later = second.rises few in
+      let sooner = first.rises (omega (arith, few, later)) in
+      omega (arith, later, sooner);
+  few = λ few.
+      let rises = second.rises few in
+      let later = second.few few in
+      let sooner = first.few (omega (arith, few, rises)) in
+      omega (arith, later, sooner);
+}
+
 pub Outputs-nothing : (a : Known Output) (P : List ℕ → Type 0) → P [] → Outputs a a P
-Outputs-nothing a P empty = Tells-nothing (WritesText P) a (λ x. ([], sym (append-nil x.written), empty))
+Outputs-nothing a P empty =
+    Tells-nothing (λ x y. WritesText P x y × FewWrites a.faults a.faults x y) a (λ x. (([], sym (append-nil x.written), empty), writes_none a.faults x))
 
 pub Outputs-then : (P Q R : List ℕ → Type 0) (a b c : Known Output) → Outputs a b P → Outputs b c Q → ((s t : List ℕ) → P s → Q t → R (s ++ t)) → Outputs a c R
 Outputs-then P Q R a b c first second both =
-    Tells-then (WritesText P) (WritesText Q) (WritesText R) a b c first second
-    (λ x y z (s, is_s, p) (t, is_t, q). (s ++ t, is_t ∙ (ap (λ l. l ++ t) is_s ∙ append_assoc x.written s t), both s t p q))
+    Tells-then (λ x y. WritesText P x y × FewWrites a.faults b.faults x y) (λ x y. WritesText Q x y × FewWrites b.faults c.faults x y)
+    (λ x y. WritesText R x y × FewWrites a.faults c.faults x y) a b c first second
+    (λ x y z ((s, is_s, p), few) ((t, is_t, q), few'). (
+      (s ++ t, is_t ∙ (ap (λ l. l ++ t) is_s ∙ append_assoc x.written s t), both s t p q),
+      writes_then a.faults b.faults c.faults x y z few few',
+    ))
 
 pub Outputs-weaker : (P Q : List ℕ → Type 0) (a b : Known Output) → Outputs a b P → ((t : List ℕ) → P t → Q t) → Outputs a b Q
 Outputs-weaker P Q a b first weaker =
-    Tells-weaker (WritesText P) (WritesText Q) a b first (λ x y (t, is_t, p). (t, is_t, weaker t p))
+    Tells-weaker (λ x y. WritesText P x y × FewWrites a.faults b.faults x y) (λ x y. WritesText Q x y × FewWrites a.faults b.faults x y) a b first
+    (λ x y ((t, is_t, p), few). ((t, is_t, weaker t p), few))
 
--- one call
-pub Outputs-write : (n : ℕ) (bytes : List ℕ) (a b : Known Output) → WhileTold a b (Appends (Wrote n) bytes) → CountsCall (λ (o : Output). o.calls) a b → Outputs a b (λ t. t ≡ take n bytes)
-Outputs-write n bytes a b told counts =
-    Tells-one (λ (o : Output). o.calls) (WritesText (λ t. t ≡ take n bytes)) a b counts
-    (WhileTold-weaker (Appends (Wrote n) bytes) (WritesText (λ t. t ≡ take n bytes)) a b told (λ x y is. (take n bytes, is, refl)))
-
-pub Outputs-failed : (bytes : List ℕ) (a b : Known Output) → WhileTold a b (Appends Failed bytes) → CountsCall (λ (o : Output). o.calls) a b → Outputs a b (λ t. t ≡ [])
-Outputs-failed bytes a b told counts =
-    Tells-one (λ (o : Output). o.calls) (WritesText (λ t. t ≡ [])) a b counts
-    (WhileTold-weaker (Appends Failed bytes) (WritesText (λ t. t ≡ [])) a b told (λ x y is. ([], is ∙ sym (append-nil x.written), refl)))
+-- a text that was appended to nothing is all that is written
+pub written_to_nothing : (P : List ℕ → Type 0) (a b : Known Output) (o : Output) → Outputs a b P → a.told ≡ Some (record { written = []; calls = 0 }) → b.told ≡ Some o → P o.written
+written_to_nothing P a b o writes first last =
+    let ((text, is, holds), few) = told_through (λ x y. WritesText P x y × FewWrites a.faults b.faults x y) a b (record { written = []; calls = 0 }) o first last writes in
+    subst P (sym is) holds
 
 -- ---- what is read
 
+reads_none : (f : ℕ) (x : Input) → FewReads f f x x
+reads_none f x = record { less = omega arith; rises = λ _. omega arith; few = λ _ _. omega arith }
+
+reads_then : (f g h : ℕ) (x y z : Input) → FewReads f g x y → FewReads g h y z → FewReads f h x z
+reads_then f g h x y z first second = record {
+  less = (let sooner = first.less in let later = second.less in omega (arith, sooner, later));
+  rises = λ few.
+      let later = second.rises few in
+      let sooner = first.rises (omega (arith, few, later)) in
+      omega (arith, later, sooner);
+  few = λ few some.
+      let rises = second.rises few in
+      let less = second.less in
+      let later = second.few few some in
+      let sooner = first.few (omega (arith, few, rises)) (omega (arith, some, less)) in
+      omega (arith, later, sooner);
+}
+
 pub Inputs-nothing : (P : List ℕ → List ℕ → Type 0) (a : Known Input) → ((left : List ℕ) → P left left) → Inputs a a P
-Inputs-nothing P a same = Tells-nothing (LeftBy P) a (λ x. same x.left)
+Inputs-nothing P a same = Tells-nothing (λ x y. LeftBy P x y × FewReads a.faults a.faults x y) a (λ x. (same x.left, reads_none a.faults x))
 
 pub Inputs-then : (P Q R : List ℕ → List ℕ → Type 0) (a b c : Known Input) → Inputs a b P → Inputs b c Q → ((x y z : List ℕ) → P x y → Q y z → R x z) → Inputs a c R
 Inputs-then P Q R a b c first second both =
-    Tells-then (LeftBy P) (LeftBy Q) (LeftBy R) a b c first second (λ x y z. both x.left y.left z.left)
+    Tells-then (λ x y. LeftBy P x y × FewReads a.faults b.faults x y) (λ x y. LeftBy Q x y × FewReads b.faults c.faults x y)
+    (λ x y. LeftBy R x y × FewReads a.faults c.faults x y) a b c first second
+    (λ x y z (p, few) (q, few'). (both x.left y.left z.left p q, reads_then a.faults b.faults c.faults x y z few few'))
 
 pub Inputs-weaker : (P Q : List ℕ → List ℕ → Type 0) (a b : Known Input) → Inputs a b P → ((x y : List ℕ) → P x y → Q x y) → Inputs a b Q
-Inputs-weaker P Q a b first weaker = Tells-weaker (LeftBy P) (LeftBy Q) a b first (λ x y. weaker x.left y.left)
+Inputs-weaker P Q a b first weaker =
+    Tells-weaker (λ x y. LeftBy P x y × FewReads a.faults b.faults x y) (λ x y. LeftBy Q x y × FewReads a.faults b.faults x y) a b first
+    (λ x y (p, few). (weaker x.left y.left p, few))
+
+-- both of two facts on what was left and is left
+pub Inputs-both : (P Q : List ℕ → List ℕ → Type 0) (a b : Known Input) → Inputs a b P → Inputs a b Q → Inputs a b (λ x y. P x y × Q x y)
+Inputs-both P Q a b first second =
+    Tells-weaker (λ x y. (LeftBy P x y × FewReads a.faults b.faults x y) × (LeftBy Q x y × FewReads a.faults b.faults x y))
+    (λ x y. LeftBy (λ left rest. P left rest × Q left rest) x y × FewReads a.faults b.faults x y) a b
+    (Tells-both (λ x y. LeftBy P x y × FewReads a.faults b.faults x y) (λ x y. LeftBy Q x y × FewReads a.faults b.faults x y) a b first second)
+    (λ x y (p, q). ((p.0, q.0), p.1))
 
 -- one call
-pub Inputs-got : (n : ℕ) (buf : List ℕ) (a b : Known Input) → WhileTold a b (Takes (read.Got n) buf) → CountsCall (λ (i : Input). i.calls) a b → Inputs a b (λ x y. x ≡ take n buf ++ y)
-Inputs-got n buf a b told counts = Tells-one (λ (i : Input). i.calls) (LeftBy (λ x y. x ≡ take n buf ++ y)) a b counts told
+pub Inputs-got : (n : ℕ) (buf : List ℕ) (a b : Known Input) → 0 < n → n ≤ length buf → b.faults ≡ a.faults → WhileTold a b (Takes (read.Got n) buf) → CountsCall (λ (i : Input). i.calls) a b → Inputs a b (λ x y. x ≡ take n buf ++ y)
+Inputs-got n buf a b some within same told counts =
+    one_counted (λ (i : Input). i.calls) (Takes (read.Got n) buf) (λ x y. LeftBy (λ x y. x ≡ take n buf ++ y) x y × FewReads a.faults b.faults x y) a.told b.told counts told
+    (λ x y next is. (
+      is,
+      (let more : length x.left ≡ n + length y.left = ap length is ∙ length-append (take n buf) y.left ∙ ap (λ k. k + length y.left) (length-take-le n buf within) in
+          record { less = omega (arith, more); rises = λ _. omega (arith, same); few = λ _ _. omega (arith, same, next, more, some) }),
+    ))
 
-pub Inputs-end : (buf : List ℕ) (a b : Known Input) → WhileTold a b (Takes read.End buf) → CountsCall (λ (i : Input). i.calls) a b → Inputs a b (λ x y. (x ≡ []) × (y ≡ []))
-Inputs-end buf a b told counts = Tells-one (λ (i : Input). i.calls) (LeftBy (λ x y. (x ≡ []) × (y ≡ []))) a b counts told
+pub Inputs-end : (buf : List ℕ) (a b : Known Input) → b.faults ≡ a.faults → WhileTold a b (Takes read.End buf) → CountsCall (λ (i : Input). i.calls) a b → Inputs a b (λ x y. (x ≡ []) × (y ≡ []))
+Inputs-end buf a b same told counts =
+    one_counted (λ (i : Input). i.calls) (Takes read.End buf) (λ x y. LeftBy (λ x y. (x ≡ []) × (y ≡ [])) x y × FewReads a.faults b.faults x y) a.told b.told counts told
+    (λ x y next is. (
+      is,
+      (let none : length y.left ≡ 0 = ap length is.1 in
+          record { less = omega (arith, none); rises = λ _. omega (arith, same); few = λ _ some. absurd (omega (arith, some, none)) }),
+    ))
+
+pub Inputs-failed : (buf : List ℕ) (a b : Known Input) → b.faults ≡ one_more a.faults → WhileTold a b (Takes read.Failed buf) → CountsCall (λ (i : Input). i.calls) a b → Inputs a b (λ x y. y ≡ x)
+Inputs-failed buf a b rose told counts =
+    one_counted (λ (i : Input). i.calls) (Takes read.Failed buf) (λ x y. LeftBy (λ x y. y ≡ x) x y × FewReads a.faults b.faults x y) a.told b.told counts told
+    (λ x y next is. (
+      is,
+      (let same : length y.left ≡ length x.left = ap length is in
+          record { less = omega (arith, same); rises = λ few. omega (arith, rose, few); few = λ few _. omega (arith, rose, few, next, same) }),
+    ))
 
 -- ---- what is loaded
 
-same_files : (x y : Files) → KeepsFiles x y → y.loads ≡ x.loads + 1 → y ≡ after_one x
-same_files x y kept counts = λ i. record { files = kept.files i; loads = counts i; failing = kept.failing i }
+same_files : (loaded : Loaded) (name : List ℕ) (x y : Files) → KeepsFiles loaded name x y → y.loads ≡ x.loads + 1 → y ≡ after_load loaded name x
+same_files loaded name x y kept counts = λ i. record { files = kept.files i; loads = counts i; names = kept.names i; failing = kept.failing i }
 
-loaded_one : (loaded : Loaded) (name : List ℕ) (limit : ℕ) (a b : Option Files) → BothTold a b (λ x _. Loads loaded name limit x) → BothTold a b KeepsFiles → CountsTold (λ (f : Files). f.loads) a b → ToldThrough a b (λ x y. Loads loaded name limit x × (y ≡ after_one x))
+loaded_one : (loaded : Loaded) (name : List ℕ) (limit : ℕ) (a b : Option Files) → BothTold a b (λ x _. Loads loaded name limit x) → BothTold a b (KeepsFiles loaded name) → CountsTold (λ (f : Files). f.loads) a b → ToldThrough a b (λ x y. Loads loaded name limit x × (y ≡ after_load loaded name x))
 loaded_one loaded name limit a None loads kept counts = tt
 loaded_one loaded name limit None (Some y) loads kept counts = cc
-loaded_one loaded name limit (Some x) (Some y) loads kept counts = (loads, same_files x y kept counts.0)
+loaded_one loaded name limit (Some x) (Some y) loads kept counts = (loads, same_files loaded name x y kept counts.0)
 
 -- one load
-pub Supplies-load : (loaded : Loaded) (name : List ℕ) (limit : ℕ) (a b : Known Files) → WhileTold a b (λ x _. Loads loaded name limit x) → WhileTold a b KeepsFiles → CountsCall (λ (f : Files). f.loads) a b → Supplies a b (λ x y. Loads loaded name limit x × (y ≡ after_one x))
+pub Supplies-load : (loaded : Loaded) (name : List ℕ) (limit : ℕ) (a b : Known Files) → WhileTold a b (λ x _. Loads loaded name limit x) → WhileTold a b (KeepsFiles loaded name) → CountsCall (λ (f : Files). f.loads) a b → Supplies a b (λ x y. Loads loaded name limit x × (y ≡ after_load loaded name x))
 Supplies-load loaded name limit a b loads kept counts = loaded_one loaded name limit a.told b.told loads kept counts
 
 -- ---- links that were opened, and closed
@@ -186,13 +256,3 @@ started (Some s) traffic starts = (s, refl, starts)
 -- A link that a telling dock opened tells, and starts with what stood at its address.
 pub Opens-started : {L : Type 0} (known : L → Known Traffic) (at : Address) (link : L) (before after : DockContents) → Opens known at (opened.Link link) before after → (s : LinkStart) × (start_at before at ≡ Some s) × ((known link).told ≡ Some (first_traffic s))
 Opens-started known at link before after opens = started (start_at before at) (known link).told opens.1
-
--- What a link had answered that still told stands at its address once it was closed, what had gone over it, and how long it had rested.
-pub Closes-answers : (traffic : Traffic) (at : Address) (before after : DockContents) → Closes (Some traffic) at before after → map.get after.answers (address_key at) ≡ Some traffic.answers
-Closes-answers traffic at before after closes = rw closes (grind (arith, gets, common_steps))
-
-pub Closes-gone : (traffic : Traffic) (at : Address) (before after : DockContents) → Closes (Some traffic) at before after → map.get after.gone (address_key at) ≡ Some traffic.gone
-Closes-gone traffic at before after closes = rw closes (grind (arith, gets, common_steps))
-
-pub Closes-rests : (traffic : Traffic) (at : Address) (before after : DockContents) → Closes (Some traffic) at before after → map.get after.rests (address_key at) ≡ Some (rests_of traffic)
-Closes-rests traffic at before after closes = rw closes (grind (arith, gets, common_steps))

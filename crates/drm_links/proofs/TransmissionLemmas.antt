@@ -1,11 +1,11 @@
 -- What was sent over a link, in one call and in several.
-use Rattle.std.proofs.Common.{◌≡◌, ℕ, ◌+◌, ◌-◌, ◌≤◌, List, [], ◌∷◌, ◌++◌, length, Option, None, Some, refl, sym, ◌∙◌, ap, arith, append_assoc, length-append}
+use Rattle.std.proofs.Common.{◌≡◌, ℕ, ◌+◌, ◌-◌, List, [], ◌∷◌, ◌++◌, length, Option, None, Some, refl, sym, ◌∙◌, ap, arith, append_assoc, length-append}
 use Rattle.std.proofs.lemmas.List.{append-nil}
-use Rattle.drm_links.specs.Told.{Known, WhileTold, CountsCall, BothTold, CountsTold, ToldThrough}
-use Rattle.drm_links.specs.Link.{Traffic, Sends, Rests, KeepsAnswers, one_less, longest_told}
+use Rattle.drm_links.specs.Told.{Known}
+use Rattle.drm_links.specs.Link.{Traffic, KeepsAnswers}
 use Rattle.drm_links.specs.Transmission.{Transmits, SendsAll, SendsNoMore, Waits, TakesSends, fewer, since, still}
 use Rattle.drm_links.specs.declared.link.Sent.TheVariants as send
-use Rattle.drm_links.proofs.ToldLemmas.{WhileTold-weaker, Tells-nothing, Tells-then, Tells-weaker, Tells-one}
+use Rattle.drm_links.proofs.ToldLemmas.{Tells-nothing, Tells-then, Tells-weaker, Tells-both}
 
 -- ---- over many calls
 
@@ -14,6 +14,9 @@ Transmits-then P Q R a b c = Tells-then P Q R a b c
 
 pub Transmits-weaker : (P Q : Traffic → Traffic → Type 0) (a b : Known Traffic) → Transmits a b P → ((x y : Traffic) → P x y → Q x y) → Transmits a b Q
 Transmits-weaker P Q a b = Tells-weaker P Q a b
+
+pub Transmits-both : (P Q : Traffic → Traffic → Type 0) (a b : Known Traffic) → Transmits a b P → Transmits a b Q → Transmits a b (λ x y. P x y × Q x y)
+Transmits-both P Q a b = Tells-both P Q a b
 
 -- ---- how many sends are left
 
@@ -24,14 +27,6 @@ takes_none (Some k) = omega arith
 fewer_none : (sends : Option ℕ) → sends ≡ fewer sends 0
 fewer_none None = refl
 fewer_none (Some k) = ap Some (omega arith)
-
-takes_one : (sends : Option ℕ) → (sends ≡ Some 0 → ⊥) → TakesSends sends 1
-takes_one None some = tt
-takes_one (Some k) some = let is_some : k ≡ 0 → ⊥ = λ none. some (ap Some none) in omega arith
-
-fewer_one : (sends : Option ℕ) → one_less sends ≡ fewer sends 1
-fewer_one None = refl
-fewer_one (Some k) = refl
 
 takes_more : (sends : Option ℕ) (m n : ℕ) → TakesSends sends m → TakesSends (fewer sends m) n → TakesSends sends (m + n)
 takes_more None m n first second = tt
@@ -94,36 +89,6 @@ pub Transmits-nothing : (a : Known Traffic) → Transmits a a (SendsAll [])
 Transmits-nothing a =
     Tells-nothing (SendsAll []) a (λ x. sends_nothing x x refl refl (record { answers = refl; ahead = refl }))
 
--- ---- one call
-
-pub Transmits-rest : (millis : ℕ) (a b : Known Traffic) → WhileTold a b (Rests millis) → CountsCall (λ (t : Traffic). t.calls) a b → Transmits a b (SendsAll [])
-Transmits-rest millis a b rested counts =
-    Tells-one (λ (t : Traffic). t.calls) (SendsAll []) a b counts
-    (WhileTold-weaker (Rests millis) (SendsAll []) a b rested (λ x y r. sends_nothing x y r.gone r.sends (record { answers = r.answers; ahead = r.ahead })))
-
-sent_one : (bytes : List ℕ) (a b : Option Traffic) → BothTold a b (Sends send.Sent bytes) → BothTold a b KeepsAnswers → CountsTold (λ (t : Traffic). t.calls) a b → ToldThrough a b (SendsAll (bytes ∷ []))
-sent_one bytes a None sent kept counts = tt
-sent_one bytes None (Some y) sent kept counts = cc
-sent_one bytes (Some x) (Some y) sent kept counts =
-    record {
-      taken = takes_one x.sends sent.0;
-      gone = sent.1;
-      sends = sent.4 ∙ fewer_one x.sends;
-      kept = kept;
-    }
-
-pub Transmits-sent : (bytes : List ℕ) (a b : Known Traffic) → WhileTold a b (Sends send.Sent bytes) → WhileTold a b KeepsAnswers → CountsCall (λ (t : Traffic). t.calls) a b → Transmits a b (SendsAll (bytes ∷ []))
-Transmits-sent bytes a b = sent_one bytes a.told b.told
-
-failed_one : (bytes : List ℕ) (a b : Option Traffic) → length bytes ≤ longest_told → BothTold a b (Sends send.Failed bytes) → BothTold a b KeepsAnswers → CountsTold (λ (t : Traffic). t.calls) a b → ToldThrough a b (SendsNoMore [])
-failed_one bytes a None short failed kept counts = tt
-failed_one bytes None (Some y) short failed kept counts = cc
-failed_one bytes (Some x) (Some y) short failed kept counts =
-    record { no_more = failed.0 short; gone = failed.1 ∙ sym (append-nil x.gone); kept = kept }
-
-pub Transmits-failed : (bytes : List ℕ) (a b : Known Traffic) → length bytes ≤ longest_told → WhileTold a b (Sends send.Failed bytes) → WhileTold a b KeepsAnswers → CountsCall (λ (t : Traffic). t.calls) a b → Transmits a b (SendsNoMore [])
-Transmits-failed bytes a b = failed_one bytes a.told b.told
-
 -- ---- how long the link rested
 
 since_then : (waited : ℕ) (xs : List ℕ) (last : ℕ) (ys : List ℕ) → since waited (xs ++ since last ys) ≡ since waited xs ++ since (still waited xs last) ys
@@ -157,33 +122,3 @@ waits_nothing x y waits waiting =
 
 pub Transmits-no_wait : (a : Known Traffic) → Transmits a a (Waits [] 0)
 Transmits-no_wait a = Tells-nothing (Waits [] 0) a (λ x. waits_nothing x x refl refl)
-
-pub Transmits-wait : (millis : ℕ) (a b : Known Traffic) → WhileTold a b (Rests millis) → CountsCall (λ (t : Traffic). t.calls) a b → Transmits a b (Waits [] millis)
-Transmits-wait millis a b rested counts =
-    Tells-one (λ (t : Traffic). t.calls) (Waits [] millis) a b counts
-    (WhileTold-weaker (Rests millis) (Waits [] millis) a b rested (λ x y r. record { waits = r.waits ∙ sym (append-nil x.waits); waiting = r.waiting }))
-
--- a datagram that is sent ends a wait
-sent_waits : (bytes : List ℕ) (x y : Traffic) → Sends send.Sent bytes x y → Waits (0 ∷ []) 0 x y
-sent_waits bytes x y sent =
-    let none : x.waiting ≡ x.waiting + 0 = omega arith in
-    record { waits = sent.2 ∙ ap (λ w. x.waits ++ w ∷ []) none; waiting = sent.3 }
-
-pub Transmits-sent_waits : (bytes : List ℕ) (a b : Known Traffic) → WhileTold a b (Sends send.Sent bytes) → CountsCall (λ (t : Traffic). t.calls) a b → Transmits a b (Waits (0 ∷ []) 0)
-Transmits-sent_waits bytes a b sent counts =
-    Tells-one (λ (t : Traffic). t.calls) (Waits (0 ∷ []) 0) a b counts (WhileTold-weaker (Sends send.Sent bytes) (Waits (0 ∷ []) 0) a b sent (sent_waits bytes))
-
--- one that fails doesn't
-pub Transmits-failed_waits : (bytes : List ℕ) (a b : Known Traffic) → WhileTold a b (Sends send.Failed bytes) → CountsCall (λ (t : Traffic). t.calls) a b → Transmits a b (Waits [] 0)
-Transmits-failed_waits bytes a b failed counts =
-    Tells-one (λ (t : Traffic). t.calls) (Waits [] 0) a b counts
-    (WhileTold-weaker (Sends send.Failed bytes) (Waits [] 0) a b failed (λ x y f. waits_nothing x y f.2 f.3))
-
--- two things that hold of the same calls
-both_through : (P Q : Traffic → Traffic → Type 0) (a b : Option Traffic) → ToldThrough a b P → ToldThrough a b Q → ToldThrough a b (λ x y. P x y × Q x y)
-both_through P Q a None first second = tt
-both_through P Q None (Some y) first second = first
-both_through P Q (Some x) (Some y) first second = (first, second)
-
-pub Transmits-both : (P Q : Traffic → Traffic → Type 0) (a b : Known Traffic) → Transmits a b P → Transmits a b Q → Transmits a b (λ x y. P x y × Q x y)
-Transmits-both P Q a b = both_through P Q a.told b.told

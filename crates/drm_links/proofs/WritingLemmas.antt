@@ -4,6 +4,32 @@ use Rattle.drm_links.specs.Told.{Known, HasCause}
 use Rattle.drm_links.specs.Sink.{Output, Outputs, IsFront, IsFrontBehind, Writes}
 use Rattle.drm_links.proofs.ToldLemmas.{counts_one, counts_none, once_then, counts_then, Outputs-then, Outputs-weaker}
 
+-- ---- one text behind another
+
+pub text_then : (xs ys : List ℕ) (a b c : Known Output) → Outputs a b (λ t. t ≡ xs) → Outputs b c (λ t. t ≡ ys) → Outputs a c (λ t. t ≡ xs ++ ys)
+text_then xs ys a b c first second =
+    Outputs-then (λ t. t ≡ xs) (λ t. t ≡ ys) (λ t. t ≡ xs ++ ys) a b c first second (λ s t p q. ap (λ l. l ++ t) p ∙ ap (λ l. xs ++ l) q)
+
+-- a front of a text is a front of what begins with that text
+pub front_more : (xs ys text : List ℕ) → IsFront xs text → IsFront (xs ++ ys) text
+front_more xs ys text (rest, is) = (rest ++ ys, ap (λ l. l ++ ys) is ∙ append_assoc text rest ys)
+
+-- a text, and a front of the next one
+pub front_then : (xs ys : List ℕ) (a b c : Known Output) → Outputs a b (λ t. t ≡ xs) → Outputs b c (IsFront ys) → Outputs a c (IsFront (xs ++ ys))
+front_then xs ys a b c first second =
+    Outputs-then (λ t. t ≡ xs) (IsFront ys) (IsFront (xs ++ ys)) a b c first second
+    (λ s t is (rest, front). (rest, ap (λ l. xs ++ l) front ∙ (sym (append_assoc xs t rest) ∙ ap (λ l. (l ++ t) ++ rest) (sym is))))
+
+-- the same, where the first text is told apart
+pub front_behind : (xs ys : List ℕ) (a b c : Known Output) → Outputs a b (λ t. t ≡ xs) → Outputs b c (IsFront ys) → Outputs a c (IsFrontBehind xs ys)
+front_behind xs ys a b c first second = Outputs-then (λ t. t ≡ xs) (IsFront ys) (IsFrontBehind xs ys) a b c first second (λ s t is front. (t, front, ap (λ l. l ++ t) is))
+
+pub front_of_both : (xs ys text : List ℕ) → IsFrontBehind xs ys text → IsFront (xs ++ ys) text
+front_of_both xs ys text (front, (rest, ys_is), text_is) =
+    (rest, ap (λ l. xs ++ l) ys_is ∙ (sym (append_assoc xs front rest) ∙ ap (λ l. l ++ rest) (sym text_is)))
+
+-- ---- what a writer says
+
 -- all of the text was written
 pub Writes-whole : {E : Type 0} (text : List ℕ) (a b : Known Output) → Outputs a b (λ t. t ≡ text) → b.faults ≡ a.faults
     → (let done : Result (Unit {0}) E = Ok tt in Writes done a b text)
@@ -16,9 +42,7 @@ Writes-cut s t a b (Ok done) other fault is writes = cc
 Writes-cut s t a b (Err same) other fault is writes =
     record {
       whole = tt;
-      front =
-          Outputs-weaker (IsFront s) (IsFront (s ++ t)) a b writes.front
-          (λ text (rest, is_t). (rest ++ t, ap (λ l. l ++ t) is_t ∙ append_assoc text rest t));
+      front = Outputs-weaker (IsFront s) (IsFront (s ++ t)) a b writes.front (front_more s t);
       cause = counts_one refl (writes.cause.once refl);
     }
 
@@ -28,18 +52,14 @@ pub Writes-then : {E F : Type 0} (s t : List ℕ) (a b c : Known Output) (first 
 Writes-then s t a b c (Err fault) r done is writes second = cc
 Writes-then s t a b c (Ok so) (Ok done) _ is writes second =
     record {
-      whole =
-          Outputs-then (λ text. text ≡ s) (λ text. text ≡ t) (λ text. text ≡ s ++ t) a b c writes.whole second.whole
-          (λ x y is_x is_y. ap (λ l. l ++ y) is_x ∙ ap (λ l. s ++ l) is_y);
+      whole = text_then s t a b c writes.whole second.whole;
       front = tt;
       cause = counts_then (writes.cause.same (λ failed. cc)) second.cause;
     }
 Writes-then s t a b c (Ok so) (Err fault) done is writes second =
     record {
       whole = tt;
-      front =
-          Outputs-then (λ text. text ≡ s) (IsFront t) (IsFront (s ++ t)) a b c writes.whole second.front
-          (λ x y is_x (rest, is_y). (rest, ap (λ l. l ++ t) (sym is_x) ∙ (ap (λ l. x ++ l) is_y ∙ sym (append_assoc x y rest))));
+      front = front_then s t a b c writes.whole second.front;
       cause = counts_then (writes.cause.same (λ failed. cc)) second.cause;
     }
 
@@ -88,7 +108,3 @@ Writes-part text a b c (Err other') other fault front still is cause =
       front = front;
       cause = counts_one refl (once_then still (cause.once refl));
     }
-
--- what was written, and a front of what comes behind it
-pub front_behind : (xs ys : List ℕ) (a b c : Known Output) → Outputs a b (λ t. t ≡ xs) → Outputs b c (IsFront ys) → Outputs a c (IsFrontBehind xs ys)
-front_behind xs ys a b c first second = Outputs-then (λ t. t ≡ xs) (IsFront ys) (IsFrontBehind xs ys) a b c first second (λ s t is front. (t, front, ap (λ l. l ++ t) is))

@@ -1,5 +1,5 @@
 -- What a shelf tells.
-use Rattle.std.specs.Prelude.{ℕ, ◌≡◌, ◌<◌, ◌≤◌, ◌⊎◌, ◌+◌, List, length, Contains, nat_eq, nat_lt, Option, None, Some, IsNone, MatchOption, if◌then◌else◌}
+use Rattle.std.specs.Prelude.{ℕ, ◌≡◌, ◌<◌, ◌≤◌, ◌⊎◌, ◌+◌, List, [], ◌∷◌, ◌++◌, length, Contains, nat_eq, nat_lt, Option, None, Some, IsNone, MatchOption, if◌then◌else◌}
 use Rattle.std.specs.List.{list_any}
 use Rattle.std.specs.Ordering.{nat_cmp}
 use Rattle.std.specs.Cmp.Lexicographic.{slice_cmp}
@@ -8,10 +8,12 @@ use Rattle.drm_links.specs.Told.{Known, Tells}
 use Rattle.drm_links.specs.declared.shelf.Loaded.{Loaded}
 use Rattle.drm_links.specs.declared.shelf.Loaded.TheVariants.{Bytes, TooLong, Failed, NoMemory}
 
--- the files by their names, the number of loads so far, and the numbers of the loads, from 0, that are to fail
+-- the files by their names, the number of loads so far, the names that they asked for, in order, and the numbers of the
+-- loads, from 0, that are to fail
 pub record Files : Type 0 where
   pub files : map.FinMap (slice_cmp nat_cmp) (List ℕ)
   pub loads : ℕ
+  pub names : List (List ℕ)
   pub failing : List ℕ
 
 -- the file of this name
@@ -49,14 +51,26 @@ IsWithin TooLong limit = Unit {0}
 IsWithin Failed limit = Unit {0}
 IsWithin NoMemory limit = Unit {0}
 
--- a load leaves the files and the list of failing loads as they are
-pub record KeepsFiles (before after : Files) : Type 0 where
+-- the names that were asked for, after a load of this name; where memory ran out it isn't among them
+abbrev pub names_after : Loaded → List ℕ → List (List ℕ) → List (List ℕ)
+names_after (Bytes octets) name names = names ++ name ∷ []
+names_after TooLong name names = names ++ name ∷ []
+names_after Failed name names = names ++ name ∷ []
+names_after NoMemory name names = names
+
+-- A load leaves the files and the list of failing loads as they are, and tells which name it asked for.
+pub record KeepsFiles (loaded : Loaded) (name : List ℕ) (before after : Files) : Type 0 where
   pub files : after.files ≡ before.files
   pub failing : after.failing ≡ before.failing
+  pub names : after.names ≡ names_after loaded name before.names
 
--- the shelf after one more load
-abbrev pub after_one : Files → Files
-after_one told = record told { loads = told.loads + 1 }
+-- the shelf after a load with this answer
+abbrev pub after_load : Loaded → List ℕ → Files → Files
+after_load loaded name told = record told { loads = told.loads + 1; names = names_after loaded name told.names }
+
+-- the shelf after loads of these names, for none of which memory ran out
+abbrev pub after_loads : List (List ℕ) → Files → Files
+after_loads names told = record told { loads = told.loads + length names; names = told.names ++ names }
 
 -- Where a shelf tells at the end, it told before, and P holds of what was told before and is told then.
 abbrev pub Supplies : Known Files → Known Files → (Files → Files → Type 0) → Type 0

@@ -1,6 +1,6 @@
 -- What a source tells.
-use Rattle.std.specs.Prelude.{ℕ, ◌≡◌, ◌<◌, ◌≤◌, List, [], ◌++◌, length, take}
-use Rattle.drm_links.specs.Told.{Known, Tells}
+use Rattle.std.specs.Prelude.{ℕ, ◌≡◌, ◌<◌, ◌≤◌, ◌+◌, List, [], ◌++◌, length, take}
+use Rattle.drm_links.specs.Told.{Known, Tells, last_count}
 use Rattle.drm_links.specs.declared.source.ReadOut.{ReadOut}
 use Rattle.drm_links.specs.declared.source.ReadOut.TheVariants.{Got, End, Failed}
 
@@ -25,6 +25,15 @@ Takes Failed buf before after = after.left ≡ before.left
 abbrev pub LeftBy : (List ℕ → List ℕ → Type 0) → Input → Input → Type 0
 LeftBy P before after = P before.left after.left
 
--- Where a source tells at the end, it told before, and P holds of the bytes that were left and that are left.
+-- Each call took at least one byte, but for those at the end of the bytes and those that failed. How many failed is the difference
+-- of the counts of faults, while these aren't at their last value.
+pub record FewReads (faults faults' : ℕ) (before after : Input) : Type 0 where
+  pub less : length after.left ≤ length before.left
+  pub rises : faults' < last_count → faults ≤ faults'
+  pub few : faults' < last_count → 0 < length after.left
+      → after.calls + faults + length after.left ≤ before.calls + faults' + length before.left
+
+-- Where a source tells at the end, it told before, and P holds of the bytes that were left and that are left; it was called no more
+-- often than bytes were taken, but for failed calls and those at its end.
 abbrev pub Inputs : Known Input → Known Input → (List ℕ → List ℕ → Type 0) → Type 0
-Inputs before after P = Tells before after (LeftBy P)
+Inputs before after P = Tells before after (λ x y. LeftBy P x y × FewReads before.faults after.faults x y)

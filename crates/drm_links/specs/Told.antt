@@ -8,6 +8,10 @@ pub record Known (T : Type 0) : Type 0 where
 
 -- ---- counts
 
+-- the last value of a count of a u64
+abbrev pub last_count : ℕ
+last_count = 2 ^ 64 - 1
+
 -- a count of a u64 after one more, which stays at its last value
 abbrev pub one_more : ℕ → ℕ
 one_more count = min (count + 1) (2 ^ 64 - 1)

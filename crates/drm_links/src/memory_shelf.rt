@@ -1,11 +1,11 @@
 //! A shelf in memory.
 
-ghost use Rattle.std.specs.Prelude.{◌≡◌, Some, IfOk, OnOk, OnErr};
+ghost use Rattle.std.specs.Prelude.{◌≡◌, ◌++◌, ◌∷◌, [], Some, IfOk, OnOk, OnErr};
 ghost use Rattle.std.specs.Option.{option_map, option_copied};
 ghost use Rattle.std.specs.FinMap as map;
 ghost use Rattle.drm_links.specs.Told.{HasCause, CountsCall, WhileTold};
 ghost use Rattle.drm_links.specs.Shelf.{Gives, Loads, KeepsFiles, IsWithin};
-ghost use Rattle.drm_links.specs.MemoryShelf.{contents_of, shelf_known, with_file, after_load};
+ghost use Rattle.drm_links.specs.MemoryShelf.{contents_of, shelf_known, with_file, shelf_after};
 
 use crate::failing::is_listed;
 use crate::{Loaded, Shelf};
@@ -20,6 +20,7 @@ pub struct MemShelf {
     files: BTreeMap<String, Octets>,
     failing: Vec<u64>,
     loads: u64,
+    names: Vec<Octets>,
     faults: u64,
 }
 
@@ -34,6 +35,7 @@ impl Model for MemShelf {
       files = by_name shelf.files;
       failing = shelf.failing.items;
       loads = shelf.loads;
+      names = shelf.names.items;
       faults = shelf.faults;
     } };
 }
@@ -42,15 +44,16 @@ impl MemShelf {
     /// A shelf without files. The numbers in `fail` count the loads from 0.
     pub fn make(alloc: Global, fail: &[u64]) -> Result<MemShelf, NoMemory>
         ensures made { IfOk result (λ shelf. shelf
-            ≡ record { files = map.empty; failing = fail.now; loads = 0; faults = 0 }) }
+            ≡ record { files = map.empty; failing = fail.now; loads = 0; names = []; faults = 0 }) }
         ensures tells { IfOk result (λ shelf. (⟦<MemShelf as Shelf>⟧.known shelf).told
-            ≡ Some (record { files = map.empty; loads = 0; failing = fail.now })) }
+            ≡ Some (record { files = map.empty; loads = 0; names = []; failing = fail.now })) }
         ensures faults { IfOk result (λ shelf. (⟦<MemShelf as Shelf>⟧.known shelf).faults ≡ 0) }
     {
         Ok(MemShelf {
             files: BTreeMap::new(alloc),
             failing: fail.to_vec(alloc)?,
             loads: 0,
+            names: Vec::new(alloc),
             faults: 0,
         })
     }
@@ -67,6 +70,25 @@ impl MemShelf {
         let file = Octets::from_slice(alloc, bytes)?;
         match self.files.insert(name, file) {
             Ok(_) => Ok(()),
+            Err(_) => Err(NoMemory),
+        }
+    }
+
+    /// The names that were asked for, in order.
+    pub fn names(&self) -> &[Octets]
+        ensures { result.now ≡ self.now.names }
+    {
+        &self.names
+    }
+
+    // Notes that this name was asked for.
+    fn note(&mut self, alloc: Global, name: &str) -> Result<(), NoMemory>
+        ensures noted { OnOk result (self.new ≡ record self.old { names = self.old.names ++ name.now ∷ [] }) }
+        ensures unchanged { OnErr result (self.new ≡ self.old) }
+    {
+        let name = Octets::from_slice(alloc, name.as_bytes())?;
+        match self.names.push(name) {
+            Ok(()) => Ok(()),
             Err(_) => Err(NoMemory),
         }
     }
@@ -88,16 +110,19 @@ impl Shelf for MemShelf {
 
     fn load(&mut self, alloc: Global, name: &str, limit: usize) -> Loaded
         ensures loads { Loads result name.now limit (contents_of self.old) }
-        ensures exact { self.new ≡ after_load result self.old }
+        ensures exact { self.new ≡ shelf_after result name.now self.old }
         ensures within { IsWithin result limit }
         ensures file { WhileTold (shelf_known self.old) (shelf_known self.new)
             (λ before _. Loads result name.now limit before) }
-        ensures kept { WhileTold (shelf_known self.old) (shelf_known self.new) KeepsFiles }
+        ensures kept { WhileTold (shelf_known self.old) (shelf_known self.new) (KeepsFiles result name.now) }
         ensures told { CountsCall (λ files. files.loads) (shelf_known self.old) (shelf_known self.new) }
         ensures cause { HasCause (shelf_known self.old) (shelf_known self.new) (result ≡ Loaded.Failed) }
     {
         let loaded = self.next_load(alloc, name, limit);
         self.loads = self.loads.saturating_add(1);
+        if matches!(&loaded, Loaded::NoMemory) || self.note(alloc, name).is_err() {
+            return Loaded::NoMemory;
+        }
         if matches!(&loaded, Loaded::Failed) {
             self.faults = self.faults.saturating_add(1);
         }

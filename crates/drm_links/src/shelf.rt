@@ -18,7 +18,7 @@ pub enum Loaded {
 }
 
 pub trait Shelf {
-    /// How often a call has failed, and the files, where the shelf tells them.
+    /// How often a call has failed, and the files and the names that were asked for, where the shelf tells them.
     ghost known: { Self → Known Files };
 
     /// The file of this name, if it has at most `limit` bytes.
@@ -26,7 +26,7 @@ pub trait Shelf {
         ensures within { IsWithin result limit }
         ensures file { WhileTold (known self.old) (known self.new)
             (λ before _. Loads result name.now limit before) }
-        ensures kept { WhileTold (known self.old) (known self.new) KeepsFiles }
+        ensures kept { WhileTold (known self.old) (known self.new) (KeepsFiles result name.now) }
         ensures told { CountsCall (λ files. files.loads) (known self.old) (known self.new) }
         ensures cause { HasCause (known self.old) (known self.new) (result ≡ Loaded.Failed) };
 }

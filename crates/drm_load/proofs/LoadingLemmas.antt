@@ -1,9 +1,11 @@
 -- Readings from a shelf, one after another.
-use Rattle.std.proofs.Common.{◌≡◌, ℕ, ◌+◌, ◌≤◌, ◌⊎◌, inl, inr, List, Result, Ok, Err, refl, sym, ◌∙◌, ap, subst, arith}
+use Rattle.std.proofs.Common.{◌≡◌, ℕ, ◌+◌, ◌≤◌, ◌⊎◌, inl, inr, Bool, true, false, List, [], ◌∷◌, ◌++◌, length, nat_eq, nat_lt, Option, None, Some, Result, Ok, Err, if◌then◌else◌, refl, sym, ◌∙◌, ap, subst, arith, append_assoc}
+use Rattle.std.specs.List.{list_any}
+use Rattle.std.proofs.lemmas.List.{append-nil, length-append}
 use Rattle.drm_links.specs.declared.shelf.Loaded.{Loaded}
 use Rattle.drm_links.specs.declared.shelf.Loaded.TheVariants as loads
 use Rattle.drm_links.specs.Told.{Known, WhileTold, CountsCall}
-use Rattle.drm_links.specs.Shelf.{Files, Supplies, Loads, KeepsFiles, load_of, after_one}
+use Rattle.drm_links.specs.Shelf.{Files, Supplies, Loads, KeepsFiles, load_of, file_at, within, names_after, after_load, after_loads}
 use Rattle.drm_links.proofs.ToldLemmas.{Tells-nothing, Tells-then, Tells-weaker, Supplies-load}
 use Rattle.drm_links.proofs.LoadLemmas.{Loads-is}
 use Rattle.drm_load.specs.declared.loading.ScheduleFault.{ScheduleFault}
@@ -13,28 +15,34 @@ use Rattle.drm_load.specs.Loading.{Step, Reading, given, after, ◌>>=◌, bytes
 -- ---- a reading makes loads, and the shelf tells nothing else anew
 
 abbrev pub LoadsMore : Files → Files → Type 0
-LoadsMore x y = (n : ℕ) × (y ≡ record x { loads = x.loads + n })
+LoadsMore x y = (names : List (List ℕ)) × (y ≡ after_loads names x)
 
 abbrev pub LoadsOnly : {T : Type 0} → Reading T → Type 0
 LoadsOnly reading = (x : Files) → LoadsMore x (reading x).told
 
+no_loads : (x : Files) → x ≡ after_loads [] x
+no_loads x = λ i. record { files = x.files; loads = zero_more i; names = sym (append-nil x.names) i; failing = x.failing }
+  where
+    zero_more : x.loads ≡ x.loads + 0
+    zero_more = omega arith
+
 none_more : (x : Files) → LoadsMore x x
-none_more x = (0, ap (λ n. record x { loads = n }) (omega arith))
+none_more x = ([], no_loads x)
+
+loads_then : (ms ns : List (List ℕ)) (x : Files) → after_loads ns (after_loads ms x) ≡ after_loads (ms ++ ns) x
+loads_then ms ns x = λ i. record { files = x.files; loads = sum i; names = append_assoc x.names ms ns i; failing = x.failing }
+  where
+    sum : x.loads + length ms + length ns ≡ x.loads + length (ms ++ ns)
+    sum = let both = length-append ms ns in omega (arith, both)
 
 more_then : (x y z : Files) → LoadsMore x y → LoadsMore y z → LoadsMore x z
-more_then x y z (m, first) (n, second) = (
-  m + n,
-  second ∙ ap (λ (f : Files). record f { loads = f.loads + n }) first ∙ ap (λ k. record x { loads = k }) (omega arith),
-)
-
-more_least : (x y : Files) → LoadsMore x y → x.loads ≤ y.loads
-more_least x y (n, is) = let loads = ap (λ (f : Files). f.loads) is in omega (arith, loads)
+more_then x y z (ms, first) (ns, second) = (ms ++ ns, second ∙ ap (after_loads ns) first ∙ loads_then ms ns x)
 
 pub given_only : {T : Type 0} (came : Result T ScheduleFault) → LoadsOnly (given came)
 given_only came x = none_more x
 
 pub load_only : (line : ℕ) (name : List ℕ) (limit : ℕ) → LoadsOnly (load_for line name limit)
-load_only line name limit x = (1, refl)
+load_only line name limit x = (name ∷ [], refl)
 
 after_only : {A B : Type 0} (came : Result A ScheduleFault) (next : A → Reading B) → ((a : A) → LoadsOnly (next a)) → (x : Files) → LoadsMore x (after came next x).told
 after_only (Ok a) next later x = later a x
@@ -49,14 +57,50 @@ then_only reading next first later x =
 abbrev pub Comes : {T : Type 0} → Reading T → Result T ScheduleFault → Files → Files → Type 0
 Comes reading came x y = (reading x ≡ record { came = came; told = y }) ⊎ ((came ≡ Err NoMemory) × MadeSome (reading x).told x y)
 
-some_of : (last x y : Files) → LoadsMore x y → y.loads ≤ last.loads → MadeSome last x y
-some_of last x y (n, is) few = record { made = n; few = (let loads = ap (λ (f : Files). f.loads) is in omega (arith, loads, few)); told = is }
+-- all of them
+made_all : (x y : Files) → LoadsMore x y → MadeSome y x y
+made_all x y (names, is) = record {
+  names = names;
+  lost = 0;
+  one = omega arith;
+  told = is ∙ (λ i. record { files = x.files; loads = none_lost i; names = x.names ++ names; failing = x.failing });
+  few = omega arith;
+  later = [];
+  first = sym (append-nil y.names);
+}
+  where
+    none_lost : x.loads + length names ≡ x.loads + length names + 0
+    none_lost = omega arith
 
-made_more : (last x y : Files) → MadeSome last x y → LoadsMore x y
-made_more last x y some = (some.made, some.told)
+-- and of those that come behind them
+made_of_more : (last later x y : Files) → LoadsMore last later → MadeSome last x y → MadeSome later x y
+made_of_more last later x y (more, is) some = record {
+  names = some.names;
+  lost = some.lost;
+  one = some.one;
+  told = some.told;
+  few = (let loads = ap (λ (f : Files). f.loads) is in let few = some.few in omega (arith, loads, few));
+  later = some.later ++ more;
+  first = ap (λ (f : Files). f.names) is ∙ ap (λ l. l ++ more) some.first ∙ append_assoc y.names some.later more;
+}
 
-made_least : (last x y : Files) → MadeSome last x y → y.loads ≤ last.loads
-made_least last x y some = let loads = ap (λ (f : Files). f.loads) some.told in let few = some.few in omega (arith, loads, few)
+-- and behind others
+made_behind : (last x y z : Files) → LoadsMore x y → MadeSome last y z → MadeSome last x z
+made_behind last x y z (before, is) some = record {
+  names = before ++ some.names;
+  lost = some.lost;
+  one = some.one;
+  told = some.told ∙ ap (λ (f : Files). record f { loads = f.loads + length some.names + some.lost; names = f.names ++ some.names }) is ∙ joined;
+  few = some.few;
+  later = some.later;
+  first = some.first;
+}
+  where
+    sum : x.loads + length before + length some.names + some.lost ≡ x.loads + length (before ++ some.names) + some.lost
+    sum = let both = length-append before some.names in omega (arith, both)
+
+    joined : (record x { loads = x.loads + length before + length some.names + some.lost; names = (x.names ++ before) ++ some.names }) ≡ (record x { loads = x.loads + length (before ++ some.names) + some.lost; names = x.names ++ (before ++ some.names) })
+    joined = λ i. record { files = x.files; loads = sum i; names = append_assoc x.names before some.names i; failing = x.failing }
 
 -- what came, where memory didn't run out
 pub came_by : {T : Type 0} (reading : Reading T) (x : T) (p q : Files) → Comes reading (Ok x) p q → reading p ≡ record { came = Ok x; told = q }
@@ -81,7 +125,7 @@ ReadBy-then {A} {B} reading next x came a b c only first second =
         inr (
           memory,
           subst (λ (step : Step B). MadeSome step.told p r) (sym same)
-              (some_of (next x q).told p r (more_then p q r (told_by reading x p q only is_first) (made_more (next x q).told q r some)) (made_least (next x q).told q r some)),
+              (made_behind (next x q).told p q r (told_by reading x p q only is_first) some),
         )
 
 pub ReadBy-stops : {A B : Type 0} (reading : Reading A) (next : A → Reading B) (fault : ScheduleFault) (a b : Known Files) → ((x : A) → LoadsOnly (next x))
@@ -93,9 +137,7 @@ ReadBy-stops {A} {B} reading next fault a b only stops =
     stopped p q (inl is) = inl (ap (λ (step : Step A). after step.came next step.told) is)
     stopped p q (inr (memory, some)) =
         let same : fault ≡ NoMemory = cc in
-        let later = more_least (reading p).told ((reading >>= next) p).told (after_only (reading p).came next only (reading p).told) in
-        let so_far = made_least (reading p).told p q some in
-        inr (ap Err same, some_of ((reading >>= next) p).told p q (made_more (reading p).told p q some) (omega (arith, so_far, later)))
+        inr (ap Err same, made_of_more (reading p).told ((reading >>= next) p).told p q (after_only (reading p).came next only (reading p).told) some)
 
 -- what is left of a reading, after some loads
 abbrev pub Reached : {T : Type 0} → Reading T → Reading T → Files → Files → Type 0
@@ -111,7 +153,7 @@ ReadBy-rest {T} whole rest came a b c so_far comes =
     of p q r reached (inr (memory, some)) = inr (
       memory,
       subst (λ (step : Step T). MadeSome step.told p r) (sym reached.0)
-          (some_of (rest q).told p r (more_then p q r reached.1 (made_more (rest q).told q r some)) (made_least (rest q).told q r some)),
+          (made_behind (rest q).told p q r reached.1 some),
     )
 
 -- what is left once the next part came
@@ -134,7 +176,7 @@ pub ReadBy-given : {T : Type 0} (came : Result T ScheduleFault) (a : Known Files
 ReadBy-given came a = Tells-nothing _ a (λ told. inl refl)
 
 pub ReadBy-gives : {T : Type 0} (came is : Result T ScheduleFault) (a : Known Files) → GivesUnlessMemory came is → ReadBy (given is) came a a
-ReadBy-gives {T} came is a (inl memory) = Tells-nothing _ a (λ told. inr (memory, some_of told told told (none_more told) (omega arith)))
+ReadBy-gives {T} came is a (inl memory) = Tells-nothing _ a (λ told. inr (memory, made_all told told (none_more told)))
 ReadBy-gives {T} came is a (inr same) = Tells-nothing _ a (λ told. inl (λ i. record { came = sym same i; told = told }))
 
 -- where memory runs out behind a reading
@@ -144,15 +186,45 @@ ran_out {A} reading x a b only comes =
     (λ p q is.
     let came_is = came_by reading x p q is in
     let same : (reading p).told ≡ q = ap (λ (step : Step A). step.told) came_is in
-    let last = ap (λ (f : Files). f.loads) same in
-    inr (refl, some_of (reading p).told p q (told_by reading x p q only came_is) (omega (arith, last))))
+    inr (refl, subst (λ (f : Files). MadeSome f p q) (sym same) (made_all p q (told_by reading x p q only came_is))))
 
 -- ---- one load
 
-pub ReadBy-load : (answer : Loaded) (line : ℕ) (name : List ℕ) (limit : ℕ) (a b : Known Files) → WhileTold a b (λ x _. Loads answer name limit x) → WhileTold a b KeepsFiles → CountsCall (λ (f : Files). f.loads) a b → ReadBy (load_for line name limit) (bytes_or_fault line answer) a b
+-- the one for which memory runs out
+lost_one : (name : List ℕ) (x y : Files) → y ≡ after_load loads.NoMemory name x → MadeSome (after_loads (name ∷ []) x) x y
+lost_one name x y is = record {
+  names = [];
+  lost = 1;
+  one = omega arith;
+  told = is ∙ (λ i. record { files = x.files; loads = one_lost i; names = sym (append-nil x.names) i; failing = x.failing });
+  few = (let loads = ap (λ (f : Files). f.loads) is in omega (arith, loads));
+  later = name ∷ [];
+  first = sym (ap (λ (f : Files). f.names ++ name ∷ []) is);
+}
+  where
+    one_lost : x.loads + 1 ≡ x.loads + 0 + 1
+    one_lost = omega arith
+
+-- a load that gives what is there, or that it isn't there, is named
+within_named : (limit : ℕ) (file : Option (List ℕ)) (name : List ℕ) (names : List (List ℕ)) → names_after (within limit file) name names ≡ names ++ name ∷ []
+within_named limit None name names = refl
+within_named limit (Some file) name names = by (nat_lt limit (length file))
+  where
+    by : (b : Bool) → names_after (if b then loads.TooLong else loads.Bytes file) name names ≡ names ++ name ∷ []
+    by true = refl
+    by false = refl
+
+load_named : (fails : Bool) (file : Option (List ℕ)) (limit : ℕ) (name : List ℕ) (names : List (List ℕ)) → names_after (if fails then loads.Failed else within limit file) name names ≡ names ++ name ∷ []
+load_named true file limit name names = refl
+load_named false file limit name names = within_named limit file name names
+
+pub ReadBy-load : (answer : Loaded) (line : ℕ) (name : List ℕ) (limit : ℕ) (a b : Known Files) → WhileTold a b (λ x _. Loads answer name limit x) → WhileTold a b (KeepsFiles answer name) → CountsCall (λ (f : Files). f.loads) a b → ReadBy (load_for line name limit) (bytes_or_fault line answer) a b
 ReadBy-load answer line name limit a b loaded kept counts =
     Tells-weaker _ _ a b (Supplies-load answer name limit a b loaded kept counts) (λ p q is. of p q (Loads-is answer name limit p is.0) is.1)
   where
-    of : (p q : Files) → (answer ≡ loads.NoMemory) ⊎ (answer ≡ load_of p name limit) → q ≡ after_one p → Comes (load_for line name limit) (bytes_or_fault line answer) p q
-    of p q (inl memory) told = inr (ap (bytes_or_fault line) memory, record { made = 1; few = omega arith; told = told })
-    of p q (inr is) told = inl (λ i. record { came = bytes_or_fault line (sym is i); told = sym told i })
+    of : (p q : Files) → (answer ≡ loads.NoMemory) ⊎ (answer ≡ load_of p name limit) → q ≡ after_load answer name p → Comes (load_for line name limit) (bytes_or_fault line answer) p q
+    of p q (inl memory) told =
+        inr (ap (bytes_or_fault line) memory, lost_one name p q (told ∙ ap (λ (l : Loaded). after_load l name p) memory))
+    of p q (inr is) told =
+        let named : names_after answer name p.names ≡ p.names ++ name ∷ [] = ap (λ (l : Loaded). names_after l name p.names) is ∙ load_named (list_any (nat_eq p.loads) p.failing) (file_at p name) limit name p.names in
+        inl (λ i. record { came = bytes_or_fault line (sym is i); told = sym (told ∙ ap (λ (ns : List (List ℕ)). record p { loads = p.loads + 1; names = ns }) named) i })

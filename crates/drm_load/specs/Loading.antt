@@ -1,10 +1,10 @@
 -- What is read from a shelf, load by load.
-use Rattle.std.specs.Prelude.{ℕ, ◌≡◌, ◌+◌, ◌≤◌, ◌⊎◌, List, Result, Ok, Err}
+use Rattle.std.specs.Prelude.{ℕ, ◌≡◌, ◌+◌, ◌≤◌, ◌⊎◌, List, [], ◌∷◌, ◌++◌, length, Result, Ok, Err}
 use Rattle.drm_schedule.specs.declared.invalid.Reason.TheVariants as reasons
 use Rattle.drm_links.specs.Told.{Known}
 use Rattle.drm_links.specs.declared.shelf.Loaded.{Loaded}
 use Rattle.drm_links.specs.declared.shelf.Loaded.TheVariants as loads
-use Rattle.drm_links.specs.Shelf.{Files, Supplies, load_of, after_one}
+use Rattle.drm_links.specs.Shelf.{Files, Supplies, load_of, after_loads}
 use Rattle.drm_load.specs.declared.loading.ScheduleFault.{ScheduleFault}
 use Rattle.drm_load.specs.declared.loading.ScheduleFault.TheVariants.{NoMemory, Line, Read}
 
@@ -39,13 +39,18 @@ bytes_or_fault line loads.NoMemory = Err NoMemory
 
 -- one load, which this line asks for
 abbrev pub load_for : ℕ → List ℕ → ℕ → Reading (List ℕ)
-load_for line name limit told = record { came = bytes_or_fault line (load_of told name limit); told = after_one told }
+load_for line name limit told = record { came = bytes_or_fault line (load_of told name limit); told = after_loads (name ∷ []) told }
 
--- So many loads were made, no more than up to `last`, and the shelf tells nothing else anew.
+-- Files of these names were loaded, the first of those that are loaded up to `last`, and behind them at most one for which memory
+-- ran out. The shelf tells nothing else anew.
 pub record MadeSome (last before after : Files) : Type 0 where
-  pub made : ℕ
-  pub few : before.loads + made ≤ last.loads
-  pub told : after ≡ record before { loads = before.loads + made }
+  pub names : List (List ℕ)
+  pub lost : ℕ
+  pub one : lost ≤ 1
+  pub told : after ≡ record before { loads = before.loads + length names + lost; names = before.names ++ names }
+  pub few : after.loads ≤ last.loads
+  pub later : List (List ℕ)
+  pub first : last.names ≡ after.names ++ later
 
 -- Where a shelf tells, this came of it by this reading, or memory ran out; then no more loads were made than the reading makes.
 abbrev pub ReadBy : {T : Type 0} → Reading T → Result T ScheduleFault → Known Files → Known Files → Type 0

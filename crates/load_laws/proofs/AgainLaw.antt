@@ -6,7 +6,7 @@ use Rattle.std.proofs.lemmas.List.{length-append}
 use Rattle.std.proofs.lemmas.Map.Views.{Contains-from_any}
 use Rattle.drm_links.specs.declared.shelf.Loaded.{Loaded}
 use Rattle.drm_links.specs.declared.shelf.Loaded.TheVariants as loads
-use Rattle.drm_links.specs.Shelf.{Files, file_at, within, load_of, after_one}
+use Rattle.drm_links.specs.Shelf.{Files, file_at, within, load_of, after_loads}
 use Rattle.drm_schedule.specs.declared.invalid.Invalid.{Invalid}
 use Rattle.drm_schedule.specs.declared.plan.Plan.{Plan}
 use Rattle.drm_schedule.specs.Valid.{IsSchedule, first_invalid}
@@ -38,8 +38,8 @@ unlisted told none = by (list_any (nat_eq told.loads) told.failing) refl
     by true is = absurd (none told.loads (omega arith) (Contains-from_any same_number told.loads told.failing is))
     by false is = refl
 
-none_later : (told : Files) → NoLoadFails told → NoLoadFails (after_one told)
-none_later told none load later = none load (omega (arith, later))
+none_later : (names : List (List ℕ)) (told : Files) → NoLoadFails told → NoLoadFails (after_loads names told)
+none_later names told none load later = none load (omega (arith, later))
 
 short_enough : (limit : ℕ) (bytes : List ℕ) → length bytes ≤ limit → nat_lt limit (length bytes) ≡ false
 short_enough limit bytes small = by (nat_lt limit (length bytes)) refl
@@ -50,7 +50,7 @@ short_enough limit bytes small = by (nat_lt limit (length bytes)) refl
 
 -- a file that is there is loaded
 loads_file : (told : Files) (line : ℕ) (name bytes : List ℕ) (limit : ℕ) → NoLoadFails told → file_at told name ≡ Some bytes → length bytes ≤ limit
-    → load_for line name limit told ≡ record { came = Ok bytes; told = after_one told }
+    → load_for line name limit told ≡ record { came = Ok bytes; told = after_loads (name ∷ []) told }
 loads_file told line name bytes limit none is small = rw (unlisted told none, is, short_enough limit bytes small) refl
 
 -- what a shelf has of this name, within a limit
@@ -121,14 +121,15 @@ in_turn : (before files : List Filed) (draft : Drafted) → draft.files ≡ befo
 in_turn before [] draft is told = refl
 in_turn before (file ∷ files) draft is told =
     let found : at (length before) draft.files ≡ Some file = ap (λ (fs : List Filed). at (length before) fs) is ∙ at_seam before file files in
+    let later = after_loads (name_of file draft.plan ∷ []) told in
     let longer : length before + 1 ≡ length (before ++ file ∷ []) = sym (length-append before (file ∷ [])) in
     ap (λ (o : Option Filed). next_file (length files) (length before) draft o told) found
     ∙ after_same (load_for (line_of_file draft.places (Some file)) (name_of file draft.plan) longest_file told).came
     (λ bytes. with_files (length files) (length before + 1) (with_plan draft (with_file file bytes draft.plan)))
     (λ bytes. from_files files (with_plan draft (with_file file bytes draft.plan)))
-    (after_one told)
-    (λ bytes. ap (λ k. with_files (length files) k (with_plan draft (with_file file bytes draft.plan)) (after_one told)) longer
-    ∙ in_turn (before ++ file ∷ []) files (with_plan draft (with_file file bytes draft.plan)) (is ∙ sym (append_assoc before (file ∷ []) files)) (after_one told))
+    later
+    (λ bytes. ap (λ k. with_files (length files) k (with_plan draft (with_file file bytes draft.plan)) later) longer
+    ∙ in_turn (before ++ file ∷ []) files (with_plan draft (with_file file bytes draft.plan)) (is ∙ sym (append_assoc before (file ∷ []) files)) later)
 
 all_in_turn : (draft : Drafted) (told : Files) → with_files (length draft.files) 0 draft told ≡ from_files draft.files draft told
 all_in_turn draft told = in_turn [] draft.files draft refl told
@@ -145,7 +146,7 @@ files_load [] draft whole told none fills = ap (λ (p : Plan). draft_ok (with_pl
 files_load (file ∷ files) draft whole told none fills =
     let loaded = loads_file told (line_of_file draft.places (Some file)) (name_of file draft.plan) fills.0 longest_file none fills.1.0 fills.1.1 in
     ap (λ (s : Step (List ℕ)). (after s.came (λ bytes. from_files files (with_plan draft (with_file file bytes draft.plan))) s.told).came) loaded
-    ∙ files_load files (with_plan draft (with_file file fills.0 draft.plan)) whole (after_one told) (none_later told none) fills.2
+    ∙ files_load files (with_plan draft (with_file file fills.0 draft.plan)) whole (after_loads (name_of file draft.plan ∷ []) told) (none_later (name_of file draft.plan ∷ []) told none) fills.2
 
 -- files that were loaded are there
 files_loaded : (files : List Filed) (draft whole : Drafted) (told : Files) → (from_files files draft told).came ≡ Ok whole → Fills (Has longest_file told) files draft.plan whole.plan
@@ -154,7 +155,7 @@ files_loaded (file ∷ files) draft whole told is =
     let came = then_came (load_for (line_of_file draft.places (Some file)) (name_of file draft.plan) longest_file) (λ bytes. from_files files (with_plan draft (with_file file bytes draft.plan))) told whole is in (
       came.x,
       load_came told (line_of_file draft.places (Some file)) (name_of file draft.plan) came.x longest_file came.first,
-      files_loaded files (with_plan draft (with_file file came.x draft.plan)) whole (after_one told) came.second,
+      files_loaded files (with_plan draft (with_file file came.x draft.plan)) whole (after_loads (name_of file draft.plan ∷ []) told) came.second,
     )
 
 -- ---- a schedule that came
@@ -183,13 +184,13 @@ by_lines_is (Err fault) draft is = absurd cc
 pub schedule_came : (name : List ℕ) (told : Files) (schedule : Plan) → (schedule_named name told).came ≡ Ok schedule → IsSchedule schedule × HasFiles told schedule × HasText told name schedule
 schedule_came name told schedule is =
     let text = then_came (load_for 0 name longest_text) from_text told schedule is in
-    let draft = then_came (given (by_lines (draft_of text.x))) from_draft (after_one told) schedule text.second in
-    let whole = then_came (with_files (length draft.x.files) 0 draft.x) (λ d. given (by_validity (valid_of d))) (after_one told) schedule draft.second in
+    let draft = then_came (given (by_lines (draft_of text.x))) from_draft (after_loads (name ∷ []) told) schedule text.second in
+    let whole = then_came (with_files (length draft.x.files) 0 draft.x) (λ d. given (by_validity (valid_of d))) (after_loads (name ∷ []) told) schedule draft.second in
     let valid = is_valid whole.x schedule whole.second in
     let gives = by_lines_is (draft_of text.x) draft.x draft.first in
     let said = given_by text.x draft.x gives in
-    let loaded : (from_files draft.x.files draft.x (after_one told)).came ≡ Ok whole.x = sym (ap (λ (s : Step Drafted). s.came) (all_in_turn draft.x (after_one told))) ∙ whole.first in
-    let fills = files_loaded draft.x.files draft.x whole.x (after_one told) loaded in
+    let loaded : (from_files draft.x.files draft.x (after_loads (name ∷ []) told)).came ≡ Ok whole.x = sym (ap (λ (s : Step Drafted). s.came) (all_in_turn draft.x (after_loads (name ∷ []) told))) ∙ whole.first in
+    let fills = files_loaded draft.x.files draft.x whole.x (after_loads (name ∷ []) told) loaded in
     let fits = fills_fit (Has longest_file told) draft.x.files draft.x.plan whole.x.plan fills said.in_lines in
     let each = files_came (Has longest_file told) draft.x.plan whole.x.plan (subst (λ (fs : List Filed). Fills (Has longest_file told) fs draft.x.plan whole.x.plan) said.files fills) in
     let there = load_came told 0 name text.x longest_text text.first in
@@ -210,15 +211,15 @@ schedule_comes schedule name told is files has none =
     let small = (came_of has.text draft has.is.gives).short in
     let bare : Fills (Has longest_file told) (config_files 0 draft.plan.configs) draft.plan schedule = files_come (Has longest_file told) draft.plan schedule has.is.same files in
     let fills : Fills (Has longest_file told) draft.files draft.plan schedule = subst (λ (fs : List Filed). Fills (Has longest_file told) fs draft.plan schedule) (sym said.files) bare in
-    let later = none_later told none in
-    let loaded : (with_files (length draft.files) 0 draft (after_one told)).came ≡ Ok (with_plan draft schedule) =
-    ap (λ (s : Step Drafted). s.came) (all_in_turn draft (after_one told)) ∙ files_load draft.files draft schedule (after_one told) later fills in
+    let later = none_later (name ∷ []) told none in
+    let loaded : (with_files (length draft.files) 0 draft (after_loads (name ∷ []) told)).came ≡ Ok (with_plan draft schedule) =
+    ap (λ (s : Step Drafted). s.came) (all_in_turn draft (after_loads (name ∷ []) told)) ∙ files_load draft.files draft schedule (after_loads (name ∷ []) told) later fills in
     let valid : by_validity (valid_of (with_plan draft schedule)) ≡ Ok schedule = ap (λ (o : Option Invalid). by_validity (valid_unless o (with_plan draft schedule))) is.valid in
     let text : (load_for 0 name longest_text told).came ≡ Ok has.text = ap (λ (s : Step (List ℕ)). s.came) (loads_file told 0 name has.text longest_text none has.there small) in
-    let from_there : (from_draft draft (after_one told)).came ≡ Ok schedule =
-    comes_then (with_files (length draft.files) 0 draft) (λ d. given (by_validity (valid_of d))) (after_one told) (with_plan draft schedule) (Ok schedule) loaded valid in
+    let from_there : (from_draft draft (after_loads (name ∷ []) told)).came ≡ Ok schedule =
+    comes_then (with_files (length draft.files) 0 draft) (λ d. given (by_validity (valid_of d))) (after_loads (name ∷ []) told) (with_plan draft schedule) (Ok schedule) loaded valid in
     comes_then (load_for 0 name longest_text) from_text told has.text (Ok schedule) text
-    (comes_then (given (by_lines (draft_of has.text))) from_draft (after_one told) draft (Ok schedule) (ap by_lines has.is.gives) from_there)
+    (comes_then (given (by_lines (draft_of has.text))) from_draft (after_loads (name ∷ []) told) draft (Ok schedule) (ap by_lines has.is.gives) from_there)
 
 pub canonical_checked : (schedule : Plan) (name : List ℕ) (told : Files) → IsSchedule schedule → length (canonical schedule) ≤ longest_text → file_at told name ≡ Some (canonical schedule) → HasFiles told schedule → NoLoadFails told
     → (checked name told).came ≡ Ok (canonical schedule)

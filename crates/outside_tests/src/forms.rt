@@ -136,7 +136,17 @@ fn loaded_rows(alloc: Global, shelf: &mut MemShelf) -> usize {
             return k;
         }
     }
-    LOADS.len()
+    named_rows(shelf)
+}
+
+// How many of the loads are told in their order.
+fn named_rows(shelf: &MemShelf) -> usize {
+    for (k, name) in shelf.names().iter().enumerate() {
+        if k >= LOADS.len() || name.as_slice() != LOADS[k].0.as_bytes() {
+            return k;
+        }
+    }
+    shelf.names().len()
 }
 
 fn gives_what_was_added(alloc: Global) -> usize {

@@ -13,3 +13,7 @@ returns-in-TooLong-clause-reads g c =
 pub returns-in-Failed-clause-reads : goal.returns-in-Failed-clause-reads
 returns-in-Failed-clause-reads g c =
     ReadBy-load loads.Failed c.args.line c.args.name.now c.args.limit (g.S.Shelf.known c.args.shelf.now) (g.S.Shelf.known c.load.new.self) c.in-Failed.ensures.file c.in-Failed.ensures.kept c.in-Failed.ensures.told
+
+pub returns-in-NoMemory-clause-reads : goal.returns-in-NoMemory-clause-reads
+returns-in-NoMemory-clause-reads g c =
+    ReadBy-load loads.NoMemory c.args.line c.args.name.now c.args.limit (g.S.Shelf.known c.args.shelf.now) (g.S.Shelf.known c.load.new.self) c.in-NoMemory.ensures.file c.in-NoMemory.ensures.kept c.in-NoMemory.ensures.told
