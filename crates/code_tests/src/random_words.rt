@@ -5,7 +5,7 @@ ghost use Rattle.std.specs.Prelude.{◌<◌};
 use crate::places::are_places;
 use crate::plain;
 use gf_field::{Gf, LOGS, POWERS, mul_lanes, scaled};
-use rs_erase::{SolveFault, encode, solve, syndromes};
+use rs_erase::{Pattern, SolveFault, encode, solve, solve_by, syndromes};
 use std::simd::prelude::*;
 
 /// How many words each test compares.
@@ -171,6 +171,18 @@ fn is_solved(word: &[u8; 255], places: &[u8]) -> bool {
     }
 }
 
+/// Whether a pattern of these places makes the same of this word.
+fn is_solved_alike(word: &[u8; 255], places: &[u8]) -> bool {
+    if !are_places(places) || places.len() > 48 {
+        return false;
+    }
+    let pattern = Pattern::prepare(places);
+    let mut filled = *word;
+    let mut alike = *word;
+    let result = solve(&mut filled, places);
+    pattern.is_for(places) && solve_by(&pattern, &mut alike) == result && alike == filled
+}
+
 #[test]
 fn erased_places(rt: HostRuntime) {
     let mut random = Random(362_436_069);
@@ -186,5 +198,6 @@ fn erased_places(rt: HostRuntime) {
             word[100] ^= 1;
         }
         assert!(rt; is_solved(&word, places), "word {i}");
+        assert!(rt; is_solved_alike(&word, places), "word {i}");
     }
 }

@@ -34,7 +34,7 @@ none_left (x ∷ xs) (v ∷ vs) s h = none_left xs (remaining_values x xs vs) (r
 
 -- ---- one place found
 
-one_more : (x v a : ℕ) (xs vs s : List ℕ) → v ≡ bit_xor a (power_sum 0 xs vs) → v < 256 → AreElements vs → length vs ≡ length xs
+pub one_more : (x v a : ℕ) (xs vs s : List ℕ) → v ≡ bit_xor a (power_sum 0 xs vs) → v < 256 → AreElements vs → length vs ≡ length xs
     → SolvesFromZero xs (remaining_values x xs vs) (remaining_syndromes x (a ∷ s)) → SolvesFromZero (x ∷ xs) (v ∷ vs) (a ∷ s)
 one_more x v a xs vs s hv lt bv lv h =
     let m = power_sum 0 xs vs in

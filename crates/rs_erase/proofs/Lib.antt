@@ -9,9 +9,11 @@ pub mod ErasedPlaces
 pub mod Solutions
 pub mod LaneRows
 pub mod RemainderTable
+pub mod MultipleTables
 pub mod ShiftRegister
 pub mod RootSums
 pub mod FromZero
 pub mod RemovedPlaces
+pub mod PreparedRows
 pub mod OneWord
 pub mod Decided

@@ -1,18 +1,17 @@
--- The table of what remains of single powers.
-use Rattle.std.proofs.Common.{◌≡◌, ℕ, ◌+◌, ◌-◌, ◌*◌, ◌<◌, ◌≤◌, ◌==◌, ◌&&◌, zero, suc, Bool, true, false, List, [], ◌∷◌, ◌++◌, length, reverse, get_or, ltb, refl, sym, ap, ap₂, ◌∙◌, arith, bit_xor}
+-- What remains of single powers, one after another.
+use Rattle.std.proofs.Common.{◌≡◌, ℕ, ◌+◌, ◌<◌, ◌≤◌, ◌==◌, ◌&&◌, zero, suc, Bool, true, false, List, [], ◌∷◌, ◌++◌, length, reverse, get_or, ltb, refl, sym, ap, ap₂, ◌∙◌, arith, bit_xor}
 use Rattle.std.proofs.lemmas.Bool.{and_parts, eqb-true, false≢true, ltb-true}
 use Rattle.std.proofs.lemmas.List.{length-append}
 use Rattle.std.specs.Int.Bits.{xor_zero_r}
-use Rattle.std.proofs.lemmas.Simd.{length-chunk}
 use lib.Lanes.{chunk}
 use Rattle.gf_field.specs.Field.{power, times, polynomial_product, remainder}
-use Rattle.gf_field.proofs.EachBelow.{each_at, each_below}
+use Rattle.gf_field.proofs.EachBelow.{each_at}
 use Rattle.gf_field.proofs.Polynomial.{same_from_xor}
 use Rattle.gf_field.proofs.Times.{one_times, times_comm, times_xor, zero_times}
 use Rattle.rs_erase.specs.Code.{AreElements, generator}
 use Rattle.rs_erase.specs.Equations.{nth_power, word_value}
 use Rattle.rs_erase.specs.Polynomial.{add, scale, value}
-use Rattle.rs_erase.specs.declared.remainders.TheConstants.{REMAINDERS}
+use Rattle.rs_erase.specs.declared.multiples_51.TheConstants.{MULTIPLES_51}
 use Rattle.rs_erase.proofs.Division.{generator_root}
 use Rattle.rs_erase.proofs.Elements.{elements_each}
 use Rattle.rs_erase.proofs.OnePlaceLess.{swap}
@@ -35,9 +34,9 @@ same_is (x ∷ xs) (y ∷ ys) h =
     let both = and_parts (x == y) (same xs ys) h in
     ap₂ (λ (z : ℕ) (zs : List ℕ). z ∷ zs) (eqb-true x y both.0) (same_is xs ys both.1)
 
--- the generator below its leading 1 is the last row
+-- the generator below its leading 1 is what remains of x to the 48: the last power's multiple by 1
 abbrev GENERATOR : List ℕ
-GENERATOR = chunk 720 48 REMAINDERS
+GENERATOR = chunk 4656 48 MULTIPLES_51.bytes
 
 generator_is : generator 48 ≡ reverse (1 ∷ GENERATOR)
 unfolding generator power times polynomial_product remainder
@@ -57,12 +56,12 @@ generator_value j pos le =
     (sym (value-reverse (power j) (1 ∷ GENERATOR) generator_elements) ∙ ap (value (power j)) (sym generator_is) ∙ generator_root 48 j pos le)
 
 -- what remains of a remainder times x
-next : List ℕ → List ℕ
+unfoldable pub next : List ℕ → List ℕ
 next [] = []
 next (r ∷ t) = add (t ++ 0 ∷ []) (scale r GENERATOR)
 
 -- what remains of x to the 48 + n
-nexts : ℕ → List ℕ
+unfoldable pub nexts : ℕ → List ℕ
 nexts zero = GENERATOR
 nexts (suc n) = next (nexts n)
 
@@ -73,7 +72,7 @@ length-next (r ∷ t) e =
     let ls : length (scale r GENERATOR) ≡ 48 = length-scale r GENERATOR in
     length-add_same (t ++ 0 ∷ []) (scale r GENERATOR) (omega (arith, length-append t (0 ∷ []), ls)) ∙ ls
 
-length-nexts : (n : ℕ) → length (nexts n) ≡ 48
+pub length-nexts : (n : ℕ) → length (nexts n) ≡ 48
 unfolding nexts
 length-nexts zero = refl
 length-nexts (suc n) = length-next (nexts n) (length-nexts n)
@@ -92,7 +91,7 @@ next_value x (r ∷ t) e hg =
     (word_value_scale x r GENERATOR ∙ ap (times r) (hg ∙ nth_power_add x 1 47) ∙ swap r y (nth_power x 47) ∙ ap (λ (k : ℕ). times y (times r (nth_power x k))) (sym lt))
     ∙ sym (times_xor y (word_value x t) (times r (nth_power x (length t))))
 
-nexts_value : (j n : ℕ) → 0 < j → j ≤ 48 → word_value (power j) (nexts n) ≡ nth_power (power j) (48 + n)
+pub nexts_value : (j n : ℕ) → 0 < j → j ≤ 48 → word_value (power j) (nexts n) ≡ nth_power (power j) (48 + n)
 unfolding nexts
 nexts_value j zero pos le = generator_value j pos le ∙ ap (nth_power (power j)) (let e : 48 ≡ 48 + zero = omega arith in e)
 nexts_value j (suc n) pos le =
@@ -100,16 +99,3 @@ nexts_value j (suc n) pos le =
     ∙ ap (times (nth_power (power j) 1)) (nexts_value j n pos le)
     ∙ sym (nth_power_add (power j) 1 (48 + n))
     ∙ ap (nth_power (power j)) (let e : 1 + (48 + n) ≡ 48 + suc n = omega arith in e)
-
-rows_are : each_below 16 (λ k. same (chunk (48 * k) 48 REMAINDERS) (nexts (15 - k))) ≡ true
-unfolding same next nexts times polynomial_product remainder
-rows_are = refl
-
-pub row_value : (j k : ℕ) → 0 < j → j ≤ 48 → k < 16 → word_value (power j) (chunk (48 * k) 48 REMAINDERS) ≡ nth_power (power j) (63 - k)
-row_value j k pos le lt =
-    ap (word_value (power j)) (same_is (chunk (48 * k) 48 REMAINDERS) (nexts (15 - k)) (each_at 16 (λ k. same (chunk (48 * k) 48 REMAINDERS) (nexts (15 - k))) rows_are k lt))
-    ∙ nexts_value j (15 - k) pos le
-    ∙ ap (nth_power (power j)) (let e : 48 + (15 - k) ≡ 63 - k = omega arith in e)
-
-pub row_long : (k : ℕ) → k < 16 → length (chunk (48 * k) 48 REMAINDERS) ≡ 48
-row_long k lt = length-chunk (48 * k) 48 REMAINDERS (let l : length REMAINDERS ≡ 768 = refl in omega arith)

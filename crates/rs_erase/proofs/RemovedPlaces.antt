@@ -29,14 +29,14 @@ without_more (x ∷ xs) s (suc k) lt =
     ap (λ (n : ℕ). syndromes_without (take n (x ∷ xs)) s) (let e : suc k + 1 ≡ suc (k + 1) = omega arith in e)
     ∙ without_more xs (remaining_syndromes x s) k (omega arith)
 
-length-without : (xs s : List ℕ) (k : ℕ) → k ≤ length xs → length (syndromes_without (take k xs) s) ≡ length s - k
+pub length-without : (xs s : List ℕ) (k : ℕ) → k ≤ length xs → length (syndromes_without (take k xs) s) ≡ length s - k
 length-without xs s zero le = let e : length s ≡ length s - zero = omega arith in e
 length-without [] s (suc k) le = absurd (omega arith)
 length-without (x ∷ xs) s (suc k) le =
     length-without xs (remaining_syndromes x s) k (omega arith)
     ∙ (let l = length_remaining_syndromes x s in let e : length (remaining_syndromes x s) - k ≡ length s - suc k = omega arith in e)
 
-get_or_drop : (k : ℕ) (xs : List ℕ) → get_or (drop k xs) 0 0 ≡ get_or xs k 0
+pub get_or_drop : (k : ℕ) (xs : List ℕ) → get_or (drop k xs) 0 0 ≡ get_or xs k 0
 get_or_drop zero xs = refl
 get_or_drop (suc k) [] = refl
 get_or_drop (suc k) (x ∷ xs) = get_or_drop k xs

@@ -1,24 +1,23 @@
 -- The shift register of the parity.
-use Rattle.std.proofs.Common.{◌≡◌, ℕ, ◌+◌, ◌-◌, ◌*◌, ◌<◌, ◌≤◌, List, [], ◌∷◌, ◌++◌, length, length-append, take, replicate, get_or, sym, ap, ap₂, ◌∙◌, arith, bit_xor}
+use Rattle.std.proofs.Common.{◌≡◌, ℕ, ◌+◌, ◌-◌, ◌*◌, ◌/◌, ◌%◌, ◌<◌, ◌≤◌, ◌==◌, refl, List, [], ◌∷◌, ◌++◌, length, length-append, take, replicate, get_or, sym, ap, ap₂, ◌∙◌, arith, bit_xor}
 use Rattle.std.proofs.Math.Seq.{take-add}
+use Rattle.std.proofs.lemmas.Bool.{eqb-true}
 use Rattle.std.proofs.lemmas.List.{append_assoc, length-replicate, take_all}
 use Rattle.std.proofs.lemmas.Nat.{xor_comm}
 use Rattle.std.specs.Int.Bits.{xor_assoc, xor_self, xor_zero_r}
 use lib.Lanes.{chunk, zip2}
 use Rattle.gf_field.specs.Field.{power, times}
+use Rattle.gf_field.proofs.EachBelow.{each_at}
 use Rattle.gf_field.proofs.Polynomial.{xor_four}
 use Rattle.gf_field.proofs.Times.{times_assoc, times_comm, times_xor, times_zero, xor_times, zero_times}
 use Rattle.rs_erase.specs.Code.{AreElements, IsCodeWord, word_of}
 use Rattle.rs_erase.specs.Equations.{nth_power, word_value}
-use Rattle.rs_erase.specs.Polynomial.{add, scale}
-use Rattle.rs_erase.specs.Register.{IsRemainder}
-use Rattle.rs_erase.specs.declared.remainders.TheConstants.{REMAINDERS}
+use Rattle.rs_erase.specs.Polynomial.{add}
+use Rattle.rs_erase.specs.Register.{HasTaken, IsMultiple, IsRemainder}
 use Rattle.rs_erase.proofs.CodeWords.{code_word_from}
 use Rattle.rs_erase.proofs.Elements.{append_elements, zeros_elements}
 use Rattle.rs_erase.proofs.LaneRows.{length_three, sum_is}
-use Rattle.rs_erase.proofs.PolynomialLaws.{length-scale}
-use Rattle.rs_erase.proofs.RemainderTable.{row_long, row_value}
-use Rattle.rs_erase.proofs.WordValues.{length-add_same, more_symbols, nth_power_add, value-reverse, word_value_add, word_value_append, word_value_scale, word_value_zeros}
+use Rattle.rs_erase.proofs.WordValues.{length-add_same, more_symbols, nth_power_add, value-reverse, word_value_add, word_value_append, word_value_zeros}
 
 pub nothing_taken : IsRemainder [] (replicate 48 0)
 nothing_taken = record { roots = λ j pos le. word_value_zeros (power j) 48 }
@@ -31,12 +30,6 @@ leading_zero w r h = record {
       ∙ h.roots j pos le;
 }
 
--- the register that was moved by sixteen places, and what remains of the first k coefficients that left it
-pub record HasTaken (leaving moved register : List ℕ) (k : ℕ) : Type 0 where
-  pub long : length register ≡ 48
-  pub values : (j : ℕ) → 0 < j → j ≤ 48 → word_value (power j) register
-      ≡ bit_xor (word_value (power j) moved) (times (word_value (power j) (take k leaving)) (nth_power (power j) (64 - k)))
-
 pub none_taken : (leaving moved : List ℕ) → length moved ≡ 48 → HasTaken leaving moved moved 0
 none_taken leaving moved long = record {
   long = long;
@@ -44,26 +37,37 @@ none_taken leaving moved long = record {
       sym (xor_zero_r (word_value (power j) moved)) ∙ ap (bit_xor (word_value (power j) moved)) (sym (zero_times (nth_power (power j) 64)));
 }
 
-pub one_taken : (leaving moved r new row : List ℕ) (f k : ℕ) → k < 16 → length leaving ≡ 16 → f ≡ get_or leaving k 0
-    → row ≡ chunk (48 * k) 48 REMAINDERS → new ≡ add r (scale f row) → HasTaken leaving moved r k → HasTaken leaving moved new (k + 1)
-one_taken leaving moved r new row f k lt ll hf hr hn h =
-    let table = chunk (48 * k) 48 REMAINDERS in
-    let is : new ≡ add r (scale f table) = hn ∙ ap (λ (q : List ℕ). add r (scale f q)) hr in
-    let ls : length (scale f table) ≡ 48 = length-scale f table ∙ row_long k lt in
+two_nibbles : (f : ℕ) → f < 256 → bit_xor (f % 16) (16 * (f / 16)) ≡ f
+two_nibbles f lt = eqb-true _ _ (each_at 256 (λ f. bit_xor (f % 16) (16 * (f / 16)) == f) refl f lt)
+
+pub one_taken : (leaving moved r new low high : List ℕ) (f k : ℕ) → k < 16 → length leaving ≡ 16 → f ≡ get_or leaving k 0 → f < 256
+    → IsMultiple (f % 16) (63 - k) low → IsMultiple (16 * (f / 16)) (63 - k) high → new ≡ add (add r low) high
+    → HasTaken leaving moved r k → HasTaken leaving moved new (k + 1)
+one_taken leaving moved r new low high f k lt ll hf small hlow hhigh is h =
+    let llow = hlow.long in let lhigh = hhigh.long in let lr = h.long in
+    let lsum : length (add r low) ≡ 48 = length-add_same r low (lr ∙ sym llow) ∙ llow in
     record {
-      long = ap (λ (q : List ℕ). length q) is ∙ length-add_same r (scale f table) (h.long ∙ sym ls) ∙ ls;
+      long = ap (λ (q : List ℕ). length q) is ∙ length-add_same (add r low) high (lsum ∙ sym lhigh) ∙ lhigh;
       values = λ j pos le.
           let i = power j in
           let start = word_value i moved in
+          let n = nth_power i (63 - k) in
+          let so_far = times (word_value i (take k leaving)) (nth_power i (63 - k + 1)) in
+          let both : bit_xor (times (f % 16) n) (times (16 * (f / 16)) n) ≡ times f n =
+          sym (xor_times (f % 16) (16 * (f / 16)) n) ∙ ap (λ (g : ℕ). times g n) (two_nibbles f small) in
           ap (word_value i) is
-          ∙ word_value_add i r (scale f table) (h.long ∙ sym ls)
-          ∙ ap₂ bit_xor
-          (h.values j pos le ∙ ap (λ (n : ℕ). bit_xor start (times (word_value i (take k leaving)) (nth_power i n))) (let e : 64 - k ≡ 63 - k + 1 = omega arith in e))
-          (word_value_scale i f table ∙ ap (times f) (row_value j k pos le lt))
-          ∙ xor_assoc start (times (word_value i (take k leaving)) (nth_power i (63 - k + 1))) (times f (nth_power i (63 - k)))
+          ∙ word_value_add i (add r low) high (lsum ∙ sym lhigh)
+          ∙ ap₂ bit_xor (word_value_add i r low (lr ∙ sym llow)) (hhigh.values j pos le)
+          ∙ ap (λ (v : ℕ). bit_xor v (times (16 * (f / 16)) n))
+          (ap₂ bit_xor
+          (h.values j pos le ∙ ap (λ (p : ℕ). bit_xor start (times (word_value i (take k leaving)) (nth_power i p))) (let e : 64 - k ≡ 63 - k + 1 = omega arith in e))
+          (hlow.values j pos le))
+          ∙ xor_assoc (bit_xor start so_far) (times (f % 16) n) (times (16 * (f / 16)) n)
+          ∙ ap (bit_xor (bit_xor start so_far)) both
+          ∙ xor_assoc start so_far (times f n)
           ∙ ap (bit_xor start)
           (more_symbols i f k (63 - k) leaving (omega arith) hf
-          ∙ ap (λ (n : ℕ). times (word_value i (take (k + 1) leaving)) (nth_power i n)) (let e : 63 - k ≡ 64 - (k + 1) = omega arith in e));
+          ∙ ap (λ (p : ℕ). times (word_value i (take (k + 1) leaving)) (nth_power i p)) (let e : 63 - k ≡ 64 - (k + 1) = omega arith in e));
     }
 
 -- the sums cancel where the old register was a remainder

@@ -5,3 +5,4 @@ pub mod Equations
 pub mod FromZero
 pub mod Register
 pub mod Rows
+pub mod Prepared

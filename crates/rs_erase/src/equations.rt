@@ -33,14 +33,14 @@ pub fn find_products(locators: &[Gf], syndromes: Row, products: &mut [Gf]) -> bo
 }
 
 /// Whether each element is 0.
-fn are_zero(elements: &[u8]) -> bool
+pub fn are_zero(elements: &[u8]) -> bool
     ensures { IsTrue result ↔ All (λ element. element ≡ 0) elements.now }
 {
     elements.iter().all(|element| *element == 0)
 }
 
 /// Removes one place after another from the syndromes, and writes down the first of them before each place.
-fn remove_places(locators: &[Gf], syndromes: Row, firsts: &mut [Gf]) -> Row
+pub fn remove_places(locators: &[Gf], syndromes: Row, firsts: &mut [Gf]) -> Row
     requires one_each { length firsts.old ≡ length locators.now }
     requires enough { length locators.now ≤ 48 }
     ensures rest { take (48 - length locators.now) (listed result) ≡ syndromes_without locators.now (listed syndromes) }

@@ -1,12 +1,14 @@
 //! The parity, by a shift register that takes sixteen symbols of the message at a time.
 
-ghost use Rattle.std.specs.Prelude.{◌≡◌, ◌<◌, ◌≤◌, ◌-◌, ◌*◌, ℕ, List, ◌∷◌, ◌++◌, replicate, length, drop};
-ghost use Rattle.std.specs.Simd.Lanes.{chunk as elements_from};
+ghost use Rattle.std.specs.Prelude.{◌≡◌, ◌<◌, ◌≤◌, ◌-◌, ◌+◌, ◌*◌, ℕ, List, ◌∷◌, ◌++◌, replicate, length, drop, slice_index};
 ghost use Rattle.rs_erase.specs.Code.{IsCodeWord, word_of};
-ghost use Rattle.rs_erase.specs.Register.{IsRemainder, TakesIn};
+ghost use Rattle.rs_erase.specs.Register.{AreMultiples, HasTaken, IsRemainder, TakesIn};
 ghost use Rattle.rs_erase.specs.Rows.{listed};
 
-use crate::remainders::REMAINDERS;
+use crate::multiples_51::MULTIPLES_51;
+use crate::multiples_55::MULTIPLES_55;
+use crate::multiples_59::MULTIPLES_59;
+use crate::multiples_63::MULTIPLES_63;
 use crate::row::{Row, lanes_from};
 use std::simd::prelude::*;
 
@@ -69,15 +71,35 @@ fn take_in(register: Row, symbols: u8x16) -> Row
         third: u8x16::splat(0),
     };
     for k in 0..16usize {
-        next = next.plus_multiple(leaving[k], power_remainder(k));
+        next = with_multiple(next, k, leaving[k]);
     }
     next
 }
 
-/// What remains of x to the 63 - k.
-fn power_remainder(k: usize) -> Row
+/// Adds what remains of the k-th coefficient that left the register, as the multiple by its low four bits and by its high ones.
+fn with_multiple(register: Row, k: usize, coefficient: u8) -> Row
     requires { k < 16 }
-    ensures { listed result ≡ elements_from (48 * k) 48 REMAINDERS }
+    ensures { (leaving moved : List ℕ) → length leaving ≡ 16 → coefficient ≡ slice_index leaving k
+        → HasTaken leaving moved (listed register) k → HasTaken leaving moved (listed result) (k + 1) }
 {
-    Row::from_place(&REMAINDERS, 48 * k)
+    let multiples = multiples_of(k / 4);
+    let row = 32 * (k % 4);
+    let low = row + usize::from(coefficient % 16);
+    let high = row + 16 + usize::from(coefficient / 16);
+    register
+        .plus(Row::from_place(multiples, 48 * low))
+        .plus(Row::from_place(multiples, 48 * high))
+}
+
+/// The multiples of four powers: of x to the 63 - 4 four, and on down.
+fn multiples_of(four: usize) -> &'static [u8; 6144]
+    requires { four < 4 }
+    ensures { AreMultiples (63 - 4 * four) result.now }
+{
+    match four {
+        0 => &MULTIPLES_63.bytes,
+        1 => &MULTIPLES_59.bytes,
+        2 => &MULTIPLES_55.bytes,
+        _ => &MULTIPLES_51.bytes,
+    }
 }

@@ -45,7 +45,7 @@ pub fn solve(word: &mut [u8; 255], erased: &[u8]) -> Result<(), SolveFault>
 }
 
 /// Writes the locator of each place: 2 to the power that the place stands for.
-fn write_locators(locators: &mut [Gf], places: &[u8])
+pub fn write_locators(locators: &mut [Gf], places: &[u8])
     requires one_each { length locators.old ≡ length places.now }
     requires places { ArePlaces places.now }
     ensures { locators.new ≡ locators_of places.now }
@@ -69,7 +69,7 @@ fn divide_by_locators(products: &mut [Gf], locators: &[Gf])
 }
 
 /// Adds each value at its place.
-fn add_values(word: &mut [u8], places: &[u8], values: &[Gf])
+pub fn add_values(word: &mut [u8], places: &[u8], values: &[Gf])
     requires long { length word.old ≡ 255 }
     requires one_each { length values.now ≡ length places.now }
     requires places { ArePlaces places.now }

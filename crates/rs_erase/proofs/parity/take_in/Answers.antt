@@ -1,9 +1,10 @@
-use Rattle.std.proofs.Common.{arith, refl, rules, subst, sym, ℕ, ◌≡◌, ◌∙◌, ◌++◌, bit_xor, length, replicate}
+use Rattle.std.proofs.Common.{arith, refl, rules, sym, subst, ℕ, List, ◌≡◌, ◌∙◌, ◌++◌, bit_xor, length, replicate}
 use lib.Lanes.{zip2}
 use Rattle.std.proofs.lemmas.Simd.{length-zip2}
+use Rattle.rs_erase.specs.Register.{HasTaken}
 use Rattle.rs_erase.specs.Rows.{listed}
 use Rattle.rs_erase.proofs.LaneRows.{length_three}
-use Rattle.rs_erase.proofs.ShiftRegister.{HasTaken, all_taken, none_taken, one_taken}
+use Rattle.rs_erase.proofs.ShiftRegister.{all_taken, none_taken}
 use Rattle.rs_erase.proofs.parity.take_in.Goals as goal
 
 pub loop-k-init : goal.loop-k-init
@@ -13,10 +14,10 @@ loop-k-init c =
 
 pub loop-k-preserved : goal.loop-k-preserved
 loop-k-preserved c =
+    let leaving : List ℕ = zip2 bit_xor c.args.register.first c.args.symbols in
     let first : length c.args.register.first ≡ 16 = search rules in
-    let long : length (zip2 bit_xor c.args.register.first c.args.symbols) ≡ 16 = length-zip2 bit_xor c.args.register.first c.args.symbols (first ∙ sym c.fits-symbols.0) ∙ first in
-    one_taken (zip2 bit_xor c.args.register.first c.args.symbols) (c.args.register.second ++ (c.args.register.third ++ replicate 16 0)) (listed c.loop-k.next) _ _ _ c.loop-k.k
-    c.loop-k-test.true long refl c.power_remainder.ensures c.plus_multiple-next.ensures c.loop-k.invariant
+    let long : length leaving ≡ 16 = length-zip2 bit_xor c.args.register.first c.args.symbols (first ∙ sym c.fits-symbols.0) ∙ first in
+    c.with_multiple-next.ensures leaving (c.args.register.second ++ (c.args.register.third ++ replicate 16 0)) long refl c.loop-k.invariant
 
 pub returns : goal.returns
 returns c =
