@@ -7,6 +7,7 @@ use Rattle.rs_erase.specs.Code.{IsCodeWord, word_of}
 use Rattle.drm_bits.specs.Bits.{IsBytes}
 use Rattle.dcp_pft.specs.declared.shape.Rs.{Rs}
 use Rattle.dcp_pft.specs.declared.shape.Shape.{Shape}
+use Rattle.dcp_pft.specs.Limits.{most_parity}
 use Rattle.dcp_pft.specs.Cutting.{chunks_of, IsShapeOf}
 use Rattle.dcp_pft.specs.Coding.{AreParities, IsParityOf, filled, coded, every, byte_or_zero}
 use Rattle.dcp_pft.specs.Head.{PftFragment, head, sync, three_bytes, fragment_of}
@@ -41,6 +42,13 @@ parities_long (suc c) k chunks parities small are =
     let first : length (take 48 parities) ≡ 48 = parity_long (take k chunks) (take 48 parities) chunk are.0 in
     let rest : length (drop 48 parities) ≡ 48 * c = parities_long c k (drop k chunks) (drop 48 parities) small are.1 in
     omega (arith, first, rest, length-take 48 parities, length-drop 48 parities)
+
+-- as much as there is room for
+pub parity_few : (shape : Shape) (rs : Rs) (packet parity : List ℕ) → IsShapeOf (length packet) shape → shape.rs ≡ Some rs → IsParityOf shape packet parity
+    → length parity ≤ most_parity
+parity_few shape rs packet parity is has is_parity =
+    let here : HasCode (length packet) shape rs = has_code (length packet) shape rs is has in
+    omega (arith, here.chunks, chunks_with shape rs has, parities_long (chunks_by shape rs) rs.k (filled rs packet) parity here.size (parities_with shape rs packet parity has is_parity))
 
 -- a fragment with a code
 pub fragment_with : (shape : Shape) (rs : Rs) (seq i : ℕ) (packet parity payload : List ℕ) → shape.rs ≡ Some rs

@@ -1,6 +1,7 @@
 pub mod Limits
 pub mod Cutting
 pub mod Coding
+pub mod Interleaving
 pub mod Head
 pub mod Carrying
 pub mod Laws
@@ -8,4 +9,3 @@ pub mod Writing
 pub mod Loss
 pub mod Faults
 pub mod Reading
-pub mod Places

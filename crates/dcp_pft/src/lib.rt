@@ -7,10 +7,10 @@ mod coding;
 mod fault;
 mod fragment;
 mod head;
+mod interleave;
 mod laws;
 mod limits;
 mod parts;
-mod place;
 mod read;
 mod shape;
 mod write;
@@ -27,7 +27,6 @@ pub use limits::{
     LEAST_FRAGMENT, LONGEST_PACKET, MOST_CARRIED, MOST_FRAGMENT, MOST_FRAGMENTS, MOST_LOSSES,
     MOST_PARITY, most_packet,
 };
-pub use place::Place;
 pub use read::{read_fragment, size_by_head};
 pub use shape::{Rs, Shape, chunks, shape_for};
 pub use write::write_fragment;

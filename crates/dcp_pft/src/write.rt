@@ -1,18 +1,18 @@
 //! Fragments, written.
 
-ghost use Rattle.std.specs.Prelude.{◌≡◌, ◌+◌, ◌*◌, ◌-◌, ◌^◌, ◌<◌, ◌≤◌, ◌++◌, ◌∷◌, [], ℕ, List, length, take, drop, Some, None, replicate};
+ghost use Rattle.std.specs.Prelude.{◌≡◌, ◌+◌, ◌^◌, ◌<◌, ◌≤◌, ◌++◌, ◌∷◌, [], ℕ, List, length, take, drop, Some, None};
 ghost use Rattle.std.specs.Int.{w16, to_be_bytes};
 ghost use Rattle.drm_bits.specs.Bits.{IsBytes};
-ghost use Rattle.dcp_pft.specs.Limits.{most_fragment, most_fragments};
+ghost use Rattle.dcp_pft.specs.Limits.{most_fragment};
 ghost use Rattle.dcp_pft.specs.Cutting.{IsShapeOf, chunks_of};
-ghost use Rattle.dcp_pft.specs.Coding.{IsParityOf, byte_or_zero, coded, every};
+ghost use Rattle.dcp_pft.specs.Coding.{IsParityOf};
 ghost use Rattle.dcp_pft.specs.Head.{Spells, IsFragmentOf, fragment_of, sync, three_bytes};
 ghost use Rattle.dcp_pft.specs.Writing.{PutsHead, Writes};
 
+use crate::interleave::interleave;
 use crate::limits::MOST_FRAGMENT;
 use crate::parts::part;
-use crate::place::Place;
-use crate::shape::{CODED_HEAD, PARITY_BYTES, PLAIN_HEAD, Rs, Shape};
+use crate::shape::{CODED_HEAD, PLAIN_HEAD, Rs, Shape};
 use drm_bits::{crc16, put_at};
 
 /// The first of the two flags before the length of the payload: there is a code. The second, for addresses, is not set.
@@ -129,44 +129,4 @@ fn put_head(head: &[u8], into: &mut [u8])
 {
     put_at(into, 0, head);
     put_at(into, head.len(), &crc16(head).to_be_bytes());
-}
-
-// Writes every count-th byte of the coded chunks of k bytes, from the first one on.
-fn interleave(packet: &[u8], parity: &[u8], k: u8, count: u32, first: u32, into: &mut [u8])
-    requires count { count ≤ most_fragments }
-    requires room { length into.old ≤ most_fragment }
-    requires some { 0 < k }
-    ensures bytes { IsBytes into.new }
-    ensures every { (c z : ℕ) → c * k ≡ length packet.now + z → length parity.now ≡ 48 * c
-        → into.new ≡ every count first (length into.old) (coded c k (packet.now ++ replicate z 0) parity.now) }
-{
-    let size = usize::from(k) + PARITY_BYTES as usize;
-    let step = Place::behind(count as usize, size);
-    let mut place = Place::behind(first as usize, size);
-    for byte in into.iter_mut() {
-        *byte = coded_byte(packet, parity, usize::from(k), place);
-        place = place.further(step, size);
-    }
-}
-
-// The byte at a place of the coded chunks of k bytes: each chunk with its parity behind it.
-fn coded_byte(packet: &[u8], parity: &[u8], k: usize, at: Place) -> u8
-    requires few { k ≤ 255 }
-    requires within { at.within < k + 48 }
-    requires small { at.chunk < 2 ^ 40 }
-    ensures { (c z : ℕ) → c * k ≡ length packet.now + z → length parity.now ≡ 48 * c
-        → result ≡ byte_or_zero (coded c k (packet.now ++ replicate z 0) parity.now) (at.chunk * (k + 48) + at.within) }
-{
-    if at.within < k {
-        byte_at(packet, at.chunk * k + at.within)
-    } else {
-        byte_at(parity, at.chunk * PARITY_BYTES as usize + (at.within - k))
-    }
-}
-
-// The byte at a place, or 0 past the end.
-fn byte_at(bytes: &[u8], place: usize) -> u8
-    ensures { result ≡ byte_or_zero bytes.now place }
-{
-    bytes.get(place).copied().unwrap_or(0)
 }

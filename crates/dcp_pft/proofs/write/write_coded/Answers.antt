@@ -1,5 +1,5 @@
 use Rattle.std.proofs.Common.{◌+◌, ◌≤◌, arith, length}
-use Rattle.dcp_pft.proofs.Fragments.{coded_writes, room_is}
+use Rattle.dcp_pft.proofs.Fragments.{coded_writes, parity_few, room_is}
 use Rattle.dcp_pft.proofs.Shapes.{has_code}
 use Rattle.dcp_pft.proofs.write.write_coded.Goals as goal
 
@@ -12,12 +12,8 @@ slice_bounds-interleave-end c =
     let has = has_code (length c.args.packet.now) c.args.shape.now c.args.rs c.requires.shape c.requires.code in
     let within : 16 + c.from.result ≤ 1500 = omega (arith, has.piece) in within
 
-pub interleave-requires-clause-count : goal.interleave-requires-clause-count
-interleave-requires-clause-count c =
-    let has = has_code (length c.args.packet.now) c.args.shape.now c.args.rs c.requires.shape c.requires.code in omega (arith, has.few)
-
-pub interleave-requires-clause-some : goal.interleave-requires-clause-some
-interleave-requires-clause-some c = (has_code (length c.args.packet.now) c.args.shape.now c.args.rs c.requires.shape c.requires.code).size_some
+pub interleave-requires : goal.interleave-requires
+interleave-requires c = parity_few c.args.shape.now c.args.rs c.args.packet.now c.args.parity.now c.requires.shape c.requires.code c.requires.parity
 
 pub returns : goal.returns
 returns c =
