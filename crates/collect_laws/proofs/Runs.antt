@@ -4,13 +4,8 @@ use Rattle.std.proofs.lemmas.List.{append-nil}
 use Rattle.dcp_collect.specs.declared.taken.Taken.{Taken}
 use Rattle.dcp_collect.specs.State.{State, ready, after_item}
 use Rattle.dcp_collect.specs.Runs.{Item, IsItem, Takes, Gives, Steps}
-use Rattle.collect_laws.specs.Laws.{StepsJoin, StepsPart, StepsCount}
+use Rattle.collect_laws.specs.Laws.{Given, StepsJoin, StepsPart, StepsCount}
 use Rattle.collect_laws.proofs.Stays.{take_next}
-
--- `next` has given these so far, each while an item was ready
-abbrev pub Given : State → List Item → State → Type 0
-Given c [] after = after ≡ c
-Given c (item ∷ items) after = (ready c ≡ true) × IsItem c item × Given (after_item c) items after
 
 -- one item more
 pub given_more : (items : List Item) (c d : State) (item : Item)
@@ -23,10 +18,10 @@ pub given_all : (items : List Item) (c d : State) → Given c items d → ready 
 given_all [] c d g r = (ap ready (sym g) ∙ r, g)
 given_all (first ∷ items) c d g r = (g.0, g.1, given_all items (after_item c) d g.2 r)
 
--- one after another
-pub given_join : (items more : List Item) (c d e : State) → Given c items d → Given d more e → Given c (items ++ more) e
-given_join [] more c d e g h = subst (λ m. Given m more e) g h
-given_join (first ∷ items) more c d e g h = (g.0, g.1, given_join items more (after_item c) d e g.2 h)
+-- what is given so far, and then all that is left
+pub gives_after : (items more : List Item) (c d e : State) → Given c items d → Gives d more e → Gives c (items ++ more) e
+gives_after [] more c d e gives rest = subst (λ (s : State). Gives s more e) gives rest
+gives_after (item ∷ items) more c d e gives rest = (gives.0, gives.1, gives_after items more (after_item c) d e gives.2 rest)
 
 -- a whole giving is a giving so far, after which nothing is ready
 pub gives_given : (items : List Item) (c d : State) → Gives c items d → Given c items d × (ready d ≡ false)

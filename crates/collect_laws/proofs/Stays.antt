@@ -46,12 +46,6 @@ pub take_next : (c : State) (read : Read) → (after_take c read).next ≡ c.nex
 take_next c (Unread field) = refl
 take_next c (Brings incoming) = next_stays c (number_of c incoming) incoming (answer c (Brings incoming))
 
--- and keeps the window
-pub take_window : (c : State) (read : Read) → (after_take c read).window ≡ c.window
-take_window c (Unread field) = refl
-take_window c (Brings incoming) =
-    after_by (λ d. d.window ≡ c.window) c (number_of c incoming) incoming (answer c (Brings incoming)) refl (λ m. refl)
-
 -- and the end
 pub take_end : (c : State) (read : Read) → (after_take c read).end ≡ c.end
 take_end c (Unread field) = refl

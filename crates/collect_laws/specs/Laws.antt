@@ -1,5 +1,5 @@
 -- The laws of collecting.
-use Rattle.std.specs.Prelude.{ℕ, ℤ, pos, ◌+ℤ◌, ◌*ℤ◌, ◌<ℤ◌, ◌≡◌, ◌+◌, ◌≤◌, ◌↔◌, List, ◌++◌, length, Option, None, Some}
+use Rattle.std.specs.Prelude.{ℕ, ℤ, pos, ◌+ℤ◌, ◌*ℤ◌, ◌<ℤ◌, ◌≡◌, ◌+◌, ◌≤◌, ◌↔◌, true, List, [], ◌∷◌, ◌++◌, length, Option, None, Some}
 use Rattle.std.specs.List.{AllByRecursion}
 use Rattle.drm_bits.specs.Bits.{IsBytes}
 use Rattle.dcp_pft.specs.Loss.{size}
@@ -7,11 +7,16 @@ use Rattle.dcp_collect.specs.declared.taken.Field.{Field}
 use Rattle.dcp_collect.specs.declared.taken.Taken.{Taken}
 use Rattle.dcp_collect.specs.declared.taken.Taken.TheVariants.{Kept, Repeated, Late, Refused}
 use Rattle.dcp_collect.specs.Reading.{Read, Unread, IsRead}
-use Rattle.dcp_collect.specs.State.{State, made, nearest}
-use Rattle.dcp_collect.specs.Runs.{Item, Packet, Takes, Gives, Steps, Run}
+use Rattle.dcp_collect.specs.State.{State, made, ready, after_item, nearest}
+use Rattle.dcp_collect.specs.Runs.{Item, Packet, IsItem, Takes, Gives, Steps, Run}
 use Rattle.dcp_pft.specs.declared.carry.Carry.{Carry}
 use Rattle.dcp_pft.specs.Carrying.{shape_under, losses}
 use Rattle.collect_laws.specs.Delivery.{AreSent, AreDelivered, packet_at, got, item, items, IsWithinSpan, IsBase}
+
+-- a collector gives these, each while it is ready, and comes so far
+abbrev pub Given : State → List Item → State → Type 0
+Given c [] after = after ≡ c
+Given c (item ∷ items) after = (ready c ≡ true) × IsItem c item × Given (after_item c) items after
 
 -- a datagram is read as one thing
 abbrev pub OneReading : Type 0

@@ -9,6 +9,7 @@ pub mod Decided
 pub mod Decoded
 pub mod SoundLemmas
 pub mod Covering
+pub mod CoveringRows
 pub mod SlotForms
 pub mod SlotViews
 pub mod SlotBytes
@@ -23,3 +24,4 @@ pub mod SlotHeld
 pub mod Alone
 pub mod StoredWords
 pub mod Ascending
+pub mod PatternPlaces

@@ -14,3 +14,4 @@ pub mod Row
 pub mod Made
 pub mod WholePackets
 pub mod Sizes
+pub mod Patterns

@@ -31,5 +31,8 @@ fn shift(bytes: &mut [u8], from: usize, len: usize, to: usize)
     requires { IsEarlier from len to bytes.old }
     ensures { bytes.new ≡ take to bytes.old ++ take len (drop from bytes.old) ++ drop (to + len) bytes.old }
 {
-    bytes.copy_within(from..from + len, to);
+    // The first one stands there already, and a whole packet is the first one.
+    if from != to {
+        bytes.copy_within(from..from + len, to);
+    }
 }
