@@ -1,1 +1,4 @@
 pub mod TextLemmas
+pub mod GatheringLemmas
+mod LookedUp
+mod Pairs

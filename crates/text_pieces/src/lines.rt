@@ -8,7 +8,7 @@ use drm_links::{Sink, WriteOut};
 use std::alloc::Global;
 use std::marker::Model;
 
-const MOST_BYTES: usize = 65_536;
+const MOST_BYTES: usize = 262_144;
 
 /// It tells what was written for so many calls.
 const MOST_CALLS: u64 = 1 << 62;
@@ -29,7 +29,7 @@ impl Model for Lines {
 
     ghost view = { λ lines. record { bytes = lines.bytes.items; calls = lines.calls; faults = lines.faults } };
 
-    ghost invariant = { λ lines. (vec_len lines.bytes ≤ 65536) × (65536 ≤ vec_capacity lines.bytes) };
+    ghost invariant = { λ lines. (vec_len lines.bytes ≤ 262144) × (262144 ≤ vec_capacity lines.bytes) };
 }
 
 impl Lines {

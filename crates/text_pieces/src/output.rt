@@ -5,6 +5,7 @@ ghost use Rattle.hex.specs.Hex.{encode_lower};
 ghost use Rattle.drm_links.specs.Sink.{Writes};
 ghost use Rattle.text_pieces.specs.Text.{piece_text, text_of};
 
+use crate::digits::put_digits;
 use crate::piece::Piece;
 use drm_links::{Sink, WriteFault, write_all};
 use itoa::Buffer;
@@ -54,8 +55,6 @@ fn write_digits<O: Sink>(out: &mut O, bytes: &[u8]) -> Result<(), WriteFault>
 {
     let mut room = [0; 2 * AT_ONCE];
     let digits = &mut room[..2 * bytes.len()];
-    match hex::encode_to_slice(bytes, digits) {
-        Ok(()) => write_all(out, digits),
-        Err(_) => unreachable!(),
-    }
+    put_digits(bytes, digits);
+    write_all(out, digits)
 }
