@@ -18,11 +18,11 @@ front_same n len lent buf more is low short = ap (λ l. take n l) is ∙ (take-t
 
 -- bytes came, and all of them are put
 pub fetch_got : (old new : WalkerState) (a b : Known Input) (n put left : ℕ) (buf lent : List ℕ) → IsCut old → old.at + length old.held + left ≡ most_bytes
-    → 0 < n → n ≤ length buf → n ≤ 65536 → n ≤ max left 1 → (left ≡ 0 → ⊥) → take n lent ≡ take n buf
+    → 0 < n → n ≤ length buf → n ≤ 65536 → n ≤ max left 1 → (left ≡ 0 → ⊥) → take n lent ≡ take n buf → b.faults ≡ a.faults
     → put ≡ min (length (take n lent)) (131072 - length old.held) → new ≡ after_put (take put (take n lent)) old
     → WhileTold a b (Takes (Got n) buf) → CountsCall (λ (i : Input). i.calls) a b
     → Fetched old new a b × (length old.held < length new.held)
-fetch_got old new a b n put left buf lent cut size some whole room few more same count is told counts =
+fetch_got old new a b n put left buf lent cut size some whole room few more same still count is told counts =
     let long : length (take n buf) ≡ n = length-take-le n buf whole in
     let long' : length (take n lent) ≡ n = ap length same ∙ long in
     let all : put ≡ n = omega (arith, count, long', room, cut_size old.held cut.0 cut.1) in
@@ -34,7 +34,7 @@ fetch_got old new a b n put left buf lent cut size some whole room few more same
         at = place;
         few = omega (arith, place, size', size, few, more);
         room = omega (arith, size', count, all, long');
-        bytes = Inputs-weaker (λ x y. x ≡ take n buf ++ y) (λ left rest. old.held ++ left ≡ new.held ++ rest) a b (Inputs-got n buf a b told counts)
+        bytes = Inputs-weaker (λ x y. x ≡ take n buf ++ y) (λ left rest. old.held ++ left ≡ new.held ++ rest) a b (Inputs-got n buf a b some whole still told counts)
             (λ x y e. ap (λ l. old.held ++ l) e ∙ (sym (append_assoc old.held (take n buf) y) ∙ ap (λ l. l ++ y) (sym held)));
       },
       omega (arith, size', some),
@@ -42,22 +42,22 @@ fetch_got old new a b n put left buf lent cut size some whole room few more same
 
 -- bytes came, and there is no place for them in a capture
 pub fetch_long : (old new : WalkerState) (a b : Known Input) (n taken : ℕ) (buf : List ℕ) → new ≡ old → taken ≡ new.at + length new.held → most_bytes - taken ≡ 0 → new.at + length new.held ≤ most_bytes
-    → 0 < n → n ≤ length buf → WhileTold a b (Takes (Got n) buf) → CountsCall (λ (i : Input). i.calls) a b
+    → 0 < n → n ≤ length buf → b.faults ≡ a.faults → WhileTold a b (Takes (Got n) buf) → CountsCall (λ (i : Input). i.calls) a b
     → (new ≡ old) × IsFull old new a b
-fetch_long old new a b n taken buf same count none few some whole told counts =
+fetch_long old new a b n taken buf same count none few some whole still told counts =
     let long : length (take n buf) ≡ n = length-take-le n buf whole in (
       same,
       record {
         at = ap (λ (w : WalkerState). w.at) same;
         full = omega (arith, count, none, few);
-        more = Inputs-weaker (λ x y. x ≡ take n buf ++ y) (λ left rest. (more : List ℕ) × (0 < length more) × (old.held ++ left ≡ new.held ++ (more ++ rest))) a b (Inputs-got n buf a b told counts)
+        more = Inputs-weaker (λ x y. x ≡ take n buf ++ y) (λ left rest. (more : List ℕ) × (0 < length more) × (old.held ++ left ≡ new.held ++ (more ++ rest))) a b (Inputs-got n buf a b some whole still told counts)
             (λ x y e. (take n buf, omega (arith, long, some), ap (λ l. old.held ++ l) e ∙ ap (λ (w : WalkerState). w.held ++ (take n buf ++ y)) (sym same)));
       },
     )
 
 -- ---- one read behind others
 
-fetched_then : (old mid new : WalkerState) (a b c : Known Input) → Fetched old mid a b → Fetched mid new b c → Fetched old new a c
+pub fetched_then : (old mid new : WalkerState) (a b c : Known Input) → Fetched old mid a b → Fetched mid new b c → Fetched old new a c
 fetched_then old mid new a b c first second = record {
   at = second.at ∙ first.at;
   few = second.few;

@@ -7,7 +7,7 @@ use Rattle.std.proofs.lemmas.List.Elements.{All-push}
 use Rattle.std.proofs.lemmas.List.Folds.{concat-append}
 use Rattle.drm_links.specs.Told.{Known, ToldThrough}
 use Rattle.drm_links.specs.Source.{Input, Inputs, LeftBy}
-use Rattle.drm_links.proofs.ToldLemmas.{Inputs-then, Inputs-weaker}
+use Rattle.drm_links.proofs.ToldLemmas.{Inputs-then, Inputs-weaker, Inputs-both}
 use Rattle.drm_capture.specs.declared.fault.CaptureField.{CaptureField}
 use Rattle.drm_capture.specs.declared.fault.CaptureFault.{CaptureFault}
 use Rattle.drm_capture.specs.declared.packet.Packet.{Packet as Given}
@@ -19,15 +19,6 @@ use Rattle.drm_capture.specs.Walking.{WalkerState, IsCut, after_packet, Leaves}
 use Rattle.drm_capture.specs.Reading.{HasRead, HasNext, Breaks, Stops, Gave}
 use Rattle.drm_capture.specs.Fetching.{Fetched, IsFull, IsAtEnd, Finds}
 use Rattle.drm_capture.proofs.FrontLaws.{wrong_in_front, packet_alone, packet_size}
-
--- both of two facts on what was left and is left
-pub Inputs-both : (P Q : List ℕ → List ℕ → Type 0) (a b : Known Input) → Inputs a b P → Inputs a b Q → Inputs a b (λ x y. P x y × Q x y)
-Inputs-both P Q a b = both a.told b.told
-  where
-    both : (x y : Option Input) → ToldThrough x y (LeftBy P) → ToldThrough x y (LeftBy Q) → ToldThrough x y (LeftBy (λ left rest. P left rest × Q left rest))
-    both x None p q = tt
-    both None (Some y) p q = absurd p
-    both (Some x) (Some y) p q = (p, q)
 
 -- more bytes behind those that are held
 pub read_on : (packets : List (List ℕ)) (old new : WalkerState) (before a b : Known Input) → HasRead packets old before a → Fetched old new a b → HasRead packets new before b

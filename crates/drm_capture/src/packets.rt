@@ -103,7 +103,10 @@ impl Packets {
         let _ = &self.walker;
         loop {
             match self.walker.front() {
-                Found::Packet(_) => return Ok(true),
+                Found::Packet(size) => {
+                    self.walker.remember(size);
+                    return Ok(true);
+                }
                 Found::Wrong(field) => return Err(CaptureStop::Capture(self.walker.fault(field))),
                 Found::Cut(_) => {}
             }

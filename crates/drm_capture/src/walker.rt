@@ -3,7 +3,7 @@
 ghost use Rattle.std.specs.Prelude.{◌≡◌, ◌≤◌, ◌<◌, ◌+◌, ◌-◌, ◌^◌, ◌++◌, ℕ, [], length, take, drop, min, IfOk};
 ghost use Rattle.std.specs.Borrow.{sem};
 ghost use Rattle.circular_buffer.specs.Buffer.{Buffer, buffer};
-ghost use Rattle.drm_capture.specs.Front.{Front, Begins};
+ghost use Rattle.drm_capture.specs.Front.{Front, Packet as PacketFront, Begins};
 ghost use Rattle.drm_capture.specs.Looking.{front_of};
 ghost use Rattle.drm_capture.specs.Walking.{new_walker, after_put, most_held, IsCut, Gives, IsDue, Ends};
 ghost use Rattle.drm_capture.specs.Lending.{Walks};
@@ -11,7 +11,7 @@ ghost use Rattle.drm_capture.specs.Lending.{Walks};
 use crate::look::{Found, MOST_HEAD, look};
 use crate::{CaptureFault, CaptureField, Packet};
 use circular_buffer::HeapCircularBuffer;
-use drm_bits::{NoMemory, zeros};
+use drm_bits::{NoMemory, put_at, zeros};
 use std::alloc::Global;
 use std::marker::Model;
 
@@ -26,6 +26,8 @@ const MOST_PACKET: usize = 65_536;
 pub struct Walker {
     // The bytes that were put and are in no packet given.
     pipe: HeapCircularBuffer<u8>,
+    // The bytes of the next packet, if it is known that one is next.
+    found: Option<usize>,
     // The last packet that was given.
     packet: Vec<u8>,
     // The place of the next one.
@@ -33,14 +35,16 @@ pub struct Walker {
 }
 
 impl Model for Walker {
-    ghost use Rattle.std.specs.Prelude.{◌≡◌, ◌<◌, ◌+◌, ◌^◌, length};
+    ghost use Rattle.std.specs.Prelude.{◌≡◌, ◌<◌, ◌+◌, ◌^◌, length, IfSome};
+    ghost use Rattle.drm_capture.specs.Front.{Packet, Begins};
     ghost use Rattle.drm_capture.specs.Walking.{WalkerState, most_held};
 
     ghost Value = { WalkerState };
 
     ghost view = { λ w. record { at = w.at; held = w.pipe.items } };
 
-    ghost invariant = { λ w. (w.pipe.capacity ≡ most_held) × (length w.packet.items ≡ 65536) × (w.at + length w.pipe.items < 2 ^ 62) };
+    ghost invariant = { λ w. (w.pipe.capacity ≡ most_held) × (length w.packet.items ≡ 65536) × (w.at + length w.pipe.items < 2 ^ 62)
+        × IfSome w.found (λ size. Begins w.pipe.items (Packet size)) };
 }
 
 impl Walker {
@@ -52,6 +56,7 @@ impl Walker {
         let packet = zeros(alloc, MOST_PACKET)?;
         Ok(Walker {
             pipe,
+            found: None,
             packet,
             at: 0,
         })
@@ -63,6 +68,7 @@ impl Walker {
         ensures count { result ≡ min (length bytes.now) (most_held - length self.old.held) }
         ensures after { self.new ≡ after_put (take result bytes.now) self.old }
     {
+        self.found = None;
         self.pipe.fill_from_slice(bytes)
     }
 
@@ -75,6 +81,7 @@ impl Walker {
         match self.front() {
             Found::Packet(size) => {
                 let at = self.at;
+                self.found = None;
                 move_out(&mut self.pipe, &mut self.packet, size);
                 self.at = at + size as u64;
                 Ok(Some(Packet {
@@ -105,6 +112,24 @@ impl Walker {
     pub(crate) fn front(&self) -> Found
         ensures { Begins self.now.held (front_of result) }
     {
+        match self.found {
+            Some(size) => Found::Packet(size),
+            None => self.look(),
+        }
+    }
+
+    /// Keeps in mind that a packet of so many bytes is next, so that its head isn't looked at again.
+    pub(crate) fn remember(&mut self, size: usize)
+        requires { Begins self.old.held (PacketFront size) }
+        ensures { self.new ≡ self.old }
+    {
+        self.found = Some(size);
+    }
+
+    // Looks at the first bytes that are held.
+    fn look(&self) -> Found
+        ensures { Begins self.now.held (front_of result) }
+    {
         let mut head = [0; MOST_HEAD];
         let len = copy_front(&self.pipe, &mut head);
         look(&head[..len], self.pipe.len())
@@ -130,15 +155,12 @@ fn copy_front(pipe: &HeapCircularBuffer<u8>, head: &mut [u8]) -> usize
     ensures count { result ≡ min (length head.old) (length pipe.now.items) }
     ensures copied { take result head.new ≡ take result pipe.now.items }
 {
-    let mut len = 0;
-    while len < head.len() {
-        let Some(byte) = pipe.get(len) else {
-            break;
-        };
-        head[len] = *byte;
-        len += 1;
-    }
-    len
+    let (front, back) = pipe.as_slices();
+    let from_front = front.len().min(head.len());
+    put_at(head, 0, &front[..from_front]);
+    let from_back = back.len().min(head.len() - from_front);
+    put_at(head, from_front, &back[..from_back]);
+    from_front + from_back
 }
 
 // Moves the first bytes that are held to the front of `packet`.

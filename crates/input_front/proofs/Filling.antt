@@ -4,9 +4,9 @@ use Rattle.std.proofs.lemmas.List.{take-append-le, length-take-le}
 use Rattle.std.proofs.Math.Seq.{take-append-add}
 use borrow.Rule.Slice.PartMut.{put_mid, post_of}
 use Rattle.drm_links.specs.declared.source.ReadOut.TheVariants.{Got, End, Failed}
-use Rattle.drm_links.specs.Told.{Known, WhileTold, CountsCall}
-use Rattle.drm_links.specs.Source.{Input, Inputs, Takes, LeftBy}
-use Rattle.drm_links.proofs.ToldLemmas.{Inputs-then, Inputs-got, Inputs-end, Tells-one}
+use Rattle.drm_links.specs.Told.{Known, WhileTold, CountsCall, one_more}
+use Rattle.drm_links.specs.Source.{Input, Inputs, Takes}
+use Rattle.drm_links.proofs.ToldLemmas.{Inputs-then, Inputs-got, Inputs-end, Inputs-failed}
 use Rattle.input_front.specs.Input.{ReadsFront, FailsBehind}
 
 -- these bytes stand in front, and nothing else was read
@@ -19,10 +19,10 @@ front_more len n size room buf long within =
     ap (λ k. take (k + n) (put_mid len size room buf)) (sym front)
     ∙ (take-append-add (take len room) (buf ++ post_of len size room) n ∙ ap (λ l. take len room ++ l) (take-append-le n buf (post_of len size room) within))
 
-pub filled_more : (a b c : Known Input) (len n size : ℕ) (room buf : List ℕ) → length room ≡ len + size → n ≤ length buf → IsFilled len room a b → WhileTold b c (Takes (Got n) buf) → CountsCall (λ (i : Input). i.calls) b c
+pub filled_more : (a b c : Known Input) (len n size : ℕ) (room buf : List ℕ) → length room ≡ len + size → 0 < n → n ≤ length buf → c.faults ≡ b.faults → IsFilled len room a b → WhileTold b c (Takes (Got n) buf) → CountsCall (λ (i : Input). i.calls) b c
     → IsFilled (len + n) (put_mid len size room buf) a c
-filled_more a b c len n size room buf long within before told counts =
-    Inputs-then (λ left rest. left ≡ take len room ++ rest) (λ left rest. left ≡ take n buf ++ rest) (λ left rest. left ≡ take (len + n) (put_mid len size room buf) ++ rest) a b c before (Inputs-got n buf b c told counts)
+filled_more a b c len n size room buf long some within still before told counts =
+    Inputs-then (λ left rest. left ≡ take len room ++ rest) (λ left rest. left ≡ take n buf ++ rest) (λ left rest. left ≡ take (len + n) (put_mid len size room buf) ++ rest) a b c before (Inputs-got n buf b c some within still told counts)
     (λ x y z p q. p ∙ (ap (λ l. take len room ++ l) q ∙ (sym (append_assoc (take len room) (take n buf) z) ∙ ap (λ l. l ++ z) (sym (front_more len n size room buf long within)))))
 
 -- the room is full
@@ -32,10 +32,10 @@ filled_full a b len room within full filled =
     record { front = filled; all = λ short. absurd (omega (arith, short, size, full)); few = omega (arith, size, within) }
 
 -- the input has ended
-pub filled_end : (a b c : Known Input) (len : ℕ) (room buf : List ℕ) → len ≤ length room → IsFilled len room a b → WhileTold b c (Takes End buf) → CountsCall (λ (i : Input). i.calls) b c → ReadsFront (length room) (take len room) a c
-filled_end a b c len room buf within filled told counts =
+pub filled_end : (a b c : Known Input) (len : ℕ) (room buf : List ℕ) → len ≤ length room → IsFilled len room a b → c.faults ≡ b.faults → WhileTold b c (Takes End buf) → CountsCall (λ (i : Input). i.calls) b c → ReadsFront (length room) (take len room) a c
+filled_end a b c len room buf within filled still told counts =
     let size : length (take len room) ≡ len = length-take-le len room within in
-    let ended = Inputs-end buf b c told counts in
+    let ended = Inputs-end buf b c still told counts in
     record {
       front = Inputs-then (λ left rest. left ≡ take len room ++ rest) (λ x y. (x ≡ []) × (y ≡ [])) (λ left rest. left ≡ take len room ++ rest) a b c filled ended
           (λ x y z p q. p ∙ ap (λ l. take len room ++ l) (q.0 ∙ sym q.1));
@@ -44,14 +44,11 @@ filled_end a b c len room buf within filled told counts =
     }
 
 -- a read failed
-failed_kept : (buf : List ℕ) (b c : Known Input) → WhileTold b c (Takes Failed buf) → CountsCall (λ (i : Input). i.calls) b c → Inputs b c (λ x y. y ≡ x)
-failed_kept buf b c told counts = Tells-one (λ (i : Input). i.calls) (LeftBy (λ x y. y ≡ x)) b c counts told
-
-pub filled_failed : (a b c : Known Input) (len : ℕ) (room buf : List ℕ) → len < length room → IsFilled len room a b → WhileTold b c (Takes Failed buf) → CountsCall (λ (i : Input). i.calls) b c → FailsBehind (length room) a c
-filled_failed a b c len room buf below filled told counts =
+pub filled_failed : (a b c : Known Input) (len : ℕ) (room buf : List ℕ) → len < length room → IsFilled len room a b → c.faults ≡ one_more b.faults → WhileTold b c (Takes Failed buf) → CountsCall (λ (i : Input). i.calls) b c → FailsBehind (length room) a c
+filled_failed a b c len room buf below filled rose told counts =
     let size : length (take len room) ≡ len = length-take-le len room (omega (arith, below)) in (
       take len room,
       omega (arith, size, below),
-      Inputs-then (λ left rest. left ≡ take len room ++ rest) (λ x y. y ≡ x) (λ left rest. left ≡ take len room ++ rest) a b c filled (failed_kept buf b c told counts)
+      Inputs-then (λ left rest. left ≡ take len room ++ rest) (λ x y. y ≡ x) (λ left rest. left ≡ take len room ++ rest) a b c filled (Inputs-failed buf b c rose told counts)
           (λ x y z p q. p ∙ ap (λ l. take len room ++ l) (sym q)),
     )

@@ -5,13 +5,13 @@ use Rattle.drm_capture.specs.Reading.{HasNext}
 use Rattle.drm_capture.proofs.packets.Packets.seek.Given as goal
 
 -- bytes came behind those that were held, and no call failed; where a packet was whole at the start nothing was read
-abbrev pub invariant-loop-field : goal.invariant-loop-field
-invariant-loop-field g l = record {
+abbrev pub invariant-loop-size : goal.invariant-loop-size
+invariant-loop-size g l = record {
   fetched : Fetched l.initial.self l.self (g.I.Source.known l.initial.input) (g.I.Source.known l.input);
   same : (g.I.Source.known l.input).faults ≡ (g.I.Source.known l.initial.input).faults;
   still : HasNext l.initial.self → (l.self ≡ l.initial.self) × (l.input ≡ l.initial.input);
 }
 
 -- how many bytes a capture may still have
-abbrev pub decreases-loop-field : goal.decreases-loop-field
-decreases-loop-field g l = most_bytes - (l.self.at + length l.self.held)
+abbrev pub decreases-loop-size : goal.decreases-loop-size
+decreases-loop-size g l = most_bytes - (l.self.at + length l.self.held)

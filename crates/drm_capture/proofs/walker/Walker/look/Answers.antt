@@ -1,7 +1,7 @@
-use Rattle.std.proofs.Common.{rules, ◌≡◌, ℕ, List, take, length, min, sym, ap, ◌∙◌, arith}
+use Rattle.std.proofs.Common.{◌≡◌, ℕ, List, take, length, min, sym, ap, ◌∙◌}
 use Rattle.std.proofs.lemmas.List.{take_min}
 use Rattle.drm_capture.specs.Walking.{WalkerState}
-use Rattle.drm_capture.proofs.walker.Walker.front.Goals as goal
+use Rattle.drm_capture.proofs.walker.Walker.look.Goals as goal
 
 -- what was copied is the front
 front_copied : (head items : List ℕ) (len : ℕ) → len ≡ min 20 (length items) → take len head ≡ take len items → take len head ≡ take 20 items
