@@ -20,13 +20,13 @@ use Rattle.dcp_collect.specs.declared.taken.Taken.{Taken}
 use Rattle.dcp_collect.specs.State.{State, made, ready, after_item, after_next, after_finish}
 use Rattle.dcp_collect.specs.Runs.{Item, IsItem, Takes, Gives, Steps, up_to}
 use Rattle.dcp_collect.proofs.Decoded.{decoded_or_none, one_decoding}
-use Rattle.collect_laws.specs.Laws.{IsFit, GivingEnds, OneRun}
+use Rattle.collect_laws.specs.Laws.{IsFit, GivingEnds, OneRun, Given}
 use Rattle.collect_laws.proofs.Ending.{giving_ends}
 use Rattle.collect_laws.proofs.OneReading.{one_reading}
-use Rattle.collect_laws.proofs.Runs.{steps_more}
+use Rattle.collect_laws.proofs.Runs.{steps_more, given_all, given_more, gives_after}
 use Rattle.collect_laws.proofs.Fit.{fit_next, fit_given}
 use Rattle.collect_laws.proofs.Unique.{one_run}
-use Rattle.capture_items.specs.Reading.{Terms, is_full, Given, HasEnough, NoneShorter, ComesTo, AreReadBy}
+use Rattle.capture_items.specs.Reading.{Terms, is_full, HasEnough, NoneShorter, ComesTo, AreReadBy}
 use Rattle.capture_items.specs.Given.{GivesAll, GivesUntil, GivesTo}
 
 giving : GivingEnds
@@ -50,23 +50,6 @@ read_none before reader is =
 
 pub not_stopped : (result : Result Bool CaptureStop) (found : Bool) → result ≡ Ok found → result ≡ Err stops.TooLong → ⊥
 not_stopped result found is other = let clash : Ok found ≡ Err stops.TooLong = sym is ∙ other in cc
-
--- ---- what is given
-
-given_all : (items : List Item) (c d : State) → Given c items d → ready d ≡ false → Gives c items d
-given_all [] c d gives none = (ap ready (sym gives) ∙ none, gives)
-given_all (item ∷ items) c d gives none = (gives.0, gives.1, given_all items (after_item c) d gives.2 none)
-
-gives_after : (items more : List Item) (c d e : State) → Given c items d → Gives d more e → Gives c (items ++ more) e
-gives_after [] more c d e gives rest = subst (λ (s : State). Gives s more e) gives rest
-gives_after (item ∷ items) more c d e gives rest = (gives.0, gives.1, gives_after items more (after_item c) d e gives.2 rest)
-
-given_join : (c d e : State) (items more : List Item) → Given c items d → Given d more e → Given c (items ++ more) e
-given_join c d e [] more first second = subst (λ (s : State). Given s more e) first second
-given_join c d e (item ∷ items) more first second = (first.0, first.1, given_join (after_item c) d e items more first.2 second)
-
-given_one : (c d : State) (items : List Item) (item : Item) → Given c items d → ready d ≡ true → IsItem d item → Given c (items ++ item ∷ []) (after_item d)
-given_one c d items item gives now is = given_join c d (after_item d) items (item ∷ []) gives (now, is, refl)
 
 -- ---- enough
 
@@ -283,7 +266,7 @@ reached_given terms packets items item c d ended r now is room next =
       comes = a.comes;
       ends = a.ends;
       more = a.more ++ item ∷ [];
-      gives = subst (λ (s : State). Given a.state (a.more ++ item ∷ []) s) (sym after) (given_one a.state c a.more item a.gives now is);
+      gives = subst (λ (s : State). Given a.state (a.more ++ item ∷ []) s) (sym after) (given_more a.more a.state c item a.gives now is);
       items_are = ap (λ l. l ++ item ∷ []) a.items_are ∙ append_assoc a.during a.more (item ∷ []);
       unfinished = λ goes. ap (λ (s : State). s.end) after ∙ a.unfinished goes;
     })

@@ -1,8 +1,9 @@
 -- Which packets of a capture are read, and what a collector gives of them.
 use Rattle.std.specs.Prelude.{ℕ, ◌≡◌, ◌<◌, ◌⊎◌, Bool, true, false, nat_le, List, [], ◌∷◌, ◌++◌, length, take, Option, None, Some}
 use Rattle.dcp_collect.specs.declared.taken.Taken.{Taken}
-use Rattle.dcp_collect.specs.State.{State, made, ready, after_item, after_finish}
+use Rattle.dcp_collect.specs.State.{State, made, ready, after_finish}
 use Rattle.dcp_collect.specs.Runs.{Item, IsItem, Takes, Steps}
+use Rattle.collect_laws.specs.Laws.{Given}
 use Rattle.drm_links.specs.Told.{Known}
 use Rattle.drm_links.specs.Source.{Input, Inputs}
 use Rattle.drm_capture.specs.Capture.{IsCaptureOf, Ending, End}
@@ -19,11 +20,6 @@ pub record Terms : Type 0 where
 abbrev pub is_full : Option ℕ → ℕ → Bool
 is_full None n = false
 is_full (Some told) n = nat_le told n
-
--- a collector gives these, each while it is ready, and comes so far
-abbrev pub Given : State → List Item → State → Type 0
-Given c [] after = after ≡ c
-Given c (item ∷ items) after = (ready c ≡ true) × IsItem c item × Given (after_item c) items after
 
 -- ---- which packets are read
 

@@ -1,9 +1,10 @@
 -- What is heard of a capture, packet by packet.
 use Rattle.std.proofs.Common.{◌≡◌, ◌≤◌, ℕ, inl, inr, Bool, List, [], ◌∷◌, ◌++◌, map, Option, None, Some, Result, Ok, Err, refl, sym, ◌∙◌, ap, subst, arith}
 use Rattle.std.specs.Prelude.{All}
-use Rattle.drm_links.specs.Told.{Known, ToldThrough}
+use Rattle.drm_links.specs.Told.{Known}
 use Rattle.drm_links.specs.Link.{Datagram, Failed, End}
-use Rattle.drm_links.specs.Source.{Input, Inputs, LeftBy}
+use Rattle.drm_links.specs.Source.{Input, Inputs}
+use Rattle.drm_links.proofs.ToldLemmas.{Inputs-nothing}
 use Rattle.drm_capture.specs.declared.packets.CaptureStop.{CaptureStop}
 use Rattle.drm_capture.specs.declared.packets.CaptureStop.TheVariants as stops
 use Rattle.drm_capture.specs.Front.{IsWhole}
@@ -19,15 +20,11 @@ use Rattle.mod_receiver.specs.Captures.{ArePackets, HeardOf, HeardUntil, StopsPa
 use Rattle.mod_receiver.proofs.Reaching.{HearsMore}
 use Rattle.mod_receiver.proofs.Reporting.{broken, reading_front}
 
-none_told : (t : Option Input) → ToldThrough t t (LeftBy (λ left rest. left ≡ rest))
-none_told None = tt
-none_told (Some input) = refl
-
 -- nothing was read yet
 pub read_none : (before : Known Input) (reader : WalkerState) → reader ≡ new_walker → HasRead [] reader before before
 read_none before reader new =
     subst (λ r. HasRead [] r before before) (sym new)
-    (record { whole = λ k d within. absurd (omega (arith, within)); at = refl; few = omega arith; room = omega arith; bytes = none_told before.told })
+    (record { whole = λ k d within. absurd (omega (arith, within)); at = refl; few = omega arith; room = omega arith; bytes = Inputs-nothing (λ left rest. left ≡ rest) before (λ left. refl) })
 
 pub heard_nothing : (before : Known Input) → HeardOf before before []
 heard_nothing before = ([], inl (new_walker, read_none before new_walker refl, refl))

@@ -1,18 +1,20 @@
 -- What a receiver that ended has for its report.
-use Rattle.std.proofs.Common.{◌≡◌, ℕ, zero, suc, ◌+◌, ◌*◌, ◌<◌, ◌≤◌, ◌^◌, ◌⊎◌, ◌↔◌, inl, inr, nat_le, Bool, true, false, IsTrue, IsSome, if◌then◌else◌, List, [], ◌∷◌, ◌++◌, length, map, slice_index_or, Option, None, Some, MatchOption, refl, sym, ◌∙◌, ap, subst, arith, IfSome}
+use Rattle.std.proofs.Common.{◌≡◌, ℕ, zero, suc, ◌+◌, ◌*◌, ◌<◌, ◌≤◌, ◌^◌, ◌⊎◌, ◌↔◌, inl, inr, nat_le, Bool, true, false, IsTrue, IsSome, if◌then◌else◌, List, [], ◌∷◌, length, map, slice_index_or, Option, None, Some, MatchOption, refl, sym, ◌∙◌, ap, subst, arith, IfSome}
 use Rattle.std.specs.Prelude.{not}
-use Rattle.std.specs.List.{flat_map, All}
+use Rattle.std.specs.List.{All}
 use Rattle.std.proofs.Math.Nat.{mul-le-mul_right}
-use Rattle.drm_links.specs.Told.{Known, ToldThrough, HasFailed}
+use Rattle.std.proofs.lemmas.List.{get_or-map, length-map}
+use Rattle.std.proofs.lemmas.List.Elements.{All-map}
+use Rattle.drm_links.specs.Told.{Known}
 use Rattle.drm_links.specs.Link.{Answer, Traffic}
-use Rattle.drm_links.specs.Sink.{Output, Outputs, WritesText}
-use Rattle.drm_links.proofs.ToldLemmas.{Outputs-weaker}
+use Rattle.drm_links.specs.Sink.{Output, Outputs}
+use Rattle.drm_links.proofs.ToldLemmas.{Outputs-weaker, written_to_nothing}
 use Rattle.drm_links.specs.Dock.{LinkStart, first_traffic}
 use Rattle.dcp_collect.specs.State.{State, made}
 use Rattle.mod_receiver.specs.Hearing.{AreNext, Heard, HeardTold}
 use Rattle.mod_receiver.specs.declared.rules.Rules.{Rules}
 use Rattle.mod_receiver.specs.Reading.{most_answers}
-use Rattle.mod_receiver.specs.Received.{Reported, Broken, Stopped, IsReportFront, IsReasonable, rules_of}
+use Rattle.mod_receiver.specs.Received.{IsReport, Reported, Broken, Stopped, IsReportFront, IsReasonable, rules_of}
 use Rattle.mod_receiver.specs.Texts.{text_known}
 use Rattle.mod_receiver.specs.Ranges.{AreInRange}
 use Rattle.mod_receiver.specs.Jobs.{IsReady, EndedAs, HasEnded, job_rules, text_of, is_failed, clean_of, IsDone, options_for, IsJob, AreJobs, NoneFailed}
@@ -33,7 +35,7 @@ few_answers rules valid =
     omega (arith, m, i)
 
 -- what was heard of a new link stood ahead of it
-heard_next : (a b : Option Traffic) (start : LinkStart) (answers : List Answer) → HeardTold answers a b → a ≡ Some (first_traffic start) → length answers ≤ 2 ^ 62
+pub heard_next : (a b : Option Traffic) (start : LinkStart) (answers : List Answer) → HeardTold answers a b → a ≡ Some (first_traffic start) → length answers ≤ 2 ^ 62
     → (rest : List Answer) × AreNext start.ahead answers rest
 heard_next None b start answers heard is few = absurd (cc)
 heard_next (Some x) None start answers heard is few =
@@ -44,19 +46,16 @@ heard_next (Some x) (Some y) start answers heard is few =
     let same : x ≡ first_traffic start = cc in
     (y.ahead, subst (λ (t : Traffic). AreNext t.ahead answers y.ahead) same heard.ahead)
 
-text_if : (P : List ℕ → Type 0) (first : Option Output) (told : Bool) (o : Output) → ToldThrough first (if told then Some o else None) (WritesText P) → first ≡ Some (record { written = []; calls = 0 })
-    → IsSome (if told then Some o else None) → P o.written
-text_if P None true o writes is some = absurd (cc)
-text_if P (Some x) true o writes is some =
-    let same : x ≡ record { written = []; calls = 0 } = cc in
-    let written : o.written ≡ writes.0 = writes.1 ∙ ap (λ (u : Output). u.written ++ writes.0) same in
-    subst P (sym written) writes.2
-text_if P first false o writes is some = absurd (cc)
-
 -- what a text that was new has
 pub text_written : (P : List ℕ → Type 0) (first : Known Output) (text : Text) → Outputs first (text_known text) P → first.told ≡ Some (record { written = []; calls = 0 })
     → IsSome (text_known text).told → P text.bytes.items
-text_written P first text writes is some = text_if P first.told (nat_le text.calls (2 ^ 62)) (record { written = text.bytes.items; calls = text.calls }) writes is some
+text_written P first text writes is some =
+    let o : Output = record { written = text.bytes.items; calls = text.calls } in
+    written_to_nothing P first (text_known text) o writes is (told_if o (nat_le text.calls (2 ^ 62)) some)
+  where
+    told_if : (o : Output) (told : Bool) → IsSome (if told then Some o else None) → (if told then Some o else None) ≡ Some o
+    told_if o true some = refl
+    told_if o false some = absurd (cc)
 
 abbrev pub told_of : {L : Type 0} → Job L → Report
 told_of job = record { text = text_of job; clean = clean_of job }
@@ -160,7 +159,7 @@ module _ (rules : Rules) (valid : AreInRange rules) (number : ℕ) (start : Link
 
 -- ---- receivers side by side
 
-module _ {L : Type 0} (known : L → Known Traffic) (rules : Rules) (valid : AreInRange rules) (number : ℕ) (start : LinkStart) (before after : Job L) (is : IsJob rules number before) (told : (known before.link).told ≡ Some (first_traffic start)) (ended : HasEnded known before after) where
+module _ {L : Type 0} (known : L → Known Traffic) (rules : Rules) (number : ℕ) (before after : Job L) (is : IsJob rules number before) (ended : HasEnded known before after) where
   abbrev Was : Option Ended → Type 0
   Was o = MatchOption o ⊥ (EndedAs known before after)
 
@@ -170,67 +169,45 @@ module _ {L : Type 0} (known : L → Known Traffic) (rules : Rules) (valid : Are
   same_number : before.options.feed ≡ number
   same_number = ap (λ (o : Options). o.feed) is.options
 
-  -- the report of one that is done is that of what was ahead of its link
-  pub job_report : HeadlinesFollow → CompletesFollow → IsDone after → IsReportOf rules number start.ahead (told_of after)
-  job_report headlines completes done =
+  -- one that is done has its report
+  job_reported : IsDone after → Reported rules number (Heard (known before.link) (known after.link)) (text_known before.text) (text_known after.text) (clean_of after)
+  job_reported done =
       let was : EndedAs known before after (Done (clean_of after)) = subst Was done.0 ended in
       let raw : Reported (job_rules before) before.options.feed (Heard (known before.link) (known after.link)) (text_known before.text) (text_known after.text) (clean_of after) = was.ends in
-      let reported : Reported rules number (Heard (known before.link) (known after.link)) (text_known before.text) (text_known after.text) (clean_of after) =
       subst (λ n. Reported rules n (Heard (known before.link) (known after.link)) (text_known before.text) (text_known after.text) (clean_of after)) same_number
-      (subst (λ r. Reported r before.options.feed (Heard (known before.link) (known after.link)) (text_known before.text) (text_known after.text) (clean_of after)) same_rules raw) in
-      let live = live_report rules valid number start (known before.link) (known after.link) (text_known before.text) (text_known after.text) told headlines completes (clean_of after) reported in
-      let text : text_of after ≡ live.0.text = text_written (λ t. t ≡ live.0.text) (text_known before.text) after.text live.2 is.text done.1 in
-      subst (λ r. IsReportOf rules number start.ahead r) (λ i. record { text = sym text i; clean = sym live.3 i }) live.1
+      (subst (λ r. Reported r before.options.feed (Heard (known before.link) (known after.link)) (text_known before.text) (text_known after.text) (clean_of after)) same_rules raw)
 
-  -- what is ahead of the link of one that failed breaks off
-  pub job_breaks : is_failed after.ended ≡ true → BreaksOff rules start.ahead
-  job_breaks failed =
-      let was : EndedAs known before after LinkFailed = subst Was (failed_is after.ended failed) ended in
-      let raw : Broken (job_rules before) before.options.feed (Heard (known before.link) (known after.link)) (text_known before.text) (text_known after.text) = was.ends in
-      live_breaks rules valid before.options.feed start (known before.link) (known after.link) (text_known before.text) (text_known after.text) told
-      (subst (λ r. Broken r before.options.feed (Heard (known before.link) (known after.link)) (text_known before.text) (text_known after.text)) same_rules raw)
+  -- and that is of what it has heard
+  pub job_heard : IsDone after → (answers : List Answer) × IsReport rules number answers (text_of after) (clean_of after)
+  job_heard done =
+      let reported = job_reported done in
+      let text : text_of after ≡ reported.whole = text_written (λ t. t ≡ reported.whole) (text_known before.text) after.text reported.text is.text done.1 in
+      (reported.answers, subst (λ t. IsReport rules number reported.answers t (clean_of after)) (sym text) reported.is)
 
--- the count of faults of the link of one that failed rose by one
-pub job_rose : {L : Type 0} (known : L → Known Traffic) (before after : Job L) → HasEnded known before after → is_failed after.ended ≡ true → HasFailed (known before.link) (known after.link)
-job_rose {L} known before after ended failed =
-    let P : Option Ended → Type 0 = λ o. MatchOption o ⊥ (EndedAs known before after) in
-    let was : EndedAs known before after LinkFailed = subst P (failed_is after.ended failed) ended in
-    was.link.once refl
+  module _ (valid : AreInRange rules) (start : LinkStart) (told : (known before.link).told ≡ Some (first_traffic start)) where
+    -- the report of one that is done is that of what was ahead of its link
+    pub job_report : HeadlinesFollow → CompletesFollow → IsDone after → IsReportOf rules number start.ahead (told_of after)
+    job_report headlines completes done =
+        let live = live_report rules valid number start (known before.link) (known after.link) (text_known before.text) (text_known after.text) told headlines completes (clean_of after) (job_reported done) in
+        let text : text_of after ≡ live.0.text = text_written (λ t. t ≡ live.0.text) (text_known before.text) after.text live.2 is.text done.1 in
+        subst (λ r. IsReportOf rules number start.ahead r) (λ i. record { text = sym text i; clean = sym live.3 i }) live.1
 
--- ---- by place
+    -- what is ahead of the link of one that failed breaks off
+    pub job_breaks : is_failed after.ended ≡ true → BreaksOff rules start.ahead
+    job_breaks failed =
+        let was : EndedAs known before after LinkFailed = subst Was (failed_is after.ended failed) ended in
+        let raw : Broken (job_rules before) before.options.feed (Heard (known before.link) (known after.link)) (text_known before.text) (text_known after.text) = was.ends in
+        live_breaks rules valid before.options.feed start (known before.link) (known after.link) (text_known before.text) (text_known after.text) told
+        (subst (λ r. Broken r before.options.feed (Heard (known before.link) (known after.link)) (text_known before.text) (text_known after.text)) same_rules raw)
 
-pub same_index : {X : Type 0} (xs : List X) (k : ℕ) (d e : X) → k < length xs → slice_index_or xs k d ≡ slice_index_or xs k e
-same_index [] k d e within = absurd (omega arith)
-same_index (x ∷ xs) zero d e within = refl
-same_index (x ∷ xs) (suc k) d e within = same_index xs k d e (omega arith)
-
-pub index_of : {X : Type 0} (xs : List X) (k : ℕ) → k < length xs → (x : X) × ((d : X) → slice_index_or xs k d ≡ x)
-index_of [] k within = absurd (omega arith)
-index_of (x ∷ xs) zero within = (x, λ d. refl)
-index_of (x ∷ xs) (suc k) within = let more = index_of xs k (omega arith) in (more.0, more.1)
-
-pub map_at : {X Y : Type 0} (f : X → Y) (xs : List X) (k : ℕ) (d : X) (e : Y) → k < length xs → slice_index_or (map f xs) k e ≡ f (slice_index_or xs k d)
-map_at f [] k d e within = absurd (omega arith)
-map_at f (x ∷ xs) zero d e within = refl
-map_at f (x ∷ xs) (suc k) d e within = map_at f xs k d e (omega arith)
-
-pub map_size : {X Y : Type 0} (f : X → Y) (xs : List X) → length (map f xs) ≡ length xs
-map_size f [] = refl
-map_size f (x ∷ xs) = let more : length (map f xs) ≡ length xs = map_size f xs in omega (arith, more)
-
-pub flat_map_map : {X Y : Type 0} (f : X → Y) (g : Y → List ℕ) (xs : List X) → flat_map g (map f xs) ≡ flat_map (λ x. g (f x)) xs
-flat_map_map f g [] = refl
-flat_map_map f g (x ∷ xs) = ap (λ t. g (f x) ++ t) (flat_map_map f g xs)
+-- ---- all receivers
 
 pub all_told : {L : Type 0} (jobs : List (Job L)) → All (λ job. IsTrue (clean_of job)) jobs ↔ All (λ (r : Report). IsTrue r.clean) (map told_of jobs)
-all_told {L} jobs = (
+all_told jobs = (
+  All-map (λ (r : Report). IsTrue r.clean) told_of jobs,
   (λ all k d within.
-      let inside : k < length jobs = (let size : length (map told_of jobs) ≡ length jobs = map_size told_of jobs in omega (arith, size, within)) in
-      let job = (index_of jobs k inside).0 in
-      subst (λ (r : Report). IsTrue r.clean) (sym (map_at told_of jobs k job d inside)) (all k job inside)),
-  (λ all k d within.
-      let inside : k < length (map told_of jobs) = (let size : length (map told_of jobs) ≡ length jobs = map_size told_of jobs in omega (arith, size, within)) in
-      subst (λ (r : Report). IsTrue r.clean) (map_at told_of jobs k d (told_of d) within) (all k (told_of d) inside)),
+      let inside : k < length (map told_of jobs) = (let size : length (map told_of jobs) ≡ length jobs = length-map jobs told_of in omega (arith, size, within)) in
+      subst (λ (r : Report). IsTrue r.clean) (get_or-map told_of jobs k d (told_of d) within) (all k (told_of d) inside)),
 )
 
 -- ---- whether some link failed

@@ -1,4 +1,5 @@
 pub mod Printing
+pub mod Gathering
 pub mod Composing
 pub mod OneReading
 pub mod Reporting
@@ -14,4 +15,3 @@ pub mod JobLemmas
 pub mod Unbroken
 pub mod CaptureReading
 pub mod AtOnce
-pub mod Listing

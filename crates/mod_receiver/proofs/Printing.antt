@@ -5,10 +5,11 @@ use Rattle.std.proofs.lemmas.List.Concat.{flat_map-append}
 use Rattle.drm_links.specs.Told.{Known}
 use Rattle.drm_links.specs.Sink.{Output, Outputs, IsFront, IsFrontBehind}
 use Rattle.drm_links.proofs.ToldLemmas.{Outputs-then, Outputs-nothing, Outputs-weaker}
+use Rattle.drm_links.proofs.WritingLemmas.{front_then}
 use Rattle.dcp_collect.specs.State.{State, ready, after_item, after_next, after_finish}
 use Rattle.dcp_collect.specs.Runs.{Item, Packet, Lost, Damaged, IsItem, Gives, up_to}
-use Rattle.collect_laws.specs.Laws.{IsFit, GivingEnds}
-use Rattle.collect_laws.proofs.Runs.{Given, given_more, given_all}
+use Rattle.collect_laws.specs.Laws.{Given, IsFit, GivingEnds}
+use Rattle.collect_laws.proofs.Runs.{given_more, given_all, gives_after}
 use Rattle.collect_laws.proofs.Ending.{giving_ends}
 use Rattle.collect_laws.proofs.Fit.{fit_given}
 use Rattle.dcp_collect.proofs.Decoded.{decoded_or_none}
@@ -21,7 +22,6 @@ use Rattle.report_lines.specs.declared.report.Sums.{Sums}
 use Rattle.report_lines.specs.Report.{step_text}
 use Rattle.mod_receiver.specs.Reports.{steps_text}
 use Rattle.mod_receiver.specs.Tallies.{Tallied, counted, one_more_item}
-use Rattle.mod_receiver.specs.Received.{GivesFirst}
 use Rattle.mod_receiver.specs.Printed.{items_in, is_full, left_of, steps_before, with_steps, KeepsPace, Prints, PrintsReady, PrintsFront}
 
 -- whatever a collector keeps, giving what is ready comes to an end
@@ -54,7 +54,7 @@ up_to_join (Some told) n xs ys =
 
 -- ---- a feed's number of calls
 
-stepped_calls : (f : TrackerState) (seen : Option Seen) → (stepped f seen).calls ≡ f.calls + 1
+pub stepped_calls : (f : TrackerState) (seen : Option Seen) → (stepped f seen).calls ≡ f.calls + 1
 stepped_calls f None = refl
 stepped_calls f (Some seen) = refl
 
@@ -93,7 +93,7 @@ text_more ss ts = flat_map-append step_text ss ts
 
 -- ---- what is printed
 
-pub prints_none : (told : Option ℕ) (f : TrackerState) (t : Tallied) (a : Known Output) → Prints told f f t t a a []
+unfoldable pub prints_none : (told : Option ℕ) (f : TrackerState) (t : Tallied) (a : Known Output) → Prints told f f t t a a []
 prints_none None f t a = record { steps = []; feeds = refl; tally = refl; text = Outputs-nothing a (λ x. x ≡ []) refl }
 prints_none (Some told) f t a = record { steps = []; feeds = take_nothing f (told - f.calls); tally = refl; text = Outputs-nothing a (λ x. x ≡ []) refl }
   where
@@ -101,7 +101,7 @@ prints_none (Some told) f t a = record { steps = []; feeds = take_nothing f (tol
     take_nothing f zero = refl
     take_nothing f (suc n) = refl
 
-pub prints_then : (told : Option ℕ) (f g h : TrackerState) (t u v : Tallied) (a b d : Known Output) (xs ys : List Item)
+unfoldable pub prints_then : (told : Option ℕ) (f g h : TrackerState) (t u v : Tallied) (a b d : Known Output) (xs ys : List Item)
     → Prints told f g t u a b xs → Prints told g h u v b d ys → Prints told f h t v a d (xs ++ ys)
 prints_then told f g h t u v a b d xs ys p q = record {
   steps = p.steps ++ q.steps;
@@ -161,10 +161,10 @@ pub feeds_one : (told : Option ℕ) (f : TrackerState) (item : Item) (step : Fee
 feeds_one told f item step room is =
     subst (λ l. Feeds f l (step ∷ []) (after_step f step)) (sym (up_to_one told f.calls item room)) (is, refl)
 
-one_text : (step : FeedStep) → step_text step ≡ steps_text (step ∷ [])
+pub one_text : (step : FeedStep) → step_text step ≡ steps_text (step ∷ [])
 one_text step = sym (append-nil (step_text step))
 
-pub prints_one : (told : Option ℕ) (f f' : TrackerState) (t t' : Tallied) (a b : Known Output) (item : Item) (step : FeedStep)
+unfoldable pub prints_one : (told : Option ℕ) (f f' : TrackerState) (t t' : Tallied) (a b : Known Output) (item : Item) (step : FeedStep)
     → is_full told f.calls ≡ false → IsStep f item step → f' ≡ after_step f step → t' ≡ counted t step.item → Outputs a b (λ x. x ≡ step_text step)
     → Prints told f f' t t' a b (item ∷ [])
 prints_one told f f' t t' a b item step room is after counts text = record {
@@ -176,20 +176,10 @@ prints_one told f f' t t' a b item step room is after counts text = record {
 
 -- ---- fronts
 
-pub front_more : (xs ys t : List ℕ) → IsFront xs t → IsFront (xs ++ ys) t
-front_more xs ys t (rest, e) = (rest ++ ys, ap (λ l. l ++ ys) e ∙ append_assoc t rest ys)
-
-pub front_then : (xs ys : List ℕ) (a b c : Known Output) → Outputs a b (λ t. t ≡ xs) → Outputs b c (IsFront ys) → Outputs a c (IsFront (xs ++ ys))
-front_then xs ys a b c p q = Outputs-then (λ t. t ≡ xs) (IsFront ys) (IsFront (xs ++ ys)) a b c p q
-    (λ s t e (rest, f). (rest, ap (λ l. l ++ ys) (sym e) ∙ ap (λ l. s ++ l) f ∙ sym (append_assoc s t rest)))
-
 -- a front behind what was written before
 pub front_further : (ws xs ys : List ℕ) (a b c : Known Output) → Outputs a b (λ t. t ≡ ws) → Outputs b c (IsFrontBehind xs ys) → Outputs a c (IsFrontBehind (ws ++ xs) ys)
 front_further ws xs ys a b c p q = Outputs-then (λ t. t ≡ ws) (IsFrontBehind xs ys) (IsFrontBehind (ws ++ xs) ys) a b c p q
     (λ s t e (front, f, is). (front, f, ap (λ l. l ++ t) e ∙ ap (λ l. ws ++ l) is ∙ sym (append_assoc ws xs front)))
-
-pub nothing_front : (xs : List ℕ) (a : Known Output) → Outputs a a (IsFront xs)
-nothing_front xs a = Outputs-nothing a (IsFront xs) (xs, refl)
 
 -- ---- what a loop over the ready items keeps
 
@@ -197,10 +187,6 @@ pub record Drained (told : Option ℕ) (c d : State) (f g : TrackerState) (t u :
   pub given : Given c items d
   pub prints : Prints told f g t u a b items
   pub pace : KeepsPace told d g u
-
-given_first : (items : List Item) (c d : State) → Given c items d → GivesFirst c items
-given_first [] c d g = tt
-given_first (item ∷ items) c d g = (g.0, g.1, given_first items (after_item c) d g.2)
 
 number_is : (c : State) (item : Item) → IsItem c item → number_of item ≡ c.next
 number_is c (Packet q bytes) is = is.0
@@ -229,14 +215,14 @@ pace_below (Some told) c f t pace =
     let p : f.calls ≡ min c.next told = pace.calls in
     omega (arith, i, p)
 
-pace_one : (told : Option ℕ) (next n m : ℕ) → n ≡ steps_before told next → is_full told n ≡ false → m ≡ n + 1 → m ≡ steps_before told (next + 1)
+pub pace_one : (told : Option ℕ) (next n m : ℕ) → n ≡ steps_before told next → is_full told n ≡ false → m ≡ n + 1 → m ≡ steps_before told (next + 1)
 pace_one None next n m e room f = let p : n ≡ next = e in omega (arith, p, f)
 pace_one (Some told) next n m e room f = let l : n < told = is_left told n room in let p : n ≡ min next told = e in omega (arith, l, p, f)
 
-pub drained_none : (told : Option ℕ) (c : State) (f : TrackerState) (t : Tallied) (a : Known Output) → KeepsPace told c f t → Drained told c c f f t t a a []
+unfoldable pub drained_none : (told : Option ℕ) (c : State) (f : TrackerState) (t : Tallied) (a : Known Output) → KeepsPace told c f t → Drained told c c f f t t a a []
 drained_none told c f t a pace = record { given = refl; prints = prints_none told f t a; pace = pace }
 
-is_next : (d e : State) → ready d ≡ true → e ≡ after_next d → e ≡ after_item d
+pub is_next : (d e : State) → ready d ≡ true → e ≡ after_next d → e ≡ after_item d
 is_next d e r n = n ∙ rw r refl
 
 end_by : (b : Bool) (c d : State) → d.end ≡ c.end → (if b then d else c).end ≡ c.end
@@ -248,7 +234,7 @@ pub next_end : (c : State) → (after_next c).end ≡ c.end
 next_end c = end_by (ready c) c (after_item c) refl
 
 -- an item was given and written
-pub drained_one : (told : Option ℕ) (c d e : State) (f g h : TrackerState) (t u v : Tallied) (a b b' : Known Output) (items : List Item) (item : Item) (step : FeedStep)
+unfoldable pub drained_one : (told : Option ℕ) (c d e : State) (f g h : TrackerState) (t u v : Tallied) (a b b' : Known Output) (items : List Item) (item : Item) (step : FeedStep)
     → Drained told c d f g t u a b items → ready d ≡ true → IsItem d item → e ≡ after_next d → is_full told (items_in u.sums) ≡ false
     → IsStep g item step → h ≡ after_step g step → v ≡ counted u step.item → Outputs b b' (λ x. x ≡ step_text step)
     → Drained told c e f h t v a b' (items ++ item ∷ [])
@@ -279,10 +265,6 @@ drained_all told c d e f g t u a b items i fit r n =
       drained = λ room. refl;
     }
 
-given_then : (items more : List Item) (c d e : State) → Given c items d → Gives d more e → Gives c (items ++ more) e
-given_then [] more c d e given gives = subst (λ m. Gives m more e) given gives
-given_then (item ∷ items) more c d e given gives = (given.0, given.1, given_then items more (after_item c) d e given.2 gives)
-
 -- the told number was given: what else is ready isn't written
 pub drained_full : (told : Option ℕ) (c d : State) (f g : TrackerState) (t u : Tallied) (a b : Known Output) (items : List Item)
     → Drained told c d f g t u a b items → IsFit d → is_full told (items_in u.sums) ≡ true → PrintsReady told c d f g t u a b
@@ -292,14 +274,14 @@ drained_full told c d f g t u a b items i fit full =
     record {
       items = items ++ more.0;
       last = more.1;
-      gives = given_then items more.0 c d more.1 i.given more.2;
+      gives = gives_after items more.0 c d more.1 i.given more.2;
       fit = fit_given more.0 d more.1 more.2 fit;
       prints = prints_then told f g g t u u a b b items more.0 i.prints (prints_full told g u b more.0 full');
       drained = λ room. absurd (let e : false ≡ true = sym room ∙ full in cc);
     }
 
 -- a front of an item's line was written
-pub drained_front : (told : Option ℕ) (c d : State) (f g : TrackerState) (t u : Tallied) (a b b' : Known Output) (items : List Item) (item : Item) (step : FeedStep)
+unfoldable pub drained_front : (told : Option ℕ) (c d : State) (f g : TrackerState) (t u : Tallied) (a b b' : Known Output) (items : List Item) (item : Item) (step : FeedStep)
     → Drained told c d f g t u a b items → ready d ≡ true → IsItem d item → is_full told (items_in u.sums) ≡ false
     → IsStep g item step → Outputs b b' (IsFront (step_text step)) → PrintsFront told c f a b'
 drained_front told c d f g t u a b b' items item step i r is room stepping text =
@@ -308,7 +290,8 @@ drained_front told c d f g t u a b b' items item step i r is room stepping text 
     let whole : steps_text ss ++ step_text step ≡ steps_text (ss ++ step ∷ []) = ap (λ l. steps_text ss ++ l) (one_text step) ∙ sym (text_more ss (step ∷ [])) in
     record {
       items = items ++ item ∷ [];
-      gives = given_first (items ++ item ∷ []) c (after_item d) (given_more items c d item i.given r is);
+      last = after_item d;
+      gives = given_more items c d item i.given r is;
       steps = ss ++ step ∷ [];
       after = after_step g step;
       feeds = feeds_left told f g (after_step g step) items (item ∷ []) ss (step ∷ []) i.prints.feeds (feeds_one told g item step room' stepping);
@@ -344,7 +327,8 @@ module _ (told : Option ℕ) (mid c d : State) (f : TrackerState) (t : Tallied) 
       let full' : is_full told f.calls ≡ true = ap (is_full told) (sym counted) ∙ full in
       record {
         items = [];
-        gives = tt;
+        last = after_finish mid told;
+        gives = refl;
         steps = p.steps;
         after = p.after;
         feeds = subst (λ l. Feeds f l p.steps p.after) (none_below told f.calls p.items full' ∙ sym (none_below told f.calls [] full')) p.feeds;

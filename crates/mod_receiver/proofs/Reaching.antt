@@ -3,7 +3,7 @@ use Rattle.std.proofs.Common.{◌≡◌, ℕ, zero, suc, ◌+◌, ◌-◌, ◌*�
 use Rattle.std.proofs.Math.Nat.{mul-le-mul_right, suc-mul}
 use Rattle.drm_links.specs.Link.{Answer, Datagram}
 use Rattle.drm_links.specs.Told.{Known}
-use Rattle.drm_links.specs.Sink.{Output, Outputs, IsFront}
+use Rattle.drm_links.specs.Sink.{Output, Outputs}
 use Rattle.drm_links.proofs.ToldLemmas.{Outputs-then, Outputs-nothing}
 use Rattle.dcp_collect.specs.declared.taken.Taken.{Taken}
 use Rattle.dcp_collect.specs.State.{State, made, ready}
@@ -23,7 +23,7 @@ use Rattle.mod_receiver.specs.Printed.{items_in, is_full, left_of, with_steps, K
 use Rattle.mod_receiver.proofs.Going.{goes_none, goes_more, is_open, datagrams_more, idles_datagram, not_ended, none_ended}
 use Rattle.mod_receiver.proofs.Giving.{gave_none, gave_datagram, gives_ready, none_given, steps_many}
 use Rattle.mod_receiver.proofs.Tallying.{steps_counted, answer_noted, refusals_few}
-use Rattle.mod_receiver.proofs.Printing.{taken_length, feeds_calls, feeds_left, text_more, front_then}
+use Rattle.mod_receiver.proofs.Printing.{taken_length, feeds_calls, feeds_left, text_more}
 
 pub one_way : OneRun
 one_way = one_run one_datagram one_decoding
@@ -45,9 +45,6 @@ pub texts_join : (ss ts : List FeedStep) (a b d : Known Output) → Outputs a b 
 texts_join ss ts a b d p q =
     Outputs-then (λ x. x ≡ steps_text ss) (λ x. x ≡ steps_text ts) (λ x. x ≡ steps_text (ss ++ ts)) a b d p q
     (λ x y e g. ap (λ l. l ++ y) e ∙ ap (λ l. steps_text ss ++ l) g ∙ sym (text_more ss ts))
-
-pub front_joins : (ss ts : List FeedStep) (a b d : Known Output) → Outputs a b (λ x. x ≡ steps_text ss) → Outputs b d (IsFront (steps_text ts)) → Outputs a d (IsFront (steps_text (ss ++ ts)))
-front_joins ss ts a b d p q = subst (λ l. Outputs a d (IsFront l)) (sym (text_more ss ts)) (front_then (steps_text ss) (steps_text ts) a b d p q)
 
 -- ---- what the loop keeps: nothing is finished yet
 

@@ -6,8 +6,8 @@ use Rattle.circular_buffer.specs.Buffer.{keep_last}
 use Rattle.drm_links.specs.Told.{Known}
 use Rattle.drm_links.specs.Link.{Answer}
 use Rattle.drm_links.specs.Sink.{Output, Outputs, IsFront, IsFrontBehind}
-use Rattle.drm_links.proofs.ToldLemmas.{Outputs-then, Outputs-weaker}
-use Rattle.drm_links.proofs.WritingLemmas.{front_behind}
+use Rattle.drm_links.proofs.ToldLemmas.{Outputs-weaker}
+use Rattle.drm_links.proofs.WritingLemmas.{text_then, front_more, front_then, front_behind}
 use Rattle.dcp_collect.specs.declared.taken.Taken.{Taken}
 use Rattle.dcp_collect.specs.State.{State, made, after_finish}
 use Rattle.dcp_collect.specs.Runs.{Item as Given, Run, up_to}
@@ -28,14 +28,8 @@ use Rattle.mod_receiver.proofs.AtOnce.{few_given}
 use Rattle.mod_receiver.proofs.Going.{goes_none}
 use Rattle.mod_receiver.proofs.Refusing.{AreTold}
 use Rattle.mod_receiver.proofs.Tallying.{steps_counted, refusals_told, last_told}
-use Rattle.mod_receiver.proofs.Printing.{front_more, front_then, front_further, Rest, the_rest, the_front}
+use Rattle.mod_receiver.proofs.Printing.{front_further, Rest, the_rest, the_front}
 use Rattle.mod_receiver.proofs.Reaching.{feeds_more, texts_join}
-
--- ---- texts behind one another
-
-pub text_then : (xs ys : List ℕ) (a b d : Known Output) → Outputs a b (λ x. x ≡ xs) → Outputs b d (λ x. x ≡ ys) → Outputs a d (λ x. x ≡ xs ++ ys)
-text_then xs ys a b d p q =
-    Outputs-then (λ x. x ≡ xs) (λ x. x ≡ ys) (λ x. x ≡ xs ++ ys) a b d p q (λ x y e f. ap (λ l. l ++ y) e ∙ ap (λ l. xs ++ l) f)
 
 -- ---- whether a report is clean
 
@@ -297,6 +291,7 @@ rest_front rules some feed hears a0 a b d c c' f t word first read counted finis
                 state = after_finish read.mid rules.frames;
                 comes = inr (word, refl, read.ends, refl);
                 more = rest.items;
+                last = rest.last;
                 gives = rest.gives;
                 items_are = refl;
               };

@@ -182,6 +182,7 @@ on_stop rules hears hears' a b d c f t taken idles bytes r came stops =
           state = stops.kept;
           comes = inl (bytes, stops.answer, refl, stops.takes);
           more = p.items;
+          last = p.last;
           gives = p.gives;
           items_are = refl;
         };

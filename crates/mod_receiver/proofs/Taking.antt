@@ -2,8 +2,6 @@
 use Rattle.std.proofs.Common.{◌≡◌, ℕ, Bool, true, false, if◌then◌else◌, List, [], ◌∷◌, Option, None, Some, refl, sym, ◌∙◌, ap, subst, inl, inr, not}
 use Rattle.std.specs.Prelude.{ℤ, pos, negsuc}
 use Rattle.std.specs.List.{find}
-use Rattle.drm_links.specs.Told.{Known}
-use Rattle.drm_links.specs.Sink.{Output}
 use Rattle.dcp_pft.specs.declared.fault.PftFault.{PftFault}
 use Rattle.dcp_pft.specs.declared.fault.PftFault.TheVariants as pft
 use Rattle.dcp_pft.specs.Faults.{IsFirst, Row, table}
@@ -21,7 +19,7 @@ use Rattle.drm_switches.specs.Tracker.{TrackerState}
 use Rattle.report_lines.specs.FaultWords.{IsTold}
 use Rattle.mod_receiver.specs.Reports.{is_refused}
 use Rattle.mod_receiver.specs.Tallies.{Tallied, noted}
-use Rattle.mod_receiver.specs.Printed.{items_in, steps_before, KeepsPace, PrintsReady, PrintsFront, PrintsTaken, TakesFront}
+use Rattle.mod_receiver.specs.Printed.{items_in, steps_before, KeepsPace}
 
 noted_by : (b : Bool) (t u : Tallied) → items_in u.sums ≡ items_in t.sums → items_in (if b then u else t).sums ≡ items_in t.sums
 noted_by true t u e = e
@@ -43,15 +41,6 @@ pace_taken told c after f t u number bytes a pace takes notes = record {
   calls = pace.calls ∙ ap (steps_before told) (sym (takes_next c after bytes a takes));
   items = ap (λ (w : Tallied). items_in w.sums) notes ∙ noted_items t number a ∙ pace.items;
 }
-
-pub taken_ready : (told : Option ℕ) (number : ℕ) (bytes : List ℕ) (c after d : State) (f g : TrackerState) (t u v : Tallied) (a b : Known Output) (taken : Taken)
-    → Takes c bytes taken after → u ≡ noted t number taken → PrintsReady told after d f g u v a b → PrintsTaken told number bytes c d f g t v a b
-taken_ready told number bytes c after d f g t u v a b taken takes notes ready =
-    record { answer = taken; kept = after; takes = takes; ready = subst (λ w. PrintsReady told after d f g w v a b) notes ready }
-
-pub taken_front : (told : Option ℕ) (bytes : List ℕ) (c after : State) (f : TrackerState) (a b : Known Output) (taken : Taken)
-    → Takes c bytes taken after → PrintsFront told after f a b → TakesFront told bytes c f a b
-taken_front told bytes c after f a b taken takes front = record { answer = taken; kept = after; takes = takes; front = front }
 
 -- ---- what is refused is told of
 

@@ -7,7 +7,7 @@ use Rattle.drm_links.specs.Sink.{Output, Outputs, IsFront, IsFrontBehind}
 use Rattle.dcp_collect.specs.declared.taken.Taken.{Taken}
 use Rattle.dcp_collect.specs.State.{State, after_finish}
 use Rattle.dcp_collect.specs.Runs.{Item, Takes, Gives, up_to}
-use Rattle.collect_laws.specs.Laws.{IsFit}
+use Rattle.collect_laws.specs.Laws.{Given, IsFit}
 use Rattle.drm_switches.specs.Tracker.{TrackerState, new_tracker}
 use Rattle.mod_feed.specs.Feeding.{FeedStep, Feeds}
 use Rattle.report_lines.specs.declared.report.EndWord.{EndWord}
@@ -19,7 +19,7 @@ use Rattle.mod_receiver.specs.declared.stop.Stop.TheVariants as stop
 use Rattle.mod_receiver.specs.Reading.{Gave, EndsBy, GoesOn, IsBroken, most_answers}
 use Rattle.mod_receiver.specs.Reports.{refusals, refused_text, steps_text, sums_of}
 use Rattle.mod_receiver.specs.Tallies.{Tallied, counted, noted}
-use Rattle.mod_receiver.specs.Received.{GivesFirst, Stepped}
+use Rattle.mod_receiver.specs.Received.{Stepped}
 
 -- how many items these sums count
 abbrev pub items_in : Sums → ℕ
@@ -72,7 +72,8 @@ pub record PrintsReady (told : Option ℕ) (c d : State) (f f' : TrackerState) (
 -- a front of the lines of some first items that are ready was written
 pub record PrintsFront (told : Option ℕ) (c : State) (f : TrackerState) (a b : Known Output) : Type 0 where
   pub items : List Item
-  pub gives : GivesFirst c items
+  pub last : State
+  pub gives : Given c items last
   pub steps : List FeedStep
   pub after : TrackerState
   pub feeds : Feeds f (up_to (left_of told f.calls) items) steps after

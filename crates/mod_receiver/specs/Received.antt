@@ -1,11 +1,12 @@
 -- What a receiver does.
-use Rattle.std.specs.Prelude.{ℕ, ◌≡◌, ◌≤◌, ◌<◌, ◌⊎◌, Bool, true, IfSome, List, [], ◌∷◌, ◌++◌, length}
+use Rattle.std.specs.Prelude.{ℕ, ◌≡◌, ◌≤◌, ◌<◌, ◌⊎◌, Bool, IfSome, List, [], ◌∷◌, ◌++◌, length}
 use Rattle.drm_links.specs.Told.{Known}
 use Rattle.drm_links.specs.Link.{Answer, Datagram, Traffic}
 use Rattle.drm_links.specs.Sink.{Output, Outputs, IsFront, IsFrontBehind}
 use Rattle.dcp_collect.specs.declared.taken.Taken.{Taken}
-use Rattle.dcp_collect.specs.State.{State, ready, after_item, after_finish}
-use Rattle.dcp_collect.specs.Runs.{Item, IsItem, Takes, Run, up_to}
+use Rattle.dcp_collect.specs.State.{State, after_finish}
+use Rattle.dcp_collect.specs.Runs.{Item, Takes, Run, up_to}
+use Rattle.collect_laws.specs.Laws.{Given}
 use Rattle.drm_switches.specs.Tracker.{TrackerState, new_tracker}
 use Rattle.mod_feed.specs.Feeding.{FeedStep, Feeds}
 use Rattle.report_lines.specs.declared.report.EndWord.{EndWord}
@@ -45,11 +46,6 @@ pub record IsBrokenOff (rules : Rules) (feed : ℕ) (answers : List Answer) (tex
   pub feeds : Feeds new_tracker (up_to rules.frames items) steps after
   pub text_is : text ≡ feed_line feed ++ steps_text steps
 
--- some first items that a collector gives, each while it is ready
-abbrev pub GivesFirst : State → List Item → Type 0
-GivesFirst c [] = Unit {0}
-GivesFirst c (item ∷ items) = (ready c ≡ true) × IsItem c item × GivesFirst (after_item c) items
-
 -- what a collector comes to by the last of these answers: it takes that datagram, or it is finished where the reading is
 abbrev pub ComesTo : Rules → List Answer → List Answer → State → State → Type 0
 ComesTo rules answers later mid c =
@@ -68,7 +64,8 @@ pub record GivesSome (rules : Rules) (answers : List Answer) (items : List Item)
   pub state : State
   pub comes : ComesTo rules answers later mid state
   pub more : List Item
-  pub gives : GivesFirst state more
+  pub last : State
+  pub gives : Given state more last
   pub items_are : items ≡ up_to rules.frames (during ++ more)
 
 -- the steps of all that was given before the last answer, and of what came then

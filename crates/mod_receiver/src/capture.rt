@@ -21,7 +21,7 @@ use drm_bits::NoMemory;
 use drm_capture::{CaptureStop, Packets};
 use drm_links::{Sink, Source, WriteFault};
 use mod_feed::Feed;
-use report_lines::{EndWord, write_feed};
+use report_lines::{EndWord, LineWriter, write_feed};
 use std::alloc::Global;
 
 /// Why the report of a capture isn't whole.
@@ -84,6 +84,7 @@ pub fn receive_capture<I: Source, O: Sink>(
 {
     let mut collector = Collector::make(alloc, rules.window, rules.first)?;
     let mut tally = Tally::new(alloc)?;
+    let mut lines = LineWriter::make(alloc)?;
     let mut packets = Packets::make(alloc)?;
     let mut feed = Feed::new();
     write_feed(out, 1)?;
@@ -91,6 +92,7 @@ pub fn receive_capture<I: Source, O: Sink>(
         &mut collector,
         &mut feed,
         &mut tally,
+        &mut lines,
         &mut packets,
         rules,
         input,
@@ -100,6 +102,7 @@ pub fn receive_capture<I: Source, O: Sink>(
         &mut collector,
         &mut feed,
         &mut tally,
+        &mut lines,
         rules.frames,
         word,
         out,
@@ -111,6 +114,7 @@ fn read_packets<I: Source, O: Sink>(
     collector: &mut Collector,
     feed: &mut Feed,
     tally: &mut Tally,
+    lines: &mut LineWriter,
     packets: &mut Packets,
     rules: &Rules,
     input: &mut I,
@@ -139,6 +143,7 @@ fn read_packets<I: Source, O: Sink>(
             collector,
             feed,
             tally,
+            lines,
             rules.frames,
             u64::from(taken),
             packet.bytes,

@@ -19,7 +19,7 @@ use crate::tally::Tally;
 use dcp_collect::Collector;
 use drm_links::{Came, Link, Sink, WriteFault};
 use mod_feed::Feed;
-use report_lines::{EndWord, write_feed};
+use report_lines::{EndWord, LineWriter, write_feed};
 use std::alloc::Global;
 
 // Writes the items that are ready, up to the told number of them. Nothing more is taken out of the collector then.
@@ -27,6 +27,7 @@ fn drain<O: Sink>(
     collector: &mut Collector,
     feed: &mut Feed,
     tally: &mut Tally,
+    lines: &mut LineWriter,
     told: Option<u64>,
     out: &mut O,
 ) -> Result<(), WriteFault>
@@ -42,15 +43,16 @@ fn drain<O: Sink>(
     ensures end { collector.new.end ≡ collector.old.end }
     ensures cause { HasCause (O.known out.old) (O.known out.new) (IsErr result) }
 {
+    lines.clear();
     while !is_full(tally, told) {
         let Some(given) = collector.next() else {
-            return Ok(());
+            return lines.flush(out);
         };
         let step = feed.step(given);
         tally.count(&step.item);
-        tally.write_item(out, &step)?;
+        lines.put_step(out, &step)?;
     }
-    Ok(())
+    lines.flush(out)
 }
 
 // Whether the told number of items was given.
@@ -69,6 +71,7 @@ pub(crate) fn take<O: Sink>(
     collector: &mut Collector,
     feed: &mut Feed,
     tally: &mut Tally,
+    lines: &mut LineWriter,
     told: Option<u64>,
     number: u64,
     datagram: &[u8],
@@ -91,7 +94,7 @@ pub(crate) fn take<O: Sink>(
 {
     let taken = collector.take(datagram);
     tally.note(number, taken);
-    drain(collector, feed, tally, told, out)
+    drain(collector, feed, tally, lines, told, out)
 }
 
 // Reads answers of the link, takes each datagram and writes what is ready, until the reading is finished.
@@ -99,6 +102,7 @@ fn read_all<L: Link, O: Sink>(
     collector: &mut Collector,
     feed: &mut Feed,
     tally: &mut Tally,
+    lines: &mut LineWriter,
     link: &mut L,
     options: &Options,
     buffer: &mut [u8],
@@ -130,6 +134,7 @@ fn read_all<L: Link, O: Sink>(
                     collector,
                     feed,
                     tally,
+                    lines,
                     options.frames,
                     u64::from(taken),
                     &buffer[..len],
@@ -182,9 +187,13 @@ pub(crate) fn write_report<L: Link, O: Sink>(
     ensures write { HasCause (O.known out.old) (O.known out.new) (result ≡ Err Stop.Write) }
 {
     let mut tally = Tally::new(alloc)?;
+    let mut lines = LineWriter::make(alloc)?;
     write_feed(out, options.feed)?;
-    let word = read_all(collector, feed, &mut tally, link, options, buffer, out)?;
-    Ok(write_rest(collector, feed, &mut tally, options.frames, word, out)?)
+    let word = read_all(
+        collector, feed, &mut tally, &mut lines, link, options, buffer, out,
+    )?;
+    let frames = options.frames;
+    Ok(write_rest(collector, feed, &mut tally, &mut lines, frames, word, out)?)
 }
 
 /// Writes the rest of a report that ends for this reason: what is ready then, and which datagrams were refused. Answers
@@ -193,6 +202,7 @@ pub(crate) fn write_rest<O: Sink>(
     collector: &mut Collector,
     feed: &mut Feed,
     tally: &mut Tally,
+    lines: &mut LineWriter,
     frames: Option<u64>,
     word: EndWord,
     out: &mut O,
@@ -209,7 +219,7 @@ pub(crate) fn write_rest<O: Sink>(
     ensures cause { HasCause (O.known out.old) (O.known out.new) (IsErr result) }
 {
     collector.finish(frames);
-    drain(collector, feed, tally, frames, out)?;
+    drain(collector, feed, tally, lines, frames, out)?;
     tally.write_refused(out)?;
     tally.write_end(out, word)?;
     Ok(tally.is_clean())

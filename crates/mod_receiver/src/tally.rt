@@ -1,25 +1,22 @@
-//! What a report tells behind its items: how many there were of each kind, and which datagrams were refused; and the
-//! writing of an item.
+//! What a report tells behind its items: how many there were of each kind, and which datagrams were refused.
 
 ghost use Rattle.std.specs.Prelude.{◌≡◌, ◌+◌, ◌<◌, ◌^◌, ◌↔◌, IsTrue, IfOk};
 ghost use Rattle.std.specs.List.{AllByRecursion};
 ghost use Rattle.drm_links.specs.Sink.{Writes};
 ghost use Rattle.report_lines.specs.FaultWords.{IsTold};
-ghost use Rattle.report_lines.specs.Report.{end_line, step_text};
-ghost use Rattle.mod_feed.specs.Items.{item_of, IsRead};
-ghost use Rattle.mod_feed.specs.Feeding.{step_of};
+ghost use Rattle.report_lines.specs.Report.{end_line};
+ghost use Rattle.mod_feed.specs.Items.{item_of};
 ghost use Rattle.mod_receiver.specs.Reports.{refused_text};
 ghost use Rattle.mod_receiver.specs.Tallies.{new_tally, noted, counted};
 
 use circular_buffer::HeapCircularBuffer;
 use dcp_collect::Taken;
 use drm_bits::NoMemory;
-use drm_links::{Sink, WriteFault, write_all};
-use mod_feed::{FeedItem, Step};
-use report_lines::{EndWord, Sums, write_end, write_refused, write_step};
+use drm_links::{Sink, WriteFault};
+use mod_feed::FeedItem;
+use report_lines::{EndWord, Sums, write_end, write_refused};
 use std::alloc::Global;
 use std::marker::Model;
-use text_pieces::Lines;
 
 /// A datagram that was refused, or that disagrees with another one.
 #[derive(Clone, Copy, Debug, PartialEq, Eq)]
@@ -38,8 +35,6 @@ pub struct Tally {
     sums: Sums,
     // The last refusals.
     refused: HeapCircularBuffer<Refusal>,
-    // Where the lines of an item are gathered.
-    lines: Lines,
 }
 
 impl Model for Tally {
@@ -67,7 +62,6 @@ impl Tally {
                 refused: 0,
             },
             refused,
-            lines: Lines::make(alloc)?,
         })
     }
 
@@ -110,23 +104,6 @@ impl Tally {
         ensures { IsTrue result ↔ ((self.now.sums.missing ≡ 0) × (self.now.sums.bad ≡ 0)) }
     {
         self.sums.missing == 0 && self.sums.bad == 0
-    }
-
-    /// Writes the lines of a step. They are gathered first, so that they go out in one call; what doesn't fit there goes out
-    /// piece by piece.
-    pub fn write_item<O: Sink>(&mut self, out: &mut O, step: &Step<'_>) -> Result<(), WriteFault>
-        requires { IsRead step.now.item }
-        ensures same { self.new ≡ self.old }
-        ensures writes { Writes result (O.known out.old) (O.known out.new) (step_text (step_of step.now)) }
-    {
-        self.lines.clear();
-        let Ok(()) = write_step(&mut self.lines, step) else {
-            return write_step(out, step);
-        };
-        match self.lines.text() {
-            Some(text) => write_all(out, text),
-            None => write_step(out, step),
-        }
     }
 
     /// Writes the lines of the last refusals.

@@ -1,19 +1,16 @@
 -- All that is ready is given, and its lines are written.
-use Rattle.std.proofs.Common.{◌≡◌, ℕ, ◌+◌, ◌≤◌, nat_le, min, true, false, List, [], ◌∷◌, ◌++◌, Option, None, Some, IsSome, refl, sym, ◌∙◌, ap, subst, arith}
+use Rattle.std.proofs.Common.{◌≡◌, ℕ, ◌+◌, ◌≤◌, nat_le, min, true, false, List, [], ◌∷◌, ◌++◌, Option, None, Some, refl, sym, ◌∙◌, ap, subst, arith}
 use Rattle.drm_links.specs.Told.{Known}
 use Rattle.drm_links.specs.Sink.{Output}
 use Rattle.dcp_collect.specs.State.{State, ready, after_item, after_next}
 use Rattle.dcp_collect.specs.Runs.{Item, IsItem, Gives}
-use Rattle.collect_laws.proofs.Runs.{Given, given_more, given_all, gives_given}
+use Rattle.collect_laws.specs.Laws.{Given}
+use Rattle.collect_laws.proofs.Runs.{given_more, given_all, gives_given}
 use Rattle.drm_switches.specs.Tracker.{TrackerState}
-use Rattle.mod_receiver.specs.declared.text.Text.{Text}
-use Rattle.mod_receiver.specs.Texts.{text_known}
-use Rattle.mod_receiver.specs.Reports.{steps_text}
 use Rattle.mod_receiver.specs.Tallies.{Tallied}
 use Rattle.mod_receiver.specs.Printed.{items_in, is_full, steps_before, KeepsPace}
 use Rattle.mod_receiver.proofs.Printing.{Drained, prints_then, prints_full}
-use Rattle.path_book.specs.Lines.{PrintsAll, WritesAll, GivesFirst, CountsFirst}
-use Rattle.mod_receiver.proofs.JobLemmas.{text_written}
+use Rattle.path_book.specs.Lines.{PrintsAll, CountsFirst}
 
 is_next : (d e : State) → ready d ≡ true → e ≡ after_next d → e ≡ after_item d
 is_next d e r n = n ∙ rw r refl
@@ -61,15 +58,11 @@ pace_still told d e f t pace r n = subst (λ m. KeepsPace told m f t) (sym (n �
 
 -- ---- what was given where there was no room for a line
 
-first_given : (items : List Item) (c d : State) → Given c items d → GivesFirst c items d
-first_given [] c d g = g
-first_given (item ∷ items) c d g = (g.0, g.1, first_given items (after_item c) d g.2)
-
 -- what was given so far was counted
 pub counts_first : (told : Option ℕ) (c d : State) (f g : TrackerState) (t u : Tallied) (a b : Known Output) (items : List Item) → Drained told c d f g t u a b items → CountsFirst told c d f g t u
 counts_first told c d f g t u a b items i = record {
   items = items;
-  gives = first_given items c d i.given;
+  gives = i.given;
   steps = i.prints.steps;
   feeds = i.prints.feeds;
   counts = i.prints.tally;
@@ -79,23 +72,8 @@ counts_first told c d f g t u a b items i = record {
 pub counts_all : (told : Option ℕ) (c d : State) (f g : TrackerState) (t u : Tallied) (a b : Known Output) → PrintsAll told c d f g t u a b → CountsFirst told c d f g t u
 counts_all told c d f g t u a b p = record {
   items = p.items;
-  gives = first_given p.items c d (gives_given p.items c d p.gives).0;
+  gives = (gives_given p.items c d p.gives).0;
   steps = p.prints.steps;
   feeds = p.prints.feeds;
   counts = p.prints.tally;
-}
-
--- ---- lines in memory
-
--- its lines behind another text
-pub written_behind : (told : Option ℕ) (c d : State) (f g : TrackerState) (t u : Tallied) (first : Known Output) (lines : Text) (text after : List ℕ)
-    → PrintsAll told c d f g t u first (text_known lines) → first.told ≡ Some (record { written = []; calls = 0 }) → IsSome (text_known lines).told
-    → after ≡ text ++ lines.bytes.items → WritesAll told c d f g t u text after
-written_behind told c d f g t u first lines text after p new some is = record {
-  items = p.items;
-  gives = p.gives;
-  steps = p.prints.steps;
-  feeds = p.prints.feeds;
-  counts = p.prints.tally;
-  text_is = is ∙ ap (λ l. text ++ l) (text_written (λ x. x ≡ steps_text p.prints.steps) first lines p.prints.text new some);
 }

@@ -1,9 +1,10 @@
 -- The lines of the items that are ready.
-use Rattle.std.specs.Prelude.{ℕ, ◌≡◌, ◌++◌, true, List, [], ◌∷◌, Option}
+use Rattle.std.specs.Prelude.{ℕ, ◌≡◌, ◌++◌, List, Option}
 use Rattle.drm_links.specs.Told.{Known}
 use Rattle.drm_links.specs.Sink.{Output}
-use Rattle.dcp_collect.specs.State.{State, ready, after_item}
-use Rattle.dcp_collect.specs.Runs.{Item, IsItem, Gives, up_to}
+use Rattle.dcp_collect.specs.State.{State}
+use Rattle.dcp_collect.specs.Runs.{Item, Gives, up_to}
+use Rattle.collect_laws.specs.Laws.{Given}
 use Rattle.drm_switches.specs.Tracker.{TrackerState}
 use Rattle.mod_feed.specs.Feeding.{FeedStep, Feeds}
 use Rattle.mod_receiver.specs.Reports.{steps_text}
@@ -25,15 +26,10 @@ pub record WritesAll (told : Option ℕ) (c d : State) (f g : TrackerState) (t u
   pub counts : u ≡ with_steps t steps
   pub text_is : after ≡ text ++ steps_text steps
 
--- some first ones of what is ready are given, and leave the collector so
-abbrev pub GivesFirst : State → List Item → State → Type 0
-GivesFirst c [] after = after ≡ c
-GivesFirst c (item ∷ items) after = (ready c ≡ true) × IsItem c item × GivesFirst (after_item c) items after
-
 -- Some first ones of what was ready were given, and up to the told number given to the feed and counted.
 pub record CountsFirst (told : Option ℕ) (c d : State) (f g : TrackerState) (t u : Tallied) : Type 0 where
   pub items : List Item
-  pub gives : GivesFirst c items d
+  pub gives : Given c items d
   pub steps : List FeedStep
   pub feeds : Feeds f (up_to (left_of told f.calls) items) steps g
   pub counts : u ≡ with_steps t steps

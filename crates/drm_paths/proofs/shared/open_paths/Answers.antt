@@ -1,6 +1,6 @@
 use Rattle.std.proofs.Common.{◌≡◌, ◌+◌, ℕ, List, ◌∷◌, [], length, refl, sym, subst, ◌∙◌, ap, arith, length-append}
+use Rattle.drm_links.proofs.Places.{each_more}
 use Rattle.drm_paths.specs.State.{PathState, new_path}
-use Rattle.mod_receiver.proofs.Listing.{each_more}
 use Rattle.drm_paths.proofs.shared.open_paths.Goals as goal
 
 pub loop-number-preserved : goal.loop-number-preserved
