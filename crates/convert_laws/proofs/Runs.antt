@@ -3,10 +3,10 @@ use Rattle.std.proofs.Common.{ℕ, ◌≡◌, ◌+◌, ◌⊎◌, inl, inr, true
 use Rattle.std.specs.Prelude.{pos, All}
 use Rattle.std.specs.List.{concat}
 use Rattle.std.proofs.lemmas.List.{append-nil}
-use Rattle.drm_links.specs.Told.{Known, ToldThrough}
-use Rattle.drm_links.specs.Source.{Input, Inputs, LeftBy}
+use Rattle.drm_links.specs.Told.{Known}
+use Rattle.drm_links.specs.Source.{Input, Inputs, LeftBy, FewReads}
 use Rattle.drm_links.specs.Sink.{Output, Outputs, IsFront, IsFrontBehind}
-use Rattle.drm_links.proofs.ToldLemmas.{Outputs-nothing, Outputs-weaker}
+use Rattle.drm_links.proofs.ToldLemmas.{Outputs-nothing, Outputs-weaker, told_through}
 use Rattle.drm_capture.specs.declared.fault.CaptureFault.{CaptureFault}
 use Rattle.drm_capture.specs.Capture as capture
 use Rattle.drm_capture.specs.Capture.{IsCaptureOf, End}
@@ -28,11 +28,9 @@ use Rattle.convert_laws.specs.Laws.{under, AllInTime, NoneIsTooLarge, Conversion
 
 -- ---- what is told of an input
 
-through : {T : Type 0} (P : T → T → Type 0) (a b : Option T) (x y : T) → a ≡ Some x → b ≡ Some y → ToldThrough a b P → P x y
-through P a b x y is_a is_b told = subst (λ o. ToldThrough (Some x) o P) is_b (subst (λ o. ToldThrough o b P) is_a told)
-
 told_of : (P : List ℕ → List ℕ → Type 0) (before after : Known Input) (input rest : Input) → before.told ≡ Some input → after.told ≡ Some rest → Inputs before after P → P input.left rest.left
-told_of P before after input rest is_before is_after told = through (LeftBy P) before.told after.told input rest is_before is_after told
+told_of P before after input rest is_before is_after told =
+    (told_through (λ x y. LeftBy P x y × FewReads before.faults after.faults x y) before after input rest is_before is_after told).0
 
 -- ---- no line
 

@@ -1,5 +1,5 @@
 -- Items that are converted one after another.
-use Rattle.std.proofs.Common.{◌≡◌, ℕ, ◌+◌, ◌≤◌, Bool, true, false, List, [], ◌∷◌, ◌++◌, Option, None, Some, sym, subst, ap, ◌∙◌, refl, inl, inr, arith, append_assoc, length-append}
+use Rattle.std.proofs.Common.{◌≡◌, ℕ, ◌+◌, ◌≤◌, Bool, true, false, List, [], ◌∷◌, ◌++◌, Option, None, Some, sym, subst, ap, ◌∙◌, refl, inl, inr, arith, length-append}
 use Rattle.std.specs.Prelude.{◌&&◌, ◌==◌, not, IfSome, unwrap_or, if◌then◌else◌, Err}
 use Rattle.std.specs.List.{filter}
 use Rattle.std.proofs.lemmas.Bool.Decides.{nat_tests}
@@ -8,13 +8,15 @@ use Rattle.std.proofs.lemmas.List.Concat.{flat_map-append}
 use Rattle.std.proofs.lemmas.List.Folds.{list_all-append}
 use Rattle.drm_links.specs.Told.{Known, HasFailed}
 use Rattle.drm_links.specs.Sink.{Output, Outputs, IsFront, IsFrontBehind}
-use Rattle.drm_links.proofs.ToldLemmas.{Outputs-nothing, Outputs-then, Outputs-weaker, once_then}
+use Rattle.drm_links.proofs.ToldLemmas.{Outputs-nothing, Outputs-weaker, once_then}
+use Rattle.drm_links.proofs.WritingLemmas.{text_then, front_more, front_then, front_of_both}
 use Rattle.dcp_pft.specs.declared.carry.Carry.{Carry}
 use Rattle.dcp_collect.specs.Fragments.{Fragment, suffice, of_packet}
 use Rattle.dcp_collect.specs.State.{State, ready, after_item, after_next}
 use Rattle.dcp_collect.specs.Runs.{Item, Packet, Lost, Damaged, IsItem}
-use Rattle.collect_laws.specs.Laws.{IsFit}
+use Rattle.collect_laws.specs.Laws.{IsFit, Given}
 use Rattle.collect_laws.proofs.Fit.{fit_next}
+use Rattle.collect_laws.proofs.Runs.{given_more}
 use Rattle.drm_convert.specs.declared.item.Halt.{Halt}
 use Rattle.drm_convert.specs.declared.item.Halt.TheVariants as halt
 use Rattle.drm_convert.specs.declared.naming.Progress.{Progress}
@@ -22,18 +24,17 @@ use Rattle.drm_convert.specs.Converting.{Part, Converts, ConvertsAll, IsTooLarge
 use Rattle.drm_convert.specs.Naming.{Names}
 use Rattle.drm_convert.specs.Steps.{Converted, Failing, ConvertsOne, has_none}
 use Rattle.drm_convert.specs.Draining.{MayBeFirst, ConvertedAll, are_clean, KnowsFirst, KeepsPace, Halts, Drained}
-use Rattle.capture_items.specs.Reading.{Given, is_full}
+use Rattle.capture_items.specs.Reading.{is_full}
 use Rattle.drm_convert.proofs.ItemLemmas.{names_none}
 
 -- ---- names
 
 -- all parts, where a front of the last one was written
 pub front_of_all : (parts : List Part) (part : Part) (t : List ℕ) → IsFrontBehind (text_of parts) part.out t → IsFront (text_of (parts ++ part ∷ [])) t
-front_of_all parts part t (front, (rest, is), whole) = (
-  rest,
-  flat_map-append (λ (p : Part). p.out) parts (part ∷ [])
-      ∙ (ap (λ l. text_of parts ++ l) (append-nil part.out ∙ is) ∙ (sym (append_assoc (text_of parts) front rest) ∙ ap (λ l. l ++ rest) (sym whole))),
-)
+front_of_all parts part t behind = subst (λ l. IsFront l t) (sym one_more) (front_of_both (text_of parts) part.out t behind)
+  where
+    one_more : text_of (parts ++ part ∷ []) ≡ text_of parts ++ part.out
+    one_more = flat_map-append (λ (p : Part). p.out) parts (part ∷ []) ∙ ap (λ l. text_of parts ++ l) (append-nil part.out)
 
 pub no_lines_before : (parts : List Part) (part : Part) → lines_of (parts ++ part ∷ []) ≡ [] → lines_of parts ≡ []
 no_lines_before parts part none = empty_before (lines_of parts) (lines_of (part ∷ [])) (sym (flat_map-append (λ (p : Part). p.line) parts (part ∷ [])) ∙ none)
@@ -41,17 +42,6 @@ no_lines_before parts part none = empty_before (lines_of parts) (lines_of (part 
     empty_before : (xs ys : List ℕ) → xs ++ ys ≡ [] → xs ≡ []
     empty_before [] ys e = refl
     empty_before (x ∷ xs) ys e = absurd (cc)
-
-front_more : (xs ys t : List ℕ) → IsFront xs t → IsFront (xs ++ ys) t
-front_more xs ys t front = (front.0 ++ ys, ap (λ l. l ++ ys) front.1 ∙ append_assoc t front.0 ys)
-
-front_then : (xs ys : List ℕ) (a b c : Known Output) → Outputs a b (λ t. t ≡ xs) → Outputs b c (IsFront ys) → Outputs a c (IsFront (xs ++ ys))
-front_then xs ys a b c first second =
-    Outputs-then (λ t. t ≡ xs) (IsFront ys) (IsFront (xs ++ ys)) a b c first second
-    (λ s t is front. (front.0, ap (λ l. xs ++ l) front.1 ∙ (sym (append_assoc xs t front.0) ∙ ap (λ l. (l ++ t) ++ front.0) (sym is))))
-
-pub text_then : (xs ys : List ℕ) (a b c : Known Output) → Outputs a b (λ t. t ≡ xs) → Outputs b c (λ t. t ≡ ys) → Outputs a c (λ t. t ≡ xs ++ ys)
-text_then xs ys a b c first second = Outputs-then (λ t. t ≡ xs) (λ t. t ≡ ys) (λ t. t ≡ xs ++ ys) a b c first second (λ s t p q. ap (λ l. l ++ t) p ∙ ap (λ l. xs ++ l) q)
 
 -- nothing more after a failed call
 names_stop : (told told' : Bool) (a b c : Known Output) (x y : List ℕ) → told' ≡ false → Names told told' a b x → c ≡ b → Names told false a c (x ++ y)
@@ -175,15 +165,6 @@ pub failing_at : (carry : Carry) (d : State) (item : Item) (first : ℕ) (a b : 
 failing_at carry d item first a b knows is may f =
     record { part = f.part; converts = converts_at carry d item f.part first knows is may f.converts; none = f.none; text = f.text }
 
--- ---- what is given
-
-pub given_join : (c d e : State) (items more : List Item) → Given c items d → Given d more e → Given c (items ++ more) e
-given_join c d e [] more first second = subst (λ (s : State). Given s more e) first second
-given_join c d e (item ∷ items) more first second = (first.0, first.1, given_join (after_item c) d e items more first.2 second)
-
-pub given_one : (c d : State) (items : List Item) (item : Item) → Given c items d → ready d ≡ true → IsItem d item → Given c (items ++ item ∷ []) (after_item d)
-given_one c d items item gives now is = given_join c d (after_item d) items (item ∷ []) gives (now, is, refl)
-
 -- ---- one more item
 
 next_is : (d : State) → ready d ≡ true → after_next d ≡ after_item d
@@ -236,7 +217,7 @@ so_far_one told carry used c d n p q r a b o x y z items item first s room now i
     let all : ConvertedAll carry d (items ++ item ∷ []) p r a o x z =
     all_then carry c d items (item ∷ []) p q r a b o x y z (λ f may. subst (λ (v : Option ℕ). IfSome v (λ m. m ≡ f)) s.first may) s.all (all_one carry d item q r b o y z s.knows is here) in
     record {
-      gives = subst (λ (k : State). Given c (items ++ item ∷ []) k) (sym after) (given_one c d items item s.gives now is);
+      gives = subst (λ (k : State). Given c (items ++ item ∷ []) k) (sym after) (given_more items c d item s.gives now is);
       all = all_same carry c d (items ++ item ∷ []) p r a o x z s.first all;
       knows = λ none. kept ∙ ap (λ (l : List Fragment). filter (λ f. not (f.number == d.next)) l) (s.knows (sym first_same ∙ none));
       fit = subst IsFit (sym next) (fit_next d s.fit);

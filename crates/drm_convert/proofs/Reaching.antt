@@ -16,19 +16,19 @@ use Rattle.drm_capture.specs.declared.packets.CaptureStop.{CaptureStop}
 use Rattle.drm_capture.specs.declared.packets.CaptureStop.TheVariants as stops
 use Rattle.dcp_pft.specs.declared.carry.Carry.{Carry}
 use Rattle.dcp_collect.specs.declared.taken.Taken.{Taken}
-use Rattle.dcp_collect.specs.State.{State, made, ready, after_item, after_finish}
+use Rattle.dcp_collect.specs.State.{State, made, ready, after_finish}
 use Rattle.dcp_collect.specs.Runs.{Item, IsItem, Takes, Gives, Steps, up_to}
 use Rattle.dcp_collect.proofs.Decoded.{decoded_or_none}
-use Rattle.collect_laws.specs.Laws.{IsFit, GivingEnds}
+use Rattle.collect_laws.specs.Laws.{IsFit, GivingEnds, Given}
 use Rattle.collect_laws.proofs.Ending.{giving_ends}
-use Rattle.collect_laws.proofs.Runs.{steps_more}
+use Rattle.collect_laws.proofs.Runs.{steps_more, given_all, gives_after}
 use Rattle.collect_laws.proofs.Fit.{fit_given}
 use Rattle.drm_convert.specs.declared.item.Halt.{Halt}
 use Rattle.drm_convert.specs.declared.item.Halt.TheVariants as halt
 use Rattle.drm_convert.specs.declared.naming.Progress.{Progress}
 use Rattle.drm_convert.specs.Converting.{text_of}
 use Rattle.drm_convert.specs.Draining.{MayBeFirst, ConvertedAll, Drained, Halts, KnowsFirst, KeepsPace}
-use Rattle.capture_items.specs.Reading.{AreReadBy, ComesTo, Given, HasEnough, NoneShorter, Terms, is_full}
+use Rattle.capture_items.specs.Reading.{AreReadBy, ComesTo, HasEnough, NoneShorter, Terms, is_full}
 use Rattle.drm_convert.specs.Run.{first_of, ReadsTo, Ends, EndsEarly}
 use Rattle.drm_convert.specs.Reading.{new_progress, fault_of}
 use Rattle.drm_convert.specs.declared.reading.Unconverted.TheVariants as unconverted
@@ -39,16 +39,6 @@ use Rattle.drm_convert.proofs.DrainingLemmas.{all_none, all_then, all_same, all_
 
 giving : GivingEnds
 giving = giving_ends decoded_or_none
-
--- ---- what is given
-
-given_all : (items : List Item) (c d : State) → Given c items d → ready d ≡ false → Gives c items d
-given_all [] c d gives none = (ap ready (sym gives) ∙ none, gives)
-given_all (item ∷ items) c d gives none = (gives.0, gives.1, given_all items (after_item c) d gives.2 none)
-
-gives_after : (items more : List Item) (c d e : State) → Given c items d → Gives d more e → Gives c (items ++ more) e
-gives_after [] more c d e gives rest = subst (λ (s : State). Gives s more e) gives rest
-gives_after (item ∷ items) more c d e gives rest = (gives.0, gives.1, gives_after items more (after_item c) d e gives.2 rest)
 
 -- ---- enough
 

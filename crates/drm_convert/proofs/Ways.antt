@@ -9,11 +9,11 @@ use Rattle.dcp_collect.specs.declared.taken.Taken.{Taken}
 use Rattle.dcp_collect.specs.State.{State, made, ready, after_item, after_finish}
 use Rattle.dcp_collect.specs.Runs.{Item, Packet, Lost, Damaged, IsItem, Takes, Gives, Steps, up_to}
 use Rattle.dcp_collect.proofs.Decoded.{one_decoding}
-use Rattle.collect_laws.specs.Laws.{OneRun}
+use Rattle.collect_laws.specs.Laws.{OneRun, Given}
 use Rattle.collect_laws.proofs.OneReading.{one_reading}
 use Rattle.collect_laws.proofs.Runs.{steps_part}
 use Rattle.collect_laws.proofs.Unique.{one_giving, one_run, one_taking}
-use Rattle.capture_items.specs.Reading.{ComesAt, Given, HasEnough, Terms, is_full}
+use Rattle.capture_items.specs.Reading.{ComesAt, HasEnough, Terms, is_full}
 
 -- ---- lists
 

@@ -4,6 +4,7 @@ use Rattle.std.specs.List.{list_all}
 use Rattle.dcp_pft.specs.declared.carry.Carry.{Carry}
 use Rattle.dcp_collect.specs.State.{State, ready}
 use Rattle.dcp_collect.specs.Runs.{Item, IsItem}
+use Rattle.collect_laws.specs.Laws.{Given}
 use Rattle.drm_links.specs.Told.{Known}
 use Rattle.drm_links.specs.Sink.{Output, Outputs}
 use Rattle.drm_convert.specs.declared.item.Halt.{Halt}
@@ -12,7 +13,7 @@ use Rattle.drm_convert.specs.declared.naming.Progress.{Progress}
 use Rattle.drm_convert.specs.Converting.{Part, ConvertsAll, IsTooLarge, text_of, lines_of}
 use Rattle.drm_convert.specs.Naming.{Names}
 use Rattle.drm_convert.specs.Steps.{has_none, Failing}
-use Rattle.capture_items.specs.Reading.{is_full, Given}
+use Rattle.capture_items.specs.Reading.{is_full}
 
 -- Number 0 may have this sequence number: it is known, or nothing has told it yet.
 abbrev pub MayBeFirst : State → ℕ → Type 0

@@ -16,6 +16,7 @@ use dcp_pft::Carry;
 use drm_capture::{Packets, read_one_way, read_some_way};
 use drm_faults::Fault;
 use drm_links::{Sink, Source};
+use report_lines::LineWriter;
 use std::alloc::Global;
 
 /// Reads a capture from `input`, and writes its packets under a carry to `out`; each that is missing or bad is named on
@@ -44,6 +45,7 @@ pub fn convert<I: Source, O: Sink, E: Sink>(
     let mut collector = Collector::make(alloc, window, first)?;
     let mut cutter = Cutter::make(alloc, carry)?;
     let mut packets = Packets::make(alloc)?;
+    let mut lines = LineWriter::make(alloc)?;
     let mut progress = Progress {
         given: 0,
         clean: true,
@@ -55,6 +57,7 @@ pub fn convert<I: Source, O: Sink, E: Sink>(
         &mut packets,
         frames,
         &mut progress,
+        &mut lines,
         input,
         out,
         err,

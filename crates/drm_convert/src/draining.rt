@@ -11,6 +11,7 @@ use crate::item::{Halt, convert_item};
 use crate::naming::Progress;
 use dcp_collect::Collector;
 use drm_links::Sink;
+use report_lines::LineWriter;
 
 // Converts the items that are ready, up to the told number of them. Nothing more is taken out of the collector then.
 pub(crate) fn drain<O: Sink, E: Sink>(
@@ -18,6 +19,7 @@ pub(crate) fn drain<O: Sink, E: Sink>(
     cutter: &mut Cutter,
     told: Option<u64>,
     progress: &mut Progress,
+    lines: &mut LineWriter,
     out: &mut O,
     err: &mut E,
 ) -> Result<(), Halt>
@@ -41,7 +43,7 @@ pub(crate) fn drain<O: Sink, E: Sink>(
         let Some(given) = collector.next() else {
             return Ok(());
         };
-        convert_item(cutter, first, given, progress, out, err)?;
+        convert_item(cutter, first, given, progress, lines, out, err)?;
     }
     Ok(())
 }

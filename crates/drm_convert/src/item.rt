@@ -15,6 +15,7 @@ use dcp_af::{AfFault, read_af};
 use dcp_collect::Out;
 use drm_links::Sink;
 use mod_feed::{BadFault, FeedItem};
+use report_lines::LineWriter;
 
 /// Why no more is converted.
 #[derive(Clone, Copy, Debug, PartialEq, Eq)]
@@ -31,6 +32,7 @@ pub(crate) fn convert_item<O: Sink, E: Sink>(
     first: u16,
     given: Out<'_>,
     progress: &mut Progress,
+    lines: &mut LineWriter,
     out: &mut O,
     err: &mut E,
 ) -> Result<(), Halt>
@@ -47,14 +49,16 @@ pub(crate) fn convert_item<O: Sink, E: Sink>(
             index,
             bytes,
             whole,
-        } => convert_packet(cutter, first, index, bytes, whole, progress, out, err),
+        } => convert_packet(
+            cutter, first, index, bytes, whole, progress, lines, out, err,
+        ),
         Out::Lost { index, had, of } => {
-            name(err, progress, FeedItem::Missing { index, had, of });
+            name(err, lines, progress, FeedItem::Missing { index, had, of });
             Ok(())
         }
         Out::Damaged { index } => {
             let fault = BadFault::Code;
-            name(err, progress, FeedItem::Bad { index, fault });
+            name(err, lines, progress, FeedItem::Bad { index, fault });
             Ok(())
         }
     }
@@ -67,6 +71,7 @@ fn convert_packet<O: Sink, E: Sink>(
     bytes: &[u8],
     whole: bool,
     progress: &mut Progress,
+    lines: &mut LineWriter,
     out: &mut O,
     err: &mut E,
 ) -> Result<(), Halt>
@@ -80,7 +85,7 @@ fn convert_packet<O: Sink, E: Sink>(
 {
     if let Some(fault) = fault_of(bytes, whole) {
         let fault = BadFault::Af(fault);
-        name(err, progress, FeedItem::Bad { index, fault });
+        name(err, lines, progress, FeedItem::Bad { index, fault });
         return Ok(());
     }
     if cutter.is_too_long(bytes.len()) {

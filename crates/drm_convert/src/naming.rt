@@ -7,7 +7,7 @@ ghost use Rattle.drm_convert.specs.Naming.{Names};
 
 use drm_links::Sink;
 use mod_feed::{FeedItem, Step};
-use report_lines::write_step;
+use report_lines::LineWriter;
 
 /// How far a conversion has come.
 #[derive(Clone, Copy, Debug, PartialEq, Eq)]
@@ -21,7 +21,12 @@ pub(crate) struct Progress {
 }
 
 /// Names an item that is missing or bad. After a failed write nothing more is written.
-pub(crate) fn name<E: Sink>(err: &mut E, progress: &mut Progress, item: FeedItem<'_>)
+pub(crate) fn name<E: Sink>(
+    err: &mut E,
+    lines: &mut LineWriter,
+    progress: &mut Progress,
+    item: FeedItem<'_>,
+)
     requires few { progress.old.given < 2 ^ 62 }
     requires read { IsRead item }
     ensures given { progress.new.given ≡ progress.old.given + 1 }
@@ -33,6 +38,6 @@ pub(crate) fn name<E: Sink>(err: &mut E, progress: &mut Progress, item: FeedItem
     progress.clean = false;
     if progress.told {
         let step = Step { before: None, item };
-        progress.told = write_step(err, &step).is_ok();
+        progress.told = lines.write_step(err, &step).is_ok();
     }
 }

@@ -19,6 +19,7 @@ use crate::naming::Progress;
 use dcp_collect::Collector;
 use drm_capture::{CaptureStop, Packets};
 use drm_links::{Sink, Source};
+use report_lines::LineWriter;
 
 /// Why a conversion isn't whole.
 #[derive(Clone, Copy, Debug, PartialEq, Eq)]
@@ -58,6 +59,7 @@ pub(crate) fn convert_packets<I: Source, O: Sink, E: Sink>(
     packets: &mut Packets,
     told: Option<u64>,
     progress: &mut Progress,
+    lines: &mut LineWriter,
     input: &mut I,
     out: &mut O,
     err: &mut E,
@@ -76,13 +78,13 @@ pub(crate) fn convert_packets<I: Source, O: Sink, E: Sink>(
     'packets: while packets.find(input)? {
         let packet = packets.next();
         take(collector, packet.bytes);
-        drain(collector, cutter, told, progress, out, err)?;
+        drain(collector, cutter, told, progress, lines, out, err)?;
         if is_full(progress.given, told) {
             return Ok(());
         }
     }
     collector.finish(told);
-    drain(collector, cutter, told, progress, out, err)?;
+    drain(collector, cutter, told, progress, lines, out, err)?;
     Ok(())
 }
 

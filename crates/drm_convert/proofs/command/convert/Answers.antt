@@ -33,6 +33,15 @@ returns-in_err-packets g c =
           g.I.Source.known c.args.input.now g.O.Sink.known c.args.out.now g.E.Sink.known c.args.err.now);
     }
 
+pub returns-in_err-lines : goal.returns-in_err-lines
+returns-in_err-lines g c =
+    let p = err_from_is_err_and c.from_residual-in_err-lines.result c.from_residual-in_err-lines.ensures.1 in
+    record {
+      run = rw (p.1 ∙ ap Err p.2)
+          (memory_run c.read_one_way.ensures c.read_some_way.ensures c.packets_in_front.ensures _ c.args.carry c.args.told.now
+          g.I.Source.known c.args.input.now g.O.Sink.known c.args.out.now g.E.Sink.known c.args.err.now);
+    }
+
 pub returns : goal.returns
 returns g c =
     let run = c.convert_packets-converted in
