@@ -26,11 +26,12 @@ use Rattle.mod_receiver.proofs.JobLemmas.{report_ahead}
 use Rattle.drm_faults.specs.declared.fault.Fault.{Fault}
 use Rattle.drm_faults.specs.declared.fault.Fault.TheVariants as faults
 use Rattle.drm_faults.specs.Captures.{EndsEarly}
+use Rattle.drm_faults.proofs.CauseLemmas.{inner_fault}
 use Rattle.drm_receive.specs.Capture.{BreaksOffBy, Ends, WritesReport}
 use Rattle.drm_receive.specs.Stopping.{ending_captured}
 use Rattle.capture_laws.proofs.CaptureFronts.{packets_front}
 use Rattle.drm_receive.proofs.CaptureStatus.{Says}
-use Rattle.drm_receive.proofs.ReceiveLemmas.{inner, no_fault}
+use Rattle.drm_receive.proofs.ReceiveLemmas.{no_fault}
 
 -- ---- what was heard stood ahead
 
@@ -144,32 +145,32 @@ ended_as rules before after a b (Err unfinished.NoMemory) ends = ends
 
 pub ended_early : (received : Result Bool Unfinished) (fault : Fault) → ending_captured received ≡ Err fault → EndsEarly fault
 ended_early (Ok clean) fault is = absurd (no_fault clean fault is)
-ended_early (Err (unfinished.Stopped stops.Read)) fault is = subst EndsEarly (inner faults.Read fault is) tt
-ended_early (Err (unfinished.Stopped (stops.Capture why))) fault is = subst EndsEarly (inner (faults.Capture why) fault is) tt
-ended_early (Err (unfinished.Stopped stops.TooLong)) fault is = subst EndsEarly (inner faults.CaptureTooLong fault is) tt
-ended_early (Err unfinished.Write) fault is = subst EndsEarly (inner faults.Write fault is) tt
-ended_early (Err unfinished.NoMemory) fault is = subst EndsEarly (inner faults.NoMemory fault is) tt
+ended_early (Err (unfinished.Stopped stops.Read)) fault is = subst EndsEarly (inner_fault faults.Read fault is) tt
+ended_early (Err (unfinished.Stopped (stops.Capture why))) fault is = subst EndsEarly (inner_fault (faults.Capture why) fault is) tt
+ended_early (Err (unfinished.Stopped stops.TooLong)) fault is = subst EndsEarly (inner_fault faults.CaptureTooLong fault is) tt
+ended_early (Err unfinished.Write) fault is = subst EndsEarly (inner_fault faults.Write fault is) tt
+ended_early (Err unfinished.NoMemory) fault is = subst EndsEarly (inner_fault faults.NoMemory fault is) tt
 
 pub ended_memory : (received : Result Bool Unfinished) → ending_captured received ≡ Err faults.NoMemory → received ≡ Err unfinished.NoMemory
 ended_memory (Ok clean) is = absurd (no_fault clean faults.NoMemory is)
-ended_memory (Err (unfinished.Stopped stops.Read)) is = absurd (let one : faults.Read ≡ faults.NoMemory = inner faults.Read faults.NoMemory is in cc)
-ended_memory (Err (unfinished.Stopped (stops.Capture why))) is = absurd (let one : faults.Capture why ≡ faults.NoMemory = inner (faults.Capture why) faults.NoMemory is in cc)
-ended_memory (Err (unfinished.Stopped stops.TooLong)) is = absurd (let one : faults.CaptureTooLong ≡ faults.NoMemory = inner faults.CaptureTooLong faults.NoMemory is in cc)
-ended_memory (Err unfinished.Write) is = absurd (let one : faults.Write ≡ faults.NoMemory = inner faults.Write faults.NoMemory is in cc)
+ended_memory (Err (unfinished.Stopped stops.Read)) is = absurd (let one : faults.Read ≡ faults.NoMemory = inner_fault faults.Read faults.NoMemory is in cc)
+ended_memory (Err (unfinished.Stopped (stops.Capture why))) is = absurd (let one : faults.Capture why ≡ faults.NoMemory = inner_fault (faults.Capture why) faults.NoMemory is in cc)
+ended_memory (Err (unfinished.Stopped stops.TooLong)) is = absurd (let one : faults.CaptureTooLong ≡ faults.NoMemory = inner_fault faults.CaptureTooLong faults.NoMemory is in cc)
+ended_memory (Err unfinished.Write) is = absurd (let one : faults.Write ≡ faults.NoMemory = inner_fault faults.Write faults.NoMemory is in cc)
 ended_memory (Err unfinished.NoMemory) is = refl
 
 pub ended_read : (received : Result Bool Unfinished) → ending_captured received ≡ Err faults.Read → received ≡ Err (unfinished.Stopped stops.Read)
 ended_read (Ok clean) is = absurd (no_fault clean faults.Read is)
 ended_read (Err (unfinished.Stopped stops.Read)) is = refl
-ended_read (Err (unfinished.Stopped (stops.Capture why))) is = absurd (let one : faults.Capture why ≡ faults.Read = inner (faults.Capture why) faults.Read is in cc)
-ended_read (Err (unfinished.Stopped stops.TooLong)) is = absurd (let one : faults.CaptureTooLong ≡ faults.Read = inner faults.CaptureTooLong faults.Read is in cc)
-ended_read (Err unfinished.Write) is = absurd (let one : faults.Write ≡ faults.Read = inner faults.Write faults.Read is in cc)
-ended_read (Err unfinished.NoMemory) is = absurd (let one : faults.NoMemory ≡ faults.Read = inner faults.NoMemory faults.Read is in cc)
+ended_read (Err (unfinished.Stopped (stops.Capture why))) is = absurd (let one : faults.Capture why ≡ faults.Read = inner_fault (faults.Capture why) faults.Read is in cc)
+ended_read (Err (unfinished.Stopped stops.TooLong)) is = absurd (let one : faults.CaptureTooLong ≡ faults.Read = inner_fault faults.CaptureTooLong faults.Read is in cc)
+ended_read (Err unfinished.Write) is = absurd (let one : faults.Write ≡ faults.Read = inner_fault faults.Write faults.Read is in cc)
+ended_read (Err unfinished.NoMemory) is = absurd (let one : faults.NoMemory ≡ faults.Read = inner_fault faults.NoMemory faults.Read is in cc)
 
 pub ended_write : (received : Result Bool Unfinished) → ending_captured received ≡ Err faults.Write → received ≡ Err unfinished.Write
 ended_write (Ok clean) is = absurd (no_fault clean faults.Write is)
-ended_write (Err (unfinished.Stopped stops.Read)) is = absurd (let one : faults.Read ≡ faults.Write = inner faults.Read faults.Write is in cc)
-ended_write (Err (unfinished.Stopped (stops.Capture why))) is = absurd (let one : faults.Capture why ≡ faults.Write = inner (faults.Capture why) faults.Write is in cc)
-ended_write (Err (unfinished.Stopped stops.TooLong)) is = absurd (let one : faults.CaptureTooLong ≡ faults.Write = inner faults.CaptureTooLong faults.Write is in cc)
+ended_write (Err (unfinished.Stopped stops.Read)) is = absurd (let one : faults.Read ≡ faults.Write = inner_fault faults.Read faults.Write is in cc)
+ended_write (Err (unfinished.Stopped (stops.Capture why))) is = absurd (let one : faults.Capture why ≡ faults.Write = inner_fault (faults.Capture why) faults.Write is in cc)
+ended_write (Err (unfinished.Stopped stops.TooLong)) is = absurd (let one : faults.CaptureTooLong ≡ faults.Write = inner_fault faults.CaptureTooLong faults.Write is in cc)
 ended_write (Err unfinished.Write) is = refl
-ended_write (Err unfinished.NoMemory) is = absurd (let one : faults.NoMemory ≡ faults.Write = inner faults.NoMemory faults.Write is in cc)
+ended_write (Err unfinished.NoMemory) is = absurd (let one : faults.NoMemory ≡ faults.Write = inner_fault faults.NoMemory faults.Write is in cc)

@@ -1,11 +1,13 @@
 -- What went over links that were opened to receive over them, and closed.
-use Rattle.std.proofs.Common.{◌≡◌, ℕ, ◌<◌, ◌≤◌, ◌^◌, List, [], ◌∷◌, ◌++◌, length, slice_index_or, Option, None, Some, MatchOption, refl, sym, ◌∙◌, ap, subst, arith, le_trans}
-use Rattle.drm_links.specs.Told.{Known, ToldThrough, Tells}
+use Rattle.std.proofs.Common.{◌≡◌, ℕ, ◌<◌, ◌≤◌, ◌^◌, List, [], ◌∷◌, ◌++◌, length, slice_index_or, map, true, Option, None, Some, MatchOption, refl, sym, ◌∙◌, ap, subst, arith, le_trans}
+use Rattle.std.proofs.lemmas.List.{get_or-map, get_or_default, length-map}
+use Rattle.drm_links.specs.Told.{Known, Tells}
 use Rattle.drm_links.specs.Link.{Answer, Traffic}
 use Rattle.drm_links.specs.Sink.{Output}
 use Rattle.drm_links.specs.Dock.{DockContents, LinkStart, Over, over_of, first_traffic}
 use Rattle.drm_links.specs.declared.dock.Address.{Address}
-use Rattle.drm_links.proofs.ToldLemmas.{Tells-then}
+use Rattle.drm_links.proofs.ToldLemmas.{Tells-then, Tells-both}
+use Rattle.drm_links.proofs.Places.{index_of}
 use Rattle.mod_receiver.specs.Hearing.{AreNext, Heard, HeardTold}
 use Rattle.mod_receiver.specs.declared.rules.Rules.{Rules}
 use Rattle.mod_receiver.specs.Reading.{GoesOn, most_answers}
@@ -18,20 +20,18 @@ use Rattle.mod_receiver.specs.declared.receiver.Ended.TheVariants.{Done, LinkFai
 use Rattle.mod_receiver.specs.declared.job.Job.{Job}
 use Rattle.mod_receiver.proofs.Going.{goes_none}
 use Rattle.mod_receiver.proofs.Hearing.{heard_none}
-use Rattle.mod_receiver.proofs.JobLemmas.{few_answers, rules_are, index_of, map_at, map_size}
-use Rattle.several_links.specs.Openings.{Docked, Finds, after_openings}
+use Rattle.mod_receiver.proofs.JobLemmas.{few_answers, rules_are}
+use Rattle.several_links.specs.Openings.{Docked, Finds, HasLink, after_openings}
 use Rattle.several_links.specs.Reaching.{HasGone, HaveGone, after_closes}
 use Rattle.several_links.specs.declared.member.Member.{Member}
-use Rattle.several_links.proofs.OpeningLemmas.{same_index}
 use Rattle.several_links.proofs.RunLemmas.{choose}
 use Rattle.drm_receive.specs.Hearing.{Hears, HearsEach, heard}
-use Rattle.drm_receive.specs.Opening.{HaveLinks, member_of, members_of}
 use Rattle.drm_receive.specs.Receive.{AreAll, AreBroken}
 
 -- ---- one link
 
 -- What told how it starts tells still: these answers came over it, and nothing else went.
-heard_told : (a b : Option Traffic) (start : LinkStart) (answers : List Answer) → HeardTold answers a b → a ≡ Some (first_traffic start) → length answers ≤ 2 ^ 62
+pub heard_told : (a b : Option Traffic) (start : LinkStart) (answers : List Answer) → HeardTold answers a b → a ≡ Some (first_traffic start) → length answers ≤ 2 ^ 62
     → (traffic : Traffic) × (b ≡ Some traffic) × (over_of traffic ≡ heard answers) × AreNext start.ahead answers traffic.ahead
 heard_told None b start answers came is few = absurd (cc)
 heard_told (Some x) None start answers came is few =
@@ -102,41 +102,70 @@ module _ {L : Type 0} (known : L → Known Traffic) (rules : Rules) (valid : Are
   pub has_read : HasEnded known before after → (ended : Ended) × (after.ended ≡ Some ended) × WentOver known (ReadAs rules ended) after.link start
   has_read = job_read after.ended
 
--- ---- receivers as members
+-- ---- members of several links
 
-pub member_at : {L : Type 0} (jobs : List (Job L)) (k : ℕ) (d : Job L) (e : Member L) → k < length jobs → slice_index_or (members_of jobs) k e ≡ member_of (slice_index_or jobs k d)
-member_at jobs k d e within = map_at (λ job. member_of job) jobs k d e within
+-- a receiver's link
+abbrev pub link_in : {L : Type 0} → Job L → L
+link_in job = job.link
+
+-- Receivers, or whatever else has a link each:
+module _ {X L : Type 0} (link_of : X → L) where
+  abbrev pub as_member : X → Member L
+  as_member x = record { link = link_of x; up = true }
+
+  abbrev pub as_members : List X → List (Member L)
+  as_members xs = map (λ x. as_member x) xs
+
+  pub member_at : (xs : List X) (k : ℕ) (d : X) (e : Member L) → k < length xs → slice_index_or (as_members xs) k e ≡ as_member (slice_index_or xs k d)
+  member_at xs k d e within = get_or-map (λ x. as_member x) xs k d e within
+
+  pub members_many : (xs : List X) → length (as_members xs) ≡ length xs
+  members_many xs = length-map xs (λ x. as_member x)
 
 -- ---- several links
 
-module _ {L : Type 0} (known : L → Known Traffic) (P : List Answer → Type 0) (addresses : List Address) (jobs jobs' : List (Job L))
-    (many : length jobs ≡ length addresses) (many' : length jobs' ≡ length addresses) where
+module _ {X L : Type 0} (link_of : X → L) (known : L → Known Traffic) (P : List Answer → Type 0) (addresses : List Address) (before after : List X)
+    (many : length before ≡ length addresses) (many' : length after ≡ length addresses) where
+  -- they have the links of these addresses, in their order
+  abbrev Opened : DockContents → Type 0
+  Opened told = (k : ℕ) (at : Address) (none : X) → k < length addresses → HasLink known told k (slice_index_or addresses k at) (link_of (slice_index_or before k none))
+
   abbrev Made : DockContents → ℕ → Over → Type 0
   Made told k over =
       (start : LinkStart) × ((at : Address) → Finds told k (slice_index_or addresses k at) start)
-      × ((d : Job L) → HasGone known (slice_index_or jobs' k d).link over) × Hears P start over
+      × ((d : X) → HasGone known (link_of (slice_index_or after k d)) over) × Hears P start over
+
+  gone : (told : DockContents) (overs : List Over) → length overs ≡ length addresses → ((k : ℕ) (e : Over) → k < length addresses → Made told k (slice_index_or overs k e))
+      → HaveGone known (as_members link_of after) overs
+  gone told overs size made = record {
+    as_many = size ∙ sym (members_many link_of after ∙ many');
+    each = λ k d e within.
+        let last : k < length after = (let m = members_many link_of after in omega (arith, within, m)) in
+        let x : X = (index_of after k last).0 in
+        subst (λ (m : Member L). HasGone known m.link (slice_index_or overs k e)) (sym (member_at link_of after k x d last)) ((made k e (omega (arith, last, many'))).2 x);
+  }
 
   -- Where the dock tells, each link was opened as a new one, and tells at its end what went over it.
-  pub hears_each : (a b c : Known DockContents) → Tells a b (λ before after. after ≡ after_openings addresses before)
-      → Docked a b (λ told. HaveLinks known told addresses jobs)
-      → ((k : ℕ) (d : Job L) (start : LinkStart) → k < length addresses → (known (slice_index_or jobs k d).link).told ≡ Some (first_traffic start)
-      → WentOver known P (slice_index_or jobs' k d).link start)
-      → Tells b c (λ before after. (overs : List Over) → HaveGone known (members_of jobs') overs → after ≡ after_closes overs addresses before)
+  pub hears_each : (a b c : Known DockContents) → Tells a b (λ x y. y ≡ after_openings addresses x)
+      → Docked a b Opened
+      → ((k : ℕ) (d : X) (start : LinkStart) → k < length addresses → (known (link_of (slice_index_or before k d))).told ≡ Some (first_traffic start)
+      → WentOver known P (link_of (slice_index_or after k d)) start)
+      → Tells b c (λ x y. (overs : List Over) → HaveGone known (as_members link_of after) overs → y ≡ after_closes overs addresses x)
       → Tells a c (HearsEach P addresses)
   hears_each a b c opened links each closed =
-      Tells-then _ _ (HearsEach P addresses) a b c (both a.told b.told opened links) closed
+      Tells-then _ _ (HearsEach P addresses) a b c (Tells-both (λ x y. y ≡ after_openings addresses x) (λ x _. Opened x) a b opened links) closed
       (λ x y z p q.
       let none : Address = record { ip = []; port = 0 } in
       let one : (k : ℕ) → k < length addresses → (over : Over) × Made x k over
       = λ k within.
-      let d : Job L = (index_of jobs k (omega (arith, within, many))).0 in
+      let d : X = (index_of before k (omega (arith, within, many))).0 in
       let there = p.1 k none d within in
       let over = each k d there.0 within there.2 in (
         over.0,
         (
           there.0,
-          (λ at. subst (λ a. Finds x k a there.0) (same_index addresses k none at within) there.1),
-          (λ e. subst (λ (j : Job L). HasGone known j.link over.0) (same_index jobs' k d e (omega (arith, within, many'))) over.1),
+          (λ at. subst (λ a. Finds x k a there.0) (get_or_default addresses k none at within) there.1),
+          (λ e. subst (λ (m : X). HasGone known (link_of m) over.0) (get_or_default after k d e (omega (arith, within, many'))) over.1),
           over.2,
         ),
       ) in
@@ -147,22 +176,6 @@ module _ {L : Type 0} (known : L → Known Traffic) (P : List Answer → Type 0)
         each = λ k at e within. let m = made.2 k e within in (m.0, m.1 at, m.3);
         told = q made.0 (gone x made.0 made.1 made.2) ∙ ap (after_closes made.0 addresses) p.0;
       })
-    where
-      both : (a b : Option DockContents) → ToldThrough a b (λ x y. y ≡ after_openings addresses x) → ToldThrough a b (λ told _. HaveLinks known told addresses jobs)
-          → ToldThrough a b (λ x y. (y ≡ after_openings addresses x) × HaveLinks known x addresses jobs)
-      both a None first second = tt
-      both None (Some y) first second = first
-      both (Some x) (Some y) first second = (first, second)
-
-      gone : (told : DockContents) (overs : List Over) → length overs ≡ length addresses → ((k : ℕ) (e : Over) → k < length addresses → Made told k (slice_index_or overs k e))
-          → HaveGone known (members_of jobs') overs
-      gone told overs size made = record {
-        as_many = size ∙ sym (map_size (λ job. member_of job) jobs' ∙ many');
-        each = λ k d e within.
-            let last : k < length jobs' = (let m = map_size (λ (job : Job L). member_of job) jobs' in omega (arith, within, m)) in
-            let j : Job L = (index_of jobs' k last).0 in
-            subst (λ (m : Member L). HasGone known m.link (slice_index_or overs k e)) (sym (member_at jobs' k j d last)) ((made k e (omega (arith, last, many'))).2 j);
-      }
 
 -- what held before the links were closed
 pub docked_then : (P : DockContents → Type 0) (Q : DockContents → DockContents → Type 0) (a b c : Known DockContents) → Docked a b P → Tells b c Q → Docked a c P

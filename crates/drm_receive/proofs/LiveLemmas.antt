@@ -1,7 +1,7 @@
 -- From the receiver of one link that ended to the whole command.
-use Rattle.std.proofs.Common.{◌≡◌, ℕ, zero, suc, ◌<◌, ◌≤◌, ◌^◌, ◌⊎◌, ◌↔◌, ◌∙◌, inl, inr, Bool, List, [], ◌∷◌, length, slice_index_or, Option, None, Some, Ok, Err, refl, sym, ap, subst, arith, le_trans}
-use Rattle.drm_links.specs.Told.{Known, HasCause, WhileTold, CountsCall, ToldThrough, Tells}
-use Rattle.drm_links.proofs.ToldLemmas.{counts_as, Tells-weaker}
+use Rattle.std.proofs.Common.{◌≡◌, ℕ, zero, suc, ◌<◌, ◌≤◌, ◌^◌, ◌⊎◌, ◌↔◌, ◌∙◌, inl, inr, Bool, List, [], ◌∷◌, length, slice_index_or, Some, Result, Ok, Err, refl, sym, ap, subst, arith, le_trans}
+use Rattle.drm_links.specs.Told.{Known, HasCause, WhileTold, CountsCall, Tells}
+use Rattle.drm_links.proofs.ToldLemmas.{counts_as, Tells-weaker, Tells-both}
 use Rattle.drm_faults.specs.Fault.{UnlessMemory}
 use Rattle.drm_links.specs.Link.{Answer, Traffic}
 use Rattle.drm_links.specs.Sink.{Output}
@@ -23,6 +23,7 @@ use Rattle.mod_receiver.proofs.Hearing.{heard_none}
 use Rattle.mod_receiver.proofs.JobLemmas.{few_answers, rules_are, live_report, live_given, live_breaks, live_front}
 use Rattle.drm_faults.specs.declared.fault.Fault.{Fault}
 use Rattle.drm_faults.specs.declared.fault.Fault.TheVariants as faults
+use Rattle.drm_faults.proofs.CauseLemmas.{inner_fault}
 use Rattle.drm_receive.specs.Stopping.{ending_live}
 use Rattle.several_links.specs.Openings.{HasLink, Docked, Finds, FindsNone, after_openings}
 use Rattle.drm_receive.specs.Opening.{HaveLinks}
@@ -32,26 +33,57 @@ use Rattle.several_links.proofs.OpeningLemmas.{docked_weaker, docked_still, dock
 use Rattle.drm_receive.proofs.HearingLemmas.{WentOver, went_over}
 use Rattle.drm_receive.proofs.BreakingOff.{report_whole}
 use Rattle.drm_receive.proofs.ReceiveStatus.{receive_run}
-use Rattle.drm_receive.proofs.ReceiveLemmas.{inner, no_fault}
+use Rattle.drm_receive.proofs.ReceiveLemmas.{no_fault}
 
 -- the receiver ended by this
 ended_write : (ended : Ended) → ending_live ended ≡ Err faults.Write → ended ≡ WriteFailed
 ended_write (Done clean) is = absurd (no_fault clean faults.Write is)
-ended_write LinkFailed is = let one : faults.Link ≡ faults.Write = inner faults.Link faults.Write is in absurd cc
+ended_write LinkFailed is = let one : faults.Link ≡ faults.Write = inner_fault faults.Link faults.Write is in absurd cc
 ended_write WriteFailed is = refl
-ended_write NoMemory is = let one : faults.NoMemory ≡ faults.Write = inner faults.NoMemory faults.Write is in absurd cc
+ended_write NoMemory is = let one : faults.NoMemory ≡ faults.Write = inner_fault faults.NoMemory faults.Write is in absurd cc
 
 ended_memory : (ended : Ended) → ending_live ended ≡ Err faults.NoMemory → ended ≡ NoMemory
 ended_memory (Done clean) is = absurd (no_fault clean faults.NoMemory is)
-ended_memory LinkFailed is = let one : faults.Link ≡ faults.NoMemory = inner faults.Link faults.NoMemory is in absurd cc
-ended_memory WriteFailed is = let one : faults.Write ≡ faults.NoMemory = inner faults.Write faults.NoMemory is in absurd cc
+ended_memory LinkFailed is = let one : faults.Link ≡ faults.NoMemory = inner_fault faults.Link faults.NoMemory is in absurd cc
+ended_memory WriteFailed is = let one : faults.Write ≡ faults.NoMemory = inner_fault faults.Write faults.NoMemory is in absurd cc
 ended_memory NoMemory is = refl
 
 ended_kind : (ended : Ended) (fault : Fault) → ending_live ended ≡ Err fault → (fault ≡ faults.NoMemory) ⊎ (fault ≡ faults.Link) ⊎ (fault ≡ faults.Write)
 ended_kind (Done clean) fault is = absurd (no_fault clean fault is)
-ended_kind LinkFailed fault is = inr (inl (sym (inner faults.Link fault is)))
-ended_kind WriteFailed fault is = inr (inr (sym (inner faults.Write fault is)))
-ended_kind NoMemory fault is = inl (sym (inner faults.NoMemory fault is))
+ended_kind LinkFailed fault is = inr (inl (sym (inner_fault faults.Link fault is)))
+ended_kind WriteFailed fault is = inr (inr (sym (inner_fault faults.Write fault is)))
+ended_kind NoMemory fault is = inl (sym (inner_fault faults.NoMemory fault is))
+
+-- ---- what was read, and what of it is written
+
+-- These answers were heard of a link, no more than a reading takes, and they are what is read.
+record LiveReads {O : Type 0} (rules : Rules) (ending : Result Bool Fault) (a b : Known Traffic) (known : O → Known Output) (out out' : O) : Type 0 where
+  answers : List Answer
+  heard : Heard a b answers
+  few : length answers ≤ most_answers rules
+  reads : ReadsLive rules ending known out out' answers
+
+live_reads : {O : Type 0} (rules : Rules) (a b : Known Traffic) (known : O → Known Output) (out out' : O) (ended : Ended) → EndsAs rules 1 a b (known out) (known out') ended
+    → LiveReads rules (ending_live ended) a b known out out'
+live_reads rules a b known out out' (Done clean) r = record {
+  answers = r.answers;
+  heard = r.heard;
+  few = r.few;
+  reads = record { answers = r.answers; heard = refl; few = r.few; at_once = r.at_once; whole = r.whole; is = r.is; text = r.text };
+}
+live_reads rules a b known out out' LinkFailed r = record {
+  answers = r.answers;
+  heard = r.heard;
+  few = r.few;
+  reads = record { answers = r.answers; heard = refl; few = r.few; at_once = r.at_once; whole = r.whole; is = r.is; text = r.text };
+}
+live_reads rules a b known out out' WriteFailed r = record {
+  answers = r.answers;
+  heard = r.heard;
+  few = r.few;
+  reads = record { answers = r.answers; heard = refl; few = r.few; at_once = r.at_once; goes_on = r.goes_on; text = r.text };
+}
+live_reads rules a b known out out' NoMemory r = record { answers = []; heard = subst (λ now. Heard a now []) (sym r.0) (heard_none a); few = omega arith; reads = refl }
 
 -- what fails of one link is the first
 abbrev FailsFirst : Rules → DockContents → Address → Type 0
@@ -111,6 +143,7 @@ module _ {D L O : Type 0} (rules : Rules) (valid : AreInRange rules) (headlines 
       opens
       (docked_weaker (λ told. HasLink link_known told 0 at link) (λ told. WritesLive rules told at (ending_live ended) out_known out out') (dock_known dock) (dock_known dock') found
       (written ended ends memory))
+      (inr (let read = live_reads rules (link_known link) (link_known link') out_known out out' ended ends in (read.answers, read.reads)))
       (λ any. elim any [
         | inl is ↦ memory (ended_memory ended is)
         | inr several ↦ absurd (several.1 refl)
@@ -153,30 +186,11 @@ one_hears {L} known P at link link' a b c opened went closed counts =
 
 module _ {L O : Type 0} (known : L → Known Traffic) (rules : Rules) (valid : AreInRange rules) (link link' : L) (start : LinkStart) (out_known : O → Known Output) (out out' : O)
     (told : (known link).told ≡ Some (first_traffic start)) where
-  short : (answers : List Answer) → length answers ≤ most_answers rules → length answers ≤ 2 ^ 62
-  short answers few = le_trans few (few_answers rules valid)
-
   -- what the only receiver has read
   pub live_went : (ended : Ended) → EndsAs rules 1 (known link) (known link') (out_known out) (out_known out') ended → WentOver known (ReadsLive rules (ending_live ended) out_known out out') link' start
-  live_went (Done clean) r =
-      went_over known (ReadsLive rules (Ok clean) out_known out out') link link' start r.answers told r.heard (short r.answers r.few)
-      (record { answers = r.answers; heard = refl; few = r.few; at_once = r.at_once; whole = r.whole; is = r.is; text = r.text })
-  live_went LinkFailed r =
-      went_over known (ReadsLive rules (Err faults.Link) out_known out out') link link' start r.answers told r.heard (short r.answers r.few)
-      (record { answers = r.answers; heard = refl; few = r.few; at_once = r.at_once; whole = r.whole; is = r.is; text = r.text })
-  live_went WriteFailed r =
-      went_over known (ReadsLive rules (Err faults.Write) out_known out out') link link' start r.answers told r.heard (short r.answers r.few)
-      (record { answers = r.answers; heard = refl; few = r.few; at_once = r.at_once; goes_on = r.goes_on; text = r.text })
-  live_went NoMemory r =
-      went_over known (ReadsLive rules (Err faults.NoMemory) out_known out out') link link' start [] told
-      (subst (λ now. Heard (known link) now []) (sym r.0) (heard_none (known link))) (omega arith) refl
-
-both_opened : {L : Type 0} (known : L → Known Traffic) (at : Address) (link : L) (a b : Option DockContents)
-    → ToldThrough a b (λ x y. y ≡ after_openings (at ∷ []) x) → ToldThrough a b (λ x _. HasLink known x 0 at link)
-    → ToldThrough a b (λ x y. (y ≡ after_openings (at ∷ []) x) × HasLink known x 0 at link)
-both_opened known at link a None first second = tt
-both_opened known at link None (Some y) first second = first
-both_opened known at link (Some x) (Some y) first second = (first, second)
+  live_went ended ends =
+      let reads = live_reads rules (known link) (known link') out_known out out' ended ends in
+      went_over known (ReadsLive rules (ending_live ended) out_known out out') link link' start reads.answers told reads.heard (le_trans reads.few (few_answers rules valid)) reads.reads
 
 -- The only one of the receivers that were opened ended, and its link was closed.
 pub only_run : NoneBreaksOff → {D L O : Type 0} (rules : Rules) (valid : AreInRange rules) (headlines : HeadlinesFollow) (completes : CompletesFollow) (addresses : List Address) (jobs : List (Job L)) (job job' : Job L) (ended : Ended)
@@ -208,7 +222,7 @@ only_run law {D} {L} {O} rules valid headlines completes addresses jobs job job'
     let now : WhileTold b e (Closes (link_known job'.link).told at) = subst (λ xs. WhileTold b e (Closes (link_known job'.link).told (slice_index_or xs 0 at))) only (closed at) in
     let all : Tells a b (λ x y. y ≡ after_openings (at ∷ []) x) = subst (λ xs. Tells a b (λ x y. y ≡ after_openings xs x)) only opened in
     let hears : Tells a e (HearsEach (ReadsLive rules (ending_live ended) out_known out out') (at ∷ [])) =
-    one_hears link_known (ReadsLive rules (ending_live ended) out_known out out') at job.link job'.link a b e (both_opened link_known at job.link a.told b.told all found)
+    one_hears link_known (ReadsLive rules (ending_live ended) out_known out out') at job.link job'.link a b e (Tells-both (λ x y. y ≡ after_openings (at ∷ []) x) (λ x _. HasLink link_known x 0 at job.link) a b all found)
     (λ start told. live_went link_known rules valid job.link job'.link start out_known out out' told ended named) now counts in
     subst (λ xs. ReceiveRun rules xs (ending_live ended) dock_known dock dock' out_known out out') (sym only)
     (live_run rules valid headlines completes at dock_known dock dock' link_known job.link job'.link out_known out out'

@@ -6,7 +6,8 @@ use Rattle.drm_links.specs.Sink.{Output}
 use Rattle.drm_links.specs.Dock.{DockContents, Over, Opens, after_close, after_failure}
 use Rattle.drm_links.specs.declared.dock.Address.{Address}
 use Rattle.drm_links.specs.declared.dock.Opened.TheVariants as opened
-use Rattle.drm_links.proofs.ToldLemmas.{counts_as, counts_then, Tells-then}
+use Rattle.drm_links.proofs.ToldLemmas.{counts_as, counts_then, Tells-then, Tells-both}
+use Rattle.drm_links.proofs.Places.{index_of}
 use Rattle.word_forms.specs.Addresses.{AreDifferent}
 use Rattle.several_links.specs.Openings.{Docked, FindsNone, HasLink, after_openings}
 use Rattle.several_links.specs.Reaching.{HaveGone, NothingSent, after_closes, nothing, with_none}
@@ -15,13 +16,11 @@ use Rattle.several_links.proofs.OpeningLemmas.{Opened, docks_more, docks_while, 
 use Rattle.several_links.proofs.ReachLemmas.{nothing_gone}
 use Rattle.several_links.proofs.RunLemmas.{none_gone}
 use Rattle.drm_faults.specs.declared.fault.Fault.{Fault}
-use Rattle.mod_receiver.specs.declared.job.Job.{Job}
+use Rattle.drm_faults.proofs.CauseLemmas.{inner_fault}
 use Rattle.mod_receiver.specs.declared.rules.Rules.{Rules}
-use Rattle.mod_receiver.proofs.JobLemmas.{index_of, map_size}
 use Rattle.drm_receive.specs.Hearing.{HearsEach, BindsFew, StopsBehind}
 use Rattle.drm_receive.specs.Receive.{OpensEach, ReadsBy}
-use Rattle.drm_receive.specs.Opening.{member_of, members_of}
-use Rattle.drm_receive.proofs.HearingLemmas.{member_at}
+use Rattle.drm_receive.proofs.HearingLemmas.{as_members, member_at, members_many}
 
 -- the opening at this address that comes after the first k failed
 abbrev pub Missed : List Address → ℕ → DockContents → DockContents → Type 0
@@ -36,35 +35,33 @@ missed_now addresses k at within is known a b c different before now counts =
     docks_more (Opened addresses k) (Opens known at opened.Failed) (Missed addresses k) a b c before now counts
     (λ x y z p q. not_found_at addresses k at within is known x y z different p q)
 
--- what a dock tells once the links of these receivers are closed
-abbrev pub Closed : {L : Type 0} → (L → Known Traffic) → List Address → List (Job L) → DockContents → DockContents → Type 0
-Closed known addresses jobs before after = (overs : List Over) → HaveGone known (members_of jobs) overs → after ≡ after_closes overs addresses before
+-- what a dock tells once the links that these have are closed
+abbrev pub Closed : {X L : Type 0} → (X → L) → (L → Known Traffic) → List Address → List X → DockContents → DockContents → Type 0
+Closed link_of known addresses xs before after = (overs : List Over) → HaveGone known (as_members link_of xs) overs → after ≡ after_closes overs addresses before
 
--- the first k receivers have the links of the first k addresses
-abbrev pub HaveFirst : {L : Type 0} → (L → Known Traffic) → List Address → List (Job L) → ℕ → DockContents → Type 0
-HaveFirst {L} known addresses jobs k told =
-    (n : ℕ) (at : Address) (d : Job L) → n < k → HasLink known told n (slice_index_or addresses n at) (slice_index_or jobs n d).link
+-- the first k have the links of the first k addresses
+abbrev pub HaveFirst : {X L : Type 0} → (X → L) → (L → Known Traffic) → List Address → List X → ℕ → DockContents → Type 0
+HaveFirst {X} {L} link_of known addresses xs k told =
+    (n : ℕ) (at : Address) (d : X) → n < k → HasLink known told n (slice_index_or addresses n at) (link_of (slice_index_or xs n d))
 
-module _ {L : Type 0} (known : L → Known Traffic) (addresses : List Address) (jobs : List (Job L)) (k : ℕ) (size : length jobs ≡ k) where
-  first_gone : (told : DockContents) → HaveFirst known addresses jobs k told → HaveGone known (members_of jobs) (replicate k nothing)
+module _ {X L : Type 0} (link_of : X → L) (known : L → Known Traffic) (addresses : List Address) (xs : List X) (k : ℕ) (size : length xs ≡ k) where
+  first_gone : (told : DockContents) → HaveFirst link_of known addresses xs k told → HaveGone known (as_members link_of xs) (replicate k nothing)
   first_gone told first =
-      nothing_gone known told addresses (members_of jobs) k (map_size (λ (job : Job L). member_of job) jobs ∙ size)
+      nothing_gone known told addresses (as_members link_of xs) k (members_many link_of xs ∙ size)
       (λ n at m less.
-      let within : n < length jobs = omega (arith, less, size) in
-      let d : Job L = (index_of jobs n within).0 in
-      subst (λ (x : Member L). HasLink known told n (slice_index_or addresses n at) x.link) (sym (member_at jobs n d m within)) (first n at d less))
+      let within : n < length xs = omega (arith, less, size) in
+      let d : X = (index_of xs n within).0 in
+      subst (λ (x : Member L). HasLink known told n (slice_index_or addresses n at) x.link) (sym (member_at link_of xs n d m within)) (first n at d less))
 
-  both_told : (P : DockContents → DockContents → Type 0) (a b : Option DockContents) → ToldThrough a b (λ told _. HaveFirst known addresses jobs k told) → ToldThrough a b P
-      → ToldThrough a b (λ x y. HaveFirst known addresses jobs k x × P x y)
-  both_told P a None first second = tt
-  both_told P None (Some y) first second = first
-  both_told P (Some x) (Some y) first second = (first, second)
+  both_told : (P : DockContents → DockContents → Type 0) (a b : Known DockContents) → Docked a b (HaveFirst link_of known addresses xs k) → Tells a b P
+      → Tells a b (λ x y. HaveFirst link_of known addresses xs k x × P x y)
+  both_told P a b first second = Tells-both (λ x _. HaveFirst link_of known addresses xs k x) P a b first second
 
   -- memory ran out behind these openings, and their links are closed
-  pub stopped_few : (a b c : Known DockContents) → k ≤ length addresses → Docked a b (HaveFirst known addresses jobs k) → Tells a b (Opened addresses k) → Tells b c (Closed known addresses jobs)
+  pub stopped_few : (a b c : Known DockContents) → k ≤ length addresses → Docked a b (HaveFirst link_of known addresses xs k) → Tells a b (Opened addresses k) → Tells b c (Closed link_of known addresses xs)
       → Tells a c (StopsBehind addresses)
   stopped_few a b c within first opened closed =
-      Tells-then (λ x y. HaveFirst known addresses jobs k x × Opened addresses k x y) (Closed known addresses jobs) (StopsBehind addresses) a b c (both_told (Opened addresses k) a.told b.told first opened) closed
+      Tells-then (λ x y. HaveFirst link_of known addresses xs k x × Opened addresses k x y) (Closed link_of known addresses xs) (StopsBehind addresses) a b c (both_told (Opened addresses k) a b first opened) closed
       (λ x y z p q. record {
         k = k;
         within = within;
@@ -72,10 +69,10 @@ module _ {L : Type 0} (known : L → Known Traffic) (addresses : List Address) (
       })
 
   -- the next one failed
-  pub failed_few : (a b c : Known DockContents) → k < length addresses → Docked a b (HaveFirst known addresses jobs k) → Tells a b (Missed addresses k) → Tells b c (Closed known addresses jobs)
+  pub failed_few : (a b c : Known DockContents) → k < length addresses → Docked a b (HaveFirst link_of known addresses xs k) → Tells a b (Missed addresses k) → Tells b c (Closed link_of known addresses xs)
       → Tells a c (BindsFew addresses)
   failed_few a b c within first missed closed =
-      Tells-then (λ x y. HaveFirst known addresses jobs k x × Missed addresses k x y) (Closed known addresses jobs) (BindsFew addresses) a b c (both_told (Missed addresses k) a.told b.told first missed) closed
+      Tells-then (λ x y. HaveFirst link_of known addresses xs k x × Missed addresses k x y) (Closed link_of known addresses xs) (BindsFew addresses) a b c (both_told (Missed addresses k) a b first missed) closed
       (λ x y z p q. record {
         k = k;
         within = within;
@@ -120,20 +117,17 @@ opens_unsent rules addresses ending known out out' a b opens =
 
 -- ---- all links at once
 
-pub all_links : {L : Type 0} (known : L → Known Traffic) (addresses : List Address) (jobs : List (Job L)) (n : ℕ) (a b : Known DockContents) → Docked a b (λ _. Unit {0})
-    → ((k : ℕ) (d : Job L) → k < n → (at : Address) → Docked a b (λ told. HasLink known told k (slice_index_or addresses k at) (slice_index_or jobs k d).link))
-    → Docked a b (HaveFirst known addresses jobs n)
-all_links {L} known addresses jobs n a b = linked a.told b.told
+pub all_links : {X L : Type 0} (link_of : X → L) (known : L → Known Traffic) (addresses : List Address) (xs : List X) (n : ℕ) (a b : Known DockContents) → Docked a b (λ _. Unit {0})
+    → ((k : ℕ) (d : X) → k < n → (at : Address) → Docked a b (λ told. HasLink known told k (slice_index_or addresses k at) (link_of (slice_index_or xs k d))))
+    → Docked a b (HaveFirst link_of known addresses xs n)
+all_links {X} link_of known addresses xs n a b = linked a.told b.told
   where
     linked : (a b : Option DockContents) → ToldThrough a b (λ _ _. Unit {0})
-        → ((k : ℕ) (d : Job L) → k < n → (at : Address) → ToldThrough a b (λ told _. HasLink known told k (slice_index_or addresses k at) (slice_index_or jobs k d).link))
-        → ToldThrough a b (λ told _. HaveFirst known addresses jobs n told)
+        → ((k : ℕ) (d : X) → k < n → (at : Address) → ToldThrough a b (λ told _. HasLink known told k (slice_index_or addresses k at) (link_of (slice_index_or xs k d))))
+        → ToldThrough a b (λ told _. HaveFirst link_of known addresses xs n told)
     linked a None any each = tt
     linked None (Some y) any each = any
     linked (Some x) (Some y) any each = λ k at d within. each k d within at
-
-pub inner_fault : {T : Type 0} (x y : Fault) → (let e : Result T Fault = Err x in e) ≡ Err y → x ≡ y
-inner_fault x y is = cc
 
 -- a call that returned early with the fault of another
 pub same_fault_counts : {T U : Type 0} {a b c : ℕ} (x fault : Fault) → b ≡ a → Counts b c ((let e : Result T Fault = Err x in e) ≡ Err fault) → Counts a c ((let e : Result U Fault = Err x in e) ≡ Err fault)

@@ -2,19 +2,22 @@
 use Rattle.std.proofs.Common.{◌≡◌, ℕ, zero, suc, ◌+◌, ◌<◌, ◌⊎◌, ◌↔◌, inl, inr, Bool, true, false, IsTrue, List, [], ◌∷◌, ◌++◌, length, map, slice_index_or, take, drop, Some, Result, Ok, Err, refl, sym, ◌∙◌, ap, subst, arith}
 use Rattle.std.specs.Prelude.{not}
 use Rattle.std.specs.List.{All}
-use Rattle.std.proofs.lemmas.List.{take_at}
+use Rattle.std.proofs.lemmas.List.{take_at, get_or-map, length-map}
+use Rattle.std.proofs.lemmas.List.Folds.{flat_map-map}
 use Rattle.drm_links.specs.Told.{Known, HasCause, Tells}
 use Rattle.drm_links.specs.Link.{Answer, Traffic}
 use Rattle.drm_links.specs.Sink.{Output, Outputs, IsFront}
 use Rattle.drm_links.specs.Dock.{DockContents, Over}
 use Rattle.drm_links.specs.declared.dock.Address.{Address}
 use Rattle.drm_links.proofs.ToldLemmas.{counts_as, counts_none, Outputs-weaker, Tells-weaker}
+use Rattle.drm_links.proofs.Places.{index_of}
 use Rattle.mod_receiver.specs.declared.rules.Rules.{Rules}
 use Rattle.drm_faults.specs.declared.fault.Fault.{Fault}
 use Rattle.drm_faults.specs.declared.fault.Fault.TheVariants as faults
 use Rattle.mod_receiver.specs.declared.job.Job.{Job}
 use Rattle.mod_receiver.specs.Ranges.{AreInRange}
 use Rattle.mod_receiver.specs.Reading.{GoesOn}
+use Rattle.mod_receiver.specs.Received.{IsReport}
 use Rattle.mod_receiver.specs.declared.receiver.Ended.{Ended}
 use Rattle.mod_receiver.specs.declared.receiver.Ended.TheVariants.{Done, LinkFailed, WriteFailed, NoMemory}
 use Rattle.mod_receiver.specs.Jobs.{HasEnded, IsDone, AreJobs, NoneFailed, clean_of, is_failed}
@@ -26,20 +29,21 @@ use Rattle.mod_receiver.specs.declared.stop.Stop.TheVariants as stops
 use Rattle.drm_receive.specs.Stopping.{ending_of}
 use Rattle.mod_receiver.specs.Following.{HeadlinesFollow, CompletesFollow, NoneBreaksOff}
 use Rattle.drm_faults.specs.Fault.{UnlessMemory}
+use Rattle.drm_faults.proofs.CauseLemmas.{inner_fault}
 use Rattle.several_links.specs.Openings.{Docked, FindsNone, after_openings}
 use Rattle.drm_receive.specs.Hearing.{BindsFew, HearsEach}
-use Rattle.drm_receive.specs.Receive.{AreReports, AreAll, AreBroken, ReadsOne, ReadsBy, all_texts, FailsSome, OpensEach, WritesReports, WritesAll, IsLive, ReceiveRun}
-use Rattle.drm_receive.proofs.HearingLemmas.{ReadAs, went_weaker, has_read, hears_each}
+use Rattle.drm_receive.specs.Receive.{AreReports, AreAll, AreBroken, ReadsOne, ReadsBy, all_texts, FailsSome, OpensEach, WritesReports, WritesAll, AreSomeReports, WritesSome, IsLive, ReceiveRun}
+use Rattle.drm_receive.proofs.HearingLemmas.{ReadAs, went_weaker, has_read, link_in, hears_each}
 use Rattle.drm_receive.proofs.ReceiveStatus.{receive_run}
 use Rattle.mod_receiver.specs.Ahead.{Report, IsReportOf}
 use Rattle.several_links.proofs.OpeningLemmas.{docked_weaker}
 use Rattle.drm_receive.proofs.BreakingOff.{report_whole}
-use Rattle.mod_receiver.proofs.JobLemmas.{told_of, job_report, job_breaks, index_of, map_at, map_size, flat_map_map, all_told, SomeFailed, some_failed}
+use Rattle.mod_receiver.proofs.JobLemmas.{told_of, job_report, job_heard, job_breaks, all_told, SomeFailed, some_failed}
 
 -- ---- what is written
 
 texts_told : {L : Type 0} (jobs : List (Job L)) → job_texts jobs ≡ all_texts (map told_of jobs)
-texts_told jobs = sym (flat_map_map told_of (λ (r : Report). r.text) jobs)
+texts_told jobs = sym (flat_map-map (λ (r : Report). r.text) told_of jobs)
 
 -- where all are done their reports are written
 pub reports_written : {L O : Type 0} (jobs : List (Job L)) (stopped : Result Bool Stop) (are : List Report → Type 0) (known : O → Known Output) (out out' : O)
@@ -64,9 +68,6 @@ of_fault fault = Err fault
 abbrev of_clean : Bool → Result Bool Fault
 of_clean clean = Ok clean
 
-pub inner : (fault other : Fault) → of_fault fault ≡ of_fault other → fault ≡ other
-inner fault other is = cc
-
 pub no_fault : (clean : Bool) (fault : Fault) → of_clean clean ≡ of_fault fault → ⊥
 no_fault clean fault is = cc
 
@@ -74,33 +75,23 @@ no_fault clean fault is = cc
 pub ending_kind : {L O : Type 0} (jobs : List (Job L)) (stopped : Result Bool Stop) (known : O → Known Output) (out out' : O) → Settles jobs stopped known out out' → (fault : Fault) → ending_of stopped ≡ Err fault
     → (fault ≡ faults.NoMemory) ⊎ ((fault ≡ faults.Link) × (NoneFailed jobs → ⊥)) ⊎ (fault ≡ faults.Write)
 ending_kind jobs (Ok clean) known out out' settled fault is = absurd (no_fault clean fault is)
-ending_kind jobs (Err stops.Write) known out out' settled fault is = inr (inr (sym (inner faults.Write fault is)))
-ending_kind jobs (Err stops.Link) known out out' settled fault is = inr (inl (sym (inner faults.Link fault is), settled.0))
-ending_kind jobs (Err stops.NoMemory) known out out' settled fault is = inl (sym (inner faults.NoMemory fault is))
+ending_kind jobs (Err stops.Write) known out out' settled fault is = inr (inr (sym (inner_fault faults.Write fault is)))
+ending_kind jobs (Err stops.Link) known out out' settled fault is = inr (inl (sym (inner_fault faults.Link fault is), settled.0))
+ending_kind jobs (Err stops.NoMemory) known out out' settled fault is = inl (sym (inner_fault faults.NoMemory fault is))
 
 -- a failed write is one of the run
 pub write_is : (stopped : Result Bool Stop) → ending_of stopped ≡ Err faults.Write → stopped ≡ Err stops.Write
 write_is (Ok clean) is = absurd (no_fault clean faults.Write is)
 write_is (Err stops.Write) is = refl
-write_is (Err stops.Link) is = let one : faults.Link ≡ faults.Write = inner faults.Link faults.Write is in absurd cc
-write_is (Err stops.NoMemory) is = let one : faults.NoMemory ≡ faults.Write = inner faults.NoMemory faults.Write is in absurd cc
-
-settled_link : {L O : Type 0} (jobs : List (Job L)) (stopped : Result Bool Stop) (known : O → Known Output) (out out' : O) → Settles jobs stopped known out out' → ending_of stopped ≡ Err faults.Link → NoneFailed jobs → ⊥
-settled_link jobs stopped known out out' settled is =
-    elim (ending_kind jobs stopped known out out' settled faults.Link is) [
-      | inl memory ↦ absurd cc
-      | inr rest ↦ elim rest [
-        | inl link ↦ link.1
-        | inr write ↦ absurd cc
-      ]
-    ]
+write_is (Err stops.Link) is = let one : faults.Link ≡ faults.Write = inner_fault faults.Link faults.Write is in absurd cc
+write_is (Err stops.NoMemory) is = let one : faults.NoMemory ≡ faults.Write = inner_fault faults.NoMemory faults.Write is in absurd cc
 
 settled_unwritten : {L O : Type 0} (jobs : List (Job L)) (stopped : Result Bool Stop) (known : O → Known Output) (out out' : O) → Settles jobs stopped known out out'
     → (ending_of stopped ≡ Err faults.NoMemory) ⊎ (ending_of stopped ≡ Err faults.Link) → out' ≡ out
 settled_unwritten jobs (Ok clean) known out out' settled (inl is) = absurd (no_fault clean faults.NoMemory is)
 settled_unwritten jobs (Ok clean) known out out' settled (inr is) = absurd (no_fault clean faults.Link is)
-settled_unwritten jobs (Err stops.Write) known out out' settled (inl is) = let one : faults.Write ≡ faults.NoMemory = inner faults.Write faults.NoMemory is in absurd cc
-settled_unwritten jobs (Err stops.Write) known out out' settled (inr is) = let one : faults.Write ≡ faults.Link = inner faults.Write faults.Link is in absurd cc
+settled_unwritten jobs (Err stops.Write) known out out' settled (inl is) = let one : faults.Write ≡ faults.NoMemory = inner_fault faults.Write faults.NoMemory is in absurd cc
+settled_unwritten jobs (Err stops.Write) known out out' settled (inr is) = let one : faults.Write ≡ faults.Link = inner_fault faults.Write faults.Link is in absurd cc
 settled_unwritten jobs (Err stops.Link) known out out' settled any = settled.1
 settled_unwritten jobs (Err stops.NoMemory) known out out' settled any = settled.2
 
@@ -114,6 +105,12 @@ all_several : {O : Type 0} (rules : Rules) (told : DockContents) (addresses : Li
 all_several rules told [] ending known out out' several writes = writes
 all_several rules told (at ∷ []) ending known out out' several writes = absurd (several refl)
 all_several rules told (at ∷ (other ∷ addresses)) ending known out out' several writes = writes
+
+some_several : {O : Type 0} (rules : Rules) (addresses : List Address) (ending : Result Bool Fault) (known : O → Known Output) (out out' : O) → (IsLive addresses → ⊥)
+    → WritesReports (AreSomeReports rules (length addresses)) ending known out out' → WritesSome rules addresses ending known out out'
+some_several rules [] ending known out out' several writes = writes
+some_several rules (at ∷ []) ending known out out' several writes = absurd (several refl)
+some_several rules (at ∷ (other ∷ addresses)) ending known out out' several writes = writes
 
 -- what is read of one of several
 several_by : {O : Type 0} (rules : Rules) (addresses : List Address) (ending : Result Bool Fault) (known : O → Known Output) (out out' : O) → (IsLive addresses → ⊥)
@@ -159,15 +156,26 @@ pub record Ran {L : Type 0} (link_known : L → Known Traffic) (rules : Rules) (
 module _ {L : Type 0} (link_known : L → Known Traffic) (rules : Rules) (valid : AreInRange rules) (headlines : HeadlinesFollow) (completes : CompletesFollow) (addresses : List Address) (before after : List (Job L)) (ran : Ran link_known rules (length addresses) before after) where
   are_reports : (told : DockContents) → HaveLinks link_known told addresses before → All IsDone after → AreReports rules told addresses (map told_of after)
   are_reports told links done = record {
-    as_many = map_size told_of after ∙ ran.still ∙ ran.size;
+    as_many = length-map after told_of ∙ ran.still ∙ ran.size;
     each = λ k at none within.
         let first : k < length before = (let size = ran.size in omega (arith, size, within)) in
         let last : k < length after = (let still = ran.still in omega (arith, still, first)) in
         let d : Job L = (index_of after k last).0 in
         let link = links k at d within in
         let report : IsReportOf rules (k + 1) link.0.ahead (told_of (slice_index_or after k d)) =
-        job_report link_known rules valid (k + 1) link.0 (slice_index_or before k d) (slice_index_or after k d) (ran.jobs k d within) link.2 (ran.ended k d first) headlines completes (done k d last) in
-        (link.0, link.1, subst (λ r. IsReportOf rules (k + 1) link.0.ahead r) (sym (map_at told_of after k d none last)) report);
+        job_report link_known rules (k + 1) (slice_index_or before k d) (slice_index_or after k d) (ran.jobs k d within) (ran.ended k d first) valid link.0 link.2 headlines completes (done k d last) in
+        (link.0, link.1, subst (λ r. IsReportOf rules (k + 1) link.0.ahead r) (sym (get_or-map told_of after k d none last)) report);
+  }
+
+  some_reports : All IsDone after → AreSomeReports rules (length addresses) (map told_of after)
+  some_reports done = record {
+    as_many = length-map after told_of ∙ ran.still ∙ ran.size;
+    each = λ k none within.
+        let first : k < length before = (let size = ran.size in omega (arith, size, within)) in
+        let last : k < length after = (let still = ran.still in omega (arith, still, first)) in
+        let d : Job L = (index_of after k last).0 in
+        let (answers, report) = job_heard link_known rules (k + 1) (slice_index_or before k d) (slice_index_or after k d) (ran.jobs k d within) (ran.ended k d first) (done k d last) in
+        (answers, subst (λ (r : Report). IsReport rules (k + 1) answers r.text r.clean) (sym (get_or-map told_of after k d none last)) report);
   }
 
   none_fails : (told : DockContents) (reports : List Report) → AreReports rules told addresses reports → FailsSome rules told addresses → ⊥
@@ -191,7 +199,7 @@ module _ {L : Type 0} (link_known : L → Known Traffic) (rules : Rules) (valid 
             inr (
               link.0,
               link.1,
-              job_breaks link_known rules valid (some.0 + 1) link.0 (slice_index_or before some.0 d) (slice_index_or after some.0 d) (ran.jobs some.0 d within) link.2 (ran.ended some.0 d first) (some.2 d),
+              job_breaks link_known rules (some.0 + 1) (slice_index_or before some.0 d) (slice_index_or after some.0 d) (ran.jobs some.0 d within) (ran.ended some.0 d first) valid link.0 link.2 (some.2 d),
             );
       }
 
@@ -209,7 +217,7 @@ module _ {L : Type 0} (link_known : L → Known Traffic) (rules : Rules) (valid 
     λ fails. absurd (none_fails told (map told_of after) (are_reports told has settled.0) fails),
   )
   settled_exactly (Err stops.Write) known out out' settled told has = inr (
-    λ is. absurd (let one : faults.Write ≡ faults.Link = inner faults.Write faults.Link is in cc),
+    λ is. absurd (let one : faults.Write ≡ faults.Link = inner_fault faults.Write faults.Link is in cc),
     λ fails. absurd (none_fails told (map told_of after) (are_reports told has settled.0) fails),
   )
   settled_exactly (Err stops.Link) known out out' settled told has = inr (λ is. fails_some told has (failed_where settled.0), λ fails. refl)
@@ -231,7 +239,7 @@ module _ {L : Type 0} (link_known : L → Known Traffic) (rules : Rules) (valid 
   settled_hears stopped known out out' a b c settled several opened links closed =
       let P : List Answer → Type 0 = ReadsBy rules addresses (ending_of stopped) known out out' in
       Tells-weaker (HearsEach P addresses) (OpensEach rules addresses (ending_of stopped) known out out') a c
-      (hears_each link_known P addresses before after ran.size (ran.still ∙ ran.size) a b c opened links
+      (hears_each link_in link_known P addresses before after ran.size (ran.still ∙ ran.size) a b c opened links
       (λ k d start within told.
       let first : k < length before = (let size = ran.size in omega (arith, size, within)) in
       let last : k < length after = (let still = ran.still in omega (arith, still, first)) in
@@ -261,6 +269,7 @@ module _ {L : Type 0} (link_known : L → Known Traffic) (rules : Rules) (valid 
       opens
       (docked_weaker (λ told. HaveLinks link_known told addresses before) (λ told. WritesAll rules told addresses (ending_of stopped) out_known out out') (dock_known dock) (dock_known dock') links
       (λ told has. all_several rules told addresses (ending_of stopped) out_known out out' several (reports_written after stopped (AreReports rules told addresses) out_known out out' (are_reports told has) settled)))
+      (some_several rules addresses (ending_of stopped) out_known out out' several (reports_written after stopped (AreSomeReports rules (length addresses)) out_known out out' some_reports settled))
       (λ any. settled_unwritten after stopped out_known out out' settled (either any))
       (λ unless. docked_weaker (λ told. HaveLinks link_known told addresses before) (λ told. UnlessMemory (ending_of stopped) ((ending_of stopped ≡ Err faults.Link) ↔ FailsSome rules told addresses)) (dock_known dock) (dock_known dock') links
       (settled_exactly stopped out_known out out' settled))
@@ -284,15 +293,15 @@ unwritten_link rules told after (at ∷ []) known out fails = inl (none_found to
 unwritten_link rules told after (at ∷ (other ∷ addresses)) known out fails = refl
 
 not_link : (fault : Fault) → fault ≡ faults.NoMemory → of_fault fault ≡ Err faults.Link → ⊥
-not_link fault memory is = let one : faults.NoMemory ≡ faults.Link = sym memory ∙ inner fault faults.Link is in cc
+not_link fault memory is = let one : faults.NoMemory ≡ faults.Link = sym memory ∙ inner_fault fault faults.Link is in cc
 
 not_write : (fault : Fault) → EndsOpening fault → of_fault fault ≡ Err faults.Write → ⊥
-not_write fault (inl memory) is = let one : faults.NoMemory ≡ faults.Write = sym memory ∙ inner fault faults.Write is in cc
-not_write fault (inr link) is = let one : faults.Link ≡ faults.Write = sym link ∙ inner fault faults.Write is in cc
+not_write fault (inl memory) is = let one : faults.NoMemory ≡ faults.Write = sym memory ∙ inner_fault fault faults.Write is in cc
+not_write fault (inr link) is = let one : faults.Link ≡ faults.Write = sym link ∙ inner_fault fault faults.Write is in cc
 
 opening_kind : (fault other : Fault) → EndsOpening fault → of_fault fault ≡ Err other → (other ≡ faults.NoMemory) ⊎ (other ≡ faults.Link) ⊎ (other ≡ faults.Write)
-opening_kind fault other (inl memory) is = inl (sym (inner fault other is) ∙ memory)
-opening_kind fault other (inr link) is = inr (inl (sym (inner fault other is) ∙ link))
+opening_kind fault other (inl memory) is = inl (sym (inner_fault fault other is) ∙ memory)
+opening_kind fault other (inr link) is = inr (inl (sym (inner_fault fault other is) ∙ link))
 
 module _ {O : Type 0} (rules : Rules) (addresses : List Address) (fault : Fault) (out_known : O → Known Output) (out : O) (told after : DockContents) where
   opens_each : StopsOpening addresses fault told after → OpensEach rules addresses (Err fault) out_known out out told after
@@ -307,6 +316,21 @@ module _ {O : Type 0} (rules : Rules) (addresses : List Address) (fault : Fault)
   fails_exactly (inl (memory, stops)) = inl (ap Err memory)
   fails_exactly (inr (link, fails)) = inr (λ is. record { k = fails.k; within = fails.within; fails = λ at. inl (fails.fails at) }, λ any. ap Err link)
 
+-- nothing is written, whatever the dock tells
+some_unwritten : {O : Type 0} (rules : Rules) (addresses : List Address) (fault : Fault) (known : O → Known Output) (out : O) → EndsOpening fault → WritesSome rules addresses (Err fault) known out out
+some_unwritten rules addresses fault known out (inl memory) = subst (λ f. WritesSome rules addresses (Err f) known out out) (sym memory) (by addresses)
+  where
+    by : (addresses : List Address) → WritesSome rules addresses (Err faults.NoMemory) known out out
+    by [] = refl
+    by (at ∷ []) = inr ([], refl)
+    by (at ∷ (other ∷ addresses)) = refl
+some_unwritten rules addresses fault known out (inr link) = subst (λ f. WritesSome rules addresses (Err f) known out out) (sym link) (by addresses)
+  where
+    by : (addresses : List Address) → WritesSome rules addresses (Err faults.Link) known out out
+    by [] = refl
+    by (at ∷ []) = inl (refl, refl)
+    by (at ∷ (other ∷ addresses)) = refl
+
 pub opening_failed : NoneBreaksOff → {D O : Type 0} (rules : Rules) (addresses : List Address) (fault : Fault) (dock_known : D → Known DockContents) (dock dock' : D)
     (out_known : O → Known Output) (out : O)
     → EndsOpening fault → Tells (dock_known dock) (dock_known dock') (StopsOpening addresses fault) → HasCause (dock_known dock) (dock_known dock') (of_fault fault ≡ Err faults.Link)
@@ -318,6 +342,7 @@ opening_failed law rules addresses fault dock_known dock dock' out_known out end
     (λ other is. opening_kind fault other ends is)
     (Tells-weaker (StopsOpening addresses fault) (OpensEach rules addresses (Err fault) out_known out out) a b stopped (opens_each rules addresses fault out_known out))
     (Tells-weaker (StopsOpening addresses fault) (λ told _. WritesAll rules told addresses (Err fault) out_known out out) a b stopped (nothing_written rules addresses fault out_known out))
+    (some_unwritten rules addresses fault out_known out ends)
     (λ any. refl)
     (λ unless. Tells-weaker (StopsOpening addresses fault) (λ told _. UnlessMemory (of_fault fault) ((of_fault fault ≡ Err faults.Link) ↔ FailsSome rules told addresses)) a b stopped (fails_exactly rules addresses fault out_known out))
     (elim ends [ inl memory ↦ inl (cause.same (λ is. not_link fault memory is)) | inr link ↦ inr (ap Err link, cause.once (ap Err link)) ])

@@ -14,7 +14,7 @@ use Rattle.drm_faults.specs.declared.fault.Fault.TheVariants as faults
 use Rattle.drm_faults.specs.Causes.{OpeningFailed}
 use Rattle.drm_faults.specs.Fault.{UnlessMemory}
 use Rattle.several_links.specs.Openings.{Docked, Finds}
-use Rattle.drm_receive.specs.Receive.{AreReports, AreClean, all_texts, FailsSome, OpensEach, WritesReports, WritesAll, WroteReports, AreInTime, IsLive, ReceiveRun}
+use Rattle.drm_receive.specs.Receive.{AreReports, AreClean, all_texts, FailsSome, OpensEach, WritesReports, WritesAll, WritesSome, WroteReports, AreInTime, IsLive, ReceiveRun}
 use Rattle.mod_receiver.specs.Ahead.{IsInTimeAhead, Report, IsReportOf, BreaksOff}
 use Rattle.mod_receiver.specs.Following.{NoneBreaksOff}
 use Rattle.several_links.proofs.OpeningLemmas.{docked_weaker, docked_both}
@@ -115,15 +115,17 @@ pub receive_run : NoneBreaksOff → {D O : Type 0} (rules : Rules) (addresses : 
     → ((fault : Fault) → ending ≡ Err fault → (fault ≡ faults.NoMemory) ⊎ (fault ≡ faults.Link) ⊎ (fault ≡ faults.Write))
     → Tells (dock_known dock) (dock_known dock') (OpensEach rules addresses ending out_known out out')
     → Docked (dock_known dock) (dock_known dock') (λ told. WritesAll rules told addresses ending out_known out out')
+    → WritesSome rules addresses ending out_known out out'
     → ((ending ≡ Err faults.NoMemory) ⊎ ((ending ≡ Err faults.Link) × (IsLive addresses → ⊥)) → out' ≡ out)
     → ((IsLive addresses → ending ≡ Err faults.Write → ⊥) → Docked (dock_known dock) (dock_known dock') (λ told. UnlessMemory ending ((ending ≡ Err faults.Link) ↔ FailsSome rules told addresses)))
     → OpeningFailed (dock_known dock) (dock_known dock') (ending ≡ Err faults.Link)
     → HasCause (out_known out) (out_known out') (ending ≡ Err faults.Write)
     → ReceiveRun rules addresses ending dock_known dock dock' out_known out out'
-receive_run law {D} {O} rules addresses ending dock_known dock dock' out_known out out' kind opens writes unwritten exactly dock_cause write_cause = record {
+receive_run law {D} {O} rules addresses ending dock_known dock dock' out_known out out' kind opens writes sound unwritten exactly dock_cause write_cause = record {
   kind = kind;
   opens = opens;
   writes = writes;
+  sound = sound;
   unwritten = unwritten;
   exactly = exactly;
   complete = all_wrote;

@@ -11,7 +11,7 @@ use Rattle.several_links.specs.Openings.{Finds, FindsNone, Docked}
 use Rattle.mod_receiver.specs.declared.rules.Rules.{Rules}
 use Rattle.report_lines.specs.declared.report.EndWord.{EndWord}
 use Rattle.mod_receiver.specs.Reading.{GoesOn, IsFinished, IsBroken}
-use Rattle.mod_receiver.specs.Received.{Reported, Broken, Stopped}
+use Rattle.mod_receiver.specs.Received.{IsReport, Reported, Broken, Stopped}
 use Rattle.mod_receiver.specs.Ahead.{IsInTimeAhead, Report, IsReportOf, BreaksOff, IsGivenOf, IsFrontOf}
 use Rattle.drm_faults.specs.Causes.{OpeningFailed}
 use Rattle.drm_faults.specs.Fault.{UnlessMemory}
@@ -69,6 +69,12 @@ abbrev pub WritesAll : {O : Type 0} → Rules → DockContents → List Address 
 WritesAll rules told (at ∷ []) ending known out out' = WritesLive rules told at ending known out out'
 WritesAll rules told addresses ending known out out' = WritesReports (AreReports rules told addresses) ending known out out'
 
+-- so many reports, each of some answers
+pub record AreSomeReports (rules : Rules) (links : ℕ) (reports : List Report) : Type 0 where
+  pub as_many : length reports ≡ links
+  pub each : (k : ℕ) (none : Report) → k < links
+      → (answers : List Answer) × IsReport rules (k + 1) answers (slice_index_or reports k none).text (slice_index_or reports k none).clean
+
 -- the report is written as it is read: there is one link
 abbrev pub IsLive : List Address → Type 0
 IsLive addresses = length addresses ≡ 1
@@ -103,6 +109,13 @@ ReadsLive rules (Err faults.Write) known out out' answers = Stopped rules 1 (Alo
 ReadsLive rules (Err faults.Link) known out out' answers = Broken rules 1 (Alone answers) (known out) (known out')
 ReadsLive rules (Err fault) known out out' answers = answers ≡ []
 
+-- What is written, whatever the dock tells: of one link what some answers that are read of it bring, unless it can't be opened; of
+-- several links a report each.
+abbrev pub WritesSome : {O : Type 0} → Rules → List Address → Result Bool Fault → (O → Known Output) → O → O → Type 0
+WritesSome rules (at ∷ []) ending known out out' =
+    ((ending ≡ Err faults.Link) × (out' ≡ out)) ⊎ ((answers : List Answer) × ReadsLive rules ending known out out' answers)
+WritesSome rules addresses ending known out out' = WritesReports (AreSomeReports rules (length addresses)) ending known out out'
+
 -- what is read of each link at these addresses
 abbrev pub ReadsBy : {O : Type 0} → Rules → List Address → Result Bool Fault → (O → Known Output) → O → O → List Answer → Type 0
 ReadsBy rules (at ∷ []) ending known out out' answers = ReadsLive rules ending known out out' answers
@@ -136,6 +149,8 @@ pub record ReceiveRun {D O : Type 0} (rules : Rules) (addresses : List Address) 
   pub opens : Tells (dock_known dock) (dock_known dock') (OpensEach rules addresses ending out_known out out')
   -- Where the dock tells: the reports are those of what was ahead of the links that it opened. Nothing else is written.
   pub writes : Docked (dock_known dock) (dock_known dock') (λ told. WritesAll rules told addresses ending out_known out out')
+  -- Where nothing is told of the links, what is written is a report all the same, and the run is clean where that is.
+  pub sound : WritesSome rules addresses ending out_known out out'
   -- After want of memory nothing is written, and where one of several links failed.
   pub unwritten : (ending ≡ Err faults.NoMemory) ⊎ ((ending ≡ Err faults.Link) × (IsLive addresses → ⊥)) → out' ≡ out
   -- It fails by a link exactly where an opening fails, or what is read of some link ends in `Failed`; of one link, whose report

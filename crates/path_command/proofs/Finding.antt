@@ -4,7 +4,7 @@ use Rattle.drm_links.specs.Told.{Known}
 use Rattle.drm_links.specs.Link.{Traffic}
 use Rattle.drm_links.specs.Dock.{DockContents, LinkStart}
 use Rattle.drm_links.specs.declared.dock.Address.{Address}
-use Rattle.mod_receiver.proofs.JobLemmas.{index_of}
+use Rattle.drm_links.proofs.Places.{index_of}
 use Rattle.several_links.specs.Openings.{Finds, FindsNone}
 use Rattle.drm_paths.specs.State.{PathState, new_path}
 use Rattle.drm_paths.specs.Closing.{of_path, AreCounted, AllAgree}

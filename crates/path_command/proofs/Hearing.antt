@@ -1,28 +1,16 @@
 -- What a path heard of a link that was opened is what stood ahead of it.
-use Rattle.std.proofs.Common.{◌≡◌, ℕ, ◌*◌, ◌≤◌, ◌^◌, inl, inr, List, length, Option, None, Some, ap, subst, arith, le_trans}
+use Rattle.std.proofs.Common.{◌≡◌, ℕ, ◌*◌, ◌≤◌, ◌^◌, inl, inr, List, Some, arith, le_trans}
 use Rattle.std.proofs.Math.Nat.{mul-le-mul_right}
 use Rattle.drm_links.specs.Told.{Known}
-use Rattle.drm_links.specs.Link.{Answer, Traffic}
+use Rattle.drm_links.specs.Link.{Traffic}
 use Rattle.drm_links.specs.Dock.{LinkStart, first_traffic}
-use Rattle.mod_receiver.specs.Hearing.{AreNext, HeardTold}
+use Rattle.mod_receiver.proofs.JobLemmas.{heard_next}
 use Rattle.path_words.specs.declared.request.Request.{Request}
 use Rattle.drm_paths.specs.declared.run.PathEnded.{PathEnded}
 use Rattle.drm_paths.specs.Reading.{most_answers}
 use Rattle.path_command.specs.Ahead.{IsRead, IsAllOf}
 use Rattle.path_command.specs.Run.{options_in, IsInRange}
 use Rattle.path_command.specs.Links.{ReadsLink, ReadsWhole}
-
--- what was heard of a new link stood ahead of it
-heard_next : (a b : Option Traffic) (start : LinkStart) (answers : List Answer) → HeardTold answers a b → a ≡ Some (first_traffic start) → length answers ≤ 2 ^ 62
-    → (rest : List Answer) × AreNext start.ahead answers rest
-heard_next None b start answers heard is few = absurd (cc)
-heard_next (Some x) None start answers heard is few =
-    let same : x ≡ first_traffic start = cc in
-    let calls : x.calls ≡ 0 = ap (λ (t : Traffic). t.calls) same in
-    absurd (omega (arith, heard, calls, few))
-heard_next (Some x) (Some y) start answers heard is few =
-    let same : x ≡ first_traffic start = cc in
-    (y.ahead, subst (λ (t : Traffic). AreNext t.ahead answers y.ahead) same heard.ahead)
 
 pub few_answers : (request : Request) → IsInRange request → most_answers (options_in request) ≤ 2 ^ 62
 few_answers request range =

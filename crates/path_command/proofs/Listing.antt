@@ -6,10 +6,6 @@ pub moved : {X Y : Type 0} (f : X → Y) (xs : List X) (x : X) (y : Y) (ys zs : 
 moved f [] x y ys zs is rest = ap (λ z. z ∷ ys) is ∙ sym rest
 moved f (w ∷ xs) x y ys zs is rest = ap (λ l. f w ∷ l) (moved f xs x y ys zs is rest)
 
-pub map_more : {X Y : Type 0} (f : X → Y) (xs : List X) (x : X) → map f (xs ++ x ∷ []) ≡ map f xs ++ f x ∷ []
-map_more f [] x = refl
-map_more f (y ∷ xs) x = ap (λ l. f y ∷ l) (map_more f xs x)
-
 -- what holds of the first one, and of the others
 pub all_first : {X : Type 0} (P : X → Type 0) (x : X) (xs : List X) → All P (x ∷ xs) → P x
 all_first P x xs all = all 0 x (omega arith)

@@ -10,7 +10,7 @@ use Rattle.mod_receiver.specs.Ahead.{Report}
 use Rattle.several_links.specs.Openings.{Docked}
 use Rattle.several_links.proofs.OpeningLemmas.{docked_both, docked_weaker}
 use Rattle.drm_receive.specs.Hearing.{HearsEach, BindsFew}
-use Rattle.drm_receive.proofs.HearingLemmas.{docked_then, went_over}
+use Rattle.drm_receive.proofs.HearingLemmas.{docked_then, went_over, hears_each}
 use Rattle.path_words.specs.declared.request.Request.{Request}
 use Rattle.path_book.specs.Journal.{datagrams}
 use Rattle.path_book.specs.Report.{IsReportOf}
@@ -27,7 +27,7 @@ use Rattle.path_command.specs.Links.{EndsLinks, Fits, RunsOver, RunsLinks}
 use Rattle.path_command.specs.Links as Links
 use Rattle.path_command.proofs.Finding.{entries_ahead, fails_ahead, none_fails, differ_ahead}
 use Rattle.path_command.proofs.Hearing.{few_answers}
-use Rattle.path_command.proofs.Opening.{hears_each}
+use Rattle.path_command.proofs.Opening.{itself}
 
 -- it fails by a link exactly where some link does, unless memory runs out
 abbrev Exactly : Request → Result Bool Fault → DockContents → Type 0
@@ -170,7 +170,7 @@ module _ {D O L : Type 0} (request : Request) (range : IsInRange request) (dock_
       → Tells (dock_known dock) (dock_known dock') (OpensEach request ending)
   opens ending reads =
       Tells-weaker (HearsEach (ReadsBy (options_in request) ending) request.addresses) (OpensEach request ending) (dock_known dock) (dock_known dock')
-      (hears_each known (ReadsBy (options_in request) ending) request.addresses links run.read.last many (run.read.read.as_many ∙ many) (dock_known dock) run.mid (dock_known dock') run.opened run.have
+      (hears_each itself known (ReadsBy (options_in request) ending) request.addresses links run.read.last many (run.read.read.as_many ∙ many) (dock_known dock) run.mid (dock_known dock') run.opened run.have
       (λ k d start within told.
       let r = run.read.read.each k d (omega (arith, within, many)) in
       went_over known (ReadsBy (options_in request) ending) (slice_index_or links k d) (slice_index_or run.read.last k d) start r.2.answers told r.2.heard (le_trans r.2.few (few_answers request range))

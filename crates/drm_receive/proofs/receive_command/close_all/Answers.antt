@@ -5,9 +5,7 @@ use Rattle.std.proofs.lemmas.Grind.{common_steps}
 use Rattle.several_links.specs.declared.member.Member.{Member}
 use Rattle.several_links.proofs.CloseLemmas.{next_left, close_more, closed_all}
 use Rattle.mod_receiver.specs.declared.job.Job.{Job}
-use Rattle.mod_receiver.proofs.JobLemmas.{map_size}
-use Rattle.drm_receive.specs.Opening.{member_of, members_of}
-use Rattle.drm_receive.proofs.HearingLemmas.{member_at}
+use Rattle.drm_receive.proofs.HearingLemmas.{link_in, as_member, as_members, member_at, members_many}
 use Rattle.drm_receive.proofs.receive_command.close_all.Goals as goal
 
 pub loop-job-preserved : goal.loop-job-preserved
@@ -21,9 +19,9 @@ loop-job-preserved g c =
     let there = left.0 in
     let few = c.requires in
     let within : k < length c.args.addresses.now = omega (arith, there, few) in
-    let size = map_size (λ (j : Job g.row.D-L.Denot). member_of j) jobs in (
-      close_more g.D.L.Link.known (members_of jobs) c.args.addresses.now k c.get.result.now job.link (omega (arith, there, size)) within c.get.ensures
-          (λ d. ap (λ (m : Member g.row.D-L.Denot). m.link) (member_at jobs k job d there) ∙ ap (λ (j : Job g.row.D-L.Denot). j.link) (left.1 job)) (member_of job)
+    let size = members_many link_in jobs in (
+      close_more g.D.L.Link.known (as_members link_in jobs) c.args.addresses.now k c.get.result.now job.link (omega (arith, there, size)) within c.get.ensures
+          (λ d. ap (λ (m : Member g.row.D-L.Denot). m.link) (member_at link_in jobs k job d there) ∙ ap (λ (j : Job g.row.D-L.Denot). j.link) (left.1 job)) (as_member link_in job)
           (g.D.Dock.known c.args.dock.now) (g.D.Dock.known c.loop-job.dock) (g.D.Dock.known c.close.new.self) i.0 c.close.ensures.gone c.close.ensures.told,
       left.2,
       omega (arith, there),
@@ -36,6 +34,6 @@ returns-clause-closed g c =
     let jobs : List (Job g.row.D-L.Denot) = c.args.jobs.items in
     let none : into_iter_items c.loop-job.job-iterator ≡ [] = grind (arith, common_steps) in
     let size = ap length (sym none ∙ i.1) ∙ length-drop c.loop-job.k jobs in
-    let mapped = map_size (λ (j : Job g.row.D-L.Denot). member_of j) jobs in
-    closed_all g.D.L.Link.known (members_of jobs) c.args.addresses.now c.loop-job.k (g.D.Dock.known c.args.dock.now) (g.D.Dock.known c.loop-job.dock)
+    let mapped = members_many link_in jobs in
+    closed_all g.D.L.Link.known (as_members link_in jobs) c.args.addresses.now c.loop-job.k (g.D.Dock.known c.args.dock.now) (g.D.Dock.known c.loop-job.dock)
     (omega (arith, size, mapped)) i.0

@@ -4,6 +4,7 @@ use Rattle.drm_links.specs.Told.{Known, Tells}
 use Rattle.drm_links.specs.Dock.{DockContents}
 use Rattle.drm_links.specs.declared.dock.Address.{Address}
 use Rattle.drm_links.proofs.ToldLemmas.{counts_none, then_counts, Tells-nothing, Tells-weaker}
+use Rattle.drm_links.proofs.Places.{each_more}
 use Rattle.mod_receiver.specs.declared.job.Job.{Job}
 use Rattle.drm_faults.specs.declared.fault.Fault.{Fault}
 use Rattle.drm_faults.specs.declared.fault.Fault.TheVariants as faults
@@ -12,8 +13,8 @@ use Rattle.drm_receive.specs.Hearing.{BindsFew, StopsBehind}
 use Rattle.drm_receive.specs.Opening.{StopsOpening}
 use Rattle.mod_receiver.specs.Jobs.{IsJob}
 use Rattle.several_links.proofs.OpeningLemmas.{Opened, found_now, opened_now, opened_all, docked_any, docked_still}
+use Rattle.drm_receive.proofs.HearingLemmas.{link_in}
 use Rattle.drm_receive.proofs.OpeningLemmas.{HaveFirst, missed_now, stopped_few, failed_few, all_links, same_fault_counts}
-use Rattle.mod_receiver.proofs.Listing.{each_more}
 use Rattle.drm_receive.proofs.receive_command.open_all.Goals as goal
 
 pub returns-in_err-jobs-clause-stopped : goal.returns-in_err-jobs-clause-stopped
@@ -63,17 +64,17 @@ returns-in-Err-clause-stopped g c =
     let known = g.D.L.Link.known in
     let jobs = c.loop-k.jobs.items in
     let fault : Fault = c.in-Err.fault in
-    let first : Docked a b (HaveFirst known ats jobs k) = all_links known ats jobs k a b (docked_any _ a b i.3) i.5 in
+    let first : Docked a b (HaveFirst link_in known ats jobs k) = all_links link_in known ats jobs k a b (docked_any _ a b i.3) i.5 in
     let by_memory : fault ≡ faults.NoMemory → Tells a e (StopsOpening ats fault) = λ memory.
     let still : d ≡ b = ap g.D.Dock.known (c.in-Err.ensures.untouched (ap Err memory)) in
     Tells-weaker (StopsBehind ats) (StopsOpening ats fault) a e
-    (stopped_few known ats jobs k i.1 a d e (omega (arith, within)) (subst (λ (m : Known DockContents). Docked a m (HaveFirst known ats jobs k)) (sym still) first)
+    (stopped_few link_in known ats jobs k i.1 a d e (omega (arith, within)) (subst (λ (m : Known DockContents). Docked a m (HaveFirst link_in known ats jobs k)) (sym still) first)
     (subst (λ (m : Known DockContents). Tells a m (Opened ats k)) (sym still) i.3) c.close_all.ensures.closed)
     (λ x y stops. inl (memory, stops)) in
     let by_link : fault ≡ faults.Link → Tells a e (StopsOpening ats fault) = λ link.
     let told = c.in-Err.ensures.told (λ memory. let one : fault ≡ faults.NoMemory = cc in let other : faults.Link ≡ faults.NoMemory = sym link ∙ one in cc) in
     Tells-weaker (BindsFew ats) (StopsOpening ats fault) a e
-    (failed_few known ats jobs k i.1 a d e within (docked_still (HaveFirst known ats jobs k) a b d first told)
+    (failed_few link_in known ats jobs k i.1 a d e within (docked_still (HaveFirst link_in known ats jobs k) a b d first told)
     (missed_now ats k at within c.get.ensures known a b d c.requires.listed.different i.3 (c.in-Err.ensures.failed (ap Err link)) told) c.close_all.ensures.closed)
     (λ x y few. inr (link, few)) in
     elim c.in-Err.ensures.ends [ inl memory ↦ by_memory memory | inr link ↦ by_link link ]
@@ -86,7 +87,7 @@ returns-clause-links g c =
     let all : length c.args.addresses.now ≤ c.loop-k.k = (let last = c.loop-k-test.false in let end = c.len-k-end.ensures in omega (arith, last, end)) in
     let a = g.D.Dock.known c.args.dock.now in
     let b = g.D.Dock.known c.loop-k.dock in
-    Tells-weaker _ _ a b (all_links g.D.L.Link.known c.args.addresses.now c.loop-k.jobs.items c.loop-k.k a b (docked_any _ a b c.loop-k.invariant.3) c.loop-k.invariant.5)
+    Tells-weaker _ _ a b (all_links link_in g.D.L.Link.known c.args.addresses.now c.loop-k.jobs.items c.loop-k.k a b (docked_any _ a b c.loop-k.invariant.3) c.loop-k.invariant.5)
     (λ x y first k at none within. first k at none (omega (arith, within, all)))
 
 pub returns-clause-opened : goal.returns-clause-opened

@@ -6,13 +6,14 @@ use Rattle.mod_receiver.specs.Settling.{Settles}
 use Rattle.mod_receiver.specs.Jobs.{IsReady}
 use Rattle.mod_receiver.proofs.JobLemmas.{job_ready, jobs_ready}
 use Rattle.std.specs.List.{All}
+use Rattle.std.proofs.lemmas.List.{get_or_default}
 use Rattle.drm_links.specs.Told.{WhileTold, Tells}
 use Rattle.drm_links.specs.Dock.{Closes}
 use Rattle.drm_links.proofs.ToldLemmas.{counts_as}
-use Rattle.several_links.proofs.OpeningLemmas.{same_index}
 use Rattle.drm_faults.specs.declared.fault.Fault.TheVariants as faults
-use Rattle.drm_receive.proofs.HearingLemmas.{docked_then}
-use Rattle.drm_receive.proofs.OpeningLemmas.{Closed, inner_fault}
+use Rattle.drm_faults.proofs.CauseLemmas.{inner_fault}
+use Rattle.drm_receive.proofs.HearingLemmas.{link_in, docked_then}
+use Rattle.drm_receive.proofs.OpeningLemmas.{Closed}
 use Rattle.drm_receive.proofs.ReceiveLemmas.{Ran, settled_hears, settled_run, opening_failed, written_back}
 use Rattle.drm_receive.proofs.LiveLemmas.{only_run}
 use Rattle.drm_receive.specs.Opening.{HaveLinks}
@@ -46,15 +47,15 @@ returns g c =
     let same : c.as_slice.result.now ≡ after = written_back c.in_ok-jobs.jobs.len after before c.as_slice.result.now (sym (still ∙ ap length (sym value) ∙ c.as_mut_slice.ensures.len)) c.as_slice.ensures.value in
     let settled : Settles after c.settle-settled.result g.O.Sink.known c.args.out.now c.settle-settled.new.out =
     subst (λ (jobs : List (Job g.row.D-L.Denot)). Settles jobs c.settle-settled.result g.O.Sink.known c.args.out.now c.settle-settled.new.out) same c.settle-settled.ensures.settles in
-    let gone : Tells b e (Closed g.D.L.Link.known ats after) =
-    subst (λ (jobs : List (Job g.row.D-L.Denot)). Tells b e (Closed g.D.L.Link.known ats jobs))
+    let gone : Tells b e (Closed link_in g.D.L.Link.known ats after) =
+    subst (λ (jobs : List (Job g.row.D-L.Denot)). Tells b e (Closed link_in g.D.L.Link.known ats jobs))
     (written_back c.in_ok-jobs.jobs.len after before _ (sym (still ∙ ap length (sym value) ∙ c.as_mut_slice.ensures.len)) refl) c.close_all.ensures.closed in
     let several : IsLive ats → ⊥ = λ one. c.if-len-eq1.false (c.len.ensures ∙ one) in
     record {
       run = rw c.ending.ensures
           (settled_run g.D.L.Link.known c.args.rules.now c.requires.rules c.reports_follow.ensures.headlines c.reports_follow.ensures.completes ats before after ran
           c.in_time_is_unbroken.ensures c.settle-settled.result g.D.Dock.known c.args.dock.now c.close_all.new.dock g.O.Sink.known c.args.out.now c.settle-settled.new.out
-          (docked_then (λ told. HaveLinks g.D.L.Link.known told ats before) (Closed g.D.L.Link.known ats after) a b e c.in_ok-jobs.ensures.links gone)
+          (docked_then (λ told. HaveLinks g.D.L.Link.known told ats before) (Closed link_in g.D.L.Link.known ats after) a b e c.in_ok-jobs.ensures.links gone)
           (settled_hears g.D.L.Link.known c.args.rules.now c.requires.rules c.reports_follow.ensures.headlines c.reports_follow.ensures.completes ats before after ran
           c.settle-settled.result g.O.Sink.known c.args.out.now c.settle-settled.new.out a b e settled several c.in_ok-jobs.ensures.opened c.in_ok-jobs.ensures.links gone)
           (c.close_all.ensures.cause ∙ c.in_ok-jobs.ensures.cause.same (λ failed. cc)) several settled c.settle-settled.ensures.cause);
@@ -93,7 +94,7 @@ returns-then-len-eq1 g c =
           g.D.Dock.known c.args.dock.now c.open_all.new.dock c.close.new.self g.D.L.Link.known g.O.Sink.known c.args.out.now c.run_live-ended.new.out
           one first c.in_ok-jobs.ensures.jobs c.in_ok-jobs.ensures.links c.in_ok-jobs.ensures.opened
           (c.close.ensures.cause ∙ c.in_ok-jobs.ensures.cause.same (λ failed. cc)) c.run_live-ended.ensures.ended c.run_live-ended.ensures.memory c.run_live-ended.ensures.write
-          (λ d. subst (λ x. WhileTold b e (Closes told x)) (c.get.ensures ∙ same_index ats 0 c.get.result.now d (omega (arith, one))) c.close.ensures.gone)
+          (λ d. subst (λ x. WhileTold b e (Closes told x)) (c.get.ensures ∙ get_or_default ats 0 c.get.result.now d (omega (arith, one))) c.close.ensures.gone)
           c.close.ensures.told);
     }
 

@@ -4,15 +4,16 @@ use Rattle.std.proofs.lemmas.List.{length-drop, length-map, get_or-map, append-n
 use Rattle.std.proofs.lemmas.Grind.{common_steps}
 use Rattle.several_links.specs.declared.member.Member.{Member}
 use Rattle.several_links.proofs.CloseLemmas.{next_left, closing_first, close_more, closed_all}
+use Rattle.drm_receive.proofs.HearingLemmas.{as_members, member_at, members_many}
 use Rattle.path_command.specs.declared.job.PathJob.{PathJob}
 use Rattle.path_command.specs.Opening.{member_of}
-use Rattle.path_command.proofs.Opening.{member_at, members_many, members_of}
+use Rattle.path_command.proofs.Opening.{itself}
 use Rattle.path_command.proofs.open.close_links.Goals as goal
 
 pub loop-job-init : goal.loop-job-init
 loop-job-init g c =
     let jobs : List (PathJob g.row.G.Denot g.row.D-L.Denot) = c.args.jobs.items in (
-      closing_first g.D.L.Link.known (members_of (map (λ job. job.link) jobs)) c.args.addresses.now (g.D.Dock.known c.args.dock.now),
+      closing_first g.D.L.Link.known (as_members itself (map (λ job. job.link) jobs)) c.args.addresses.now (g.D.Dock.known c.args.dock.now),
       search rules,
       omega arith,
       refl,
@@ -33,10 +34,10 @@ loop-job-preserved g c =
     let within : k < length c.args.addresses.now = omega (arith, there, few) in
     let size = length-map jobs (λ (j : PathJob g.row.G.Denot g.row.D-L.Denot). j.link) in
     let inside : k < length links = omega (arith, there, size) in
-    let sized = members_many links in
+    let sized = members_many itself links in
     let link_is : slice_index_or links k job.link ≡ job.link = get_or-map (λ (j : PathJob g.row.G.Denot g.row.D-L.Denot). j.link) jobs k job job.link there ∙ ap (λ (j : PathJob g.row.G.Denot g.row.D-L.Denot). j.link) (left.1 job) in (
-      close_more g.D.L.Link.known (members_of links) c.args.addresses.now k c.get.result.now job.link (omega (arith, inside, sized)) within c.get.ensures
-          (λ d. ap (λ (m : Member g.row.D-L.Denot). m.link) (member_at links k job.link d inside) ∙ link_is) (member_of job.link)
+      close_more g.D.L.Link.known (as_members itself links) c.args.addresses.now k c.get.result.now job.link (omega (arith, inside, sized)) within c.get.ensures
+          (λ d. ap (λ (m : Member g.row.D-L.Denot). m.link) (member_at itself links k job.link d inside) ∙ link_is) (member_of job.link)
           (g.D.Dock.known c.args.dock.now) (g.D.Dock.known c.loop-job.dock) (g.D.Dock.known c.close.new.self) i.0 c.close.ensures.gone c.close.ensures.told,
       left.2,
       omega (arith, there),
@@ -62,8 +63,8 @@ returns-then-fits-clause-closed g c =
     let none : into_iter_items c.loop-job.job-iterator ≡ [] = grind (arith, common_steps) in
     let size = ap length (sym none ∙ i.1) ∙ length-drop c.loop-job.k jobs in
     let mapped = length-map jobs (λ (j : PathJob g.row.G.Denot g.row.D-L.Denot). j.link) in
-    let sized = members_many links in
-    closed_all g.D.L.Link.known (members_of links) c.args.addresses.now c.loop-job.k (g.D.Dock.known c.args.dock.now) (g.D.Dock.known c.loop-job.dock)
+    let sized = members_many itself links in
+    closed_all g.D.L.Link.known (as_members itself links) c.args.addresses.now c.loop-job.k (g.D.Dock.known c.args.dock.now) (g.D.Dock.known c.loop-job.dock)
     (omega (arith, size, mapped, sized)) i.0
 
 pub returns-clause-closed : goal.returns-clause-closed
@@ -74,6 +75,6 @@ returns-clause-closed g c =
     let none : into_iter_items c.loop-job.job-iterator ≡ [] = grind (arith, common_steps) in
     let size = ap length (sym none ∙ i.1) ∙ length-drop c.loop-job.k jobs in
     let mapped = length-map jobs (λ (j : PathJob g.row.G.Denot g.row.D-L.Denot). j.link) in
-    let sized = members_many links in
-    closed_all g.D.L.Link.known (members_of links) c.args.addresses.now c.loop-job.k (g.D.Dock.known c.args.dock.now) (g.D.Dock.known c.loop-job.dock)
+    let sized = members_many itself links in
+    closed_all g.D.L.Link.known (as_members itself links) c.args.addresses.now c.loop-job.k (g.D.Dock.known c.args.dock.now) (g.D.Dock.known c.loop-job.dock)
     (omega (arith, size, mapped, sized)) i.0

@@ -1,18 +1,18 @@
 use Rattle.std.proofs.Common.{rules, ◌≡◌, ℕ, ◌+◌, ◌<◌, All, refl, sym, subst, slice_index_or, vec_len, ◌∙◌, ap, arith, length, length-append, List, map, [], ◌∷◌, ◌++◌}
 use Rattle.std.specs.Vec.Iter.{into_iter_items}
-use Rattle.std.proofs.lemmas.List.{length-map, append-nil}
+use Rattle.std.proofs.lemmas.List.{length-map, map_push, append-nil}
 use Rattle.std.proofs.lemmas.List.Elements.{All-push}
 use Rattle.std.proofs.lemmas.Grind.{common_steps}
 use Rattle.drm_links.specs.declared.dock.Address.{Address}
 use Rattle.drm_links.proofs.ToldLemmas.{counts_one, once_then, Tells-weaker}
+use Rattle.drm_links.proofs.Places.{each_more}
 use Rattle.several_links.specs.Openings.{Docked, HasLink}
 use Rattle.several_links.proofs.OpeningLemmas.{found_now, opened_now, opened_all, docked_any, docked_still}
-use Rattle.drm_receive.proofs.OpeningLemmas.{missed_now}
-use Rattle.mod_receiver.proofs.Listing.{each_more}
+use Rattle.drm_receive.proofs.OpeningLemmas.{HaveFirst, missed_now, failed_few, all_links}
 use Rattle.path_command.specs.declared.job.Seat.{Seat}
 use Rattle.path_command.specs.declared.job.PathJob.{PathJob}
-use Rattle.path_command.proofs.Opening.{HaveFirst, all_links, failed_few}
-use Rattle.path_command.proofs.Listing.{moved, map_more, all_left, all_first}
+use Rattle.path_command.proofs.Opening.{itself}
+use Rattle.path_command.proofs.Listing.{moved, all_left, all_first}
 use Rattle.path_command.proofs.open.open_links.Goals as goal
 
 pub loop-seat-preserved : goal.loop-seat-preserved
@@ -38,7 +38,7 @@ loop-seat-preserved g c =
     let many : length c.push_reserved.new.self.items ≡ k + 1 = ap length more ∙ length-append jobs (job ∷ []) ∙ omega (arith, size) in
     let links : List g.row.D-L.Denot = map (λ (j : PathJob g.row.G.Denot g.row.D-L.Denot). j.link) jobs in
     let links_more : map (λ (j : PathJob g.row.G.Denot g.row.D-L.Denot). j.link) c.push_reserved.new.self.items ≡ links ++ c.in-Link.link ∷ [] =
-    ap (λ js. map (λ (j : PathJob g.row.G.Denot g.row.D-L.Denot). j.link) js) more ∙ (map_more (λ (j : PathJob g.row.G.Denot g.row.D-L.Denot). j.link) jobs job ∙ ap (λ l. links ++ l ∷ []) c.job_for.ensures.link) in
+    ap (λ js. map (λ (j : PathJob g.row.G.Denot g.row.D-L.Denot). j.link) js) more ∙ (map_push (λ (j : PathJob g.row.G.Denot g.row.D-L.Denot). j.link) jobs job ∙ ap (λ l. links ++ l ∷ []) c.job_for.ensures.link) in
     let links_size : length links ≡ k = length-map jobs (λ (j : PathJob g.row.G.Denot g.row.D-L.Denot). j.link) ∙ size in
     let Q : ℕ → g.row.D-L.Denot → Type 0 = λ n link. (e : Address) → Docked a d (λ told. HasLink known told n (slice_index_or ats n e) link) in
     let old : (n : ℕ) (j : g.row.D-L.Denot) → n < k → Q n (slice_index_or links n j)
@@ -76,8 +76,8 @@ returns-in-Failed-clause-failed g c =
     let d = g.D.Dock.known c.bind.new.self in
     let links : List g.row.D-L.Denot = map (λ (j : PathJob g.row.G.Denot g.row.D-L.Denot). j.link) c.loop-seat.jobs.items in
     let size : length links ≡ k = length-map c.loop-seat.jobs.items (λ (j : PathJob g.row.G.Denot g.row.D-L.Denot). j.link) ∙ i.1 in
-    failed_few known ats links k a d (g.D.Dock.known c.close_links.new.dock) size within
-    (docked_still (HaveFirst known ats links k) a b d (all_links known ats links k a b (docked_any _ a b i.3) i.4) c.in-Failed.ensures.told)
+    failed_few itself known ats links k size a d (g.D.Dock.known c.close_links.new.dock) within
+    (docked_still (HaveFirst itself known ats links k) a b d (all_links itself known ats links k a b (docked_any _ a b i.3) i.4) c.in-Failed.ensures.told)
     (missed_now ats k c.get.result.now within c.get.ensures known a b d c.requires.different i.3 c.in-Failed.ensures.opened c.in-Failed.ensures.told)
     c.close_links.ensures.closed
 
@@ -100,7 +100,7 @@ returns-clause-links g c =
     let a = g.D.Dock.known c.args.dock.now in
     let b = g.D.Dock.known c.loop-seat.dock in
     let links : List g.row.D-L.Denot = map (λ (j : PathJob g.row.G.Denot g.row.D-L.Denot). j.link) c.loop-seat.jobs.items in
-    Tells-weaker _ _ a b (all_links g.D.L.Link.known c.args.addresses.now links c.loop-seat.k a b (docked_any _ a b i.3) i.4)
+    Tells-weaker _ _ a b (all_links itself g.D.L.Link.known c.args.addresses.now links c.loop-seat.k a b (docked_any _ a b i.3) i.4)
     (λ x y first k at none within. first k at none (omega (arith, within, left, sum)))
 
 pub returns-clause-opened : goal.returns-clause-opened
