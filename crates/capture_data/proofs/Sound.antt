@@ -6,6 +6,7 @@ use Rattle.drm_links.specs.Told.{Known}
 use Rattle.drm_links.specs.Source.{Input}
 use Rattle.drm_links.specs.Sink.{Output, Outputs, IsFront, IsFrontBehind}
 use Rattle.drm_links.proofs.ToldLemmas.{Outputs-nothing, Outputs-weaker}
+use Rattle.drm_links.proofs.WritingLemmas.{front_of_both}
 use Rattle.drm_capture.specs.declared.packets.CaptureStop.{CaptureStop}
 use Rattle.drm_capture.specs.declared.packets.CaptureStop.TheVariants as stops
 use Rattle.mod_feed.specs.Items.{Item}
@@ -35,10 +36,6 @@ front_printed : (what : What) (items : List Item) (printed text : List ℕ) → 
 front_printed what items printed text is (more, front) =
     let (rest, clean, whole) = whole_behind what items printed is in
     (items, printed ++ rest, clean, whole, (more ++ rest, ap (λ l. l ++ rest) front ∙ append_assoc text more rest))
-
-front_of_both : (printed line text : List ℕ) → IsFrontBehind printed line text → IsFront (printed ++ line) text
-front_of_both printed line text (front, (rest, line_is), text_is) =
-    (rest, ap (λ l. printed ++ l) line_is ∙ (sym (append_assoc printed front rest) ∙ ap (λ l. l ++ rest) (sym text_is)))
 
 -- nothing is printed of no items
 printed_none : (what : What) → IsPrinted what [] []

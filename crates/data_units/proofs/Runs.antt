@@ -1,11 +1,11 @@
 -- A run of `pack`, by how it ends.
-use Rattle.std.proofs.Common.{◌≡◌, ℕ, ◌<◌, inl, inr, List, [], ◌++◌, length, Option, None, Some, refl, sym, ap, subst, ◌∙◌, arith, length-append}
+use Rattle.std.proofs.Common.{◌≡◌, ℕ, ◌<◌, inl, inr, List, [], ◌++◌, length, refl, sym, ap, subst, ◌∙◌, arith, length-append}
 use Rattle.std.specs.Prelude.{◌↔◌, Result, Ok, Err}
 use Rattle.std.proofs.lemmas.List.{append-nil}
-use Rattle.drm_links.specs.Told.{Known, HasCause, ToldThrough}
-use Rattle.drm_links.specs.Source.{Input, Inputs, LeftBy}
+use Rattle.drm_links.specs.Told.{Known, HasCause}
+use Rattle.drm_links.specs.Source.{Input, Inputs}
 use Rattle.drm_links.specs.Sink.{Output, Outputs}
-use Rattle.drm_links.proofs.ToldLemmas.{Inputs-nothing, Inputs-weaker}
+use Rattle.drm_links.proofs.ToldLemmas.{Inputs-nothing, Inputs-weaker, Inputs-both}
 use Rattle.drm_faults.specs.Fault.{UnlessMemory}
 use Rattle.drm_faults.specs.declared.units.UnitsFault.{UnitsFault}
 use Rattle.drm_faults.specs.declared.fault.Fault.{Fault}
@@ -13,22 +13,16 @@ use Rattle.drm_faults.specs.declared.fault.Fault.TheVariants as faults
 use Rattle.data_units.specs.Units.{ComesTo}
 use Rattle.data_units.specs.Input.{ReadsFile}
 use Rattle.data_units.specs.Packed.{ArePacked}
-use Rattle.data_units.specs.Pack.{Judges, Ends, CanEnd, PackRun}
+use Rattle.data_units.specs.Pack.{Ends, CanEnd, PackRun}
 use Rattle.data_units.proofs.Files.{one_coming}
 
 -- ---- what was read, and what was left of the input
-
-both_told : (P Q : Input → Input → Type 0) (a b : Option Input) → ToldThrough a b P → ToldThrough a b Q → ToldThrough a b (λ x y. P x y × Q x y)
-both_told P Q None None p q = tt
-both_told P Q (Some x) None p q = tt
-both_told P Q None (Some y) p q = absurd p
-both_told P Q (Some x) (Some y) p q = (p, q)
 
 all_read : (bytes : List ℕ) (before after : Known Input) → ReadsFile bytes before after → length bytes < 16777217 → Inputs before after (λ left rest. left ≡ bytes)
 all_read bytes before after reads short =
     let P : List ℕ → List ℕ → Type 0 = λ left rest. left ≡ bytes ++ rest in
     let Q : List ℕ → List ℕ → Type 0 = λ left rest. rest ≡ [] in
-    let both : Inputs before after (λ left rest. P left rest × Q left rest) = both_told (LeftBy P) (LeftBy Q) before.told after.told reads.front (reads.all short) in
+    let both : Inputs before after (λ left rest. P left rest × Q left rest) = Inputs-both P Q before after reads.front (reads.all short) in
     Inputs-weaker (λ left rest. P left rest × Q left rest) (λ left rest. left ≡ bytes) before after both (λ left rest (is, none). is ∙ (ap (λ l. bytes ++ l) none ∙ append-nil bytes))
 
 pub comes_left : (bytes : List ℕ) (came : Result (List (List ℕ)) UnitsFault) (before after : Known Input) → ReadsFile bytes before after → ComesTo bytes came → Inputs before after (λ left _. ComesTo left came)
@@ -43,40 +37,6 @@ comes_left bytes (Err fault) before after reads (inr wrong) =
     (λ left rest is. subst (λ l. ComesTo l (Err fault)) (sym is) (inr wrong))
 
 -- ---- how it ends
-
-pub checked_ends : {O : Type 0} (id d : ℕ) (bytes : List ℕ) (fault : Fault) (before after : Known Input) (known : O → Known Output) (out : O) → Judges bytes (Err fault) → ReadsFile bytes before after
-    → Ends id d (Err fault) before after known out out
-checked_ends id d bytes (faults.Units fault) before after known out judged reads = (bytes, reads, judged, refl)
-checked_ends id d bytes faults.NoMemory before after known out judged reads = absurd judged
-checked_ends id d bytes (faults.Capture fault) before after known out judged reads = absurd judged
-checked_ends id d bytes faults.CaptureTooLong before after known out judged reads = absurd judged
-checked_ends id d bytes faults.Read before after known out judged reads = absurd judged
-checked_ends id d bytes faults.Write before after known out judged reads = absurd judged
-checked_ends id d bytes (faults.PacketSize number) before after known out judged reads = absurd judged
-checked_ends id d bytes faults.Words before after known out judged reads = absurd judged
-checked_ends id d bytes (faults.FacLength n) before after known out judged reads = absurd judged
-checked_ends id d bytes faults.FacOver before after known out judged reads = absurd judged
-checked_ends id d bytes (faults.FacCrc stands computed) before after known out judged reads = absurd judged
-checked_ends id d bytes (faults.Schedule line reason) before after known out judged reads = absurd judged
-checked_ends id d bytes (faults.Script line reason) before after known out judged reads = absurd judged
-checked_ends id d bytes faults.Link before after known out judged reads = absurd judged
-
--- and it is no other fault of the outside
-pub judged_units : (bytes : List ℕ) (fault : Fault) → Judges bytes (Err fault) → (fault ≡ faults.NoMemory → ⊥) × (fault ≡ faults.Read → ⊥) × (fault ≡ faults.Write → ⊥)
-judged_units bytes (faults.Units fault) judged = ((λ e. cc), (λ e. cc), (λ e. cc))
-judged_units bytes faults.NoMemory judged = absurd judged
-judged_units bytes (faults.Capture fault) judged = absurd judged
-judged_units bytes faults.CaptureTooLong judged = absurd judged
-judged_units bytes faults.Read judged = absurd judged
-judged_units bytes faults.Write judged = absurd judged
-judged_units bytes (faults.PacketSize number) judged = absurd judged
-judged_units bytes faults.Words judged = absurd judged
-judged_units bytes (faults.FacLength n) judged = absurd judged
-judged_units bytes faults.FacOver judged = absurd judged
-judged_units bytes (faults.FacCrc stands computed) judged = absurd judged
-judged_units bytes (faults.Schedule line reason) judged = absurd judged
-judged_units bytes (faults.Script line reason) judged = absurd judged
-judged_units bytes faults.Link judged = absurd judged
 
 module _ {O : Type 0} (id d : ℕ) (before after : Known Input) (known : O → Known Output) (out out' : O) where
   can_by : (fault : Fault) → Ends id d (Err fault) before after known out out' → CanEnd fault

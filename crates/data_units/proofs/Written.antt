@@ -1,7 +1,7 @@
 -- Packets that are written one after another.
 use Rattle.std.proofs.Common.{◌≡◌, ℕ, zero, suc, ◌+◌, ◌-◌, ◌*◌, ◌/◌, ◌%◌, ◌<◌, ◌≤◌, List, [], ◌∷◌, ◌++◌, length, take, drop, min, refl, sym, ap, subst, ◌∙◌, arith, append_assoc}
 use Rattle.std.specs.Prelude.{Result, Ok, Err}
-use Rattle.std.proofs.Math.Nat.{mul-le-mul_right, div-add-mod', add-mul}
+use Rattle.std.proofs.Math.Nat.{div-add-mod', add-mul}
 use Rattle.std.proofs.lemmas.Nat.{div-mul-add}
 use Rattle.std.proofs.lemmas.List.{append-nil}
 use Rattle.drm_links.specs.Told.{Known}
@@ -56,13 +56,6 @@ pub record Wrote (start : Packing) (unit : List ℕ) (k : ℕ) (p : Packing) (a 
   pub within : k ≤ packet_count start.length (length unit)
   pub all : (more : List ℕ) → AreWritten start.length (packets_from start.id start.length p.continuity unit k (packet_count start.length (length unit) - k)) more
       → AreWritten start.length (unit_packets start.id start.length start.continuity unit) (written ++ more)
-
--- a packet that there is begins inside the unit
-pub begins_inside : (d size k : ℕ) → 1 ≤ d → k < packet_count d size → k * d < size
-begins_inside d size k some below =
-    let x : ℕ = size + (d - 1) in
-    let most : (k + 1) * d ≤ x / d * d = mul-le-mul_right d (omega (arith, below)) in
-    omega (arith, most, div-add-mod' x d, add-mul k 1 d, some)
 
 pub wrote_none : (start : Packing) (unit : List ℕ) (a : Known Output) → start.continuity < 8 → Wrote start unit 0 start a a
 wrote_none start unit a few = record {
@@ -138,16 +131,6 @@ wrote_all start p unit k a b i full =
       subst (λ l. AreWritten start.length (unit_packets start.id start.length start.continuity unit) l) (append-nil i.written) all,
       Writes-whole i.written a b i.text i.still,
     )
-
-packing_by : (p : Packing) (id d n : ℕ) → p.id ≡ id → p.length ≡ d → p.continuity ≡ n → p ≡ record { id = id; length = d; continuity = n }
-packing_by p id d n i l c =
-    ap (λ k. record { id = k; length = p.length; continuity = p.continuity }) i ∙ (ap (λ k. record { id = id; length = k; continuity = p.continuity }) l ∙ ap (λ k. record { id = id; length = d; continuity = k }) c)
-
-pub wrote_after : (start p : Packing) (unit : List ℕ) (k : ℕ) (a b : Known Output) → Wrote start unit k p a b → packet_count start.length (length unit) ≤ k → p ≡ after_unit start unit
-wrote_after start p unit k a b i full =
-    let n : ℕ = packet_count start.length (length unit) in
-    let last : k ≡ n = omega (arith, full, i.within) in
-    packing_by p start.id start.length ((start.continuity + n) % 8) i.id i.size (i.continuity ∙ ap (λ m. (start.continuity + m) % 8) last)
 
 -- ---- units
 

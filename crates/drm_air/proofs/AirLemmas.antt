@@ -2,6 +2,7 @@
 use Rattle.std.proofs.Common.{◌≡◌, ℕ, zero, suc, ◌+◌, ◌<◌, ◌≤◌, ◌⊎◌, inl, inr, Bool, List, [], ◌∷◌, ◌++◌, length, map, slice_index_or, Some, Result, Ok, Err, refl, sym, ◌∙◌, ap, subst, arith}
 use Rattle.std.specs.Prelude.{sum_by}
 use Rattle.std.specs.List.{All, AllByRecursion, fold}
+use Rattle.std.proofs.lemmas.List.{get_or-map, length-map}
 use Rattle.drm_links.specs.Told.{Known, HasCause}
 use Rattle.drm_links.specs.Link.{Answer, Datagram, Failed}
 use Rattle.drm_links.specs.Sink.{Output}
@@ -9,6 +10,7 @@ use Rattle.drm_links.specs.Shelf.{Files}
 use Rattle.drm_links.specs.Dock.{LinkStart}
 use Rattle.drm_links.specs.MemoryLink.{LinkState, link_known}
 use Rattle.drm_links.proofs.ToldLemmas.{counts_none, counts_then, counts_as}
+use Rattle.drm_links.proofs.Places.{index_of}
 use Rattle.collect_laws.specs.Laws.{OneRun}
 use Rattle.drm_schedule.specs.declared.plan.Plan.{Plan}
 use Rattle.drm_schedule.specs.Valid.{IsSchedule}
@@ -18,6 +20,7 @@ use Rattle.mod_receiver.specs.declared.rules.Rules.{Rules}
 use Rattle.mod_receiver.specs.declared.job.Job.{Job}
 use Rattle.drm_faults.specs.declared.fault.Fault.{Fault}
 use Rattle.drm_faults.specs.declared.fault.Fault.TheVariants as faults
+use Rattle.drm_faults.proofs.CauseLemmas.{inner_fault}
 use Rattle.drm_load.specs.declared.loading.ScheduleFault.{ScheduleFault}
 use Rattle.drm_load.specs.declared.loading.ScheduleFault.TheVariants as schedule
 use Rattle.mod_receiver.specs.Reading.{IsSound}
@@ -35,7 +38,7 @@ use Rattle.drm_air.specs.Feeds.{BringsFeed, BringFeeds}
 use Rattle.mod_receiver.specs.Following.{HeadlinesFollow, CompletesFollow}
 use Rattle.mod_receiver.specs.Ahead.{IsReportOf, BreaksOff}
 use Rattle.drm_air.specs.Air.{air_rules, pairs_of, IsAired, AreFeeds, AreAired, ByScript, AirRun}
-use Rattle.mod_receiver.proofs.JobLemmas.{told_of, job_report, job_breaks, index_of, map_at, map_size, SomeFailed, some_failed}
+use Rattle.mod_receiver.proofs.JobLemmas.{told_of, job_report, job_breaks, SomeFailed, some_failed}
 use Rattle.drm_receive.proofs.ReceiveLemmas.{Ran, reports_written, ending_kind}
 use Rattle.drm_load.proofs.ScriptLemmas.{read_schedule, read_script, write_schedule, write_script}
 use Rattle.mod_receiver.proofs.Composing.{DeliveryLaws}
@@ -89,7 +92,7 @@ module _ (plan : Plan) (window : ℕ) (valid : IsSchedule plan) (some : 1 ≤ wi
 
   are_aired : OneRun → DeliveryLaws → All IsDone after → AreAired plan window feeds (map told_of after)
   are_aired one_run laws done = record {
-    as_many = map_size told_of after ∙ ran.still ∙ ran.size;
+    as_many = length-map after told_of ∙ ran.still ∙ ran.size;
     each = λ k feed none within.
         let first : k < length before = (let size = ran.size in omega (arith, size, within)) in
         let last : k < length after = (let still = ran.still in omega (arith, still, first)) in
@@ -98,10 +101,10 @@ module _ (plan : Plan) (window : ℕ) (valid : IsSchedule plan) (some : 1 ≤ wi
         let link : BringsFeed plan here (slice_index_or before k d).link = brings k feed d within in
         let start : LinkStart = record { ahead = map Datagram link.datagrams; sends = Some 0 } in
         let report : IsReportOf (air_rules plan window) (k + 1) (map Datagram link.datagrams) (told_of (slice_index_or after k d)) =
-        job_report link_known (air_rules plan window) in_range (k + 1) start (slice_index_or before k d) (slice_index_or after k d) (ran.jobs k d within) link.told (ran.ended k d first) headlines completes (done k d last) in
+        job_report link_known (air_rules plan window) (k + 1) (slice_index_or before k d) (slice_index_or after k d) (ran.jobs k d within) (ran.ended k d first) in_range start link.told headlines completes (done k d last) in
         let many : length link.datagrams < 4294967295 =
         (let sent = fed.sent_many plan (pairs_of here) link.datagrams link.sent in
-        let pairs : length (pairs_of here) ≡ length here = map_size (λ (x : Delivery). (x.packet, x.fragment)) here in
+        let pairs : length (pairs_of here) ≡ length here = length-map here (λ (x : Delivery). (x.packet, x.fragment)) in
         let limit = few_here feeds 100000 k feed are.few_deliveries within in
         omega (arith, sent, pairs, limit)) in
         let aired : IsAired plan window (k + 1) here (told_of (slice_index_or after k d)) = record {
@@ -111,7 +114,7 @@ module _ (plan : Plan) (window : ℕ) (valid : IsSchedule plan) (some : 1 ≤ wi
           headline = λ base followed. fed.headline one_run laws plan window (k + 1) base (pairs_of here) link.datagrams (told_of (slice_index_or after k d)) valid some many followed report;
           complete = λ followed in_time. fed.complete plan window (k + 1) (pairs_of here) link.datagrams (told_of (slice_index_or after k d)) valid many report followed in_time;
         } in
-        subst (λ r. IsAired plan window (k + 1) here r) (sym (map_at told_of after k d none last)) aired;
+        subst (λ r. IsAired plan window (k + 1) here r) (sym (get_or-map told_of after k d none last)) aired;
   }
 
   none_failed : SomeFailed after → ⊥
@@ -123,7 +126,7 @@ module _ (plan : Plan) (window : ℕ) (valid : IsSchedule plan) (some : 1 ≤ wi
       let link : BringsFeed plan (slice_index_or feeds failed.0 []) (slice_index_or before failed.0 d).link = brings failed.0 [] d within in
       let start : LinkStart = record { ahead = map Datagram link.datagrams; sends = Some 0 } in
       never_breaks (air_rules plan window) link.datagrams
-      (job_breaks link_known (air_rules plan window) in_range (failed.0 + 1) start (slice_index_or before failed.0 d) (slice_index_or after failed.0 d) (ran.jobs failed.0 d within) link.told (ran.ended failed.0 d first) (failed.2 d))
+      (job_breaks link_known (air_rules plan window) (failed.0 + 1) (slice_index_or before failed.0 d) (slice_index_or after failed.0 d) (ran.jobs failed.0 d within) (ran.ended failed.0 d first) in_range start link.told (failed.2 d))
 
   no_link : (NoneFailed after → ⊥) → ⊥
   no_link some_did = elim (some_failed after) [
@@ -172,14 +175,8 @@ feeds_are plan feeds script = record { some = script.some; few = script.few; eac
 
 -- ---- a run that ends before
 
-pub inner_fault : {T E : Type 0} {fault other : E} → (let r : Result T E = Err fault in r ≡ Err other) → fault ≡ other
-inner_fault is = cc
-
 abbrev of_fault : Fault → Result Bool Fault
 of_fault fault = Err fault
-
-inner : (fault other : Fault) → of_fault fault ≡ of_fault other → fault ≡ other
-inner fault other is = cc
 
 module _ {S O : Type 0} (name text : List ℕ) (window : ℕ) (shelf_known : S → Known Files) (out_known : O → Known Output) (out : O) where
   pub no_schedule : (fault : ScheduleFault) (shelf shelf' : S) → ReadBy (schedule_named name) (Err fault) (shelf_known shelf) (shelf_known shelf')
@@ -187,8 +184,8 @@ module _ {S O : Type 0} (name text : List ℕ) (window : ℕ) (shelf_known : S �
       → AirRun name text window (Err (fault_of_schedule fault)) shelf_known shelf shelf' out_known out out
   no_schedule fault shelf shelf' loads cause =
       air_run name text window (Err (fault_of_schedule fault)) shelf_known shelf shelf' shelf' out_known out out (Err fault) loads (refl, refl, refl)
-      (counts_as (λ is. read_schedule fault (inner (fault_of_schedule fault) faults.Read is)) (λ is. ap (λ f. of_fault (fault_of_schedule f)) is) cause)
-      (counts_none (λ is. write_schedule fault (inner (fault_of_schedule fault) faults.Write is)) refl)
+      (counts_as (λ is. read_schedule fault (inner_fault (fault_of_schedule fault) faults.Read is)) (λ is. ap (λ f. of_fault (fault_of_schedule f)) is) cause)
+      (counts_none (λ is. write_schedule fault (inner_fault (fault_of_schedule fault) faults.Write is)) refl)
 
   pub no_script : (plan : Plan) (fault : ScheduleFault) (shelf between shelf' : S) → IsSchedule plan → ReadBy (schedule_named name) (Ok plan) (shelf_known shelf) (shelf_known between)
       → ReadBy (script_named plan text) (Err fault) (shelf_known between) (shelf_known shelf') → (shelf_known between).faults ≡ (shelf_known shelf).faults
@@ -197,5 +194,5 @@ module _ {S O : Type 0} (name text : List ℕ) (window : ℕ) (shelf_known : S �
   no_script plan fault shelf between shelf' valid loads script_loads same cause =
       air_run name text window (Err (fault_of_script fault)) shelf_known shelf between shelf' out_known out out (Ok plan) loads
       (record { valid = valid; came = Err fault; loads = script_loads; writes = (refl, refl) })
-      (counts_then same (counts_as (λ is. read_script fault (inner (fault_of_script fault) faults.Read is)) (λ is. ap (λ f. of_fault (fault_of_script f)) is) cause))
-      (counts_none (λ is. write_script fault (inner (fault_of_script fault) faults.Write is)) refl)
+      (counts_then same (counts_as (λ is. read_script fault (inner_fault (fault_of_script fault) faults.Read is)) (λ is. ap (λ f. of_fault (fault_of_script f)) is) cause))
+      (counts_none (λ is. write_script fault (inner_fault (fault_of_script fault) faults.Write is)) refl)

@@ -1,12 +1,11 @@
 -- Links that bring the feeds of a script.
-use Rattle.std.proofs.Common.{◌≡◌, ℕ, ◌+◌, ◌<◌, ◌≤◌, List, [], ◌∷◌, ◌++◌, length, take, get_or, refl, sym, ◌∙◌, ap, subst}
-use Rattle.std.proofs.lemmas.List.{take_all, take_more}
+use Rattle.std.proofs.Common.{◌≡◌, ℕ, ◌+◌, ◌<◌, List, [], ◌∷◌, ◌++◌, length, take, get_or, refl, sym, ◌∙◌, ap, subst}
+use Rattle.std.proofs.lemmas.List.{take_more}
 use Rattle.drm_links.specs.MemoryLink.{LinkState}
 use Rattle.drm_schedule.specs.declared.plan.Plan.{Plan}
 use Rattle.script_lines.specs.declared.delivery.Delivery.{Delivery}
 use Rattle.mod_delivery.specs.Sent.{IsSent, AreSent}
 use Rattle.drm_air.specs.Air.{pairs_of}
-use Rattle.drm_air.specs.Feeds.{BringsFeed}
 
 -- a new link to which these were brought
 abbrev pub link_of : List (List ℕ) → LinkState
@@ -44,11 +43,3 @@ sent_more plan deliveries i none datagrams datagram within sent is =
     let d : Delivery = get_or deliveries i none in
     subst (λ p. AreSent plan p (datagrams ++ datagram ∷ [])) (sym (ap pairs_of (take_more deliveries i none within) ∙ pairs_behind (take i deliveries) d))
     (one_more plan (pairs_of (take i deliveries)) datagrams (d.packet, d.fragment) datagram sent is)
-
-pub brings_feed : (plan : Plan) (deliveries : List Delivery) (i : ℕ) (datagrams : List (List ℕ)) (link : LinkState) → length deliveries ≤ i
-    → AreSent plan (pairs_of (take i deliveries)) datagrams → link ≡ link_of datagrams → BringsFeed plan deliveries link
-brings_feed plan deliveries i datagrams link all sent is = subst (BringsFeed plan deliveries) (sym is) (record {
-  datagrams = datagrams;
-  sent = subst (λ l. AreSent plan (pairs_of l) datagrams) (take_all i deliveries all) sent;
-  told = refl;
-})

@@ -3,40 +3,19 @@ use Rattle.std.proofs.Common.{◌≡◌, ℕ, zero, suc, ◌<◌, inl, inr, ◌�
 use Rattle.std.specs.Prelude.{if◌then◌else◌, nat_le, slice_index_or, ◌^◌}
 use Rattle.std.proofs.lemmas.List.{append-nil}
 use Rattle.drm_bits.specs.Crc.{IsCheckOf}
-use Rattle.drm_links.specs.Told.{Known, HasFailed, ToldThrough, told_for}
+use Rattle.drm_links.specs.Told.{Known, HasFailed}
 use Rattle.drm_links.proofs.ToldLemmas.{counts_one, counts_none}
-use Rattle.drm_links.specs.Sink.{Output, Outputs, WritesText, IsFront}
+use Rattle.drm_links.specs.Sink.{Output, Outputs, IsFront}
 use Rattle.mod_receiver.specs.Ahead.{Report}
 use Rattle.mod_receiver.specs.Texts.{text_known}
 use Rattle.mod_receiver.specs.declared.text.Text.{Text}
+use Rattle.mod_receiver.proofs.JobLemmas.{text_written}
 use Rattle.drm_receive.specs.Receive.{all_texts, AreClean, WritesReports}
 use Rattle.drm_air.specs.Air.{IsAired, AreAired}
 use Rattle.drm_faults.specs.declared.fault.Fault.{Fault}
 use Rattle.drm_faults.specs.declared.fault.Fault.TheVariants as faults
 use Rattle.drm_exercise.specs.Exercise.{plan, deliveries, line}
 use Rattle.drm_exercise.specs.Run.{IsExercise, ExerciseRun}
-
--- ---- the text of one receiver
-
-told_some : (calls : ℕ) (o : Output) → IsSome (told_for calls o) → told_for calls o ≡ Some o
-told_some calls o some = by (nat_le calls (2 ^ 62)) some
-  where
-    by : (told : Bool) → IsSome (if told then Some o else None) → (if told then Some o else None) ≡ Some o
-    by true some = refl
-    by false some = absurd cc
-
-told_through : (a b : Option Output) (x y : Output) (P : Output → Output → Type 0) → a ≡ Some x → b ≡ Some y → ToldThrough a b P → P x y
-told_through a b x y P is also told =
-    let Q : Option Output → Type 0 = λ o. ToldThrough o b P in
-    let R : Option Output → Type 0 = λ o. ToldThrough (Some x) o P in
-    subst R also (subst Q is told)
-
--- what a text tells that was new
-written : (old new : Text) (P : List ℕ → Type 0) → (text_known old).told ≡ Some (record { written = []; calls = 0 }) → IsSome (text_known new).told → Outputs (text_known old) (text_known new) P → P new.bytes.items
-written old new P fresh told out =
-    let wrote : WritesText P (record { written = []; calls = 0 }) (record { written = new.bytes.items; calls = new.calls }) =
-    told_through (text_known old).told (text_known new).told (record { written = []; calls = 0 }) (record { written = new.bytes.items; calls = new.calls }) (WritesText P) fresh (told_some new.calls _ told) out in
-    subst P (sym wrote.1) wrote.2
 
 -- ---- its report
 
@@ -77,7 +56,7 @@ pub has_report : (n : ℕ) (clean : Bool) (old new : Text) → (text_known old).
     → WritesReports (AreAired (plan n) 8 (deliveries n ∷ [])) (Ok clean) text_known old new → HasReport n clean new.bytes.items
 has_report n clean old new fresh told (reports, are, out, iff) =
     let one = one_report n reports are in
-    let text : new.bytes.items ≡ all_texts reports = written old new (λ t. t ≡ all_texts reports) fresh told out in
+    let text : new.bytes.items ≡ all_texts reports = text_written (λ t. t ≡ all_texts reports) (text_known old) new out fresh told in
     record {
       r = one.r;
       aired = one.aired;

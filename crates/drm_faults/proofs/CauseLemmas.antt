@@ -1,7 +1,11 @@
--- What failed of two objects, by what failed of one.
-use Rattle.std.proofs.Common.{◌≡◌, inl, inr, ◌∙◌}
+-- Which fault it is, and what failed of two objects by what failed of one.
+use Rattle.std.proofs.Common.{◌≡◌, inl, inr, Result, Err}
 use Rattle.drm_links.specs.Told.{Known, HasCause}
 use Rattle.drm_faults.specs.Causes.{OneFailed, OpeningFailed}
+
+-- an answer has one fault
+pub inner_fault : {T E : Type 0} (fault other : E) → (let r : Result T E = Err fault in r ≡ Err other) → fault ≡ other
+inner_fault fault other is = cc
 
 -- the other is left alone
 pub one_alone : {X Y H : Type 0} {a b : Known X} {c d : Known Y} → HasCause a b H → d.faults ≡ c.faults → OneFailed a b c d H

@@ -10,11 +10,12 @@ use Rattle.dcp_pft.specs.Limits.{most_fragments}
 use Rattle.dcp_collect.specs.Fragments.{Fragment, suffice, of_packet}
 use Rattle.dcp_collect.specs.State.{State, ready, after_item, after_next}
 use Rattle.dcp_collect.specs.Runs.{Item, Packet, Lost, Damaged, IsItem}
-use Rattle.collect_laws.specs.Laws.{IsFit}
+use Rattle.collect_laws.specs.Laws.{IsFit, Given}
 use Rattle.collect_laws.proofs.Fit.{fit_next}
+use Rattle.collect_laws.proofs.Runs.{given_more}
 use Rattle.drm_convert.specs.Draining.{MayBeFirst, KnowsFirst}
-use Rattle.capture_items.specs.Reading.{Given, is_full}
-use Rattle.drm_convert.proofs.DrainingLemmas.{given_one, next_end}
+use Rattle.capture_items.specs.Reading.{is_full}
+use Rattle.drm_convert.proofs.DrainingLemmas.{next_end}
 use Rattle.drm_gate.specs.declared.tally.Tally.{Tally}
 use Rattle.drm_gate.specs.Passing.{Fate, Sent, Bad, Large, Missing, Becomes, Begins, BecomeAll, datagrams_of, sent_of}
 use Rattle.drm_gate.specs.Targets.{Target, EachTakes, SomeUp}
@@ -180,7 +181,7 @@ so_far_one told carry used c d n t u v x y z items item first s room now is smal
     let all : PassedAll carry d (items ++ item ∷ []) t v x z =
     all_then carry c d items (item ∷ []) t u v x y z (λ f may. subst (λ (o : Option ℕ). IfSome o (λ m. m ≡ f)) s.first may) s.all (all_one carry d item u v y z s.knows is here) in
     record {
-      gives = subst (λ (k : State). Given c (items ++ item ∷ []) k) (sym after) (given_one c d items item s.gives now is);
+      gives = subst (λ (k : State). Given c (items ++ item ∷ []) k) (sym after) (given_more items c d item s.gives now is);
       all = all_same carry c d (items ++ item ∷ []) t v x z s.first all;
       knows = λ none. kept ∙ ap (λ (l : List Fragment). filter (λ f. not (f.number == d.next)) l) (s.knows (sym first_same ∙ none));
       fit = subst IsFit (sym next) (fit_next d s.fit);

@@ -10,7 +10,7 @@ use Rattle.dcp_pft.specs.Limits.{most_fragments}
 use Rattle.dcp_collect.specs.declared.taken.Taken.{Taken}
 use Rattle.dcp_collect.specs.State.{State, after_finish}
 use Rattle.dcp_collect.specs.Runs.{Item, up_to}
-use Rattle.collect_laws.specs.Laws.{IsFit}
+use Rattle.collect_laws.specs.Laws.{IsFit, Given}
 use Rattle.report_lines.specs.declared.report.EndWord.TheVariants as word
 use Rattle.mod_receiver.specs.declared.rules.Rules.{Rules}
 use Rattle.mod_receiver.specs.Reading.{datagrams, idles as idles_at_end, Gave, HaveEnded, GoesOn, most_answers}
@@ -18,7 +18,7 @@ use Rattle.mod_receiver.proofs.Going.{goes_more, datagrams_idle, idles_idle, not
 use Rattle.mod_receiver.proofs.Giving.{gave_idle}
 use Rattle.mod_receiver.proofs.Reaching.{HearsMore, one_longer, one_turn, short_enough}
 use Rattle.drm_convert.specs.Draining.{MayBeFirst}
-use Rattle.capture_items.specs.Reading.{Given, is_full}
+use Rattle.capture_items.specs.Reading.{is_full}
 use Rattle.drm_convert.specs.Run.{first_of}
 use Rattle.drm_convert.proofs.Taken.{may_taken, first_itself}
 use Rattle.drm_convert.proofs.Ways.{given_first, longer_full}

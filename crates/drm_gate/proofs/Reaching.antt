@@ -12,6 +12,7 @@ use Rattle.dcp_collect.proofs.Decoded.{decoded_or_none}
 use Rattle.collect_laws.specs.Laws.{IsFit, GivingEnds}
 use Rattle.collect_laws.proofs.Ending.{giving_ends}
 use Rattle.collect_laws.proofs.Fit.{fit_given}
+use Rattle.collect_laws.proofs.Runs.{given_all, gives_after}
 use Rattle.report_lines.specs.declared.report.EndWord.TheVariants as word
 use Rattle.mod_receiver.specs.declared.rules.Rules.{Rules}
 use Rattle.mod_receiver.specs.Reading.{datagrams, idles as idles_at_end, Gave, HasGiven, HaveEnded, IsOpen, GoesOn}
@@ -19,7 +20,7 @@ use Rattle.mod_receiver.proofs.Going.{goes_none, goes_more, is_open, datagrams_m
 use Rattle.mod_receiver.proofs.Giving.{gave_none, gave_datagram, none_given}
 use Rattle.mod_receiver.proofs.Reaching.{HearsMore, one_longer, one_turn, short_enough}
 use Rattle.drm_convert.specs.Draining.{MayBeFirst, KnowsFirst}
-use Rattle.capture_items.specs.Reading.{Given, is_full}
+use Rattle.capture_items.specs.Reading.{is_full}
 use Rattle.drm_convert.proofs.Taken.{may_taken}
 use Rattle.drm_convert.proofs.Ways.{gives_first, one_way, longer_full}
 use Rattle.drm_gate.specs.declared.tally.Tally.{Tally}
@@ -34,14 +35,6 @@ pub giving : GivingEnds
 giving = giving_ends decoded_or_none
 
 -- ---- what is given
-
-given_all : (items : List Item) (c d : State) → Given c items d → ready d ≡ false → Gives c items d
-given_all [] c d gives none = (ap ready (sym gives) ∙ none, gives)
-given_all (item ∷ items) c d gives none = (gives.0, gives.1, given_all items (after_item c) d gives.2 none)
-
-gives_after : (items more : List Item) (c d e : State) → Given c items d → Gives d more e → Gives c (items ++ more) e
-gives_after [] more c d e gives rest = subst (λ (s : State). Gives s more e) gives rest
-gives_after (item ∷ items) more c d e gives rest = (gives.0, gives.1, gives_after items more (after_item c) d e gives.2 rest)
 
 gives_none : (items : List Item) (c d : State) → Gives c items d → ready d ≡ false
 gives_none [] c d gives = ap ready gives.1 ∙ gives.0

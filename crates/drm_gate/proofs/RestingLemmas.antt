@@ -1,11 +1,10 @@
 -- Calls of links that never rest.
 use Rattle.std.proofs.Common.{◌≡◌, ℕ, zero, suc, ◌+◌, ◌≤◌, List, [], ◌∷◌, ◌++◌, length, map, replicate, refl, sym, ap, ◌∙◌}
 use Rattle.std.proofs.lemmas.List.{map-append}
-use Rattle.drm_links.specs.Told.{Known, Tells, WhileTold, CountsCall}
-use Rattle.drm_links.specs.Link.{Traffic, Receives}
+use Rattle.drm_links.specs.Told.{Known, Tells}
+use Rattle.drm_links.specs.Link.{Traffic}
 use Rattle.drm_links.specs.Transmission.{Transmits, SendsAll, SendsNoMore, Waits, since, still}
-use Rattle.drm_links.specs.declared.link.Came.{Came}
-use Rattle.drm_links.proofs.ToldLemmas.{Tells-nothing, Tells-then, Tells-one, WhileTold-weaker}
+use Rattle.drm_links.proofs.ToldLemmas.{Tells-nothing, Tells-then}
 use Rattle.drm_links.proofs.TransmissionLemmas.{Transmits-weaker, Transmits-both}
 use Rattle.drm_links.proofs.ManyCallsLemmas.{no_calls, more_calls, at_most}
 use Rattle.drm_gate.specs.Resting.{NeverRests, MakesSends}
@@ -29,20 +28,6 @@ more_sends m n a b c first second = record { calls = more_calls calls m n a b c 
 
 pub few_sends : (m n : ℕ) (a b : Known Traffic) → m ≤ n → MakesSends m a b → MakesSends n a b
 few_sends m n a b few sends = record { calls = at_most calls m n a b few sends.calls; still = sends.still }
-
--- ---- one call
-
-still_as : (x y : Traffic) → y.gone ≡ x.gone → y.waits ≡ x.waits → y.waiting ≡ x.waiting → NeverRests x y
-still_as x y gone waits waiting rested = record {
-  waits = waits ∙ (rested.waits ∙ ap (λ (l : List (List ℕ)). map (λ _. 0) l) (sym gone));
-  waiting = waiting ∙ rested.waiting;
-}
-
-one_still : (P : Traffic → Traffic → Type 0) (a b : Known Traffic) → CountsCall calls a b → WhileTold a b P → ((x y : Traffic) → P x y → NeverRests x y) → Tells a b NeverRests
-one_still P a b counts holds still = Tells-one calls NeverRests a b counts (WhileTold-weaker P NeverRests a b holds still)
-
-pub still_came : (result : Came) (buf : List ℕ) (a b : Known Traffic) → WhileTold a b (Receives result buf) → CountsCall calls a b → Tells a b NeverRests
-still_came result buf a b came counts = one_still (Receives result buf) a b counts came (λ x y r. still_as x y r.gone r.waits r.waiting)
 
 -- ---- datagrams without a rest between them
 

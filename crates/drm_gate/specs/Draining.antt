@@ -4,8 +4,9 @@ use Rattle.dcp_pft.specs.declared.carry.Carry.{Carry}
 use Rattle.dcp_pft.specs.Limits.{most_fragments}
 use Rattle.dcp_collect.specs.State.{State, ready}
 use Rattle.dcp_collect.specs.Runs.{Item, IsItem}
+use Rattle.collect_laws.specs.Laws.{Given}
 use Rattle.drm_convert.specs.Draining.{MayBeFirst}
-use Rattle.capture_items.specs.Reading.{Given, is_full}
+use Rattle.capture_items.specs.Reading.{is_full}
 use Rattle.drm_gate.specs.declared.tally.Tally.{Tally}
 use Rattle.drm_gate.specs.Passing.{Fate, Begins, BecomeAll, sent_of}
 use Rattle.drm_gate.specs.Tallies.{plus, tally_of, items_in}

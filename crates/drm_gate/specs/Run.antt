@@ -5,6 +5,7 @@ use Rattle.dcp_pft.specs.Limits.{most_fragments}
 use Rattle.dcp_collect.specs.declared.taken.Taken.{Taken}
 use Rattle.dcp_collect.specs.State.{State, made, ready}
 use Rattle.dcp_collect.specs.Runs.{Item, IsItem, Steps, Run}
+use Rattle.collect_laws.specs.Laws.{Given}
 use Rattle.drm_links.specs.Told.{Known, HasFailed}
 use Rattle.drm_links.specs.Link.{Answer, Traffic}
 use Rattle.drm_links.specs.Transmission.{Transmits, SendsNoMore}
@@ -15,7 +16,7 @@ use Rattle.mod_receiver.specs.Reading.{datagrams, Gave, GoesOn, IsFinished, IsBr
 use Rattle.mod_receiver.specs.OneReading.{Ends}
 use Rattle.mod_receiver.specs.Received.{ComesTo}
 use Rattle.drm_convert.specs.Draining.{MayBeFirst}
-use Rattle.capture_items.specs.Reading.{Given, is_full}
+use Rattle.capture_items.specs.Reading.{is_full}
 use Rattle.drm_convert.specs.Run.{first_of}
 use Rattle.drm_gate.specs.declared.tally.Tally.{Tally}
 use Rattle.drm_gate.specs.declared.gate.GateEnded.{GateEnded}

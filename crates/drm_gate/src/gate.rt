@@ -4,9 +4,8 @@ ghost use Rattle.std.specs.Prelude.{◌≡◌, ◌*◌, ◌≤◌, length, IfOk}
 ghost use Rattle.dcp_pft.specs.Carrying.{CarryFits};
 ghost use Rattle.dcp_pft.specs.Limits.{most_fragments};
 ghost use Rattle.dcp_collect.specs.State.{made};
-ghost use Rattle.drm_links.specs.Told.{HasCause, Tells};
+ghost use Rattle.drm_links.specs.Told.{HasCause};
 ghost use Rattle.drm_gate.specs.Gateway.{IsNew, IsReasonable, rules_of};
-ghost use Rattle.drm_gate.specs.Resting.{NeverRests};
 ghost use Rattle.drm_gate.specs.Draining.{most_taken};
 ghost use Rattle.drm_gate.specs.Run.{GateRun, CountsOver};
 ghost use Rattle.drm_gate.specs.Targets.{targets};
@@ -96,8 +95,6 @@ pub fn gate_one<L: Link, K: Link>(
     // What was read of the one link, and what was sent of it over each of the others.
     ensures ended { GateRun (rules_of gate.old.collector options.now) gate.old.carry
         (L.known from.old) (L.known from.new) (targets K.known to.old) (targets K.known to.new) result }
-    // No link rests; the others' part stands in the run.
-    ensures still { Tells (L.known from.old) (L.known from.new) NeverRests }
     ensures from { HasCause (L.known from.old) (L.known from.new) (result ≡ GateEnded.FromFailed) }
 {
     let passed = pass_on(

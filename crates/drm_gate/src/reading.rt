@@ -1,7 +1,7 @@
 //! Reading a link: each datagram is taken, and what it makes ready is passed on before the next one is read.
 
 ghost use Rattle.std.specs.Prelude.{◌≡◌, ◌+◌, ◌*◌, ◌≤◌, ◌<◌, length, false, None, Err, IfOk, IfErr, OnOk, OnErr};
-ghost use Rattle.drm_links.specs.Told.{HasCause, Tells};
+ghost use Rattle.drm_links.specs.Told.{HasCause};
 ghost use Rattle.dcp_pft.specs.Limits.{most_fragments};
 ghost use Rattle.dcp_collect.specs.State.{made, ready as is_ready};
 ghost use Rattle.collect_laws.specs.Laws.{IsFit};
@@ -10,7 +10,6 @@ ghost use Rattle.drm_convert.specs.Draining.{KnowsFirst};
 ghost use Rattle.drm_gate.specs.Gateway.{IsReasonable, rules_of};
 ghost use Rattle.drm_gate.specs.Tallies.{nothing};
 ghost use Rattle.drm_gate.specs.Draining.{KeepsPace, most_taken, sent_or_kept};
-ghost use Rattle.drm_gate.specs.Resting.{NeverRests};
 ghost use Rattle.drm_gate.specs.Reading.{TakesOne, TakesFirst, ReadsTo, StopsReading, EndsReading};
 ghost use Rattle.drm_gate.specs.Targets.{targets, SomeUp};
 ghost use Rattle.drm_gate.specs.declared.reading.Stop.{Stop};
@@ -101,7 +100,6 @@ fn read_all<L: Link, K: Link>(
     ensures small { OnOk result (sent_or_kept collector.new tally.new ≤ most_taken) }
     ensures end { OnOk result (collector.new.end ≡ None) }
     ensures carry { sender.new ≡ sender.old }
-    ensures still { Tells (L.known from.old) (L.known from.new) NeverRests }
     ensures from { HasCause (L.known from.old) (L.known from.new) (result ≡ Err Stop.From) }
 {
     let mut taken = 0u32;
@@ -147,7 +145,6 @@ pub(crate) fn pass_on<L: Link, K: Link>(
     ensures ends { EndsReading (rules_of collector.old options.now) sender.old
         (Heard (L.known from.old) (L.known from.new)) (targets K.known to.old) (targets K.known to.new) result }
     ensures few { IfOk result (λ tally. tally.sent ≤ most_fragments * most_taken) }
-    ensures still { Tells (L.known from.old) (L.known from.new) NeverRests }
     ensures from { HasCause (L.known from.old) (L.known from.new) (result ≡ Err Stop.From) }
 {
     let mut tally = Tally::new();

@@ -1,7 +1,7 @@
 -- What an input comes to, and from that what a run of `fac` says.
 use Rattle.std.proofs.Common.{◌≡◌, ℕ, ◌<◌, ◌≤◌, ◌⊎◌, ◌↔◌, inl, inr, List, length, take, drop, Result, Ok, Err, refl, sym, ◌∙◌, ap, subst, arith}
 use Rattle.std.proofs.lemmas.Grind.{common_steps}
-use Rattle.std.proofs.lemmas.List.{take_all, length-take-le}
+use Rattle.std.proofs.lemmas.List.{take_all}
 use Rattle.drm_fac.specs.declared.fac.Fac.{Fac}
 use Rattle.drm_fac.specs.declared.fac.FacFault.TheVariants.{Crc}
 use Rattle.drm_fac.specs.Fac.{IsFac}
@@ -97,32 +97,11 @@ whole left few = take_all 10 left (omega (arith, few))
 whole_of_front : (left : List ℕ) → length (take 10 left) ≤ 9 → take 10 left ≡ left
 whole_of_front left few = take_all 10 left (grind (arith, common_steps))
 
-over_front : (left : List ℕ) → 9 < length left → 9 < length (take 10 left)
-over_front left over = omega (arith, length-take-le 10 left (omega (arith, over)))
-
 over_whole : (left : List ℕ) → 9 < length (take 10 left) → 9 < length left
 over_whole left over = grind (arith, common_steps)
 
 along : (v : Result Fac Fault) (a b : List ℕ) → a ≡ b → ComesTo a v → ComesTo b v
 along v a b same is = let P : List ℕ → Type 0 = λ l. ComesTo l v in subst P same is
-
--- the first ten bytes come to what all of them come to
-pub comes_front : (left : List ℕ) (v : Result Fac Fault) → ComesTo left v → ComesTo (take 10 left) v
-comes_front left (Ok f) is = along (Ok f) left (take 10 left) (sym (whole left (omega (arith, is.nine)))) is
-comes_front left (Err (FacLength n)) is = along (Err (FacLength n)) left (take 10 left) (sym (whole left (omega (arith, is.0, is.1)))) is
-comes_front left (Err FacOver) is = over_front left is
-comes_front left (Err (FacCrc s c)) is = along (Err (FacCrc s c)) left (take 10 left) (sym (whole left (omega (arith, is.nine)))) is
-comes_front left (Err NoMemory) is = is
-comes_front left (Err Link) is = is
-comes_front left (Err Words) is = is
-comes_front left (Err Read) is = is
-comes_front left (Err Write) is = is
-comes_front left (Err (Schedule l r)) is = is
-comes_front left (Err (Script l r)) is = is
-comes_front left (Err (Capture f)) is = is
-comes_front left (Err CaptureTooLong) is = is
-comes_front left (Err (PacketSize p)) is = is
-comes_front left (Err (Units p)) is = is
 
 pub comes_whole : (left : List ℕ) (v : Result Fac Fault) → ComesTo (take 10 left) v → ComesTo left v
 comes_whole left (Ok f) is = along (Ok f) (take 10 left) left (whole_of_front left (omega (arith, is.nine))) is

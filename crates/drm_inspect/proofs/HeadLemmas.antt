@@ -4,11 +4,11 @@ use Rattle.std.proofs.lemmas.Grind.{common_steps}
 use Rattle.std.proofs.lemmas.List.{append-nil, take-append-le, length-take-le, take_at, drop_at, take_all}
 use Rattle.std.proofs.Math.Seq.{take-append-add}
 use borrow.Rule.Slice.PartMut.{put_mid, post_of}
-use Rattle.drm_links.specs.declared.source.ReadOut.TheVariants.{Got, End, Failed}
+use Rattle.drm_links.specs.declared.source.ReadOut.TheVariants.{Got, End}
 use Rattle.drm_links.specs.Told.{Known, WhileTold, CountsCall, CountsTold, ToldThrough}
-use Rattle.drm_links.specs.Source.{Input, Inputs, Takes, LeftBy}
-use Rattle.drm_links.proofs.ToldLemmas.{Inputs-then, Inputs-got, Inputs-end, Inputs-weaker, Tells-weaker, Tells-one}
-use Rattle.drm_inspect.specs.Input.{ReadsHead, FailsWithin, AsksAtMost, AskedAtMost}
+use Rattle.drm_links.specs.Source.{Input, Inputs, Takes}
+use Rattle.drm_links.proofs.ToldLemmas.{Inputs-then, Inputs-got, Inputs-end, Inputs-weaker, Tells-weaker}
+use Rattle.drm_inspect.specs.Input.{ReadsHead, AsksAtMost, AskedAtMost}
 
 -- the front of a buffer after one more read
 front_more : (len n room : ℕ) (bytes buf : List ℕ) → length bytes ≡ len + room → n ≤ length buf → take (len + n) (put_mid len room bytes buf) ≡ take len bytes ++ take n buf
@@ -17,9 +17,9 @@ front_more len n room bytes buf size within =
     ap (λ k. take (k + n) (put_mid len room bytes buf)) (sym front)
     ∙ (take-append-add (take len bytes) (buf ++ post_of len room bytes) n ∙ ap (λ l. take len bytes ++ l) (take-append-le n buf (post_of len room bytes) within))
 
-pub got_more : (a b c : Known Input) (len n room : ℕ) (bytes buf : List ℕ) → length bytes ≡ len + room → n ≤ length buf → Inputs a b (λ left rest. left ≡ take len bytes ++ rest) → WhileTold b c (Takes (Got n) buf) → CountsCall (λ (i : Input). i.calls) b c → Inputs a c (λ left rest. left ≡ take (len + n) (put_mid len room bytes buf) ++ rest)
-got_more a b c len n room bytes buf size within before told counts =
-    Inputs-then (λ left rest. left ≡ take len bytes ++ rest) (λ left rest. left ≡ take n buf ++ rest) (λ left rest. left ≡ take (len + n) (put_mid len room bytes buf) ++ rest) a b c before (Inputs-got n buf b c told counts)
+pub got_more : (a b c : Known Input) (len n room : ℕ) (bytes buf : List ℕ) → length bytes ≡ len + room → 0 < n → n ≤ length buf → c.faults ≡ b.faults → Inputs a b (λ left rest. left ≡ take len bytes ++ rest) → WhileTold b c (Takes (Got n) buf) → CountsCall (λ (i : Input). i.calls) b c → Inputs a c (λ left rest. left ≡ take (len + n) (put_mid len room bytes buf) ++ rest)
+got_more a b c len n room bytes buf size some within still before told counts =
+    Inputs-then (λ left rest. left ≡ take len bytes ++ rest) (λ left rest. left ≡ take n buf ++ rest) (λ left rest. left ≡ take (len + n) (put_mid len room bytes buf) ++ rest) a b c before (Inputs-got n buf b c some within still told counts)
     (λ x y z p q. p ∙ (ap (λ l. take len bytes ++ l) q ∙ (sym (append_assoc (take len bytes) (take n buf) z) ∙ ap (λ l. l ++ z) (sym (front_more len n room bytes buf size within)))))
 
 -- one more call
@@ -53,27 +53,13 @@ whole_left : (head left : List ℕ) → length head ≤ 10 → left ≡ head →
 whole_left head left within is = (sym (take_all 10 left (omega (arith, ap length is, within)) ∙ is), grind (arith, common_steps, ap length is, within))
 
 -- the input has ended
-pub head_end : (a b c : Known Input) (len : ℕ) (bytes buf : List ℕ) → length bytes ≡ 10 → len < 10 → Inputs a b (λ left rest. left ≡ take len bytes ++ rest) → AsksAtMost len a b → WhileTold b c (Takes End buf) → CountsCall (λ (i : Input). i.calls) b c → ReadsHead (take len bytes) a c
-head_end a b c len bytes buf size within before asks told counts =
+pub head_end : (a b c : Known Input) (len : ℕ) (bytes buf : List ℕ) → length bytes ≡ 10 → len < 10 → Inputs a b (λ left rest. left ≡ take len bytes ++ rest) → AsksAtMost len a b → c.faults ≡ b.faults → WhileTold b c (Takes End buf) → CountsCall (λ (i : Input). i.calls) b c → ReadsHead (take len bytes) a c
+head_end a b c len bytes buf size within before asks still told counts =
     let some : length (take len bytes) ≡ len = length-take-le len bytes (omega (arith, size, within)) in
     let P : List ℕ → List ℕ → Type 0 = λ left rest. (take len bytes ≡ take 10 left) × (rest ≡ drop 10 left) in
     record {
-      bytes = Inputs-then (λ left rest. left ≡ take len bytes ++ rest) (λ x y. (x ≡ []) × (y ≡ [])) P a b c before (Inputs-end buf b c told counts)
+      bytes = Inputs-then (λ left rest. left ≡ take len bytes ++ rest) (λ x y. (x ≡ []) × (y ≡ [])) P a b c before (Inputs-end buf b c still told counts)
           (λ x y z p q. let e = whole_left (take len bytes) x (omega (arith, some, within)) (p ∙ (ap (λ l. take len bytes ++ l) q.0 ∙ append-nil (take len bytes))) in (e.0, q.1 ∙ e.1));
       asks = asks_more len (min 10 (length (take len bytes) + 1)) a b c (omega (arith, some, within)) asks counts;
       short = omega (arith, some, within);
     }
-
--- a read failed
-pub head_failed : (a b c : Known Input) (len : ℕ) (bytes buf : List ℕ) → length bytes ≡ 10 → len < 10 → Inputs a b (λ left rest. left ≡ take len bytes ++ rest) → AsksAtMost len a b → WhileTold b c (Takes Failed buf) → CountsCall (λ (i : Input). i.calls) b c → FailsWithin len a c
-head_failed a b c len bytes buf size within before asks told counts =
-    let some : length (take len bytes) ≡ len = length-take-le len bytes (omega (arith, size, within)) in
-    record {
-      few = within;
-      bytes = Inputs-then (λ left rest. left ≡ take len bytes ++ rest) (λ x y. y ≡ x) (λ left rest. rest ≡ drop len left) a b c before (failed_kept buf b c told counts)
-          (λ x y z p q. q ∙ sym (ap (λ l. drop len l) p ∙ drop_at (take len bytes) y len some));
-      asks = asks_more len (len + 1) a b c (omega arith) asks counts;
-    }
-  where
-    failed_kept : (buf : List ℕ) (b c : Known Input) → WhileTold b c (Takes Failed buf) → CountsCall (λ (i : Input). i.calls) b c → Inputs b c (λ x y. y ≡ x)
-    failed_kept buf b c told counts = Tells-one (λ (i : Input). i.calls) (LeftBy (λ x y. y ≡ x)) b c counts told

@@ -1,15 +1,15 @@
 -- What `show` has written, packet by packet, and how it ends.
-use Rattle.std.proofs.Common.{◌≡◌, ℕ, ◌+◌, inl, inr, Bool, true, false, List, [], ◌∷◌, ◌++◌, length, Option, None, Some, Result, Ok, Err, refl, sym, ◌∙◌, ap, subst, arith, append_assoc, length-append}
+use Rattle.std.proofs.Common.{◌≡◌, ℕ, ◌+◌, inl, inr, Bool, true, false, List, [], ◌∷◌, ◌++◌, length, Option, None, Some, Result, Ok, Err, refl, sym, ◌∙◌, ap, subst, arith, length-append}
 use Rattle.std.specs.Prelude.{All, not, ◌&&◌, OnErr, IsErr, IfOk}
 use Rattle.std.specs.List.{concat}
 use Rattle.std.proofs.lemmas.List.{append-nil}
 use Rattle.std.proofs.lemmas.List.Folds.{concat-append, list_all-append}
 use Rattle.std.proofs.lemmas.Grind.{flat_map-append}
-use Rattle.drm_links.specs.Told.{Known, HasCause, Counts, ToldThrough}
-use Rattle.drm_links.specs.Source.{Input, Inputs, LeftBy}
+use Rattle.drm_links.specs.Told.{Known, HasCause, Counts}
+use Rattle.drm_links.specs.Source.{Input, Inputs}
 use Rattle.drm_links.specs.Sink.{Output, Outputs, IsFront, IsFrontBehind}
 use Rattle.drm_links.proofs.ToldLemmas.{counts_as, counts_none, Inputs-nothing, Inputs-weaker, Outputs-nothing, Outputs-then, Outputs-weaker}
-use Rattle.drm_links.proofs.WritingLemmas.{front_behind}
+use Rattle.drm_links.proofs.WritingLemmas.{front_behind, front_more, front_of_both}
 use Rattle.drm_capture.specs.declared.packets.CaptureStop.{CaptureStop}
 use Rattle.drm_capture.specs.declared.packets.CaptureStop.TheVariants as stops
 use Rattle.drm_capture.specs.Capture as capture
@@ -26,6 +26,7 @@ use Rattle.drm_faults.specs.Fault.{UnlessMemory}
 use Rattle.drm_faults.specs.declared.fault.Fault.{Fault}
 use Rattle.drm_faults.specs.declared.fault.Fault.TheVariants as faults
 use Rattle.drm_faults.specs.Captures.{EndsEarly, stop_fault}
+use Rattle.drm_faults.proofs.CauseLemmas.{inner_fault}
 use Rattle.drm_inspect.specs.Show.{PacketText, AreTexts, all_texts, capture_text, are_clean, IsShown, Ends, IsWholeText, IsFrontOfText, IsSound, EndsByIt, ShowRun}
 
 -- ---- texts one after another
@@ -66,15 +67,11 @@ concat_more packets packet = concat-append packets (packet ∷ []) ∙ ap (λ l.
 
 -- ---- the loop
 
-none_left : (t : Option Input) → ToldThrough t t (LeftBy (λ left rest. left ≡ rest))
-none_left None = tt
-none_left (Some input) = refl
-
 -- nothing was read yet
 pub read_none : (before : Known Input) (reader : WalkerState) → reader ≡ new_walker → HasRead [] reader before before
 read_none before reader new =
     subst (λ r. HasRead [] r before before) (sym new)
-    (record { whole = λ k d within. absurd (omega (arith, within)); at = refl; few = omega arith; room = omega arith; bytes = none_left before.told })
+    (record { whole = λ k d within. absurd (omega (arith, within)); at = refl; few = omega arith; room = omega arith; bytes = Inputs-nothing (λ left rest. left ≡ rest) before (λ left. refl) })
 
 -- So many packets and bytes were shown, of what was read so far, and whether none is bad.
 pub record HasShown (reader : WalkerState) (before after : Known Input) (a b : Known Output) (count bytes : ℕ) (clean : Bool) : Type 0 where
@@ -87,17 +84,13 @@ pub record HasShown (reader : WalkerState) (before after : Known Input) (a b : K
   pub bytes_are : bytes ≡ length (concat packets)
   pub clean_is : clean ≡ are_clean texts
 
-none_written : (t : Option Output) → ToldThrough t t (λ x y. (text : List ℕ) × (y.written ≡ x.written ++ text) × (text ≡ []))
-none_written None = tt
-none_written (Some output) = ([], sym (append-nil output.written), refl)
-
 pub shown_none : (before : Known Input) (a : Known Output) (reader : WalkerState) → reader ≡ new_walker → HasShown reader before before a a 0 0 true
 shown_none before a reader new = record {
   packets = [];
   read = read_none before reader new;
   texts = [];
   are = tt;
-  wrote = none_written a.told;
+  wrote = Outputs-nothing a (λ text. text ≡ []) refl;
   count_is = refl;
   bytes_are = refl;
   clean_is = refl;
@@ -153,15 +146,6 @@ pub record HasEnded (ending : Result Bool Fault) (before after : Known Input) (o
   pub ends : Ends ending before after out out'
   pub sound : IsSound ending out out'
 
--- a front of what stands behind something is a front of the whole
-front_within : (xs ys zs whole text : List ℕ) → whole ≡ xs ++ (ys ++ zs) → IsFrontBehind xs ys text → IsFront whole text
-front_within xs ys zs whole text is (front, (rest, ys_is), text_is) = (
-  rest ++ zs,
-  is
-      ∙ (ap (λ l. xs ++ (l ++ zs)) ys_is
-      ∙ (ap (λ l. xs ++ l) (append_assoc front rest zs) ∙ (sym (append_assoc xs front (rest ++ zs)) ∙ ap (λ l. l ++ (rest ++ zs)) (sym text_is)))),
-)
-
 front_of_text : (packets : List (List ℕ)) (texts : List PacketText) (text : List ℕ) → All IsWhole packets → AreTexts 0 packets texts → IsFront (capture_text packets texts) text → IsFrontOfText text
 front_of_text packets texts text whole are front = (are_clean texts, capture_text packets texts, (packets, whole, texts, are, refl, refl), front)
 
@@ -207,7 +191,7 @@ module _ (o now : Known Output) (reader : WalkerState) (before after : Known Inp
         record {
           ends = (has.packets, has.texts, inr (has.are, ended, last_cut o' front));
           sound = Outputs-weaker (IsFrontBehind (all_texts has.texts) last) IsFrontOfText o o' (last_cut o' front)
-              (λ t behind. front_of_text has.packets has.texts t has.read.whole has.are (front_within (all_texts has.texts) last [] (capture_text has.packets has.texts) t (ap (λ l. all_texts has.texts ++ l) (sym (append-nil last))) behind));
+              (λ t behind. front_of_text has.packets has.texts t has.read.whole has.are (front_of_both (all_texts has.texts) last t behind));
         }
 
 -- a write of the next packet's text failed
@@ -222,7 +206,9 @@ cut reader before after o now o' count bytes clean packet text bad next front =
     record {
       ends = (next.has.packets, next.has.texts, inl (packet, shown_as text bad, texts_of_next next, (reader, next.more), behind));
       sound = Outputs-weaker (IsFrontBehind before_it text) IsFrontOfText o o' behind
-          (λ t is. front_of_text packets texts t next.more.whole (texts_of_next next) (front_within before_it text last (capture_text packets texts) t (ap (λ l. l ++ last) (all_more next.has.texts (shown_as text bad)) ∙ append_assoc before_it text last) is));
+          (λ t is.
+          let front : IsFront (all_texts texts) t = subst (λ l. IsFront l t) (sym (all_more next.has.texts (shown_as text bad))) (front_of_both before_it text t is) in
+          front_of_text packets texts t next.more.whole (texts_of_next next) (front_more (all_texts texts) last t front));
     }
 
 -- ---- the whole run
@@ -338,11 +324,8 @@ module _ {I O : Type 0} (one_way : ReadOneWay) (one_text : HasOneText) (input_kn
 pub not_stopped : (result : Result Bool CaptureStop) (found : Bool) → result ≡ Ok found → result ≡ Err stops.TooLong → ⊥
 not_stopped result found is stopped = let x : Ok found ≡ Err stops.TooLong = sym is ∙ stopped in cc
 
-same_fault : (fault other : Fault) → of_fault fault ≡ of_fault other → fault ≡ other
-same_fault fault other is = cc
-
 pub early : (why fault : Fault) → EndsEarly why → of_fault why ≡ of_fault fault → EndsEarly fault
-early why fault ends is = subst EndsEarly (same_fault why fault is) ends
+early why fault ends is = subst EndsEarly (inner_fault why fault is) ends
 
 pub stop_early : (stop : CaptureStop) → EndsEarly (stop_fault stop)
 stop_early stops.Read = tt
@@ -350,19 +333,19 @@ stop_early (stops.Capture f) = tt
 stop_early stops.TooLong = tt
 
 pub stop_no_memory : (stop : CaptureStop) → of_fault (stop_fault stop) ≡ of_fault faults.NoMemory → ⊥
-stop_no_memory stops.Read is = let x = same_fault _ _ is in cc
-stop_no_memory (stops.Capture f) is = let x = same_fault _ _ is in cc
-stop_no_memory stops.TooLong is = let x = same_fault _ _ is in cc
+stop_no_memory stops.Read is = let x = inner_fault _ _ is in cc
+stop_no_memory (stops.Capture f) is = let x = inner_fault _ _ is in cc
+stop_no_memory stops.TooLong is = let x = inner_fault _ _ is in cc
 
 pub stop_no_write : (stop : CaptureStop) → of_fault (stop_fault stop) ≡ of_fault faults.Write → ⊥
-stop_no_write stops.Read is = let x = same_fault _ _ is in cc
-stop_no_write (stops.Capture f) is = let x = same_fault _ _ is in cc
-stop_no_write stops.TooLong is = let x = same_fault _ _ is in cc
+stop_no_write stops.Read is = let x = inner_fault _ _ is in cc
+stop_no_write (stops.Capture f) is = let x = inner_fault _ _ is in cc
+stop_no_write stops.TooLong is = let x = inner_fault _ _ is in cc
 
 pub stop_is_read : (stop : CaptureStop) → of_fault (stop_fault stop) ≡ of_fault faults.Read → stop ≡ stops.Read
 stop_is_read stops.Read is = refl
-stop_is_read (stops.Capture f) is = absurd (let x = same_fault _ _ is in cc)
-stop_is_read stops.TooLong is = absurd (let x = same_fault _ _ is in cc)
+stop_is_read (stops.Capture f) is = absurd (let x = inner_fault _ _ is in cc)
+stop_is_read stops.TooLong is = absurd (let x = inner_fault _ _ is in cc)
 
 -- the run ends by a failed read exactly where the reading does
 pub stopped_counts : {a b : ℕ} {result : Result Bool CaptureStop} {stop : CaptureStop} → result ≡ Err stop → Counts a b (result ≡ Err stops.Read) → Counts a b (of_fault (stop_fault stop) ≡ of_fault faults.Read)
@@ -374,13 +357,13 @@ pub found_counts : {a b : ℕ} {result : Result Bool CaptureStop} {found : Bool}
 found_counts is counts = counts.same (λ failed. cc)
 
 pub write_no_memory : of_fault faults.Write ≡ of_fault faults.NoMemory → ⊥
-write_no_memory is = let x = same_fault faults.Write faults.NoMemory is in cc
+write_no_memory is = let x = inner_fault faults.Write faults.NoMemory is in cc
 
 pub write_no_read : of_fault faults.Write ≡ of_fault faults.Read → ⊥
-write_no_read is = let x = same_fault faults.Write faults.Read is in cc
+write_no_read is = let x = inner_fault faults.Write faults.Read is in cc
 
 memory_no_read : of_fault faults.NoMemory ≡ of_fault faults.Read → ⊥
-memory_no_read is = let x = same_fault faults.NoMemory faults.Read is in cc
+memory_no_read is = let x = inner_fault faults.NoMemory faults.Read is in cc
 
 -- memory was wanting
 pub memory_run : {I O : Type 0} (one_way : ReadOneWay) (one_text : HasOneText) (input_known : I → Known Input) (input : I) (out_known : O → Known Output) (out : O)

@@ -8,7 +8,7 @@ use Rattle.drm_faults.specs.declared.fault.Fault.{Fault}
 use Rattle.drm_faults.specs.declared.fault.Fault.TheVariants as faults
 use Rattle.drm_faults.specs.Lines.{fault_line}
 use Rattle.drm_faults.specs.Fault.{whole_of, done_of, fault_status, ReportsIf, WritesLine}
-use Rattle.drm_faults.proofs.StatusLemmas.{four_is_read, five_is_write, six_is_link}
+use Rattle.drm_faults.proofs.CauseLemmas.{inner_fault}
 use Rattle.dcp_pft.specs.declared.carry.Carry.{Carry}
 use Rattle.drm_links.specs.Source.{Input}
 use Rattle.drm_links.specs.Sink.{Output}
@@ -39,33 +39,14 @@ whole_lacks_none result done whole is = lacks_none done (sym whole ∙ is)
 pub whole_cause : {a b : ℕ} (result : Result Bool Fault) (done : Result (Unit {0}) Fault) (fault : Fault) → result ≡ whole_of done → Counts a b (done ≡ Err fault) → Counts a b (result ≡ Err fault)
 whole_cause result done fault whole cause = counts_as (fault_of_whole result done fault whole) (λ is. whole ∙ ap whole_of is) cause
 
--- ---- the counts by the status
+-- ---- a fault that is known by its status
 
--- a run that ends by this fault
-abbrev pub ending_of : Fault → Result Bool Fault
-ending_of fault = Err fault
+module _ (code : ℕ) (fault : Fault) (status : code ≡ fault_status fault) (known : Fault) (alone : (other : Fault) → fault_status other ≡ fault_status known → other ≡ known) where
+  pub by_status : code ≡ fault_status known → (let ended : Result Bool Fault = Err fault in ended ≡ Err known)
+  by_status is = ap Err (alone fault (sym status ∙ is))
 
-inner : (fault other : Fault) → ending_of fault ≡ Err other → fault ≡ other
-inner fault other is = cc
-
-module _ (code : ℕ) (fault : Fault) (status : code ≡ fault_status fault) where
-  pub four_read : code ≡ 4 → ending_of fault ≡ Err faults.Read
-  four_read four = ap ending_of (four_is_read fault (sym status ∙ four))
-
-  pub read_four : ending_of fault ≡ Err faults.Read → code ≡ 4
-  read_four is = status ∙ ap fault_status (inner fault faults.Read is)
-
-  pub five_write : code ≡ 5 → ending_of fault ≡ Err faults.Write
-  five_write five = ap ending_of (five_is_write fault (sym status ∙ five))
-
-  pub write_five : ending_of fault ≡ Err faults.Write → code ≡ 5
-  write_five is = status ∙ ap fault_status (inner fault faults.Write is)
-
-  pub six_link : code ≡ 6 → ending_of fault ≡ Err faults.Link
-  six_link six = ap ending_of (six_is_link fault (sym status ∙ six))
-
-  pub link_six : ending_of fault ≡ Err faults.Link → code ≡ 6
-  link_six is = status ∙ ap fault_status (inner fault faults.Link is)
+  pub to_status : (let ended : Result Bool Fault = Err fault in ended ≡ Err known) → code ≡ fault_status known
+  to_status is = status ∙ ap fault_status (inner_fault fault known is)
 
 -- a dock that is left alone
 pub dock_still : (a : Known DockContents) → WhileTold a a NothingSent

@@ -17,7 +17,6 @@ use Rattle.word_forms.specs.Addresses.{AreDifferent}
 use Rattle.several_links.specs.Openings.{Docked}
 use Rattle.several_links.specs.Reaching.{GoesOver, HaveGone, HaveLinks, AreUp, NothingSent, after_reaches, after_closes}
 use Rattle.several_links.specs.declared.member.Member.{Member}
-use Rattle.several_links.proofs.OpeningLemmas.{index_of}
 use Rattle.several_links.proofs.RunLemmas.{over_each}
 use Rattle.drm_server.specs.Laws.{HasOneDelivery, FirstOnesAreFront}
 use Rattle.drm_load.specs.Loading.{Reading}
@@ -25,6 +24,7 @@ use Rattle.drm_faults.specs.Fault.{done_of}
 use Rattle.drm_faults.specs.Causes.{OneFailed, OpeningFailed}
 use Rattle.drm_faults.proofs.CauseLemmas.{one_alone, other_alone}
 use Rattle.drm_links.proofs.ToldLemmas.{counts_as, counts_one}
+use Rattle.drm_links.proofs.Places.{index_of}
 use Rattle.drm_faults.specs.declared.fault.Fault.{Fault}
 use Rattle.drm_faults.specs.declared.fault.Fault.TheVariants as faults
 use Rattle.live_server.specs.Feeding.{fed}
@@ -85,11 +85,6 @@ module _ {S D : Type 0} (one : HasOneDelivery) (front : FirstOnesAreFront) (name
   pub sent_read : (ending : Result Bool Fault) (input input' : Known Input) → Ran ending input input' → (ending ≡ Err faults.Link → ⊥) → OneFailed input input' (shelf_known shelf) (shelf_known shelf') (ending ≡ Err faults.Read)
   sent_read ending input input' (inl fed) none = other_alone fed.same (counts_as (λ e. ap done_of e) (λ e. read_of ending faults.Read e) (fed.runs [] (λ end. refl)).read_cause)
   sent_read ending input input' (inr broken) none = one_alone (counts_one (elim broken.ends [ inl read ↦ read.0 | inr link ↦ absurd (none link.0) ]) broken.run.once) broken.run.loaded
-
-  -- no load failed where one did
-  pub sent_unread : (ending : Result Bool Fault) (input input' : Known Input) → Ran ending input input' → ending ≡ Err faults.Link → (shelf_known shelf').faults ≡ (shelf_known shelf).faults
-  sent_unread ending input input' (inl fed) link = (fed.runs [] (λ end. refl)).read_cause.same (λ e. let both = sym link ∙ read_of ending faults.Read e in cc)
-  sent_unread ending input input' (inr broken) link = broken.run.loaded
 
   -- the dock's count of faults rose only where an opening failed
   pub sent_dock : (ending : Result Bool Fault) (input input' : Known Input) → Ran ending input input' → OpeningFailed (dock_known dock) (dock_known dock') (ending ≡ Err faults.Link)

@@ -18,6 +18,7 @@ use Rattle.drm_server.specs.Laws.{HasOneDelivery, FirstOnesAreFront}
 use Rattle.drm_load.specs.Loading.{Reading}
 use Rattle.drm_faults.specs.declared.fault.Fault.{Fault}
 use Rattle.drm_faults.specs.declared.fault.Fault.TheVariants as faults
+use Rattle.drm_faults.proofs.CauseLemmas.{inner_fault}
 use Rattle.drm_load.specs.declared.loading.ScheduleFault.{ScheduleFault}
 use Rattle.drm_load.specs.declared.loading.ScheduleFault.TheVariants as schedule
 use Rattle.drm_transmit.specs.ScheduleRun.{EndsBy}
@@ -69,9 +70,6 @@ Ending = Result (Unit {0}) Fault
 abbrev failed : Fault → Ending
 failed fault = Err fault
 
-inner : (fault other : Fault) → failed fault ≡ failed other → fault ≡ other
-inner fault other is = cc
-
 -- a run over a schedule that came fails by the link alone
 by_link : (fault : Fault) → (failed fault ≡ Ok tt) ⊎ (failed fault ≡ Err faults.Link) → failed fault ≡ Err faults.Link
 by_link fault (inl is) = cc
@@ -101,15 +99,15 @@ all_by one front pace from plan false sends gone datagrams rests go are takes =
 none_by : (pace from : ℕ) (came : Result Plan ScheduleFault) (ending : Ending) (up : Bool) (sends : Option ℕ) (gone : List (List ℕ)) (rests : List ℕ) → EndsBy faults.Link came ending → Go pace from came up sends gone rests → ending ≡ Err faults.NoMemory → gone ≡ []
 none_by pace from (Ok x) (Ok done) up sends gone rests ends go e = cc
 none_by pace from (Ok x) (Err fault) up sends gone rests ends go e =
-    let other : faults.Link ≡ faults.NoMemory = inner faults.Link faults.NoMemory (sym (by_link fault ends) ∙ e) in absurd cc
+    let other : faults.Link ≡ faults.NoMemory = inner_fault faults.Link faults.NoMemory (sym (by_link fault ends) ∙ e) in absurd cc
 none_by pace from (Err fault) ending up sends gone rests ends go e = go.0
 
 -- which schedule came, where it ended by a link or was done
 came_by : (came : Result Plan ScheduleFault) (ending : Ending) → EndsBy faults.Link came ending → (ending ≡ Err faults.Link) ⊎ (ending ≡ Ok tt) → (plan : Plan) × (came ≡ Ok plan)
 came_by (Ok plan) ending ends is = (plan, refl)
-came_by (Err schedule.NoMemory) ending ends (inl link) = let other : faults.NoMemory ≡ faults.Link = inner faults.NoMemory faults.Link (sym ends ∙ link) in absurd cc
-came_by (Err (schedule.Line l r)) ending ends (inl link) = let other : faults.Schedule l r ≡ faults.Link = inner (faults.Schedule l r) faults.Link (sym ends ∙ link) in absurd cc
-came_by (Err schedule.Read) ending ends (inl link) = let other : faults.Read ≡ faults.Link = inner faults.Read faults.Link (sym ends ∙ link) in absurd cc
+came_by (Err schedule.NoMemory) ending ends (inl link) = let other : faults.NoMemory ≡ faults.Link = inner_fault faults.NoMemory faults.Link (sym ends ∙ link) in absurd cc
+came_by (Err (schedule.Line l r)) ending ends (inl link) = let other : faults.Schedule l r ≡ faults.Link = inner_fault (faults.Schedule l r) faults.Link (sym ends ∙ link) in absurd cc
+came_by (Err schedule.Read) ending ends (inl link) = let other : faults.Read ≡ faults.Link = inner_fault faults.Read faults.Link (sym ends ∙ link) in absurd cc
 came_by (Err fault) ending ends (inr done) = let e : ending ≡ Ok tt = done in absurd (let p = sym ends ∙ e in cc)
 
 -- ---- the whole run
@@ -264,7 +262,7 @@ module _ {S D : Type 0} (one : HasOneDelivery) (front : FirstOnesAreFront) (read
 
   pub nothing_sent : AreDifferent addresses → SendRun reading addresses pace from ending shelf_known shelf shelf' dock_known dock dock' → ending ≡ Err faults.NoMemory → WhileTold (dock_known dock) (dock_known dock') NothingSent
   nothing_sent different sent memory = elim sent.run [
-    | inl run ↦ let other : faults.Link ≡ faults.NoMemory = inner faults.Link faults.NoMemory (sym run.fault ∙ memory) in absurd cc
+    | inl run ↦ let other : faults.Link ≡ faults.NoMemory = inner_fault faults.Link faults.NoMemory (sym run.fault ∙ memory) in absurd cc
     | inr others ↦ elim others [
       | inl run ↦ none_sent different run memory
       | inr run ↦

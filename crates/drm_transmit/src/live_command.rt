@@ -74,7 +74,6 @@ pub fn send_live<S: Shelf, I: Source, D: Dock>(
     // A failed link is told before a failed read of input.
     ensures read { (IsErrOf result Fault.Link → ⊥) → OneFailed (I.known input.old) (I.known input.new)
         (S.known shelf.old) (S.known shelf.new) (IsErrOf result Fault.Read) }
-    ensures unread { IsErrOf result Fault.Link → (S.known shelf.new).faults ≡ (S.known shelf.old).faults }
     ensures opening { OpeningFailed (D.known dock.old) (D.known dock.new) (IsErrOf result Fault.Link) }
     ensures words { IsErrOf result Fault.Words → ⊥ }
     ensures write { IsErrOf result Fault.Write → ⊥ }

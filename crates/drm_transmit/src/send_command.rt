@@ -1,10 +1,9 @@
 //! The command `serve` to addresses.
 
 ghost use Rattle.std.specs.Prelude.{◌≤◌, length, IsErrOf};
-ghost use Rattle.drm_links.specs.Told.{HasCause, WhileTold};
+ghost use Rattle.drm_links.specs.Told.{WhileTold};
 ghost use Rattle.word_forms.specs.Addresses.{AreDifferent};
 ghost use Rattle.several_links.specs.Reaching.{AreUp, NothingSent};
-ghost use Rattle.drm_faults.specs.Causes.{OpeningFailed};
 ghost use Rattle.drm_load.specs.Schedule.{schedule_named};
 ghost use Rattle.drm_transmit.specs.Send.{SendRun};
 ghost use Rattle.drm_transmit.specs.OverLinks.{OverLinks};
@@ -35,8 +34,6 @@ pub fn send<S: Shelf, D: Dock>(
     // After want of memory nothing was sent. The words were judged before, and nothing is written.
     ensures unsent { IsErrOf result Fault.NoMemory
         → WhileTold (D.known dock.old) (D.known dock.new) NothingSent }
-    ensures read { HasCause (S.known shelf.old) (S.known shelf.new) (IsErrOf result Fault.Read) }
-    ensures opening { OpeningFailed (D.known dock.old) (D.known dock.new) (IsErrOf result Fault.Link) }
     ensures words { IsErrOf result Fault.Words → ⊥ }
     ensures write { IsErrOf result Fault.Write → ⊥ }
 {

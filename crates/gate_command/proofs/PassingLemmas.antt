@@ -1,18 +1,19 @@
 -- What a dock tells where links are opened in it, passed over and closed.
-use Rattle.std.proofs.Common.{◌≡◌, ℕ, zero, suc, ◌<◌, ◌≤◌, ◌^◌, inl, inr, Bool, true, false, List, [], ◌∷◌, ◌++◌, length, Option, None, Some, Contains, Result, Ok, Err, refl, sym, subst, ap, ◌∙◌, arith}
+use Rattle.std.proofs.Common.{◌≡◌, ℕ, zero, suc, ◌<◌, ◌≤◌, ◌^◌, inl, inr, Bool, true, false, List, [], ◌∷◌, ◌++◌, length, Option, None, Some, Contains, Result, Ok, Err, refl, sym, subst, ap, ◌∙◌, arith, le_trans}
 use Rattle.std.specs.Prelude.{slice_index_or}
+use Rattle.std.proofs.lemmas.List.{get_or_default}
 use Rattle.dcp_pft.specs.declared.carry.Carry.{Carry}
-use Rattle.drm_links.specs.Told.{Known, Tells, ToldThrough, WhileTold, CountsCall}
+use Rattle.drm_links.specs.Told.{Known, Tells, WhileTold, CountsCall}
 use Rattle.drm_links.specs.Link.{Answer, Traffic, rests_of}
-use Rattle.drm_links.specs.Dock.{DockContents, LinkStart, Over, Binds, Closes, first_traffic, start_at, after_opening, after_close}
+use Rattle.drm_links.specs.Dock.{DockContents, LinkStart, Over, Binds, Closes, over_of, first_traffic, start_at, after_opening, after_close}
 use Rattle.drm_links.specs.Transmission.{Transmits, SendsAll, SendsNoMore, TakesSends}
 use Rattle.drm_links.specs.ManyCalls.{CountsMany}
 use Rattle.drm_links.specs.declared.dock.Address.{Address}
 use Rattle.drm_links.specs.declared.dock.Opened.TheVariants as opened
 use Rattle.drm_links.specs.declared.link.LinkFault.{LinkFault}
-use Rattle.drm_links.proofs.ToldLemmas.{Opens-started, Tells-one, Tells-then, Tells-weaker}
+use Rattle.drm_links.proofs.ToldLemmas.{told_through, Opens-started, Tells-one, Tells-then, Tells-weaker}
 use Rattle.mod_receiver.specs.declared.rules.Rules.{Rules}
-use Rattle.mod_receiver.specs.Hearing.{AreNext, Heard, HeardTold}
+use Rattle.mod_receiver.specs.Hearing.{Heard}
 use Rattle.mod_receiver.specs.Ranges.{AreInRange}
 use Rattle.mod_receiver.specs.Reading.{most_answers}
 use Rattle.mod_receiver.proofs.JobLemmas.{few_answers}
@@ -20,7 +21,6 @@ use Rattle.several_links.specs.Openings.{Docked, Finds}
 use Rattle.several_links.specs.Reaching.{HasGone, HaveGone, HaveLinks, AreUp, ReachesFew, GoesOver, after_reaches, after_closes}
 use Rattle.several_links.specs.Took.{TookBy}
 use Rattle.several_links.specs.declared.member.Member.{Member}
-use Rattle.several_links.proofs.OpeningLemmas.{same_index}
 use Rattle.several_links.proofs.RunLemmas.{over_each}
 use Rattle.dcp_collect.specs.State.{State}
 use Rattle.drm_gate.specs.declared.tally.Tally.{Tally}
@@ -31,12 +31,14 @@ use Rattle.drm_gate.specs.Gateway.{rules_of}
 use Rattle.drm_gate.specs.Passing.{sent_of}
 use Rattle.drm_gate.specs.Tallies.{over}
 use Rattle.drm_gate.specs.Resting.{HasNotRested, NeverRests, MakesSends}
+use Rattle.drm_receive.specs.Hearing as hearing
+use Rattle.drm_receive.proofs.HearingLemmas.{heard_told}
 use Rattle.drm_gate.specs.Run.{GateRun, IsFrontOf, IsFrontOfOnward, StopsAt, StopsOver, StopsLast, most_sends}
 use Rattle.drm_gate.specs.Targets.{Target, target, targets, Each, TakesMore, EachTakes, EachSends, AllUp}
 use Rattle.drm_gate.proofs.Stopping.{took_from}
 use Rattle.drm_gate.proofs.TargetLemmas.{at_place, as_many_targets, all_up}
 use Rattle.gate_command.specs.Opening.{no_rests, after_source}
-use Rattle.gate_command.specs.Between.{options_of, AreAhead, AreRead, Goes, GoesPart, GoesOut, passed_of, PassesTo}
+use Rattle.gate_command.specs.Between.{options_of, AreRead, Goes, GoesPart, GoesOut, passed_of, PassesTo}
 use Rattle.gate_command.specs.Run.{PassesOn}
 
 -- ---- by what it reads
@@ -46,14 +48,6 @@ rules_same c options rules window first is =
     λ i. record { window = window i; first = first i; frames = (is i).frames; idle = (is i).idle; limit = (is i).limit }
 
 -- ---- what is told, and when
-
-told_both : {T : Type 0} (P : T → T → Type 0) (a b : Option T) (x y : T) → a ≡ Some x → b ≡ Some y → ToldThrough a b P → P x y
-told_both P None b x y is then_is holds = absurd cc
-told_both P (Some u) None x y is then_is holds = absurd cc
-told_both P (Some u) (Some v) x y is then_is holds =
-    let first : u ≡ x = cc in
-    let second : v ≡ y = cc in
-    subst (λ w. P x w) second (subst (λ w. P w v) first holds)
 
 -- the next opening is the one behind no others
 found_at : (told : DockContents) (at : Address) (start : LinkStart) → (Contains told.failing told.openings → ⊥) → start_at told at ≡ Some start → Finds told 0 at start
@@ -96,12 +90,12 @@ went_over rules valid start a b new only =
     record {
       traffic = traffic;
       tells = tells;
-      still = told_both NeverRests a.told b.told (first_traffic start) traffic new tells only.still (not_rested start);
+      still = told_through NeverRests a b (first_traffic start) traffic new tells only.still (not_rested start);
       all = λ datagrams sent.
-          let all : SendsAll datagrams (first_traffic start) traffic = told_both (SendsAll datagrams) a.told b.told (first_traffic start) traffic new tells sent in
+          let all : SendsAll datagrams (first_traffic start) traffic = told_through (SendsAll datagrams) a b (first_traffic start) traffic new tells sent in
           (all.gone, takes_as start.sends datagrams traffic.gone (sym all.gone) all.taken, all.kept.answers);
       some = λ datagrams sent.
-          let all : SendsNoMore datagrams (first_traffic start) traffic = told_both (SendsNoMore datagrams) a.told b.told (first_traffic start) traffic new tells sent in
+          let all : SendsNoMore datagrams (first_traffic start) traffic = told_through (SendsNoMore datagrams) a b (first_traffic start) traffic new tells sent in
           (all.gone, all.no_more ∙ ap (λ (l : List (List ℕ)). Some (length l)) (sym all.gone), all.kept.answers);
     }
 
@@ -238,7 +232,7 @@ module _ {L : Type 0} (rules : Rules) (valid : AreInRange rules) (carry : Carry)
   as_many = as_many_targets known members' ∙ many'
 
   same_up : (k : ℕ) (none : Target) → k < length news → (slice_index_or news k none).up ≡ (slice_index_or news k any_target).up
-  same_up k none within = ap (λ (t : Target). t.up) (same_index news k none any_target within)
+  same_up k none within = ap (λ (t : Target). t.up) (get_or_default news k none any_target within)
 
   pub goes_out : (from from' : Known Traffic) (ended : GateEnded) → GateRun rules carry from from' olds news ended → Tells a c (GoesOut rules carry (Heard from from') to (passed_of ended))
   goes_out from from' (ended.Done tally) (all_up, sent, all, is) =
@@ -304,39 +298,30 @@ only_of rules carry from from' to to' ended.ToFailed run = run.only
 
 -- ---- the link that datagrams come from
 
--- what was heard of a new link stood ahead of it, and is what it tells; and nothing went over it
-pub record AllHeard (start : LinkStart) (answers : List Answer) (traffic : Traffic) : Type 0 where
-  pub ahead : AreAhead start.ahead answers
-  pub told : traffic.answers ≡ answers
-  pub gone : traffic.gone ≡ []
-
-heard_all : (rules : Rules) (start : LinkStart) (answers : List Answer) (a b : Option Traffic) → AreInRange rules → length answers ≤ most_answers rules → HeardTold answers a b → a ≡ Some (first_traffic start)
-    → (traffic : Traffic) × (b ≡ Some traffic) × AllHeard start answers traffic
-heard_all rules start answers None b valid few heard is = absurd cc
-heard_all rules start answers (Some x) None valid few heard is =
-    let same : x ≡ first_traffic start = cc in
-    let none : x.calls ≡ 0 = ap (λ (t : Traffic). t.calls) same in
-    absurd (omega (arith, heard, none, few, few_answers rules valid))
-heard_all rules start answers (Some x) (Some y) valid few heard is =
-    let same : x ≡ first_traffic start = cc in
-    (y, refl, record { ahead = (y.ahead, subst (λ (t : Traffic). AreNext t.ahead answers y.ahead) same heard.ahead); told = heard.given ∙ ap (λ (t : Traffic). t.answers ++ answers) same; gone = heard.gone ∙ ap (λ (t : Traffic). t.gone) same })
+-- these answers stood ahead of it, and it tells just them: nothing went over it
+heard_all : (rules : Rules) (start : LinkStart) (answers : List Answer) (a b : Known Traffic) → AreInRange rules → length answers ≤ most_answers rules → Heard a b answers → a.told ≡ Some (first_traffic start)
+    → (traffic : Traffic) × (b.told ≡ Some traffic) × AreRead start.ahead traffic.answers answers × (over_of traffic ≡ hearing.heard traffic.answers)
+heard_all rules start answers a b valid few came new =
+    let t = heard_told a.told b.told start answers came new (le_trans few (few_answers rules valid)) in
+    let told : t.0.answers ≡ answers = ap (λ (o : Over). o.answers) t.2 in
+    (t.0, t.1, ((t.0.ahead, t.3), told), t.2 ∙ ap hearing.heard (sym told))
 
 -- a new link of which something was heard
 module _ (rules : Rules) (valid : AreInRange rules) (carry : Carry) (start : LinkStart) (a b : Known Traffic) (new : a.told ≡ Some (first_traffic start)) (to : List Address) (x z : DockContents) where
   abbrev HasHeard : Result Tally LinkFault → Type 0
-  HasHeard passed = (traffic : Traffic) × (b.told ≡ Some traffic) × (traffic.gone ≡ []) × GoesOut rules carry (AreRead start.ahead traffic.answers) to passed x z
+  HasHeard passed = (traffic : Traffic) × (b.told ≡ Some traffic) × (over_of traffic ≡ hearing.heard traffic.answers) × GoesOut rules carry (AreRead start.ahead traffic.answers) to passed x z
 
   heard_some : (passed : Result Tally LinkFault) → GoesOut rules carry (Heard a b) to passed x z → HasHeard passed
   heard_some (Ok tally) (p, counted) =
       let q = p.passed in
-      let (traffic, tells, all) = heard_all rules start q.answers a.told b.told valid q.few q.heard new in (
+      let (traffic, tells, read, over) = heard_all rules start q.answers a b valid q.few q.heard new in (
         traffic,
         tells,
-        all.gone,
+        over,
         (
           record {
             fates = p.fates;
-            passed = record { answers = q.answers; heard = (all.ahead, all.told); few = q.few; word = q.word; reading = q.reading; onward = q.onward };
+            passed = record { answers = q.answers; heard = read; few = q.few; word = q.word; reading = q.reading; onward = q.onward };
             goes = p.goes;
           },
           counted,
@@ -344,71 +329,68 @@ module _ (rules : Rules) (valid : AreInRange rules) (carry : Carry) (start : Lin
       )
   heard_some (Err fault) (inl (up, down, p)) =
       let q = p.passed in
-      let (traffic, tells, all) = heard_all rules start q.answers a.told b.told valid q.few q.heard new in (
+      let (traffic, tells, read, over) = heard_all rules start q.answers a b valid q.few q.heard new in (
         traffic,
         tells,
-        all.gone,
+        over,
         inl (
           up,
           down,
           record {
             fates = p.fates;
-            passed = record { answers = q.answers; heard = (all.ahead, all.told); few = q.few; word = q.word; reading = q.reading; onward = q.onward };
+            passed = record { answers = q.answers; heard = read; few = q.few; word = q.word; reading = q.reading; onward = q.onward };
             goes = p.goes;
           },
         ),
       )
   heard_some (Err fault) (inr (inl (up, p))) =
       let q = p.broken in
-      let (traffic, tells, all) = heard_all rules start q.answers a.told b.told valid q.few q.heard new in (
+      let (traffic, tells, read, over) = heard_all rules start q.answers a b valid q.few q.heard new in (
         traffic,
         tells,
-        all.gone,
+        over,
         inr (inl (
           up,
           record {
             fates = p.fates;
-            broken = record { answers = q.answers; heard = (all.ahead, all.told); few = q.few; before = q.before; reading = q.reading; ready = q.ready };
+            broken = record { answers = q.answers; heard = read; few = q.few; before = q.before; reading = q.reading; ready = q.ready };
             goes = p.goes;
           },
         )),
       )
   heard_some (Err fault) (inr (inr p)) =
-      let (traffic, tells, all) = heard_all rules start p.answers a.told b.told valid p.few p.heard new in (
+      let (traffic, tells, read, over) = heard_all rules start p.answers a b valid p.few p.heard new in (
         traffic,
         tells,
-        all.gone,
-        inr (inr (record { answers = p.answers; heard = (all.ahead, all.told); few = p.few; goes_on = p.goes_on; last = p.last; within = p.within; goes = p.goes })),
+        over,
+        inr (inr (record { answers = p.answers; heard = read; few = p.few; goes_on = p.goes_on; last = p.last; within = p.within; goes = p.goes })),
       )
 
 -- the link is closed over which nothing went, and tells what it answered
-closed_none : (at : Address) (last : Option Traffic) (traffic : Traffic) (z w : DockContents) → last ≡ Some traffic → traffic.gone ≡ [] → HasNotRested traffic → Closes last at z w → w ≡ after_source at traffic.answers z
-closed_none at None traffic z w is gone still closes = absurd cc
-closed_none at (Some t) traffic z w is gone still closes =
+closed_heard : (at : Address) (last : Option Traffic) (traffic : Traffic) (z w : DockContents) → last ≡ Some traffic → over_of traffic ≡ hearing.heard traffic.answers → Closes last at z w
+    → w ≡ after_source at traffic.answers z
+closed_heard at None traffic z w is over closes = absurd cc
+closed_heard at (Some t) traffic z w is over closes =
     let same : t ≡ traffic = cc in
-    let none : t.gone ≡ [] = ap (λ (u : Traffic). u.gone) same ∙ gone in
-    let rests : rests_of t ≡ no_rests [] = ap rests_of same ∙ (rests_are traffic still ∙ ap no_rests gone) in
-    let told : t.answers ≡ traffic.answers = ap (λ (u : Traffic). u.answers) same in
-    closes ∙ (λ i. after_close at (record { answers = told i; gone = none i; rests = rests i }) z)
+    closes ∙ (ap (λ (u : Traffic). after_close at (over_of u) z) same ∙ ap (λ (o : Over). after_close at o z) over)
 
-module _ (rules : Rules) (valid : AreInRange rules) (carry : Carry) (from : Address) (to : List Address) (start : LinkStart) (a b : Known Traffic) (new : a.told ≡ Some (first_traffic start)) (still : Tells a b NeverRests)
+module _ (rules : Rules) (valid : AreInRange rules) (carry : Carry) (from : Address) (to : List Address) (start : LinkStart) (a b : Known Traffic) (new : a.told ≡ Some (first_traffic start))
     (x y z w : DockContents) (found : Finds x 0 from start) (at : y ≡ after_opening from x) (closes : Closes b.told from z w) where
   all_closed : (passed : Result Tally LinkFault) → PassesTo rules carry to a b passed y z → PassesOn rules carry from to passed x w
   all_closed passed (inl (failed, same, few)) =
       let tells : b.told ≡ Some (first_traffic start) = ap (λ (k : Known Traffic). k.told) same ∙ new in
-      let shut : w ≡ after_source from [] z = closed_none from b.told (first_traffic start) z w tells refl (not_rested start) closes in
+      let shut : w ≡ after_source from [] z = closed_heard from b.told (first_traffic start) z w tells refl closes in
       inr (start, found, z, [], shut, inl (failed, refl, subst (λ (d : DockContents). ReachesFew to d z) at few))
   all_closed passed (inr goes) =
-      let (traffic, tells, none, over) = heard_some rules valid carry start a b new to y z passed goes in
-      let rested : HasNotRested traffic = told_both NeverRests a.told b.told (first_traffic start) traffic new tells still (not_rested start) in
-      let shut : w ≡ after_source from traffic.answers z = closed_none from b.told traffic z w tells none rested closes in
-      inr (start, found, z, traffic.answers, shut, inr (subst (λ (d : DockContents). GoesOut rules carry (AreRead start.ahead traffic.answers) to passed d z) at over))
+      let (traffic, tells, none, out) = heard_some rules valid carry start a b new to y z passed goes in
+      let shut : w ≡ after_source from traffic.answers z = closed_heard from b.told traffic z w tells none closes in
+      inr (start, found, z, traffic.answers, shut, inr (subst (λ (d : DockContents). GoesOut rules carry (AreRead start.ahead traffic.answers) to passed d z) at out))
 
 pub passes_on : {L : Type 0} (rules : Rules) (carry : Carry) (from : Address) (to : List Address) (known : L → Known Traffic) (first last : L) (passed : Result Tally LinkFault) (a b c d : Known DockContents)
     → AreInRange rules → WhileTold a b (Binds known from (opened.Link first)) → CountsCall (λ (e : DockContents). e.calls) a b
-    → Tells b c (PassesTo rules carry to (known first) (known last) passed) → Tells (known first) (known last) NeverRests
+    → Tells b c (PassesTo rules carry to (known first) (known last) passed)
     → WhileTold c d (Closes (known last).told from) → CountsCall (λ (e : DockContents). e.calls) c d → Tells a d (PassesOn rules carry from to passed)
-passes_on rules carry from to known first last passed a b c d valid opens counts goes still closes counts_close =
+passes_on rules carry from to known first last passed a b c d valid opens counts goes closes counts_close =
     let Out : DockContents → DockContents → Type 0 = λ x z. (y : DockContents) × Binds known from (opened.Link first) x y × PassesTo rules carry to (known first) (known last) passed y z in
     let out : Tells a c Out =
     Tells-then (Binds known from (opened.Link first)) (PassesTo rules carry to (known first) (known last) passed) Out a b c
@@ -417,4 +399,4 @@ passes_on rules carry from to known first last passed a b c d valid opens counts
     (Tells-one (λ (e : DockContents). e.calls) (Closes (known last).told from) c d counts_close closes)
     (λ x z w (y, opening, over) closing.
     let (start, stands, new) = Opens-started known from first x y opening in
-    all_closed rules valid carry from to start (known first) (known last) new still x y z w (found_at x from start opening.0 stands) opening.2 closing passed over)
+    all_closed rules valid carry from to start (known first) (known last) new x y z w (found_at x from start opening.0 stands) opening.2 closing passed over)

@@ -21,11 +21,12 @@ use Rattle.several_links.specs.Openings.{Finds, FindsNone}
 use Rattle.several_links.specs.Reaching.{nothing, ReachesNone, ReachesFew, GoesOver, after_reaches}
 use Rattle.several_links.proofs.RunLemmas as several
 use Rattle.drm_receive.proofs.BreakingOff.{found_once, is_found}
-use Rattle.drm_receive.proofs.ReceiveLemmas.{inner, no_fault}
+use Rattle.drm_receive.proofs.ReceiveLemmas.{no_fault}
 use Rattle.drm_faults.specs.Fault.{UnlessMemory}
 use Rattle.drm_faults.specs.Causes.{OpeningFailed}
 use Rattle.drm_faults.specs.declared.fault.Fault.{Fault}
 use Rattle.drm_faults.specs.declared.fault.Fault.TheVariants as faults
+use Rattle.drm_faults.proofs.CauseLemmas.{inner_fault}
 use Rattle.drm_gate.specs.declared.tally.Tally.{Tally}
 use Rattle.drm_gate.specs.Passing.{Fate, sent_of}
 use Rattle.gate_command.specs.Line.{gate_line, is_clean}
@@ -225,7 +226,7 @@ module _ (rules : Rules) (carry : Carry) (from : Address) (to : List Address) wh
   module _ {O : Type 0} (different : AreDifferent to) (ending : Result Bool Fault) (known : O → Known Output) (out out' : O) where
     not_link : (tally : Tally) → WritesTally (Ok tally) ending known out out' → ending ≡ Err faults.Link → ⊥
     not_link tally (inl (is, text)) link = no_fault (is_clean tally) faults.Link (sym is ∙ link)
-    not_link tally (inr (is, text)) link = let one : faults.Write ≡ faults.Link = inner faults.Write faults.Link (sym is ∙ link) in absurd cc
+    not_link tally (inr (is, text)) link = let one : faults.Write ≡ faults.Link = inner_fault faults.Write faults.Link (sym is ∙ link) in absurd cc
 
     -- it ends by a link where that was told
     to_link : (passed : Result Tally LinkFault) → WritesTally passed ending known out out' → IsErr passed → ending ≡ Err faults.Link
@@ -267,26 +268,26 @@ module _ (rules : Rules) (carry : Carry) (from : Address) (to : List Address) wh
 
     kind_by : (passed : Result Tally LinkFault) → WritesTally passed ending known out out' → (fault : Fault) → ending ≡ Err fault → (fault ≡ faults.NoMemory) ⊎ (fault ≡ faults.Link) ⊎ (fault ≡ faults.Write)
     kind_by (Ok tally) (inl (is, text)) fault failed = absurd (no_fault (is_clean tally) fault (sym is ∙ failed))
-    kind_by (Ok tally) (inr (is, text)) fault failed = inr (inr (inner fault faults.Write (sym failed ∙ is)))
-    kind_by (Err link) (is, same) fault failed = inr (inl (inner fault faults.Link (sym failed ∙ is)))
+    kind_by (Ok tally) (inr (is, text)) fault failed = inr (inr (inner_fault fault faults.Write (sym failed ∙ is)))
+    kind_by (Err link) (is, same) fault failed = inr (inl (inner_fault fault faults.Link (sym failed ∙ is)))
 
     not_memory : (passed : Result Tally LinkFault) → WritesTally passed ending known out out' → ending ≡ Err faults.NoMemory → ⊥
     not_memory (Ok tally) (inl (is, text)) memory = no_fault (is_clean tally) faults.NoMemory (sym is ∙ memory)
-    not_memory (Ok tally) (inr (is, text)) memory = let one : faults.Write ≡ faults.NoMemory = inner faults.Write faults.NoMemory (sym is ∙ memory) in absurd cc
-    not_memory (Err fault) (is, same) memory = let one : faults.Link ≡ faults.NoMemory = inner faults.Link faults.NoMemory (sym is ∙ memory) in absurd cc
+    not_memory (Ok tally) (inr (is, text)) memory = let one : faults.Write ≡ faults.NoMemory = inner_fault faults.Write faults.NoMemory (sym is ∙ memory) in absurd cc
+    not_memory (Err fault) (is, same) memory = let one : faults.Link ≡ faults.NoMemory = inner_fault faults.Link faults.NoMemory (sym is ∙ memory) in absurd cc
 
     -- memory was wanting
     pub no_run : {D : Type 0} (dock_known : D → Known DockContents) (dock : D) → ending ≡ Err faults.NoMemory → GateCommandRun rules carry from to ending dock_known dock dock known out out
     no_run dock_known dock is = record {
       run = inl (is, refl, refl);
-      kind = λ fault failed. inl (inner fault faults.NoMemory (sym failed ∙ is));
+      kind = λ fault failed. inl (inner_fault fault faults.NoMemory (sym failed ∙ is));
       untouched = λ memory. (refl, refl);
       exactly = Tells-nothing _ (dock_known dock) (λ x. inl is);
       each = Tells-nothing _ (dock_known dock) (λ x fine source fates found passed k at start within finds enough. inl is);
       complete = λ none. Tells-nothing _ (dock_known dock) (λ x fine. inl is);
       alike = λ clean done. absurd (no_fault clean faults.NoMemory (sym done ∙ is));
       dock_cause = inl refl;
-      write_cause = counts_none (λ write. let one : faults.Write ≡ faults.NoMemory = inner faults.Write faults.NoMemory (sym write ∙ is) in absurd cc) refl;
+      write_cause = counts_none (λ write. let one : faults.Write ≡ faults.NoMemory = inner_fault faults.Write faults.NoMemory (sym write ∙ is) in absurd cc) refl;
     }
 
     module _ {D : Type 0} (dock_known : D → Known DockContents) (dock dock' : D) where

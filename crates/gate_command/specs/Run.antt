@@ -27,7 +27,7 @@ use Rattle.gate_command.specs.Between.{AreAhead, AreRead, IsPassedOn, GoesOut}
 -- ---- what goes out
 
 -- What the dock tells: an opening failed, and the links that were opened are closed; or all links were opened, this went over those
--- that are sent over of what was ahead of the one that is read, and they were closed, that one last. It had given the answers of which
+-- that are sent over of what was ahead of the one that is read, and all were closed. That one had given the answers of which
 -- this became, and no others; where an opening failed none.
 abbrev pub PassesOn : Rules → Carry → Address → List Address → Result Tally LinkFault → DockContents → DockContents → Type 0
 PassesOn rules carry from to passed before after =

@@ -3,7 +3,6 @@
 ghost use Rattle.std.specs.Prelude.{◌≡◌, IsErr, length, vec_len, vec_capacity};
 ghost use Rattle.drm_links.specs.Told.{Tells};
 ghost use Rattle.drm_faults.specs.Causes.{OpeningFailed};
-ghost use Rattle.drm_gate.specs.Resting.{NeverRests};
 ghost use Rattle.gate_command.specs.Between.{IsSetUp, PassesTo, options_of, passed_of};
 ghost use Rattle.gate_command.specs.Run.{PassesOn};
 
@@ -51,7 +50,6 @@ fn pass_to<L: Link, D: Dock>(
     requires { IsSetUp gate.old rules.now to.now (vec_len room) (vec_capacity room) (length buffer.old) }
     ensures told { Tells (D.known dock.old) (D.known dock.new)
         (PassesTo rules.now gate.old.carry to.now (L.known source.old) (L.known source.new) result) }
-    ensures still { Tells (L.known source.old) (L.known source.new) NeverRests }
     ensures cause { OpeningFailed (D.known dock.old) (D.known dock.new) (IsErr result) }
 {
     match reach_in(room, to, dock) {

@@ -1,6 +1,6 @@
 -- A frame that is loaded with what came for it is that of the schedule that the bytes make.
-use Rattle.std.proofs.Common.{◌≡◌, ◌<◌, ◌≤◌, ◌+◌, ℕ, true, false, List, [], ◌++◌, length, Some, None, refl, sym, ap, subst, ◌∙◌, arith, append_assoc, length-append}
-use Rattle.std.proofs.lemmas.List.{append-nil}
+use Rattle.std.proofs.Common.{◌≡◌, ◌<◌, ◌≤◌, ◌+◌, ℕ, true, false, List, [], ◌++◌, length, take, Some, None, refl, sym, ap, subst, ◌∙◌, arith, append_assoc, length-append}
+use Rattle.std.proofs.lemmas.List.{append-nil, length-take-le}
 use Rattle.drm_schedule.specs.declared.live.Live.{Live}
 use Rattle.drm_schedule.specs.declared.plan.Plan.{Plan}
 use Rattle.drm_schedule.specs.Valid.{IsSchedule}
@@ -12,6 +12,11 @@ use Rattle.drm_server.specs.Serving.{Serving, HasFrame, only_at}
 use Rattle.drm_server.proofs.SameFrame.{live_has, plain_has, empty_has}
 use Rattle.live_server.specs.Feeding.{fed, AreTaken}
 use Rattle.live_server.specs.Loading.{LoadsBehind}
+
+-- a frame asks for a piece of this length, and the front of the room that it is read into has it
+pub asks_for : (live : Live) (plan standing : Plan) (t len : ℕ) (room : List ℕ) → 32760 ≤ length room → len ≤ 32760 → len ≡ piece_at live standing t → standing ≡ plan
+    → (length (take len room) ≡ len) × (len ≡ piece_at live plan t)
+asks_for live plan standing t len room enough most is same = (length-take-le len room (omega (arith, enough, most)), is ∙ ap (λ p. piece_at live p t) same)
 
 module _ (live : Live) (plan : Plan) (first t : ℕ) (valid : IsSchedule plan) (within : t < frame_count plan) (behind : first ≤ t) where
   -- the frame of the schedule itself

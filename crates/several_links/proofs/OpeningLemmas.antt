@@ -1,5 +1,5 @@
 -- Openings, one after another.
-use Rattle.std.proofs.Common.{◌≡◌, ℕ, zero, suc, ◌+◌, ◌<◌, ◌≤◌, ◌⊎◌, inl, inr, Bool, true, false, cond, List, [], ◌∷◌, ◌++◌, length, take, slice_index_or, Option, None, Some, IsNone, Contains, refl, sym, ◌∙◌, ap, subst, arith}
+use Rattle.std.proofs.Common.{◌≡◌, ℕ, zero, suc, ◌+◌, ◌<◌, ◌≤◌, inl, inr, Bool, true, false, cond, List, [], ◌∷◌, ◌++◌, length, take, slice_index_or, Option, None, Some, IsNone, Contains, refl, sym, ◌∙◌, ap, subst, arith}
 use Rattle.std.specs.Prelude.{◌≢◌}
 use Rattle.std.specs.List.{AllByRecursion}
 use Rattle.std.specs.FinMap as map
@@ -8,60 +8,21 @@ use Rattle.std.specs.Ordering.{nat_cmp, eq_by_cmp}
 use Rattle.std.specs.Cmp.Lexicographic.{slice_cmp, nat_list_cmp_total}
 use Rattle.std.proofs.lemmas.Map.Views.{tells_apart}
 use Rattle.std.proofs.lemmas.Grind.{take_at_read}
-use Rattle.std.proofs.lemmas.List.{take_all, get_or_append_left}
-use Rattle.std.proofs.Math.Seq.{get_or-append_seam}
+use Rattle.std.proofs.lemmas.List.{take_all, get_or_default, same_from_push}
 use Rattle.drm_links.specs.Told.{Known, WhileTold, CountsCall, BothTold, CountsTold, ToldThrough, Tells}
 use Rattle.drm_links.specs.Link.{Traffic}
 use Rattle.drm_links.specs.Dock.{DockContents, Opens, after_opening, after_failure, address_key}
 use Rattle.drm_links.specs.declared.dock.Address.{Address}
 use Rattle.drm_links.specs.declared.dock.Opened.TheVariants as opened
-use Rattle.drm_links.proofs.ToldLemmas.{Opens-started, Tells-then, Tells-weaker, Tells-one, Tells-nothing}
+use Rattle.drm_links.proofs.ToldLemmas.{Opens-started, Tells-then, Tells-weaker, Tells-one}
 use Rattle.word_forms.specs.Addresses.{AreDifferent}
 use Rattle.several_links.specs.Openings.{Docked, FindsNone, after_openings, FailsAfter, HasLink}
 
--- an element by its place, whatever stands in for one that isn't there
-pub same_index : {X : Type 0} (xs : List X) (k : ℕ) (d e : X) → k < length xs → slice_index_or xs k d ≡ slice_index_or xs k e
-same_index [] k d e within = absurd (omega arith)
-same_index (x ∷ xs) zero d e within = refl
-same_index (x ∷ xs) (suc k) d e within = same_index xs k d e (omega arith)
-
-pub index_of : {X : Type 0} (xs : List X) (k : ℕ) → k < length xs → (x : X) × ((d : X) → slice_index_or xs k d ≡ x)
-index_of [] k within = absurd (omega arith)
-index_of (x ∷ xs) zero within = (x, λ d. refl)
-index_of (x ∷ xs) (suc k) within = let more = index_of xs k (omega arith) in (more.0, more.1)
-
-less_or_last : (k n : ℕ) → k < n + 1 → (k < n) ⊎ (k ≡ n)
-less_or_last k n within = grind arith
-
--- what holds of each element by its place, and of one more
-pub each_more : {X : Type 0} (P : ℕ → X → Type 0) (xs ys : List X) (x : X) (n : ℕ) → length xs ≡ n → ys ≡ xs ++ x ∷ []
-    → ((k : ℕ) (d : X) → k < n → P k (slice_index_or xs k d)) → P n x → (k : ℕ) (d : X) → k < n + 1 → P k (slice_index_or ys k d)
-each_more P xs ys x n size is each one k d within =
-    elim (less_or_last k n within) [
-      | inl less ↦ subst (λ y. P k y) (sym (ap (λ zs. slice_index_or zs k d) is ∙ get_or_append_left xs (x ∷ []) d k (omega (arith, size, less)))) (each k d less)
-      | inr last ↦
-          let at : slice_index_or ys k d ≡ x =
-          ap (λ zs. slice_index_or zs k d) is ∙ ap (λ m. slice_index_or (xs ++ x ∷ []) m d) (last ∙ sym size) ∙ get_or-append_seam xs x [] d in
-          subst (λ y. P k y) (sym at) (subst (λ m. P m x) (sym last) one)
-    ]
-
 -- ---- addresses that are different
-
-ends_same : (xs ys : List ℕ) (x y : ℕ) → xs ++ x ∷ [] ≡ ys ++ y ∷ [] → (xs ≡ ys) × (x ≡ y)
-ends_same [] [] x y is = (refl, cc)
-ends_same [] (b ∷ []) x y is = cc
-ends_same [] (b ∷ (d ∷ ys)) x y is = cc
-ends_same (a ∷ []) [] x y is = cc
-ends_same (a ∷ (c ∷ xs)) [] x y is = cc
-ends_same (a ∷ xs) (b ∷ ys) x y is =
-    let first : a ≡ b = cc in
-    let rest : xs ++ x ∷ [] ≡ ys ++ y ∷ [] = cc in
-    let same = ends_same xs ys x y rest in
-    ((λ i. first i ∷ same.0 i), same.1)
 
 pub one_address : (a b : Address) → address_key a ≡ address_key b → a ≡ b
 one_address a b is =
-    let same = ends_same a.ip b.ip a.port b.port is in
+    let same = same_from_push a.ip b.ip a.port b.port is in
     λ i. record { ip = same.0 i; port = same.1 i }
 
 all_at : {X : Type 0} (P : X → Type 0) (xs : List X) (k : ℕ) (none : X) → AllByRecursion P xs → k < length xs → P (slice_index_or xs k none)
@@ -164,7 +125,7 @@ are_opened addresses (suc k) told within =
     let d : Address = record { ip = []; port = 0 } in
     let at : Address = slice_index_or addresses k d in
     let less : k < length addresses = omega (arith, within) in
-    let is : at ≡ slice_index_or addresses k at = same_index addresses k d at less in
+    let is : at ≡ slice_index_or addresses k at = get_or_default addresses k d at less in
     let next : after_openings (take (k + 1) addresses) told ≡ after_opening at (after_openings (take k addresses) told) = openings_next addresses k at told less is in
     let more = opened_more addresses k at less is told (after_openings (take k addresses) told) (are_opened addresses k told (omega (arith, within))) in
     subst (λ n. AreOpened addresses n told (after_openings (take n addresses) told)) (omega arith)
@@ -173,9 +134,6 @@ are_opened addresses (suc k) told within =
 -- the dock tells what it does after the first k openings
 abbrev pub Opened : List Address → ℕ → DockContents → DockContents → Type 0
 Opened addresses k before after = after ≡ after_openings (take k addresses) before
-
-pub opened_first : (addresses : List Address) (a : Known DockContents) → Tells a a (Opened addresses 0)
-opened_first addresses a = Tells-nothing (Opened addresses 0) a (λ x. refl)
 
 module _ (addresses : List Address) (k : ℕ) (at : Address) (within : k < length addresses) (is : at ≡ slice_index_or addresses k at) where
   so_far : (x y : DockContents) → Opened addresses k x y → AreOpened addresses k x y
@@ -186,7 +144,7 @@ module _ (addresses : List Address) (k : ℕ) (at : Address) (within : k < lengt
       apart addresses different i k e at before within (one_address (slice_index_or addresses i e) at same ∙ is)
 
   same_at : (d : Address) → slice_index_or addresses k d ≡ at
-  same_at d = same_index addresses k d at within ∙ sym is
+  same_at d = get_or_default addresses k d at within ∙ sym is
 
   -- one more link was opened
   pub next : (x y z : DockContents) → Opened addresses k x y → z ≡ after_opening at y → Opened addresses (k + 1) x z

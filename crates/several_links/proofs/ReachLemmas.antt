@@ -6,7 +6,7 @@ use Rattle.drm_links.specs.Link.{Traffic}
 use Rattle.drm_links.specs.Dock.{DockContents, Over, over_of, Reaches, with_reach, after_opening, after_failure, first_traffic}
 use Rattle.drm_links.specs.declared.dock.Address.{Address}
 use Rattle.drm_links.specs.declared.dock.Opened.TheVariants as opened
-use Rattle.drm_links.proofs.ToldLemmas.{Tells-nothing, Tells-then, Tells-weaker}
+use Rattle.drm_links.proofs.ToldLemmas.{Tells-then, Tells-both, Tells-weaker}
 use Rattle.word_forms.specs.Addresses.{AreDifferent}
 use Rattle.several_links.specs.Openings.{Docked, FindsNone, HasLink, after_openings}
 use Rattle.several_links.specs.Reaching.{HaveGone, ReachesFew, with_reaches, after_reaches, after_closes, nothing}
@@ -24,17 +24,9 @@ one_more_reach k told =
     let sum : told.reaches + k + 1 ≡ told.reaches + (k + 1) = omega arith in
     ap (λ n. record told { reaches = n }) sum
 
-no_reach : (told : DockContents) → told ≡ with_reaches 0 told
-no_reach told =
-    let sum : told.reaches ≡ told.reaches + 0 = omega arith in
-    ap (λ n. record told { reaches = n }) sum
-
 -- the dock tells what it does after the first k openings
 abbrev pub Reached : List Address → ℕ → DockContents → DockContents → Type 0
 Reached addresses k before after = after ≡ after_openings (take k addresses) (with_reaches k before)
-
-pub reached_first : (addresses : List Address) (a : Known DockContents) → Tells a a (Reached addresses 0)
-reached_first addresses a = Tells-nothing (Reached addresses 0) a no_reach
 
 pub reached_all : (addresses : List Address) (k : ℕ) (a b : Known DockContents) → k ≡ length addresses → Tells a b (Reached addresses k) → Tells a b (λ before after. after ≡ after_reaches addresses before)
 reached_all addresses k a b last reached =
@@ -120,16 +112,10 @@ pub few_reached : {L : Type 0} (known : L → Known Traffic) (addresses : List A
     → Tells b c (λ before after. (overs : List Over) → HaveGone known members overs → after ≡ after_closes overs addresses before)
     → Tells a c (ReachesFew addresses)
 few_reached known addresses members k a b c within size links missed closed =
-    Tells-then _ _ (ReachesFew addresses) a b c (both a.told b.told links missed) closed
+    Tells-then _ _ (ReachesFew addresses) a b c (Tells-both (λ x _. HaveFirst known x addresses members k) (Missed addresses k) a b links missed) closed
     (λ x y z p q. record {
       k = k;
       within = within;
       fails = p.1.0;
       told = q (replicate k nothing) (nothing_gone known x addresses members k size p.0) ∙ ap (after_closes (replicate k nothing) addresses) p.1.1;
     })
-  where
-    both : (a b : Option DockContents) → ToldThrough a b (λ told _. HaveFirst known told addresses members k) → ToldThrough a b (Missed addresses k)
-        → ToldThrough a b (λ x y. HaveFirst known x addresses members k × Missed addresses k x y)
-    both a None first second = tt
-    both None (Some y) first second = first
-    both (Some x) (Some y) first second = (first, second)

@@ -1,21 +1,23 @@
 -- A run over several links that were opened, and closed again.
-use Rattle.std.proofs.Common.{◌≡◌, ℕ, zero, suc, ◌<◌, cond, List, [], ◌∷◌, length, slice_index_or, Option, None, Some, refl, sym, ◌∙◌, ap, subst, arith}
+use Rattle.std.proofs.Common.{◌≡◌, ℕ, zero, suc, ◌<◌, cond, List, [], ◌∷◌, length, slice_index_or, Some, refl, sym, ◌∙◌, ap, subst, arith}
 use Rattle.std.specs.Prelude.{◌≢◌}
 use Rattle.std.specs.List.{AllByRecursion}
 use Rattle.std.specs.FinMap as map
 use Rattle.std.specs.FinMap.{get-insert, gets}
 use Rattle.std.specs.Cmp.Lexicographic.{nat_list_cmp_total}
 use Rattle.std.proofs.lemmas.Grind.{common_steps}
-use Rattle.drm_links.specs.Told.{Known, ToldThrough, Tells}
+use Rattle.std.proofs.lemmas.List.{get_or_default}
+use Rattle.drm_links.specs.Told.{Known, Tells}
 use Rattle.drm_links.specs.Link.{Traffic}
 use Rattle.drm_links.specs.Dock.{DockContents, LinkStart, Over, address_key, first_traffic, after_close}
 use Rattle.drm_links.specs.declared.dock.Address.{Address}
-use Rattle.drm_links.proofs.ToldLemmas.{Tells-then}
+use Rattle.drm_links.proofs.ToldLemmas.{Tells-then, Tells-both}
+use Rattle.drm_links.proofs.Places.{index_of}
 use Rattle.word_forms.specs.Addresses.{AreDifferent}
 use Rattle.several_links.specs.Openings.{Docked, Finds}
 use Rattle.several_links.specs.Reaching.{HasGone, HaveGone, HaveLinks, GoesOver, NothingSent, after_reaches, after_closes, with_none, with_reaches}
 use Rattle.several_links.specs.declared.member.Member.{Member}
-use Rattle.several_links.proofs.OpeningLemmas.{same_index, index_of, one_address, other_key, openings_gone}
+use Rattle.several_links.proofs.OpeningLemmas.{one_address, other_key, openings_gone}
 
 -- ---- what goes over each link
 
@@ -48,7 +50,7 @@ module _ {L : Type 0} (Goes : ℕ → LinkStart → Over → Type 0) (known : L 
       → Tells b c (λ before after. (overs : List Over) → HaveGone known members' overs → after ≡ after_closes overs addresses before)
       → Tells a c (GoesOver Goes addresses)
   over_each a b c opened links each closed =
-      Tells-then _ _ (GoesOver Goes addresses) a b c (both a.told b.told opened links) closed
+      Tells-then _ _ (GoesOver Goes addresses) a b c (Tells-both (λ x y. y ≡ after_reaches addresses x) (λ x _. HaveLinks known x addresses members) a b opened links) closed
       (λ x y z p q.
       let none : Address = record { ip = []; port = 0 } in
       let one : (k : ℕ) → k < length addresses → (over : Over) × Made x k over
@@ -59,8 +61,8 @@ module _ {L : Type 0} (Goes : ℕ → LinkStart → Over → Type 0) (known : L 
         over.0,
         (
           there.0,
-          (λ at. subst (λ a. Finds x k a there.0) (same_index addresses k none at within) there.1),
-          (λ e. subst (λ (m : Member L). HasGone known m.link over.0) (same_index members' k d e (omega (arith, within, many'))) over.1),
+          (λ at. subst (λ a. Finds x k a there.0) (get_or_default addresses k none at within) there.1),
+          (λ e. subst (λ (m : Member L). HasGone known m.link over.0) (get_or_default members' k d e (omega (arith, within, many'))) over.1),
           over.2,
           over.3,
         ),
@@ -71,12 +73,6 @@ module _ {L : Type 0} (Goes : ℕ → LinkStart → Over → Type 0) (known : L 
         goes = record { as_many = made.1; each = λ k at e within. let m = made.2 k e within in (m.0, m.1 at, m.3); received = λ k e within. (made.2 k e within).4 };
         told = q made.0 (record { as_many = made.1 ∙ sym many'; each = λ k d e within. (made.2 k e (omega (arith, within, many'))).2 d }) ∙ ap (after_closes made.0 addresses) p.0;
       })
-    where
-      both : (a b : Option DockContents) → ToldThrough a b (λ x y. y ≡ after_reaches addresses x) → ToldThrough a b (λ told _. HaveLinks known told addresses members)
-          → ToldThrough a b (λ x y. (y ≡ after_reaches addresses x) × HaveLinks known x addresses members)
-      both a None first second = tt
-      both None (Some y) first second = first
-      both (Some x) (Some y) first second = (first, second)
 
 -- ---- what had gone over closed links
 

@@ -1,5 +1,5 @@
 -- Links that are opened in a dock, one after another.
-use Rattle.std.specs.Prelude.{ℕ, ◌≡◌, ◌+◌, ◌<◌, ◌≤◌, ◌⊎◌, Contains, IsNone, List, [], ◌∷◌, length, take, slice_index_or, Some}
+use Rattle.std.specs.Prelude.{ℕ, ◌≡◌, ◌+◌, ◌<◌, ◌⊎◌, Contains, IsNone, List, [], ◌∷◌, length, take, slice_index_or, Some}
 use Rattle.drm_links.specs.Told.{Known, Tells}
 use Rattle.drm_links.specs.Link.{Traffic}
 use Rattle.drm_links.specs.Dock.{DockContents, LinkStart, start_at, first_traffic, after_opening, after_failure}
@@ -29,12 +29,6 @@ pub record FailsAfter (addresses : List Address) (before after : DockContents) :
   pub within : k < length addresses
   pub fails : (at : Address) → FindsNone before k (slice_index_or addresses k at)
   pub told : after ≡ after_failure (after_openings (take k addresses) before)
-
--- Some first openings were made.
-pub record StopsAfter (addresses : List Address) (before after : DockContents) : Type 0 where
-  pub k : ℕ
-  pub within : k ≤ length addresses
-  pub told : after ≡ after_openings (take k addresses) before
 
 -- the link of the k-th opening from here starts with what stood at its address
 abbrev pub HasLink : {L : Type 0} → (L → Known Traffic) → DockContents → ℕ → Address → L → Type 0

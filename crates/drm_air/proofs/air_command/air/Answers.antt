@@ -2,7 +2,8 @@ use Rattle.std.proofs.Common.{◌∙◌, ap, Err, rules}
 use Rattle.std.proofs.lemmas.Result.{err_from_is_err_and}
 use Rattle.drm_schedule.specs.Valid.{IsSchedule}
 use Rattle.drm_links.proofs.ToldLemmas.{counts_as}
-use Rattle.drm_air.proofs.AirLemmas.{no_schedule, no_script, ran_over, feeds_are, inner_fault}
+use Rattle.drm_faults.proofs.CauseLemmas.{inner_fault}
+use Rattle.drm_air.proofs.AirLemmas.{no_schedule, no_script, ran_over, feeds_are}
 use Rattle.drm_air.proofs.air_command.air.Goals as goal
 
 pub returns-in_err-plan : goal.returns-in_err-plan
@@ -11,7 +12,7 @@ returns-in_err-plan g c =
     record {
       run = rw (p.1 ∙ ap Err p.2)
           (no_schedule c.args.name.now c.args.script.now c.args.window g.S.Shelf.known g.O.Sink.known c.args.out.now c.in_err-plan.field-0.0 c.args.shelf.now c.read_schedule.new.shelf
-          c.in_err-plan.ensures.reads (counts_as (λ is. ap Err is) (λ is. inner_fault is) c.in_err-plan.ensures.cause));
+          c.in_err-plan.ensures.reads (counts_as (λ is. ap Err is) (λ is. inner_fault _ _ is) c.in_err-plan.ensures.cause));
     }
 
 pub returns-in-Err : goal.returns-in-Err
@@ -20,7 +21,7 @@ returns-in-Err g c =
     record {
       run = rw c.script_fault.ensures
           (no_script c.args.name.now c.args.script.now c.args.window g.S.Shelf.known g.O.Sink.known c.args.out.now c.in_ok-plan.plan c.in-Err.fault c.args.shelf.now c.read_schedule.new.shelf c.read_script_named.new.shelf
-          valid c.in_ok-plan.ensures.reads c.in-Err.ensures.reads (c.in_ok-plan.ensures.cause.same (λ is. cc)) (counts_as (λ is. ap Err is) (λ is. inner_fault is) c.in-Err.ensures.cause));
+          valid c.in_ok-plan.ensures.reads c.in-Err.ensures.reads (c.in_ok-plan.ensures.cause.same (λ is. cc)) (counts_as (λ is. ap Err is) (λ is. inner_fault _ _ is) c.in-Err.ensures.cause));
     }
 
 pub air_over-requires : goal.air_over-requires

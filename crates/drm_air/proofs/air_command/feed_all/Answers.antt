@@ -1,12 +1,12 @@
 use Rattle.std.proofs.Common.{◌≡◌, ℕ, ◌+◌, ◌<◌, ◌≤◌, slice_index_or, sym, ◌∙◌, ap, subst, arith, length, length-append, List, [], ◌∷◌}
+use Rattle.std.proofs.lemmas.List.{get_or_default}
 use Rattle.drm_links.specs.MemoryLink.{LinkState}
+use Rattle.drm_links.proofs.Places.{each_more}
 use Rattle.script_lines.specs.declared.delivery.Delivery.{Delivery}
 use Rattle.mod_receiver.specs.declared.job.Job.{Job}
 use Rattle.drm_air.specs.Air.{air_rules}
 use Rattle.mod_receiver.specs.Jobs.{IsJob}
 use Rattle.drm_air.specs.Feeds.{BringsFeed}
-use Rattle.mod_receiver.proofs.JobLemmas.{same_index}
-use Rattle.mod_receiver.proofs.Listing.{each_more}
 use Rattle.drm_air.proofs.air_command.feed_all.Goals as goal
 
 pub loop-k-preserved : goal.loop-k-preserved
@@ -22,7 +22,7 @@ loop-k-preserved c =
     let Q : ℕ → Job LinkState → Type 0 = λ n job. (feed : List Delivery) → BringsFeed plan (slice_index_or c.args.script.now n feed) job.link in
     let fed : BringsFeed plan c.deliveries.result.now c.in_ok-link.link = rw (← i.2) c.in_ok-link.ensures.link in
     let new : Q k c.in_ok-job.job = λ feed.
-    subst (λ l. BringsFeed plan l c.in_ok-job.job.link) (c.deliveries.ensures ∙ same_index c.args.script.now k c.deliveries.result.now feed within)
+    subst (λ l. BringsFeed plan l c.in_ok-job.job.link) (c.deliveries.ensures ∙ get_or_default c.args.script.now k c.deliveries.result.now feed within)
     (subst (λ l. BringsFeed plan c.deliveries.result.now l) (sym c.in_ok-job.ensures.link) fed) in
     let many : length c.push.new.self.items ≡ k + 1 = ap length c.in-Ok.ensures.items ∙ length-append c.loop-k.jobs.items (c.in_ok-job.job ∷ []) ∙ omega (arith, size) in (
       (let len = c.in-Ok.ensures.len in let before = i.0 in omega (arith, len, before)),

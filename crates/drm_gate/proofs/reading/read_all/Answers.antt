@@ -9,7 +9,6 @@ use Rattle.drm_gate.specs.Gateway.{rules_of}
 use Rattle.drm_gate.specs.Reading.{TakesOne, TakesFirst}
 use Rattle.drm_gate.proofs.Reaching.{OnDatagram, at_start, on_datagram, datagram_more, by_frames, by_limit}
 use Rattle.drm_gate.proofs.Ending.{on_idle, idle_more, by_idle, on_failed, on_stop}
-use Rattle.drm_gate.proofs.RestingLemmas.{still_none, still_then, still_came}
 use Rattle.drm_gate.specs.Targets.{targets}
 use Rattle.drm_gate.proofs.reading.read_all.Goals as goal
 
@@ -21,7 +20,6 @@ answers-init g c = (
   c.requires.up,
   refl,
   refl,
-  still_none (g.L.Link.known c.args.from.now),
 )
 
 pub returns-in_err-take-in-Datagram-clause-stopped : goal.returns-in_err-take-in-Datagram-clause-stopped
@@ -82,7 +80,6 @@ answers-preserved-else-taken-options g c =
       c.in_ok-take-in-Datagram.ensures.up,
       c.recv.auto.buf ∙ i.3,
       c.take.ensures.carry ∙ i.4,
-      still_then (g.L.Link.known c.args.from.now) (g.L.Link.known c.answers.from) (g.L.Link.known c.recv.new.self) i.5 (still_came c.recv.result c.recv.new.buf (g.L.Link.known c.answers.from) (g.L.Link.known c.recv.new.self) c.recv.ensures.answer c.recv.ensures.told),
     )
 
 pub returns-then-idles-options-clause-finished : goal.returns-then-idles-options-clause-finished
@@ -104,28 +101,12 @@ answers-preserved g c =
       i.2,
       c.recv.auto.buf ∙ i.3,
       i.4,
-      still_then (g.L.Link.known c.args.from.now) (g.L.Link.known c.answers.from) (g.L.Link.known c.recv.new.self) i.5 (still_came c.recv.result c.recv.new.buf (g.L.Link.known c.answers.from) (g.L.Link.known c.recv.new.self) c.recv.ensures.answer c.recv.ensures.told),
     )
 
 pub returns-in-Failed-clause-stopped : goal.returns-in-Failed-clause-stopped
 returns-in-Failed-clause-stopped g c =
     on_failed (rules_of c.args.collector.now c.args.options.now) c.args.sender.now (Heard (g.L.Link.known c.args.from.now) (g.L.Link.known c.answers.from)) (Heard (g.L.Link.known c.args.from.now) (g.L.Link.known c.recv.new.self)) (targets g.K.Link.known c.args.to.now) (targets g.K.Link.known c.answers.to)
     c.answers.collector c.answers.tally c.answers.taken c.answers.idles c.answers.invariant.0 (λ xs h. heard_more (g.L.Link.known c.args.from.now) (g.L.Link.known c.answers.from) (g.L.Link.known c.recv.new.self) xs recv.Failed c.recv.new.buf h c.in-Failed.ensures.answer c.in-Failed.ensures.told)
-
-pub returns-in_err-take-in-Datagram-clause-still : goal.returns-in_err-take-in-Datagram-clause-still
-returns-in_err-take-in-Datagram-clause-still g c = still_then (g.L.Link.known c.args.from.now) (g.L.Link.known c.answers.from) (g.L.Link.known c.recv.new.self) c.answers.invariant.5 (still_came c.recv.result c.recv.new.buf (g.L.Link.known c.answers.from) (g.L.Link.known c.recv.new.self) c.recv.ensures.answer c.recv.ensures.told)
-
-pub returns-then-is_full-clause-still : goal.returns-then-is_full-clause-still
-returns-then-is_full-clause-still g c = still_then (g.L.Link.known c.args.from.now) (g.L.Link.known c.answers.from) (g.L.Link.known c.recv.new.self) c.answers.invariant.5 (still_came c.recv.result c.recv.new.buf (g.L.Link.known c.answers.from) (g.L.Link.known c.recv.new.self) c.recv.ensures.answer c.recv.ensures.told)
-
-pub returns-then-taken-options-clause-still : goal.returns-then-taken-options-clause-still
-returns-then-taken-options-clause-still g c = still_then (g.L.Link.known c.args.from.now) (g.L.Link.known c.answers.from) (g.L.Link.known c.recv.new.self) c.answers.invariant.5 (still_came c.recv.result c.recv.new.buf (g.L.Link.known c.answers.from) (g.L.Link.known c.recv.new.self) c.recv.ensures.answer c.recv.ensures.told)
-
-pub returns-then-idles-options-clause-still : goal.returns-then-idles-options-clause-still
-returns-then-idles-options-clause-still g c = still_then (g.L.Link.known c.args.from.now) (g.L.Link.known c.answers.from) (g.L.Link.known c.recv.new.self) c.answers.invariant.5 (still_came c.recv.result c.recv.new.buf (g.L.Link.known c.answers.from) (g.L.Link.known c.recv.new.self) c.recv.ensures.answer c.recv.ensures.told)
-
-pub returns-in-Failed-clause-still : goal.returns-in-Failed-clause-still
-returns-in-Failed-clause-still g c = still_then (g.L.Link.known c.args.from.now) (g.L.Link.known c.answers.from) (g.L.Link.known c.recv.new.self) c.answers.invariant.5 (still_came c.recv.result c.recv.new.buf (g.L.Link.known c.answers.from) (g.L.Link.known c.recv.new.self) c.recv.ensures.answer c.recv.ensures.told)
 
 pub returns-then-is_full-clause-few : goal.returns-then-is_full-clause-few
 returns-then-is_full-clause-few g c =

@@ -1,8 +1,6 @@
 use Rattle.std.proofs.Common.{◌≡◌, ◌+◌, ◌-◌, ◌*◌, length}
 use Rattle.mod_receiver.specs.Hearing.{Heard}
-use Rattle.drm_links.specs.Told.{Tells}
 use Rattle.drm_gate.specs.Gateway.{rules_of}
-use Rattle.drm_gate.specs.Resting.{NeverRests}
 use Rattle.drm_gate.proofs.Reaching.{Reaches}
 use Rattle.drm_gate.specs.Targets.{targets, SomeUp}
 use Rattle.drm_gate.proofs.reading.read_all.Given as goal
@@ -15,7 +13,6 @@ invariant-answers g l =
     × SomeUp (targets g.K.Link.known l.to)
     × (length l.buffer ≡ length l.fn.buffer)
     × (l.sender ≡ l.fn.sender)
-    × Tells (g.L.Link.known l.fn.from) (g.L.Link.known l.from) NeverRests
 
 abbrev pub decreases-answers : goal.decreases-answers
 decreases-answers g l = (l.options.limit - l.taken) * l.options.idle + (l.options.idle - l.idles)

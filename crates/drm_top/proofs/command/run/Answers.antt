@@ -1,11 +1,13 @@
 use Rattle.std.proofs.Common.{◌∙◌, sym, ap, subst, Ok, Err}
+use Rattle.drm_faults.specs.declared.fault.Fault.{Fault}
+use Rattle.drm_faults.specs.declared.fault.Fault.TheVariants as faults
 use Rattle.drm_faults.specs.Fault.{clean_status, WritesLine}
 use Rattle.drm_links.proofs.ToldLemmas.{counts_as}
 use Rattle.drm_faults.proofs.CauseLemmas.{one_failed_as, opening_as}
-use Rattle.drm_faults.proofs.StatusLemmas.{two_is_words, six_is_link, one_is_memory}
+use Rattle.drm_faults.proofs.StatusLemmas.{one_is_memory, two_is_words, four_is_read, five_is_write, six_is_link}
 use Rattle.drm_faults.specs.Lines.{fault_line}
 use Rattle.drm_top.specs.Outside.{outside}
-use Rattle.drm_top.proofs.CommandLemmas.{done_told, fault_told, four_read, read_four, five_write, write_five, link_six}
+use Rattle.drm_top.proofs.CommandLemmas.{done_told, fault_told, by_status, to_status}
 use Rattle.drm_top.proofs.HeadlineLemmas.{headline_of, not_a_fault}
 use Rattle.drm_top.proofs.command.run.Goals as goal
 
@@ -73,16 +75,19 @@ returns-in-Err-clause-words g c = λ two. c.in-Err.ensures.words (ap Err (two_is
 
 pub returns-in-Err-clause-read : goal.returns-in-Err-clause-read
 returns-in-Err-clause-read g c = λ unlinked.
+    let fault : Fault = c.in-Err.fault in
     let status = c.report_if.ensures.status in
-    one_failed_as (four_read _ c.in-Err.fault status) (read_four _ c.in-Err.fault status) (c.in-Err.ensures.read (λ is. unlinked (link_six _ c.in-Err.fault status is)))
+    one_failed_as (by_status _ fault status faults.Read four_is_read) (to_status _ fault status faults.Read four_is_read)
+    (c.in-Err.ensures.read (λ is. unlinked (to_status _ fault status faults.Link six_is_link is)))
 
 pub returns-in-Err-clause-write : goal.returns-in-Err-clause-write
 returns-in-Err-clause-write g c =
     let status = c.report_if.ensures.status in
-    counts_as (five_write _ c.in-Err.fault status) (write_five _ c.in-Err.fault status) c.in-Err.ensures.write
+    counts_as (by_status _ c.in-Err.fault status faults.Write five_is_write) (to_status _ c.in-Err.fault status faults.Write five_is_write) c.in-Err.ensures.write
 
 pub returns-in-Err-clause-opening : goal.returns-in-Err-clause-opening
-returns-in-Err-clause-opening g c = opening_as (g.D.Dock.known c.args.dock.now) (g.D.Dock.known c.execute.new.dock) (link_six _ c.in-Err.fault c.report_if.ensures.status) c.in-Err.ensures.opening
+returns-in-Err-clause-opening g c =
+    opening_as (g.D.Dock.known c.args.dock.now) (g.D.Dock.known c.execute.new.dock) (to_status _ c.in-Err.fault c.report_if.ensures.status faults.Link six_is_link) c.in-Err.ensures.opening
 
 pub returns-in-Err-clause-link : goal.returns-in-Err-clause-link
 returns-in-Err-clause-link g c = λ six. c.in-Err.ensures.link (ap Err (six_is_link c.in-Err.fault (sym c.report_if.ensures.status ∙ six)))

@@ -109,9 +109,9 @@ returns-else-is_empty-2 g c =
           g.S.Shelf.known c.args.shelf.now c.send.new.shelf g.I.Source.known c.args.input.now c.args.input.now g.O.Sink.known c.args.out.now c.args.out.now
           g.E.Sink.known c.args.err.now c.args.err.now g.D.Dock.known c.args.dock.now c.send.new.dock) some
           (rw plain ((c.send.result, c.whole-else-is_empty-2.ensures, rw (← c.text-name.ensures) c.send.ensures.run), refl), refl, (c.requires.told, refl)));
-      read = λ _. other_alone refl (whole_cause c.whole-else-is_empty-2.result c.send.result faults.Read c.whole-else-is_empty-2.ensures c.send.ensures.read);
+      read = λ _. other_alone refl (whole_cause c.whole-else-is_empty-2.result c.send.result faults.Read c.whole-else-is_empty-2.ensures c.send.ensures.run.read_cause);
       write = counts_none (λ e. c.send.ensures.write (fault_of_whole c.whole-else-is_empty-2.result c.send.result faults.Write c.whole-else-is_empty-2.ensures e)) refl;
-      opening = opening_as (g.D.Dock.known c.args.dock.now) (g.D.Dock.known c.send.new.dock) (λ is. c.whole-else-is_empty-2.ensures ∙ ap whole_of is) c.send.ensures.opening;
+      opening = opening_as (g.D.Dock.known c.args.dock.now) (g.D.Dock.known c.send.new.dock) (λ is. c.whole-else-is_empty-2.ensures ∙ ap whole_of is) c.send.ensures.run.dock_cause;
       link = λ e. rw c.in-Serve.is (opens_some c.in-Serve.name c.in-Serve.to c.in-Serve.pace c.in-Serve.from c.in-Serve.live some);
       lacking = λ e. absurd (whole_lacks_none c.whole-else-is_empty-2.result c.send.result c.whole-else-is_empty-2.ensures e);
       unsent = λ e. c.send.ensures.unsent (fault_of_whole c.whole-else-is_empty-2.result c.send.result faults.NoMemory c.whole-else-is_empty-2.ensures e);

@@ -8,7 +8,7 @@ use Rattle.drm_links.specs.Dock.{Over}
 use Rattle.several_links.specs.Reaching.{HaveGone, HaveLinks, after_closes}
 use Rattle.several_links.specs.declared.member.Member.{Member}
 use Rattle.drm_transmit.specs.Live.{LiveSendRun}
-use Rattle.drm_transmit.proofs.LiveSendLemmas.{live_closed, live_unopened, live_over, live_nothing_sent, sent_read, sent_unread, sent_dock}
+use Rattle.drm_transmit.proofs.LiveSendLemmas.{live_closed, live_unopened, live_over, live_nothing_sent, sent_read, sent_dock}
 use Rattle.drm_transmit.proofs.live_command.send_live.Goals as goal
 
 pub returns-in-Ok : goal.returns-in-Ok
@@ -43,9 +43,6 @@ returns-in-Ok g c =
       read = λ none.
           sent_read c.one_delivery.ensures c.first_ones_are_front.ensures c.args.name.now to c.args.pace c.args.from c.args.live.now g.S.Shelf.known c.args.shelf.now c.send_live_over-sent.new.shelf g.D.Dock.known c.args.dock.now c.close_each.new.dock
           c.send_live_over-sent.result x y sent none;
-      unread = λ link.
-          sent_unread c.one_delivery.ensures c.first_ones_are_front.ensures c.args.name.now to c.args.pace c.args.from c.args.live.now g.S.Shelf.known c.args.shelf.now c.send_live_over-sent.new.shelf g.D.Dock.known c.args.dock.now c.close_each.new.dock
-          c.send_live_over-sent.result x y sent link;
       opening =
           sent_dock c.one_delivery.ensures c.first_ones_are_front.ensures c.args.name.now to c.args.pace c.args.from c.args.live.now g.S.Shelf.known c.args.shelf.now c.send_live_over-sent.new.shelf g.D.Dock.known c.args.dock.now c.close_each.new.dock
           c.send_live_over-sent.result x y sent;

@@ -1,7 +1,6 @@
-use Rattle.std.proofs.Common.{◌≡◌, ◌++◌, List, take, drop, length, vec_len, refl, ap, sym, ◌∙◌, subst, inl, inr, Err}
+use Rattle.std.proofs.Common.{◌≡◌, ◌++◌, List, take, drop, length, vec_len, refl, ap, sym, ◌∙◌, subst, Err}
 use Rattle.std.proofs.lemmas.List.{take_at}
 use Rattle.drm_links.specs.Told.{Tells}
-use Rattle.drm_links.proofs.ToldLemmas.{counts_none}
 use Rattle.drm_faults.specs.declared.fault.Fault.TheVariants as faults
 use Rattle.drm_links.specs.Dock.{Over}
 use Rattle.several_links.specs.Reaching.{HaveGone, after_closes}
@@ -38,8 +37,6 @@ returns-in-Ok g c =
     record {
       run = sent;
       unsent = λ e. nothing_sent c.one_delivery.ensures c.first_ones_are_front.ensures (schedule_named c.args.name.now) to c.args.pace c.args.from c.send_over-sent.result g.S.Shelf.known c.args.shelf.now c.send_over-sent.new.shelf g.D.Dock.known c.args.dock.now c.close_each.new.dock c.requires.different sent e;
-      read = sent.read_cause;
-      opening = sent.dock_cause;
       words = λ e. c.send_over-sent.ensures.words e;
       write = λ e. c.send_over-sent.ensures.write e;
     }
@@ -59,15 +56,3 @@ pub returns-in-Err-Link-clause-run : goal.returns-in-Err-Link-clause-run
 returns-in-Err-Link-clause-run g c =
     closed c.one_delivery.ensures c.first_ones_are_front.ensures (schedule_named c.args.name.now) c.args.to.now c.args.pace c.args.from (Err faults.Link) g.S.Shelf.known c.args.shelf.now c.args.shelf.now g.D.Dock.known c.args.dock.now c.reach_each.new.dock
     (record { fault = refl; unread = refl; told = c.reach_each.ensures.failed (c.in-Err-Link.is ∙ ap Err c.in-Err-Link.field-0-is); once = c.reach_each.ensures.cause.once (c.in-Err-Link.is ∙ ap Err c.in-Err-Link.field-0-is) })
-
-pub returns-in-Err-NoMemory-clause-read : goal.returns-in-Err-NoMemory-clause-read
-returns-in-Err-NoMemory-clause-read g c = counts_none (λ is. cc) refl
-
-pub returns-in-Err-NoMemory-clause-opening : goal.returns-in-Err-NoMemory-clause-opening
-returns-in-Err-NoMemory-clause-opening g c = inl (ap (λ d. (g.D.Dock.known d).faults) (c.reach_each.ensures.untouched (c.in-Err-NoMemory.is ∙ ap Err c.in-Err-NoMemory.field-0-is)))
-
-pub returns-in-Err-Link-clause-read : goal.returns-in-Err-Link-clause-read
-returns-in-Err-Link-clause-read g c = counts_none (λ is. cc) refl
-
-pub returns-in-Err-Link-clause-opening : goal.returns-in-Err-Link-clause-opening
-returns-in-Err-Link-clause-opening g c = inr (refl, c.reach_each.ensures.cause.once (c.in-Err-Link.is ∙ ap Err c.in-Err-Link.field-0-is))

@@ -3,8 +3,9 @@ use Rattle.std.proofs.lemmas.Result.{err_from_is_err_and}
 use Rattle.dcp_pft.specs.declared.carry.Carry.{Carry}
 use Rattle.drm_links.specs.Told.{Tells}
 use Rattle.drm_links.proofs.ToldLemmas.{counts_one, counts_none}
-use Rattle.drm_receive.proofs.ReceiveLemmas.{inner, no_fault}
+use Rattle.drm_receive.proofs.ReceiveLemmas.{no_fault}
 use Rattle.drm_faults.specs.declared.fault.Fault.TheVariants as faults
+use Rattle.drm_faults.proofs.CauseLemmas.{inner_fault}
 use Rattle.drm_gate.specs.Gateway.{Gateway}
 use Rattle.gate_command.specs.Run.{PassesOn}
 use Rattle.gate_command.proofs.RunLemmas.{no_run, links_run}
@@ -23,7 +24,7 @@ returns-in_err-tally g c =
     let told = subst (λ (k : Carry). Tells (g.D.Dock.known c.args.dock.now) (g.D.Dock.known c.pass_between.new.dock) (PassesOn c.args.rules.now k c.args.from c.args.to.now (Err c.in_err-tally.field-0.0))) carry c.in_err-tally.ensures.told in
     rw (p.1 ∙ ap Err p.2)
     (links_run c.args.rules.now c.args.carry c.args.from c.args.to.now c.requires.listed.different (Err faults.Link) g.O.Sink.known c.args.out.now c.args.out.now g.D.Dock.known c.args.dock.now c.pass_between.new.dock (Err c.in_err-tally.field-0.0) told (refl, refl)
-    c.in_err-tally.ensures.cause (counts_none (λ is. let one = inner faults.Link faults.Write is in absurd cc) refl))
+    c.in_err-tally.ensures.cause (counts_none (λ is. let one = inner_fault faults.Link faults.Write is in absurd cc) refl))
 
 pub returns-in_err-write_tally : goal.returns-in_err-write_tally
 returns-in_err-write_tally g c =

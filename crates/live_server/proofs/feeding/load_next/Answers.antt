@@ -9,7 +9,7 @@ use Rattle.input_front.specs.Input.{FailsBehind}
 use Rattle.live_streams.specs.Live.{piece_at}
 use Rattle.live_server.specs.Feeding.{AreTaken}
 use Rattle.live_server.specs.Loading.{LoadsBehind}
-use Rattle.live_server.proofs.LoadingLemmas.{loads_ended, loads_nothing, loads_cut, loads_whole}
+use Rattle.live_server.proofs.LoadingLemmas.{asks_for, loads_ended, loads_nothing, loads_cut, loads_whole}
 use Rattle.live_server.proofs.feeding.load_next.Goals as goal
 
 -- input has ended before
@@ -51,11 +51,7 @@ returns-then-len-eq0-clause-loaded g c = λ first bytes behind.
 pub returns-in_err-came-clause-failed : goal.returns-in_err-came-clause-failed
 returns-in_err-came-clause-failed g c =
     let len = c.piece_len-len.result in
-    let room = c.requires.room in
-    let most = c.piece_len-len.ensures.most in
-    let size : length (take len c.args.room.now) ≡ len = length-take-le len c.args.room.now (omega (arith, room, most)) in
-    let asked : len ≡ piece_at c.args.live.now c.args.server.now.base c.args.t =
-    c.piece_len-len.ensures.len ∙ ap (λ p. piece_at c.args.live.now p c.args.t) c.schedule-2.ensures in
+    let (size, asked) = asks_for c.args.live.now c.args.server.now.base _ c.args.t len c.args.room.now c.requires.room c.piece_len-len.ensures.most c.piece_len-len.ensures.len c.schedule-2.ensures in
     let p = err_from_is_err_and c.from_residual.result c.from_residual.ensures.1 in
     rw p.1 (subst (λ n. FailsBehind n (g.I.Source.known c.args.input.now) (g.I.Source.known c.read_front.new.input)) (size ∙ asked) c.in_err-came.ensures.failed)
 
@@ -67,11 +63,7 @@ returns-then-came-len-clause-loaded g c = λ first bytes behind.
     let going = c.if-ended.false in
     let len = c.piece_len-len.result in
     let came = c.in_ok-came.came in
-    let room = c.requires.room in
-    let most = c.piece_len-len.ensures.most in
-    let size : length (take len c.args.room.now) ≡ len = length-take-le len c.args.room.now (omega (arith, room, most)) in
-    let asked : len ≡ piece_at c.args.live.now plan c.args.t =
-    c.piece_len-len.ensures.len ∙ ap (λ p. piece_at c.args.live.now p c.args.t) c.schedule-2.ensures in
+    let (size, asked) = asks_for c.args.live.now plan _ c.args.t len c.args.room.now c.requires.room c.piece_len-len.ensures.most c.piece_len-len.ensures.len c.schedule-2.ensures in
     let got : List ℕ = take came c.read_front.new.room in
     let within = c.in_ok-came.ensures.read.0 in
     let same = c.read_front.auto.room in
@@ -98,11 +90,7 @@ returns-else-came-len-clause-loaded g c = λ first bytes behind.
     let going = c.if-ended.false in
     let len = c.piece_len-len.result in
     let came = c.in_ok-came.came in
-    let room = c.requires.room in
-    let most = c.piece_len-len.ensures.most in
-    let size : length (take len c.args.room.now) ≡ len = length-take-le len c.args.room.now (omega (arith, room, most)) in
-    let asked : len ≡ piece_at c.args.live.now plan c.args.t =
-    c.piece_len-len.ensures.len ∙ ap (λ p. piece_at c.args.live.now p c.args.t) c.schedule-2.ensures in
+    let (size, asked) = asks_for c.args.live.now plan _ c.args.t len c.args.room.now c.requires.room c.piece_len-len.ensures.most c.piece_len-len.ensures.len c.schedule-2.ensures in
     let piece : List ℕ = c.read_front.new.room in
     let within = c.in_ok-came.ensures.read.0 in
     let same = c.read_front.auto.room in
