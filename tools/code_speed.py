@@ -1,5 +1,5 @@
 #!/usr/bin/env python3
-"""Measures how fast `encode`, `syndromes` and `solve` of rs_erase are, beside libfec and, over many words, ISA-L.
+"""Measures how fast `encode`, `syndromes`, `solve` and `solve_by` of rs_erase are, beside libfec and, over many words, ISA-L.
 
 It writes a temporary folder with copies of gf_field and rs_erase, and a program that calls them; `rt run` proves and builds
 that program, once by LLVM and once by Rattle's own compiler. The programs of the peers are built by gcc where their headers
@@ -40,6 +40,7 @@ enum Body {
     Encode,
     Syndromes,
     Solve,
+    SolveBy,
 }
 
 /// Fills the words with pseudo-random bytes.
@@ -101,6 +102,17 @@ fn are_places(places: &[u8]) -> bool
     true
 }
 
+/// The word with zeros at these places.
+fn without(word: &[u8; 255], erased: &[u8]) -> [u8; 255] {
+    let mut work = *word;
+    for place in erased {
+        if *place < 255 {
+            work[usize::from(*place)] = 0;
+        }
+    }
+    work
+}
+
 /// How many of the words don't come back with these places erased.
 fn solve_all(words: &[[u8; 255]; COUNT], erased: &[u8]) -> u64 {
     let mut wrong = 0u64;
@@ -108,13 +120,24 @@ fn solve_all(words: &[[u8; 255]; COUNT], erased: &[u8]) -> u64 {
         return COUNT as u64;
     }
     for word in words.iter() {
-        let mut work = *word;
-        for place in erased {
-            if *place < 255 {
-                work[usize::from(*place)] = 0;
-            }
-        }
+        let mut work = without(word, erased);
         if rs_erase::solve(&mut work, erased).is_err() || work != *word {
+            wrong = wrong.wrapping_add(1);
+        }
+    }
+    wrong
+}
+
+/// The same by one pattern, which is prepared for all of them.
+fn solve_by_all(words: &[[u8; 255]; COUNT], erased: &[u8]) -> u64 {
+    let mut wrong = 0u64;
+    if !are_places(erased) || erased.len() > 48 {
+        return COUNT as u64;
+    }
+    let pattern = rs_erase::Pattern::prepare(erased);
+    for word in words.iter() {
+        let mut work = without(word, erased);
+        if rs_erase::solve_by(&pattern, &mut work).is_err() || work != *word {
             wrong = wrong.wrapping_add(1);
         }
     }
@@ -137,6 +160,10 @@ fn rounds_of(words: &mut [[u8; 255]; COUNT], body: Body, length: usize, rounds: 
             Body::Solve => {
                 erased[47] = 240 + (i % 13) as u8;
                 solve_all(words, &erased)
+            }
+            Body::SolveBy => {
+                erased[47] = 240 + (i % 13) as u8;
+                solve_by_all(words, &erased)
             }
         };
         sum = sum.wrapping_mul(31).wrapping_add(one);
@@ -183,7 +210,8 @@ fn main(rt: HostRuntime) -> io::Result<()> {
         sum = mixed(sum, &word[207..]);
     }
     println!(rt; "words,0.0,{sum}")?;
-    time(&rt, &mut words, "solve 48", Body::Solve, 207, 10)
+    time(&rt, &mut words, "solve 48", Body::Solve, 207, 10)?;
+    time(&rt, &mut words, "solve by 48", Body::SolveBy, 207, 10)
 }
 """
 
@@ -336,6 +364,7 @@ ROWS = [
     ("encode, chunks of 190 bytes", "encode 190", "encode 207"),
     ("syndromes", "syndromes", "syndromes"),
     ("solve, 48 erasures", "solve 48", "solve 48"),
+    ("solve_by, 48 erasures, 64 words a pattern", "solve by 48", "solve 48"),
 ]
 
 
