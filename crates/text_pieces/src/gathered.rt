@@ -9,7 +9,7 @@ use std::alloc::Global;
 use std::marker::Model;
 
 /// The most bytes that are gathered. A longer text goes out by itself.
-const MOST_BYTES: usize = 16_384;
+const MOST_BYTES: usize = 4_096;
 
 /// Texts on their way out. All its memory is taken where it is made.
 #[derive(Drop)]
@@ -24,7 +24,7 @@ impl Model for Gathered {
 
     ghost view = { λ gathered. gathered.bytes.items };
 
-    ghost invariant = { λ gathered. (vec_len gathered.bytes ≤ 16384) × (16384 ≤ vec_capacity gathered.bytes) };
+    ghost invariant = { λ gathered. (vec_len gathered.bytes ≤ 4096) × (4096 ≤ vec_capacity gathered.bytes) };
 }
 
 impl Gathered {
@@ -62,7 +62,7 @@ impl Gathered {
 
     // Puts a text behind those that are gathered, where there is room for it.
     fn add(&mut self, text: &[u8])
-        requires { length self.old + length text.now ≤ 16384 }
+        requires { length self.old + length text.now ≤ 4096 }
         ensures { self.new ≡ self.old ++ text.now }
     {
         let Ok(()) = self.bytes.extend_from_slice(text) else {
