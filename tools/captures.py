@@ -2,6 +2,7 @@
 """Times `show`, `receive` and `convert` of long captures beside tshark, with the most memory that they hold.
 
     tools/captures.py PROGRAM [--mib N] [--less N] [--rounds N] [--room FOLDER]
+    tools/captures.py PROGRAM --before PROGRAM [--mib N] [--less N] [--turns N] [--room FOLDER]
 
 PROGRAM is crates/drmcast/out/drmcast. `serve` writes captures of about so many MiB (1,024), and of fewer (16), under `plain` and
 under `pft 2 1400`. Each packet has 4,090 bytes, and in the first of each three a block comes on top. A row has the
@@ -9,6 +10,10 @@ capture, its bytes, the best time of the rounds (of the long capture one), the r
 Debian the package `time`). What is printed goes to /dev/null. tshark reads the shorter captures, as UDP in a file. MB is 10^6 bytes,
 MiB 2^20. Then a capture under each of five carries is carried to each other and back, and is to be the first one again; status 1
 where one isn't.
+
+With --before the program before and the program now run by turns, over the same captures, tshark beside them on the shorter ones. A
+row has the rates by the least processor time of the turns (11; of tshark 3, and of the long captures one), how many times they are,
+and the memory. Status 1 where they write something else.
 """
 import os
 import pathlib
@@ -19,6 +24,7 @@ import tempfile
 import time
 
 import command_line
+import turns
 from datagrams import datagrams, pcap
 
 MIB = 1 << 20
@@ -86,6 +92,23 @@ def tshark(path, carry, folder):
         row(what, carry, os.path.getsize(path), *timed(["tshark", "-n", "-r", f"{folder}/it.pcap", *words], path, folder, 1))
 
 
+def compared(programs, folder, sizes):
+    """What two programs are to do with captures of these sizes in MiB, and tshark with the first of them."""
+    beside = shutil.which("tshark") is not None
+    printed = dict(zip(("show", "receive"), PRINTED.values()))
+    for carry in SUPER_FRAME:
+        for mib in sizes:
+            path = serve(programs[-1], folder, carry, mib * MIB)
+            usual = mib == sizes[0]
+            if beside and usual:
+                pcap(f"{folder}/it.pcap", (part for part, _, _ in datagrams(pathlib.Path(path).read_bytes())))
+            for command in COMMANDS:
+                words = printed.get(command[0]) if beside and usual else None
+                peer = ("tshark", "-n", "-r", f"{folder}/it.pcap", *words) if words else ()
+                what = f"`{' '.join(command)}` of `{carry}`"
+                yield turns.Job(what, tuple(command), path, os.path.getsize(path), peer, 0 if usual else 1)
+
+
 def convert(program, capture, carry):
     """The capture under this carry."""
     words = [program, "convert", carry.replace(" ", ":")]
@@ -115,8 +138,14 @@ def main():
     words.add_argument("--less", type=command_line.number(1, 10_000_000), default=16)
     words.add_argument("--rounds", type=command_line.number(1, 10_000_000), default=3)
     words.add_argument("--room", help="where the captures are written for the time of the run")
+    turns.options(words)
     given = words.parse_args()
     program = os.path.abspath(given.program)
+    if given.before:
+        with tempfile.TemporaryDirectory(dir=given.room) as folder:
+            programs = [given.before, program]
+            differ = turns.table(compared(programs, folder, (given.less, given.mib)), programs, folder, given.turns)
+            return differ or to_and_fro(program, folder) > 0
     beside = shutil.which("tshark") is not None
     print("| what | carry | MB | seconds | MB/s | MiB held |\n|---|---|---|---|---|---|")
     with tempfile.TemporaryDirectory(dir=given.room) as folder:
@@ -132,7 +161,7 @@ def main():
         wrong = to_and_fro(program, folder)
     if not beside:
         print("\ntshark isn't here: its rows are left out")
-    sys.exit(wrong > 0)
+    return wrong > 0
 
 
 if __name__ == "__main__":

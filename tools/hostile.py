@@ -2,6 +2,7 @@
 """Runs the built program over random and mutated captures and datagrams.
 
     tools/hostile.py PROGRAM [--captures N] [--datagrams N] [--seed N] [--mib N]
+    tools/hostile.py --costs PROGRAM [--before PROGRAM] [--turns N]
 
 PROGRAM is crates/drmcast/out/drmcast. A capture has up to 400 packets that `serve` wrote, of which some are altered: bits and bytes
 of them, fields of their heads with the check value made right again or not, their numbers, their order; or packets of random
@@ -9,6 +10,11 @@ bytes, and perhaps another end. Each is shown, received twice (from a file and f
 same) and converted twice, in so many MiB of memory at the most (4; 0 for no bound, where a sanitizer takes its own). Then as many
 datagrams of this kind as are told go to a receiver over the loopback. Each run has to end within a minute with a status that its
 output calls for. What ends otherwise is named and its capture is kept in the current folder; the status is 1 then.
+
+With --costs it measures instead what the dearest datagrams cost, in processor time beside a usual datagram of their bytes: one whose
+number is far ahead, a packet with as many items as it can have, and a fragment of chunks with one byte. What as many
+bytes of report lines cost in a usual report is told apart, and how many times the usual datagram and these lines the hostile one
+costs. With --before the program before runs by turns with it.
 """
 import os
 import random
@@ -21,6 +27,8 @@ import tempfile
 import time
 
 import command_line
+import costs
+import turns
 from datagrams import check_value, datagrams
 
 PORT = 50227
@@ -241,7 +249,11 @@ def main():
     words.add_argument("--datagrams", type=command_line.number(1, 10_000_000), default=100_000)
     words.add_argument("--seed", type=command_line.number(0, 10_000_000), default=1)
     words.add_argument("--mib", type=command_line.number(1, 10_000_000), default=4)
+    words.add_argument("--costs", action="store_true", help="measure what the dearest datagrams cost")
+    turns.options(words)
     given = words.parse_args()
+    if given.costs:
+        return costs.table(os.path.abspath(given.program), given.before, given.turns)
     program, draw, served = Program(given.program, given.mib << 20), random.Random(given.seed), []
     with tempfile.TemporaryDirectory() as folder:
         for carry in CARRIES:
@@ -252,7 +264,7 @@ def main():
                 served.append([part for part, _, _ in datagrams(capture)])
     wrong = over_captures(program, draw, served, given.captures)
     wrong += over_a_socket(program, draw, served, given.datagrams) if given.datagrams else 0
-    sys.exit(wrong > 0)
+    return wrong > 0
 
 
 if __name__ == "__main__":
