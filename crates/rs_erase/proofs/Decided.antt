@@ -11,6 +11,7 @@ use Rattle.gf_field.proofs.Times.{times-lt}
 use Rattle.gf_field.specs.Field.{power, times}
 use Rattle.rs_erase.specs.Code.{AreElements, AreSyndromes}
 use Rattle.rs_erase.specs.Equations.{AreLocators, IsNoneOf, Solves, locators_of, power_sum, remaining_syndromes, remaining_values, word_with}
+use Rattle.rs_erase.specs.FromZero.{syndromes_without}
 use Rattle.rs_erase.specs.Laws.{CodeWordOrNone}
 use Rattle.rs_erase.specs.Polynomial.{value}
 use Rattle.rs_erase.proofs.Elements.{cons_elements, elements_head, elements_tail}
@@ -97,6 +98,17 @@ solution_or_none (x ∷ xs) (a ∷ s) lo bs le =
       | inl found ↦ inl (first_found x a xs s found.0 lo bs le found.1)
       | inr none ↦ inr (λ vs h. let rest = rest_complete (x ∷ xs) vs (a ∷ s) left xs x refl refl h in none rest.0 rest.1)
     ]
+
+-- values that solve the equations, where no syndrome is left without all places
+pub solution_where_none_left : (xs s : List ℕ) → AreLocators xs → AreElements s → length xs ≤ length s
+    → All (λ a. a ≡ 0) (syndromes_without xs s) → (vs : List ℕ) × Solves xs vs s
+solution_where_none_left [] s lo bs le zeros = ([], none_found [] [] s refl refl zeros)
+solution_where_none_left (x ∷ xs) [] lo bs le zeros = absurd (omega arith)
+solution_where_none_left (x ∷ xs) (a ∷ s) lo bs le zeros =
+    let left : List ℕ = remaining_syndromes x (a ∷ s) in
+    let required = rest_required (x ∷ xs) (a ∷ s) left xs x 0 refl lo bs le refl in
+    let found = solution_where_none_left xs left required.0 required.1 required.2 zeros in
+    first_found x a xs s found.0 lo bs le found.1
 
 -- the values of a word at the 48 roots
 syndromes_of : List ℕ → List ℕ

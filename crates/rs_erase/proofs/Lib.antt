@@ -14,6 +14,8 @@ pub mod ShiftRegister
 pub mod RootSums
 pub mod FromZero
 pub mod RemovedPlaces
-pub mod PreparedRows
+pub mod OtherPlaces
 pub mod OneWord
 pub mod Decided
+pub mod FoundRows
+pub mod SymbolSums

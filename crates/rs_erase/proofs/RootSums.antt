@@ -43,12 +43,12 @@ row_is p lt =
           (each_at 24 (λ p. same (chunk (48 * (p + 24)) 48 ROOT_POWERS) (powers_at (p + 24))) last_rows (p - 24) (omega arith)))
     ]
 
-row_at : (p j : ℕ) → p < 48 → j < 48 → get_or (chunk (48 * p) 48 ROOT_POWERS) j 0 ≡ nth_power (power (j + 1)) (47 - p)
+pub row_at : (p j : ℕ) → p < 48 → j < 48 → get_or (chunk (48 * p) 48 ROOT_POWERS) j 0 ≡ nth_power (power (j + 1)) (47 - p)
 unfolding powers_at
 row_at p j lp lj =
     ap (λ (xs : List ℕ). get_or xs j 0) (row_is p lp) ∙ get_or-map-range_with_len (λ j. nth_power (power (j + 1)) (47 - p)) 0 48 j j 0 lj (omega arith)
 
-row_long : (p : ℕ) → p < 48 → length (chunk (48 * p) 48 ROOT_POWERS) ≡ 48
+pub row_long : (p : ℕ) → p < 48 → length (chunk (48 * p) 48 ROOT_POWERS) ≡ 48
 row_long p lt = length-chunk (48 * p) 48 ROOT_POWERS (let l : length ROOT_POWERS ≡ 2304 = refl in omega arith)
 
 -- ---- the sums

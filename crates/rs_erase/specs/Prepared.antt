@@ -1,37 +1,65 @@
--- Rows prepared for a pattern of erased places: what a product is divided by while the places before it are found.
-use Rattle.std.specs.Prelude.{ℕ, ◌≡◌, ◌+◌, ◌*◌, ◌<◌, ◌≤◌, suc, List, [], ◌∷◌, length, bit_xor, slice_index}
-use Rattle.gf_field.specs.Field.{times}
+-- Rows prepared for a pattern of erased places: what each symbol of a parity makes of the values there.
+use Rattle.std.specs.Prelude.{ℕ, ◌≡◌, ◌+◌, ◌-◌, ◌*◌, ◌<◌, ◌≤◌, ◌==◌, if◌then◌else◌, zero, suc, List, [], ◌∷◌, length, bit_xor, slice_index}
+use Rattle.std.specs.Simd.Lanes.{chunk}
+use Rattle.gf_field.specs.Field.{power, times}
 use Rattle.rs_erase.specs.Code.{ArePlaces}
-use Rattle.rs_erase.specs.Equations.{locators_of}
+use Rattle.rs_erase.specs.Equations.{locators_of, word_value}
+use Rattle.rs_erase.specs.FromZero.{syndromes_without}
 
--- the i-th element of the j-th row of 48
-abbrev pub entry : List ℕ → ℕ → ℕ → ℕ
-entry rows j i = slice_index rows (48 * j + i)
+-- all but the j-th
+abbrev pub without : ℕ → List ℕ → List ℕ
+without j [] = []
+without zero (x ∷ xs) = xs
+without (suc j) (x ∷ xs) = x ∷ without j xs
 
--- For the locators xs the i-th element of the j-th row is 1 divided by the product of the sums of the j-th locator and
--- the m-th, for m from i on to below j: 1 where i is j, and times the sum with the i-th it is the next one. Those behind
--- the j-th are free.
-pub record ArePrepared (xs rows : List ℕ) : Type 0 where
-  pub own : (j : ℕ) → j < length xs → entry rows j j ≡ 1
-  pub before : (j i : ℕ) → i < j → j < length xs
-      → times (entry rows j i) (bit_xor (slice_index xs j) (slice_index xs i)) ≡ entry rows j (i + 1)
+-- the product of the sums of y and each of these
+abbrev pub sums_product : ℕ → List ℕ → ℕ
+sums_product y [] = 1
+sums_product y (x ∷ xs) = times (bit_xor y x) (sums_product y xs)
 
--- each product from the j-th place on times its row's element k
-abbrev pub column : (ℕ → ℕ → ℕ) → ℕ → ℕ → List ℕ → List ℕ
-column r k j [] = []
-column r k j (p ∷ ps) = times p (r j k) ∷ column r k (suc j) ps
+-- the same of those that y isn't among
+abbrev pub others_product : ℕ → List ℕ → ℕ
+others_product y [] = 1
+others_product y (x ∷ xs) = if y == x then others_product y xs else times (bit_xor y x) (others_product y xs)
 
--- times its locator, the weight of each place is the first element of its row
-abbrev pub AreWeights : List ℕ → List ℕ → List ℕ → Type 0
-AreWeights xs rows weights =
-    (k : ℕ) → k < length xs → times (slice_index weights k) (slice_index xs k) ≡ entry rows k 0
+-- what the value at the j-th place comes to in the first syndrome once all other places are removed
+abbrev pub scale_of : List ℕ → ℕ → ℕ
+scale_of xs j = times (slice_index xs j) (sums_product (slice_index xs j) (without j xs))
 
--- what is prepared for erased places: their locators, the rows and the weights
-pub record IsPattern (count : ℕ) (es xs rows ws : List ℕ) : Type 0 where
+-- so many elements, the first one c, and each y times the one before it
+unfoldable pub geometric : ℕ → ℕ → ℕ → List ℕ
+geometric c y zero = []
+geometric c y (suc n) = c ∷ geometric (times c y) y n
+
+-- the syndromes of the word that has a 1 at the p-th place of its parity, and zeros
+abbrev pub syndromes_of_symbol : ℕ → List ℕ
+syndromes_of_symbol p = geometric (power (47 - p)) (power (47 - p)) 48
+
+-- What is found of syndromes: for each place the value that the first ones call for, and behind them what is left of the
+-- syndromes without all places.
+pub record IsFoundOf (xs s row : List ℕ) : Type 0 where
+  pub long : length row ≡ 48
+  pub values : (j : ℕ) → j < length xs
+      → times (slice_index row j) (scale_of xs j) ≡ slice_index (syndromes_without (without j xs) s) 0
+  pub left : (i : ℕ) → i < 48 - length xs → slice_index row (length xs + i) ≡ slice_index (syndromes_without xs s) i
+
+-- for each symbol of a parity what is found of its syndromes
+abbrev pub ArePrepared : List ℕ → List ℕ → Type 0
+ArePrepared xs rows = (p : ℕ) → p < 48 → IsFoundOf xs (syndromes_of_symbol p) (chunk (48 * p) 48 rows)
+
+-- what is found of the syndromes of these symbols, by rows that are prepared
+pub record IsFoundBy (rows symbols row : List ℕ) : Type 0 where
+  pub syndromes : List ℕ
+  pub long : length syndromes ≡ 48
+  pub each : (j : ℕ) → j < 48 → slice_index syndromes j ≡ word_value (power (j + 1)) symbols
+  pub found : (xs : List ℕ) → length xs ≤ 48 → ArePrepared xs rows → IsFoundOf xs syndromes row
+
+-- each weight makes 1 of what the value at its place comes to
+abbrev pub AreWeights : List ℕ → List ℕ → Type 0
+AreWeights xs weights = (j : ℕ) → j < length xs → times (slice_index weights j) (scale_of xs j) ≡ 1
+
+-- what is prepared for erased places
+pub record IsPattern (count : ℕ) (es rows : List ℕ) : Type 0 where
   pub few : count ≤ 48
-  pub each_located : length xs ≡ count
-  pub each_weighted : length ws ≡ count
   pub places : ArePlaces es
-  pub located : xs ≡ locators_of es
-  pub prepared : ArePrepared xs rows
-  pub weights : AreWeights xs rows ws
+  pub prepared : ArePrepared (locators_of es) rows

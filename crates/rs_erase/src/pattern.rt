@@ -2,11 +2,13 @@
 
 ghost use Rattle.std.specs.Prelude.{◌≡◌, ◌≤◌, ◌↔◌, length, IsTrue, IsOk, OnOk, OnErr, IsErrOf};
 ghost use Rattle.rs_erase.specs.Code.{AgreesOutside, ArePlaces, HasCodeWord, IsCodeWord, IsOnlyCodeWord};
+ghost use Rattle.rs_erase.specs.Equations.{word_with};
 
+use crate::equations::are_zero;
 use crate::fault::SolveFault;
-use crate::places::{add_values, write_locators};
-use crate::prepared::{find_unscaled, weigh, write_rows, write_weights};
-use crate::roots::values_at_roots;
+use crate::places::write_locators;
+use crate::prepared::{found_by, write_rows, write_weights};
+use crate::roots::word_remainder;
 use gf_field::Gf;
 use std::marker::Model;
 
@@ -15,11 +17,8 @@ use std::marker::Model;
 pub struct Pattern {
     count: usize,
     places: [u8; 48],
-    locators: [Gf; 48],
-    // For each place what divides its product while the places before it are found.
+    // For each symbol of a parity what it makes of the values, and behind them of what must be 0.
     rows: [u8; 2304],
-    // For each place what makes its product the value.
-    weights: [Gf; 48],
 }
 
 impl Model for Pattern {
@@ -30,7 +29,7 @@ impl Model for Pattern {
 
     ghost view = { λ p. take p.count p.places };
 
-    ghost invariant = { λ p. IsPattern p.count (take p.count p.places) (take p.count p.locators) p.rows (take p.count p.weights) };
+    ghost invariant = { λ p. IsPattern p.count (take p.count p.places) p.rows };
 }
 
 impl Pattern {
@@ -45,16 +44,14 @@ impl Pattern {
         places[..count].copy_from_slice(erased);
         let mut locators = [Gf(0); 48];
         write_locators(&mut locators[..count], erased);
-        let mut rows = [0; 2304];
-        write_rows(&mut rows, &locators[..count]);
         let mut weights = [Gf(0); 48];
-        write_weights(&mut weights[..count], &rows, &locators[..count]);
+        write_weights(&mut weights[..count], &locators[..count]);
+        let mut rows = [0; 2304];
+        write_rows(&mut rows, &locators[..count], &weights[..count]);
         Pattern {
             count,
             places,
-            locators,
             rows,
-            weights,
         }
     }
 
@@ -77,17 +74,23 @@ pub fn solve_by(pattern: &Pattern, word: &mut [u8; 255]) -> Result<(), SolveFaul
     ensures unchanged { OnErr result (word.new ≡ word.old) }
 {
     let count = pattern.count;
-    let at_roots = values_at_roots(word);
-    let mut values = [Gf(0); 48];
-    if !find_unscaled(
-        &pattern.rows,
-        &pattern.locators[..count],
-        at_roots,
-        &mut values[..count],
-    ) {
+    let symbols = word_remainder(word).to_bytes();
+    let found = found_by(&pattern.rows, &symbols).to_bytes();
+    if !are_zero(&found[count..]) {
         return Err(SolveFault::NoCodeWord);
     }
-    weigh(&mut values[..count], &pattern.weights[..count]);
-    add_values(word, &pattern.places[..count], &values[..count]);
+    add_bytes(word, &pattern.places[..count], &found[..count]);
     Ok(())
+}
+
+/// Adds each value at its place.
+fn add_bytes(word: &mut [u8], places: &[u8], values: &[u8])
+    requires long { length word.old ≡ 255 }
+    requires one_each { length values.now ≡ length places.now }
+    requires places { ArePlaces places.now }
+    ensures { word.new ≡ word_with places.now values.now word.old }
+{
+    for (i, place) in places.iter().enumerate() {
+        word[usize::from(*place)] ^= values[i];
+    }
 }

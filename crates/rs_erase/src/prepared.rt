@@ -1,123 +1,169 @@
-//! The products found by rows that were prepared for the pattern of erased places, in one pass over each row.
+//! Rows that are prepared for a pattern of erased places: for each symbol of a parity, what it makes of the values there.
+//!
+//! The values are a linear function of the syndromes, and these of a word's symbols. So what is found of a word is the sum of
+//! what is found of the symbols that remain of it, each times its row.
 
-ghost use Rattle.std.specs.Prelude.{◌≡◌, ◌<◌, ◌≤◌, ◌+◌, ◌*◌, ℕ, List, length, bit_xor, slice_index, IsTrue};
-ghost use Rattle.std.specs.List.{All};
-ghost use Rattle.gf_field.specs.Field.{times};
-ghost use Rattle.rs_erase.specs.Code.{AreElements};
-ghost use Rattle.rs_erase.specs.Equations.{AreLocators};
-ghost use Rattle.rs_erase.specs.FromZero.{syndromes_without, weighted, AreFirstSyndromes, SolvesFromZero};
-ghost use Rattle.rs_erase.specs.Prepared.{column, entry, ArePrepared, AreWeights};
+ghost use Rattle.std.specs.Prelude.{◌≡◌, ◌≢◌, ◌<◌, ◌≤◌, ◌+◌, ◌*◌, ◌^◌, ℕ, List, None, IfSome, length, bit_xor, replicate, slice_index};
+ghost use Rattle.std.specs.Simd.Lanes.{chunk, put_chunk};
+ghost use Rattle.gf_field.specs.Field.{power, times};
+ghost use Rattle.gf_field.specs.declared.logarithms.TheConstants.{LOGS};
+ghost use Rattle.rs_erase.specs.Equations.{AreLocators, IsNoneOf, nth_power};
+ghost use Rattle.rs_erase.specs.Polynomial.{scale};
+ghost use Rattle.rs_erase.specs.Prepared.{others_product, syndromes_of_symbol, ArePrepared, AreWeights, IsFoundBy, IsFoundOf};
 ghost use Rattle.rs_erase.specs.Rows.{listed};
 
-use crate::equations::{are_zero, remove_places};
 use crate::row::Row;
-use gf_field::Gf;
+use gf_field::{Gf, LOGS, logarithm_table, power_table};
 
-/// Finds the products that the first elements of their rows make those from which the syndromes come, if there are any.
-pub fn find_unscaled(
-    rows: &[u8; 2304],
-    locators: &[Gf],
-    syndromes: Row,
-    products: &mut [Gf],
-) -> bool
-    requires prepared { ArePrepared locators.now rows.now }
-    requires one_each { length products.old ≡ length locators.now }
+/// Adds up what is found of the symbols.
+pub fn found_by(rows: &[u8; 2304], symbols: &[u8; 48]) -> Row
+    ensures { IsFoundBy rows.now symbols.now (listed result) }
+{
+    let mut found = Row::zeros();
+    for p in 0..48usize {
+        found = found.plus_multiple(symbols[p], Row::from_place(rows, 48 * p));
+    }
+    found
+}
+
+/// Writes for each place what makes 1 of what its value comes to once the other places are removed.
+pub fn write_weights(weights: &mut [Gf], locators: &[Gf])
+    requires locators { AreLocators locators.now }
+    requires one_each { length weights.old ≡ length locators.now }
     requires enough { length locators.now ≤ 48 }
-    ensures found { IsTrue result
-        → SolvesFromZero locators.now (column (entry rows.now) 0 0 products.new) (listed syndromes) }
-    ensures complete { (vs : List ℕ) → SolvesFromZero locators.now vs (listed syndromes) → IsTrue result }
+    ensures { AreWeights locators.now weights.new }
 {
-    let rest = remove_places(locators, syndromes, products);
-    let bytes = rest.to_bytes();
-    if !are_zero(&bytes[..48 - locators.len()]) {
-        return false;
-    }
-    let firsts = row_of(products);
-    solve_by_rows(rows, locators, firsts, products);
-    true
-}
-
-/// The elements in a row.
-fn row_of(elements: &[Gf]) -> Row
-    requires { length elements.now ≤ 48 }
-    ensures { (k : ℕ) → k < length elements.now → slice_index (listed result) k ≡ slice_index elements.now k }
-{
-    let mut bytes = [0; 48];
-    for (k, element) in elements.iter().enumerate() {
-        bytes[k] = element.0;
-    }
-    Row::from_place(&bytes, 0)
-}
-
-/// Makes the products of the first syndromes, from the last place back to the first, where no syndrome is left.
-fn solve_by_rows(rows: &[u8; 2304], locators: &[Gf], firsts: Row, products: &mut [Gf])
-    requires prepared { ArePrepared locators.now rows.now }
-    requires one_each { length products.old ≡ length locators.now }
-    requires enough { length locators.now ≤ 48 }
-    ensures { (s : List ℕ) → length locators.now ≤ length s → AreFirstSyndromes locators.now s (listed firsts)
-        → All (λ syndrome. syndrome ≡ 0) (syndromes_without locators.now s)
-        → SolvesFromZero locators.now (column (entry rows.now) 0 0 products.new) s }
-{
-    let mut rest = firsts;
-    for i in 0..locators.len() {
-        let k = locators.len() - 1 - i;
-        let bytes = rest.to_bytes();
-        let product = bytes[k];
-        products[k] = Gf(product);
-        rest = rest.plus_multiple(product, Row::from_place(rows, 48 * k));
+    for (j, weight) in weights.iter_mut().enumerate() {
+        let locator = locators[j];
+        *weight = locator
+            .mul(product_with_others(locator, locators))
+            .inverse();
     }
 }
 
-/// Multiplies each product by its weight, which makes it the value.
-pub fn weigh(products: &mut [Gf], weights: &[Gf])
-    requires one_each { length products.old ≡ length weights.now }
-    ensures products { (rows : List ℕ) → (locators : List ℕ) → length locators ≡ length weights.now
-        → AreWeights locators rows weights.now
-        → column (entry rows) 0 0 products.old ≡ weighted locators products.new }
-    ensures elements { AreElements products.new }
-{
-    for (i, product) in products.iter_mut().enumerate() {
-        *product = product.mul(weights[i]);
-    }
-}
-
-/// Writes the row of each place, one column after another from the last back to the first.
-pub fn write_rows(rows: &mut [u8; 2304], locators: &[Gf])
-    requires distinct { AreLocators locators.now }
+/// Writes the row of each symbol.
+pub fn write_rows(rows: &mut [u8; 2304], locators: &[Gf], weights: &[Gf])
+    requires locators { AreLocators locators.now }
+    requires weights { AreWeights locators.now weights.now }
+    requires one_each { length weights.now ≡ length locators.now }
     requires enough { length locators.now ≤ 48 }
     ensures { ArePrepared locators.now rows.new }
 {
-    for n in 0..locators.len() {
-        let i = locators.len() - 1 - n;
-        write_column(rows, locators, i);
+    for p in 0..48usize {
+        let row = row_of_symbol(p, locators, weights);
+        row.write(rows, 48 * p);
     }
 }
 
-/// Writes one element of each row from the i-th on. The rows do not wait for each other.
-fn write_column(rows: &mut [u8; 2304], locators: &[Gf], i: usize)
-    requires distinct { AreLocators locators.now }
-    requires enough { length locators.now ≤ 48 }
-    requires within { i < length locators.now }
-    ensures own { entry rows.new i i ≡ 1 }
-    ensures before { (j : ℕ) → i < j → j < length locators.now
-        → times (entry rows.new j i) (bit_xor (slice_index locators.now j) (slice_index locators.now i)) ≡ entry rows.new j (i + 1) }
-    ensures behind { (j : ℕ) → (k : ℕ) → i < k → k < 48 → entry rows.new j k ≡ entry rows.old j k }
-{
-    rows[48 * i + i] = 1;
-    for j in i + 1..locators.len() {
-        let next = Gf(rows[48 * j + (i + 1)]);
-        rows[48 * j + i] = next.div(locators[j].add(locators[i])).0;
-    }
-}
-
-/// Writes the weight of each place: the first element of its row, divided by its locator.
-pub fn write_weights(weights: &mut [Gf], rows: &[u8; 2304], locators: &[Gf])
-    requires one_each { length weights.old ≡ length locators.now }
-    requires enough { length locators.now ≤ 48 }
+/// What is found of the p-th symbol of a parity.
+fn row_of_symbol(p: usize, locators: &[Gf], weights: &[Gf]) -> Row
+    requires within { p < 48 }
     requires locators { AreLocators locators.now }
-    ensures { AreWeights locators.now rows.now weights.new }
+    requires weights { AreWeights locators.now weights.now }
+    requires one_each { length weights.now ≡ length locators.now }
+    requires enough { length locators.now ≤ 48 }
+    ensures { IsFoundOf locators.now (syndromes_of_symbol p) (listed result) }
 {
-    for (k, weight) in weights.iter_mut().enumerate() {
-        *weight = Gf(rows[48 * k]).div(locators[k]);
+    let locator = Gf::power(47 - p as u32);
+    match place_among(locators, locator) {
+        // The symbol itself is erased.
+        Some(j) => row_with_one(j),
+        None => {
+            let quotients = quotients_and_powers(locator, locators, weights);
+            let factor = locator.mul(product_with_others(locator, locators));
+            Row::from_place(&quotients, 0).times(factor.0)
+        }
+    }
+}
+
+/// Which of the locators this one is.
+fn place_among(locators: &[Gf], locator: Gf) -> Option<usize>
+    ensures within { IfSome result (λ j. j < length locators.now) }
+    ensures found { IfSome result (λ j. slice_index locators.now j ≡ locator) }
+    ensures none { result ≡ None → IsNoneOf locator locators.now }
+{
+    for (j, other) in locators.iter().enumerate() {
+        if *other == locator {
+            return Some(j);
+        }
+    }
+    None
+}
+
+/// A 1 at the j-th place, and zeros.
+fn row_with_one(j: usize) -> Row
+    requires { j < 48 }
+    ensures one { slice_index (listed result) j ≡ 1 }
+    ensures others { (i : ℕ) → i ≢ j → slice_index (listed result) i ≡ 0 }
+    ensures long { length (listed result) ≡ 48 }
+{
+    let mut bytes = [0; 48];
+    bytes[j] = 1;
+    Row::from_place(&bytes, 0)
+}
+
+/// The product of the sums of this one and each of the locators that is another one.
+fn product_with_others(locator: Gf, locators: &[Gf]) -> Gf
+    requires element { locator < 2 ^ 8 }
+    requires locators { AreLocators locators.now }
+    requires enough { length locators.now ≤ 48 }
+    ensures { result ≡ others_product locator locators.now }
+{
+    logarithm_table();
+    power_table();
+    let mut sum = 0;
+    for other in locators {
+        // The logarithm of 0 counts as 0.
+        sum += u32::from(logarithm(locator.add(*other).0));
+    }
+    Gf::power(sum)
+}
+
+/// What the table of logarithms holds at this element.
+fn logarithm(element: u8) -> u8
+    ensures { result ≡ slice_index LOGS element }
+{
+    LOGS[usize::from(element)]
+}
+
+/// In front each weight divided by the sum of its locator and this one, and behind them the powers of this one.
+fn quotients_and_powers(locator: Gf, locators: &[Gf], weights: &[Gf]) -> [u8; 48]
+    requires apart { IsNoneOf locator locators.now }
+    requires one_each { length weights.now ≡ length locators.now }
+    requires enough { length locators.now ≤ 48 }
+    ensures quotients { (j : ℕ) → j < length locators.now
+        → times (slice_index result j) (bit_xor (slice_index locators.now j) locator) ≡ slice_index weights.now j }
+    ensures powers { (i : ℕ) → length locators.now + i < 48
+        → slice_index result (length locators.now + i) ≡ nth_power locator i }
+{
+    let mut bytes = [0; 48];
+    write_powers(&mut bytes, locators.len(), locator);
+    write_quotients(&mut bytes, locator, locators, weights);
+    bytes
+}
+
+/// Writes the powers of this one from a place on.
+fn write_powers(bytes: &mut [u8; 48], from: usize, locator: Gf)
+    requires { from ≤ 48 }
+    ensures { (i : ℕ) → from + i < 48 → slice_index bytes.new (from + i) ≡ nth_power locator i }
+{
+    let mut power = Gf(1);
+    for i in from..48 {
+        bytes[i] = power.0;
+        power = locator.mul(power);
+    }
+}
+
+/// Writes each weight divided by the sum of its locator and this one to the front.
+fn write_quotients(bytes: &mut [u8; 48], locator: Gf, locators: &[Gf], weights: &[Gf])
+    requires apart { IsNoneOf locator locators.now }
+    requires one_each { length weights.now ≡ length locators.now }
+    requires enough { length locators.now ≤ 48 }
+    ensures quotients { (j : ℕ) → j < length locators.now
+        → times (slice_index bytes.new j) (bit_xor (slice_index locators.now j) locator) ≡ slice_index weights.now j }
+    ensures behind { (i : ℕ) → length locators.now ≤ i → slice_index bytes.new i ≡ slice_index bytes.old i }
+{
+    for (j, other) in locators.iter().enumerate() {
+        bytes[j] = weights[j].div(other.add(locator)).0;
     }
 }

@@ -36,7 +36,7 @@ pub fn values_at_roots(word: &[u8; 255]) -> Row
 }
 
 /// What remains of the word: at the roots it has the values of the word.
-fn word_remainder(word: &[u8; 255]) -> Row
+pub fn word_remainder(word: &[u8; 255]) -> Row
     ensures { (j : ℕ) → 0 < j → j ≤ 48 → word_value (power j) (listed result) ≡ word_value (power j) word.now }
 {
     remainder_of(&word[..207]).plus(Row::from_place(word, 207))

@@ -1,65 +1,93 @@
-use Rattle.std.proofs.Common.{List, ℕ, ◌≡◌, ◌≤◌, length, take, ◌∙◌, sym, subst, ap, refl, arith, rules}
-use Rattle.std.proofs.lemmas.List.{take_at}
-use Rattle.rs_erase.specs.Code.{ArePlaces}
-use Rattle.rs_erase.specs.Equations.{locators_of}
-use Rattle.rs_erase.specs.FromZero.{weighted}
-use Rattle.rs_erase.specs.Prepared.{column, entry}
+use Rattle.std.proofs.Common.{All, List, ℕ, ◌≡◌, ◌<◌, ◌≤◌, ◌+◌, ◌-◌, drop, get_or, length, take, ◌∙◌, sym, subst, ap, refl, arith, rules}
+use Rattle.std.proofs.lemmas.List.{length-drop, length-take-le, take_all}
+use Rattle.gf_field.specs.Field.{power}
+use Rattle.rs_erase.specs.Code.{AreElements, AreSyndromes, HasCodeWord}
+use Rattle.rs_erase.specs.Equations.{Solves, locators_of, word_value}
+use Rattle.rs_erase.specs.Prepared.{ArePrepared, IsFoundOf}
 use Rattle.rs_erase.specs.Rows.{listed}
-use Rattle.rs_erase.proofs.FromZero.{bare_solves, weighted_solves}
-use Rattle.rs_erase.proofs.ErasedPlaces.{places_rise}
-use Rattle.rs_erase.proofs.PreparedRows.{length-column, take_short}
-use Rattle.rs_erase.proofs.Solutions.{IsTheCodeWord, solved, unsolved, not_found}
+use Rattle.rs_erase.proofs.Elements.{elements_of}
+use Rattle.rs_erase.proofs.ErasedPlaces.{are_locators, length-locators_of, places_rise}
+use Rattle.rs_erase.proofs.FoundRows.{found_solve, none_behind}
+use Rattle.rs_erase.proofs.Solutions.{IsTheCodeWord, solved, unsolved, not_found, value_of_elements}
+use Rattle.rs_erase.proofs.WordValues.{value-reverse}
 use Rattle.rs_erase.proofs.pattern.solve_by.Goals as goal
 
-pub returns-then-not-find_unscaled : goal.returns-then-not-find_unscaled
-returns-then-not-find_unscaled c =
-    let es = c.args.pattern.now in
-    let places : ArePlaces es = subst ArePlaces c.pattern.view_is c.pattern.invariant.places in
-    let located = c.pattern.invariant.located ∙ ap locators_of c.pattern.view_is in
-    let none =
-    unsolved es c.args.word.now (listed c.values_at_roots-at_roots.result) _ (places_rise es places) c.told-word c.fits-word
-    c.values_at_roots-at_roots.ensures located (λ vs h. not_found (c.if-not-find_unscaled.ensures.complete (weighted _ vs) (weighted_solves _ vs _ h))) in
+-- the syndromes of the word
+are_syndromes : (w symbols r s : List ℕ) → AreElements w → symbols ≡ r → length s ≡ 48
+    → ((j : ℕ) → j < 48 → get_or s j 0 ≡ word_value (power (j + 1)) symbols)
+    → ((j : ℕ) → 0 < j → j ≤ 48 → word_value (power j) r ≡ word_value (power j) w) → AreSyndromes w s
+are_syndromes w symbols r s hw e ls each same = record {
+  long = ls;
+  each = λ k lt. each k lt ∙ ap (word_value (power (k + 1))) e ∙ same (k + 1) (omega arith) (omega arith) ∙ sym (value-reverse (power (k + 1)) w hw);
+}
+
+pub returns-then-not-are_zero : goal.returns-then-not-are_zero
+returns-then-not-are_zero c =
+    let p = c.pattern.inside in
+    let es = take p.count p.places in
+    let xs = locators_of es in
+    let w = c.args.word.now in
+    let few = c.pattern.invariant.few in
+    let n : length es ≡ p.count = length-take-le p.count p.places (omega arith) in
+    let lx : length xs ≡ p.count = length-locators_of es ∙ n in
+    let s = c.found_by.ensures.syndromes in
+    let row = c.to_bytes-found.result in
+    let hw = elements_of w c.fits-word in
+    let sy = are_syndromes w c.to_bytes-symbols.result (listed c.word_remainder.result) s hw c.to_bytes-symbols.ensures.value c.found_by.ensures.long c.found_by.ensures.each c.word_remainder.ensures in
+    let found : IsFoundOf xs s row =
+    subst (IsFoundOf xs s) (sym c.to_bytes-found.ensures.value) (c.found_by.ensures.found xs (omega arith) c.pattern.invariant.prepared) in
+    let lr : length row ≡ 48 = found.long in
+    let whole_rest : take (48 - p.count) (drop p.count row) ≡ drop p.count row = take_all (48 - p.count) (drop p.count row) (omega (arith, length-drop p.count row)) in
+    let none : HasCodeWord es w → ⊥ =
+    unsolved es w s xs (places_rise es c.pattern.invariant.places) c.told-word c.fits-word sy refl
+    (λ vs h. not_found (c.if-not-are_zero.ensures.1
+    (subst (λ (zs : List ℕ). All (λ a. a ≡ 0) zs) (sym whole_rest)
+    (subst (λ (k : ℕ). All (λ a. a ≡ 0) (drop k row)) lx (none_behind xs vs s row (omega arith) found c.found_by.ensures.long h))))) in
+    let none' : HasCodeWord c.args.pattern.now w → ⊥ = subst (λ (ds : List ℕ). HasCodeWord ds w → ⊥) c.pattern.view_is none in
     record {
-      solved = (λ ok. cc, λ h. absurd (none h));
+      solved = (λ ok. cc, λ h. absurd (none' h));
       code_word = search rules;
       agrees = search rules;
       only = search rules;
-      no_code_word = (λ e. none, λ h. refl);
+      no_code_word = (λ e. none', λ h. refl);
       unchanged = search rules;
     }
 
 pub returns : goal.returns
 returns c =
     let p = c.pattern.inside in
-    let n = p.count in
-    let es = take n p.places in
-    let xs = take n p.locators in
-    let s = listed c.values_at_roots-at_roots.result in
-    let few : n ≤ 48 = c.pattern.invariant.few in
-    let short : length es ≤ 48 = let h = take_short n p.places in omega arith in
-    let lx : length xs ≡ n = c.pattern.invariant.each_located in
-    let lw : length (take n p.weights) ≡ n = c.pattern.invariant.each_weighted in
-    let ps = c.find_unscaled.new.products in
-    let vs = c.weigh.new.products in
-    let found = c.if-not-find_unscaled.ensures.found refl in
-    let lp : length ps ≡ n = sym (length-column (entry p.rows) 0 0 ps) ∙ found.one_each ∙ lx in
-    let products = take_at ps _ n lp in
-    let lv : length vs ≡ n = c.weigh.auto.products ∙ ap length products ∙ lp in
-    let bare =
-    bare_solves xs vs (column (entry p.rows) 0 0 ps) s (lv ∙ sym lx) c.weigh.ensures.elements
-    (ap (column (entry p.rows) 0 0) (sym products) ∙ c.weigh.ensures.products p.rows xs (lx ∙ sym lw) c.pattern.invariant.weights) found in
+    let es = take p.count p.places in
+    let xs = locators_of es in
+    let w = c.args.word.now in
+    let few = c.pattern.invariant.few in
+    let n : length es ≡ p.count = length-take-le p.count p.places (omega arith) in
+    let lx : length xs ≡ p.count = length-locators_of es ∙ n in
+    let s = c.found_by.ensures.syndromes in
+    let row = c.to_bytes-found.result in
+    let rise = places_rise es c.pattern.invariant.places in
+    let hw = elements_of w c.fits-word in
+    let sy = are_syndromes w c.to_bytes-symbols.result (listed c.word_remainder.result) s hw c.to_bytes-symbols.ensures.value c.found_by.ensures.long c.found_by.ensures.each c.word_remainder.ensures in
+    let found : IsFoundOf xs s row =
+    subst (IsFoundOf xs s) (sym c.to_bytes-found.ensures.value) (c.found_by.ensures.found xs (omega arith) c.pattern.invariant.prepared) in
+    let lr : length row ≡ 48 = found.long in
+    let whole_rest : take (48 - p.count) (drop p.count row) ≡ drop p.count row = take_all (48 - p.count) (drop p.count row) (omega (arith, length-drop p.count row)) in
+    let zeros : All (λ a. a ≡ 0) (drop (length xs) row) =
+    subst (λ (k : ℕ). All (λ a. a ≡ 0) (drop k row)) (sym lx)
+    (subst (λ (zs : List ℕ). All (λ a. a ≡ 0) zs) whole_rest (c.if-not-are_zero.ensures.0 refl)) in
+    let solves : Solves xs (take p.count row) s =
+    subst (λ (k : ℕ). Solves xs (take k row) s) lx
+    (found_solve xs s row (are_locators 0 es rise) (value_of_elements w s hw c.found_by.ensures.long sy.each) c.to_bytes-found.ensures.elements
+    c.found_by.ensures.long (omega arith) found zeros) in
     let inside =
-    solved es c.args.word.now s xs vs _ c.add_values.new.word
-    (places_rise es c.pattern.invariant.places) c.told-word c.fits-word short c.values_at_roots-at_roots.ensures c.pattern.invariant.located
-    (take_at vs _ n lv) bare c.add_values.ensures in
-    let whole : IsTheCodeWord c.args.pattern.now c.args.word.now c.add_values.new.word =
-    subst (λ (ds : List ℕ). IsTheCodeWord ds c.args.word.now c.add_values.new.word) c.pattern.view_is inside in
+    solved es w s xs (take p.count row) (take p.count row) c.add_bytes.new.word rise c.told-word c.fits-word (omega arith) sy refl refl solves c.add_bytes.ensures in
+    let whole : IsTheCodeWord c.args.pattern.now w c.add_bytes.new.word =
+    subst (λ (ds : List ℕ). IsTheCodeWord ds w c.add_bytes.new.word) c.pattern.view_is inside in
     record {
-      solved = (λ ok. record { word = c.add_values.new.word; code_word = whole.code_word; agrees = whole.agrees }, λ h. refl);
+      solved = (λ ok. record { word = c.add_bytes.new.word; code_word = whole.code_word; agrees = whole.agrees }, λ h. refl);
       code_word = whole.code_word;
       agrees = whole.agrees;
       only = whole.only;
       no_code_word =
-          (λ e. cc, λ h. absurd (h (record { word = c.add_values.new.word; code_word = whole.code_word; agrees = whole.agrees })));
+          (λ e. cc, λ h. absurd (h (record { word = c.add_bytes.new.word; code_word = whole.code_word; agrees = whole.agrees })));
       unchanged = search rules;
     }
