@@ -1,102 +1,143 @@
 //! Patterns of erased places, prepared for chunks before.
 
-ghost use Rattle.std.specs.Prelude.{◌≡◌, ◌<◌, ◌≤◌, ◌↔◌, [], List, Some, Option, true, length, take, slice_index_or, IfOk, IsOk, OnOk};
+ghost use Rattle.std.specs.Prelude.{◌≡◌, ◌+◌, ◌<◌, ◌≤◌, ◌↔◌, true, length, take, IfOk, IsOk, OnOk};
 ghost use Rattle.rs_erase.specs.Code.{AgreesOutside, ArePlaces, HasCodeWord, IsCodeWord};
-ghost use Rattle.dcp_collect.specs.Patterns.{AreKept, HasFragments, IsAbout, IsChunkOf, positions_at};
+ghost use Rattle.dcp_collect.specs.Erasure.{erased_positions};
+ghost use Rattle.dcp_collect.specs.Patterns.{AreKept, IsErased, IsFor, IsRight};
+ghost use Rattle.dcp_collect.specs.View.{is_marked};
 
 use crate::erased::write_erased;
-use crate::slot::no_marks;
-use dcp_pft::MOST_FRAGMENTS;
 use drm_bits::NoMemory;
-use rs_erase::{Pattern, SolveFault, solve_by};
+use rs_erase::{Pattern, SolveFault, solve, solve_by};
 use std::alloc::Global;
 use std::marker::Model;
 
 // How many are kept: enough for packets of sixteen fragments and of two sizes by turns, as where each third has a block.
-const KEPT: usize = 64;
+const KEPT: usize = 32;
 
-// The words of a packet have few patterns, and those of the next one are the same as long as the same fragments are missing. So
-// a pattern stays in its place until another one is wanted there. No answer depends on what is kept.
+// Two places may have the patterns of chunks that begin with the same fragment.
+const SETS: usize = KEPT / 2;
+
+// Of packets with more fragments none is kept.
+const MOST_MARKS: usize = 64;
+
+// A pattern, and for which chunks it is: those of packets with so many fragments, of which the same ones are marked, that
+// have so many bytes and begin with this fragment.
+#[derive(Drop)]
+pub(crate) struct Kept {
+    pub(crate) count: usize,
+    pub(crate) k: usize,
+    pub(crate) first: usize,
+    pub(crate) marks: [bool; MOST_MARKS],
+    // To prepare it costs as much as to solve a few words without it, so that waits until such a chunk comes again.
+    pub(crate) pattern: Option<Pattern>,
+}
+
+// The words of a packet have few patterns, and those of the next one are the same as long as the same fragments are missing.
+// No answer depends on what is kept.
 #[derive(Drop)]
 pub(crate) struct Patterns {
-    // The packet of which they were wanted last: its fragments, the bytes of a chunk, and the marks of the fragments.
-    count: usize,
-    k: usize,
-    marks: Vec<bool>,
-    // For each place the fragment that the chunks begin with whose pattern it has, if they are that packet's.
-    firsts: [Option<usize>; KEPT],
-    kept: Vec<Pattern>,
+    // For each set of two places whether the second was used last.
+    second: [bool; SETS],
+    kept: Vec<Kept>,
 }
 
 impl Model for Patterns {
-    ghost use Rattle.dcp_collect.specs.Patterns.{Marked, AreKept};
+    ghost use Rattle.std.specs.Prelude.{ℕ, length};
+    ghost use Rattle.dcp_collect.specs.Patterns.{AreKept};
 
-    ghost Value = { Marked };
+    // What is seen of them: how many there are.
+    ghost Value = { ℕ };
 
-    ghost view = { λ p. record { count = p.count; k = p.k; marks = p.marks.items } };
+    ghost view = { λ p. length p.kept.items };
 
-    ghost invariant = { λ p. AreKept (record { count = p.count; k = p.k; marks = p.marks.items }) p.firsts p.kept.items };
+    ghost invariant = { λ p. AreKept p.kept.items };
 }
 
 impl Patterns {
     // Patterns of no packet.
     pub(crate) fn make(alloc: Global) -> Result<Patterns, NoMemory> {
-        let marks = no_marks(alloc, MOST_FRAGMENTS as usize)?;
         let kept = no_patterns(alloc)?;
         Ok(Patterns {
-            count: 1,
-            k: 0,
-            marks,
-            firsts: [None; KEPT],
+            second: [false; SETS],
             kept,
         })
     }
 
-    // Those of this packet are wanted from now on.
-    pub(crate) fn begin(&mut self, marks: &[bool], count: usize, k: usize)
-        requires { HasFragments count k marks.now }
-        ensures { IsAbout self.new count k marks.now }
-    {
-        if self.count == count && self.k == k && have_same(&self.marks, marks, count) {
-            return;
-        }
-        copy_first(&mut self.marks, marks, count);
-        self.firsts = [None; KEPT];
-        self.count = count;
-        self.k = k;
-    }
-
     // Fills the erased places of the word of the chunk that starts at a place, as `solve` of `rs_erase` does.
-    pub(crate) fn solve(&mut self, start: usize, word: &mut [u8; 255]) -> Result<(), SolveFault>
-        requires { IsChunkOf self.old start }
-        ensures same { self.new ≡ self.old }
-        ensures solved { IsOk result ↔ HasCodeWord (positions_at self.old start) word.old }
+    pub(crate) fn solve(
+        &mut self,
+        marks: &[bool],
+        count: usize,
+        k: usize,
+        start: usize,
+        word: &mut [u8; 255],
+    ) -> Result<(), SolveFault>
+        requires { IsErased count k start marks.now }
+        ensures solved { IsOk result ↔ HasCodeWord (erased_positions count (is_marked marks.now) start k (k + 48)) word.old }
         ensures code_word { OnOk result (IsCodeWord word.new) }
-        ensures agrees { OnOk result (AgreesOutside (positions_at self.old start) word.old word.new) }
+        ensures agrees { OnOk result (AgreesOutside (erased_positions count (is_marked marks.now) start k (k + 48)) word.old word.new) }
     {
-        let place = prepare_at(
-            &mut self.kept,
-            &mut self.firsts,
-            &self.marks,
-            self.count,
-            self.k,
-            start,
-        );
-        solve_by(&self.kept[place], word)
+        if count > MOST_MARKS {
+            return solve_once(marks, count, k, start, word);
+        }
+        let first = start % count;
+        let set = first % SETS;
+        let second = is_second(&self.kept, self.second[set], set, marks, count, k, first);
+        self.second[set] = second;
+        let place = if second { set + SETS } else { set };
+        solve_at(&mut self.kept, place, marks, count, k, start, word)
     }
 }
 
-// As many patterns as are kept, each of no places.
-fn no_patterns(alloc: Global) -> Result<Vec<Pattern>, NoMemory>
-    ensures { IfOk result (λ patterns. length patterns.items ≡ 64) }
+// As many patterns as are kept, of no chunks.
+fn no_patterns(alloc: Global) -> Result<Vec<Kept>, NoMemory>
+    ensures { IfOk result (λ patterns. AreKept patterns.items) }
 {
     let mut patterns = Vec::with_capacity(alloc, KEPT)?;
     for _ in 0..KEPT {
-        if patterns.push(Pattern::prepare(&[])).is_err() {
+        let none = Kept {
+            count: 0,
+            k: 0,
+            first: 0,
+            marks: [false; MOST_MARKS],
+            pattern: None,
+        };
+        if patterns.push(none).is_err() {
             return Err(NoMemory);
         }
     }
     Ok(patterns)
+}
+
+// Which place of a set is for these chunks: the second has their pattern, or neither has it and the first was used last.
+fn is_second(
+    kept: &[Kept],
+    last: bool,
+    set: usize,
+    marks: &[bool],
+    count: usize,
+    k: usize,
+    first: usize,
+) -> bool
+    requires there { set + 16 < length kept.now }
+    requires few { count ≤ 64 }
+    requires room { count ≤ length marks.now }
+{
+    !is_for(&kept[set], marks, count, k, first)
+        && (!last || is_for(&kept[set + SETS], marks, count, k, first))
+}
+
+// Whether it is for these chunks.
+fn is_for(kept: &Kept, marks: &[bool], count: usize, k: usize, first: usize) -> bool
+    requires few { count ≤ 64 }
+    requires room { count ≤ length marks.now }
+    ensures { result ≡ true → IsFor kept.now count k first marks.now }
+{
+    kept.count == count
+        && kept.k == k
+        && kept.first == first
+        && have_same(&kept.marks, marks, count)
 }
 
 // Whether the first marks of both are the same.
@@ -108,58 +149,100 @@ fn have_same(marks: &[bool], others: &[bool], count: usize) -> bool
     marks[..count] == others[..count]
 }
 
-// Writes the first marks of others over these.
-fn copy_first(marks: &mut [bool], others: &[bool], count: usize)
-    requires room { count ≤ length marks.old }
-    requires other_room { count ≤ length others.now }
-    ensures first { take count marks.new ≡ take count others.now }
-    ensures long { length marks.new ≡ length marks.old }
-{
-    marks[..count].copy_from_slice(&others[..count]);
-}
-
-// Sees to it that the pattern of the chunk that starts at a place is kept, and answers where.
-fn prepare_at(
-    kept: &mut [Pattern],
-    firsts: &mut [Option<usize>; KEPT],
+// Solves by the pattern at a place, where it is for the chunk; else that is noted there.
+fn solve_at(
+    kept: &mut [Kept],
+    place: usize,
     marks: &[bool],
     count: usize,
     k: usize,
     start: usize,
-) -> usize
-    requires kept { AreKept (record { count = count; k = k; marks = marks.now }) firsts.old kept.old }
-    requires chunk { IsChunkOf (record { count = count; k = k; marks = marks.now }) start }
-    ensures kept { AreKept (record { count = count; k = k; marks = marks.now }) firsts.new kept.new }
-    ensures place { result < 64 }
-    ensures there { slice_index_or kept.new result []
-        ≡ positions_at (record { count = count; k = k; marks = marks.now }) start }
+    word: &mut [u8; 255],
+) -> Result<(), SolveFault>
+    requires kept { AreKept kept.old }
+    requires there { place < 32 }
+    requires few { count ≤ 64 }
+    requires erased { IsErased count k start marks.now }
+    ensures kept { AreKept kept.new }
+    ensures solved { IsOk result ↔ HasCodeWord (erased_positions count (is_marked marks.now) start k (k + 48)) word.old }
+    ensures code_word { OnOk result (IsCodeWord word.new) }
+    ensures agrees { OnOk result (AgreesOutside (erased_positions count (is_marked marks.now) start k (k + 48)) word.old word.new) }
 {
-    let first = start % count;
-    // Chunks of other sizes, unless by a multiple of four, have other places, up to sixteen fragments.
-    let place = (first + 16 * k) % KEPT;
-    if !is_first(firsts[place], first) {
-        let mut positions = [0; 255];
-        let erased = write_erased(marks, count, k, start, &mut positions);
-        prepare_for(&mut kept[place], &positions[..erased]);
-        firsts[place] = Some(first);
-    }
-    place
+    solve_kept(&mut kept[place], marks, count, k, start, word)
 }
 
-// Whether it is this fragment.
-fn is_first(kept: Option<usize>, first: usize) -> bool
-    ensures { result ≡ true → kept ≡ Some first }
+// Solves by this pattern, where it is for the chunk; else that is noted.
+fn solve_kept(
+    kept: &mut Kept,
+    marks: &[bool],
+    count: usize,
+    k: usize,
+    start: usize,
+    word: &mut [u8; 255],
+) -> Result<(), SolveFault>
+    requires right { IsRight kept.old }
+    requires few { count ≤ 64 }
+    requires erased { IsErased count k start marks.now }
+    ensures right { IsRight kept.new }
+    ensures solved { IsOk result ↔ HasCodeWord (erased_positions count (is_marked marks.now) start k (k + 48)) word.old }
+    ensures code_word { OnOk result (IsCodeWord word.new) }
+    ensures agrees { OnOk result (AgreesOutside (erased_positions count (is_marked marks.now) start k (k + 48)) word.old word.new) }
 {
-    kept == Some(first)
+    if !is_for(kept, marks, count, k, start % count) {
+        note(kept, marks, count, k, start % count);
+    } else if let Some(pattern) = &kept.pattern {
+        return solve_by(pattern, word);
+    } else {
+        kept.pattern = Some(prepare(marks, count, k, start));
+    }
+    solve_once(marks, count, k, start, word)
 }
 
-// Makes a pattern that of these places, if it isn't so.
-fn prepare_for(pattern: &mut Pattern, erased: &[u8])
-    requires places { ArePlaces erased.now }
-    requires enough { length erased.now ≤ 48 }
-    ensures { pattern.new ≡ erased.now }
+// From now on it is for these chunks, without a pattern.
+fn note(kept: &mut Kept, marks: &[bool], count: usize, k: usize, first: usize)
+    requires few { count ≤ 64 }
+    requires room { count ≤ length marks.now }
+    ensures { IsRight kept.new }
 {
-    if !pattern.is_for(erased) {
-        *pattern = Pattern::prepare(erased);
-    }
+    kept.count = count;
+    kept.k = k;
+    kept.first = first;
+    copy_first(&mut kept.marks, marks, count);
+    kept.pattern = None;
+}
+
+// Writes the first marks of others over these.
+fn copy_first(marks: &mut [bool], others: &[bool], count: usize)
+    requires room { count ≤ length marks.old }
+    requires other_room { count ≤ length others.now }
+{
+    marks[..count].copy_from_slice(&others[..count]);
+}
+
+// The pattern of the chunk that starts at a place.
+fn prepare(marks: &[bool], count: usize, k: usize, start: usize) -> Pattern
+    requires { IsErased count k start marks.now }
+    ensures { result ≡ erased_positions count (is_marked marks.now) start k (k + 48) }
+{
+    let mut positions = [0; 255];
+    let erased = write_erased(marks, count, k, start, &mut positions);
+    Pattern::prepare(&positions[..erased])
+}
+
+// Solves without a pattern.
+fn solve_once(
+    marks: &[bool],
+    count: usize,
+    k: usize,
+    start: usize,
+    word: &mut [u8; 255],
+) -> Result<(), SolveFault>
+    requires { IsErased count k start marks.now }
+    ensures solved { IsOk result ↔ HasCodeWord (erased_positions count (is_marked marks.now) start k (k + 48)) word.old }
+    ensures code_word { OnOk result (IsCodeWord word.new) }
+    ensures agrees { OnOk result (AgreesOutside (erased_positions count (is_marked marks.now) start k (k + 48)) word.old word.new) }
+{
+    let mut positions = [0; 255];
+    let erased = write_erased(marks, count, k, start, &mut positions);
+    solve(word, &positions[..erased])
 }

@@ -1,5 +1,10 @@
 use Rattle.std.proofs.Common.{◌≡◌, length}
+use Rattle.std.specs.List.{All}
+use Rattle.dcp_collect.specs.Patterns.{IsRight}
 use Rattle.dcp_collect.proofs.patterns.no_patterns.Given as goal
 
 abbrev pub invariant-loop : goal.invariant-loop
-invariant-loop l = length l.patterns.items ≡ l.counter
+invariant-loop l = record {
+  each : length l.patterns.items ≡ l.counter;
+  right : All IsRight l.patterns.items;
+}
