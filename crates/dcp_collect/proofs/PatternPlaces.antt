@@ -1,11 +1,14 @@
 -- The erased positions of chunks of one packet, and the patterns that are kept for them.
 use Rattle.std.specs.Option.{IfSome}
-use Rattle.std.proofs.Common.{subst, ℕ, zero, suc, ◌≡◌, ◌+◌, ◌*◌, ◌/◌, ◌%◌, ◌<◌, inl, inr, Bool, false, cond, List, [], ◌∷◌, ◌++◌, Option, Some, None, length, replicate, get_or, slice_set, refl, sym, ap, ap₂, ◌∙◌, arith}
+use Rattle.std.specs.Result.{OnOk}
+use Rattle.std.proofs.Common.{subst, ℕ, zero, suc, ◌≡◌, ◌+◌, ◌*◌, ◌/◌, ◌%◌, ◌<◌, ◌≤◌, Bool, false, cond, List, [], ◌∷◌, ◌++◌, Option, Some, None, Result, Ok, Err, length, take, get_or, refl, sym, ap, ap₂, ◌∙◌, arith}
 use Rattle.std.proofs.Math.Nat.{add-mul-mod_self_left, div-add-mod}
 use Rattle.std.proofs.lemmas.Bool.{cases_eq}
-use Rattle.std.proofs.lemmas.List.{get_or-take, get_or-set_same, get_or-set_other, length-set}
+use Rattle.std.proofs.lemmas.List.{ext_get_or, get_or-take, length-take-le}
 use Rattle.std.proofs.lemmas.Nat.{mod_below}
 use Rattle.dcp_collect.specs.Erasure.{erased_positions, position}
+use Rattle.rs_erase.specs.Code.{AgreesOutside, IsCodeWord, IsOnlyCodeWord}
+use Rattle.rs_erase.specs.Spaced.{HasMessage, SpacedPlaces}
 use Rattle.dcp_collect.specs.declared.patterns.Kept.{Kept}
 use Rattle.dcp_collect.specs.Patterns.{IsFor, IsRight}
 use Rattle.dcp_collect.specs.View.{is_marked}
@@ -44,13 +47,38 @@ same_positions kept count k start marks some is =
     start k (k + 48)
 
 -- a kept pattern is the one of these chunks, if it is for them
-pub right_pattern : (kept : Kept) (pattern : List ℕ) (count k start : ℕ) (marks : List Bool) → 0 < count → IsRight kept → kept.pattern ≡ Some pattern
-    → IsFor kept count k (start % count) marks → pattern ≡ erased_positions count (is_marked marks) start k (k + 48)
+pub right_pattern : (kept : Kept) (pattern : SpacedPlaces) (count k start : ℕ) (marks : List Bool) → 0 < count → IsRight kept → kept.pattern ≡ Some pattern
+    → IsFor kept count k (start % count) marks
+    → (pattern.places ≡ erased_positions count (is_marked marks) start k (k + 48)) × (pattern.distance ≡ count)
 right_pattern kept pattern count k start marks some right is for =
-    subst (λ (p : Option (List ℕ)). IfSome p (λ q. q ≡ erased_positions kept.count (is_marked kept.marks) kept.first kept.k (kept.k + 48))) is right
-    ∙ same_positions kept count k start marks some for
+    let es = erased_positions kept.count (is_marked kept.marks) kept.first kept.k (kept.k + 48) in
+    let same : pattern ≡ record { places = es; distance = kept.count } =
+    subst (λ (p : Option SpacedPlaces). IfSome p (λ q. q ≡ record { places = es; distance = kept.count })) is right in (
+      ap (λ (v : SpacedPlaces). v.places) same ∙ same_positions kept count k start marks some for,
+      ap (λ (v : SpacedPlaces). v.distance) same ∙ for.same_count,
+    )
 
 -- and where one is for these chunks, their pattern is right for it
-pub right_with : (kept : Kept) (pattern : List ℕ) (count k start : ℕ) (marks : List Bool) → 0 < count
-    → pattern ≡ erased_positions count (is_marked marks) start k (k + 48) → IsFor kept count k (start % count) marks → IsRight (record kept { pattern = Some pattern })
-right_with kept pattern count k start marks some is for = is ∙ sym (same_positions kept count k start marks some for)
+pub right_with : (kept : Kept) (pattern : Option SpacedPlaces) (count k start : ℕ) (marks : List Bool) → 0 < count
+    → IfSome pattern (λ p. p ≡ record { places = erased_positions count (is_marked marks) start k (k + 48); distance = count })
+    → IsFor kept count k (start % count) marks → IsRight (record kept { pattern = pattern })
+right_with kept None count k start marks some is for = tt
+right_with kept (Some pattern) count k start marks some is for =
+    is
+    ∙ ap₂ (λ (es : List ℕ) (d : ℕ). record { places = es; distance = d })
+    (sym (same_positions kept count k start marks some for)) (sym for.same_count)
+
+-- The word's front is that of each code word that agrees.
+pub same_front : (es old new word : List ℕ) (k : ℕ) → k ≤ 207 → length new ≡ 255 → HasMessage es old new → IsCodeWord word → AgreesOutside es old word
+    → take k new ≡ take k word
+same_front es old new word k few ln message code agrees =
+    let lw = code.long in
+    let ll = length-take-le k new (omega arith) in
+    let lr = length-take-le k word (omega arith) in
+    ext_get_or 0 (take k new) (take k word) (ll ∙ sym lr)
+    (λ q lq. get_or-take k new q 0 (omega arith) ∙ message word code agrees q (omega arith) ∙ sym (get_or-take k word q 0 (omega arith)))
+
+-- where there is one code word, the new word has its message
+pub whole_message : {E : Type 0} (result : Result (Unit {0}) E) (es old new : List ℕ) → OnOk result (IsOnlyCodeWord es old new) → OnOk result (HasMessage es old new)
+whole_message (Ok done) es old new only = λ word code agrees q lq. ap (λ (zs : List ℕ). get_or zs q 0) (sym (only word code agrees))
+whole_message (Err fault) es old new only = tt

@@ -22,12 +22,13 @@ pub record IsFor (kept : Kept) (count k first : ℕ) (marks : List Bool) : Type 
   pub same_first : kept.first ≡ first
   pub same_marks : take count kept.marks ≡ take count marks
 
--- where there is a pattern, it has the erased positions of the chunks that it is for
+-- where there is a pattern, it has the erased positions of the chunks that it is for, and a fragment's bytes are so far apart
 abbrev pub IsRight : Kept → Type 0
 IsRight kept =
-    IfSome kept.pattern (λ pattern. pattern ≡ erased_positions kept.count (is_marked kept.marks) kept.first kept.k (kept.k + 48))
+    IfSome kept.pattern (λ pattern. pattern
+    ≡ record { places = erased_positions kept.count (is_marked kept.marks) kept.first kept.k (kept.k + 48); distance = kept.count })
 
 -- patterns in their places
 pub record AreKept (kept : List Kept) : Type 0 where
-  pub each : length kept ≡ 32
+  pub each : length kept ≡ 64
   pub right : All IsRight kept

@@ -1,19 +1,20 @@
 //! Patterns of erased places, prepared for chunks before.
 
-ghost use Rattle.std.specs.Prelude.{◌≡◌, ◌+◌, ◌<◌, ◌≤◌, ◌↔◌, true, length, take, IfOk, IsOk, OnOk};
-ghost use Rattle.rs_erase.specs.Code.{AgreesOutside, ArePlaces, HasCodeWord, IsCodeWord};
+ghost use Rattle.std.specs.Prelude.{◌≡◌, ◌+◌, ◌<◌, ◌≤◌, ◌↔◌, true, length, take, IfOk, IfSome, IsOk, OnOk};
+ghost use Rattle.rs_erase.specs.Code.{HasCodeWord};
+ghost use Rattle.rs_erase.specs.Spaced.{HasMessage};
 ghost use Rattle.dcp_collect.specs.Erasure.{erased_positions};
 ghost use Rattle.dcp_collect.specs.Patterns.{AreKept, IsErased, IsFor, IsRight};
 ghost use Rattle.dcp_collect.specs.View.{is_marked};
 
 use crate::erased::write_erased;
 use drm_bits::NoMemory;
-use rs_erase::{Pattern, SolveFault, solve, solve_by};
+use rs_erase::{SolveFault, SpacedPattern, Spacing, solve, solve_spaced};
 use std::alloc::Global;
 use std::marker::Model;
 
-// How many are kept: enough for packets of sixteen fragments and of two sizes by turns, as where each third has a block.
-const KEPT: usize = 32;
+// How many are kept: enough for packets of up to 32 fragments and of two sizes by turns, as where each third has a block.
+const KEPT: usize = 64;
 
 // Two places may have the patterns of chunks that begin with the same fragment.
 const SETS: usize = KEPT / 2;
@@ -30,7 +31,7 @@ pub(crate) struct Kept {
     pub(crate) first: usize,
     pub(crate) marks: [bool; MOST_MARKS],
     // To prepare it costs as much as to solve a few words without it, so that waits until such a chunk comes again.
-    pub(crate) pattern: Option<Pattern>,
+    pub(crate) pattern: Option<SpacedPattern>,
 }
 
 // The words of a packet have few patterns, and those of the next one are the same as long as the same fragments are missing.
@@ -39,6 +40,8 @@ pub(crate) struct Kept {
 pub(crate) struct Patterns {
     // For each set of two places whether the second was used last.
     second: [bool; SETS],
+    // Of places that belong to one fragment.
+    spacing: Spacing,
     kept: Vec<Kept>,
 }
 
@@ -60,11 +63,12 @@ impl Patterns {
         let kept = no_patterns(alloc)?;
         Ok(Patterns {
             second: [false; SETS],
+            spacing: Spacing::prepare(1),
             kept,
         })
     }
 
-    // Fills the erased places of the word of the chunk that starts at a place, as `solve` of `rs_erase` does.
+    // Fills the erased bytes of the chunk that starts at a place, in its word. Those of its parity don't matter.
     pub(crate) fn solve(
         &mut self,
         marks: &[bool],
@@ -75,18 +79,37 @@ impl Patterns {
     ) -> Result<(), SolveFault>
         requires { IsErased count k start marks.now }
         ensures solved { IsOk result ↔ HasCodeWord (erased_positions count (is_marked marks.now) start k (k + 48)) word.old }
-        ensures code_word { OnOk result (IsCodeWord word.new) }
-        ensures agrees { OnOk result (AgreesOutside (erased_positions count (is_marked marks.now) start k (k + 48)) word.old word.new) }
+        ensures message { OnOk result (HasMessage (erased_positions count (is_marked marks.now) start k (k + 48)) word.old word.new) }
     {
         if count > MOST_MARKS {
             return solve_once(marks, count, k, start, word);
         }
+        space_by(&mut self.spacing, count);
         let first = start % count;
         let set = first % SETS;
         let second = is_second(&self.kept, self.second[set], set, marks, count, k, first);
         self.second[set] = second;
         let place = if second { set + SETS } else { set };
-        solve_at(&mut self.kept, place, marks, count, k, start, word)
+        solve_at(
+            &mut self.kept,
+            place,
+            &self.spacing,
+            marks,
+            count,
+            k,
+            start,
+            word,
+        )
+    }
+}
+
+// Sees to it that this is for bytes of one fragment of so many.
+fn space_by(spacing: &mut Spacing, count: usize)
+    requires { count ≤ 64 }
+    ensures { spacing.new ≡ count }
+{
+    if usize::from(spacing.distance()) != count {
+        *spacing = Spacing::prepare(count as u8);
     }
 }
 
@@ -120,7 +143,7 @@ fn is_second(
     k: usize,
     first: usize,
 ) -> bool
-    requires there { set + 16 < length kept.now }
+    requires there { set + 32 < length kept.now }
     requires few { count ≤ 64 }
     requires room { count ≤ length marks.now }
 {
@@ -153,6 +176,7 @@ fn have_same(marks: &[bool], others: &[bool], count: usize) -> bool
 fn solve_at(
     kept: &mut [Kept],
     place: usize,
+    spacing: &Spacing,
     marks: &[bool],
     count: usize,
     k: usize,
@@ -160,20 +184,21 @@ fn solve_at(
     word: &mut [u8; 255],
 ) -> Result<(), SolveFault>
     requires kept { AreKept kept.old }
-    requires there { place < 32 }
+    requires there { place < 64 }
+    requires spaced { spacing.now ≡ count }
     requires few { count ≤ 64 }
     requires erased { IsErased count k start marks.now }
     ensures kept { AreKept kept.new }
     ensures solved { IsOk result ↔ HasCodeWord (erased_positions count (is_marked marks.now) start k (k + 48)) word.old }
-    ensures code_word { OnOk result (IsCodeWord word.new) }
-    ensures agrees { OnOk result (AgreesOutside (erased_positions count (is_marked marks.now) start k (k + 48)) word.old word.new) }
+    ensures message { OnOk result (HasMessage (erased_positions count (is_marked marks.now) start k (k + 48)) word.old word.new) }
 {
-    solve_kept(&mut kept[place], marks, count, k, start, word)
+    solve_kept(&mut kept[place], spacing, marks, count, k, start, word)
 }
 
 // Solves by this pattern, where it is for the chunk; else that is noted.
 fn solve_kept(
     kept: &mut Kept,
+    spacing: &Spacing,
     marks: &[bool],
     count: usize,
     k: usize,
@@ -181,19 +206,19 @@ fn solve_kept(
     word: &mut [u8; 255],
 ) -> Result<(), SolveFault>
     requires right { IsRight kept.old }
+    requires spaced { spacing.now ≡ count }
     requires few { count ≤ 64 }
     requires erased { IsErased count k start marks.now }
     ensures right { IsRight kept.new }
     ensures solved { IsOk result ↔ HasCodeWord (erased_positions count (is_marked marks.now) start k (k + 48)) word.old }
-    ensures code_word { OnOk result (IsCodeWord word.new) }
-    ensures agrees { OnOk result (AgreesOutside (erased_positions count (is_marked marks.now) start k (k + 48)) word.old word.new) }
+    ensures message { OnOk result (HasMessage (erased_positions count (is_marked marks.now) start k (k + 48)) word.old word.new) }
 {
     if !is_for(kept, marks, count, k, start % count) {
         note(kept, marks, count, k, start % count);
     } else if let Some(pattern) = &kept.pattern {
-        return solve_by(pattern, word);
+        return solve_spaced(pattern, spacing, word);
     } else {
-        kept.pattern = Some(prepare(marks, count, k, start));
+        kept.pattern = prepare(marks, count, k, start);
     }
     solve_once(marks, count, k, start, word)
 }
@@ -219,14 +244,16 @@ fn copy_first(marks: &mut [bool], others: &[bool], count: usize)
     marks[..count].copy_from_slice(&others[..count]);
 }
 
-// The pattern of the chunk that starts at a place.
-fn prepare(marks: &[bool], count: usize, k: usize, start: usize) -> Pattern
-    requires { IsErased count k start marks.now }
-    ensures { result ≡ erased_positions count (is_marked marks.now) start k (k + 48) }
+// The pattern of the chunk that starts at a place, if its erased bytes belong to few fragments.
+fn prepare(marks: &[bool], count: usize, k: usize, start: usize) -> Option<SpacedPattern>
+    requires erased { IsErased count k start marks.now }
+    requires few { count ≤ 64 }
+    ensures { IfSome result (λ pattern. pattern
+        ≡ record { places = erased_positions count (is_marked marks.now) start k (k + 48); distance = count }) }
 {
     let mut positions = [0; 255];
     let erased = write_erased(marks, count, k, start, &mut positions);
-    Pattern::prepare(&positions[..erased])
+    SpacedPattern::prepare(&positions[..erased], count as u8)
 }
 
 // Solves without a pattern.
@@ -239,8 +266,7 @@ fn solve_once(
 ) -> Result<(), SolveFault>
     requires { IsErased count k start marks.now }
     ensures solved { IsOk result ↔ HasCodeWord (erased_positions count (is_marked marks.now) start k (k + 48)) word.old }
-    ensures code_word { OnOk result (IsCodeWord word.new) }
-    ensures agrees { OnOk result (AgreesOutside (erased_positions count (is_marked marks.now) start k (k + 48)) word.old word.new) }
+    ensures message { OnOk result (HasMessage (erased_positions count (is_marked marks.now) start k (k + 48)) word.old word.new) }
 {
     let mut positions = [0; 255];
     let erased = write_erased(marks, count, k, start, &mut positions);

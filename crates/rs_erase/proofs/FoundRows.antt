@@ -17,7 +17,7 @@ use Rattle.rs_erase.proofs.FromZero.{locator_pos, none_left, weighted_solves}
 use Rattle.rs_erase.proofs.OtherPlaces.{alone, geometric_at, geometric_without, length_left, length_others, no_sum, no_sum_among, others_of_none, scale_positive, sum_without, sums_with, zero_at, zeros_without}
 use Rattle.rs_erase.proofs.PolynomialLaws.{get_or_scale, length-scale}
 
-added_at : (f : ℕ) (a c : List ℕ) (j : ℕ) → j < length a → length c ≡ length a
+pub added_at : (f : ℕ) (a c : List ℕ) (j : ℕ) → j < length a → length c ≡ length a
     → get_or (add a (scale f c)) j 0 ≡ bit_xor (get_or a j 0) (times f (get_or c j 0))
 added_at f [] c j lt e = absurd (omega arith)
 added_at f (x ∷ a) [] j lt e = absurd (omega arith)
@@ -42,7 +42,7 @@ nothing_found xs le = record {
 }
 
 -- what is left of sums
-left_of_sum : (zs s t : List ℕ) (f i : ℕ) → length s ≡ 48 → length t ≡ 48 → i < 48 - length zs
+pub left_of_sum : (zs s t : List ℕ) (f i : ℕ) → length s ≡ 48 → length t ≡ 48 → i < 48 - length zs
     → get_or (syndromes_without zs (add s (scale f t))) i 0 ≡ bit_xor (get_or (syndromes_without zs s) i 0) (times f (get_or (syndromes_without zs t) i 0))
 left_of_sum zs s t f i ls lt li =
     let a = length_left zs s in
@@ -77,13 +77,13 @@ more_found xs s t row other new f ls lt le h g en =
 
 -- ---- a single symbol
 
-left_of_symbol : (zs : List ℕ) (y i : ℕ) → y < 256 → length zs ≤ 48 → i < 48 - length zs
+pub left_of_symbol : (zs : List ℕ) (y i : ℕ) → y < 256 → length zs ≤ 48 → i < 48 - length zs
     → get_or (syndromes_without zs (geometric y y 48)) i 0 ≡ times (times y (sums_product y zs)) (nth_power y i)
 left_of_symbol zs y i ly le lt =
     ap (λ (us : List ℕ). get_or us i 0) (geometric_without zs y y 48 ly le)
     ∙ geometric_at (times y (sums_product y zs)) y (48 - length zs) i (times-lt y (sums_product y zs)) lt
 
-first_of_symbol : (xs : List ℕ) (y j : ℕ) → y < 256 → length xs ≤ 48 → j < length xs
+pub first_of_symbol : (xs : List ℕ) (y j : ℕ) → y < 256 → length xs ≤ 48 → j < length xs
     → get_or (syndromes_without (without j xs) (geometric y y 48)) 0 0 ≡ times y (sums_product y (without j xs))
 first_of_symbol xs y j ly le lt =
     let l = length_others j xs lt in

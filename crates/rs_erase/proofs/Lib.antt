@@ -19,3 +19,5 @@ pub mod OneWord
 pub mod Decided
 pub mod FoundRows
 pub mod SymbolSums
+pub mod SpacedSums
+pub mod SpacedWords

@@ -4,17 +4,18 @@ use Rattle.std.proofs.lemmas.List.{ext_get_or}
 use lib.Lanes.{chunk}
 use Rattle.gf_field.specs.Field.{power}
 use Rattle.gf_field.proofs.Powers.{power-lt}
-use Rattle.rs_erase.specs.Equations.{nth_power}
+use Rattle.rs_erase.specs.Code.{AreElements, AreSyndromes}
+use Rattle.rs_erase.specs.Equations.{nth_power, word_value}
 use Rattle.rs_erase.specs.Polynomial.{add, scale}
 use Rattle.rs_erase.specs.Prepared.{ArePrepared, IsFoundBy, IsFoundOf, geometric, syndromes_of_symbol}
 use Rattle.rs_erase.specs.declared.root_powers.TheConstants.{ROOT_POWERS}
 use Rattle.rs_erase.proofs.FoundRows.{more_found, nothing_found}
 use Rattle.rs_erase.proofs.OtherPlaces.{geometric_at, length_geometric}
 use Rattle.rs_erase.proofs.RootSums.{HasSummed, all_summed, none_summed, one_summed, row_at, row_long}
-use Rattle.rs_erase.proofs.WordValues.{nth_power_swap}
+use Rattle.rs_erase.proofs.WordValues.{nth_power_swap, value-reverse}
 
 -- the table's rows are the syndromes of the symbols
-table_row : (p : ℕ) → p < 48 → chunk (48 * p) 48 ROOT_POWERS ≡ syndromes_of_symbol p
+pub table_row : (p : ℕ) → p < 48 → chunk (48 * p) 48 ROOT_POWERS ≡ syndromes_of_symbol p
 table_row p lp =
     let y = power (47 - p) in
     let row = chunk (48 * p) 48 ROOT_POWERS in
@@ -58,4 +59,13 @@ all_found rows symbols row ls h = record {
   long = h.summed.long;
   each = λ j lt. all_summed symbols h.syndromes ls h.summed j lt;
   found = h.found;
+}
+
+-- the syndromes of a word are those of what remains of it
+pub are_syndromes : (w symbols r s : List ℕ) → AreElements w → symbols ≡ r → length s ≡ 48
+    → ((j : ℕ) → j < 48 → get_or s j 0 ≡ word_value (power (j + 1)) symbols)
+    → ((j : ℕ) → 0 < j → j ≤ 48 → word_value (power j) r ≡ word_value (power j) w) → AreSyndromes w s
+are_syndromes w symbols r s hw e ls each same = record {
+  long = ls;
+  each = λ k lt. each k lt ∙ ap (word_value (power (k + 1))) e ∙ same (k + 1) (omega arith) (omega arith) ∙ sym (value-reverse (power (k + 1)) w hw);
 }

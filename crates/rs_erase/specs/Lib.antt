@@ -6,3 +6,4 @@ pub mod FromZero
 pub mod Register
 pub mod Rows
 pub mod Prepared
+pub mod Spaced

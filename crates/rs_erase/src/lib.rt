@@ -17,6 +17,9 @@ mod prepared;
 mod root_powers;
 mod roots;
 mod row;
+mod runs;
+mod spaced;
+mod spacing;
 
 pub use fault::SolveFault;
 pub use laws::{code_word_or_none, code_words_have_the_roots, one_code_word, one_parity};
@@ -24,3 +27,5 @@ pub use parity::encode;
 pub use pattern::{Pattern, solve_by};
 pub use places::solve;
 pub use roots::syndromes;
+pub use spaced::{SpacedPattern, solve_spaced};
+pub use spacing::Spacing;

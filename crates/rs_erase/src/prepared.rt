@@ -77,7 +77,7 @@ fn row_of_symbol(p: usize, locators: &[Gf], weights: &[Gf]) -> Row
 }
 
 /// Which of the locators this one is.
-fn place_among(locators: &[Gf], locator: Gf) -> Option<usize>
+pub fn place_among(locators: &[Gf], locator: Gf) -> Option<usize>
     ensures within { IfSome result (λ j. j < length locators.now) }
     ensures found { IfSome result (λ j. slice_index locators.now j ≡ locator) }
     ensures none { result ≡ None → IsNoneOf locator locators.now }
@@ -103,7 +103,7 @@ fn row_with_one(j: usize) -> Row
 }
 
 /// The product of the sums of this one and each of the locators that is another one.
-fn product_with_others(locator: Gf, locators: &[Gf]) -> Gf
+pub fn product_with_others(locator: Gf, locators: &[Gf]) -> Gf
     requires element { locator < 2 ^ 8 }
     requires locators { AreLocators locators.now }
     requires enough { length locators.now ≤ 48 }

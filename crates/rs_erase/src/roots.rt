@@ -43,7 +43,7 @@ pub fn word_remainder(word: &[u8; 255]) -> Row
 }
 
 /// The values at the roots of 48 symbols.
-fn values_of(symbols: &[u8; 48]) -> Row
+pub fn values_of(symbols: &[u8; 48]) -> Row
     ensures { (j : ℕ) → j < 48 → slice_index (listed result) j ≡ word_value (power (j + 1)) symbols.now }
 {
     let mut values = Row::zeros();

@@ -134,7 +134,7 @@ fn one_after_another(first: u8x16, second: u8x16, third: u8x16) -> [u8; 48]
 }
 
 /// Writes the lanes from this place on.
-fn write_lanes(bytes: &mut [u8], place: usize, lanes: u8x16)
+pub fn write_lanes(bytes: &mut [u8], place: usize, lanes: u8x16)
     requires { place + 16 ≤ length bytes.old }
     ensures { bytes.new ≡ put_chunk place bytes.old lanes }
 {

@@ -1,6 +1,7 @@
 use Rattle.std.proofs.Common.{List, ◌≡◌, ◌%◌, ◌+◌, ◌∙◌, ap, refl, subst, sym, ℕ}
 use Rattle.std.specs.Result.{OnOk}
-use Rattle.rs_erase.specs.Code.{AgreesOutside, HasCodeWord}
+use Rattle.rs_erase.specs.Code.{HasCodeWord}
+use Rattle.rs_erase.specs.Spaced.{HasMessage}
 use Rattle.dcp_collect.specs.Erasure.{erased_positions}
 use Rattle.dcp_collect.specs.Patterns.{IsRight}
 use Rattle.dcp_collect.specs.View.{is_marked}
@@ -8,21 +9,27 @@ use Rattle.dcp_collect.proofs.PatternPlaces.{right_pattern, right_with, same_pos
 use Rattle.dcp_collect.proofs.patterns.solve_kept.Goals as goal
 use Rattle.dcp_collect.proofs.patterns.solve_kept.Goals.{then-not-is_for, else-not-is_for+in_default}
 
+pub solve_spaced-requires : goal.solve_spaced-requires
+solve_spaced-requires c =
+    let here = right_pattern c.args.kept.now c.in-Some.pattern c.args.count c.args.k c.args.start c.args.marks.now c.requires.erased.some c.requires.right c.in-Some.is
+    (c.if-not-is_for.ensures refl) in
+    here.1 ∙ sym c.requires.spaced
+
 pub returns-in-Some-clause-solved : goal.returns-in-Some-clause-solved
 returns-in-Some-clause-solved c =
     let w = c.args.word.now in
     let here = right_pattern c.args.kept.now c.in-Some.pattern c.args.count c.args.k c.args.start c.args.marks.now c.requires.erased.some c.requires.right c.in-Some.is
     (c.if-not-is_for.ensures refl) in (
-      λ ok. subst (λ (es : List ℕ). HasCodeWord es w) here (c.solve_by.ensures.solved.0 ok),
-      λ has. c.solve_by.ensures.solved.1 (subst (λ (es : List ℕ). HasCodeWord es w) (sym here) has),
+      λ ok. subst (λ (es : List ℕ). HasCodeWord es w) here.0 (c.solve_spaced.ensures.solved.0 ok),
+      λ has. c.solve_spaced.ensures.solved.1 (subst (λ (es : List ℕ). HasCodeWord es w) (sym here.0) has),
     )
 
-pub returns-in-Some-clause-agrees : goal.returns-in-Some-clause-agrees
-returns-in-Some-clause-agrees c =
+pub returns-in-Some-clause-message : goal.returns-in-Some-clause-message
+returns-in-Some-clause-message c =
     let w = c.args.word.now in
     let here = right_pattern c.args.kept.now c.in-Some.pattern c.args.count c.args.k c.args.start c.args.marks.now c.requires.erased.some c.requires.right c.in-Some.is
     (c.if-not-is_for.ensures refl) in
-    subst (λ (es : List ℕ). OnOk c.solve_by.result (AgreesOutside es w c.solve_by.new.word)) here c.solve_by.ensures.agrees
+    subst (λ (es : List ℕ). OnOk c.solve_spaced.result (HasMessage es w c.solve_spaced.new.word)) here.0 c.solve_spaced.ensures.message
 
 pub returns-clause-right : goal.returns-clause-right
 returns-clause-right c =
@@ -30,5 +37,5 @@ returns-clause-right c =
       | then-not-is_for w ↦ subst IsRight (sym w.kept-is) w.note.ensures
       | else-not-is_for+in_default w ↦
           subst IsRight (sym w.kept-is)
-          (right_with c.args.kept.now w.prepare.result c.args.count c.args.k c.args.start c.args.marks.now c.requires.erased.some w.prepare.ensures (w.if-not-is_for.ensures refl))
+          (right_with c.args.kept.now w.prepare-kept.result c.args.count c.args.k c.args.start c.args.marks.now c.requires.erased.some w.prepare-kept.ensures (w.if-not-is_for.ensures refl))
     ]

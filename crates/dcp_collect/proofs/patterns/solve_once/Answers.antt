@@ -1,5 +1,8 @@
 use Rattle.std.proofs.Common.{List, arith, ap, length, subst, sym, take, ◌+◌, ◌≤◌, ℕ}
+use Rattle.std.specs.Result.{OnOk}
 use Rattle.rs_erase.specs.Code.{ArePlaces, HasCodeWord}
+use Rattle.rs_erase.specs.Spaced.{HasMessage}
+use Rattle.dcp_collect.proofs.PatternPlaces.{whole_message}
 use Rattle.dcp_collect.specs.View.{is_marked}
 use Rattle.dcp_collect.proofs.Positions.{are_places, erased_length}
 use Rattle.dcp_collect.proofs.patterns.solve_once.Goals as goal
@@ -18,3 +21,10 @@ returns-clause-solved c =
       λ ok. subst (λ (es : List ℕ). HasCodeWord es w) is (c.solve.ensures.solved.0 ok).1,
       λ has. c.solve.ensures.solved.1 (few, subst (λ (es : List ℕ). HasCodeWord es w) (sym is) has),
     )
+
+pub returns-clause-message : goal.returns-clause-message
+returns-clause-message c =
+    let w = c.args.word.now in
+    let es = take c.write_erased-erased.result c.write_erased-erased.new.positions in
+    subst (λ (ds : List ℕ). OnOk c.solve.result (HasMessage ds w c.solve.new.word)) c.write_erased-erased.ensures.erased
+    (whole_message c.solve.result es w c.solve.new.word c.solve.ensures.only)

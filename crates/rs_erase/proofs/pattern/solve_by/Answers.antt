@@ -9,17 +9,8 @@ use Rattle.rs_erase.proofs.Elements.{elements_of}
 use Rattle.rs_erase.proofs.ErasedPlaces.{are_locators, length-locators_of, places_rise}
 use Rattle.rs_erase.proofs.FoundRows.{found_solve, none_behind}
 use Rattle.rs_erase.proofs.Solutions.{IsTheCodeWord, solved, unsolved, not_found, value_of_elements}
-use Rattle.rs_erase.proofs.WordValues.{value-reverse}
+use Rattle.rs_erase.proofs.SymbolSums.{are_syndromes}
 use Rattle.rs_erase.proofs.pattern.solve_by.Goals as goal
-
--- the syndromes of the word
-are_syndromes : (w symbols r s : List ℕ) → AreElements w → symbols ≡ r → length s ≡ 48
-    → ((j : ℕ) → j < 48 → get_or s j 0 ≡ word_value (power (j + 1)) symbols)
-    → ((j : ℕ) → 0 < j → j ≤ 48 → word_value (power j) r ≡ word_value (power j) w) → AreSyndromes w s
-are_syndromes w symbols r s hw e ls each same = record {
-  long = ls;
-  each = λ k lt. each k lt ∙ ap (word_value (power (k + 1))) e ∙ same (k + 1) (omega arith) (omega arith) ∙ sym (value-reverse (power (k + 1)) w hw);
-}
 
 pub returns-then-not-are_zero : goal.returns-then-not-are_zero
 returns-then-not-are_zero c =

@@ -1,0 +1,75 @@
+//! What sums of locators come to for places at the same distance from one another.
+//!
+//! The sum of the locators of two places, divided by one of them, depends only on how far they stand apart. So for places at
+//! the same distance one row of a table has what sixteen of them need, wherever they begin.
+
+ghost use Rattle.std.specs.Prelude.{◌≡◌, ◌<◌, ◌+◌, ◌*◌, ◌-◌, ℕ, bit_xor, slice_index};
+ghost use Rattle.gf_field.specs.Field.{power, times};
+
+use gf_field::Gf;
+use std::marker::Model;
+
+/// A distance between places, prepared for all patterns in which it is that of places of the message.
+#[derive(Drop)]
+pub struct Spacing {
+    distance: u8,
+    pub(crate) table: [u8; 4096],
+}
+
+impl Model for Spacing {
+    ghost use Rattle.std.specs.Prelude.{ℕ};
+    ghost use Rattle.rs_erase.specs.Spaced.{IsSpacing};
+
+    ghost Value = { ℕ };
+
+    ghost view = { λ s. s.distance };
+
+    ghost invariant = { λ s. IsSpacing s.distance s.table };
+}
+
+impl Spacing {
+    /// Prepares for this distance.
+    pub fn prepare(distance: u8) -> Spacing
+        ensures { result ≡ distance }
+    {
+        let quotients = quotients_of_one();
+        let mut table = [0; 4096];
+        for row in 0..255usize {
+            write_row(&mut table, row, usize::from(distance), &quotients);
+        }
+        Spacing { distance, table }
+    }
+
+    /// The distance.
+    pub fn distance(&self) -> u8
+        ensures { result ≡ self.now }
+    {
+        self.distance
+    }
+}
+
+/// Place m above 0 has 1 divided by the sum of 2 to the m and 1.
+fn quotients_of_one() -> [u8; 255]
+    ensures { (m : ℕ) → 0 < m → m < 255 → times (slice_index result m) (bit_xor (power m) 1) ≡ 1 }
+{
+    let mut quotients = [0; 255];
+    for m in 1..255usize {
+        quotients[m] = Gf(1).div(Gf::power(m as u32).add(Gf(1))).0;
+    }
+    quotients
+}
+
+/// Writes a row: from its own place on each one that stands a distance before the last.
+fn write_row(table: &mut [u8; 4096], row: usize, distance: usize, quotients: &[u8; 255])
+    requires row { row < 255 }
+    requires distance { distance < 256 }
+    ensures there { (i : ℕ) → i < 16 → distance * i < row → slice_index table.new (16 * row + i)
+        ≡ slice_index quotients.now (row - distance * i) }
+    ensures before { (q : ℕ) → q < 16 * row → slice_index table.new q ≡ slice_index table.old q }
+{
+    for i in 0..16usize {
+        if distance * i < row {
+            table[16 * row + i] = quotients[row - distance * i];
+        }
+    }
+}
