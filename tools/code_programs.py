@@ -3,6 +3,15 @@
 # How words are solved by one pattern, and by none, as before there were patterns.
 BY_PATTERN = ("    let pattern = rs_erase::Pattern::prepare(erased);\n", "rs_erase::solve_by(&pattern, &mut work)")
 BY_NONE = ("", "rs_erase::solve(&mut work, erased)")
+# The same of the message alone, of places at one distance.
+BY_SPACED = (
+    """    let spacing = rs_erase::Spacing::prepare(5);
+    let Some(pattern) = rs_erase::SpacedPattern::prepare(erased, 5) else {
+        return COUNT as u64;
+    };
+""",
+    "rs_erase::solve_spaced(&pattern, &spacing, &mut work)",
+)
 
 MAIN = r"""//! How fast the code's functions are: the best of many short trials.
 #![tactic(auto)]
@@ -24,6 +33,7 @@ enum Body {
     Syndromes,
     Solve,
     SolveBy,
+    SolveSpaced,
     Check,
 }
 
@@ -127,6 +137,26 @@ PREPARE    for word in words.iter() {
     wrong
 }
 
+/// How many of the messages don't come back.
+fn solve_spaced_all(words: &[[u8; 255]; COUNT], erased: &[u8]) -> u64 {
+    let mut wrong = 0u64;
+    if !are_places(erased) || erased.len() > 48 {
+        return COUNT as u64;
+    }
+PREPARE_SPACED    for word in words.iter() {
+        let mut work = without(word, erased);
+        if SOLVE_SPACED.is_err() || !is_same_message(&work, word) {
+            wrong = wrong.wrapping_add(1);
+        }
+    }
+    wrong
+}
+
+/// Whether both words have the same message.
+fn is_same_message(one: &[u8; 255], other: &[u8; 255]) -> bool {
+    one[..207] == other[..207]
+}
+
 /// The check values of a packet, of which a byte is another each time.
 fn check_all(first: u8) -> u64 {
     let mut packet = [0u8; 4090];
@@ -168,6 +198,10 @@ fn rounds_of(words: &mut [[u8; 255]; COUNT], body: Body, length: usize, rounds: 
             Body::SolveBy => {
                 erased[47] = 240 + (i % 13) as u8;
                 solve_by_all(words, &erased)
+            }
+            Body::SolveSpaced => {
+                erased[47] = 240 + (i % 13) as u8;
+                solve_spaced_all(words, &erased)
             }
             Body::Check => check_all((i % 256) as u8),
         };
@@ -216,15 +250,16 @@ fn main(rt: HostRuntime) -> io::Result<()> {
     println!(rt; "words,0.0,{sum}")?;
     time(&rt, &mut words, "solve 48", Body::Solve, 207, 10)?;
     time(&rt, &mut words, "solve by 48", Body::SolveBy, 207, 10)?;
+    time(&rt, &mut words, "solve spaced 48", Body::SolveSpaced, 207, 10)?;
     time(&rt, &mut words, "check", Body::Check, 207, 2)
 }
 """
 
 
-def main(by):
-    """The program whose words are solved so."""
-    prepare, solve = by
-    return MAIN.replace("PREPARE", prepare).replace("SOLVE_BY", solve)
+def main(by, spaced):
+    """The program whose words are solved so, and their messages so."""
+    text = MAIN.replace("PREPARE_SPACED", spaced[0]).replace("SOLVE_SPACED", spaced[1])
+    return text.replace("PREPARE", by[0]).replace("SOLVE_BY", by[1])
 
 
 INVARIANT = """use Rattle.std.proofs.Common.{ℕ, ◌+◌, ◌<◌, get_or}

@@ -5,7 +5,9 @@ ghost use Rattle.std.specs.Prelude.{◌<◌};
 use crate::places::are_places;
 use crate::plain;
 use gf_field::{Gf, LOGS, POWERS, mul_lanes, scaled};
-use rs_erase::{Pattern, SolveFault, encode, solve, solve_by, syndromes};
+use rs_erase::{
+    Pattern, SolveFault, SpacedPattern, Spacing, encode, solve, solve_by, solve_spaced, syndromes,
+};
 use std::simd::prelude::*;
 
 /// How many words each test compares.
@@ -199,5 +201,58 @@ fn erased_places(rt: HostRuntime) {
         }
         assert!(rt; is_solved(&word, places), "word {i}");
         assert!(rt; is_solved_alike(&word, places), "word {i}");
+    }
+}
+
+/// The places of three fragments out of sixteen that are next to one another, and how many these are.
+fn lost_places(first: u8) -> ([u8; 48], usize) {
+    let mut places = [0; 48];
+    let mut count = 0;
+    for place in 0..255u8 {
+        if (u32::from(place) + 16 - u32::from(first % 16)) % 16 < 3 && count < 48 {
+            places[count] = place;
+            count += 1;
+        }
+    }
+    (places, count)
+}
+
+/// Whether the message of this word is the same by a pattern of these places at a distance of sixteen.
+fn is_message_alike(word: &[u8; 255], places: &[u8]) -> bool {
+    if !are_places(places) || places.len() > 48 {
+        return false;
+    }
+    let spacing = Spacing::prepare(16);
+    let Some(pattern) = SpacedPattern::prepare(places, 16) else {
+        return false;
+    };
+    let mut filled = *word;
+    let mut alike = *word;
+    let result = solve(&mut filled, places);
+    spacing.distance() == 16
+        && solve_spaced(&pattern, &spacing, &mut alike) == result
+        && is_same_message(&alike, &filled)
+}
+
+/// Whether both words have the same first 207 bytes.
+fn is_same_message(one: &[u8; 255], other: &[u8; 255]) -> bool {
+    one[..207] == other[..207]
+}
+
+#[test]
+fn spaced_places(rt: HostRuntime) {
+    let mut random = Random(521_288_629);
+    for i in 0..WORDS {
+        let mut word = random.code_word();
+        let (places, count) = lost_places(random.byte());
+        let places = &places[..count.min(48)];
+        for place in places {
+            word[usize::from(*place).min(254)] = random.byte();
+        }
+        // In every other word one byte more is wrong.
+        if i % 2 == 0 {
+            word[usize::from(random.byte()).min(254)] ^= 1;
+        }
+        assert!(rt; is_message_alike(&word, places), "word {i}");
     }
 }
