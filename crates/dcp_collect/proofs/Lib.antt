@@ -1,6 +1,5 @@
 pub mod Lists
 pub mod Sets
-pub mod Positions
 pub mod Received
 pub mod Chunks
 pub mod Words
@@ -24,4 +23,3 @@ pub mod SlotHeld
 pub mod Alone
 pub mod StoredWords
 pub mod Ascending
-pub mod PatternPlaces

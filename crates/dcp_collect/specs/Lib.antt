@@ -14,4 +14,3 @@ pub mod Row
 pub mod Made
 pub mod WholePackets
 pub mod Sizes
-pub mod Patterns

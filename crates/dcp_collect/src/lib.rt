@@ -5,13 +5,11 @@
 mod bytes;
 mod collector;
 mod counters;
-mod erased;
 mod form;
 mod head;
 mod item;
 mod made;
 mod number;
-mod patterns;
 mod payloads;
 mod read;
 mod sizes;

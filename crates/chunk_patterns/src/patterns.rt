@@ -1,11 +1,11 @@
-//! Patterns of erased places, prepared for chunks before.
+//! Patterns of erased places that are kept, prepared for chunks before.
 
 ghost use Rattle.std.specs.Prelude.{◌≡◌, ◌+◌, ◌<◌, ◌≤◌, ◌↔◌, true, length, take, IfOk, IfSome, IsOk, OnOk};
 ghost use Rattle.rs_erase.specs.Code.{HasCodeWord};
 ghost use Rattle.rs_erase.specs.Spaced.{HasMessage};
-ghost use Rattle.dcp_collect.specs.Erasure.{erased_positions};
-ghost use Rattle.dcp_collect.specs.Patterns.{AreKept, IsErased, IsFor, IsRight};
-ghost use Rattle.dcp_collect.specs.View.{is_marked};
+ghost use Rattle.chunk_patterns.specs.Positions.{erased_positions};
+ghost use Rattle.chunk_patterns.specs.Patterns.{AreKept, IsErased, IsFor, IsRight};
+ghost use Rattle.chunk_patterns.specs.Marks.{is_marked};
 
 use crate::erased::write_erased;
 use drm_bits::NoMemory;
@@ -34,10 +34,12 @@ pub(crate) struct Kept {
     pub(crate) pattern: Option<SpacedPattern>,
 }
 
-// The words of a packet have few patterns, and those of the next one are the same as long as the same fragments are missing.
-// No answer depends on what is kept.
+/// Patterns for the chunks of the packets that come next: a packet's chunks have few, and the next one's are the same as long as
+/// the same fragments are missing.
+///
+/// No answer depends on what is kept.
 #[derive(Drop)]
-pub(crate) struct Patterns {
+pub struct Patterns {
     // For each set of two places whether the second was used last.
     second: [bool; SETS],
     // Of places that belong to one fragment.
@@ -47,7 +49,7 @@ pub(crate) struct Patterns {
 
 impl Model for Patterns {
     ghost use Rattle.std.specs.Prelude.{ℕ, length};
-    ghost use Rattle.dcp_collect.specs.Patterns.{AreKept};
+    ghost use Rattle.chunk_patterns.specs.Patterns.{AreKept};
 
     // What is seen of them: how many there are.
     ghost Value = { ℕ };
@@ -58,8 +60,8 @@ impl Model for Patterns {
 }
 
 impl Patterns {
-    // Patterns of no packet.
-    pub(crate) fn make(alloc: Global) -> Result<Patterns, NoMemory> {
+    /// Patterns of no packet.
+    pub fn make(alloc: Global) -> Result<Patterns, NoMemory> {
         let kept = no_patterns(alloc)?;
         Ok(Patterns {
             second: [false; SETS],
@@ -68,8 +70,8 @@ impl Patterns {
         })
     }
 
-    // Fills the erased bytes of the chunk that starts at a place, in its word. Those of its parity don't matter.
-    pub(crate) fn solve(
+    /// Fills the erased bytes of the chunk that starts at a place, in its word. Those of its parity don't matter.
+    pub fn solve(
         &mut self,
         marks: &[bool],
         count: usize,

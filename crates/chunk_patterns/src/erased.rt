@@ -1,11 +1,14 @@
 //! Which bytes of a chunk are erased.
 
 ghost use Rattle.std.specs.Prelude.{ℕ, ◌≡◌, ◌+◌, ◌%◌, ◌<◌, ◌≤◌, length, take};
-ghost use Rattle.dcp_collect.specs.Erasure.{position, erased_positions};
-ghost use Rattle.dcp_collect.specs.View.{is_marked};
-ghost use Rattle.dcp_collect.specs.Counters.{HasMarks, IsByteOf};
+ghost use Rattle.chunk_patterns.specs.Positions.{position, erased_positions};
+ghost use Rattle.chunk_patterns.specs.Marks.{is_marked};
+ghost use Rattle.chunk_patterns.specs.Marks.{HasMarks, IsByteOf};
 
-use crate::sizes::{CHUNK_BYTES, PARITY_BYTES};
+// The most bytes of a chunk, and the bytes of parity behind it.
+const CHUNK_BYTES: usize = 207;
+
+const PARITY_BYTES: usize = 48;
 
 // Writes the positions in the word of a chunk of its erased bytes to the front, and answers how many there are.
 pub(crate) fn write_erased(

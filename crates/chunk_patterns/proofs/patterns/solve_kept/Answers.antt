@@ -2,12 +2,12 @@ use Rattle.std.proofs.Common.{List, ◌≡◌, ◌%◌, ◌+◌, ◌∙◌, ap, 
 use Rattle.std.specs.Result.{OnOk}
 use Rattle.rs_erase.specs.Code.{HasCodeWord}
 use Rattle.rs_erase.specs.Spaced.{HasMessage}
-use Rattle.dcp_collect.specs.Erasure.{erased_positions}
-use Rattle.dcp_collect.specs.Patterns.{IsRight}
-use Rattle.dcp_collect.specs.View.{is_marked}
-use Rattle.dcp_collect.proofs.PatternPlaces.{right_pattern, right_with, same_positions}
-use Rattle.dcp_collect.proofs.patterns.solve_kept.Goals as goal
-use Rattle.dcp_collect.proofs.patterns.solve_kept.Goals.{then-not-is_for, else-not-is_for+in_default}
+use Rattle.chunk_patterns.specs.Positions.{erased_positions}
+use Rattle.chunk_patterns.specs.Patterns.{IsRight}
+use Rattle.chunk_patterns.specs.Marks.{is_marked}
+use Rattle.chunk_patterns.proofs.PatternPlaces.{right_pattern, right_with, same_positions}
+use Rattle.chunk_patterns.proofs.patterns.solve_kept.Goals as goal
+use Rattle.chunk_patterns.proofs.patterns.solve_kept.Goals.{then-not-is_for, else-not-is_for+in_default}
 
 pub solve_spaced-requires : goal.solve_spaced-requires
 solve_spaced-requires c =

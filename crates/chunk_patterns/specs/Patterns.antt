@@ -2,16 +2,16 @@
 use Rattle.std.specs.Prelude.{ℕ, ◌≡◌, ◌+◌, ◌%◌, ◌<◌, ◌≤◌, Bool, List, IfSome, length, take}
 use Rattle.std.specs.List.{All}
 use Rattle.dcp_pft.specs.Loss.{erased}
-use Rattle.dcp_collect.specs.declared.patterns.Kept.{Kept}
-use Rattle.dcp_collect.specs.Erasure.{erased_positions}
-use Rattle.dcp_collect.specs.Sizes.{most_bytes}
-use Rattle.dcp_collect.specs.View.{is_marked}
+use Rattle.chunk_patterns.specs.declared.patterns.Kept.{Kept}
+use Rattle.chunk_patterns.specs.Positions.{erased_positions}
+use Rattle.dcp_pft.specs.Limits.{most_carried}
+use Rattle.chunk_patterns.specs.Marks.{is_marked}
 
 -- the chunk that starts at a place, of which enough has come, with the marks of its packet's fragments
 pub record IsErased (count k start : ℕ) (marks : List Bool) : Type 0 where
   pub some : 0 < count
   pub few : k ≤ 207
-  pub within : start ≤ most_bytes
+  pub within : start ≤ most_carried
   pub room : count ≤ length marks
   pub enough : erased count (is_marked marks) start (k + 48) ≤ 48
 
