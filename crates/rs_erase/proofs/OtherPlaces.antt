@@ -1,5 +1,5 @@
 -- All places but one removed from the syndromes, which leaves its value times a scale.
-use Rattle.std.proofs.Common.{◌≡◌, ◌≢◌, ℕ, ◌+◌, ◌-◌, ◌<◌, ◌≤◌, ◌==◌, if◌then◌else◌, Bool, true, false, zero, suc, List, [], ◌∷◌, length, get_or, drop, replicate, inl, inr, refl, sym, ap, ap₂, ◌∙◌, subst, arith, bit_xor}
+use Rattle.std.proofs.Common.{◌≡◌, ◌≢◌, ℕ, ◌+◌, ◌-◌, ◌<◌, ◌≤◌, ◌==◌, if◌then◌else◌, Bool, true, false, zero, suc, List, [], ◌∷◌, length, get_or, drop, replicate, inl, inr, refl, sym, ap, ap₂, ◌∙◌, arith, bit_xor}
 use Rattle.std.specs.Int.Bits.{xor_assoc, xor_self, xor_zero_r}
 use Rattle.std.proofs.lemmas.Bool.{cases_eq, eq-eqb, ne_eqb}
 use Rattle.std.proofs.lemmas.List.{drop_all}
@@ -10,7 +10,7 @@ use Rattle.gf_field.proofs.Polynomial.{same_from_xor, xor_four}
 use Rattle.gf_field.proofs.Powers.{power-lt, power_add}
 use Rattle.gf_field.specs.Laws.{AreLogarithms, ArePowers}
 use Rattle.gf_field.specs.declared.logarithms.TheConstants.{LOGS, POWERS}
-use Rattle.gf_field.proofs.Times.{one_times, times-lt, times_assoc, times_comm, times_one, times_xor, times_zero, xor_times, zero_times}
+use Rattle.gf_field.proofs.Times.{one_times, times-lt, times_assoc, times_comm, times_one, times_xor, times_zero, zero_times}
 use Rattle.rs_erase.specs.Equations.{AreLocators, IsNoneOf, Solves, SumsFrom, nth_power, power_sum, remaining_syndromes, remaining_values}
 use Rattle.rs_erase.specs.FromZero.{syndromes_without}
 use Rattle.rs_erase.specs.Polynomial.{add, scale}

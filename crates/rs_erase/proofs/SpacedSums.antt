@@ -170,6 +170,15 @@ unchanged_front (e ∷ es) (v ∷ vs) w q lq h =
     unchanged_front es vs (slice_set w e (bit_xor (get_or w e 0) v)) q lq (λ j lt. h (suc j) (omega arith))
     ∙ get_or-set_other w e q (bit_xor (get_or w e 0) v) 0 ne
 
+pub unchanged_back : (es vs w : List ℕ) (q : ℕ) → 207 ≤ q → ((j : ℕ) → j < length es → get_or es j 0 < 207) → get_or (word_with es vs w) q 0 ≡ get_or w q 0
+unchanged_back [] vs w q lq h = refl
+unchanged_back (e ∷ es) [] w q lq h = refl
+unchanged_back (e ∷ es) (v ∷ vs) w q lq h =
+    let first = h 0 (omega arith) in
+    let ne : q ≢ e = omega arith in
+    unchanged_back es vs (slice_set w e (bit_xor (get_or w e 0) v)) q lq (λ j lt. h (suc j) (omega arith))
+    ∙ get_or-set_other w e q (bit_xor (get_or w e 0) v) 0 ne
+
 -- the places behind the message don't change it
 pub same_message : (m : ℕ) (es vs w : List ℕ) (q : ℕ) → q < 207 → length vs ≡ length es → ((j : ℕ) → m ≤ j → j < length es → 207 ≤ get_or es j 0)
     → get_or (word_with (take m es) (take m vs) w) q 0 ≡ get_or (word_with es vs w) q 0

@@ -1,5 +1,5 @@
 -- Words with the values at spaced places.
-use Rattle.std.proofs.Common.{All, ◌≡◌, ℕ, zero, suc, [], ◌∷◌, ◌+◌, ◌-◌, ◌*◌, ◌/◌, ◌%◌, ◌<◌, ◌≤◌, List, length, get_or, take, refl, sym, ap, ◌∙◌, subst, arith, bit_xor}
+use Rattle.std.proofs.Common.{All, ◌≡◌, ℕ, zero, suc, [], ◌∷◌, ◌+◌, ◌-◌, ◌*◌, ◌/◌, ◌%◌, ◌<◌, ◌≤◌, List, length, get_or, take, refl, sym, ap, ◌∙◌, subst, arith}
 use Rattle.std.proofs.Math.Nat.{div-add-mod}
 use Rattle.std.proofs.lemmas.Grind.{get_or_default_zero}
 use Rattle.std.proofs.lemmas.List.{get_or-take, length-take-le, take-take}
@@ -7,17 +7,17 @@ use Rattle.std.proofs.lemmas.Nat.{mod_below, xor_of_8}
 use Rattle.gf_field.specs.Field.{power, times}
 use Rattle.gf_field.proofs.Times.{times-lt}
 use Rattle.rs_erase.specs.Code.{AgreesOutside, AreElements, ArePlaces, AreSyndromes, HasCodeWord, IsCodeWord}
-use Rattle.rs_erase.specs.Equations.{Solves, locators_of, word_value, word_with}
+use Rattle.rs_erase.specs.Equations.{locators_of, word_value, word_with}
 use Rattle.rs_erase.specs.FromZero.{syndromes_without, weighted}
 use Rattle.rs_erase.specs.Prepared.{scale_of, sums_product, without}
-use Rattle.rs_erase.specs.Spaced.{AreFactors, AreInMessage, AreLanes, HasMessage, IsSpaced, IsSpacing, spaced_sum}
+use Rattle.rs_erase.specs.Spaced.{AreFactors, AreInMessage, AreLanes, HasMessage, IsSpacing, spaced_sum}
 use Rattle.rs_erase.proofs.Decided.{solution_where_none_left}
 use Rattle.rs_erase.proofs.ErasedPlaces.{are_locators, differences, length-differences, length-locators_of, places_rise, word_with_agrees, word_with_differences}
 use Rattle.rs_erase.proofs.FromZero.{locator_pos, none_left, weighted_solves}
 use Rattle.rs_erase.proofs.OtherPlaces.{alone, length_left, scale_positive}
 use Rattle.rs_erase.proofs.RootSums.{all_summed}
 use Rattle.rs_erase.proofs.Solutions.{code_word_is_solution, solution_is_code_word, value_of_elements}
-use Rattle.rs_erase.proofs.SpacedSums.{lane_sum, left_sum, length_to, same_message, summed_to, syndromes_to, weighted_sum}
+use Rattle.rs_erase.proofs.SpacedSums.{lane_sum, left_sum, length_to, same_message, summed_to, syndromes_to, unchanged_back, weighted_sum}
 
 located_at : (es : List ℕ) (j : ℕ) → j < length es → get_or (locators_of es) j 0 ≡ power (254 - get_or es j 0)
 located_at [] j lt = absurd (omega arith)
@@ -97,8 +97,8 @@ code_word_found es w r s factors are few lw hw sy hf hs lr ls zeros =
 lane_parts : (lane : ℕ) → 16 * (lane / 16) + lane % 16 ≡ lane
 lane_parts lane = let h = div-add-mod lane 16 in omega arith
 
--- The message is that of each code word that agrees.
-pub message_found : (es w r s factors weights starts lanes sums table new : List ℕ) (distance message used : ℕ)
+-- If a code word agrees, its differences are added at the places of the message.
+pub word_found : (es w r s factors weights starts lanes sums table new : List ℕ) (distance message used : ℕ)
     → length es ≤ 48 → ArePlaces es → AreInMessage es message → length w ≡ 255 → AreElements w → AreSyndromes w (syndromes_to r 48)
     → AreFactors (locators_of es) factors → AreMultiplied factors r s → length r ≡ 48
     → ((j : ℕ) → j < length es → times (get_or weights j 0) (scale_of (locators_of es) j) ≡ 1)
@@ -108,8 +108,8 @@ pub message_found : (es w r s factors weights starts lanes sums table new : List
     → ((vs : List ℕ) → length vs ≡ length (take message es)
     → ((j : ℕ) → j < length (take message es) → get_or vs j 0 ≡ times (get_or weights j 0) (get_or sums (get_or lanes j 0) 0))
     → new ≡ word_with (take message es) vs w)
-    → HasMessage es w new
-message_found es w r s factors weights starts lanes sums table new distance message used few are inside lw hw sy hf hs lr weighs have spacing each made = λ c code agrees q lq.
+    → (c : List ℕ) → IsCodeWord c → AgreesOutside es w c → new ≡ word_with (take message es) (take message (differences es w c)) w
+word_found es w r s factors weights starts lanes sums table new distance message used few are inside lw hw sy hf hs lr weighs have spacing each made = λ c code agrees.
     let xs = locators_of es in
     let lx = length-locators_of es in
     let t = syndromes_to r 48 in
@@ -147,6 +147,24 @@ message_found es w r s factors weights starts lanes sums table new distance mess
     (scale_positive xs j lo (omega arith) (locator_pos xs lo j (omega arith)))
     (times-lt (get_or xs j 0) (sums_product (get_or xs j 0) (without j xs)))
     (weighs j (omega arith)) (alone xs ds t j solves (omega arith) (omega arith)) sum in
-    ap (λ (us : List ℕ). get_or us q 0) (made (take message ds) (lv ∙ sym lp) value)
-    ∙ same_message message es ds w q lq ld inside.behind
-    ∙ ap (λ (us : List ℕ). get_or us q 0) (word_with_differences es w c 0 rise lw agrees)
+    made (take message ds) (lv ∙ sym lp) value
+
+-- So its message is the word's,
+pub message_found : (es w new : List ℕ) (message : ℕ) → ArePlaces es → AreInMessage es message → length w ≡ 255
+    → ((c : List ℕ) → IsCodeWord c → AgreesOutside es w c → new ≡ word_with (take message es) (take message (differences es w c)) w) → HasMessage es w new
+message_found es w new message are inside lw made = λ c code agrees q lq.
+    let ds = differences es w c in
+    ap (λ (us : List ℕ). get_or us q 0) (made c code agrees)
+    ∙ same_message message es ds w q lq (length-differences es w c) inside.behind
+    ∙ ap (λ (us : List ℕ). get_or us q 0) (word_with_differences es w c 0 (places_rise es are) lw agrees)
+
+-- and the parity is as it was.
+pub parity_kept : (es w new : List ℕ) (message : ℕ) → AreInMessage es message → HasCodeWord es w
+    → ((c : List ℕ) → IsCodeWord c → AgreesOutside es w c → new ≡ word_with (take message es) (take message (differences es w c)) w)
+    → (q : ℕ) → 207 ≤ q → get_or new q 0 ≡ get_or w q 0
+parity_kept es w new message inside has made q le =
+    let few = inside.few in
+    let l = length-take-le message es few in
+    ap (λ (us : List ℕ). get_or us q 0) (made has.word has.code_word has.agrees)
+    ∙ unchanged_back (take message es) (take message (differences es w has.word)) w q le
+    (λ j lj. subst (λ (e : ℕ). e < 207) (sym (get_or-take message es j 0 (omega arith))) (inside.before j (omega arith)))

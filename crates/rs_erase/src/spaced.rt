@@ -124,7 +124,7 @@ fn product_of_sums(locator: Gf, locators: &[Gf]) -> Gf
 }
 
 /// Fills those of the erased places that are in the message, if there is a code word that agrees with the word at all
-/// others. What stood at the erased places does not matter.
+/// others. What stood at the erased places does not matter, and the parity stays as it is.
 pub fn solve_spaced(
     pattern: &SpacedPattern,
     spacing: &Spacing,
@@ -133,6 +133,7 @@ pub fn solve_spaced(
     requires { pattern.now.distance ≡ spacing.now }
     ensures solved { IsOk result ↔ HasCodeWord pattern.now.places word.old }
     ensures message { OnOk result (HasMessage pattern.now.places word.old word.new) }
+    ensures parity { OnOk result ((q : ℕ) → 207 ≤ q → slice_index word.new q ≡ slice_index word.old q) }
 
     ensures no_code_word { IsErrOf result SolveFault.NoCodeWord ↔ ¬ (HasCodeWord pattern.now.places word.old) }
     ensures unchanged { OnErr result (word.new ≡ word.old) }

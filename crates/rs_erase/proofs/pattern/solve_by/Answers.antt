@@ -1,9 +1,8 @@
-use Rattle.std.proofs.Common.{All, List, ℕ, ◌≡◌, ◌<◌, ◌≤◌, ◌+◌, ◌-◌, drop, get_or, length, take, ◌∙◌, sym, subst, ap, refl, arith, rules}
+use Rattle.std.proofs.Common.{All, List, ℕ, ◌≡◌, ◌-◌, drop, length, take, ◌∙◌, sym, subst, refl, arith, rules}
 use Rattle.std.proofs.lemmas.List.{length-drop, length-take-le, take_all}
-use Rattle.gf_field.specs.Field.{power}
-use Rattle.rs_erase.specs.Code.{AreElements, AreSyndromes, HasCodeWord}
-use Rattle.rs_erase.specs.Equations.{Solves, locators_of, word_value}
-use Rattle.rs_erase.specs.Prepared.{ArePrepared, IsFoundOf}
+use Rattle.rs_erase.specs.Code.{HasCodeWord}
+use Rattle.rs_erase.specs.Equations.{Solves, locators_of}
+use Rattle.rs_erase.specs.Prepared.{IsFoundOf}
 use Rattle.rs_erase.specs.Rows.{listed}
 use Rattle.rs_erase.proofs.Elements.{elements_of}
 use Rattle.rs_erase.proofs.ErasedPlaces.{are_locators, length-locators_of, places_rise}

@@ -1,8 +1,6 @@
 use Rattle.std.proofs.Common.{◌≡◌, ◌∙◌, ap, arith, get_or, bit_xor, length, ◌<◌}
 use Rattle.std.proofs.lemmas.Grind.{get_or_default_zero}
-use Rattle.gf_field.specs.Field.{power, times}
 use Rattle.gf_field.specs.declared.logarithms.TheConstants.{LOGS}
-use Rattle.gf_field.proofs.Times.{one_times}
 use Rattle.rs_erase.specs.Prepared.{others_product}
 use Rattle.rs_erase.proofs.OtherPlaces.{all_factors, locator-lt, next_factor, no_factor}
 use Rattle.rs_erase.proofs.prepared.product_with_others.Goals as goal

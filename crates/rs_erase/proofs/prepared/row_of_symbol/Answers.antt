@@ -1,5 +1,4 @@
-use Rattle.std.proofs.Common.{ℕ, ◌≡◌, ◌∙◌, ◌+◌, ◌-◌, ◌<◌, List, ap, arith, get_or, length, rules, subst, sym, take}
-use Rattle.std.proofs.lemmas.Grind.{get_or_default_zero}
+use Rattle.std.proofs.Common.{ℕ, ◌≡◌, ◌∙◌, ◌-◌, ◌<◌, ap, arith, get_or, length, rules, subst, sym}
 use Rattle.std.proofs.lemmas.List.{take_all}
 use Rattle.gf_field.specs.Field.{power, times}
 use Rattle.gf_field.proofs.Powers.{power-lt}

@@ -1,4 +1,4 @@
-use Rattle.std.proofs.Common.{◌≡◌, ◌≢◌, ◌∙◌, ap, arith, get_or, get_or-set_other, get_or-set_same, length, List, refl, replicate, slice_set, ℕ}
+use Rattle.std.proofs.Common.{◌≡◌, ◌∙◌, ap, arith, get_or, get_or-set_other, get_or-set_same, length, List, refl, replicate, slice_set, ℕ}
 use Rattle.std.proofs.lemmas.List.{length-set, take_all}
 use Rattle.rs_erase.specs.Rows.{listed}
 use Rattle.rs_erase.proofs.OtherPlaces.{zero_at}

@@ -1,4 +1,4 @@
-use Rattle.std.proofs.Common.{◌≡◌, ◌∙◌, ◌<◌, ap, arith, bit_xor, get_or, length, sym}
+use Rattle.std.proofs.Common.{◌≡◌, ◌∙◌, ◌<◌, ap, bit_xor, get_or, length, sym}
 use Rattle.std.proofs.lemmas.Grind.{get_or_default_zero}
 use Rattle.rs_erase.proofs.EquationLoops.{apart_at}
 use Rattle.rs_erase.proofs.prepared.write_quotients.Goals as goal

@@ -1,4 +1,4 @@
-use Rattle.std.proofs.Common.{ℕ, ◌*◌, ◌+◌, ◌≡◌, ◌∙◌, ◌<◌, List, arith, below_more, subst, sym}
+use Rattle.std.proofs.Common.{ℕ, ◌*◌, List, arith, below_more, subst, sym}
 use Rattle.std.specs.Simd.Lanes.{chunk}
 use Rattle.rs_erase.specs.Prepared.{IsFoundOf, syndromes_of_symbol}
 use Rattle.rs_erase.proofs.LaneRows.{chunk_before}

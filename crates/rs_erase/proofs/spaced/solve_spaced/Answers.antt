@@ -1,4 +1,4 @@
-use Rattle.std.proofs.Common.{List, ℕ, ◌≡◌, ◌-◌, ◌<◌, ◌≤◌, ◌∙◌, ap, arith, get_or, length, refl, rules, subst, sym, take}
+use Rattle.std.proofs.Common.{List, ℕ, ◌≡◌, ◌<◌, ◌∙◌, ap, arith, length, refl, rules, subst, sym, take}
 use Rattle.std.proofs.lemmas.List.{get_or-take, take-take}
 use Rattle.gf_field.specs.Field.{times}
 use Rattle.rs_erase.specs.Code.{AreSyndromes, HasCodeWord}
@@ -11,7 +11,7 @@ use Rattle.rs_erase.proofs.ErasedPlaces.{length-locators_of}
 use Rattle.rs_erase.proofs.RootSums.{all_summed}
 use Rattle.rs_erase.proofs.Solutions.{not_found}
 use Rattle.rs_erase.proofs.SpacedSums.{length_to, summed_to, syndromes_to}
-use Rattle.rs_erase.proofs.SpacedWords.{code_word_found, first_places, message_found, nothing_left}
+use Rattle.rs_erase.proofs.SpacedWords.{code_word_found, first_places, message_found, nothing_left, parity_kept, word_found}
 use Rattle.rs_erase.proofs.SymbolSums.{are_syndromes}
 use Rattle.rs_erase.proofs.spaced.solve_spaced.Goals as goal
 
@@ -57,6 +57,7 @@ returns-then-not-leaves_nothing c =
     record {
       solved = (λ ok. cc, λ h. absurd (none' h));
       message = search rules;
+      parity = search rules;
       no_code_word = (λ e. none', λ h. refl);
       unchanged = search rules;
     }
@@ -85,8 +86,7 @@ returns c =
     let has' : HasCodeWord c.args.pattern.now.places w = subst (λ (ds : List ℕ). HasCodeWord ds w) seen has in
     let same : take p.message es ≡ take p.message p.places = take-take p.message p.count p.places (omega arith) in
     let distance : c.spacing.inside.distance ≡ p.distance = c.spacing.view_is ∙ sym (ap (λ (v : SpacedPlaces). v.distance) c.pattern.view_is ∙ c.requires) in
-    let message : HasMessage es w c.add_found.new.word =
-    message_found es w r s p.factors p.weights p.starts p.lanes c.sums_of_runs-sums.result c.spacing.inside.table c.add_found.new.word p.distance p.message p.used
+    let made = word_found es w r s p.factors p.weights p.starts p.lanes c.sums_of_runs-sums.result c.spacing.inside.table c.add_found.new.word p.distance p.message p.used
     (omega arith) c.pattern.invariant.are_places c.pattern.invariant.in_message c.told-word hw sy c.pattern.invariant.have_factors c.multiplied-symbols.ensures lr
     (λ j lt. ap (λ (z : ℕ). times z (scale_of (locators_of es) j)) (sym (get_or-take p.count p.weights j 0 (omega arith))) ∙ c.pattern.invariant.have_weights j (omega (arith, lt, length-locators_of es)))
     c.pattern.invariant.have_lanes (subst (λ (d : ℕ). IsSpacing d c.spacing.inside.table) distance c.spacing.invariant) c.sums_of_runs-sums.ensures
@@ -95,7 +95,9 @@ returns c =
     ∙ ap (λ (zs : List ℕ). word_with zs vs w) (sym same)) in
     record {
       solved = (λ ok. has', λ h. refl);
-      message = subst (λ (ds : List ℕ). HasMessage ds w c.add_found.new.word) seen message;
+      message = subst (λ (ds : List ℕ). HasMessage ds w c.add_found.new.word) seen
+          (message_found es w c.add_found.new.word p.message c.pattern.invariant.are_places c.pattern.invariant.in_message c.told-word made);
+      parity = parity_kept es w c.add_found.new.word p.message c.pattern.invariant.in_message has made;
       no_code_word = (λ e. cc, λ h. absurd (h has'));
       unchanged = search rules;
     }

@@ -1,4 +1,4 @@
-use Rattle.std.proofs.Common.{◌≡◌, ◌+◌, ◌-◌, ◌*◌, ◌≤◌, ◌<◌, ◌∙◌, ap, arith, bit_xor, get_or, length, map, refl, rules, ℕ}
+use Rattle.std.proofs.Common.{◌≡◌, ◌+◌, ◌-◌, ◌*◌, ◌≤◌, ◌∙◌, ap, arith, bit_xor, get_or, length, map, refl, rules, ℕ}
 use Rattle.std.proofs.lemmas.Simd.{get_or-zip2}
 use Rattle.gf_field.specs.Field.{times}
 use Rattle.rs_erase.specs.Spaced.{spaced_sum}

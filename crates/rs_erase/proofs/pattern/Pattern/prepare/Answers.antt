@@ -1,7 +1,6 @@
-use Rattle.std.proofs.Common.{◌≡◌, ap, length, subst, sym, ◌∙◌}
+use Rattle.std.proofs.Common.{ap, length, subst, sym, ◌∙◌}
 use Rattle.std.proofs.lemmas.List.{take_at}
-use Rattle.rs_erase.specs.Equations.{AreLocators, locators_of}
-use Rattle.rs_erase.specs.Prepared.{ArePrepared}
+use Rattle.rs_erase.specs.Equations.{AreLocators}
 use Rattle.rs_erase.proofs.ErasedPlaces.{are_locators, length-locators_of, places_rise}
 use Rattle.rs_erase.proofs.pattern.Pattern.prepare.Goals as goal
 
