@@ -1,5 +1,5 @@
 -- The patterns that are kept, and for which chunks they are.
-use Rattle.std.specs.Prelude.{ℕ, ◌≡◌, ◌+◌, ◌%◌, ◌<◌, ◌≤◌, Bool, List, IfSome, length, take}
+use Rattle.std.specs.Prelude.{ℕ, ◌≡◌, ◌+◌, ◌<◌, ◌≤◌, Bool, List, IfSome, length, take}
 use Rattle.std.specs.List.{All}
 use Rattle.dcp_pft.specs.Loss.{erased}
 use Rattle.chunk_patterns.specs.declared.patterns.Kept.{Kept}
