@@ -1,12 +1,12 @@
 //! Runs a case, and compares.
 
-use crate::forms::{dock_of, shelf_of, sink_of};
+use crate::forms::Outside;
 use case_files::{Case, Sent};
 use drm_bits::NoMemory;
-use drm_links::{MemDock, MemSource};
+use drm_links::{MemDock, MemLink};
 use drm_top::run;
 use path_command::run_paths;
-use std::alloc::AllocError;
+use std::alloc::{AllocError, Global};
 use std::fmt::Display;
 use std::sync::Wait;
 use std::thread::Threads;
@@ -25,35 +25,68 @@ pub fn differences<R: Threads + Wait + Sync + AllocGlobal>(
     case: &Case,
 ) -> Result<String, NoMemory> {
     let alloc = rt.alloc();
-    let given = &case.input;
-    let mut shelf = shelf_of(alloc, case)?;
-    let mut input = MemSource::make(alloc, &given.bytes, &given.fails, given.piece.get())?;
-    let mut out = sink_of(alloc, &case.out)?;
-    let mut err = sink_of(alloc, &case.err)?;
-    let mut dock = dock_of(alloc, case)?;
-    let ended = match program {
-        Program::Drmcast => run(
-            rt,
-            alloc,
-            &case.words,
-            &mut shelf,
-            &mut input,
-            &mut out,
-            &mut err,
-            &mut dock,
-        ),
-        Program::Drmpaths => { run_paths(rt, alloc, &case.words, &mut out, &mut err, &mut dock) }
+    let mut outside = Outside::make(alloc, case)?;
+    let code = match program {
+        Program::Drmcast => run_drmcast(rt, alloc, &case.words, &mut outside),
+        Program::Drmpaths => run_drmpaths(rt, alloc, &case.words, &mut outside),
     };
     let mut found = String::new(alloc);
-    if case.status != Some(ended.code) {
-        note(&mut found, format_args!("status {}", ended.code))?;
-    }
-    if !(case.is_prefix && case.out.wanted.starts_with(out.bytes())) {
-        compare(&mut found, "out", out.bytes(), &case.out.wanted)?;
-    }
-    compare(&mut found, "err", err.bytes(), &case.err.wanted)?;
-    compare_links(&mut found, &dock, case, receives(program, case))?;
+    compare_output(&mut found, case, code, &outside)?;
+    compare_links(&mut found, &outside.dock, case, receives(program, case))?;
     Ok(found)
+}
+
+// What is compared says nothing of the run: so these calls have no clauses, and hand on only the status.
+fn run_drmcast<R: Threads + Sync>(
+    rt: &R,
+    alloc: Global,
+    words: &[String],
+    outside: &mut Outside,
+) -> u8 {
+    run(
+        rt,
+        alloc,
+        words,
+        &mut outside.shelf,
+        &mut outside.input,
+        &mut outside.out,
+        &mut outside.err,
+        &mut outside.dock,
+    )
+    .code
+}
+
+fn run_drmpaths<R: Threads + Wait + Sync>(
+    rt: &R,
+    alloc: Global,
+    words: &[String],
+    outside: &mut Outside,
+) -> u8 {
+    run_paths(
+        rt,
+        alloc,
+        words,
+        &mut outside.out,
+        &mut outside.err,
+        &mut outside.dock,
+    )
+    .code
+}
+
+fn compare_output(
+    found: &mut String,
+    case: &Case,
+    code: u8,
+    outside: &Outside,
+) -> Result<(), AllocError> {
+    let (out, err) = (outside.out.bytes(), outside.err.bytes());
+    if case.status != Some(code) {
+        note(found, format_args!("status {code}"))?;
+    }
+    if !(case.is_prefix && case.out.wanted.starts_with(out)) {
+        compare(found, "out", out, &case.out.wanted)?;
+    }
+    compare(found, "err", err, &case.err.wanted)
 }
 
 fn note(found: &mut String, what: impl Display + Drop) -> Result<(), AllocError> {
@@ -108,7 +141,7 @@ fn compare_sent(found: &mut String, dock: &MemDock, sent: &Sent) -> Result<(), A
         return note(found, "no link was closed");
     };
     for (k, datagram) in sent.datagrams.iter().enumerate() {
-        if link.sent(k) != Some(datagram.as_slice()) {
+        if !has_sent(link, k, datagram) {
             return note(found, format_args!("sent from datagram {k}"));
         }
     }
@@ -117,4 +150,11 @@ fn compare_sent(found: &mut String, dock: &MemDock, sent: &Sent) -> Result<(), A
         return note(found, format_args!("sent more than {count}"));
     }
     Ok(())
+}
+
+fn has_sent(link: &MemLink, k: usize, datagram: &[u8]) -> bool {
+    match link.sent(k) {
+        Some(sent) => sent == datagram,
+        None => false,
+    }
 }

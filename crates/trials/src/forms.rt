@@ -5,10 +5,33 @@ ghost use Rattle.drm_links.specs.MemoryLink.{IsUntouched};
 
 use case_files::{Case, LONGEST, LinkCase, Output};
 use drm_bits::NoMemory;
-use drm_links::{MemDock, MemLink, MemShelf, MemSink};
+use drm_links::{MemDock, MemLink, MemShelf, MemSink, MemSource};
 use std::alloc::Global;
 
-pub fn shelf_of(alloc: Global, case: &Case) -> Result<MemShelf, NoMemory> {
+/// What a run reads, writes and opens.
+#[derive(Drop)]
+pub struct Outside {
+    pub shelf: MemShelf,
+    pub input: MemSource,
+    pub out: MemSink,
+    pub err: MemSink,
+    pub dock: MemDock,
+}
+
+impl Outside {
+    pub fn make(alloc: Global, case: &Case) -> Result<Outside, NoMemory> {
+        let input = &case.input;
+        Ok(Outside {
+            shelf: shelf_of(alloc, case)?,
+            input: MemSource::make(alloc, &input.bytes, &input.fails, input.piece.get())?,
+            out: sink_of(alloc, &case.out)?,
+            err: sink_of(alloc, &case.err)?,
+            dock: dock_of(alloc, case)?,
+        })
+    }
+}
+
+fn shelf_of(alloc: Global, case: &Case) -> Result<MemShelf, NoMemory> {
     let mut shelf = MemShelf::make(alloc, &case.failing_loads)?;
     for file in &case.files {
         shelf.add(alloc, &file.name, &file.bytes)?;
@@ -16,12 +39,12 @@ pub fn shelf_of(alloc: Global, case: &Case) -> Result<MemShelf, NoMemory> {
     Ok(shelf)
 }
 
-pub fn sink_of(alloc: Global, output: &Output) -> Result<MemSink, NoMemory> {
+fn sink_of(alloc: Global, output: &Output) -> Result<MemSink, NoMemory> {
     MemSink::make(alloc, output.room, &output.fails, output.piece.get())
 }
 
 // A case has one link at an address, and no longer datagrams.
-pub fn dock_of(alloc: Global, case: &Case) -> Result<MemDock, NoMemory> {
+fn dock_of(alloc: Global, case: &Case) -> Result<MemDock, NoMemory> {
     let mut dock = MemDock::make(alloc, &case.failing_openings)?;
     for link in &case.links {
         let made = link_of(alloc, link)?;

@@ -5,7 +5,7 @@
 mod differences;
 mod forms;
 
-use anyhow::{Context, Result};
+use anyhow::{Context, Result, bail};
 use case_files::{Case, Reader};
 use differences::{Program, differences};
 use std::process::ExitCode;
@@ -19,6 +19,24 @@ use std::{env, fs};
 struct Tally {
     cases: u64,
     differ: u64,
+}
+
+impl Tally {
+    fn add<R: Print>(&mut self, rt: &R, path: &str, case: &Case, found: &str) -> Result<()> {
+        self.cases = self.cases.saturating_add(1);
+        if found == case.differences.as_str() {
+            return Ok(());
+        }
+        self.differ = self.differ.saturating_add(1);
+        let found = if found.is_empty() {
+            "no difference"
+        } else {
+            found
+        };
+        let (line, name) = (case.line, case.name.as_str());
+        println!(rt; "{path}:{line}: {name}: {found}")?;
+        Ok(())
+    }
 }
 
 fn main(rt: HostRuntime) -> Result<ExitCode> {
@@ -50,42 +68,46 @@ fn try_file<R: Files + Print + Threads + Wait + Sync + AllocGlobal>(
 ) -> Result<()> {
     let text = fs::read_to_string(rt, path).context(format_args!("{path}"))?;
     let mut reader = Reader::new(rt.alloc());
-    for (line, text) in text.split_terminator('\n').enumerate() {
-        let line = line.saturating_add(1);
-        let ended = reader
-            .read(line, text)
-            .context(format_args!("{path}:{line}"))?;
-        if let Some(case) = ended {
-            try_case(rt, program, path, &case, tally)?;
-        }
-    }
+    try_lines(rt, program, path, &text, &mut reader, tally)?;
     let last = reader.end().context(format_args!("{path}: its last case"))?;
-    if let Some(case) = last {
-        try_case(rt, program, path, &case, tally)?;
+    try_ended(rt, program, path, last, tally)
+}
+
+// All that lives on from line to line is lent, so that no way out of the loop has anything to drop.
+fn try_lines<R: Print + Threads + Wait + Sync + AllocGlobal>(
+    rt: &R,
+    program: Program,
+    path: &str,
+    text: &str,
+    reader: &mut Reader,
+    tally: &mut Tally,
+) -> Result<()> {
+    for (number, line) in text.split_terminator('\n').enumerate() {
+        let ended = read_line(reader, path, number.saturating_add(1), line)?;
+        try_ended(rt, program, path, ended, tally)?;
     }
     Ok(())
 }
 
-fn try_case<R: Print + Threads + Wait + Sync + AllocGlobal>(
+fn read_line(reader: &mut Reader, path: &str, number: usize, line: &str) -> Result<Option<Case>> {
+    reader
+        .read(number, line)
+        .context(format_args!("{path}:{number}"))
+}
+
+// Tries the case that has ended, if one has.
+fn try_ended<R: Print + Threads + Wait + Sync + AllocGlobal>(
     rt: &R,
     program: Program,
     path: &str,
-    case: &Case,
+    ended: Option<Case>,
     tally: &mut Tally,
 ) -> Result<()> {
-    let (line, name) = (case.line, case.name.as_str());
-    let found = differences(rt, program, case)
-        .ok()
-        .context(format_args!("{path}:{line}: no memory"))?;
-    tally.cases = tally.cases.saturating_add(1);
-    if found != case.differences {
-        tally.differ = tally.differ.saturating_add(1);
-        let found = if found.is_empty() {
-            "no difference"
-        } else {
-            found.as_str()
-        };
-        println!(rt; "{path}:{line}: {name}: {found}")?;
+    let Some(case) = ended else {
+        return Ok(());
+    };
+    match differences(rt, program, &case) {
+        Ok(found) => tally.add(rt, path, &case, &found),
+        Err(_) => bail!("{path}:{}: no memory", case.line),
     }
-    Ok(())
 }
