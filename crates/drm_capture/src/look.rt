@@ -9,15 +9,13 @@ ghost use Rattle.drm_capture.specs.Looking.{front_of, front_within, IsFrontPart,
 use crate::CaptureField;
 use dcp_af::described_len;
 use dcp_pft::{PftFault, size_by_head};
+use drm_links::LONGEST_DATAGRAM;
 
 /// The bytes of the longest head.
 pub(crate) const MOST_HEAD: usize = 20;
 
 /// The bytes of the head of an AF packet, up to the payload.
 const AF_HEAD: usize = 10;
-
-/// The most bytes of a packet.
-const MOST_PACKET: u64 = 65_536;
 
 /// What some bytes begin with.
 #[derive(Clone, Copy, Debug, PartialEq, Eq)]
@@ -50,7 +48,7 @@ fn look_at_af(head: &[u8], count: usize) -> Found
         return Found::Cut(CaptureField::HeadCut);
     }
     let size = described_len(head);
-    if size > MOST_PACKET {
+    if size > LONGEST_DATAGRAM as u64 {
         return Found::Wrong(CaptureField::TooLarge);
     }
     within(size as usize, count)

@@ -12,14 +12,12 @@ use crate::look::{Found, MOST_HEAD, look};
 use crate::{CaptureFault, CaptureField, Packet};
 use circular_buffer::HeapCircularBuffer;
 use drm_bits::{NoMemory, put_at, zeros};
+use drm_links::LONGEST_DATAGRAM;
 use std::alloc::Global;
 use std::marker::Model;
 
 /// The bytes that a walker holds at most.
 const MOST_HELD: usize = 131_072;
-
-/// The most bytes of a packet.
-const MOST_PACKET: usize = 65_536;
 
 /// Cuts the packets out of a capture that comes in pieces.
 #[derive(Drop)]
@@ -53,7 +51,7 @@ impl Walker {
         ensures { IfOk result (λ walker. walker ≡ new_walker) }
     {
         let pipe = HeapCircularBuffer::with_capacity(alloc, MOST_HELD)?;
-        let packet = zeros(alloc, MOST_PACKET)?;
+        let packet = zeros(alloc, LONGEST_DATAGRAM)?;
         Ok(Walker {
             pipe,
             found: None,

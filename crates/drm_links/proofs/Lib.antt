@@ -8,3 +8,4 @@ pub mod LoadLemmas
 pub mod ManyCallsLemmas
 pub mod WritingLemmas
 pub mod Places
+pub mod Hearing

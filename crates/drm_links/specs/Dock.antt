@@ -1,10 +1,11 @@
 -- What a dock tells.
-use Rattle.std.specs.Prelude.{ℕ, ◌≡◌, ◌+◌, ◌⊎◌, List, [], ◌∷◌, ◌++◌, Contains, Option, None, Some, IsNone, MatchOption}
+use Rattle.std.specs.Prelude.{ℕ, ◌≡◌, ◌≢◌, ◌+◌, ◌<◌, ◌⊎◌, List, [], ◌∷◌, ◌++◌, Contains, length, take, slice_index_or, Option, None, Some, IsNone, MatchOption}
 use Rattle.std.specs.Option.{IfSome}
+use Rattle.std.specs.List.{AllByRecursion}
 use Rattle.std.specs.Ordering.{nat_cmp}
 use Rattle.std.specs.Cmp.Lexicographic.{slice_cmp}
 use Rattle.std.specs.FinMap as map
-use Rattle.drm_links.specs.Told.{Known}
+use Rattle.drm_links.specs.Told.{Known, Tells}
 use Rattle.drm_links.specs.Link.{Answer, Traffic, IsUnused, rests_of}
 use Rattle.drm_links.specs.declared.dock.Address.{Address}
 use Rattle.drm_links.specs.declared.dock.Opened.{Opened}
@@ -104,3 +105,39 @@ after_close at over told = record told {
 abbrev pub Closes : Option Traffic → Address → DockContents → DockContents → Type 0
 Closes None at before after = after ≡ record before { calls = before.calls + 1 }
 Closes (Some traffic) at before after = after ≡ after_close at (over_of traffic) before
+
+-- ---- links that are opened, one after another
+
+-- no two are equal
+abbrev pub AreDifferent : List Address → Type 0
+AreDifferent [] = Unit {0}
+AreDifferent (address ∷ others) = AllByRecursion (λ other. other ≢ address) others × AreDifferent others
+
+-- the k-th opening from here finds a link at this address that starts so
+pub record Finds (told : DockContents) (k : ℕ) (at : Address) (start : LinkStart) : Type 0 where
+  pub allowed : Contains told.failing (told.openings + k) → ⊥
+  pub stands : start_at told at ≡ Some start
+
+-- it fails
+abbrev pub FindsNone : DockContents → ℕ → Address → Type 0
+FindsNone told k at = Contains told.failing (told.openings + k) ⊎ IsNone (start_at told at)
+
+-- where a dock tells at the end, it told before, and P holds of what it told then
+abbrev pub Docked : Known DockContents → Known DockContents → (DockContents → Type 0) → Type 0
+Docked before after P = Tells before after (λ told _. P told)
+
+-- what a dock tells after links were opened at these addresses, one after another, to receive over them
+abbrev pub after_openings : List Address → DockContents → DockContents
+after_openings [] told = told
+after_openings (at ∷ addresses) told = after_openings addresses (after_opening at told)
+
+-- The openings at the first k addresses were made, and the next one failed.
+pub record FailsAfter (addresses : List Address) (before after : DockContents) : Type 0 where
+  pub k : ℕ
+  pub within : k < length addresses
+  pub fails : (at : Address) → FindsNone before k (slice_index_or addresses k at)
+  pub told : after ≡ after_failure (after_openings (take k addresses) before)
+
+-- the link of the k-th opening from here starts with what stood at its address
+abbrev pub HasLink : {L : Type 0} → (L → Known Traffic) → DockContents → ℕ → Address → L → Type 0
+HasLink known told k at link = (start : LinkStart) × Finds told k at start × ((known link).told ≡ Some (first_traffic start))

@@ -12,3 +12,4 @@ pub mod MemoryLink
 pub mod ClosedLinks
 pub mod MemoryDock
 pub mod ManyCalls
+pub mod Hearing

@@ -5,6 +5,7 @@ ghost use Rattle.drm_links.specs.Told.{Known, HasCause, CountsCall, WhileTold};
 ghost use Rattle.drm_links.specs.Dock.{DockContents, Binds, Reaches, Closes, IsFresh, IsFailed};
 
 use crate::Link;
+use owned_items::Items;
 
 /// An IPv4 address, the first byte as it is written first, and a port.
 #[derive(Clone, Copy, Debug, PartialEq, Eq)]
@@ -12,6 +13,9 @@ pub struct Address {
     pub ip: [u8; 4],
     pub port: u16,
 }
+
+/// Several addresses, in their order.
+pub type Addresses = Items<Address>;
 
 #[derive(Drop)]
 pub enum Opened<L> {

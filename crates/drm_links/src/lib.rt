@@ -20,9 +20,9 @@ mod source;
 mod status;
 mod writing;
 
-pub use dock::{Address, Dock, Opened};
+pub use dock::{Address, Addresses, Dock, Opened};
 pub use docked_link::DockedLink;
-pub use link::{Came, Link, LinkFault, Sent};
+pub use link::{Came, LONGEST_DATAGRAM, Link, LinkFault, Sent};
 pub use memory_dock::{MemDock, PutFault};
 pub use memory_link::MemLink;
 pub use memory_shelf::MemShelf;

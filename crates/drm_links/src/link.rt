@@ -4,6 +4,9 @@ ghost use Rattle.std.specs.Prelude.{ℕ, ◌≡◌, ◌≤◌, Option, length};
 ghost use Rattle.drm_links.specs.Told.{Known, Counts, HasCause, CountsCall, WhileTold};
 ghost use Rattle.drm_links.specs.Link.{Traffic, Receives, Sends, Rests, KeepsAnswers, FitsBuffer};
 
+/// The most bytes of a datagram.
+pub const LONGEST_DATAGRAM: usize = 65_536;
+
 #[derive(Clone, Copy, Debug, PartialEq, Eq)]
 pub enum Came {
     /// A datagram of this many bytes stands at the front of the buffer.

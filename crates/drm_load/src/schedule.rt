@@ -12,8 +12,7 @@ use drm_links::Shelf;
 use drm_plan::{Draft, PlanFault, read_plan};
 use drm_schedule::Schedule;
 use std::alloc::Global;
-
-const LONGEST_TEXT: usize = 262_144;
+use text_lines::LONGEST_TEXT;
 
 const LONGEST_FILE: usize = 4_194_304;
 

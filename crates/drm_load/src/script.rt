@@ -13,8 +13,7 @@ use drm_links::Shelf;
 use drm_schedule::Schedule;
 use script_lines::{Script, ScriptFault, read_script};
 use std::alloc::Global;
-
-const LONGEST_TEXT: usize = 262_144;
+use text_lines::LONGEST_TEXT;
 
 impl From<ScriptFault> for ScheduleFault {
     ghost use Rattle.std.specs.Prelude.{◌≡◌};

@@ -25,7 +25,7 @@ pub use invalid::{Invalid, Place, Reason};
 pub use laws::{entities_can_be_written, one_is_in_force};
 pub use live::Live;
 pub use owned_items::Items;
-pub use plan::Plan;
+pub use plan::{MOST_FRAMES, Plan};
 pub use schedule::Schedule;
 pub use sizes::{entity_len, free_len, packet_len};
 pub use stream::{Content, Stream};

@@ -2,6 +2,9 @@
 
 use crate::{Carry, Configs};
 
+/// The most frames of a schedule: three of each super frame.
+pub const MOST_FRAMES: u64 = 3_000_000;
+
 /// What a text and its files give: a schedule, where it is valid.
 #[derive(Drop)]
 pub struct Plan {

@@ -10,9 +10,10 @@ ghost use Rattle.word_forms.specs.declared.fault.WordsFault.TheVariants as fault
 use crate::options::{are_of, from, live, pace, to, told_reading, told_stretch, window};
 use crate::request::Request;
 use drm_bits::Octets;
+use drm_links::Addresses;
 use drm_schedule::Live;
 use std::alloc::Global;
-use word_forms::{Addresses, Named, WordsFault, address, carry, read_addresses, within};
+use word_forms::{Named, WordsFault, address, carry, read_addresses, within};
 
 fn octets(alloc: Global, text: &str) -> Result<Octets, WordsFault>
     ensures ok { IfOk result (λ octets. octets ≡ text.now) }

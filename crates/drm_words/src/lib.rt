@@ -6,6 +6,7 @@ mod options;
 mod read;
 mod request;
 
+pub use drm_links::Addresses;
 pub use read::{one_request, read_words};
 pub use request::Request;
-pub use word_forms::{Addresses, WordsFault};
+pub use word_forms::WordsFault;

@@ -6,9 +6,10 @@ ghost use Rattle.word_forms.specs.Gives.{Gives};
 ghost use Rattle.drm_words.specs.Table.{told};
 ghost use Rattle.drm_words.specs.Asking.{is_one_of, are_of, number_or, number_or_none, window_of, first_of, frames_of, stretch_of, reading_of, idle_of, limit_of, pace_of, from_of, to_of, live_told};
 
-use drm_schedule::Live;
+use drm_links::Addresses;
+use drm_schedule::{Live, MOST_FRAMES};
 use std::alloc::Global;
-use word_forms::{Addresses, Named, WordsFault, read_addresses, read_live, within};
+use word_forms::{Named, WordsFault, read_addresses, read_live, within};
 
 /// Which packets are read, and how many frames of them.
 #[derive(Clone, Copy)]
@@ -104,7 +105,7 @@ fn frames(options: &[Named<'_>]) -> Option<Option<u64>>
     let Some(text) = told(options, "frames") else {
         return Some(None);
     };
-    let number = within(text, 1, 3_000_000)?;
+    let number = within(text, 1, MOST_FRAMES)?;
     Some(Some(number))
 }
 
@@ -181,7 +182,7 @@ pub(crate) fn to(alloc: Global, options: &[Named<'_>]) -> Result<Addresses, Word
 {
     match told(options, "to") {
         Some(text) => read_addresses(alloc, text),
-        None => Ok(Addresses::none(alloc)),
+        None => Ok(Addresses::new(alloc)),
     }
 }
 

@@ -1,9 +1,8 @@
 //! What a command line asks for.
 
 use drm_bits::Octets;
-use drm_links::Address;
+use drm_links::{Address, Addresses};
 use drm_schedule::{Carry, Live};
-use word_forms::Addresses;
 
 /// What a command line asks for, a variant for each command. Names are UTF-8; where an option isn't told and has a
 /// default, the default stands here.

@@ -1,6 +1,6 @@
 //! Lists of any values.
 
-ghost use Rattle.std.specs.Prelude.{◌≡◌, ◌<◌, ◌++◌, ◌∷◌, [], length, OnOk, OnErr, slice_index_or};
+ghost use Rattle.std.specs.Prelude.{◌≡◌, ◌<◌, ◌↔◌, ◌++◌, ◌∷◌, [], IsTrue, length, OnOk, OnErr, slice_index_or};
 
 use drm_bits::NoMemory;
 use std::alloc::Global;
@@ -30,6 +30,13 @@ impl<T: Drop> Items<T> {
     {
         let items = Vec::new(alloc);
         Items { items }
+    }
+
+    /// Whether there is no value.
+    pub fn is_empty(&self) -> bool
+        ensures { IsTrue result ↔ self.now ≡ [] }
+    {
+        self.items.is_empty()
     }
 
     /// How many values there are.

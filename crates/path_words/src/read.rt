@@ -11,8 +11,10 @@ ghost use Rattle.path_words.specs.declared.request.Request.{Request};
 use crate::numbers::{number_or, number_or_none};
 use crate::request::Request;
 use crate::texts::{Texts, read_texts};
+use drm_links::Addresses;
+use drm_schedule::MOST_FRAMES;
 use std::alloc::Global;
-use word_forms::{Addresses, WordsFault, read_addresses};
+use word_forms::{WordsFault, read_addresses};
 
 /// The fewest paths of a run.
 const FEWEST_PATHS: usize = 2;
@@ -42,7 +44,7 @@ fn request(alloc: Global, texts: Texts<'_>) -> Result<Request, WordsFault>
     let Some(first) = number_or_none(0, 65_535, texts.first) else {
         return Err(WordsFault::Words);
     };
-    let Some(frames) = number_or_none(1, 3_000_000, texts.frames) else {
+    let Some(frames) = number_or_none(1, MOST_FRAMES, texts.frames) else {
         return Err(WordsFault::Words);
     };
     let Some(idle) = number_or(50, 1, 1_000_000, texts.idle) else {

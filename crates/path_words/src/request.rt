@@ -1,6 +1,6 @@
 //! What a command line asks for.
 
-use word_forms::Addresses;
+use drm_links::Addresses;
 
 /// What a command line asks for.
 #[derive(Drop)]

@@ -3,3 +3,4 @@ pub mod ReachLemmas
 pub mod CloseLemmas
 pub mod RunLemmas
 pub mod TookLemmas
+pub mod BindLemmas

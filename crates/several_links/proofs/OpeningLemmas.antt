@@ -11,12 +11,10 @@ use Rattle.std.proofs.lemmas.Grind.{take_at_read}
 use Rattle.std.proofs.lemmas.List.{take_all, get_or_default, same_from_push}
 use Rattle.drm_links.specs.Told.{Known, WhileTold, CountsCall, BothTold, CountsTold, ToldThrough, Tells}
 use Rattle.drm_links.specs.Link.{Traffic}
-use Rattle.drm_links.specs.Dock.{DockContents, Opens, after_opening, after_failure, address_key}
+use Rattle.drm_links.specs.Dock.{DockContents, Opens, after_opening, after_failure, address_key, AreDifferent, Docked, FindsNone, after_openings, FailsAfter, HasLink}
 use Rattle.drm_links.specs.declared.dock.Address.{Address}
 use Rattle.drm_links.specs.declared.dock.Opened.TheVariants as opened
 use Rattle.drm_links.proofs.ToldLemmas.{Opens-started, Tells-then, Tells-weaker, Tells-one}
-use Rattle.word_forms.specs.Addresses.{AreDifferent}
-use Rattle.several_links.specs.Openings.{Docked, FindsNone, after_openings, FailsAfter, HasLink}
 
 -- ---- addresses that are different
 

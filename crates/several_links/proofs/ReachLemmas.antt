@@ -3,12 +3,10 @@ use Rattle.std.proofs.Common.{◌≡◌, ℕ, ◌+◌, ◌<◌, List, [], ◌∷
 use Rattle.std.proofs.lemmas.List.{take_all, get_or-replicate, length-replicate}
 use Rattle.drm_links.specs.Told.{Known, WhileTold, CountsCall, ToldThrough, Tells}
 use Rattle.drm_links.specs.Link.{Traffic}
-use Rattle.drm_links.specs.Dock.{DockContents, Over, over_of, Reaches, with_reach, after_opening, after_failure, first_traffic}
+use Rattle.drm_links.specs.Dock.{DockContents, Over, over_of, Reaches, with_reach, after_opening, after_failure, first_traffic, AreDifferent, Docked, FindsNone, HasLink, after_openings}
 use Rattle.drm_links.specs.declared.dock.Address.{Address}
 use Rattle.drm_links.specs.declared.dock.Opened.TheVariants as opened
 use Rattle.drm_links.proofs.ToldLemmas.{Tells-then, Tells-both, Tells-weaker}
-use Rattle.word_forms.specs.Addresses.{AreDifferent}
-use Rattle.several_links.specs.Openings.{Docked, FindsNone, HasLink, after_openings}
 use Rattle.several_links.specs.Reaching.{HaveGone, ReachesFew, with_reaches, after_reaches, after_closes, nothing}
 use Rattle.several_links.specs.declared.member.Member.{Member}
 use Rattle.several_links.proofs.OpeningLemmas.{Opened, docks_more, found, next, not_found_at}

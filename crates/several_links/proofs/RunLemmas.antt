@@ -9,12 +9,10 @@ use Rattle.std.proofs.lemmas.Grind.{common_steps}
 use Rattle.std.proofs.lemmas.List.{get_or_default}
 use Rattle.drm_links.specs.Told.{Known, Tells}
 use Rattle.drm_links.specs.Link.{Traffic}
-use Rattle.drm_links.specs.Dock.{DockContents, LinkStart, Over, address_key, first_traffic, after_close}
+use Rattle.drm_links.specs.Dock.{DockContents, LinkStart, Over, address_key, first_traffic, after_close, AreDifferent, Docked, Finds}
 use Rattle.drm_links.specs.declared.dock.Address.{Address}
 use Rattle.drm_links.proofs.ToldLemmas.{Tells-then, Tells-both}
 use Rattle.drm_links.proofs.Places.{index_of}
-use Rattle.word_forms.specs.Addresses.{AreDifferent}
-use Rattle.several_links.specs.Openings.{Docked, Finds}
 use Rattle.several_links.specs.Reaching.{HasGone, HaveGone, HaveLinks, GoesOver, NothingSent, after_reaches, after_closes, with_none, with_reaches}
 use Rattle.several_links.specs.declared.member.Member.{Member}
 use Rattle.several_links.proofs.OpeningLemmas.{one_address, other_key, openings_gone}

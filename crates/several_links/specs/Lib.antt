@@ -1,3 +1,4 @@
-pub mod Openings
 pub mod Reaching
 pub mod Took
+pub mod Binding
+pub mod Listed

@@ -6,8 +6,7 @@ ghost use Rattle.drm_links.specs.Dock.{Over};
 ghost use Rattle.several_links.specs.Reaching.{HaveGone, after_closes};
 
 use crate::Member;
-use drm_links::Dock;
-use word_forms::Addresses;
+use drm_links::{Addresses, Dock};
 
 /// Closes the links that were opened at the first addresses, in their order.
 pub fn close_each<D: Dock>(dock: &mut D, addresses: &Addresses, members: Vec<Member<D::L>>)

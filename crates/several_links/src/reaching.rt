@@ -2,15 +2,13 @@
 
 ghost use Rattle.std.specs.Prelude.{◌≡◌, ◌≤◌, Err, IsErr, length, vec_len, vec_capacity, IfOk, IfErr};
 ghost use Rattle.drm_links.specs.Told.{HasCause, Tells};
-ghost use Rattle.word_forms.specs.Addresses.{AreDifferent};
-ghost use Rattle.several_links.specs.Openings.{Docked};
+ghost use Rattle.drm_links.specs.Dock.{AreDifferent, Docked};
 ghost use Rattle.several_links.specs.Reaching.{HaveLinks, AreUp, ReachesFew, after_reaches};
 
 use crate::{Member, close_each};
 use drm_bits::NoMemory;
-use drm_links::{Dock, Link, LinkFault, Opened};
+use drm_links::{Addresses, Dock, Link, LinkFault, Opened};
 use std::alloc::Global;
-use word_forms::Addresses;
 
 /// Why links weren't opened.
 #[derive(Clone, Copy, Debug, PartialEq, Eq)]

@@ -10,7 +10,8 @@ use Rattle.std.proofs.lemmas.Slice.Eq.{bytes_eq-Decides}
 use Rattle.std.proofs.lemmas.List.Splits.{length-slice_split}
 use Rattle.drm_links.specs.declared.dock.Address.{Address}
 use Rattle.word_forms.specs.Numbers.{IsWithin}
-use Rattle.word_forms.specs.Addresses.{AreWithin, IsAddress, EachIsAddress, AreDifferent, AreAddresses}
+use Rattle.drm_links.specs.Dock.{AreDifferent}
+use Rattle.word_forms.specs.Addresses.{AreWithin, IsAddress, EachIsAddress, AreAddresses}
 use Rattle.word_forms.specs.Reading.{within}
 use Rattle.word_forms.specs.Addressing.{cut, address_of, all_addresses, is_same, are_different, if_different, parts_of, addresses_of}
 use Rattle.word_forms.proofs.OptionLemmas.{stepped, mapped}

@@ -1,7 +1,8 @@
 -- Addresses, and lists of them.
-use Rattle.std.specs.Prelude.{ℕ, ◌≡◌, ◌≢◌, ◌≤◌, List, [], ◌∷◌, ◌++◌, length}
-use Rattle.std.specs.List.{slice_split, AllByRecursion}
+use Rattle.std.specs.Prelude.{ℕ, ◌≡◌, ◌≤◌, List, [], ◌∷◌, ◌++◌, length}
+use Rattle.std.specs.List.{slice_split}
 use Rattle.std.specs.Prelude.{◌==◌}
+use Rattle.drm_links.specs.Dock.{AreDifferent}
 use Rattle.drm_links.specs.declared.dock.Address.{Address}
 use Rattle.word_forms.specs.Numbers.{IsWithin}
 
@@ -27,11 +28,6 @@ abbrev pub EachIsAddress : List (List ℕ) → List Address → Type 0
 EachIsAddress [] [] = Unit {0}
 EachIsAddress (text ∷ texts) (address ∷ addresses) = IsAddress text address × EachIsAddress texts addresses
 EachIsAddress _ _ = ⊥
-
--- no two are equal
-abbrev pub AreDifferent : List Address → Type 0
-AreDifferent [] = Unit {0}
-AreDifferent (address ∷ others) = AllByRecursion (λ other. other ≢ address) others × AreDifferent others
 
 -- The parts of the text round its commas (44) are one to sixteen addresses, all different.
 pub record AreAddresses (text : List ℕ) (addresses : List Address) : Type 0 where

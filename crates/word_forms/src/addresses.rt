@@ -1,67 +1,19 @@
-//! Addresses, and lists of them.
+//! Addresses, and several of them.
 
-ghost use Rattle.std.specs.Prelude.{◌≡◌, ◌<◌, ◌↔◌, [], IsTrue, length, map, slice_index_or, IfSome};
+ghost use Rattle.std.specs.Prelude.{◌≡◌, map};
 ghost use Rattle.std.specs.List.{list_any};
 ghost use Rattle.word_forms.specs.Reading.{within};
 ghost use Rattle.word_forms.specs.Addressing.{address_of, all_addresses, is_same, are_different, addresses_of};
-ghost use Rattle.word_forms.specs.Gives.{Gives, GivesBy};
+ghost use Rattle.word_forms.specs.Gives.{Gives};
 
 use crate::cuts::{cut, parts};
 use crate::fault::WordsFault;
 use crate::numbers::within;
-use drm_links::Address;
+use drm_links::{Address, Addresses};
 use std::alloc::Global;
-use std::marker::Model;
 
 /// The most addresses of a list.
 const MOST_ADDRESSES: usize = 16;
-
-/// A list of at most sixteen addresses, all different.
-#[derive(Drop)]
-pub struct Addresses {
-    list: Vec<Address>,
-}
-
-impl Model for Addresses {
-    ghost use Rattle.std.specs.Prelude.{List};
-    ghost use Rattle.drm_links.specs.declared.dock.Address.{Address};
-
-    ghost Value = { List Address };
-
-    ghost view = { λ a. a.list.items };
-}
-
-impl Addresses {
-    /// No address.
-    pub fn none(alloc: Global) -> Addresses
-        ensures { result ≡ [] }
-    {
-        Addresses {
-            list: Vec::new(alloc),
-        }
-    }
-
-    pub fn is_empty(&self) -> bool
-        ensures { IsTrue result ↔ self.now ≡ [] }
-    {
-        self.list.is_empty()
-    }
-
-    /// How many addresses there are.
-    pub fn len(&self) -> usize
-        ensures { result ≡ length self.now }
-    {
-        self.list.len()
-    }
-
-    /// The address at this place, from 0.
-    pub fn get(&self, k: usize) -> &Address
-        requires { k < length self.now }
-        ensures { result.now ≡ slice_index_or self.now k result.now }
-    {
-        &self.list[k]
-    }
-}
 
 fn byte(text: &str) -> Option<u8>
     ensures { result ≡ within 0 255 text.now }
@@ -112,10 +64,10 @@ fn are_different(addresses: &[Address]) -> bool
     !is_among(first, others) && are_different(others)
 }
 
-fn all_addresses(alloc: Global, parts: &[&str]) -> Result<Vec<Address>, WordsFault>
-    ensures { GivesBy (λ list. list.items) result (all_addresses (map (λ part. part.now) parts.now)) }
+fn all_addresses(alloc: Global, parts: &[&str]) -> Result<Addresses, WordsFault>
+    ensures { Gives result (all_addresses (map (λ part. part.now) parts.now)) }
 {
-    let mut list = Vec::new(alloc);
+    let mut list = Addresses::new(alloc);
     for part in parts {
         match address(part) {
             Some(address) => list.push(address)?,
@@ -135,8 +87,8 @@ pub fn read_addresses(alloc: Global, text: &str) -> Result<Addresses, WordsFault
         return Err(WordsFault::Words);
     }
     let list = all_addresses(alloc, &parts)?;
-    if are_different(&list) {
-        Ok(Addresses { list })
+    if are_different(list.as_slice()) {
+        Ok(list)
     } else {
         Err(WordsFault::Words)
     }

@@ -10,7 +10,7 @@ mod live;
 mod numbers;
 mod word;
 
-pub use addresses::{Addresses, address, read_addresses};
+pub use addresses::{address, read_addresses};
 pub use arguments::{Arguments, read_arguments};
 pub use carries::carry;
 pub use fault::WordsFault;

@@ -3,7 +3,7 @@ use Rattle.std.proofs.lemmas.List.Elements.{All-push}
 use Rattle.drm_links.specs.declared.dock.Address.{Address}
 use Rattle.drm_links.proofs.ToldLemmas.{Tells-weaker, counts_one, once_then}
 use Rattle.drm_links.proofs.Places.{each_more}
-use Rattle.several_links.specs.Openings.{Docked, HasLink}
+use Rattle.drm_links.specs.Dock.{Docked, HasLink}
 use Rattle.several_links.specs.declared.member.Member.{Member}
 use Rattle.several_links.proofs.OpeningLemmas.{docked_still}
 use Rattle.several_links.proofs.ReachLemmas.{Reached, HaveFirst, found_reach, reached_now, missed_now, first_links, few_reached}

@@ -1,7 +1,7 @@
 use Rattle.std.proofs.Common.{◌≡◌, ℕ, ◌<◌, ◌≤◌, vec_len, vec_capacity, slice_index_or, length}
 use Rattle.drm_links.specs.Told.{Tells}
 use Rattle.drm_links.specs.declared.dock.Address.{Address}
-use Rattle.several_links.specs.Openings.{Docked, HasLink}
+use Rattle.drm_links.specs.Dock.{Docked, HasLink}
 use Rattle.several_links.specs.Reaching.{AreUp}
 use Rattle.several_links.specs.declared.member.Member.{Member}
 use Rattle.several_links.proofs.ReachLemmas.{Reached}

@@ -6,4 +6,4 @@ use Rattle.word_forms.proofs.addresses.all_addresses.Given as goal
 abbrev pub invariant-loop-part : goal.invariant-loop-part
 invariant-loop-part l =
     all_addresses (map (λ part. part.now) l.parts)
-    ≡ option_map (λ others. l.list.items ++ others) (all_addresses (map (λ part. part.now) (drop l.part-index l.parts)))
+    ≡ option_map (λ others. l.list ++ others) (all_addresses (map (λ part. part.now) (drop l.part-index l.parts)))
