@@ -13,8 +13,8 @@ use Rattle.drm_links.specs.Told.{Known}
 use Rattle.drm_links.specs.Link.{Traffic}
 use Rattle.drm_links.specs.Transmission.{Transmits, SendsNoMore, Waits}
 use Rattle.drm_links.proofs.TransmissionLemmas.{Transmits-weaker}
-use Rattle.packet_sending.specs.Sending as sending
-use Rattle.packet_sending.specs.Sending.{IsDatagramOf, count_of, SentPacket, SentSome}
+use Rattle.dcp_sender.specs.Sending as sending
+use Rattle.dcp_sender.specs.Sending.{IsDatagramOf, count_of, SentPacket, SentSome}
 use Rattle.drm_server.specs.Frames.{IsPacketAt}
 use Rattle.drm_server.specs.Datagrams.{IsDatagramAt, AreFirst}
 use Rattle.drm_server.specs.OneFrame.{SentFrame, SendsPartOfFrame}

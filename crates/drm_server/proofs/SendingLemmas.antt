@@ -6,7 +6,7 @@ use Rattle.drm_links.specs.Told.{Known}
 use Rattle.drm_links.specs.Link.{Traffic}
 use Rattle.drm_links.specs.Transmission.{Transmits, SendsAll, Waits, still}
 use Rattle.drm_links.proofs.TransmissionLemmas.{Transmits-then, Transmits-weaker, Transmits-both, SendsAll-no_more, Waits-then}
-use Rattle.packet_sending.proofs.Links.{then_sent, then_waited}
+use Rattle.dcp_sender.proofs.Links.{then_sent, then_waited}
 use Rattle.drm_timeline.specs.Numbers.{frame_count}
 use Rattle.drm_server.specs.Datagrams.{AreFirst, AreOfFrames, AreDatagrams}
 use Rattle.drm_server.specs.Sending.{SendsSchedule, SendsPart}

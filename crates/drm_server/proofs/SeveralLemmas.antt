@@ -9,8 +9,8 @@ use Rattle.drm_links.specs.Transmission.{Transmits, SendsAll, Waits}
 use Rattle.drm_links.proofs.ToldLemmas.{once_then}
 use Rattle.drm_links.proofs.TransmissionLemmas.{Transmits-nothing, Transmits-no_wait}
 use Rattle.drm_links.proofs.ManyCallsLemmas.{no_calls, more_calls, at_most}
-use Rattle.packet_sending.specs.Sending.{MadeCalls}
-use Rattle.packet_sending.proofs.Links.{then_sent, made_none, made_then}
+use Rattle.dcp_sender.specs.Sending.{MadeCalls}
+use Rattle.dcp_sender.proofs.Links.{then_sent, made_none, made_then}
 use Rattle.several_links.specs.declared.member.Member.{Member}
 use Rattle.drm_timeline.specs.Numbers.{frame_count}
 use Rattle.drm_server.specs.Datagrams.{AreFirst}

@@ -5,7 +5,7 @@ use Rattle.drm_links.specs.Told.{Known, HasFailed}
 use Rattle.drm_links.specs.Link.{Traffic}
 use Rattle.drm_links.specs.ManyCalls.{MakesCalls}
 use Rattle.drm_links.specs.Transmission.{Transmits, SendsAll, Waits}
-use Rattle.packet_sending.specs.Sending.{MadeCalls}
+use Rattle.dcp_sender.specs.Sending.{MadeCalls}
 use Rattle.several_links.specs.declared.member.Member.{Member}
 use Rattle.drm_timeline.specs.Numbers.{frame_count}
 use Rattle.drm_server.specs.Datagrams.{AreOfFrames}

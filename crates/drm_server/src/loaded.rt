@@ -5,7 +5,7 @@ ghost use Rattle.dcp_pft.specs.Limits.{longest_packet, most_packet, most_fragmen
 ghost use Rattle.drm_links.specs.Told.{HasCause};
 ghost use Rattle.drm_links.specs.ManyCalls.{MakesCalls};
 ghost use Rattle.drm_links.specs.Transmission.{Transmits, Waits};
-ghost use Rattle.packet_sending.specs.Sending.{MadeCalls};
+ghost use Rattle.dcp_sender.specs.Sending.{MadeCalls};
 ghost use Rattle.drm_timeline.specs.Numbers as numbers;
 ghost use Rattle.drm_timeline.specs.Numbers.{packet_size};
 ghost use Rattle.live_streams.specs.Live.{piece_at, live_schedule};
@@ -17,13 +17,12 @@ ghost use Rattle.drm_server.specs.OneFrame.{SentFrame, SendsPartOfFrame};
 use crate::packet::write_packet;
 use crate::payload::Rooms;
 use dcp_pft::{LONGEST_PACKET, MOST_PARITY, Shape, all_taken, cut_for, datagrams, most_packet};
+use dcp_sender::{send_packet, write_cut, write_parity};
 use drm_bits::{NoMemory, zeros};
 use drm_links::{Link, LinkFault};
 use drm_schedule::{Live, Schedule};
 use drm_timeline::{frame_count, sequence_number};
 use live_streams::{MOST_PIECE, piece_len};
-use packet_cutting::{write_cut, write_parity};
-use packet_sending::send_packet;
 use std::alloc::Global;
 use std::marker::Model;
 
@@ -52,7 +51,7 @@ impl<'a> Model for Loaded<'a> {
     ghost use Rattle.dcp_pft.specs.Carrying.{cut_of};
     ghost use Rattle.drm_timeline.specs.Numbers.{frame_count, packet_size};
     ghost use Rattle.drm_server.specs.Frames.{IsPacketAt};
-    ghost use Rattle.packet_cutting.specs.Parity.{HoldsParity};
+    ghost use Rattle.dcp_sender.specs.Parity.{HoldsParity};
     ghost use Rattle.live_streams.specs.Live.{live_schedule};
     ghost use Rattle.drm_server.specs.Serving.{Serving, only_at};
 

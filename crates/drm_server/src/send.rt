@@ -9,7 +9,7 @@ ghost use Rattle.several_links.specs.Reaching.{AreUp};
 ghost use Rattle.several_links.specs.declared.member.Member.{Member};
 ghost use Rattle.drm_schedule.specs.declared.plan.Plan.{Plan};
 ghost use Rattle.drm_timeline.specs.Numbers.{frame_count};
-ghost use Rattle.packet_sending.specs.Sending.{MadeCalls};
+ghost use Rattle.dcp_sender.specs.Sending.{MadeCalls};
 ghost use Rattle.dcp_pft.specs.Limits.{most_fragments};
 ghost use Rattle.drm_server.specs.Rests.{rests_before, pause};
 ghost use Rattle.drm_server.specs.OneFrame.{SentFrame, SendsPartOfFrame};

@@ -3,10 +3,9 @@ use Rattle.std.proofs.Common.{◌≡◌, ℕ, zero, suc, ◌*◌, ◌<◌, Bool,
 use Rattle.drm_links.specs.Told.{Known, Tells}
 use Rattle.drm_links.specs.Link.{Traffic}
 use Rattle.drm_links.specs.Shelf.{Files}
-use Rattle.drm_links.specs.Dock.{DockContents, Over}
+use Rattle.drm_links.specs.Dock.{DockContents, Over, Docked}
 use Rattle.drm_links.specs.declared.dock.Address.{Address}
 use Rattle.drm_links.proofs.Places.{index_of}
-use Rattle.several_links.specs.Openings.{Docked}
 use Rattle.several_links.specs.Reaching.{HaveGone, HaveLinks, AreUp, after_reaches, after_closes}
 use Rattle.several_links.specs.declared.member.Member.{Member}
 use Rattle.several_links.proofs.RunLemmas.{over_each}

@@ -4,7 +4,7 @@ use Rattle.drm_links.specs.Told.{Known, Tells, WhileTold}
 use Rattle.drm_links.specs.Shelf.{Files}
 use Rattle.drm_links.specs.Source.{Input}
 use Rattle.drm_links.specs.Link.{Traffic}
-use Rattle.drm_links.specs.Dock.{DockContents, Over}
+use Rattle.drm_links.specs.Dock.{DockContents, Over, AreDifferent, Docked}
 use Rattle.drm_links.specs.declared.dock.Address.{Address}
 use Rattle.drm_schedule.specs.declared.live.Live.{Live}
 use Rattle.drm_schedule.specs.declared.plan.Plan.{Plan}
@@ -13,8 +13,6 @@ use Rattle.drm_timeline.specs.Numbers.{frame_count}
 use Rattle.live_streams.specs.Input.{pieces_of}
 use Rattle.live_streams.specs.Laws.{InputMakesASchedule}
 use Rattle.live_streams.proofs.FrameLemmas.{same_frame_count}
-use Rattle.word_forms.specs.Addresses.{AreDifferent}
-use Rattle.several_links.specs.Openings.{Docked}
 use Rattle.several_links.specs.Reaching.{GoesOver, HaveGone, HaveLinks, AreUp, NothingSent, after_reaches, after_closes}
 use Rattle.several_links.specs.declared.member.Member.{Member}
 use Rattle.several_links.proofs.RunLemmas.{over_each}

@@ -3,13 +3,11 @@ use Rattle.std.proofs.Common.{◌≡◌, ℕ, ◌+◌, ◌*◌, ◌<◌, ◌⊎�
 use Rattle.std.specs.FinMap as map
 use Rattle.drm_links.specs.Told.{Known, WhileTold, Tells}
 use Rattle.drm_links.specs.Shelf.{Files, Supplies}
-use Rattle.drm_links.specs.Dock.{DockContents, LinkStart, Over, address_key, start_at}
+use Rattle.drm_links.specs.Dock.{DockContents, LinkStart, Over, address_key, start_at, AreDifferent, Finds, FindsNone}
 use Rattle.drm_links.specs.Transmission.{TakesSends, TakesFewer}
 use Rattle.drm_links.specs.declared.dock.Address.{Address}
 use Rattle.drm_links.proofs.ToldLemmas.{Tells-weaker, Tells-nothing, counts_none}
 use Rattle.drm_schedule.specs.declared.plan.Plan.{Plan}
-use Rattle.word_forms.specs.Addresses.{AreDifferent}
-use Rattle.several_links.specs.Openings.{Finds, FindsNone}
 use Rattle.several_links.specs.Reaching.{nothing, ReachesNone, ReachesFew, GoesOver, NothingSent, after_reaches}
 use Rattle.several_links.proofs.OpeningLemmas.{docks_while}
 use Rattle.several_links.proofs.RunLemmas as several

@@ -2,14 +2,14 @@
 
 ghost use Rattle.std.specs.Prelude.{◌≡◌, ◌≤◌, length, IsErrOf};
 ghost use Rattle.drm_links.specs.Told.{HasCause, WhileTold};
-ghost use Rattle.word_forms.specs.Addresses.{AreDifferent};
+ghost use Rattle.drm_links.specs.Dock.{AreDifferent};
 ghost use Rattle.several_links.specs.Reaching.{AreUp, NothingSent};
 ghost use Rattle.drm_faults.specs.Causes.{OneFailed, OpeningFailed};
 ghost use Rattle.drm_transmit.specs.Live.{LiveServeRun, LiveSendRun};
 ghost use Rattle.drm_transmit.specs.OverLiveLinks.{OverLiveLinks};
 
 use drm_faults::Fault;
-use drm_links::{Dock, Link, Shelf, Sink, Source};
+use drm_links::{Addresses, Dock, Link, Shelf, Sink, Source};
 use drm_load::read_schedule;
 use drm_schedule::Live;
 use drm_server::{Server, first_ones_are_front, one_delivery};
@@ -17,7 +17,6 @@ use live_server::{piece_room, serve_live_links, serve_live_sink};
 use live_streams::input_makes_a_schedule;
 use several_links::{Member, ReachFault, all_up, close_each, reach_each};
 use std::alloc::Global;
-use word_forms::Addresses;
 
 /// Reads a schedule, and writes its datagrams from super frame `from` on as a capture, where the live streams take their bytes from
 /// input. Answers whether each frame that asks for bytes had them.

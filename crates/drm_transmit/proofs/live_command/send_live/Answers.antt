@@ -3,8 +3,7 @@ use Rattle.std.proofs.lemmas.List.{take_at}
 use Rattle.drm_links.specs.Told.{Tells}
 use Rattle.drm_faults.proofs.CauseLemmas.{none_failed}
 use Rattle.drm_faults.specs.declared.fault.Fault.TheVariants as faults
-use Rattle.several_links.specs.Openings.{Docked}
-use Rattle.drm_links.specs.Dock.{Over}
+use Rattle.drm_links.specs.Dock.{Docked, Over}
 use Rattle.several_links.specs.Reaching.{HaveGone, HaveLinks, after_closes}
 use Rattle.several_links.specs.declared.member.Member.{Member}
 use Rattle.drm_transmit.specs.Live.{LiveSendRun}

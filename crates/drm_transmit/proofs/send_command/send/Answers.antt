@@ -33,7 +33,7 @@ returns-in-Ok g c =
     over_links c.one_delivery.ensures c.first_ones_are_front.ensures (schedule_named c.args.name.now) to c.args.pace c.args.from c.send_over-sent.result g.S.Shelf.known c.args.shelf.now c.send_over-sent.new.shelf g.D.Dock.known c.args.dock.now c.close_each.new.dock
     c.requires.different
     (links_run (schedule_named c.args.name.now) to c.args.pace c.args.from c.send_over-sent.result g.S.Shelf.known c.args.shelf.now c.send_over-sent.new.shelf g.D.Dock.known c.args.dock.now c.close_each.new.dock b known before after many run c.in-Ok.ensures.opened
-    (subst (λ ms. Rattle.several_links.specs.Openings.Docked a b (λ told. Rattle.several_links.specs.Reaching.HaveLinks known told to ms)) (sym value) c.in-Ok.ensures.links) shut same) in
+    (subst (λ ms. Rattle.drm_links.specs.Dock.Docked a b (λ told. Rattle.several_links.specs.Reaching.HaveLinks known told to ms)) (sym value) c.in-Ok.ensures.links) shut same) in
     record {
       run = sent;
       unsent = λ e. nothing_sent c.one_delivery.ensures c.first_ones_are_front.ensures (schedule_named c.args.name.now) to c.args.pace c.args.from c.send_over-sent.result g.S.Shelf.known c.args.shelf.now c.send_over-sent.new.shelf g.D.Dock.known c.args.dock.now c.close_each.new.dock c.requires.different sent e;

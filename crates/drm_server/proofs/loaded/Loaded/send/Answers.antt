@@ -8,7 +8,7 @@ use Rattle.dcp_pft.proofs.Carried.{limit_is}
 use Rattle.live_streams.specs.Live.{Given, live_schedule}
 use Rattle.live_streams.proofs.FrameLemmas.{same_carry, same_sequence_number}
 use Rattle.drm_timeline.specs.Numbers.{sequence_number}
-use Rattle.packet_sending.specs.Sending.{SentPacket, SentSome}
+use Rattle.dcp_sender.specs.Sending.{SentPacket, SentSome}
 use Rattle.drm_server.specs.Serving.{Serving, only_at}
 use Rattle.drm_server.proofs.FrameLemmas.{answers_whole, answers_part}
 use Rattle.drm_server.proofs.loaded.Loaded.send.Goals as goal

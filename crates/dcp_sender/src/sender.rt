@@ -1,0 +1,193 @@
+//! Packets under a carry.
+
+ghost use Rattle.std.specs.Prelude.{◌≡◌, ◌<◌, ◌≤◌, ◌+◌, ℕ, List, false, length, slice_index_or, take, drop, IfOk, IfSome, Some};
+ghost use Rattle.std.specs.List.{concat};
+ghost use Rattle.dcp_pft.specs.Limits.{most_packet, most_parity, most_fragment, most_fragments, most_losses, least_fragment};
+ghost use Rattle.dcp_pft.specs.Cutting.{IsShapeOf};
+ghost use Rattle.dcp_pft.specs.Carrying.{CarryFits};
+ghost use Rattle.dcp_pft.specs.Head.{IsFragmentOf};
+ghost use Rattle.dcp_pft.specs.declared.carry.Carry.TheVariants.{Pft};
+ghost use Rattle.drm_links.specs.Link.{longest_told};
+ghost use Rattle.drm_links.specs.Sink.{Writes};
+ghost use Rattle.dcp_sender.specs.Parity.{HoldsParity, IsCoded};
+ghost use Rattle.dcp_sender.specs.Carried.{Carried, most_room, is_too_long};
+ghost use Rattle.dcp_sender.specs.OverLinks.{is_large, SentTo, CutOver};
+ghost use Rattle.dcp_sender.specs.Targets.{target};
+
+use crate::cut::{write_cut, write_parity};
+use crate::send::send_packet;
+use dcp_pft::{
+    Carry, MOST_CARRIED, MOST_FRAGMENT, MOST_FRAGMENTS, MOST_PARITY, Shape, all_taken, cut_for,
+    datagrams, most_packet, shape_for,
+};
+use drm_bits::{NoMemory, zeros};
+use drm_links::{Link, Sink, WriteFault, write_all};
+use several_links::Member;
+use std::alloc::Global;
+use std::marker::Model;
+
+// The most bytes of a fragment's header.
+const HEAD: usize = 16;
+
+/// The fragments of a packet have fewer bytes than this, by as many as one may have.
+const MOST_ROOM: usize = MOST_CARRIED as usize + HEAD * MOST_FRAGMENTS as usize + MOST_FRAGMENT;
+
+/// Writes packets under a carry, or sends them. All its memory is taken where it is made.
+#[derive(Drop)]
+pub struct PacketSender {
+    carry: Carry,
+    parity: Vec<u8>,
+    // Room for the fragments of a packet, which are written at once; of those that are sent, for one.
+    room: Vec<u8>,
+}
+
+impl Model for PacketSender {
+    ghost use Rattle.std.specs.Prelude.{◌≡◌, length};
+    ghost use Rattle.dcp_pft.specs.declared.carry.Carry.{Carry};
+    ghost use Rattle.dcp_pft.specs.Limits.{most_parity};
+    ghost use Rattle.dcp_pft.specs.Carrying.{CarryFits};
+    ghost use Rattle.dcp_sender.specs.Carried.{most_room};
+
+    ghost Value = { Carry };
+
+    ghost view = { λ s. s.carry };
+
+    ghost invariant = { λ s. CarryFits s.carry
+        × (length s.parity.items ≡ most_parity)
+        × (length s.room.items ≡ most_room) };
+}
+
+impl PacketSender {
+    /// A sender under this carry.
+    pub fn make(alloc: Global, carry: Carry) -> Result<PacketSender, NoMemory>
+        requires { CarryFits carry }
+        ensures { IfOk result (λ sender. sender ≡ carry) }
+    {
+        let parity = zeros(alloc, MOST_PARITY)?;
+        let room = zeros(alloc, MOST_ROOM)?;
+        Ok(PacketSender {
+            carry,
+            parity,
+            room,
+        })
+    }
+
+    /// Whether a packet of so many bytes is too long to be written: one that is carried whole never is.
+    pub fn is_too_long(&self, len: usize) -> bool
+        ensures { result ≡ is_too_long self.now len }
+    {
+        match self.carry {
+            Carry::Plain => false,
+            Carry::Pft { .. } => len > most_packet(self.carry),
+        }
+    }
+
+    /// Writes the datagrams that carry a packet with this sequence number, one after another.
+    pub fn write<O: Sink>(&mut self, seq: u16, packet: &[u8], out: &mut O) -> Result<(), WriteFault>
+        requires some { 1 ≤ length packet.now }
+        requires small { is_too_long self.old (length packet.now) ≡ false }
+        ensures written { (text : List ℕ) × Carried self.old seq packet.now text
+            × Writes result (O.known out.old) (O.known out.new) text }
+        ensures carry { self.new ≡ self.old }
+    {
+        match self.carry {
+            Carry::Plain => write_all(out, packet),
+            Carry::Pft { m, mtu } => {
+                let len = gather(packet, seq, m, mtu, &mut self.parity, &mut self.room);
+                write_all(out, &self.room[..len])
+            }
+        }
+    }
+
+    /// Whether a packet of so many bytes is too long to be sent: one that is carried whole has a limit too.
+    pub fn is_large(&self, len: usize) -> bool
+        ensures { result ≡ is_large self.now len }
+    {
+        len > most_packet(self.carry)
+    }
+
+    /// Sends the datagrams of a packet with this sequence number over each link that hasn't failed, in their order, and gives their
+    /// number. The packet is coded once.
+    pub fn send<K: Link>(&mut self, seq: u16, packet: &[u8], links: &mut [Member<K>]) -> u64
+        requires some { 1 ≤ length packet.now }
+        requires small { is_large self.old (length packet.now) ≡ false }
+        ensures each { (k : ℕ) (d : _) → k < length links.old → SentTo self.old seq packet.now result
+            (target K.known (slice_index_or links.old k d)) (target K.known (slice_index_or links.new k d)) }
+        ensures few { result ≤ most_fragments }
+        ensures carry { self.new ≡ self.old }
+    {
+        all_taken();
+        let cut = cut_for(self.carry, packet.len());
+        write_parity(packet, cut, &mut self.parity);
+        for link in links.iter_mut() {
+            send_over(packet, cut, &self.parity, seq, &mut self.room, link);
+        }
+        u64::from(datagrams(cut))
+    }
+}
+
+// Writes the fragments of a packet one after another to the front, and gives their length.
+fn gather(packet: &[u8], seq: u16, m: u8, mtu: u16, parity: &mut [u8], into: &mut [u8]) -> usize
+    requires some { 1 ≤ length packet.now }
+    requires small { length packet.now ≤ most_packet (Pft m mtu) }
+    requires few { m ≤ most_losses }
+    requires least { least_fragment ≤ mtu }
+    requires most { mtu ≤ most_fragment }
+    requires parity { length parity.old ≡ most_parity }
+    requires room { length into.old ≡ most_room }
+    ensures fragments { Carried (Pft m mtu) seq packet.now (take result into.new) }
+    ensures within { result ≤ most_room }
+    ensures room { length into.new ≡ most_room }
+    ensures parity { length parity.new ≡ most_parity }
+{
+    let shape = shape_for(packet.len(), m, mtu);
+    write_parity(packet, Some(shape), parity);
+    let mut at = 0;
+    for i in 0..shape.count {
+        at += write_behind(packet, &shape, parity, seq, i, into, at);
+    }
+    at
+}
+
+// Writes fragment `i` to its place, and gives its length.
+fn write_behind(
+    packet: &[u8],
+    shape: &Shape,
+    parity: &[u8],
+    seq: u16,
+    i: u32,
+    into: &mut [u8],
+    at: usize,
+) -> usize
+    requires coded { IsCoded shape.now packet.now parity.now i }
+    requires room { at + most_fragment ≤ length into.old }
+    ensures before { take at into.new ≡ take at into.old }
+    ensures fragment { IsFragmentOf shape.now seq packet.now i (take result (drop at into.new)) }
+    ensures small { result ≤ most_fragment }
+    ensures all { length into.new ≡ length into.old }
+{
+    write_cut(packet, shape, parity, seq, i, &mut into[at..])
+}
+
+// Sends the datagrams of a packet over a link, unless it has failed.
+fn send_over<K: Link>(
+    packet: &[u8],
+    cut: Option<Shape>,
+    parity: &[u8],
+    seq: u16,
+    room: &mut [u8],
+    link: &mut Member<K>,
+)
+    requires shaped { IfSome cut (IsShapeOf (length packet.now)) }
+    requires stands { HoldsParity cut packet.now parity.now }
+    requires all { length parity.now ≡ most_parity }
+    requires small { length packet.now ≤ longest_told }
+    requires room { most_fragment ≤ length room.old }
+    ensures sent { CutOver link.old.up cut seq packet.now (target K.known link.old) (target K.known link.new) }
+    ensures room { length room.new ≡ length room.old }
+{
+    if link.up {
+        let sent = send_packet(packet, cut, parity, seq, room, &mut link.link);
+        link.up = sent.is_ok();
+    }
+}

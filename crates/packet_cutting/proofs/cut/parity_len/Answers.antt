@@ -1,9 +1,0 @@
-use Rattle.std.proofs.Common.{arith}
-use Rattle.packet_cutting.proofs.Taken.{taken}
-use Rattle.packet_cutting.proofs.cut.parity_len.Goals as goal
-
-pub chunks-requires : goal.chunks-requires
-chunks-requires c = omega (arith, (taken c.all_taken.ensures c.args.len c.args.shape.now c.requires).bytes)
-
-pub returns-clause-few : goal.returns-clause-few
-returns-clause-few c = omega (arith, c.chunks.ensures, (taken c.all_taken.ensures c.args.len c.args.shape.now c.requires).chunks)
