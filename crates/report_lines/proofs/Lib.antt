@@ -1,2 +1,6 @@
 pub mod HexLemmas
+pub mod TakenLemmas
+pub mod CountLemmas
+pub mod RefusalLemmas
 pub mod StreamLemmas
+pub mod StepLemmas

@@ -4,3 +4,6 @@ pub mod FaultWords
 pub mod FrameLine
 pub mod FrameParts
 pub mod Report
+pub mod Reports
+pub mod Tallies
+pub mod Texts

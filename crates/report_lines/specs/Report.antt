@@ -7,8 +7,8 @@ use Rattle.drm_switches.specs.declared.tracker.Before.TheVariants.{Switch, Resum
 use Rattle.mod_feed.specs.declared.item.BadFault.{BadFault}
 use Rattle.mod_feed.specs.Items.{Item, Frame, Missing, Bad}
 use Rattle.mod_feed.specs.Feeding.{FeedStep}
-use Rattle.report_lines.specs.declared.report.EndWord.{EndWord}
-use Rattle.report_lines.specs.declared.report.EndWord.TheVariants.{Frames, Limit, Idle, Input, Paths}
+use Rattle.recv_reading.specs.declared.reason.EndWord.{EndWord}
+use Rattle.recv_reading.specs.declared.reason.EndWord.TheVariants.{Frames, Limit, Idle, Input, Paths}
 use Rattle.report_lines.specs.declared.report.Sums.{Sums}
 use Rattle.report_lines.specs.FaultWords.{bad_words, taken_words}
 use Rattle.report_lines.specs.FrameLine.{frame_line}

@@ -3,6 +3,8 @@
 #![tactic(auto)]
 
 mod block;
+mod buffer;
+mod counts;
 mod description;
 mod fac_line;
 mod frame_line;
@@ -14,10 +16,13 @@ mod streams;
 mod words;
 
 pub use block::block_bits;
+pub use buffer::ReportBuffer;
+pub use counts::{Refusal, ReportCounts};
 pub use fac_line::write_fac;
 pub use hex_bits::{digit, write_digits};
 pub use line_writer::LineWriter;
-pub use report::{EndWord, Sums, write_end, write_feed, write_refused};
+pub use recv_reading::EndWord;
+pub use report::{Sums, write_end, write_feed, write_refused};
 pub use step::write_step;
 pub use text_pieces::{Piece, write_pieces};
 pub use words::{FaultWords, af_words, mdi_words, pft_words};

@@ -8,22 +8,8 @@ ghost use Rattle.report_lines.specs.Report.{feed_line, refused_line, end_word, e
 use crate::words::taken_words;
 use dcp_collect::Taken;
 use drm_links::{Sink, WriteFault};
+use recv_reading::EndWord;
 use text_pieces::{Piece, write_pieces};
-
-/// Why a report ends.
-#[derive(Clone, Copy, Debug, PartialEq, Eq)]
-pub enum EndWord {
-    /// The frames that were asked for were given.
-    Frames,
-    /// The datagrams that were allowed were taken.
-    Limit,
-    /// Nothing came for too long.
-    Idle,
-    /// The input ended.
-    Input,
-    /// All paths ended.
-    Paths,
-}
 
 /// How many items of each kind a report tells, and how many datagrams were refused or disagreed.
 #[derive(Clone, Copy, Debug, PartialEq, Eq)]

@@ -1,5 +1,5 @@
 -- Texts that are gathered on their way out.
-use Rattle.std.specs.Prelude.{ℕ, ◌≡◌, List, [], ◌++◌, Result, OnOk, OnErr, IsErr}
+use Rattle.std.specs.Prelude.{ℕ, ◌≡◌, List, [], ◌++◌, Result, OnOk, OnErr, IsOk, IsErr}
 use Rattle.drm_links.specs.Told.{Known, HasCause}
 use Rattle.drm_links.specs.Sink.{Output, Outputs, IsFront, Writes}
 
@@ -10,7 +10,9 @@ pub record Puts {E : Type 0} (result : Result (Unit {0}) E) (old new : List ℕ)
   pub front : OnErr result (Outputs before after (IsFront (old ++ text)))
   pub cause : HasCause before after (IsErr result)
 
--- All that was gathered was written, and nothing is any more. Or a write failed, and a front of it was written.
+-- All that was gathered was written, and nothing is any more. Or a write failed, and a front of it was written. Where nothing was
+-- gathered the sink isn't asked.
 pub record Flushes {E : Type 0} (result : Result (Unit {0}) E) (old new : List ℕ) (before after : Known Output) : Type 0 where
   pub writes : Writes result before after old
   pub none : OnOk result (new ≡ [])
+  pub nothing : old ≡ [] → IsOk result × (after ≡ before)

@@ -74,6 +74,9 @@ impl Gathered {
     pub fn flush<O: Sink>(&mut self, out: &mut O) -> Result<(), WriteFault>
         ensures { Flushes result self.old self.new (O.known out.old) (O.known out.new) }
     {
+        if self.bytes.is_empty() {
+            return Ok(());
+        }
         write_all(out, &self.bytes)?;
         self.bytes.clear();
         Ok(())
