@@ -16,8 +16,8 @@ use Rattle.drm_faults.specs.Captures as captures
 use Rattle.drm_faults.specs.Fault.{UnlessMemory}
 use Rattle.drm_faults.specs.declared.fault.Fault.{Fault}
 use Rattle.drm_faults.specs.declared.fault.Fault.TheVariants as faults
-use Rattle.capture_items.specs.Reading.{Terms, BreaksOffBy}
-use Rattle.capture_items.proofs.BreakingOff.{all_unbroken, BreaksBy, until_breaks}
+use Rattle.recv_reading.specs.Packets.{Terms, BreaksOffBy}
+use Rattle.recv_reading.proofs.BreakingOff.{all_unbroken, BreaksBy, until_breaks}
 use Rattle.capture_data.specs.declared.taker.Taker.{Taker}
 use Rattle.capture_data.specs.Streams.{What}
 use Rattle.capture_data.specs.Lines.{is_clean}

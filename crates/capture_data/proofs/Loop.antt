@@ -1,27 +1,33 @@
 -- The items of a capture, one after another.
-use Rattle.std.proofs.Common.{◌≡◌, ℕ, ◌+◌, ◌-◌, ◌*◌, ◌^◌, ◌<◌, ◌≤◌, Bool, true, false, List, [], ◌∷◌, ◌++◌, length, Option, inl, refl, sym, ap, subst, ◌∙◌, arith, length-append}
-use Rattle.std.specs.Prelude.{Result, Ok, Err, OnOk, IfSome, if◌then◌else◌, not}
-use Rattle.std.specs.Int.{from_bool}
+use Rattle.std.proofs.Common.{◌≡◌, ℕ, ◌+◌, ◌*◌, ◌^◌, ◌<◌, ◌≤◌, true, false, List, [], ◌∷◌, ◌++◌, length, Option, None, Some, inl, refl, sym, ap, subst, ◌∙◌, arith, append_assoc}
+use Rattle.std.specs.Prelude.{Result, Ok, Err, OnOk, IfSome}
+use Rattle.std.proofs.lemmas.List.{append-nil}
 use Rattle.drm_links.specs.Told.{Known}
-use Rattle.drm_links.specs.Source.{Input, Inputs}
+use Rattle.drm_links.specs.Link.{Answer, Datagram}
+use Rattle.drm_links.specs.Source.{Input}
 use Rattle.drm_links.specs.Sink.{Output, Outputs}
 use Rattle.drm_links.proofs.ToldLemmas.{Outputs-nothing, Outputs-then}
 use Rattle.drm_links.proofs.WritingLemmas.{Writes-done, Writes-front, front_behind}
-use Rattle.drm_capture.specs.Capture.{IsCaptureOf, End, most_bytes}
+use Rattle.drm_capture.specs.Capture.{most_bytes}
 use Rattle.drm_capture.specs.Walking.{WalkerState, new_walker}
-use Rattle.drm_capture.specs.Reading.{HasRead, Stops}
 use Rattle.drm_capture.specs.declared.packets.CaptureStop.{CaptureStop}
 use Rattle.drm_capture.specs.declared.packets.CaptureStop.TheVariants as stops
-use Rattle.dcp_collect.specs.State.{State, made, ready, after_item, after_next, after_finish}
+use Rattle.dcp_collect.specs.declared.taken.Taken.{Taken}
+use Rattle.dcp_collect.specs.State.{State, made, ready, after_item, after_next}
 use Rattle.dcp_collect.specs.Runs.{Item as Given, IsItem}
-use Rattle.collect_laws.specs.Laws.{IsFit}
-use Rattle.collect_laws.proofs.Stays.{take_next, take_end}
 use Rattle.mod_feed.specs.Items.{Item, IsItemOf}
 use Rattle.drm_faults.specs.Captures.{stop_fault}
 use Rattle.drm_faults.specs.declared.fault.Fault.TheVariants as faults
-use Rattle.capture_items.specs.Reading.{Terms, is_full}
-use Rattle.capture_items.specs.ReadingOn.{TookOne, ReadsOn}
-use Rattle.capture_items.proofs.ReachedLemmas.{Reached, IsReadSo, read_none, reached_none, drained, reached_taken, reached_finished, reached_given, reached_until, reached_to, reached_full, reached_end, read_further, read_as_far}
+use Rattle.recv_reading.specs.declared.options.ReceiveOptions.{ReceiveOptions}
+use Rattle.recv_reading.specs.Options.{AreUsable, capture_bounds, options_of}
+use Rattle.recv_reading.specs.State.{ReadingState, new_reading, has_enough, has_ended, one_given}
+use Rattle.recv_reading.specs.Reached.{Reached, HasReached, ReadsOn}
+use Rattle.recv_reading.specs.Source.{ReadSoFar, HeardUntil}
+use Rattle.recv_reading.specs.Packets.{Terms, terms_of}
+use Rattle.recv_reading.proofs.Reaching.{reached_none}
+use Rattle.recv_reading.proofs.Finishing.{IsOver, finishes}
+use Rattle.recv_reading.proofs.Sources.{read_none}
+use Rattle.recv_reading.proofs.PacketLemmas.{gives_to, gives_all, gives_until}
 use Rattle.capture_data.specs.declared.taker.Taker.{Taker}
 use Rattle.capture_data.specs.Streams.{What}
 use Rattle.capture_data.specs.Printed.{AreItems}
@@ -31,236 +37,164 @@ use Rattle.capture_data.proofs.Items.{items_more}
 use Rattle.capture_data.proofs.Printing.{printed}
 use Rattle.capture_data.proofs.Pieces.{below_weaker}
 
--- these items were read, given and taken, and what is printed of them was written
-pub record Loop (terms : Terms) (first taker : Taker) (c : State) (reader : WalkerState) (calls given : ℕ) (ended : Bool) (before after : Known Input) (a b : Known Output) : Type 0 where
-  pub packets : List (List ℕ)
-  pub all : List Given
+-- The reading has come so far, its items were taken, and what is printed of them was written.
+pub record Loop (options : ReceiveOptions) (first taker : Taker) (r : ReadingState) (c : State) (calls : ℕ) (reader : WalkerState) (before after : Known Input) (a b : Known Output) : Type 0 where
+  pub answers : List Answer
+  pub read : ReadSoFar reader before after answers
+  pub taken : List Taken
+  pub during : List Given
+  pub more : List Given
+  pub reached : Reached options answers taken during more r c
   pub items : List Item
-  pub reached : Reached terms packets all c ended
-  pub read : IsReadSo ended packets reader before after
-  pub at : reader.at ≤ most_bytes
-  pub are : AreItems all items
+  pub are : AreItems (during ++ more) items
   pub told : (what : What) → Took what [] [] first → (text : List ℕ) × Took what items text taker × Outputs a b (λ t. t ≡ text)
-  pub count : given ≡ length all
-  pub next : c.next ≡ given
-  pub calls_are : calls ≡ given
+  pub calls_are : calls ≡ r.given
+  pub few : r.given ≤ 2 ^ 62
   pub is_ready : IsReady taker
-  pub room : AreBelow (counts_in taker) (given * 2 ^ 64)
-  pub input_still : after.faults ≡ before.faults
-  pub output_still : b.faults ≡ a.faults
+  pub room : AreBelow (counts_in taker) (r.given * 2 ^ 64)
 
-pub loop_none : (terms : Terms) (taker : Taker) (c : State) (reader : WalkerState) (calls given : ℕ) (before : Known Input) (a : Known Output)
-    → c ≡ made terms.window terms.first → reader ≡ new_walker → calls ≡ 0 → given ≡ 0 → 1 ≤ terms.window → IfSome terms.told (λ n. 1 ≤ n) → IsReady taker → AreBelow (counts_in taker) 0
-    → Loop terms taker taker c reader calls given false before before a a
-loop_none terms taker c reader calls given before a is new none_called none_given window some is_ready none =
-    let read = read_none before reader new in
+pub after_given : (c d : State) → ready c ≡ true → d ≡ after_next c → d ≡ after_item c
+after_given c d now is = is ∙ rw now refl
+
+usable : (told : Option ℕ) (c : State) → 1 ≤ c.window → IfSome told (λ n. 1 ≤ n) → IfSome told (λ n. n ≤ 3000000) → AreUsable (options_of c (capture_bounds told))
+usable told c window some few = record { window = window; frames = some; most_frames = few; idle = omega arith; limit = omega arith; most_datagrams = omega arith }
+
+pub loop_none : (taker : Taker) (r : ReadingState) (c : State) (told : Option ℕ) (reader : WalkerState) (calls : ℕ) (before : Known Input) (a : Known Output)
+    → r ≡ new_reading (capture_bounds told) → c ≡ made c.window c.first → reader ≡ new_walker → calls ≡ 0 → 1 ≤ c.window → IfSome told (λ n. 1 ≤ n) → IfSome told (λ n. n ≤ 3000000) → IsReady taker → AreBelow (counts_in taker) 0
+    → Loop (options_of c (capture_bounds told)) taker taker r c calls reader before before a a
+loop_none taker r c told reader calls before a reads is new none_called window some few is_ready none =
+    let given : r.given ≡ 0 = ap (λ (s : ReadingState). s.given) reads in
     record {
-      packets = [];
-      all = [];
+      answers = [];
+      read = read_none before reader new;
+      taken = [];
+      during = [];
+      more = [];
+      reached = subst (λ s. Reached (options_of c (capture_bounds told)) [] [] [] [] s c) (sym reads) (reached_none (options_of c (capture_bounds told)) c (usable told c window some few) is);
       items = [];
-      reached = reached_none terms c is window some;
-      read = read;
-      at = omega (arith, read.few);
       are = refl;
       told = λ what took. ([], took, Outputs-nothing a (λ t. t ≡ []) refl);
-      count = none_given;
-      next = ap (λ (s : State). s.next) is ∙ sym none_given;
-      calls_are = none_called ∙ sym none_given;
+      calls_are = none_called ∙ sym given;
+      few = omega (arith, given);
       is_ready = is_ready;
-      room = below_weaker (counts_in taker) 0 (given * 2 ^ 64) (omega arith) none;
-      input_still = refl;
-      output_still = refl;
+      room = below_weaker (counts_in taker) 0 (r.given * 2 ^ 64) (omega arith) none;
     }
 
 on_done : {T E : Type 0} (r : Result T E) (done : T) (P : Type 0) → r ≡ Ok done → OnOk r P → P
 on_done {T} {E} r done P is holds = subst (λ (k : Result T E). OnOk k P) is holds
-
-room_at : (told : Option ℕ) (given : ℕ) (all : List Given) → given ≡ length all → is_full told given ≡ false → is_full told (length all) ≡ false
-room_at told given all count room = ap (λ n. is_full told n) (sym count) ∙ room
-
-next_by : (b : Bool) (c : State) → b ≡ true → (if b then after_item c else c).next ≡ c.next + 1
-next_by true c is = refl
-next_by false c is = absurd (let clash : false ≡ true = is in cc)
-
--- an item was given and taken
-pub loop_given : {E : Type 0} (terms : Terms) (first taker taken : Taker) (c d : State) (reader : WalkerState) (calls calls' given given' : ℕ) (ended : Bool) (before after : Known Input) (a b o : Known Output)
-    (next : Given) (item : Item) (result : Result (Unit {0}) E) (done : Unit {0})
-    → Loop terms first taker c reader calls given ended before after a b → ready c ≡ true → IsItem c next → is_full terms.told given ≡ false → d ≡ after_next c
-    → IsItemOf next item → calls' ≡ calls + 1 → given' ≡ given + 1
-    → ((what : What) (items : List Item) (text : List ℕ) → Took what items text taker → TakesItem what items item text result taken b o)
-    → result ≡ Ok done → OnOk result (IsReady taken) → OnOk result ((n : ℕ) → AreBelow (counts_in taker) n → AreBelow (counts_in taken) (n + 2 ^ 64)) → o.faults ≡ b.faults
-    → Loop terms first taken d reader calls' given' ended before after a o
-loop_given terms first taker taken c d reader calls calls' given given' ended before after a b o next item result done i now is room is_next item_is called counted takes ok is_ready grows still = record {
-  packets = i.packets;
-  all = i.all ++ next ∷ [];
-  items = i.items ++ item ∷ [];
-  reached = reached_given terms i.packets i.all next c d ended i.reached now is (room_at terms.told given i.all i.count room) is_next;
-  read = i.read;
-  at = i.at;
-  are = items_more i.all i.items next item i.are item_is;
-  told = λ what new.
-      let (text, took, out) = i.told what new in
-      let t = takes what i.items text took in (
-        text ++ t.line,
-        subst (λ (k : Taker). Took what (i.items ++ item ∷ []) (text ++ t.line) k) (sym (on_done result done (taken ≡ t.after) ok t.after_is)) t.took,
-        Outputs-then (λ l. l ≡ text) (λ l. l ≡ t.line) (λ l. l ≡ text ++ t.line) a b o out (Writes-done ok t.writes) (λ x y p q. ap (λ l. l ++ y) p ∙ ap (λ l. text ++ l) q),
-      );
-  count = counted ∙ (ap (λ n. n + 1) i.count ∙ sym (length-append i.all (next ∷ [])));
-  next = ap (λ (s : State). s.next) is_next ∙ (next_by (ready c) c now ∙ (ap (λ n. n + 1) i.next ∙ sym counted));
-  calls_are = omega (arith, called, counted, i.calls_are);
-  is_ready = on_done result done (IsReady taken) ok is_ready;
-  room = below_weaker (counts_in taken) (given * 2 ^ 64 + 2 ^ 64) (given' * 2 ^ 64) (omega (arith, counted)) (on_done result done _ ok grows (given * 2 ^ 64) i.room);
-  input_still = i.input_still;
-  output_still = still ∙ i.output_still;
-}
-
-pub loop_broken : {E : Type 0} (terms : Terms) (first taker taken last : Taker) (c : State) (reader : WalkerState) (calls given : ℕ) (ended : Bool) (before after : Known Input) (a b o : Known Output)
-    (next : Given) (item : Item) (result : Result (Unit {0}) E) (fault : E)
-    → Loop terms first taker c reader calls given ended before after a b → ready c ≡ true → IsItem c next → is_full terms.told given ≡ false → IsItemOf next item
-    → ((what : What) (items : List Item) (text : List ℕ) → Took what items text taker → TakesItem what items item text result taken b o)
-    → result ≡ Err fault → (what : What) → Took what [] [] first → TakesAll terms what (Err faults.Write) last before after a o
-loop_broken terms first taker taken last c reader calls given ended before after a b o next item result fault i now is room item_is takes failed what new =
-    let (text, took, out) = i.told what new in
-    let t = takes what i.items text took in
-    inl (
-      i.all,
-      next,
-      reached_to terms i.packets i.all next c ended reader before after i.reached now is (room_at terms.told given i.all i.count room) i.read,
-      i.items,
-      i.are,
-      item,
-      item_is,
-      text,
-      t.line,
-      printed what i.items text taker took,
-      printed what (i.items ++ item ∷ []) (text ++ t.line) t.after t.took,
-      front_behind text t.line a b o out (Writes-front failed t.writes),
-    )
-
--- a packet was taken
-pub loop_taken : (terms : Terms) (first taker : Taker) (c d : State) (reader further : WalkerState) (calls given : ℕ) (before after later : Known Input) (a b : Known Output)
-    → (i : Loop terms first taker c reader calls given false before after a b) → ready c ≡ false → is_full terms.told given ≡ false
-    → TookOne i.packets c d further before later → IsFit d → later.faults ≡ after.faults → Loop terms first taker d further calls given false before later a b
-loop_taken terms first taker c d reader further calls given before after later a b i none room one fit still =
-    let unfinished = (drained terms i.packets i.all c i.reached none (room_at terms.told given i.all i.count room)).unfinished in
-    record {
-      packets = i.packets ++ one.bytes ∷ [];
-      all = i.all;
-      items = i.items;
-      reached = reached_taken terms i.packets i.all c d one.bytes one.answer i.reached none (room_at terms.told given i.all i.count room) one.takes fit
-          (ap (λ (s : State). s.end) one.takes.after_is ∙ (take_end c one.takes.read ∙ unfinished));
-      read = one.read;
-      at = omega (arith, one.read.few);
-      are = i.are;
-      told = i.told;
-      count = i.count;
-      next = ap (λ (s : State). s.next) one.takes.after_is ∙ (take_next c one.takes.read ∙ i.next);
-      calls_are = i.calls_are;
-      is_ready = i.is_ready;
-      room = i.room;
-      input_still = still ∙ i.input_still;
-      output_still = i.output_still;
-    }
-
--- there is none, and the collector is finished
-pub loop_finished : (terms : Terms) (first taker : Taker) (c d : State) (reader further : WalkerState) (calls given : ℕ) (before after later : Known Input) (a b : Known Output)
-    → (i : Loop terms first taker c reader calls given false before after a b) → ready c ≡ false → is_full terms.told given ≡ false
-    → d ≡ after_finish c terms.told → Inputs before later (λ left rest. IsCaptureOf left i.packets End) → HasRead i.packets further before later → IsFit d → later.faults ≡ after.faults
-    → Loop terms first taker d further calls given true before later a b
-loop_finished terms first taker c d reader further calls given before after later a b i none room finished ended read fit still = record {
-  packets = i.packets;
-  all = i.all;
-  items = i.items;
-  reached = reached_finished terms i.packets i.all c d i.reached none (room_at terms.told given i.all i.count room) finished fit;
-  read = ended;
-  at = omega (arith, read.few);
-  are = i.are;
-  told = i.told;
-  count = i.count;
-  next = ap (λ (s : State). s.next) finished ∙ i.next;
-  calls_are = i.calls_are;
-  is_ready = i.is_ready;
-  room = i.room;
-  input_still = still ∙ i.input_still;
-  output_still = i.output_still;
-}
 
 until : (terms : Terms) (what : What) (stop : CaptureStop) (before after : Known Input) (a b : Known Output) → WritesUntil terms what stop before after a b → Ends terms what (Err (stop_fault stop)) before after a b
 until terms what stops.Read before after a b w = w
 until terms what (stops.Capture fault) before after a b w = w
 until terms what stops.TooLong before after a b w = w
 
--- no more can be read
-pub loop_stopped : (terms : Terms) (first taker last : Taker) (c : State) (reader : WalkerState) (calls given : ℕ) (before after later : Known Input) (a b : Known Output) (stop : CaptureStop)
-    → (i : Loop terms first taker c reader calls given false before after a b) → ready c ≡ false → is_full terms.told given ≡ false → Stops i.packets stop before later
-    → (what : What) → Took what [] [] first → TakesAll terms what (Err (stop_fault stop)) last before later a b
-loop_stopped terms first taker last c reader calls given before after later a b stop i none room stopped what new =
-    let (text, took, out) = i.told what new in
-    until terms what stop before later a b
-    (i.all, reached_until terms i.packets i.all c reader stop before after later i.reached none (room_at terms.told given i.all i.count room) i.read stopped, i.items, i.are, text, printed what i.items text taker took, out)
+module _ (options : ReceiveOptions) (first taker : Taker) (r : ReadingState) (c : State) (calls : ℕ) (reader : WalkerState) (before after : Known Input) (a b : Known Output)
+    (i : Loop options first taker r c calls reader before after a b) where
+  pub has_reached : HasReached r c
+  has_reached = (options, i.answers, i.taken, i.during, i.more, i.reached)
 
--- all items are taken
-pub loop_full : (terms : Terms) (first taker : Taker) (c : State) (reader : WalkerState) (calls given : ℕ) (ended : Bool) (before after : Known Input) (a b : Known Output) (done : Unit {0})
-    → Loop terms first taker c reader calls given ended before after a b → is_full terms.told given ≡ true
-    → (what : What) → Took what [] [] first → TakesAll terms what (Ok done) taker before after a b
-loop_full terms first taker c reader calls given ended before after a b done i full what new =
-    let (text, took, out) = i.told what new in
-    (i.all, reached_full terms i.packets i.all c ended reader before after i.reached (ap (λ n. is_full terms.told n) (sym i.count) ∙ full) i.read, i.items, i.are, text, took, out)
+  -- where nothing was given
+  pub loop_as : (s : ReadingState) → s ≡ r → Loop options first taker s c calls reader before after a b
+  loop_as s same = subst (λ k. Loop options first taker k c calls reader before after a b) (sym same) i
 
-pub loop_end : (terms : Terms) (first taker : Taker) (c : State) (reader : WalkerState) (calls given : ℕ) (before after : Known Input) (a b : Known Output) (done : Unit {0})
-    → Loop terms first taker c reader calls given true before after a b → ready c ≡ false
-    → (what : What) → Took what [] [] first → TakesAll terms what (Ok done) taker before after a b
-loop_end terms first taker c reader calls given before after a b done i none what new =
-    let (text, took, out) = i.told what new in
-    (i.all, reached_end terms i.packets i.all c before after i.reached none i.read, i.items, i.are, text, took, out)
+  -- how many items there are
+  pub next_calls : c.next ≡ calls
+  next_calls = i.reached.next_is ∙ sym i.calls_are
 
--- so many items there are at the most
-pub loop_room : (terms : Terms) (first taker : Taker) (c : State) (reader : WalkerState) (calls given : ℕ) (ended : Bool) (before after : Known Input) (a b : Known Output)
-    → Loop terms first taker c reader calls given ended before after a b → given ≤ 2 ^ 62 → AreBelow (counts_in taker) (2 ^ 126)
-loop_room terms first taker c reader calls given ended before after a b i few = below_weaker (counts_in taker) (given * 2 ^ 64) (2 ^ 126) (omega (arith, few)) i.room
+  pub below : AreBelow (counts_in taker) (2 ^ 126)
+  below = below_weaker (counts_in taker) (r.given * 2 ^ 64) (2 ^ 126) (let f = i.few in omega (arith, f)) i.room
 
--- ---- reading on
+  -- ---- an item
 
--- where nothing is ready, `next` changes nothing
-next_none : (b : Bool) (c : State) → b ≡ false → (if b then after_item c else c) ≡ c
-next_none true c is = absurd (let clash : true ≡ false = is in cc)
-next_none false c is = refl
+  module _ {E : Type 0} (taken : Taker) (o : Known Output) (next : Given) (item : Item) (result : Result (Unit {0}) E) (item_is : IsItemOf next item)
+      (takes : (what : What) (items : List Item) (text : List ℕ) → Took what items text taker → TakesItem what items item text result taken b o) where
+    pub loop_given : (s : ReadingState) (d : State) (calls' : ℕ) (done : Unit {0}) → Reached options i.answers i.taken i.during (i.more ++ next ∷ []) s d → s ≡ one_given r → c.next < 2 ^ 62 → calls' ≡ calls + 1
+        → result ≡ Ok done → OnOk result (IsReady taken) → OnOk result ((n : ℕ) → AreBelow (counts_in taker) n → AreBelow (counts_in taken) (n + 2 ^ 64))
+        → Loop options first taken s d calls' reader before after a o
+    loop_given s d calls' done reached gives small called ok is_ready grows =
+        let given : s.given ≡ r.given + 1 = ap (λ (x : ReadingState). x.given) gives in
+        record {
+          answers = i.answers;
+          read = i.read;
+          taken = i.taken;
+          during = i.during;
+          more = i.more ++ next ∷ [];
+          reached = reached;
+          items = i.items ++ item ∷ [];
+          are = subst (λ l. AreItems l (i.items ++ item ∷ [])) (append_assoc i.during i.more (next ∷ [])) (items_more (i.during ++ i.more) i.items next item i.are item_is);
+          told = λ what new.
+              let (text, took, out) = i.told what new in
+              let t = takes what i.items text took in (
+                text ++ t.line,
+                subst (λ (k : Taker). Took what (i.items ++ item ∷ []) (text ++ t.line) k) (sym (on_done result done (taken ≡ t.after) ok t.after_is)) t.took,
+                Outputs-then (λ l. l ≡ text) (λ l. l ≡ t.line) (λ l. l ≡ text ++ t.line) a b o out (Writes-done ok t.writes) (λ x y p q. ap (λ l. l ++ y) p ∙ ap (λ l. text ++ l) q),
+              );
+          calls_are = called ∙ ap (λ n. n + 1) i.calls_are ∙ sym given;
+          few = (let n = i.reached.next_is in omega (arith, given, small, n));
+          is_ready = on_done result done (IsReady taken) ok is_ready;
+          room = below_weaker (counts_in taken) (r.given * 2 ^ 64 + 2 ^ 64) (s.given * 2 ^ 64) (omega (arith, given)) (on_done result done _ ok grows (r.given * 2 ^ 64) i.room);
+        }
 
-pub same_next : (c d : State) → ready c ≡ false → d ≡ after_next c → c ≡ d
-same_next c d none is = sym (is ∙ next_none (ready c) c none)
+    pub loop_broken : (last : Taker) (fault : E) → has_enough r ≡ false → ready c ≡ true → IsItem c next → result ≡ Err fault → most_bytes < options.limit
+        → (what : What) → Took what [] [] first → TakesAll (terms_of options) what (Err faults.Write) last before after a o
+    loop_broken last fault enough now is failed far what new =
+        let (text, took, out) = i.told what new in
+        let t = takes what i.items text took in
+        inl (
+          i.during ++ i.more,
+          next,
+          (gives_to options i.answers i.taken i.during i.more r c i.reached far reader before after next enough now is i.read).0,
+          i.items,
+          i.are,
+          item,
+          item_is,
+          text,
+          t.line,
+          printed what i.items text taker took,
+          printed what (i.items ++ item ∷ []) (text ++ t.line) t.after t.took,
+          front_behind text t.line a b o out (Writes-front failed t.writes),
+        )
 
-pub loop_as : (terms : Terms) (first taker : Taker) (c d : State) (reader : WalkerState) (calls given : ℕ) (ended : Bool) (before after : Known Input) (a b : Known Output)
-    → c ≡ d → ended ≡ false → Loop terms first taker c reader calls given ended before after a b → Loop terms first taker d reader calls given false before after a b
-loop_as terms first taker c d reader calls given ended before after a b same is i =
-    subst (λ (s : State). Loop terms first taker s reader calls given false before after a b) same (subst (λ (e : Bool). Loop terms first taker c reader calls given e before after a b) is i)
+  -- ---- one packet more, or the end
 
-pub loop_on : (terms : Terms) (first taker : Taker) (c d : State) (reader further : WalkerState) (calls given : ℕ) (found : Bool) (before after later : Known Input) (a b : Known Output)
-    → (i : Loop terms first taker c reader calls given false before after a b) → ready c ≡ false → is_full terms.told given ≡ false
-    → ReadsOn terms.told i.packets (Ok found) c d further before later → IsFit d → later.faults ≡ after.faults
-    → Loop terms first taker d further calls given (not found) before later a b
-loop_on terms first taker c d reader further calls given true before after later a b i none room one fit still =
-    loop_taken terms first taker c d reader further calls given before after later a b i none room one fit still
-loop_on terms first taker c d reader further calls given false before after later a b i none room (finished, ended, read) fit still =
-    loop_finished terms first taker c d reader further calls given before after later a b i none room finished ended read fit still
+  loop_read : (further : WalkerState) (later : Known Input) (answers : List Answer) (taken : List Taken) (s : ReadingState) (d : State)
+      → ReadSoFar further before later answers → Reached options answers taken (i.during ++ i.more) [] s d → Loop options first taker s d calls further before later a b
+  loop_read further later answers taken s d read reached =
+      let given : s.given ≡ r.given = sym reached.given_are ∙ ap length (append-nil (i.during ++ i.more)) ∙ i.reached.given_are in
+      record {
+        answers = answers;
+        read = read;
+        taken = taken;
+        during = i.during ++ i.more;
+        more = [];
+        reached = reached;
+        items = i.items;
+        are = subst (λ l. AreItems l i.items) (sym (append-nil (i.during ++ i.more))) i.are;
+        told = i.told;
+        calls_are = i.calls_are ∙ sym given;
+        few = (let f = i.few in omega (arith, f, given));
+        is_ready = i.is_ready;
+        room = subst (λ n. AreBelow (counts_in taker) (n * 2 ^ 64)) (sym given) i.room;
+      }
 
--- and the reading comes to an end
-abbrev pub ahead : WalkerState → State → Bool → ℕ
-ahead reader c ended = (most_bytes - reader.at) + ((2 ^ 62 - c.next) + from_bool (not ended))
+  pub loop_on : (further : WalkerState) (later : Known Input) (answer : Option Taken) (s : ReadingState) (d : State)
+      → ReadsOn (ReadSoFar further before later) (λ stop. HeardUntil stop before later) options i.answers i.taken (i.during ++ i.more) (Ok answer) s d
+      → Loop options first taker s d calls further before later a b
+  loop_on further later (Some answer) s d (bytes, read, reached) = loop_read further later (i.answers ++ Datagram bytes ∷ []) (i.taken ++ answer ∷ []) s d read reached
+  loop_on further later None s d (others, read, reached) = loop_read further later (i.answers ++ others) i.taken s d read reached
 
-pub less_ahead : (terms : Terms) (first taker : Taker) (c d : State) (reader further : WalkerState) (calls given : ℕ) (found ended : Bool) (before after later : Known Input) (a b : Known Output)
-    → (i : Loop terms first taker c reader calls given false before after a b) → ReadsOn terms.told i.packets (Ok found) c d further before later → ended ≡ false
-    → ahead further d (not found) < ahead reader c ended
-less_ahead terms first taker c d reader further calls given true ended before after later a b i one is =
-    let more : reader.at + 1 ≤ further.at = read_further i.packets one.bytes reader further before after later one.whole i.read one.read in
-    let most : further.at ≤ most_bytes = omega (arith, one.read.few) in
-    let next : d.next ≡ c.next = ap (λ (s : State). s.next) one.takes.after_is ∙ take_next c one.takes.read in
-    omega (arith, more, most, next, ap (λ e. from_bool (not e)) is)
-less_ahead terms first taker c d reader further calls given false ended before after later a b i (finished, end, read) is =
-    let same : further.at ≡ reader.at = read_as_far i.packets reader further before after later i.read read in
-    let next : d.next ≡ c.next = ap (λ (s : State). s.next) finished in
-    omega (arith, same, next, ap (λ e. from_bool (not e)) is)
+  -- no more can be read
+  pub loop_stopped : (further : WalkerState) (later : Known Input) (stop : CaptureStop) (last : Taker) (s : ReadingState) (d : State)
+      → ReadsOn (ReadSoFar further before later) (λ stop. HeardUntil stop before later) options i.answers i.taken (i.during ++ i.more) (Err stop) s d
+      → (what : What) → Took what [] [] first → TakesAll (terms_of options) what (Err (stop_fault stop)) last before later a b
+  loop_stopped further later stop last s d (heard, broken, gave) what new =
+      let (text, took, out) = i.told what new in
+      until (terms_of options) what stop before later a b
+      (i.during ++ i.more, (gives_until options i.answers i.taken (i.during ++ i.more) d stop before later heard broken gave).0, i.items, i.are, text, printed what i.items text taker took, out)
 
-pub less_given : (reader : WalkerState) (c d : State) (ended : Bool) → ready c ≡ true → c.next < 2 ^ 62 → d ≡ after_next c → ahead reader d ended < ahead reader c ended
-less_given reader c d ended now small is =
-    let next : d.next ≡ c.next + 1 = ap (λ (s : State). s.next) is ∙ next_by (ready c) c now in
-    omega (arith, next, small)
+  -- all items are taken
+  pub loop_over : (done : Unit {0}) → has_ended r ≡ true → IsOver r c → most_bytes < options.limit → (what : What) → Took what [] [] first → TakesAll (terms_of options) what (Ok done) taker before after a b
+  loop_over done ended over far what new =
+      let (text, took, out) = i.told what new in
+      let all = finishes options i.answers i.taken i.during i.more r c i.reached ended over in
+      (i.during ++ i.more, (gives_all options i.answers i.taken i.during i.more r c i.reached far reader before after _ all i.read).0, i.items, i.are, text, took, out)

@@ -15,7 +15,7 @@ use Rattle.data_laws.specs.Runs.{answers, after_all}
 use Rattle.drm_text.specs.Joining as joining
 use Rattle.drm_faults.specs.declared.fault.Fault.{Fault}
 use Rattle.drm_faults.specs.declared.fault.Fault.TheVariants as faults
-use Rattle.capture_items.specs.Reading.{Terms}
+use Rattle.recv_reading.specs.Packets.{Terms}
 use Rattle.capture_data.specs.Streams.{What, UnitsOf, TextsOf}
 use Rattle.capture_data.specs.Lines.{cut_line, units_end, texts_end, is_clean}
 use Rattle.capture_data.specs.Printed.{IsPrinted, IsWholeText, unit_counts, text_counts}

@@ -12,8 +12,8 @@ use Rattle.drm_faults.specs.Captures as captures
 use Rattle.drm_faults.specs.Fault.{UnlessMemory}
 use Rattle.drm_faults.specs.declared.fault.Fault.{Fault}
 use Rattle.drm_faults.specs.declared.fault.Fault.TheVariants as faults
-use Rattle.capture_items.specs.Reading.{Terms, BreaksOffBy}
-use Rattle.capture_items.specs.Given.{GivesAll, GivesUntil, GivesTo}
+use Rattle.recv_reading.specs.Packets.{Terms, BreaksOffBy}
+use Rattle.recv_reading.specs.Given.{GivesAll, GivesUntil, GivesTo}
 use Rattle.capture_data.specs.Streams.{What}
 use Rattle.capture_data.specs.Printed.{AreItems, IsPrinted, IsWholeText}
 

@@ -8,8 +8,8 @@ use Rattle.drm_links.specs.Source.{Input}
 use Rattle.drm_links.specs.Sink.{Output, Outputs, Writes}
 use Rattle.dcp_collect.specs.Runs.{Item as Given}
 use Rattle.drm_faults.specs.declared.fault.Fault.{Fault}
-use Rattle.capture_items.specs.Reading.{Terms}
-use Rattle.capture_items.specs.Given.{GivesAll}
+use Rattle.recv_reading.specs.Packets.{Terms}
+use Rattle.recv_reading.specs.Given.{GivesAll}
 use Rattle.mod_feed.specs.Items.{Item}
 use Rattle.drm_data.specs.Joining.{Event, Answer, Silent, Whole, CutOff, CutWhole, Refuses, made}
 use Rattle.data_laws.specs.Readings.{AreEvents}

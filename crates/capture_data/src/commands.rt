@@ -1,7 +1,7 @@
 //! The commands `unpack` and `texts`.
 
 ghost use Rattle.std.specs.Prelude.{◌≡◌, ◌<◌, ◌≤◌, IfSome};
-ghost use Rattle.capture_items.specs.Reading.{Terms};
+ghost use Rattle.recv_reading.specs.Packets.{Terms};
 ghost use Rattle.capture_data.specs.Streams.{UnitsOf, TextsOf};
 ghost use Rattle.capture_data.specs.Run.{DataRun};
 

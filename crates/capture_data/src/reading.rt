@@ -4,18 +4,18 @@ ghost use Rattle.std.specs.Prelude.{◌≡◌, ◌≤◌, ◌^◌, [], Err, Ok, 
 ghost use Rattle.dcp_collect.specs.State.{made};
 ghost use Rattle.drm_links.specs.Told.{HasCause};
 ghost use Rattle.drm_capture.specs.Walking.{new_walker};
-ghost use Rattle.capture_items.specs.Reading.{Terms};
+ghost use Rattle.recv_reading.specs.Packets.{Terms};
 ghost use Rattle.capture_data.specs.Streams.{What};
 ghost use Rattle.capture_data.specs.Taken.{AreBelow, counts_in, IsReady, Took, TakesAll};
 ghost use Rattle.capture_data.specs.Run.{Ends};
 
 use crate::taker::Taker;
-use capture_items::{is_full, read_on};
 use dcp_collect::Collector;
 use drm_capture::Packets;
 use drm_faults::Fault;
 use drm_links::{Sink, Source};
 use mod_feed::Feed;
+use recv_reading::{Bounds, Reading};
 use std::alloc::Global;
 
 /// Reads a capture, hands each item to the taker as soon as it is ready, and writes what is printed of them. Answers whether
@@ -72,18 +72,18 @@ fn take_items<I: Source, O: Sink>(
     ensures memory { result ≡ Err Fault.NoMemory → ⊥ }
 {
     let mut feed = Feed::new();
-    let mut given = 0;
-    let mut ended = false;
-    'items: while !is_full(given, told) {
-        let Some(next) = collector.next() else {
-            if ended {
-                return Ok(());
-            }
-            ended = !read_on(collector, packets, told, input)?;
+    let mut reading = Reading::new(Bounds::of_capture(told));
+    'items: loop {
+        if reading.gives(collector) {
+            let Some(next) = collector.next() else {
+                unreachable!()
+            };
+            taker.take(&feed.step(next).item, out)?;
             continue;
-        };
-        given += 1;
-        taker.take(&feed.step(next).item, out)?;
+        }
+        if reading.has_ended() {
+            return Ok(());
+        }
+        reading.read_packet(collector, packets, input)?;
     }
-    Ok(())
 }

@@ -4,9 +4,6 @@ use drm_links::Address;
 use std::alloc::Global;
 use std::num::NonZeroUsize;
 
-/// The longest datagram that a link brings, in bytes.
-pub const LONGEST: usize = 0x1_0000;
-
 // How many bytes a call gives or takes at most, where a case doesn't say.
 fn usual_piece() -> NonZeroUsize {
     NonZeroUsize::MIN.saturating_add(0xffff)

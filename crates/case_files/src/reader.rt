@@ -1,11 +1,11 @@
 //! Reads a file of cases, line by line.
 
-use crate::case::{Case, LONGEST, LinkCase, NamedFile, Sent};
+use crate::case::{Case, LinkCase, NamedFile, Sent};
 use crate::keyword::Keyword;
 use crate::pieces::{append, append_digits, is_piece};
 use crate::words::{address, number, numbers, piece, size, status, words};
 use anyhow::{Context, Result, bail};
-use drm_links::Address;
+use drm_links::{Address, LONGEST_DATAGRAM};
 use std::alloc::Global;
 use std::collections::BTreeMap;
 use std::mem;
@@ -119,7 +119,7 @@ impl Reader {
                 self.lets.insert(name, bytes)?;
                 Ok(())
             }
-            Part::Datagram if bytes.len() > LONGEST => bail!("a datagram is too long"),
+            Part::Datagram if bytes.len() > LONGEST_DATAGRAM => bail!("a datagram is too long"),
             Part::Datagram => Ok(self.datagrams.push(bytes)?),
             part => match &mut self.case {
                 Some(case) => fill(case, part, bytes),

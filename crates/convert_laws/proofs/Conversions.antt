@@ -13,8 +13,8 @@ use Rattle.drm_timeline.specs.Numbers.{frame_count}
 use Rattle.drm_server.specs.Datagrams.{AreOfFrames}
 use Rattle.mod_delivery.specs.Laws.{AllAtOnce}
 use Rattle.mod_delivery.specs.Sent.{Arrival}
-use Rattle.capture_items.specs.Reading.{is_full}
-use Rattle.drm_convert.specs.Run.{first_of}
+use Rattle.recv_reading.specs.State.{is_full}
+use Rattle.recv_reading.specs.First.{first_of}
 use Rattle.drm_convert.specs.Converting.{Part, ConvertsAll, text_of, lines_of}
 use Rattle.convert_laws.specs.Laws.{under, IsFirstOf, AllInTime, MayBeTold, IsItsCapture, Converting, ConvertingEarly, KnowsFirst, ConversionsAreCaptures, IsOfFirstFrames, BrokenConversions}
 use Rattle.convert_laws.proofs.Firsts.{knows_first, first_of_all}

@@ -23,7 +23,7 @@ use Rattle.drm_schedule.specs.Valid.{IsSchedule}
 use Rattle.mod_delivery.specs.Laws.{AllAtOnce}
 use Rattle.mod_delivery.specs.Sent.{Arrival, OfSchedule, Stray, IsArrival, IsSent, pairs_in, IsFollowed}
 use Rattle.mod_delivery.proofs.Packets.{some_packets, all_sent, delivered}
-use Rattle.drm_convert.proofs.Ways.{gives_first}
+use Rattle.recv_reading.proofs.Ways.{gives_first}
 use Rattle.convert_laws.specs.Laws.{IsFirstOf, KnowsFirst, FirstIsKnown, FirstOfAll}
 use Rattle.convert_laws.proofs.Fronts.{front_followed}
 

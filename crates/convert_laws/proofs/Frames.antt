@@ -9,8 +9,8 @@ use Rattle.drm_schedule.specs.declared.plan.Plan.{Plan}
 use Rattle.drm_timeline.specs.Numbers.{sequence_number}
 use Rattle.drm_server.specs.Frames.{IsPacketAt}
 use Rattle.drm_server.specs.Datagrams.{IsDatagramAt, AreFirst, AreOfFrame}
-use Rattle.drm_convert.specs.Carried.{Carried}
-use Rattle.drm_convert.specs.Converting.{sequence_of}
+use Rattle.dcp_sender.specs.Carried.{Carried}
+use Rattle.dcp_sender.specs.Packets.{sequence_of}
 use Rattle.convert_laws.specs.Laws.{under, IsFirstOf}
 use Rattle.convert_laws.proofs.OtherCarry.{packet_under}
 

@@ -22,10 +22,13 @@ use Rattle.drm_server.proofs.OnePacket.{one_packet}
 use Rattle.mod_delivery.specs.Sent.{Arrival, IsFollowed}
 use Rattle.mod_delivery.proofs.Configurations.{size_fits}
 use Rattle.mod_delivery.proofs.Lengths.{packet_long}
-use Rattle.capture_items.specs.Reading.{ComesAt, ComesTo, Terms, is_full}
-use Rattle.drm_convert.specs.Run.{first_of}
+use Rattle.recv_reading.specs.Packets.{ComesAt, ComesTo, Terms}
+use Rattle.recv_reading.specs.State.{is_full}
+use Rattle.recv_reading.specs.First.{first_of}
 use Rattle.drm_convert.specs.Converting.{Part, ConvertsAll, text_of, lines_of}
-use Rattle.drm_convert.proofs.Ways.{Starts, starts_more, starts_up_to, given_first, one_way, taken_starts, finished_starts, taken_first, all_before}
+use Rattle.recv_reading.proofs.Reaching.{one_way}
+use Rattle.recv_reading.proofs.Ways.{Starts, starts_more, starts_up_to, taken_starts, finished_starts, taken_first, all_before}
+use Rattle.recv_reading.proofs.First.{given_first}
 use Rattle.convert_laws.specs.Laws.{under, IsFirstOf, AllInTime, MayBeTold, KnowsFirst, IsOfSomeFrames, HaltedConversions}
 use Rattle.convert_laws.proofs.OtherCarry.{packet_under}
 use Rattle.convert_laws.proofs.Packets.{IsPacketOf, AreFrom, IsWritten, all_written}

@@ -21,9 +21,9 @@ use Rattle.mod_delivery.specs.Sent.{IsFollowed}
 use Rattle.drm_faults.specs.declared.fault.Fault.TheVariants as faults
 use Rattle.drm_convert.specs.Converting.{Part, text_of, lines_of}
 use Rattle.drm_convert.specs.Steps.{has_none}
-use Rattle.drm_convert.specs.Draining.{are_clean}
-use Rattle.drm_convert.proofs.DrainingLemmas.{front_of_all, no_lines_before}
-use Rattle.capture_items.specs.Reading.{AreEnough, AreReadBy, HasEnough, Terms}
+use Rattle.drm_convert.specs.Converted.{are_clean}
+use Rattle.drm_convert.proofs.PartLemmas.{front_of_all, no_lines_before}
+use Rattle.recv_reading.specs.Packets.{AreEnough, AreReadBy, HasEnough, Terms}
 use Rattle.convert_laws.specs.Laws.{under, AllInTime, NoneIsTooLarge, ConversionsAreCaptures, IsOfFirstFrames, BrokenConversions, IsOfSomeFrames, HaltedConversions, CapturesAreConverted}
 
 -- ---- what is told of an input

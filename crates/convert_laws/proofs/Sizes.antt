@@ -23,10 +23,10 @@ use Rattle.drm_timeline.specs.Numbers.{frame_count}
 use Rattle.mod_delivery.specs.Sent.{pairs_in}
 use Rattle.mod_delivery.proofs.Lengths.{af_long, packet_long}
 use Rattle.mod_delivery.proofs.Packets.{at_number, IsChosen, ArePackets, filler, filler_af, filler_is, chosen_at}
-use Rattle.drm_convert.specs.Carried.{is_too_long}
+use Rattle.dcp_sender.specs.Carried.{is_too_long}
 use Rattle.drm_convert.specs.Converting.{IsTooLarge}
-use Rattle.capture_items.specs.Reading.{ComesAt, ComesTo, Terms}
-use Rattle.drm_convert.proofs.Ways.{taken_starts, finished_starts}
+use Rattle.recv_reading.specs.Packets.{ComesAt, ComesTo, Terms}
+use Rattle.recv_reading.proofs.Ways.{taken_starts, finished_starts}
 use Rattle.convert_laws.specs.Laws.{FitsCarry, NoneIsTooLarge}
 use Rattle.convert_laws.proofs.Fronts.{front_followed}
 use Rattle.convert_laws.proofs.Hearing.{Hears, hears}

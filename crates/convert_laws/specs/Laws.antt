@@ -20,8 +20,10 @@ use Rattle.drm_capture.specs.Capture.{IsCaptureOf, End}
 use Rattle.drm_faults.specs.declared.fault.Fault.{Fault}
 use Rattle.drm_faults.specs.declared.fault.Fault.TheVariants as faults
 use Rattle.drm_convert.specs.Converting.{Part, ConvertsAll, IsTooLarge, text_of, lines_of}
-use Rattle.capture_items.specs.Reading.{ComesAt, HasEnough, Terms, is_full}
-use Rattle.drm_convert.specs.Run.{first_of, IsConversion, IsBroken, Ends}
+use Rattle.recv_reading.specs.Packets.{ComesAt, HasEnough, Terms}
+use Rattle.recv_reading.specs.State.{is_full}
+use Rattle.drm_convert.specs.Run.{IsConversion, IsBroken, Ends}
+use Rattle.recv_reading.specs.First.{first_of}
 
 -- the schedule with this carry in place of its own
 abbrev pub under : Carry → Plan → Plan

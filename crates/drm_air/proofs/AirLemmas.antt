@@ -16,15 +16,15 @@ use Rattle.drm_schedule.specs.declared.plan.Plan.{Plan}
 use Rattle.drm_schedule.specs.Valid.{IsSchedule}
 use Rattle.script_lines.specs.declared.delivery.Delivery.{Delivery}
 use Rattle.script_lines.specs.Script.{IsScript}
-use Rattle.mod_receiver.specs.declared.rules.Rules.{Rules}
+use Rattle.recv_reading.specs.declared.options.ReceiveOptions.{ReceiveOptions}
 use Rattle.mod_receiver.specs.declared.job.Job.{Job}
 use Rattle.drm_faults.specs.declared.fault.Fault.{Fault}
 use Rattle.drm_faults.specs.declared.fault.Fault.TheVariants as faults
 use Rattle.drm_faults.proofs.CauseLemmas.{inner_fault}
 use Rattle.drm_load.specs.declared.loading.ScheduleFault.{ScheduleFault}
 use Rattle.drm_load.specs.declared.loading.ScheduleFault.TheVariants as schedule
-use Rattle.mod_receiver.specs.Reading.{IsSound}
-use Rattle.mod_receiver.specs.Ranges.{AreInRange}
+use Rattle.recv_reading.specs.Ending.{IsSound}
+use Rattle.recv_reading.specs.Options.{AreInRange}
 use Rattle.drm_load.specs.Loading.{ReadBy}
 use Rattle.drm_load.specs.Schedule.{schedule_named}
 use Rattle.drm_load.specs.Scripts.{script_named}
@@ -36,7 +36,8 @@ use Rattle.drm_receive.specs.Receive.{WritesReports}
 use Rattle.drm_receive.specs.Stopping.{ending_of}
 use Rattle.drm_air.specs.Feeds.{BringsFeed, BringFeeds}
 use Rattle.mod_receiver.specs.Following.{HeadlinesFollow, CompletesFollow}
-use Rattle.mod_receiver.specs.Ahead.{IsReportOf, BreaksOff}
+use Rattle.recv_reading.specs.OneReading.{BreaksOff}
+use Rattle.mod_receiver.specs.Ahead.{IsReportOf}
 use Rattle.drm_air.specs.Air.{air_rules, pairs_of, IsAired, AreFeeds, AreAired, ByScript, AirRun}
 use Rattle.mod_receiver.proofs.JobLemmas.{told_of, job_report, job_breaks, SomeFailed, some_failed}
 use Rattle.drm_receive.proofs.ReceiveLemmas.{Ran, reports_written, ending_kind}
@@ -81,7 +82,7 @@ not_sound : (before : List Answer) → AllByRecursion IsSound (before ++ Failed 
 not_sound [] sound = sound.0
 not_sound (a ∷ before) sound = not_sound before sound.1
 
-never_breaks : (rules : Rules) (brought : List (List ℕ)) → BreaksOff rules (map Datagram brought) → ⊥
+never_breaks : (rules : ReceiveOptions) (brought : List (List ℕ)) → BreaksOff rules (map Datagram brought) → ⊥
 never_breaks rules brought breaks =
     not_sound breaks.before (subst (AllByRecursion IsSound) breaks.reading.last (fed.none_failed brought breaks.answers breaks.rest breaks.next))
 

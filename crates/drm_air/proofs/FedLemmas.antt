@@ -13,14 +13,14 @@ use Rattle.drm_switches.specs.Tracker.{new_tracker}
 use Rattle.drm_timeline.specs.Numbers.{frame_count}
 use Rattle.mod_delivery.specs.Sent.{AreSent, Arrival, OfSchedule, pairs_in, IsFollowed, IsInTime}
 use Rattle.mod_delivery.specs.Given.{AreGiven}
-use Rattle.report_lines.specs.declared.report.EndWord.{EndWord}
-use Rattle.report_lines.specs.declared.report.EndWord.TheVariants as word
-use Rattle.mod_receiver.specs.Hearing.{AreNext}
-use Rattle.mod_receiver.specs.declared.rules.Rules.{Rules}
-use Rattle.mod_receiver.specs.Reading.{datagrams, idles, Holds, IsOpen, IsSound, EndsBy}
-use Rattle.mod_receiver.specs.Reports.{refusals, report}
+use Rattle.recv_reading.specs.declared.reason.EndWord.{EndWord}
+use Rattle.recv_reading.specs.declared.reason.EndWord.TheVariants as word
+use Rattle.drm_links.specs.Hearing.{AreNext}
+use Rattle.recv_reading.specs.declared.options.ReceiveOptions.{ReceiveOptions}
+use Rattle.recv_reading.specs.Ending.{datagrams, idles, Holds, IsOpen, IsSound, EndsBy}
+use Rattle.report_lines.specs.Reports.{refusals, report, Report}
 use Rattle.mod_receiver.specs.Headline.{strays_from, Modulates, ModulatesAll, untold, WouldBeRead}
-use Rattle.mod_receiver.specs.Ahead.{Report, IsReportOf}
+use Rattle.mod_receiver.specs.Ahead.{IsReportOf}
 use Rattle.drm_air.specs.Air.{air_rules}
 use Rattle.mod_receiver.proofs.Composing.{DeliveryLaws, tells_switches, gives_in_time, prints_frames, strays_noted}
 
@@ -121,14 +121,14 @@ front_unended (d ∷ brought) zero (b ∷ before) e = cc
 front_unended (d ∷ brought) (suc k) [] e = cc
 front_unended (d ∷ brought) (suc k) (b ∷ before) e = front_unended brought k before cc
 
-front_open : (rules : Rules) (brought : List (List ℕ)) → rules.idle ≡ 1 → length brought < rules.limit → (k : ℕ) → k < length (all_answers brought) → IsOpen (untold rules) (take k (all_answers brought))
+front_open : (rules : ReceiveOptions) (brought : List (List ℕ)) → rules.idle ≡ 1 → length brought < rules.limit → (k : ℕ) → k < length (all_answers brought) → IsOpen (untold rules) (take k (all_answers brought))
 front_open rules brought idle few k shorter word.Frames holds = holds
 front_open rules brought idle few k shorter word.Limit holds = let many = front_many brought k in omega (arith, many, holds, few)
 front_open rules brought idle few k shorter word.Idle holds = let none = front_idles brought k shorter in omega (arith, none, holds, idle)
 front_open rules brought idle few k shorter word.Input holds = front_unended brought k holds.0 holds.1
 front_open rules brought idle few k shorter word.Paths holds = holds
 
-pub would_be_read : (rules : Rules) (brought : List (List ℕ)) → rules.idle ≡ 1 → length brought < rules.limit → WouldBeRead rules (map Datagram brought) (all_answers brought)
+pub would_be_read : (rules : ReceiveOptions) (brought : List (List ℕ)) → rules.idle ≡ 1 → length brought < rules.limit → WouldBeRead rules (map Datagram brought) (all_answers brought)
 would_be_read rules brought idle few = inl (
   word.Idle,
   record {

@@ -10,10 +10,11 @@ use Rattle.drm_links.specs.Link.{Datagram}
 use Rattle.drm_links.specs.Sink.{Output}
 use Rattle.drm_timeline.specs.Numbers.{frame_count}
 use Rattle.mod_delivery.specs.Sent.{AreSent, Arrival, OfSchedule, IsFollowed, IsInTime}
-use Rattle.mod_receiver.specs.declared.rules.Rules.{Rules}
+use Rattle.recv_reading.specs.declared.options.ReceiveOptions.{ReceiveOptions}
 use Rattle.mod_receiver.specs.Headline.{Modulates, ModulatesAll}
 use Rattle.drm_receive.specs.Receive.{WritesReports, WroteReports}
-use Rattle.mod_receiver.specs.Ahead.{Report, IsReportOf}
+use Rattle.report_lines.specs.Reports.{Report}
+use Rattle.mod_receiver.specs.Ahead.{IsReportOf}
 use Rattle.drm_load.specs.Loading.{Step, ReadBy}
 use Rattle.drm_load.specs.Schedule.{schedule_named}
 use Rattle.drm_load.specs.Scripts.{script_named}
@@ -24,7 +25,7 @@ use Rattle.drm_faults.specs.declared.fault.Fault.{Fault}
 use Rattle.drm_faults.specs.declared.fault.Fault.TheVariants as faults
 
 -- a feed is read by the schedule's first sequence number and all its frames, and ends where nothing is left
-abbrev pub air_rules : Plan → ℕ → Rules
+abbrev pub air_rules : Plan → ℕ → ReceiveOptions
 air_rules plan window = record { window = window; first = Some plan.seq; frames = Some (frame_count plan); idle = 1; limit = 4294967295 }
 
 -- the pairs that a feed delivers

@@ -21,7 +21,8 @@ use drm_receive::ending;
 use drm_schedule::Schedule;
 use drm_server::Server;
 use drm_timeline::frame_count;
-use mod_receiver::{Job, Rules, job_for, laws_of_deliveries, reports_follow, run_all, settle};
+use mod_receiver::{Job, job_for, laws_of_deliveries, reports_follow, run_all, settle};
+use recv_reading::ReceiveOptions;
 use script_lines::{Delivery, Script};
 use std::alloc::Global;
 use std::thread::Threads;
@@ -104,10 +105,10 @@ fn feed_all(
 }
 
 // A feed is read by the schedule's first sequence number and all its frames, and ends where nothing is left.
-fn rules_for(plan: &Schedule, window: u8) -> Rules
+fn rules_for(plan: &Schedule, window: u8) -> ReceiveOptions
     ensures { result ≡ air_rules plan.now window }
 {
-    Rules {
+    ReceiveOptions {
         window,
         first: Some(plan.seq()),
         frames: Some(u64::from(frame_count(plan))),

@@ -15,7 +15,7 @@ use Rattle.drm_links.specs.Sink.{Output}
 use Rattle.drm_links.proofs.ToldLemmas.{counts_none, Inputs-nothing, Inputs-weaker}
 use Rattle.drm_capture.specs.declared.fault.CaptureFault.{CaptureFault}
 use Rattle.drm_capture.specs.Capture as capture
-use Rattle.drm_capture.specs.Capture.{IsCaptureOf, Ending, End, most_bytes}
+use Rattle.drm_capture.specs.Capture.{IsCaptureOf, Ending, End}
 use Rattle.drm_capture.specs.Laws.{ReadOneWay, ReadSomeWay}
 use Rattle.drm_capture.specs.Walking.{WalkerState}
 use Rattle.drm_capture.specs.Reading.{HasRead}
@@ -25,9 +25,10 @@ use Rattle.drm_faults.specs.declared.fault.Fault.{Fault}
 use Rattle.drm_faults.specs.declared.fault.Fault.TheVariants as faults
 use Rattle.drm_convert.proofs.Sound.{sound}
 use Rattle.drm_convert.specs.Converting.{Part, Converts, ConvertsAll, IsTooLarge}
-use Rattle.drm_convert.specs.Run.{first_of, IsConversion, IsBroken, ReadsTo, AreFirstOf, LeadsTo, AreSmall, Meets, EndsByIt, EndsExactly, Ends, IsDone, CanEnd, ConvertRun}
-use Rattle.capture_items.specs.Reading.{AreEnough, AreReadBy, BreaksOffBy, ComesTo, HasEnough, NoneShorter, Terms}
-use Rattle.drm_convert.proofs.Ways.{Starts, Agree, front_of, starts_up_to, starts_more, taken_starts, finished_starts, lacks_before, all_before, both_taken, both_finished, then_finished, finished_then}
+use Rattle.drm_convert.specs.Run.{IsConversion, IsBroken, ReadsTo, AreFirstOf, LeadsTo, AreSmall, Meets, EndsByIt, EndsExactly, Ends, IsDone, CanEnd, ConvertRun}
+use Rattle.recv_reading.specs.First.{first_of}
+use Rattle.recv_reading.specs.Packets.{AreEnough, AreReadBy, BreaksOffBy, ComesTo, HasEnough, NoneShorter, Terms}
+use Rattle.recv_reading.proofs.Ways.{Starts, Agree, front_of, starts_up_to, starts_more, taken_starts, finished_starts, lacks_before, all_before, both_taken, both_finished, then_finished, finished_then}
 
 -- ---- what is converted isn't too large
 

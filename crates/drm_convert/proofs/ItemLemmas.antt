@@ -7,8 +7,9 @@ use Rattle.drm_links.proofs.ToldLemmas.{Outputs-nothing}
 use Rattle.dcp_pft.specs.declared.carry.Carry.{Carry}
 use Rattle.dcp_collect.specs.Runs.{Item, Packet}
 use Rattle.drm_convert.specs.declared.naming.Progress.{Progress}
-use Rattle.drm_convert.specs.Carried.{Carried, is_too_long}
-use Rattle.drm_convert.specs.Converting.{Converts, IsAny, sequence_of}
+use Rattle.dcp_sender.specs.Carried.{Carried, is_too_long}
+use Rattle.dcp_sender.specs.Packets.{IsAny, sequence_of}
+use Rattle.drm_convert.specs.Converting.{Converts}
 use Rattle.drm_convert.specs.Naming.{Names}
 use Rattle.drm_convert.specs.Steps.{Converted, Failing, has_none}
 

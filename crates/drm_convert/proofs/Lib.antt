@@ -1,8 +1,5 @@
-pub mod Gathering
 pub mod ItemLemmas
-pub mod DrainingLemmas
-pub mod Taken
-pub mod Ways
+pub mod PartLemmas
 pub mod Exactly
 pub mod Reaching
 pub mod Endings

@@ -12,11 +12,12 @@ use Rattle.drm_capture.specs.declared.packets.CaptureStop.{CaptureStop}
 use Rattle.drm_capture.specs.declared.packets.CaptureStop.TheVariants as stops
 use Rattle.drm_faults.specs.declared.fault.Fault.{Fault}
 use Rattle.drm_faults.specs.declared.fault.Fault.TheVariants as faults
-use Rattle.capture_items.specs.Reading.{Terms}
+use Rattle.recv_reading.specs.Packets.{Terms}
 use Rattle.drm_convert.specs.Converting.{Part, ConvertsAll, text_of}
-use Rattle.drm_convert.specs.Draining.{are_clean}
-use Rattle.drm_convert.specs.Run.{first_of, IsConversion, EndsEarly, Ends, IsFrontOfParts, IsSound}
-use Rattle.drm_convert.proofs.DrainingLemmas.{front_of_all}
+use Rattle.drm_convert.specs.Converted.{are_clean}
+use Rattle.drm_convert.specs.Run.{IsConversion, EndsEarly, Ends, IsFrontOfParts, IsSound}
+use Rattle.recv_reading.specs.First.{first_of}
+use Rattle.drm_convert.proofs.PartLemmas.{front_of_all}
 
 all_in_front : (carry : Carry) (first : ℕ) (items : List Item) (parts : List Part) (a b : Known Output) → ConvertsAll carry first items parts → Outputs a b (λ t. t ≡ text_of parts) → Outputs a b (IsFrontOfParts carry)
 all_in_front carry first items parts a b are out =

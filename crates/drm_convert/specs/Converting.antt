@@ -1,27 +1,19 @@
 -- What becomes of what a collector gives.
-use Rattle.std.specs.Prelude.{ℕ, ◌≡◌, ◌+◌, ◌%◌, ◌^◌, ◌⊎◌, true, false, List, [], ◌∷◌, length}
+use Rattle.std.specs.Prelude.{ℕ, ◌≡◌, ◌⊎◌, true, false, List, [], ◌∷◌, length}
 use Rattle.std.specs.List.{flat_map}
 use Rattle.dcp_pft.specs.declared.carry.Carry.{Carry}
 use Rattle.dcp_af.specs.declared.fault.AfFault.{AfFault}
-use Rattle.dcp_af.specs.Packet.{AfPacket, IsAf}
 use Rattle.dcp_af.specs.Faults.{IsFault}
 use Rattle.dcp_collect.specs.Runs.{Item, Packet, Lost, Damaged}
 use Rattle.mod_feed.specs.declared.item.BadFault.TheVariants.{Code, Af}
 use Rattle.report_lines.specs.Report.{missing_line, bad_line}
-use Rattle.drm_convert.specs.Carried.{Carried, is_too_long}
+use Rattle.dcp_sender.specs.Packets.{IsAny, sequence_of}
+use Rattle.dcp_sender.specs.Carried.{Carried, is_too_long}
 
 -- what is written of an item, and the line that names it
 pub record Part : Type 0 where
   pub out : List ℕ
   pub line : List ℕ
-
--- the bytes are an AF packet
-abbrev pub IsAny : List ℕ → Type 0
-IsAny bytes = (af : AfPacket) × IsAf af bytes
-
--- the sequence number of the packet with this number, where number 0 has the first one
-abbrev pub sequence_of : ℕ → ℕ → ℕ
-sequence_of first index = (first + index) % 2 ^ 16
 
 -- An AF packet is written under the carry; each other item has a line.
 abbrev pub Converts : Carry → ℕ → Item → Part → Type 0

@@ -1,7 +1,6 @@
-pub mod Carried
 pub mod Converting
 pub mod Naming
 pub mod Steps
-pub mod Draining
+pub mod Converted
 pub mod Run
 pub mod Reading

@@ -12,7 +12,7 @@ use Rattle.drm_convert.specs.declared.naming.Progress.{Progress}
 use Rattle.drm_convert.specs.declared.reading.Unconverted.{Unconverted}
 use Rattle.drm_convert.specs.declared.reading.Unconverted.TheVariants as unconverted
 use Rattle.drm_convert.specs.Run.{Ends}
-use Rattle.capture_items.specs.Reading.{Terms}
+use Rattle.recv_reading.specs.Packets.{Terms}
 
 abbrev pub new_progress : Progress
 new_progress = record { given = 0; clean = true; told = true }

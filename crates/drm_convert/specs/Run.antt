@@ -1,5 +1,5 @@
 -- The conversion of a capture.
-use Rattle.std.specs.Prelude.{ℕ, ◌≡◌, ◌↔◌, All, Bool, true, false, List, [], ◌∷◌, ◌++◌, length, Result, Ok, Err, unwrap_or}
+use Rattle.std.specs.Prelude.{ℕ, ◌≡◌, ◌↔◌, All, Bool, true, false, List, [], ◌∷◌, ◌++◌, length, Result, Ok, Err}
 use Rattle.std.specs.List.{AllByRecursion}
 use Rattle.dcp_pft.specs.declared.carry.Carry.{Carry}
 use Rattle.dcp_collect.specs.declared.taken.Taken.{Taken}
@@ -20,12 +20,10 @@ use Rattle.drm_faults.specs.declared.fault.Fault.{Fault}
 use Rattle.drm_faults.specs.declared.fault.Fault.TheVariants as faults
 use Rattle.drm_convert.specs.Converting.{Part, ConvertsAll, IsTooLarge, text_of, lines_of}
 use Rattle.drm_convert.specs.Naming.{Names}
-use Rattle.drm_convert.specs.Draining.{are_clean}
-use Rattle.capture_items.specs.Reading.{Terms, is_full, HasEnough, NoneShorter, AreEnough, ComesAt, AreReadBy, BreaksOffBy}
-
--- the sequence number of number 0, where something was kept
-abbrev pub first_of : State → ℕ
-first_of c = unwrap_or c.first 0
+use Rattle.drm_convert.specs.Converted.{are_clean}
+use Rattle.recv_reading.specs.First.{first_of}
+use Rattle.recv_reading.specs.Packets.{Terms, HasEnough, NoneShorter, AreEnough, ComesAt, AreReadBy, BreaksOffBy}
+use Rattle.recv_reading.specs.State.{is_full}
 
 -- ---- what they become
 

@@ -4,15 +4,15 @@ ghost use Rattle.std.specs.Prelude.{◌≡◌, ◌≤◌, true, IfSome};
 ghost use Rattle.dcp_pft.specs.Carrying.{CarryFits};
 ghost use Rattle.drm_convert.specs.Reading.{ending_of};
 ghost use Rattle.drm_convert.specs.Run.{ConvertRun};
-ghost use Rattle.capture_items.specs.Reading.{Terms};
+ghost use Rattle.recv_reading.specs.Packets.{Terms};
 
-use crate::Cutter;
 use crate::item::Halt;
 use crate::naming::Progress;
 use crate::reading::{Unconverted, convert_packets};
 use capture_laws::packets_in_front;
 use dcp_collect::Collector;
 use dcp_pft::Carry;
+use dcp_sender::PacketSender;
 use drm_capture::{Packets, read_one_way, read_some_way};
 use drm_faults::Fault;
 use drm_links::{Sink, Source};
@@ -43,7 +43,7 @@ pub fn convert<I: Source, O: Sink, E: Sink>(
     read_some_way();
     packets_in_front();
     let mut collector = Collector::make(alloc, window, first)?;
-    let mut cutter = Cutter::make(alloc, carry)?;
+    let mut cutter = PacketSender::make(alloc, carry)?;
     let mut packets = Packets::make(alloc)?;
     let mut lines = LineWriter::make(alloc)?;
     let mut progress = Progress {

@@ -3,16 +3,18 @@
 ghost use Rattle.std.specs.Prelude.{◌≡◌, ◌+◌, ◌<◌, ◌^◌, true, length, MatchOption, Some, None, Err};
 ghost use Rattle.drm_links.specs.Told.{HasCause};
 ghost use Rattle.dcp_af.specs.Faults.{IsFault};
+ghost use Rattle.dcp_collect.specs.State.{ready, after_item};
 ghost use Rattle.dcp_collect.specs.View.{item_of};
 ghost use Rattle.dcp_collect.specs.WholePackets.{IsAfIfWhole};
 ghost use Rattle.mod_feed.specs.Items.{number_of};
-ghost use Rattle.drm_convert.specs.Converting.{IsAny, sequence_of};
+ghost use Rattle.drm_convert.specs.Converted.{ConvertsNext};
+ghost use Rattle.dcp_sender.specs.Packets.{IsAny};
 ghost use Rattle.drm_convert.specs.Steps.{ConvertsOne, ConvertsPacket};
 
-use crate::Cutter;
 use crate::naming::{Progress, name};
 use dcp_af::{AfFault, read_af};
-use dcp_collect::Out;
+use dcp_collect::{Collector, Out};
+use dcp_sender::{PacketSender, sequence};
 use drm_links::Sink;
 use mod_feed::{BadFault, FeedItem};
 use report_lines::LineWriter;
@@ -28,7 +30,7 @@ pub(crate) enum Halt {
 /// Writes a packet under the carry, or names what is said in its place. The packet with number 0 has the first sequence
 /// number.
 pub(crate) fn convert_item<O: Sink, E: Sink>(
-    cutter: &mut Cutter,
+    cutter: &mut PacketSender,
     first: u16,
     given: Out<'_>,
     progress: &mut Progress,
@@ -64,8 +66,32 @@ pub(crate) fn convert_item<O: Sink, E: Sink>(
     }
 }
 
+/// Converts the next item of a collector.
+pub(crate) fn convert_next<O: Sink, E: Sink>(
+    collector: &mut Collector,
+    cutter: &mut PacketSender,
+    progress: &mut Progress,
+    lines: &mut LineWriter,
+    out: &mut O,
+    err: &mut E,
+) -> Result<(), Halt>
+    requires is_ready { ready collector.old ≡ true }
+    requires counted { progress.old.given ≡ collector.old.next }
+    ensures collector { collector.new ≡ after_item collector.old }
+    ensures next { ConvertsNext result cutter.old collector.old progress.old progress.new
+        (O.known out.old) (O.known out.new) (E.known err.old) (E.known err.new) }
+    ensures carry { cutter.new ≡ cutter.old }
+    ensures cause { HasCause (O.known out.old) (O.known out.new) (result ≡ Err Halt.Write) }
+{
+    let first = collector.first().unwrap_or(0);
+    let Some(given) = collector.next() else {
+        unreachable!()
+    };
+    convert_item(cutter, first, given, progress, lines, out, err)
+}
+
 fn convert_packet<O: Sink, E: Sink>(
-    cutter: &mut Cutter,
+    cutter: &mut PacketSender,
     first: u16,
     index: u64,
     bytes: &[u8],
@@ -112,11 +138,4 @@ fn fault_of(bytes: &[u8], whole: bool) -> Option<AfFault>
         Ok(_) => None,
         Err(fault) => Some(fault),
     }
-}
-
-fn sequence(first: u16, index: u64) -> u16
-    requires { index < 2 ^ 62 }
-    ensures { result ≡ sequence_of first index }
-{
-    ((u64::from(first) + index) % 0x1_0000) as u16
 }

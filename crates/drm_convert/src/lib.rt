@@ -2,11 +2,8 @@
 #![tactic(auto)]
 
 mod command;
-mod cutter;
-mod draining;
 mod item;
 mod naming;
 mod reading;
 
 pub use command::convert;
-pub use cutter::Cutter;

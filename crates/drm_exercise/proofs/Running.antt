@@ -6,9 +6,9 @@ use Rattle.drm_bits.specs.Crc.{IsCheckOf}
 use Rattle.drm_links.specs.Told.{Known, HasFailed}
 use Rattle.drm_links.proofs.ToldLemmas.{counts_one, counts_none}
 use Rattle.drm_links.specs.Sink.{Output, Outputs, IsFront}
-use Rattle.mod_receiver.specs.Ahead.{Report}
-use Rattle.mod_receiver.specs.Texts.{text_known}
-use Rattle.mod_receiver.specs.declared.text.Text.{Text}
+use Rattle.report_lines.specs.Reports.{Report}
+use Rattle.report_lines.specs.Texts.{text_known}
+use Rattle.report_lines.specs.declared.buffer.ReportBuffer.{ReportBuffer}
 use Rattle.mod_receiver.proofs.JobLemmas.{text_written}
 use Rattle.drm_receive.specs.Receive.{all_texts, AreClean, WritesReports}
 use Rattle.drm_air.specs.Air.{IsAired, AreAired}
@@ -52,7 +52,7 @@ pub record HasReport (n : ℕ) (clean : Bool) (text : List ℕ) : Type 0 where
   pub text_is : text ≡ r.text
   pub clean_is : clean ≡ r.clean
 
-pub has_report : (n : ℕ) (clean : Bool) (old new : Text) → (text_known old).told ≡ Some (record { written = []; calls = 0 }) → IsSome (text_known new).told
+pub has_report : (n : ℕ) (clean : Bool) (old new : ReportBuffer) → (text_known old).told ≡ Some (record { written = []; calls = 0 }) → IsSome (text_known new).told
     → WritesReports (AreAired (plan n) 8 (deliveries n ∷ [])) (Ok clean) text_known old new → HasReport n clean new.bytes.items
 has_report n clean old new fresh told (reports, are, out, iff) =
     let one = one_report n reports are in

@@ -10,7 +10,7 @@ use drm_air::air_over;
 use drm_bits::crc16;
 use drm_faults::Fault;
 use drm_links::Sink;
-use mod_receiver::Text;
+use report_lines::ReportBuffer;
 use std::alloc::Global;
 use std::thread::Threads;
 
@@ -31,7 +31,7 @@ pub fn exercise<R: Threads + Sync, O: Sink>(
 {
     let plan = schedule_of(alloc, n)?;
     let script = script_of(alloc, n, &plan)?;
-    let mut report = Text::new(alloc);
+    let mut report = ReportBuffer::new(alloc);
     // A text in memory fails for want of memory alone.
     let Ok(clean) = air_over(rt, alloc, &plan, &script, WINDOW, &mut report) else {
         return Err(Fault::NoMemory);

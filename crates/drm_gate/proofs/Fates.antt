@@ -10,9 +10,9 @@ use Rattle.dcp_pft.proofs.OneFragment.{one_datagram}
 use Rattle.dcp_af.proofs.Answered.{no_fault}
 use Rattle.dcp_collect.specs.Runs.{Item, Packet, Lost, Damaged}
 use Rattle.collect_laws.proofs.SentCuts.{packet_long}
-use Rattle.drm_convert.specs.Carried.{AreOf}
-use Rattle.drm_convert.specs.Converting.{IsAny, sequence_of}
-use Rattle.drm_gate.specs.Sending.{AreSome}
+use Rattle.dcp_sender.specs.Carried.{AreOf}
+use Rattle.dcp_sender.specs.Packets.{IsAny, sequence_of}
+use Rattle.dcp_sender.specs.OverLinks.{AreSome}
 use Rattle.drm_gate.specs.Passing.{Fate, Sent, Bad, Large, Missing, IsNone, Becomes, Begins, BecomeAll, datagrams_of, sent_of}
 use Rattle.drm_gate.specs.Run.{IsFrontOf}
 

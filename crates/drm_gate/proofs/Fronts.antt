@@ -9,35 +9,34 @@ use Rattle.dcp_collect.specs.declared.taken.Taken.{Taken}
 use Rattle.dcp_collect.specs.State.{State, made, after_finish}
 use Rattle.dcp_collect.specs.Runs.{Item, Takes, Gives, Steps, up_to}
 use Rattle.dcp_collect.proofs.Decoded.{one_decoding}
-use Rattle.report_lines.specs.declared.report.EndWord.{EndWord}
-use Rattle.mod_receiver.specs.declared.rules.Rules.{Rules}
-use Rattle.mod_receiver.specs.Reading.{datagrams, GoesOn, EndsBy}
-use Rattle.mod_receiver.specs.Hearing.{AreNext}
-use Rattle.mod_receiver.specs.OneReading.{Ends, IsOneReading}
-use Rattle.drm_convert.specs.Draining.{MayBeFirst}
-use Rattle.capture_items.specs.Reading as converting
-use Rattle.drm_convert.specs.Run.{first_of}
-use Rattle.capture_items.specs.Reading.{ComesAt, Terms}
+use Rattle.recv_reading.specs.declared.reason.EndWord.{EndWord}
+use Rattle.recv_reading.specs.declared.options.ReceiveOptions.{ReceiveOptions}
+use Rattle.recv_reading.specs.Ending.{datagrams, GoesOn, EndsBy, ComesTo}
+use Rattle.drm_links.specs.Hearing.{AreNext}
+use Rattle.recv_reading.specs.OneReading.{Ends, IsOneReading}
+use Rattle.recv_reading.specs.First.{MayBeFirst, first_of}
+use Rattle.recv_reading.specs.Packets as converting
+use Rattle.recv_reading.specs.Packets.{ComesAt, Terms}
 use Rattle.collect_laws.proofs.Runs.{steps_part}
 use Rattle.collect_laws.proofs.Unique.{one_giving}
-use Rattle.mod_receiver.proofs.OneReading.{one_reading}
-use Rattle.drm_convert.proofs.Taken.{may_taken, first_itself}
-use Rattle.drm_convert.proofs.Ways.{Starts, starts_more, starts_up_to, taken_starts, taken_first, finished_starts, given_first, gives_first, one_way}
+use Rattle.recv_reading.proofs.OneReading.{one_reading}
+use Rattle.recv_reading.proofs.First.{may_taken, first_itself, given_first}
+use Rattle.recv_reading.proofs.Reaching.{one_way}
+use Rattle.recv_reading.proofs.Ways.{Starts, starts_more, starts_up_to, taken_starts, taken_first, finished_starts, gives_first}
 use Rattle.drm_gate.specs.Passing.{Fate, Begins, BecomeAll, sent_of}
-use Rattle.mod_receiver.specs.Received.{ComesTo}
 use Rattle.drm_gate.specs.Run.{IsOnward, IsFrontOf, IsFrontOfOnward, StopsAt}
-use Rattle.drm_gate.proofs.DrainingLemmas.{sent_join}
+use Rattle.drm_gate.proofs.PassedLemmas.{sent_join}
 use Rattle.drm_gate.proofs.Fates.{begins_front, all_sent, split}
 
 -- ---- where the item stands
 
-abbrev terms_of : Rules → Terms
+abbrev terms_of : ReceiveOptions → Terms
 terms_of rules = record { window = rules.window; first = rules.first; told = rules.frames }
 
 of_answers : (xs ys : List Answer) → datagrams (xs ++ ys) ≡ datagrams xs ++ datagrams ys
 of_answers xs ys = filter_map-append datagram_of xs ys
 
-comes_to : (rules : Rules) (answers later : List Answer) (mid state : State) → ComesTo rules answers later mid state → converting.ComesTo (terms_of rules) (datagrams later) mid state
+comes_to : (rules : ReceiveOptions) (answers later : List Answer) (mid state : State) → ComesTo rules answers later mid state → converting.ComesTo (terms_of rules) (datagrams later) mid state
 comes_to rules answers later mid state (inl (bytes, answer, is, takes)) = inl (bytes, answer, ap datagrams is, takes)
 comes_to rules answers later mid state (inr (word, none, ends, is)) = inr (ap datagrams none, is)
 
@@ -72,7 +71,7 @@ all_next : (xs : List Answer) → AreNext xs xs []
 all_next xs = subst (λ (l : List Answer). AreNext l xs []) (append-nil xs) (are_next xs [])
 
 -- a reading that is finished isn't gone on with
-no_more : IsOneReading → (rules : Rules) (answers more : List Answer) (word : EndWord) (ending : Option EndWord) → GoesOn rules answers → EndsBy rules answers word → Ends rules (answers ++ more) ending → answers ++ more ≡ answers
+no_more : IsOneReading → (rules : ReceiveOptions) (answers more : List Answer) (word : EndWord) (ending : Option EndWord) → GoesOn rules answers → EndsBy rules answers word → Ends rules (answers ++ more) ending → answers ++ more ≡ answers
 no_more one rules answers more word ending goes_on ends other =
     (one rules (answers ++ more) answers (answers ++ more) (Some word) ending
     (record { rest = more; next = are_next answers more; ends = record { goes_on = goes_on; ends = ends } })
@@ -90,7 +89,7 @@ may_steps c d (b ∷ ds) (a ∷ taken) items first (now, later, kept, mid, takes
 
 -- ---- the law
 
-module _ (rules : Rules) (carry : Carry) (answers : List Answer) (sent : List (List ℕ)) (s : StopsAt rules carry answers sent) where
+module _ (rules : ReceiveOptions) (carry : Carry) (answers : List Answer) (sent : List (List ℕ)) (s : StopsAt rules carry answers sent) where
   abbrev new : State
   new = made rules.window rules.first
 
@@ -160,7 +159,7 @@ module _ (rules : Rules) (carry : Carry) (answers : List Answer) (sent : List (L
 
 -- ---- what becomes of datagrams is one
 
-pub one_onward : (rules : Rules) (carry : Carry) (ds : List (List ℕ)) (fs gs : List Fate) → IsOnward rules carry ds fs → IsOnward rules carry ds gs → sent_of fs ≡ sent_of gs
+pub one_onward : (rules : ReceiveOptions) (carry : Carry) (ds : List (List ℕ)) (fs gs : List Fate) → IsOnward rules carry ds fs → IsOnward rules carry ds gs → sent_of fs ≡ sent_of gs
 one_onward rules carry ds fs gs a b =
     let steps = one_way (made rules.window rules.first) a.run.mid b.run.mid ds a.taken b.taken a.run.during b.run.during a.run.steps b.run.steps in
     let gives : Gives (after_finish a.run.mid rules.frames) b.run.rest b.run.after = subst (λ (s : State). Gives (after_finish s rules.frames) b.run.rest b.run.after) steps.2 b.run.gives in

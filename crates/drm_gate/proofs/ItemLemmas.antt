@@ -6,17 +6,18 @@ use Rattle.dcp_pft.specs.Limits.{most_fragments}
 use Rattle.dcp_collect.specs.Runs.{Item, Packet}
 use Rattle.several_links.specs.Took.{TookBy}
 use Rattle.several_links.proofs.TookLemmas.{took_more, took_part, still_some}
-use Rattle.drm_convert.specs.Carried.{AreOf}
-use Rattle.drm_convert.specs.Converting.{IsAny, sequence_of}
+use Rattle.dcp_sender.specs.Carried.{AreOf}
+use Rattle.dcp_sender.specs.Packets.{IsAny, sequence_of}
 use Rattle.drm_gate.specs.declared.tally.Tally.{Tally}
-use Rattle.drm_gate.specs.Sending.{is_large, AreSome, SentBy, SentOver, SentTo}
+use Rattle.dcp_sender.specs.OverLinks.{is_large, AreSome, SentBy, SentOver, SentTo}
 use Rattle.drm_gate.specs.Passing.{Fate, Sent, Becomes, Begins, datagrams_of}
-use Rattle.drm_gate.specs.Resting.{MakesSends}
-use Rattle.drm_gate.specs.Targets.{Target, Each, TakesMore, TakesNoMore, EachTakes, EachSends, SomeUp}
+use Rattle.dcp_sender.specs.Resting.{MakesSends}
+use Rattle.dcp_sender.specs.Targets.{Target}
+use Rattle.drm_gate.specs.Targets.{Each, TakesMore, TakesNoMore, EachTakes, EachSends, SomeUp}
 use Rattle.drm_gate.specs.Tallies.{plus, tally_one}
 use Rattle.drm_gate.specs.Steps.{Passed, Broken}
 use Rattle.drm_gate.proofs.Fates.{one_sending, some_first}
-use Rattle.drm_gate.proofs.RestingLemmas.{no_sends, few_sends}
+use Rattle.dcp_sender.proofs.RestingLemmas.{no_sends, few_sends}
 use Rattle.drm_gate.proofs.TargetLemmas.{takes_nothing, none_sent, few_sent_each}
 
 -- an item of which nothing is sent

@@ -1,13 +1,8 @@
-pub mod DrainingLemmas
+pub mod PassedLemmas
 pub mod Ending
 pub mod Fates
 pub mod Fronts
 pub mod ItemLemmas
-pub mod Kept
-pub mod Reaching
-pub mod RestingLemmas
-pub mod SendingLemmas
 pub mod Stopping
-pub mod TakingLemmas
 pub mod Tallying
 pub mod TargetLemmas

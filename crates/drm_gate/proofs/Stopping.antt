@@ -7,18 +7,19 @@ use Rattle.drm_links.proofs.ToldLemmas.{once_then}
 use Rattle.several_links.specs.Took.{TookBy}
 use Rattle.several_links.proofs.TookLemmas.{took_none}
 use Rattle.dcp_pft.specs.declared.carry.Carry.{Carry}
-use Rattle.mod_receiver.specs.declared.rules.Rules.{Rules}
-use Rattle.mod_receiver.specs.Reading.{GoesOn}
-use Rattle.drm_gate.specs.Targets.{Target, TakesMore, TakesNoMore}
+use Rattle.recv_reading.specs.declared.options.ReceiveOptions.{ReceiveOptions}
+use Rattle.recv_reading.specs.Ending.{GoesOn}
+use Rattle.dcp_sender.specs.Targets.{Target}
+use Rattle.drm_gate.specs.Targets.{TakesMore, TakesNoMore}
 use Rattle.drm_gate.specs.Run.{StopsAt, IsFrontOfOnward, StopsOver, StopsLast}
-use Rattle.drm_gate.proofs.SendingLemmas.{then_no_more}
+use Rattle.dcp_sender.proofs.OverLinks.{then_no_more}
 use Rattle.drm_gate.proofs.Fronts.{front_follows}
 
 -- it was up from the start
 pub took_from : (datagrams : List (List ℕ)) (b m : Target) → b.up ≡ true → TakesMore datagrams b m → TookBy m.up datagrams b.known m.known
 took_from datagrams b m was more = more [] b.known (subst (λ (u : Bool). TookBy u [] b.known b.known) (sym was) (took_none b.known))
 
-module _ (rules : Rules) (carry : Carry) (answers : List Answer) (sent : List (List ℕ)) (IsPart : List (List ℕ) → Type 0)
+module _ (rules : ReceiveOptions) (carry : Carry) (answers : List Answer) (sent : List (List ℕ)) (IsPart : List (List ℕ) → Type 0)
     (at : (part : List (List ℕ)) → IsPart part → StopsAt rules carry answers (sent ++ part)) (goes_on : GoesOn rules answers) where
   front_at : (part : List (List ℕ)) → IsPart part → IsFrontOfOnward rules carry answers (sent ++ part)
   front_at part holds = front_follows rules carry answers (sent ++ part) (at part holds) goes_on

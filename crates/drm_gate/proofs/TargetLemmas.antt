@@ -7,8 +7,9 @@ use Rattle.drm_links.specs.Link.{Traffic}
 use Rattle.several_links.specs.declared.member.Member.{Member}
 use Rattle.several_links.specs.Took.{TookBy}
 use Rattle.several_links.specs.Reaching.{AreUp, AreDown}
-use Rattle.drm_gate.specs.Targets.{Target, target, targets, Each, TakesNoMore, EachTakes, EachSends, NoneTakes, AllUp, SomeUp}
-use Rattle.drm_gate.proofs.RestingLemmas.{no_sends, more_sends, few_sends}
+use Rattle.dcp_sender.specs.Targets.{Target, target, targets}
+use Rattle.drm_gate.specs.Targets.{Each, TakesNoMore, EachTakes, EachSends, NoneTakes, AllUp, SomeUp}
+use Rattle.dcp_sender.proofs.RestingLemmas.{no_sends, more_sends, few_sends}
 
 -- ---- stretches
 

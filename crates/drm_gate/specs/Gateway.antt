@@ -2,7 +2,7 @@
 use Rattle.std.specs.Prelude.{◌≡◌, ◌<◌, ◌≤◌, IfSome}
 use Rattle.dcp_pft.specs.declared.carry.Carry.{Carry}
 use Rattle.dcp_collect.specs.State.{State, made}
-use Rattle.mod_receiver.specs.declared.rules.Rules.{Rules}
+use Rattle.recv_reading.specs.declared.options.ReceiveOptions.{ReceiveOptions}
 use Rattle.drm_gate.specs.declared.gate.GateOptions.{GateOptions}
 
 -- its collector, and the carry under which it sends
@@ -17,7 +17,7 @@ pub record IsNew (gate : Gateway) : Type 0 where
   pub is : gate.collector ≡ made gate.collector.window gate.collector.first
 
 -- what a call reads by: from its new collector and its options
-abbrev pub rules_of : State → GateOptions → Rules
+abbrev pub rules_of : State → GateOptions → ReceiveOptions
 rules_of c options = record { window = c.window; first = c.first; frames = options.frames; idle = options.idle; limit = options.limit }
 
 -- each number of the options is in its range

@@ -1,10 +1,8 @@
-pub mod Draining
+pub mod Passed
 pub mod Gateway
 pub mod Passing
 pub mod Reading
-pub mod Resting
 pub mod Run
-pub mod Sending
 pub mod Steps
 pub mod Tallies
 pub mod Targets

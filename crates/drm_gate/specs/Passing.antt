@@ -5,9 +5,9 @@ use Rattle.dcp_pft.specs.declared.carry.Carry.{Carry}
 use Rattle.dcp_af.specs.declared.fault.AfFault.{AfFault}
 use Rattle.dcp_af.specs.Faults.{IsFault}
 use Rattle.dcp_collect.specs.Runs.{Item, Packet, Lost, Damaged}
-use Rattle.drm_convert.specs.Carried.{AreOf}
-use Rattle.drm_convert.specs.Converting.{IsAny, sequence_of}
-use Rattle.drm_gate.specs.Sending.{is_large, AreSome}
+use Rattle.dcp_sender.specs.Carried.{AreOf}
+use Rattle.dcp_sender.specs.Packets.{IsAny, sequence_of}
+use Rattle.dcp_sender.specs.OverLinks.{is_large, AreSome}
 
 -- It is sent, as these datagrams, or it is none that can be sent: bad, or above the limit of the carry, or missing.
 pub data Fate : Type 0 where

@@ -9,32 +9,31 @@ use Rattle.collect_laws.specs.Laws.{Given}
 use Rattle.drm_links.specs.Told.{Known, HasFailed}
 use Rattle.drm_links.specs.Link.{Answer, Traffic}
 use Rattle.drm_links.specs.Transmission.{Transmits, SendsNoMore}
-use Rattle.report_lines.specs.declared.report.EndWord.{EndWord}
-use Rattle.mod_receiver.specs.Hearing.{Heard}
-use Rattle.mod_receiver.specs.declared.rules.Rules.{Rules}
-use Rattle.mod_receiver.specs.Reading.{datagrams, Gave, GoesOn, IsFinished, IsBroken, most_answers}
-use Rattle.mod_receiver.specs.OneReading.{Ends}
-use Rattle.mod_receiver.specs.Received.{ComesTo}
-use Rattle.drm_convert.specs.Draining.{MayBeFirst}
-use Rattle.capture_items.specs.Reading.{is_full}
-use Rattle.drm_convert.specs.Run.{first_of}
+use Rattle.recv_reading.specs.declared.reason.EndWord.{EndWord}
+use Rattle.drm_links.specs.Hearing.{Heard}
+use Rattle.recv_reading.specs.declared.options.ReceiveOptions.{ReceiveOptions}
+use Rattle.recv_reading.specs.Ending.{datagrams, Gave, GoesOn, IsFinished, IsBroken, ComesTo, most_answers}
+use Rattle.recv_reading.specs.OneReading.{Ends}
+use Rattle.recv_reading.specs.First.{MayBeFirst, first_of}
+use Rattle.recv_reading.specs.State.{is_full}
 use Rattle.drm_gate.specs.declared.tally.Tally.{Tally}
 use Rattle.drm_gate.specs.declared.gate.GateEnded.{GateEnded}
 use Rattle.drm_gate.specs.declared.gate.GateEnded.TheVariants.{Done, SomeFailed, FromFailed, ToFailed}
 use Rattle.drm_gate.specs.Passing.{Fate, Begins, BecomeAll, sent_of}
-use Rattle.drm_gate.specs.Targets.{Target, Each, EachTakes, EachSends, AllUp}
+use Rattle.dcp_sender.specs.Targets.{Target}
+use Rattle.drm_gate.specs.Targets.{Each, EachTakes, EachSends, AllUp}
 use Rattle.drm_gate.specs.Tallies.{tally_of, over}
 
 -- What becomes of these datagrams: of what a collector gives of them, up to the told number, what is ready at their end
 -- included.
-pub record IsOnward (rules : Rules) (carry : Carry) (datagrams : List (List ℕ)) (fates : List Fate) : Type 0 where
+pub record IsOnward (rules : ReceiveOptions) (carry : Carry) (datagrams : List (List ℕ)) (fates : List Fate) : Type 0 where
   pub taken : List Taken
   pub items : List Item
   pub run : Run rules.window rules.first rules.frames datagrams taken items
   pub become : BecomeAll carry (first_of run.mid) items fates
 
 -- What becomes of what these datagrams make ready, while more may come.
-pub record IsReady (rules : Rules) (carry : Carry) (datagrams : List (List ℕ)) (fates : List Fate) : Type 0 where
+pub record IsReady (rules : ReceiveOptions) (carry : Carry) (datagrams : List (List ℕ)) (fates : List Fate) : Type 0 where
   pub taken : List Taken
   pub items : List Item
   pub mid : State
@@ -46,14 +45,14 @@ abbrev pub IsFrontOf : List (List ℕ) → List (List ℕ) → Type 0
 IsFrontOf whole front = (rest : List (List ℕ)) × (1 ≤ length rest) × (whole ≡ front ++ rest)
 
 -- However the reading goes on that these answers begin: of what becomes of all its datagrams these are a front.
-abbrev pub IsFrontOfOnward : Rules → Carry → List Answer → List (List ℕ) → Type 0
+abbrev pub IsFrontOfOnward : ReceiveOptions → Carry → List Answer → List (List ℕ) → Type 0
 IsFrontOfOnward rules carry answers sent =
     (more : List Answer) (ending : Option EndWord) (fates : List Fate)
     → Ends rules (answers ++ more) ending → IsOnward rules carry (datagrams (answers ++ more)) fates → IsFrontOf (sent_of fates) sent
 
 -- Of a reading that began with these answers, these datagrams were sent, and then a send failed: they are what becomes of the
 -- items that were given so far, and some of the datagrams of the item behind them, which isn't past the told number.
-pub record StopsAt (rules : Rules) (carry : Carry) (answers : List Answer) (sent : List (List ℕ)) : Type 0 where
+pub record StopsAt (rules : ReceiveOptions) (carry : Carry) (answers : List Answer) (sent : List (List ℕ)) : Type 0 where
   pub before : List Answer
   pub later : List Answer
   pub are : answers ≡ before ++ later
@@ -77,11 +76,11 @@ pub record StopsAt (rules : Rules) (carry : Carry) (answers : List Answer) (sent
   pub sent_is : sent ≡ sent_of fates ++ datagrams
 
 -- so many sends at the most: those of a packet for each datagram that was taken, and of one more
-abbrev pub most_sends : Rules → ℕ
+abbrev pub most_sends : ReceiveOptions → ℕ
 most_sends rules = most_fragments * (rules.limit + 1)
 
 -- The reading was finished, and all that becomes of what was read was sent and counted.
-pub record PassesAll (rules : Rules) (carry : Carry) (hears : List Answer → Type 0) (to to' : List Target) (tally : Tally) : Type 0 where
+pub record PassesAll (rules : ReceiveOptions) (carry : Carry) (hears : List Answer → Type 0) (to to' : List Target) (tally : Tally) : Type 0 where
   pub answers : List Answer
   pub heard : hears answers
   pub few : length answers ≤ most_answers rules
@@ -94,7 +93,7 @@ pub record PassesAll (rules : Rules) (carry : Carry) (hears : List Answer → Ty
   pub tally_is : tally ≡ tally_of fates
 
 -- The reading ended in `Failed`, and what had been made ready before was sent.
-pub record BreaksOff (rules : Rules) (carry : Carry) (hears : List Answer → Type 0) (to to' : List Target) : Type 0 where
+pub record BreaksOff (rules : ReceiveOptions) (carry : Carry) (hears : List Answer → Type 0) (to to' : List Target) : Type 0 where
   pub answers : List Answer
   pub heard : hears answers
   pub few : length answers ≤ most_answers rules
@@ -106,21 +105,21 @@ pub record BreaksOff (rules : Rules) (carry : Carry) (hears : List Answer → Ty
   pub only : EachSends (most_sends rules) to to'
 
 -- A link took these datagrams, a front of what becomes of what was read, and no more.
-pub record StopsOver (rules : Rules) (carry : Carry) (answers : List Answer) (to to' : Target) : Type 0 where
+pub record StopsOver (rules : ReceiveOptions) (carry : Carry) (answers : List Answer) (to to' : Target) : Type 0 where
   pub datagrams : List (List ℕ)
   pub sent : Transmits to.known to'.known (SendsNoMore datagrams)
   pub once : HasFailed to.known to'.known
   pub front : IsFrontOfOnward rules carry answers datagrams
 
 -- The same of the link that was the last to fail, at the item at hand.
-pub record StopsLast (rules : Rules) (carry : Carry) (answers : List Answer) (to to' : Target) : Type 0 where
+pub record StopsLast (rules : ReceiveOptions) (carry : Carry) (answers : List Answer) (to to' : Target) : Type 0 where
   pub datagrams : List (List ℕ)
   pub sent : to.up ≡ true → Transmits to.known to'.known (SendsNoMore datagrams)
   pub at : StopsAt rules carry answers datagrams
 
 -- Each link failed, the last of them at the item at hand: nothing shorter than what was read is finished, and each took a front of what
 -- becomes of it.
-pub record StopsSending (rules : Rules) (carry : Carry) (hears : List Answer → Type 0) (to to' : List Target) : Type 0 where
+pub record StopsSending (rules : ReceiveOptions) (carry : Carry) (hears : List Answer → Type 0) (to to' : List Target) : Type 0 where
   pub answers : List Answer
   pub heard : hears answers
   pub few : length answers ≤ most_answers rules
@@ -138,7 +137,7 @@ abbrev pub CountsOver : List Target → Tally → GateEnded → Type 0
 CountsOver to tally ended = (AllUp to × (ended ≡ Done (over (length to) tally))) ⊎ ((AllUp to → ⊥) × (ended ≡ SomeFailed))
 
 -- what each ending says
-abbrev pub EndsAs : Rules → Carry → (List Answer → Type 0) → List Target → List Target → GateEnded → Type 0
+abbrev pub EndsAs : ReceiveOptions → Carry → (List Answer → Type 0) → List Target → List Target → GateEnded → Type 0
 EndsAs rules carry hears to to' (Done tally) =
     AllUp to' × (sent : Tally) × PassesAll rules carry hears to to' sent × (tally ≡ over (length to') sent)
 EndsAs rules carry hears to to' SomeFailed = (AllUp to' → ⊥) × (sent : Tally) × PassesAll rules carry hears to to' sent
@@ -146,5 +145,5 @@ EndsAs rules carry hears to to' FromFailed = BreaksOff rules carry hears to to'
 EndsAs rules carry hears to to' ToFailed = StopsSending rules carry hears to to'
 
 -- a run of a gateway
-abbrev pub GateRun : Rules → Carry → Known Traffic → Known Traffic → List Target → List Target → GateEnded → Type 0
+abbrev pub GateRun : ReceiveOptions → Carry → Known Traffic → Known Traffic → List Target → List Target → GateEnded → Type 0
 GateRun rules carry from from' to to' ended = EndsAs rules carry (Heard from from') to to' ended

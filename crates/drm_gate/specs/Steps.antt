@@ -2,12 +2,15 @@
 use Rattle.std.specs.Prelude.{ℕ, ◌≡◌, ◌*◌, ◌≤◌, List, length, Result, Ok, Err}
 use Rattle.dcp_pft.specs.declared.carry.Carry.{Carry}
 use Rattle.dcp_pft.specs.Limits.{most_fragments}
-use Rattle.dcp_collect.specs.Runs.{Item, Packet}
+use Rattle.dcp_collect.specs.State.{State}
+use Rattle.dcp_collect.specs.Runs.{Item, IsItem, Packet}
+use Rattle.recv_reading.specs.First.{first_of}
 use Rattle.drm_links.specs.declared.link.LinkFault.{LinkFault}
 use Rattle.drm_gate.specs.declared.tally.Tally.{Tally}
 use Rattle.drm_gate.specs.Passing.{Fate, Becomes, Begins, datagrams_of}
 use Rattle.drm_gate.specs.Tallies.{plus, tally_one}
-use Rattle.drm_gate.specs.Targets.{Target, EachTakes, EachSends, NoneTakes, SomeUp}
+use Rattle.dcp_sender.specs.Targets.{Target}
+use Rattle.drm_gate.specs.Targets.{EachTakes, EachSends, NoneTakes, SomeUp}
 
 -- It was sent, if it can be, and counted. Some link took it whole.
 pub record Passed (carry : Carry) (first : ℕ) (item : Item) (t t' : Tally) (to to' : List Target) : Type 0 where
@@ -30,3 +33,9 @@ PassesOne (Err _) carry first item t t' to to' = Broken carry first item to to' 
 
 abbrev pub PassesPacket : Result (Unit {0}) LinkFault → Carry → ℕ → ℕ → List ℕ → Tally → Tally → List Target → List Target → Type 0
 PassesPacket result carry first index bytes t t' to to' = PassesOne result carry first (Packet index bytes) t t' to to'
+
+-- The next item of a collector was passed on, or the last link failed at it.
+pub record PassesNext (result : Result (Unit {0}) LinkFault) (carry : Carry) (c : State) (t t' : Tally) (to to' : List Target) : Type 0 where
+  pub item : Item
+  pub is : IsItem c item
+  pub one : PassesOne result carry (first_of c) item t t' to to'

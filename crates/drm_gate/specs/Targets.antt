@@ -1,22 +1,11 @@
 -- The links over which a gateway sends. Each is sent the same, until it fails.
-use Rattle.std.specs.Prelude.{ℕ, ◌≡◌, ◌<◌, Bool, true, false, List, ◌++◌, length, map, slice_index_or}
+use Rattle.std.specs.Prelude.{ℕ, ◌≡◌, ◌<◌, Bool, true, false, List, ◌++◌, length, slice_index_or}
 use Rattle.drm_links.specs.Told.{Known, HasFailed}
 use Rattle.drm_links.specs.Link.{Traffic}
 use Rattle.drm_links.specs.Transmission.{Transmits, SendsNoMore}
-use Rattle.several_links.specs.declared.member.Member.{Member}
 use Rattle.several_links.specs.Took.{TookBy}
-use Rattle.drm_gate.specs.Resting.{MakesSends}
-
--- what is known of a link, and whether it hasn't failed
-pub record Target : Type 0 where
-  pub up : Bool
-  pub known : Known Traffic
-
-abbrev pub target : {K : Type 0} → (K → Known Traffic) → Member K → Target
-target known link = record { up = link.up; known = known link.link }
-
-abbrev pub targets : {K : Type 0} → (K → Known Traffic) → List (Member K) → List Target
-targets known links = map (target known) links
+use Rattle.dcp_sender.specs.Resting.{MakesSends}
+use Rattle.dcp_sender.specs.Targets.{Target}
 
 -- the k-th link, before and after
 abbrev pub Each : (Target → Target → Type 0) → List Target → List Target → Type 0

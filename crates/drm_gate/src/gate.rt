@@ -6,15 +6,16 @@ ghost use Rattle.dcp_pft.specs.Limits.{most_fragments};
 ghost use Rattle.dcp_collect.specs.State.{made};
 ghost use Rattle.drm_links.specs.Told.{HasCause};
 ghost use Rattle.drm_gate.specs.Gateway.{IsNew, IsReasonable, rules_of};
-ghost use Rattle.drm_gate.specs.Draining.{most_taken};
+ghost use Rattle.drm_gate.specs.Reading.{most_taken};
 ghost use Rattle.drm_gate.specs.Run.{GateRun, CountsOver};
-ghost use Rattle.drm_gate.specs.Targets.{targets};
+ghost use Rattle.dcp_sender.specs.Targets.{targets};
 ghost use Rattle.several_links.specs.Reaching.{AreUp};
 
+use crate::Tally;
 use crate::reading::{Stop, pass_on};
-use crate::{Sender, Tally};
 use dcp_collect::Collector;
 use dcp_pft::Carry;
+use dcp_sender::PacketSender;
 use drm_bits::NoMemory;
 use drm_links::Link;
 use several_links::{Member, all_up};
@@ -49,7 +50,7 @@ pub enum GateEnded {
 #[derive(Drop)]
 pub struct Gate {
     collector: Collector,
-    sender: Sender,
+    sender: PacketSender,
 }
 
 impl Model for Gate {
@@ -73,7 +74,7 @@ impl Gate {
         ensures { IfOk result (λ gate. gate ≡ record { collector = made window first; carry = carry }) }
     {
         let collector = Collector::make(alloc, window, first)?;
-        let sender = Sender::make(alloc, carry)?;
+        let sender = PacketSender::make(alloc, carry)?;
         Ok(Gate { collector, sender })
     }
 }

@@ -1,25 +1,28 @@
 //! What a collector gives, passed on.
 
 ghost use Rattle.std.specs.Prelude.{◌≡◌, ◌<◌, ◌^◌, true, false};
+ghost use Rattle.dcp_collect.specs.State.{ready, after_item};
 ghost use Rattle.dcp_collect.specs.View.{item_of};
 ghost use Rattle.dcp_collect.specs.WholePackets.{IsAfIfWhole};
 ghost use Rattle.mod_feed.specs.Items.{number_of};
-ghost use Rattle.drm_convert.specs.Converting.{IsAny, sequence_of};
+ghost use Rattle.dcp_sender.specs.Packets.{IsAny};
 ghost use Rattle.drm_gate.specs.Passing.{IsNone};
-ghost use Rattle.drm_gate.specs.Steps.{PassesOne, PassesPacket};
-ghost use Rattle.drm_gate.specs.Targets.{targets, SomeUp};
+ghost use Rattle.drm_gate.specs.Steps.{PassesOne, PassesNext, PassesPacket};
+ghost use Rattle.drm_gate.specs.Tallies.{items_in};
+ghost use Rattle.dcp_sender.specs.Targets.{targets};
+ghost use Rattle.drm_gate.specs.Targets.{SomeUp};
 
-use crate::Sender;
 use crate::tally::Tally;
 use dcp_af::read_af;
-use dcp_collect::Out;
+use dcp_collect::{Collector, Out};
+use dcp_sender::{PacketSender, sequence};
 use drm_links::{Link, LinkFault};
 use several_links::{Member, none_up};
 
 /// Sends a packet over each link that hasn't failed, and counts it, or counts what is said in its place. It fails where no link is left.
 /// The packet with number 0 has the first sequence number.
 pub(crate) fn pass<K: Link>(
-    sender: &mut Sender,
+    sender: &mut PacketSender,
     first: u16,
     given: Out<'_>,
     tally: &mut Tally,
@@ -54,8 +57,31 @@ pub(crate) fn pass<K: Link>(
     }
 }
 
+/// Passes on the next item of a collector.
+pub(crate) fn pass_next<K: Link>(
+    collector: &mut Collector,
+    sender: &mut PacketSender,
+    tally: &mut Tally,
+    to: &mut [Member<K>],
+) -> Result<(), LinkFault>
+    requires is_ready { ready collector.old ≡ true }
+    requires counted { items_in tally.old ≡ collector.old.next }
+    requires few_sent { tally.old.sent < 2 ^ 62 }
+    requires up { SomeUp (targets K.known to.old) }
+    ensures collector { collector.new ≡ after_item collector.old }
+    ensures next { PassesNext result sender.old collector.old tally.old tally.new
+        (targets K.known to.old) (targets K.known to.new) }
+    ensures carry { sender.new ≡ sender.old }
+{
+    let first = collector.first().unwrap_or(0);
+    let Some(given) = collector.next() else {
+        unreachable!()
+    };
+    pass(sender, first, given, tally, to)
+}
+
 fn pass_packet<K: Link>(
-    sender: &mut Sender,
+    sender: &mut PacketSender,
     first: u16,
     index: u64,
     bytes: &[u8],
@@ -104,11 +130,4 @@ fn is_af(bytes: &[u8], whole: bool) -> bool
         Ok(_) => true,
         Err(_) => false,
     }
-}
-
-fn sequence(first: u16, index: u64) -> u16
-    requires { index < 2 ^ 62 }
-    ensures { result ≡ sequence_of first index }
-{
-    ((u64::from(first) + index) % 0x1_0000) as u16
 }

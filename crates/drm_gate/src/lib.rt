@@ -2,13 +2,10 @@
 //! it is given.
 #![tactic(auto)]
 
-mod draining;
 mod gate;
 mod item;
 mod reading;
-mod sending;
 mod tally;
 
 pub use gate::{Gate, GateEnded, GateOptions, gate_one};
-pub use sending::Sender;
 pub use tally::Tally;

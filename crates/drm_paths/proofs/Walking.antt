@@ -4,10 +4,10 @@ use Rattle.std.specs.List.{AllByRecursion}
 use Rattle.std.proofs.lemmas.List.{append-nil, take-append-le, take_all}
 use Rattle.std.proofs.lemmas.List.Elements.{filter_map-append}
 use Rattle.drm_links.specs.Link.{Answer, Datagram, Idle, Failed, datagram_of}
-use Rattle.mod_receiver.specs.Reading.{datagrams, idles, IsSound}
+use Rattle.recv_reading.specs.Ending.{datagrams, idles, IsSound}
 use Rattle.std.proofs.Math.Nat.{mul-le-mul_right}
-use Rattle.mod_receiver.proofs.Reaching.{one_longer, one_turn}
-use Rattle.mod_receiver.proofs.Going.{idles_datagram, idles_idle}
+use Rattle.recv_reading.proofs.Going.{one_longer, one_turn}
+use Rattle.recv_reading.proofs.Going.{idles_datagram, idles_idle}
 use Rattle.drm_paths.specs.declared.run.PathOptions.{PathOptions}
 use Rattle.drm_paths.specs.declared.run.PathEnded.{PathEnded}
 use Rattle.drm_paths.specs.declared.run.PathEnded.TheVariants as why

@@ -2,7 +2,7 @@
 use Rattle.std.specs.Prelude.{ℕ, ◌≡◌, ◌+◌, ◌*◌, ◌<◌, ◌≤◌, ◌⊎◌, List, [], ◌∷◌, ◌++◌, length, take}
 use Rattle.std.specs.List.{AllByRecursion}
 use Rattle.drm_links.specs.Link.{Answer, Datagram, Failed}
-use Rattle.mod_receiver.specs.Reading.{datagrams, idles, IsSound}
+use Rattle.recv_reading.specs.Ending.{datagrams, idles, IsSound}
 use Rattle.drm_paths.specs.declared.run.PathOptions.{PathOptions}
 use Rattle.drm_paths.specs.declared.run.PathEnded.{PathEnded}
 use Rattle.drm_paths.specs.declared.run.PathEnded.TheVariants.{Idle, Limit, LinkFailed, NoMemory}

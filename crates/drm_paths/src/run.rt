@@ -2,13 +2,13 @@
 
 ghost use Rattle.std.specs.Prelude.{◌≡◌, ◌+◌, ◌<◌, ◌≤◌, ◌⊎◌, ◌↔◌, IsTrue, [], length};
 ghost use Rattle.drm_links.specs.Told.{HasCause};
-ghost use Rattle.mod_receiver.specs.Hearing.{Heard};
+ghost use Rattle.drm_links.specs.Hearing.{Heard};
 ghost use Rattle.drm_paths.specs.State.{most_bytes};
 ghost use Rattle.drm_paths.specs.Reading.{AreReasonable, ReadsPath};
 
 use crate::shared::{Given, Shared};
 use crate::{Path, Road};
-use drm_links::{Came, Link};
+use drm_links::{Came, LONGEST_DATAGRAM, Link};
 use std::alloc::Global;
 use std::sync::Wait;
 
@@ -36,15 +36,13 @@ pub enum PathEnded {
 
 /// The most bytes that a path takes.
 const MOST_BYTES: u64 = 67_108_864;
-/// Room for the longest datagram.
-const LONGEST: u64 = 65_536;
 
 // Whether a path that took so many datagrams, of so many bytes, takes no more.
 fn is_full(taken: u32, limit: u32, bytes: u64) -> bool
     requires { bytes ≤ most_bytes }
     ensures { IsTrue result ↔ ((taken ≡ limit) ⊎ (most_bytes < bytes + 65536)) }
 {
-    taken == limit || MOST_BYTES < bytes + LONGEST
+    taken == limit || MOST_BYTES < bytes + LONGEST_DATAGRAM as u64
 }
 
 /// Reads a link, and hands each datagram to the book, until it has read enough. The buffer holds one datagram.

@@ -13,14 +13,15 @@ use Rattle.drm_capture.specs.Front.{IsWhole}
 use Rattle.drm_capture.specs.Capture as capture
 use Rattle.drm_capture.specs.Laws.{ReadSomeWay}
 use Rattle.drm_capture.specs.Reading.{Breaks}
-use Rattle.mod_receiver.specs.declared.rules.Rules.{Rules}
+use Rattle.recv_reading.specs.declared.options.ReceiveOptions.{ReceiveOptions}
 use Rattle.mod_receiver.specs.declared.capture.Unfinished.{Unfinished}
 use Rattle.mod_receiver.specs.declared.capture.Unfinished.TheVariants as unfinished
-use Rattle.mod_receiver.specs.Hearing.{AreNext}
-use Rattle.mod_receiver.specs.Reading.{most_answers}
-use Rattle.mod_receiver.specs.Ranges.{AreInRange}
+use Rattle.drm_links.specs.Hearing.{AreNext}
+use Rattle.recv_reading.specs.Ending.{most_answers}
+use Rattle.recv_reading.specs.Options.{AreInRange}
 use Rattle.mod_receiver.specs.Received.{Reported, Broken, Stopped}
-use Rattle.mod_receiver.specs.Captures.{answers_of, Brings, ArePackets, HeardOf, HeardUntil, EndsReceiving}
+use Rattle.mod_receiver.specs.Captures.{EndsReceiving}
+use Rattle.recv_reading.specs.Source.{answers_of, Brings, HeardOf, HeardUntil}
 use Rattle.mod_receiver.specs.Following.{HeadlinesFollow, CompletesFollow}
 use Rattle.mod_receiver.proofs.JobLemmas.{report_ahead}
 use Rattle.drm_faults.specs.declared.fault.Fault.{Fault}
@@ -39,14 +40,14 @@ use Rattle.drm_receive.proofs.ReceiveLemmas.{no_fault}
 abbrev Begin : List ℕ → List Answer → Type 0
 Begin left answers =
     (packets : List (List ℕ))
-    × (((more : List ℕ) × All IsWhole packets × (left ≡ concat packets ++ more) × (length (concat packets) ≤ capture.most_bytes) × ArePackets packets answers)
+    × (((more : List ℕ) × All IsWhole packets × (left ≡ concat packets ++ more) × (length (concat packets) ≤ capture.most_bytes) × (answers ≡ map Datagram packets))
     ⊎ (capture.IsCaptureOf left packets capture.End × (answers ≡ map Datagram packets ++ End ∷ [])))
 
 began : (before after : Known Input) (answers : List Answer) → HeardOf before after answers → Inputs before after (λ left rest. Begin left answers)
-began before after answers (packets, inl (reader, read, are)) =
+began before after answers (reader, (packets, inl (read, are))) =
     Inputs-weaker (λ left rest. left ≡ concat packets ++ (reader.held ++ rest)) (λ left rest. Begin left answers) before after read.bytes
     (λ left rest is. (packets, inl (reader.held ++ rest, read.whole, is, (let at = read.at in let few = read.few in omega (arith, at, few)), are)))
-began before after answers (packets, inr (ended, are)) =
+began before after answers (reader, (packets, inr (ended, are))) =
     Inputs-weaker (λ left rest. capture.IsCaptureOf left packets capture.End) (λ left rest. Begin left answers) before after ended (λ left rest is. (packets, inr (is, are)))
 
 next_packets : (packets later : List (List ℕ)) (ending : capture.Ending) → AreNext (answers_of (packets ++ later) ending) (map Datagram packets) (answers_of later ending)
@@ -80,11 +81,11 @@ next_of some left answers (packets, inr (of, are)) = (
 abbrev Alone : List Answer → List Answer → Type 0
 Alone answers others = others ≡ answers
 
-alone_next : (rules : Rules) (ahead answers later : List Answer) → AreNext ahead answers later
+alone_next : (rules : ReceiveOptions) (ahead answers later : List Answer) → AreNext ahead answers later
     → (others : List Answer) → Alone answers others → length others ≤ most_answers rules → (rest : List Answer) × AreNext ahead others rest
 alone_next rules ahead answers later next others same few = (later, subst (λ l. AreNext ahead l later) (sym same) next)
 
-module _ {O : Type 0} (rules : Rules) (valid : AreInRange rules) (headlines : HeadlinesFollow) (completes : CompletesFollow) (some : ReadSomeWay)
+module _ {O : Type 0} (rules : ReceiveOptions) (valid : AreInRange rules) (headlines : HeadlinesFollow) (completes : CompletesFollow) (some : ReadSomeWay)
     (before after : Known Input) (known : O → Known Output) (out out' : O) where
   reported : (clean : Bool) → Reported rules 1 (HeardOf before after) (known out) (known out') clean → Inputs before after (λ left rest. WritesReport rules left clean known out out')
   reported clean r =
@@ -135,7 +136,7 @@ module _ {O : Type 0} (rules : Rules) (valid : AreInRange rules) (headlines : He
 
 -- ---- by what it ended
 
-pub ended_as : (rules : Rules) (before after : Known Input) (a b : Known Output) (received : Result Bool Unfinished) → EndsReceiving rules before after a b received → Ends rules (ending_captured received) before after a b
+pub ended_as : (rules : ReceiveOptions) (before after : Known Input) (a b : Known Output) (received : Result Bool Unfinished) → EndsReceiving rules before after a b received → Ends rules (ending_captured received) before after a b
 ended_as rules before after a b (Ok clean) ends = ends
 ended_as rules before after a b (Err (unfinished.Stopped stops.Read)) ends = ends
 ended_as rules before after a b (Err (unfinished.Stopped (stops.Capture why))) ends = ends

@@ -8,12 +8,13 @@ use Rattle.drm_links.proofs.ToldLemmas.{Inputs-weaker}
 use Rattle.drm_capture.specs.declared.fault.CaptureFault.{CaptureFault}
 use Rattle.drm_capture.specs.Capture as capture
 use Rattle.drm_capture.proofs.CaptureLaws.{read_one_way}
-use Rattle.mod_receiver.specs.declared.rules.Rules.{Rules}
-use Rattle.mod_receiver.specs.Hearing.{AreNext}
-use Rattle.mod_receiver.specs.Ahead.{IsInTimeAhead, Report, IsReportOf}
-use Rattle.mod_receiver.specs.Captures.{answers_of, Brings}
+use Rattle.recv_reading.specs.declared.options.ReceiveOptions.{ReceiveOptions}
+use Rattle.drm_links.specs.Hearing.{AreNext}
+use Rattle.report_lines.specs.Reports.{Report}
+use Rattle.mod_receiver.specs.Ahead.{IsInTimeAhead, IsReportOf}
+use Rattle.recv_reading.specs.Source.{answers_of, Brings}
 use Rattle.mod_receiver.specs.Following.{NoneBreaksOff}
-use Rattle.mod_receiver.proofs.OneReading.{finished_whole}
+use Rattle.recv_reading.proofs.OneReading.{finished_whole}
 use Rattle.drm_faults.specs.Fault.{UnlessMemory}
 use Rattle.drm_faults.specs.declared.fault.Fault.{Fault}
 use Rattle.drm_faults.specs.declared.fault.Fault.TheVariants as faults
@@ -31,11 +32,11 @@ same_ahead left ahead brings packets ending of =
 one_ahead : (left : List ℕ) (ahead others : List Answer) → Brings left ahead → Brings left others → ahead ≡ others
 one_ahead left ahead others brings other = same_ahead left ahead brings other.packets other.ending other.is ∙ sym other.ahead_is
 
-one_ending : (left : List ℕ) (packets : List (List ℕ)) (ending : capture.Ending) (rules : Rules) (why : capture.Ending) → capture.IsCaptureOf left packets ending → BreaksOffBy rules left why → ending ≡ why
+one_ending : (left : List ℕ) (packets : List (List ℕ)) (ending : capture.Ending) (rules : ReceiveOptions) (why : capture.Ending) → capture.IsCaptureOf left packets ending → BreaksOffBy rules left why → ending ≡ why
 one_ending left packets ending rules why of breaks = (read_one_way left packets breaks.packets ending why of breaks.is).1
 
 -- what has a report doesn't break off
-whole_report : (rules : Rules) (left : List ℕ) (ahead : List Answer) (r : Report) (why : capture.Ending) → Brings left ahead → IsReportOf rules 1 ahead r → BreaksOffBy rules left why → ⊥
+whole_report : (rules : ReceiveOptions) (left : List ℕ) (ahead : List Answer) (r : Report) (why : capture.Ending) → Brings left ahead → IsReportOf rules 1 ahead r → BreaksOffBy rules left why → ⊥
 whole_report rules left ahead r why brings report by =
     let same : ahead ≡ answers_of by.packets why = same_ahead left ahead brings by.packets why by.is in
     let b = by.breaks in
@@ -43,13 +44,13 @@ whole_report rules left ahead r why brings report by =
     (subst (λ l. AreNext l b.answers b.rest) (sym same) b.next) report.is.reading b.reading
 
 -- What an ending says of the bytes that were left: their report is written, or the reading breaks off by them.
-abbrev pub Says : {O : Type 0} → Rules → List ℕ → Result Bool Fault → (O → Known Output) → O → O → Type 0
+abbrev pub Says : {O : Type 0} → ReceiveOptions → List ℕ → Result Bool Fault → (O → Known Output) → O → O → Type 0
 Says rules left (Ok clean) known out out' = WritesReport rules left clean known out out'
 Says rules left (Err (faults.Capture fault)) known out out' = BreaksOffBy rules left (capture.Fault fault)
 Says rules left (Err faults.CaptureTooLong) known out out' = BreaksOffBy rules left capture.TooLong
 Says rules left (Err fault) known out out' = Unit {0}
 
-module _ {O : Type 0} (rules : Rules) (left : List ℕ) (known : O → Known Output) (out out' : O) where
+module _ {O : Type 0} (rules : ReceiveOptions) (left : List ℕ) (known : O → Known Output) (out out' : O) where
   -- ---- exactly there
 
   abbrev Exactly : Result Bool Fault → Type 0
@@ -133,7 +134,7 @@ module _ {O : Type 0} (rules : Rules) (left : List ℕ) (known : O → Known Out
 
 -- ---- the whole run
 
-pub capture_run : NoneBreaksOff → {I O : Type 0} (rules : Rules) (ending : Result Bool Fault) (input_known : I → Known Input) (input input' : I) (out_known : O → Known Output) (out out' : O)
+pub capture_run : NoneBreaksOff → {I O : Type 0} (rules : ReceiveOptions) (ending : Result Bool Fault) (input_known : I → Known Input) (input input' : I) (out_known : O → Known Output) (out out' : O)
     → ((fault : Fault) → ending ≡ Err fault → EndsEarly fault)
     → Ends rules ending (input_known input) (input_known input') (out_known out) (out_known out')
     → Inputs (input_known input) (input_known input') (λ left _. Says rules left ending out_known out out')

@@ -1,36 +1,36 @@
 -- From the receiver of one link that ended to the whole command.
-use Rattle.std.proofs.Common.{◌≡◌, ℕ, zero, suc, ◌<◌, ◌≤◌, ◌^◌, ◌⊎◌, ◌↔◌, ◌∙◌, inl, inr, Bool, List, [], ◌∷◌, length, slice_index_or, Some, Result, Ok, Err, refl, sym, ap, subst, arith, le_trans}
+use Rattle.std.proofs.Common.{◌≡◌, ℕ, zero, suc, ◌<◌, ◌≤◌, ◌⊎◌, ◌↔◌, ◌∙◌, inl, inr, Bool, List, [], ◌∷◌, length, slice_index_or, Some, Result, Err, refl, sym, ap, subst, arith, le_trans}
 use Rattle.drm_links.specs.Told.{Known, HasCause, WhileTold, CountsCall, Tells}
 use Rattle.drm_links.proofs.ToldLemmas.{counts_as, Tells-weaker, Tells-both}
 use Rattle.drm_faults.specs.Fault.{UnlessMemory}
 use Rattle.drm_links.specs.Link.{Answer, Traffic}
 use Rattle.drm_links.specs.Sink.{Output}
-use Rattle.drm_links.specs.Dock.{DockContents, LinkStart, Over, Closes, first_traffic, after_close}
+use Rattle.drm_links.specs.Dock.{DockContents, LinkStart, Over, Closes, first_traffic, after_close, HasLink, Docked, Finds, FindsNone, after_openings}
 use Rattle.drm_links.specs.declared.dock.Address.{Address}
-use Rattle.mod_receiver.specs.declared.rules.Rules.{Rules}
+use Rattle.recv_reading.specs.declared.options.ReceiveOptions.{ReceiveOptions}
 use Rattle.mod_receiver.specs.declared.receiver.Ended.{Ended}
 use Rattle.mod_receiver.specs.declared.receiver.Ended.TheVariants.{Done, LinkFailed, WriteFailed, NoMemory}
-use Rattle.mod_receiver.specs.Ranges.{AreInRange}
+use Rattle.recv_reading.specs.Options.{AreInRange}
 use Rattle.mod_receiver.specs.declared.receiver.Options.{Options}
 use Rattle.mod_receiver.specs.declared.job.Job.{Job}
 use Rattle.mod_receiver.specs.Jobs.{IsJob, AreJobs, job_rules}
-use Rattle.mod_receiver.specs.Hearing.{Heard}
-use Rattle.mod_receiver.specs.Reading.{most_answers}
+use Rattle.drm_links.specs.Hearing.{Heard}
+use Rattle.recv_reading.specs.Ending.{most_answers}
 use Rattle.mod_receiver.specs.Received.{EndsAs}
 use Rattle.mod_receiver.specs.Following.{HeadlinesFollow, CompletesFollow, NoneBreaksOff}
-use Rattle.mod_receiver.specs.Ahead.{BreaksOff}
-use Rattle.mod_receiver.proofs.Hearing.{heard_none}
-use Rattle.mod_receiver.proofs.JobLemmas.{few_answers, rules_are, live_report, live_given, live_breaks, live_front}
+use Rattle.recv_reading.specs.OneReading.{BreaksOff}
+use Rattle.drm_links.proofs.Hearing.{heard_none}
+use Rattle.recv_reading.proofs.Going.{few_answers}
+use Rattle.mod_receiver.proofs.JobLemmas.{rules_are, live_report, live_given, live_breaks, live_front}
 use Rattle.drm_faults.specs.declared.fault.Fault.{Fault}
 use Rattle.drm_faults.specs.declared.fault.Fault.TheVariants as faults
 use Rattle.drm_faults.proofs.CauseLemmas.{inner_fault}
 use Rattle.drm_receive.specs.Stopping.{ending_live}
-use Rattle.several_links.specs.Openings.{HasLink, Docked, Finds, FindsNone, after_openings}
 use Rattle.drm_receive.specs.Opening.{HaveLinks}
-use Rattle.drm_receive.specs.Hearing.{Hears, HearsEach}
+use Rattle.several_links.specs.Binding.{Hears, HearsEach}
 use Rattle.drm_receive.specs.Receive.{FailsSome, OpensEach, ReadsLive, WritesLive, ReceiveRun}
 use Rattle.several_links.proofs.OpeningLemmas.{docked_weaker, docked_still, docks_more}
-use Rattle.drm_receive.proofs.HearingLemmas.{WentOver, went_over}
+use Rattle.several_links.proofs.BindLemmas.{WentOver, went_over}
 use Rattle.drm_receive.proofs.BreakingOff.{report_whole}
 use Rattle.drm_receive.proofs.ReceiveStatus.{receive_run}
 use Rattle.drm_receive.proofs.ReceiveLemmas.{no_fault}
@@ -57,13 +57,13 @@ ended_kind NoMemory fault is = inl (sym (inner_fault faults.NoMemory fault is))
 -- ---- what was read, and what of it is written
 
 -- These answers were heard of a link, no more than a reading takes, and they are what is read.
-record LiveReads {O : Type 0} (rules : Rules) (ending : Result Bool Fault) (a b : Known Traffic) (known : O → Known Output) (out out' : O) : Type 0 where
+record LiveReads {O : Type 0} (rules : ReceiveOptions) (ending : Result Bool Fault) (a b : Known Traffic) (known : O → Known Output) (out out' : O) : Type 0 where
   answers : List Answer
   heard : Heard a b answers
   few : length answers ≤ most_answers rules
   reads : ReadsLive rules ending known out out' answers
 
-live_reads : {O : Type 0} (rules : Rules) (a b : Known Traffic) (known : O → Known Output) (out out' : O) (ended : Ended) → EndsAs rules 1 a b (known out) (known out') ended
+live_reads : {O : Type 0} (rules : ReceiveOptions) (a b : Known Traffic) (known : O → Known Output) (out out' : O) (ended : Ended) → EndsAs rules 1 a b (known out) (known out') ended
     → LiveReads rules (ending_live ended) a b known out out'
 live_reads rules a b known out out' (Done clean) r = record {
   answers = r.answers;
@@ -86,18 +86,18 @@ live_reads rules a b known out out' WriteFailed r = record {
 live_reads rules a b known out out' NoMemory r = record { answers = []; heard = subst (λ now. Heard a now []) (sym r.0) (heard_none a); few = omega arith; reads = refl }
 
 -- what fails of one link is the first
-abbrev FailsFirst : Rules → DockContents → Address → Type 0
+abbrev FailsFirst : ReceiveOptions → DockContents → Address → Type 0
 FailsFirst rules told at = FindsNone told 0 at ⊎ ((start : LinkStart) × Finds told 0 at start × BreaksOff rules start.ahead)
 
-first_by : (rules : Rules) (told : DockContents) (at : Address) (k : ℕ) → k < 1
+first_by : (rules : ReceiveOptions) (told : DockContents) (at : Address) (k : ℕ) → k < 1
     → FindsNone told k (slice_index_or (at ∷ []) k at) ⊎ ((start : LinkStart) × Finds told k (slice_index_or (at ∷ []) k at) start × BreaksOff rules start.ahead) → FailsFirst rules told at
 first_by rules told at zero within fails = fails
 first_by rules told at (suc k) within fails = absurd (omega (arith, within))
 
-fails_first : (rules : Rules) (told : DockContents) (at : Address) → FailsSome rules told (at ∷ []) → FailsFirst rules told at
+fails_first : (rules : ReceiveOptions) (told : DockContents) (at : Address) → FailsSome rules told (at ∷ []) → FailsFirst rules told at
 fails_first rules told at some = first_by rules told at some.k some.within (some.fails at)
 
-module _ {D L O : Type 0} (rules : Rules) (valid : AreInRange rules) (headlines : HeadlinesFollow) (completes : CompletesFollow) (at : Address)
+module _ {D L O : Type 0} (rules : ReceiveOptions) (valid : AreInRange rules) (headlines : HeadlinesFollow) (completes : CompletesFollow) (at : Address)
     (dock_known : D → Known DockContents) (dock dock' : D) (link_known : L → Known Traffic) (link link' : L)
     (out_known : O → Known Output) (out out' : O)
     (found : Docked (dock_known dock) (dock_known dock') (λ told. HasLink link_known told 0 at link)) where
@@ -184,7 +184,7 @@ one_hears {L} known P at link link' a b c opened went closed counts =
     each told start finds over hears zero d none within = (start, finds, hears)
     each told start finds over hears (suc k) d none within = absurd (omega (arith, within))
 
-module _ {L O : Type 0} (known : L → Known Traffic) (rules : Rules) (valid : AreInRange rules) (link link' : L) (start : LinkStart) (out_known : O → Known Output) (out out' : O)
+module _ {L O : Type 0} (known : L → Known Traffic) (rules : ReceiveOptions) (valid : AreInRange rules) (link link' : L) (start : LinkStart) (out_known : O → Known Output) (out out' : O)
     (told : (known link).told ≡ Some (first_traffic start)) where
   -- what the only receiver has read
   pub live_went : (ended : Ended) → EndsAs rules 1 (known link) (known link') (out_known out) (out_known out') ended → WentOver known (ReadsLive rules (ending_live ended) out_known out out') link' start
@@ -193,7 +193,7 @@ module _ {L O : Type 0} (known : L → Known Traffic) (rules : Rules) (valid : A
       went_over known (ReadsLive rules (ending_live ended) out_known out out') link link' start reads.answers told reads.heard (le_trans reads.few (few_answers rules valid)) reads.reads
 
 -- The only one of the receivers that were opened ended, and its link was closed.
-pub only_run : NoneBreaksOff → {D L O : Type 0} (rules : Rules) (valid : AreInRange rules) (headlines : HeadlinesFollow) (completes : CompletesFollow) (addresses : List Address) (jobs : List (Job L)) (job job' : Job L) (ended : Ended)
+pub only_run : NoneBreaksOff → {D L O : Type 0} (rules : ReceiveOptions) (valid : AreInRange rules) (headlines : HeadlinesFollow) (completes : CompletesFollow) (addresses : List Address) (jobs : List (Job L)) (job job' : Job L) (ended : Ended)
     (dock_known : D → Known DockContents) (dock mid dock' : D) (link_known : L → Known Traffic)
     (out_known : O → Known Output) (out out' : O)
     → length addresses ≡ 1 → slice_index_or jobs 0 job ≡ job → AreJobs rules (length addresses) jobs

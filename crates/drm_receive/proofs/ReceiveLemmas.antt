@@ -7,16 +7,16 @@ use Rattle.std.proofs.lemmas.List.Folds.{flat_map-map}
 use Rattle.drm_links.specs.Told.{Known, HasCause, Tells}
 use Rattle.drm_links.specs.Link.{Answer, Traffic}
 use Rattle.drm_links.specs.Sink.{Output, Outputs, IsFront}
-use Rattle.drm_links.specs.Dock.{DockContents, Over}
+use Rattle.drm_links.specs.Dock.{DockContents, Over, Docked, FindsNone, after_openings}
 use Rattle.drm_links.specs.declared.dock.Address.{Address}
 use Rattle.drm_links.proofs.ToldLemmas.{counts_as, counts_none, Outputs-weaker, Tells-weaker}
 use Rattle.drm_links.proofs.Places.{index_of}
-use Rattle.mod_receiver.specs.declared.rules.Rules.{Rules}
+use Rattle.recv_reading.specs.declared.options.ReceiveOptions.{ReceiveOptions}
 use Rattle.drm_faults.specs.declared.fault.Fault.{Fault}
 use Rattle.drm_faults.specs.declared.fault.Fault.TheVariants as faults
 use Rattle.mod_receiver.specs.declared.job.Job.{Job}
-use Rattle.mod_receiver.specs.Ranges.{AreInRange}
-use Rattle.mod_receiver.specs.Reading.{GoesOn}
+use Rattle.recv_reading.specs.Options.{AreInRange}
+use Rattle.recv_reading.specs.Ending.{GoesOn}
 use Rattle.mod_receiver.specs.Received.{IsReport}
 use Rattle.mod_receiver.specs.declared.receiver.Ended.{Ended}
 use Rattle.mod_receiver.specs.declared.receiver.Ended.TheVariants.{Done, LinkFailed, WriteFailed, NoMemory}
@@ -30,12 +30,13 @@ use Rattle.drm_receive.specs.Stopping.{ending_of}
 use Rattle.mod_receiver.specs.Following.{HeadlinesFollow, CompletesFollow, NoneBreaksOff}
 use Rattle.drm_faults.specs.Fault.{UnlessMemory}
 use Rattle.drm_faults.proofs.CauseLemmas.{inner_fault}
-use Rattle.several_links.specs.Openings.{Docked, FindsNone, after_openings}
-use Rattle.drm_receive.specs.Hearing.{BindsFew, HearsEach}
+use Rattle.several_links.specs.Binding.{BindsFew, HearsEach}
 use Rattle.drm_receive.specs.Receive.{AreReports, AreAll, AreBroken, ReadsOne, ReadsBy, all_texts, FailsSome, OpensEach, WritesReports, WritesAll, AreSomeReports, WritesSome, IsLive, ReceiveRun}
-use Rattle.drm_receive.proofs.HearingLemmas.{ReadAs, went_weaker, has_read, link_in, hears_each}
+use Rattle.several_links.proofs.BindLemmas.{went_weaker, hears_each}
+use Rattle.drm_receive.proofs.HearingLemmas.{ReadAs, has_read, link_in}
 use Rattle.drm_receive.proofs.ReceiveStatus.{receive_run}
-use Rattle.mod_receiver.specs.Ahead.{Report, IsReportOf}
+use Rattle.report_lines.specs.Reports.{Report}
+use Rattle.mod_receiver.specs.Ahead.{IsReportOf}
 use Rattle.several_links.proofs.OpeningLemmas.{docked_weaker}
 use Rattle.drm_receive.proofs.BreakingOff.{report_whole}
 use Rattle.mod_receiver.proofs.JobLemmas.{told_of, job_report, job_heard, job_breaks, all_told, SomeFailed, some_failed}
@@ -100,20 +101,20 @@ either (inl p) = inl p
 either (inr q) = inr q.0
 
 -- what is written of several links
-all_several : {O : Type 0} (rules : Rules) (told : DockContents) (addresses : List Address) (ending : Result Bool Fault) (known : O → Known Output) (out out' : O) → (IsLive addresses → ⊥)
+all_several : {O : Type 0} (rules : ReceiveOptions) (told : DockContents) (addresses : List Address) (ending : Result Bool Fault) (known : O → Known Output) (out out' : O) → (IsLive addresses → ⊥)
     → WritesReports (AreReports rules told addresses) ending known out out' → WritesAll rules told addresses ending known out out'
 all_several rules told [] ending known out out' several writes = writes
 all_several rules told (at ∷ []) ending known out out' several writes = absurd (several refl)
 all_several rules told (at ∷ (other ∷ addresses)) ending known out out' several writes = writes
 
-some_several : {O : Type 0} (rules : Rules) (addresses : List Address) (ending : Result Bool Fault) (known : O → Known Output) (out out' : O) → (IsLive addresses → ⊥)
+some_several : {O : Type 0} (rules : ReceiveOptions) (addresses : List Address) (ending : Result Bool Fault) (known : O → Known Output) (out out' : O) → (IsLive addresses → ⊥)
     → WritesReports (AreSomeReports rules (length addresses)) ending known out out' → WritesSome rules addresses ending known out out'
 some_several rules [] ending known out out' several writes = writes
 some_several rules (at ∷ []) ending known out out' several writes = absurd (several refl)
 some_several rules (at ∷ (other ∷ addresses)) ending known out out' several writes = writes
 
 -- what is read of one of several
-several_by : {O : Type 0} (rules : Rules) (addresses : List Address) (ending : Result Bool Fault) (known : O → Known Output) (out out' : O) → (IsLive addresses → ⊥)
+several_by : {O : Type 0} (rules : ReceiveOptions) (addresses : List Address) (ending : Result Bool Fault) (known : O → Known Output) (out out' : O) → (IsLive addresses → ⊥)
     → (answers : List Answer) → ReadsOne rules ending answers → ReadsBy rules addresses ending known out out' answers
 several_by rules [] ending known out out' several answers reads = reads
 several_by rules (at ∷ []) ending known out out' several answers reads = absurd (several refl)
@@ -122,16 +123,16 @@ several_by rules (at ∷ (other ∷ addresses)) ending known out out' several an
 inner_some : (x y : Ended) → Some x ≡ Some y → x ≡ y
 inner_some x y is = cc
 
-whole_of : (rules : Rules) (ended : Ended) (clean : Bool) → ended ≡ Done clean → (answers : List Answer) → ReadAs rules ended answers → AreAll rules answers
+whole_of : (rules : ReceiveOptions) (ended : Ended) (clean : Bool) → ended ≡ Done clean → (answers : List Answer) → ReadAs rules ended answers → AreAll rules answers
 whole_of rules ended clean is answers read = subst (λ e. ReadAs rules e answers) is read
 
-any_of : (rules : Rules) (ended : Ended) (answers : List Answer) → ReadAs rules ended answers → GoesOn rules answers ⊎ AreBroken rules answers
+any_of : (rules : ReceiveOptions) (ended : Ended) (answers : List Answer) → ReadAs rules ended answers → GoesOn rules answers ⊎ AreBroken rules answers
 any_of rules (Done clean) answers read = inl read.1.goes_on
 any_of rules LinkFailed answers read = inr read
 any_of rules WriteFailed answers read = inl read
 any_of rules NoMemory answers read = inl read
 
-sound_of : (rules : Rules) (ended : Ended) → IsTrue (not (is_failed (Some ended))) → (answers : List Answer) → ReadAs rules ended answers → GoesOn rules answers
+sound_of : (rules : ReceiveOptions) (ended : Ended) → IsTrue (not (is_failed (Some ended))) → (answers : List Answer) → ReadAs rules ended answers → GoesOn rules answers
 sound_of rules (Done clean) up answers read = read.1.goes_on
 sound_of rules LinkFailed up answers read = absurd (let same : false ≡ true = up in cc)
 sound_of rules WriteFailed up answers read = read
@@ -147,13 +148,13 @@ all_done jobs (Err stops.NoMemory) known out out' settled link memory = absurd (
 
 -- ---- receivers that were opened and ran
 
-pub record Ran {L : Type 0} (link_known : L → Known Traffic) (rules : Rules) (many : ℕ) (before after : List (Job L)) : Type 0 where
+pub record Ran {L : Type 0} (link_known : L → Known Traffic) (rules : ReceiveOptions) (many : ℕ) (before after : List (Job L)) : Type 0 where
   pub size : length before ≡ many
   pub still : length after ≡ length before
   pub jobs : AreJobs rules many before
   pub ended : (k : ℕ) (d : Job L) → k < length before → HasEnded link_known (slice_index_or before k d) (slice_index_or after k d)
 
-module _ {L : Type 0} (link_known : L → Known Traffic) (rules : Rules) (valid : AreInRange rules) (headlines : HeadlinesFollow) (completes : CompletesFollow) (addresses : List Address) (before after : List (Job L)) (ran : Ran link_known rules (length addresses) before after) where
+module _ {L : Type 0} (link_known : L → Known Traffic) (rules : ReceiveOptions) (valid : AreInRange rules) (headlines : HeadlinesFollow) (completes : CompletesFollow) (addresses : List Address) (before after : List (Job L)) (ran : Ran link_known rules (length addresses) before after) where
   are_reports : (told : DockContents) → HaveLinks link_known told addresses before → All IsDone after → AreReports rules told addresses (map told_of after)
   are_reports told links done = record {
     as_many = length-map after told_of ∙ ran.still ∙ ran.size;
@@ -282,12 +283,12 @@ none_found : (told : DockContents) (at : Address) (k : ℕ) → k < 1 → FindsN
 none_found told at zero within none = none
 none_found told at (suc k) within none = absurd (omega (arith, within))
 
-unwritten_memory : {O : Type 0} (rules : Rules) (told : DockContents) (addresses : List Address) (known : O → Known Output) (out : O) → WritesAll rules told addresses (Err faults.NoMemory) known out out
+unwritten_memory : {O : Type 0} (rules : ReceiveOptions) (told : DockContents) (addresses : List Address) (known : O → Known Output) (out : O) → WritesAll rules told addresses (Err faults.NoMemory) known out out
 unwritten_memory rules told [] known out = refl
 unwritten_memory rules told (at ∷ []) known out = refl
 unwritten_memory rules told (at ∷ (other ∷ addresses)) known out = refl
 
-unwritten_link : {O : Type 0} (rules : Rules) (told after : DockContents) (addresses : List Address) (known : O → Known Output) (out : O) → BindsFew addresses told after → WritesAll rules told addresses (Err faults.Link) known out out
+unwritten_link : {O : Type 0} (rules : ReceiveOptions) (told after : DockContents) (addresses : List Address) (known : O → Known Output) (out : O) → BindsFew addresses told after → WritesAll rules told addresses (Err faults.Link) known out out
 unwritten_link rules told after [] known out fails = refl
 unwritten_link rules told after (at ∷ []) known out fails = inl (none_found told at fails.k fails.within (fails.fails at), refl)
 unwritten_link rules told after (at ∷ (other ∷ addresses)) known out fails = refl
@@ -303,7 +304,7 @@ opening_kind : (fault other : Fault) → EndsOpening fault → of_fault fault �
 opening_kind fault other (inl memory) is = inl (sym (inner_fault fault other is) ∙ memory)
 opening_kind fault other (inr link) is = inr (inl (sym (inner_fault fault other is) ∙ link))
 
-module _ {O : Type 0} (rules : Rules) (addresses : List Address) (fault : Fault) (out_known : O → Known Output) (out : O) (told after : DockContents) where
+module _ {O : Type 0} (rules : ReceiveOptions) (addresses : List Address) (fault : Fault) (out_known : O → Known Output) (out : O) (told after : DockContents) where
   opens_each : StopsOpening addresses fault told after → OpensEach rules addresses (Err fault) out_known out out told after
   opens_each (inl (memory, stops)) = inr (inr (ap Err memory, stops))
   opens_each (inr (link, fails)) = inr (inl (ap Err link, fails))
@@ -317,7 +318,7 @@ module _ {O : Type 0} (rules : Rules) (addresses : List Address) (fault : Fault)
   fails_exactly (inr (link, fails)) = inr (λ is. record { k = fails.k; within = fails.within; fails = λ at. inl (fails.fails at) }, λ any. ap Err link)
 
 -- nothing is written, whatever the dock tells
-some_unwritten : {O : Type 0} (rules : Rules) (addresses : List Address) (fault : Fault) (known : O → Known Output) (out : O) → EndsOpening fault → WritesSome rules addresses (Err fault) known out out
+some_unwritten : {O : Type 0} (rules : ReceiveOptions) (addresses : List Address) (fault : Fault) (known : O → Known Output) (out : O) → EndsOpening fault → WritesSome rules addresses (Err fault) known out out
 some_unwritten rules addresses fault known out (inl memory) = subst (λ f. WritesSome rules addresses (Err f) known out out) (sym memory) (by addresses)
   where
     by : (addresses : List Address) → WritesSome rules addresses (Err faults.NoMemory) known out out
@@ -331,7 +332,7 @@ some_unwritten rules addresses fault known out (inr link) = subst (λ f. WritesS
     by (at ∷ []) = inl (refl, refl)
     by (at ∷ (other ∷ addresses)) = refl
 
-pub opening_failed : NoneBreaksOff → {D O : Type 0} (rules : Rules) (addresses : List Address) (fault : Fault) (dock_known : D → Known DockContents) (dock dock' : D)
+pub opening_failed : NoneBreaksOff → {D O : Type 0} (rules : ReceiveOptions) (addresses : List Address) (fault : Fault) (dock_known : D → Known DockContents) (dock dock' : D)
     (out_known : O → Known Output) (out : O)
     → EndsOpening fault → Tells (dock_known dock) (dock_known dock') (StopsOpening addresses fault) → HasCause (dock_known dock) (dock_known dock') (of_fault fault ≡ Err faults.Link)
     → ReceiveRun rules addresses (Err fault) dock_known dock dock' out_known out out

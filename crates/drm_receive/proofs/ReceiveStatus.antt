@@ -6,16 +6,17 @@ use Rattle.drm_links.specs.Link.{Answer}
 use Rattle.drm_links.specs.Sink.{Output, Outputs}
 use Rattle.drm_links.proofs.ToldLemmas.{Outputs-weaker}
 use Rattle.std.proofs.lemmas.List.{append-nil}
-use Rattle.drm_links.specs.Dock.{DockContents, LinkStart}
+use Rattle.drm_links.specs.Dock.{DockContents, LinkStart, Docked, Finds}
 use Rattle.drm_links.specs.declared.dock.Address.{Address}
-use Rattle.mod_receiver.specs.declared.rules.Rules.{Rules}
+use Rattle.recv_reading.specs.declared.options.ReceiveOptions.{ReceiveOptions}
 use Rattle.drm_faults.specs.declared.fault.Fault.{Fault}
 use Rattle.drm_faults.specs.declared.fault.Fault.TheVariants as faults
 use Rattle.drm_faults.specs.Causes.{OpeningFailed}
 use Rattle.drm_faults.specs.Fault.{UnlessMemory}
-use Rattle.several_links.specs.Openings.{Docked, Finds}
 use Rattle.drm_receive.specs.Receive.{AreReports, AreClean, all_texts, FailsSome, OpensEach, WritesReports, WritesAll, WritesSome, WroteReports, AreInTime, IsLive, ReceiveRun}
-use Rattle.mod_receiver.specs.Ahead.{IsInTimeAhead, Report, IsReportOf, BreaksOff}
+use Rattle.report_lines.specs.Reports.{Report}
+use Rattle.recv_reading.specs.OneReading.{BreaksOff}
+use Rattle.mod_receiver.specs.Ahead.{IsInTimeAhead, IsReportOf}
 use Rattle.mod_receiver.specs.Following.{NoneBreaksOff}
 use Rattle.several_links.proofs.OpeningLemmas.{docked_weaker, docked_both}
 
@@ -23,7 +24,7 @@ pub is_true : IsTrue true
 is_true = refl
 
 -- the report of one link is all there are
-one_report : (rules : Rules) (told : DockContents) (at : Address) (start : LinkStart) (r : Report) → Finds told 0 at start → IsReportOf rules 1 start.ahead r
+one_report : (rules : ReceiveOptions) (told : DockContents) (at : Address) (start : LinkStart) (r : Report) → Finds told 0 at start → IsReportOf rules 1 start.ahead r
     → (k : ℕ) (d : Address) (none : Report) → k < 1
     → (s : LinkStart) × Finds told k (slice_index_or (at ∷ []) k d) s × IsReportOf rules (k + 1) s.ahead (slice_index_or (r ∷ []) k none)
 one_report rules told at start r finds report zero d none within = (start, finds, report)
@@ -43,7 +44,7 @@ pub one_text : (r : Report) (a b : Known Output) → Outputs a b (λ t. t ≡ r.
 one_text r a b text = Outputs-weaker (λ t. t ≡ r.text) (λ t. t ≡ all_texts (r ∷ [])) a b text (λ t e. e ∙ sym (append-nil r.text))
 
 -- where the run ends well the reports of all links are written, whether there is one or are several
-pub all_reports : {O : Type 0} (rules : Rules) (told : DockContents) (addresses : List Address) (clean : Bool) (known : O → Known Output) (out out' : O)
+pub all_reports : {O : Type 0} (rules : ReceiveOptions) (told : DockContents) (addresses : List Address) (clean : Bool) (known : O → Known Output) (out out' : O)
     → WritesAll rules told addresses (Ok clean) known out out' → WritesReports (AreReports rules told addresses) (Ok clean) known out out'
 all_reports rules told [] clean known out out' writes = writes
 all_reports rules told (at ∷ []) clean known out out' (start, finds, (r, report, text, is)) = (
@@ -55,7 +56,7 @@ all_reports rules told (at ∷ []) clean known out out' (start, finds, (r, repor
 all_reports rules told (at ∷ (other ∷ addresses)) clean known out out' writes = writes
 
 -- where it ends well, the reports are written
-module _ {O : Type 0} (rules : Rules) (told : DockContents) (addresses : List Address) (known : O → Known Output) (out out' : O) where
+module _ {O : Type 0} (rules : ReceiveOptions) (told : DockContents) (addresses : List Address) (known : O → Known Output) (out out' : O) where
   wrote_by : (ending : Result Bool Fault) → ((fault : Fault) → ending ≡ Err fault → (fault ≡ faults.NoMemory) ⊎ (fault ≡ faults.Link) ⊎ (fault ≡ faults.Write))
       → (ending ≡ Err faults.Write → ⊥) → WritesAll rules told addresses ending known out out' → UnlessMemory ending ((ending ≡ Err faults.Link) ↔ FailsSome rules told addresses) → (FailsSome rules told addresses → ⊥)
       → UnlessMemory ending (WroteReports ending (AreReports rules told addresses) known out out')
@@ -68,12 +69,12 @@ module _ {O : Type 0} (rules : Rules) (told : DockContents) (addresses : List Ad
   ]
 
 -- the report of a link that brings each frame in time is clean
-pub clean_in_time : (rules : Rules) (feed : ℕ) (ahead : List Answer) (r : Report) → IsReportOf rules feed ahead r → IsInTimeAhead rules ahead → IsTrue r.clean
+pub clean_in_time : (rules : ReceiveOptions) (feed : ℕ) (ahead : List Answer) (r : Report) → IsReportOf rules feed ahead r → IsInTimeAhead rules ahead → IsTrue r.clean
 clean_in_time rules feed ahead r report time =
     let all = report.complete time.plan time.arrivals time.answers time.valid time.read time.followed time.frames time.in_time in
     subst IsTrue (sym all.clean_is) is_true
 
-all_clean : (rules : Rules) (told : DockContents) (addresses : List Address) (reports : List Report) → AreReports rules told addresses reports → AreInTime rules told addresses → AreClean reports
+all_clean : (rules : ReceiveOptions) (told : DockContents) (addresses : List Address) (reports : List Report) → AreReports rules told addresses reports → AreInTime rules told addresses → AreClean reports
 all_clean rules told addresses reports are time k d within =
     let at : Address = record { ip = []; port = 0 } in
     let l : k < length addresses = (let many = are.as_many in omega (arith, many, within)) in
@@ -83,7 +84,7 @@ all_clean rules told addresses reports are time k d within =
     let starts : start' ≡ start = cc in
     clean_in_time rules (k + 1) start.ahead (slice_index_or reports k d) report (subst (λ (s : LinkStart). IsInTimeAhead rules s.ahead) starts ahead)
 
-all_given : {O : Type 0} (rules : Rules) (told : DockContents) (addresses : List Address) (ending : Result Bool Fault) (known : O → Known Output) (out out' : O)
+all_given : {O : Type 0} (rules : ReceiveOptions) (told : DockContents) (addresses : List Address) (ending : Result Bool Fault) (known : O → Known Output) (out out' : O)
     → UnlessMemory ending (WroteReports ending (AreReports rules told addresses) known out out') → AreInTime rules told addresses → UnlessMemory ending (ending ≡ Ok true)
 all_given rules told addresses ending known out out' (inl memory) time = inl memory
 all_given rules told addresses ending known out out' (inr (clean, is, (reports, are, text, iff))) time =
@@ -94,7 +95,7 @@ all_given rules told addresses ending known out out' (inr (clean, is, (reports, 
     clean_is clean all = all
 
 -- where each frame is in time, no link fails
-none_fails : NoneBreaksOff → (rules : Rules) (told : DockContents) (addresses : List Address) → AreInTime rules told addresses → FailsSome rules told addresses → ⊥
+none_fails : NoneBreaksOff → (rules : ReceiveOptions) (told : DockContents) (addresses : List Address) → AreInTime rules told addresses → FailsSome rules told addresses → ⊥
 none_fails law rules told addresses time some =
     let at : Address = record { ip = []; port = 0 } in
     let (start, finds, ahead) = time some.k at some.within in
@@ -111,7 +112,7 @@ none_fails law rules told addresses time some =
 
 -- ---- the whole run
 
-pub receive_run : NoneBreaksOff → {D O : Type 0} (rules : Rules) (addresses : List Address) (ending : Result Bool Fault) (dock_known : D → Known DockContents) (dock dock' : D) (out_known : O → Known Output) (out out' : O)
+pub receive_run : NoneBreaksOff → {D O : Type 0} (rules : ReceiveOptions) (addresses : List Address) (ending : Result Bool Fault) (dock_known : D → Known DockContents) (dock dock' : D) (out_known : O → Known Output) (out out' : O)
     → ((fault : Fault) → ending ≡ Err fault → (fault ≡ faults.NoMemory) ⊎ (fault ≡ faults.Link) ⊎ (fault ≡ faults.Write))
     → Tells (dock_known dock) (dock_known dock') (OpensEach rules addresses ending out_known out out')
     → Docked (dock_known dock) (dock_known dock') (λ told. WritesAll rules told addresses ending out_known out out')

@@ -6,17 +6,19 @@ use Rattle.drm_links.specs.Source.{Input, Inputs}
 use Rattle.drm_links.specs.Sink.{Output, Outputs}
 use Rattle.drm_capture.specs.declared.packets.CaptureStop.TheVariants as stops
 use Rattle.drm_capture.specs.Capture as capture
-use Rattle.mod_receiver.specs.declared.rules.Rules.{Rules}
+use Rattle.recv_reading.specs.declared.options.ReceiveOptions.{ReceiveOptions}
 use Rattle.mod_receiver.specs.Received.{Reported, Broken, Stopped}
-use Rattle.mod_receiver.specs.Ahead.{IsInTimeAhead, Report, IsReportOf, BreaksOff}
-use Rattle.mod_receiver.specs.Captures.{answers_of, Brings, HeardOf, HeardUntil}
+use Rattle.report_lines.specs.Reports.{Report}
+use Rattle.recv_reading.specs.OneReading.{BreaksOff}
+use Rattle.mod_receiver.specs.Ahead.{IsInTimeAhead, IsReportOf}
+use Rattle.recv_reading.specs.Source.{answers_of, Brings, HeardOf, HeardUntil}
 use Rattle.drm_faults.specs.Captures.{EndsEarly}
 use Rattle.drm_faults.specs.Fault.{UnlessMemory}
 use Rattle.drm_faults.specs.declared.fault.Fault.{Fault}
 use Rattle.drm_faults.specs.declared.fault.Fault.TheVariants as faults
 
 -- The bytes end so behind their packets, and what comes of the packets doesn't finish the reading.
-pub record BreaksOffBy (rules : Rules) (bytes : List ℕ) (ending : capture.Ending) : Type 0 where
+pub record BreaksOffBy (rules : ReceiveOptions) (bytes : List ℕ) (ending : capture.Ending) : Type 0 where
   pub packets : List (List ℕ)
   pub is : capture.IsCaptureOf bytes packets ending
   pub breaks : BreaksOff rules (answers_of packets ending)
@@ -24,7 +26,7 @@ pub record BreaksOffBy (rules : Rules) (bytes : List ℕ) (ending : capture.Endi
 -- What is read and written: enough packets, or all, and their report; after a failed write all that was given before the last
 -- of them, and a front of what that one made ready; where no more can be read, what the packets before it give; where memory is
 -- wanting, nothing.
-abbrev pub Ends : Rules → Result Bool Fault → Known Input → Known Input → Known Output → Known Output → Type 0
+abbrev pub Ends : ReceiveOptions → Result Bool Fault → Known Input → Known Input → Known Output → Known Output → Type 0
 Ends rules (Ok clean) before after out out' = Reported rules 1 (HeardOf before after) out out' clean
 Ends rules (Err faults.Write) before after out out' = Stopped rules 1 (HeardOf before after) out out'
 Ends rules (Err faults.Read) before after out out' = Broken rules 1 (HeardUntil stops.Read before after) out out'
@@ -34,7 +36,7 @@ Ends rules (Err faults.NoMemory) before after out out' = (after ≡ before) × (
 Ends rules (Err fault) before after out out' = ⊥
 
 -- The report of what these bytes bring is written, where they were left of the input.
-abbrev pub WritesReport : {O : Type 0} → Rules → List ℕ → Bool → (O → Known Output) → O → O → Type 0
+abbrev pub WritesReport : {O : Type 0} → ReceiveOptions → List ℕ → Bool → (O → Known Output) → O → O → Type 0
 WritesReport rules left clean known out out' =
     (ahead : List Answer) × Brings left ahead
     × (r : Report) × IsReportOf rules 1 ahead r × Outputs (known out) (known out') (λ text. text ≡ r.text) × (clean ≡ r.clean)
@@ -46,11 +48,11 @@ EndsByIt ending (capture.Fault fault) = ending ≡ Err (faults.Capture fault)
 EndsByIt ending capture.TooLong = ending ≡ Err faults.CaptureTooLong
 
 -- The run is done, and the report is written.
-abbrev pub WroteReport : {O : Type 0} → Rules → List ℕ → Result Bool Fault → (O → Known Output) → O → O → Type 0
+abbrev pub WroteReport : {O : Type 0} → ReceiveOptions → List ℕ → Result Bool Fault → (O → Known Output) → O → O → Type 0
 WroteReport rules left ending known out out' = (clean : Bool) × (ending ≡ Ok clean) × WritesReport rules left clean known out out'
 
 -- A run of `receive` without addresses.
-pub record CaptureRun {I O : Type 0} (rules : Rules) (ending : Result Bool Fault)
+pub record CaptureRun {I O : Type 0} (rules : ReceiveOptions) (ending : Result Bool Fault)
     (input_known : I → Known Input) (input input' : I)
     (out_known : O → Known Output) (out out' : O) : Type 0 where
   -- It ends well, or for want of memory, by a fault of the capture, by a failed read or by a failed write.

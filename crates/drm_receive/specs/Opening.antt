@@ -2,14 +2,13 @@
 use Rattle.std.specs.Prelude.{ℕ, ◌≡◌, ◌<◌, ◌⊎◌, List, length, map, true, slice_index_or}
 use Rattle.drm_links.specs.Told.{Known}
 use Rattle.drm_links.specs.Link.{Traffic}
-use Rattle.drm_links.specs.Dock.{DockContents}
+use Rattle.drm_links.specs.Dock.{DockContents, HasLink}
 use Rattle.drm_links.specs.declared.dock.Address.{Address}
 use Rattle.drm_faults.specs.declared.fault.Fault.{Fault}
 use Rattle.drm_faults.specs.declared.fault.Fault.TheVariants as faults
 use Rattle.mod_receiver.specs.declared.job.Job.{Job}
 use Rattle.several_links.specs.declared.member.Member.{Member}
-use Rattle.several_links.specs.Openings.{HasLink}
-use Rattle.drm_receive.specs.Hearing.{BindsFew, StopsBehind}
+use Rattle.several_links.specs.Binding.{BindsFew, StopsBehind}
 
 -- the receivers have the links of these addresses, in their order
 abbrev pub HaveLinks : {L : Type 0} → (L → Known Traffic) → DockContents → List Address → List (Job L) → Type 0

@@ -5,22 +5,23 @@ use Rattle.std.specs.List.{flat_map, All}
 use Rattle.drm_links.specs.Told.{HasFailed, Known, HasCause, Tells}
 use Rattle.drm_links.specs.Link.{Answer}
 use Rattle.drm_links.specs.Sink.{Output, Outputs, IsFront}
-use Rattle.drm_links.specs.Dock.{DockContents, LinkStart}
+use Rattle.drm_links.specs.Dock.{DockContents, LinkStart, Finds, FindsNone, Docked}
 use Rattle.drm_links.specs.declared.dock.Address.{Address}
-use Rattle.several_links.specs.Openings.{Finds, FindsNone, Docked}
-use Rattle.mod_receiver.specs.declared.rules.Rules.{Rules}
-use Rattle.report_lines.specs.declared.report.EndWord.{EndWord}
-use Rattle.mod_receiver.specs.Reading.{GoesOn, IsFinished, IsBroken}
+use Rattle.recv_reading.specs.declared.options.ReceiveOptions.{ReceiveOptions}
+use Rattle.recv_reading.specs.declared.reason.EndWord.{EndWord}
+use Rattle.recv_reading.specs.Ending.{GoesOn, IsFinished, IsBroken}
 use Rattle.mod_receiver.specs.Received.{IsReport, Reported, Broken, Stopped}
-use Rattle.mod_receiver.specs.Ahead.{IsInTimeAhead, Report, IsReportOf, BreaksOff, IsGivenOf, IsFrontOf}
+use Rattle.report_lines.specs.Reports.{Report}
+use Rattle.recv_reading.specs.OneReading.{BreaksOff}
+use Rattle.mod_receiver.specs.Ahead.{IsInTimeAhead, IsReportOf, IsGivenOf, IsFrontOf}
 use Rattle.drm_faults.specs.Causes.{OpeningFailed}
 use Rattle.drm_faults.specs.Fault.{UnlessMemory}
 use Rattle.drm_faults.specs.declared.fault.Fault.{Fault}
 use Rattle.drm_faults.specs.declared.fault.Fault.TheVariants as faults
-use Rattle.drm_receive.specs.Hearing.{HearsEach, BindsFew, StopsBehind}
+use Rattle.several_links.specs.Binding.{HearsEach, BindsFew, StopsBehind}
 
 -- a report for each address, in their order
-pub record AreReports (rules : Rules) (told : DockContents) (addresses : List Address) (reports : List Report) : Type 0 where
+pub record AreReports (rules : ReceiveOptions) (told : DockContents) (addresses : List Address) (reports : List Report) : Type 0 where
   pub as_many : length reports ≡ length addresses
   pub each : (k : ℕ) (at : Address) (none : Report) → k < length addresses
       → (start : LinkStart) × Finds told k (slice_index_or addresses k at) start
@@ -34,7 +35,7 @@ abbrev pub AreClean : List Report → Type 0
 AreClean reports = All (λ r. IsTrue r.clean) reports
 
 -- Opening some address fails, or what is ahead of some link breaks off.
-pub record FailsSome (rules : Rules) (told : DockContents) (addresses : List Address) : Type 0 where
+pub record FailsSome (rules : ReceiveOptions) (told : DockContents) (addresses : List Address) : Type 0 where
   pub k : ℕ
   pub within : k < length addresses
   pub fails : (at : Address) → FindsNone told k (slice_index_or addresses k at)
@@ -55,7 +56,7 @@ Ahead told at P = (start : LinkStart) × Finds told 0 at start × P start.ahead
 
 -- What is written of one link: the report of what is ahead of it; after a failed write a front of that; where it breaks off,
 -- what is given before it does; where it can't be opened, or memory is wanting, nothing.
-abbrev pub WritesLive : {O : Type 0} → Rules → DockContents → Address → Result Bool Fault → (O → Known Output) → O → O → Type 0
+abbrev pub WritesLive : {O : Type 0} → ReceiveOptions → DockContents → Address → Result Bool Fault → (O → Known Output) → O → O → Type 0
 WritesLive rules told at (Ok clean) known out out' =
     Ahead told at (λ ahead. (r : Report) × IsReportOf rules 1 ahead r × Outputs (known out) (known out') (λ text. text ≡ r.text) × (clean ≡ r.clean))
 WritesLive rules told at (Err faults.Write) known out out' = Ahead told at (λ ahead. Outputs (known out) (known out') (IsFrontOf rules 1 ahead))
@@ -65,12 +66,12 @@ WritesLive rules told at (Err faults.Link) known out out' =
 WritesLive rules told at (Err fault) known out out' = out' ≡ out
 
 -- what is written of the links at these addresses
-abbrev pub WritesAll : {O : Type 0} → Rules → DockContents → List Address → Result Bool Fault → (O → Known Output) → O → O → Type 0
+abbrev pub WritesAll : {O : Type 0} → ReceiveOptions → DockContents → List Address → Result Bool Fault → (O → Known Output) → O → O → Type 0
 WritesAll rules told (at ∷ []) ending known out out' = WritesLive rules told at ending known out out'
 WritesAll rules told addresses ending known out out' = WritesReports (AreReports rules told addresses) ending known out out'
 
 -- so many reports, each of some answers
-pub record AreSomeReports (rules : Rules) (links : ℕ) (reports : List Report) : Type 0 where
+pub record AreSomeReports (rules : ReceiveOptions) (links : ℕ) (reports : List Report) : Type 0 where
   pub as_many : length reports ≡ links
   pub each : (k : ℕ) (none : Report) → k < links
       → (answers : List Answer) × IsReport rules (k + 1) answers (slice_index_or reports k none).text (slice_index_or reports k none).clean
@@ -82,16 +83,16 @@ IsLive addresses = length addresses ≡ 1
 -- ---- what is read
 
 -- the reading of these answers is finished
-abbrev pub AreAll : Rules → List Answer → Type 0
+abbrev pub AreAll : ReceiveOptions → List Answer → Type 0
 AreAll rules answers = (word : EndWord) × IsFinished rules answers word
 
 -- it ends in `Failed`
-abbrev pub AreBroken : Rules → List Answer → Type 0
+abbrev pub AreBroken : ReceiveOptions → List Answer → Type 0
 AreBroken rules answers = (before : List Answer) × IsBroken rules before answers
 
 -- What is read of one of several links: all up to the end of its reading. Where memory was wanting, or another link failed, that may not
 -- have come.
-abbrev pub ReadsOne : Rules → Result Bool Fault → List Answer → Type 0
+abbrev pub ReadsOne : ReceiveOptions → Result Bool Fault → List Answer → Type 0
 ReadsOne rules (Ok clean) answers = AreAll rules answers
 ReadsOne rules (Err faults.Write) answers = AreAll rules answers
 ReadsOne rules (Err faults.Link) answers = GoesOn rules answers ⊎ AreBroken rules answers
@@ -103,7 +104,7 @@ Alone answers others = others ≡ answers
 -- What is read of one link, whose report is written as it is read: all up to the end of the reading, of which the report is. Where a write
 -- failed, what was given before the last of these was written, and a front of what that one made ready. Where memory was wanting,
 -- nothing was read.
-abbrev pub ReadsLive : {O : Type 0} → Rules → Result Bool Fault → (O → Known Output) → O → O → List Answer → Type 0
+abbrev pub ReadsLive : {O : Type 0} → ReceiveOptions → Result Bool Fault → (O → Known Output) → O → O → List Answer → Type 0
 ReadsLive rules (Ok clean) known out out' answers = Reported rules 1 (Alone answers) (known out) (known out') clean
 ReadsLive rules (Err faults.Write) known out out' answers = Stopped rules 1 (Alone answers) (known out) (known out')
 ReadsLive rules (Err faults.Link) known out out' answers = Broken rules 1 (Alone answers) (known out) (known out')
@@ -111,19 +112,19 @@ ReadsLive rules (Err fault) known out out' answers = answers ≡ []
 
 -- What is written, whatever the dock tells: of one link what some answers that are read of it bring, unless it can't be opened; of
 -- several links a report each.
-abbrev pub WritesSome : {O : Type 0} → Rules → List Address → Result Bool Fault → (O → Known Output) → O → O → Type 0
+abbrev pub WritesSome : {O : Type 0} → ReceiveOptions → List Address → Result Bool Fault → (O → Known Output) → O → O → Type 0
 WritesSome rules (at ∷ []) ending known out out' =
     ((ending ≡ Err faults.Link) × (out' ≡ out)) ⊎ ((answers : List Answer) × ReadsLive rules ending known out out' answers)
 WritesSome rules addresses ending known out out' = WritesReports (AreSomeReports rules (length addresses)) ending known out out'
 
 -- what is read of each link at these addresses
-abbrev pub ReadsBy : {O : Type 0} → Rules → List Address → Result Bool Fault → (O → Known Output) → O → O → List Answer → Type 0
+abbrev pub ReadsBy : {O : Type 0} → ReceiveOptions → List Address → Result Bool Fault → (O → Known Output) → O → O → List Answer → Type 0
 ReadsBy rules (at ∷ []) ending known out out' answers = ReadsLive rules ending known out out' answers
 ReadsBy rules addresses ending known out out' answers = ReadsOne rules ending answers
 
 -- Each address is opened once, in their order, to receive; up to one that fails, or up to want of memory. What is said of reading is read
 -- of each link, nothing is sent over it, and it is closed. Nothing else is asked of the dock.
-abbrev pub OpensEach : {O : Type 0} → Rules → List Address → Result Bool Fault → (O → Known Output) → O → O → DockContents → DockContents → Type 0
+abbrev pub OpensEach : {O : Type 0} → ReceiveOptions → List Address → Result Bool Fault → (O → Known Output) → O → O → DockContents → DockContents → Type 0
 OpensEach rules addresses ending known out out' before after =
     HearsEach (ReadsBy rules addresses ending known out out') addresses before after
     ⊎ ((ending ≡ Err faults.Link) × BindsFew addresses before after)
@@ -134,13 +135,13 @@ abbrev pub WroteReports : {O : Type 0} → Result Bool Fault → (List Report �
 WroteReports ending are known out out' = (clean : Bool) × (ending ≡ Ok clean) × WritesReports are (Ok clean) known out out'
 
 -- what is ahead of the link at each address has each frame of a schedule in time
-abbrev pub AreInTime : Rules → DockContents → List Address → Type 0
+abbrev pub AreInTime : ReceiveOptions → DockContents → List Address → Type 0
 AreInTime rules told addresses =
     (k : ℕ) (at : Address) → k < length addresses
     → (start : LinkStart) × Finds told k (slice_index_or addresses k at) start × IsInTimeAhead rules start.ahead
 
 -- A run of `receive` with addresses.
-pub record ReceiveRun {D O : Type 0} (rules : Rules) (addresses : List Address) (ending : Result Bool Fault)
+pub record ReceiveRun {D O : Type 0} (rules : ReceiveOptions) (addresses : List Address) (ending : Result Bool Fault)
     (dock_known : D → Known DockContents) (dock dock' : D)
     (out_known : O → Known Output) (out out' : O) : Type 0 where
   -- It ends well, or for want of memory, by a failed link or by a failed write.

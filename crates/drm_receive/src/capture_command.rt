@@ -1,21 +1,22 @@
 //! The command `receive` without addresses.
 
 ghost use Rattle.std.specs.Prelude.{◌≡◌};
-ghost use Rattle.mod_receiver.specs.Ranges.{AreInRange};
+ghost use Rattle.recv_reading.specs.Options.{AreInRange};
 ghost use Rattle.drm_receive.specs.Capture.{CaptureRun};
 ghost use Rattle.drm_receive.specs.Stopping.{ending_captured};
 
 use drm_capture::read_some_way;
 use drm_faults::Fault;
 use drm_links::{Sink, Source};
-use mod_receiver::{Rules, Unfinished, in_time_is_unbroken, receive_capture, reports_follow};
+use mod_receiver::{Unfinished, in_time_is_unbroken, receive_capture, reports_follow};
+use recv_reading::ReceiveOptions;
 use std::alloc::Global;
 
 /// Reads a capture from `input` until enough is read, and writes its report as it is read. Answers whether no frame is
 /// missing or bad.
 pub fn receive_from_capture<I: Source, O: Sink>(
     alloc: Global,
-    rules: &Rules,
+    rules: &ReceiveOptions,
     input: &mut I,
     out: &mut O,
 ) -> Result<bool, Fault>

@@ -2,10 +2,9 @@
 
 ghost use Rattle.std.specs.Prelude.{◌≡◌, ◌≤◌, List, length, vec_len, vec_capacity, IfOk, IfErr, Err};
 ghost use Rattle.drm_links.specs.Told.{HasCause, CountsCall, Tells, WhileTold};
-ghost use Rattle.drm_links.specs.Dock.{Opens, Over};
-ghost use Rattle.mod_receiver.specs.Ranges.{AreInRange};
-ghost use Rattle.drm_receive.specs.Terms.{AreListed};
-ghost use Rattle.several_links.specs.Openings.{Docked, after_openings};
+ghost use Rattle.drm_links.specs.Dock.{Opens, Over, Docked, after_openings};
+ghost use Rattle.recv_reading.specs.Options.{AreInRange};
+ghost use Rattle.several_links.specs.Listed.{AreListed};
 ghost use Rattle.several_links.specs.Reaching.{HaveGone, after_closes};
 ghost use Rattle.drm_receive.specs.Receive.{ReceiveRun};
 ghost use Rattle.mod_receiver.specs.Jobs.{IsJob, AreJobs};
@@ -13,14 +12,14 @@ ghost use Rattle.drm_receive.specs.Opening.{HaveLinks, EndsOpening, StopsOpening
 ghost use Rattle.drm_receive.specs.Stopping.{ending_of, ending_live};
 
 use drm_faults::Fault;
-use drm_links::{Address, Dock, Link, Opened, Sink};
+use drm_links::{Address, Addresses, Dock, Link, Opened, Sink};
 use mod_receiver::{
-    Ended, Job, Rules, Stop, in_time_is_unbroken, reports_follow, run_all, run_live, seat_for,
-    seated, settle,
+    Ended, Job, Stop, in_time_is_unbroken, reports_follow, run_all, run_live, seat_for, seated,
+    settle,
 };
+use recv_reading::ReceiveOptions;
 use std::alloc::Global;
 use std::thread::Threads;
-use word_forms::Addresses;
 
 /// Opens a link at each address and reads each until it has read enough. The report of one link is written as it is read;
 /// several are read in threads of their own, and their reports written at the end, in the order of the addresses. Then the links
@@ -28,7 +27,7 @@ use word_forms::Addresses;
 pub fn receive<R: Threads + Sync, D: Dock, O: Sink>(
     rt: &R,
     alloc: Global,
-    rules: &Rules,
+    rules: &ReceiveOptions,
     addresses: &Addresses,
     dock: &mut D,
     out: &mut O,
@@ -74,7 +73,7 @@ fn room_for<L: Link>(alloc: Global, addresses: &Addresses) -> Result<Vec<Job<L>>
 // closed.
 fn open_all<D: Dock>(
     alloc: Global,
-    rules: &Rules,
+    rules: &ReceiveOptions,
     addresses: &Addresses,
     dock: &mut D,
 ) -> Result<Vec<Job<D::L>>, Fault>
@@ -107,7 +106,7 @@ fn open_all<D: Dock>(
 // Takes the memory of a receiver, opens the link at its address, and makes it.
 fn open_one<D: Dock>(
     alloc: Global,
-    rules: &Rules,
+    rules: &ReceiveOptions,
     feed: u8,
     at: Address,
     dock: &mut D,

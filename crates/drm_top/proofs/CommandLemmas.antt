@@ -13,10 +13,10 @@ use Rattle.dcp_pft.specs.declared.carry.Carry.{Carry}
 use Rattle.drm_links.specs.Source.{Input}
 use Rattle.drm_links.specs.Sink.{Output}
 use Rattle.drm_convert.specs.Run as convert
-use Rattle.capture_items.specs.Reading.{Terms}
+use Rattle.recv_reading.specs.Packets.{Terms}
 use Rattle.drm_links.specs.declared.dock.Address.{Address}
 use Rattle.drm_links.specs.declared.link.LinkFault.{LinkFault}
-use Rattle.mod_receiver.specs.declared.rules.Rules.{Rules}
+use Rattle.recv_reading.specs.declared.options.ReceiveOptions.{ReceiveOptions}
 use Rattle.drm_gate.specs.declared.tally.Tally.{Tally}
 use Rattle.gate_command.specs.Run.{NoRun, LinksRun, WritesTally}
 
@@ -76,7 +76,7 @@ not_gate fault memory link write (inr (inl is)) = link is
 not_gate fault memory link write (inr (inr is)) = write is
 
 -- where memory is wanting it touches nothing
-pub no_gate : {D O : Type 0} (rules : Rules) (carry : Carry) (from : Address) (to : List Address) (ending : Result Bool Fault) (dock_known : D → Known DockContents) (dock dock' : D)
+pub no_gate : {D O : Type 0} (rules : ReceiveOptions) (carry : Carry) (from : Address) (to : List Address) (ending : Result Bool Fault) (dock_known : D → Known DockContents) (dock dock' : D)
     (out_known : O → Known Output) (out out' : O) → ending ≡ Err faults.NoMemory
     → NoRun ending dock dock' out out' ⊎ LinksRun rules carry from to ending dock_known dock dock' out_known out out' → (dock' ≡ dock) × (out' ≡ out)
 no_gate rules carry from to ending dock_known dock dock' out_known out out' is (inl none) = (none.1, none.2)

@@ -3,10 +3,9 @@ use Rattle.std.proofs.Common.{◌≡◌, inl, inr, ℕ, Bool, true, false, List,
 use Rattle.drm_links.specs.Told.{Known}
 use Rattle.drm_links.specs.Shelf.{Files}
 use Rattle.drm_links.specs.Sink.{Output}
-use Rattle.drm_links.specs.Dock.{DockContents}
+use Rattle.drm_links.specs.Dock.{DockContents, Docked}
 use Rattle.several_links.proofs.OpeningLemmas.{docked_weaker}
 use Rattle.drm_links.specs.declared.dock.Address.{Address}
-use Rattle.several_links.specs.Openings.{Docked}
 use Rattle.drm_schedule.specs.declared.plan.Plan.{Plan}
 use Rattle.drm_schedule.specs.Valid.{IsSchedule}
 use Rattle.script_lines.specs.declared.delivery.Delivery.{Delivery}
@@ -15,7 +14,7 @@ use Rattle.drm_load.specs.Loading.{ReadBy}
 use Rattle.drm_load.specs.Faults.{fault_of_schedule, fault_of_script}
 use Rattle.drm_load.specs.Schedule.{schedule_named}
 use Rattle.drm_load.specs.Scripts.{script_named}
-use Rattle.mod_receiver.specs.declared.rules.Rules.{Rules}
+use Rattle.recv_reading.specs.declared.options.ReceiveOptions.{ReceiveOptions}
 use Rattle.drm_receive.specs.Receive.{AreReports, WritesReports, WritesAll, ReceiveRun}
 use Rattle.drm_receive.proofs.ReceiveStatus.{all_reports}
 use Rattle.drm_air.specs.Air.{BySchedule, ByScript}
@@ -59,7 +58,7 @@ module _ {S O : Type 0} (name script : List ℕ) (window : ℕ) (clean : Bool)
   of_schedule (Err fault) schedule (is, unread, still) = absurd (no_fault clean (fault_of_schedule fault) is)
 
 -- the reports of links
-of_links : {D O : Type 0} (rules : Rules) (addresses : List Address) (clean : Bool)
+of_links : {D O : Type 0} (rules : ReceiveOptions) (addresses : List Address) (clean : Bool)
     (dock_known : D → Known DockContents) (dock dock' : D) (out_known : O → Known Output) (out out' : O)
     → ReceiveRun rules addresses (Ok clean) dock_known dock dock' out_known out out'
     → Docked (dock_known dock) (dock_known dock') (λ told. WritesReports (AreReports rules told addresses) (Ok clean) out_known out out')

@@ -6,14 +6,14 @@ use Rattle.drm_words.specs.declared.request.Request.{Request}
 use Rattle.drm_words.specs.declared.request.Request.TheVariants as requests
 use Rattle.drm_words.specs.Table.{Options, IsNumberOr, IsNumberOrNone, IsStretch, IsReading, AreAddressesOrNone, AreAddressesIfTold, HasTextNames}
 use Rattle.drm_words.specs.Line.{IsLine}
-use Rattle.mod_receiver.specs.declared.rules.Rules.{Rules}
+use Rattle.recv_reading.specs.declared.options.ReceiveOptions.{ReceiveOptions}
 use Rattle.dcp_pft.specs.declared.carry.Carry.{Carry}
 use Rattle.dcp_pft.specs.declared.carry.Carry.TheVariants.{Plain, Pft}
 use Rattle.dcp_pft.specs.Carrying.{CarryFits}
 use Rattle.word_forms.specs.Carries.{IsCarry}
-use Rattle.word_forms.specs.Addresses.{AreDifferent}
-use Rattle.drm_receive.specs.Terms.{AreListed}
-use Rattle.mod_receiver.specs.Ranges.{AreInRange}
+use Rattle.drm_links.specs.Dock.{AreDifferent}
+use Rattle.several_links.specs.Listed.{AreListed}
+use Rattle.recv_reading.specs.Options.{AreInRange}
 use Rattle.drm_top.specs.Words.{request_of, IsInRange, IsInStretch}
 use Rattle.drm_top.specs.declared.words.Command.{Command}
 use Rattle.drm_top.specs.declared.words.Command.TheVariants.{Fac, Check, Serve, Receive, ReceiveCapture, Air, Show, Exercise, Convert, Gate, Pack, Unpack, Texts}
@@ -35,10 +35,10 @@ listed (text ∷ []) addresses (list, is, are) =
 listed (text ∷ other ∷ texts) addresses is = absurd is
 
 -- the request of a reading, with these addresses or of a capture
-abbrev reading_of : Option (List Address) → Rules → Request
+abbrev reading_of : Option (List Address) → ReceiveOptions → Request
 reading_of addresses rules = requests.Receive addresses rules.window rules.first rules.frames rules.idle rules.limit
 
-in_reading : (options : Options) (rules : Rules) → IsReading options rules.window rules.first rules.frames rules.idle rules.limit → AreInRange rules
+in_reading : (options : Options) (rules : ReceiveOptions) → IsReading options rules.window rules.first rules.frames rules.idle rules.limit → AreInRange rules
 in_reading options rules reading =
     let window = within 8 1 64 rules.window _ (omega arith) (omega arith) reading.stretch.has_window in
     let frames = within_or_none 1 3000000 _ rules.frames reading.stretch.has_frames in
@@ -56,10 +56,10 @@ in_reading options rules reading =
       few_datagrams = omega (arith, less);
     }
 
-reads : (words : List (List ℕ)) (addresses : Option (List Address)) (rules : Rules) → IsLine words (reading_of addresses rules) → AreInRange rules
+reads : (words : List (List ℕ)) (addresses : Option (List Address)) (rules : ReceiveOptions) → IsLine words (reading_of addresses rules) → AreInRange rules
 reads words addresses rules line = let asks = line.asks in in_reading _ rules asks.3
 
-lists : (words : List (List ℕ)) (addresses : List Address) (rules : Rules) → IsLine words (reading_of (Some addresses) rules) → AreListed addresses
+lists : (words : List (List ℕ)) (addresses : List Address) (rules : ReceiveOptions) → IsLine words (reading_of (Some addresses) rules) → AreListed addresses
 lists words addresses rules line = let asks = line.asks in listed _ addresses asks.1
 
 different : (value : Option (List ℕ)) (to : List Address) → AreAddressesIfTold value to → AreDifferent to
@@ -92,7 +92,7 @@ in_stretch options window first frames stretch =
 converts : (words : List (List ℕ)) (carry : Carry) (window : ℕ) (first frames : Option ℕ) → IsLine words (request_of (Convert carry window first frames)) → IsInRange (Convert carry window first frames)
 converts words carry window first frames line = (carry_fits line.asks.1 carry line.asks.3, in_stretch _ window first frames line.asks.5)
 
-gates : (words : List (List ℕ)) (from : Address) (to : List Address) (carry : Carry) (rules : Rules) → IsLine words (request_of (Gate from to carry rules)) → IsInRange (Gate from to carry rules)
+gates : (words : List (List ℕ)) (from : Address) (to : List Address) (carry : Carry) (rules : ReceiveOptions) → IsLine words (request_of (Gate from to carry rules)) → IsInRange (Gate from to carry rules)
 gates words from to carry rules line =
     let are = line.asks.6 in
     (carry_fits line.asks.3 carry line.asks.7, in_reading _ rules line.asks.9, record { some = are.some; few = are.few; different = are.different })

@@ -4,7 +4,7 @@ use Rattle.drm_links.specs.Told.{Known}
 use Rattle.drm_links.specs.Shelf.{Files}
 use Rattle.drm_links.specs.Source.{Inputs}
 use Rattle.drm_links.specs.Sink.{Output}
-use Rattle.several_links.specs.Openings.{Docked}
+use Rattle.drm_links.specs.Dock.{Docked}
 use Rattle.drm_schedule.specs.declared.plan.Plan.{Plan}
 use Rattle.drm_schedule.specs.Valid.{IsSchedule}
 use Rattle.script_lines.specs.declared.delivery.Delivery.{Delivery}

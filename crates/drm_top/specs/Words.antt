@@ -4,9 +4,9 @@ use Rattle.dcp_pft.specs.Carrying.{CarryFits}
 use Rattle.drm_words.specs.Line.{IsLine}
 use Rattle.drm_words.specs.declared.request.Request.{Request}
 use Rattle.drm_words.specs.declared.request.Request.TheVariants as requests
-use Rattle.word_forms.specs.Addresses.{AreDifferent}
-use Rattle.drm_receive.specs.Terms.{AreListed}
-use Rattle.mod_receiver.specs.Ranges.{AreInRange}
+use Rattle.drm_links.specs.Dock.{AreDifferent}
+use Rattle.several_links.specs.Listed.{AreListed}
+use Rattle.recv_reading.specs.Options.{AreInRange}
 use Rattle.drm_top.specs.declared.words.Command.{Command}
 use Rattle.drm_top.specs.declared.words.Command.TheVariants.{Fac, Check, Serve, Receive, ReceiveCapture, Air, Show, Exercise, Convert, Gate, Pack, Unpack, Texts}
 

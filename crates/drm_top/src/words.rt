@@ -10,7 +10,7 @@ use drm_bits::Octets;
 use drm_links::Address;
 use drm_schedule::Live;
 use drm_words::{Addresses, Request, WordsFault, read_words};
-use mod_receiver::Rules;
+use recv_reading::ReceiveOptions;
 use std::alloc::Global;
 
 /// A command, with what it is asked for with.
@@ -32,11 +32,11 @@ pub enum Command {
     /// `receive` from links at these addresses.
     Receive {
         addresses: Addresses,
-        rules: Rules,
+        rules: ReceiveOptions,
     },
     /// `receive` from a capture.
     ReceiveCapture {
-        rules: Rules,
+        rules: ReceiveOptions,
     },
     /// `air`; the window counts packets.
     Air {
@@ -61,7 +61,7 @@ pub enum Command {
         from: Address,
         to: Addresses,
         carry: Carry,
-        rules: Rules,
+        rules: ReceiveOptions,
     },
     /// `pack`: packets with this id and this data length, in bytes.
     Pack {
@@ -129,7 +129,7 @@ fn command_of(request: Request) -> Command
             idle,
             limit,
         } => {
-            let rules = Rules {
+            let rules = ReceiveOptions {
                 window,
                 first,
                 frames,
@@ -176,7 +176,7 @@ fn command_of(request: Request) -> Command
             from,
             to,
             carry,
-            rules: Rules {
+            rules: ReceiveOptions {
                 window,
                 first,
                 frames,

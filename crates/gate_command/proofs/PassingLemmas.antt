@@ -5,19 +5,18 @@ use Rattle.std.proofs.lemmas.List.{get_or_default}
 use Rattle.dcp_pft.specs.declared.carry.Carry.{Carry}
 use Rattle.drm_links.specs.Told.{Known, Tells, WhileTold, CountsCall}
 use Rattle.drm_links.specs.Link.{Answer, Traffic, rests_of}
-use Rattle.drm_links.specs.Dock.{DockContents, LinkStart, Over, Binds, Closes, over_of, first_traffic, start_at, after_opening, after_close}
+use Rattle.drm_links.specs.Dock.{DockContents, LinkStart, Over, Binds, Closes, over_of, first_traffic, start_at, after_opening, after_close, Docked, Finds}
 use Rattle.drm_links.specs.Transmission.{Transmits, SendsAll, SendsNoMore, TakesSends}
 use Rattle.drm_links.specs.ManyCalls.{CountsMany}
 use Rattle.drm_links.specs.declared.dock.Address.{Address}
 use Rattle.drm_links.specs.declared.dock.Opened.TheVariants as opened
 use Rattle.drm_links.specs.declared.link.LinkFault.{LinkFault}
 use Rattle.drm_links.proofs.ToldLemmas.{told_through, Opens-started, Tells-one, Tells-then, Tells-weaker}
-use Rattle.mod_receiver.specs.declared.rules.Rules.{Rules}
-use Rattle.mod_receiver.specs.Hearing.{Heard}
-use Rattle.mod_receiver.specs.Ranges.{AreInRange}
-use Rattle.mod_receiver.specs.Reading.{most_answers}
-use Rattle.mod_receiver.proofs.JobLemmas.{few_answers}
-use Rattle.several_links.specs.Openings.{Docked, Finds}
+use Rattle.recv_reading.specs.declared.options.ReceiveOptions.{ReceiveOptions}
+use Rattle.drm_links.specs.Hearing.{Heard}
+use Rattle.recv_reading.specs.Options.{AreInRange}
+use Rattle.recv_reading.specs.Ending.{most_answers}
+use Rattle.recv_reading.proofs.Going.{few_answers}
 use Rattle.several_links.specs.Reaching.{HasGone, HaveGone, HaveLinks, AreUp, ReachesFew, GoesOver, after_reaches, after_closes}
 use Rattle.several_links.specs.Took.{TookBy}
 use Rattle.several_links.specs.declared.member.Member.{Member}
@@ -30,11 +29,12 @@ use Rattle.drm_gate.specs.declared.gate.GateOptions.{GateOptions}
 use Rattle.drm_gate.specs.Gateway.{rules_of}
 use Rattle.drm_gate.specs.Passing.{sent_of}
 use Rattle.drm_gate.specs.Tallies.{over}
-use Rattle.drm_gate.specs.Resting.{HasNotRested, NeverRests, MakesSends}
-use Rattle.drm_receive.specs.Hearing as hearing
-use Rattle.drm_receive.proofs.HearingLemmas.{heard_told}
+use Rattle.dcp_sender.specs.Resting.{HasNotRested, NeverRests, MakesSends}
+use Rattle.several_links.specs.Binding as hearing
+use Rattle.several_links.proofs.BindLemmas.{heard_told}
 use Rattle.drm_gate.specs.Run.{GateRun, IsFrontOf, IsFrontOfOnward, StopsAt, StopsOver, StopsLast, most_sends}
-use Rattle.drm_gate.specs.Targets.{Target, target, targets, Each, TakesMore, EachTakes, EachSends, AllUp}
+use Rattle.dcp_sender.specs.Targets.{Target, target, targets}
+use Rattle.drm_gate.specs.Targets.{Each, TakesMore, EachTakes, EachSends, AllUp}
 use Rattle.drm_gate.proofs.Stopping.{took_from}
 use Rattle.drm_gate.proofs.TargetLemmas.{at_place, as_many_targets, all_up}
 use Rattle.gate_command.specs.Opening.{no_rests, after_source}
@@ -43,7 +43,7 @@ use Rattle.gate_command.specs.Run.{PassesOn}
 
 -- ---- by what it reads
 
-pub rules_same : (c : State) (options : GateOptions) (rules : Rules) → c.window ≡ rules.window → c.first ≡ rules.first → options ≡ options_of rules → rules_of c options ≡ rules
+pub rules_same : (c : State) (options : GateOptions) (rules : ReceiveOptions) → c.window ≡ rules.window → c.first ≡ rules.first → options ≡ options_of rules → rules_of c options ≡ rules
 rules_same c options rules window first is =
     λ i. record { window = window i; first = first i; frames = (is i).frames; idle = (is i).idle; limit = (is i).limit }
 
@@ -59,11 +59,11 @@ not_rested start = record { waits = refl; waiting = refl }
 rests_are : (traffic : Traffic) → HasNotRested traffic → rests_of traffic ≡ no_rests traffic.gone
 rests_are traffic still = (λ i. still.waits i ++ still.waiting i ∷ [])
 
-few_calls : (rules : Rules) → AreInRange rules → most_sends rules ≤ 2 ^ 62
+few_calls : (rules : ReceiveOptions) → AreInRange rules → most_sends rules ≤ 2 ^ 62
 few_calls rules valid = let few = valid.few_datagrams in omega (arith, few)
 
 -- so few calls leave a new link telling
-still_tells : (rules : Rules) (start : LinkStart) (a b : Option Traffic) → AreInRange rules → a ≡ Some (first_traffic start) → CountsMany (λ (t : Traffic). t.calls) (most_sends rules) a b → (traffic : Traffic) × (b ≡ Some traffic)
+still_tells : (rules : ReceiveOptions) (start : LinkStart) (a b : Option Traffic) → AreInRange rules → a ≡ Some (first_traffic start) → CountsMany (λ (t : Traffic). t.calls) (most_sends rules) a b → (traffic : Traffic) × (b ≡ Some traffic)
 still_tells rules start a (Some traffic) valid is calls = (traffic, refl)
 still_tells rules start None None valid is calls = absurd cc
 still_tells rules start (Some x) None valid is calls =
@@ -84,7 +84,7 @@ pub record Went (start : LinkStart) (a b : Known Traffic) : Type 0 where
 takes_as : (sends : Option ℕ) (xs ys : List (List ℕ)) → xs ≡ ys → TakesSends sends (length xs) → TakesSends sends (length ys)
 takes_as sends xs ys same takes = subst (λ (l : List (List ℕ)). TakesSends sends (length l)) same takes
 
-went_over : (rules : Rules) → AreInRange rules → (start : LinkStart) (a b : Known Traffic) → a.told ≡ Some (first_traffic start) → MakesSends (most_sends rules) a b → Went start a b
+went_over : (rules : ReceiveOptions) → AreInRange rules → (start : LinkStart) (a b : Known Traffic) → a.told ≡ Some (first_traffic start) → MakesSends (most_sends rules) a b → Went start a b
 went_over rules valid start a b new only =
     let (traffic, tells) = still_tells rules start a.told b.told valid new only.calls in
     record {
@@ -114,7 +114,7 @@ module _ (start : LinkStart) (a b : Known Traffic) (w : Went start a b) where
   received_by true datagrams took = (w.all datagrams took.sent).2
   received_by false datagrams took = (w.some took.front took.sent).2
 
-  goes_part : (rules : Rules) (carry : Carry) (answers : List Answer) (last k : ℕ) (was up : Bool) → was ≡ true → StopsOver rules carry answers (record { up = was; known = a }) (record { up = up; known = b })
+  goes_part : (rules : ReceiveOptions) (carry : Carry) (answers : List Answer) (last k : ℕ) (was up : Bool) → was ≡ true → StopsOver rules carry answers (record { up = was; known = a }) (record { up = up; known = b })
       → (k ≡ last → StopsLast rules carry answers (record { up = was; known = a }) (record { up = up; known = b })) → GoesPart rules carry answers last k start over_it
   goes_part rules carry answers last k was up is stops at =
       let (gone, no_more, none) = w.some stops.datagrams stops.sent in
@@ -150,7 +150,7 @@ some_down (t ∷ to) not = down_by t to t.up refl not (some_down to)
 abbrev any_target : Target
 any_target = record { up = true; known = record { faults = 0; told = None } }
 
-module _ {L : Type 0} (rules : Rules) (valid : AreInRange rules) (carry : Carry) (to : List Address) (known : L → Known Traffic) (members members' : List (Member L))
+module _ {L : Type 0} (rules : ReceiveOptions) (valid : AreInRange rules) (carry : Carry) (to : List Address) (known : L → Known Traffic) (members members' : List (Member L))
     (many : length members ≡ length to) (many' : length members' ≡ length to) (up : AreUp members) (a b c : Known DockContents)
     (opens : Tells a b (λ before after. after ≡ after_reaches to before)) (links : Docked a b (λ told. HaveLinks known told to members))
     (closed : Tells b c (λ before after. (overs : List Over) → HaveGone known members' overs → after ≡ after_closes overs to before))
@@ -285,12 +285,12 @@ module _ {L : Type 0} (rules : Rules) (valid : AreInRange rules) (carry : Carry)
         goes = goes;
       })))
 
-pub opened_out : (rules : Rules) (carry : Carry) (to : List Address) (from from' : Known Traffic) (passed : Result Tally LinkFault) (a c : Known DockContents)
+pub opened_out : (rules : ReceiveOptions) (carry : Carry) (to : List Address) (from from' : Known Traffic) (passed : Result Tally LinkFault) (a c : Known DockContents)
     → Tells a c (GoesOut rules carry (Heard from from') to passed) → Tells a c (PassesTo rules carry to from from' passed)
 opened_out rules carry to from from' passed a c goes = Tells-weaker (GoesOut rules carry (Heard from from') to passed) (PassesTo rules carry to from from' passed) a c goes (λ x z out. inr out)
 
 -- how many calls each link gets, however it ends
-pub only_of : (rules : Rules) (carry : Carry) (from from' : Known Traffic) (to to' : List Target) (ended : GateEnded) → GateRun rules carry from from' to to' ended → EachSends (most_sends rules) to to'
+pub only_of : (rules : ReceiveOptions) (carry : Carry) (from from' : Known Traffic) (to to' : List Target) (ended : GateEnded) → GateRun rules carry from from' to to' ended → EachSends (most_sends rules) to to'
 only_of rules carry from from' to to' (ended.Done tally) (up, sent, all, is) = all.only
 only_of rules carry from from' to to' ended.SomeFailed (not_up, sent, all) = all.only
 only_of rules carry from from' to to' ended.FromFailed run = run.only
@@ -299,7 +299,7 @@ only_of rules carry from from' to to' ended.ToFailed run = run.only
 -- ---- the link that datagrams come from
 
 -- these answers stood ahead of it, and it tells just them: nothing went over it
-heard_all : (rules : Rules) (start : LinkStart) (answers : List Answer) (a b : Known Traffic) → AreInRange rules → length answers ≤ most_answers rules → Heard a b answers → a.told ≡ Some (first_traffic start)
+heard_all : (rules : ReceiveOptions) (start : LinkStart) (answers : List Answer) (a b : Known Traffic) → AreInRange rules → length answers ≤ most_answers rules → Heard a b answers → a.told ≡ Some (first_traffic start)
     → (traffic : Traffic) × (b.told ≡ Some traffic) × AreRead start.ahead traffic.answers answers × (over_of traffic ≡ hearing.heard traffic.answers)
 heard_all rules start answers a b valid few came new =
     let t = heard_told a.told b.told start answers came new (le_trans few (few_answers rules valid)) in
@@ -307,7 +307,7 @@ heard_all rules start answers a b valid few came new =
     (t.0, t.1, ((t.0.ahead, t.3), told), t.2 ∙ ap hearing.heard (sym told))
 
 -- a new link of which something was heard
-module _ (rules : Rules) (valid : AreInRange rules) (carry : Carry) (start : LinkStart) (a b : Known Traffic) (new : a.told ≡ Some (first_traffic start)) (to : List Address) (x z : DockContents) where
+module _ (rules : ReceiveOptions) (valid : AreInRange rules) (carry : Carry) (start : LinkStart) (a b : Known Traffic) (new : a.told ≡ Some (first_traffic start)) (to : List Address) (x z : DockContents) where
   abbrev HasHeard : Result Tally LinkFault → Type 0
   HasHeard passed = (traffic : Traffic) × (b.told ≡ Some traffic) × (over_of traffic ≡ hearing.heard traffic.answers) × GoesOut rules carry (AreRead start.ahead traffic.answers) to passed x z
 
@@ -374,7 +374,7 @@ closed_heard at (Some t) traffic z w is over closes =
     let same : t ≡ traffic = cc in
     closes ∙ (ap (λ (u : Traffic). after_close at (over_of u) z) same ∙ ap (λ (o : Over). after_close at o z) over)
 
-module _ (rules : Rules) (valid : AreInRange rules) (carry : Carry) (from : Address) (to : List Address) (start : LinkStart) (a b : Known Traffic) (new : a.told ≡ Some (first_traffic start))
+module _ (rules : ReceiveOptions) (valid : AreInRange rules) (carry : Carry) (from : Address) (to : List Address) (start : LinkStart) (a b : Known Traffic) (new : a.told ≡ Some (first_traffic start))
     (x y z w : DockContents) (found : Finds x 0 from start) (at : y ≡ after_opening from x) (closes : Closes b.told from z w) where
   all_closed : (passed : Result Tally LinkFault) → PassesTo rules carry to a b passed y z → PassesOn rules carry from to passed x w
   all_closed passed (inl (failed, same, few)) =
@@ -386,7 +386,7 @@ module _ (rules : Rules) (valid : AreInRange rules) (carry : Carry) (from : Addr
       let shut : w ≡ after_source from traffic.answers z = closed_heard from b.told traffic z w tells none closes in
       inr (start, found, z, traffic.answers, shut, inr (subst (λ (d : DockContents). GoesOut rules carry (AreRead start.ahead traffic.answers) to passed d z) at out))
 
-pub passes_on : {L : Type 0} (rules : Rules) (carry : Carry) (from : Address) (to : List Address) (known : L → Known Traffic) (first last : L) (passed : Result Tally LinkFault) (a b c d : Known DockContents)
+pub passes_on : {L : Type 0} (rules : ReceiveOptions) (carry : Carry) (from : Address) (to : List Address) (known : L → Known Traffic) (first last : L) (passed : Result Tally LinkFault) (a b c d : Known DockContents)
     → AreInRange rules → WhileTold a b (Binds known from (opened.Link first)) → CountsCall (λ (e : DockContents). e.calls) a b
     → Tells b c (PassesTo rules carry to (known first) (known last) passed)
     → WhileTold c d (Closes (known last).told from) → CountsCall (λ (e : DockContents). e.calls) c d → Tells a d (PassesOn rules carry from to passed)

@@ -4,16 +4,16 @@ use Rattle.std.proofs.lemmas.List.{take-append-drop}
 use Rattle.dcp_pft.specs.declared.carry.Carry.{Carry}
 use Rattle.drm_links.specs.Link.{Answer}
 use Rattle.drm_links.specs.Transmission.{TakesSends, TakesFewer}
-use Rattle.mod_receiver.specs.declared.rules.Rules.{Rules}
-use Rattle.mod_receiver.specs.Ahead.{BreaksOff}
-use Rattle.mod_receiver.specs.Reading.{datagrams, GoesOn, IsFinished}
-use Rattle.mod_receiver.proofs.OneReading.{next_front, ends_hold, not_shorter, finished_whole, one_reading}
+use Rattle.recv_reading.specs.declared.options.ReceiveOptions.{ReceiveOptions}
+use Rattle.recv_reading.specs.OneReading.{BreaksOff}
+use Rattle.recv_reading.specs.Ending.{datagrams, GoesOn, IsFinished}
+use Rattle.recv_reading.proofs.OneReading.{next_front, ends_hold, not_shorter, finished_whole, one_reading}
 use Rattle.drm_gate.specs.Passing.{Fate, sent_of}
 use Rattle.drm_gate.specs.Run.{IsOnward, IsFrontOf, IsFrontOfOnward}
 use Rattle.drm_gate.proofs.Fronts.{one_onward}
 use Rattle.gate_command.specs.Between.{AreAhead, IsPassedOn, IsBrokenOff}
 
-module _ (rules : Rules) (carry : Carry) (ahead : List Answer) where
+module _ (rules : ReceiveOptions) (carry : Carry) (ahead : List Answer) where
   -- what is finished doesn't break off
   pub broken : (fates : List Fate) → IsBrokenOff rules carry (AreAhead ahead) fates → BreaksOff rules ahead
   broken fates is = record { before = is.before; answers = is.answers; rest = is.heard.0; next = is.heard.1; reading = is.reading }

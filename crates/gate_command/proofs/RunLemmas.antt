@@ -9,19 +9,16 @@ use Rattle.dcp_pft.specs.declared.carry.Carry.{Carry}
 use Rattle.drm_links.specs.Told.{HasFailed, Known, HasCause, Tells}
 use Rattle.drm_links.specs.Link.{Answer}
 use Rattle.drm_links.specs.Sink.{Output, Outputs}
-use Rattle.drm_links.specs.Dock.{DockContents, LinkStart, Over, address_key, start_at, after_opening, after_failure}
+use Rattle.drm_links.specs.Dock.{DockContents, LinkStart, Over, address_key, start_at, after_opening, after_failure, AreDifferent, Finds, FindsNone}
 use Rattle.drm_links.specs.Transmission.{TakesSends, TakesFewer}
 use Rattle.drm_links.specs.declared.dock.Address.{Address}
 use Rattle.drm_links.specs.declared.link.LinkFault.{LinkFault}
 use Rattle.drm_links.proofs.ToldLemmas.{Tells-nothing, Tells-weaker, counts_none}
-use Rattle.mod_receiver.specs.declared.rules.Rules.{Rules}
-use Rattle.mod_receiver.specs.Ahead.{BreaksOff}
-use Rattle.word_forms.specs.Addresses.{AreDifferent}
-use Rattle.several_links.specs.Openings.{Finds, FindsNone}
+use Rattle.recv_reading.specs.declared.options.ReceiveOptions.{ReceiveOptions}
+use Rattle.recv_reading.specs.OneReading.{BreaksOff}
 use Rattle.several_links.specs.Reaching.{nothing, ReachesNone, ReachesFew, GoesOver, after_reaches}
 use Rattle.several_links.proofs.RunLemmas as several
-use Rattle.drm_receive.proofs.BreakingOff.{found_once, is_found}
-use Rattle.drm_receive.proofs.ReceiveLemmas.{no_fault}
+use Rattle.several_links.proofs.BindLemmas.{found_once, is_found}
 use Rattle.drm_faults.specs.Fault.{UnlessMemory}
 use Rattle.drm_faults.specs.Causes.{OpeningFailed}
 use Rattle.drm_faults.specs.declared.fault.Fault.{Fault}
@@ -35,23 +32,26 @@ use Rattle.gate_command.specs.Between.{AreAhead, AreRead, IsPassedOn, Goes, Goes
 use Rattle.gate_command.specs.Run.{PassesOn, WritesTally, LacksSome, FailsGate, HasAll, PassedAll, GateCommandRun}
 use Rattle.gate_command.proofs.ReadingLemmas.{broken, whole, one_passed, front_of_all, takes_fewer, not_both}
 
+pub no_fault : (clean : Bool) (fault : Fault) → Ok clean ≡ Err fault → ⊥
+no_fault clean fault is = cc
+
 any_address : Address
 any_address = record { ip = []; port = 0 }
 
 -- ---- what was ahead, whatever the link told that was read
 
-abbrev PassedOn : Rules → Carry → Address → List Address → Result Tally LinkFault → DockContents → DockContents → Type 0
+abbrev PassedOn : ReceiveOptions → Carry → Address → List Address → Result Tally LinkFault → DockContents → DockContents → Type 0
 PassedOn rules carry from to passed before after =
     (IsErr passed × FindsNone before 0 from × (after ≡ after_failure before))
     ⊎ ((source : LinkStart) × Finds before 0 from source × (mid : DockContents) × (answers : List Answer) × (after ≡ after_source from answers mid)
     × ((IsErr passed × ReachesFew to (after_opening from before) mid)
     ⊎ GoesOut rules carry (AreAhead source.ahead) to passed (after_opening from before) mid))
 
-passed_ahead : (rules : Rules) (carry : Carry) (ahead told : List Answer) (fates : List Fate) → IsPassedOn rules carry (AreRead ahead told) fates → IsPassedOn rules carry (AreAhead ahead) fates
+passed_ahead : (rules : ReceiveOptions) (carry : Carry) (ahead told : List Answer) (fates : List Fate) → IsPassedOn rules carry (AreRead ahead told) fates → IsPassedOn rules carry (AreAhead ahead) fates
 passed_ahead rules carry ahead told fates p =
     record { answers = p.answers; heard = p.heard.0; few = p.few; word = p.word; reading = p.reading; onward = p.onward }
 
-out_ahead : (rules : Rules) (carry : Carry) (ahead told : List Answer) (to : List Address) (passed : Result Tally LinkFault) (x z : DockContents)
+out_ahead : (rules : ReceiveOptions) (carry : Carry) (ahead told : List Answer) (to : List Address) (passed : Result Tally LinkFault) (x z : DockContents)
     → GoesOut rules carry (AreRead ahead told) to passed x z → GoesOut rules carry (AreAhead ahead) to passed x z
 out_ahead rules carry ahead told to (Ok tally) x z (p, counted) =
     (record { fates = p.fates; passed = passed_ahead rules carry ahead told p.fates p.passed; goes = p.goes }, counted)
@@ -99,7 +99,7 @@ module _ (told : DockContents) (from : Address) where
 
 -- ---- what goes over one of the links, and what becomes of all that is read
 
-module _ (rules : Rules) (carry : Carry) (ahead : List Answer) (fates : List Fate) (passed : IsPassedOn rules carry (AreAhead ahead) fates) where
+module _ (rules : ReceiveOptions) (carry : Carry) (ahead : List Answer) (fates : List Fate) (passed : IsPassedOn rules carry (AreAhead ahead) fates) where
   -- it lacks sends where it fails
   lacks_by : (up : Bool) (fs : List Fate) (start : LinkStart) (went : Over) → IsPassedOn rules carry (AreAhead ahead) fs → up ≡ false → Goes up (sent_of fs) start went → TakesFewer start.sends (length (sent_of fates))
   lacks_by true fs start went is down goes = absurd (let clash : true ≡ false = down in cc)
@@ -118,7 +118,7 @@ module _ (rules : Rules) (carry : Carry) (ahead : List Answer) (fates : List Fat
 
 -- ---- a run that came to its links
 
-module _ (rules : Rules) (carry : Carry) (from : Address) (to : List Address) where
+module _ (rules : ReceiveOptions) (carry : Carry) (from : Address) (to : List Address) where
   -- one of them fails
   fails_out : (fault : LinkFault) (x z : DockContents) (source : LinkStart) → GoesOut rules carry (AreAhead source.ahead) to (Err fault) (after_opening from x) z
       → BreaksOff rules source.ahead ⊎ LacksSome rules carry source.ahead (after_opening from x) to

@@ -7,13 +7,13 @@ use Rattle.drm_links.specs.Dock.{DockContents, LinkStart, Over}
 use Rattle.drm_links.specs.Transmission.{TakesSends}
 use Rattle.drm_links.specs.declared.dock.Address.{Address}
 use Rattle.drm_links.specs.declared.link.LinkFault.{LinkFault}
-use Rattle.report_lines.specs.declared.report.EndWord.{EndWord}
-use Rattle.mod_receiver.specs.declared.rules.Rules.{Rules}
-use Rattle.mod_receiver.specs.Hearing.{AreNext, Heard}
-use Rattle.mod_receiver.specs.Ranges.{AreInRange}
-use Rattle.mod_receiver.specs.Reading.{datagrams, GoesOn, IsFinished, IsBroken, most_answers}
+use Rattle.recv_reading.specs.declared.reason.EndWord.{EndWord}
+use Rattle.recv_reading.specs.declared.options.ReceiveOptions.{ReceiveOptions}
+use Rattle.drm_links.specs.Hearing.{AreNext, Heard}
+use Rattle.recv_reading.specs.Options.{AreInRange}
+use Rattle.recv_reading.specs.Ending.{datagrams, GoesOn, IsFinished, IsBroken, most_answers}
 use Rattle.several_links.specs.Reaching.{ReachesFew, GoesOver}
-use Rattle.drm_receive.specs.Terms.{AreListed}
+use Rattle.several_links.specs.Listed.{AreListed}
 use Rattle.drm_gate.specs.Gateway.{Gateway, IsNew}
 use Rattle.drm_gate.specs.declared.tally.Tally.{Tally}
 use Rattle.drm_gate.specs.declared.gate.GateEnded.{GateEnded}
@@ -26,7 +26,7 @@ use Rattle.gate_command.specs.Opening.{no_rests}
 
 -- What a run between links stands on: a new gateway that goes by these rules, addresses that are listed, room for a link to each, in
 -- which none stands yet, and a buffer for a datagram.
-pub record IsSetUp (gateway : Gateway) (rules : Rules) (to : List Address) (links room buffer : ℕ) : Type 0 where
+pub record IsSetUp (gateway : Gateway) (rules : ReceiveOptions) (to : List Address) (links room buffer : ℕ) : Type 0 where
   pub new : IsNew gateway
   pub in_range : AreInRange rules
   pub window : gateway.collector.window ≡ rules.window
@@ -45,7 +45,7 @@ abbrev pub AreRead : List Answer → List Answer → List Answer → Type 0
 AreRead ahead told answers = AreAhead ahead answers × (told ≡ answers)
 
 -- What is heard is finished, and this becomes of it.
-pub record IsPassedOn (rules : Rules) (carry : Carry) (hears : List Answer → Type 0) (fates : List Fate) : Type 0 where
+pub record IsPassedOn (rules : ReceiveOptions) (carry : Carry) (hears : List Answer → Type 0) (fates : List Fate) : Type 0 where
   pub answers : List Answer
   pub heard : hears answers
   pub few : length answers ≤ most_answers rules
@@ -54,7 +54,7 @@ pub record IsPassedOn (rules : Rules) (carry : Carry) (hears : List Answer → T
   pub onward : IsOnward rules carry (datagrams answers) fates
 
 -- What is heard ends in `Failed`, and this becomes of what was ready before.
-pub record IsBrokenOff (rules : Rules) (carry : Carry) (hears : List Answer → Type 0) (fates : List Fate) : Type 0 where
+pub record IsBrokenOff (rules : ReceiveOptions) (carry : Carry) (hears : List Answer → Type 0) (fates : List Fate) : Type 0 where
   pub answers : List Answer
   pub heard : hears answers
   pub few : length answers ≤ most_answers rules
@@ -72,7 +72,7 @@ Goes false datagrams start went = IsFrontOf datagrams went.gone × (start.sends 
 
 -- Where each link fails: a front of what becomes of what was heard goes over the k-th, after which it takes no more, and over the last
 -- one to fail all that was sent before it did.
-pub record GoesPart (rules : Rules) (carry : Carry) (answers : List Answer) (last k : ℕ) (start : LinkStart) (went : Over) : Type 0 where
+pub record GoesPart (rules : ReceiveOptions) (carry : Carry) (answers : List Answer) (last k : ℕ) (start : LinkStart) (went : Over) : Type 0 where
   pub front : IsFrontOfOnward rules carry answers went.gone
   pub no_more : start.sends ≡ Some (length went.gone)
   pub still : went.rests ≡ no_rests went.gone
@@ -81,19 +81,19 @@ pub record GoesPart (rules : Rules) (carry : Carry) (answers : List Answer) (las
 -- ---- over all of them
 
 -- Over each link at these addresses goes all that becomes of what is heard, unless it fails.
-pub record PassesAll (rules : Rules) (carry : Carry) (hears : List Answer → Type 0) (to : List Address) (up : ℕ → Bool) (before after : DockContents) : Type 0 where
+pub record PassesAll (rules : ReceiveOptions) (carry : Carry) (hears : List Answer → Type 0) (to : List Address) (up : ℕ → Bool) (before after : DockContents) : Type 0 where
   pub fates : List Fate
   pub passed : IsPassedOn rules carry hears fates
   pub goes : GoesOver (λ k start went. Goes (up k) (sent_of fates) start went) to before after
 
 -- What is heard ends in `Failed`: all that was ready before, unless it fails.
-pub record PassesReady (rules : Rules) (carry : Carry) (hears : List Answer → Type 0) (to : List Address) (up : ℕ → Bool) (before after : DockContents) : Type 0 where
+pub record PassesReady (rules : ReceiveOptions) (carry : Carry) (hears : List Answer → Type 0) (to : List Address) (up : ℕ → Bool) (before after : DockContents) : Type 0 where
   pub fates : List Fate
   pub broken : IsBrokenOff rules carry hears fates
   pub goes : GoesOver (λ k start went. Goes (up k) (sent_of fates) start went) to before after
 
 -- Each link fails, and nothing shorter than what is heard is finished.
-pub record PassesPart (rules : Rules) (carry : Carry) (hears : List Answer → Type 0) (to : List Address) (before after : DockContents) : Type 0 where
+pub record PassesPart (rules : ReceiveOptions) (carry : Carry) (hears : List Answer → Type 0) (to : List Address) (before after : DockContents) : Type 0 where
   pub answers : List Answer
   pub heard : hears answers
   pub few : length answers ≤ most_answers rules
@@ -107,7 +107,7 @@ abbrev pub SomeFails : List Address → (ℕ → Bool) → Type 0
 SomeFails to up = (k : ℕ) × (k < length to) × (up k ≡ false)
 
 -- Where no link fails all is counted, the datagrams of all links together.
-abbrev pub GoesOut : Rules → Carry → (List Answer → Type 0) → List Address → Result Tally LinkFault → DockContents → DockContents → Type 0
+abbrev pub GoesOut : ReceiveOptions → Carry → (List Answer → Type 0) → List Address → Result Tally LinkFault → DockContents → DockContents → Type 0
 GoesOut rules carry hears to (Ok tally) before after =
     (all : PassesAll rules carry hears to (λ _. true) before after) × (tally ≡ over (length to) (tally_of all.fates))
 GoesOut rules carry hears to (Err fault) before after =
@@ -116,7 +116,7 @@ GoesOut rules carry hears to (Err fault) before after =
     ⊎ PassesPart rules carry hears to before after
 
 -- by what it reads
-abbrev pub options_of : Rules → GateOptions
+abbrev pub options_of : ReceiveOptions → GateOptions
 options_of rules = record { frames = rules.frames; idle = rules.idle; limit = rules.limit }
 
 -- what was counted, or that a link failed
@@ -128,7 +128,7 @@ passed_of ended.ToFailed = Err (record {})
 
 -- What a dock tells where links are opened in it, to send over them what is heard of another one, and closed: an opening failed, and
 -- nothing was heard; or this has gone.
-abbrev pub PassesTo : Rules → Carry → List Address → Known Traffic → Known Traffic → Result Tally LinkFault → DockContents → DockContents → Type 0
+abbrev pub PassesTo : ReceiveOptions → Carry → List Address → Known Traffic → Known Traffic → Result Tally LinkFault → DockContents → DockContents → Type 0
 PassesTo rules carry to source source' passed before after =
     (IsErr passed × (source' ≡ source) × ReachesFew to before after)
     ⊎ GoesOut rules carry (Heard source source') to passed before after

@@ -1,9 +1,8 @@
 -- Links that are opened, one to read and others to send over.
 use Rattle.std.specs.Prelude.{ℕ, ◌⊎◌, List, [], ◌∷◌, ◌++◌, map}
 use Rattle.drm_links.specs.Link.{Answer}
-use Rattle.drm_links.specs.Dock.{DockContents, LinkStart, after_opening, after_close}
+use Rattle.drm_links.specs.Dock.{DockContents, LinkStart, after_opening, after_close, Finds, FindsNone}
 use Rattle.drm_links.specs.declared.dock.Address.{Address}
-use Rattle.several_links.specs.Openings.{Finds, FindsNone}
 use Rattle.several_links.specs.Reaching.{ReachesNone}
 
 -- an opening fails: that of the link that is read, or one of the others behind it

@@ -5,13 +5,12 @@ use Rattle.dcp_pft.specs.declared.carry.Carry.{Carry}
 use Rattle.drm_links.specs.Told.{HasFailed, Known, HasCause, Tells}
 use Rattle.drm_links.specs.Link.{Answer}
 use Rattle.drm_links.specs.Sink.{Output, Outputs, IsFront}
-use Rattle.drm_links.specs.Dock.{DockContents, LinkStart, address_key, after_opening, after_failure}
+use Rattle.drm_links.specs.Dock.{DockContents, LinkStart, address_key, after_opening, after_failure, Finds, FindsNone}
 use Rattle.drm_links.specs.Transmission.{TakesSends, TakesFewer}
 use Rattle.drm_links.specs.declared.dock.Address.{Address}
 use Rattle.drm_links.specs.declared.link.LinkFault.{LinkFault}
-use Rattle.mod_receiver.specs.declared.rules.Rules.{Rules}
-use Rattle.mod_receiver.specs.Ahead.{BreaksOff}
-use Rattle.several_links.specs.Openings.{Finds, FindsNone}
+use Rattle.recv_reading.specs.declared.options.ReceiveOptions.{ReceiveOptions}
+use Rattle.recv_reading.specs.OneReading.{BreaksOff}
 use Rattle.several_links.specs.Reaching.{ReachesFew}
 use Rattle.drm_faults.specs.Fault.{UnlessMemory}
 use Rattle.drm_faults.specs.Causes.{OpeningFailed}
@@ -29,7 +28,7 @@ use Rattle.gate_command.specs.Between.{AreAhead, AreRead, IsPassedOn, GoesOut}
 -- What the dock tells: an opening failed, and the links that were opened are closed; or all links were opened, this went over those
 -- that are sent over of what was ahead of the one that is read, and all were closed. That one had given the answers of which
 -- this became, and no others; where an opening failed none.
-abbrev pub PassesOn : Rules → Carry → Address → List Address → Result Tally LinkFault → DockContents → DockContents → Type 0
+abbrev pub PassesOn : ReceiveOptions → Carry → Address → List Address → Result Tally LinkFault → DockContents → DockContents → Type 0
 PassesOn rules carry from to passed before after =
     (IsErr passed × FindsNone before 0 from × (after ≡ after_failure before))
     ⊎ ((source : LinkStart) × Finds before 0 from source × (mid : DockContents) × (answers : List Answer) × (after ≡ after_source from answers mid)
@@ -45,7 +44,7 @@ WritesTally (Ok tally) ending known out out' =
 WritesTally (Err fault) ending known out out' = (ending ≡ Err faults.Link) × (out' ≡ out)
 
 -- A run that came to its links.
-pub record LinksRun {D O : Type 0} (rules : Rules) (carry : Carry) (from : Address) (to : List Address) (ending : Result Bool Fault)
+pub record LinksRun {D O : Type 0} (rules : ReceiveOptions) (carry : Carry) (from : Address) (to : List Address) (ending : Result Bool Fault)
     (dock_known : D → Known DockContents) (dock dock' : D) (out_known : O → Known Output) (out out' : O) : Type 0 where
   -- what was counted, or that a link failed
   pub passed : Result Tally LinkFault
@@ -59,17 +58,17 @@ NoRun ending dock dock' out out' = (ending ≡ Err faults.NoMemory) × (dock' �
 -- ---- when a link fails
 
 -- A link takes fewer sends than what becomes of the answers ahead of another one has datagrams.
-abbrev pub LacksSends : Rules → Carry → List Answer → Option ℕ → Type 0
+abbrev pub LacksSends : ReceiveOptions → Carry → List Answer → Option ℕ → Type 0
 LacksSends rules carry ahead sends = (fates : List Fate) → IsPassedOn rules carry (AreAhead ahead) fates → TakesFewer sends (length (sent_of fates))
 
 -- The link that is opened at one of these addresses does.
-pub record LacksSome (rules : Rules) (carry : Carry) (ahead : List Answer) (told : DockContents) (to : List Address) : Type 0 where
+pub record LacksSome (rules : ReceiveOptions) (carry : Carry) (ahead : List Answer) (told : DockContents) (to : List Address) : Type 0 where
   pub k : ℕ
   pub within : k < length to
   pub lacks : (at : Address) → (start : LinkStart) × Finds told k (slice_index_or to k at) start × LacksSends rules carry ahead start.sends
 
 -- An opening fails; or what is ahead of the link that is read breaks off, or one of the others takes too few sends.
-abbrev pub FailsGate : Rules → Carry → Address → List Address → DockContents → Type 0
+abbrev pub FailsGate : ReceiveOptions → Carry → Address → List Address → DockContents → Type 0
 FailsGate rules carry from to told =
     FailsOpening told from to
     ⊎ ((source : LinkStart) × Finds told 0 from source
@@ -82,7 +81,7 @@ abbrev pub HasAll : List Fate → List Address → ℕ → DockContents → Type
 HasAll fates to k after = (at : Address) → map.get after.gone (address_key (slice_index_or to k at)) ≡ Some (sent_of fates)
 
 -- It has gone at each address, and the line of it is written.
-pub record PassedAll {O : Type 0} (rules : Rules) (carry : Carry) (from : Address) (to : List Address) (ending : Result Bool Fault) (before after : DockContents)
+pub record PassedAll {O : Type 0} (rules : ReceiveOptions) (carry : Carry) (from : Address) (to : List Address) (ending : Result Bool Fault) (before after : DockContents)
     (known : O → Known Output) (out out' : O) : Type 0 where
   pub source : LinkStart
   pub finds : Finds before 0 from source
@@ -93,7 +92,7 @@ pub record PassedAll {O : Type 0} (rules : Rules) (carry : Carry) (from : Addres
   pub clean : ending ≡ Ok (is_clean (tally_of fates))
 
 -- A run of `gate`.
-pub record GateCommandRun {D O : Type 0} (rules : Rules) (carry : Carry) (from : Address) (to : List Address) (ending : Result Bool Fault)
+pub record GateCommandRun {D O : Type 0} (rules : ReceiveOptions) (carry : Carry) (from : Address) (to : List Address) (ending : Result Bool Fault)
     (dock_known : D → Known DockContents) (dock dock' : D) (out_known : O → Known Output) (out out' : O) : Type 0 where
   pub run : NoRun ending dock dock' out out' ⊎ LinksRun rules carry from to ending dock_known dock dock' out_known out out'
   -- It ends well, or for want of memory, by a failed link or by a failed write.

@@ -7,16 +7,15 @@ ghost use Rattle.gate_command.specs.Between.{IsSetUp, PassesTo, options_of, pass
 ghost use Rattle.gate_command.specs.Run.{PassesOn};
 
 use drm_gate::{Gate, GateEnded, GateOptions, Tally, gate_one};
-use drm_links::{Address, Dock, Link, LinkFault, Opened};
-use mod_receiver::Rules;
+use drm_links::{Address, Addresses, Dock, Link, LinkFault, Opened};
+use recv_reading::ReceiveOptions;
 use several_links::{Member, close_each, reach_in};
-use word_forms::Addresses;
 
 // Opens a link that receives at the one address and links that send to the others, passes on what comes, and closes what was
 // opened. The gateway is new, and goes by these rules; there is room for the links.
 pub(crate) fn pass_between<D: Dock>(
     gate: &mut Gate,
-    rules: &Rules,
+    rules: &ReceiveOptions,
     from: Address,
     to: &Addresses,
     room: Vec<Member<D::L>>,
@@ -40,7 +39,7 @@ pub(crate) fn pass_between<D: Dock>(
 // Opens links that send to the addresses, passes on over them what comes over the other one, and closes them.
 fn pass_to<L: Link, D: Dock>(
     gate: &mut Gate,
-    rules: &Rules,
+    rules: &ReceiveOptions,
     source: &mut L,
     to: &Addresses,
     room: Vec<Member<D::L>>,
@@ -68,7 +67,7 @@ fn pass_to<L: Link, D: Dock>(
     }
 }
 
-fn options(rules: &Rules) -> GateOptions
+fn options(rules: &ReceiveOptions) -> GateOptions
     ensures { result ≡ options_of rules.now }
 {
     GateOptions {

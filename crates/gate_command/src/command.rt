@@ -1,8 +1,8 @@
 //! The command `gate`.
 
 ghost use Rattle.dcp_pft.specs.Carrying.{CarryFits};
-ghost use Rattle.mod_receiver.specs.Ranges.{AreInRange};
-ghost use Rattle.drm_receive.specs.Terms.{AreListed};
+ghost use Rattle.recv_reading.specs.Options.{AreInRange};
+ghost use Rattle.several_links.specs.Listed.{AreListed};
 ghost use Rattle.gate_command.specs.Run.{GateCommandRun};
 
 use crate::between::pass_between;
@@ -11,21 +11,17 @@ use dcp_pft::Carry;
 use drm_bits::zeros;
 use drm_faults::Fault;
 use drm_gate::Gate;
-use drm_links::{Address, Dock, Sink};
-use mod_receiver::Rules;
+use drm_links::{Address, Addresses, Dock, LONGEST_DATAGRAM, Sink};
+use recv_reading::ReceiveOptions;
 use several_links::room_for;
 use std::alloc::Global;
-use word_forms::Addresses;
-
-/// In bytes, of a datagram.
-const MOST_BYTES: usize = 65_536;
 
 /// Opens a link that receives at `from` and links that send to the addresses in `to`, sends over these what comes over the first, each
 /// packet under the carry as soon as it is given, and closes all of them. A link that fails ends no other. Writes what was counted to
 /// `out`, and answers whether each packet was sent. All memory is taken before the first opening.
 pub fn gate<D: Dock, O: Sink>(
     alloc: Global,
-    rules: &Rules,
+    rules: &ReceiveOptions,
     carry: Carry,
     from: Address,
     to: &Addresses,
@@ -38,7 +34,7 @@ pub fn gate<D: Dock, O: Sink>(
     ensures { GateCommandRun rules.now carry from to.now result D.known dock.old dock.new O.known out.old out.new }
 {
     let mut gate = Gate::make(alloc, rules.window, rules.first, carry)?;
-    let mut buffer = zeros(alloc, MOST_BYTES)?;
+    let mut buffer = zeros(alloc, LONGEST_DATAGRAM)?;
     let room = room_for(alloc, to)?;
     let tally = pass_between(&mut gate, rules, from, to, room, &mut buffer, dock)?;
     write_tally(out, &tally)?;

@@ -10,9 +10,9 @@ use Rattle.dcp_collect.specs.Runs.{Item, Steps}
 use Rattle.collect_laws.specs.Delivery.{sequence_at, IsBase}
 use Rattle.collect_laws.specs.Laws.{OneReading}
 use Rattle.collect_laws.proofs.Sent.{BringsPair}
-use Rattle.drm_convert.specs.Converting.{sequence_of}
-use Rattle.drm_convert.specs.Run.{first_of}
-use Rattle.drm_convert.proofs.Ways.{gives_first}
+use Rattle.dcp_sender.specs.Packets.{sequence_of}
+use Rattle.recv_reading.specs.First.{first_of}
+use Rattle.recv_reading.proofs.Ways.{gives_first}
 use Rattle.convert_laws.proofs.Firsts.{first_steps, first_told}
 
 -- the base has this sequence number

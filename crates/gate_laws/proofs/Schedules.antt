@@ -20,8 +20,8 @@ use Rattle.drm_schedule.specs.declared.plan.Plan.{Plan}
 use Rattle.drm_schedule.specs.Valid.{IsSchedule}
 use Rattle.drm_timeline.specs.Numbers.{frame_count, packet_size, sequence_number}
 use Rattle.drm_server.specs.Frames.{IsPacketAt}
-use Rattle.drm_convert.specs.Converting.{sequence_of}
-use Rattle.drm_convert.specs.Run.{first_of}
+use Rattle.dcp_sender.specs.Packets.{sequence_of}
+use Rattle.recv_reading.specs.First.{first_of}
 use Rattle.mod_delivery.specs.Sent.{IsSent, pairs_in, shape_at, frame_at}
 use Rattle.mod_delivery.proofs.Configurations.{size_fits}
 use Rattle.mod_delivery.proofs.Delivered.{none_got}

@@ -22,7 +22,7 @@ use Rattle.mod_delivery.specs.Sent.{Arrival, IsArrival, pairs_in, IsFollowed, sh
 use Rattle.mod_delivery.specs.Given.{IsServed, IsAFrame}
 use Rattle.report_lines.specs.Report.{item_line}
 use Rattle.frame_lines.specs.Line.{IsFrameLine}
-use Rattle.mod_receiver.specs.declared.rules.Rules.{Rules}
+use Rattle.recv_reading.specs.declared.options.ReceiveOptions.{ReceiveOptions}
 use Rattle.convert_laws.specs.Laws.{under}
 use Rattle.drm_gate.specs.Passing.{Fate, sent_of}
 use Rattle.drm_gate.specs.Run.{IsOnward}
@@ -49,14 +49,14 @@ AreWithin carry packets = (p : ℕ) (packet : List ℕ) → slice_get packets p 
 
 -- The packets can be sent under the new carry, and what was sent is a delivery of them: all datagrams of exactly those that the
 -- delivery under the old one calls for, in order.
-pub record AreDeliveredOn (old new : Carry) (sequence0 : ℕ) (packets : List (List ℕ)) (rules : Rules) (base : ℤ) (pairs : List (ℕ × ℕ)) (sent : List (List ℕ)) : Type 0 where
+pub record AreDeliveredOn (old new : Carry) (sequence0 : ℕ) (packets : List (List ℕ)) (rules : ReceiveOptions) (base : ℤ) (pairs : List (ℕ × ℕ)) (sent : List (List ℕ)) : Type 0 where
   pub are_sent : AreSent new sequence0 packets
   pub delivered : AreDelivered new sequence0 packets (flat_map (pairs_of new base) (items old packets rules.window base rules.frames pairs)) sent
 
 -- What becomes of a delivery is a delivery of the same packets under the new carry.
 abbrev pub PassesDeliveries : Type 0
 PassesDeliveries =
-    (old new : Carry) (sequence0 : ℕ) (packets : List (List ℕ)) (rules : Rules) (base : ℤ) (pairs : List (ℕ × ℕ)) (datagrams : List (List ℕ)) (fates : List Fate)
+    (old new : Carry) (sequence0 : ℕ) (packets : List (List ℕ)) (rules : ReceiveOptions) (base : ℤ) (pairs : List (ℕ × ℕ)) (datagrams : List (List ℕ)) (fates : List Fate)
     → 1 ≤ rules.window → CarryFits new → AreWithin new packets → IsHeard old sequence0 packets rules.first base pairs datagrams
     → IsOnward rules new datagrams fates → AreDeliveredOn old new sequence0 packets rules base pairs (sent_of fates)
 
@@ -77,7 +77,7 @@ pairs_given plan carry window base told pairs =
     flat_map (λ q. pairs_by plan carry (frame_of_number plan base q) (got window base pairs q)) (range_with_len 0 (end_of told (newest_of base None pairs)))
 
 -- What becomes of a delivery of a schedule, with any strays in it, behind a gateway under whose carry the schedule is one, too.
-pub record IsPassedOn (plan : Plan) (carry : Carry) (rules : Rules) (base : ℤ) (arrivals : List Arrival) (datagrams : List (List ℕ)) (fates : List Fate) : Type 0 where
+pub record IsPassedOn (plan : Plan) (carry : Carry) (rules : ReceiveOptions) (base : ℤ) (arrivals : List Arrival) (datagrams : List (List ℕ)) (fates : List Fate) : Type 0 where
   pub schedule : IsSchedule plan
   pub other : IsSchedule (under carry plan)
   pub some : 1 ≤ rules.window
@@ -87,7 +87,7 @@ pub record IsPassedOn (plan : Plan) (carry : Carry) (rules : Rules) (base : ℤ)
 -- It is a delivery of the schedule under that carry.
 abbrev pub PassesSchedules : Type 0
 PassesSchedules =
-    (plan : Plan) (carry : Carry) (rules : Rules) (base : ℤ) (arrivals : List Arrival) (datagrams : List (List ℕ)) (fates : List Fate)
+    (plan : Plan) (carry : Carry) (rules : ReceiveOptions) (base : ℤ) (arrivals : List Arrival) (datagrams : List (List ℕ)) (fates : List Fate)
     → IsPassedOn plan carry rules base arrivals datagrams fates
     → schedules.AreSent (under carry plan) (pairs_given plan carry rules.window base rules.frames (pairs_in arrivals)) (sent_of fates)
 
@@ -100,7 +100,7 @@ IsAmong sent datagram = ((k : ℕ) × (slice_get sent k ≡ Some datagram)) ⊎ 
 -- Whatever of what was sent comes, in whatever order, and with whatever strays, is a delivery of the schedule again.
 abbrev pub ComesAgain : Type 0
 ComesAgain =
-    (plan : Plan) (carry : Carry) (rules : Rules) (base : ℤ) (arrivals : List Arrival) (datagrams : List (List ℕ)) (fates : List Fate)
+    (plan : Plan) (carry : Carry) (rules : ReceiveOptions) (base : ℤ) (arrivals : List Arrival) (datagrams : List (List ℕ)) (fates : List Fate)
     → IsPassedOn plan carry rules base arrivals datagrams fates
     → (later : List (List ℕ)) → AllByRecursion (IsAmong (sent_of fates)) later → (again : List Arrival) × AllZip (IsArrival (under carry plan)) again later
 
@@ -124,7 +124,7 @@ GivesServed plan later again =
 -- gives is the server's.
 abbrev pub ServedBehindOne : Type 0
 ServedBehindOne =
-    (plan : Plan) (carry : Carry) (rules : Rules) (base : ℤ) (arrivals : List Arrival) (datagrams : List (List ℕ)) (fates : List Fate)
+    (plan : Plan) (carry : Carry) (rules : ReceiveOptions) (base : ℤ) (arrivals : List Arrival) (datagrams : List (List ℕ)) (fates : List Fate)
     → IsPassedOn plan carry rules base arrivals datagrams fates
     → (later : List (List ℕ)) → AllByRecursion (IsAmong (sent_of fates)) later
     → (again : List Arrival) × AllZip (IsArrival (under carry plan)) again later × GivesServed plan later again
@@ -133,7 +133,7 @@ ServedBehindOne =
 -- what comes of what it sends; and where a receiver follows that, each frame that it gives is the server's.
 abbrev pub ServedBehindTwo : Type 0
 ServedBehindTwo =
-    (plan : Plan) (one other : Carry) (rules rules' : Rules) (base : ℤ) (arrivals : List Arrival) (datagrams datagrams' : List (List ℕ)) (fates fates' : List Fate)
+    (plan : Plan) (one other : Carry) (rules rules' : ReceiveOptions) (base : ℤ) (arrivals : List Arrival) (datagrams datagrams' : List (List ℕ)) (fates fates' : List Fate)
     → IsPassedOn plan one rules base arrivals datagrams fates → IsSchedule (under other plan) → 1 ≤ rules'.window
     → AllByRecursion (IsAmong (sent_of fates)) datagrams' → IsOnward rules' other datagrams' fates'
     → (arrivals' : List Arrival) × AllZip (IsArrival (under one plan)) arrivals' datagrams'

@@ -21,18 +21,18 @@ use Rattle.drm_timeline.specs.Numbers.{frame_count}
 use Rattle.mod_delivery.specs.Sent.{Arrival, OfSchedule, Stray, pairs_in, IsFollowed, IsInTime}
 use Rattle.mod_delivery.specs.Given.{IsServed, AreGiven, AreAllServed}
 use Rattle.mod_delivery.specs.Laws.{Suits, Delivering, DeliveringEarly, StraysRefused, GivenInTime, SwitchesAtStarts, AllSwitches, AllFrames}
-use Rattle.report_lines.specs.declared.report.EndWord.{EndWord}
-use Rattle.report_lines.specs.declared.report.EndWord.TheVariants as word
-use Rattle.mod_receiver.specs.declared.rules.Rules.{Rules}
-use Rattle.mod_receiver.specs.Hearing.{AreNext, HeardTold, Heard}
-use Rattle.mod_receiver.specs.Reading.{datagrams, HasGiven, Holds, EndsBy, GoesOn, IsFinished}
-use Rattle.mod_receiver.specs.Reports.{is_given, refusals_from, report, is_clean}
+use Rattle.recv_reading.specs.declared.reason.EndWord.{EndWord}
+use Rattle.recv_reading.specs.declared.reason.EndWord.TheVariants as word
+use Rattle.recv_reading.specs.declared.options.ReceiveOptions.{ReceiveOptions}
+use Rattle.drm_links.specs.Hearing.{AreNext, HeardTold, Heard}
+use Rattle.recv_reading.specs.Ending.{datagrams, HasGiven, Holds, EndsBy, GoesOn, IsFinished}
+use Rattle.report_lines.specs.Reports.{is_given, refusals_from, report, is_clean}
 use Rattle.mod_receiver.specs.Received.{IsReport, Reported}
 use Rattle.frame_lines.specs.Laws.{ServedLines}
 use Rattle.mod_receiver.specs.Headline.{strays_from, TellsSwitches, GivesInTime, HeadlineOf, untold, WouldBeRead, ModulatesAll, Came, CompleteOf, Headline, Complete, PrintsFrames}
 use Rattle.mod_receiver.specs.Following.{HeadlinesFollow, CompletesFollow}
-use Rattle.mod_receiver.proofs.Reaching.{one_way}
-use Rattle.mod_receiver.proofs.OneReading.{next_front, not_shorter, same_answers, three, next_split, goes_past}
+use Rattle.recv_reading.proofs.Reaching.{one_way}
+use Rattle.recv_reading.proofs.OneReading.{next_front, not_shorter, same_answers, three, next_split, goes_past}
 
 -- ---- the strays alone were refused
 
@@ -77,7 +77,7 @@ gives_in_time laws plan window base told pairs steps schedule given = λ q step 
 -- ---- the headline
 
 -- what is reported of a delivery is what it calls for
-pub headline : Delivering → ItemLaws → (rules : Rules) (feed : ℕ) (answers : List Answer) (text : List ℕ) (clean : Bool) → 1 ≤ rules.window
+pub headline : Delivering → ItemLaws → (rules : ReceiveOptions) (feed : ℕ) (answers : List Answer) (text : List ℕ) (clean : Bool) → 1 ≤ rules.window
     → IsReport rules feed answers text clean → HeadlineOf rules feed answers text clean
 headline law laws rules feed answers text clean some r plan base arrivals schedule followed =
     let (given, suit) = law plan rules.window rules.first rules.frames base arrivals (datagrams answers) r.taken r.items r.steps r.after schedule some followed r.run r.feeds in
@@ -108,7 +108,7 @@ served_clean : (plan : Plan) (base : ℤ) (steps : List FeedStep) → AreAllServ
 served_clean plan base steps all = all_given steps (λ q step e. let (t, is, served) = all q step e in served_given plan t q step.item served)
 
 -- what is known of the frames makes the text that of all frames
-modulates_all : AllFrames → ItemLaws → (plan : Plan) (rules : Rules) (told : Option ℕ) (feed : ℕ) (ahead rest answers : List Answer) (arrivals : List Arrival) (ds : List (List ℕ)) (text : List ℕ) (clean : Bool)
+modulates_all : AllFrames → ItemLaws → (plan : Plan) (rules : ReceiveOptions) (told : Option ℕ) (feed : ℕ) (ahead rest answers : List Answer) (arrivals : List Arrival) (ds : List (List ℕ)) (text : List ℕ) (clean : Bool)
     → AreNext ahead answers rest → (r : IsReport rules feed answers text clean)
     → IsSchedule plan → (told ≡ None) ⊎ (told ≡ Some (frame_count plan)) → IsFollowed plan rules.first (pos 0) arrivals ds
     → ((q : ℕ) → q < frame_count plan → IsInTime plan rules.window (pos 0) (pairs_in arrivals) q)
@@ -132,7 +132,7 @@ modulates_all law laws plan rules told feed ahead rest answers arrivals ds text 
 -- ---- with and without a told number
 
 -- a reason to end without a told number is one with it
-holds_told : (rules : Rules) (xs : List Answer) (w : EndWord) → EndsBy (untold rules) xs w → Holds rules xs w
+holds_told : (rules : ReceiveOptions) (xs : List Answer) (w : EndWord) → EndsBy (untold rules) xs w → Holds rules xs w
 holds_told rules xs word.Frames e = absurd e
 holds_told rules xs word.Limit e = e.0
 holds_told rules xs word.Idle e = e.0
@@ -140,11 +140,11 @@ holds_told rules xs word.Input e = e.0
 holds_told rules xs word.Paths e = e
 
 -- what is read with a told number is no longer than what is read without
-no_longer : (rules : Rules) (ahead r s : List Answer) (xs ys : List Answer) (v w : EndWord) → AreNext ahead xs r → AreNext ahead ys s → IsFinished rules xs v → IsFinished (untold rules) ys w → length ys < length xs → ⊥
+no_longer : (rules : ReceiveOptions) (ahead r s : List Answer) (xs ys : List Answer) (v w : EndWord) → AreNext ahead xs r → AreNext ahead ys s → IsFinished rules xs v → IsFinished (untold rules) ys w → length ys < length xs → ⊥
 no_longer rules ahead r s xs ys v w p q f g l = not_shorter rules ahead s r ys xs w q p (holds_told rules ys w g.ends) f.goes_on l
 
 -- where it doesn't end by the told number, it is the same
-same_untold : (rules : Rules) (ahead r s : List Answer) (xs ys : List Answer) (v w : EndWord) → AreNext ahead xs r → AreNext ahead ys s → IsFinished rules xs v → IsFinished (untold rules) ys w → Holds (untold rules) xs v → xs ≡ ys
+same_untold : (rules : ReceiveOptions) (ahead r s : List Answer) (xs ys : List Answer) (v w : EndWord) → AreNext ahead xs r → AreNext ahead ys s → IsFinished rules xs v → IsFinished (untold rules) ys w → Holds (untold rules) xs v → xs ≡ ys
 same_untold rules ahead r s xs ys v w p q f g h =
     elim (three (length xs) (length ys)) [
       | inl l ↦ absurd (not_shorter (untold rules) ahead r s xs ys v p q h g.goes_on l)
@@ -161,7 +161,7 @@ front_of ahead r s xs ys p q l =
     (drop (length xs) ys, sym (take-append-drop (length xs) ys) ∙ ap (λ z. z ++ drop (length xs) ys) (sym e))
 
 -- what is read is a front of what would be
-read_front : (rules : Rules) (ahead rest : List Answer) (answers others : List Answer) (w : EndWord) → AreNext ahead answers rest → IsFinished rules answers w → WouldBeRead rules ahead others
+read_front : (rules : ReceiveOptions) (ahead rest : List Answer) (answers others : List Answer) (w : EndWord) → AreNext ahead answers rest → IsFinished rules answers w → WouldBeRead rules ahead others
     → (later : List Answer) × (others ≡ answers ++ later)
 read_front rules ahead rest answers others w next f (inl (v, of)) =
     elim (three (length answers) (length others)) [
@@ -182,7 +182,7 @@ read_front rules ahead rest answers others w next f (inr (told, of)) =
     ]
 
 -- where it doesn't end by the told number, it is all of that
-read_all : (rules : Rules) (ahead rest : List Answer) (answers others : List Answer) (w : EndWord) → AreNext ahead answers rest → IsFinished rules answers w → WouldBeRead rules ahead others
+read_all : (rules : ReceiveOptions) (ahead rest : List Answer) (answers others : List Answer) (w : EndWord) → AreNext ahead answers rest → IsFinished rules answers w → WouldBeRead rules ahead others
     → Holds (untold rules) answers w → answers ≡ others
 read_all rules ahead rest answers others w next f (inl (v, of)) holds = same_untold rules ahead rest of.rest answers others w v next of.next f of.ends holds
 read_all rules ahead rest answers others w next f (inr (told, of)) holds =
@@ -211,7 +211,7 @@ pub record DeliveryLaws : Type 0 where
   pub all_frames : AllFrames
   pub items : ItemLaws
 
-module _ (laws : DeliveryLaws) (rules : Rules) (feed : ℕ) (ahead rest answers : List Answer) (text : List ℕ) (clean : Bool) (plan : Plan) (arrivals : List Arrival)
+module _ (laws : DeliveryLaws) (rules : ReceiveOptions) (feed : ℕ) (ahead rest answers : List Answer) (text : List ℕ) (clean : Bool) (plan : Plan) (arrivals : List Arrival)
     (some : 1 ≤ rules.window) (next : AreNext ahead answers rest) (r : IsReport rules feed answers text clean) (schedule : IsSchedule plan)
     (in_time : (q : ℕ) → q < frame_count plan → IsInTime plan rules.window (pos 0) (pairs_in arrivals) q) where
   suits : (later : List (List ℕ)) → IsFollowed plan rules.first (pos 0) arrivals (datagrams answers ++ later) → AllZip Suits (take (length (datagrams answers)) arrivals) r.taken
@@ -258,7 +258,7 @@ module _ (laws : DeliveryLaws) (rules : Rules) (feed : ℕ) (ahead rest answers 
   complete_by others word.Paths f would followed known = absurd f.ends
 
 -- where each frame is in time, all of them are given
-pub complete : DeliveryLaws → (rules : Rules) (feed : ℕ) (ahead answers rest : List Answer) (text : List ℕ) (clean : Bool) → 1 ≤ rules.window
+pub complete : DeliveryLaws → (rules : ReceiveOptions) (feed : ℕ) (ahead answers rest : List Answer) (text : List ℕ) (clean : Bool) → 1 ≤ rules.window
     → AreNext ahead answers rest → IsReport rules feed answers text clean → CompleteOf rules feed ahead text clean
 complete laws rules feed ahead answers rest text clean some next r plan arrivals others schedule would followed known in_time =
     complete_by laws rules feed ahead rest answers text clean plan arrivals some next r schedule in_time others r.word r.reading would followed known
@@ -269,7 +269,7 @@ append_same : {X : Type 0} (xs ys zs : List X) → xs ++ ys ≡ xs ++ zs → ys 
 append_same [] ys zs e = e
 append_same (x ∷ xs) ys zs e = append_same xs ys zs (let f : x ∷ (xs ++ ys) ≡ x ∷ (xs ++ zs) = e in cc)
 
-headline_told : HeadlinesFollow → (rules : Rules) (feed : ℕ) (before after : Option Traffic) (a b : Known Output) (clean : Bool) (heard : List Answer) (whole : List ℕ) → 1 ≤ rules.window
+headline_told : HeadlinesFollow → (rules : ReceiveOptions) (feed : ℕ) (before after : Option Traffic) (a b : Known Output) (clean : Bool) (heard : List Answer) (whole : List ℕ) → 1 ≤ rules.window
     → HeardTold heard before after → IsReport rules feed heard whole clean → Outputs a b (λ t. t ≡ whole)
     → BothTold before after (λ x y. (answers : List Answer) → Came answers x y → Outputs a b (λ t. HeadlineOf rules feed answers t clean))
 headline_told law rules feed None after a b clean heard whole some h is text = tt
@@ -279,12 +279,12 @@ headline_told law rules feed (Some x) (Some y) a b clean heard whole some h is t
     Outputs-weaker (λ t. t ≡ whole) (λ t. HeadlineOf rules feed answers t clean) a b text
     (λ t e. subst (λ l. HeadlineOf rules feed l t clean) (sym same) (subst (λ l. HeadlineOf rules feed heard l clean) (sym e) (law rules feed heard whole clean some is)))
 
-pub receives_headline : HeadlinesFollow → (rules : Rules) (feed : ℕ) (before after : Known Traffic) (a b : Known Output) (clean : Bool) → 1 ≤ rules.window
+pub receives_headline : HeadlinesFollow → (rules : ReceiveOptions) (feed : ℕ) (before after : Known Traffic) (a b : Known Output) (clean : Bool) → 1 ≤ rules.window
     → Reported rules feed (Heard before after) a b clean → Headline rules feed before after a b clean
 receives_headline law rules feed before after a b clean some r =
     headline_told law rules feed before.told after.told a b clean r.answers r.whole some r.heard r.is r.text
 
-complete_told : CompletesFollow → (rules : Rules) (feed : ℕ) (before after : Option Traffic) (a b : Known Output) (clean : Bool) (heard : List Answer) (whole : List ℕ) → 1 ≤ rules.window
+complete_told : CompletesFollow → (rules : ReceiveOptions) (feed : ℕ) (before after : Option Traffic) (a b : Known Output) (clean : Bool) (heard : List Answer) (whole : List ℕ) → 1 ≤ rules.window
     → HeardTold heard before after → IsReport rules feed heard whole clean → Outputs a b (λ t. t ≡ whole)
     → BothTold before after (λ x y. Outputs a b (λ t. CompleteOf rules feed x.ahead t clean))
 complete_told law rules feed None after a b clean heard whole some h is text = tt
@@ -293,7 +293,7 @@ complete_told law rules feed (Some x) (Some y) a b clean heard whole some h is t
     Outputs-weaker (λ t. t ≡ whole) (λ t. CompleteOf rules feed x.ahead t clean) a b text
     (λ t e. subst (λ l. CompleteOf rules feed x.ahead l clean) (sym e) (law rules feed x.ahead heard y.ahead whole clean some h.ahead is))
 
-pub receives_complete : CompletesFollow → (rules : Rules) (feed : ℕ) (before after : Known Traffic) (a b : Known Output) (clean : Bool) → 1 ≤ rules.window
+pub receives_complete : CompletesFollow → (rules : ReceiveOptions) (feed : ℕ) (before after : Known Traffic) (a b : Known Output) (clean : Bool) → 1 ≤ rules.window
     → Reported rules feed (Heard before after) a b clean → Complete rules feed before after a b clean
 receives_complete law rules feed before after a b clean some r =
     complete_told law rules feed before.told after.told a b clean r.answers r.whole some r.heard r.is r.text

@@ -2,7 +2,6 @@
 use Rattle.std.proofs.Common.{◌≡◌, ℕ, zero, suc, ◌+◌, ◌*◌, ◌<◌, ◌≤◌, ◌^◌, ◌⊎◌, ◌↔◌, inl, inr, nat_le, Bool, true, false, IsTrue, IsSome, if◌then◌else◌, List, [], ◌∷◌, length, map, slice_index_or, Option, None, Some, MatchOption, refl, sym, ◌∙◌, ap, subst, arith, IfSome}
 use Rattle.std.specs.Prelude.{not}
 use Rattle.std.specs.List.{All}
-use Rattle.std.proofs.Math.Nat.{mul-le-mul_right}
 use Rattle.std.proofs.lemmas.List.{get_or-map, length-map}
 use Rattle.std.proofs.lemmas.List.Elements.{All-map}
 use Rattle.drm_links.specs.Told.{Known}
@@ -10,44 +9,28 @@ use Rattle.drm_links.specs.Link.{Answer, Traffic}
 use Rattle.drm_links.specs.Sink.{Output, Outputs}
 use Rattle.drm_links.proofs.ToldLemmas.{Outputs-weaker, written_to_nothing}
 use Rattle.drm_links.specs.Dock.{LinkStart, first_traffic}
+use Rattle.drm_links.proofs.Hearing.{heard_next}
 use Rattle.dcp_collect.specs.State.{State, made}
-use Rattle.mod_receiver.specs.Hearing.{AreNext, Heard, HeardTold}
-use Rattle.mod_receiver.specs.declared.rules.Rules.{Rules}
-use Rattle.mod_receiver.specs.Reading.{most_answers}
+use Rattle.drm_links.specs.Hearing.{AreNext, Heard}
+use Rattle.recv_reading.specs.declared.options.ReceiveOptions.{ReceiveOptions}
+use Rattle.recv_reading.specs.Ending.{most_answers}
 use Rattle.mod_receiver.specs.Received.{IsReport, Reported, Broken, Stopped, IsReportFront, IsReasonable, rules_of}
-use Rattle.mod_receiver.specs.Texts.{text_known}
-use Rattle.mod_receiver.specs.Ranges.{AreInRange}
+use Rattle.report_lines.specs.Texts.{text_known}
+use Rattle.recv_reading.specs.Options.{AreInRange}
+use Rattle.recv_reading.proofs.Going.{few_answers}
 use Rattle.mod_receiver.specs.Jobs.{IsReady, EndedAs, HasEnded, job_rules, text_of, is_failed, clean_of, IsDone, options_for, IsJob, AreJobs, NoneFailed}
-use Rattle.mod_receiver.specs.Ahead.{Report, IsReportOf, BreaksOff, IsGivenOf, IsFrontOf}
+use Rattle.report_lines.specs.Reports.{Report}
+use Rattle.recv_reading.specs.OneReading.{BreaksOff}
+use Rattle.mod_receiver.specs.Ahead.{IsReportOf, IsGivenOf, IsFrontOf}
 use Rattle.mod_receiver.specs.Following.{HeadlinesFollow, CompletesFollow}
-use Rattle.mod_receiver.specs.declared.text.Text.{Text}
+use Rattle.report_lines.specs.declared.buffer.ReportBuffer.{ReportBuffer}
 use Rattle.mod_receiver.specs.declared.receiver.Options.{Options}
 use Rattle.mod_receiver.specs.declared.receiver.Ended.{Ended}
 use Rattle.mod_receiver.specs.declared.receiver.Ended.TheVariants.{Done, LinkFailed, WriteFailed, NoMemory}
 use Rattle.mod_receiver.specs.declared.job.Job.{Job}
 
--- rules in their range read few answers
-pub few_answers : (rules : Rules) → AreInRange rules → most_answers rules ≤ 2 ^ 62
-few_answers rules valid =
-    let l : rules.limit ≤ 2 ^ 32 = (let few = valid.few_datagrams in omega (arith, few)) in
-    let i : rules.idle ≤ 1000000 = valid.few_idles in
-    let m : rules.limit * rules.idle ≤ 2 ^ 32 * rules.idle = mul-le-mul_right rules.idle l in
-    omega (arith, m, i)
-
--- what was heard of a new link stood ahead of it
-pub heard_next : (a b : Option Traffic) (start : LinkStart) (answers : List Answer) → HeardTold answers a b → a ≡ Some (first_traffic start) → length answers ≤ 2 ^ 62
-    → (rest : List Answer) × AreNext start.ahead answers rest
-heard_next None b start answers heard is few = absurd (cc)
-heard_next (Some x) None start answers heard is few =
-    let same : x ≡ first_traffic start = cc in
-    let calls : x.calls ≡ 0 = ap (λ (t : Traffic). t.calls) same in
-    absurd (omega (arith, heard, calls, few))
-heard_next (Some x) (Some y) start answers heard is few =
-    let same : x ≡ first_traffic start = cc in
-    (y.ahead, subst (λ (t : Traffic). AreNext t.ahead answers y.ahead) same heard.ahead)
-
 -- what a text that was new has
-pub text_written : (P : List ℕ → Type 0) (first : Known Output) (text : Text) → Outputs first (text_known text) P → first.told ≡ Some (record { written = []; calls = 0 })
+pub text_written : (P : List ℕ → Type 0) (first : Known Output) (text : ReportBuffer) → Outputs first (text_known text) P → first.told ≡ Some (record { written = []; calls = 0 })
     → IsSome (text_known text).told → P text.bytes.items
 text_written P first text writes is some =
     let o : Output = record { written = text.bytes.items; calls = text.calls } in
@@ -60,7 +43,7 @@ text_written P first text writes is some =
 abbrev pub told_of : {L : Type 0} → Job L → Report
 told_of job = record { text = text_of job; clean = clean_of job }
 
-pub rules_are : (rules : Rules) (number : ℕ) (c : State) (options : Options) → c ≡ made rules.window rules.first → options ≡ options_for rules number → rules_of c options ≡ rules
+pub rules_are : (rules : ReceiveOptions) (number : ℕ) (c : State) (options : Options) → c ≡ made rules.window rules.first → options ≡ options_for rules number → rules_of c options ≡ rules
 rules_are rules number c options c_is options_is = ap (λ d. rules_of d options) c_is ∙ ap (λ o. rules_of (made rules.window rules.first) o) options_is
 
 failed_is : (ended : Option Ended) → is_failed ended ≡ true → ended ≡ Some LinkFailed
@@ -75,7 +58,7 @@ some_now None some = some
 some_now (Some n) some = some
 
 -- a receiver that was made is ready
-pub job_ready : {L : Type 0} (rules : Rules) (k : ℕ) (job : Job L) → AreInRange rules → IsJob rules (k + 1) job → IsReady job
+pub job_ready : {L : Type 0} (rules : ReceiveOptions) (k : ℕ) (job : Job L) → AreInRange rules → IsJob rules (k + 1) job → IsReady job
 job_ready {L} rules k job valid is =
     let window : job.collector.window ≡ rules.window = ap (λ (c : State). c.window) is.collector in
     let first : job.collector.first ≡ rules.first = ap (λ (c : State). c.first) is.collector in
@@ -93,13 +76,13 @@ job_ready {L} rules k job valid is =
       feed = is.feed;
     }
 
-pub jobs_ready : {L : Type 0} (rules : Rules) (jobs : List (Job L)) (many : ℕ) → AreInRange rules → length jobs ≡ many → AreJobs rules many jobs → All IsReady jobs
+pub jobs_ready : {L : Type 0} (rules : ReceiveOptions) (jobs : List (Job L)) (many : ℕ) → AreInRange rules → length jobs ≡ many → AreJobs rules many jobs → All IsReady jobs
 jobs_ready rules jobs many valid size are k none within = job_ready rules k (slice_index_or jobs k none) valid (are k none (omega (arith, size, within)))
 
 -- ---- what a receiver has written, and what was ahead of its link
 
 -- Where what was heard stood ahead:
-module _ (rules : Rules) (number : ℕ) (ahead : List Answer) (hears : List Answer → Type 0) (u v : Known Output)
+module _ (rules : ReceiveOptions) (number : ℕ) (ahead : List Answer) (hears : List Answer → Type 0) (u v : Known Output)
     (next : (answers : List Answer) → hears answers → length answers ≤ most_answers rules → (rest : List Answer) × AreNext ahead answers rest) where
   -- the report is that of what was ahead
   pub report_ahead : HeadlinesFollow → CompletesFollow → 1 ≤ rules.window → (clean : Bool) → Reported rules number hears u v clean
@@ -137,7 +120,7 @@ module _ (rules : Rules) (number : ℕ) (ahead : List Answer) (hears : List Answ
       Outputs-weaker (IsReportFront rules number stopped.answers) (IsFrontOf rules number ahead) u v stopped.text
       (λ text is. record { answers = stopped.answers; rest = rest; next = is_next; goes_on = stopped.goes_on; is = is })
 
-module _ (rules : Rules) (valid : AreInRange rules) (number : ℕ) (start : LinkStart) (a b : Known Traffic) (u v : Known Output) (told : a.told ≡ Some (first_traffic start)) where
+module _ (rules : ReceiveOptions) (valid : AreInRange rules) (number : ℕ) (start : LinkStart) (a b : Known Traffic) (u v : Known Output) (told : a.told ≡ Some (first_traffic start)) where
   answers_ahead : (answers : List Answer) → Heard a b answers → length answers ≤ most_answers rules → (rest : List Answer) × AreNext start.ahead answers rest
   answers_ahead answers heard few = heard_next a.told b.told start answers heard told (let most = few_answers rules valid in omega (arith, few, most))
 
@@ -159,7 +142,7 @@ module _ (rules : Rules) (valid : AreInRange rules) (number : ℕ) (start : Link
 
 -- ---- receivers side by side
 
-module _ {L : Type 0} (known : L → Known Traffic) (rules : Rules) (number : ℕ) (before after : Job L) (is : IsJob rules number before) (ended : HasEnded known before after) where
+module _ {L : Type 0} (known : L → Known Traffic) (rules : ReceiveOptions) (number : ℕ) (before after : Job L) (is : IsJob rules number before) (ended : HasEnded known before after) where
   abbrev Was : Option Ended → Type 0
   Was o = MatchOption o ⊥ (EndedAs known before after)
 

@@ -4,22 +4,23 @@ use Rattle.std.proofs.lemmas.List.{append_cancel_right}
 use Rattle.drm_links.specs.Link.{Answer, Failed}
 use Rattle.drm_timeline.specs.Numbers.{frame_count}
 use Rattle.mod_delivery.specs.Laws.{AllAtOnce}
-use Rattle.report_lines.specs.declared.report.EndWord.TheVariants as word
-use Rattle.mod_receiver.specs.declared.rules.Rules.{Rules}
-use Rattle.mod_receiver.specs.Reading.{datagrams, HasGiven, IsOpen, IsBroken}
+use Rattle.recv_reading.specs.declared.reason.EndWord.TheVariants as word
+use Rattle.recv_reading.specs.declared.options.ReceiveOptions.{ReceiveOptions}
+use Rattle.recv_reading.specs.Ending.{datagrams, HasGiven, IsOpen, IsBroken}
 use Rattle.mod_receiver.specs.Headline.{untold, WouldBeRead}
-use Rattle.mod_receiver.specs.Ahead.{BreaksOff, IsInTimeAhead}
+use Rattle.recv_reading.specs.OneReading.{BreaksOff}
+use Rattle.mod_receiver.specs.Ahead.{IsInTimeAhead}
 use Rattle.mod_receiver.specs.Following.{NoneBreaksOff}
-use Rattle.mod_receiver.proofs.OneReading.{finished_whole, broken_same}
+use Rattle.recv_reading.proofs.OneReading.{finished_whole, broken_same}
 
-open_untold : (rules : Rules) (xs : List Answer) → IsOpen rules xs → IsOpen (untold rules) xs
+open_untold : (rules : ReceiveOptions) (xs : List Answer) → IsOpen rules xs → IsOpen (untold rules) xs
 open_untold rules xs is_open word.Frames h = h
 open_untold rules xs is_open word.Limit h = is_open word.Limit h
 open_untold rules xs is_open word.Idle h = is_open word.Idle h
 open_untold rules xs is_open word.Input h = is_open word.Input h
 open_untold rules xs is_open word.Paths h = h
 
-broken_untold : (rules : Rules) (before xs : List Answer) → IsBroken rules before xs → IsBroken (untold rules) before xs
+broken_untold : (rules : ReceiveOptions) (before xs : List Answer) → IsBroken rules before xs → IsBroken (untold rules) before xs
 broken_untold rules before xs b = record {
   last = b.last;
   goes_on = record { sound = b.goes_on.sound; shorter = λ k l. open_untold rules (take k before) (b.goes_on.shorter k l) };
@@ -27,13 +28,13 @@ broken_untold rules before xs b = record {
 }
 
 -- the told number was given before the failure
-given_before : AllAtOnce → (rules : Rules) (ahead : List Answer) → (t : IsInTimeAhead rules ahead) → (rules.frames ≡ None) ⊎ (rules.frames ≡ Some (frame_count t.plan))
+given_before : AllAtOnce → (rules : ReceiveOptions) (ahead : List Answer) → (t : IsInTimeAhead rules ahead) → (rules.frames ≡ None) ⊎ (rules.frames ≡ Some (frame_count t.plan))
     → (rules.frames ≡ None → ⊥) → HasGiven rules t.answers rules.frames
 given_before law rules ahead t (inl none) told = absurd (told none)
 given_before law rules ahead t (inr known) told =
     subst (HasGiven rules t.answers) (sym known) (law t.plan rules.window rules.first t.arrivals (datagrams t.answers) t.valid t.followed t.in_time)
 
-breaks_by : AllAtOnce → (rules : Rules) (ahead : List Answer) → (t : IsInTimeAhead rules ahead) → WouldBeRead rules ahead t.answers → BreaksOff rules ahead → ⊥
+breaks_by : AllAtOnce → (rules : ReceiveOptions) (ahead : List Answer) → (t : IsInTimeAhead rules ahead) → WouldBeRead rules ahead t.answers → BreaksOff rules ahead → ⊥
 breaks_by law rules ahead t (inl (w, of)) b =
     finished_whole (untold rules) ahead of.rest b.rest t.answers b.before b.answers w of.next b.next of.ends (broken_untold rules b.before b.answers b.reading)
 breaks_by law rules ahead t (inr (told, of)) b =

@@ -14,12 +14,12 @@ use Rattle.mod_delivery.specs.Sent.{Arrival, OfSchedule, Stray, pairs_in, IsFoll
 use Rattle.mod_delivery.specs.Given.{IsServed, AreGiven, IsStart, AreAllServed, AreAllFrames}
 use Rattle.frame_lines.specs.Line.{IsFrameLine}
 use Rattle.report_lines.specs.Report.{item_line}
-use Rattle.report_lines.specs.declared.report.EndWord.{EndWord}
-use Rattle.mod_receiver.specs.declared.tally.Refusal.{Refusal}
-use Rattle.mod_receiver.specs.declared.rules.Rules.{Rules}
-use Rattle.mod_receiver.specs.Reading.{datagrams, IsFinished}
-use Rattle.mod_receiver.specs.OneReading.{IsReadingOf}
-use Rattle.mod_receiver.specs.Reports.{report, is_clean}
+use Rattle.recv_reading.specs.declared.reason.EndWord.{EndWord}
+use Rattle.report_lines.specs.declared.counts.Refusal.{Refusal}
+use Rattle.recv_reading.specs.declared.options.ReceiveOptions.{ReceiveOptions}
+use Rattle.recv_reading.specs.Ending.{datagrams, IsFinished}
+use Rattle.recv_reading.specs.OneReading.{IsReadingOf}
+use Rattle.report_lines.specs.Reports.{report, is_clean}
 
 -- Whatever is missing, a switch is told only before the first frame of a later configuration of the schedule. Where no frame
 -- is missing one is told before each of these behind the first item, and nothing is resumed.
@@ -51,7 +51,7 @@ strays arrivals = strays_from 0 arrivals
 
 -- The text is the report of what a delivery of a schedule calls for: of what was refused it names the strays, and last it says
 -- why the reading of these answers ends.
-pub record Modulates (plan : Plan) (rules : Rules) (feed : ℕ) (base : ℤ) (arrivals : List Arrival) (answers : List Answer) (text : List ℕ) (clean : Bool) : Type 0 where
+pub record Modulates (plan : Plan) (rules : ReceiveOptions) (feed : ℕ) (base : ℤ) (arrivals : List Arrival) (answers : List Answer) (text : List ℕ) (clean : Bool) : Type 0 where
   pub steps : List FeedStep
   pub given : AreGiven plan rules.window base rules.frames (pairs_in arrivals) steps
   pub in_time : GivesInTime plan rules.window base (pairs_in arrivals) steps
@@ -63,26 +63,26 @@ pub record Modulates (plan : Plan) (rules : Rules) (feed : ℕ) (base : ℤ) (ar
   pub clean_is : clean ≡ is_clean steps
 
 -- Whatever delivery of whatever valid schedule these answers are: the text is the report of what it calls for.
-abbrev pub HeadlineOf : Rules → ℕ → List Answer → List ℕ → Bool → Type 0
+abbrev pub HeadlineOf : ReceiveOptions → ℕ → List Answer → List ℕ → Bool → Type 0
 HeadlineOf rules feed answers text clean =
     (plan : Plan) (base : ℤ) (arrivals : List Arrival)
     → IsSchedule plan → IsFollowed plan rules.first base arrivals (datagrams answers)
     → Modulates plan rules feed base arrivals answers text clean
 
 -- without a told number of frames
-abbrev pub untold : Rules → Rules
+abbrev pub untold : ReceiveOptions → ReceiveOptions
 untold rules = record rules { frames = None }
 
 -- The answers that would be read of those ahead if no number of frames were told: all up to the end of the reading; or, where
 -- a number is told, those before its failure.
-abbrev pub WouldBeRead : Rules → List Answer → List Answer → Type 0
+abbrev pub WouldBeRead : ReceiveOptions → List Answer → List Answer → Type 0
 WouldBeRead rules ahead answers =
     ((word : EndWord) × IsReadingOf (untold rules) ahead answers (Some word))
     ⊎ ((rules.frames ≢ None) × IsReadingOf (untold rules) ahead (answers ++ Failed ∷ []) None)
 
 -- All frames of the schedule were given, with its switches. The text says nothing else, but the strays among what was read of
 -- what was ahead, and why that reading ends.
-pub record ModulatesAll (plan : Plan) (rules : Rules) (feed : ℕ) (arrivals : List Arrival) (ahead : List Answer) (text : List ℕ) (clean : Bool) : Type 0 where
+pub record ModulatesAll (plan : Plan) (rules : ReceiveOptions) (feed : ℕ) (arrivals : List Arrival) (ahead : List Answer) (text : List ℕ) (clean : Bool) : Type 0 where
   pub steps : List FeedStep
   pub many : length steps ≡ frame_count plan
   pub all : AreAllServed plan (pos 0) steps
@@ -96,7 +96,7 @@ pub record ModulatesAll (plan : Plan) (rules : Rules) (feed : ℕ) (arrivals : L
 
 -- Whatever delivery of whatever valid schedule is ahead, from its first frame on and with each frame in time: all frames are
 -- given, whether their number is told or not.
-abbrev pub CompleteOf : Rules → ℕ → List Answer → List ℕ → Bool → Type 0
+abbrev pub CompleteOf : ReceiveOptions → ℕ → List Answer → List ℕ → Bool → Type 0
 CompleteOf rules feed ahead text clean =
     (plan : Plan) (arrivals : List Arrival) (answers : List Answer)
     → IsSchedule plan → WouldBeRead rules ahead answers
@@ -110,12 +110,12 @@ abbrev pub Came : List Answer → Traffic → Traffic → Type 0
 Came answers before after = after.answers ≡ before.answers ++ answers
 
 -- THE HEADLINE for one link: whatever delivery of whatever valid schedule came over it, its report was written.
-abbrev pub Headline : Rules → ℕ → Known Traffic → Known Traffic → Known Output → Known Output → Bool → Type 0
+abbrev pub Headline : ReceiveOptions → ℕ → Known Traffic → Known Traffic → Known Output → Known Output → Bool → Type 0
 Headline rules feed before after a b clean =
     WhileTold before after (λ x y. (answers : List Answer) → Came answers x y
     → Outputs a b (λ text. HeadlineOf rules feed answers text clean))
 
 -- Whatever was ahead of the link: where it held each frame in time, all of them were given.
-abbrev pub Complete : Rules → ℕ → Known Traffic → Known Traffic → Known Output → Known Output → Bool → Type 0
+abbrev pub Complete : ReceiveOptions → ℕ → Known Traffic → Known Traffic → Known Output → Known Output → Bool → Type 0
 Complete rules feed before after a b clean =
     WhileTold before after (λ x y. Outputs a b (λ text. CompleteOf rules feed x.ahead text clean))

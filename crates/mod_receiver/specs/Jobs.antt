@@ -4,8 +4,8 @@ use Rattle.drm_links.specs.Told.{Known, HasCause}
 use Rattle.drm_links.specs.Link.{Traffic}
 use Rattle.dcp_collect.specs.State.{made}
 use Rattle.drm_switches.specs.Tracker.{new_tracker}
-use Rattle.mod_receiver.specs.declared.rules.Rules.{Rules}
-use Rattle.mod_receiver.specs.Texts.{text_known}
+use Rattle.recv_reading.specs.declared.options.ReceiveOptions.{ReceiveOptions}
+use Rattle.report_lines.specs.Texts.{text_known}
 use Rattle.mod_receiver.specs.Received.{IsReasonable, EndsAs, rules_of}
 use Rattle.mod_receiver.specs.declared.receiver.Options.{Options}
 use Rattle.mod_receiver.specs.declared.receiver.Ended.{Ended}
@@ -14,18 +14,18 @@ use Rattle.mod_receiver.specs.declared.job.Job.{Job}
 use Rattle.mod_receiver.specs.declared.job.Seat.{Seat}
 
 -- by what the receiver with this number goes
-abbrev pub options_for : Rules → ℕ → Options
+abbrev pub options_for : ReceiveOptions → ℕ → Options
 options_for rules number = record { feed = number; frames = rules.frames; idle = rules.idle; limit = rules.limit }
 
 -- what a receiver with this number keeps that goes by these rules, before it has a link
-pub record IsSeat (rules : Rules) (number : ℕ) (seat : Seat) : Type 0 where
+pub record IsSeat (rules : ReceiveOptions) (number : ℕ) (seat : Seat) : Type 0 where
   pub buffer : 65536 ≤ vec_len seat.buffer
   pub options : seat.options ≡ options_for rules number
   pub collector : seat.collector ≡ made rules.window rules.first
   pub text : (text_known seat.text).told ≡ Some (record { written = []; calls = 0 })
 
 -- a receiver with this number, which goes by these rules
-pub record IsJob {L : Type 0} (rules : Rules) (number : ℕ) (job : Job L) : Type 0 where
+pub record IsJob {L : Type 0} (rules : ReceiveOptions) (number : ℕ) (job : Job L) : Type 0 where
   pub buffer : 65536 ≤ vec_len job.buffer
   pub options : job.options ≡ options_for rules number
   pub collector : job.collector ≡ made rules.window rules.first
@@ -33,7 +33,7 @@ pub record IsJob {L : Type 0} (rules : Rules) (number : ℕ) (job : Job L) : Typ
   pub text : (text_known job.text).told ≡ Some (record { written = []; calls = 0 })
 
 -- receivers with the numbers from 1 on
-abbrev pub AreJobs : {L : Type 0} → Rules → ℕ → List (Job L) → Type 0
+abbrev pub AreJobs : {L : Type 0} → ReceiveOptions → ℕ → List (Job L) → Type 0
 AreJobs {L} rules many jobs = (k : ℕ) (none : Job L) → k < many → IsJob rules (k + 1) (slice_index_or jobs k none)
 
 -- Nothing was received yet.
@@ -45,7 +45,7 @@ pub record IsReady {L : Type 0} (job : Job L) : Type 0 where
   pub feed : job.feed ≡ new_tracker
 
 -- what a receiver reads by
-abbrev pub job_rules : {L : Type 0} → Job L → Rules
+abbrev pub job_rules : {L : Type 0} → Job L → ReceiveOptions
 job_rules job = rules_of job.collector job.options
 
 -- The receiver ended as this says: its link, its text and the cause of its end are those of `receive_one`.

@@ -1,27 +1,26 @@
 -- What a receiver does.
-use Rattle.std.specs.Prelude.{ℕ, ◌≡◌, ◌≤◌, ◌<◌, ◌⊎◌, Bool, IfSome, List, [], ◌∷◌, ◌++◌, length}
+use Rattle.std.specs.Prelude.{ℕ, ◌≡◌, ◌≤◌, ◌<◌, ◌⊎◌, Bool, IfSome, List, [], ◌++◌, length}
 use Rattle.drm_links.specs.Told.{Known}
-use Rattle.drm_links.specs.Link.{Answer, Datagram, Traffic}
+use Rattle.drm_links.specs.Link.{Answer, Traffic}
 use Rattle.drm_links.specs.Sink.{Output, Outputs, IsFront, IsFrontBehind}
 use Rattle.dcp_collect.specs.declared.taken.Taken.{Taken}
-use Rattle.dcp_collect.specs.State.{State, after_finish}
-use Rattle.dcp_collect.specs.Runs.{Item, Takes, Run, up_to}
-use Rattle.collect_laws.specs.Laws.{Given}
+use Rattle.dcp_collect.specs.State.{State}
+use Rattle.dcp_collect.specs.Runs.{Item, Run, up_to}
 use Rattle.drm_switches.specs.Tracker.{TrackerState, new_tracker}
 use Rattle.mod_feed.specs.Feeding.{FeedStep, Feeds}
-use Rattle.report_lines.specs.declared.report.EndWord.{EndWord}
+use Rattle.recv_reading.specs.declared.reason.EndWord.{EndWord}
 use Rattle.report_lines.specs.Report.{feed_line}
-use Rattle.mod_receiver.specs.Hearing.{Heard}
-use Rattle.mod_receiver.specs.declared.rules.Rules.{Rules}
-use Rattle.mod_receiver.specs.Reading.{datagrams, Gave, FewAtOnce, EndsBy, GoesOn, IsFinished, IsBroken, most_answers}
-use Rattle.mod_receiver.specs.Reports.{refusals, steps_text, report, is_clean}
+use Rattle.drm_links.specs.Hearing.{Heard}
+use Rattle.recv_reading.specs.declared.options.ReceiveOptions.{ReceiveOptions}
+use Rattle.recv_reading.specs.Ending.{datagrams, Gave, FewAtOnce, GoesOn, IsFinished, IsBroken, most_answers, GivesSome}
+use Rattle.report_lines.specs.Reports.{refusals, steps_text, report, is_clean}
 use Rattle.mod_receiver.specs.declared.receiver.Options.{Options}
 use Rattle.mod_receiver.specs.declared.receiver.Ended.{Ended}
 use Rattle.mod_receiver.specs.declared.receiver.Ended.TheVariants.{Done, LinkFailed, WriteFailed, NoMemory}
 
 -- The report of these answers: the shortest that are finished, what a new collector and a new feed give of their datagrams,
 -- and why they end.
-pub record IsReport (rules : Rules) (feed : ℕ) (answers : List Answer) (text : List ℕ) (clean : Bool) : Type 0 where
+pub record IsReport (rules : ReceiveOptions) (feed : ℕ) (answers : List Answer) (text : List ℕ) (clean : Bool) : Type 0 where
   pub word : EndWord
   pub reading : IsFinished rules answers word
   pub taken : List Taken
@@ -34,7 +33,7 @@ pub record IsReport (rules : Rules) (feed : ℕ) (answers : List Answer) (text :
   pub clean_is : clean ≡ is_clean steps
 
 -- What is written where the reading ends in `Failed`: the first line, and the items that were given before it.
-pub record IsBrokenOff (rules : Rules) (feed : ℕ) (answers : List Answer) (text : List ℕ) : Type 0 where
+pub record IsBrokenOff (rules : ReceiveOptions) (feed : ℕ) (answers : List Answer) (text : List ℕ) : Type 0 where
   pub before : List Answer
   pub reading : IsBroken rules before answers
   pub taken : List Taken
@@ -46,30 +45,8 @@ pub record IsBrokenOff (rules : Rules) (feed : ℕ) (answers : List Answer) (tex
   pub feeds : Feeds new_tracker (up_to rules.frames items) steps after
   pub text_is : text ≡ feed_line feed ++ steps_text steps
 
--- what a collector comes to by the last of these answers: it takes that datagram, or it is finished where the reading is
-abbrev pub ComesTo : Rules → List Answer → List Answer → State → State → Type 0
-ComesTo rules answers later mid c =
-    ((bytes : List ℕ) × (answer : Taken) × (later ≡ Datagram bytes ∷ []) × Takes mid bytes answer c)
-    ⊎ ((word : EndWord) × (later ≡ []) × EndsBy rules answers word × (c ≡ after_finish mid rules.frames))
-
--- These are some first items of those that the answers give: all that was given before the last of them, and then some.
-pub record GivesSome (rules : Rules) (answers : List Answer) (items : List Item) : Type 0 where
-  pub before : List Answer
-  pub later : List Answer
-  pub are : answers ≡ before ++ later
-  pub taken : List Taken
-  pub during : List Item
-  pub mid : State
-  pub gave : Gave rules before taken during mid
-  pub state : State
-  pub comes : ComesTo rules answers later mid state
-  pub more : List Item
-  pub last : State
-  pub gives : Given state more last
-  pub items_are : items ≡ up_to rules.frames (during ++ more)
-
 -- the steps of all that was given before the last answer, and of what came then
-pub record Stepped (rules : Rules) (answers : List Answer) (earlier later : List FeedStep) : Type 0 where
+pub record Stepped (rules : ReceiveOptions) (answers : List Answer) (earlier later : List FeedStep) : Type 0 where
   pub items : List Item
   pub some : GivesSome rules answers items
   pub mid : TrackerState
@@ -79,7 +56,7 @@ pub record Stepped (rules : Rules) (answers : List Answer) (earlier later : List
 
 -- What is written where a write failed: a front of the first line, before anything is read; all that was given before the last
 -- answer, and a front of what that one made ready; or the lines of all items, and a front of what ends the report.
-abbrev pub IsReportFront : Rules → ℕ → List Answer → List ℕ → Type 0
+abbrev pub IsReportFront : ReceiveOptions → ℕ → List Answer → List ℕ → Type 0
 IsReportFront rules feed answers text =
     ((answers ≡ []) × IsFront (feed_line feed) text)
     ⊎ ((earlier later : List FeedStep) × Stepped rules answers earlier later
@@ -90,7 +67,7 @@ IsReportFront rules feed answers text =
 
 -- The reading was finished, and the report of what was read was written. What was heard says which answers it can be: of a
 -- link those that it gave in between.
-pub record Reported (rules : Rules) (feed : ℕ) (hears : List Answer → Type 0) (a b : Known Output) (clean : Bool) : Type 0 where
+pub record Reported (rules : ReceiveOptions) (feed : ℕ) (hears : List Answer → Type 0) (a b : Known Output) (clean : Bool) : Type 0 where
   pub answers : List Answer
   pub heard : hears answers
   pub few : length answers ≤ most_answers rules
@@ -100,7 +77,7 @@ pub record Reported (rules : Rules) (feed : ℕ) (hears : List Answer → Type 0
   pub text : Outputs a b (λ text. text ≡ whole)
 
 -- The reading ended in `Failed`, and what was given before was written.
-pub record Broken (rules : Rules) (feed : ℕ) (hears : List Answer → Type 0) (a b : Known Output) : Type 0 where
+pub record Broken (rules : ReceiveOptions) (feed : ℕ) (hears : List Answer → Type 0) (a b : Known Output) : Type 0 where
   pub answers : List Answer
   pub heard : hears answers
   pub few : length answers ≤ most_answers rules
@@ -110,7 +87,7 @@ pub record Broken (rules : Rules) (feed : ℕ) (hears : List Answer → Type 0) 
   pub text : Outputs a b (λ text. text ≡ whole)
 
 -- A write failed: nothing shorter than what was read is finished, and what was written is all that was given before, and a front.
-pub record Stopped (rules : Rules) (feed : ℕ) (hears : List Answer → Type 0) (a b : Known Output) : Type 0 where
+pub record Stopped (rules : ReceiveOptions) (feed : ℕ) (hears : List Answer → Type 0) (a b : Known Output) : Type 0 where
   pub answers : List Answer
   pub heard : hears answers
   pub few : length answers ≤ most_answers rules
@@ -119,7 +96,7 @@ pub record Stopped (rules : Rules) (feed : ℕ) (hears : List Answer → Type 0)
   pub text : Outputs a b (IsReportFront rules feed answers)
 
 -- what a call reads by: from its new collector and its options
-abbrev pub rules_of : State → Options → Rules
+abbrev pub rules_of : State → Options → ReceiveOptions
 rules_of c options = record { window = c.window; first = c.first; frames = options.frames; idle = options.idle; limit = options.limit }
 
 -- each number of the options is in its range
@@ -131,7 +108,7 @@ pub record IsReasonable (options : Options) : Type 0 where
   pub few_frames : IfSome options.frames (λ n. n ≤ 3000000)
 
 -- what each ending says; memory is wanted before anything is read or written
-abbrev pub EndsAs : Rules → ℕ → Known Traffic → Known Traffic → Known Output → Known Output → Ended → Type 0
+abbrev pub EndsAs : ReceiveOptions → ℕ → Known Traffic → Known Traffic → Known Output → Known Output → Ended → Type 0
 EndsAs rules feed before after a b (Done clean) = Reported rules feed (Heard before after) a b clean
 EndsAs rules feed before after a b LinkFailed = Broken rules feed (Heard before after) a b
 EndsAs rules feed before after a b WriteFailed = Stopped rules feed (Heard before after) a b

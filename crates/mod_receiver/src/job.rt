@@ -4,17 +4,17 @@ ghost use Rattle.std.specs.Prelude.{ℕ, ◌≡◌, ◌<◌, ◌≤◌, ◌↔�
 ghost use Rattle.std.specs.List.{flat_map};
 ghost use Rattle.drm_links.specs.Told.{HasCause};
 ghost use Rattle.drm_links.specs.Sink.{Writes};
-ghost use Rattle.mod_receiver.specs.declared.rules.Rules.{Rules};
+ghost use Rattle.recv_reading.specs.declared.options.ReceiveOptions.{ReceiveOptions};
 ghost use Rattle.mod_receiver.specs.Jobs.{IsSeat, IsJob, IsReady, HasEnded, IsDone, is_failed, clean_of, text_of, job_rules};
 ghost use Rattle.mod_receiver.specs.Received.{EndsAs};
 
 use crate::receiver::{Ended, Options, receive_one};
-use crate::rules::Rules;
-use crate::text::Text;
 use dcp_collect::Collector;
 use drm_bits::{NoMemory, zeros};
-use drm_links::{Link, Sink, WriteFault, write_all};
+use drm_links::{LONGEST_DATAGRAM, Link, Sink, WriteFault, write_all};
 use mod_feed::Feed;
+use recv_reading::ReceiveOptions;
+use report_lines::ReportBuffer;
 use std::alloc::Global;
 use std::thread;
 use std::thread::Threads;
@@ -27,15 +27,12 @@ pub struct Job<L: Link> {
     pub feed: Feed,
     pub options: Options,
     pub buffer: Vec<u8>,
-    pub text: Text,
+    pub text: ReportBuffer,
     pub ended: Option<Ended>,
 }
 
 /// The most receivers of a run, each with a thread.
 const MOST_THREADS: usize = 16;
-
-/// Room for the longest datagram.
-const MOST_BYTES: usize = 65536;
 
 /// What a receiver keeps, taken before it has a link.
 #[derive(Drop)]
@@ -43,17 +40,17 @@ pub struct Seat {
     pub collector: Collector,
     pub options: Options,
     pub buffer: Vec<u8>,
-    pub text: Text,
+    pub text: ReportBuffer,
 }
 
 /// The seat of a receiver, under the number of its feed.
-pub fn seat_for(alloc: Global, rules: &Rules, feed: u8) -> Result<Seat, NoMemory>
+pub fn seat_for(alloc: Global, rules: &ReceiveOptions, feed: u8) -> Result<Seat, NoMemory>
     requires some { 1 ≤ rules.now.window }
     requires few { rules.now.window ≤ 64 }
     ensures { IfOk result (IsSeat rules.now feed) }
 {
     let collector = Collector::make(alloc, rules.window, rules.first)?;
-    let buffer = zeros(alloc, MOST_BYTES)?;
+    let buffer = zeros(alloc, LONGEST_DATAGRAM)?;
     Ok(Seat {
         collector,
         options: Options {
@@ -63,13 +60,13 @@ pub fn seat_for(alloc: Global, rules: &Rules, feed: u8) -> Result<Seat, NoMemory
             limit: rules.limit,
         },
         buffer,
-        text: Text::new(alloc),
+        text: ReportBuffer::new(alloc),
     })
 }
 
 /// The receiver of this link that has this seat.
 pub fn seated<L: Link>(seat: Seat, link: L) -> Job<L>
-    ensures job { (rules : Rules) (feed : ℕ) → IsSeat rules feed seat → IsJob rules feed result }
+    ensures job { (rules : ReceiveOptions) (feed : ℕ) → IsSeat rules feed seat → IsJob rules feed result }
     ensures link { result.link ≡ link }
 {
     let Seat {
@@ -90,7 +87,12 @@ pub fn seated<L: Link>(seat: Seat, link: L) -> Job<L>
 }
 
 /// A receiver of this link, under the number of its feed.
-pub fn job_for<L: Link>(alloc: Global, rules: &Rules, feed: u8, link: L) -> Result<Job<L>, NoMemory>
+pub fn job_for<L: Link>(
+    alloc: Global,
+    rules: &ReceiveOptions,
+    feed: u8,
+    link: L,
+) -> Result<Job<L>, NoMemory>
     requires some { 1 ≤ rules.now.window }
     requires few { rules.now.window ≤ 64 }
     ensures job { IfOk result (IsJob rules.now feed) }

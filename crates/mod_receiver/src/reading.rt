@@ -1,226 +1,171 @@
-//! Reading a link: each datagram is taken, and each item that it makes ready is written.
+//! Reading, and the report of what came.
 
-ghost use Rattle.std.specs.Prelude.{◌≡◌, ◌≤◌, ◌<◌, ◌^◌, length, false, None, Err, IfOk, IfErr, OnOk, OnErr, IsErr, IfSome};
-ghost use Rattle.std.specs.List.{AllByRecursion};
-ghost use Rattle.report_lines.specs.FaultWords.{IsTold};
-ghost use Rattle.mod_receiver.specs.Hearing.{Heard};
-ghost use Rattle.dcp_collect.specs.State.{made, ready as is_ready};
+ghost use Rattle.std.specs.Prelude.{◌≡◌, [], true, Err, IfOk, IfErr, OnOk, IsErr};
+ghost use Rattle.drm_links.specs.Told.{Counts, HasCause};
+ghost use Rattle.dcp_collect.specs.State.{made, ready, after_item};
 ghost use Rattle.drm_switches.specs.Tracker.{new_tracker};
-ghost use Rattle.drm_links.specs.Told.{HasCause};
-ghost use Rattle.mod_receiver.specs.Received.{rules_of, IsReasonable, Reported, Broken, Stopped};
-ghost use Rattle.collect_laws.specs.Laws.{IsFit};
-ghost use Rattle.mod_receiver.specs.Printed.{items_in, is_full, KeepsPace, PrintsReady, PrintsFront, PrintsTaken, TakesFront, ReadsTo, StopsReading, WritesRest, RestFront};
-ghost use Rattle.mod_receiver.specs.Tallies.{new_tally};
-ghost use Rattle.mod_receiver.specs.declared.stop.Stop.{Stop};
+ghost use Rattle.recv_reading.specs.Options.{AreUsable, options_of};
+ghost use Rattle.recv_reading.specs.State.{new_reading, word_of};
+ghost use Rattle.mod_receiver.specs.Received.{Reported};
+ghost use Rattle.report_lines.specs.Tallies.{new_tally, items_in};
+ghost use Rattle.mod_receiver.specs.Progress.{WritesNext, WroteItems, StopsReading, StopsReport};
+ghost use Rattle.mod_receiver.specs.Faults.{IsCallFailed};
+ghost use Rattle.mod_receiver.specs.declared.reading.ReceiveFault.{ReceiveFault};
 
-use crate::receiver::Options;
-use crate::stop::Stop;
-use crate::tally::Tally;
 use dcp_collect::Collector;
-use drm_links::{Came, Link, Sink, WriteFault};
+use drm_bits::NoMemory;
+use drm_links::{Sink, WriteFault};
 use mod_feed::Feed;
-use report_lines::{EndWord, LineWriter, write_feed};
+use recv_reading::{Bounds, Datagrams, Reading, SourceFault};
+use report_lines::{LineWriter, ReportCounts, write_feed};
 use std::alloc::Global;
 
-// Writes the items that are ready, up to the told number of them. Nothing more is taken out of the collector then.
-fn drain<O: Sink>(
-    collector: &mut Collector,
-    feed: &mut Feed,
-    tally: &mut Tally,
-    lines: &mut LineWriter,
-    told: Option<u64>,
-    out: &mut O,
-) -> Result<(), WriteFault>
-    requires few { IfSome told (λ n. n ≤ 3000000) }
-    requires fit { IsFit collector.old }
-    requires pace { KeepsPace told collector.old feed.old tally.old }
-    ensures fit { OnOk result (IsFit collector.new) }
-    ensures pace { OnOk result (KeepsPace told collector.new feed.new tally.new) }
-    ensures ready { OnOk result (PrintsReady told collector.old collector.new feed.old feed.new
-        tally.old tally.new (O.known out.old) (O.known out.new)) }
-    ensures front { OnErr result (PrintsFront told collector.old feed.old
-        (O.known out.old) (O.known out.new)) }
-    ensures end { collector.new.end ≡ collector.old.end }
-    ensures cause { HasCause (O.known out.old) (O.known out.new) (IsErr result) }
-{
-    lines.clear();
-    while !is_full(tally, told) {
-        let Some(given) = collector.next() else {
-            return lines.flush(out);
-        };
-        let step = feed.step(given);
-        tally.count(&step.item);
-        lines.put_step(out, &step)?;
-    }
-    lines.flush(out)
+/// Why a report isn't whole.
+#[derive(Clone, Copy, Debug, PartialEq, Eq)]
+pub(crate) enum ReceiveFault {
+    /// No datagram can be had any more.
+    Source(SourceFault),
+    Write,
+    NoMemory,
 }
 
-// Whether the told number of items was given.
-pub(crate) fn is_full(tally: &Tally, told: Option<u64>) -> bool
-    requires { IfSome told (λ _. items_in tally.now.sums < 2 ^ 63) }
-    ensures { result ≡ is_full told (items_in tally.now.sums) }
-{
-    match told {
-        Some(told) => told <= tally.items(),
-        None => false,
+impl From<SourceFault> for ReceiveFault {
+    ghost use Rattle.std.specs.Prelude.{◌≡◌};
+    ghost use Rattle.mod_receiver.specs.declared.reading.ReceiveFault.TheVariants.{Source};
+
+    ghost from_gives = { λ fault why. why ≡ Source fault };
+
+    fn from(fault: SourceFault) -> Self {
+        ReceiveFault::Source(fault)
     }
 }
 
-// Takes the datagram with this number, and writes the items that it makes ready.
-pub(crate) fn take<O: Sink>(
-    collector: &mut Collector,
-    feed: &mut Feed,
-    tally: &mut Tally,
-    lines: &mut LineWriter,
-    told: Option<u64>,
-    number: u64,
-    datagram: &[u8],
-    out: &mut O,
-) -> Result<(), WriteFault>
-    requires ready { is_ready collector.old ≡ false }
-    requires end { collector.old.end ≡ None }
-    requires few { IfSome told (λ n. n ≤ 3000000) }
-    requires fit { IsFit collector.old }
-    requires pace { KeepsPace told collector.old feed.old tally.old }
-    requires refused { tally.old.sums.refused < 2 ^ 62 }
-    ensures fit { OnOk result (IsFit collector.new) }
-    ensures pace { OnOk result (KeepsPace told collector.new feed.new tally.new) }
-    ensures taken { OnOk result (PrintsTaken told number datagram.now collector.old collector.new
-        feed.old feed.new tally.old tally.new (O.known out.old) (O.known out.new)) }
-    ensures end { collector.new.end ≡ collector.old.end }
-    ensures front { OnErr result (TakesFront told datagram.now collector.old feed.old
-        (O.known out.old) (O.known out.new)) }
-    ensures cause { HasCause (O.known out.old) (O.known out.new) (IsErr result) }
-{
-    let taken = collector.take(datagram);
-    tally.note(number, taken);
-    drain(collector, feed, tally, lines, told, out)
+impl From<WriteFault> for ReceiveFault {
+    ghost use Rattle.std.specs.Prelude.{◌≡◌};
+    ghost use Rattle.mod_receiver.specs.declared.reading.ReceiveFault.TheVariants.{Write};
+
+    ghost from_gives = { λ _ why. why ≡ Write };
+
+    fn from(_: WriteFault) -> Self {
+        ReceiveFault::Write
+    }
 }
 
-// Reads answers of the link, takes each datagram and writes what is ready, until the reading is finished.
-fn read_all<L: Link, O: Sink>(
+impl From<NoMemory> for ReceiveFault {
+    ghost use Rattle.std.specs.Prelude.{◌≡◌};
+    ghost use Rattle.mod_receiver.specs.declared.reading.ReceiveFault.TheVariants as faults;
+
+    ghost from_gives = { λ _ why. why ≡ faults.NoMemory };
+
+    fn from(_: NoMemory) -> Self {
+        ReceiveFault::NoMemory
+    }
+}
+
+/// Takes all memory that it wants, reads until it has read enough, and writes the report of what came, which has this number.
+/// Collector and feed are new. Answers whether no frame is missing or bad.
+pub(crate) fn write_report<F, R: Datagrams<F>, O: Sink>(
+    alloc: Global,
+    number: u8,
+    bounds: Bounds,
     collector: &mut Collector,
     feed: &mut Feed,
-    tally: &mut Tally,
-    lines: &mut LineWriter,
-    link: &mut L,
-    options: &Options,
-    buffer: &mut [u8],
+    room: &mut R,
+    from: &mut F,
     out: &mut O,
-) -> Result<EndWord, Stop>
-    requires buffer { 65536 ≤ length buffer.old }
-    requires options { IsReasonable options.now }
-    requires window { 1 ≤ collector.old.window }
+) -> Result<bool, ReceiveFault>
+    requires options { AreUsable (options_of collector.old bounds) }
+    requires collector { collector.old ≡ made collector.old.window collector.old.first }
+    requires feed { feed.old ≡ new_tracker }
+    requires room { R.is_ready room.old }
+    requires nothing_came { R.so_far from.old room.old from.old [] }
+    ensures finished { IfOk result (Reported (options_of collector.old bounds) number (R.so_far from.old room.new from.new) (O.known out.old) (O.known out.new)) }
+    ensures stopped { IfErr result (StopsReport (options_of collector.old bounds) number (R.so_far from.old room.new from.new)
+        (λ fault. R.until from.old fault from.new) (O.known out.old) (O.known out.new)) }
+    ensures memory { result ≡ Err ReceiveFault.NoMemory → (from.new ≡ from.old) × (out.new ≡ out.old) }
+    ensures source { Counts (R.faults from.old) (R.faults from.new) (IsCallFailed result) }
+    ensures write { HasCause (O.known out.old) (O.known out.new) (result ≡ Err ReceiveFault.Write) }
+{
+    let mut tally = ReportCounts::new(alloc)?;
+    let mut lines = LineWriter::make(alloc)?;
+    write_feed(out, number)?;
+    let mut reading = Reading::new(bounds);
+    read_all(
+        &mut reading,
+        collector,
+        feed,
+        &mut tally,
+        &mut lines,
+        room,
+        from,
+        out,
+    )?;
+    tally.write_refused(out)?;
+    tally.write_end(out, reading.word())?;
+    Ok(tally.is_clean())
+}
+
+// Reads until no more is read. Each item is given to the feed, counted, and its lines are written before the next answer is asked for.
+fn read_all<F, R: Datagrams<F>, O: Sink>(
+    reading: &mut Reading,
+    collector: &mut Collector,
+    feed: &mut Feed,
+    tally: &mut ReportCounts,
+    lines: &mut LineWriter,
+    room: &mut R,
+    from: &mut F,
+    out: &mut O,
+) -> Result<(), ReceiveFault>
+    requires options { AreUsable (options_of collector.old reading.old.bounds) }
+    requires reading { reading.old ≡ new_reading reading.old.bounds }
     requires collector { collector.old ≡ made collector.old.window collector.old.first }
     requires feed { feed.old ≡ new_tracker }
     requires tally { tally.old ≡ new_tally }
-    ensures fit { IfOk result (λ _. IsFit collector.new) }
-    ensures pace { IfOk result (λ _. KeepsPace options.now.frames collector.new feed.new tally.new) }
-    ensures end { IfOk result (λ _. collector.new.end ≡ None) }
-    ensures finished { IfOk result (ReadsTo (rules_of collector.old options.now)
-        (Heard (L.known link.old) (L.known link.new)) (O.known out.old) (O.known out.new)
-        collector.new feed.new tally.new) }
-    ensures stopped { IfErr result (StopsReading (rules_of collector.old options.now)
-        (Heard (L.known link.old) (L.known link.new)) (O.known out.old) (O.known out.new)) }
-    ensures link { HasCause (L.known link.old) (L.known link.new) (result ≡ Err Stop.Link) }
-    ensures write { HasCause (O.known out.old) (O.known out.new) (result ≡ Err Stop.Write) }
+    requires lines { lines.old ≡ [] }
+    requires room { R.is_ready room.old }
+    requires nothing_came { R.so_far from.old room.old from.old [] }
+    ensures finished { OnOk result (WroteItems (options_of collector.old reading.old.bounds) (R.so_far from.old room.new from.new) (O.known out.old) (O.known out.new)
+        tally.new (word_of reading.new.end)) }
+    ensures stopped { IfErr result (StopsReading (options_of collector.old reading.old.bounds) (R.so_far from.old room.new from.new)
+        (λ fault. R.until from.old fault from.new) (O.known out.old) (O.known out.new)) }
+    ensures source { Counts (R.faults from.old) (R.faults from.new) (IsCallFailed result) }
+    ensures write { HasCause (O.known out.old) (O.known out.new) (result ≡ Err ReceiveFault.Write) }
 {
-    let mut taken = 0u32;
-    let mut idles = 0u32;
     'answers: loop {
-        match link.recv(buffer) {
-            Came::Datagram(len) => {
-                take(
-                    collector,
-                    feed,
-                    tally,
-                    lines,
-                    options.frames,
-                    u64::from(taken),
-                    &buffer[..len],
-                    out,
-                )?;
-                taken += 1;
-                idles = 0;
-                if is_full(tally, options.frames) {
-                    return Ok(EndWord::Frames);
-                }
-                if taken == options.limit {
-                    return Ok(EndWord::Limit);
-                }
-            }
-            Came::Idle => {
-                idles += 1;
-                if idles == options.idle {
-                    return Ok(EndWord::Idle);
-                }
-            }
-            Came::Failed => return Err(Stop::Link),
+        if reading.gives(collector) {
+            write_next(collector, feed, tally, lines, out)?;
+            continue;
+        }
+        lines.flush(out)?;
+        if reading.has_ended() {
+            return Ok(());
+        }
+        let number = reading.taken();
+        if let Some(taken) = reading.read_on(collector, room, from)? {
+            tally.note(number, taken);
         }
     }
 }
 
-/// Takes all memory that it wants, reads a link until it has read enough, and writes its report. Answers whether no frame is
-/// missing or bad.
-pub(crate) fn write_report<L: Link, O: Sink>(
-    alloc: Global,
+// Gives the next item to the feed, counts it, and puts its lines behind those that are gathered.
+fn write_next<O: Sink>(
     collector: &mut Collector,
     feed: &mut Feed,
-    link: &mut L,
-    options: &Options,
-    buffer: &mut [u8],
-    out: &mut O,
-) -> Result<bool, Stop>
-    requires buffer { 65536 ≤ length buffer.old }
-    requires options { IsReasonable options.now }
-    requires window { (1 ≤ collector.old.window) × (collector.old.window ≤ 64) }
-    requires collector { collector.old ≡ made collector.old.window collector.old.first }
-    requires feed { feed.old ≡ new_tracker }
-    ensures finished { IfOk result (Reported (rules_of collector.old options.now) options.now.feed
-        (Heard (L.known link.old) (L.known link.new)) (O.known out.old) (O.known out.new)) }
-    ensures broken { result ≡ Err Stop.Link → Broken (rules_of collector.old options.now) options.now.feed
-        (Heard (L.known link.old) (L.known link.new)) (O.known out.old) (O.known out.new) }
-    ensures front { result ≡ Err Stop.Write → Stopped (rules_of collector.old options.now) options.now.feed
-        (Heard (L.known link.old) (L.known link.new)) (O.known out.old) (O.known out.new) }
-    ensures memory { result ≡ Err Stop.NoMemory → (link.new ≡ link.old) × (out.new ≡ out.old) }
-    ensures link { HasCause (L.known link.old) (L.known link.new) (result ≡ Err Stop.Link) }
-    ensures write { HasCause (O.known out.old) (O.known out.new) (result ≡ Err Stop.Write) }
-{
-    let mut tally = Tally::new(alloc)?;
-    let mut lines = LineWriter::make(alloc)?;
-    write_feed(out, options.feed)?;
-    let word = read_all(
-        collector, feed, &mut tally, &mut lines, link, options, buffer, out,
-    )?;
-    let frames = options.frames;
-    Ok(write_rest(collector, feed, &mut tally, &mut lines, frames, word, out)?)
-}
-
-/// Writes the rest of a report that ends for this reason: what is ready then, and which datagrams were refused. Answers
-/// whether no frame is missing or bad.
-pub(crate) fn write_rest<O: Sink>(
-    collector: &mut Collector,
-    feed: &mut Feed,
-    tally: &mut Tally,
+    tally: &mut ReportCounts,
     lines: &mut LineWriter,
-    frames: Option<u64>,
-    word: EndWord,
     out: &mut O,
-) -> Result<bool, WriteFault>
-    requires end { collector.old.end ≡ None }
-    requires few { IfSome frames (λ n. n ≤ 3000000) }
-    requires fit { IsFit collector.old }
-    requires pace { KeepsPace frames collector.old feed.old tally.old }
-    requires refused { AllByRecursion (λ r. IsTold r.taken) tally.old.refused }
-    ensures written { IfOk result (WritesRest frames word collector.old feed.old tally.old
-        (O.known out.old) (O.known out.new)) }
-    ensures front { OnErr result (RestFront frames word collector.old feed.old tally.old
-        (O.known out.old) (O.known out.new)) }
+) -> Result<(), WriteFault>
+    requires is_ready { ready collector.old ≡ true }
+    requires in_order { feed.old.calls ≡ collector.old.next }
+    requires counted { items_in tally.old.sums ≡ collector.old.next }
+    ensures collector { collector.new ≡ after_item collector.old }
+    ensures next { WritesNext result collector.old feed.old feed.new tally.old tally.new lines.old lines.new (O.known out.old) (O.known out.new) }
     ensures cause { HasCause (O.known out.old) (O.known out.new) (IsErr result) }
 {
-    collector.finish(frames);
-    drain(collector, feed, tally, lines, frames, out)?;
-    tally.write_refused(out)?;
-    tally.write_end(out, word)?;
-    Ok(tally.is_clean())
+    let Some(given) = collector.next() else {
+        unreachable!()
+    };
+    let step = feed.step(given);
+    tally.count(&step.item);
+    lines.put_step(out, &step)
 }

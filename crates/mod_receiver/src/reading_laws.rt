@@ -1,6 +1,7 @@
 //! The laws of reading a link, each on a function that does nothing.
 
-ghost use Rattle.mod_receiver.specs.OneReading.{IsOneReading, IsOneReport};
+ghost use Rattle.recv_reading.specs.OneReading.{IsOneReading};
+ghost use Rattle.mod_receiver.specs.OneReport.{IsOneReport};
 
 /// What is read of the answers ahead of a link is one thing.
 pub fn one_reading_of_a_link()

@@ -7,12 +7,12 @@ ghost use Rattle.drm_links.specs.Told.{HasCause};
 ghost use Rattle.mod_receiver.specs.Received.{rules_of, IsReasonable, EndsAs, IfDone};
 ghost use Rattle.mod_receiver.specs.Headline.{Headline, Complete};
 
-use crate::reading::write_report;
+use crate::reading::{ReceiveFault, write_report};
 use crate::report_laws::reports_follow;
-use crate::stop::Stop;
 use dcp_collect::Collector;
 use drm_links::{Link, Sink};
 use mod_feed::Feed;
+use recv_reading::{Bounds, Room};
 use std::alloc::Global;
 
 /// By what a receiver goes. Each number is at least 1.
@@ -69,10 +69,25 @@ pub fn receive_one<L: Link, O: Sink>(
     ensures write { HasCause (O.known out.old) (O.known out.new) (result ≡ Ended.WriteFailed) }
 {
     reports_follow();
-    match write_report(alloc, collector, feed, link, options, buffer, out) {
+    let bounds = Bounds {
+        frames: options.frames,
+        idle: options.idle,
+        limit: u64::from(options.limit),
+    };
+    let mut room = Room { bytes: buffer };
+    match write_report(
+        alloc,
+        options.feed,
+        bounds,
+        collector,
+        feed,
+        &mut room,
+        link,
+        out,
+    ) {
         Ok(clean) => Ended::Done { clean },
-        Err(Stop::Link) => Ended::LinkFailed,
-        Err(Stop::Write) => Ended::WriteFailed,
-        Err(Stop::NoMemory) => Ended::NoMemory,
+        Err(ReceiveFault::Source(_)) => Ended::LinkFailed,
+        Err(ReceiveFault::Write) => Ended::WriteFailed,
+        Err(ReceiveFault::NoMemory) => Ended::NoMemory,
     }
 }

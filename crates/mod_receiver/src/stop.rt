@@ -1,6 +1,5 @@
 //! Why a receiver stops before its report is whole.
 
-use drm_bits::NoMemory;
 use drm_links::WriteFault;
 
 #[derive(Clone, Copy, Debug, PartialEq, Eq)]
@@ -18,16 +17,5 @@ impl From<WriteFault> for Stop {
 
     fn from(_: WriteFault) -> Self {
         Stop::Write
-    }
-}
-
-impl From<NoMemory> for Stop {
-    ghost use Rattle.std.specs.Prelude.{◌≡◌};
-    ghost use Rattle.mod_receiver.specs.declared.stop.Stop.TheVariants as stops;
-
-    ghost from_gives = { λ _ stop. stop ≡ stops.NoMemory };
-
-    fn from(_: NoMemory) -> Self {
-        Stop::NoMemory
     }
 }

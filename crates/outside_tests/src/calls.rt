@@ -1,12 +1,12 @@
 //! Calls of links and shelves, and what they answer.
 
 use drm_bits::NoMemory;
-use drm_links::{Came, Link, Loaded, MemLink};
+use drm_links::{Came, LONGEST_DATAGRAM, Link, Loaded, MemLink};
 use std::alloc::Global;
 
 // What a recv answers, in a buffer that is long enough.
 pub(crate) fn recv<L: Link>(link: &mut L, buf: &mut [u8]) -> Option<Came> {
-    if buf.len() < 65536 {
+    if buf.len() < LONGEST_DATAGRAM {
         return None;
     }
     Some(link.recv(buf))

@@ -4,7 +4,7 @@ ghost use Rattle.drm_links.specs.MemoryLink.{IsUntouched};
 
 use crate::calls::{bytes_of, recv, was_sent};
 use drm_bits::NoMemory;
-use drm_links::{Address, Came, Dock, Link, MemDock, MemLink, Opened, Sent};
+use drm_links::{Address, Came, Dock, LONGEST_DATAGRAM, Link, MemDock, MemLink, Opened, Sent};
 use std::alloc::Global;
 
 const HERE: Address = Address {
@@ -192,7 +192,7 @@ fn brings(alloc: Global) -> bool {
     let Ok(mut dock) = MemDock::make(alloc, &[]) else {
         return false;
     };
-    let Ok(mut buf) = bytes_of(alloc, b'.', 65536) else {
+    let Ok(mut buf) = bytes_of(alloc, b'.', LONGEST_DATAGRAM) else {
         return false;
     };
     puts_bringing(&mut dock, alloc, HERE) && gives_what_was_brought(&mut dock, &mut buf)

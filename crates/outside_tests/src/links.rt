@@ -2,10 +2,8 @@
 
 use crate::calls::{bytes_of, recv, was_sent};
 use drm_bits::NoMemory;
-use drm_links::{Came, Link, MemLink, Sent};
+use drm_links::{Came, LONGEST_DATAGRAM, Link, MemLink, Sent};
 use std::alloc::Global;
-
-const BUFFER: usize = 65536;
 
 fn send<L: Link>(link: &mut L, bytes: &[u8]) -> Sent {
     link.rest(1);
@@ -14,12 +12,12 @@ fn send<L: Link>(link: &mut L, bytes: &[u8]) -> Sent {
 
 // Puts this datagram behind all others.
 fn brings(link: &mut MemLink, alloc: Global, datagram: &[u8]) -> bool {
-    datagram.len() <= BUFFER && link.bring(alloc, datagram).is_ok()
+    datagram.len() <= LONGEST_DATAGRAM && link.bring(alloc, datagram).is_ok()
 }
 
 // A recv answers so, and what came stands in front of dots.
 fn receives(alloc: Global, link: &mut MemLink, answer: Came, front: &[u8]) -> bool {
-    match bytes_of(alloc, b'.', BUFFER) {
+    match bytes_of(alloc, b'.', LONGEST_DATAGRAM) {
         Ok(mut buf) => recv(link, &mut buf) == Some(answer) && buf.starts_with(front),
         Err(NoMemory) => false,
     }
@@ -138,7 +136,7 @@ fn gives_the_greatest(alloc: Global) -> bool {
     let Ok(mut link) = MemLink::make(alloc, &[], &[], 2) else {
         return false;
     };
-    match bytes_of(alloc, 9, BUFFER) {
+    match bytes_of(alloc, 9, LONGEST_DATAGRAM) {
         Ok(bytes) => {
             brings(&mut link, alloc, &bytes)
                 && receives(alloc, &mut link, Came::Datagram(65536), &bytes)

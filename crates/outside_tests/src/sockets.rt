@@ -1,7 +1,7 @@
 //! Datagrams over sockets of the loopback.
 
 use drm_adapt::UdpDock;
-use drm_links::{Address, Came, Dock, Link, Opened, Sent};
+use drm_links::{Address, Came, Dock, LONGEST_DATAGRAM, Link, Opened, Sent};
 use std::alloc::Global;
 use std::time::{Clock, Duration, Instant};
 
@@ -41,7 +41,7 @@ fn pair_from<D: Dock>(dock: &mut D, first: u16) -> Option<(D::L, D::L, Address)>
 
 // Whether these bytes are the next that come.
 fn comes<L: Link>(alloc: Global, link: &mut L, bytes: &[u8]) -> bool {
-    match vec![in alloc; 0u8; 65_536] {
+    match vec![in alloc; 0u8; LONGEST_DATAGRAM] {
         Ok(mut buf) => {
             link.recv(&mut buf) == Came::Datagram(bytes.len()) && buf.starts_with(bytes)
         }
@@ -51,7 +51,7 @@ fn comes<L: Link>(alloc: Global, link: &mut L, bytes: &[u8]) -> bool {
 
 // Whether nothing comes.
 fn is_idle<L: Link>(alloc: Global, link: &mut L) -> bool {
-    match vec![in alloc; 0u8; 65_536] {
+    match vec![in alloc; 0u8; LONGEST_DATAGRAM] {
         Ok(mut buf) => link.recv(&mut buf) == Came::Idle,
         Err(_) => false,
     }

@@ -7,10 +7,10 @@ use Rattle.dcp_collect.specs.Runs.{Item, IsItem, Gives}
 use Rattle.collect_laws.specs.Laws.{Given}
 use Rattle.collect_laws.proofs.Runs.{given_more, given_all, gives_given}
 use Rattle.drm_switches.specs.Tracker.{TrackerState}
-use Rattle.mod_receiver.specs.Tallies.{Tallied}
-use Rattle.mod_receiver.specs.Printed.{items_in, is_full, steps_before, KeepsPace}
-use Rattle.mod_receiver.proofs.Printing.{Drained, prints_then, prints_full}
-use Rattle.path_book.specs.Lines.{PrintsAll, CountsFirst}
+use Rattle.report_lines.specs.Tallies.{Tallied, items_in}
+use Rattle.recv_reading.specs.State.{is_full}
+use Rattle.path_book.specs.Lines.{steps_before, KeepsPace, PrintsAll, CountsFirst}
+use Rattle.path_book.proofs.Printing.{Drained, prints_then, prints_full}
 
 is_next : (d e : State) → ready d ≡ true → e ≡ after_next d → e ≡ after_item d
 is_next d e r n = n ∙ rw r refl

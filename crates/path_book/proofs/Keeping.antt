@@ -8,21 +8,20 @@ use Rattle.collect_laws.specs.Laws.{IsFit}
 use Rattle.collect_laws.proofs.Runs.{steps_more, steps_count}
 use Rattle.drm_switches.specs.Tracker.{TrackerState, new_tracker}
 use Rattle.mod_feed.specs.Feeding.{FeedStep, Feeds}
-use Rattle.report_lines.specs.declared.report.EndWord.{EndWord}
-use Rattle.report_lines.specs.declared.report.EndWord.TheVariants as word
+use Rattle.recv_reading.specs.declared.reason.EndWord.{EndWord}
+use Rattle.recv_reading.specs.declared.reason.EndWord.TheVariants as word
 use Rattle.report_lines.specs.Report.{feed_line, end_line}
-use Rattle.mod_receiver.specs.Reports.{refusals, refused_text, steps_text}
-use Rattle.mod_receiver.specs.Tallies.{Tallied, new_tally, noted, counted}
-use Rattle.mod_receiver.specs.Printed.{items_in, is_full, steps_before, with_steps, tally_of, KeepsPace}
-use Rattle.mod_receiver.proofs.Giving.{steps_many, gives_ready}
-use Rattle.mod_receiver.proofs.Tallying.{steps_counted, answer_noted, refusals_few, refusals_told, last_told}
-use Rattle.mod_receiver.proofs.Refusing.{AreTold}
-use Rattle.mod_receiver.proofs.Printing.{ends, text_more}
-use Rattle.mod_receiver.proofs.Reaching.{feeds_more}
-use Rattle.mod_receiver.proofs.Reporting.{clean_is}
+use Rattle.report_lines.specs.Reports.{refusals, refused_text, steps_text}
+use Rattle.report_lines.specs.Tallies.{Tallied, new_tally, noted, counted, items_in, with_steps, tally_of}
+use Rattle.recv_reading.specs.State.{is_full}
+use Rattle.path_book.specs.Lines.{steps_before, KeepsPace, WritesAll, CountsFirst}
+use Rattle.recv_reading.proofs.Giving.{steps_many, gives_ready}
+use Rattle.report_lines.proofs.CountLemmas.{steps_counted, answer_noted, refusals_few, refusals_told, last_told, clean_is}
+use Rattle.report_lines.proofs.RefusalLemmas.{AreTold}
+use Rattle.report_lines.proofs.StepLemmas.{text_more}
+use Rattle.path_book.proofs.Printing.{ends, feeds_more}
 use Rattle.path_book.specs.declared.settings.Settings.{Settings}
 use Rattle.path_book.specs.Report.{IsReportSoFar, IsFrontSoFar, IsReportOf, word_for}
-use Rattle.path_book.specs.Lines.{WritesAll, CountsFirst}
 use Rattle.path_book.specs.declared.journal.Journal.TheInside.{Inside}
 use Rattle.path_book.specs.Journal.{JournalState, AreInRange, entry_of, datagrams, IsKept, Enters}
 use Rattle.path_book.specs.Sound.{IsOpen, IsSound}

@@ -1,2 +1,3 @@
 pub mod Draining
 pub mod Keeping
+pub mod Printing

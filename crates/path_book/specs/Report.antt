@@ -6,12 +6,12 @@ use Rattle.dcp_collect.specs.State.{State, made}
 use Rattle.dcp_collect.specs.Runs.{Item, Steps, Run, up_to}
 use Rattle.drm_switches.specs.Tracker.{TrackerState, new_tracker}
 use Rattle.mod_feed.specs.Feeding.{FeedStep, Feeds}
-use Rattle.report_lines.specs.declared.report.EndWord.{EndWord}
-use Rattle.report_lines.specs.declared.report.EndWord.TheVariants.{Frames, Paths}
+use Rattle.recv_reading.specs.declared.reason.EndWord.{EndWord}
+use Rattle.recv_reading.specs.declared.reason.EndWord.TheVariants.{Frames, Paths}
 use Rattle.report_lines.specs.Report.{feed_line}
-use Rattle.mod_receiver.specs.Reports.{refusals, steps_text, report, is_clean}
-use Rattle.mod_receiver.specs.Printed.{is_full, tally_of}
-use Rattle.mod_receiver.specs.Tallies.{Tallied}
+use Rattle.report_lines.specs.Reports.{refusals, steps_text, report, is_clean}
+use Rattle.report_lines.specs.Tallies.{tally_of, Tallied}
+use Rattle.recv_reading.specs.State.{is_full}
 use Rattle.path_book.specs.declared.settings.Settings.{Settings}
 
 -- Collector, feed and counts are what new ones come to by these datagrams: each is taken in turn, and all that is ready then is

@@ -2,7 +2,7 @@
 use Rattle.std.specs.Prelude.{◌≡◌, map, false, None}
 use Rattle.dcp_collect.specs.State.{ready}
 use Rattle.collect_laws.specs.Laws.{IsFit}
-use Rattle.mod_receiver.specs.Printed.{KeepsPace}
+use Rattle.path_book.specs.Lines.{KeepsPace}
 use Rattle.path_book.specs.declared.journal.Journal.TheInside.{Inside}
 use Rattle.path_book.specs.Journal.{JournalState, AreInRange, entry_of, IsKept}
 

@@ -4,13 +4,12 @@ ghost use Rattle.std.specs.Prelude.{◌≡◌, ◌++◌, ◌↔◌, IsTrue, IfOk
 ghost use Rattle.std.specs.List.{AllByRecursion};
 ghost use Rattle.report_lines.specs.FaultWords.{IsTold};
 ghost use Rattle.report_lines.specs.Report.{end_line};
-ghost use Rattle.mod_receiver.specs.Reports.{refused_text};
+ghost use Rattle.report_lines.specs.Reports.{refused_text, Report};
 ghost use Rattle.drm_links.specs.Told.{HasCause};
 ghost use Rattle.drm_links.specs.Sink.{Outputs, IsFront};
 
 use drm_links::{Sink, WriteFault, write_all};
-use mod_receiver::Tally;
-use report_lines::EndWord;
+use report_lines::{EndWord, ReportCounts};
 use std::marker::Model;
 
 /// The whole report of a journal: contracts see its text, and whether no line of it is missing or bad.
@@ -18,7 +17,7 @@ use std::marker::Model;
 pub struct Ending {
     // The first line, and those of the items.
     text: Vec<u8>,
-    counts: Tally,
+    counts: ReportCounts,
     word: EndWord,
     clean: bool,
 }
@@ -28,8 +27,7 @@ impl Model for Ending {
     ghost use Rattle.std.specs.List.{AllByRecursion};
     ghost use Rattle.report_lines.specs.FaultWords.{IsTold};
     ghost use Rattle.report_lines.specs.Report.{end_line};
-    ghost use Rattle.mod_receiver.specs.Ahead.{Report};
-    ghost use Rattle.mod_receiver.specs.Reports.{refused_text};
+    ghost use Rattle.report_lines.specs.Reports.{refused_text, Report};
 
     ghost Value = { Report };
 
@@ -43,7 +41,7 @@ impl Model for Ending {
 
 impl Ending {
     // The report of a text so far, of what is counted, and of why it ends.
-    pub(crate) fn new(text: Vec<u8>, counts: Tally, word: EndWord) -> Ending
+    pub(crate) fn new(text: Vec<u8>, counts: ReportCounts, word: EndWord) -> Ending
         requires { AllByRecursion (λ r. IsTold r.taken) counts.refused }
         ensures text { result.text ≡ text.items ++ (refused_text counts.refused ++ end_line word counts.sums) }
         ensures clean { IsTrue result.clean ↔ ((counts.sums.missing ≡ 0) × (counts.sums.bad ≡ 0)) }

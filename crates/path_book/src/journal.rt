@@ -3,7 +3,7 @@
 ghost use Rattle.std.specs.Prelude.{◌≡◌, ◌<◌, ◌^◌, ◌++◌, ◌∷◌, [], true, map, IsErr, IfOk, OnOk, OnErr, IfSome};
 ghost use Rattle.report_lines.specs.Report.{feed_line};
 ghost use Rattle.path_book.specs.Journal.{AreInRange, new_journal, datagrams, entry_of, IsKept, Enters};
-ghost use Rattle.mod_receiver.specs.Printed.{items_in};
+ghost use Rattle.report_lines.specs.Tallies.{items_in};
 ghost use Rattle.path_book.specs.Report.{IsReportOf, word_for};
 ghost use Rattle.path_book.specs.Took.{IfTook};
 ghost use Rattle.path_book.specs.declared.event.Event.{Event};
@@ -13,8 +13,7 @@ use crate::{Ending, Event, Settings};
 use dcp_collect::Collector;
 use drm_bits::NoMemory;
 use mod_feed::Feed;
-use mod_receiver::{Tally, Text};
-use report_lines::{EndWord, write_feed};
+use report_lines::{EndWord, ReportBuffer, ReportCounts, write_feed};
 use std::alloc::Global;
 use std::marker::Model;
 
@@ -33,7 +32,7 @@ pub struct Journal {
     settings: Settings,
     collector: Collector,
     feed: Feed,
-    counts: Tally,
+    counts: ReportCounts,
     // The first line, and those of the items so far.
     text: Vec<u8>,
     stopped: bool,
@@ -60,7 +59,7 @@ impl Journal {
         ensures { IfOk result (λ journal. journal ≡ new_journal settings) }
     {
         let collector = Collector::make(alloc, settings.window, settings.first)?;
-        let counts = Tally::new(alloc)?;
+        let counts = ReportCounts::new(alloc)?;
         let text = first_line(alloc)?;
         Ok(Journal {
             entries: Vec::new(alloc),
@@ -169,7 +168,7 @@ fn push_entry(
 }
 
 // Why a report ends where so much is counted.
-fn word_for(counts: &Tally, told: Option<u64>) -> EndWord
+fn word_for(counts: &ReportCounts, told: Option<u64>) -> EndWord
     requires { IfSome told (λ _. items_in counts.now.sums < 2 ^ 63) }
     ensures { result ≡ word_for told (items_in counts.now.sums) }
 {
@@ -184,7 +183,7 @@ fn word_for(counts: &Tally, told: Option<u64>) -> EndWord
 fn first_line(alloc: Global) -> Result<Vec<u8>, NoMemory>
     ensures { IfOk result (λ text. text.items ≡ feed_line 1) }
 {
-    let mut lines = Text::new(alloc);
+    let mut lines = ReportBuffer::new(alloc);
     let Ok(()) = write_feed(&mut lines, 1) else {
         return Err(NoMemory);
     };

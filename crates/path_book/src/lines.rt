@@ -2,19 +2,19 @@
 
 ghost use Rattle.std.specs.Prelude.{◌≡◌, ◌≤◌, ◌<◌, ◌^◌, OnOk, OnErr, IfSome};
 ghost use Rattle.collect_laws.specs.Laws.{IsFit};
-ghost use Rattle.mod_receiver.specs.Printed.{items_in, is_full, KeepsPace};
-ghost use Rattle.path_book.specs.Lines.{PrintsAll, WritesAll, CountsFirst};
+ghost use Rattle.report_lines.specs.Tallies.{items_in};
+ghost use Rattle.recv_reading.specs.State.{is_full};
+ghost use Rattle.path_book.specs.Lines.{KeepsPace, PrintsAll, WritesAll, CountsFirst};
 
 use dcp_collect::Collector;
 use drm_bits::NoMemory;
 use drm_links::{Sink, WriteFault};
 use mod_feed::Feed;
-use mod_receiver::{Tally, Text};
-use report_lines::write_step;
+use report_lines::{ReportBuffer, ReportCounts, write_step};
 use std::alloc::Global;
 
 /// Whether the told number of items was given.
-pub(crate) fn is_full(counts: &Tally, told: Option<u64>) -> bool
+pub(crate) fn is_full(counts: &ReportCounts, told: Option<u64>) -> bool
     requires { IfSome told (λ _. items_in counts.now.sums < 2 ^ 63) }
     ensures { result ≡ is_full told (items_in counts.now.sums) }
 {
@@ -28,7 +28,7 @@ pub(crate) fn is_full(counts: &Tally, told: Option<u64>) -> bool
 fn drain<O: Sink>(
     collector: &mut Collector,
     feed: &mut Feed,
-    counts: &mut Tally,
+    counts: &mut ReportCounts,
     told: Option<u64>,
     out: &mut O,
 ) -> Result<(), WriteFault>
@@ -59,7 +59,7 @@ pub(crate) fn write_ready(
     alloc: Global,
     collector: &mut Collector,
     feed: &mut Feed,
-    counts: &mut Tally,
+    counts: &mut ReportCounts,
     told: Option<u64>,
     text: &mut Vec<u8>,
 ) -> Result<(), NoMemory>
@@ -74,7 +74,7 @@ pub(crate) fn write_ready(
     ensures first { OnErr result (CountsFirst told collector.old collector.new feed.old feed.new counts.old counts.new) }
     ensures end { collector.new.end ≡ collector.old.end }
 {
-    let mut lines = Text::new(alloc);
+    let mut lines = ReportBuffer::new(alloc);
     let Ok(()) = drain(collector, feed, counts, told, &mut lines) else {
         return Err(NoMemory);
     };

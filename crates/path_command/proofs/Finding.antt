@@ -2,10 +2,9 @@
 use Rattle.std.proofs.Common.{◌≡◌, ℕ, ◌<◌, inl, inr, List, [], length, slice_index_or, Option, None, Some, IsNone, All, Err, sym, ◌∙◌, ap, subst, arith}
 use Rattle.drm_links.specs.Told.{Known}
 use Rattle.drm_links.specs.Link.{Traffic}
-use Rattle.drm_links.specs.Dock.{DockContents, LinkStart}
+use Rattle.drm_links.specs.Dock.{DockContents, LinkStart, Finds, FindsNone}
 use Rattle.drm_links.specs.declared.dock.Address.{Address}
 use Rattle.drm_links.proofs.Places.{index_of}
-use Rattle.several_links.specs.Openings.{Finds, FindsNone}
 use Rattle.drm_paths.specs.State.{PathState, new_path}
 use Rattle.drm_paths.specs.Closing.{of_path, AreCounted, AllAgree}
 use Rattle.path_words.specs.declared.request.Request.{Request}

@@ -20,7 +20,7 @@ use Rattle.path_book.specs.Journal.{JournalState}
 use Rattle.path_command.specs.declared.job.PathJob.{PathJob}
 use Rattle.path_command.specs.Jobs.{IsReady, HaveNewPaths, EndedAs, HasEnded, has_failed, has_run_out}
 use Rattle.path_command.specs.Run.{settings_in, options_in}
-use Rattle.mod_receiver.specs.Hearing.{Heard}
+use Rattle.drm_links.specs.Hearing.{Heard}
 use Rattle.drm_paths.specs.Reading.{ReadsPath}
 use Rattle.path_command.specs.declared.fault.Fault.{Fault}
 use Rattle.path_command.specs.Links.{ReadsLink, ReadsWhole, ReadAll, BreaksSome, BreaksNone, EndsLinks, Fits, AreRead, ending_of}

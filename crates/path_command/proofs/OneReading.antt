@@ -3,9 +3,9 @@ use Rattle.std.proofs.Common.{◌≡◌, ℕ, ◌+◌, ◌<◌, inl, inr, List, 
 use Rattle.std.specs.List.{AllByRecursion}
 use Rattle.std.proofs.lemmas.List.{take-append-drop}
 use Rattle.drm_links.specs.Link.{Answer, Failed}
-use Rattle.mod_receiver.specs.Hearing.{AreNext}
-use Rattle.mod_receiver.specs.Reading.{IsSound}
-use Rattle.mod_receiver.proofs.OneReading.{next_front, next_split, three, same_answers}
+use Rattle.drm_links.specs.Hearing.{AreNext}
+use Rattle.recv_reading.specs.Ending.{IsSound}
+use Rattle.recv_reading.proofs.OneReading.{next_front, next_split, three, same_answers}
 use Rattle.drm_paths.specs.declared.run.PathOptions.{PathOptions}
 use Rattle.drm_paths.specs.declared.run.PathEnded.{PathEnded}
 use Rattle.drm_paths.specs.declared.run.PathEnded.TheVariants.{Idle, Limit}

@@ -3,14 +3,13 @@ use Rattle.std.proofs.Common.{◌≡◌, ℕ, ◌⊎◌, ◌↔◌, inl, inr, Bo
 use Rattle.drm_links.specs.Told.{Known, HasFailed, HasCause, Tells}
 use Rattle.drm_links.specs.Link.{Answer, Traffic}
 use Rattle.drm_links.specs.Sink.{Output, Outputs, IsFront}
-use Rattle.drm_links.specs.Dock.{DockContents}
+use Rattle.drm_links.specs.Dock.{DockContents, Docked}
 use Rattle.drm_links.proofs.ToldLemmas.{counts_none, Tells-nothing, Tells-weaker}
 use Rattle.drm_faults.specs.Causes.{OpeningFailed}
-use Rattle.mod_receiver.specs.Ahead.{Report}
-use Rattle.several_links.specs.Openings.{Docked}
+use Rattle.report_lines.specs.Reports.{Report}
 use Rattle.several_links.proofs.OpeningLemmas.{docked_both, docked_weaker}
-use Rattle.drm_receive.specs.Hearing.{HearsEach, BindsFew}
-use Rattle.drm_receive.proofs.HearingLemmas.{docked_then, went_over, hears_each}
+use Rattle.several_links.specs.Binding.{HearsEach, BindsFew}
+use Rattle.several_links.proofs.BindLemmas.{docked_then, went_over, hears_each}
 use Rattle.path_words.specs.declared.request.Request.{Request}
 use Rattle.path_book.specs.Journal.{datagrams}
 use Rattle.path_book.specs.Report.{IsReportOf}

@@ -1,7 +1,7 @@
 -- What is read of what is ahead of a link.
 use Rattle.std.specs.Prelude.{ℕ, ◌⊎◌, List}
 use Rattle.drm_links.specs.Link.{Answer}
-use Rattle.mod_receiver.specs.Hearing.{AreNext}
+use Rattle.drm_links.specs.Hearing.{AreNext}
 use Rattle.drm_paths.specs.declared.run.PathOptions.{PathOptions}
 use Rattle.drm_paths.specs.declared.run.PathEnded.{PathEnded}
 use Rattle.drm_paths.specs.declared.run.PathEnded.TheVariants.{Idle, Limit, LinkFailed}

@@ -2,7 +2,7 @@
 use Rattle.std.specs.Prelude.{ℕ, ◌≡◌, ◌<◌, List, length, slice_index_or, Bool, true, false, [], vec_len, Option, Some, MatchOption}
 use Rattle.drm_links.specs.Told.{Known, HasCause}
 use Rattle.drm_links.specs.Link.{Traffic}
-use Rattle.mod_receiver.specs.Hearing.{Heard}
+use Rattle.drm_links.specs.Hearing.{Heard}
 use Rattle.drm_paths.specs.declared.run.PathOptions.{PathOptions}
 use Rattle.drm_paths.specs.declared.run.PathEnded.{PathEnded}
 use Rattle.drm_paths.specs.declared.run.PathEnded.TheVariants.{LinkFailed, NoMemory}

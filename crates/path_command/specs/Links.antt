@@ -2,11 +2,10 @@
 use Rattle.std.specs.Prelude.{ℕ, ◌≡◌, ◌<◌, ◌⊎◌, List, length, slice_index_or, Result, Ok, Err}
 use Rattle.drm_links.specs.Told.{Known, HasFailed, Tells}
 use Rattle.drm_links.specs.Link.{Traffic}
-use Rattle.drm_links.specs.Dock.{DockContents}
-use Rattle.several_links.specs.Openings.{Docked, after_openings}
-use Rattle.drm_receive.specs.Hearing.{BindsFew}
-use Rattle.mod_receiver.specs.Hearing.{Heard}
-use Rattle.mod_receiver.specs.Ahead.{Report}
+use Rattle.drm_links.specs.Dock.{DockContents, Docked, after_openings}
+use Rattle.several_links.specs.Binding.{BindsFew}
+use Rattle.drm_links.specs.Hearing.{Heard}
+use Rattle.report_lines.specs.Reports.{Report}
 use Rattle.path_words.specs.declared.request.Request.{Request}
 use Rattle.path_book.specs.Journal.{JournalState}
 use Rattle.drm_paths.specs.declared.run.PathOptions.{PathOptions}

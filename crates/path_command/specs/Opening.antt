@@ -2,9 +2,8 @@
 use Rattle.std.specs.Prelude.{ℕ, ◌≡◌, ◌<◌, true, List, length, map, slice_index_or}
 use Rattle.drm_links.specs.Told.{Known}
 use Rattle.drm_links.specs.Link.{Traffic}
-use Rattle.drm_links.specs.Dock.{DockContents, Over}
+use Rattle.drm_links.specs.Dock.{DockContents, Over, HasLink}
 use Rattle.drm_links.specs.declared.dock.Address.{Address}
-use Rattle.several_links.specs.Openings.{HasLink}
 use Rattle.several_links.specs.Reaching.{HaveGone, after_closes}
 use Rattle.several_links.specs.declared.member.Member.{Member}
 

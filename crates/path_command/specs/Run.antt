@@ -3,17 +3,16 @@ use Rattle.std.specs.Prelude.{ℕ, ◌≡◌, ◌<◌, ◌≤◌, ◌⊎◌, ◌
 use Rattle.drm_links.specs.Told.{Known, HasFailed, HasCause, Tells}
 use Rattle.drm_links.specs.Link.{Answer}
 use Rattle.drm_links.specs.Sink.{Output, Outputs, IsFront}
-use Rattle.drm_links.specs.Dock.{DockContents, LinkStart}
+use Rattle.drm_links.specs.Dock.{DockContents, LinkStart, AreDifferent, Finds, FindsNone, Docked}
 use Rattle.drm_links.specs.declared.dock.Address.{Address}
 use Rattle.drm_faults.specs.Causes.{OpeningFailed}
 use Rattle.drm_faults.specs.Fault.{WritesLine}
-use Rattle.word_forms.specs.Addresses.{AreDifferent}
 use Rattle.path_words.specs.declared.request.Request.{Request}
 use Rattle.path_words.specs.Line.{IsPathsLine}
 use Rattle.path_book.specs.declared.settings.Settings.{Settings}
 use Rattle.path_book.specs.Journal.{JournalState, AreInRange, datagrams}
 use Rattle.path_book.specs.Report.{IsReportOf}
-use Rattle.mod_receiver.specs.Ahead.{Report}
+use Rattle.report_lines.specs.Reports.{Report}
 use Rattle.drm_paths.specs.declared.run.PathOptions.{PathOptions}
 use Rattle.drm_paths.specs.State.{PathState, settings_of}
 use Rattle.drm_paths.specs.declared.run.PathEnded.TheVariants.{Idle, Limit, LinkFailed, NoMemory}
@@ -21,8 +20,7 @@ use Rattle.drm_paths.specs.Reading.{AreReasonable, Ends}
 use Rattle.drm_paths.specs.Closing.{of_path, Closes}
 use Rattle.drm_paths.specs.declared.close.Difference.{Difference}
 use Rattle.drm_paths.specs.declared.close.Closed.TheVariants.{Differ}
-use Rattle.several_links.specs.Openings.{Finds, FindsNone, Docked}
-use Rattle.drm_receive.specs.Hearing.{HearsEach, BindsFew}
+use Rattle.several_links.specs.Binding.{HearsEach, BindsFew}
 use Rattle.path_command.specs.Ahead.{IsAllOf, BreaksOff}
 use Rattle.path_command.specs.Faults.{fault_line}
 use Rattle.path_command.specs.declared.fault.Fault.{Fault}

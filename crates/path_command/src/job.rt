@@ -6,7 +6,7 @@ ghost use Rattle.drm_paths.specs.Reading.{AreReasonable};
 ghost use Rattle.path_command.specs.Jobs.{IsReady, HasEnded, has_failed, has_run_out};
 
 use drm_bits::{NoMemory, zeros};
-use drm_links::Link;
+use drm_links::{LONGEST_DATAGRAM, Link};
 use drm_paths::{Path, PathEnded, PathOptions, Paths, Road, Shared, run_path};
 use std::alloc::Global;
 use std::sync::Wait;
@@ -29,9 +29,6 @@ pub struct PathJob<G: Road, L: Link> {
     pub ended: Option<PathEnded>,
 }
 
-/// Room for the longest datagram.
-const LONGEST: usize = 65_536;
-
 /// The most paths of a run, each with a thread.
 const MOST_THREADS: usize = 4;
 
@@ -39,7 +36,7 @@ fn seat_for<G: Road>(alloc: Global, path: Path<G>) -> Result<Seat<G>, NoMemory>
     ensures path { IfOk result (λ seat. seat.path ≡ path) }
     ensures buffer { IfOk result (λ seat. vec_len seat.buffer ≡ 65536) }
 {
-    let buffer = zeros(alloc, LONGEST)?;
+    let buffer = zeros(alloc, LONGEST_DATAGRAM)?;
     Ok(Seat { path, buffer })
 }
 

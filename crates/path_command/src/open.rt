@@ -2,18 +2,16 @@
 
 ghost use Rattle.std.specs.Prelude.{◌≡◌, ◌≤◌, ◌++◌, ◌∷◌, [], true, length, map, vec_len, vec_capacity, All, IsErr, IfOk, IfErr};
 ghost use Rattle.drm_links.specs.Told.{HasCause, Tells};
-ghost use Rattle.word_forms.specs.Addresses.{AreDifferent};
-ghost use Rattle.several_links.specs.Openings.{Docked, after_openings};
-ghost use Rattle.drm_receive.specs.Hearing.{BindsFew};
+ghost use Rattle.drm_links.specs.Dock.{AreDifferent, Docked, after_openings};
+ghost use Rattle.several_links.specs.Binding.{BindsFew};
 ghost use Rattle.path_command.specs.Opening.{HaveLinks, IsClosed};
 
 use crate::job::{PathJob, Seat, job_for};
 use drm_bits::NoMemory;
-use drm_links::{Dock, Link, LinkFault, Opened};
+use drm_links::{Addresses, Dock, Link, LinkFault, Opened};
 use drm_paths::{Path, Paths, Road};
 use owned_items::Items;
 use std::alloc::Global;
-use word_forms::Addresses;
 
 /// Takes the memory for jobs at these addresses.
 pub(crate) fn room_for<G: Road, L: Link>(

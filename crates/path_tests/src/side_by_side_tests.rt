@@ -6,7 +6,7 @@ ghost use Rattle.drm_links.specs.Dock.{IsFresh, IsFailed};
 ghost use Rattle.drm_links.specs.MemoryLink.{IsUntouched};
 
 use drm_bits::NoMemory;
-use drm_links::{Address, Came, Dock, Link, MemLink, MemSink, Opened, Sent};
+use drm_links::{Address, Came, Dock, LONGEST_DATAGRAM, Link, MemLink, MemSink, Opened, Sent};
 use path_command::run_paths;
 use std::alloc::{AllocError, Global};
 use std::sync::Wait;
@@ -34,7 +34,7 @@ fn bring(alloc: Global, link: &mut MemLink, packets: &[&[u8]]) -> Result<(), NoM
     ensures { OnOk result (IsUntouched link.new) }
 {
     for packet in packets {
-        if packet.len() <= 65_536 {
+        if packet.len() <= LONGEST_DATAGRAM {
             link.bring(alloc, packet)?;
         }
     }

@@ -2,12 +2,10 @@
 
 use dcp_collect::Collector;
 use drm_bits::{NoMemory, zeros};
-use drm_links::{MemLink, MemSink};
+use drm_links::{LONGEST_DATAGRAM, MemLink, MemSink};
 use drm_top::{Ended, Options, receive_one};
 use mod_feed::Feed;
 use std::alloc::Global;
-
-const BUFFER: usize = 65_536;
 
 // An AF packet with no payload.
 const EMPTY: [u8; 12] = [
@@ -29,7 +27,7 @@ fn receives(alloc: Global, case: &Case<'_>) -> Result<bool, NoMemory> {
     let mut out = MemSink::make(alloc, 2000, case.sink, 100)?;
     let mut collector = Collector::make(alloc, 8, None)?;
     let mut feed = Feed::new();
-    let mut buffer = zeros(alloc, BUFFER)?;
+    let mut buffer = zeros(alloc, LONGEST_DATAGRAM)?;
     let options = Options {
         feed: 1,
         frames: None,

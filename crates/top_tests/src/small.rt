@@ -5,7 +5,7 @@ ghost use Rattle.std.specs.Prelude.{OnOk};
 ghost use Rattle.drm_links.specs.MemoryLink.{IsUntouched};
 
 use drm_bits::NoMemory;
-use drm_links::{Dock, Link, MemLink, MemShelf, MemSink, MemSource};
+use drm_links::{Dock, LONGEST_DATAGRAM, Link, MemLink, MemShelf, MemSink, MemSource};
 use drm_top::run;
 use std::alloc::{AllocError, Global};
 use std::thread::Threads;
@@ -45,7 +45,7 @@ pub fn bring_all(alloc: Global, link: &mut MemLink) -> Result<(), NoMemory>
     ensures { OnOk result (IsUntouched link.new) }
 {
     for packet in PACKETS {
-        if packet.len() <= 65_536 {
+        if packet.len() <= LONGEST_DATAGRAM {
             link.bring(alloc, packet)?;
         }
     }

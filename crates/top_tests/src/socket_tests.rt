@@ -3,7 +3,7 @@
 use crate::small::{REPORTS, is_done};
 use drm_adapt::UdpDock;
 use drm_bits::zeros;
-use drm_links::{Address, Came, Dock, Link, Opened};
+use drm_links::{Address, Came, Dock, LONGEST_DATAGRAM, Link, Opened};
 use std::alloc::Global;
 use std::net::Net;
 use std::thread::{Threads, join, sleep};
@@ -57,18 +57,18 @@ fn is_in_its_place(k: usize, datagram: &[u8]) -> bool {
 
 // Whether the next one comes, and is in its place.
 fn comes<L: Link>(link: &mut L, buf: &mut [u8], k: usize) -> bool {
-    if buf.len() < 65_536 {
+    if buf.len() < LONGEST_DATAGRAM {
         return false;
     }
     match link.recv(buf) {
-        Came::Datagram(len) => is_in_its_place(k, &buf[..len.min(65_536)]),
+        Came::Datagram(len) => is_in_its_place(k, &buf[..len.min(LONGEST_DATAGRAM)]),
         Came::Idle | Came::Failed => false,
     }
 }
 
 // How many come before the first that doesn't.
 fn come<L: Link>(alloc: Global, link: &mut L) -> usize {
-    let Ok(mut buf) = zeros(alloc, 65_536) else {
+    let Ok(mut buf) = zeros(alloc, LONGEST_DATAGRAM) else {
         return 0;
     };
     for k in 0..29usize {

@@ -3,9 +3,9 @@
 ghost use Rattle.std.specs.Prelude.{IfOk};
 ghost use Rattle.drm_links.specs.MemoryLink.{IsUntouched};
 
-use case_files::{Case, LONGEST, LinkCase, Output};
+use case_files::{Case, LinkCase, Output};
 use drm_bits::NoMemory;
-use drm_links::{MemDock, MemLink, MemShelf, MemSink, MemSource};
+use drm_links::{LONGEST_DATAGRAM, MemDock, MemLink, MemShelf, MemSink, MemSource};
 use std::alloc::Global;
 
 /// What a run reads, writes and opens.
@@ -62,7 +62,7 @@ fn link_of(alloc: Global, case: &LinkCase) -> Result<MemLink, NoMemory>
     failing.extend_from_slice(&case.failing_sends)?;
     let mut link = MemLink::make(alloc, &failing, &case.idles, case.sends)?;
     for datagram in &case.datagrams {
-        if datagram.len() <= LONGEST {
+        if datagram.len() <= LONGEST_DATAGRAM {
             link.bring(alloc, datagram)?;
         }
     }

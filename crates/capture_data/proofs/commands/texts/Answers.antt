@@ -1,4 +1,4 @@
-use Rattle.capture_items.specs.Reading.{Terms}
+use Rattle.recv_reading.specs.Packets.{Terms}
 use Rattle.capture_data.specs.Streams.{TextsOf}
 use Rattle.capture_data.proofs.TakerLemmas.{no_messages}
 use Rattle.capture_data.proofs.Endings.{data_run}

@@ -1,6 +1,6 @@
 use Rattle.std.proofs.Common.{Err, ap, ◌∙◌}
 use Rattle.std.proofs.lemmas.Result.{err_from_is_err_and}
-use Rattle.capture_items.specs.Reading.{Terms}
+use Rattle.recv_reading.specs.Packets.{Terms}
 use Rattle.capture_data.specs.Streams.{UnitsOf}
 use Rattle.capture_data.proofs.TakerLemmas.{no_units}
 use Rattle.capture_data.proofs.Endings.{data_run, memory_run}

@@ -1,6 +1,6 @@
 use Rattle.std.proofs.Common.{Err, ap, subst, ◌∙◌}
 use Rattle.std.proofs.lemmas.Result.{err_from_is_err_and}
-use Rattle.capture_items.specs.Reading.{Terms}
+use Rattle.recv_reading.specs.Packets.{Terms}
 use Rattle.capture_data.specs.Run.{WritesAll, WritesFront}
 use Rattle.capture_data.proofs.Endings.{terms_as, whole_written, whole_broken}
 use Rattle.capture_data.proofs.reading.take_capture.Goals as goal

@@ -1,102 +1,100 @@
-use Rattle.std.proofs.Common.{[], ◌∷◌, ◌++◌, Ok, Err, ap, refl, sym, subst, ◌∙◌, inl, inr}
-use Rattle.std.proofs.lemmas.List.{append-nil}
+use Rattle.std.proofs.Common.{[], ◌∷◌, ◌++◌, Err, ap, refl, sym, subst, ◌∙◌, arith}
 use Rattle.std.proofs.lemmas.Result.{err_from_is_err_and}
-use Rattle.dcp_collect.specs.State.{State}
-use Rattle.drm_convert.specs.Draining.{MayBeFirst}
-use Rattle.drm_convert.proofs.Taken.{may_taken, knows_taken, pace_taken, end_taken}
-use Rattle.capture_items.proofs.ReachedLemmas.{read_none, not_stopped}
-use Rattle.drm_convert.proofs.Reaching.{at_begin, on_stop, ends_early, on_packet, packet_more, by_enough, by_end, halted, shorter_on, drained_under, halts_under, drained_finished}
+use Rattle.recv_reading.specs.Options.{capture_bounds, options_of}
+use Rattle.recv_reading.specs.First.{KeepsFirst}
+use Rattle.recv_reading.specs.State.{new_reading, has_ended}
+use Rattle.recv_reading.specs.Reached.{Reached}
+use Rattle.recv_reading.proofs.Finishing.{IsOver, gives_so, gives_none, waits_now}
+use Rattle.drm_convert.proofs.Reaching.{loop_none, loop_given, loop_halted, loop_on, loop_stopped, loop_over, loop_as}
 use Rattle.drm_convert.proofs.reading.convert_packets.Goals as goal
 
 pub packets-init : goal.packets-init
 packets-init g c = (
-  [],
-  read_none (g.I.Source.known c.args.input.now) c.args.packets.now c.requires.packets,
-  at_begin _ c.args.cutter.now c.args.collector.now c.args.progress.now (g.O.Sink.known c.args.out.now) (g.E.Sink.known c.args.err.now) c.requires.collector c.requires.progress c.requires.window.0 c.requires.some,
+  loop_none c.args.cutter.now c.new-reading.result c.args.collector.now c.args.progress.now
+      c.args.told c.args.packets.now
+      (g.I.Source.known c.args.input.now) (g.O.Sink.known c.args.out.now)
+      (g.E.Sink.known c.args.err.now)
+      (c.new-reading.ensures ∙ ap new_reading c.of_capture.ensures) c.requires.collector
+      c.requires.progress c.requires.packets c.requires.window.0 c.requires.some c.requires.few,
   refl,
   refl,
   refl,
 )
 
-pub returns-in_err-find-clause-ends : goal.returns-in_err-find-clause-ends
-returns-in_err-find-clause-ends g c =
+pub returns-in_err-convert_next-clause-ends : goal.returns-in_err-convert_next-clause-ends
+returns-in_err-convert_next-clause-ends g c =
     let i = c.packets.invariant in
-    let before = g.I.Source.known c.args.input.now in
-    let after = g.I.Source.known c.find.new.input in
-    let stop = c.in_err-find.field-0.0 in
-    let p = err_from_is_err_and c.from_residual.result c.from_residual.ensures.1 in
-    rw (p.1 ∙ ap Err p.2)
-    (ends_early _ _ stop _ _ _ _ _ _ _ (on_stop _ _ _ _ _ _ _ _ _ stop before after i.2 i.1.whole (c.in_err-find.ensures.stops i.0 before i.1)))
+    let e = err_from_is_err_and c.from_residual.result c.from_residual.ensures.1 in
+    let (enough, now, small, given) = gives_so c.gives.result c.packets.reading c.packets.collector
+    c.gives.new.self c.gives.ensures.gives c.if-gives.true in
+    rw (e.1 ∙ ap Err e.2)
+    (loop_halted _ _ _ _ _ _ _ _ _ _ _ _ i.0 c.packets.cutter c.convert_next.new.progress
+    c.in_err-convert_next.field-0.0 (g.O.Sink.known c.convert_next.new.out)
+    (g.E.Sink.known c.convert_next.new.err)
+    c.in_err-convert_next.ensures.next i.1 enough now (omega arith))
 
-pub drain-requires-clause-first : goal.drain-requires-clause-first
-drain-requires-clause-first g c = knows_taken c.packets.collector c.take.new.collector c.next-packet.result.bytes.now c.take.ensures.takes.0 c.take.ensures.takes.1 c.packets.invariant.2.knows
-
-pub drain-requires-clause-pace : goal.drain-requires-clause-pace
-drain-requires-clause-pace g c = pace_taken c.args.told c.packets.collector c.take.new.collector c.packets.progress c.next-packet.result.bytes.now c.take.ensures.takes.0 c.take.ensures.takes.1 c.packets.invariant.2.pace
-
-pub returns-in_err-drain-clause-ends : goal.returns-in_err-drain-clause-ends
-returns-in_err-drain-clause-ends g c =
+pub packets-preserved-then-gives : goal.packets-preserved-then-gives
+packets-preserved-then-gives g c =
     let i = c.packets.invariant in
-    let before = g.I.Source.known c.args.input.now in
-    let after = g.I.Source.known c.find.new.input in
-    let bytes = c.next-packet.result.bytes.now in
-    let read = c.find.ensures.more i.0 before i.1 (not_stopped c.find.result c.in_ok-find.field-0 c.in_ok-find.was) in
-    let more = c.next-packet.follows.holds-at-none.reads i.0 before after read in
-    let p = err_from_is_err_and c.from_residual-in_err-drain.result c.from_residual-in_err-drain.ensures.1 in
-    let why = c.in_err-drain.field-0.0 in
-    rw (p.1 ∙ ap Err p.2)
-    (halted _ c.args.cutter.now (i.0 ++ bytes ∷ []) i.0 (bytes ∷ []) c.packets.collector c.take.new.collector c.packets.progress c.drain.new.progress _ _ _ _ _ _ why before after refl i.2
-    (inl (bytes, c.take.ensures.takes.0, refl, c.take.ensures.takes.1)) (λ f may. may_taken c.packets.collector c.take.new.collector bytes c.take.ensures.takes.0 f c.take.ensures.takes.1 may)
-    (halts_under why c.args.told c.args.cutter.now c.packets.cutter c.take.new.collector c.packets.progress c.drain.new.progress _ _ _ _ i.3 c.in_err-drain.ensures.halted)
-    (_, more) (shorter_on _ _ i.0 bytes _ _ _ _ _ _ i.2))
+    let options = options_of c.args.collector.now (capture_bounds c.args.told) in
+    let n = c.in_ok-convert_next.ensures.next in (
+      loop_given _ _ _ _ _ _ _ _ _ _ _ _ i.0 c.packets.cutter c.gives.new.self
+          c.convert_next.new.collector c.convert_next.new.progress c.in_ok-convert_next.field-0
+          (g.O.Sink.known c.convert_next.new.out) (g.E.Sink.known c.convert_next.new.err) n i.1
+          (subst (λ d. Reached options i.0.answers i.0.taken i.0.during (i.0.more ++ n.item ∷ [])
+          c.gives.new.self d) (sym c.convert_next.ensures.collector)
+          (c.gives.ensures.reached options i.0.answers i.0.taken i.0.during i.0.more n.item
+          i.0.reached c.if-gives.true n.is))
+          (subst (λ d. KeepsFirst c.packets.collector d) (sym c.convert_next.ensures.collector)
+          (λ first may. may)),
+      c.convert_next.ensures.carry ∙ i.1,
+      i.2,
+      c.in_ok-convert_next.ensures.cause.same (λ failed. cc) ∙ i.3,
+    )
 
-pub returns-then-is_full-clause-ends : goal.returns-then-is_full-clause-ends
-returns-then-is_full-clause-ends g c =
+pub returns-then-has_ended-clause-ends : goal.returns-then-has_ended-clause-ends
+returns-then-has_ended-clause-ends g c =
+    let (over, same) = gives_none c.gives.result c.packets.reading c.packets.collector
+    c.gives.new.self c.gives.ensures.gives c.if-gives.false in
+    loop_over _ _ _ _ _ _ _ _ _ _ _ _ c.packets.invariant.0
+    (ap has_ended (sym same) ∙ sym c.has_ended.ensures ∙ c.if-has_ended.true) over (omega arith)
+
+pub read_packet-requires-clause-waits : goal.read_packet-requires-clause-waits
+read_packet-requires-clause-waits g c =
+    let (over, same) = gives_none c.gives.result c.packets.reading c.packets.collector
+    c.gives.new.self c.gives.ensures.gives c.if-gives.false in
+    waits_now c.gives.new.self c.packets.collector (subst (λ s. IsOver s c.packets.collector)
+    (sym same) over) (sym c.has_ended.ensures ∙ c.if-has_ended.false)
+
+pub returns-in_err-read_packet-clause-ends : goal.returns-in_err-read_packet-clause-ends
+returns-in_err-read_packet-clause-ends g c =
     let i = c.packets.invariant in
-    let before = g.I.Source.known c.args.input.now in
-    let after = g.I.Source.known c.find.new.input in
-    let bytes = c.next-packet.result.bytes.now in
-    let read = c.find.ensures.more i.0 before i.1 (not_stopped c.find.result c.in_ok-find.field-0 c.in_ok-find.was) in
-    let more = c.next-packet.follows.holds-at-none.reads i.0 before after read in
-    let drained = drained_under c.args.told c.args.cutter.now c.packets.cutter c.take.new.collector c.drain.new.collector c.packets.progress c.drain.new.progress _ _ _ _ i.3 c.in_ok-drain.ensures.drained in
-    by_enough _ _ _ _ _ _ _ _ _ _ before after (on_packet _ _ i.0 bytes _ _ _ _ _ _ _ _ _ _ _ _ i.2 c.take.ensures.takes.1 drained c.in_ok-drain.ensures.pace c.in_ok-drain.ensures.fit) (sym c.is_full.ensures ∙ c.if-is_full.true) more
+    let options = options_of c.args.collector.now (capture_bounds c.args.told) in
+    let e = err_from_is_err_and c.from_residual-in_err-read_packet.result
+    c.from_residual-in_err-read_packet.ensures.1 in
+    let (over, same) = gives_none c.gives.result c.packets.reading c.packets.collector
+    c.gives.new.self c.gives.ensures.gives c.if-gives.false in
+    let here = loop_as _ _ _ _ _ _ _ _ _ _ _ _ i.0 c.gives.new.self same in
+    rw (e.1 ∙ ap Err e.2)
+    (loop_stopped _ _ _ _ _ _ _ _ _ _ _ _ here c.read_packet.new.packets
+    (g.I.Source.known c.read_packet.new.input) c.in_err-read_packet.field-0.0 c.read_packet.new.self
+    c.read_packet.new.collector
+    c.in_err-read_packet.ensures.first (c.in_err-read_packet.ensures.reads c.args.input.now options
+    here.answers here.taken here.during here.more here.read here.reached))
 
 pub packets-preserved : goal.packets-preserved
 packets-preserved g c =
     let i = c.packets.invariant in
-    let before = g.I.Source.known c.args.input.now in
-    let after = g.I.Source.known c.find.new.input in
-    let bytes = c.next-packet.result.bytes.now in
-    let read = c.find.ensures.more i.0 before i.1 (not_stopped c.find.result c.in_ok-find.field-0 c.in_ok-find.was) in
-    let drained = drained_under c.args.told c.args.cutter.now c.packets.cutter c.take.new.collector c.drain.new.collector c.packets.progress c.drain.new.progress _ _ _ _ i.3 c.in_ok-drain.ensures.drained in (
-      i.0 ++ bytes ∷ [],
-      c.next-packet.follows.holds-at-none.reads i.0 before after read,
-      packet_more _ _ _ _ _ _ _ _ _ (on_packet _ _ i.0 bytes _ _ _ _ _ _ _ _ _ _ _ _ i.2 c.take.ensures.takes.1 drained c.in_ok-drain.ensures.pace c.in_ok-drain.ensures.fit) (sym c.is_full.ensures ∙ c.if-is_full.false)
-          c.in_ok-drain.ensures.first c.in_ok-drain.ensures.pace c.in_ok-drain.ensures.fit (c.in_ok-drain.ensures.end ∙ (end_taken c.packets.collector c.take.new.collector bytes c.take.ensures.takes.0 c.take.ensures.takes.1 ∙ i.2.unfinished)),
-      c.drain.ensures.carry ∙ i.3,
-      c.in_ok-find.ensures.cause.same (λ failed. cc) ∙ i.4,
-      c.in_ok-drain.ensures.cause.same (λ failed. cc) ∙ i.5,
+    let options = options_of c.args.collector.now (capture_bounds c.args.told) in
+    let (over, same) = gives_none c.gives.result c.packets.reading c.packets.collector
+    c.gives.new.self c.gives.ensures.gives c.if-gives.false in
+    let here = loop_as _ _ _ _ _ _ _ _ _ _ _ _ i.0 c.gives.new.self same in (
+      loop_on _ _ _ _ _ _ _ _ _ _ _ _ here c.read_packet.new.packets
+          (g.I.Source.known c.read_packet.new.input) c.in_ok-read_packet.field-0 c.read_packet.new.self
+          c.read_packet.new.collector
+          c.in_ok-read_packet.ensures.first (c.in_ok-read_packet.ensures.reads c.args.input.now
+          options here.answers here.taken here.during here.more here.read here.reached),
+      i.1,
+      c.in_ok-read_packet.ensures.cause.same (λ failed. cc) ∙ i.2,
+      i.3,
     )
-
-pub returns-in_err-drain-2-clause-ends : goal.returns-in_err-drain-2-clause-ends
-returns-in_err-drain-2-clause-ends g c =
-    let i = c.packets.invariant in
-    let before = g.I.Source.known c.args.input.now in
-    let after = g.I.Source.known c.find.new.input in
-    let p = err_from_is_err_and c.from_residual-in_err-drain-2.result c.from_residual-in_err-drain-2.ensures.1 in
-    let why = c.in_err-drain-2.field-0.0 in
-    let ended = c.find.ensures.ended i.0 before i.1 (c.in_ok-find.was ∙ ap Ok c.if-branch.false) in
-    rw (p.1 ∙ ap Err p.2)
-    (halted _ c.args.cutter.now i.0 i.0 [] c.packets.collector c.finish.new.self c.packets.progress c.drain-2.new.progress _ _ _ _ _ _ why before after (sym (append-nil i.0)) i.2
-    (inr (refl, c.finish.ensures)) (λ f may. subst (λ (s : State). MayBeFirst s f) c.finish.ensures may)
-    (halts_under why c.args.told c.args.cutter.now c.packets.cutter c.finish.new.self c.packets.progress c.drain-2.new.progress _ _ _ _ i.3 c.in_err-drain-2.ensures.halted)
-    ended i.2.shorter)
-
-pub returns-clause-ends : goal.returns-clause-ends
-returns-clause-ends g c =
-    let i = c.packets.invariant in
-    let before = g.I.Source.known c.args.input.now in
-    let after = g.I.Source.known c.find.new.input in
-    let ended = c.find.ensures.ended i.0 before i.1 (c.in_ok-find.was ∙ ap Ok c.if-branch.false) in
-    let drained = drained_under c.args.told c.args.cutter.now c.packets.cutter c.finish.new.self c.drain-2.new.collector c.packets.progress c.drain-2.new.progress _ _ _ _ i.3 c.in_ok-drain-2.ensures.drained in
-    by_end _ _ _ _ c.drain-2.new.collector _ _ _ _ _ _ _ _ before after i.2 (drained_finished _ _ c.packets.collector c.finish.new.self c.drain-2.new.collector _ _ _ _ _ _ c.finish.ensures drained) c.in_ok-drain-2.ensures.pace c.in_ok-drain-2.ensures.fit ended

@@ -1,5 +1,5 @@
-use Rattle.drm_gate.specs.Targets.{targets}
-use Rattle.mod_receiver.specs.Hearing.{Heard}
+use Rattle.dcp_sender.specs.Targets.{targets}
+use Rattle.drm_links.specs.Hearing.{Heard}
 use Rattle.drm_gate.specs.Gateway.{rules_of}
 use Rattle.drm_gate.proofs.Ending.{counts_over}
 use Rattle.drm_gate.proofs.TargetLemmas.{some_of_all}

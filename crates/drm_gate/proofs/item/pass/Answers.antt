@@ -3,7 +3,7 @@ use Rattle.dcp_collect.specs.Runs.{Lost, Damaged}
 use Rattle.drm_gate.specs.Passing.{Missing, Bad}
 use Rattle.drm_gate.proofs.Tallying.{one_missing, one_bad}
 use Rattle.drm_gate.proofs.ItemLemmas.{unsent}
-use Rattle.drm_gate.specs.Targets.{targets}
+use Rattle.dcp_sender.specs.Targets.{targets}
 use Rattle.drm_gate.proofs.item.pass.Goals as goal
 
 pub returns-in-Lost-clause-one : goal.returns-in-Lost-clause-one

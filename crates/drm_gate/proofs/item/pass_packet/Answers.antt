@@ -3,8 +3,8 @@ use Rattle.dcp_collect.specs.Runs.{Packet}
 use Rattle.drm_gate.specs.Passing.{Bad, Large}
 use Rattle.drm_gate.proofs.Tallying.{one_bad, one_large, one_given}
 use Rattle.drm_gate.proofs.ItemLemmas.{unsent, sent_whole, sent_part}
-use Rattle.drm_gate.specs.Sending.{SentTo}
-use Rattle.drm_gate.specs.Targets.{targets}
+use Rattle.dcp_sender.specs.OverLinks.{SentTo}
+use Rattle.dcp_sender.specs.Targets.{targets}
 use Rattle.drm_gate.proofs.TargetLemmas.{each_of, same_many, some_up, all_down}
 use Rattle.drm_gate.proofs.item.pass_packet.Goals as goal
 

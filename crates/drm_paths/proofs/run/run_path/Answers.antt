@@ -1,7 +1,7 @@
 use Rattle.std.proofs.Common.{◌≡◌, ◌+◌, ◌<◌, ◌⊎◌, ◌∙◌, refl, sym, take, ap, subst}
 use Rattle.drm_links.specs.declared.link.Came.TheVariants as recv
-use Rattle.mod_receiver.specs.Hearing.{Heard}
-use Rattle.mod_receiver.proofs.Hearing.{heard_none, heard_more}
+use Rattle.drm_links.specs.Hearing.{Heard}
+use Rattle.drm_links.proofs.Hearing.{heard_none, heard_more}
 use Rattle.drm_paths.specs.State.{PathState, most_bytes}
 use Rattle.drm_paths.proofs.Comparing.{not_false}
 use Rattle.drm_paths.proofs.Walking.{starts, on_failed, on_no_memory, on_limit, on_datagram, on_last_idle, on_idle}

@@ -1,5 +1,5 @@
 use Rattle.std.proofs.Common.{◌≡◌, ◌+◌, ◌-◌, ◌*◌, length}
-use Rattle.mod_receiver.specs.Hearing.{Heard}
+use Rattle.drm_links.specs.Hearing.{Heard}
 use Rattle.drm_paths.proofs.Walking.{Reaches}
 use Rattle.drm_paths.proofs.run.run_path.Given as goal
 

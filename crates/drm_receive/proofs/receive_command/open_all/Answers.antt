@@ -1,20 +1,20 @@
 use Rattle.std.proofs.Common.{◌≡◌, ℕ, ◌+◌, ◌<◌, ◌≤◌, inl, inr, refl, sym, subst, slice_index_or, ◌∙◌, ap, arith, length, length-append, [], ◌∷◌, Err}
 use Rattle.std.proofs.lemmas.Result.{err_from_is_err_and}
 use Rattle.drm_links.specs.Told.{Known, Tells}
-use Rattle.drm_links.specs.Dock.{DockContents}
+use Rattle.drm_links.specs.Dock.{DockContents, Docked, HasLink}
 use Rattle.drm_links.specs.declared.dock.Address.{Address}
 use Rattle.drm_links.proofs.ToldLemmas.{counts_none, then_counts, Tells-nothing, Tells-weaker}
 use Rattle.drm_links.proofs.Places.{each_more}
 use Rattle.mod_receiver.specs.declared.job.Job.{Job}
 use Rattle.drm_faults.specs.declared.fault.Fault.{Fault}
 use Rattle.drm_faults.specs.declared.fault.Fault.TheVariants as faults
-use Rattle.several_links.specs.Openings.{Docked, HasLink}
-use Rattle.drm_receive.specs.Hearing.{BindsFew, StopsBehind}
+use Rattle.several_links.specs.Binding.{BindsFew, StopsBehind}
 use Rattle.drm_receive.specs.Opening.{StopsOpening}
 use Rattle.mod_receiver.specs.Jobs.{IsJob}
 use Rattle.several_links.proofs.OpeningLemmas.{Opened, found_now, opened_now, opened_all, docked_any, docked_still}
 use Rattle.drm_receive.proofs.HearingLemmas.{link_in}
-use Rattle.drm_receive.proofs.OpeningLemmas.{HaveFirst, missed_now, stopped_few, failed_few, all_links, same_fault_counts}
+use Rattle.several_links.proofs.BindLemmas.{HaveFirst, missed_now, stopped_few, failed_few, all_links}
+use Rattle.drm_receive.proofs.OpeningLemmas.{same_fault_counts}
 use Rattle.drm_receive.proofs.receive_command.open_all.Goals as goal
 
 pub returns-in_err-jobs-clause-stopped : goal.returns-in_err-jobs-clause-stopped

@@ -1,9 +1,8 @@
 use Rattle.std.proofs.Common.{◌≡◌, ℕ, ◌<◌, ◌-◌, List, length, vec_len, slice_index_or, refl, sym, ◌∙◌, ap, subst, arith, Some, Err}
 use Rattle.std.proofs.lemmas.Result.{err_from_is_err_and}
 use Rattle.mod_receiver.specs.declared.job.Job.{Job}
-use Rattle.mod_receiver.specs.Jobs.{HasEnded, IsJob}
+use Rattle.mod_receiver.specs.Jobs.{HasEnded, IsJob, IsReady}
 use Rattle.mod_receiver.specs.Settling.{Settles}
-use Rattle.mod_receiver.specs.Jobs.{IsReady}
 use Rattle.mod_receiver.proofs.JobLemmas.{job_ready, jobs_ready}
 use Rattle.std.specs.List.{All}
 use Rattle.std.proofs.lemmas.List.{get_or_default}
@@ -12,8 +11,8 @@ use Rattle.drm_links.specs.Dock.{Closes}
 use Rattle.drm_links.proofs.ToldLemmas.{counts_as}
 use Rattle.drm_faults.specs.declared.fault.Fault.TheVariants as faults
 use Rattle.drm_faults.proofs.CauseLemmas.{inner_fault}
-use Rattle.drm_receive.proofs.HearingLemmas.{link_in, docked_then}
-use Rattle.drm_receive.proofs.OpeningLemmas.{Closed}
+use Rattle.several_links.proofs.BindLemmas.{docked_then, Closed}
+use Rattle.drm_receive.proofs.HearingLemmas.{link_in}
 use Rattle.drm_receive.proofs.ReceiveLemmas.{Ran, settled_hears, settled_run, opening_failed, written_back}
 use Rattle.drm_receive.proofs.LiveLemmas.{only_run}
 use Rattle.drm_receive.specs.Opening.{HaveLinks}

@@ -1,13 +1,12 @@
 use Rattle.std.proofs.Common.{◌≡◌, ◌++◌, List, take, drop, length, vec_len, ◌∙◌, inl, inr, refl, sym, subst}
 use Rattle.std.proofs.lemmas.List.{take_at}
 use Rattle.drm_links.specs.Told.{Tells}
-use Rattle.mod_receiver.specs.declared.rules.Rules.{Rules}
-use Rattle.several_links.specs.Openings.{Docked}
-use Rattle.drm_links.specs.Dock.{Over}
+use Rattle.recv_reading.specs.declared.options.ReceiveOptions.{ReceiveOptions}
+use Rattle.drm_links.specs.Dock.{Docked, Over}
 use Rattle.several_links.specs.Reaching.{AreUp, HaveGone, HaveLinks, after_closes}
 use Rattle.several_links.specs.declared.member.Member.{Member}
 use Rattle.drm_gate.specs.Run.{GateRun}
-use Rattle.drm_gate.specs.Targets.{targets}
+use Rattle.dcp_sender.specs.Targets.{targets}
 use Rattle.gate_command.specs.Between.{passed_of}
 use Rattle.gate_command.proofs.PassingLemmas.{rules_same, only_of, goes_out, opened_out}
 use Rattle.gate_command.proofs.between.pass_to.Goals as goal
@@ -34,7 +33,7 @@ returns-in-Ok-clause-told g c =
     let from = g.L.Link.known c.args.source.now in
     let from' = g.L.Link.known c.gate_one-ended.new.from in
     let same = rules_same c.args.gate.now.collector c.options.result c.args.rules.now c.requires.window c.requires.first c.options.ensures in
-    let run = subst (λ (r : Rules). GateRun r c.args.gate.now.carry from from' (targets known before) (targets known after) c.gate_one-ended.result) same c.gate_one-ended.ensures.ended in
+    let run = subst (λ (r : ReceiveOptions). GateRun r c.args.gate.now.carry from from' (targets known before) (targets known after) c.gate_one-ended.result) same c.gate_one-ended.ensures.ended in
     rw c.passed.ensures
     (opened_out c.args.rules.now c.args.gate.now.carry to from from' (passed_of c.gate_one-ended.result) a d
     (goes_out c.args.rules.now c.requires.in_range c.args.gate.now.carry to known before after many many' up a b d c.in-Ok.ensures.opened links shut

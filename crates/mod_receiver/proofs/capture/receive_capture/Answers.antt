@@ -1,50 +1,44 @@
-use Rattle.std.proofs.Common.{◌∙◌, ap, Err}
-use Rattle.std.proofs.lemmas.Result.{err_from_is_err_and}
-use Rattle.drm_links.proofs.WritingLemmas.{Writes-done, Writes-front}
-use Rattle.mod_receiver.specs.Captures.{HeardOf}
-use Rattle.mod_receiver.proofs.Reporting.{read_told, first_front, reported_whole, reported_front}
-use Rattle.mod_receiver.proofs.CaptureReading.{heard_nothing, stopped_as, takes_none}
+use Rattle.std.proofs.Common.{List, ap, subst, ◌∙◌}
+use Rattle.drm_links.specs.Link.{Answer}
+use Rattle.recv_reading.specs.declared.options.ReceiveOptions.{ReceiveOptions}
+use Rattle.recv_reading.specs.declared.source.SourceFault.{SourceFault}
+use Rattle.recv_reading.specs.Options.{options_of}
+use Rattle.recv_reading.specs.Source.{ReadSoFar, HeardUntil, StopsReading}
+use Rattle.recv_reading.proofs.Sources.{read_none}
+use Rattle.mod_receiver.specs.declared.reading.ReceiveFault.TheVariants as fault
+use Rattle.mod_receiver.specs.Received.{Reported, Broken, Stopped}
+use Rattle.mod_receiver.specs.Progress.{StopsReport}
+use Rattle.mod_receiver.proofs.CaptureReading.{options_are, as_reported, as_stopped}
 use Rattle.mod_receiver.proofs.capture.receive_capture.Goals as goal
 
-pub returns-in_err-write_feed-clause-ended : goal.returns-in_err-write_feed-clause-ended
-returns-in_err-write_feed-clause-ended g c =
-    let p = err_from_is_err_and c.from_residual-in_err-write_feed.result c.from_residual-in_err-write_feed.ensures.1 in
-    rw (p.1 ∙ ap Err p.2)
-    (first_front c.args.rules.now c.requires.some_window 1 (HeardOf (g.I.Source.known c.args.input.now) (g.I.Source.known c.args.input.now)) (g.O.Sink.known c.args.out.now) (g.O.Sink.known c.write_feed.new.out)
-    (heard_nothing (g.I.Source.known c.args.input.now)) (Writes-front c.in_err-write_feed.was c.write_feed.ensures))
+pub write_report-requires-clause-nothing_came : goal.write_report-requires-clause-nothing_came
+write_report-requires-clause-nothing_came g c = read_none (g.I.Source.known c.args.input.now) c.in_ok-packets.packets c.in_ok-packets.ensures
 
-pub returns-in_err-word-clause-ended : goal.returns-in_err-word-clause-ended
-returns-in_err-word-clause-ended g c =
-    let p = err_from_is_err_and c.from_residual-in_err-word.result c.from_residual-in_err-word.ensures.1 in
-    rw (p.1 ∙ ap Err p.2)
-    (stopped_as c.args.rules.now c.requires.some_window (g.I.Source.known c.args.input.now) (g.I.Source.known c.read_packets.new.input) (g.O.Sink.known c.args.out.now) (g.O.Sink.known c.write_feed.new.out) (g.O.Sink.known c.read_packets.new.out)
-    c.in_err-word.field-0.0 (Writes-done c.in_ok-write_feed.was c.write_feed.ensures) c.in_err-word.ensures.stopped)
+pub returns-in-Ok-clause-ended : goal.returns-in-Ok-clause-ended
+returns-in-Ok-clause-ended g c =
+    let before = g.I.Source.known c.args.input.now in
+    let after = g.I.Source.known c.write_report.new.from in
+    as_reported c.args.rules.now c.write_report.new.room before after (g.O.Sink.known c.args.out.now) (g.O.Sink.known c.write_report.new.out) c.in-Ok.clean
+    (subst (λ (o : ReceiveOptions). Reported o 1 (ReadSoFar c.write_report.new.room before after) (g.O.Sink.known c.args.out.now) (g.O.Sink.known c.write_report.new.out) c.in-Ok.clean)
+    (options_are c.args.rules.now c.in_ok-collector.collector c.bounds.result c.in_ok-collector.ensures c.bounds.ensures) c.in-Ok.ensures.finished)
 
-pub returns-in_err-word-clause-memory : goal.returns-in_err-word-clause-memory
-returns-in_err-word-clause-memory g c = λ e.
-    let p = err_from_is_err_and c.from_residual-in_err-word.result c.from_residual-in_err-word.ensures.1 in
-    absurd (takes_none c.args.rules.now (g.I.Source.known c.args.input.now) (g.I.Source.known c.read_packets.new.input) (g.O.Sink.known c.write_feed.new.out) (g.O.Sink.known c.read_packets.new.out)
-    c.from_residual-in_err-word.result c.in_err-word.field-0.0 (p.1 ∙ ap Err p.2) e c.in_err-word.ensures.stopped)
+pub returns-in-Err-Source-Capture-clause-ended : goal.returns-in-Err-Source-Capture-clause-ended
+returns-in-Err-Source-Capture-clause-ended g c =
+    let before = g.I.Source.known c.args.input.now in
+    let after = g.I.Source.known c.write_report.new.from in
+    let breaks : SourceFault → List Answer → Type 0 = λ why. StopsReading why before after in
+    let is = options_are c.args.rules.now c.in_ok-collector.collector c.bounds.result c.in_ok-collector.ensures c.bounds.ensures in
+    subst (λ (o : ReceiveOptions). Broken o 1 (HeardUntil c.in-Err-Source-Capture.stop before after) (g.O.Sink.known c.args.out.now) (g.O.Sink.known c.write_report.new.out)) is
+    (subst (λ f. StopsReport (options_of c.in_ok-collector.collector c.bounds.result) 1 (ReadSoFar c.write_report.new.room before after) breaks (g.O.Sink.known c.args.out.now) (g.O.Sink.known c.write_report.new.out) f)
+    (c.in-Err-Source-Capture.field-0-is ∙ ap fault.Source c.in-Err-Source-Capture.field-0-0-is) c.in-Err-Source-Capture.ensures.stopped)
 
-pub write_rest-requires-clause-refused : goal.write_rest-requires-clause-refused
-write_rest-requires-clause-refused g c =
-    read_told c.args.rules.now (HeardOf (g.I.Source.known c.args.input.now) (g.I.Source.known c.read_packets.new.input)) (g.O.Sink.known c.write_feed.new.out) (g.O.Sink.known c.read_packets.new.out)
-    c.read_packets.new.collector c.read_packets.new.feed c.read_packets.new.tally c.in_ok-word.word c.in_ok-word.ensures.finished
-
-pub returns-in_err-write_rest-clause-ended : goal.returns-in_err-write_rest-clause-ended
-returns-in_err-write_rest-clause-ended g c =
-    let p = err_from_is_err_and c.from_residual-in_err-write_rest.result c.from_residual-in_err-write_rest.ensures.1 in
-    rw (p.1 ∙ ap Err p.2)
-    (reported_front c.args.rules.now c.requires.some_window 1 (HeardOf (g.I.Source.known c.args.input.now) (g.I.Source.known c.read_packets.new.input))
-    (g.O.Sink.known c.args.out.now) (g.O.Sink.known c.write_feed.new.out) (g.O.Sink.known c.read_packets.new.out)
-    c.read_packets.new.collector c.read_packets.new.feed c.read_packets.new.tally c.in_ok-word.word
-    (Writes-done c.in_ok-write_feed.was c.write_feed.ensures) c.in_ok-word.ensures.finished c.in_ok-word.ensures.pace.items
-    (g.O.Sink.known c.write_rest.new.out) c.in_err-write_rest.ensures.front)
-
-pub returns-clause-ended : goal.returns-clause-ended
-returns-clause-ended g c =
-    reported_whole c.args.rules.now c.requires.some_window 1 (HeardOf (g.I.Source.known c.args.input.now) (g.I.Source.known c.read_packets.new.input))
-    (g.O.Sink.known c.args.out.now) (g.O.Sink.known c.write_feed.new.out) (g.O.Sink.known c.read_packets.new.out)
-    c.read_packets.new.collector c.read_packets.new.feed c.read_packets.new.tally c.in_ok-word.word
-    (Writes-done c.in_ok-write_feed.was c.write_feed.ensures) c.in_ok-word.ensures.finished c.in_ok-word.ensures.pace.items
-    (g.O.Sink.known c.write_rest.new.out) _ c.in_ok-write_rest.ensures.written
+pub returns-in-Err-Write-clause-ended : goal.returns-in-Err-Write-clause-ended
+returns-in-Err-Write-clause-ended g c =
+    let before = g.I.Source.known c.args.input.now in
+    let after = g.I.Source.known c.write_report.new.from in
+    let breaks : SourceFault → List Answer → Type 0 = λ why. StopsReading why before after in
+    let is = options_are c.args.rules.now c.in_ok-collector.collector c.bounds.result c.in_ok-collector.ensures c.bounds.ensures in
+    as_stopped c.args.rules.now c.write_report.new.room before after (g.O.Sink.known c.args.out.now) (g.O.Sink.known c.write_report.new.out)
+    (subst (λ (o : ReceiveOptions). Stopped o 1 (ReadSoFar c.write_report.new.room before after) (g.O.Sink.known c.args.out.now) (g.O.Sink.known c.write_report.new.out)) is
+    (subst (λ f. StopsReport (options_of c.in_ok-collector.collector c.bounds.result) 1 (ReadSoFar c.write_report.new.room before after) breaks (g.O.Sink.known c.args.out.now) (g.O.Sink.known c.write_report.new.out) f)
+    c.in-Err-Write.field-0-is c.in-Err-Write.ensures.stopped))

@@ -1,97 +1,134 @@
-use Rattle.std.proofs.Common.{sym, ◌∙◌, ap, arith, refl, take, Err}
+use Rattle.std.proofs.Common.{◌≡◌, ◌++◌, ◌∷◌, [], Option, Ok, Err, refl, sym, ◌∙◌, ap, subst, true, false, arith}
+use Rattle.std.specs.Prelude.{IsOk}
 use Rattle.std.proofs.lemmas.Result.{err_from_is_err_and}
-use Rattle.drm_links.specs.declared.link.Came.TheVariants as recv
-use Rattle.mod_receiver.specs.declared.rules.Rules.{Rules}
-use Rattle.mod_receiver.specs.Hearing.{Heard}
-use Rattle.mod_receiver.proofs.Hearing.{heard_none, heard_more}
-use Rattle.mod_receiver.specs.Received.{rules_of}
-use Rattle.mod_receiver.proofs.Reaching.{OnDatagram, at_start, refused_few, on_datagram, datagram_more, by_frames, by_limit}
-use Rattle.mod_receiver.proofs.Stopping.{OnIdle, on_idle, idle_more, by_idle, on_failed, on_stop}
+use Rattle.drm_links.proofs.ToldLemmas.{done_counts}
+use Rattle.drm_links.proofs.WritingLemmas.{Writes-done, Writes-front}
+use Rattle.dcp_collect.specs.declared.taken.Taken.{Taken}
+use Rattle.dcp_collect.specs.State.{after_item}
+use Rattle.text_pieces.proofs.GatheringLemmas.{put_done, put_failed}
+use Rattle.recv_reading.specs.Options.{options_of}
+use Rattle.recv_reading.specs.Reached.{Reached, ReadsOn}
+use Rattle.recv_reading.proofs.Finishing.{IsOver, gives_so, gives_none, waits_now}
+use Rattle.mod_receiver.specs.Progress.{Progress}
+use Rattle.mod_receiver.proofs.Coming.{none_answered, progress_none, progress_one, stops_at, progress_out, stops_out, progress_taken, progress_on, breaks_off, wrote_all, few_refused}
 use Rattle.mod_receiver.proofs.reading.read_all.Goals as goal
 
 pub answers-init : goal.answers-init
 answers-init g c = (
-  at_start (rules_of c.args.collector.now c.args.options.now) (Heard (g.L.Link.known c.args.link.now) (g.L.Link.known c.args.link.now)) _ c.args.collector.now c.args.feed.now c.args.tally.now (heard_none (g.L.Link.known c.args.link.now)) c.requires.collector c.requires.feed c.requires.tally
-      c.requires.window c.requires.options.limit c.requires.options.idle c.requires.options.some_frames,
+  progress_none (options_of c.args.collector.now c.args.reading.now.bounds) (g.R.Datagrams.so_far c.args.from.now c.args.room.now c.args.from.now) (g.O.Sink.known c.args.out.now)
+      c.args.reading.now c.args.collector.now c.args.feed.now c.args.tally.now c.args.lines.now
+      c.requires.options c.requires.reading c.requires.collector c.requires.feed c.requires.tally c.requires.lines c.requires.nothing_came,
   refl,
   refl,
-  refl,
+  c.requires.room,
 )
 
-pub take-requires-clause-refused : goal.take-requires-clause-refused
-take-requires-clause-refused g c =
-    let few = refused_few (rules_of c.args.collector.now c.args.options.now) _ _ _ c.answers.collector c.answers.feed c.answers.tally c.answers.taken c.answers.idles c.answers.invariant.0 in
-    let fits = c.answers.auto.taken-fits in
-    omega (arith, few, fits)
+pub returns-in_err-write_next-clause-stopped : goal.returns-in_err-write_next-clause-stopped
+returns-in_err-write_next-clause-stopped g c =
+    let e = err_from_is_err_and c.from_residual.result c.from_residual.ensures.1 in
+    let p = c.answers.invariant.0 in
+    let w = c.write_next.ensures.next in
+    rw (e.1 ∙ ap Err e.2)
+    (stops_at _ _ _ _ _ _ _ _ _ p w.item w.step w.stepping (g.O.Sink.known c.write_next.new.out) c.gives.new.self (after_item c.answers.collector)
+    (c.gives.ensures.reached _ p.answers p.taken p.during p.more w.item p.reached c.if-gives.true w.is) (put_failed c.in_err-write_next.was w.puts))
 
-pub returns-in_err-take-in-Datagram-clause-stopped : goal.returns-in_err-take-in-Datagram-clause-stopped
-returns-in_err-take-in-Datagram-clause-stopped g c =
-    let p = err_from_is_err_and c.from_residual.result c.from_residual.ensures.1 in
-    rw (p.1 ∙ ap Err p.2)
-    (on_stop (rules_of c.args.collector.now c.args.options.now) (Heard (g.L.Link.known c.args.link.now) (g.L.Link.known c.answers.link)) (Heard (g.L.Link.known c.args.link.now) (g.L.Link.known c.recv.new.self)) (g.O.Sink.known c.args.out.now) (g.O.Sink.known c.answers.out) (g.O.Sink.known c.take.new.out)
-    c.answers.collector c.answers.feed c.answers.tally c.answers.taken c.answers.idles (take c.in-Datagram.len c.recv.new.buf)
-    c.answers.invariant.0 (λ xs h. heard_more (g.L.Link.known c.args.link.now) (g.L.Link.known c.answers.link) (g.L.Link.known c.recv.new.self) xs (recv.Datagram c.in-Datagram.len) c.recv.new.buf h c.in-Datagram.ensures.answer c.in-Datagram.ensures.told) c.in_err-take-in-Datagram.ensures.front)
-
-pub returns-then-is_full-clause-finished : goal.returns-then-is_full-clause-finished
-returns-then-is_full-clause-finished g c =
-    let rules : Rules = rules_of c.args.collector.now c.args.options.now in
-    let step : OnDatagram rules (Heard (g.L.Link.known c.args.link.now) (g.L.Link.known c.recv.new.self)) (g.O.Sink.known c.args.out.now) (g.O.Sink.known c.take.new.out) c.take.new.collector c.take.new.feed c.take.new.tally c.answers.taken =
-    on_datagram rules (Heard (g.L.Link.known c.args.link.now) (g.L.Link.known c.answers.link)) (Heard (g.L.Link.known c.args.link.now) (g.L.Link.known c.recv.new.self)) (g.O.Sink.known c.args.out.now) (g.O.Sink.known c.answers.out) (g.O.Sink.known c.take.new.out)
-    c.answers.collector c.take.new.collector c.answers.feed c.take.new.feed c.answers.tally c.take.new.tally c.answers.taken c.answers.idles c.from.result (take c.in-Datagram.len c.recv.new.buf)
-    c.answers.invariant.0 (λ xs h. heard_more (g.L.Link.known c.args.link.now) (g.L.Link.known c.answers.link) (g.L.Link.known c.recv.new.self) xs (recv.Datagram c.in-Datagram.len) c.recv.new.buf h c.in-Datagram.ensures.answer c.in-Datagram.ensures.told) c.from.ensures c.in_ok-take-in-Datagram.ensures.taken c.in_ok-take-in-Datagram.ensures.end in
-    by_frames rules _ _ _ c.take.new.collector c.take.new.feed c.take.new.tally c.answers.taken step c.in_ok-take-in-Datagram.ensures.pace (sym c.is_full.ensures ∙ c.if-is_full.true) c.answers.invariant.0.more
-
-pub returns-then-taken-options-clause-finished : goal.returns-then-taken-options-clause-finished
-returns-then-taken-options-clause-finished g c =
-    let rules : Rules = rules_of c.args.collector.now c.args.options.now in
-    let step : OnDatagram rules (Heard (g.L.Link.known c.args.link.now) (g.L.Link.known c.recv.new.self)) (g.O.Sink.known c.args.out.now) (g.O.Sink.known c.take.new.out) c.take.new.collector c.take.new.feed c.take.new.tally c.answers.taken =
-    on_datagram rules (Heard (g.L.Link.known c.args.link.now) (g.L.Link.known c.answers.link)) (Heard (g.L.Link.known c.args.link.now) (g.L.Link.known c.recv.new.self)) (g.O.Sink.known c.args.out.now) (g.O.Sink.known c.answers.out) (g.O.Sink.known c.take.new.out)
-    c.answers.collector c.take.new.collector c.answers.feed c.take.new.feed c.answers.tally c.take.new.tally c.answers.taken c.answers.idles c.from.result (take c.in-Datagram.len c.recv.new.buf)
-    c.answers.invariant.0 (λ xs h. heard_more (g.L.Link.known c.args.link.now) (g.L.Link.known c.answers.link) (g.L.Link.known c.recv.new.self) xs (recv.Datagram c.in-Datagram.len) c.recv.new.buf h c.in-Datagram.ensures.answer c.in-Datagram.ensures.told) c.from.ensures c.in_ok-take-in-Datagram.ensures.taken c.in_ok-take-in-Datagram.ensures.end in
-    by_limit rules _ _ _ c.take.new.collector c.take.new.feed c.take.new.tally c.answers.taken step c.in_ok-take-in-Datagram.ensures.pace (sym c.is_full.ensures ∙ c.if-is_full.false) c.answers.invariant.0.more c.if-taken-options.true
-
-pub answers-preserved-else-taken-options : goal.answers-preserved-else-taken-options
-answers-preserved-else-taken-options g c =
-    let rules : Rules = rules_of c.args.collector.now c.args.options.now in
-    let step : OnDatagram rules (Heard (g.L.Link.known c.args.link.now) (g.L.Link.known c.recv.new.self)) (g.O.Sink.known c.args.out.now) (g.O.Sink.known c.take.new.out) c.take.new.collector c.take.new.feed c.take.new.tally c.answers.taken =
-    on_datagram rules (Heard (g.L.Link.known c.args.link.now) (g.L.Link.known c.answers.link)) (Heard (g.L.Link.known c.args.link.now) (g.L.Link.known c.recv.new.self)) (g.O.Sink.known c.args.out.now) (g.O.Sink.known c.answers.out) (g.O.Sink.known c.take.new.out)
-    c.answers.collector c.take.new.collector c.answers.feed c.take.new.feed c.answers.tally c.take.new.tally c.answers.taken c.answers.idles c.from.result (take c.in-Datagram.len c.recv.new.buf)
-    c.answers.invariant.0 (λ xs h. heard_more (g.L.Link.known c.args.link.now) (g.L.Link.known c.answers.link) (g.L.Link.known c.recv.new.self) xs (recv.Datagram c.in-Datagram.len) c.recv.new.buf h c.in-Datagram.ensures.answer c.in-Datagram.ensures.told) c.from.ensures c.in_ok-take-in-Datagram.ensures.taken c.in_ok-take-in-Datagram.ensures.end in
-    let more = c.answers.invariant.0.more in
-    let other = c.if-taken-options.false in (
-      datagram_more rules _ _ _ c.take.new.collector c.take.new.feed c.take.new.tally c.answers.taken step c.in_ok-take-in-Datagram.ensures.pace (sym c.is_full.ensures ∙ c.if-is_full.false)
-          (omega (arith, more, other)) c.requires.options.idle,
-      c.in-Datagram.ensures.cause.same (λ failed. cc) ∙ c.answers.invariant.1,
-      c.in_ok-take-in-Datagram.ensures.cause.same (λ failed. cc) ∙ c.answers.invariant.2,
-      c.recv.auto.buf ∙ c.answers.invariant.3,
+pub answers-preserved-then-gives : goal.answers-preserved-then-gives
+answers-preserved-then-gives g c =
+    let options = options_of c.args.collector.now c.args.reading.now.bounds in
+    let i = c.answers.invariant in
+    let p = i.0 in
+    let w = c.write_next.ensures.next in
+    let (enough, now, small, given) = gives_so c.gives.result c.answers.reading c.answers.collector c.gives.new.self c.gives.ensures.gives c.if-gives.true in (
+      progress_one _ _ _ _ _ _ _ _ _ p w.item w.step w.stepping (g.O.Sink.known c.write_next.new.out) c.gives.new.self c.write_next.new.collector c.write_next.new.feed c.write_next.new.tally c.write_next.new.lines
+          (subst (λ d. Reached options p.answers p.taken p.during (p.more ++ w.item ∷ []) c.gives.new.self d) (sym c.write_next.ensures.collector)
+          (c.gives.ensures.reached options p.answers p.taken p.during p.more w.item p.reached c.if-gives.true w.is))
+          given w.feed w.calls w.tally (put_done c.in_ok-write_next.was w.puts),
+      i.1,
+      done_counts c.in_ok-write_next.was c.write_next.ensures.cause ∙ i.2,
+      i.3,
     )
 
-pub returns-then-idles-options-clause-finished : goal.returns-then-idles-options-clause-finished
-returns-then-idles-options-clause-finished g c =
-    let rules : Rules = rules_of c.args.collector.now c.args.options.now in
-    let step : OnIdle rules (Heard (g.L.Link.known c.args.link.now) (g.L.Link.known c.recv.new.self)) (g.O.Sink.known c.args.out.now) (g.O.Sink.known c.answers.out) c.answers.collector c.answers.feed c.answers.tally c.answers.taken c.answers.idles =
-    on_idle rules (Heard (g.L.Link.known c.args.link.now) (g.L.Link.known c.answers.link)) (Heard (g.L.Link.known c.args.link.now) (g.L.Link.known c.recv.new.self)) (g.O.Sink.known c.args.out.now) (g.O.Sink.known c.answers.out)
-    c.answers.collector c.answers.feed c.answers.tally c.answers.taken c.answers.idles c.answers.invariant.0
-    (λ xs h. heard_more (g.L.Link.known c.args.link.now) (g.L.Link.known c.answers.link) (g.L.Link.known c.recv.new.self) xs recv.Idle c.recv.new.buf h c.in-Idle.ensures.answer c.in-Idle.ensures.told) in
-    by_idle rules (Heard (g.L.Link.known c.args.link.now) (g.L.Link.known c.answers.link)) (Heard (g.L.Link.known c.args.link.now) (g.L.Link.known c.recv.new.self)) _ _ c.answers.collector c.answers.feed c.answers.tally c.answers.taken c.answers.idles c.answers.invariant.0 step c.if-idles-options.true
+pub returns-in_err-flush-clause-stopped : goal.returns-in_err-flush-clause-stopped
+returns-in_err-flush-clause-stopped g c =
+    let e = err_from_is_err_and c.from_residual-in_err-flush.result c.from_residual-in_err-flush.ensures.1 in
+    rw (e.1 ∙ ap Err e.2)
+    (stops_out _ _ _ _ _ _ _ _ _ c.answers.invariant.0 (g.O.Sink.known c.flush.new.out)
+    (λ none. let ok : IsOk c.flush.result = (c.flush.ensures.nothing none).0 in let clash : false ≡ true = subst IsOk c.in_err-flush.was ok in cc)
+    (Writes-front c.in_err-flush.was c.flush.ensures.writes))
+
+pub returns-then-has_ended-clause-finished : goal.returns-then-has_ended-clause-finished
+returns-then-has_ended-clause-finished g c =
+    let options = options_of c.args.collector.now c.args.reading.now.bounds in
+    let came = g.R.Datagrams.so_far c.args.from.now c.answers.room c.answers.from in
+    let (over, same) = gives_none c.gives.result c.answers.reading c.answers.collector c.gives.new.self c.gives.ensures.gives c.if-gives.false in
+    let out = progress_out _ _ _ _ _ _ _ _ _ c.answers.invariant.0 (g.O.Sink.known c.flush.new.out) (Writes-done c.in_ok-flush.was c.flush.ensures.writes) in
+    let here : Progress options came (g.O.Sink.known c.args.out.now) (g.O.Sink.known c.flush.new.out) c.gives.new.self c.answers.collector c.answers.feed c.answers.tally [] =
+    subst (λ s. Progress options came (g.O.Sink.known c.args.out.now) (g.O.Sink.known c.flush.new.out) s c.answers.collector c.answers.feed c.answers.tally []) (sym same) out in
+    wrote_all _ _ _ _ _ _ _ _ _ here refl (sym c.has_ended.ensures ∙ c.if-has_ended.true) (subst (λ s. IsOver s c.answers.collector) (sym same) over)
+
+pub read_on-requires-clause-waits : goal.read_on-requires-clause-waits
+read_on-requires-clause-waits g c =
+    let (over, same) = gives_none c.gives.result c.answers.reading c.answers.collector c.gives.new.self c.gives.ensures.gives c.if-gives.false in
+    waits_now c.gives.new.self c.answers.collector (subst (λ s. IsOver s c.answers.collector) (sym same) over) (sym c.has_ended.ensures ∙ c.if-has_ended.false)
+
+pub returns-in_err-taken-clause-stopped : goal.returns-in_err-taken-clause-stopped
+returns-in_err-taken-clause-stopped g c =
+    let options = options_of c.args.collector.now c.args.reading.now.bounds in
+    let came = g.R.Datagrams.so_far c.args.from.now c.answers.room c.answers.from in
+    let e = err_from_is_err_and c.from_residual-in_err-taken.result c.from_residual-in_err-taken.ensures.1 in
+    let (over, same) = gives_none c.gives.result c.answers.reading c.answers.collector c.gives.new.self c.gives.ensures.gives c.if-gives.false in
+    let out = progress_out _ _ _ _ _ _ _ _ _ c.answers.invariant.0 (g.O.Sink.known c.flush.new.out) (Writes-done c.in_ok-flush.was c.flush.ensures.writes) in
+    let p : Progress options came (g.O.Sink.known c.args.out.now) (g.O.Sink.known c.flush.new.out) c.gives.new.self c.answers.collector c.answers.feed c.answers.tally [] =
+    subst (λ s. Progress options came (g.O.Sink.known c.args.out.now) (g.O.Sink.known c.flush.new.out) s c.answers.collector c.answers.feed c.answers.tally []) (sym same) out in
+    let waits = waits_now c.gives.new.self c.answers.collector (subst (λ s. IsOver s c.answers.collector) (sym same) over) (sym c.has_ended.ensures ∙ c.if-has_ended.false) in
+    rw (e.1 ∙ ap Err e.2)
+    (breaks_off _ _ _ _ _ _ _ _ _ p refl (g.R.Datagrams.so_far c.args.from.now c.read_on.new.room c.read_on.new.from) (λ fault. g.R.Datagrams.until c.args.from.now fault c.read_on.new.from) c.in_err-taken.field-0.0
+    c.read_on.new.self c.read_on.new.collector waits (c.in_err-taken.ensures.reads c.args.from.now options p.answers p.taken p.during p.more p.heard p.reached))
+
+pub note-requires : goal.note-requires
+note-requires g c =
+    let p = c.answers.invariant.0 in
+    let few = few_refused _ _ _ _ _ _ _ _ _ p in
+    let most = p.reached.most in
+    let far = p.reached.usable.most_datagrams in
+    omega (arith, few, most, far)
+
+pub answers-preserved-in-Some : goal.answers-preserved-in-Some
+answers-preserved-in-Some g c =
+    let options = options_of c.args.collector.now c.args.reading.now.bounds in
+    let i = c.answers.invariant in
+    let came = g.R.Datagrams.so_far c.args.from.now c.answers.room c.answers.from in
+    let came' = g.R.Datagrams.so_far c.args.from.now c.read_on.new.room c.read_on.new.from in
+    let (over, same) = gives_none c.gives.result c.answers.reading c.answers.collector c.gives.new.self c.gives.ensures.gives c.if-gives.false in
+    let out = progress_out _ _ _ _ _ _ _ _ _ i.0 (g.O.Sink.known c.flush.new.out) (Writes-done c.in_ok-flush.was c.flush.ensures.writes) in
+    let p : Progress options came (g.O.Sink.known c.args.out.now) (g.O.Sink.known c.flush.new.out) c.gives.new.self c.answers.collector c.answers.feed c.answers.tally c.flush.new.self =
+    subst (λ s. Progress options came (g.O.Sink.known c.args.out.now) (g.O.Sink.known c.flush.new.out) s c.answers.collector c.answers.feed c.answers.tally c.flush.new.self) (sym same)
+    (subst (λ l. Progress options came (g.O.Sink.known c.args.out.now) (g.O.Sink.known c.flush.new.out) c.answers.reading c.answers.collector c.answers.feed c.answers.tally l) (sym c.in_ok-flush.ensures.none) out) in
+    let reads = c.in_ok-taken.ensures.reads c.args.from.now options p.answers p.taken p.during p.more p.heard p.reached in (
+      progress_taken _ _ _ _ _ _ _ _ _ p c.in_ok-flush.ensures.none came' (λ fault. g.R.Datagrams.until c.args.from.now fault c.read_on.new.from) c.in-Some.taken c.read_on.new.self c.read_on.new.collector c.note.new.self c.taken-number.result
+          (subst (λ (o : Option Taken). ReadsOn came' (λ fault. g.R.Datagrams.until c.args.from.now fault c.read_on.new.from) options p.answers p.taken (p.during ++ p.more) (Ok o) c.read_on.new.self c.read_on.new.collector) c.in-Some.is reads)
+          c.taken-number.ensures c.note.ensures,
+      c.in_ok-taken.ensures.cause.same (λ failed. failed) ∙ i.1,
+      done_counts c.in_ok-flush.was c.flush.ensures.writes.cause ∙ i.2,
+      c.read_on.ensures.room,
+    )
 
 pub answers-preserved : goal.answers-preserved
 answers-preserved g c =
-    let rules : Rules = rules_of c.args.collector.now c.args.options.now in
-    let step : OnIdle rules (Heard (g.L.Link.known c.args.link.now) (g.L.Link.known c.recv.new.self)) (g.O.Sink.known c.args.out.now) (g.O.Sink.known c.answers.out) c.answers.collector c.answers.feed c.answers.tally c.answers.taken c.answers.idles =
-    on_idle rules (Heard (g.L.Link.known c.args.link.now) (g.L.Link.known c.answers.link)) (Heard (g.L.Link.known c.args.link.now) (g.L.Link.known c.recv.new.self)) (g.O.Sink.known c.args.out.now) (g.O.Sink.known c.answers.out)
-    c.answers.collector c.answers.feed c.answers.tally c.answers.taken c.answers.idles c.answers.invariant.0
-    (λ xs h. heard_more (g.L.Link.known c.args.link.now) (g.L.Link.known c.answers.link) (g.L.Link.known c.recv.new.self) xs recv.Idle c.recv.new.buf h c.in-Idle.ensures.answer c.in-Idle.ensures.told) in
-    let fewer = c.answers.invariant.0.fewer in
-    let other = c.if-idles-options.false in (
-      idle_more rules (Heard (g.L.Link.known c.args.link.now) (g.L.Link.known c.answers.link)) (Heard (g.L.Link.known c.args.link.now) (g.L.Link.known c.recv.new.self)) _ _ c.answers.collector c.answers.feed c.answers.tally c.answers.taken c.answers.idles c.answers.invariant.0 step (omega (arith, fewer, other)),
-      c.in-Idle.ensures.cause.same (λ failed. cc) ∙ c.answers.invariant.1,
-      c.answers.invariant.2,
-      c.recv.auto.buf ∙ c.answers.invariant.3,
+    let options = options_of c.args.collector.now c.args.reading.now.bounds in
+    let i = c.answers.invariant in
+    let came = g.R.Datagrams.so_far c.args.from.now c.answers.room c.answers.from in
+    let came' = g.R.Datagrams.so_far c.args.from.now c.read_on.new.room c.read_on.new.from in
+    let (over, same) = gives_none c.gives.result c.answers.reading c.answers.collector c.gives.new.self c.gives.ensures.gives c.if-gives.false in
+    let out = progress_out _ _ _ _ _ _ _ _ _ i.0 (g.O.Sink.known c.flush.new.out) (Writes-done c.in_ok-flush.was c.flush.ensures.writes) in
+    let p : Progress options came (g.O.Sink.known c.args.out.now) (g.O.Sink.known c.flush.new.out) c.gives.new.self c.answers.collector c.answers.feed c.answers.tally c.flush.new.self =
+    subst (λ s. Progress options came (g.O.Sink.known c.args.out.now) (g.O.Sink.known c.flush.new.out) s c.answers.collector c.answers.feed c.answers.tally c.flush.new.self) (sym same)
+    (subst (λ l. Progress options came (g.O.Sink.known c.args.out.now) (g.O.Sink.known c.flush.new.out) c.answers.reading c.answers.collector c.answers.feed c.answers.tally l) (sym c.in_ok-flush.ensures.none) out) in
+    let reads = c.in_ok-taken.ensures.reads c.args.from.now options p.answers p.taken p.during p.more p.heard p.reached in (
+      progress_on _ _ _ _ _ _ _ _ _ p c.in_ok-flush.ensures.none came' (λ fault. g.R.Datagrams.until c.args.from.now fault c.read_on.new.from) c.read_on.new.self c.read_on.new.collector
+          (subst (λ (o : Option Taken). ReadsOn came' (λ fault. g.R.Datagrams.until c.args.from.now fault c.read_on.new.from) options p.answers p.taken (p.during ++ p.more) (Ok o) c.read_on.new.self c.read_on.new.collector)
+          (none_answered c.in_ok-taken.field-0 c.in_default.not-Some) reads),
+      c.in_ok-taken.ensures.cause.same (λ failed. failed) ∙ i.1,
+      done_counts c.in_ok-flush.was c.flush.ensures.writes.cause ∙ i.2,
+      c.read_on.ensures.room,
     )
-
-pub returns-in-Failed-clause-stopped : goal.returns-in-Failed-clause-stopped
-returns-in-Failed-clause-stopped g c =
-    on_failed (rules_of c.args.collector.now c.args.options.now) (Heard (g.L.Link.known c.args.link.now) (g.L.Link.known c.answers.link)) (Heard (g.L.Link.known c.args.link.now) (g.L.Link.known c.recv.new.self)) (g.O.Sink.known c.args.out.now) (g.O.Sink.known c.answers.out)
-    c.answers.collector c.answers.feed c.answers.tally c.answers.taken c.answers.idles c.answers.invariant.0
-    (λ xs h. heard_more (g.L.Link.known c.args.link.now) (g.L.Link.known c.answers.link) (g.L.Link.known c.recv.new.self) xs recv.Failed c.recv.new.buf h c.in-Failed.ensures.answer c.in-Failed.ensures.told)

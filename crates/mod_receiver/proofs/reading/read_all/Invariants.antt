@@ -1,16 +1,16 @@
-use Rattle.std.proofs.Common.{◌≡◌, ◌+◌, ◌-◌, ◌*◌, length}
-use Rattle.mod_receiver.specs.Received.{rules_of}
-use Rattle.mod_receiver.specs.Hearing.{Heard}
-use Rattle.mod_receiver.proofs.Reaching.{Reaches}
+use Rattle.std.proofs.Common.{◌≡◌}
+use Rattle.recv_reading.specs.Options.{options_of}
+use Rattle.recv_reading.specs.State.{ahead}
+use Rattle.mod_receiver.specs.Progress.{Progress}
 use Rattle.mod_receiver.proofs.reading.read_all.Given as goal
 
--- nothing is finished yet
+-- the report has come so far, and no call has failed
 abbrev pub invariant-answers : goal.invariant-answers
 invariant-answers g l =
-    Reaches (rules_of l.fn.collector l.options) (Heard (g.L.Link.known l.fn.link) (g.L.Link.known l.link)) (g.O.Sink.known l.fn.out) (g.O.Sink.known l.out) l.collector l.feed l.tally l.taken l.idles
-    × ((g.L.Link.known l.link).faults ≡ (g.L.Link.known l.fn.link).faults)
+    Progress (options_of l.fn.collector l.fn.reading.bounds) (g.R.Datagrams.so_far l.fn.from l.room l.from) (g.O.Sink.known l.fn.out) (g.O.Sink.known l.out) l.reading l.collector l.feed l.tally l.lines
+    × (g.R.Datagrams.faults l.from ≡ g.R.Datagrams.faults l.fn.from)
     × ((g.O.Sink.known l.out).faults ≡ (g.O.Sink.known l.fn.out).faults)
-    × (length l.buffer ≡ length l.fn.buffer)
+    × g.R.Datagrams.is_ready l.room
 
 abbrev pub decreases-answers : goal.decreases-answers
-decreases-answers g l = (l.options.limit - l.taken) * l.options.idle + (l.options.idle - l.idles)
+decreases-answers g l = ahead l.reading l.collector

@@ -1,4 +1,4 @@
-use Rattle.mod_receiver.proofs.OneReading.{one_reading}
+use Rattle.recv_reading.proofs.OneReading.{one_reading}
 use Rattle.mod_receiver.proofs.reading_laws.one_reading_of_a_link.Goals as goal
 
 pub returns : goal.returns

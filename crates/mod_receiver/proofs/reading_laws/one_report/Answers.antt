@@ -1,4 +1,4 @@
-use Rattle.mod_receiver.proofs.OneReading.{one_report}
+use Rattle.mod_receiver.proofs.OneReport.{one_report}
 use Rattle.mod_receiver.proofs.reading_laws.one_report.Goals as goal
 
 pub returns : goal.returns

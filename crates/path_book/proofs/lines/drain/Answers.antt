@@ -8,9 +8,8 @@ use Rattle.mod_feed.specs.Feeding.{step_of, IsStep}
 use Rattle.drm_links.specs.Told.{Known}
 use Rattle.drm_links.specs.Sink.{Output}
 use Rattle.drm_links.proofs.WritingLemmas.{Writes-done}
-use Rattle.mod_receiver.proofs.Printing.{in_number, in_order, pace_below, drained_none, drained_one, next_end}
-use Rattle.mod_receiver.proofs.Reaching.{full_fits}
-use Rattle.mod_receiver.specs.Printed.{items_in}
+use Rattle.path_book.proofs.Printing.{in_number, in_order, pace_below, drained_none, drained_one, next_end, full_fits}
+use Rattle.report_lines.specs.Tallies.{items_in}
 use Rattle.path_book.proofs.Draining.{drained_past, drained_all, pace_still, counts_first}
 use Rattle.path_book.proofs.lines.drain.Goals as goal
 

@@ -1,7 +1,7 @@
 use Rattle.std.proofs.Common.{◌≡◌, ◌-◌, ◌^◌, List}
 use Rattle.dcp_collect.specs.Runs.{Item}
 use Rattle.collect_laws.specs.Laws.{IsFit}
-use Rattle.mod_receiver.proofs.Printing.{Drained}
+use Rattle.path_book.proofs.Printing.{Drained}
 use Rattle.path_book.proofs.lines.drain.Given as goal
 
 -- what was given so far was written, up to the told number

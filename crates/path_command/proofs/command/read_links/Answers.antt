@@ -6,7 +6,7 @@ use Rattle.std.proofs.lemmas.Result.{err_from_is_err_and}
 use Rattle.drm_links.specs.Told.{Tells}
 use Rattle.drm_paths.specs.State.{PathState}
 use Rattle.drm_paths.specs.Closing.{Closes}
-use Rattle.drm_receive.proofs.ReceiveLemmas.{written_back}
+use Rattle.path_command.proofs.Listing.{written_back}
 use Rattle.path_command.specs.declared.job.PathJob.{PathJob}
 use Rattle.path_command.specs.Jobs.{IsReady, has_failed, has_run_out}
 use Rattle.path_command.specs.Opening.{IsClosed}

@@ -4,7 +4,7 @@ use Rattle.std.proofs.lemmas.List.{length-drop, length-map, get_or-map, append-n
 use Rattle.std.proofs.lemmas.Grind.{common_steps}
 use Rattle.several_links.specs.declared.member.Member.{Member}
 use Rattle.several_links.proofs.CloseLemmas.{next_left, closing_first, close_more, closed_all}
-use Rattle.drm_receive.proofs.HearingLemmas.{as_members, member_at, members_many}
+use Rattle.several_links.proofs.BindLemmas.{as_members, member_at, members_many}
 use Rattle.path_command.specs.declared.job.PathJob.{PathJob}
 use Rattle.path_command.specs.Opening.{member_of}
 use Rattle.path_command.proofs.Opening.{itself}

@@ -2,7 +2,7 @@ use Rattle.std.proofs.Common.{◌≡◌, ◌≤◌, true, ◌++◌, length, map,
 use Rattle.std.specs.Vec.Iter.{into_iter_items}
 use Rattle.drm_links.specs.Told.{Tells}
 use Rattle.several_links.proofs.CloseLemmas.{Closing}
-use Rattle.drm_receive.proofs.HearingLemmas.{as_members}
+use Rattle.several_links.proofs.BindLemmas.{as_members}
 use Rattle.path_command.proofs.Opening.{itself}
 use Rattle.path_command.proofs.open.close_links.Given as goal
 

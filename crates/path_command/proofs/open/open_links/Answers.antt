@@ -6,9 +6,9 @@ use Rattle.std.proofs.lemmas.Grind.{common_steps}
 use Rattle.drm_links.specs.declared.dock.Address.{Address}
 use Rattle.drm_links.proofs.ToldLemmas.{counts_one, once_then, Tells-weaker}
 use Rattle.drm_links.proofs.Places.{each_more}
-use Rattle.several_links.specs.Openings.{Docked, HasLink}
+use Rattle.drm_links.specs.Dock.{Docked, HasLink}
 use Rattle.several_links.proofs.OpeningLemmas.{found_now, opened_now, opened_all, docked_any, docked_still}
-use Rattle.drm_receive.proofs.OpeningLemmas.{HaveFirst, missed_now, failed_few, all_links}
+use Rattle.several_links.proofs.BindLemmas.{HaveFirst, missed_now, failed_few, all_links}
 use Rattle.path_command.specs.declared.job.Seat.{Seat}
 use Rattle.path_command.specs.declared.job.PathJob.{PathJob}
 use Rattle.path_command.proofs.Opening.{itself}

@@ -2,7 +2,7 @@ use Rattle.std.proofs.Common.{◌≡◌, ℕ, ◌+◌, ◌++◌, ◌<◌, ◌≤
 use Rattle.std.specs.Vec.Iter.{into_iter_items}
 use Rattle.drm_links.specs.Told.{Tells}
 use Rattle.drm_links.specs.declared.dock.Address.{Address}
-use Rattle.several_links.specs.Openings.{Docked, HasLink}
+use Rattle.drm_links.specs.Dock.{Docked, HasLink}
 use Rattle.several_links.proofs.OpeningLemmas.{Opened}
 use Rattle.path_command.proofs.open.open_links.Given as goal
 

@@ -4,8 +4,7 @@ use Rattle.drm_links.specs.Sink.{Outputs, IsFront}
 use Rattle.drm_links.proofs.ToldLemmas.{Outputs-weaker}
 use Rattle.drm_links.proofs.WritingLemmas.{Writes-done, Writes-front, front_more, front_then}
 use Rattle.report_lines.specs.Report.{end_line}
-use Rattle.mod_receiver.specs.Ahead.{Report}
-use Rattle.mod_receiver.specs.Reports.{refused_text}
+use Rattle.report_lines.specs.Reports.{refused_text, Report}
 use Rattle.path_book.proofs.ending.Ending.write.Goals as goal
 
 pub returns-in_err-write_refused-clause-front : goal.returns-in_err-write_refused-clause-front

@@ -1,7 +1,7 @@
 use Rattle.std.proofs.Common.{◌≡◌, false, length, map, sym, ◌∙◌, ap, subst, arith}
 use Rattle.std.proofs.lemmas.List.{length-map}
 use Rattle.collect_laws.proofs.Fit.{fit_taken}
-use Rattle.mod_receiver.proofs.Taking.{takes_end}
+use Rattle.recv_reading.proofs.Reaching.{takes_end}
 use Rattle.path_book.specs.Journal.{JournalState, entry_of, datagrams, IsKept, Enters}
 use Rattle.path_book.proofs.Keeping.{refused_few, as_many, entered, enters, goes_on, quiet_then}
 use Rattle.path_book.proofs.journal.Journal.enter.Goals as goal

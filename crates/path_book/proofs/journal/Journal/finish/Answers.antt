@@ -1,9 +1,9 @@
 use Rattle.std.proofs.Common.{◌≡◌, ◌++◌, map, sym, ◌∙◌, ap, subst}
 use Rattle.dcp_collect.specs.State.{State, after_finish}
-use Rattle.report_lines.specs.declared.report.EndWord.{EndWord}
+use Rattle.recv_reading.specs.declared.reason.EndWord.{EndWord}
 use Rattle.report_lines.specs.Report.{end_line}
-use Rattle.mod_receiver.specs.Reports.{refused_text}
-use Rattle.mod_receiver.specs.Printed.{items_in}
+use Rattle.report_lines.specs.Reports.{refused_text}
+use Rattle.report_lines.specs.Tallies.{items_in}
 use Rattle.path_book.specs.Lines.{WritesAll}
 use Rattle.path_book.specs.Journal.{JournalState, entry_of, datagrams}
 use Rattle.path_book.specs.Report.{IsReportOf, word_for}

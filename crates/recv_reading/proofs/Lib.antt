@@ -1,0 +1,12 @@
+pub mod Going
+pub mod Giving
+pub mod AtOnce
+pub mod Reaching
+pub mod Finishing
+pub mod Sources
+pub mod BreakingOff
+pub mod PacketLemmas
+pub mod First
+pub mod Kept
+pub mod OneReading
+pub mod Ways

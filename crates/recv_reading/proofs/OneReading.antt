@@ -1,0 +1,129 @@
+-- What is read of a link is one thing.
+use Rattle.std.proofs.Common.{◌≡◌, ℕ, zero, suc, ◌+◌, ◌<◌, ◌≤◌, ◌⊎◌, inl, inr, List, [], ◌∷◌, ◌++◌, length, take, drop, None, Some, refl, sym, ◌∙◌, ap, subst, arith, length-append}
+use Rattle.std.specs.List.{AllByRecursion}
+use Rattle.std.proofs.lemmas.List.{take_all}
+use Rattle.drm_links.specs.Link.{Answer, Failed}
+use Rattle.drm_links.specs.Hearing.{AreNext}
+use Rattle.recv_reading.specs.declared.reason.EndWord.{EndWord}
+use Rattle.recv_reading.specs.declared.reason.EndWord.TheVariants as word
+use Rattle.recv_reading.specs.declared.options.ReceiveOptions.{ReceiveOptions}
+use Rattle.recv_reading.specs.Ending.{Holds, EndsBy, IsSound, GoesOn, IsFinished, IsBroken}
+use Rattle.recv_reading.specs.OneReading.{IsOneReading}
+
+pub next_front : (ahead r s : List Answer) (xs ys : List Answer) → AreNext ahead xs r → AreNext ahead ys s → length xs ≤ length ys → xs ≡ take (length xs) ys
+next_front ahead r s [] ys p q l = refl
+next_front ahead r s (x ∷ xs) [] p q l = absurd (omega arith)
+next_front ahead r s (x ∷ xs) (y ∷ ys) p q l =
+    let e : x ≡ y = p.0 ∙ sym q.0 in
+    let f : xs ≡ take (length xs) ys = next_front (drop 1 ahead) r s xs ys p.1 q.1 (omega arith) in
+    ap (λ z. z ∷ xs) e ∙ ap (λ zs. y ∷ zs) f
+
+pub ends_hold : (rules : ReceiveOptions) (xs : List Answer) (w : EndWord) → EndsBy rules xs w → Holds rules xs w
+ends_hold rules xs word.Frames e = e
+ends_hold rules xs word.Limit e = e.0
+ends_hold rules xs word.Idle e = e.0
+ends_hold rules xs word.Input e = e.0
+ends_hold rules xs word.Paths e = e
+
+-- where a list that holds a reason to end stands at the front of another one, that one doesn't go on
+pub not_shorter : (rules : ReceiveOptions) (ahead r s : List Answer) (xs ys : List Answer) (w : EndWord) → AreNext ahead xs r → AreNext ahead ys s → Holds rules xs w → GoesOn rules ys → length xs < length ys → ⊥
+not_shorter rules ahead r s xs ys w p q h g l =
+    let e : xs ≡ take (length xs) ys = next_front ahead r s xs ys p q (omega arith) in
+    g.shorter (length xs) l w (subst (λ zs. Holds rules zs w) e h)
+
+pub three : (m n : ℕ) → (m < n) ⊎ ((n < m) ⊎ (m ≡ n))
+three m n = grind arith
+
+pub same_answers : (ahead r s : List Answer) (xs ys : List Answer) → AreNext ahead xs r → AreNext ahead ys s → length xs ≡ length ys → xs ≡ ys
+same_answers ahead r s xs ys p q e = next_front ahead r s xs ys p q (omega (arith, e)) ∙ take_all (length xs) ys (omega (arith, e))
+
+finished_same : (rules : ReceiveOptions) (ahead r s : List Answer) (xs ys : List Answer) (v w : EndWord) → AreNext ahead xs r → AreNext ahead ys s → IsFinished rules xs v → IsFinished rules ys w → ys ≡ xs
+finished_same rules ahead r s xs ys v w p q f g =
+    elim (three (length xs) (length ys)) [
+      | inl l ↦ absurd (not_shorter rules ahead r s xs ys v p q (ends_hold rules xs v f.ends) g.goes_on l)
+      | inr h ↦ elim h [
+        | inl l ↦ absurd (not_shorter rules ahead s r ys xs w q p (ends_hold rules ys w g.ends) f.goes_on l)
+        | inr e ↦ sym (same_answers ahead r s xs ys p q e)
+      ]
+    ]
+
+pub one_word : (rules : ReceiveOptions) (xs : List Answer) (v w : EndWord) → EndsBy rules xs v → EndsBy rules xs w → w ≡ v
+one_word rules xs word.Frames word.Frames e f = refl
+one_word rules xs word.Frames word.Limit e f = absurd (f.1 e)
+one_word rules xs word.Frames word.Idle e f = absurd (f.1 e)
+one_word rules xs word.Limit word.Frames e f = absurd (e.1 f)
+one_word rules xs word.Limit word.Limit e f = refl
+one_word rules xs word.Limit word.Idle e f = absurd (f.2 e.0)
+one_word rules xs word.Idle word.Frames e f = absurd (e.1 f)
+one_word rules xs word.Idle word.Limit e f = absurd (e.2 f.0)
+one_word rules xs word.Idle word.Idle e f = refl
+one_word rules xs word.Frames word.Input e f = absurd (f.1 e)
+one_word rules xs word.Limit word.Input e f = absurd (f.2 e.0)
+one_word rules xs word.Idle word.Input e f = absurd (f.3 e.0)
+one_word rules xs word.Input word.Frames e f = absurd (e.1 f)
+one_word rules xs word.Input word.Limit e f = absurd (e.2 f.0)
+one_word rules xs word.Input word.Idle e f = absurd (e.3 f.0)
+one_word rules xs word.Input word.Input e f = refl
+one_word rules xs word.Frames word.Paths e f = absurd f
+one_word rules xs word.Limit word.Paths e f = absurd f
+one_word rules xs word.Idle word.Paths e f = absurd f
+one_word rules xs word.Input word.Paths e f = absurd f
+one_word rules xs word.Paths w e f = absurd e
+
+pub next_split : (ahead s : List Answer) (xs ys : List Answer) → AreNext ahead (xs ++ ys) s → (mid : List Answer) × AreNext ahead xs mid
+next_split ahead s [] ys p = (ahead, refl)
+next_split ahead s (x ∷ xs) ys p = let h = next_split (drop 1 ahead) s xs ys p.1 in (h.0, (p.0, h.1))
+
+has_failed : (xs : List Answer) (n : ℕ) (before : List Answer) → AllByRecursion IsSound xs → before ++ Failed ∷ [] ≡ take n xs → ⊥
+has_failed [] zero [] all e = cc
+has_failed [] zero (b ∷ before) all e = cc
+has_failed [] (suc n) [] all e = cc
+has_failed [] (suc n) (b ∷ before) all e = cc
+has_failed (x ∷ xs) zero [] all e = cc
+has_failed (x ∷ xs) zero (b ∷ before) all e = cc
+has_failed (x ∷ xs) (suc n) [] all e = let f : Failed ≡ x = cc in subst IsSound (sym f) all.0
+has_failed (x ∷ xs) (suc n) (b ∷ before) all e = has_failed xs n before all.1 cc
+
+-- answers that go on don't break off within themselves
+pub goes_past : (rules : ReceiveOptions) (ahead r s : List Answer) (xs before : List Answer) → AreNext ahead xs r → AreNext ahead (before ++ Failed ∷ []) s → GoesOn rules xs → length before < length xs → ⊥
+goes_past rules ahead r s xs before p q g l =
+    let size : length (before ++ Failed ∷ []) ≡ length before + 1 = length-append before (Failed ∷ []) in
+    has_failed xs (length (before ++ Failed ∷ [])) before g.sound (next_front ahead s r (before ++ Failed ∷ []) xs q p (omega (arith, size, l)))
+
+-- what is finished doesn't break off
+pub finished_whole : (rules : ReceiveOptions) (ahead r s : List Answer) (xs before ys : List Answer) (w : EndWord) → AreNext ahead xs r → AreNext ahead ys s → IsFinished rules xs w → IsBroken rules before ys → ⊥
+finished_whole rules ahead r s xs before ys w p q f b =
+    let q' : AreNext ahead (before ++ Failed ∷ []) s = subst (λ zs. AreNext ahead zs s) b.last q in
+    let half = next_split ahead s before (Failed ∷ []) q' in
+    elim (three (length xs) (length before)) [
+      | inl l ↦ not_shorter rules ahead r half.0 xs before w p half.1 (ends_hold rules xs w f.ends) b.goes_on l
+      | inr h ↦ elim h [
+        | inl l ↦ goes_past rules ahead r s xs before p q' f.goes_on l
+        | inr e ↦
+            let same : xs ≡ before = same_answers ahead r half.0 xs before p half.1 e in
+            b.is_open w (subst (λ zs. Holds rules zs w) same (ends_hold rules xs w f.ends))
+      ]
+    ]
+
+-- two that break off are one
+pub broken_same : (rules : ReceiveOptions) (ahead r s : List Answer) (before xs before' ys : List Answer) → AreNext ahead xs r → AreNext ahead ys s → IsBroken rules before xs → IsBroken rules before' ys → ys ≡ xs
+broken_same rules ahead r s before xs before' ys p q b d =
+    let p' : AreNext ahead (before ++ Failed ∷ []) r = subst (λ zs. AreNext ahead zs r) b.last p in
+    let q' : AreNext ahead (before' ++ Failed ∷ []) s = subst (λ zs. AreNext ahead zs s) d.last q in
+    let half = next_split ahead r before (Failed ∷ []) p' in
+    let half' = next_split ahead s before' (Failed ∷ []) q' in
+    elim (three (length before) (length before')) [
+      | inl l ↦ absurd (goes_past rules ahead half'.0 r before' before half'.1 p' d.goes_on l)
+      | inr h ↦ elim h [
+        | inl l ↦ absurd (goes_past rules ahead half.0 s before before' half.1 q' b.goes_on l)
+        | inr e ↦ d.last ∙ ap (λ l. l ++ Failed ∷ []) (sym (same_answers ahead half.0 half'.0 before before' half.1 half'.1 e)) ∙ sym b.last
+      ]
+    ]
+
+pub one_reading : IsOneReading
+one_reading rules ahead answers others (Some v) (Some w) p q =
+    let same : others ≡ answers = finished_same rules ahead p.rest q.rest answers others v w p.next q.next p.ends q.ends in
+    (same, ap Some (one_word rules answers v w p.ends.ends (subst (λ zs. EndsBy rules zs w) same q.ends.ends)))
+one_reading rules ahead answers others (Some v) None p q = absurd (finished_whole rules ahead p.rest q.rest answers q.ends.0 others v p.next q.next p.ends q.ends.1)
+one_reading rules ahead answers others None (Some w) p q = absurd (finished_whole rules ahead q.rest p.rest others p.ends.0 answers w q.next p.next q.ends p.ends.1)
+one_reading rules ahead answers others None None p q = (broken_same rules ahead p.rest q.rest p.ends.0 answers q.ends.0 others p.next q.next p.ends.1 q.ends.1, refl)

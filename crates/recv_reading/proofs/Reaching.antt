@@ -1,0 +1,424 @@
+-- A reading goes on, call by call.
+use Rattle.std.proofs.Common.{◌≡◌, ℕ, suc, ◌+◌, ◌-◌, ◌*◌, ◌^◌, ◌<◌, ◌≤◌, inl, inr, nat_le, Bool, true, false, if◌then◌else◌, List, [], ◌∷◌, ◌++◌, length, Option, None, Some, IfSome, refl, sym, ◌∙◌, ap, subst, arith, append_assoc, length-append, add-one}
+use Rattle.std.proofs.Math.Nat.{mul-le-mul_right, suc-mul}
+use Rattle.std.proofs.lemmas.Bool.{true≢false}
+use Rattle.std.proofs.lemmas.List.{append-nil}
+use Rattle.drm_links.specs.Link.{Answer, Datagram, Idle, Failed, End}
+use Rattle.dcp_collect.specs.declared.taken.Taken.{Taken}
+use Rattle.dcp_collect.specs.State.{State, made, ready, after_item, after_finish}
+use Rattle.dcp_collect.specs.Runs.{Item, IsItem, Takes}
+use Rattle.dcp_collect.proofs.Decoded.{one_decoding}
+use Rattle.collect_laws.specs.Laws.{OneRun, IsFit}
+use Rattle.collect_laws.proofs.OneReading.{one_reading as one_datagram}
+use Rattle.collect_laws.proofs.Stays.{take_next, take_end}
+use Rattle.collect_laws.proofs.Unique.{one_run}
+use Rattle.collect_laws.proofs.Runs.{given_all, given_more}
+use Rattle.collect_laws.proofs.Fit.{fit_next}
+use Rattle.recv_reading.specs.declared.options.ReceiveOptions.{ReceiveOptions}
+use Rattle.recv_reading.specs.declared.options.Bounds.{Bounds}
+use Rattle.recv_reading.specs.declared.reason.EndWord.{EndWord}
+use Rattle.recv_reading.specs.declared.reason.EndWord.TheVariants as word
+use Rattle.recv_reading.specs.Options.{AreUsable, bounds_of}
+use Rattle.recv_reading.specs.Ending.{datagrams, idles, Gave, HasGiven, HaveEnded, IsOpen, EndsBy, GoesOn, IsBroken, most_answers}
+use Rattle.recv_reading.specs.First.{KnowsFirst}
+use Rattle.recv_reading.specs.State.{ReadingState, new_reading, is_full, has_enough, ended_or, still_open, one_given, one_taken, one_idle, ended_by, ahead}
+use Rattle.recv_reading.specs.Reached.{IsDrained, IsAmid, Comes, Counts, packets_in, Reached, Waits}
+use Rattle.recv_reading.proofs.Going.{goes_none, goes_more, is_open, datagrams_more, datagrams_idle, datagrams_end, idles_datagram, idles_idle, idles_end, not_ended, none_ended}
+use Rattle.recv_reading.proofs.Kept.{kept_taken, few_given}
+use Rattle.recv_reading.proofs.First.{knows_taken, knows_item}
+use Rattle.recv_reading.proofs.Giving.{gave_none, gave_datagram, gave_idle, gave_end, none_given}
+
+pub one_way : OneRun
+one_way = one_run one_datagram one_decoding
+
+pub takes_next : (c after : State) (bytes : List ℕ) (a : Taken) → Takes c bytes a after → after.next ≡ c.next
+takes_next c after bytes a t = ap (λ (s : State). s.next) t.after_is ∙ take_next c t.read
+
+pub takes_end : (c after : State) (bytes : List ℕ) (a : Taken) → Takes c bytes a after → after.end ≡ c.end
+takes_end c after bytes a t = ap (λ (s : State). s.end) t.after_is ∙ take_end c t.read
+
+-- ---- numbers
+
+pub le_not : (n m : ℕ) → nat_le n m ≡ false → m < n
+le_not n m e = grind arith
+
+few_items : (frames : Option ℕ) (size : ℕ) → is_full frames size ≡ false → (n : ℕ) → frames ≡ Some n → size < n
+few_items None size room n e = absurd cc
+few_items (Some m) size room n e =
+    let l : size < m = le_not m size room in
+    let s : m ≡ n = cc in
+    omega (arith, l, s)
+
+full_of_none : (frames : Option ℕ) → IfSome frames (λ n. 1 ≤ n) → is_full frames 0 ≡ false
+full_of_none None some = refl
+full_of_none (Some n) some = let l : 1 ≤ n = some in grind arith
+
+zero_below : (frames : Option ℕ) → IfSome frames (λ n. 0 ≤ n)
+zero_below None = tt
+zero_below (Some n) = omega arith
+
+one_below : (frames : Option ℕ) (n : ℕ) → is_full frames n ≡ false → IfSome frames (λ m. n + 1 ≤ m)
+one_below None n room = tt
+one_below (Some m) n room = let l : n < m = le_not m n room in omega (arith, l)
+
+longer_by_one : (xs : List Answer) (x : Answer) → length (xs ++ x ∷ []) ≡ length xs + 1
+longer_by_one xs x = length-append xs (x ∷ [])
+
+turns : (taken limit idle : ℕ) → taken ≤ limit → taken * idle ≤ limit * idle
+turns taken limit idle l = mul-le-mul_right idle l
+
+turn_more : (taken idle : ℕ) → (taken + 1) * idle ≡ taken * idle + idle
+turn_more taken idle = rw add-one (suc-mul taken idle)
+
+-- ---- whether it has ended
+
+open_end : (end : Option EndWord) (enough : Bool) → ended_or end enough ≡ false → end ≡ None
+open_end None enough h = refl
+open_end (Some w) enough h = absurd (let clash : true ≡ false = h in cc)
+
+open_enough : (end : Option EndWord) (enough : Bool) → ended_or end enough ≡ false → enough ≡ false
+open_enough None enough h = h
+open_enough (Some w) enough h = absurd (let clash : true ≡ false = h in cc)
+
+-- ---- at the start
+
+pub reached_none : (options : ReceiveOptions) (c : State) → AreUsable options → c ≡ made options.window options.first → Reached options [] [] [] [] (new_reading (bounds_of options)) c
+reached_none options c usable is = record {
+  bounds_are = refl;
+  usable = usable;
+  comes = (
+    ap (λ (s : State). s.end) is,
+    inl (
+      refl,
+      record {
+        gave = subst (λ s. Gave options [] [] [] s) (sym is) (gave_none options);
+        none_ready = ap (λ (s : State). ready s) is;
+        room = full_of_none options.frames usable.frames;
+      },
+    ),
+  );
+  goes_on = goes_none options;
+  taken_are = refl;
+  most = omega arith;
+  counts = λ none. record { idles_are = refl; fewer = usable.idle; few = omega arith; not_ended = none_ended };
+  few = omega arith;
+  given_are = refl;
+  next_is = ap (λ (s : State). s.next) is;
+  below = zero_below options.frames;
+  fit = subst IsFit (sym is) (usable.window, tt);
+  knows = subst KnowsFirst (sym is) (λ none. refl);
+  few_packets = (let none : c.kept ≡ [] = ap (λ (s : State). s.kept) is in omega (arith, ap length none));
+}
+
+-- ---- what comes next
+
+amid_drained : (options : ReceiveOptions) (answers : List Answer) (taken : List Taken) (during more : List Item) (c : State) → IsAmid options answers taken during more c
+    → ready c ≡ false → is_full options.frames (length (during ++ more)) ≡ false → IsDrained options answers taken (during ++ more) c
+amid_drained options answers taken during more c a none room =
+    let last : List Answer = a.before ++ Datagram a.bytes ∷ [] in
+    record {
+      gave = subst (λ l. Gave options l taken (during ++ more) c) (sym a.are)
+          (subst (λ l. Gave options last l (during ++ more) c) (sym a.taken_are)
+          (gave_datagram options a.before a.earlier during more a.mid a.kept c a.bytes a.answer a.drained.gave a.takes (given_all more a.kept c a.gives none)));
+      none_ready = none;
+      room = room;
+    }
+
+module _ (options : ReceiveOptions) (answers : List Answer) (taken : List Taken) (during more : List Item) (r : ReadingState) (c : State) (z : Reached options answers taken during more r c) where
+  abbrev items : List Item
+  items = during ++ more
+
+  room_of : has_enough r ≡ false → is_full options.frames (length items) ≡ false
+  room_of h = ap (is_full options.frames) z.given_are ∙ ap (λ (o : Bounds). is_full o.frames r.given) (sym z.bounds_are) ∙ h
+
+  -- an item was given
+  pub reached_given : (item : Item) → has_enough r ≡ false → ready c ≡ true → IsItem c item → Reached options answers taken during (more ++ item ∷ []) (one_given r) (after_item c)
+  reached_given item room now is = record {
+    bounds_are = z.bounds_are;
+    usable = z.usable;
+    comes = by r.end z.comes;
+    goes_on = z.goes_on;
+    taken_are = z.taken_are;
+    most = z.most;
+    counts = λ none. let n = z.counts none in record { idles_are = n.idles_are; fewer = n.fewer; few = n.few; not_ended = n.not_ended };
+    few = z.few;
+    given_are = ap length (sym (append_assoc during more (item ∷ []))) ∙ length-append items (item ∷ []) ∙ ap (λ n. n + 1) z.given_are;
+    next_is = ap (λ n. n + 1) z.next_is;
+    below = one_below options.frames r.given (ap (λ (o : Bounds). is_full o.frames r.given) (sym z.bounds_are) ∙ room);
+    fit = fit_after;
+    knows = knows_item c z.knows;
+    few_packets = subst (λ l. packets_in l + length (after_item c).kept ≤ r.taken) (append_assoc during more (item ∷ [])) (few_given items item c r.taken z.few_packets is);
+  }
+    where
+      fit_after : IsFit (after_item c)
+      fit_after = by_ready (ready c) now (fit_next c z.fit)
+        where
+          by_ready : (b : Bool) → b ≡ true → IsFit (if b then after_item c else c) → IsFit (after_item c)
+          by_ready true is fit = fit
+          by_ready false is fit = absurd (let clash : false ≡ true = is in cc)
+
+      by : (end : Option EndWord) → Comes options answers taken during more end c → Comes options answers taken during (more ++ item ∷ []) end (after_item c)
+      by None (goes, inl (none, d)) = absurd (true≢false (sym now ∙ d.none_ready))
+      by None (goes, inr a) = (
+        goes,
+        inr (record {
+          before = a.before;
+          bytes = a.bytes;
+          are = a.are;
+          earlier = a.earlier;
+          answer = a.answer;
+          taken_are = a.taken_are;
+          mid = a.mid;
+          drained = a.drained;
+          kept = a.kept;
+          takes = a.takes;
+          gives = given_more more a.kept c item a.gives now is;
+        }),
+      )
+      by (Some w) e = record {
+        mid = e.mid;
+        drained = e.drained;
+        ends = e.ends;
+        gives = given_more more (after_finish e.mid options.frames) c item e.gives now is;
+      }
+
+  pub less_given : c.next < 2 ^ 62 → ahead (one_given r) (after_item c) < ahead r c
+  unfolding ahead
+  less_given small = omega (arith, small)
+
+  module _ (w : Waits r c) where
+    no_end : r.end ≡ None
+    no_end = open_end r.end (has_enough r) w.is_open
+
+    enough : has_enough r ≡ false
+    enough = open_enough r.end (has_enough r) w.is_open
+
+    comes : Comes options answers taken during more None c
+    comes = subst (λ e. Comes options answers taken during more e c) no_end z.comes
+
+    n : Counts options answers r
+    n = z.counts no_end
+
+    -- all that came was given
+    pub drained : IsDrained options answers taken items c
+    drained = by comes
+      where
+        by : Comes options answers taken during more None c → IsDrained options answers taken items c
+        by (goes, inl (none, d)) = subst (λ l. IsDrained options answers taken l c) (sym (ap (λ l. during ++ l) none ∙ append-nil during)) d
+        by (goes, inr a) = amid_drained options answers taken during more c a w.none_ready (room_of enough)
+
+    pub unfinished : c.end ≡ None
+    unfinished = comes.0
+
+    not_given : HasGiven options answers options.frames → ⊥
+    not_given = none_given options answers options.frames taken items c one_way drained.gave (few_items options.frames (length items) drained.room)
+
+    open_below : r.taken < options.limit → IsOpen options answers
+    open_below below =
+        let d : length (datagrams answers) ≡ r.taken = z.taken_are in
+        let i : idles answers ≡ r.idles = n.idles_are in
+        let f : r.idles < options.idle = n.fewer in
+        is_open options answers not_given (omega (arith, d, below)) (omega (arith, i, f)) n.not_ended
+
+    limit_is : r.bounds.limit ≡ options.limit
+    limit_is = ap (λ (o : Bounds). o.limit) z.bounds_are
+
+    idle_is : r.bounds.idle ≡ options.idle
+    idle_is = ap (λ (o : Bounds). o.idle) z.bounds_are
+
+    pub goes_on_yet : HaveEnded answers → ⊥
+    goes_on_yet = n.not_ended
+
+    pub fewer_idles : r.idles < r.bounds.idle
+    fewer_idles = let f = n.fewer in omega (arith, f, idle_is)
+
+    pub few_frames : IfSome r.bounds.frames (λ n. n ≤ 2 ^ 62)
+    few_frames = subst (λ (b : Bounds). IfSome b.frames (λ n. n ≤ 2 ^ 62)) (sym z.bounds_are) (by options.frames z.usable.most_frames)
+      where
+        by : (frames : Option ℕ) → IfSome frames (λ n. n ≤ 3000000) → IfSome frames (λ n. n ≤ 2 ^ 62)
+        by None most = tt
+        by (Some m) most = let l : m ≤ 3000000 = most in omega (arith, l)
+
+    -- no more can be had
+    pub broken : r.taken < r.bounds.limit → IsBroken options answers (answers ++ Failed ∷ [])
+    broken below = record { last = refl; goes_on = z.goes_on; is_open = open_below (omega (arith, below, limit_is)) }
+
+    same_packets : (kept taken : ℕ) → packets_in items + kept ≤ taken → packets_in (items ++ []) + kept ≤ taken
+    same_packets kept taken few = subst (λ l. packets_in l + kept ≤ taken) (sym (append-nil items)) few
+
+    -- one answer more isn't too many
+    pub one_more_few : (x : Answer) → length (answers ++ x ∷ []) ≤ most_answers options
+    one_more_few x =
+        let long : length (answers ++ x ∷ []) ≡ length answers + 1 = longer_by_one answers x in
+        let most : r.taken * options.idle ≤ options.limit * options.idle = turns r.taken options.limit options.idle z.most in
+        let few = n.few in
+        let fewer = n.fewer in
+        omega (arith, long, most, few, fewer)
+
+    -- a datagram was taken
+    pub reached_taken : (d : State) (bytes : List ℕ) (answer : Taken) → r.taken < r.bounds.limit → Takes c bytes answer d → IsFit d
+        → Reached options (answers ++ Datagram bytes ∷ []) (taken ++ answer ∷ []) items [] (one_taken r) d
+    reached_taken d bytes answer lower takes fit =
+        let below : r.taken < options.limit = omega (arith, lower, limit_is) in
+        let long : length (answers ++ Datagram bytes ∷ []) ≡ length answers + 1 = longer_by_one answers (Datagram bytes) in
+        let turn : (r.taken + 1) * options.idle ≡ r.taken * options.idle + options.idle = turn_more r.taken options.idle in
+        let most : (r.taken + 1) * options.idle ≤ options.limit * options.idle = turns (r.taken + 1) options.limit options.idle (omega (arith, below)) in
+        let few = n.few in
+        let fewer = n.fewer in
+        record {
+          bounds_are = z.bounds_are;
+          usable = z.usable;
+          comes = subst (λ e. Comes options (answers ++ Datagram bytes ∷ []) (taken ++ answer ∷ []) items [] e d) (sym no_end) (
+            takes_end c d bytes answer takes ∙ unfinished,
+            inr (record {
+              before = answers;
+              bytes = bytes;
+              are = refl;
+              earlier = taken;
+              answer = answer;
+              taken_are = refl;
+              mid = c;
+              drained = drained;
+              kept = d;
+              takes = takes;
+              gives = refl;
+            }),
+          );
+          goes_on = goes_more options answers (Datagram bytes) z.goes_on (open_below below) tt;
+          taken_are = datagrams_more answers bytes ∙ ap (λ k. k + 1) z.taken_are;
+          most = omega (arith, below);
+          counts = λ none. record {
+            idles_are = idles_datagram 0 answers bytes;
+            fewer = z.usable.idle;
+            few = omega (arith, long, turn, few, fewer);
+            not_ended = not_ended answers (Datagram bytes) (λ e. cc);
+          };
+          few = omega (arith, long, turn, most, few, fewer);
+          given_are = ap length (append-nil items) ∙ z.given_are;
+          next_is = takes_next c d bytes answer takes ∙ z.next_is;
+          below = z.below;
+          fit = fit;
+          knows = knows_taken c d bytes answer takes z.knows;
+          few_packets = same_packets (length d.kept) (r.taken + 1) (let p = z.few_packets in let k = kept_taken c d bytes answer takes in omega (arith, p, k));
+        }
+
+    pub less_taken : (d : State) → r.taken < r.bounds.limit → d.next ≡ c.next → ahead (one_taken r) d < ahead r c
+    unfolding ahead
+    less_taken d below same =
+        let fewer = n.fewer in
+        let left : r.bounds.limit - r.taken ≡ (r.bounds.limit - (r.taken + 1)) + 1 = omega (arith, below) in
+        let turn : (r.bounds.limit - r.taken) * r.bounds.idle ≡ (r.bounds.limit - (r.taken + 1)) * r.bounds.idle + r.bounds.idle =
+        ap (λ k. k * r.bounds.idle) left ∙ turn_more (r.bounds.limit - (r.taken + 1)) r.bounds.idle in
+        omega (arith, same, fewer, turn, idle_is)
+
+    -- nothing came for a while
+    drained_idle : IsDrained options (answers ++ Idle ∷ []) taken items c
+    drained_idle = record { gave = gave_idle options answers taken items c drained.gave; none_ready = drained.none_ready; room = drained.room }
+
+    pub reached_idle : r.taken < r.bounds.limit → r.idles + 1 < r.bounds.idle → Reached options (answers ++ Idle ∷ []) taken items [] (one_idle r) c
+    reached_idle lower more =
+        let below : r.taken < options.limit = omega (arith, lower, limit_is) in
+        let long : length (answers ++ Idle ∷ []) ≡ length answers + 1 = longer_by_one answers Idle in
+        let most : r.taken * options.idle ≤ options.limit * options.idle = turns r.taken options.limit options.idle z.most in
+        let few = n.few in
+        let fewer : r.idles + 1 < options.idle = omega (arith, more, idle_is) in
+        record {
+          bounds_are = z.bounds_are;
+          usable = z.usable;
+          comes = subst (λ e. Comes options (answers ++ Idle ∷ []) taken items [] e c) (sym no_end) (unfinished, inl (refl, drained_idle));
+          goes_on = goes_more options answers Idle z.goes_on (open_below below) tt;
+          taken_are = datagrams_idle answers ∙ z.taken_are;
+          most = z.most;
+          counts = λ none. record {
+            idles_are = idles_idle 0 answers ∙ ap (λ k. k + 1) n.idles_are;
+            fewer = fewer;
+            few = omega (arith, long, few);
+            not_ended = not_ended answers Idle (λ e. cc);
+          };
+          few = omega (arith, long, most, few, fewer);
+          given_are = ap length (append-nil items) ∙ z.given_are;
+          next_is = z.next_is;
+          below = z.below;
+          fit = z.fit;
+          knows = z.knows;
+          few_packets = same_packets (length c.kept) r.taken z.few_packets;
+        }
+
+    pub less_idle : r.idles + 1 < r.bounds.idle → ahead (one_idle r) c < ahead r c
+    unfolding ahead
+    less_idle more = omega (arith, more)
+
+    -- the reading ends behind these answers
+    ends_so : (last : List Answer) (d : State) (why : EndWord) (s : ReadingState) → s.bounds ≡ r.bounds → s.taken ≡ r.taken → s.given ≡ r.given → s.end ≡ Some why
+        → IsDrained options last taken items c → EndsBy options last why → length (datagrams last) ≡ r.taken → length last ≤ most_answers options
+        → d ≡ after_finish c options.frames → GoesOn options last → Reached options last taken items [] s d
+    ends_so last d why s same_bounds same_taken same_given is all ends many few finished goes = record {
+      bounds_are = same_bounds ∙ z.bounds_are;
+      usable = z.usable;
+      comes = subst (λ e. Comes options last taken items [] e d) (sym is) (record { mid = c; drained = all; ends = ends; gives = finished });
+      goes_on = goes;
+      taken_are = many ∙ sym same_taken;
+      most = (let m = z.most in omega (arith, m, same_taken));
+      counts = λ none. absurd (let clash : Some why ≡ None = sym is ∙ none in cc);
+      few = few;
+      given_are = ap length (append-nil items) ∙ z.given_are ∙ sym same_given;
+      next_is = ap (λ (s : State). s.next) finished ∙ z.next_is ∙ sym same_given;
+      below = subst (λ k. IfSome options.frames (λ n. k ≤ n)) (sym same_given) z.below;
+      fit = subst IsFit (sym finished) z.fit;
+      knows = subst KnowsFirst (sym finished) z.knows;
+      few_packets = same_packets (length d.kept) s.taken (let p = z.few_packets in let k : d.kept ≡ c.kept = ap (λ (s : State). s.kept) finished in omega (arith, p, ap length k, same_taken));
+    }
+
+    finish_is : (d : State) → d ≡ after_finish c r.bounds.frames → d ≡ after_finish c options.frames
+    finish_is d is = is ∙ ap (λ (o : Bounds). after_finish c o.frames) z.bounds_are
+
+    -- by idle answers
+    pub reached_last_idle : (d : State) → r.taken < r.bounds.limit → r.idles + 1 ≡ r.bounds.idle → d ≡ after_finish c r.bounds.frames
+        → Reached options (answers ++ Idle ∷ []) taken items [] (ended_by word.Idle (one_idle r)) d
+    reached_last_idle d lower all finished =
+        let below : r.taken < options.limit = omega (arith, lower, limit_is) in
+        let long : length (answers ++ Idle ∷ []) ≡ length answers + 1 = longer_by_one answers Idle in
+        let most : r.taken * options.idle ≤ options.limit * options.idle = turns r.taken options.limit options.idle z.most in
+        let few = n.few in
+        let fewer = n.fewer in
+        let idles_now : idles (answers ++ Idle ∷ []) ≡ r.idles + 1 = idles_idle 0 answers ∙ ap (λ k. k + 1) n.idles_are in
+        let many : length (datagrams (answers ++ Idle ∷ [])) ≡ r.taken = datagrams_idle answers ∙ z.taken_are in
+        ends_so (answers ++ Idle ∷ []) d word.Idle (ended_by word.Idle (one_idle r)) refl refl refl refl drained_idle (
+          omega (arith, idles_now, all, idle_is),
+          none_given options (answers ++ Idle ∷ []) options.frames taken items c one_way drained_idle.gave (few_items options.frames (length items) drained.room),
+          (λ h. let same : length (datagrams (answers ++ Idle ∷ [])) ≡ options.limit = h in omega (arith, same, many, below)),
+        ) many (omega (arith, long, most, few, fewer)) (finish_is d finished) (goes_more options answers Idle z.goes_on (open_below below) tt)
+
+    -- by the end of the input
+    pub reached_end : (d : State) → r.taken < r.bounds.limit → d ≡ after_finish c r.bounds.frames
+        → Reached options (answers ++ End ∷ []) taken items [] (ended_by word.Input r) d
+    reached_end d lower finished =
+        let below : r.taken < options.limit = omega (arith, lower, limit_is) in
+        let long : length (answers ++ End ∷ []) ≡ length answers + 1 = longer_by_one answers End in
+        let most : r.taken * options.idle ≤ options.limit * options.idle = turns r.taken options.limit options.idle z.most in
+        let few = n.few in
+        let fewer = n.fewer in
+        let idles_now : idles (answers ++ End ∷ []) ≡ 0 = idles_end 0 answers in
+        let many : length (datagrams (answers ++ End ∷ [])) ≡ r.taken = ap length (datagrams_end answers) ∙ z.taken_are in
+        let gave : Gave options (answers ++ End ∷ []) taken items c = gave_end options answers taken items c drained.gave in
+        let some : 1 ≤ options.idle = z.usable.idle in
+        ends_so (answers ++ End ∷ []) d word.Input (ended_by word.Input r) refl refl refl refl (record { gave = gave; none_ready = drained.none_ready; room = drained.room }) (
+          (answers, refl),
+          none_given options (answers ++ End ∷ []) options.frames taken items c one_way gave (few_items options.frames (length items) drained.room),
+          (λ h. let same : length (datagrams (answers ++ End ∷ [])) ≡ options.limit = h in omega (arith, same, many, below)),
+          (λ h. let least : options.idle ≤ idles (answers ++ End ∷ []) = h in omega (arith, least, idles_now, some)),
+        ) many (omega (arith, long, most, few, fewer)) (finish_is d finished) (goes_more options answers End z.goes_on (open_below below) tt)
+
+    -- by the number of datagrams
+    pub reached_limit : (d : State) → r.taken ≡ r.bounds.limit → d ≡ after_finish c r.bounds.frames
+        → Reached options answers taken items [] (ended_by word.Limit r) d
+    reached_limit d all finished =
+        ends_so answers d word.Limit (ended_by word.Limit r) refl refl refl refl drained (z.taken_are ∙ (all ∙ limit_is), not_given) z.taken_are z.few (finish_is d finished) z.goes_on
+
+    pub less_ended : (d : State) (why : EndWord) → d.next ≡ c.next → ahead (ended_by why r) d < ahead r c
+    unfolding ahead
+    less_ended d why same = let e : still_open r.end ≡ 1 = ap still_open no_end in omega (arith, same, e)
+
+    pub less_last_idle : (d : State) → r.idles + 1 ≡ r.bounds.idle → d.next ≡ c.next → ahead (ended_by word.Idle (one_idle r)) d < ahead r c
+    unfolding ahead
+    less_last_idle d all same = let e : still_open r.end ≡ 1 = ap still_open no_end in omega (arith, all, same, e)

@@ -1,0 +1,30 @@
+use Rattle.std.proofs.Common.{◌++◌, ◌∷◌, [], ◌<◌, sym, ap, subst}
+use Rattle.drm_links.specs.Link.{End}
+use Rattle.dcp_collect.specs.State.{State}
+use Rattle.recv_reading.specs.declared.reason.EndWord.TheVariants as word
+use Rattle.recv_reading.specs.State.{ahead}
+use Rattle.recv_reading.specs.Reached.{Reached}
+use Rattle.recv_reading.proofs.Reaching.{reached_end, less_ended, unfinished, few_frames}
+use Rattle.recv_reading.proofs.reading.Reading.end.Goals as goal
+
+pub finish-requires-clause-unfinished : goal.finish-requires-clause-unfinished
+finish-requires-clause-unfinished c =
+    let (options, answers, taken, during, more, z) = c.requires.reached in
+    unfinished options answers taken during more c.args.self.now c.args.collector.now z c.requires.waits
+
+pub finish-requires-clause-most_frames : goal.finish-requires-clause-most_frames
+finish-requires-clause-most_frames c =
+    let (options, answers, taken, during, more, z) = c.requires.reached in
+    few_frames options answers taken during more c.args.self.now c.args.collector.now z c.requires.waits
+
+pub returns-clause-reached : goal.returns-clause-reached
+returns-clause-reached c = λ options answers taken during more z.
+    subst (λ s. Reached options (answers ++ End ∷ []) taken (during ++ more) [] s c.finish.new.collector) (sym c.finish.ensures.ended)
+    (reached_end options answers taken during more c.args.self.now c.args.collector.now z c.requires.waits c.finish.new.collector c.requires.below_limit c.finish.ensures.finished)
+
+pub returns-clause-less : goal.returns-clause-less
+returns-clause-less c =
+    let (options, answers, taken, during, more, z) = c.requires.reached in
+    subst (λ s. ahead s c.finish.new.collector < ahead c.args.self.now c.args.collector.now) (sym c.finish.ensures.ended)
+    (less_ended options answers taken during more c.args.self.now c.args.collector.now z c.requires.waits c.finish.new.collector word.Input
+    (ap (λ (d : State). d.next) c.finish.ensures.finished))

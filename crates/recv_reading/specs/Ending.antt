@@ -1,0 +1,120 @@
+-- When a receiver has read enough of a link, or of a capture.
+use Rattle.std.specs.Prelude.{ℕ, ◌≡◌, ◌+◌, ◌*◌, ◌<◌, ◌≤◌, ◌⊎◌, List, [], ◌∷◌, ◌++◌, length, take, Option, None, Some}
+use Rattle.std.specs.List.{filter_map, AllByRecursion}
+use Rattle.drm_links.specs.Link.{Answer, Datagram, Idle, Failed, End, datagram_of}
+use Rattle.dcp_collect.specs.declared.taken.Taken.{Taken}
+use Rattle.dcp_collect.specs.State.{State, made, after_finish}
+use Rattle.dcp_collect.specs.Runs.{Item, Takes, Steps, up_to}
+use Rattle.collect_laws.specs.Laws.{Given, most_at_once}
+use Rattle.recv_reading.specs.declared.reason.EndWord.{EndWord}
+use Rattle.recv_reading.specs.declared.reason.EndWord.TheVariants as word
+use Rattle.recv_reading.specs.declared.options.ReceiveOptions.{ReceiveOptions}
+
+-- the datagrams among the answers
+abbrev pub datagrams : List Answer → List (List ℕ)
+datagrams answers = filter_map datagram_of answers
+
+-- how many idle answers stand at the end, behind n of them
+abbrev pub idles_from : ℕ → List Answer → ℕ
+idles_from n [] = n
+idles_from n (Datagram bytes ∷ answers) = idles_from 0 answers
+idles_from n (Idle ∷ answers) = idles_from (n + 1) answers
+idles_from n (Failed ∷ answers) = idles_from 0 answers
+idles_from n (End ∷ answers) = idles_from 0 answers
+
+abbrev pub idles : List Answer → ℕ
+idles answers = idles_from 0 answers
+
+-- A new collector that takes these datagrams, and gives all that is ready after each, has given these items.
+abbrev pub Gave : ReceiveOptions → List Answer → List Taken → List Item → State → Type 0
+Gave rules answers taken items end = Steps (made rules.window rules.first) (datagrams answers) taken items end
+
+-- the items that are given after these answers
+abbrev pub GaveItems : ReceiveOptions → List Answer → List Item → Type 0
+GaveItems rules answers items = (taken : List Taken) × (end : State) × Gave rules answers taken items end
+
+-- each of these answers brings no more items than one datagram can
+abbrev pub FewAtOnce : ReceiveOptions → List Answer → Type 0
+FewAtOnce rules answers =
+    (k : ℕ) (before items : List Item) → GaveItems rules (take k answers) before → GaveItems rules (take (k + 1) answers) items
+    → length items ≤ length before + most_at_once rules.window
+
+-- as many items were given as are told
+abbrev pub HasGiven : ReceiveOptions → List Answer → Option ℕ → Type 0
+HasGiven rules answers None = ⊥
+HasGiven rules answers (Some n) = (taken : List Taken) × (items : List Item) × (end : State) × Gave rules answers taken items end × (n ≤ length items)
+
+-- nothing comes after these answers
+abbrev pub HaveEnded : List Answer → Type 0
+HaveEnded answers = (before : List Answer) × (answers ≡ before ++ End ∷ [])
+
+-- a reason to end after these answers
+abbrev pub Holds : ReceiveOptions → List Answer → EndWord → Type 0
+Holds rules answers word.Frames = HasGiven rules answers rules.frames
+Holds rules answers word.Limit = length (datagrams answers) ≡ rules.limit
+Holds rules answers word.Idle = rules.idle ≤ idles answers
+Holds rules answers word.Input = HaveEnded answers
+Holds rules answers word.Paths = ⊥
+
+abbrev pub IsOpen : ReceiveOptions → List Answer → Type 0
+IsOpen rules answers = (w : EndWord) → Holds rules answers w → ⊥
+
+-- the first reason that holds
+abbrev pub EndsBy : ReceiveOptions → List Answer → EndWord → Type 0
+EndsBy rules answers word.Frames = Holds rules answers word.Frames
+EndsBy rules answers word.Limit = Holds rules answers word.Limit × (Holds rules answers word.Frames → ⊥)
+EndsBy rules answers word.Idle =
+    Holds rules answers word.Idle × (Holds rules answers word.Frames → ⊥) × (Holds rules answers word.Limit → ⊥)
+EndsBy rules answers word.Input =
+    Holds rules answers word.Input × (Holds rules answers word.Frames → ⊥) × (Holds rules answers word.Limit → ⊥)
+    × (Holds rules answers word.Idle → ⊥)
+EndsBy rules answers word.Paths = ⊥
+
+-- the answer didn't fail
+abbrev pub IsSound : Answer → Type 0
+IsSound (Datagram bytes) = Unit {0}
+IsSound Idle = Unit {0}
+IsSound Failed = ⊥
+IsSound End = Unit {0}
+
+-- Nothing failed, and nothing shorter than these answers is finished.
+pub record GoesOn (rules : ReceiveOptions) (answers : List Answer) : Type 0 where
+  pub sound : AllByRecursion IsSound answers
+  pub shorter : (k : ℕ) → k < length answers → IsOpen rules (take k answers)
+
+-- These answers are the shortest that are finished, and this is why.
+pub record IsFinished (rules : ReceiveOptions) (answers : List Answer) (w : EndWord) : Type 0 where
+  pub goes_on : GoesOn rules answers
+  pub ends : EndsBy rules answers w
+
+-- These answers, none of whose fronts is finished, are the shortest that end in `Failed`.
+pub record IsBroken (rules : ReceiveOptions) (before answers : List Answer) : Type 0 where
+  pub last : answers ≡ before ++ Failed ∷ []
+  pub goes_on : GoesOn rules before
+  pub is_open : IsOpen rules before
+
+-- so many answers are read at the most
+abbrev pub most_answers : ReceiveOptions → ℕ
+most_answers rules = rules.limit * rules.idle + rules.idle + 1
+
+-- what a collector comes to by the last of these answers: it takes that datagram, or it is finished where the reading is
+abbrev pub ComesTo : ReceiveOptions → List Answer → List Answer → State → State → Type 0
+ComesTo options answers later mid c =
+    ((bytes : List ℕ) × (answer : Taken) × (later ≡ Datagram bytes ∷ []) × Takes mid bytes answer c)
+    ⊎ ((word : EndWord) × (later ≡ []) × EndsBy options answers word × (c ≡ after_finish mid options.frames))
+
+-- These are some first items of those that the answers give: all that was given before the last of them, and then some.
+pub record GivesSome (options : ReceiveOptions) (answers : List Answer) (items : List Item) : Type 0 where
+  pub before : List Answer
+  pub later : List Answer
+  pub are : answers ≡ before ++ later
+  pub taken : List Taken
+  pub during : List Item
+  pub mid : State
+  pub gave : Gave options before taken during mid
+  pub state : State
+  pub comes : ComesTo options answers later mid state
+  pub more : List Item
+  pub last : State
+  pub gives : Given state more last
+  pub items_are : items ≡ up_to options.frames (during ++ more)

@@ -1,0 +1,9 @@
+pub mod Options
+pub mod Ending
+pub mod State
+pub mod Reached
+pub mod Source
+pub mod Packets
+pub mod Given
+pub mod First
+pub mod OneReading

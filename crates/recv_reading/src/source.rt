@@ -1,0 +1,141 @@
+//! Where datagrams come from.
+
+ghost use Rattle.std.specs.Prelude.{ℕ, ◌≡◌, ◌<◌, ◌≤◌, List, ◌++◌, length, IfErr, OnOk};
+ghost use Rattle.drm_links.specs.Link.{Answer};
+ghost use Rattle.drm_links.specs.Told.{Counts};
+ghost use Rattle.drm_links.specs.Hearing.{Heard};
+ghost use Rattle.dcp_collect.specs.declared.taken.Taken.{Taken};
+ghost use Rattle.dcp_collect.specs.Runs.{Item};
+ghost use Rattle.recv_reading.specs.declared.options.ReceiveOptions.{ReceiveOptions};
+ghost use Rattle.recv_reading.specs.First.{KeepsFirst};
+ghost use Rattle.recv_reading.specs.State.{ahead};
+ghost use Rattle.recv_reading.specs.Reached.{Reached, HasReached, Waits, ReadsOn};
+ghost use Rattle.recv_reading.specs.Source.{ReadSoFar, StopsReading, BreaksLink, IsFailedCall, IsOfLink, IsOfCapture};
+
+use crate::reading::Reading;
+use dcp_collect::{Collector, Taken};
+use drm_capture::{CaptureStop, Packets};
+use drm_links::{Came, Link, Source};
+
+/// Why no datagram can be had any more.
+#[derive(Clone, Copy, Debug, PartialEq, Eq)]
+pub enum SourceFault {
+    /// The link failed.
+    Link,
+    /// No more packets can be read.
+    Capture(CaptureStop),
+}
+
+impl From<CaptureStop> for SourceFault {
+    ghost use Rattle.std.specs.Prelude.{◌≡◌};
+    ghost use Rattle.recv_reading.specs.declared.source.SourceFault.TheVariants.{Capture};
+
+    ghost from_gives = { λ stop why. why ≡ Capture stop };
+
+    fn from(stop: CaptureStop) -> Self {
+        SourceFault::Capture(stop)
+    }
+}
+
+/// How datagrams are taken from where they come, and what is wanted for it.
+pub trait Datagrams<F> {
+    ghost use Rattle.recv_reading.specs.declared.source.SourceFault.{SourceFault};
+
+    /// These answers came since it was as at the start.
+    ghost so_far: { F → Self → F → List Answer → Type 0 };
+
+    /// These answers came, and for this reason no more can.
+    ghost until: { F → SourceFault → F → List Answer → Type 0 };
+
+    ghost is_ready: { Self → Type 0 };
+
+    /// Why it can fail.
+    ghost fails: { SourceFault → Type 0 };
+
+    /// How often a call has failed.
+    ghost faults: { F → ℕ };
+
+    /// Takes the next answer to the reading.
+    fn feed(
+        &mut self,
+        from: &mut F,
+        reading: &mut Reading,
+        collector: &mut Collector,
+    ) -> Result<Option<Taken>, SourceFault>
+        requires room { is_ready self.old }
+        requires waits { Waits reading.old collector.old }
+        requires below_limit { reading.old.taken < reading.old.bounds.limit }
+        requires reached { HasReached reading.old collector.old }
+        ensures reads { (start : F) (options : ReceiveOptions) (answers : List Answer) (taken : List Taken)
+            (during more : List Item)
+            → so_far start self.old from.old answers → Reached options answers taken during more reading.old collector.old
+            → ReadsOn (so_far start self.new from.new) (λ fault. until start fault from.new) options answers taken (during ++ more) result
+            reading.new collector.new }
+        ensures less { OnOk result (ahead reading.new collector.new < ahead reading.old collector.old) }
+        ensures first { KeepsFirst collector.old collector.new }
+        ensures room { is_ready self.new }
+        ensures kind { IfErr result fails }
+        ensures cause { Counts (faults from.old) (faults from.new) (IsFailedCall result) };
+}
+
+/// The room for one datagram of a link: 65,536 bytes.
+#[derive(Drop)]
+pub struct Room<'a> {
+    pub bytes: &'a mut [u8],
+}
+
+impl<'a, L: Link> Datagrams<L> for Room<'a> {
+    ghost so_far = { λ start room from answers. Heard (L.known start) (L.known from) answers };
+
+    ghost until = { λ start fault from answers. BreaksLink fault (L.known start) (L.known from) answers };
+
+    ghost is_ready = { λ room. 65536 ≤ length room.bytes.now };
+
+    ghost fails = { IsOfLink };
+
+    ghost faults = { λ from. (L.known from).faults };
+
+    fn feed(
+        &mut self,
+        from: &mut L,
+        reading: &mut Reading,
+        collector: &mut Collector,
+    ) -> Result<Option<Taken>, SourceFault> {
+        let room = &mut *self.bytes;
+        match from.recv(room) {
+            Came::Datagram(len) => Ok(Some(reading.take(collector, &room[..len]))),
+            Came::Idle => {
+                reading.idle(collector);
+                Ok(None)
+            }
+            Came::Failed => Err(SourceFault::Link),
+        }
+    }
+}
+
+impl<I: Source> Datagrams<I> for Packets {
+    ghost so_far = { λ start reader from answers. ReadSoFar reader (I.known start) (I.known from) answers };
+
+    ghost until = { λ start fault from answers. StopsReading fault (I.known start) (I.known from) answers };
+
+    ghost is_ready = { λ reader. Unit {0} };
+
+    ghost fails = { IsOfCapture };
+
+    ghost faults = { λ from. (I.known from).faults };
+
+    fn feed(
+        &mut self,
+        from: &mut I,
+        reading: &mut Reading,
+        collector: &mut Collector,
+    ) -> Result<Option<Taken>, SourceFault> {
+        if self.find(from)? {
+            let packet = self.next();
+            Ok(Some(reading.take(collector, packet.bytes)))
+        } else {
+            reading.end(collector);
+            Ok(None)
+        }
+    }
+}
