@@ -1,10 +1,12 @@
 -- A feed answers in one way, steps join, and what is told before items is what stands there.
-use Rattle.std.proofs.Common.{◌≡◌, ℕ, ◌<◌, List, [], ◌∷◌, length, slice_get, suc, Option, Some, refl, sym, ap, ap₂, subst, ◌∙◌}
-use Rattle.dcp_collect.specs.Runs.{Item as Given}
+use Rattle.std.proofs.Common.{◌≡◌, ℕ, ◌+◌, ◌<◌, List, [], ◌∷◌, length, slice_get, suc, Option, None, Some, refl, sym, ap, ap₂, subst, ◌∙◌, arith}
+use Rattle.dcp_collect.specs.State.{State}
+use Rattle.dcp_collect.specs.Runs.{Item as Given, Packet, Lost, Damaged, IsItem}
+use Rattle.drm_switches.specs.declared.seen.Seen.{Seen}
 use Rattle.drm_switches.specs.declared.tracker.Before.{Before}
-use Rattle.drm_switches.specs.Tracker.{TrackerState, new_tracker, answered, answers}
+use Rattle.drm_switches.specs.Tracker.{TrackerState, new_tracker, answered, answers, stepped}
 use Rattle.drm_switches.proofs.TrackerLemmas.{tells_the_switches}
-use Rattle.mod_feed.specs.Items.{Item, seen_in}
+use Rattle.mod_feed.specs.Items.{Item, number_of, seen_in}
 use Rattle.mod_feed.specs.Feeding.{FeedStep, IsStep, after_step, Feeds, told_before, all_seen, IsOneFeeding, FeedingJoins, FeedTellsTheSwitches}
 use Rattle.mod_feed.proofs.ItemLemmas.{item_is_one}
 
@@ -61,3 +63,25 @@ feed_tells given steps after h k before =
       λ (within, stands).
           subst (λ (bs : List (Option Before)). slice_get bs k ≡ Some before) (sym told) (law.1 (subst (λ (n : ℕ). k < n) (sym size) within, stands)),
     )
+
+-- ---- numbers
+
+-- an item has the number that is next
+pub number_is : (c : State) (given : Given) → IsItem c given → number_of given ≡ c.next
+number_is c (Packet q bytes) is = is.0
+number_is c (Lost q had total) is = is.0
+number_is c (Damaged q) is = is.0
+
+pub stepped_calls : (feed : TrackerState) (seen : Option Seen) → (stepped feed seen).calls ≡ feed.calls + 1
+stepped_calls feed None = refl
+stepped_calls feed (Some seen) = refl
+
+-- a feed makes as many calls as items are given to it
+pub feeds_calls : (feed after : TrackerState) (given : List Given) (steps : List FeedStep) → Feeds feed given steps after → after.calls ≡ feed.calls + length given
+feeds_calls feed after [] [] h = ap (λ (s : TrackerState). s.calls) h ∙ omega arith
+feeds_calls feed after [] (step ∷ steps) h = absurd h
+feeds_calls feed after (g ∷ given) [] h = absurd h
+feeds_calls feed after (g ∷ given) (step ∷ steps) h =
+    let one : (after_step feed step).calls ≡ feed.calls + 1 = stepped_calls feed (seen_in step.item) in
+    let more : after.calls ≡ (after_step feed step).calls + length given = feeds_calls (after_step feed step) after given steps h.1 in
+    omega (arith, one, more)

@@ -8,6 +8,7 @@ use Rattle.collect_laws.proofs.Runs.{gives_count, steps_count}
 use Rattle.drm_switches.specs.Tracker.{TrackerState}
 use Rattle.mod_feed.specs.Items.{Item, number_of, seen_in}
 use Rattle.mod_feed.specs.Feeding.{FeedStep, Feeds, after_step}
+use Rattle.mod_feed.proofs.FeedingLemmas.{number_is, stepped_calls}
 use Rattle.drm_switches.specs.Tracker.{answered, stepped}
 use Rattle.drm_switches.specs.declared.seen.Seen.{Seen}
 use Rattle.capture_data.specs.Printed.{AreItems}
@@ -29,11 +30,6 @@ from_take (suc m) n (x ∷ xs) are = (are.0, from_take m (n + 1) xs are.1)
 from_told : (told : Option ℕ) (xs : List Collected) → AreFrom 0 xs → AreFrom 0 (up_to told xs)
 from_told None xs are = are
 from_told (Some m) xs are = from_take m 0 xs are
-
-number_is : (c : State) (one : Collected) → IsItem c one → number_of one ≡ c.next
-number_is c (Packet q bytes) is = is.0
-number_is c (Lost q had total) is = is.0
-number_is c (Damaged q) is = is.0
 
 gives_from : (items : List Collected) (c d : State) → Gives c items d → AreFrom c.next items
 gives_from [] c d gives = tt
@@ -65,17 +61,13 @@ pub record Fed (feed : TrackerState) (collected : List Collected) (items : List 
   pub feeds : Feeds feed collected steps after
   pub items_are : map (λ (s : FeedStep). s.item) steps ≡ items
 
-calls_after : (feed : TrackerState) (seen : Option Seen) → (stepped feed seen).calls ≡ feed.calls + 1
-calls_after feed None = refl
-calls_after feed (Some seen) = refl
-
 pub fed : (feed : TrackerState) (collected : List Collected) (items : List Item) → AreFrom feed.calls collected → AreItems collected items → Fed feed collected items
 fed feed [] items from are = record { steps = []; after = feed; feeds = refl; items_are = sym are }
 fed feed (one ∷ collected) [] from are = absurd are
 fed feed (one ∷ collected) (item ∷ items) from are =
     let step : FeedStep = record { before = answered feed (seen_in item); item = item } in
     let next : TrackerState = after_step feed step in
-    let more = fed next collected items (subst (λ m. AreFrom m collected) (sym (calls_after feed (seen_in item))) from.1) are.1 in
+    let more = fed next collected items (subst (λ m. AreFrom m collected) (sym (stepped_calls feed (seen_in item))) from.1) are.1 in
     record {
       steps = step ∷ more.steps;
       after = more.after;
