@@ -1,2 +1,3 @@
 pub mod StatusLemmas
 pub mod CauseLemmas
+pub mod CaptureLemmas

@@ -1,11 +1,12 @@
 -- The line of what is wrong with a capture, and the faults of a run that reads one.
-use Rattle.std.specs.Prelude.{List, ℕ, [], ◌∷◌, codes, decimal}
+use Rattle.std.specs.Prelude.{List, ℕ, ◌≡◌, [], ◌∷◌, Bool, Result, Err, codes, decimal}
 use Rattle.std.specs.List.{concat}
 use Rattle.drm_capture.specs.declared.fault.CaptureField.{CaptureField}
 use Rattle.drm_capture.specs.declared.fault.CaptureField.TheVariants.{Sync, HeadCrc, TooLarge, HeadCut, BodyCut}
 use Rattle.drm_capture.specs.declared.fault.CaptureFault.{CaptureFault}
 use Rattle.drm_capture.specs.declared.packets.CaptureStop.{CaptureStop}
 use Rattle.drm_capture.specs.declared.packets.CaptureStop.TheVariants as stops
+use Rattle.drm_capture.specs.Capture as capture
 use Rattle.drm_faults.specs.declared.fault.Fault.{Fault}
 use Rattle.drm_faults.specs.declared.fault.Fault.TheVariants as faults
 
@@ -26,11 +27,22 @@ stop_fault stops.Read = faults.Read
 stop_fault (stops.Capture fault) = faults.Capture fault
 stop_fault stops.TooLong = faults.CaptureTooLong
 
--- How a run that reads a capture from input and writes to out can end early.
+-- How a run that reads a capture from input and writes to out can end early, where S says whether it can by the size of a packet.
+abbrev pub EndsEarlyOr : Type 0 → Fault → Type 0
+EndsEarlyOr S faults.NoMemory = Unit {0}
+EndsEarlyOr S (faults.Capture fault) = Unit {0}
+EndsEarlyOr S faults.CaptureTooLong = Unit {0}
+EndsEarlyOr S faults.Read = Unit {0}
+EndsEarlyOr S faults.Write = Unit {0}
+EndsEarlyOr S (faults.PacketSize number) = S
+EndsEarlyOr S fault = ⊥
+
+-- by no packet's size
 abbrev pub EndsEarly : Fault → Type 0
-EndsEarly faults.NoMemory = Unit {0}
-EndsEarly (faults.Capture fault) = Unit {0}
-EndsEarly faults.CaptureTooLong = Unit {0}
-EndsEarly faults.Read = Unit {0}
-EndsEarly faults.Write = Unit {0}
-EndsEarly fault = ⊥
+EndsEarly fault = EndsEarlyOr ⊥ fault
+
+-- the run ends by what is wrong behind the packets
+abbrev pub EndsByIt : Result Bool Fault → capture.Ending → Type 0
+EndsByIt ending capture.End = ⊥
+EndsByIt ending (capture.Fault fault) = ending ≡ Err (faults.Capture fault)
+EndsByIt ending capture.TooLong = ending ≡ Err faults.CaptureTooLong

@@ -5,7 +5,6 @@ use Rattle.drm_links.specs.Link.{Answer}
 use Rattle.drm_links.specs.Source.{Input, Inputs}
 use Rattle.drm_links.specs.Sink.{Output}
 use Rattle.drm_links.proofs.ToldLemmas.{Inputs-weaker}
-use Rattle.drm_capture.specs.declared.fault.CaptureFault.{CaptureFault}
 use Rattle.drm_capture.specs.Capture as capture
 use Rattle.drm_capture.proofs.CaptureLaws.{read_one_way}
 use Rattle.recv_reading.specs.declared.options.ReceiveOptions.{ReceiveOptions}
@@ -18,8 +17,9 @@ use Rattle.recv_reading.proofs.OneReading.{finished_whole}
 use Rattle.drm_faults.specs.Fault.{UnlessMemory}
 use Rattle.drm_faults.specs.declared.fault.Fault.{Fault}
 use Rattle.drm_faults.specs.declared.fault.Fault.TheVariants as faults
-use Rattle.drm_faults.specs.Captures.{EndsEarly}
-use Rattle.drm_receive.specs.Capture.{BreaksOffBy, Ends, WritesReport, EndsByIt, WroteReport, CaptureRun}
+use Rattle.drm_faults.specs.Captures.{EndsEarly, EndsByIt}
+use Rattle.drm_faults.proofs.CaptureLemmas.{each_early, none_by, fault_by, length_by, done_or}
+use Rattle.drm_receive.specs.Capture.{BreaksOffBy, Ends, WritesReport, WroteReport, CaptureRun}
 use Rattle.drm_receive.proofs.ReceiveStatus.{clean_in_time}
 
 -- ---- bytes bring one thing
@@ -56,68 +56,37 @@ module _ {O : Type 0} (rules : ReceiveOptions) (left : List ℕ) (known : O → 
   abbrev Exactly : Result Bool Fault → Type 0
   Exactly ending = (why : capture.Ending) → EndsByIt ending why ↔ BreaksOffBy rules left why
 
-  none_ends : (clean : Bool) (why : capture.Ending) → EndsByIt (Ok clean) why → ⊥
-  none_ends clean capture.End is = is
-  none_ends clean (capture.Fault fault) is = cc
-  none_ends clean capture.TooLong is = cc
-
-  fault_ends : (fault : CaptureFault) → BreaksOffBy rules left (capture.Fault fault) → (why : capture.Ending) → EndsByIt (Err (faults.Capture fault)) why → BreaksOffBy rules left why
-  fault_ends fault breaks capture.End is = absurd is
-  fault_ends fault breaks (capture.Fault other) is = let same : fault ≡ other = cc in subst (λ f. BreaksOffBy rules left (capture.Fault f)) same breaks
-  fault_ends fault breaks capture.TooLong is = absurd (cc)
-
-  length_ends : BreaksOffBy rules left capture.TooLong → (why : capture.Ending) → EndsByIt (Err faults.CaptureTooLong) why → BreaksOffBy rules left why
-  length_ends breaks capture.End is = absurd is
-  length_ends breaks (capture.Fault other) is = absurd (cc)
-  length_ends breaks capture.TooLong is = breaks
+  -- behind the packets something is wrong
+  broken_by : (ending : Result Bool Fault) (is : capture.Ending) → BreaksOffBy rules left is → EndsByIt ending is → ((why : capture.Ending) → EndsByIt ending why → is ≡ why) → UnlessMemory ending (Exactly ending)
+  broken_by ending is breaks ends one =
+      inr (λ why. (
+        (λ by. subst (BreaksOffBy rules left) (one why by) breaks),
+        (λ other. subst (EndsByIt ending) (one_ending left breaks.packets is rules why breaks.is other) ends),
+      ))
 
   exact_by : (ending : Result Bool Fault) → ((fault : Fault) → ending ≡ Err fault → EndsEarly fault) → Says rules left ending known out out'
       → (ending ≡ Err faults.Read → ⊥) → (ending ≡ Err faults.Write → ⊥) → UnlessMemory ending (Exactly ending)
   exact_by (Ok clean) kind (ahead, brings, r, report, text, is) no_read no_write =
-      inr (λ why. ((λ ends. absurd (none_ends clean why ends)), (λ breaks. absurd (whole_report rules left ahead r why brings report breaks))))
-  exact_by (Err faults.NoMemory) kind wrote no_read no_write = inl refl
-  exact_by (Err (faults.Capture fault)) kind wrote no_read no_write =
-      inr (λ why. (
-        fault_ends fault wrote why,
-        λ breaks. subst (λ e. EndsByIt (Err (faults.Capture fault)) e) (one_ending left wrote.packets (capture.Fault fault) rules why wrote.is breaks) refl,
-      ))
-  exact_by (Err faults.CaptureTooLong) kind wrote no_read no_write =
-      inr (λ why. (
-        length_ends wrote why,
-        λ breaks. subst (λ e. EndsByIt (Err faults.CaptureTooLong) e) (one_ending left wrote.packets capture.TooLong rules why wrote.is breaks) refl,
-      ))
-  exact_by (Err faults.Read) kind wrote no_read no_write = absurd (no_read refl)
-  exact_by (Err faults.Write) kind wrote no_read no_write = absurd (no_write refl)
-  exact_by (Err faults.Words) kind wrote no_read no_write = absurd (kind faults.Words refl)
-  exact_by (Err (faults.FacLength n)) kind wrote no_read no_write = absurd (kind (faults.FacLength n) refl)
-  exact_by (Err faults.FacOver) kind wrote no_read no_write = absurd (kind faults.FacOver refl)
-  exact_by (Err (faults.FacCrc stands computed)) kind wrote no_read no_write = absurd (kind (faults.FacCrc stands computed) refl)
-  exact_by (Err (faults.Schedule line reason)) kind wrote no_read no_write = absurd (kind (faults.Schedule line reason) refl)
-  exact_by (Err (faults.Script line reason)) kind wrote no_read no_write = absurd (kind (faults.Script line reason) refl)
-  exact_by (Err (faults.PacketSize n)) kind wrote no_read no_write = absurd (kind (faults.PacketSize n) refl)
-  exact_by (Err (faults.Units n)) kind wrote no_read no_write = absurd (kind (faults.Units n) refl)
-  exact_by (Err faults.Link) kind wrote no_read no_write = absurd (kind faults.Link refl)
+      inr (λ why. ((λ ends. absurd (none_by clean why ends)), (λ breaks. absurd (whole_report rules left ahead r why brings report breaks))))
+  exact_by (Err fault) kind wrote no_read no_write =
+      each_early ⊥ (λ f. Says rules left (Err f) known out out' → (f ≡ faults.Read → ⊥) → (f ≡ faults.Write → ⊥) → UnlessMemory {T = Bool} (Err f) (Exactly (Err f)))
+      (λ wrote reads writes. inl refl) (λ wrong breaks reads writes. broken_by (Err (faults.Capture wrong)) (capture.Fault wrong) breaks refl (fault_by wrong))
+      (λ breaks reads writes. broken_by (Err faults.CaptureTooLong) capture.TooLong breaks refl length_by) (λ wrote reads writes. absurd (reads refl)) (λ wrote reads writes. absurd (writes refl))
+      (λ never number wrote reads writes. absurd never) fault (kind fault refl) wrote (λ is. no_read (ap Err is)) (λ is. no_write (ap Err is))
 
   -- ---- nothing is lost
 
   whole_by : (ending : Result Bool Fault) → ((fault : Fault) → ending ≡ Err fault → EndsEarly fault) → Says rules left ending known out out'
       → (ending ≡ Err faults.Read → ⊥) → (ending ≡ Err faults.Write → ⊥) → ((why : capture.Ending) → BreaksOffBy rules left why → ⊥)
       → UnlessMemory ending (WroteReport rules left ending known out out')
-  whole_by (Ok clean) kind wrote no_read no_write none = inr (clean, refl, wrote)
-  whole_by (Err faults.NoMemory) kind wrote no_read no_write none = inl refl
-  whole_by (Err (faults.Capture fault)) kind wrote no_read no_write none = absurd (none (capture.Fault fault) wrote)
-  whole_by (Err faults.CaptureTooLong) kind wrote no_read no_write none = absurd (none capture.TooLong wrote)
-  whole_by (Err faults.Read) kind wrote no_read no_write none = absurd (no_read refl)
-  whole_by (Err faults.Write) kind wrote no_read no_write none = absurd (no_write refl)
-  whole_by (Err faults.Words) kind wrote no_read no_write none = absurd (kind faults.Words refl)
-  whole_by (Err (faults.FacLength n)) kind wrote no_read no_write none = absurd (kind (faults.FacLength n) refl)
-  whole_by (Err faults.FacOver) kind wrote no_read no_write none = absurd (kind faults.FacOver refl)
-  whole_by (Err (faults.FacCrc stands computed)) kind wrote no_read no_write none = absurd (kind (faults.FacCrc stands computed) refl)
-  whole_by (Err (faults.Schedule line reason)) kind wrote no_read no_write none = absurd (kind (faults.Schedule line reason) refl)
-  whole_by (Err (faults.Script line reason)) kind wrote no_read no_write none = absurd (kind (faults.Script line reason) refl)
-  whole_by (Err (faults.PacketSize n)) kind wrote no_read no_write none = absurd (kind (faults.PacketSize n) refl)
-  whole_by (Err (faults.Units n)) kind wrote no_read no_write none = absurd (kind (faults.Units n) refl)
-  whole_by (Err faults.Link) kind wrote no_read no_write none = absurd (kind faults.Link refl)
+  whole_by ending kind wrote no_read no_write none =
+      elim (exact_by ending kind wrote no_read no_write) [
+        | inl memory ↦ inl memory
+        | inr exactly ↦ elim (done_or ⊥ ending kind no_read no_write (λ why is. none why ((exactly why).0 is)) (λ never number. absurd never)) [
+          | inl memory ↦ inl memory
+          | inr (clean, is) ↦ inr (clean, is, subst (λ e. Says rules left e known out out') is wrote)
+        ]
+      ]
 
   is_clean : (clean : Bool) → IsTrue clean → clean ≡ true
   is_clean clean is = is

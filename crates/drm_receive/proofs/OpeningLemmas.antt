@@ -1,5 +1,5 @@
 -- Openings for receivers: nothing is sent, and the fault by which they end.
-use Rattle.std.proofs.Common.{◌≡◌, ℕ, inl, inr, Bool, List, [], take, Result, Err, sym, ◌∙◌, ap, arith}
+use Rattle.std.proofs.Common.{◌≡◌, ℕ, inl, inr, Bool, List, take, Result, Err, sym, ◌∙◌, ap, arith}
 use Rattle.drm_links.specs.Told.{Counts, Known, WhileTold, Tells}
 use Rattle.drm_links.specs.Sink.{Output}
 use Rattle.drm_links.specs.Dock.{DockContents, after_failure, after_openings}

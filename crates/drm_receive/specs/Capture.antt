@@ -12,7 +12,7 @@ use Rattle.report_lines.specs.Reports.{Report}
 use Rattle.recv_reading.specs.OneReading.{BreaksOff}
 use Rattle.mod_receiver.specs.Ahead.{IsInTimeAhead, IsReportOf}
 use Rattle.recv_reading.specs.Source.{answers_of, Brings, HeardOf, HeardUntil}
-use Rattle.drm_faults.specs.Captures.{EndsEarly}
+use Rattle.drm_faults.specs.Captures.{EndsEarly, EndsByIt}
 use Rattle.drm_faults.specs.Fault.{UnlessMemory}
 use Rattle.drm_faults.specs.declared.fault.Fault.{Fault}
 use Rattle.drm_faults.specs.declared.fault.Fault.TheVariants as faults
@@ -40,12 +40,6 @@ abbrev pub WritesReport : {O : Type 0} → ReceiveOptions → List ℕ → Bool 
 WritesReport rules left clean known out out' =
     (ahead : List Answer) × Brings left ahead
     × (r : Report) × IsReportOf rules 1 ahead r × Outputs (known out) (known out') (λ text. text ≡ r.text) × (clean ≡ r.clean)
-
--- the run ends by what is wrong behind the packets
-abbrev pub EndsByIt : Result Bool Fault → capture.Ending → Type 0
-EndsByIt ending capture.End = ⊥
-EndsByIt ending (capture.Fault fault) = ending ≡ Err (faults.Capture fault)
-EndsByIt ending capture.TooLong = ending ≡ Err faults.CaptureTooLong
 
 -- The run is done, and the report is written.
 abbrev pub WroteReport : {O : Type 0} → ReceiveOptions → List ℕ → Result Bool Fault → (O → Known Output) → O → O → Type 0
