@@ -1,28 +1,25 @@
 -- How a run ends.
-use Rattle.std.proofs.Common.{ℕ, ◌≡◌, inl, inr, Bool, List, ◌++◌, refl, sym, ap, subst, ◌∙◌}
-use Rattle.std.specs.Prelude.{◌↔◌, Option, Result, Ok, Err}
-use Rattle.drm_links.specs.Told.{Known, HasCause}
-use Rattle.drm_links.specs.Source.{Input, Inputs}
-use Rattle.drm_links.specs.Sink.{Output}
+use Rattle.std.proofs.Common.{ℕ, ◌≡◌, inl, inr, Bool, List, ◌++◌, refl, sym, ap, subst, ◌∙◌, ◌↔◌, Option, Result, Ok, Err}
+use Rattle.recv_reading.proofs.Common.{Known, Input, Inputs, Output, State, made}
+use Rattle.drm_links.specs.Told.{HasCause}
 use Rattle.drm_links.proofs.ToldLemmas.{counts_none, Inputs-nothing, Inputs-weaker, Outputs-then}
 use Rattle.drm_links.proofs.WritingLemmas.{Writes-done, Writes-front, front_behind}
-use Rattle.drm_capture.specs.declared.fault.CaptureFault.{CaptureFault}
 use Rattle.drm_capture.specs.Capture as capture
 use Rattle.drm_capture.specs.Laws.{ReadOneWay}
 use Rattle.capture_laws.specs.Laws.{PacketsInFront}
-use Rattle.dcp_collect.specs.State.{State, made}
 use Rattle.mod_feed.specs.Items.{Item}
-use Rattle.drm_faults.specs.Captures as captures
+use Rattle.drm_faults.specs.Captures.{EndsEarly, EndsByIt}
 use Rattle.drm_faults.specs.Fault.{UnlessMemory}
 use Rattle.drm_faults.specs.declared.fault.Fault.{Fault}
 use Rattle.drm_faults.specs.declared.fault.Fault.TheVariants as faults
+use Rattle.drm_faults.proofs.CaptureLemmas.{each_early, none_by, fault_by, length_by, done_or}
 use Rattle.recv_reading.specs.Packets.{Terms, BreaksOffBy}
 use Rattle.recv_reading.proofs.BreakingOff.{all_unbroken, BreaksBy, until_breaks}
 use Rattle.capture_data.specs.declared.taker.Taker.{Taker}
 use Rattle.capture_data.specs.Streams.{What}
 use Rattle.capture_data.specs.Lines.{is_clean}
 use Rattle.capture_data.specs.Printed.{IsWholeText}
-use Rattle.capture_data.specs.Run.{WritesAll, WritesFront, Ends, EndsByIt, IsDone, DataRun}
+use Rattle.capture_data.specs.Run.{WritesAll, WritesFront, Ends, IsDone, DataRun}
 use Rattle.capture_data.specs.Taken.{counts_in, Took, TakesAll, EndsText}
 use Rattle.capture_data.proofs.Printing.{printed}
 use Rattle.capture_data.proofs.Sound.{sound}
@@ -68,23 +65,8 @@ whole_broken terms what taker ended before after a b o result fault all (given, 
 
 -- ---- when it ends early
 
-by_end : (clean : Bool) (why : capture.Ending) → EndsByIt (Ok clean) why → ⊥
-by_end clean capture.End is = is
-by_end clean (capture.Fault fault) is = let clash : Ok clean ≡ Err (faults.Capture fault) = is in cc
-by_end clean capture.TooLong is = let clash : Ok clean ≡ Err faults.CaptureTooLong = is in cc
-
-fault_ends : (fault : CaptureFault) (why : capture.Ending) → EndsByIt (Err (faults.Capture fault)) why → capture.Fault fault ≡ why
-fault_ends fault capture.End is = absurd is
-fault_ends fault (capture.Fault other) is = let same : fault ≡ other = cc in ap capture.Fault same
-fault_ends fault capture.TooLong is = absurd (cc)
-
-length_ends : (why : capture.Ending) → EndsByIt (Err faults.CaptureTooLong) why → capture.TooLong ≡ why
-length_ends capture.End is = absurd is
-length_ends (capture.Fault other) is = absurd (cc)
-length_ends capture.TooLong is = refl
-
 -- which faults end it
-fault_can : (terms : Terms) (what : What) (fault : Fault) (before after : Known Input) (a b : Known Output) → Ends terms what (Err fault) before after a b → captures.EndsEarly fault
+fault_can : (terms : Terms) (what : What) (fault : Fault) (before after : Known Input) (a b : Known Output) → Ends terms what (Err fault) before after a b → EndsEarly fault
 fault_can terms what faults.NoMemory before after a b ends = tt
 fault_can terms what (faults.Capture fault) before after a b ends = tt
 fault_can terms what faults.CaptureTooLong before after a b ends = tt
@@ -113,52 +95,31 @@ module _ (one_way : ReadOneWay) (in_front : PacketsInFront) (terms : Terms) (wha
   exact : (ending : Result Bool Fault) → Ends terms what ending before after a b → (ending ≡ Err faults.Read → ⊥) → (ending ≡ Err faults.Write → ⊥) → Inputs before after (Exact ending)
   exact (Ok clean) (given, gives, items, are, text, printed, out) no_read no_write =
       Inputs-weaker (λ left _. (why : capture.Ending) → BreaksOffBy terms left why → ⊥) (Exact (Ok clean)) before after (all_unbroken one_way in_front terms given before after gives)
-      (λ left more unbroken. inr (λ why. ((λ told. absurd (by_end clean why told)), (λ broken. absurd (unbroken why broken)))))
-  exact (Err faults.NoMemory) (same, out) no_read no_write =
-      subst (λ k. Inputs before k (Exact (Err faults.NoMemory))) (sym same) (Inputs-nothing (Exact (Err faults.NoMemory)) before (λ left. inl refl))
-  exact (Err (faults.Capture fault)) (given, gives, items, are, text, printed, out) no_read no_write =
-      exact_at (Err (faults.Capture fault)) (capture.Fault fault) refl (fault_ends fault)
-      (until_breaks one_way terms _ given before after (capture.Fault fault) gives (λ e. let clash : capture.Fault fault ≡ capture.End = e in cc) gives.stops)
-  exact (Err faults.CaptureTooLong) (given, gives, items, are, text, printed, out) no_read no_write =
-      exact_at (Err faults.CaptureTooLong) capture.TooLong refl length_ends
-      (until_breaks one_way terms _ given before after capture.TooLong gives (λ e. let clash : capture.TooLong ≡ capture.End = e in cc) gives.stops)
-  exact (Err faults.Read) ends no_read no_write = absurd (no_read refl)
-  exact (Err faults.Write) ends no_read no_write = absurd (no_write refl)
-  exact (Err (faults.PacketSize number)) ends no_read no_write = absurd ends
-  exact (Err (faults.Units fault)) ends no_read no_write = absurd ends
-  exact (Err faults.Words) ends no_read no_write = absurd ends
-  exact (Err (faults.FacLength n)) ends no_read no_write = absurd ends
-  exact (Err faults.FacOver) ends no_read no_write = absurd ends
-  exact (Err (faults.FacCrc stands computed)) ends no_read no_write = absurd ends
-  exact (Err (faults.Schedule line reason)) ends no_read no_write = absurd ends
-  exact (Err (faults.Script line reason)) ends no_read no_write = absurd ends
-  exact (Err faults.Link) ends no_read no_write = absurd ends
+      (λ left more unbroken. inr (λ why. ((λ told. absurd (none_by clean why told)), (λ broken. absurd (unbroken why broken)))))
+  exact (Err fault) ends no_read no_write =
+      each_early ⊥ (λ f. Ends terms what (Err f) before after a b → (f ≡ faults.Read → ⊥) → (f ≡ faults.Write → ⊥) → Inputs before after (Exact (Err f)))
+      (λ (same, out) reads writes. subst (λ k. Inputs before k (Exact (Err faults.NoMemory))) (sym same) (Inputs-nothing (Exact (Err faults.NoMemory)) before (λ left. inl refl)))
+      (λ wrong (given, gives, items, are, text, printed, out) reads writes.
+      exact_at (Err (faults.Capture wrong)) (capture.Fault wrong) refl (fault_by wrong)
+      (until_breaks one_way terms _ given before after (capture.Fault wrong) gives (λ e. let clash : capture.Fault wrong ≡ capture.End = e in cc) gives.stops))
+      (λ (given, gives, items, are, text, printed, out) reads writes.
+      exact_at (Err faults.CaptureTooLong) capture.TooLong refl length_by
+      (until_breaks one_way terms _ given before after capture.TooLong gives (λ e. let clash : capture.TooLong ≡ capture.End = e in cc) gives.stops))
+      (λ early reads writes. absurd (reads refl)) (λ early reads writes. absurd (writes refl)) (λ never number early reads writes. absurd never)
+      fault (fault_can terms what fault before after a b ends) ends (λ is. no_read (ap Err is)) (λ is. no_write (ap Err is))
 
-  can_end : (ending : Result Bool Fault) → Ends terms what ending before after a b → (fault : Fault) → ending ≡ Err fault → captures.EndsEarly fault
+  can_end : (ending : Result Bool Fault) → Ends terms what ending before after a b → (fault : Fault) → ending ≡ Err fault → EndsEarly fault
   can_end ending ends fault is = fault_can terms what fault before after a b (subst (λ e. Ends terms what e before after a b) is ends)
 
   -- nothing is lost
   done_by : (left rest : List ℕ) (ending : Result Bool Fault) → Ends terms what ending before after a b → (ending ≡ Err faults.Read → ⊥) → (ending ≡ Err faults.Write → ⊥)
       → Exact ending left rest → ((why : capture.Ending) → BreaksOffBy terms left why → ⊥) → UnlessMemory ending (IsDone terms what ending before after a b)
-  done_by left rest (Ok clean) ends no_read no_write exactly unbroken = inr (clean, refl, ends)
-  done_by left rest (Err fault) ends no_read no_write (inl memory) unbroken = inl memory
-  done_by left rest (Err fault) ends no_read no_write (inr exactly) unbroken = by fault refl
-    where
-      by : (other : Fault) → fault ≡ other → UnlessMemory {T = Bool} (Err fault) (IsDone terms what (Err fault) before after a b)
-      by faults.NoMemory is = inl (ap Err is)
-      by (faults.Capture f) is = absurd (unbroken (capture.Fault f) ((exactly (capture.Fault f)).0 (ap Err is)))
-      by faults.CaptureTooLong is = absurd (unbroken capture.TooLong ((exactly capture.TooLong).0 (ap Err is)))
-      by faults.Read is = absurd (no_read (ap Err is))
-      by faults.Write is = absurd (no_write (ap Err is))
-      by (faults.PacketSize number) is = absurd (can_end (Err fault) ends (faults.PacketSize number) (ap Err is))
-      by (faults.Units f) is = absurd (can_end (Err fault) ends (faults.Units f) (ap Err is))
-      by faults.Words is = absurd (can_end (Err fault) ends faults.Words (ap Err is))
-      by (faults.FacLength n) is = absurd (can_end (Err fault) ends (faults.FacLength n) (ap Err is))
-      by faults.FacOver is = absurd (can_end (Err fault) ends faults.FacOver (ap Err is))
-      by (faults.FacCrc stands computed) is = absurd (can_end (Err fault) ends (faults.FacCrc stands computed) (ap Err is))
-      by (faults.Schedule line reason) is = absurd (can_end (Err fault) ends (faults.Schedule line reason) (ap Err is))
-      by (faults.Script line reason) is = absurd (can_end (Err fault) ends (faults.Script line reason) (ap Err is))
-      by faults.Link is = absurd (can_end (Err fault) ends faults.Link (ap Err is))
+  done_by left rest ending ends no_read no_write (inl memory) unbroken = inl memory
+  done_by left rest ending ends no_read no_write (inr exactly) unbroken =
+      elim (done_or ⊥ ending (can_end ending ends) no_read no_write (λ why is. unbroken why ((exactly why).0 is)) (λ never number. absurd never)) [
+        | inl memory ↦ inl memory
+        | inr (clean, is) ↦ inr (clean, is, subst (λ e. Ends terms what e before after a b) is ends)
+      ]
 
 pub data_run : {I O : Type 0} → ReadOneWay → PacketsInFront → (terms : Terms) (what : What) (ending : Result Bool Fault) (input_known : I → Known Input) (input input' : I) (out_known : O → Known Output) (out out' : O)
     → Ends terms what ending (input_known input) (input_known input') (out_known out) (out_known out')
@@ -166,33 +127,26 @@ pub data_run : {I O : Type 0} → ReadOneWay → PacketsInFront → (terms : Ter
     → HasCause (input_known input) (input_known input') (ending ≡ Err faults.Read)
     → HasCause (out_known out) (out_known out') (ending ≡ Err faults.Write)
     → DataRun terms what ending input_known input input' out_known out out'
-data_run {I} {O} one_way in_front terms what ending input_known input input' out_known out out' ends untouched read_cause write_cause = record {
-  kind = can_end one_way in_front terms what before after a b ending ends;
-  ends = ends;
-  sound = sound terms what before after a b ending ends;
-  untouched = untouched;
-  exactly = exact one_way in_front terms what before after a b ending ends;
-  complete = λ reads goes.
-      let no_read : ending ≡ Err faults.Read → ⊥ = λ is. reads (read_cause.once is) in
-      let no_write : ending ≡ Err faults.Write → ⊥ = λ is. goes (write_cause.once is) in
-      Inputs-weaker (Exact one_way in_front terms what before after a b ending) (λ left _. ((why : capture.Ending) → BreaksOffBy terms left why → ⊥) → UnlessMemory ending (IsDone terms what ending before after a b))
-      before after (exact one_way in_front terms what before after a b ending ends no_read no_write)
-      (λ left rest exactly unbroken. done_by one_way in_front terms what before after a b left rest ending ends no_read no_write exactly unbroken);
-  read_cause = read_cause;
-  write_cause = write_cause;
-}
-  where
-    before : Known Input
-    before = input_known input
-
-    after : Known Input
-    after = input_known input'
-
-    a : Known Output
-    a = out_known out
-
-    b : Known Output
-    b = out_known out'
+data_run {I} {O} one_way in_front terms what ending input_known input input' out_known out out' ends untouched read_cause write_cause =
+    let before : Known Input = input_known input in
+    let after : Known Input = input_known input' in
+    let a : Known Output = out_known out in
+    let b : Known Output = out_known out' in
+    record {
+      kind = can_end one_way in_front terms what before after a b ending ends;
+      ends = ends;
+      sound = sound terms what before after a b ending (can_end one_way in_front terms what before after a b ending ends) ends;
+      untouched = untouched;
+      exactly = exact one_way in_front terms what before after a b ending ends;
+      complete = λ reads goes.
+          let no_read : ending ≡ Err faults.Read → ⊥ = λ is. reads (read_cause.once is) in
+          let no_write : ending ≡ Err faults.Write → ⊥ = λ is. goes (write_cause.once is) in
+          Inputs-weaker (Exact one_way in_front terms what before after a b ending) (λ left _. ((why : capture.Ending) → BreaksOffBy terms left why → ⊥) → UnlessMemory ending (IsDone terms what ending before after a b))
+          before after (exact one_way in_front terms what before after a b ending ends no_read no_write)
+          (λ left rest exactly unbroken. done_by one_way in_front terms what before after a b left rest ending ends no_read no_write exactly unbroken);
+      read_cause = read_cause;
+      write_cause = write_cause;
+    }
 
 -- memory was wanting
 pub memory_run : {I O : Type 0} → ReadOneWay → PacketsInFront → (terms : Terms) (what : What) (input_known : I → Known Input) (input : I) (out_known : O → Known Output) (out : O)

@@ -1,11 +1,11 @@
 -- One item more.
-use Rattle.std.proofs.Common.{◌≡◌, ℕ, ◌+◌, List, [], ◌∷◌, ◌++◌, length, Option, None, Some, refl, sym, ap, subst, ◌∙◌, arith, append_assoc}
-use Rattle.std.specs.Prelude.{Result, Ok, Err, OnOk}
+use Rattle.std.proofs.Common.{◌≡◌, ℕ, ◌+◌, List, [], ◌∷◌, ◌++◌, length, Option, None, Some, refl, sym, ap, subst, ◌∙◌, arith, append_assoc, length-append, Result, Ok, Err, OnOk, flat_map}
 use Rattle.std.specs.Borrow.{Bor}
 use Rattle.std.proofs.lemmas.List.{append-nil}
 use Rattle.std.proofs.lemmas.List.Concat.{flat_map-append}
-use Rattle.std.specs.List.{flat_map}
-use Rattle.dcp_collect.specs.Runs.{Item as Given}
+use Rattle.recv_reading.proofs.Common.{Known, Output, Item as Given}
+use Rattle.drm_links.proofs.ToldLemmas.{Outputs-nothing}
+use Rattle.drm_links.proofs.WritingLemmas.{Writes-whole}
 use Rattle.mod_feed.specs.Items.{Item, IsItemOf}
 use Rattle.drm_text.specs.Segment.{Segment}
 use Rattle.drm_text.specs.Joining as joining
@@ -17,7 +17,7 @@ use Rattle.capture_data.specs.declared.messages.MessageTaker.{MessageTaker}
 use Rattle.capture_data.specs.Streams.{What, TextsOf, entries_at, bad_at, missing_at, reading, bad_in, missing_in}
 use Rattle.capture_data.specs.Lines.{text_line}
 use Rattle.capture_data.specs.Printed.{AreItems}
-use Rattle.capture_data.specs.Taken.{TookMessages, told_line, told_count}
+use Rattle.capture_data.specs.Taken.{TookMessages, TakesMessages, told_line, told_count}
 
 pub reading_more : (what : What) (items : List Item) (item : Item) → reading what (items ++ item ∷ []) ≡ reading what items ++ entries_at what item
 reading_more what [] item = append-nil (entries_at what item)
@@ -55,10 +55,6 @@ one_size : (text : Option (List ℕ)) → length (with_message text []) ≡ told
 one_size None = refl
 one_size (Some message) = refl
 
-size_join : {X : Type 0} (xs ys : List X) → length (xs ++ ys) ≡ length xs + length ys
-size_join [] ys = omega arith
-size_join (x ∷ xs) ys = omega (arith, size_join xs ys)
-
 pub message_more : (k : ℕ) (items : List Item) (item : Item) (text : List ℕ) (t u : MessageTaker) (x : Option (List ℕ)) (said : Option (List ℕ))
     → (took : TookMessages k items text t) → entries_at (TextsOf k) item ≡ x ∷ [] → u.stream ≡ t.stream
     → Runs joining.made (reading (TextsOf k) items ++ x ∷ []) (took.told ++ said ∷ []) u.joiner
@@ -75,21 +71,27 @@ message_more k items item text t u x said took entries stream runs given cut bad
       text_is = ap (λ l. l ++ told_line said) took.text_is
           ∙ (ap (λ l. flat_map text_line (messages_in took.told) ++ l) (sym (lines_one said))
           ∙ (sym (flat_map-append text_line (messages_in took.told) (with_message said [])) ∙ ap (λ l. flat_map text_line l) (sym more)));
-      given_is = omega (arith, given, took.given_is, ap length more, size_join (messages_in took.told) (with_message said []), one_size said);
+      given_is = omega (arith, given, took.given_is, ap length more, length-append (messages_in took.told) (with_message said []), one_size said);
       cut_is = cut ∙ took.cut_is;
       bad_is = omega (arith, bad, took.bad_is, bad_more what items item);
       missing_is = omega (arith, missing, took.missing_is, missing_more items item);
     }
 
 -- a gap
-pub message_gap : (k : ℕ) (items : List Item) (item : Item) (text : List ℕ) (t u : MessageTaker)
+pub message_gap : {E : Type 0} (k : ℕ) (items : List Item) (item : Item) (text : List ℕ) (t u : MessageTaker) (a : Known Output)
     → TookMessages k items text t → entries_at (TextsOf k) item ≡ None ∷ [] → u.stream ≡ t.stream → u.joiner ≡ joining.made
     → u.counts.given ≡ t.counts.given → u.counts.cut ≡ t.counts.cut → u.counts.bad ≡ t.counts.bad + bad_at (TextsOf k) item → u.counts.missing ≡ t.counts.missing + missing_at item
-    → TookMessages k (items ++ item ∷ []) (text ++ []) u
-message_gap k items item text t u took entries stream new given cut bad missing =
+    → (let done : Result (Unit {0}) E = Ok tt in TakesMessages k items item text done u a a)
+message_gap k items item text t u a took entries stream new given cut bad missing =
     let runs = (runs_by_calls (reading (TextsOf k) items) took.told t.joiner took.runs).gap in
-    message_more k items item text t u None None took entries stream
-    (subst (λ (s : joining.State). Runs joining.made (reading (TextsOf k) items ++ None ∷ []) (took.told ++ None ∷ []) s) (sym new) runs) (omega (arith, given)) cut bad missing
+    record {
+      after = u;
+      line = [];
+      took = message_more k items item text t u None None took entries stream
+          (subst (λ (s : joining.State). Runs joining.made (reading (TextsOf k) items ++ None ∷ []) (took.told ++ None ∷ []) s) (sym new) runs) (omega (arith, given)) cut bad missing;
+      writes = Writes-whole [] a a (Outputs-nothing a (λ l. l ≡ []) refl) refl;
+      after_is = refl;
+    }
 
 -- a piece
 pub message_piece : (k : ℕ) (items : List Item) (item : Item) (text : List ℕ) (t u : MessageTaker) (piece : List ℕ) (said : Option (Bor (List ℕ)))

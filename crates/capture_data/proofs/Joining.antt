@@ -1,9 +1,8 @@
 -- Entries that are taken one after another.
-use Rattle.std.proofs.Common.{◌≡◌, ℕ, ◌+◌, ◌≤◌, Bool, true, false, List, [], ◌∷◌, ◌++◌, length, map, Option, None, Some, is_some, if◌then◌else◌, ◌==◌, refl, sym, ap, subst, ◌∙◌, arith}
+use Rattle.std.proofs.Common.{◌≡◌, ℕ, ◌+◌, ◌≤◌, Bool, true, false, List, [], ◌∷◌, ◌++◌, length, map, Option, None, Some, is_some, if◌then◌else◌, ◌==◌, refl, sym, ap, subst, ◌∙◌, arith, Result}
 use Rattle.std.proofs.lemmas.List.{append-nil}
 use Rattle.std.proofs.lemmas.List.Concat.{flat_map-append}
 use Rattle.std.specs.Int.{from_bool}
-use Rattle.std.specs.Prelude.{Result}
 use Rattle.drm_links.specs.Told.{Known}
 use Rattle.drm_links.specs.Sink.{Output}
 use Rattle.std.specs.List.{AllByRecursion}

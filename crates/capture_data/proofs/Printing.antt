@@ -8,7 +8,7 @@ use Rattle.capture_data.specs.Printed.{IsPrinted}
 use Rattle.capture_data.specs.Taken.{Took}
 
 pub printed : (what : What) (items : List Item) (text : List ℕ) (taker : Taker) → Took what items text taker → IsPrinted what items text
-printed (UnitsOf k id d) items text (Units t) took = (took.events, took.are, took.text_is)
+printed (UnitsOf k id d) items text (Units t) took = (took.events, took.are, took.line_is)
 printed (UnitsOf k id d) items text (Messages t) took = absurd took
 printed (TextsOf k) items text (Units t) took = absurd took
 printed (TextsOf k) items text (Messages t) took = (took.told, t.joiner, took.runs, took.text_is)

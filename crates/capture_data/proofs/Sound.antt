@@ -1,10 +1,7 @@
 -- What is written is what is printed of some items, whatever was read.
-use Rattle.std.proofs.Common.{ℕ, ◌≡◌, inl, inr, Bool, List, [], ◌∷◌, ◌++◌, refl, sym, ap, subst, ◌∙◌, append_assoc}
-use Rattle.std.specs.Prelude.{Result, Ok, Err, is_some}
+use Rattle.std.proofs.Common.{ℕ, ◌≡◌, inl, inr, Bool, List, [], ◌∷◌, ◌++◌, refl, sym, ap, subst, ◌∙◌, append_assoc, Result, Ok, Err, is_some}
 use Rattle.std.proofs.lemmas.List.{append-nil}
-use Rattle.drm_links.specs.Told.{Known}
-use Rattle.drm_links.specs.Source.{Input}
-use Rattle.drm_links.specs.Sink.{Output, Outputs, IsFront, IsFrontBehind}
+use Rattle.recv_reading.proofs.Common.{Known, Input, Output, Outputs, IsFront, IsFrontBehind}
 use Rattle.drm_links.proofs.ToldLemmas.{Outputs-nothing, Outputs-weaker}
 use Rattle.drm_links.proofs.WritingLemmas.{front_of_both}
 use Rattle.drm_capture.specs.declared.packets.CaptureStop.{CaptureStop}
@@ -14,12 +11,13 @@ use Rattle.drm_data.specs.Joining.{made}
 use Rattle.data_laws.specs.Runs.{answers, after_all}
 use Rattle.drm_text.specs.Joining as joining
 use Rattle.drm_faults.specs.declared.fault.Fault.{Fault}
-use Rattle.drm_faults.specs.declared.fault.Fault.TheVariants as faults
+use Rattle.drm_faults.specs.Captures.{EndsEarly}
+use Rattle.drm_faults.proofs.CaptureLemmas.{each_early}
 use Rattle.recv_reading.specs.Packets.{Terms}
 use Rattle.capture_data.specs.Streams.{What, UnitsOf, TextsOf}
 use Rattle.capture_data.specs.Lines.{cut_line, units_end, texts_end, is_clean}
 use Rattle.capture_data.specs.Printed.{IsPrinted, IsWholeText, unit_counts, text_counts}
-use Rattle.capture_data.specs.Run.{WritesUntil, Ends, IsFrontOfText, IsSound}
+use Rattle.capture_data.specs.Run.{WritesUntil, WritesFront, Ends, IsFrontOfText, IsSound}
 
 -- what an end adds to what is printed
 whole_behind : (what : What) (items : List Item) (text : List ℕ) → IsPrinted what items text → (rest : List ℕ) × (clean : Bool) × IsWholeText what items (text ++ rest) clean
@@ -47,24 +45,16 @@ module _ (terms : Terms) (what : What) (before after : Known Input) (a b : Known
   until stop (given, gives, items, are, printed, is, out) =
       Outputs-weaker (λ t. t ≡ printed) (IsFrontOfText what) a b out (λ t e. front_printed what items printed t is ([], sym e ∙ sym (append-nil t)))
 
-  pub sound : (ending : Result Bool Fault) → Ends terms what ending before after a b → IsSound what ending a b
-  sound (Ok clean) (given, gives, items, are, whole, is, out) =
-      Outputs-weaker (λ t. t ≡ whole) (λ t. (items : List Item) × IsWholeText what items t clean) a b out (λ t e. (items, subst (λ l. IsWholeText what items l clean) (sym e) is))
-  sound (Err faults.Write) (inl (given, last, gives, items, are, item, item_is, printed, line, was, is, out)) =
+  front : WritesFront terms what before after a b → Outputs a b (IsFrontOfText what)
+  front (inl (given, last, gives, items, are, item, item_is, printed, line, was, is, out)) =
       Outputs-weaker (IsFrontBehind printed line) (IsFrontOfText what) a b out (λ t e. front_printed what (items ++ item ∷ []) (printed ++ line) t is (front_of_both printed line t e))
-  sound (Err faults.Write) (inr (given, gives, items, are, printed, rest, clean, was, is, out)) =
+  front (inr (given, gives, items, are, printed, rest, clean, was, is, out)) =
       Outputs-weaker (IsFrontBehind printed rest) (IsFrontOfText what) a b out (λ t e. (items, printed ++ rest, clean, is, front_of_both printed rest t e))
-  sound (Err faults.Read) ends = until stops.Read ends
-  sound (Err (faults.Capture fault)) ends = until (stops.Capture fault) ends
-  sound (Err faults.CaptureTooLong) ends = until stops.TooLong ends
-  sound (Err faults.NoMemory) (same, none) =
-      subst (λ (k : Known Output). Outputs a k (IsFrontOfText what)) (sym none) (Outputs-nothing a (IsFrontOfText what) (front_printed what [] [] [] (printed_none what) ([], refl)))
-  sound (Err (faults.PacketSize number)) ends = absurd ends
-  sound (Err (faults.Units fault)) ends = absurd ends
-  sound (Err faults.Words) ends = absurd ends
-  sound (Err (faults.FacLength n)) ends = absurd ends
-  sound (Err faults.FacOver) ends = absurd ends
-  sound (Err (faults.FacCrc stands computed)) ends = absurd ends
-  sound (Err (faults.Schedule line reason)) ends = absurd ends
-  sound (Err (faults.Script line reason)) ends = absurd ends
-  sound (Err faults.Link) ends = absurd ends
+
+  pub sound : (ending : Result Bool Fault) → ((fault : Fault) → ending ≡ Err fault → EndsEarly fault) → Ends terms what ending before after a b → IsSound what ending a b
+  sound (Ok clean) kind (given, gives, items, are, whole, is, out) =
+      Outputs-weaker (λ t. t ≡ whole) (λ t. (items : List Item) × IsWholeText what items t clean) a b out (λ t e. (items, subst (λ l. IsWholeText what items l clean) (sym e) is))
+  sound (Err fault) kind ends =
+      each_early ⊥ (λ f. Ends terms what (Err f) before after a b → Outputs a b (IsFrontOfText what))
+      (λ (same, none). subst (λ (k : Known Output). Outputs a k (IsFrontOfText what)) (sym none) (Outputs-nothing a (IsFrontOfText what) (front_printed what [] [] [] (printed_none what) ([], refl))))
+      (λ wrong ends. until (stops.Capture wrong) ends) (λ ends. until stops.TooLong ends) (λ ends. until stops.Read ends) front (λ never number ends. absurd never) fault (kind fault refl) ends

@@ -1,6 +1,5 @@
 -- Either taker, item by item.
-use Rattle.std.proofs.Common.{◌≡◌, ℕ, ◌+◌, ◌<◌, List, [], ◌∷◌, ◌++◌, Option, refl, sym, ap, subst, ◌∙◌, arith}
-use Rattle.std.specs.Prelude.{Result, Ok, Err, OnOk}
+use Rattle.std.proofs.Common.{◌≡◌, ℕ, ◌+◌, ◌<◌, List, [], ◌∷◌, ◌++◌, Option, refl, sym, ap, subst, ◌∙◌, arith, Result, Ok, Err, OnOk}
 use Rattle.drm_links.specs.Told.{Known}
 use Rattle.drm_links.specs.Sink.{Output}
 use Rattle.mod_feed.specs.Items.{Item}
@@ -11,54 +10,18 @@ use Rattle.capture_data.specs.declared.units.UnitTaker.{UnitTaker}
 use Rattle.capture_data.specs.declared.messages.MessageTaker.{MessageTaker}
 use Rattle.capture_data.specs.declared.taker.Taker.TheVariants.{Units, Messages}
 use Rattle.capture_data.specs.Streams.{What, UnitsOf, TextsOf, reading, entries_at, bad_at, missing_at, bad_in, missing_in}
-use Rattle.capture_data.specs.Taken.{no_counts, Joins, TakesEntries, TookUnits, TookMessages, TakesMessages, Took, TakesItem, IsReady, IsJoinerOf}
-use Rattle.capture_data.proofs.Joining.{all_length, joins_then}
+use Rattle.capture_data.specs.Taken.{no_counts, new_taker, Joins, TakesEntries, TookUnits, TookMessages, TakesMessages, Took, TakesItem, IsReady, IsJoinerOf}
+use Rattle.capture_data.proofs.Joining.{all_length, joins_none, joins_then}
 use Rattle.capture_data.proofs.Items.{reading_more, bad_more, missing_more}
-
--- a taker of which nothing has come yet
-abbrev new : ℕ → ℕ → ℕ → UnitTaker
-new k id d = record { stream = k; length = d; joiner = made id d; counts = no_counts }
-
-took_joins : (k id d : ℕ) (items : List Item) (text : List ℕ) (t : UnitTaker) → TookUnits k id d items text t
-    → Joins (new k id d) t (reading (UnitsOf k id d) items) (bad_in (UnitsOf k id d) items) (missing_in items) text
-took_joins k id d items text t took = record {
-  stream = took.stream;
-  size = took.size;
-  events = took.events;
-  are = took.are;
-  joiner = took.joiner;
-  line_is = took.text_is;
-  given_is = omega (arith, took.given_is);
-  cut_is = omega (arith, took.cut_is);
-  bad_is = omega (arith, took.bad_is);
-  missing_is = omega (arith, took.missing_is);
-}
-
-joins_took : (k id d : ℕ) (items : List Item) (text : List ℕ) (t : UnitTaker) → Joins (new k id d) t (reading (UnitsOf k id d) items) (bad_in (UnitsOf k id d) items) (missing_in items) text
-    → TookUnits k id d items text t
-joins_took k id d items text t j = record {
-  stream = j.stream;
-  size = j.size;
-  events = j.events;
-  are = j.are;
-  joiner = j.joiner;
-  text_is = j.line_is;
-  given_is = omega (arith, j.given_is);
-  cut_is = omega (arith, j.cut_is);
-  bad_is = omega (arith, j.bad_is);
-  missing_is = omega (arith, j.missing_is);
-}
 
 units_more : (k id d : ℕ) (items : List Item) (item : Item) (text line : List ℕ) (t u : UnitTaker) → TookUnits k id d items text t
     → Joins t u (entries_at (UnitsOf k id d) item) (bad_at (UnitsOf k id d) item) (missing_at item) line → TookUnits k id d (items ++ item ∷ []) (text ++ line) u
 units_more k id d items item text line t u took joins =
     let what : What = UnitsOf k id d in
-    let all = joins_then (new k id d) t u (reading what items) (entries_at what item) (bad_in what items) (missing_in items) (bad_at what item) (missing_at item) text line (took_joins k id d items text t took) joins in
-    let P : List (Option (List ℕ)) → Type 0 = λ l. Joins (new k id d) u l (bad_in what items + bad_at what item) (missing_in items + missing_at item) (text ++ line) in
-    let Q : ℕ → Type 0 = λ n. Joins (new k id d) u (reading what (items ++ item ∷ [])) n (missing_in items + missing_at item) (text ++ line) in
-    let R : ℕ → Type 0 = λ n. Joins (new k id d) u (reading what (items ++ item ∷ [])) (bad_in what (items ++ item ∷ [])) n (text ++ line) in
-    joins_took k id d (items ++ item ∷ []) (text ++ line) u
-    (subst R (sym (missing_more items item)) (subst Q (sym (bad_more what items item)) (subst P (sym (reading_more what items item)) all)))
+    rw (reading_more what items item)
+    (rw (bad_more what items item)
+    (rw (missing_more items item)
+    (joins_then (new_taker k id d) t u (reading what items) (entries_at what item) (bad_in what items) (missing_in items) (bad_at what item) (missing_at item) text line took joins)))
 
 units_takes : {E : Type 0} (result : Result (Unit {0}) E) (k id d : ℕ) (items : List Item) (item : Item) (text : List ℕ) (t u : UnitTaker) (a b : Known Output)
     → TookUnits k id d items text t → TakesEntries result t u (entries_at (UnitsOf k id d) item) (bad_at (UnitsOf k id d) item) (missing_at item) a b
@@ -114,18 +77,7 @@ messages_item {E} (TextsOf k) result items item text t u a b took takes =
 
 -- nothing was taken yet
 pub no_units : (k id d : ℕ) (joiner : State) (counts : Counts) → joiner ≡ made id d → counts ≡ no_counts → TookUnits k id d [] [] (record { stream = k; length = d; joiner = joiner; counts = counts })
-no_units k id d joiner counts new none = record {
-  stream = refl;
-  size = refl;
-  events = [];
-  are = refl;
-  joiner = new;
-  text_is = refl;
-  given_is = ap (λ (n : Counts). n.given) none;
-  cut_is = ap (λ (n : Counts). n.cut) none;
-  bad_is = omega (arith, ap (λ (n : Counts). n.bad) none);
-  missing_is = ap (λ (n : Counts). n.missing) none;
-}
+no_units k id d joiner counts new none = rw new (rw none (joins_none (new_taker k id d)))
 
 pub no_messages : (k : ℕ) (joiner : joining.State) (counts : Counts) → joiner ≡ joining.made → counts ≡ no_counts → TookMessages k [] [] (record { stream = k; joiner = joiner; counts = counts })
 no_messages k joiner counts new none = record {

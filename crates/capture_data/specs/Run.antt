@@ -8,7 +8,7 @@ use Rattle.drm_links.specs.Sink.{Output, Outputs, IsFront, IsFrontBehind}
 use Rattle.drm_capture.specs.Capture as capture
 use Rattle.drm_capture.specs.declared.packets.CaptureStop.{CaptureStop}
 use Rattle.drm_capture.specs.declared.packets.CaptureStop.TheVariants as stops
-use Rattle.drm_faults.specs.Captures as captures
+use Rattle.drm_faults.specs.Captures.{EndsEarly, EndsByIt}
 use Rattle.drm_faults.specs.Fault.{UnlessMemory}
 use Rattle.drm_faults.specs.declared.fault.Fault.{Fault}
 use Rattle.drm_faults.specs.declared.fault.Fault.TheVariants as faults
@@ -60,12 +60,6 @@ abbrev pub IsSound : What → Result Bool Fault → Known Output → Known Outpu
 IsSound what (Ok clean) out out' = Outputs out out' (λ text. (items : List Item) × IsWholeText what items text clean)
 IsSound what (Err fault) out out' = Outputs out out' (IsFrontOfText what)
 
--- the run ends by what is wrong behind the packets
-abbrev pub EndsByIt : Result Bool Fault → capture.Ending → Type 0
-EndsByIt ending capture.End = ⊥
-EndsByIt ending (capture.Fault fault) = ending ≡ Err (faults.Capture fault)
-EndsByIt ending capture.TooLong = ending ≡ Err faults.CaptureTooLong
-
 -- The run is done, and all is written.
 abbrev pub IsDone : Terms → What → Result Bool Fault → Known Input → Known Input → Known Output → Known Output → Type 0
 IsDone terms what ending before after out out' = (clean : Bool) × (ending ≡ Ok clean) × WritesAll terms what clean before after out out'
@@ -75,7 +69,7 @@ pub record DataRun {I O : Type 0} (terms : Terms) (what : What) (ending : Result
     (input_known : I → Known Input) (input input' : I)
     (out_known : O → Known Output) (out out' : O) : Type 0 where
   -- It ends well, or for want of memory, by a fault of the capture, by a failed read or by a failed write.
-  pub kind : (fault : Fault) → ending ≡ Err fault → captures.EndsEarly fault
+  pub kind : (fault : Fault) → ending ≡ Err fault → EndsEarly fault
   pub ends : Ends terms what ending (input_known input) (input_known input') (out_known out) (out_known out')
   -- Whatever the input tells, out got no other text than one that items have.
   pub sound : IsSound what ending (out_known out) (out_known out')

@@ -82,18 +82,14 @@ pub record TakesEntries {E : Type 0} (result : Result (Unit {0}) E) (t u : UnitT
   pub writes : Writes result a b line
   pub after_is : OnOk result (u ≡ after)
 
+-- a taker of which nothing has come yet
+abbrev pub new_taker : ℕ → ℕ → ℕ → UnitTaker
+new_taker k id d = record { stream = k; length = d; joiner = made id d; counts = no_counts }
+
 -- These items were taken, and this is printed of them.
-pub record TookUnits (k id d : ℕ) (items : List Item) (text : List ℕ) (t : UnitTaker) : Type 0 where
-  pub stream : t.stream ≡ k
-  pub size : t.length ≡ d
-  pub events : List Event
-  pub are : AreEvents d (reading (UnitsOf k id d) items) events
-  pub joiner : t.joiner ≡ after_all (made id d) events
-  pub text_is : text ≡ answers_text (answers (made id d) events)
-  pub given_is : t.counts.given ≡ length (units_in (answers (made id d) events))
-  pub cut_is : t.counts.cut ≡ cuts_in (answers (made id d) events)
-  pub bad_is : t.counts.bad ≡ bad_in (UnitsOf k id d) items + refused_in (answers (made id d) events)
-  pub missing_is : t.counts.missing ≡ missing_in items
+abbrev pub TookUnits : ℕ → ℕ → ℕ → List Item → List ℕ → UnitTaker → Type 0
+TookUnits k id d items text t =
+    Joins (new_taker k id d) t (reading (UnitsOf k id d) items) (bad_in (UnitsOf k id d) items) (missing_in items) text
 
 -- ---- messages
 

@@ -1,10 +1,7 @@
 -- How a run ends, by how its conversion ends.
 use Rattle.std.proofs.Common.{ℕ, ◌≡◌, Bool, Option, Result, Ok, Err, refl, subst}
 use Rattle.dcp_pft.specs.declared.carry.Carry.{Carry}
-use Rattle.dcp_collect.specs.State.{State, made}
-use Rattle.drm_links.specs.Told.{Known}
-use Rattle.drm_links.specs.Source.{Input}
-use Rattle.drm_links.specs.Sink.{Output}
+use Rattle.recv_reading.proofs.Common.{State, made, Known, Input, Output}
 use Rattle.drm_capture.specs.declared.packets.CaptureStop.TheVariants as stops
 use Rattle.drm_faults.specs.declared.fault.Fault.{Fault}
 use Rattle.drm_faults.specs.declared.fault.Fault.TheVariants as faults

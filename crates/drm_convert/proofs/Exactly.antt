@@ -1,19 +1,15 @@
 -- A conversion ends early exactly where its input says so.
-use Rattle.std.proofs.Common.{ℕ, ◌≡◌, ◌+◌, inl, inr, Bool, List, [], ◌∷◌, ◌++◌, length, take, Result, Ok, Err, refl, sym, ap, subst, ◌∙◌, arith, length-append}
+use Rattle.std.proofs.Common.{ℕ, ◌≡◌, ◌+◌, inl, inr, Bool, List, [], ◌∷◌, ◌++◌, length, take, Result, Ok, Err, refl, sym, ap, subst, ◌∙◌, arith}
 use Rattle.std.specs.List.{concat}
 use Rattle.std.proofs.Math.Seq.{take-append_seam}
 use Rattle.std.proofs.lemmas.Bool.{true≢false, cases_lt}
 use Rattle.std.proofs.lemmas.List.{append-nil}
 use Rattle.dcp_af.proofs.Answered.{no_fault}
 use Rattle.dcp_pft.specs.declared.carry.Carry.{Carry}
-use Rattle.dcp_collect.specs.State.{State, made}
-use Rattle.dcp_collect.specs.declared.taken.Taken.{Taken}
-use Rattle.dcp_collect.specs.Runs.{Item, Packet, Lost, Damaged, Takes, Steps}
-use Rattle.drm_links.specs.Told.{Known, HasCause}
-use Rattle.drm_links.specs.Source.{Input, Inputs}
-use Rattle.drm_links.specs.Sink.{Output}
+use Rattle.recv_reading.proofs.Common.{State, made, Taken, Item, Packet, Lost, Damaged, Takes, Steps, Known, Input, Inputs}
+use Rattle.recv_reading.proofs.Common.{Output, first_of}
+use Rattle.drm_links.specs.Told.{HasCause}
 use Rattle.drm_links.proofs.ToldLemmas.{counts_none, Inputs-nothing, Inputs-weaker}
-use Rattle.drm_capture.specs.declared.fault.CaptureFault.{CaptureFault}
 use Rattle.drm_capture.specs.Capture as capture
 use Rattle.drm_capture.specs.Capture.{IsCaptureOf, Ending, End}
 use Rattle.drm_capture.specs.Laws.{ReadOneWay, ReadSomeWay}
@@ -23,11 +19,13 @@ use Rattle.capture_laws.specs.Laws.{PacketsInFront}
 use Rattle.drm_faults.specs.Fault.{UnlessMemory}
 use Rattle.drm_faults.specs.declared.fault.Fault.{Fault}
 use Rattle.drm_faults.specs.declared.fault.Fault.TheVariants as faults
+use Rattle.drm_faults.specs.Captures.{EndsByIt}
+use Rattle.drm_faults.proofs.CaptureLemmas.{each_early, none_by, fault_by, length_by, done_or}
+use Rattle.recv_reading.proofs.BreakingOff.{none_in_front}
 use Rattle.drm_convert.proofs.Sound.{sound}
 use Rattle.drm_convert.specs.Converting.{Part, Converts, ConvertsAll, IsTooLarge}
-use Rattle.drm_convert.specs.Run.{IsConversion, IsBroken, ReadsTo, AreFirstOf, LeadsTo, AreSmall, Meets, EndsByIt, EndsExactly, Ends, IsDone, CanEnd, ConvertRun}
-use Rattle.recv_reading.specs.First.{first_of}
-use Rattle.recv_reading.specs.Packets.{AreEnough, AreReadBy, BreaksOffBy, ComesTo, HasEnough, NoneShorter, Terms}
+use Rattle.drm_convert.specs.Run.{IsConversion, IsBroken, ReadsTo, AreFirstOf, LeadsTo, AreSmall, Meets, EndsExactly, Ends, IsDone, CanEnd, ConvertRun}
+use Rattle.recv_reading.specs.Packets.{AreReadBy, BreaksOffBy, ComesTo, HasEnough, NoneShorter, Terms}
 use Rattle.recv_reading.proofs.Ways.{Starts, Agree, front_of, starts_up_to, starts_more, taken_starts, finished_starts, lacks_before, all_before, both_taken, both_finished, then_finished, finished_then}
 
 -- ---- what is converted isn't too large
@@ -56,16 +54,6 @@ one_number carry (Packet index bytes) m n a b = a.0 ∙ sym b.0
 one_number carry (Lost index had total) m n a b = absurd a
 one_number carry (Damaged index) m n a b = absurd a
 
--- ---- fronts of a capture
-
--- fewer packets than these aren't enough, nor are these
-none_in_front : (terms : Terms) (packets others rest : List (List ℕ)) → NoneShorter terms others → (HasEnough terms others → ⊥) → others ≡ packets ++ rest → HasEnough terms packets → ⊥
-none_in_front terms packets others [] shorter lacks is enough = lacks (subst (HasEnough terms) (sym (is ∙ append-nil packets)) enough)
-none_in_front terms packets others (x ∷ rest) shorter lacks is enough =
-    let long : length others ≡ length packets + length (x ∷ rest) = ap length is ∙ length-append packets (x ∷ rest) in
-    let front : take (length packets) others ≡ packets = ap (take (length packets)) is ∙ take-append_seam packets (x ∷ rest) in
-    shorter (length packets) (omega (arith, long)) (subst (HasEnough terms) (sym front) enough)
-
 module _ (one_way : ReadOneWay) (some_way : ReadSomeWay) (in_front : PacketsInFront) (terms : Terms) (carry : Carry) where
   abbrev new : State
   new = made terms.window terms.first
@@ -81,9 +69,9 @@ module _ (one_way : ReadOneWay) (some_way : ReadSomeWay) (in_front : PacketsInFr
     first_ones [] packets are all why of = ([], (one_way left all packets why End of are).0 ∙ sym (append-nil packets))
     first_ones (x ∷ later) packets (rest, other, is) all why of = (rest, (one_way left all (packets ++ rest) why other of is).0)
 
-    some_capture : (later packets : List (List ℕ)) → AreFirstOf later left packets → (all : List (List ℕ)) × (why : Ending) × IsCaptureOf left all why
-    some_capture [] packets are = (packets, End, are)
-    some_capture (x ∷ later) packets (rest, why, is) = (packets ++ rest, why, is)
+    some_capture : (later packets : List (List ℕ)) → AreFirstOf later left packets → (all : List (List ℕ)) × (why : Ending) × IsCaptureOf left all why × (rest : List (List ℕ)) × (all ≡ packets ++ rest)
+    some_capture [] packets are = (packets, End, are, [], sym (append-nil packets))
+    some_capture (x ∷ later) packets (rest, why, is) = (packets ++ rest, why, is, rest, refl)
 
     all_of_it : (later packets : List (List ℕ)) → later ≡ [] → AreFirstOf later left packets → IsCaptureOf left packets End
     all_of_it later packets none are = subst (λ l. AreFirstOf l left packets) none are
@@ -95,8 +83,7 @@ module _ (one_way : ReadOneWay) (some_way : ReadSomeWay) (in_front : PacketsInFr
       where
         by : ComesTo terms a.at.later a.at.mid a.at.state → ComesTo terms b.at.later b.at.mid b.at.state → Agree items item given next
         by (inl (bytes, answer, is, takes)) (inl (other, reply, is', takes')) =
-            let (all, why, of) = some_capture a.at.later a.packets a.are in
-            let (us, same) = first_ones a.at.later a.packets a.are all why of in
+            let (all, why, of, us, same) = some_capture a.at.later a.packets a.are in
             let (vs, same') = first_ones b.at.later b.packets b.are all why of in
             both_taken terms a.packets b.packets items given item next last end a.at b.at bytes other answer reply is is' takes takes' us vs (sym same ∙ same')
         by (inl (bytes, answer, is, takes)) (inr (none, finished)) =
@@ -138,8 +125,7 @@ module _ (one_way : ReadOneWay) (some_way : ReadSomeWay) (in_front : PacketsInFr
         where
           by : ComesTo terms leads.at.later leads.at.mid leads.at.state → ⊥
           by (inl (bytes, answer, later_is, takes)) =
-              let (all, why, of) = some_capture leads.at.later leads.packets leads.are in
-              let (us, same) = first_ones leads.at.later leads.packets leads.are all why of in
+              let (all, why, of, us, same) = some_capture leads.at.later leads.packets leads.are in
               let (vs, same') = begins all why of in
               elim (cases_lt (length packets) (length leads.packets)) [
                 | inl less ↦
@@ -181,11 +167,6 @@ module _ (one_way : ReadOneWay) (some_way : ReadSomeWay) (in_front : PacketsInFr
 
     -- ---- exactly there
 
-    by_end : (clean : Bool) (why : Ending) → EndsByIt (Ok clean) why → ⊥
-    by_end clean End is = is
-    by_end clean (capture.Fault fault) is = cc
-    by_end clean capture.TooLong is = cc
-
     by_size : (number : ℕ) (why : Ending) → EndsByIt (Err (faults.PacketSize number)) why → ⊥
     by_size number End is = is
     by_size number (capture.Fault fault) is = cc
@@ -193,7 +174,7 @@ module _ (one_way : ReadOneWay) (some_way : ReadSomeWay) (in_front : PacketsInFr
 
     done_well : (clean : Bool) → ((why : Ending) → BreaksOffBy terms left why → ⊥) → ((number : ℕ) → Meets terms carry left number → ⊥) → EndsExactly terms carry left (Ok clean)
     done_well clean unbroken unmet = (
-      λ why. ((λ is. absurd (by_end clean why is)), (λ both. absurd (unbroken why both.0))),
+      λ why. ((λ is. absurd (none_by clean why is)), (λ both. absurd (unbroken why both.0))),
       λ number. ((λ is. absurd (let clash : Ok clean ≡ Err (faults.PacketSize number) = is in cc)), (λ meets. absurd (unmet number meets))),
     )
 
@@ -257,54 +238,6 @@ module _ (one_way : ReadOneWay) (some_way : ReadSomeWay) (in_front : PacketsInFr
     abbrev Exact : Result Bool Fault → Type 0
     Exact ending = Inputs before after (λ left _. UnlessMemory ending (EndsExactly terms carry left ending))
 
-    fault_ends : (fault : CaptureFault) (why : Ending) → EndsByIt (Err (faults.Capture fault)) why → capture.Fault fault ≡ why
-    fault_ends fault End is = absurd is
-    fault_ends fault (capture.Fault other) is = let same : fault ≡ other = cc in ap capture.Fault same
-    fault_ends fault capture.TooLong is = absurd (cc)
-
-    length_ends : (why : Ending) → EndsByIt (Err faults.CaptureTooLong) why → capture.TooLong ≡ why
-    length_ends End is = absurd is
-    length_ends (capture.Fault other) is = absurd (cc)
-    length_ends capture.TooLong is = refl
-
-    exact_well : (clean : Bool) (packets : List (List ℕ)) (parts : List Part) → AreEnough terms packets before after → IsConversion terms carry packets parts → Exact (Ok clean)
-    exact_well clean packets parts (inl ((reader, read), enough)) is =
-        Inputs-weaker (λ left rest. left ≡ concat packets ++ (reader.held ++ rest)) (λ left _. UnlessMemory (Ok clean) (EndsExactly terms carry left (Ok clean))) before after read.bytes
-        (λ left more same. inr (on_enough left clean packets parts (read_first left more packets reader before after read same) enough is))
-    exact_well clean packets parts (inr all) is =
-        Inputs-weaker (λ left rest. IsCaptureOf left packets End) (λ left _. UnlessMemory (Ok clean) (EndsExactly terms carry left (Ok clean))) before after all
-        (λ left more of. inr (on_end left clean packets parts of is))
-
-    exact : (ending : Result Bool Fault) → Ends terms carry ending told before after a b x y → (ending ≡ Err faults.Read → ⊥) → (ending ≡ Err faults.Write → ⊥) → Exact ending
-    exact (Ok clean) (packets, enough, shorter, parts, is, text, names, clean_is) no_read no_write = exact_well clean packets parts enough is
-    exact (Err faults.NoMemory) (same, out, err) no_read no_write =
-        let P : List ℕ → List ℕ → Type 0 = λ left _. UnlessMemory {T = Bool} (Err faults.NoMemory) (EndsExactly terms carry left (Err faults.NoMemory)) in
-        subst (λ k. Inputs before k P) (sym same) (Inputs-nothing P before (λ left. inl refl))
-    exact (Err (faults.Capture fault)) (packets, whole, stops, lacks, shorter, parts, is, text, names) no_read no_write =
-        Inputs-weaker (λ left rest. IsCaptureOf left packets (capture.Fault fault)) (λ left _. UnlessMemory (Err (faults.Capture fault)) (EndsExactly terms carry left (Err (faults.Capture fault)))) before after stops
-        (λ left more of.
-        inr (on_fault left (Err (faults.Capture fault)) (capture.Fault fault) packets parts (λ e. let clash : capture.Fault fault ≡ End = e in cc) refl (fault_ends fault)
-        (λ n e. let clash : Err (faults.Capture fault) ≡ Err (faults.PacketSize n) = e in cc) of lacks shorter is))
-    exact (Err faults.CaptureTooLong) (packets, whole, stops, lacks, shorter, parts, is, text, names) no_read no_write =
-        Inputs-weaker (λ left rest. IsCaptureOf left packets capture.TooLong) (λ left _. UnlessMemory (Err faults.CaptureTooLong) (EndsExactly terms carry left (Err faults.CaptureTooLong))) before after stops
-        (λ left more of.
-        inr (on_fault left (Err faults.CaptureTooLong) capture.TooLong packets parts (λ e. let clash : capture.TooLong ≡ End = e in cc) refl length_ends
-        (λ n e. let clash : Err faults.CaptureTooLong ≡ Err (faults.PacketSize n) = e in cc) of lacks shorter is))
-    exact (Err (faults.PacketSize number)) (items, item, last, reads, large, parts, converts, text, names) no_read no_write =
-        Inputs-weaker (λ left _. LeadsTo terms left items item last) (λ left _. UnlessMemory (Err (faults.PacketSize number)) (EndsExactly terms carry left (Err (faults.PacketSize number)))) before after
-        (leads_to items item last before after reads)
-        (λ left more leads. inr (on_size left number (items, item, last, leads, all_small carry (first_of last) items parts converts, large)))
-    exact (Err faults.Read) ends no_read no_write = absurd (no_read refl)
-    exact (Err faults.Write) ends no_read no_write = absurd (no_write refl)
-    exact (Err faults.Words) ends no_read no_write = absurd ends
-    exact (Err (faults.FacLength n)) ends no_read no_write = absurd ends
-    exact (Err faults.FacOver) ends no_read no_write = absurd ends
-    exact (Err (faults.FacCrc stands computed)) ends no_read no_write = absurd ends
-    exact (Err (faults.Schedule line reason)) ends no_read no_write = absurd ends
-    exact (Err (faults.Script line reason)) ends no_read no_write = absurd ends
-    exact (Err (faults.Units wrong)) ends no_read no_write = absurd ends
-    exact (Err faults.Link) ends no_read no_write = absurd ends
-
     -- which faults end it
     fault_can : (fault : Fault) → Ends terms carry (Err fault) told before after a b x y → CanEnd fault
     fault_can faults.NoMemory ends = tt
@@ -325,28 +258,46 @@ module _ (one_way : ReadOneWay) (some_way : ReadSomeWay) (in_front : PacketsInFr
     can_end : (ending : Result Bool Fault) → Ends terms carry ending told before after a b x y → (fault : Fault) → ending ≡ Err fault → CanEnd fault
     can_end ending ends fault is = fault_can fault (subst (λ e. Ends terms carry e told before after a b x y) is ends)
 
+    exact_broken : (ending : Result Bool Fault) (why : Ending) → (why ≡ End → ⊥) → EndsByIt ending why → ((other : Ending) → EndsByIt ending other → why ≡ other) → ((number : ℕ) → ending ≡ Err (faults.PacketSize number) → ⊥)
+        → (packets : List (List ℕ)) (parts : List Part) → Inputs before after (λ left rest. IsCaptureOf left packets why) → (HasEnough terms packets → ⊥) → NoneShorter terms packets → IsBroken terms carry packets parts → Exact ending
+    exact_broken ending why faulty ends one_end no_size packets parts stops lacks shorter is =
+        Inputs-weaker (λ left rest. IsCaptureOf left packets why) (λ left _. UnlessMemory ending (EndsExactly terms carry left ending)) before after stops
+        (λ left more of. inr (on_fault left ending why packets parts faulty ends one_end no_size of lacks shorter is))
+
+    exact : (ending : Result Bool Fault) → Ends terms carry ending told before after a b x y → (ending ≡ Err faults.Read → ⊥) → (ending ≡ Err faults.Write → ⊥) → Exact ending
+    exact (Ok clean) (packets, inl ((reader, read), enough), shorter, parts, is, text, names, clean_is) no_read no_write =
+        Inputs-weaker (λ left rest. left ≡ concat packets ++ (reader.held ++ rest)) (λ left _. UnlessMemory (Ok clean) (EndsExactly terms carry left (Ok clean))) before after read.bytes
+        (λ left more same. inr (on_enough left clean packets parts (read_first left more packets reader before after read same) enough is))
+    exact (Ok clean) (packets, inr all, shorter, parts, is, text, names, clean_is) no_read no_write =
+        Inputs-weaker (λ left rest. IsCaptureOf left packets End) (λ left _. UnlessMemory (Ok clean) (EndsExactly terms carry left (Ok clean))) before after all
+        (λ left more of. inr (on_end left clean packets parts of is))
+    exact (Err fault) ends no_read no_write =
+        let P : List ℕ → List ℕ → Type 0 = λ left _. UnlessMemory {T = Bool} (Err faults.NoMemory) (EndsExactly terms carry left (Err faults.NoMemory)) in
+        each_early (Unit {0}) (λ f. Ends terms carry (Err f) told before after a b x y → (f ≡ faults.Read → ⊥) → (f ≡ faults.Write → ⊥) → Exact (Err f))
+        (λ (same, out, err) reads writes. subst (λ k. Inputs before k P) (sym same) (Inputs-nothing P before (λ left. inl refl)))
+        (λ wrong (packets, whole, stops, lacks, shorter, parts, is, text, names) reads writes.
+        exact_broken (Err (faults.Capture wrong)) (capture.Fault wrong) (λ e. let clash : capture.Fault wrong ≡ End = e in cc) refl (fault_by wrong)
+        (λ n e. let clash : Err (faults.Capture wrong) ≡ Err (faults.PacketSize n) = e in cc) packets parts stops lacks shorter is)
+        (λ (packets, whole, stops, lacks, shorter, parts, is, text, names) reads writes.
+        exact_broken (Err faults.CaptureTooLong) capture.TooLong (λ e. let clash : capture.TooLong ≡ End = e in cc) refl length_by
+        (λ n e. let clash : Err faults.CaptureTooLong ≡ Err (faults.PacketSize n) = e in cc) packets parts stops lacks shorter is)
+        (λ early reads writes. absurd (reads refl)) (λ early reads writes. absurd (writes refl))
+        (λ yes number (items, item, last, leads, large, parts, converts, text, names) reads writes.
+        Inputs-weaker (λ left _. LeadsTo terms left items item last) (λ left _. UnlessMemory (Err (faults.PacketSize number)) (EndsExactly terms carry left (Err (faults.PacketSize number)))) before after
+        (leads_to items item last before after leads)
+        (λ left more to. inr (on_size left number (items, item, last, to, all_small carry (first_of last) items parts converts, large))))
+        fault (fault_can fault ends) ends (λ is. no_read (ap Err is)) (λ is. no_write (ap Err is))
+
     -- nothing is lost
     done_by : (left : List ℕ) (ending : Result Bool Fault) → Ends terms carry ending told before after a b x y → (ending ≡ Err faults.Read → ⊥) → (ending ≡ Err faults.Write → ⊥)
-        → EndsExactly terms carry left ending → ((why : Ending) → BreaksOffBy terms left why → ⊥) → ((number : ℕ) → Meets terms carry left number → ⊥)
+        → UnlessMemory ending (EndsExactly terms carry left ending) → ((why : Ending) → BreaksOffBy terms left why → ⊥) → ((number : ℕ) → Meets terms carry left number → ⊥)
         → UnlessMemory ending (IsDone terms carry ending told before after a b x y)
-    done_by left (Ok clean) ends no_read no_write exactly unbroken unmet = inr (clean, refl, ends)
-    done_by left (Err fault) ends no_read no_write exactly unbroken unmet = by fault refl
-      where
-        by : (other : Fault) → fault ≡ other → UnlessMemory {T = Bool} (Err fault) (IsDone terms carry (Err fault) told before after a b x y)
-        by faults.NoMemory is = inl (ap Err is)
-        by (faults.Capture f) is = absurd (unbroken (capture.Fault f) ((exactly.0 (capture.Fault f)).0 (ap Err is)).0)
-        by faults.CaptureTooLong is = absurd (unbroken capture.TooLong ((exactly.0 capture.TooLong).0 (ap Err is)).0)
-        by (faults.PacketSize number) is = absurd (unmet number ((exactly.1 number).0 (ap Err is)))
-        by faults.Read is = absurd (no_read (ap Err is))
-        by faults.Write is = absurd (no_write (ap Err is))
-        by faults.Words is = absurd (can_end (Err fault) ends faults.Words (ap Err is))
-        by (faults.FacLength n) is = absurd (can_end (Err fault) ends (faults.FacLength n) (ap Err is))
-        by faults.FacOver is = absurd (can_end (Err fault) ends faults.FacOver (ap Err is))
-        by (faults.FacCrc stands computed) is = absurd (can_end (Err fault) ends (faults.FacCrc stands computed) (ap Err is))
-        by (faults.Schedule line reason) is = absurd (can_end (Err fault) ends (faults.Schedule line reason) (ap Err is))
-        by (faults.Script line reason) is = absurd (can_end (Err fault) ends (faults.Script line reason) (ap Err is))
-        by (faults.Units wrong) is = absurd (can_end (Err fault) ends (faults.Units wrong) (ap Err is))
-        by faults.Link is = absurd (can_end (Err fault) ends faults.Link (ap Err is))
+    done_by left ending ends no_read no_write (inl memory) unbroken unmet = inl memory
+    done_by left ending ends no_read no_write (inr exactly) unbroken unmet =
+        elim (done_or (Unit {0}) ending (can_end ending ends) no_read no_write (λ why is. unbroken why ((exactly.0 why).0 is).0) (λ yes number is. unmet number ((exactly.1 number).0 is))) [
+          | inl memory ↦ inl memory
+          | inr (clean, is) ↦ inr (clean, is, subst (λ e. Ends terms carry e told before after a b x y) is ends)
+        ]
 
   pub convert_run : {I O E : Type 0} (ending : Result Bool Fault) (told : Bool) (input_known : I → Known Input) (input input' : I) (out_known : O → Known Output) (out out' : O) (err_known : E → Known Output) (err err' : E)
       → Ends terms carry ending told (input_known input) (input_known input') (out_known out) (out_known out') (err_known err) (err_known err')
@@ -354,43 +305,29 @@ module _ (one_way : ReadOneWay) (some_way : ReadSomeWay) (in_front : PacketsInFr
       → HasCause (input_known input) (input_known input') (ending ≡ Err faults.Read)
       → HasCause (out_known out) (out_known out') (ending ≡ Err faults.Write)
       → ConvertRun terms carry ending told input_known input input' out_known out out' err_known err err'
-  convert_run {I} {O} {E} ending told input_known input input' out_known out out' err_known err err' ends untouched read_cause write_cause = record {
-    kind = can_end told before after a b x y ending ends;
-    ends = ends;
-    sound = sound terms carry told before after a b x y ending ends;
-    untouched = untouched;
-    exactly = exact told before after a b x y ending ends;
-    complete = λ reads goes.
-        let no_read : ending ≡ Err faults.Read → ⊥ = λ is. reads (read_cause.once is) in
-        let no_write : ending ≡ Err faults.Write → ⊥ = λ is. goes (write_cause.once is) in
-        Inputs-weaker (λ left _. UnlessMemory ending (EndsExactly terms carry left ending))
-        (λ left _. ((why : Ending) → BreaksOffBy terms left why → ⊥) → ((number : ℕ) → Meets terms carry left number → ⊥) → UnlessMemory ending (IsDone terms carry ending told before after a b x y))
-        before after (exact told before after a b x y ending ends no_read no_write)
-        (λ left _ exactly unbroken unmet. elim exactly [
-          | inl memory ↦ inl memory
-          | inr exactly ↦ done_by told before after a b x y left ending ends no_read no_write exactly unbroken unmet
-        ]);
-    read_cause = read_cause;
-    write_cause = write_cause;
-  }
-    where
-      before : Known Input
-      before = input_known input
-
-      after : Known Input
-      after = input_known input'
-
-      a : Known Output
-      a = out_known out
-
-      b : Known Output
-      b = out_known out'
-
-      x : Known Output
-      x = err_known err
-
-      y : Known Output
-      y = err_known err'
+  convert_run {I} {O} {E} ending told input_known input input' out_known out out' err_known err err' ends untouched read_cause write_cause =
+      let before : Known Input = input_known input in
+      let after : Known Input = input_known input' in
+      let a : Known Output = out_known out in
+      let b : Known Output = out_known out' in
+      let x : Known Output = err_known err in
+      let y : Known Output = err_known err' in
+      record {
+        kind = can_end told before after a b x y ending ends;
+        ends = ends;
+        sound = sound terms carry told before after a b x y ending (can_end told before after a b x y ending ends) ends;
+        untouched = untouched;
+        exactly = exact told before after a b x y ending ends;
+        complete = λ reads goes.
+            let no_read : ending ≡ Err faults.Read → ⊥ = λ is. reads (read_cause.once is) in
+            let no_write : ending ≡ Err faults.Write → ⊥ = λ is. goes (write_cause.once is) in
+            Inputs-weaker (λ left _. UnlessMemory ending (EndsExactly terms carry left ending))
+            (λ left _. ((why : Ending) → BreaksOffBy terms left why → ⊥) → ((number : ℕ) → Meets terms carry left number → ⊥) → UnlessMemory ending (IsDone terms carry ending told before after a b x y))
+            before after (exact told before after a b x y ending ends no_read no_write)
+            (λ left _ exactly unbroken unmet. done_by told before after a b x y left ending ends no_read no_write exactly unbroken unmet);
+        read_cause = read_cause;
+        write_cause = write_cause;
+      }
 
   -- memory was wanting
   pub memory_run : {I O E : Type 0} (told : Bool) (input_known : I → Known Input) (input : I) (out_known : O → Known Output) (out : O) (err_known : E → Known Output) (err : E)

@@ -1,25 +1,15 @@
 -- What becomes of an item.
-use Rattle.std.proofs.Common.{◌≡◌, ℕ, ◌+◌, Bool, true, false, List, [], length, sym, subst, ap, ◌∙◌, refl, inl}
-use Rattle.std.specs.Prelude.{◌&&◌}
-use Rattle.drm_links.specs.Told.{Known}
-use Rattle.drm_links.specs.Sink.{Output, Outputs, IsFront}
+use Rattle.std.proofs.Common.{◌≡◌, ℕ, ◌+◌, Bool, true, false, List, [], length, sym, subst, ap, ◌∙◌, refl, inl, ◌&&◌}
+use Rattle.std.proofs.Math.Bool.{and-true, and-false}
+use Rattle.recv_reading.proofs.Common.{Known, Output, Outputs, IsFront, Item, Packet}
 use Rattle.drm_links.proofs.ToldLemmas.{Outputs-nothing}
 use Rattle.dcp_pft.specs.declared.carry.Carry.{Carry}
-use Rattle.dcp_collect.specs.Runs.{Item, Packet}
 use Rattle.drm_convert.specs.declared.naming.Progress.{Progress}
 use Rattle.dcp_sender.specs.Carried.{Carried, is_too_long}
 use Rattle.dcp_sender.specs.Packets.{IsAny, sequence_of}
 use Rattle.drm_convert.specs.Converting.{Converts}
 use Rattle.drm_convert.specs.Naming.{Names}
 use Rattle.drm_convert.specs.Steps.{Converted, Failing, has_none}
-
-and_false : (b : Bool) → false ≡ (b && false)
-and_false true = refl
-and_false false = refl
-
-and_true : (b : Bool) → b ≡ (b && true)
-and_true true = refl
-and_true false = refl
 
 -- nothing was named
 pub names_none : (told : Bool) (err : Known Output) → Names told told err err []
@@ -40,7 +30,7 @@ named carry first item line p p' out err err' converts given clean names some = 
   part = record { out = []; line = line };
   converts = converts;
   given = given;
-  clean = clean ∙ (and_false p.clean ∙ ap (λ b. p.clean && b) (sym some));
+  clean = clean ∙ (sym (and-false p.clean) ∙ ap (λ b. p.clean && b) (sym some));
   text = Outputs-nothing out (λ text. text ≡ []) refl;
   names = names;
 }
@@ -60,7 +50,7 @@ written carry first index seq bytes text p p' out out' err any short is carried 
       part = record { out = text; line = [] };
       converts = inl (any, short, carried_at carry first index seq bytes text is carried, refl);
       given = given;
-      clean = clean ∙ and_true p.clean;
+      clean = clean ∙ sym (and-true p.clean);
       text = wrote;
       names = subst P (sym told) (names_none p.told err);
     }

@@ -1,23 +1,21 @@
 -- What items become, one after another.
-use Rattle.std.proofs.Common.{◌≡◌, ℕ, ◌+◌, Bool, true, false, List, [], ◌∷◌, ◌++◌, Option, None, Some, sym, subst, ap, ◌∙◌, refl, arith, length-append}
-use Rattle.std.specs.Prelude.{◌&&◌, IfSome, unwrap_or}
+use Rattle.std.proofs.Common.{◌≡◌, ℕ, ◌+◌, Bool, true, false, List, [], ◌∷◌, ◌++◌, sym, subst, ap, ◌∙◌, refl, arith, length-append, ◌&&◌, unwrap_or}
+use Rattle.std.proofs.Math.Bool.{and-true, and_assoc}
 use Rattle.std.proofs.lemmas.List.{append-nil}
 use Rattle.std.proofs.lemmas.List.Concat.{flat_map-append}
 use Rattle.std.proofs.lemmas.List.Folds.{list_all-append}
-use Rattle.drm_links.specs.Told.{Known, HasFailed}
-use Rattle.drm_links.specs.Sink.{Output, Outputs, IsFront, IsFrontBehind}
+use Rattle.recv_reading.proofs.Common.{Known, Output, Outputs, IsFront, IsFrontBehind, State, Item, Packet, Lost, Damaged, IsItem}
+use Rattle.recv_reading.proofs.Common.{MayBeFirst, KnowsFirst, KeepsFirst}
+use Rattle.drm_links.specs.Told.{HasFailed}
 use Rattle.drm_links.proofs.ToldLemmas.{Outputs-nothing, Outputs-weaker, once_then}
 use Rattle.drm_links.proofs.WritingLemmas.{text_then, front_more, front_then, front_of_both}
 use Rattle.dcp_pft.specs.declared.carry.Carry.{Carry}
-use Rattle.dcp_collect.specs.Fragments.{Fragment, suffice, of_packet}
-use Rattle.dcp_collect.specs.State.{State}
-use Rattle.dcp_collect.specs.Runs.{Item, Packet, Lost, Damaged, IsItem}
 use Rattle.drm_convert.specs.declared.naming.Progress.{Progress}
 use Rattle.drm_convert.specs.Converting.{Part, Converts, ConvertsAll, text_of, lines_of}
 use Rattle.drm_convert.specs.Naming.{Names}
 use Rattle.drm_convert.specs.Steps.{Converted, Failing, has_none}
 use Rattle.drm_convert.specs.Converted.{ConvertedAll, are_clean}
-use Rattle.recv_reading.specs.First.{MayBeFirst, KnowsFirst, KeepsFirst}
+use Rattle.recv_reading.proofs.First.{packet_first}
 use Rattle.drm_convert.proofs.ItemLemmas.{names_none}
 
 -- ---- names
@@ -82,24 +80,16 @@ lines_join xs ys = flat_map-append (λ (part : Part). part.line) xs ys
 pub clean_join : (xs ys : List Part) → are_clean (xs ++ ys) ≡ (are_clean xs && are_clean ys)
 clean_join xs ys = list_all-append (λ (part : Part). has_none part.line) xs ys
 
-and_assoc : (a b c : Bool) → ((a && b) && c) ≡ (a && (b && c))
-and_assoc true b c = refl
-and_assoc false b c = refl
-
 -- nothing was converted yet
 pub all_none : (carry : Carry) (c : State) (p : Progress) (out err : Known Output) → ConvertedAll carry c [] p p out out err err
 all_none carry c p out err = record {
   parts = [];
   converts = λ first may. tt;
   given = omega arith;
-  clean = and_true p.clean;
+  clean = sym (and-true p.clean);
   text = Outputs-nothing out (λ t. t ≡ []) refl;
   names = names_none p.told err;
 }
-  where
-    and_true : (b : Bool) → b ≡ (b && true)
-    and_true true = refl
-    and_true false = refl
 
 -- two stretches; what may be the first number of the later state may be that of the earlier one
 pub all_then : (carry : Carry) (c d : State) (items more : List Item) (p q r : Progress) (a b o x y z : Known Output) → ((first : ℕ) → MayBeFirst d first → MayBeFirst c first)
@@ -118,21 +108,9 @@ all_then carry c d items more p q r a b o x y z may first second =
 
 -- ---- the first number
 
-no_packet : (n : ℕ) (kept : List Fragment) → kept ≡ [] → suffice (of_packet n kept) ≡ true → ⊥
-no_packet n kept none is =
-    let P : List Fragment → Type 0 = λ l. suffice (of_packet n l) ≡ true in
-    let clash : suffice (of_packet n []) ≡ true = subst P none is in
-    cc
-
--- the number that the code takes is the one that may be
-number_is : (o : Option ℕ) (n first : ℕ) (kept : List Fragment) → ((o ≡ None) → kept ≡ []) → suffice (of_packet n kept) ≡ true → IfSome o (λ m. m ≡ first) → unwrap_or o 0 ≡ first
-number_is None n first kept knows is may = absurd (no_packet n kept (knows refl) is)
-number_is (Some m) n first kept knows is may = may
-
 pub converts_at : (carry : Carry) (d : State) (item : Item) (part : Part) (first : ℕ) → KnowsFirst d → IsItem d item → MayBeFirst d first → Converts carry (unwrap_or d.first 0) item part → Converts carry first item part
 converts_at carry d (Packet q bytes) part first knows is may converts =
-    let same : unwrap_or d.first 0 ≡ first = number_is d.first d.next first d.kept knows is.1 may in
-    subst (λ (n : ℕ). Converts carry n (Packet q bytes) part) same converts
+    subst (λ (n : ℕ). Converts carry n (Packet q bytes) part) (packet_first d q bytes first knows is may) converts
 converts_at carry d (Lost q had total) part first knows is may converts = converts
 converts_at carry d (Damaged q) part first knows is may converts = converts
 
@@ -145,14 +123,10 @@ all_one carry d item p q a b x y knows is one =
       parts = one.part ∷ [];
       converts = λ first may. (converts_at carry d item one.part first knows is may one.converts, tt);
       given = one.given;
-      clean = one.clean ∙ ap (λ v. p.clean && v) (and_true (has_none one.part.line));
+      clean = one.clean ∙ ap (λ v. p.clean && v) (sym (and-true (has_none one.part.line)));
       text = subst P (sym (append-nil one.part.out)) one.text;
       names = subst Q (sym (append-nil one.part.line)) one.names;
     }
-  where
-    and_true : (b : Bool) → b ≡ (b && true)
-    and_true true = refl
-    and_true false = refl
 
 pub failing_at : (carry : Carry) (d : State) (item : Item) (first : ℕ) (a b : Known Output) → KnowsFirst d → IsItem d item → MayBeFirst d first → Failing carry (unwrap_or d.first 0) item a b → Failing carry first item a b
 failing_at carry d item first a b knows is may f =

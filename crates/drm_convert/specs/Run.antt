@@ -14,7 +14,7 @@ use Rattle.drm_capture.specs.Capture.{IsCaptureOf, Ending, End}
 use Rattle.drm_capture.specs.Reading.{Stops}
 use Rattle.drm_capture.specs.declared.packets.CaptureStop.{CaptureStop}
 use Rattle.drm_capture.specs.declared.packets.CaptureStop.TheVariants as stops
-use Rattle.drm_faults.specs.Captures as captures
+use Rattle.drm_faults.specs.Captures.{EndsEarlyOr, EndsByIt}
 use Rattle.drm_faults.specs.Fault.{UnlessMemory}
 use Rattle.drm_faults.specs.declared.fault.Fault.{Fault}
 use Rattle.drm_faults.specs.declared.fault.Fault.TheVariants as faults
@@ -119,12 +119,6 @@ abbrev pub Meets : Terms → Carry → List ℕ → ℕ → Type 0
 Meets terms carry bytes number =
     (items : List Item) × (item : Item) × (last : State) × LeadsTo terms bytes items item last × AreSmall carry items × IsTooLarge carry item number
 
--- the run ends by what is wrong behind the packets
-abbrev pub EndsByIt : Result Bool Fault → Ending → Type 0
-EndsByIt ending End = ⊥
-EndsByIt ending (capture.Fault fault) = ending ≡ Err (faults.Capture fault)
-EndsByIt ending capture.TooLong = ending ≡ Err faults.CaptureTooLong
-
 -- By a fault of the capture exactly where the reading breaks off by it, and no packet before is too large; by the size of a packet
 -- exactly where the first one that is too large has that number.
 abbrev pub EndsExactly : Terms → Carry → List ℕ → Result Bool Fault → Type 0
@@ -134,8 +128,7 @@ EndsExactly terms carry bytes ending =
 
 -- A conversion ends early as any run that reads a capture does, or by the size of a packet.
 abbrev pub CanEnd : Fault → Type 0
-CanEnd (faults.PacketSize number) = Unit {0}
-CanEnd fault = captures.EndsEarly fault
+CanEnd fault = EndsEarlyOr (Unit {0}) fault
 
 -- The run is done, and all is written and named.
 abbrev pub IsDone : Terms → Carry → Result Bool Fault → Bool → Known Input → Known Input → Known Output → Known Output → Known Output → Known Output → Type 0

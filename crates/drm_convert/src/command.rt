@@ -1,6 +1,8 @@
 //! The command `convert`.
 
-ghost use Rattle.std.specs.Prelude.{◌≡◌, ◌≤◌, true, IfSome};
+ghost use Rattle.std.specs.Prelude.{◌≡◌, ◌≤◌, [], true, IfSome, IfOk};
+ghost use Rattle.dcp_collect.specs.State.{made};
+ghost use Rattle.drm_capture.specs.Walking.{new_walker};
 ghost use Rattle.dcp_pft.specs.Carrying.{CarryFits};
 ghost use Rattle.drm_convert.specs.Reading.{ending_of};
 ghost use Rattle.drm_convert.specs.Run.{ConvertRun};
@@ -13,6 +15,7 @@ use capture_laws::packets_in_front;
 use dcp_collect::Collector;
 use dcp_pft::Carry;
 use dcp_sender::PacketSender;
+use drm_bits::NoMemory;
 use drm_capture::{Packets, read_one_way, read_some_way};
 use drm_faults::Fault;
 use drm_links::{Sink, Source};
@@ -42,10 +45,7 @@ pub fn convert<I: Source, O: Sink, E: Sink>(
     read_one_way();
     read_some_way();
     packets_in_front();
-    let mut collector = Collector::make(alloc, window, first)?;
-    let mut cutter = PacketSender::make(alloc, carry)?;
-    let mut packets = Packets::make(alloc)?;
-    let mut lines = LineWriter::make(alloc)?;
+    let (mut collector, mut cutter, mut packets, mut lines) = parts(alloc, carry, window, first)?;
     let mut progress = Progress {
         given: 0,
         clean: true,
@@ -64,6 +64,24 @@ pub fn convert<I: Source, O: Sink, E: Sink>(
     );
     *told = progress.told;
     ending(converted, progress.clean)
+}
+
+// What a conversion works with. All memory is taken here.
+fn parts(
+    alloc: Global,
+    carry: Carry,
+    window: u8,
+    first: Option<u16>,
+) -> Result<(Collector, PacketSender, Packets, LineWriter), NoMemory>
+    requires carry { CarryFits carry }
+    requires window { (1 ≤ window) × (window ≤ 64) }
+    ensures { IfOk result (λ parts. (parts.0 ≡ made window first) × (parts.1 ≡ carry) × (parts.2 ≡ new_walker) × (parts.3 ≡ [])) }
+{
+    let collector = Collector::make(alloc, window, first)?;
+    let cutter = PacketSender::make(alloc, carry)?;
+    let packets = Packets::make(alloc)?;
+    let lines = LineWriter::make(alloc)?;
+    Ok((collector, cutter, packets, lines))
 }
 
 // How a run ends whose conversion ends so.

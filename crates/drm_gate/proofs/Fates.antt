@@ -1,6 +1,5 @@
 -- An item has one fate, as far as datagrams go.
-use Rattle.std.proofs.Common.{◌≡◌, ◌<◌, ◌≤◌, ℕ, suc, List, [], ◌∷◌, ◌++◌, length, sym, ap, ap₂, ◌∙◌, refl, arith, length-append}
-use Rattle.std.specs.Prelude.{slice_index_or}
+use Rattle.std.proofs.Common.{◌≡◌, ◌<◌, ◌≤◌, ℕ, suc, List, [], ◌∷◌, ◌++◌, length, sym, ap, ap₂, ◌∙◌, refl, arith, length-append, slice_index_or}
 use Rattle.std.proofs.lemmas.Bool.{true≢false}
 use Rattle.std.proofs.lemmas.List.{append-nil}
 use Rattle.dcp_pft.specs.declared.carry.Carry.{Carry}
@@ -49,9 +48,7 @@ one_sending carry sequence packet xs ys any a b =
 
 pub some_first : (carry : Carry) (sequence : ℕ) (packet : List ℕ) (xs ys : List (List ℕ)) → IsAny packet → AreSome carry sequence packet xs → AreOf carry sequence packet ys → IsFrontOf ys xs
 some_first carry sequence packet xs ys any a b =
-    let less = a.fewer in
-    let many = b.many in
-    let few : length xs < length ys = omega (arith, less, many) in
+    let few : length xs < length ys = omega (arith, a.fewer, b.many) in
     let (rest, are) = front_list xs ys (omega (arith, few))
     (λ i none below. carried_same carry sequence i packet (slice_index_or xs i none) (slice_index_or ys i none) (some_bytes packet any) (a.each i none below) (b.each i none (omega (arith, below, few)))) in
     (rest, omega (arith, few, ap length are, length-append xs rest), are)
@@ -61,34 +58,28 @@ some_first carry sequence packet xs ys any a b =
 no_bad : (bytes : List ℕ) → IsAny bytes → IsNone bytes → ⊥
 no_bad bytes any none = no_fault any.0 none.0 bytes any.1 none.1
 
+sent_first : (carry : Carry) (first : ℕ) (item : Item) (xs : List (List ℕ)) (h : Fate) → Becomes carry first item (Sent xs) → Becomes carry first item h → xs ≡ datagrams_of h
+sent_first carry first (Packet q bytes) xs (Sent ys) a b = one_sending carry (sequence_of first q) bytes xs ys a.0 a.2 b.2
+sent_first carry first (Packet q bytes) xs Bad a b = absurd (no_bad bytes a.0 b)
+sent_first carry first (Packet q bytes) xs Large a b = absurd (true≢false (sym b.1 ∙ a.1))
+sent_first carry first (Packet q bytes) xs Missing a b = absurd b
+sent_first carry first (Lost q had total) xs h a b = absurd a
+sent_first carry first (Damaged q) xs h a b = absurd a
+
 pub one_sent : (carry : Carry) (first : ℕ) (item : Item) (g h : Fate) → Becomes carry first item g → Becomes carry first item h → datagrams_of g ≡ datagrams_of h
-one_sent carry first (Packet q bytes) (Sent xs) (Sent ys) a b = one_sending carry (sequence_of first q) bytes xs ys a.0 a.2 b.2
-one_sent carry first (Packet q bytes) (Sent xs) Bad a b = absurd (no_bad bytes a.0 b)
-one_sent carry first (Packet q bytes) (Sent xs) Large a b = absurd (true≢false (sym b.1 ∙ a.1))
-one_sent carry first (Packet q bytes) (Sent xs) Missing a b = absurd b
-one_sent carry first (Packet q bytes) Bad (Sent ys) a b = absurd (no_bad bytes b.0 a)
-one_sent carry first (Packet q bytes) Bad Bad a b = refl
-one_sent carry first (Packet q bytes) Bad Large a b = refl
-one_sent carry first (Packet q bytes) Bad Missing a b = refl
-one_sent carry first (Packet q bytes) Large (Sent ys) a b = absurd (true≢false (sym a.1 ∙ b.1))
-one_sent carry first (Packet q bytes) Large Bad a b = refl
-one_sent carry first (Packet q bytes) Large Large a b = refl
-one_sent carry first (Packet q bytes) Large Missing a b = refl
-one_sent carry first (Packet q bytes) Missing h a b = absurd a
-one_sent carry first (Lost q had total) (Sent xs) h a b = absurd a
-one_sent carry first (Lost q had total) Bad h a b = absurd a
-one_sent carry first (Lost q had total) Large h a b = absurd a
-one_sent carry first (Lost q had total) Missing (Sent ys) a b = absurd b
-one_sent carry first (Lost q had total) Missing Bad a b = refl
-one_sent carry first (Lost q had total) Missing Large a b = refl
-one_sent carry first (Lost q had total) Missing Missing a b = refl
-one_sent carry first (Damaged q) (Sent xs) h a b = absurd a
-one_sent carry first (Damaged q) Bad (Sent ys) a b = absurd b
-one_sent carry first (Damaged q) Bad Bad a b = refl
-one_sent carry first (Damaged q) Bad Large a b = refl
-one_sent carry first (Damaged q) Bad Missing a b = refl
-one_sent carry first (Damaged q) Large h a b = absurd a
-one_sent carry first (Damaged q) Missing h a b = absurd a
+one_sent carry first item (Sent xs) h a b = sent_first carry first item xs h a b
+one_sent carry first item Bad (Sent ys) a b = sym (sent_first carry first item ys Bad b a)
+one_sent carry first item Large (Sent ys) a b = sym (sent_first carry first item ys Large b a)
+one_sent carry first item Missing (Sent ys) a b = sym (sent_first carry first item ys Missing b a)
+one_sent carry first item Bad Bad a b = refl
+one_sent carry first item Bad Large a b = refl
+one_sent carry first item Bad Missing a b = refl
+one_sent carry first item Large Bad a b = refl
+one_sent carry first item Large Large a b = refl
+one_sent carry first item Large Missing a b = refl
+one_sent carry first item Missing Bad a b = refl
+one_sent carry first item Missing Large a b = refl
+one_sent carry first item Missing Missing a b = refl
 
 pub begins_front : (carry : Carry) (first : ℕ) (item : Item) (datagrams : List (List ℕ)) (g : Fate) → Begins carry first item datagrams → Becomes carry first item g → IsFrontOf (datagrams_of g) datagrams
 begins_front carry first (Packet q bytes) datagrams (Sent ys) a b = some_first carry (sequence_of first q) bytes datagrams ys a.0 a.2 b.2

@@ -1,27 +1,23 @@
 -- What was sent before a send failed is a front of all that would have been sent.
-use Rattle.std.proofs.Common.{◌≡◌, ℕ, List, [], ◌∷◌, ◌++◌, Option, Some, sym, subst, ap, ap₂, ◌∙◌, refl, inl, inr, arith, append_assoc, length-append}
-use Rattle.std.specs.Prelude.{IfSome}
+use Rattle.std.proofs.Common.{◌≡◌, ℕ, List, [], ◌∷◌, ◌++◌, Option, Some, sym, subst, ap, ap₂, ◌∙◌, refl, inl, inr, arith, append_assoc, length-append, IfSome}
 use Rattle.std.proofs.lemmas.List.{append-nil}
 use Rattle.std.proofs.lemmas.List.Elements.{filter_map-append}
-use Rattle.drm_links.specs.Link.{Answer, Datagram, datagram_of}
-use Rattle.dcp_pft.specs.declared.carry.Carry.{Carry}
-use Rattle.dcp_collect.specs.declared.taken.Taken.{Taken}
-use Rattle.dcp_collect.specs.State.{State, made, after_finish}
-use Rattle.dcp_collect.specs.Runs.{Item, Takes, Gives, Steps, up_to}
-use Rattle.dcp_collect.proofs.Decoded.{one_decoding}
+use Rattle.recv_reading.proofs.Common.{Answer, Datagram, datagram_of, Taken, State, made, after_finish, Item, Takes, Gives, Steps}
+use Rattle.recv_reading.proofs.Common.{up_to, datagrams, GoesOn, EndsBy, MayBeFirst, first_of}
 use Rattle.recv_reading.specs.declared.reason.EndWord.{EndWord}
 use Rattle.recv_reading.specs.declared.options.ReceiveOptions.{ReceiveOptions}
-use Rattle.recv_reading.specs.Ending.{datagrams, GoesOn, EndsBy, ComesTo}
+use Rattle.dcp_pft.specs.declared.carry.Carry.{Carry}
+use Rattle.dcp_collect.proofs.Decoded.{one_decoding}
+use Rattle.recv_reading.specs.Ending.{ComesTo}
 use Rattle.drm_links.specs.Hearing.{AreNext}
 use Rattle.recv_reading.specs.OneReading.{Ends, IsOneReading}
-use Rattle.recv_reading.specs.First.{MayBeFirst, first_of}
-use Rattle.recv_reading.specs.Packets as converting
-use Rattle.recv_reading.specs.Packets.{ComesAt, Terms}
+use Rattle.recv_reading.specs.Packets.{terms_of, ComesAt}
 use Rattle.collect_laws.proofs.Runs.{steps_part}
 use Rattle.collect_laws.proofs.Unique.{one_giving}
 use Rattle.recv_reading.proofs.OneReading.{one_reading}
 use Rattle.recv_reading.proofs.First.{may_taken, first_itself, given_first}
 use Rattle.recv_reading.proofs.Reaching.{one_way}
+use Rattle.recv_reading.proofs.PacketLemmas.{stands_at}
 use Rattle.recv_reading.proofs.Ways.{Starts, starts_more, starts_up_to, taken_starts, taken_first, finished_starts, gives_first}
 use Rattle.drm_gate.specs.Passing.{Fate, Begins, BecomeAll, sent_of}
 use Rattle.drm_gate.specs.Run.{IsOnward, IsFrontOf, IsFrontOfOnward, StopsAt}
@@ -30,15 +26,8 @@ use Rattle.drm_gate.proofs.Fates.{begins_front, all_sent, split}
 
 -- ---- where the item stands
 
-abbrev terms_of : ReceiveOptions → Terms
-terms_of rules = record { window = rules.window; first = rules.first; told = rules.frames }
-
 of_answers : (xs ys : List Answer) → datagrams (xs ++ ys) ≡ datagrams xs ++ datagrams ys
 of_answers xs ys = filter_map-append datagram_of xs ys
-
-comes_to : (rules : ReceiveOptions) (answers later : List Answer) (mid state : State) → ComesTo rules answers later mid state → converting.ComesTo (terms_of rules) (datagrams later) mid state
-comes_to rules answers later mid state (inl (bytes, answer, is, takes)) = inl (bytes, answer, ap datagrams is, takes)
-comes_to rules answers later mid state (inr (word, none, ends, is)) = inr (ap datagrams none, is)
 
 -- ---- a front of the whole
 
@@ -97,22 +86,10 @@ module _ (rules : ReceiveOptions) (carry : Carry) (answers : List Answer) (sent 
   before = s.during ++ s.more
 
   comes_at : ComesAt (terms_of rules) (datagrams answers) before s.item s.last
-  comes_at = record {
-    before = datagrams s.before;
-    later = datagrams s.later;
-    are = ap datagrams s.are ∙ of_answers s.before s.later;
-    taken = s.taken;
-    during = s.during;
-    mid = s.mid;
-    steps = s.gave;
-    state = s.state;
-    comes = comes_to rules answers s.later s.mid s.state s.comes;
-    more = s.more;
-    gives = s.gives;
-    items_are = refl;
-    is_ready = s.is_ready;
-    is_next = s.is_next;
-  }
+  comes_at =
+      stands_at rules answers s.during s.more s.last s.item
+      (record { before = s.before; later = s.later; are = s.are; taken = s.taken; mid = s.mid; gave = s.gave; state = s.state; comes = s.comes; gives = s.gives })
+      s.is_ready s.is_next
 
   module _ (more : List Answer) (fates : List Fate) (o : IsOnward rules carry (datagrams (answers ++ more)) fates) where
     abbrev first : ℕ

@@ -1,6 +1,5 @@
 -- What becomes of an item.
-use Rattle.std.proofs.Common.{◌≡◌, None, ℕ, ◌*◌, ◌<◌, ◌≤◌, Bool, true, false, List, [], ◌++◌, length, sym, ◌∙◌, refl, subst, ap, arith}
-use Rattle.std.specs.Prelude.{slice_index_or}
+use Rattle.std.proofs.Common.{◌≡◌, None, ℕ, ◌*◌, ◌<◌, ◌≤◌, Bool, true, false, List, [], ◌++◌, length, sym, ◌∙◌, refl, subst, ap, arith, slice_index_or}
 use Rattle.dcp_pft.specs.declared.carry.Carry.{Carry}
 use Rattle.dcp_pft.specs.Limits.{most_fragments}
 use Rattle.dcp_collect.specs.Runs.{Item, Packet}

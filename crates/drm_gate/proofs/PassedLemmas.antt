@@ -1,14 +1,11 @@
 -- What becomes of items that are passed on, one after another.
-use Rattle.std.proofs.Common.{◌≡◌, ℕ, ◌+◌, ◌*◌, ◌≤◌, true, List, [], ◌∷◌, ◌++◌, Option, None, Some, sym, subst, ap, ◌∙◌, refl, arith, length-append}
-use Rattle.std.specs.Prelude.{IfSome, unwrap_or}
+use Rattle.std.proofs.Common.{◌≡◌, ℕ, ◌+◌, ◌*◌, ◌≤◌, List, [], ◌∷◌, ◌++◌, sym, subst, ap, ◌∙◌, refl, arith, length-append, unwrap_or}
 use Rattle.std.proofs.lemmas.List.{append-nil}
 use Rattle.std.proofs.lemmas.List.Concat.{flat_map-append}
 use Rattle.dcp_pft.specs.declared.carry.Carry.{Carry}
 use Rattle.dcp_pft.specs.Limits.{most_fragments}
-use Rattle.dcp_collect.specs.Fragments.{Fragment, suffice, of_packet}
-use Rattle.dcp_collect.specs.State.{State}
-use Rattle.dcp_collect.specs.Runs.{Item, Packet, Lost, Damaged, IsItem}
-use Rattle.recv_reading.specs.First.{MayBeFirst, KnowsFirst, KeepsFirst}
+use Rattle.recv_reading.proofs.Common.{State, Item, Packet, Lost, Damaged, IsItem, MayBeFirst, KnowsFirst, KeepsFirst}
+use Rattle.recv_reading.proofs.First.{packet_first}
 use Rattle.recv_reading.specs.Reached.{packets_in}
 use Rattle.drm_gate.specs.declared.tally.Tally.{Tally}
 use Rattle.drm_gate.specs.Passing.{Fate, Sent, Bad, Large, Missing, Becomes, Begins, BecomeAll, datagrams_of, sent_of}
@@ -43,9 +40,7 @@ all_then carry c d items more t u v x y z may first second =
     record {
       fates = first.fates ++ second.fates;
       many =
-          let xs = length-append first.fates second.fates in
-          let ys = length-append items more in
-          omega (arith, xs, ys, first.many, second.many);
+          omega (arith, length-append first.fates second.fates, length-append items more, first.many, second.many);
       become = λ f is. become_join carry f items more first.fates second.fates (first.become f (may f is)) (second.become f is);
       tally = second.tally
           ∙ (ap (λ w. plus w (tally_of second.fates)) first.tally
@@ -59,17 +54,6 @@ all_then carry c d items more t u v x y z may first second =
     }
 
 -- ---- the first number
-
-no_packet : (n : ℕ) (kept : List Fragment) → kept ≡ [] → suffice (of_packet n kept) ≡ true → ⊥
-no_packet n kept none is =
-    let P : List Fragment → Type 0 = λ l. suffice (of_packet n l) ≡ true in
-    let clash : suffice (of_packet n []) ≡ true = subst P none is in
-    cc
-
--- the number that the code takes is the one that may be
-number_is : (o : Option ℕ) (n first : ℕ) (kept : List Fragment) → ((o ≡ None) → kept ≡ []) → suffice (of_packet n kept) ≡ true → IfSome o (λ m. m ≡ first) → unwrap_or o 0 ≡ first
-number_is None n first kept knows is may = absurd (no_packet n kept (knows refl) is)
-number_is (Some m) n first kept knows is may = may
 
 lost_at : (carry : Carry) (m n q had total : ℕ) (fate : Fate) → Becomes carry m (Lost q had total) fate → Becomes carry n (Lost q had total) fate
 lost_at carry m n q had total (Sent datagrams) is = absurd is
@@ -85,7 +69,7 @@ damaged_at carry m n q Missing is = absurd is
 
 becomes_at : (carry : Carry) (d : State) (item : Item) (fate : Fate) (first : ℕ) → KnowsFirst d → IsItem d item → MayBeFirst d first → Becomes carry (unwrap_or d.first 0) item fate → Becomes carry first item fate
 becomes_at carry d (Packet q bytes) fate first knows is may becomes =
-    let at : unwrap_or d.first 0 ≡ first = number_is d.first d.next first d.kept knows is.1 may in
+    let at : unwrap_or d.first 0 ≡ first = packet_first d q bytes first knows is may in
     subst (λ (n : ℕ). Becomes carry n (Packet q bytes) fate) at becomes
 becomes_at carry d (Lost q had total) fate first knows is may becomes = lost_at carry (unwrap_or d.first 0) first q had total fate becomes
 becomes_at carry d (Damaged q) fate first knows is may becomes = damaged_at carry (unwrap_or d.first 0) first q fate becomes
@@ -105,7 +89,7 @@ all_one carry d item t u x y knows is one =
 
 pub begins_at : (carry : Carry) (d : State) (item : Item) (first : ℕ) (datagrams : List (List ℕ)) → KnowsFirst d → IsItem d item → MayBeFirst d first → Begins carry (unwrap_or d.first 0) item datagrams → Begins carry first item datagrams
 begins_at carry d (Packet q bytes) first datagrams knows is may begins =
-    let at : unwrap_or d.first 0 ≡ first = number_is d.first d.next first d.kept knows is.1 may in
+    let at : unwrap_or d.first 0 ≡ first = packet_first d q bytes first knows is may in
     subst (λ (n : ℕ). Begins carry n (Packet q bytes) datagrams) at begins
 begins_at carry d (Lost q had total) first datagrams knows is may begins = absurd begins
 begins_at carry d (Damaged q) first datagrams knows is may begins = absurd begins
@@ -150,7 +134,4 @@ sent_packets carry first [] [] all = omega arith
 sent_packets carry first [] (fate ∷ fates) all = absurd all
 sent_packets carry first (item ∷ items) [] all = absurd all
 sent_packets carry first (item ∷ items) (fate ∷ fates) all =
-    let one = sent_one carry first item fate all.0 in
-    let rest = sent_packets carry first items fates all.1 in
-    let e = packets_one item items in
-    omega (arith, one, rest, e)
+    omega (arith, sent_one carry first item fate all.0, sent_packets carry first items fates all.1, packets_one item items)

@@ -1,14 +1,13 @@
 -- What went over one of a gateway's links where no link is left.
 use Rattle.std.proofs.Common.{◌≡◌, ℕ, ◌≤◌, Bool, true, false, List, [], ◌++◌, length, sym, subst, ap, ◌∙◌, arith, append_assoc, length-append}
-use Rattle.drm_links.specs.Link.{Answer}
+use Rattle.recv_reading.proofs.Common.{Answer, GoesOn}
+use Rattle.recv_reading.specs.declared.options.ReceiveOptions.{ReceiveOptions}
 use Rattle.drm_links.specs.Told.{HasFailed}
 use Rattle.drm_links.specs.Transmission.{Transmits, SendsNoMore}
 use Rattle.drm_links.proofs.ToldLemmas.{once_then}
 use Rattle.several_links.specs.Took.{TookBy}
 use Rattle.several_links.proofs.TookLemmas.{took_none}
 use Rattle.dcp_pft.specs.declared.carry.Carry.{Carry}
-use Rattle.recv_reading.specs.declared.options.ReceiveOptions.{ReceiveOptions}
-use Rattle.recv_reading.specs.Ending.{GoesOn}
 use Rattle.dcp_sender.specs.Targets.{Target}
 use Rattle.drm_gate.specs.Targets.{TakesMore, TakesNoMore}
 use Rattle.drm_gate.specs.Run.{StopsAt, IsFrontOfOnward, StopsOver, StopsLast}

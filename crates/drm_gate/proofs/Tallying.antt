@@ -35,9 +35,6 @@ one_item Missing = omega arith
 pub items_plus : (t u : Tally) → items_in (plus t u) ≡ items_in t + items_in u
 items_plus t u = omega arith
 
-pub one_more : (t u : Tally) (fate : Fate) → u ≡ plus t (tally_one fate) → items_in u ≡ items_in t + 1
-one_more t u fate is = ap items_in is ∙ (items_plus t (tally_one fate) ∙ ap (λ n. items_in t + n) (one_item fate))
-
 pub items_all : (fates : List Fate) → items_in (tally_of fates) ≡ length fates
 items_all [] = refl
 items_all (fate ∷ fates) = let one = one_item fate in let more = items_all fates in let sum = items_plus (tally_one fate) (tally_of fates) in omega (arith, one, more, sum)
@@ -51,10 +48,9 @@ few_one Missing few = omega arith
 pub few_sent : (t u : Tally) (fate : Fate) → u ≡ plus t (tally_one fate) → length (datagrams_of fate) ≤ most_fragments
     → t.sent ≤ most_fragments * t.given → u.sent ≤ most_fragments * u.given
 few_sent t u fate is few before =
-    let one = few_one fate few in
     let sent : u.sent ≡ t.sent + (tally_one fate).sent = ap (λ (v : Tally). v.sent) is in
     let given : u.given ≡ t.given + (tally_one fate).given = ap (λ (v : Tally). v.given) is in
-    omega (arith, one, sent, given, before)
+    omega (arith, few_one fate few, sent, given, before)
 
 pub one_missing : (t : Tally) → tally_from t.given (t.missing + 1) t.bad t.large t.sent ≡ plus t (tally_one Missing)
 one_missing t = same _ _ _ _ _ _ _ _ _ _ (omega arith) (omega arith) (omega arith) (omega arith) (omega arith)

@@ -7,7 +7,7 @@ use Rattle.drm_links.specs.Link.{Answer, Datagram, Idle, Failed, datagram_of}
 use Rattle.recv_reading.specs.Ending.{datagrams, idles, IsSound}
 use Rattle.std.proofs.Math.Nat.{mul-le-mul_right}
 use Rattle.recv_reading.proofs.Going.{one_longer, one_turn}
-use Rattle.recv_reading.proofs.Going.{idles_datagram, idles_idle}
+use Rattle.recv_reading.proofs.Going.{idles_more}
 use Rattle.drm_paths.specs.declared.run.PathOptions.{PathOptions}
 use Rattle.drm_paths.specs.declared.run.PathEnded.{PathEnded}
 use Rattle.drm_paths.specs.declared.run.PathEnded.TheVariants as why
@@ -175,7 +175,7 @@ module _ (options : PathOptions) (hears hears' : List Answer → Type 0) (ds : L
           many = next_many es same;
           more = less (taken + 1) options.limit (omega (arith, l)) other;
           room = not_more (bytes_in es + 65536) most_bytes (λ h. room (inr h));
-          idles_is = idles_datagram 0 r.answers bytes;
+          idles_is = idles_more 0 r.answers (Datagram bytes);
           fewer = omega (arith, some);
           few = (let turns = in_turns (Datagram bytes) in omega (arith, turns));
         }
@@ -195,7 +195,7 @@ module _ (options : PathOptions) (hears hears' : List Answer → Type 0) (ds : L
 
     idle_many : idles (r.answers ++ Idle ∷ []) ≡ idled + 1
     idle_many =
-        let e : idles (r.answers ++ Idle ∷ []) ≡ idles r.answers + 1 = idles_idle 0 r.answers in
+        let e : idles (r.answers ++ Idle ∷ []) ≡ idles r.answers + 1 = idles_more 0 r.answers Idle in
         let i : idles r.answers ≡ idled = r.idles_is in
         omega (arith, e, i)
 

@@ -1,26 +1,11 @@
 -- A report of a capture, whatever its reader holds in the end.
-use Rattle.std.proofs.Common.{◌≡◌, Bool, ap, ◌∙◌, arith}
-use Rattle.drm_links.specs.Told.{Known}
-use Rattle.drm_links.specs.Source.{Input}
-use Rattle.drm_links.specs.Sink.{Output}
-use Rattle.drm_capture.specs.Walking.{WalkerState}
-use Rattle.dcp_collect.specs.State.{State, made}
+use Rattle.std.proofs.Common.{◌≡◌, Bool, ap, ◌∙◌}
+use Rattle.recv_reading.proofs.Common.{Known, Input, Output, State, made, bounds_of, options_of}
 use Rattle.recv_reading.specs.declared.options.ReceiveOptions.{ReceiveOptions}
+use Rattle.drm_capture.specs.Walking.{WalkerState}
 use Rattle.recv_reading.specs.declared.options.Bounds.{Bounds}
-use Rattle.recv_reading.specs.Options.{AreInRange, AreUsable, bounds_of, options_of}
 use Rattle.recv_reading.specs.Source.{ReadSoFar, HeardOf}
 use Rattle.mod_receiver.specs.Received.{Reported, Stopped}
-
--- what a command's options say can be gone by
-pub usable : (options : ReceiveOptions) → AreInRange options → AreUsable options
-usable options range = record {
-  window = range.some_window;
-  frames = range.some_frames;
-  most_frames = range.few_frames;
-  idle = range.some_idles;
-  limit = range.some_datagrams;
-  most_datagrams = (let few = range.few_datagrams in omega (arith, few));
-}
 
 -- a new collector goes by the options that it was made of
 pub options_are : (options : ReceiveOptions) (c : State) (bounds : Bounds) → c ≡ made options.window options.first → bounds ≡ bounds_of options → options_of c bounds ≡ options

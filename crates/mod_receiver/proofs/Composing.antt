@@ -1,38 +1,36 @@
 -- From a delivery of a schedule to the report of it, by the laws of deliveries.
-use Rattle.std.proofs.Common.{◌≡◌, ℕ, suc, ◌+◌, ◌<◌, ◌≤◌, ◌⊎◌, inl, inr, Bool, true, ◌&&◌, List, [], ◌∷◌, ◌++◌, length, take, drop, slice_get, Option, None, Some, refl, sym, ◌∙◌, ap, ap₂, subst, arith}
-use Rattle.std.specs.Prelude.{ℤ, pos}
+use Rattle.std.proofs.Common.{◌≡◌, ℕ, suc, ◌+◌, ◌<◌, ◌≤◌, ◌⊎◌, inl, inr, Bool, true, ◌&&◌, List, [], ◌∷◌, ◌++◌, length, take, drop, slice_get, Option, None, Some, refl, sym, ◌∙◌, ap, ap₂, subst, arith, ℤ, pos}
 use Rattle.std.specs.List.{AllZip}
-use Rattle.std.proofs.lemmas.List.{append-nil, append_cancel_right, take-append-drop, take-append-le}
+use Rattle.std.proofs.lemmas.Bool.{cases_lt}
+use Rattle.std.proofs.lemmas.List.{append-nil, append_cancel_left, append_cancel_right, take-append-drop, take-append-le}
 use Rattle.std.proofs.lemmas.List.Elements.{filter_map-append}
 use Rattle.drm_schedule.specs.declared.plan.Plan.{Plan}
 use Rattle.drm_schedule.specs.Valid.{IsSchedule}
-use Rattle.drm_links.specs.Told.{Known, BothTold}
-use Rattle.drm_links.specs.Link.{Answer, Failed, Traffic, datagram_of}
-use Rattle.drm_links.specs.Sink.{Output, Outputs}
+use Rattle.recv_reading.proofs.Common.{Known, Answer, Failed, datagram_of, Output, Outputs, Taken, made, Item as Given, up_to}
+use Rattle.recv_reading.proofs.Common.{datagrams, HasGiven, EndsBy, GoesOn, IsFinished}
+use Rattle.recv_reading.specs.declared.reason.EndWord.{EndWord}
+use Rattle.recv_reading.specs.declared.options.ReceiveOptions.{ReceiveOptions}
+use Rattle.drm_links.specs.Told.{BothTold}
+use Rattle.drm_links.specs.Link.{Traffic}
 use Rattle.drm_links.proofs.ToldLemmas.{Outputs-weaker}
-use Rattle.dcp_collect.specs.declared.taken.Taken.{Taken}
 use Rattle.dcp_collect.specs.declared.taken.Taken.TheVariants.{Kept, Repeated, Late, Refused, Inconsistent}
-use Rattle.dcp_collect.specs.State.{made}
-use Rattle.dcp_collect.specs.Runs.{Item as Given, up_to}
 use Rattle.drm_switches.specs.Tracker.{new_tracker}
 use Rattle.mod_feed.specs.Items.{Item}
 use Rattle.mod_feed.specs.Feeding.{FeedStep, Feeds}
 use Rattle.drm_timeline.specs.Numbers.{frame_count}
 use Rattle.mod_delivery.specs.Sent.{Arrival, OfSchedule, Stray, pairs_in, IsFollowed, IsInTime}
-use Rattle.mod_delivery.specs.Given.{IsServed, AreGiven, AreAllServed}
+use Rattle.mod_delivery.specs.Given.{AreGiven, AreAllServed}
 use Rattle.mod_delivery.specs.Laws.{Suits, Delivering, DeliveringEarly, StraysRefused, GivenInTime, SwitchesAtStarts, AllSwitches, AllFrames}
-use Rattle.recv_reading.specs.declared.reason.EndWord.{EndWord}
 use Rattle.recv_reading.specs.declared.reason.EndWord.TheVariants as word
-use Rattle.recv_reading.specs.declared.options.ReceiveOptions.{ReceiveOptions}
 use Rattle.drm_links.specs.Hearing.{AreNext, HeardTold, Heard}
-use Rattle.recv_reading.specs.Ending.{datagrams, HasGiven, Holds, EndsBy, GoesOn, IsFinished}
+use Rattle.recv_reading.specs.Ending.{Holds}
 use Rattle.report_lines.specs.Reports.{is_given, refusals_from, report, is_clean}
 use Rattle.mod_receiver.specs.Received.{IsReport, Reported}
 use Rattle.frame_lines.specs.Laws.{ServedLines}
 use Rattle.mod_receiver.specs.Headline.{strays_from, TellsSwitches, GivesInTime, HeadlineOf, untold, WouldBeRead, ModulatesAll, Came, CompleteOf, Headline, Complete, PrintsFrames}
 use Rattle.mod_receiver.specs.Following.{HeadlinesFollow, CompletesFollow}
 use Rattle.recv_reading.proofs.Reaching.{one_way}
-use Rattle.recv_reading.proofs.OneReading.{next_front, not_shorter, same_answers, three, next_split, goes_past}
+use Rattle.recv_reading.proofs.OneReading.{next_front, not_shorter, same_next, next_split, goes_past}
 
 -- ---- the strays alone were refused
 
@@ -96,16 +94,13 @@ headline law laws rules feed answers text clean some r plan base arrivals schedu
 
 -- ---- all frames are given
 
-served_given : (plan : Plan) (t q : ℕ) (item : Item) → IsServed plan t q item → is_given item ≡ true
-served_given plan t q item s = ap is_given s.item_is
-
 all_given : (steps : List FeedStep) → ((q : ℕ) (step : FeedStep) → slice_get steps q ≡ Some step → is_given step.item ≡ true) → is_clean steps ≡ true
 all_given [] each = refl
 all_given (step ∷ steps) each =
     ap₂ (λ a b. a && b) (each 0 step refl) (all_given steps (λ q other e. each (suc q) other e))
 
 served_clean : (plan : Plan) (base : ℤ) (steps : List FeedStep) → AreAllServed plan base steps → is_clean steps ≡ true
-served_clean plan base steps all = all_given steps (λ q step e. let (t, is, served) = all q step e in served_given plan t q step.item served)
+served_clean plan base steps all = all_given steps (λ q step e. let (t, is, served) = all q step e in ap is_given served.item_is)
 
 -- what is known of the frames makes the text that of all frames
 modulates_all : AllFrames → ItemLaws → (plan : Plan) (rules : ReceiveOptions) (told : Option ℕ) (feed : ℕ) (ahead rest answers : List Answer) (arrivals : List Arrival) (ds : List (List ℕ)) (text : List ℕ) (clean : Bool)
@@ -146,17 +141,15 @@ no_longer rules ahead r s xs ys v w p q f g l = not_shorter rules ahead s r ys x
 -- where it doesn't end by the told number, it is the same
 same_untold : (rules : ReceiveOptions) (ahead r s : List Answer) (xs ys : List Answer) (v w : EndWord) → AreNext ahead xs r → AreNext ahead ys s → IsFinished rules xs v → IsFinished (untold rules) ys w → Holds (untold rules) xs v → xs ≡ ys
 same_untold rules ahead r s xs ys v w p q f g h =
-    elim (three (length xs) (length ys)) [
-      | inl l ↦ absurd (not_shorter (untold rules) ahead r s xs ys v p q h g.goes_on l)
-      | inr k ↦ elim k [
-        | inl l ↦ absurd (no_longer rules ahead r s xs ys v w p q f g l)
-        | inr e ↦ same_answers ahead r s xs ys p q e
-      ]
-    ]
+    same_next ahead r s xs ys p q (not_shorter (untold rules) ahead r s xs ys v p q h g.goes_on) (no_longer rules ahead r s xs ys v w p q f g)
 
 -- a list of answers that isn't longer than another one is its front
-front_of : (ahead r s : List Answer) (xs ys : List Answer) → AreNext ahead xs r → AreNext ahead ys s → length xs ≤ length ys → (later : List Answer) × (ys ≡ xs ++ later)
-front_of ahead r s xs ys p q l =
+front_of : (ahead r s : List Answer) (xs ys : List Answer) → AreNext ahead xs r → AreNext ahead ys s → (length ys < length xs → ⊥) → (later : List Answer) × (ys ≡ xs ++ later)
+front_of ahead r s xs ys p q not =
+    let l : length xs ≤ length ys = elim (cases_lt (length ys) (length xs)) [
+      | inl less ↦ absurd (not less)
+      | inr most ↦ most
+    ] in
     let e : xs ≡ take (length xs) ys = next_front ahead r s xs ys p q l in
     (drop (length xs) ys, sym (take-append-drop (length xs) ys) ∙ ap (λ z. z ++ drop (length xs) ys) (sym e))
 
@@ -164,22 +157,10 @@ front_of ahead r s xs ys p q l =
 read_front : (rules : ReceiveOptions) (ahead rest : List Answer) (answers others : List Answer) (w : EndWord) → AreNext ahead answers rest → IsFinished rules answers w → WouldBeRead rules ahead others
     → (later : List Answer) × (others ≡ answers ++ later)
 read_front rules ahead rest answers others w next f (inl (v, of)) =
-    elim (three (length answers) (length others)) [
-      | inl l ↦ front_of ahead rest of.rest answers others next of.next (omega (arith, l))
-      | inr k ↦ elim k [
-        | inl l ↦ absurd (no_longer rules ahead rest of.rest answers others w v next of.next f of.ends l)
-        | inr e ↦ front_of ahead rest of.rest answers others next of.next (omega (arith, e))
-      ]
-    ]
+    front_of ahead rest of.rest answers others next of.next (no_longer rules ahead rest of.rest answers others w v next of.next f of.ends)
 read_front rules ahead rest answers others w next f (inr (told, of)) =
     let half = next_split ahead of.rest others (Failed ∷ []) of.next in
-    elim (three (length answers) (length others)) [
-      | inl l ↦ front_of ahead rest half.0 answers others next half.1 (omega (arith, l))
-      | inr k ↦ elim k [
-        | inl l ↦ absurd (goes_past rules ahead rest of.rest answers others next of.next f.goes_on l)
-        | inr e ↦ front_of ahead rest half.0 answers others next half.1 (omega (arith, e))
-      ]
-    ]
+    front_of ahead rest half.0 answers others next half.1 (goes_past rules ahead rest of.rest answers others next of.next f.goes_on)
 
 -- where it doesn't end by the told number, it is all of that
 read_all : (rules : ReceiveOptions) (ahead rest : List Answer) (answers others : List Answer) (w : EndWord) → AreNext ahead answers rest → IsFinished rules answers w → WouldBeRead rules ahead others
@@ -190,18 +171,10 @@ read_all rules ahead rest answers others w next f (inr (told, of)) holds =
     let broken = of.ends.1 in
     let same : others ≡ of.ends.0 = append_cancel_right others of.ends.0 (Failed ∷ []) broken.last in
     let goes_on : GoesOn (untold rules) others = subst (GoesOn (untold rules)) (sym same) broken.goes_on in
-    elim (three (length answers) (length others)) [
-      | inl l ↦ absurd (not_shorter (untold rules) ahead rest half.0 answers others w next half.1 holds goes_on l)
-      | inr k ↦ elim k [
-        | inl l ↦ absurd (goes_past rules ahead rest of.rest answers others next of.next f.goes_on l)
-        | inr e ↦
-            let equal : answers ≡ of.ends.0 = same_answers ahead rest half.0 answers others next half.1 e ∙ same in
-            absurd (broken.is_open w (subst (λ l. Holds (untold rules) l w) equal holds))
-      ]
-    ]
-
-take_front : (n : ℕ) (xs ys : List Given) → n ≤ length xs → take n (xs ++ ys) ≡ take n xs
-take_front n xs ys l = take-append-le n xs ys l
+    let equal : answers ≡ of.ends.0 =
+    same_next ahead rest half.0 answers others next half.1 (not_shorter (untold rules) ahead rest half.0 answers others w next half.1 holds goes_on)
+    (goes_past rules ahead rest of.rest answers others next of.next f.goes_on) ∙ same in
+    absurd (broken.is_open w (subst (λ l. Holds (untold rules) l w) equal holds))
 
 -- the laws of whole deliveries and of fronts of them
 pub record DeliveryLaws : Type 0 where
@@ -225,7 +198,7 @@ module _ (laws : DeliveryLaws) (rules : ReceiveOptions) (feed : ℕ) (ahead rest
       let same : r.run.during ≡ items = (one_way (made rules.window rules.first) end r.run.mid (datagrams answers) taken r.taken items r.run.during gave r.run.steps).1 in
       let long : length r.run.during ≡ length items = ap length same in
       let l : n ≤ length r.run.during = omega (arith, long, enough) in
-      let are : r.items ≡ take n r.run.during = r.run.are ∙ ap (λ t. up_to t (r.run.during ++ r.run.rest)) told ∙ take_front n r.run.during r.run.rest l in
+      let are : r.items ≡ take n r.run.during = r.run.are ∙ ap (λ t. up_to t (r.run.during ++ r.run.rest)) told ∙ take-append-le n r.run.during r.run.rest l in
       let feeds : Feeds new_tracker (take n r.run.during) r.steps r.after = subst (λ xs. Feeds new_tracker xs r.steps r.after) are r.feeds in
       let given : AreGiven plan rules.window (pos 0) (Some n) (pairs_in arrivals) r.steps =
       laws.early plan rules.window n rules.first (pos 0) arrivals (datagrams answers) later r.taken r.run.during r.run.mid r.steps r.after schedule some followed r.run.steps l feeds in
@@ -238,6 +211,11 @@ module _ (laws : DeliveryLaws) (rules : ReceiveOptions) (feed : ℕ) (ahead rest
       let suit = suits [] (subst (IsFollowed plan rules.first (pos 0) arrivals) (sym (append-nil (datagrams answers))) followed) in
       modulates_all laws.all_frames laws.items plan rules rules.frames feed ahead rest answers arrivals (datagrams answers) text clean next r schedule known followed in_time given suit
 
+  complete_whole : (others : List Answer) (w : EndWord) → IsFinished rules answers w → WouldBeRead rules ahead others → IsFollowed plan rules.first (pos 0) arrivals (datagrams others)
+      → (rules.frames ≡ None) ⊎ (rules.frames ≡ Some (frame_count plan)) → Holds (untold rules) answers w → ModulatesAll plan rules feed arrivals ahead text clean
+  complete_whole others w f would followed known holds =
+      complete_same known (subst (λ l. IsFollowed plan rules.first (pos 0) arrivals (datagrams l)) (sym (read_all rules ahead rest answers others w next f would holds)) followed)
+
   -- by why the reading ends
   complete_by : (others : List Answer) (w : EndWord) → IsFinished rules answers w → WouldBeRead rules ahead others
       → IsFollowed plan rules.first (pos 0) arrivals (datagrams others) → (rules.frames ≡ None) ⊎ (rules.frames ≡ Some (frame_count plan)) → ModulatesAll plan rules feed arrivals ahead text clean
@@ -246,15 +224,9 @@ module _ (laws : DeliveryLaws) (rules : ReceiveOptions) (feed : ℕ) (ahead rest
       let (later, are) = read_front rules ahead rest answers others word.Frames next f would in
       let joined : datagrams others ≡ datagrams answers ++ datagrams later = ap datagrams are ∙ filter_map-append datagram_of answers later in
       complete_early (frame_count plan) (datagrams later) (subst (HasGiven rules answers) told f.ends) told refl (subst (IsFollowed plan rules.first (pos 0) arrivals) joined followed)
-  complete_by others word.Limit f would followed known =
-      let same : answers ≡ others = read_all rules ahead rest answers others word.Limit next f would f.ends.0 in
-      complete_same known (subst (λ l. IsFollowed plan rules.first (pos 0) arrivals (datagrams l)) (sym same) followed)
-  complete_by others word.Idle f would followed known =
-      let same : answers ≡ others = read_all rules ahead rest answers others word.Idle next f would f.ends.0 in
-      complete_same known (subst (λ l. IsFollowed plan rules.first (pos 0) arrivals (datagrams l)) (sym same) followed)
-  complete_by others word.Input f would followed known =
-      let same : answers ≡ others = read_all rules ahead rest answers others word.Input next f would f.ends.0 in
-      complete_same known (subst (λ l. IsFollowed plan rules.first (pos 0) arrivals (datagrams l)) (sym same) followed)
+  complete_by others word.Limit f would followed known = complete_whole others word.Limit f would followed known f.ends.0
+  complete_by others word.Idle f would followed known = complete_whole others word.Idle f would followed known f.ends.0
+  complete_by others word.Input f would followed known = complete_whole others word.Input f would followed known f.ends.0
   complete_by others word.Paths f would followed known = absurd f.ends
 
 -- where each frame is in time, all of them are given
@@ -265,17 +237,13 @@ complete laws rules feed ahead answers rest text clean some next r plan arrivals
 
 -- ---- of a link and a sink
 
-append_same : {X : Type 0} (xs ys zs : List X) → xs ++ ys ≡ xs ++ zs → ys ≡ zs
-append_same [] ys zs e = e
-append_same (x ∷ xs) ys zs e = append_same xs ys zs (let f : x ∷ (xs ++ ys) ≡ x ∷ (xs ++ zs) = e in cc)
-
 headline_told : HeadlinesFollow → (rules : ReceiveOptions) (feed : ℕ) (before after : Option Traffic) (a b : Known Output) (clean : Bool) (heard : List Answer) (whole : List ℕ) → 1 ≤ rules.window
     → HeardTold heard before after → IsReport rules feed heard whole clean → Outputs a b (λ t. t ≡ whole)
     → BothTold before after (λ x y. (answers : List Answer) → Came answers x y → Outputs a b (λ t. HeadlineOf rules feed answers t clean))
 headline_told law rules feed None after a b clean heard whole some h is text = tt
 headline_told law rules feed (Some x) None a b clean heard whole some h is text = tt
 headline_told law rules feed (Some x) (Some y) a b clean heard whole some h is text = λ answers came.
-    let same : answers ≡ heard = append_same x.answers answers heard (sym came ∙ h.given) in
+    let same : answers ≡ heard = append_cancel_left x.answers answers heard (sym came ∙ h.given) in
     Outputs-weaker (λ t. t ≡ whole) (λ t. HeadlineOf rules feed answers t clean) a b text
     (λ t e. subst (λ l. HeadlineOf rules feed l t clean) (sym same) (subst (λ l. HeadlineOf rules feed heard l clean) (sym e) (law rules feed heard whole clean some is)))
 

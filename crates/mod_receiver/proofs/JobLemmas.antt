@@ -1,18 +1,14 @@
 -- What a receiver that ended has for its report.
-use Rattle.std.proofs.Common.{◌≡◌, ℕ, zero, suc, ◌+◌, ◌*◌, ◌<◌, ◌≤◌, ◌^◌, ◌⊎◌, ◌↔◌, inl, inr, nat_le, Bool, true, false, IsTrue, IsSome, if◌then◌else◌, List, [], ◌∷◌, length, map, slice_index_or, Option, None, Some, MatchOption, refl, sym, ◌∙◌, ap, subst, arith, IfSome}
-use Rattle.std.specs.Prelude.{not}
-use Rattle.std.specs.List.{All}
+use Rattle.std.proofs.Common.{◌≡◌, ℕ, zero, suc, ◌+◌, ◌<◌, ◌≤◌, ◌^◌, ◌⊎◌, ◌↔◌, inl, inr, nat_le, Bool, true, false, IsTrue, IsSome, if◌then◌else◌, List, [], ◌∷◌, length, map, slice_index_or, Option, None, Some, MatchOption, refl, sym, ◌∙◌, ap, subst, arith, not, All}
 use Rattle.std.proofs.lemmas.List.{get_or-map, length-map}
 use Rattle.std.proofs.lemmas.List.Elements.{All-map}
-use Rattle.drm_links.specs.Told.{Known}
-use Rattle.drm_links.specs.Link.{Answer, Traffic}
-use Rattle.drm_links.specs.Sink.{Output, Outputs}
+use Rattle.recv_reading.proofs.Common.{Known, Answer, Output, Outputs, State, made}
+use Rattle.recv_reading.specs.declared.options.ReceiveOptions.{ReceiveOptions}
+use Rattle.drm_links.specs.Link.{Traffic}
 use Rattle.drm_links.proofs.ToldLemmas.{Outputs-weaker, written_to_nothing}
 use Rattle.drm_links.specs.Dock.{LinkStart, first_traffic}
 use Rattle.drm_links.proofs.Hearing.{heard_next}
-use Rattle.dcp_collect.specs.State.{State, made}
 use Rattle.drm_links.specs.Hearing.{AreNext, Heard}
-use Rattle.recv_reading.specs.declared.options.ReceiveOptions.{ReceiveOptions}
 use Rattle.recv_reading.specs.Ending.{most_answers}
 use Rattle.mod_receiver.specs.Received.{IsReport, Reported, Broken, Stopped, IsReportFront, IsReasonable, rules_of}
 use Rattle.report_lines.specs.Texts.{text_known}
@@ -53,10 +49,6 @@ failed_is (Some (Done clean)) is = absurd (let same : false ≡ true = is in cc)
 failed_is (Some WriteFailed) is = absurd (let same : false ≡ true = is in cc)
 failed_is (Some NoMemory) is = absurd (let same : false ≡ true = is in cc)
 
-pub some_now : (n : Option ℕ) → IfSome n (λ n. 1 ≤ n) → IfSome n (λ n. 0 < n)
-some_now None some = some
-some_now (Some n) some = some
-
 -- a receiver that was made is ready
 pub job_ready : {L : Type 0} (rules : ReceiveOptions) (k : ℕ) (job : Job L) → AreInRange rules → IsJob rules (k + 1) job → IsReady job
 job_ready {L} rules k job valid is =
@@ -68,7 +60,7 @@ job_ready {L} rules k job valid is =
         feed = omega arith;
         idle = valid.some_idles;
         limit = valid.some_datagrams;
-        some_frames = some_now rules.frames valid.some_frames;
+        some_frames = valid.some_frames;
         few_frames = valid.few_frames;
       });
       window = ((let some = valid.some_window in omega (arith, some, window)), (let few = valid.few_packets in omega (arith, few, window)));
@@ -102,24 +94,6 @@ module _ (rules : ReceiveOptions) (number : ℕ) (ahead : List Answer) (hears : 
         refl,
       )
 
-  -- what was given before a failure was written
-  pub given_ahead : Broken rules number hears u v → (given : List ℕ) × IsGivenOf rules number ahead given × Outputs u v (λ text. text ≡ given)
-  given_ahead broken =
-      let (rest, is_next) = next broken.answers broken.heard broken.few in
-      (broken.whole, record { answers = broken.answers; rest = rest; next = is_next; is = broken.is }, broken.text)
-
-  pub breaks_ahead : Broken rules number hears u v → BreaksOff rules ahead
-  breaks_ahead broken =
-      let (rest, is_next) = next broken.answers broken.heard broken.few in
-      record { before = broken.is.before; answers = broken.answers; rest = rest; next = is_next; reading = broken.is.reading }
-
-  -- a front was written
-  pub front_ahead : Stopped rules number hears u v → Outputs u v (IsFrontOf rules number ahead)
-  front_ahead stopped =
-      let (rest, is_next) = next stopped.answers stopped.heard stopped.few in
-      Outputs-weaker (IsReportFront rules number stopped.answers) (IsFrontOf rules number ahead) u v stopped.text
-      (λ text is. record { answers = stopped.answers; rest = rest; next = is_next; goes_on = stopped.goes_on; is = is })
-
 module _ (rules : ReceiveOptions) (valid : AreInRange rules) (number : ℕ) (start : LinkStart) (a b : Known Traffic) (u v : Known Output) (told : a.told ≡ Some (first_traffic start)) where
   answers_ahead : (answers : List Answer) → Heard a b answers → length answers ≤ most_answers rules → (rest : List Answer) × AreNext start.ahead answers rest
   answers_ahead answers heard few = heard_next a.told b.told start answers heard told (let most = few_answers rules valid in omega (arith, few, most))
@@ -131,14 +105,21 @@ module _ (rules : ReceiveOptions) (valid : AreInRange rules) (number : ℕ) (sta
 
   -- where its link failed, what was given before was written
   pub live_given : Broken rules number (Heard a b) u v → (given : List ℕ) × IsGivenOf rules number start.ahead given × Outputs u v (λ text. text ≡ given)
-  live_given = given_ahead rules number start.ahead (Heard a b) u v answers_ahead
+  live_given broken =
+      let (rest, is_next) = answers_ahead broken.answers broken.heard broken.few in
+      (broken.whole, record { answers = broken.answers; rest = rest; next = is_next; is = broken.is }, broken.text)
 
   pub live_breaks : Broken rules number (Heard a b) u v → BreaksOff rules start.ahead
-  live_breaks = breaks_ahead rules number start.ahead (Heard a b) u v answers_ahead
+  live_breaks broken =
+      let (rest, is_next) = answers_ahead broken.answers broken.heard broken.few in
+      record { before = broken.is.before; answers = broken.answers; rest = rest; next = is_next; reading = broken.is.reading }
 
   -- where a write failed, a front was written
   pub live_front : Stopped rules number (Heard a b) u v → Outputs u v (IsFrontOf rules number start.ahead)
-  live_front = front_ahead rules number start.ahead (Heard a b) u v answers_ahead
+  live_front stopped =
+      let (rest, is_next) = answers_ahead stopped.answers stopped.heard stopped.few in
+      Outputs-weaker (IsReportFront rules number stopped.answers) (IsFrontOf rules number start.ahead) u v stopped.text
+      (λ text is. record { answers = stopped.answers; rest = rest; next = is_next; goes_on = stopped.goes_on; is = is })
 
 -- ---- receivers side by side
 
@@ -156,9 +137,8 @@ module _ {L : Type 0} (known : L → Known Traffic) (rules : ReceiveOptions) (nu
   job_reported : IsDone after → Reported rules number (Heard (known before.link) (known after.link)) (text_known before.text) (text_known after.text) (clean_of after)
   job_reported done =
       let was : EndedAs known before after (Done (clean_of after)) = subst Was done.0 ended in
-      let raw : Reported (job_rules before) before.options.feed (Heard (known before.link) (known after.link)) (text_known before.text) (text_known after.text) (clean_of after) = was.ends in
       subst (λ n. Reported rules n (Heard (known before.link) (known after.link)) (text_known before.text) (text_known after.text) (clean_of after)) same_number
-      (subst (λ r. Reported r before.options.feed (Heard (known before.link) (known after.link)) (text_known before.text) (text_known after.text) (clean_of after)) same_rules raw)
+      (subst (λ r. Reported r before.options.feed (Heard (known before.link) (known after.link)) (text_known before.text) (text_known after.text) (clean_of after)) same_rules was.ends)
 
   -- and that is of what it has heard
   pub job_heard : IsDone after → (answers : List Answer) × IsReport rules number answers (text_of after) (clean_of after)
@@ -179,9 +159,8 @@ module _ {L : Type 0} (known : L → Known Traffic) (rules : ReceiveOptions) (nu
     pub job_breaks : is_failed after.ended ≡ true → BreaksOff rules start.ahead
     job_breaks failed =
         let was : EndedAs known before after LinkFailed = subst Was (failed_is after.ended failed) ended in
-        let raw : Broken (job_rules before) before.options.feed (Heard (known before.link) (known after.link)) (text_known before.text) (text_known after.text) = was.ends in
         live_breaks rules valid before.options.feed start (known before.link) (known after.link) (text_known before.text) (text_known after.text) told
-        (subst (λ r. Broken r before.options.feed (Heard (known before.link) (known after.link)) (text_known before.text) (text_known after.text)) same_rules raw)
+        (subst (λ r. Broken r before.options.feed (Heard (known before.link) (known after.link)) (text_known before.text) (text_known after.text)) same_rules was.ends)
 
 -- ---- all receivers
 

@@ -1,29 +1,22 @@
 -- Answers have one report.
 use Rattle.std.proofs.Common.{◌≡◌, ℕ, ◌++◌, List, Option, sym, ◌∙◌, ap, ap₂, subst}
-use Rattle.dcp_collect.specs.declared.taken.Taken.{Taken}
-use Rattle.dcp_collect.specs.State.{made, after_finish}
-use Rattle.dcp_collect.specs.Runs.{Item, Gives, Run, up_to}
-use Rattle.collect_laws.specs.Laws.{OneGiving}
+use Rattle.recv_reading.proofs.Common.{Taken, made, after_finish, Item, Gives, Run, up_to, datagrams}
 use Rattle.dcp_collect.proofs.Decoded.{one_decoding}
 use Rattle.collect_laws.proofs.Unique.{one_giving}
 use Rattle.drm_switches.specs.Tracker.{new_tracker}
 use Rattle.mod_feed.specs.Feeding.{Feeds}
 use Rattle.mod_feed.proofs.FeedingLemmas.{feeding_is_one}
-use Rattle.recv_reading.specs.Ending.{datagrams}
 use Rattle.report_lines.specs.Reports.{refusals, report, is_clean}
 use Rattle.mod_receiver.specs.OneReport.{IsOneReport}
 use Rattle.recv_reading.proofs.OneReading.{one_word}
 use Rattle.recv_reading.proofs.Reaching.{one_way}
-
-one_gift : OneGiving
-one_gift = one_giving one_decoding
 
 pub runs_same : (window : ℕ) (first told : Option ℕ) (ds : List (List ℕ)) (taken taken' : List Taken) (items items' : List Item)
     → Run window first told ds taken items → Run window first told ds taken' items' → (taken' ≡ taken) × (items' ≡ items)
 runs_same window first told ds taken taken' items items' r s =
     let (t, d, m) = one_way (made window first) r.mid s.mid ds taken taken' r.during s.during r.steps s.steps in
     let g : Gives (after_finish r.mid told) s.rest s.after = subst (λ c. Gives (after_finish c told) s.rest s.after) m s.gives in
-    let e : s.rest ≡ r.rest = (one_gift (after_finish r.mid told) r.after s.after r.rest s.rest r.gives g).0 in
+    let e : s.rest ≡ r.rest = (one_giving one_decoding (after_finish r.mid told) r.after s.after r.rest s.rest r.gives g).0 in
     (t, s.are ∙ ap₂ (λ xs ys. up_to told (xs ++ ys)) d e ∙ sym r.are)
 
 pub one_report : IsOneReport

@@ -1,22 +1,17 @@
 -- A whole report, and fronts of one.
 use Rattle.std.proofs.Common.{◌≡◌, ℕ, ◌≤◌, inl, inr, Bool, IsTrue, ◌↔◌, List, [], ◌++◌, refl, sym, subst, arith, append_assoc}
 use Rattle.circular_buffer.specs.Buffer.{keep_last}
-use Rattle.drm_links.specs.Told.{Known}
-use Rattle.drm_links.specs.Link.{Answer}
-use Rattle.drm_links.specs.Sink.{Output, Outputs, IsFront, IsFrontBehind}
+use Rattle.recv_reading.proofs.Common.{Known, Answer, Output, Outputs, IsFront, IsFrontBehind, Taken, made, datagrams}
+use Rattle.recv_reading.specs.declared.reason.EndWord.{EndWord}
+use Rattle.recv_reading.specs.declared.options.ReceiveOptions.{ReceiveOptions}
 use Rattle.drm_links.proofs.ToldLemmas.{Outputs-weaker}
 use Rattle.drm_links.proofs.WritingLemmas.{text_then, front_more, front_then, front_behind}
-use Rattle.dcp_collect.specs.declared.taken.Taken.{Taken}
-use Rattle.dcp_collect.specs.State.{made}
 use Rattle.drm_switches.specs.Tracker.{new_tracker}
 use Rattle.mod_feed.specs.Feeding.{FeedStep, Feeds}
-use Rattle.recv_reading.specs.declared.reason.EndWord.{EndWord}
 use Rattle.report_lines.specs.Report.{feed_line, end_line}
-use Rattle.recv_reading.specs.declared.options.ReceiveOptions.{ReceiveOptions}
 use Rattle.recv_reading.specs.declared.source.SourceFault.{SourceFault}
 use Rattle.mod_receiver.specs.declared.reading.ReceiveFault.{ReceiveFault}
 use Rattle.mod_receiver.specs.declared.reading.ReceiveFault.TheVariants as fault
-use Rattle.recv_reading.specs.Ending.{datagrams}
 use Rattle.report_lines.specs.Reports.{refusals, refused_text, steps_text, sums_of, report, is_clean}
 use Rattle.report_lines.specs.Tallies.{Tallied}
 use Rattle.mod_receiver.specs.Received.{IsReport, IsReportFront, Reported, Broken, Stopped}
@@ -29,11 +24,6 @@ use Rattle.report_lines.proofs.StepLemmas.{front_further}
 
 -- ---- all items were written
 
--- behind the first line
-pub behind_first : (options : ReceiveOptions) (feed : ℕ) (came : List Answer → Type 0) (a0 a b : Known Output) (t : Tallied) (word : EndWord) (w : WroteItems options came a b t word)
-    → Outputs a0 a (λ x. x ≡ feed_line feed) → Outputs a0 b (λ x. x ≡ feed_line feed ++ steps_text w.steps)
-behind_first options feed came a0 a b t word w first = text_then (feed_line feed) (steps_text w.steps) a0 a b first w.text
-
 -- the refusals that are shown are told of
 pub read_told : (options : ReceiveOptions) (came : List Answer → Type 0) (a b : Known Output) (t : Tallied) (word : EndWord) → WroteItems options came a b t word → AreTold t.refused
 read_told options came a b t word w =
@@ -43,10 +33,6 @@ read_told options came a b t word w =
 -- the text from the refusals on
 abbrev tail_of : List FeedStep → List Taken → EndWord → List ℕ
 tail_of steps taken word = refused_text (keep_last 16 (refusals taken)) ++ end_line word (sums_of steps (refusals taken))
-
-whole_is : (feed : ℕ) (steps : List FeedStep) (taken : List Taken) (word : EndWord)
-    → ((feed_line feed ++ steps_text steps) ++ tail_of steps taken word) ≡ report feed steps (refusals taken) word
-whole_is feed steps taken word = append_assoc (feed_line feed) (steps_text steps) (tail_of steps taken word)
 
 report_of : (rules : ReceiveOptions) (feed : ℕ) (hears : List Answer → Type 0) (a b : Known Output) (t : Tallied) (word : EndWord) (w : WroteItems rules hears a b t word)
     → IsReport rules feed w.answers (report feed w.steps (refusals w.taken) word) (is_clean w.steps)
@@ -76,8 +62,8 @@ reported rules some feed hears a0 a b d e t word clean first w refused last is =
       at_once = few_given rules w.answers some;
       whole = report feed w.steps (refusals w.taken) word;
       is = subst (λ b. IsReport rules feed w.answers (report feed w.steps (refusals w.taken) word) b) (sym (clean_is clean t w.steps w.taken is w.tally)) (report_of rules feed hears a b t word w);
-      text = subst (λ l. Outputs a0 e (λ x. x ≡ l)) (whole_is feed w.steps w.taken word)
-          (text_then (feed_line feed ++ steps_text w.steps) (tail_of w.steps w.taken word) a0 b e (behind_first rules feed hears a0 a b t word w first)
+      text = subst (λ l. Outputs a0 e (λ x. x ≡ l)) (append_assoc (feed_line feed) (steps_text w.steps) (tail_of w.steps w.taken word))
+          (text_then (feed_line feed ++ steps_text w.steps) (tail_of w.steps w.taken word) a0 b e (text_then (feed_line feed) (steps_text w.steps) a0 a b first w.text)
           (text_then (refused_text (keep_last 16 (refusals w.taken))) (end_line word (sums_of w.steps (refusals w.taken))) b d e refused' last'));
     }
 
@@ -94,13 +80,13 @@ front_of_whole rules some feed hears a0 a b e t word first w tail = record {
   at_once = few_given rules w.answers some;
   goes_on = w.reading.goes_on;
   text = Outputs-weaker (IsFrontBehind (feed_line feed ++ steps_text w.steps) (tail_of w.steps w.taken word)) (IsReportFront rules feed w.answers) a0 e
-      (front_behind (feed_line feed ++ steps_text w.steps) (tail_of w.steps w.taken word) a0 b e (behind_first rules feed hears a0 a b t word w first) tail)
+      (front_behind (feed_line feed ++ steps_text w.steps) (tail_of w.steps w.taken word) a0 b e (text_then (feed_line feed) (steps_text w.steps) a0 a b first w.text) tail)
       (λ x f. inr (inr (
         report feed w.steps (refusals w.taken) word,
         is_clean w.steps,
         report_of rules feed hears a b t word w,
         tail_of w.steps w.taken word,
-        sym (whole_is feed w.steps w.taken word),
+        sym (append_assoc (feed_line feed) (steps_text w.steps) (tail_of w.steps w.taken word)),
         f,
       )));
 }
@@ -128,8 +114,7 @@ first_front rules some feed hears a b none text = record {
   few = omega arith;
   at_once = few_given rules [] some;
   goes_on = goes_none rules;
-  text = Outputs-weaker (IsFront (feed_line feed)) (IsReportFront rules feed []) a b text
-      (λ x f. inl (refl, f));
+  text = Outputs-weaker (IsFront (feed_line feed)) (IsReportFront rules feed []) a b text (λ x f. inl (refl, f));
 }
 
 pub reading_front : (rules : ReceiveOptions) (some : 1 ≤ rules.window) (feed : ℕ) (hears : List Answer → Type 0) (a0 a b : Known Output) → Outputs a0 a (λ x. x ≡ feed_line feed) → ReadsFront rules hears a b → Stopped rules feed hears a0 b

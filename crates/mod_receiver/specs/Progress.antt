@@ -1,5 +1,5 @@
 -- How far a report has come.
-use Rattle.std.specs.Prelude.{ℕ, ◌≡◌, ◌+◌, ◌≤◌, List, [], ◌++◌, length, Result}
+use Rattle.std.specs.Prelude.{ℕ, ◌≡◌, ◌+◌, ◌≤◌, List, [], ◌++◌, length, Option, None, Some, Result}
 use Rattle.drm_links.specs.Told.{Known}
 use Rattle.drm_links.specs.Link.{Answer}
 use Rattle.drm_links.specs.Sink.{Output, Outputs, IsFrontBehind}
@@ -14,12 +14,10 @@ use Rattle.recv_reading.specs.declared.options.ReceiveOptions.{ReceiveOptions}
 use Rattle.recv_reading.specs.declared.reason.EndWord.{EndWord}
 use Rattle.recv_reading.specs.declared.source.SourceFault.{SourceFault}
 use Rattle.recv_reading.specs.Ending.{datagrams, Gave, GoesOn, IsFinished, IsBroken, most_answers}
-use Rattle.recv_reading.specs.State.{ReadingState}
-use Rattle.recv_reading.specs.Reached.{Reached}
 use Rattle.mod_receiver.specs.declared.reading.ReceiveFault.{ReceiveFault}
 use Rattle.mod_receiver.specs.declared.reading.ReceiveFault.TheVariants as fault
 use Rattle.report_lines.specs.Reports.{steps_text}
-use Rattle.report_lines.specs.Tallies.{Tallied, counted, items_in, tally_of}
+use Rattle.report_lines.specs.Tallies.{Tallied, counted, noted, items_in, tally_of}
 use Rattle.mod_receiver.specs.Received.{Stepped, Broken, Stopped}
 
 -- The lines of the earlier steps are written; those of the later ones are written behind them, or gathered.
@@ -27,23 +25,17 @@ abbrev pub AreOut : List FeedStep → List FeedStep → List ℕ → List ℕ �
 AreOut earlier later gathered text =
     (written : List ℕ) × (text ≡ steps_text earlier ++ written) × (written ++ gathered ≡ steps_text later)
 
--- The reading has come so far, each item was given to the feed and counted, and its lines are out or gathered. The earlier steps are
--- those of the items that were given before the last answer.
-pub record Progress (options : ReceiveOptions) (came : List Answer → Type 0) (a b : Known Output) (r : ReadingState) (c : State) (f : TrackerState) (t : Tallied) (gathered : List ℕ) : Type 0 where
-  pub answers : List Answer
-  pub heard : came answers
-  pub taken : List Taken
-  pub during : List Item
-  pub more : List Item
-  pub reached : Reached options answers taken during more r c
+-- Each item was given to the feed and counted, and its lines are out or gathered. The earlier steps are those of the items that were
+-- given before the last answer.
+pub record HasPrinted (a b : Known Output) (f : TrackerState) (t : Tallied) (gathered : List ℕ) (taken : List Taken) (during more : List Item) (c : State) : Type 0 where
   pub earlier : List FeedStep
   pub mid : TrackerState
   pub before : Feeds new_tracker during earlier mid
   pub later : List FeedStep
   pub since : Feeds mid more later f
-  pub calls : f.calls ≡ r.given
+  pub calls : f.calls ≡ c.next
   pub tally : t ≡ tally_of (earlier ++ later) taken
-  pub items : items_in t.sums ≡ r.given
+  pub items : items_in t.sums ≡ c.next
   pub quiet : more ≡ [] → gathered ≡ []
   pub text : Outputs a b (AreOut earlier later gathered)
 
@@ -57,6 +49,11 @@ pub record WritesNext {E : Type 0} (result : Result (Unit {0}) E) (c : State) (f
   pub calls : g.calls ≡ f.calls + 1
   pub tally : u ≡ counted t step.item
   pub puts : Puts result gathered more a b (step_text step)
+
+-- with what became of a datagram, if one came
+abbrev pub noted_if : Tallied → ℕ → Option Taken → Tallied
+noted_if tally number None = tally
+noted_if tally number (Some taken) = noted tally number taken
 
 -- The reading is finished, for this reason, and the lines of all items are written.
 pub record WroteItems (options : ReceiveOptions) (came : List Answer → Type 0) (a b : Known Output) (t : Tallied) (word : EndWord) : Type 0 where

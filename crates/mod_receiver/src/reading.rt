@@ -1,22 +1,21 @@
 //! Reading, and the report of what came.
 
-ghost use Rattle.std.specs.Prelude.{◌≡◌, [], true, Err, IfOk, IfErr, OnOk, IsErr};
+ghost use Rattle.std.specs.Prelude.{◌≡◌, ◌<◌, ◌^◌, [], true, Err, IfOk, IfErr, IsErr};
 ghost use Rattle.drm_links.specs.Told.{Counts, HasCause};
 ghost use Rattle.dcp_collect.specs.State.{made, ready, after_item};
 ghost use Rattle.drm_switches.specs.Tracker.{new_tracker};
 ghost use Rattle.recv_reading.specs.Options.{AreUsable, options_of};
-ghost use Rattle.recv_reading.specs.State.{new_reading, word_of};
 ghost use Rattle.mod_receiver.specs.Received.{Reported};
 ghost use Rattle.report_lines.specs.Tallies.{new_tally, items_in};
-ghost use Rattle.mod_receiver.specs.Progress.{WritesNext, WroteItems, StopsReading, StopsReport};
+ghost use Rattle.mod_receiver.specs.Progress.{WritesNext, noted_if, WroteItems, StopsReading, StopsReport};
 ghost use Rattle.mod_receiver.specs.Faults.{IsCallFailed};
 ghost use Rattle.mod_receiver.specs.declared.reading.ReceiveFault.{ReceiveFault};
 
-use dcp_collect::Collector;
+use dcp_collect::{Collector, Taken};
 use drm_bits::NoMemory;
 use drm_links::{Sink, WriteFault};
 use mod_feed::Feed;
-use recv_reading::{Bounds, Datagrams, Reading, SourceFault};
+use recv_reading::{Bounds, Datagrams, EndWord, Reading, SourceFault};
 use report_lines::{LineWriter, ReportCounts, write_feed};
 use std::alloc::Global;
 
@@ -89,25 +88,18 @@ pub(crate) fn write_report<F, R: Datagrams<F>, O: Sink>(
     let mut tally = ReportCounts::new(alloc)?;
     let mut lines = LineWriter::make(alloc)?;
     write_feed(out, number)?;
-    let mut reading = Reading::new(bounds);
-    read_all(
-        &mut reading,
-        collector,
-        feed,
-        &mut tally,
-        &mut lines,
-        room,
-        from,
-        out,
+    let word = read_all(
+        bounds, collector, feed, &mut tally, &mut lines, room, from, out,
     )?;
     tally.write_refused(out)?;
-    tally.write_end(out, reading.word())?;
+    tally.write_end(out, word)?;
     Ok(tally.is_clean())
 }
 
-// Reads until no more is read. Each item is given to the feed, counted, and its lines are written before the next answer is asked for.
+// Reads until no more is read, and answers why. Each item is given to the feed, counted, and its lines are written before the next
+// answer is asked for.
 fn read_all<F, R: Datagrams<F>, O: Sink>(
-    reading: &mut Reading,
+    bounds: Bounds,
     collector: &mut Collector,
     feed: &mut Feed,
     tally: &mut ReportCounts,
@@ -115,22 +107,22 @@ fn read_all<F, R: Datagrams<F>, O: Sink>(
     room: &mut R,
     from: &mut F,
     out: &mut O,
-) -> Result<(), ReceiveFault>
-    requires options { AreUsable (options_of collector.old reading.old.bounds) }
-    requires reading { reading.old ≡ new_reading reading.old.bounds }
+) -> Result<EndWord, ReceiveFault>
+    requires options { AreUsable (options_of collector.old bounds) }
     requires collector { collector.old ≡ made collector.old.window collector.old.first }
     requires feed { feed.old ≡ new_tracker }
     requires tally { tally.old ≡ new_tally }
     requires lines { lines.old ≡ [] }
     requires room { R.is_ready room.old }
     requires nothing_came { R.so_far from.old room.old from.old [] }
-    ensures finished { OnOk result (WroteItems (options_of collector.old reading.old.bounds) (R.so_far from.old room.new from.new) (O.known out.old) (O.known out.new)
-        tally.new (word_of reading.new.end)) }
-    ensures stopped { IfErr result (StopsReading (options_of collector.old reading.old.bounds) (R.so_far from.old room.new from.new)
+    ensures finished { IfOk result (WroteItems (options_of collector.old bounds) (R.so_far from.old room.new from.new) (O.known out.old) (O.known out.new)
+        tally.new) }
+    ensures stopped { IfErr result (StopsReading (options_of collector.old bounds) (R.so_far from.old room.new from.new)
         (λ fault. R.until from.old fault from.new) (O.known out.old) (O.known out.new)) }
     ensures source { Counts (R.faults from.old) (R.faults from.new) (IsCallFailed result) }
     ensures write { HasCause (O.known out.old) (O.known out.new) (result ≡ Err ReceiveFault.Write) }
 {
+    let mut reading = Reading::new(bounds);
     'answers: loop {
         if reading.gives(collector) {
             write_next(collector, feed, tally, lines, out)?;
@@ -138,12 +130,21 @@ fn read_all<F, R: Datagrams<F>, O: Sink>(
         }
         lines.flush(out)?;
         if reading.has_ended() {
-            return Ok(());
+            return Ok(reading.word());
         }
         let number = reading.taken();
-        if let Some(taken) = reading.read_on(collector, room, from)? {
-            tally.note(number, taken);
-        }
+        let taken = reading.read_on(collector, room, from)?;
+        note(tally, number, taken);
+    }
+}
+
+// Notes what was answered to the datagram with this number, if one came.
+fn note(tally: &mut ReportCounts, number: u64, taken: Option<Taken>)
+    requires { tally.old.sums.refused < 2 ^ 62 }
+    ensures { tally.new ≡ noted_if tally.old number taken }
+{
+    if let Some(taken) = taken {
+        tally.note(number, taken);
     }
 }
 

@@ -2,15 +2,12 @@
 use Rattle.std.proofs.Common.{◌≡◌, ℕ, zero, suc, ◌+◌, ◌≤◌, ◌⊎◌, inl, inr, List, [], ◌∷◌, ◌++◌, length, take, Option, refl, ◌∙◌, ap, subst, arith, length-append, add-one}
 use Rattle.std.proofs.lemmas.List.{append-nil}
 use Rattle.std.proofs.lemmas.List.Elements.{filter_map-append}
-use Rattle.drm_links.specs.Link.{Answer, Datagram, Idle, Failed, End, datagram_of}
-use Rattle.dcp_collect.specs.declared.taken.Taken.{Taken}
-use Rattle.dcp_collect.specs.State.{State, made}
-use Rattle.dcp_collect.specs.Runs.{Item, Steps}
+use Rattle.recv_reading.proofs.Common.{Answer, Datagram, Idle, Failed, End, datagram_of, Taken, State, made, Item, Steps}
+use Rattle.recv_reading.proofs.Common.{ReceiveOptions, datagrams}
 use Rattle.collect_laws.specs.Laws.{most_at_once}
 use Rattle.collect_laws.proofs.AtOnce.{few_at_once}
 use Rattle.collect_laws.proofs.Runs.{steps_part}
-use Rattle.recv_reading.specs.declared.options.ReceiveOptions.{ReceiveOptions}
-use Rattle.recv_reading.specs.Ending.{datagrams, GaveItems, FewAtOnce}
+use Rattle.recv_reading.specs.Ending.{GaveItems, FewAtOnce}
 use Rattle.recv_reading.proofs.Reaching.{one_way}
 
 -- one datagram

@@ -3,9 +3,7 @@ use Rattle.std.proofs.Common.{ℕ, ◌≡◌, ◌+◌, inl, inr, List, [], ◌�
 use Rattle.std.specs.List.{concat}
 use Rattle.std.proofs.Math.Seq.{take-append_seam}
 use Rattle.std.proofs.lemmas.List.{append-nil}
-use Rattle.dcp_collect.specs.Runs.{Item}
-use Rattle.drm_links.specs.Told.{Known}
-use Rattle.drm_links.specs.Source.{Input, Inputs}
+use Rattle.recv_reading.proofs.Common.{Item, Known, Input, Inputs}
 use Rattle.drm_links.proofs.ToldLemmas.{Inputs-weaker}
 use Rattle.drm_capture.specs.Capture.{IsCaptureOf, Ending, End}
 use Rattle.drm_capture.specs.Laws.{ReadOneWay}
@@ -15,7 +13,7 @@ use Rattle.recv_reading.specs.Packets.{Terms, HasEnough, NoneShorter, AreEnough,
 use Rattle.recv_reading.specs.Given.{GivesAll, GivesUntil}
 
 -- fewer packets than these aren't enough, nor are these
-none_in_front : (terms : Terms) (packets others rest : List (List ℕ)) → NoneShorter terms others → (HasEnough terms others → ⊥) → others ≡ packets ++ rest → HasEnough terms packets → ⊥
+pub none_in_front : (terms : Terms) (packets others rest : List (List ℕ)) → NoneShorter terms others → (HasEnough terms others → ⊥) → others ≡ packets ++ rest → HasEnough terms packets → ⊥
 none_in_front terms packets others [] shorter lacks is enough = lacks (subst (HasEnough terms) (sym (is ∙ append-nil packets)) enough)
 none_in_front terms packets others (x ∷ rest) shorter lacks is enough =
     let long : length others ≡ length packets + length (x ∷ rest) = ap length is ∙ length-append packets (x ∷ rest) in

@@ -3,27 +3,24 @@ use Rattle.std.proofs.Common.{◌≡◌, ℕ, ◌+◌, ◌^◌, ◌<◌, ◌≤�
 use Rattle.std.proofs.lemmas.Bool.{true≢false}
 use Rattle.std.proofs.lemmas.Bool.Decides.{nat_tests}
 use Rattle.std.proofs.lemmas.List.{append-nil, take_all, take_at}
-use Rattle.drm_links.specs.Link.{Answer, Datagram}
-use Rattle.dcp_collect.specs.declared.taken.Taken.{Taken}
-use Rattle.dcp_collect.specs.State.{State, made, ready, after_finish}
-use Rattle.dcp_collect.specs.Runs.{Item, Gives, Run, up_to}
+use Rattle.recv_reading.proofs.Common.{Answer, Datagram, Taken, State, made, ready, after_finish, Item, Gives, Run, up_to, IsFit}
+use Rattle.recv_reading.proofs.Common.{Given, ReceiveOptions, EndWord, datagrams, Gave, HasGiven, IsFinished, ReadingState}
+use Rattle.recv_reading.proofs.Common.{is_full, has_enough, has_ended, word_of, Reached, Waits}
 use Rattle.dcp_collect.proofs.Decoded.{decoded_or_none}
-use Rattle.collect_laws.specs.Laws.{IsFit, GivingEnds, Given}
+use Rattle.collect_laws.specs.Laws.{GivingEnds}
 use Rattle.collect_laws.proofs.Ending.{giving_ends}
 use Rattle.collect_laws.proofs.Runs.{gives_after, gives_given}
 use Rattle.collect_laws.proofs.Fit.{fit_given}
-use Rattle.recv_reading.specs.declared.options.ReceiveOptions.{ReceiveOptions}
-use Rattle.recv_reading.specs.declared.options.Bounds.{Bounds}
-use Rattle.recv_reading.specs.declared.reason.EndWord.{EndWord}
 use Rattle.recv_reading.specs.declared.reason.EndWord.TheVariants as word
-use Rattle.recv_reading.specs.Ending.{datagrams, Gave, HasGiven, IsFinished, ComesTo, GivesSome}
-use Rattle.recv_reading.specs.State.{ReadingState, is_full, has_enough, has_ended, ended_or, one_given, word_of}
-use Rattle.recv_reading.specs.Reached.{IsDrained, IsAmid, IsEnding, Comes, Reached, Waits, GivesNext}
+use Rattle.recv_reading.specs.Ending.{ComesTo, GivesSome}
+use Rattle.recv_reading.specs.State.{ended_or, one_given}
+use Rattle.recv_reading.specs.Reached.{IsDrained, IsAmid, IsEnding, Comes, GivesNext}
 use Rattle.recv_reading.proofs.First.{given_first}
-use Rattle.recv_reading.proofs.Giving.{gave_datagram, steps_many}
+use Rattle.recv_reading.proofs.Giving.{steps_many}
+use Rattle.recv_reading.proofs.Reaching.{amid_gave, full_is}
 use Rattle.recv_reading.proofs.Going.{datagrams_more}
 
-giving : GivingEnds
+pub giving : GivingEnds
 giving = giving_ends decoded_or_none
 
 -- ---- up to the number of frames
@@ -99,7 +96,7 @@ module _ (options : ReceiveOptions) (answers : List Answer) (taken : List Taken)
   below = subst (λ k. IfSome options.frames (λ n. k ≤ n)) (sym z.given_are) z.below
 
   full_of : has_enough r ≡ true → is_full options.frames (length items) ≡ true
-  full_of h = ap (is_full options.frames) z.given_are ∙ ap (λ (o : Bounds). is_full o.frames r.given) (sym z.bounds_are) ∙ h
+  full_of h = full_is options answers taken during more r c z ∙ h
 
   -- what is left is given to its end, and it is no more than is asked for
   left : IsOver r c → (rest : List Item) × (last : State) × Gives c rest last × (up_to options.frames (items ++ rest) ≡ items)
@@ -133,10 +130,8 @@ module _ (options : ReceiveOptions) (answers : List Answer) (taken : List Taken)
       let fits : IsFit end = fit_given rest c end others.2 z.fit in
       let last = giving (after_finish end options.frames) fits.0 fits.1 in
       let gave : Gave options answers taken (items ++ rest) end =
-      subst (λ l. Gave options l taken (items ++ rest) end) (sym a.are)
-      (subst (λ l. Gave options (a.before ++ Datagram a.bytes ∷ []) l (items ++ rest) end) (sym a.taken_are)
-      (subst (λ l. Gave options (a.before ++ Datagram a.bytes ∷ []) (a.earlier ++ a.answer ∷ []) l end) (sym (append_assoc during more rest))
-      (gave_datagram options a.before a.earlier during (more ++ rest) a.mid a.kept end a.bytes a.answer a.drained.gave a.takes (gives_after more rest a.kept c end a.gives others.2)))) in
+      subst (λ l. Gave options answers taken l end) (sym (append_assoc during more rest))
+      (amid_gave options answers taken during more (more ++ rest) c end a (gives_after more rest a.kept c end a.gives others.2)) in
       record {
         reading = record {
           goes_on = z.goes_on;
@@ -187,12 +182,12 @@ module _ (options : ReceiveOptions) (answers : List Answer) (taken : List Taken)
 
   -- ---- how far it came
 
-  -- where nothing was given since the last answer, or some of what it made ready
-  stands_or : (more ≡ []) ⊎ Stands options answers during more c
+  -- where nothing was given since the last answer and none is ready, or some of what it made ready was
+  stands_or : ((more ≡ []) × (ready c ≡ false)) ⊎ Stands options answers during more c
   stands_or = by r.end z.comes
     where
-      by : (end : Option EndWord) → Comes options answers taken during more end c → (more ≡ []) ⊎ Stands options answers during more c
-      by None (goes, inl (none, d)) = inl none
+      by : (end : Option EndWord) → Comes options answers taken during more end c → ((more ≡ []) × (ready c ≡ false)) ⊎ Stands options answers during more c
+      by None (goes, inl (none, d)) = inl (none, d.none_ready)
       by None (goes, inr a) = inr (record {
         before = a.before;
         later = Datagram a.bytes ∷ [];
@@ -218,32 +213,10 @@ module _ (options : ReceiveOptions) (answers : List Answer) (taken : List Taken)
 
   -- where an item is ready
   pub stands : ready c ≡ true → Stands options answers during more c
-  stands now = by r.end z.comes
-    where
-      by : (end : Option EndWord) → Comes options answers taken during more end c → Stands options answers during more c
-      by None (goes, inl (none, d)) = absurd (true≢false (sym now ∙ d.none_ready))
-      by None (goes, inr a) = record {
-        before = a.before;
-        later = Datagram a.bytes ∷ [];
-        are = a.are;
-        taken = a.earlier;
-        mid = a.mid;
-        gave = a.drained.gave;
-        state = a.kept;
-        comes = inl (a.bytes, a.answer, refl, a.takes);
-        gives = a.gives;
-      }
-      by (Some why) e = record {
-        before = answers;
-        later = [];
-        are = sym (append-nil answers);
-        taken = taken;
-        mid = e.mid;
-        gave = e.drained.gave;
-        state = after_finish e.mid options.frames;
-        comes = inr (why, refl, e.ends, refl);
-        gives = e.gives;
-      }
+  stands now = elim stands_or [
+    | inl nothing ↦ absurd (true≢false (sym now ∙ nothing.1))
+    | inr s ↦ s
+  ]
 
   same_during : up_to options.frames during ≡ during
   same_during = up_to_all options.frames during (during_below options.frames below)
@@ -251,7 +224,7 @@ module _ (options : ReceiveOptions) (answers : List Answer) (taken : List Taken)
   -- What was given so far: nothing since the last answer, or some of what it made ready.
   pub gives_some : (more ≡ []) ⊎ ((s : GivesSome options answers items) × (up_to options.frames s.during ≡ during))
   gives_some = elim stands_or [
-    | inl none ↦ inl none
+    | inl nothing ↦ inl nothing.0
     | inr s ↦ inr (
       record {
         before = s.before;

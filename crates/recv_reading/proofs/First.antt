@@ -1,15 +1,11 @@
 -- What is known of the first sequence number stays.
-use Rattle.std.proofs.Common.{◌≡◌, ℕ, List, [], ◌∷◌, Option, None, Some, sym, subst, ap, refl}
-use Rattle.std.specs.Prelude.{IfSome, unwrap_or, ◌==◌, not}
-use Rattle.std.specs.List.{filter}
-use Rattle.dcp_collect.specs.declared.taken.Taken.{Taken}
-use Rattle.dcp_collect.specs.Fragments.{Fragment}
+use Rattle.std.proofs.Common.{◌≡◌, ℕ, true, List, [], ◌∷◌, Option, None, Some, sym, subst, ap, refl, IfSome, unwrap_or, ◌==◌, not, filter}
+use Rattle.recv_reading.proofs.Common.{Taken, State, after_item, Item, Packet, IsItem, Takes, Given, MayBeFirst, KnowsFirst}
+use Rattle.recv_reading.proofs.Common.{first_of}
+use Rattle.dcp_collect.specs.Fragments.{Fragment, suffice, of_packet}
 use Rattle.dcp_collect.specs.Reading.{Incoming, Read, Unread, Brings}
-use Rattle.dcp_collect.specs.State.{State, after_take, after_item, answer, number_of}
-use Rattle.dcp_collect.specs.Runs.{Item, Takes}
-use Rattle.collect_laws.specs.Laws.{Given}
+use Rattle.dcp_collect.specs.State.{after_take, answer, number_of}
 use Rattle.collect_laws.proofs.Stays.{after_by, first_stays}
-use Rattle.recv_reading.specs.First.{MayBeFirst, KnowsFirst, first_of}
 
 may_by : (c : State) (incoming : Incoming) (n : ℕ) (o : Option ℕ) → c.first ≡ o → (first : ℕ) → MayBeFirst (after_take c (Brings incoming)) first → MayBeFirst c first
 may_by c incoming n None is first may = subst (λ (v : Option ℕ). IfSome v (λ m. m ≡ first)) (sym is) tt
@@ -49,3 +45,17 @@ self_by (Some n) = refl
 
 pub first_itself : (c : State) → MayBeFirst c (first_of c)
 first_itself c = self_by c.first
+
+no_packet : (n : ℕ) (kept : List Fragment) → kept ≡ [] → suffice (of_packet n kept) ≡ true → ⊥
+no_packet n kept none is =
+    let P : List Fragment → Type 0 = λ l. suffice (of_packet n l) ≡ true in
+    let clash : suffice (of_packet n []) ≡ true = subst P none is in
+    cc
+
+number_is : (o : Option ℕ) (n first : ℕ) (kept : List Fragment) → ((o ≡ None) → kept ≡ []) → suffice (of_packet n kept) ≡ true → IfSome o (λ m. m ≡ first) → unwrap_or o 0 ≡ first
+number_is None n first kept knows is may = absurd (no_packet n kept (knows refl) is)
+number_is (Some m) n first kept knows is may = may
+
+-- where a packet is given, the number that the code takes is the one that may be
+pub packet_first : (c : State) (q : ℕ) (bytes : List ℕ) (first : ℕ) → KnowsFirst c → IsItem c (Packet q bytes) → MayBeFirst c first → first_of c ≡ first
+packet_first c q bytes first knows is may = number_is c.first c.next first c.kept knows is.1 may

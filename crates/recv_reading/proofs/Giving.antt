@@ -1,15 +1,11 @@
 -- A collector's steps over the answers of a link.
-use Rattle.std.proofs.Common.{◌≡◌, ℕ, ◌<◌, false, List, [], ◌∷◌, ◌++◌, length, Option, None, Some, refl, sym, ◌∙◌, ap, subst, arith}
+use Rattle.std.proofs.Common.{◌≡◌, ℕ, ◌<◌, List, [], ◌∷◌, ◌++◌, length, Option, None, Some, refl, sym, ◌∙◌, ap, subst, arith}
 use Rattle.std.proofs.lemmas.List.{append-nil}
 use Rattle.std.proofs.lemmas.List.Elements.{filter_map-append}
-use Rattle.drm_links.specs.Link.{Answer, Datagram, Idle, End, datagram_of}
-use Rattle.dcp_collect.specs.declared.taken.Taken.{Taken}
-use Rattle.dcp_collect.specs.State.{State, made, ready}
-use Rattle.dcp_collect.specs.Runs.{Item, Takes, Gives, Steps}
+use Rattle.recv_reading.proofs.Common.{Answer, Datagram, Idle, End, datagram_of, Taken, State, made, Item, Takes, Gives, Steps}
+use Rattle.recv_reading.proofs.Common.{ReceiveOptions, datagrams, Gave, HasGiven}
 use Rattle.collect_laws.specs.Laws.{OneRun}
-use Rattle.collect_laws.proofs.Runs.{steps_more, gives_given}
-use Rattle.recv_reading.specs.declared.options.ReceiveOptions.{ReceiveOptions}
-use Rattle.recv_reading.specs.Ending.{datagrams, Gave, HasGiven}
+use Rattle.collect_laws.proofs.Runs.{steps_more}
 
 pub gave_none : (rules : ReceiveOptions) → Gave rules [] [] [] (made rules.window rules.first)
 gave_none rules = (refl, refl)
@@ -28,9 +24,6 @@ gave_idle rules xs taken items c gave =
 pub gave_end : (rules : ReceiveOptions) (xs : List Answer) (taken : List Taken) (items : List Item) (c : State) → Gave rules xs taken items c → Gave rules (xs ++ End ∷ []) taken items c
 gave_end rules xs taken items c gave =
     subst (λ v. Steps (made rules.window rules.first) v taken items c) (sym (filter_map-append datagram_of xs (End ∷ []) ∙ append-nil (datagrams xs))) gave
-
-pub gives_ready : (items : List Item) (c d : State) → Gives c items d → ready d ≡ false
-gives_ready items c d g = (gives_given items c d g).1
 
 pub none_given : (rules : ReceiveOptions) (answers : List Answer) (told : Option ℕ) (taken : List Taken) (items : List Item) (c : State) → OneRun
     → Gave rules answers taken items c → ((n : ℕ) → told ≡ Some n → length items < n) → HasGiven rules answers told → ⊥

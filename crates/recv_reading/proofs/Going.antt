@@ -47,26 +47,13 @@ datagrams_more xs bytes = ap length (filter_map-append datagram_of xs (Datagram 
 pub datagrams_idle : (xs : List Answer) → length (datagrams (xs ++ Idle ∷ [])) ≡ length (datagrams xs)
 datagrams_idle xs = ap length (filter_map-append datagram_of xs (Idle ∷ []) ∙ append-nil (datagrams xs))
 
-pub idles_datagram : (n : ℕ) (xs : List Answer) (bytes : List ℕ) → idles_from n (xs ++ Datagram bytes ∷ []) ≡ 0
-idles_datagram n [] bytes = refl
-idles_datagram n (Datagram b ∷ xs) bytes = idles_datagram 0 xs bytes
-idles_datagram n (Idle ∷ xs) bytes = idles_datagram (n + 1) xs bytes
-idles_datagram n (Failed ∷ xs) bytes = idles_datagram 0 xs bytes
-idles_datagram n (End ∷ xs) bytes = idles_datagram 0 xs bytes
-
-pub idles_idle : (n : ℕ) (xs : List Answer) → idles_from n (xs ++ Idle ∷ []) ≡ idles_from n xs + 1
-idles_idle n [] = refl
-idles_idle n (Datagram b ∷ xs) = idles_idle 0 xs
-idles_idle n (Idle ∷ xs) = idles_idle (n + 1) xs
-idles_idle n (Failed ∷ xs) = idles_idle 0 xs
-idles_idle n (End ∷ xs) = idles_idle 0 xs
-
-pub idles_end : (n : ℕ) (xs : List Answer) → idles_from n (xs ++ End ∷ []) ≡ 0
-idles_end n [] = refl
-idles_end n (Datagram b ∷ xs) = idles_end 0 xs
-idles_end n (Idle ∷ xs) = idles_end (n + 1) xs
-idles_end n (Failed ∷ xs) = idles_end 0 xs
-idles_end n (End ∷ xs) = idles_end 0 xs
+-- the idle answers behind one answer more
+pub idles_more : (n : ℕ) (xs : List Answer) (x : Answer) → idles_from n (xs ++ x ∷ []) ≡ idles_from (idles_from n xs) (x ∷ [])
+idles_more n [] x = refl
+idles_more n (Datagram b ∷ xs) x = idles_more 0 xs x
+idles_more n (Idle ∷ xs) x = idles_more (n + 1) xs x
+idles_more n (Failed ∷ xs) x = idles_more 0 xs x
+idles_more n (End ∷ xs) x = idles_more 0 xs x
 
 pub datagrams_end : (xs : List Answer) → datagrams (xs ++ End ∷ []) ≡ datagrams xs
 datagrams_end xs = filter_map-append datagram_of xs (End ∷ []) ∙ append-nil (datagrams xs)
@@ -96,15 +83,6 @@ pub one_turn : (size taken idles idle : ℕ) → size ≤ taken * idle + idles +
 one_turn size taken idles idle h l =
     let e : (taken + 1) * idle ≡ taken * idle + idle = rw add-one (suc-mul taken idle) in
     omega (arith, h, l, e)
-
-pub short_enough : (rules : ReceiveOptions) (size taken : ℕ) → taken < rules.limit → size ≤ (taken + 1) * rules.idle → size ≤ most_answers rules
-short_enough rules size taken more few =
-    let m : (taken + 1) * rules.idle ≤ rules.limit * rules.idle = mul-le-mul_right rules.idle (omega (arith, more)) in
-    omega (arith, m, few)
-
--- an answer more was heard
-abbrev pub HearsMore : (List Answer → Type 0) → (List Answer → Type 0) → Answer → Type 0
-HearsMore hears hears' answer = (answers : List Answer) → hears answers → hears' (answers ++ answer ∷ [])
 
 -- rules in their range read few answers
 pub few_answers : (rules : ReceiveOptions) → AreInRange rules → most_answers rules ≤ 2 ^ 62

@@ -1,6 +1,5 @@
 -- How much a collector keeps.
-use Rattle.std.proofs.Common.{◌≡◌, ℕ, ◌+◌, ◌≤◌, Bool, true, false, cond, List, [], ◌∷◌, ◌++◌, length, sym, subst, refl, arith}
-use Rattle.std.specs.Prelude.{◌==◌, not}
+use Rattle.std.proofs.Common.{◌≡◌, ℕ, ◌+◌, ◌≤◌, Bool, true, false, cond, List, [], ◌∷◌, ◌++◌, length, sym, subst, refl, arith, ◌==◌, not}
 use Rattle.std.proofs.lemmas.List.Filters.{length-filter_both}
 use Rattle.dcp_collect.specs.declared.taken.Taken.{Taken}
 use Rattle.dcp_collect.specs.Fragments.{Fragment, suffice, of_packet}
@@ -45,9 +44,8 @@ some_suffice (f ∷ fs) is = omega arith
 -- a packet that is given had a datagram that was kept
 pub packet_kept : (c : State) (q : ℕ) (bytes : List ℕ) → IsItem c (Packet q bytes) → length (after_item c).kept + 1 ≤ length c.kept
 packet_kept c q bytes is =
-    let e = dropped c in
     let some = some_suffice (of_packet c.next c.kept) is.1 in
-    omega (arith, e, some)
+    omega (arith, dropped c, some)
 
 -- ---- how many packets are given
 
@@ -74,6 +72,4 @@ kept_one c (Damaged q) is = let e = fewer_kept c in omega (arith, e)
 -- no more packets are given, or may be, than datagrams were taken
 pub few_given : (items : List Item) (item : Item) (c : State) (taken : ℕ) → packets_in items + length c.kept ≤ taken → IsItem c item → packets_in (items ++ item ∷ []) + length (after_item c).kept ≤ taken
 few_given items item c taken few is =
-    let more = packets_more items item in
-    let one = kept_one c item is in
-    omega (arith, few, more, one)
+    omega (arith, few, packets_more items item, kept_one c item is)

@@ -1,4 +1,5 @@
 pub mod Going
+pub mod Common
 pub mod Giving
 pub mod AtOnce
 pub mod Reaching
@@ -10,3 +11,4 @@ pub mod First
 pub mod Kept
 pub mod OneReading
 pub mod Ways
+pub mod Looping

@@ -2,12 +2,10 @@
 use Rattle.std.proofs.Common.{◌≡◌, ℕ, zero, suc, ◌+◌, ◌<◌, ◌≤◌, ◌⊎◌, inl, inr, List, [], ◌∷◌, ◌++◌, length, take, drop, None, Some, refl, sym, ◌∙◌, ap, subst, arith, length-append}
 use Rattle.std.specs.List.{AllByRecursion}
 use Rattle.std.proofs.lemmas.List.{take_all}
-use Rattle.drm_links.specs.Link.{Answer, Failed}
+use Rattle.recv_reading.proofs.Common.{Answer, Failed, EndWord, ReceiveOptions, EndsBy, GoesOn, IsFinished, IsBroken}
 use Rattle.drm_links.specs.Hearing.{AreNext}
-use Rattle.recv_reading.specs.declared.reason.EndWord.{EndWord}
 use Rattle.recv_reading.specs.declared.reason.EndWord.TheVariants as word
-use Rattle.recv_reading.specs.declared.options.ReceiveOptions.{ReceiveOptions}
-use Rattle.recv_reading.specs.Ending.{Holds, EndsBy, IsSound, GoesOn, IsFinished, IsBroken}
+use Rattle.recv_reading.specs.Ending.{Holds, IsSound}
 use Rattle.recv_reading.specs.OneReading.{IsOneReading}
 
 pub next_front : (ahead r s : List Answer) (xs ys : List Answer) → AreNext ahead xs r → AreNext ahead ys s → length xs ≤ length ys → xs ≡ take (length xs) ys
@@ -37,15 +35,21 @@ three m n = grind arith
 pub same_answers : (ahead r s : List Answer) (xs ys : List Answer) → AreNext ahead xs r → AreNext ahead ys s → length xs ≡ length ys → xs ≡ ys
 same_answers ahead r s xs ys p q e = next_front ahead r s xs ys p q (omega (arith, e)) ∙ take_all (length xs) ys (omega (arith, e))
 
-finished_same : (rules : ReceiveOptions) (ahead r s : List Answer) (xs ys : List Answer) (v w : EndWord) → AreNext ahead xs r → AreNext ahead ys s → IsFinished rules xs v → IsFinished rules ys w → ys ≡ xs
-finished_same rules ahead r s xs ys v w p q f g =
+-- two of which neither is shorter
+pub same_next : (ahead r s : List Answer) (xs ys : List Answer) → AreNext ahead xs r → AreNext ahead ys s → (length xs < length ys → ⊥) → (length ys < length xs → ⊥) → xs ≡ ys
+same_next ahead r s xs ys p q not other =
     elim (three (length xs) (length ys)) [
-      | inl l ↦ absurd (not_shorter rules ahead r s xs ys v p q (ends_hold rules xs v f.ends) g.goes_on l)
-      | inr h ↦ elim h [
-        | inl l ↦ absurd (not_shorter rules ahead s r ys xs w q p (ends_hold rules ys w g.ends) f.goes_on l)
-        | inr e ↦ sym (same_answers ahead r s xs ys p q e)
+      | inl less ↦ absurd (not less)
+      | inr rest ↦ elim rest [
+        | inl more ↦ absurd (other more)
+        | inr same ↦ same_answers ahead r s xs ys p q same
       ]
     ]
+
+finished_same : (rules : ReceiveOptions) (ahead r s : List Answer) (xs ys : List Answer) (v w : EndWord) → AreNext ahead xs r → AreNext ahead ys s → IsFinished rules xs v → IsFinished rules ys w → ys ≡ xs
+finished_same rules ahead r s xs ys v w p q f g =
+    sym (same_next ahead r s xs ys p q (not_shorter rules ahead r s xs ys v p q (ends_hold rules xs v f.ends) g.goes_on)
+    (not_shorter rules ahead s r ys xs w q p (ends_hold rules ys w g.ends) f.goes_on))
 
 pub one_word : (rules : ReceiveOptions) (xs : List Answer) (v w : EndWord) → EndsBy rules xs v → EndsBy rules xs w → w ≡ v
 one_word rules xs word.Frames word.Frames e f = refl
@@ -64,10 +68,7 @@ one_word rules xs word.Input word.Frames e f = absurd (e.1 f)
 one_word rules xs word.Input word.Limit e f = absurd (e.2 f.0)
 one_word rules xs word.Input word.Idle e f = absurd (e.3 f.0)
 one_word rules xs word.Input word.Input e f = refl
-one_word rules xs word.Frames word.Paths e f = absurd f
-one_word rules xs word.Limit word.Paths e f = absurd f
-one_word rules xs word.Idle word.Paths e f = absurd f
-one_word rules xs word.Input word.Paths e f = absurd f
+one_word rules xs v word.Paths e f = absurd f
 one_word rules xs word.Paths w e f = absurd e
 
 pub next_split : (ahead s : List Answer) (xs ys : List Answer) → AreNext ahead (xs ++ ys) s → (mid : List Answer) × AreNext ahead xs mid
@@ -95,15 +96,9 @@ pub finished_whole : (rules : ReceiveOptions) (ahead r s : List Answer) (xs befo
 finished_whole rules ahead r s xs before ys w p q f b =
     let q' : AreNext ahead (before ++ Failed ∷ []) s = subst (λ zs. AreNext ahead zs s) b.last q in
     let half = next_split ahead s before (Failed ∷ []) q' in
-    elim (three (length xs) (length before)) [
-      | inl l ↦ not_shorter rules ahead r half.0 xs before w p half.1 (ends_hold rules xs w f.ends) b.goes_on l
-      | inr h ↦ elim h [
-        | inl l ↦ goes_past rules ahead r s xs before p q' f.goes_on l
-        | inr e ↦
-            let same : xs ≡ before = same_answers ahead r half.0 xs before p half.1 e in
-            b.is_open w (subst (λ zs. Holds rules zs w) same (ends_hold rules xs w f.ends))
-      ]
-    ]
+    let same : xs ≡ before =
+    same_next ahead r half.0 xs before p half.1 (not_shorter rules ahead r half.0 xs before w p half.1 (ends_hold rules xs w f.ends) b.goes_on) (goes_past rules ahead r s xs before p q' f.goes_on) in
+    b.is_open w (subst (λ zs. Holds rules zs w) same (ends_hold rules xs w f.ends))
 
 -- two that break off are one
 pub broken_same : (rules : ReceiveOptions) (ahead r s : List Answer) (before xs before' ys : List Answer) → AreNext ahead xs r → AreNext ahead ys s → IsBroken rules before xs → IsBroken rules before' ys → ys ≡ xs
@@ -112,13 +107,9 @@ broken_same rules ahead r s before xs before' ys p q b d =
     let q' : AreNext ahead (before' ++ Failed ∷ []) s = subst (λ zs. AreNext ahead zs s) d.last q in
     let half = next_split ahead r before (Failed ∷ []) p' in
     let half' = next_split ahead s before' (Failed ∷ []) q' in
-    elim (three (length before) (length before')) [
-      | inl l ↦ absurd (goes_past rules ahead half'.0 r before' before half'.1 p' d.goes_on l)
-      | inr h ↦ elim h [
-        | inl l ↦ absurd (goes_past rules ahead half.0 s before before' half.1 q' b.goes_on l)
-        | inr e ↦ d.last ∙ ap (λ l. l ++ Failed ∷ []) (sym (same_answers ahead half.0 half'.0 before before' half.1 half'.1 e)) ∙ sym b.last
-      ]
-    ]
+    let same : before ≡ before' =
+    same_next ahead half.0 half'.0 before before' half.1 half'.1 (goes_past rules ahead half'.0 r before' before half'.1 p' d.goes_on) (goes_past rules ahead half.0 s before before' half.1 q' b.goes_on) in
+    d.last ∙ ap (λ l. l ++ Failed ∷ []) (sym same) ∙ sym b.last
 
 pub one_reading : IsOneReading
 one_reading rules ahead answers others (Some v) (Some w) p q =

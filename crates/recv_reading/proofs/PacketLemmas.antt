@@ -1,35 +1,28 @@
 -- A reading of a capture that ends with its input, or by the number of items, by its packets.
-use Rattle.std.proofs.Common.{◌≡◌, ℕ, ◌+◌, ◌<◌, ◌≤◌, inl, inr, nat_le, true, false, List, [], ◌∷◌, ◌++◌, length, map, take, Option, None, Some, refl, sym, ◌∙◌, ap, subst, arith, length-append}
-use Rattle.std.specs.Prelude.{All}
+use Rattle.std.proofs.Common.{◌≡◌, ℕ, ◌+◌, ◌<◌, ◌≤◌, ◌⊎◌, inl, inr, nat_le, true, false, List, [], ◌∷◌, ◌++◌, length, map, take, Option, None, Some, refl, sym, ◌∙◌, ap, subst, arith, length-append, All}
 use Rattle.std.specs.List.{concat}
-use Rattle.std.proofs.lemmas.Bool.{true≢false}
 use Rattle.std.proofs.lemmas.Bool.Decides.{nat_tests}
 use Rattle.std.proofs.lemmas.List.{append-nil, append_cancel_right, length-map, length-take, take-map, take-append-le}
 use Rattle.std.proofs.lemmas.List.Elements.{All-head, All-tail, filter_map-append}
-use Rattle.drm_links.specs.Told.{Known}
-use Rattle.drm_links.specs.Link.{Answer, Datagram, Failed, End, datagram_of}
-use Rattle.drm_links.specs.Source.{Input, Inputs}
+use Rattle.recv_reading.proofs.Common.{Known, Answer, Datagram, Failed, End, datagram_of, Input, Inputs, Taken, State, made}
+use Rattle.recv_reading.proofs.Common.{ready, Item, IsItem, Steps, ReceiveOptions, EndWord, datagrams, Gave, HasGiven, HaveEnded}
+use Rattle.recv_reading.proofs.Common.{EndsBy, GoesOn, IsBroken, ReadingState, is_full, has_enough, Reached}
 use Rattle.drm_capture.specs.declared.packets.CaptureStop.{CaptureStop}
 use Rattle.drm_capture.specs.Front.{IsWhole, Af, Pft, Other}
 use Rattle.drm_capture.specs.Capture as capture
 use Rattle.drm_capture.specs.Capture.{most_bytes}
 use Rattle.drm_capture.specs.Walking.{WalkerState}
-use Rattle.dcp_collect.specs.declared.taken.Taken.{Taken}
-use Rattle.dcp_collect.specs.State.{State, made, ready, after_finish}
-use Rattle.dcp_collect.specs.Runs.{Item, IsItem, Steps}
-use Rattle.recv_reading.specs.declared.options.ReceiveOptions.{ReceiveOptions}
-use Rattle.recv_reading.specs.declared.options.Bounds.{Bounds}
-use Rattle.recv_reading.specs.declared.reason.EndWord.{EndWord}
+use Rattle.drm_capture.specs.Reading.{HasRead}
 use Rattle.recv_reading.specs.declared.reason.EndWord.TheVariants as word
-use Rattle.recv_reading.specs.Ending.{datagrams, idles, Gave, HasGiven, HaveEnded, EndsBy, GoesOn, IsBroken}
-use Rattle.recv_reading.specs.State.{ReadingState, is_full, has_enough}
-use Rattle.recv_reading.specs.Reached.{IsAmid, IsEnding, Comes, Reached}
+use Rattle.recv_reading.specs.Ending.{idles, ComesTo}
 use Rattle.recv_reading.specs.Source.{ReadSoFar, HeardUntil}
-use Rattle.recv_reading.specs.Packets.{terms_of, HasEnough, NoneShorter, AreEnough}
+use Rattle.recv_reading.specs.Packets as taking
+use Rattle.recv_reading.specs.Packets.{terms_of, HasEnough, NoneShorter, AreEnough, ComesAt, AreReadBy}
 use Rattle.recv_reading.specs.Given.{GivesAll, GivesUntil, GivesTo}
 use Rattle.recv_reading.proofs.Going.{last_ends}
-use Rattle.recv_reading.proofs.Reaching.{one_way}
-use Rattle.recv_reading.proofs.Finishing.{Finishes}
+use Rattle.recv_reading.proofs.Reaching.{full_is}
+use Rattle.recv_reading.proofs.Finishing.{Finishes, Stands, stands}
+use Rattle.recv_reading.proofs.Ways.{lacks_before}
 
 -- ---- the answers that packets are
 
@@ -99,112 +92,105 @@ fewer_packets (p ∷ packets) whole =
     let rest = fewer_packets packets (All-tail IsWhole p packets whole) in
     omega (arith, rest, whole_some p (All-head IsWhole p packets whole), length-append p (concat packets))
 
+-- what was read so far, by the datagrams among its answers
+abbrev ReadAs : WalkerState → Known Input → Known Input → List Answer → Type 0
+ReadAs reader before after answers =
+    (HasRead (datagrams answers) reader before after × (answers ≡ map Datagram (datagrams answers)))
+    ⊎ (Inputs before after (λ left rest. capture.IsCaptureOf left (datagrams answers) capture.End) × (answers ≡ map Datagram (datagrams answers) ++ End ∷ []))
+
+read_as : (reader : WalkerState) (before after : Known Input) (answers : List Answer) → ReadSoFar reader before after answers → ReadAs reader before after answers
+read_as reader before after answers (packets, inl (has, are)) =
+    let same : packets ≡ datagrams answers = sym (ap datagrams are ∙ datagrams_are packets) in
+    inl (subst (λ l. HasRead l reader before after) same has, subst (λ l. answers ≡ map Datagram l) same are)
+read_as reader before after answers (packets, inr (ended, are)) =
+    let same : packets ≡ datagrams answers = sym (ap datagrams are ∙ datagrams_last packets End refl) in
+    inr (subst (λ l. Inputs before after (λ left rest. capture.IsCaptureOf left l capture.End)) same ended, subst (λ l. answers ≡ map Datagram l ++ End ∷ []) same are)
+
+-- ---- where an item comes
+
+pub comes_to : (options : ReceiveOptions) (answers later : List Answer) (mid state : State) → ComesTo options answers later mid state → taking.ComesTo (terms_of options) (datagrams later) mid state
+comes_to options answers later mid state (inl (bytes, answer, is, takes)) = inl (bytes, answer, ap datagrams is, takes)
+comes_to options answers later mid state (inr (why, none, ends, is)) = inr (ap datagrams none, is)
+
+abbrev pub stands_at : (options : ReceiveOptions) (answers : List Answer) (during more : List Item) (c : State) (item : Item) → Stands options answers during more c → ready c ≡ true → IsItem c item
+    → ComesAt (terms_of options) (datagrams answers) (during ++ more) item c
+stands_at options answers during more c item s now is = record {
+  before = datagrams s.before;
+  later = datagrams s.later;
+  are = ap datagrams s.are ∙ filter_map-append datagram_of s.before s.later;
+  taken = s.taken;
+  during = during;
+  mid = s.mid;
+  steps = s.gave;
+  state = s.state;
+  comes = comes_to options answers s.later s.mid s.state s.comes;
+  more = more;
+  gives = s.gives;
+  items_are = refl;
+  is_ready = now;
+  is_next = is;
+}
+
 module _ (options : ReceiveOptions) (answers : List Answer) (taken : List Taken) (during more : List Item) (r : ReadingState) (c : State) (z : Reached options answers taken during more r c)
     (far : most_bytes < options.limit) (reader : WalkerState) (before after : Known Input) where
+  shorter : ReadAs reader before after answers → GoesOn options answers → NoneShorter (terms_of options) (datagrams answers)
+  shorter (inl (has, are)) goes = none_shorter options (datagrams answers) [] (subst (GoesOn options) (are ∙ sym (append-nil (map Datagram (datagrams answers)))) goes)
+  shorter (inr (ended, are)) goes = none_shorter options (datagrams answers) (End ∷ []) (subst (GoesOn options) are goes)
+
   -- a capture ends neither by idle answers nor by the number of its packets
-  input_ends : (why : EndWord) → ReadSoFar reader before after answers → GoesOn options answers → EndsBy options answers why → (why ≡ word.Frames → ⊥)
-      → (packets : List (List ℕ)) × Inputs before after (λ left rest. capture.IsCaptureOf left packets capture.End) × (answers ≡ map Datagram packets ++ End ∷ [])
-  input_ends word.Frames (packets, read) goes ends other = absurd (other refl)
-  input_ends word.Limit (packets, inl (read, are)) goes ends other =
-      let same : datagrams answers ≡ packets = ap datagrams are ∙ datagrams_are packets in
-      let few = fewer_packets packets read.whole in
+  input_ends : (why : EndWord) → ReadAs reader before after answers → EndsBy options answers why → (why ≡ word.Frames → ⊥)
+      → Inputs before after (λ left rest. capture.IsCaptureOf left (datagrams answers) capture.End)
+  input_ends why (inr (ended, are)) ends other = ended
+  input_ends word.Frames (inl read) ends other = absurd (other refl)
+  input_ends word.Limit (inl (has, are)) ends other =
+      let few = fewer_packets (datagrams answers) has.whole in
       let all : length (datagrams answers) ≡ options.limit = ends.0 in
-      absurd (omega (arith, ap length same, few, all, read.at, read.few, far))
-  input_ends word.Limit (packets, inr (ended, are)) goes ends other = (packets, ended, are)
-  input_ends word.Idle (packets, inl (read, are)) goes ends other =
-      let none : idles answers ≡ 0 = ap idles are ∙ no_idles packets in
+      absurd (omega (arith, few, all, has.at, has.few, far))
+  input_ends word.Idle (inl (has, are)) ends other =
+      let none : idles answers ≡ 0 = ap idles are ∙ no_idles (datagrams answers) in
       let least : options.idle ≤ idles answers = ends.0 in
       let some : 1 ≤ options.idle = z.usable.idle in
       absurd (omega (arith, none, least, some))
-  input_ends word.Idle (packets, inr (ended, are)) goes ends other = (packets, ended, are)
-  input_ends word.Input (packets, inl (read, are)) goes ends other = absurd (not_ended packets (subst HaveEnded are ends.0))
-  input_ends word.Input (packets, inr (ended, are)) goes ends other = (packets, ended, are)
-  input_ends word.Paths read goes ends other = absurd ends
+  input_ends word.Input (inl (has, are)) ends other = absurd (not_ended (datagrams answers) (subst HaveEnded are ends.0))
+  input_ends word.Paths (inl read) ends other = absurd ends
 
   -- ---- an item comes
+
+  are_read : (item : Item) (now : ready c ≡ true) (is : IsItem c item) (s : Stands options answers during more c) → is_full options.frames (length (during ++ more)) ≡ false
+      → ReadAs reader before after answers → AreReadBy (datagrams s.later) (datagrams answers) before after
+  are_read item now is s room read = by s.comes read
+    where
+      by : ComesTo options answers s.later s.mid s.state → ReadAs reader before after answers → AreReadBy (datagrams s.later) (datagrams answers) before after
+      by (inl (bytes, answer, last, takes)) (inl (has, are)) = subst (λ l. AreReadBy (datagrams l) (datagrams answers) before after) (sym last) (reader, has)
+      by (inl (bytes, answer, last, takes)) (inr (ended, are)) =
+          let clash : Datagram bytes ≡ End = last_ends s.before (map Datagram (datagrams answers)) (Datagram bytes) (ap (λ l. s.before ++ l) (sym last) ∙ sym s.are ∙ are) in
+          absurd (cc)
+      by (inr (why, none, ends, finished)) read =
+          let all : answers ≡ s.before = s.are ∙ ap (λ l. s.before ++ l) none ∙ append-nil s.before in
+          let lacks : HasGiven options answers options.frames → ⊥ =
+          λ given. lacks_before (terms_of options) (datagrams answers) (during ++ more) item c (stands_at options answers during more c item s now is) room
+          (given_enough options (datagrams s.before) answers (ap datagrams all) given) in
+          subst (λ l. AreReadBy (datagrams l) (datagrams answers) before after) (sym none) (input_ends why read ends (λ frames. lacks (subst (EndsBy options answers) frames ends)))
 
   -- it comes where the collector is now
   abbrev GivesAt : Item → Type 0
   GivesAt item = (gives : GivesTo (terms_of options) (during ++ more) item before after) × (gives.last ≡ c)
 
   pub gives_to : (item : Item) → has_enough r ≡ false → ready c ≡ true → IsItem c item → ReadSoFar reader before after answers → GivesAt item
-  gives_to item enough now is read = by r.end z.comes
-    where
-      room : is_full options.frames (length (during ++ more)) ≡ false
-      room = ap (is_full options.frames) z.given_are ∙ ap (λ (b : Bounds). is_full b.frames r.given) (sym z.bounds_are) ∙ enough
-
-      amid : IsAmid options answers taken during more c → ReadSoFar reader before after answers → GivesAt item
-      amid a (packets, inl (has, are)) =
-          let same : packets ≡ datagrams a.before ++ a.bytes ∷ [] = sym (datagrams_are packets) ∙ ap datagrams (sym are ∙ a.are) ∙ filter_map-append datagram_of a.before (Datagram a.bytes ∷ []) in (
-            record {
-              last = c;
-              packets = packets;
-              at = record {
-                before = datagrams a.before;
-                later = a.bytes ∷ [];
-                are = same;
-                taken = a.earlier;
-                during = during;
-                mid = a.mid;
-                steps = a.drained.gave;
-                state = a.kept;
-                comes = inl (a.bytes, a.answer, refl, a.takes);
-                more = more;
-                gives = a.gives;
-                items_are = refl;
-                is_ready = now;
-                is_next = is;
-              };
-              read = (reader, has);
-              shorter = none_shorter options packets [] (subst (GoesOn options) (are ∙ sym (append-nil (map Datagram packets))) z.goes_on);
-              within = room;
-            },
-            refl,
-          )
-      amid a (packets, inr (ended, are)) =
-          let last : Datagram a.bytes ≡ End = last_ends a.before (map Datagram packets) (Datagram a.bytes) (sym a.are ∙ are) in
-          absurd (cc)
-
-      ending : (why : EndWord) → IsEnding options answers taken during more why c → GivesAt item
-      ending why e =
-          let (packets, ended, are) = input_ends why read z.goes_on e.ends (λ frames. true≢false (sym (enough_here (subst (EndsBy options answers) frames e.ends)) ∙ e.drained.room)) in
-          let same : datagrams answers ≡ packets = ap datagrams are ∙ datagrams_last packets End refl in (
-            record {
-              last = c;
-              packets = packets;
-              at = record {
-                before = packets;
-                later = [];
-                are = sym (append-nil packets);
-                taken = taken;
-                during = during;
-                mid = e.mid;
-                steps = subst (λ l. Steps (made options.window options.first) l taken during e.mid) same e.drained.gave;
-                state = after_finish e.mid options.frames;
-                comes = inr (refl, refl);
-                more = more;
-                gives = e.gives;
-                items_are = refl;
-                is_ready = now;
-                is_next = is;
-              };
-              read = ended;
-              shorter = none_shorter options packets (End ∷ []) (subst (GoesOn options) are z.goes_on);
-              within = room;
-            },
-            refl,
-          )
-        where
-          enough_here : HasGiven options answers options.frames → is_full options.frames (length during) ≡ true
-          enough_here given =
-              let (taken', items, end, steps, full) = given_enough options (datagrams answers) answers refl given in
-              let same : items ≡ during = (one_way (made options.window options.first) e.mid end (datagrams answers) taken taken' during items e.drained.gave steps).1 in
-              ap (λ (l : List Item). is_full options.frames (length l)) (sym same) ∙ full
-
-      by : (end : Option EndWord) → Comes options answers taken during more end c → GivesAt item
-      by None (goes, inl (none, d)) = absurd (true≢false (sym now ∙ d.none_ready))
-      by None (goes, inr a) = amid a read
-      by (Some why) e = ending why e
+  gives_to item enough now is so_far =
+      let read = read_as reader before after answers so_far in
+      let s = stands options answers taken during more r c z now in
+      let room = full_is options answers taken during more r c z ∙ enough in (
+        record {
+          last = c;
+          packets = datagrams answers;
+          at = stands_at options answers during more c item s now is;
+          read = are_read item now is s room read;
+          shorter = shorter read z.goes_on;
+          within = room;
+        },
+        refl,
+      )
 
   -- ---- all is given
 
@@ -213,45 +199,17 @@ module _ (options : ReceiveOptions) (answers : List Answer) (taken : List Taken)
   GivesWhole = (gives : GivesAll (terms_of options) (during ++ more) before after) × (gives.run.mid.first ≡ c.first)
 
   pub gives_all : (why : EndWord) → Finishes options answers taken (during ++ more) c why → ReadSoFar reader before after answers → GivesWhole
-  gives_all why f read = by why f.reading.ends read
+  gives_all why f so_far =
+      let read = read_as reader before after answers so_far in
+      (record { packets = datagrams answers; enough = by why f.reading.ends read; shorter = shorter read f.reading.goes_on; taken = taken; run = f.run }, f.first)
     where
-      over : (packets : List (List ℕ)) → datagrams answers ≡ packets → AreEnough (terms_of options) packets before after → NoneShorter (terms_of options) packets → GivesWhole
-      over packets same enough shorter = (
-        record {
-          packets = packets;
-          enough = enough;
-          shorter = shorter;
-          taken = taken;
-          run = record {
-            during = f.run.during;
-            rest = f.run.rest;
-            mid = f.run.mid;
-            after = f.run.after;
-            steps = subst (λ l. Steps (made options.window options.first) l taken f.run.during f.run.mid) same f.run.steps;
-            gives = f.run.gives;
-            are = f.run.are;
-          };
-        },
-        f.first,
-      )
-
-      ended_all : (packets : List (List ℕ)) → Inputs before after (λ left rest. capture.IsCaptureOf left packets capture.End) → answers ≡ map Datagram packets ++ End ∷ [] → GivesWhole
-      ended_all packets ended are =
-          over packets (ap datagrams are ∙ datagrams_last packets End refl) (inr ended) (none_shorter options packets (End ∷ []) (subst (GoesOn options) are f.reading.goes_on))
-
-      by : (w : EndWord) → EndsBy options answers w → ReadSoFar reader before after answers → GivesWhole
-      by word.Frames ends (packets, inl (has, are)) =
-          let same : datagrams answers ≡ packets = ap datagrams are ∙ datagrams_are packets in
-          over packets same (inl ((reader, has), given_enough options packets answers same ends))
-          (none_shorter options packets [] (subst (GoesOn options) (are ∙ sym (append-nil (map Datagram packets))) f.reading.goes_on))
-      by word.Frames ends (packets, inr (ended, are)) = ended_all packets ended are
-      by word.Limit ends read =
-          let (packets, ended, are) = input_ends word.Limit read f.reading.goes_on ends (λ clash. cc) in ended_all packets ended are
-      by word.Idle ends read =
-          let (packets, ended, are) = input_ends word.Idle read f.reading.goes_on ends (λ clash. cc) in ended_all packets ended are
-      by word.Input ends read =
-          let (packets, ended, are) = input_ends word.Input read f.reading.goes_on ends (λ clash. cc) in ended_all packets ended are
-      by word.Paths ends read = absurd ends
+      by : (w : EndWord) → EndsBy options answers w → ReadAs reader before after answers → AreEnough (terms_of options) (datagrams answers) before after
+      by w ends (inr (ended, are)) = inr ended
+      by word.Frames ends (inl (has, are)) = inl ((reader, has), given_enough options (datagrams answers) answers refl ends)
+      by word.Limit ends (inl read) = inr (input_ends word.Limit (inl read) ends (λ clash. cc))
+      by word.Idle ends (inl read) = inr (input_ends word.Idle (inl read) ends (λ clash. cc))
+      by word.Input ends (inl read) = inr (input_ends word.Input (inl read) ends (λ clash. cc))
+      by word.Paths ends (inl read) = absurd ends
 
 -- ---- no more can be read
 

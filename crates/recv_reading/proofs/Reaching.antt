@@ -1,29 +1,25 @@
 -- A reading goes on, call by call.
-use Rattle.std.proofs.Common.{◌≡◌, ℕ, suc, ◌+◌, ◌-◌, ◌*◌, ◌^◌, ◌<◌, ◌≤◌, inl, inr, nat_le, Bool, true, false, if◌then◌else◌, List, [], ◌∷◌, ◌++◌, length, Option, None, Some, IfSome, refl, sym, ◌∙◌, ap, subst, arith, append_assoc, length-append, add-one}
+use Rattle.std.proofs.Common.{◌≡◌, ℕ, ◌+◌, ◌-◌, ◌*◌, ◌^◌, ◌<◌, ◌≤◌, inl, inr, nat_le, Bool, true, false, if◌then◌else◌, List, [], ◌∷◌, ◌++◌, length, Option, None, Some, IfSome, refl, sym, ◌∙◌, ap, subst, arith, append_assoc, length-append, add-one}
 use Rattle.std.proofs.Math.Nat.{mul-le-mul_right, suc-mul}
 use Rattle.std.proofs.lemmas.Bool.{true≢false}
-use Rattle.std.proofs.lemmas.List.{append-nil}
-use Rattle.drm_links.specs.Link.{Answer, Datagram, Idle, Failed, End}
-use Rattle.dcp_collect.specs.declared.taken.Taken.{Taken}
-use Rattle.dcp_collect.specs.State.{State, made, ready, after_item, after_finish}
-use Rattle.dcp_collect.specs.Runs.{Item, IsItem, Takes}
+use Rattle.std.proofs.lemmas.List.{append-nil, length_push}
+use Rattle.recv_reading.proofs.Common.{Answer, Datagram, Idle, Failed, End, Taken, State, made, ready, after_item, after_finish}
+use Rattle.recv_reading.proofs.Common.{Item, IsItem, Takes, Gives, IsFit, ReceiveOptions, EndWord, AreUsable, bounds_of}
+use Rattle.recv_reading.proofs.Common.{datagrams, Gave, HasGiven, HaveEnded, EndsBy, GoesOn, IsBroken, KnowsFirst, ReadingState}
+use Rattle.recv_reading.proofs.Common.{new_reading, is_full, has_enough, Reached, Waits}
 use Rattle.dcp_collect.proofs.Decoded.{one_decoding}
-use Rattle.collect_laws.specs.Laws.{OneRun, IsFit}
+use Rattle.collect_laws.specs.Laws.{OneRun}
 use Rattle.collect_laws.proofs.OneReading.{one_reading as one_datagram}
 use Rattle.collect_laws.proofs.Stays.{take_next, take_end}
 use Rattle.collect_laws.proofs.Unique.{one_run}
 use Rattle.collect_laws.proofs.Runs.{given_all, given_more}
 use Rattle.collect_laws.proofs.Fit.{fit_next}
-use Rattle.recv_reading.specs.declared.options.ReceiveOptions.{ReceiveOptions}
 use Rattle.recv_reading.specs.declared.options.Bounds.{Bounds}
-use Rattle.recv_reading.specs.declared.reason.EndWord.{EndWord}
 use Rattle.recv_reading.specs.declared.reason.EndWord.TheVariants as word
-use Rattle.recv_reading.specs.Options.{AreUsable, bounds_of}
-use Rattle.recv_reading.specs.Ending.{datagrams, idles, Gave, HasGiven, HaveEnded, IsOpen, EndsBy, GoesOn, IsBroken, most_answers}
-use Rattle.recv_reading.specs.First.{KnowsFirst}
-use Rattle.recv_reading.specs.State.{ReadingState, new_reading, is_full, has_enough, ended_or, still_open, one_given, one_taken, one_idle, ended_by, ahead}
-use Rattle.recv_reading.specs.Reached.{IsDrained, IsAmid, Comes, Counts, packets_in, Reached, Waits}
-use Rattle.recv_reading.proofs.Going.{goes_none, goes_more, is_open, datagrams_more, datagrams_idle, datagrams_end, idles_datagram, idles_idle, idles_end, not_ended, none_ended}
+use Rattle.recv_reading.specs.Ending.{idles, IsOpen, most_answers}
+use Rattle.recv_reading.specs.State.{ahead, ended_or, still_open, one_given, one_taken, one_idle, ended_by}
+use Rattle.recv_reading.specs.Reached.{IsDrained, IsAmid, Comes, Counts, packets_in}
+use Rattle.recv_reading.proofs.Going.{goes_none, goes_more, is_open, datagrams_more, datagrams_idle, datagrams_end, idles_more, not_ended, none_ended}
 use Rattle.recv_reading.proofs.Kept.{kept_taken, few_given}
 use Rattle.recv_reading.proofs.First.{knows_taken, knows_item}
 use Rattle.recv_reading.proofs.Giving.{gave_none, gave_datagram, gave_idle, gave_end, none_given}
@@ -57,12 +53,9 @@ zero_below : (frames : Option ℕ) → IfSome frames (λ n. 0 ≤ n)
 zero_below None = tt
 zero_below (Some n) = omega arith
 
-one_below : (frames : Option ℕ) (n : ℕ) → is_full frames n ≡ false → IfSome frames (λ m. n + 1 ≤ m)
+pub one_below : (frames : Option ℕ) (n : ℕ) → is_full frames n ≡ false → IfSome frames (λ m. n + 1 ≤ m)
 one_below None n room = tt
 one_below (Some m) n room = let l : n < m = le_not m n room in omega (arith, l)
-
-longer_by_one : (xs : List Answer) (x : Answer) → length (xs ++ x ∷ []) ≡ length xs + 1
-longer_by_one xs x = length-append xs (x ∷ [])
 
 turns : (taken limit idle : ℕ) → taken ≤ limit → taken * idle ≤ limit * idle
 turns taken limit idle l = mul-le-mul_right idle l
@@ -112,24 +105,21 @@ reached_none options c usable is = record {
 
 -- ---- what comes next
 
-amid_drained : (options : ReceiveOptions) (answers : List Answer) (taken : List Taken) (during more : List Item) (c : State) → IsAmid options answers taken during more c
-    → ready c ≡ false → is_full options.frames (length (during ++ more)) ≡ false → IsDrained options answers taken (during ++ more) c
-amid_drained options answers taken during more c a none room =
-    let last : List Answer = a.before ++ Datagram a.bytes ∷ [] in
-    record {
-      gave = subst (λ l. Gave options l taken (during ++ more) c) (sym a.are)
-          (subst (λ l. Gave options last l (during ++ more) c) (sym a.taken_are)
-          (gave_datagram options a.before a.earlier during more a.mid a.kept c a.bytes a.answer a.drained.gave a.takes (given_all more a.kept c a.gives none)));
-      none_ready = none;
-      room = room;
-    }
+-- what was given of all that the last datagram made ready
+pub amid_gave : (options : ReceiveOptions) (answers : List Answer) (taken : List Taken) (during more now : List Item) (c d : State) → (a : IsAmid options answers taken during more c)
+    → Gives a.kept now d → Gave options answers taken (during ++ now) d
+amid_gave options answers taken during more now c d a gives =
+    subst (λ l. Gave options l taken (during ++ now) d) (sym a.are)
+    (subst (λ l. Gave options (a.before ++ Datagram a.bytes ∷ []) l (during ++ now) d) (sym a.taken_are)
+    (gave_datagram options a.before a.earlier during now a.mid a.kept d a.bytes a.answer a.drained.gave a.takes gives))
 
 module _ (options : ReceiveOptions) (answers : List Answer) (taken : List Taken) (during more : List Item) (r : ReadingState) (c : State) (z : Reached options answers taken during more r c) where
   abbrev items : List Item
   items = during ++ more
 
-  room_of : has_enough r ≡ false → is_full options.frames (length items) ≡ false
-  room_of h = ap (is_full options.frames) z.given_are ∙ ap (λ (o : Bounds). is_full o.frames r.given) (sym z.bounds_are) ∙ h
+  -- whether as many items were given as are asked for
+  pub full_is : is_full options.frames (length items) ≡ has_enough r
+  full_is = ap (is_full options.frames) z.given_are ∙ ap (λ (o : Bounds). is_full o.frames r.given) (sym z.bounds_are)
 
   -- an item was given
   pub reached_given : (item : Item) → has_enough r ≡ false → ready c ≡ true → IsItem c item → Reached options answers taken during (more ++ item ∷ []) (one_given r) (after_item c)
@@ -205,7 +195,11 @@ module _ (options : ReceiveOptions) (answers : List Answer) (taken : List Taken)
       where
         by : Comes options answers taken during more None c → IsDrained options answers taken items c
         by (goes, inl (none, d)) = subst (λ l. IsDrained options answers taken l c) (sym (ap (λ l. during ++ l) none ∙ append-nil during)) d
-        by (goes, inr a) = amid_drained options answers taken during more c a w.none_ready (room_of enough)
+        by (goes, inr a) = record {
+          gave = amid_gave options answers taken during more more c c a (given_all more a.kept c a.gives w.none_ready);
+          none_ready = w.none_ready;
+          room = full_is ∙ enough;
+        }
 
     pub unfinished : c.end ≡ None
     unfinished = comes.0
@@ -215,10 +209,7 @@ module _ (options : ReceiveOptions) (answers : List Answer) (taken : List Taken)
 
     open_below : r.taken < options.limit → IsOpen options answers
     open_below below =
-        let d : length (datagrams answers) ≡ r.taken = z.taken_are in
-        let i : idles answers ≡ r.idles = n.idles_are in
-        let f : r.idles < options.idle = n.fewer in
-        is_open options answers not_given (omega (arith, d, below)) (omega (arith, i, f)) n.not_ended
+        is_open options answers not_given (omega (arith, z.taken_are, below)) (omega (arith, n.idles_are, n.fewer)) n.not_ended
 
     limit_is : r.bounds.limit ≡ options.limit
     limit_is = ap (λ (o : Bounds). o.limit) z.bounds_are
@@ -230,7 +221,7 @@ module _ (options : ReceiveOptions) (answers : List Answer) (taken : List Taken)
     goes_on_yet = n.not_ended
 
     pub fewer_idles : r.idles < r.bounds.idle
-    fewer_idles = let f = n.fewer in omega (arith, f, idle_is)
+    fewer_idles = omega (arith, n.fewer, idle_is)
 
     pub few_frames : IfSome r.bounds.frames (λ n. n ≤ 2 ^ 62)
     few_frames = subst (λ (b : Bounds). IfSome b.frames (λ n. n ≤ 2 ^ 62)) (sym z.bounds_are) (by options.frames z.usable.most_frames)
@@ -249,22 +240,17 @@ module _ (options : ReceiveOptions) (answers : List Answer) (taken : List Taken)
     -- one answer more isn't too many
     pub one_more_few : (x : Answer) → length (answers ++ x ∷ []) ≤ most_answers options
     one_more_few x =
-        let long : length (answers ++ x ∷ []) ≡ length answers + 1 = longer_by_one answers x in
+        let long : length (answers ++ x ∷ []) ≡ length answers + 1 = length_push answers x in
         let most : r.taken * options.idle ≤ options.limit * options.idle = turns r.taken options.limit options.idle z.most in
-        let few = n.few in
-        let fewer = n.fewer in
-        omega (arith, long, most, few, fewer)
+        omega (arith, long, most, n.few, n.fewer)
 
     -- a datagram was taken
     pub reached_taken : (d : State) (bytes : List ℕ) (answer : Taken) → r.taken < r.bounds.limit → Takes c bytes answer d → IsFit d
         → Reached options (answers ++ Datagram bytes ∷ []) (taken ++ answer ∷ []) items [] (one_taken r) d
     reached_taken d bytes answer lower takes fit =
         let below : r.taken < options.limit = omega (arith, lower, limit_is) in
-        let long : length (answers ++ Datagram bytes ∷ []) ≡ length answers + 1 = longer_by_one answers (Datagram bytes) in
+        let long : length (answers ++ Datagram bytes ∷ []) ≡ length answers + 1 = length_push answers (Datagram bytes) in
         let turn : (r.taken + 1) * options.idle ≡ r.taken * options.idle + options.idle = turn_more r.taken options.idle in
-        let most : (r.taken + 1) * options.idle ≤ options.limit * options.idle = turns (r.taken + 1) options.limit options.idle (omega (arith, below)) in
-        let few = n.few in
-        let fewer = n.fewer in
         record {
           bounds_are = z.bounds_are;
           usable = z.usable;
@@ -288,28 +274,27 @@ module _ (options : ReceiveOptions) (answers : List Answer) (taken : List Taken)
           taken_are = datagrams_more answers bytes ∙ ap (λ k. k + 1) z.taken_are;
           most = omega (arith, below);
           counts = λ none. record {
-            idles_are = idles_datagram 0 answers bytes;
+            idles_are = idles_more 0 answers (Datagram bytes);
             fewer = z.usable.idle;
-            few = omega (arith, long, turn, few, fewer);
+            few = omega (arith, long, turn, n.few, n.fewer);
             not_ended = not_ended answers (Datagram bytes) (λ e. cc);
           };
-          few = omega (arith, long, turn, most, few, fewer);
+          few = one_more_few (Datagram bytes);
           given_are = ap length (append-nil items) ∙ z.given_are;
           next_is = takes_next c d bytes answer takes ∙ z.next_is;
           below = z.below;
           fit = fit;
           knows = knows_taken c d bytes answer takes z.knows;
-          few_packets = same_packets (length d.kept) (r.taken + 1) (let p = z.few_packets in let k = kept_taken c d bytes answer takes in omega (arith, p, k));
+          few_packets = same_packets (length d.kept) (r.taken + 1) (omega (arith, z.few_packets, kept_taken c d bytes answer takes));
         }
 
     pub less_taken : (d : State) → r.taken < r.bounds.limit → d.next ≡ c.next → ahead (one_taken r) d < ahead r c
     unfolding ahead
     less_taken d below same =
-        let fewer = n.fewer in
         let left : r.bounds.limit - r.taken ≡ (r.bounds.limit - (r.taken + 1)) + 1 = omega (arith, below) in
         let turn : (r.bounds.limit - r.taken) * r.bounds.idle ≡ (r.bounds.limit - (r.taken + 1)) * r.bounds.idle + r.bounds.idle =
         ap (λ k. k * r.bounds.idle) left ∙ turn_more (r.bounds.limit - (r.taken + 1)) r.bounds.idle in
-        omega (arith, same, fewer, turn, idle_is)
+        omega (arith, same, n.fewer, turn, idle_is)
 
     -- nothing came for a while
     drained_idle : IsDrained options (answers ++ Idle ∷ []) taken items c
@@ -318,10 +303,7 @@ module _ (options : ReceiveOptions) (answers : List Answer) (taken : List Taken)
     pub reached_idle : r.taken < r.bounds.limit → r.idles + 1 < r.bounds.idle → Reached options (answers ++ Idle ∷ []) taken items [] (one_idle r) c
     reached_idle lower more =
         let below : r.taken < options.limit = omega (arith, lower, limit_is) in
-        let long : length (answers ++ Idle ∷ []) ≡ length answers + 1 = longer_by_one answers Idle in
-        let most : r.taken * options.idle ≤ options.limit * options.idle = turns r.taken options.limit options.idle z.most in
-        let few = n.few in
-        let fewer : r.idles + 1 < options.idle = omega (arith, more, idle_is) in
+        let long : length (answers ++ Idle ∷ []) ≡ length answers + 1 = length_push answers Idle in
         record {
           bounds_are = z.bounds_are;
           usable = z.usable;
@@ -330,12 +312,12 @@ module _ (options : ReceiveOptions) (answers : List Answer) (taken : List Taken)
           taken_are = datagrams_idle answers ∙ z.taken_are;
           most = z.most;
           counts = λ none. record {
-            idles_are = idles_idle 0 answers ∙ ap (λ k. k + 1) n.idles_are;
-            fewer = fewer;
-            few = omega (arith, long, few);
+            idles_are = idles_more 0 answers Idle ∙ ap (λ k. k + 1) n.idles_are;
+            fewer = omega (arith, more, idle_is);
+            few = omega (arith, long, n.few);
             not_ended = not_ended answers Idle (λ e. cc);
           };
-          few = omega (arith, long, most, few, fewer);
+          few = one_more_few Idle;
           given_are = ap length (append-nil items) ∙ z.given_are;
           next_is = z.next_is;
           below = z.below;
@@ -358,7 +340,7 @@ module _ (options : ReceiveOptions) (answers : List Answer) (taken : List Taken)
       comes = subst (λ e. Comes options last taken items [] e d) (sym is) (record { mid = c; drained = all; ends = ends; gives = finished });
       goes_on = goes;
       taken_are = many ∙ sym same_taken;
-      most = (let m = z.most in omega (arith, m, same_taken));
+      most = omega (arith, z.most, same_taken);
       counts = λ none. absurd (let clash : Some why ≡ None = sym is ∙ none in cc);
       few = few;
       given_are = ap length (append-nil items) ∙ z.given_are ∙ sym same_given;
@@ -377,37 +359,28 @@ module _ (options : ReceiveOptions) (answers : List Answer) (taken : List Taken)
         → Reached options (answers ++ Idle ∷ []) taken items [] (ended_by word.Idle (one_idle r)) d
     reached_last_idle d lower all finished =
         let below : r.taken < options.limit = omega (arith, lower, limit_is) in
-        let long : length (answers ++ Idle ∷ []) ≡ length answers + 1 = longer_by_one answers Idle in
-        let most : r.taken * options.idle ≤ options.limit * options.idle = turns r.taken options.limit options.idle z.most in
-        let few = n.few in
-        let fewer = n.fewer in
-        let idles_now : idles (answers ++ Idle ∷ []) ≡ r.idles + 1 = idles_idle 0 answers ∙ ap (λ k. k + 1) n.idles_are in
+        let idles_now : idles (answers ++ Idle ∷ []) ≡ r.idles + 1 = idles_more 0 answers Idle ∙ ap (λ k. k + 1) n.idles_are in
         let many : length (datagrams (answers ++ Idle ∷ [])) ≡ r.taken = datagrams_idle answers ∙ z.taken_are in
         ends_so (answers ++ Idle ∷ []) d word.Idle (ended_by word.Idle (one_idle r)) refl refl refl refl drained_idle (
           omega (arith, idles_now, all, idle_is),
           none_given options (answers ++ Idle ∷ []) options.frames taken items c one_way drained_idle.gave (few_items options.frames (length items) drained.room),
           (λ h. let same : length (datagrams (answers ++ Idle ∷ [])) ≡ options.limit = h in omega (arith, same, many, below)),
-        ) many (omega (arith, long, most, few, fewer)) (finish_is d finished) (goes_more options answers Idle z.goes_on (open_below below) tt)
+        ) many (one_more_few Idle) (finish_is d finished) (goes_more options answers Idle z.goes_on (open_below below) tt)
 
     -- by the end of the input
     pub reached_end : (d : State) → r.taken < r.bounds.limit → d ≡ after_finish c r.bounds.frames
         → Reached options (answers ++ End ∷ []) taken items [] (ended_by word.Input r) d
     reached_end d lower finished =
         let below : r.taken < options.limit = omega (arith, lower, limit_is) in
-        let long : length (answers ++ End ∷ []) ≡ length answers + 1 = longer_by_one answers End in
-        let most : r.taken * options.idle ≤ options.limit * options.idle = turns r.taken options.limit options.idle z.most in
-        let few = n.few in
-        let fewer = n.fewer in
-        let idles_now : idles (answers ++ End ∷ []) ≡ 0 = idles_end 0 answers in
+        let idles_now : idles (answers ++ End ∷ []) ≡ 0 = idles_more 0 answers End in
         let many : length (datagrams (answers ++ End ∷ [])) ≡ r.taken = ap length (datagrams_end answers) ∙ z.taken_are in
         let gave : Gave options (answers ++ End ∷ []) taken items c = gave_end options answers taken items c drained.gave in
-        let some : 1 ≤ options.idle = z.usable.idle in
         ends_so (answers ++ End ∷ []) d word.Input (ended_by word.Input r) refl refl refl refl (record { gave = gave; none_ready = drained.none_ready; room = drained.room }) (
           (answers, refl),
           none_given options (answers ++ End ∷ []) options.frames taken items c one_way gave (few_items options.frames (length items) drained.room),
           (λ h. let same : length (datagrams (answers ++ End ∷ [])) ≡ options.limit = h in omega (arith, same, many, below)),
-          (λ h. let least : options.idle ≤ idles (answers ++ End ∷ []) = h in omega (arith, least, idles_now, some)),
-        ) many (omega (arith, long, most, few, fewer)) (finish_is d finished) (goes_more options answers End z.goes_on (open_below below) tt)
+          (λ h. let least : options.idle ≤ idles (answers ++ End ∷ []) = h in omega (arith, least, idles_now, z.usable.idle)),
+        ) many (one_more_few End) (finish_is d finished) (goes_more options answers End z.goes_on (open_below below) tt)
 
     -- by the number of datagrams
     pub reached_limit : (d : State) → r.taken ≡ r.bounds.limit → d ≡ after_finish c r.bounds.frames

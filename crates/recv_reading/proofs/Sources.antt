@@ -1,9 +1,7 @@
 -- What comes of a capture, packet by packet.
 use Rattle.std.proofs.Common.{◌≡◌, ℕ, inl, inr, Bool, List, [], ◌∷◌, ◌++◌, length, map, Result, Ok, Err, refl, sym, ◌∙◌, ap, arith}
 use Rattle.std.proofs.lemmas.List.Elements.{All-nil}
-use Rattle.drm_links.specs.Told.{Known}
-use Rattle.drm_links.specs.Link.{Answer, Datagram, Failed, End}
-use Rattle.drm_links.specs.Source.{Input, Inputs}
+use Rattle.recv_reading.proofs.Common.{Known, Answer, Datagram, Failed, End, Input, Inputs, HaveEnded}
 use Rattle.drm_links.proofs.ToldLemmas.{Inputs-nothing}
 use Rattle.drm_capture.specs.declared.packets.CaptureStop.{CaptureStop}
 use Rattle.drm_capture.specs.declared.packets.CaptureStop.TheVariants as stops
@@ -11,7 +9,6 @@ use Rattle.drm_capture.specs.Front.{IsWhole}
 use Rattle.drm_capture.specs.Capture as capture
 use Rattle.drm_capture.specs.Walking.{WalkerState, new_walker}
 use Rattle.drm_capture.specs.Reading.{HasRead, Stops}
-use Rattle.recv_reading.specs.Ending.{HaveEnded}
 use Rattle.recv_reading.specs.Source.{ReadSoFar, HeardUntil}
 
 -- nothing was read yet

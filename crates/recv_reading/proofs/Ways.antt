@@ -1,22 +1,18 @@
 -- What comes at a place comes there on each way along the same packets.
-use Rattle.std.proofs.Common.{ℕ, suc, ◌≡◌, ◌+◌, ◌-◌, ◌<◌, ◌≤◌, ◌⊎◌, inl, inr, true, false, List, [], ◌∷◌, ◌++◌, length, take, Option, None, Some, refl, sym, ap, ap₂, subst, ◌∙◌, arith, append_assoc, length-append}
-use Rattle.std.specs.Prelude.{nat_lt}
+use Rattle.std.proofs.Common.{ℕ, suc, ◌≡◌, ◌+◌, ◌-◌, ◌<◌, ◌≤◌, ◌⊎◌, inl, inr, true, false, List, [], ◌∷◌, ◌++◌, length, take, Option, None, Some, refl, sym, ap, ap₂, subst, ◌∙◌, arith, append_assoc, length-append, nat_lt}
 use Rattle.std.proofs.Math.Seq.{take-append-add}
 use Rattle.std.proofs.lemmas.Bool.{true≢false, cases_lt}
 use Rattle.std.proofs.lemmas.Bool.Decides.{nat_tests}
 use Rattle.std.proofs.lemmas.List.{append-nil}
-use Rattle.dcp_collect.specs.declared.taken.Taken.{Taken}
-use Rattle.dcp_collect.specs.State.{State, made, ready, after_item, after_finish}
-use Rattle.dcp_collect.specs.Runs.{Item, Packet, Lost, Damaged, IsItem, Takes, Gives, Steps, up_to}
+use Rattle.recv_reading.proofs.Common.{Taken, State, made, ready, after_item, after_finish, Item, Packet, Lost, Damaged, IsItem}
+use Rattle.recv_reading.proofs.Common.{Takes, Gives, Steps, up_to, Given, is_full}
 use Rattle.dcp_collect.proofs.Decoded.{one_decoding}
-use Rattle.collect_laws.specs.Laws.{Given}
 use Rattle.collect_laws.proofs.OneReading.{one_reading}
 use Rattle.collect_laws.proofs.Runs.{steps_part}
 use Rattle.collect_laws.proofs.Unique.{one_giving, one_taking}
 use Rattle.recv_reading.proofs.First.{given_first}
 use Rattle.recv_reading.proofs.Reaching.{one_way}
 use Rattle.recv_reading.specs.Packets.{ComesAt, HasEnough, Terms}
-use Rattle.recv_reading.specs.State.{is_full}
 
 -- ---- lists
 
@@ -166,12 +162,14 @@ module _ (terms : Terms) where
         let whole : given ≡ at.during ++ then_given = are_given ∙ ap (λ l. l ++ then_given) same in
         subst (λ l. Starts l item given) (sym at.items_are) (subst (Starts (at.during ++ at.more) item) (sym whole) (starts_behind at.during at.more item then_given begins))
 
+    pub all_before : at.later ≡ [] → packets ≡ at.before
+    all_before none = at.are ∙ (ap (λ l. at.before ++ l) none ∙ append-nil at.before)
+
     -- where it comes when the collector is finished, it is among what these packets give, and the end
     pub finished_starts : at.later ≡ [] → at.state ≡ after_finish at.mid terms.told
         → (answers : List Taken) (during rest : List Item) (mid after : State) → Steps new packets answers during mid → Gives (after_finish mid terms.told) rest after → Starts items item (during ++ rest)
     finished_starts none is answers during rest mid after steps gives =
-        let are : packets ≡ at.before = at.are ∙ (ap (λ l. at.before ++ l) none ∙ append-nil at.before) in
-        let (told, same, there) = one_way new at.mid mid at.before at.taken answers at.during during at.steps (subst (λ l. Steps new l answers during mid) are steps) in
+        let (told, same, there) = one_way new at.mid mid at.before at.taken answers at.during during at.steps (subst (λ l. Steps new l answers during mid) (all_before none) steps) in
         let finished : at.state ≡ after_finish mid terms.told = is ∙ ap (λ s. after_finish s terms.told) (sym there) in
         let begins : Starts at.more item rest =
         starts at.more item (after_finish mid terms.told) last after rest (subst (λ s. Given s at.more last) finished at.gives) at.is_ready at.is_next gives in
@@ -195,9 +193,6 @@ module _ (terms : Terms) where
         let same : given ≡ at.during = (one_way new at.mid end at.before at.taken taken at.during given at.steps steps).1 in
         let long : length items ≡ length at.during + length at.more = ap length at.items_are ∙ length-append at.during at.more in
         true≢false (sym (longer_full terms.told (length given) (length items) (omega (arith, long, ap length same)) full) ∙ room)
-
-    pub all_before : at.later ≡ [] → packets ≡ at.before
-    all_before none = at.are ∙ (ap (λ l. at.before ++ l) none ∙ append-nil at.before)
 
     place_of : (bytes : List ℕ) (more : List (List ℕ)) → at.later ≡ bytes ∷ [] → packets ++ more ≡ at.before ++ bytes ∷ more
     place_of bytes more is = ap (λ l. l ++ more) (at.are ∙ ap (λ l. at.before ++ l) is) ∙ append_assoc at.before (bytes ∷ []) more

@@ -1,5 +1,4 @@
-use Rattle.std.proofs.Common.{◌≡◌, take}
-use Rattle.std.specs.List.{flat_map}
+use Rattle.std.proofs.Common.{◌≡◌, take, flat_map}
 use Rattle.drm_links.specs.Sink.{Outputs}
 use Rattle.capture_data.specs.Lines.{escaped}
 use Rattle.capture_data.proofs.lines.write_escaped.Given as goal

@@ -15,33 +15,6 @@ returns-in_err-collector g c =
           g.I.Source.known c.args.input.now g.O.Sink.known c.args.out.now g.E.Sink.known c.args.err.now);
     }
 
-pub returns-in_err-cutter : goal.returns-in_err-cutter
-returns-in_err-cutter g c =
-    let p = err_from_is_err_and c.from_residual-in_err-cutter.result c.from_residual-in_err-cutter.ensures.1 in
-    record {
-      run = rw (p.1 ∙ ap Err p.2)
-          (memory_run c.read_one_way.ensures c.read_some_way.ensures c.packets_in_front.ensures _ c.args.carry c.args.told.now
-          g.I.Source.known c.args.input.now g.O.Sink.known c.args.out.now g.E.Sink.known c.args.err.now);
-    }
-
-pub returns-in_err-packets : goal.returns-in_err-packets
-returns-in_err-packets g c =
-    let p = err_from_is_err_and c.from_residual-in_err-packets.result c.from_residual-in_err-packets.ensures.1 in
-    record {
-      run = rw (p.1 ∙ ap Err p.2)
-          (memory_run c.read_one_way.ensures c.read_some_way.ensures c.packets_in_front.ensures _ c.args.carry c.args.told.now
-          g.I.Source.known c.args.input.now g.O.Sink.known c.args.out.now g.E.Sink.known c.args.err.now);
-    }
-
-pub returns-in_err-lines : goal.returns-in_err-lines
-returns-in_err-lines g c =
-    let p = err_from_is_err_and c.from_residual-in_err-lines.result c.from_residual-in_err-lines.ensures.1 in
-    record {
-      run = rw (p.1 ∙ ap Err p.2)
-          (memory_run c.read_one_way.ensures c.read_some_way.ensures c.packets_in_front.ensures _ c.args.carry c.args.told.now
-          g.I.Source.known c.args.input.now g.O.Sink.known c.args.out.now g.E.Sink.known c.args.err.now);
-    }
-
 pub returns : goal.returns
 returns g c =
     let run = c.convert_packets-converted in
@@ -50,9 +23,9 @@ returns g c =
       run = rw c.ending.ensures
           (convert_run c.read_one_way.ensures c.read_some_way.ensures c.packets_in_front.ensures _ c.args.carry (ending_of run.result clean) run.new.progress.told
           g.I.Source.known c.args.input.now run.new.input g.O.Sink.known c.args.out.now run.new.out g.E.Sink.known c.args.err.now run.new.err
-          (as_told c.args.window c.args.first c.args.frames c.args.carry c.in_ok-cutter.cutter c.in_ok-collector.collector (ending_of run.result clean) run.new.progress.told
+          (as_told c.args.window c.args.first c.args.frames c.args.carry c.in_ok-collector.cutter c.in_ok-collector.collector (ending_of run.result clean) run.new.progress.told
           (g.I.Source.known c.args.input.now) (g.I.Source.known run.new.input) (g.O.Sink.known c.args.out.now) (g.O.Sink.known run.new.out) (g.E.Sink.known c.args.err.now) (g.E.Sink.known run.new.err)
-          c.in_ok-collector.ensures c.in_ok-cutter.ensures run.ensures.ends)
+          c.in_ok-collector.ensures.0 c.in_ok-collector.ensures.1 run.ensures.ends)
           (λ is. absurd (not_memory run.result clean is))
           (counts_as (by_read run.result clean) (λ is. ap (λ r. ending_of r clean) is) run.ensures.read)
           (counts_as (by_write run.result clean) (λ is. ap (λ r. ending_of r clean) is) run.ensures.write));

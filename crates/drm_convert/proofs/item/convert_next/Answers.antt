@@ -1,5 +1,4 @@
-use Rattle.std.proofs.Common.{ℕ, Option, ap, subst, ◌∙◌}
-use Rattle.std.specs.Prelude.{unwrap_or}
+use Rattle.std.proofs.Common.{ℕ, Option, ap, subst, ◌∙◌, unwrap_or}
 use Rattle.dcp_collect.specs.View.{item_of}
 use Rattle.drm_convert.specs.Steps.{ConvertsOne}
 use Rattle.drm_convert.proofs.item.convert_next.Goals as goal

@@ -7,8 +7,7 @@ use Rattle.drm_gate.proofs.gate.passed_all.Goals as goal
 
 pub over-requires : goal.over-requires
 over-requires g c =
-    let most = mul-le-mul c.requires.links c.requires.sent in
-    omega (arith, most)
+    omega (arith, mul-le-mul c.requires.links c.requires.sent)
 
 pub returns-then-all_up : goal.returns-then-all_up
 returns-then-all_up g c =

@@ -1,8 +1,7 @@
 use Rattle.std.proofs.Common.{List, ap, subst, ◌∙◌}
-use Rattle.drm_links.specs.Link.{Answer}
+use Rattle.recv_reading.proofs.Common.{Answer, options_of}
 use Rattle.recv_reading.specs.declared.options.ReceiveOptions.{ReceiveOptions}
 use Rattle.recv_reading.specs.declared.source.SourceFault.{SourceFault}
-use Rattle.recv_reading.specs.Options.{options_of}
 use Rattle.recv_reading.specs.Source.{ReadSoFar, HeardUntil, StopsReading}
 use Rattle.recv_reading.proofs.Sources.{read_none}
 use Rattle.mod_receiver.specs.declared.reading.ReceiveFault.TheVariants as fault

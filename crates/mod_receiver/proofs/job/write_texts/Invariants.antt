@@ -1,5 +1,4 @@
-use Rattle.std.proofs.Common.{◌≡◌, take}
-use Rattle.std.specs.List.{flat_map}
+use Rattle.std.proofs.Common.{◌≡◌, take, flat_map}
 use Rattle.drm_links.specs.Sink.{Outputs}
 use Rattle.mod_receiver.specs.Jobs.{text_of}
 use Rattle.mod_receiver.proofs.job.write_texts.Given as goal

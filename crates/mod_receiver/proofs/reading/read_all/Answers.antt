@@ -1,27 +1,27 @@
-use Rattle.std.proofs.Common.{◌≡◌, ◌++◌, ◌∷◌, [], Option, Ok, Err, refl, sym, ◌∙◌, ap, subst, true, false, arith}
-use Rattle.std.specs.Prelude.{IsOk}
+use Rattle.std.proofs.Common.{◌≡◌, ◌++◌, ◌∷◌, [], List, Err, refl, sym, ◌∙◌, ap, subst, true, false, arith, IsOk}
 use Rattle.std.proofs.lemmas.Result.{err_from_is_err_and}
 use Rattle.drm_links.proofs.ToldLemmas.{done_counts}
 use Rattle.drm_links.proofs.WritingLemmas.{Writes-done, Writes-front}
-use Rattle.dcp_collect.specs.declared.taken.Taken.{Taken}
-use Rattle.dcp_collect.specs.State.{after_item}
+use Rattle.recv_reading.proofs.Common.{Answer, State, after_item, options_of, Reached}
 use Rattle.text_pieces.proofs.GatheringLemmas.{put_done, put_failed}
-use Rattle.recv_reading.specs.Options.{options_of}
-use Rattle.recv_reading.specs.Reached.{Reached, ReadsOn}
-use Rattle.recv_reading.proofs.Finishing.{IsOver, gives_so, gives_none, waits_now}
-use Rattle.mod_receiver.specs.Progress.{Progress}
-use Rattle.mod_receiver.proofs.Coming.{none_answered, progress_none, progress_one, stops_at, progress_out, stops_out, progress_taken, progress_on, breaks_off, wrote_all, few_refused}
+use Rattle.recv_reading.specs.declared.source.SourceFault.{SourceFault}
+use Rattle.recv_reading.proofs.Finishing.{gives_so}
+use Rattle.recv_reading.proofs.Looping.{loop_none, rests_over, rests_waiting, loop_rests}
+use Rattle.mod_receiver.specs.Progress.{HasPrinted}
+use Rattle.mod_receiver.proofs.Coming.{none_printed, progress_one, stops_at, progress_out, stops_out, progress_on, breaks_off, wrote_all, few_refused}
 use Rattle.mod_receiver.proofs.reading.read_all.Goals as goal
 
 pub answers-init : goal.answers-init
-answers-init g c = (
-  progress_none (options_of c.args.collector.now c.args.reading.now.bounds) (g.R.Datagrams.so_far c.args.from.now c.args.room.now c.args.from.now) (g.O.Sink.known c.args.out.now)
-      c.args.reading.now c.args.collector.now c.args.feed.now c.args.tally.now c.args.lines.now
-      c.requires.options c.requires.reading c.requires.collector c.requires.feed c.requires.tally c.requires.lines c.requires.nothing_came,
-  refl,
-  refl,
-  c.requires.room,
-)
+answers-init g c =
+    let out = g.O.Sink.known c.args.out.now in (
+      loop_none (options_of c.args.collector.now c.args.bounds) (g.R.Datagrams.so_far c.args.from.now c.args.room.now c.args.from.now) (HasPrinted out out c.args.feed.now c.args.tally.now c.args.lines.now)
+          c.new-reading.result c.args.collector.now c.requires.options c.new-reading.ensures c.requires.collector c.requires.nothing_came
+          (none_printed out c.args.collector.now c.args.feed.now c.args.tally.now c.args.lines.now (ap (λ (s : State). s.next) c.requires.collector)
+          c.requires.feed c.requires.tally c.requires.lines),
+      refl,
+      refl,
+      c.requires.room,
+    )
 
 pub returns-in_err-write_next-clause-stopped : goal.returns-in_err-write_next-clause-stopped
 returns-in_err-write_next-clause-stopped g c =
@@ -34,7 +34,7 @@ returns-in_err-write_next-clause-stopped g c =
 
 pub answers-preserved-then-gives : goal.answers-preserved-then-gives
 answers-preserved-then-gives g c =
-    let options = options_of c.args.collector.now c.args.reading.now.bounds in
+    let options = options_of c.args.collector.now c.args.bounds in
     let i = c.answers.invariant in
     let p = i.0 in
     let w = c.write_next.ensures.next in
@@ -58,76 +58,39 @@ returns-in_err-flush-clause-stopped g c =
 
 pub returns-then-has_ended-clause-finished : goal.returns-then-has_ended-clause-finished
 returns-then-has_ended-clause-finished g c =
-    let options = options_of c.args.collector.now c.args.reading.now.bounds in
-    let came = g.R.Datagrams.so_far c.args.from.now c.answers.room c.answers.from in
-    let (over, same) = gives_none c.gives.result c.answers.reading c.answers.collector c.gives.new.self c.gives.ensures.gives c.if-gives.false in
-    let out = progress_out _ _ _ _ _ _ _ _ _ c.answers.invariant.0 (g.O.Sink.known c.flush.new.out) (Writes-done c.in_ok-flush.was c.flush.ensures.writes) in
-    let here : Progress options came (g.O.Sink.known c.args.out.now) (g.O.Sink.known c.flush.new.out) c.gives.new.self c.answers.collector c.answers.feed c.answers.tally [] =
-    subst (λ s. Progress options came (g.O.Sink.known c.args.out.now) (g.O.Sink.known c.flush.new.out) s c.answers.collector c.answers.feed c.answers.tally []) (sym same) out in
-    wrote_all _ _ _ _ _ _ _ _ _ here refl (sym c.has_ended.ensures ∙ c.if-has_ended.true) (subst (λ s. IsOver s c.answers.collector) (sym same) over)
+    let rests = loop_rests _ _ _ _ _ c.answers.invariant.0 c.gives.result c.gives.new.self c.gives.ensures.gives c.if-gives.false in
+    let here = progress_out _ _ _ _ _ _ _ _ _ rests (g.O.Sink.known c.flush.new.out) [] (Writes-done c.in_ok-flush.was c.flush.ensures.writes) refl in
+    rw c.word.ensures
+    (wrote_all _ _ _ _ _ _ _ _ _ here refl (sym c.has_ended.ensures ∙ c.if-has_ended.true) (rests_over c.gives.result c.answers.reading c.answers.collector c.gives.new.self c.gives.ensures.gives c.if-gives.false))
 
 pub read_on-requires-clause-waits : goal.read_on-requires-clause-waits
 read_on-requires-clause-waits g c =
-    let (over, same) = gives_none c.gives.result c.answers.reading c.answers.collector c.gives.new.self c.gives.ensures.gives c.if-gives.false in
-    waits_now c.gives.new.self c.answers.collector (subst (λ s. IsOver s c.answers.collector) (sym same) over) (sym c.has_ended.ensures ∙ c.if-has_ended.false)
+    rests_waiting c.gives.result c.answers.reading c.answers.collector c.gives.new.self c.gives.ensures.gives c.if-gives.false (sym c.has_ended.ensures ∙ c.if-has_ended.false)
 
 pub returns-in_err-taken-clause-stopped : goal.returns-in_err-taken-clause-stopped
 returns-in_err-taken-clause-stopped g c =
-    let options = options_of c.args.collector.now c.args.reading.now.bounds in
-    let came = g.R.Datagrams.so_far c.args.from.now c.answers.room c.answers.from in
     let e = err_from_is_err_and c.from_residual-in_err-taken.result c.from_residual-in_err-taken.ensures.1 in
-    let (over, same) = gives_none c.gives.result c.answers.reading c.answers.collector c.gives.new.self c.gives.ensures.gives c.if-gives.false in
-    let out = progress_out _ _ _ _ _ _ _ _ _ c.answers.invariant.0 (g.O.Sink.known c.flush.new.out) (Writes-done c.in_ok-flush.was c.flush.ensures.writes) in
-    let p : Progress options came (g.O.Sink.known c.args.out.now) (g.O.Sink.known c.flush.new.out) c.gives.new.self c.answers.collector c.answers.feed c.answers.tally [] =
-    subst (λ s. Progress options came (g.O.Sink.known c.args.out.now) (g.O.Sink.known c.flush.new.out) s c.answers.collector c.answers.feed c.answers.tally []) (sym same) out in
-    let waits = waits_now c.gives.new.self c.answers.collector (subst (λ s. IsOver s c.answers.collector) (sym same) over) (sym c.has_ended.ensures ∙ c.if-has_ended.false) in
+    let rests = loop_rests _ _ _ _ _ c.answers.invariant.0 c.gives.result c.gives.new.self c.gives.ensures.gives c.if-gives.false in
+    let p = progress_out _ _ _ _ _ _ _ _ _ rests (g.O.Sink.known c.flush.new.out) [] (Writes-done c.in_ok-flush.was c.flush.ensures.writes) refl in
+    let waits = rests_waiting c.gives.result c.answers.reading c.answers.collector c.gives.new.self c.gives.ensures.gives c.if-gives.false (sym c.has_ended.ensures ∙ c.if-has_ended.false) in
     rw (e.1 ∙ ap Err e.2)
     (breaks_off _ _ _ _ _ _ _ _ _ p refl (g.R.Datagrams.so_far c.args.from.now c.read_on.new.room c.read_on.new.from) (λ fault. g.R.Datagrams.until c.args.from.now fault c.read_on.new.from) c.in_err-taken.field-0.0
-    c.read_on.new.self c.read_on.new.collector waits (c.in_err-taken.ensures.reads c.args.from.now options p.answers p.taken p.during p.more p.heard p.reached))
+    c.read_on.new.self c.read_on.new.collector waits (c.in_err-taken.ensures.reads c.args.from.now _ p.answers p.taken p.during p.more p.heard p.reached))
 
 pub note-requires : goal.note-requires
 note-requires g c =
     let p = c.answers.invariant.0 in
-    let few = few_refused _ _ _ _ _ _ _ _ _ p in
-    let most = p.reached.most in
-    let far = p.reached.usable.most_datagrams in
-    omega (arith, few, most, far)
-
-pub answers-preserved-in-Some : goal.answers-preserved-in-Some
-answers-preserved-in-Some g c =
-    let options = options_of c.args.collector.now c.args.reading.now.bounds in
-    let i = c.answers.invariant in
-    let came = g.R.Datagrams.so_far c.args.from.now c.answers.room c.answers.from in
-    let came' = g.R.Datagrams.so_far c.args.from.now c.read_on.new.room c.read_on.new.from in
-    let (over, same) = gives_none c.gives.result c.answers.reading c.answers.collector c.gives.new.self c.gives.ensures.gives c.if-gives.false in
-    let out = progress_out _ _ _ _ _ _ _ _ _ i.0 (g.O.Sink.known c.flush.new.out) (Writes-done c.in_ok-flush.was c.flush.ensures.writes) in
-    let p : Progress options came (g.O.Sink.known c.args.out.now) (g.O.Sink.known c.flush.new.out) c.gives.new.self c.answers.collector c.answers.feed c.answers.tally c.flush.new.self =
-    subst (λ s. Progress options came (g.O.Sink.known c.args.out.now) (g.O.Sink.known c.flush.new.out) s c.answers.collector c.answers.feed c.answers.tally c.flush.new.self) (sym same)
-    (subst (λ l. Progress options came (g.O.Sink.known c.args.out.now) (g.O.Sink.known c.flush.new.out) c.answers.reading c.answers.collector c.answers.feed c.answers.tally l) (sym c.in_ok-flush.ensures.none) out) in
-    let reads = c.in_ok-taken.ensures.reads c.args.from.now options p.answers p.taken p.during p.more p.heard p.reached in (
-      progress_taken _ _ _ _ _ _ _ _ _ p c.in_ok-flush.ensures.none came' (λ fault. g.R.Datagrams.until c.args.from.now fault c.read_on.new.from) c.in-Some.taken c.read_on.new.self c.read_on.new.collector c.note.new.self c.taken-number.result
-          (subst (λ (o : Option Taken). ReadsOn came' (λ fault. g.R.Datagrams.until c.args.from.now fault c.read_on.new.from) options p.answers p.taken (p.during ++ p.more) (Ok o) c.read_on.new.self c.read_on.new.collector) c.in-Some.is reads)
-          c.taken-number.ensures c.note.ensures,
-      c.in_ok-taken.ensures.cause.same (λ failed. failed) ∙ i.1,
-      done_counts c.in_ok-flush.was c.flush.ensures.writes.cause ∙ i.2,
-      c.read_on.ensures.room,
-    )
+    omega (arith, few_refused _ _ _ _ _ _ _ _ _ p, p.reached.most, p.reached.usable.most_datagrams)
 
 pub answers-preserved : goal.answers-preserved
 answers-preserved g c =
-    let options = options_of c.args.collector.now c.args.reading.now.bounds in
     let i = c.answers.invariant in
-    let came = g.R.Datagrams.so_far c.args.from.now c.answers.room c.answers.from in
-    let came' = g.R.Datagrams.so_far c.args.from.now c.read_on.new.room c.read_on.new.from in
-    let (over, same) = gives_none c.gives.result c.answers.reading c.answers.collector c.gives.new.self c.gives.ensures.gives c.if-gives.false in
-    let out = progress_out _ _ _ _ _ _ _ _ _ i.0 (g.O.Sink.known c.flush.new.out) (Writes-done c.in_ok-flush.was c.flush.ensures.writes) in
-    let p : Progress options came (g.O.Sink.known c.args.out.now) (g.O.Sink.known c.flush.new.out) c.gives.new.self c.answers.collector c.answers.feed c.answers.tally c.flush.new.self =
-    subst (λ s. Progress options came (g.O.Sink.known c.args.out.now) (g.O.Sink.known c.flush.new.out) s c.answers.collector c.answers.feed c.answers.tally c.flush.new.self) (sym same)
-    (subst (λ l. Progress options came (g.O.Sink.known c.args.out.now) (g.O.Sink.known c.flush.new.out) c.answers.reading c.answers.collector c.answers.feed c.answers.tally l) (sym c.in_ok-flush.ensures.none) out) in
-    let reads = c.in_ok-taken.ensures.reads c.args.from.now options p.answers p.taken p.during p.more p.heard p.reached in (
-      progress_on _ _ _ _ _ _ _ _ _ p c.in_ok-flush.ensures.none came' (λ fault. g.R.Datagrams.until c.args.from.now fault c.read_on.new.from) c.read_on.new.self c.read_on.new.collector
-          (subst (λ (o : Option Taken). ReadsOn came' (λ fault. g.R.Datagrams.until c.args.from.now fault c.read_on.new.from) options p.answers p.taken (p.during ++ p.more) (Ok o) c.read_on.new.self c.read_on.new.collector)
-          (none_answered c.in_ok-taken.field-0 c.in_default.not-Some) reads),
+    let came = g.R.Datagrams.so_far c.args.from.now c.read_on.new.room c.read_on.new.from in
+    let breaks : SourceFault → List Answer → Type 0 = λ fault. g.R.Datagrams.until c.args.from.now fault c.read_on.new.from in
+    let rests = loop_rests _ _ _ _ _ i.0 c.gives.result c.gives.new.self c.gives.ensures.gives c.if-gives.false in
+    let p = progress_out _ _ _ _ _ _ _ _ _ rests (g.O.Sink.known c.flush.new.out) c.flush.new.self (Writes-done c.in_ok-flush.was c.flush.ensures.writes) c.in_ok-flush.ensures.none in
+    let reads = c.in_ok-taken.ensures.reads c.args.from.now _ p.answers p.taken p.during p.more p.heard p.reached in (
+      progress_on _ _ _ _ _ _ _ _ _ p c.in_ok-flush.ensures.none came breaks c.in_ok-taken.taken c.read_on.new.self c.read_on.new.collector c.note.new.tally c.taken-number.result reads c.taken-number.ensures c.note.ensures,
       c.in_ok-taken.ensures.cause.same (λ failed. failed) ∙ i.1,
       done_counts c.in_ok-flush.was c.flush.ensures.writes.cause ∙ i.2,
       c.read_on.ensures.room,

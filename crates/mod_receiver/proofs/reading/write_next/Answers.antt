@@ -1,7 +1,7 @@
 use Rattle.std.proofs.Common.{◌∙◌, sym}
 use Rattle.dcp_collect.specs.View.{item_of}
 use Rattle.mod_feed.specs.Feeding.{step_of}
-use Rattle.mod_receiver.proofs.Coming.{number_is}
+use Rattle.mod_feed.proofs.FeedingLemmas.{number_is}
 use Rattle.mod_receiver.proofs.reading.write_next.Goals as goal
 
 pub returns-clause-next : goal.returns-clause-next

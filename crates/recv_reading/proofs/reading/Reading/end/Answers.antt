@@ -1,9 +1,6 @@
 use Rattle.std.proofs.Common.{◌++◌, ◌∷◌, [], ◌<◌, sym, ap, subst}
-use Rattle.drm_links.specs.Link.{End}
-use Rattle.dcp_collect.specs.State.{State}
+use Rattle.recv_reading.proofs.Common.{End, State, ahead, Reached}
 use Rattle.recv_reading.specs.declared.reason.EndWord.TheVariants as word
-use Rattle.recv_reading.specs.State.{ahead}
-use Rattle.recv_reading.specs.Reached.{Reached}
 use Rattle.recv_reading.proofs.Reaching.{reached_end, less_ended, unfinished, few_frames}
 use Rattle.recv_reading.proofs.reading.Reading.end.Goals as goal
 

@@ -1,9 +1,7 @@
 use Rattle.std.proofs.Common.{ℕ, ◌≡◌, ◌+◌, ◌^◌, ◌++◌, ◌∷◌, [], ◌<◌, ◌≤◌, IfSome, arith, sym, ap, subst, ◌∙◌}
-use Rattle.drm_links.specs.Link.{Idle}
-use Rattle.dcp_collect.specs.State.{State, after_finish}
+use Rattle.recv_reading.proofs.Common.{Idle, State, after_finish, ReadingState, ahead, Reached}
 use Rattle.recv_reading.specs.declared.reason.EndWord.TheVariants as word
-use Rattle.recv_reading.specs.State.{ReadingState, one_idle, ended_by, ahead}
-use Rattle.recv_reading.specs.Reached.{Reached}
+use Rattle.recv_reading.specs.State.{one_idle, ended_by}
 use Rattle.recv_reading.proofs.Reaching.{fewer_idles, reached_idle, reached_last_idle, less_idle, less_last_idle, unfinished, few_frames}
 use Rattle.recv_reading.proofs.reading.Reading.idle.Goals as goal
 

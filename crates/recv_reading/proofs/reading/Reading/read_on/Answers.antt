@@ -1,9 +1,7 @@
 use Rattle.std.proofs.Common.{◌++◌, [], ◌<◌, sym, ap, subst, ◌∙◌}
 use Rattle.std.proofs.lemmas.List.{append-nil}
-use Rattle.dcp_collect.specs.State.{State}
+use Rattle.recv_reading.proofs.Common.{State, ReadingState, ahead, Reached}
 use Rattle.recv_reading.specs.declared.reason.EndWord.TheVariants as word
-use Rattle.recv_reading.specs.State.{ReadingState, ahead}
-use Rattle.recv_reading.specs.Reached.{Reached}
 use Rattle.recv_reading.proofs.Reaching.{reached_limit, less_ended, unfinished, few_frames}
 use Rattle.recv_reading.proofs.reading.Reading.read_on.Goals as goal
 
