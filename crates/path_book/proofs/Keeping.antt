@@ -1,25 +1,26 @@
 -- What a journal keeps, as it grows.
-use Rattle.std.proofs.Common.{◌≡◌, ℕ, zero, suc, ◌+◌, ◌≤◌, nat_le, min, Bool, true, false, if◌then◌else◌, List, [], ◌∷◌, ◌++◌, map, length, Option, None, Some, Result, Ok, Err, OnOk, OnErr, is_err, IsTrue, ◌↔◌, refl, sym, ◌∙◌, ap, subst, arith, append_assoc}
-use Rattle.std.proofs.lemmas.List.{append-nil, map-append, length-map}
-use Rattle.dcp_collect.specs.declared.taken.Taken.{Taken}
-use Rattle.dcp_collect.specs.State.{State, made, ready, after_finish}
-use Rattle.dcp_collect.specs.Runs.{Takes, up_to}
-use Rattle.collect_laws.specs.Laws.{IsFit}
-use Rattle.collect_laws.proofs.Runs.{steps_more, steps_count}
-use Rattle.drm_switches.specs.Tracker.{TrackerState, new_tracker}
-use Rattle.mod_feed.specs.Feeding.{FeedStep, Feeds}
+use Rattle.std.proofs.Common.{◌≡◌, ℕ, zero, suc, ◌+◌, ◌-◌, ◌≤◌, nat_le, min, IfSome, Bool, true, false, if◌then◌else◌, List, [], ◌∷◌, ◌++◌, map, length, take, Option, None, Some, Result, Ok, Err, OnOk, OnErr, is_err, IsTrue, ◌↔◌, refl, sym, ◌∙◌, ap, subst, arith, append_assoc}
+use Rattle.std.proofs.lemmas.List.{append-nil, map-append, length-map, length-take}
+use Rattle.recv_reading.proofs.Common.{Taken, State, made, ready, after_item, after_finish, Item, Takes, up_to, IsFit, Given}
+use Rattle.recv_reading.proofs.Common.{is_full}
 use Rattle.recv_reading.specs.declared.reason.EndWord.{EndWord}
+use Rattle.collect_laws.proofs.Runs.{steps_more, steps_count, gives_given}
+use Rattle.collect_laws.proofs.Fit.{fit_given}
+use Rattle.drm_switches.specs.Tracker.{TrackerState, new_tracker}
+use Rattle.mod_feed.specs.Items.{seen_in}
+use Rattle.mod_feed.specs.Feeding.{FeedStep, Feeds, after_step}
+use Rattle.mod_feed.proofs.FeedingLemmas.{feedings_join, stepped_calls, feeds_calls}
 use Rattle.recv_reading.specs.declared.reason.EndWord.TheVariants as word
 use Rattle.report_lines.specs.Report.{feed_line, end_line}
 use Rattle.report_lines.specs.Reports.{refusals, refused_text, steps_text}
 use Rattle.report_lines.specs.Tallies.{Tallied, new_tally, noted, counted, items_in, with_steps, tally_of}
-use Rattle.recv_reading.specs.State.{is_full}
-use Rattle.path_book.specs.Lines.{steps_before, KeepsPace, WritesAll, CountsFirst}
-use Rattle.recv_reading.proofs.Giving.{steps_many, gives_ready}
+use Rattle.path_book.specs.Lines.{left_of, HasFed, WritesAll, CountsFirst}
+use Rattle.recv_reading.proofs.Reaching.{le_not}
+use Rattle.recv_reading.proofs.Finishing.{giving}
+use Rattle.recv_reading.proofs.Giving.{steps_many}
 use Rattle.report_lines.proofs.CountLemmas.{steps_counted, answer_noted, refusals_few, refusals_told, last_told, clean_is}
 use Rattle.report_lines.proofs.RefusalLemmas.{AreTold}
-use Rattle.report_lines.proofs.StepLemmas.{text_more}
-use Rattle.path_book.proofs.Printing.{ends, feeds_more}
+use Rattle.report_lines.proofs.StepLemmas.{one_more, text_more}
 use Rattle.path_book.specs.declared.settings.Settings.{Settings}
 use Rattle.path_book.specs.Report.{IsReportSoFar, IsFrontSoFar, IsReportOf, word_for}
 use Rattle.path_book.specs.declared.journal.Journal.TheInside.{Inside}
@@ -44,51 +45,62 @@ so_far_none by = record {
   text_is = sym (append-nil (feed_line 1));
 }
 
-so_far_new : (by : Settings) (ds : List (List ℕ)) (c : State) (f : TrackerState) (t : Tallied) (text : List ℕ)
-    → ds ≡ [] → c ≡ made by.window by.first → f ≡ new_tracker → t ≡ new_tally → text ≡ feed_line 1 → IsReportSoFar by ds c f t text
-so_far_new by ds c f t text none is_made is_new is_empty is_first =
-    subst (λ es. IsReportSoFar by es c f t text) (sym none)
-    (subst (λ d. IsReportSoFar by [] d f t text) (sym is_made)
-    (subst (λ g. IsReportSoFar by [] (made by.window by.first) g t text) (sym is_new)
-    (subst (λ u. IsReportSoFar by [] (made by.window by.first) new_tracker u text) (sym is_empty)
-    (subst (λ l. IsReportSoFar by [] (made by.window by.first) new_tracker new_tally l) (sym is_first) (so_far_none by)))))
-
-pace_none : (told : Option ℕ) (window : ℕ) (first : Option ℕ) → KeepsPace told (made window first) new_tracker new_tally
-pace_none None window first = record { calls = refl; items = omega arith }
-pace_none (Some n) window first = record { calls = omega arith; items = omega arith }
-
-pace_new : (told : Option ℕ) (window : ℕ) (first : Option ℕ) (c : State) (f : TrackerState) (t : Tallied) → c ≡ made window first → f ≡ new_tracker → t ≡ new_tally → KeepsPace told c f t
-pace_new told window first c f t is_made is_new is_empty =
-    subst (λ d. KeepsPace told d f t) (sym is_made)
-    (subst (λ g. KeepsPace told (made window first) g t) (sym is_new)
-    (subst (λ u. KeepsPace told (made window first) new_tracker u) (sym is_empty) (pace_none told window first)))
-
-none_ready : (window : ℕ) (first : Option ℕ) → ready (made window first) ≡ false
-none_ready window first = refl
-
-fit_made : (window : ℕ) (first : Option ℕ) → 1 ≤ window → IsFit (made window first)
-fit_made window first some = (some, tt)
-
 pub sound_new : (j : Inside) → AreInRange j.settings → j.entries.items ≡ [] → j.collector ≡ made j.settings.window j.settings.first → j.feed ≡ new_tracker → j.counts ≡ new_tally
     → j.text.items ≡ feed_line 1 → j.stopped ≡ false → IsSound j
 sound_new j range none is_made is_new is_empty is_first goes = record {
   range = range;
   kept = record {
-    whole = λ e. so_far_new j.settings (datagrams (map entry_of j.entries.items)) j.collector j.feed j.counts j.text.items (ap (λ es. datagrams (map entry_of es)) none) is_made is_new is_empty is_first;
+    whole = λ e. rw (ap (λ es. datagrams (map entry_of es)) none, is_made, is_new, is_empty, is_first) (so_far_none j.settings);
     front = λ e. absurd (let x : true ≡ false = sym e ∙ goes in cc);
   };
-  goes_on = λ e. record {
-    fit = subst IsFit (sym is_made) (fit_made j.settings.window j.settings.first range.some_window);
-    pace = pace_new j.settings.frames j.settings.window j.settings.first j.collector j.feed j.counts is_made is_new is_empty;
-    unfinished = ap (λ (s : State). s.end) is_made;
-    quiet = ap ready is_made ∙ none_ready j.settings.window j.settings.first;
-  };
+  goes_on = λ e. record { fit = rw is_made (range.some_window, tt); unfinished = rw is_made refl; quiet = rw is_made refl };
 }
 
--- ---- a datagram more
+-- ---- what was fed
 
-steps_behind : (text after ss ts : List ℕ) → text ≡ feed_line 1 ++ ss → after ≡ text ++ ts → after ≡ feed_line 1 ++ (ss ++ ts)
-steps_behind text after ss ts was is = is ∙ ap (λ l. l ++ ts) was ∙ append_assoc (feed_line 1) ss ts
+-- each step was counted
+fed_counts : (f after : TrackerState) (given : List Item) (steps : List FeedStep) (t : Tallied) → Feeds f given steps after → items_in t.sums ≡ f.calls → items_in (with_steps t steps).sums ≡ after.calls
+fed_counts f after [] [] t fed same = same ∙ sym (ap (λ (s : TrackerState). s.calls) fed)
+fed_counts f after [] (s ∷ steps) t fed same = absurd fed
+fed_counts f after (g ∷ given) [] t fed same = absurd fed
+fed_counts f after (g ∷ given) (s ∷ steps) t fed same =
+    fed_counts (after_step f s) after given steps (counted t s.item) fed.1 (one_more t.sums s.item ∙ (ap (λ n. n + 1) same ∙ sym (stepped_calls f (seen_in s.item))))
+
+-- this many items are those up to the told number
+abbrev IsToldOf : Option ℕ → List Item → ℕ → Type 0
+IsToldOf told items k = IfSome told (λ n. k ≤ n) × (is_full told k ≡ false → k ≡ length items) × (is_full told k ≡ is_full told (length items))
+
+told_of : (told : Option ℕ) (items : List Item) (k : ℕ) → k ≡ length (up_to told items) → IsToldOf told items k
+told_of None items k is = (tt, (λ room. is), refl)
+told_of (Some n) items k is =
+    let size : k ≡ min n (length items) = is ∙ length-take n items in
+    (omega (arith, size), (λ room. let l = le_not n k room in omega (arith, size, l)), ap (nat_le n) size ∙ least n (length items))
+  where
+    least : (n m : ℕ) → nat_le n (min n m) ≡ nat_le n m
+    least n m = grind arith
+
+take_join : {A : Type 0} (n : ℕ) (xs ys : List A) → take n (xs ++ ys) ≡ take n xs ++ take (n - length xs) ys
+take_join zero [] ys = refl
+take_join (suc n) [] ys = ap (λ k. take k ys) (let e : suc n ≡ suc n - 0 = omega arith in e)
+take_join zero (x ∷ xs) ys = ap (λ k. take k ys) (let e : 0 ≡ 0 - length (x ∷ xs) = omega arith in e)
+take_join (suc n) (x ∷ xs) ys =
+    let e : n - length xs ≡ suc n - length (x ∷ xs) = omega arith in
+    ap (λ l. x ∷ l) (take_join n xs ys ∙ ap (λ k. take n xs ++ take k ys) e)
+
+told_join : (told : Option ℕ) (xs ys : List Item) (k : ℕ) → k ≡ length (up_to told xs) → up_to told (xs ++ ys) ≡ up_to told xs ++ up_to (left_of told k) ys
+told_join None xs ys k is = refl
+told_join (Some n) xs ys k is =
+    let size : k ≡ min n (length xs) = is ∙ length-take n xs in
+    let e : n - length xs ≡ n - k = omega (arith, size) in
+    take_join n xs ys ∙ ap (λ m. take n xs ++ take m ys) e
+
+feeds_more : (told : Option ℕ) (f g : TrackerState) (xs ys : List Item) (ss ts : List FeedStep)
+    → Feeds new_tracker (up_to told xs) ss f → Feeds f (up_to (left_of told f.calls) ys) ts g → Feeds new_tracker (up_to told (xs ++ ys)) (ss ++ ts) g
+feeds_more told f g xs ys ss ts p q =
+    subst (λ l. Feeds new_tracker l (ss ++ ts) g) (sym (told_join told xs ys f.calls (feeds_calls new_tracker f (up_to told xs) ss p ∙ omega arith)))
+    (feedings_join new_tracker f g (up_to told xs) (up_to (left_of told f.calls) ys) ss ts p q)
+
+-- ---- a datagram more
 
 module _ (by : Settings) (ds : List (List ℕ)) (c : State) (f : TrackerState) (t : Tallied) (text : List ℕ) (r : IsReportSoFar by ds c f t text) where
   -- as many answers as datagrams
@@ -99,9 +111,7 @@ module _ (by : Settings) (ds : List (List ℕ)) (c : State) (f : TrackerState) (
   pub refused_few : t.sums.refused ≤ length ds
   refused_few =
       let e : t.sums.refused ≡ length (refusals r.taken) = ap (λ (x : Tallied). x.sums.refused) r.counts in
-      let l : length (refusals r.taken) ≤ length r.taken = refusals_few 0 r.taken in
-      let m : length r.taken ≡ length ds = many in
-      omega (arith, e, l, m)
+      omega (arith, e, refusals_few 0 r.taken, many)
 
   -- what is shown of refusals can be told
   pub refused_told : AreTold t.refused
@@ -109,9 +119,25 @@ module _ (by : Settings) (ds : List (List ℕ)) (c : State) (f : TrackerState) (
       subst (λ (u : Tallied). AreTold u.refused) (sym r.counts)
       (last_told 16 (refusals r.taken) (refusals_told (made by.window by.first) c ds r.taken r.items 0 r.gave))
 
+  -- the feed has the items that were given, up to the told number, and each is counted
+  told_here : IsToldOf by.frames r.items f.calls
+  told_here = told_of by.frames r.items f.calls (feeds_calls new_tracker f (up_to by.frames r.items) r.steps r.feeds ∙ omega arith)
+
+  pub has_fed : HasFed by.frames c.next f t
+  has_fed = record {
+    counted = ap (λ (u : Tallied). items_in u.sums) (r.counts ∙ sym (steps_counted [] r.steps r.taken))
+        ∙ fed_counts new_tracker f (up_to by.frames r.items) r.steps (tally_of [] r.taken) r.feeds (omega arith);
+    within = told_here.0;
+    in_order = λ room. told_here.1 room ∙ sym (steps_count (made by.window by.first) c ds r.taken r.items r.gave ∙ omega arith);
+  }
+
+  -- the reason to end is by what was given
+  pub same_word : word_for by.frames (items_in t.sums) ≡ word_for by.frames (length r.items)
+  same_word = ap (λ (b : Bool). if b then word.Frames else word.Paths) (ap (is_full by.frames) has_fed.counted ∙ told_here.2)
+
   more_text : (after : List ℕ) (ss : List FeedStep) → after ≡ text ++ steps_text ss → after ≡ feed_line 1 ++ steps_text (r.steps ++ ss)
   more_text after ss is =
-      steps_behind text after (steps_text r.steps) (steps_text ss) r.text_is is
+      is ∙ ap (λ l. l ++ steps_text ss) r.text_is ∙ append_assoc (feed_line 1) (steps_text r.steps) (steps_text ss)
       ∙ ap (λ l. feed_line 1 ++ l) (sym (text_more r.steps ss))
 
   module _ (bytes : List ℕ) (answer : Taken) (kept : State) (takes : Takes c bytes answer kept) where
@@ -133,7 +159,7 @@ module _ (by : Settings) (ds : List (List ℕ)) (c : State) (f : TrackerState) (
     -- a datagram was taken, and there was no room for what it made ready
     pub so_far_stops : (after : List ℕ) → IsFit kept → after ≡ text → IsFrontSoFar by (ds ++ bytes ∷ []) after
     so_far_stops after fit same =
-        let more = ends kept fit.0 fit.1 in
+        let more = giving kept fit.0 fit.1 in
         record {
           taken = r.taken ++ answer ∷ [];
           items = r.items;
@@ -148,24 +174,7 @@ module _ (by : Settings) (ds : List (List ℕ)) (c : State) (f : TrackerState) (
 
 -- ---- the end
 
-full_same : (told : Option ℕ) (n k : ℕ) → n ≡ steps_before told k → is_full told n ≡ is_full told k
-full_same None n k e = refl
-full_same (Some told) n k e = ap (λ m. nat_le told m) e ∙ by told k
-  where
-    by : (told k : ℕ) → nat_le told (min k told) ≡ nat_le told k
-    by told k = grind arith
-
-module _ (by : Settings) (ds : List (List ℕ)) (c : State) (f : TrackerState) (t : Tallied) (text : List ℕ) (r : IsReportSoFar by ds c f t text) (pace : KeepsPace by.frames c f t) where
-  -- the reason to end is by what was given
-  same_word : word_for by.frames (items_in t.sums) ≡ word_for by.frames (length r.items)
-  same_word =
-      let next : c.next ≡ 0 + length r.items = steps_count (made by.window by.first) c ds r.taken r.items r.gave in
-      let e : length r.items ≡ c.next = omega (arith, next) in
-      ap (λ (b : Bool). word_by b) (full_same by.frames (items_in t.sums) c.next (pace.items ∙ pace.calls) ∙ ap (is_full by.frames) (sym e))
-    where
-      word_by : Bool → EndWord
-      word_by b = if b then word.Frames else word.Paths
-
+module _ (by : Settings) (ds : List (List ℕ)) (c : State) (f : TrackerState) (t : Tallied) (text : List ℕ) (r : IsReportSoFar by ds c f t text) where
   -- with what is ready at the end, and with its last lines, the report is whole
   pub whole_report : (d : State) (g : TrackerState) (u : Tallied) (after : List ℕ) (clean : Bool) (w : WritesAll by.frames (after_finish c by.frames) d f g t u text after)
       → IsTrue clean ↔ ((u.sums.missing ≡ 0) × (u.sums.bad ≡ 0))
@@ -190,7 +199,7 @@ module _ (by : Settings) (ds : List (List ℕ)) (c : State) (f : TrackerState) (
         after = g;
         feeds = feeds_more by.frames f g r.items w.items r.steps w.steps r.feeds w.feeds;
         text_is = ap (λ x. after ++ tail x (word_for by.frames (items_in t.sums))) counts
-            ∙ ap (λ e. after ++ tail (tally_of ss r.taken) e) same_word
+            ∙ ap (λ e. after ++ tail (tally_of ss r.taken) e) (same_word by ds c f t text r)
             ∙ ap (λ l. l ++ tail (tally_of ss r.taken) (word_for by.frames (length r.items))) (more_text by ds c f t text r after w.steps w.text_is)
             ∙ append_assoc (feed_line 1) (steps_text ss) (tail (tally_of ss r.taken) (word_for by.frames (length r.items)));
         clean_is = clean_is clean u ss r.taken is counts;
@@ -250,17 +259,15 @@ module _ (by : Settings) (es es' : List (ℕ × List ℕ)) (path : ℕ) (bytes :
     first = λ e. subst (λ (x : Tallied). CountsFirst by.frames kept d f g x v) (notes ∙ ap (λ n. noted t n answer) is) (at_err result _ e first);
   }
 
--- it goes on where the lines found room
-pub goes_on : (s : JournalState) {T E : Type 0} (result : Result T E) → s.stopped ≡ is_err result → OnOk result (IsFit s.collector) → OnOk result (KeepsPace s.settings.frames s.collector s.feed s.tally)
-    → s.collector.end ≡ None → OnOk result (ready s.collector ≡ false) → s.stopped ≡ false → IsOpen s
-goes_on s result is fit pace end quiet e = record {
-  fit = at_ok result _ (sym is ∙ e) fit;
-  pace = at_ok result _ (sym is ∙ e) pace;
-  unfinished = end;
-  quiet = at_ok result _ (sym is ∙ e) quiet;
-}
+-- giving keeps the end
+given_end : (items : List Item) (c d : State) → Given c items d → d.end ≡ c.end
+given_end [] c d given = ap (λ s. s.end) given
+given_end (item ∷ items) c d given = given_end items (after_item c) d given.2
 
--- nothing is ready then
-pub quiet_then : {T E : Type 0} (result : Result T E) (told : Option ℕ) (c d : State) (f g : TrackerState) (t u : Tallied) (text after : List ℕ) → OnOk result (WritesAll told c d f g t u text after) → OnOk result (ready d ≡ false)
-quiet_then (Ok x) told c d f g t u text after w = gives_ready w.items c d w.gives
-quiet_then (Err e) told c d f g t u text after w = tt
+-- it goes on where the lines found room
+pub goes_on : (s : JournalState) (kept : State) (f : TrackerState) (t : Tallied) (text : List ℕ) {T E : Type 0} (result : Result T E) → s.stopped ≡ is_err result → IsFit kept → kept.end ≡ None
+    → OnOk result (WritesAll s.settings.frames kept s.collector f s.feed t s.tally text s.text) → s.stopped ≡ false → IsOpen s
+goes_on s kept f t text result is fit open_ ok e =
+    let w = at_ok result _ (sym is ∙ e) ok in
+    let (given, quiet) = gives_given w.items kept s.collector w.gives in
+    record { fit = fit_given w.items kept s.collector w.gives fit; unfinished = given_end w.items kept s.collector given ∙ open_; quiet = quiet }

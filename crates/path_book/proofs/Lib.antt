@@ -1,3 +1,2 @@
-pub mod Draining
 pub mod Keeping
 pub mod Printing

@@ -2,7 +2,6 @@
 use Rattle.std.specs.Prelude.{◌≡◌, map, false, None}
 use Rattle.dcp_collect.specs.State.{ready}
 use Rattle.collect_laws.specs.Laws.{IsFit}
-use Rattle.path_book.specs.Lines.{KeepsPace}
 use Rattle.path_book.specs.declared.journal.Journal.TheInside.{Inside}
 use Rattle.path_book.specs.Journal.{JournalState, AreInRange, entry_of, IsKept}
 
@@ -20,7 +19,6 @@ state j = record {
 -- more datagrams can be taken
 pub record IsOpen (s : JournalState) : Type 0 where
   pub fit : IsFit s.collector
-  pub pace : KeepsPace s.settings.frames s.collector s.feed s.tally
   pub unfinished : s.collector.end ≡ None
   pub quiet : ready s.collector ≡ false
 

@@ -1,10 +1,10 @@
 //! The lines of the items that are ready.
 
-ghost use Rattle.std.specs.Prelude.{◌≡◌, ◌≤◌, ◌<◌, ◌^◌, OnOk, OnErr, IfSome};
-ghost use Rattle.collect_laws.specs.Laws.{IsFit};
+ghost use Rattle.std.specs.Prelude.{◌≡◌, ◌≤◌, ◌<◌, ◌^◌, ◌⊎◌, true, false, OnOk, OnErr, IsErr, IfSome};
+ghost use Rattle.dcp_collect.specs.State.{ready, after_item};
 ghost use Rattle.report_lines.specs.Tallies.{items_in};
 ghost use Rattle.recv_reading.specs.State.{is_full};
-ghost use Rattle.path_book.specs.Lines.{KeepsPace, PrintsAll, WritesAll, CountsFirst};
+ghost use Rattle.path_book.specs.Lines.{HasFed, PrintsNext, Prints, PrintsAll, WritesAll, CountsFirst, GivesRest};
 
 use dcp_collect::Collector;
 use drm_bits::NoMemory;
@@ -24,8 +24,29 @@ pub(crate) fn is_full(counts: &ReportCounts, told: Option<u64>) -> bool
     }
 }
 
-// Gives all that is ready, and writes the lines of the items up to the told number.
-fn drain<O: Sink>(
+// Gives the next item to the feed, counts it, and writes its lines.
+fn print_next<O: Sink>(
+    collector: &mut Collector,
+    feed: &mut Feed,
+    counts: &mut ReportCounts,
+    out: &mut O,
+) -> Result<(), WriteFault>
+    requires is_ready { ready collector.old ≡ true }
+    requires in_order { feed.old.calls ≡ collector.old.next }
+    requires counted { items_in counts.old.sums ≡ collector.old.next }
+    ensures collector { collector.new ≡ after_item collector.old }
+    ensures next { PrintsNext result collector.old feed.old feed.new counts.old counts.new (O.known out.old) (O.known out.new) }
+{
+    let Some(given) = collector.next() else {
+        unreachable!()
+    };
+    let step = feed.step(given);
+    counts.count(&step.item);
+    write_step(out, &step)
+}
+
+// Prints the items that are ready, up to the told number.
+fn print_ready<O: Sink>(
     collector: &mut Collector,
     feed: &mut Feed,
     counts: &mut ReportCounts,
@@ -33,23 +54,42 @@ fn drain<O: Sink>(
     out: &mut O,
 ) -> Result<(), WriteFault>
     requires few { IfSome told (λ n. n ≤ 3000000) }
-    requires fit { IsFit collector.old }
-    requires pace { KeepsPace told collector.old feed.old counts.old }
-    ensures fit { OnOk result (IsFit collector.new) }
-    ensures pace { OnOk result (KeepsPace told collector.new feed.new counts.new) }
-    ensures ready { OnOk result (PrintsAll told collector.old collector.new feed.old feed.new
-        counts.old counts.new (O.known out.old) (O.known out.new)) }
+    requires fed { HasFed told collector.old.next feed.old counts.old }
+    ensures prints { OnOk result (Prints collector.old collector.new feed.old feed.new counts.old counts.new (O.known out.old) (O.known out.new)) }
+    ensures fed { OnOk result (HasFed told collector.new.next feed.new counts.new) }
+    ensures over { OnOk result ((is_full told (items_in counts.new.sums) ≡ true) ⊎ (ready collector.new ≡ false)) }
     ensures first { OnErr result (CountsFirst told collector.old collector.new feed.old feed.new counts.old counts.new) }
-    ensures end { collector.new.end ≡ collector.old.end }
 {
-    while let Some(given) = collector.next() {
-        if is_full(counts, told) {
-            continue;
+    'items: loop {
+        if is_full(counts, told) || !collector.ready() {
+            return Ok(());
         }
-        let step = feed.step(given);
-        counts.count(&step.item);
-        write_step(out, &step)?;
+        print_next(collector, feed, counts, out)?;
     }
+}
+
+// Gives all that is ready.
+fn skip_ready(collector: &mut Collector)
+    ensures { GivesRest collector.old collector.new }
+{
+    'past: while let Some(_given) = collector.next() {}
+}
+
+// Gives all that is ready, and prints the items up to the told number.
+fn give_ready<O: Sink>(
+    collector: &mut Collector,
+    feed: &mut Feed,
+    counts: &mut ReportCounts,
+    told: Option<u64>,
+    out: &mut O,
+) -> Result<(), WriteFault>
+    requires few { IfSome told (λ n. n ≤ 3000000) }
+    requires fed { HasFed told collector.old.next feed.old counts.old }
+    ensures all { OnOk result (PrintsAll told collector.old collector.new feed.old feed.new counts.old counts.new (O.known out.old) (O.known out.new)) }
+    ensures first { OnErr result (CountsFirst told collector.old collector.new feed.old feed.new counts.old counts.new) }
+{
+    print_ready(collector, feed, counts, told, out)?;
+    skip_ready(collector);
     Ok(())
 }
 
@@ -64,18 +104,14 @@ pub(crate) fn write_ready(
     text: &mut Vec<u8>,
 ) -> Result<(), NoMemory>
     requires few { IfSome told (λ n. n ≤ 3000000) }
-    requires fit { IsFit collector.old }
-    requires pace { KeepsPace told collector.old feed.old counts.old }
-    ensures fit { OnOk result (IsFit collector.new) }
-    ensures pace { OnOk result (KeepsPace told collector.new feed.new counts.new) }
+    requires fed { HasFed told collector.old.next feed.old counts.old }
     ensures written { OnOk result (WritesAll told collector.old collector.new feed.old feed.new
         counts.old counts.new text.old.items text.new.items) }
     ensures none { OnErr result (text.new.items ≡ text.old.items) }
     ensures first { OnErr result (CountsFirst told collector.old collector.new feed.old feed.new counts.old counts.new) }
-    ensures end { collector.new.end ≡ collector.old.end }
 {
     let mut lines = ReportBuffer::new(alloc);
-    let Ok(()) = drain(collector, feed, counts, told, &mut lines) else {
+    let Ok(()) = give_ready(collector, feed, counts, told, &mut lines) else {
         return Err(NoMemory);
     };
     if !lines.is_told() {

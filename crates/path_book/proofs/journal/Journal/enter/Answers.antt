@@ -1,9 +1,11 @@
 use Rattle.std.proofs.Common.{◌≡◌, false, length, map, sym, ◌∙◌, ap, subst, arith}
 use Rattle.std.proofs.lemmas.List.{length-map}
 use Rattle.collect_laws.proofs.Fit.{fit_taken}
-use Rattle.recv_reading.proofs.Reaching.{takes_end}
+use Rattle.recv_reading.proofs.Reaching.{takes_next, takes_end}
+use Rattle.report_lines.specs.Tallies.{Tallied, items_in}
+use Rattle.report_lines.proofs.TakenLemmas.{noted_items}
 use Rattle.path_book.specs.Journal.{JournalState, entry_of, datagrams, IsKept, Enters}
-use Rattle.path_book.proofs.Keeping.{refused_few, as_many, entered, enters, goes_on, quiet_then}
+use Rattle.path_book.proofs.Keeping.{refused_few, has_fed, as_many, entered, enters, goes_on}
 use Rattle.path_book.proofs.journal.Journal.enter.Goals as goal
 
 pub note-requires : goal.note-requires
@@ -11,16 +13,16 @@ note-requires c =
     let j = c.self.inside in
     let es = map entry_of j.entries.items in
     let few = refused_few j.settings (datagrams es) j.collector j.feed j.counts j.text.items (c.self.invariant.kept.whole c.if-self.false) in
-    let many = as_many es in
     let size : length es ≡ length j.entries.items = length-map j.entries.items entry_of in
-    let is = c.len.ensures in
-    let least = c.if-len-ge-MOST_ENTRIES.false in
-    let ok = j.entries.ok in
-    omega (arith, few, many, size, is, least, ok)
+    omega (arith, few, as_many es, size, c.len.ensures, c.if-len-ge-MOST_ENTRIES.false, j.entries.ok)
 
-pub write_ready-written-requires-clause-fit : goal.write_ready-written-requires-clause-fit
-write_ready-written-requires-clause-fit c =
-    fit_taken c.self.inside.collector c.take-taken.new.self c.args.datagram.now c.take-taken.result (λ k. (c.type_inv.datagram k).fits) c.take-taken.ensures.takes (c.self.invariant.goes_on c.if-self.false).fit
+pub write_ready-written-requires-clause-fed : goal.write_ready-written-requires-clause-fed
+write_ready-written-requires-clause-fed c =
+    let j = c.self.inside in
+    let fed = has_fed j.settings (datagrams (map entry_of j.entries.items)) j.collector j.feed j.counts j.text.items (c.self.invariant.kept.whole c.if-self.false) in
+    let next = takes_next j.collector c.take-taken.new.self c.args.datagram.now c.take-taken.result c.take-taken.ensures.takes in
+    let same = ap (λ (t : Tallied). items_in t.sums) c.note.ensures ∙ noted_items j.counts c.len-number.result c.take-taken.result in
+    record { counted = same ∙ fed.counted; within = fed.within; in_order = λ room. fed.in_order room ∙ sym next }
 
 pub invariant_of-self-2 : goal.invariant_of-self-2
 invariant_of-self-2 c =
@@ -30,16 +32,16 @@ invariant_of-self-2 c =
     let es = map entry_of j.entries.items in
     let number : c.len-number.result ≡ length es = (let is = c.len-number.ensures in let ok = j.entries.ok in let size : length es ≡ length j.entries.items = length-map j.entries.items entry_of in omega (arith, is, ok, size)) in
     let open_ = c.self.invariant.goes_on c.if-self.false in
-    let fit = fit_taken j.collector c.take-taken.new.self c.args.datagram.now c.take-taken.result (λ k. (c.type_inv.datagram k).fits) c.take-taken.ensures.takes open_.fit in
+    let takes = c.take-taken.ensures.takes in
+    let fit = fit_taken j.collector c.take-taken.new.self c.args.datagram.now c.take-taken.result (λ k. (c.type_inv.datagram k).fits) takes open_.fit in
     let s : JournalState = record { entries = map entry_of c.push_entry.new.entries.items; settings = j.settings; collector = w.collector; feed = w.feed; tally = w.counts; text = w.text.items; stopped = c.is_err-self-inside.result } in
     let kept = entered j.settings es (map entry_of c.push_entry.new.entries.items) c.args.path c.args.datagram.now j.collector c.take-taken.new.self w.collector j.feed w.feed j.counts c.note.new.self w.counts j.text.items w.text.items c.take-taken.result c.len-number.result
-    (c.self.invariant.kept.whole c.if-self.false) c.in-Ok.ensures.pushed number c.take-taken.ensures.takes c.note.ensures r fit c.write_ready-written.ensures.written c.write_ready-written.ensures.none in
+    (c.self.invariant.kept.whole c.if-self.false) c.in-Ok.ensures.pushed number takes c.note.ensures r fit c.write_ready-written.ensures.written c.write_ready-written.ensures.none in
     record {
       range = c.self.invariant.range;
       kept = subst (λ b. IsKept (record s { stopped = b })) (sym c.is_err-self-inside.ensures.value) kept;
-      goes_on = goes_on s r c.is_err-self-inside.ensures.value c.write_ready-written.ensures.fit c.write_ready-written.ensures.pace
-          (c.write_ready-written.ensures.end ∙ takes_end j.collector c.take-taken.new.self c.args.datagram.now c.take-taken.result c.take-taken.ensures.takes ∙ open_.unfinished)
-          (quiet_then r j.settings.frames c.take-taken.new.self w.collector j.feed w.feed c.note.new.self w.counts j.text.items w.text.items c.write_ready-written.ensures.written);
+      goes_on = goes_on s c.take-taken.new.self j.feed c.note.new.self j.text.items r c.is_err-self-inside.ensures.value fit
+          (takes_end j.collector c.take-taken.new.self c.args.datagram.now c.take-taken.result takes ∙ open_.unfinished) c.write_ready-written.ensures.written;
     }
 
 pub returns-clause-took : goal.returns-clause-took
