@@ -1,5 +1,5 @@
 -- The headline of a command that ended with a report.
-use Rattle.std.proofs.Common.{◌≡◌, inl, inr, ℕ, Bool, true, false, List, [], Result, Ok, Err, refl}
+use Rattle.std.proofs.Common.{◌≡◌, inl, inr, ℕ, Bool, true, false, List, [], None, Some, Result, Ok, Err, refl}
 use Rattle.drm_links.specs.Told.{Known}
 use Rattle.drm_links.specs.Shelf.{Files}
 use Rattle.drm_links.specs.Sink.{Output}
@@ -22,8 +22,9 @@ use Rattle.drm_faults.specs.declared.fault.Fault.{Fault}
 use Rattle.drm_faults.specs.declared.fault.Fault.TheVariants as faults
 use Rattle.drm_faults.specs.Fault.{clean_status, fault_status}
 use Rattle.drm_top.specs.Outside.{Outside}
-use Rattle.drm_top.specs.declared.words.Command.{Command}
-use Rattle.drm_top.specs.declared.words.Command.TheVariants.{Fac, Check, Serve, Receive, ReceiveCapture, Air, Show, Exercise, Convert, Gate, Pack, Unpack, Texts}
+use Rattle.drm_words.specs.declared.request.Request.{Request}
+use Rattle.drm_words.specs.declared.request.Request.TheVariants.{Receive, Air}
+use Rattle.drm_top.specs.Words.{options_of}
 use Rattle.drm_top.specs.Command.{CommandRun, Runs}
 use Rattle.drm_top.specs.Headline.{WroteFeeds, HeadlineOfRun}
 
@@ -76,29 +77,21 @@ one_status false true same = cc
 one_status false false same = refl
 
 module _ {S I O E D : Type 0} (clean told : Bool) (o : Outside S I O E D) where
-  of_command : (command : Command) → CommandRun command (Ok clean) told o → HeadlineOfRun command clean o
-  of_command Fac run = tt
-  of_command (Check name) run = tt
-  of_command (Serve name to pace from live) run = tt
-  of_command (Receive addresses rules) run = of_links rules addresses clean o.dock.known o.dock.before o.dock.after o.out.known o.out.before o.out.after run.0
-  of_command (ReceiveCapture rules) run = run.0.writes clean refl
+  of_command : (request : Request) → CommandRun request (Ok clean) told o → HeadlineOfRun request clean o
+  of_command (Receive (Some addresses) window first frames idle limit) run =
+      of_links (options_of window first frames idle limit) addresses clean o.dock.known o.dock.before o.dock.after o.out.known o.out.before o.out.after run.0
+  of_command (Receive None window first frames idle limit) run = run.0.writes clean refl
   of_command (Air name script window) run =
       of_schedule name script window clean o.shelf.known o.shelf.before run.0.between o.shelf.after o.out.known o.out.before o.out.after run.0.came run.0.loads run.0.runs
-  of_command Show run = tt
-  of_command (Exercise n) run = tt
-  of_command (Convert carry window first frames) run = tt
-  of_command (Gate from to carry rules) run = tt
-  of_command (Pack pid length) run = tt
-  of_command (Unpack stream pid length window first frames) run = tt
-  of_command (Texts stream window first frames) run = tt
+  of_command _ run = tt
 
-  of_runs : (command : Command) → Runs command (Ok clean) told o → HeadlineOfRun command clean o
-  of_runs command (inl run) = of_command command run
-  of_runs command (inr (memory, untouched, quiet)) = absurd (no_fault clean faults.NoMemory memory)
+  of_runs : (request : Request) → Runs request (Ok clean) told o → HeadlineOfRun request clean o
+  of_runs request (inl run) = of_command request run
+  of_runs request (inr (memory, untouched, quiet)) = absurd (no_fault clean faults.NoMemory memory)
 
   -- whatever Bool has this status is the one with which the run ended
-  pub headline_of : (command : Command) (other : Bool) → clean_status clean ≡ clean_status other → Runs command (Ok clean) told o → HeadlineOfRun command other o
-  headline_of command other same runs = rw (← one_status clean other same) (of_runs command runs)
+  pub headline_of : (request : Request) (other : Bool) → clean_status clean ≡ clean_status other → Runs request (Ok clean) told o → HeadlineOfRun request other o
+  headline_of request other same runs = rw (← one_status clean other same) (of_runs request runs)
 
 -- the statuses 0 and 7 are those of no fault
 pub not_a_fault : (fault : Fault) (clean : Bool) → fault_status fault ≡ clean_status clean → ⊥

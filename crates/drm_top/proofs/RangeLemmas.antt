@@ -1,9 +1,8 @@
--- The numbers of a command that was read are in their ranges.
+-- The numbers of a request that was read are in their ranges.
 use Rattle.std.proofs.Common.{◌≡◌, ◌≤◌, ℕ, List, [], ◌∷◌, Option, None, Some, IfSome, IsUtf8, sym, subst, arith}
 use Rattle.drm_links.specs.declared.dock.Address.{Address}
-use Rattle.drm_schedule.specs.declared.live.Live.{Live}
 use Rattle.drm_words.specs.declared.request.Request.{Request}
-use Rattle.drm_words.specs.declared.request.Request.TheVariants as requests
+use Rattle.drm_words.specs.declared.request.Request.TheVariants.{Check, Serve, Receive, Air, Exercise, Convert, Gate, Pack, Unpack, Texts}
 use Rattle.drm_words.specs.Table.{Options, IsNumberOr, IsNumberOrNone, IsStretch, IsReading, AreAddressesOrNone, AreAddressesIfTold, HasTextNames}
 use Rattle.drm_words.specs.Line.{IsLine}
 use Rattle.recv_reading.specs.declared.options.ReceiveOptions.{ReceiveOptions}
@@ -14,9 +13,7 @@ use Rattle.word_forms.specs.Carries.{IsCarry}
 use Rattle.drm_links.specs.Dock.{AreDifferent}
 use Rattle.several_links.specs.Listed.{AreListed}
 use Rattle.recv_reading.specs.Options.{AreInRange}
-use Rattle.drm_top.specs.Words.{request_of, IsInRange, IsInStretch}
-use Rattle.drm_top.specs.declared.words.Command.{Command}
-use Rattle.drm_top.specs.declared.words.Command.TheVariants.{Fac, Check, Serve, Receive, ReceiveCapture, Air, Show, Exercise, Convert, Gate, Pack, Unpack, Texts}
+use Rattle.drm_top.specs.Words.{options_of, IsInRange, IsInStretch}
 
 within : (default least greatest n : ℕ) (value : Option (List ℕ)) → least ≤ default → default ≤ greatest → IsNumberOr default least greatest value n → (least ≤ n) × (n ≤ greatest)
 within default least greatest n None low high is = (omega (arith, is, low), omega (arith, is, high))
@@ -33,10 +30,6 @@ listed (text ∷ []) addresses (list, is, are) =
     let same : addresses ≡ list = cc in
     subst AreListed (sym same) (record { some = are.some; few = are.few; different = are.different })
 listed (text ∷ other ∷ texts) addresses is = absurd is
-
--- the request of a reading, with these addresses or of a capture
-abbrev reading_of : Option (List Address) → ReceiveOptions → Request
-reading_of addresses rules = requests.Receive addresses rules.window rules.first rules.frames rules.idle rules.limit
 
 in_reading : (options : Options) (rules : ReceiveOptions) → IsReading options rules.window rules.first rules.frames rules.idle rules.limit → AreInRange rules
 in_reading options rules reading =
@@ -56,24 +49,13 @@ in_reading options rules reading =
       few_datagrams = omega (arith, less);
     }
 
-reads : (words : List (List ℕ)) (addresses : Option (List Address)) (rules : ReceiveOptions) → IsLine words (reading_of addresses rules) → AreInRange rules
-reads words addresses rules line = let asks = line.asks in in_reading _ rules asks.3
-
-lists : (words : List (List ℕ)) (addresses : List Address) (rules : ReceiveOptions) → IsLine words (reading_of (Some addresses) rules) → AreListed addresses
-lists words addresses rules line = let asks = line.asks in listed _ addresses asks.1
+reads : (words : List (List ℕ)) (addresses : Option (List Address)) (window : ℕ) (first frames : Option ℕ) (idle limit : ℕ) → IsLine words (Receive addresses window first frames idle limit)
+    → AreInRange (options_of window first frames idle limit)
+reads words addresses window first frames idle limit line = let asks = line.asks in in_reading _ (options_of window first frames idle limit) asks.3
 
 different : (value : Option (List ℕ)) (to : List Address) → AreAddressesIfTold value to → AreDifferent to
 different None to none = subst AreDifferent (sym none) tt
 different (Some text) to are = are.different
-
-serves : (words : List (List ℕ)) (name : List ℕ) (to : List Address) (pace from : ℕ) (live : Live) → IsLine words (requests.Serve name to pace from live) → (from ≤ 1000000) × AreDifferent to
-serves words name to pace from live line = ((within 0 0 1000000 from _ (omega arith) (omega arith) line.asks.5).1, different _ to line.asks.3)
-
-airs : (words : List (List ℕ)) (name script : List ℕ) (window : ℕ) → IsLine words (request_of (Air name script window)) → (1 ≤ window) × (window ≤ 64)
-airs words name script window line = within 8 1 64 window _ (omega arith) (omega arith) line.asks.3
-
-exercises : (words : List (List ℕ)) (n : ℕ) → IsLine words (request_of (Exercise n)) → (1 ≤ n) × (n ≤ 1000)
-exercises words n line = (line.asks.3.1, line.asks.3.2)
 
 carry_fits : (text : List ℕ) (carry : Carry) → IsCarry text carry → CarryFits carry
 carry_fits text Plain is = tt
@@ -89,47 +71,30 @@ in_stretch options window first frames stretch =
     let some = within_or_none 1 3000000 _ frames stretch.has_frames in
     (size.0, size.1, both frames some.0 some.1)
 
-converts : (words : List (List ℕ)) (carry : Carry) (window : ℕ) (first frames : Option ℕ) → IsLine words (request_of (Convert carry window first frames)) → IsInRange (Convert carry window first frames)
-converts words carry window first frames line = (carry_fits line.asks.1 carry line.asks.3, in_stretch _ window first frames line.asks.5)
-
-gates : (words : List (List ℕ)) (from : Address) (to : List Address) (carry : Carry) (rules : ReceiveOptions) → IsLine words (request_of (Gate from to carry rules)) → IsInRange (Gate from to carry rules)
-gates words from to carry rules line =
-    let are = line.asks.6 in
-    (carry_fits line.asks.3 carry line.asks.7, in_reading _ rules line.asks.9, record { some = are.some; few = are.few; different = are.different })
-
-packs : (words : List (List ℕ)) (pid length : ℕ) → IsLine words (request_of (Pack pid length)) → IsInRange (Pack pid length)
-packs words pid length line = (let few = line.asks.4.2 in omega (arith, few), line.asks.5.1)
-
-unpacks : (words : List (List ℕ)) (stream pid length window : ℕ) (first frames : Option ℕ) → IsLine words (request_of (Unpack stream pid length window first frames))
-    → IsInRange (Unpack stream pid length window first frames)
-unpacks words stream pid length window first frames line = (
+pub in_range : (request : Request) (words : List (List ℕ)) → IsLine words request → HasTextNames request → IsInRange request
+in_range (Check name) words line text = text
+in_range (Serve name to pace from live) words line text =
+    (text, (within 0 0 1000000 from _ (omega arith) (omega arith) line.asks.5).1, different _ to line.asks.3)
+in_range (Receive (Some addresses) window first frames idle limit) words line text =
+    (reads words (Some addresses) window first frames idle limit line, let asks = line.asks in listed _ addresses asks.1)
+in_range (Receive None window first frames idle limit) words line text = reads words None window first frames idle limit line
+in_range (Air name script window) words line text =
+    let range = within 8 1 64 window _ (omega arith) (omega arith) line.asks.3 in
+    (text.0, text.1, range.0, range.1)
+in_range (Exercise n) words line text = (line.asks.3.1, line.asks.3.2)
+in_range (Convert carry window first frames) words line text = (carry_fits line.asks.1 carry line.asks.3, in_stretch _ window first frames line.asks.5)
+in_range (Gate from to carry window first frames idle limit) words line text =
+    let are = line.asks.6 in (
+      carry_fits line.asks.3 carry line.asks.7,
+      in_reading _ (options_of window first frames idle limit) line.asks.9,
+      record { some = are.some; few = are.few; different = are.different },
+    )
+in_range (Pack pid length) words line text = (let few = line.asks.4.2 in omega (arith, few), line.asks.5.1)
+in_range (Unpack stream pid length window first frames) words line text = (
   let few = line.asks.5.2 in omega (arith, few),
   let few = line.asks.6.2 in omega (arith, few),
   line.asks.7.1,
   in_stretch _ window first frames line.asks.9,
 )
-
-tells_texts : (words : List (List ℕ)) (stream window : ℕ) (first frames : Option ℕ) → IsLine words (request_of (Texts stream window first frames)) → IsInRange (Texts stream window first frames)
-tells_texts words stream window first frames line = (let few = line.asks.3.2 in omega (arith, few), in_stretch _ window first frames line.asks.5)
-
-pub in_range : (came : Command) (request : Request) (words : List (List ℕ)) → request ≡ request_of came → IsLine words request → HasTextNames request → IsInRange came
-in_range Fac request words asks line text = tt
-in_range (Check name) request words asks line text = subst HasTextNames asks text
-in_range (Serve name to pace from live) request words asks line text =
-    let range = serves words name to pace from live (subst (λ r. IsLine words r) asks line) in
-    (subst HasTextNames asks text, range.0, range.1)
-in_range (Receive addresses rules) request words asks line text =
-    let named : IsLine words (reading_of (Some addresses) rules) = subst (λ r. IsLine words r) asks line in
-    (reads words (Some addresses) rules named, lists words addresses rules named)
-in_range (ReceiveCapture rules) request words asks line text = reads words None rules (subst (λ r. IsLine words r) asks line)
-in_range (Air name script window) request words asks line text =
-    let names : IsUtf8 name × IsUtf8 script = subst HasTextNames asks text in
-    let range = airs words name script window (subst (λ r. IsLine words r) asks line) in
-    (names.0, names.1, range.0, range.1)
-in_range Show request words asks line text = tt
-in_range (Exercise n) request words asks line text = exercises words n (subst (λ r. IsLine words r) asks line)
-in_range (Convert carry window first frames) request words asks line text = converts words carry window first frames (subst (λ r. IsLine words r) asks line)
-in_range (Gate from to carry rules) request words asks line text = gates words from to carry rules (subst (λ r. IsLine words r) asks line)
-in_range (Pack pid length) request words asks line text = packs words pid length (subst (λ r. IsLine words r) asks line)
-in_range (Unpack stream pid length window first frames) request words asks line text = unpacks words stream pid length window first frames (subst (λ r. IsLine words r) asks line)
-in_range (Texts stream window first frames) request words asks line text = tells_texts words stream window first frames (subst (λ r. IsLine words r) asks line)
+in_range (Texts stream window first frames) words line text = (let few = line.asks.3.2 in omega (arith, few), in_stretch _ window first frames line.asks.5)
+in_range _ words line text = tt

@@ -1,5 +1,5 @@
 -- The runs of the commands.
-use Rattle.std.specs.Prelude.{ℕ, ◌≡◌, ◌⊎◌, Bool, true, false, IsTrue, List, [], ◌∷◌, Result, Err}
+use Rattle.std.specs.Prelude.{ℕ, ◌≡◌, ◌⊎◌, Bool, true, false, IsTrue, List, [], ◌∷◌, None, Some, Result, Err}
 use Rattle.drm_links.specs.Told.{Known}
 use Rattle.drm_links.specs.Sink.{Output}
 use Rattle.drm_links.specs.declared.dock.Address.{Address}
@@ -25,8 +25,9 @@ use Rattle.drm_faults.specs.Fault.{done_of, whole_of, report_status, ReportsIf}
 use Rattle.drm_faults.specs.declared.fault.Fault.{Fault}
 use Rattle.drm_faults.specs.declared.fault.Fault.TheVariants.{NoMemory}
 use Rattle.drm_top.specs.Outside.{Outside, IsStill}
-use Rattle.drm_top.specs.declared.words.Command.{Command}
-use Rattle.drm_top.specs.declared.words.Command.TheVariants.{Fac, Check, Serve, Receive, ReceiveCapture, Air, Show, Exercise, Convert, Gate, Pack, Unpack, Texts}
+use Rattle.drm_top.specs.Words.{options_of}
+use Rattle.drm_words.specs.declared.request.Request.{Request}
+use Rattle.drm_words.specs.declared.request.Request.TheVariants.{Fac, Check, Serve, Receive, Air, Show, Exercise, Convert, Gate, Pack, Unpack, Texts}
 
 -- a run that tells of no frames
 abbrev pub Whole : Result Bool Fault → (Result (Unit {0}) Fault → Type 0) → Type 0
@@ -50,8 +51,8 @@ ServesOver false name addresses pace from live ending o =
 ServesOver true name addresses pace from live ending o =
     LiveSendRun name addresses pace from live ending o.shelf.known o.shelf.before o.shelf.after o.input.known o.input.before o.input.after o.dock.known o.dock.before o.dock.after
 
--- A run of this command with this ending: what it doesn't use stays as it is. Where `told` doesn't hold, err failed.
-abbrev pub CommandRun : {S I O E D : Type 0} → Command → Result Bool Fault → Bool → Outside S I O E D → Type 0
+-- A run of the command that this asks for, with this ending: what it doesn't use stays as it is. Where `told` doesn't hold, err failed.
+abbrev pub CommandRun : {S I O E D : Type 0} → Request → Result Bool Fault → Bool → Outside S I O E D → Type 0
 CommandRun Fac ending told o =
     Whole ending (λ done. FacRun done o.input.known o.input.before o.input.after o.out.known o.out.before o.out.after) × IsStill o.shelf × IsStill o.dock × IsQuiet told o.err.before o.err.after
 CommandRun (Check name) ending told o =
@@ -60,10 +61,10 @@ CommandRun (Serve name [] pace from live) ending told o =
     ServesOut (is_any live) name from live ending o × IsStill o.dock × IsQuiet told o.err.before o.err.after
 CommandRun (Serve name (at ∷ others) pace from live) ending told o =
     ServesOver (is_any live) name (at ∷ others) pace from live ending o × IsStill o.out × IsQuiet told o.err.before o.err.after
-CommandRun (Receive addresses rules) ending told o =
-    ReceiveRun rules addresses ending o.dock.known o.dock.before o.dock.after o.out.known o.out.before o.out.after × IsStill o.shelf × IsStill o.input × IsQuiet told o.err.before o.err.after
-CommandRun (ReceiveCapture rules) ending told o =
-    CaptureRun rules ending o.input.known o.input.before o.input.after o.out.known o.out.before o.out.after × IsStill o.shelf × IsStill o.dock × IsQuiet told o.err.before o.err.after
+CommandRun (Receive (Some addresses) window first frames idle limit) ending told o =
+    ReceiveRun (options_of window first frames idle limit) addresses ending o.dock.known o.dock.before o.dock.after o.out.known o.out.before o.out.after × IsStill o.shelf × IsStill o.input × IsQuiet told o.err.before o.err.after
+CommandRun (Receive None window first frames idle limit) ending told o =
+    CaptureRun (options_of window first frames idle limit) ending o.input.known o.input.before o.input.after o.out.known o.out.before o.out.after × IsStill o.shelf × IsStill o.dock × IsQuiet told o.err.before o.err.after
 CommandRun (Air name script window) ending told o =
     AirRun name script window ending o.shelf.known o.shelf.before o.shelf.after o.out.known o.out.before o.out.after × IsStill o.input × IsStill o.dock × IsQuiet told o.err.before o.err.after
 CommandRun Show ending told o =
@@ -72,8 +73,8 @@ CommandRun (Exercise n) ending told o =
     ExerciseRun n ending o.out.known o.out.before o.out.after × IsStill o.shelf × IsStill o.input × IsStill o.dock × IsQuiet told o.err.before o.err.after
 CommandRun (Convert carry window first frames) ending told o =
     ConvertRun (record { window = window; first = first; told = frames }) carry ending told o.input.known o.input.before o.input.after o.out.known o.out.before o.out.after o.err.known o.err.before o.err.after × IsStill o.shelf × IsStill o.dock
-CommandRun (Gate from to carry rules) ending told o =
-    GateCommandRun rules carry from to ending o.dock.known o.dock.before o.dock.after o.out.known o.out.before o.out.after × IsStill o.shelf × IsStill o.input × IsQuiet told o.err.before o.err.after
+CommandRun (Gate from to carry window first frames idle limit) ending told o =
+    GateCommandRun (options_of window first frames idle limit) carry from to ending o.dock.known o.dock.before o.dock.after o.out.known o.out.before o.out.after × IsStill o.shelf × IsStill o.input × IsQuiet told o.err.before o.err.after
 CommandRun (Pack pid length) ending told o =
     Whole ending (λ done. PackRun pid length done o.input.known o.input.before o.input.after o.out.known o.out.before o.out.after) × IsStill o.shelf × IsStill o.dock × IsQuiet told o.err.before o.err.after
 CommandRun (Unpack stream pid length window first frames) ending told o =
@@ -87,10 +88,10 @@ CommandRun (Texts stream window first frames) ending told o =
 abbrev pub IsUntouched : {S I O D : Type 0} → S → S → I → I → O → O → D → D → Type 0
 IsUntouched shelf shelf' input input' out out' dock dock' = (shelf' ≡ shelf) × (input' ≡ input) × (out' ≡ out) × (dock' ≡ dock)
 
--- What comes of words that ask for this command: a run of it; or memory ran out while they were read, and nothing was touched.
-abbrev pub Runs : {S I O E D : Type 0} → Command → Result Bool Fault → Bool → Outside S I O E D → Type 0
-Runs command ending told o =
-    CommandRun command ending told o
+-- What comes of words that ask for this: a run of the command; or memory ran out while they were read, and nothing was touched.
+abbrev pub Runs : {S I O E D : Type 0} → Request → Result Bool Fault → Bool → Outside S I O E D → Type 0
+Runs request ending told o =
+    CommandRun request ending told o
     ⊎ ((ending ≡ Err NoMemory) × IsUntouched o.shelf.before o.shelf.after o.input.before o.input.after o.out.before o.out.after o.dock.before o.dock.after × IsQuiet told o.err.before o.err.after)
 
 -- How a run ends: its status, and the line of its fault on err, behind what the command has written there, unless err failed.
@@ -98,34 +99,16 @@ abbrev pub Ends : {E : Type 0} → Result Bool Fault → Bool → ℕ → (E →
 Ends ending told code known err err' = (code ≡ report_status ending) × ReportsIf told (done_of ending) known err err'
 
 -- a command that opens a link
-abbrev pub OpensALink : Command → Type 0
-OpensALink Fac = ⊥
-OpensALink (Check name) = ⊥
-OpensALink (Serve name [] pace from live) = ⊥
+abbrev pub OpensALink : Request → Type 0
 OpensALink (Serve name (at ∷ others) pace from live) = Unit {0}
-OpensALink (Receive addresses rules) = Unit {0}
-OpensALink (ReceiveCapture rules) = ⊥
-OpensALink (Air name script window) = ⊥
-OpensALink Show = ⊥
-OpensALink (Exercise n) = ⊥
-OpensALink (Convert carry window first frames) = ⊥
-OpensALink (Gate from to carry rules) = Unit {0}
-OpensALink (Pack pid length) = ⊥
-OpensALink (Unpack stream pid length window first frames) = ⊥
-OpensALink (Texts stream window first frames) = ⊥
+OpensALink (Receive (Some addresses) window first frames idle limit) = Unit {0}
+OpensALink (Gate from to carry window first frames idle limit) = Unit {0}
+OpensALink _ = ⊥
 
 -- a command that tells of frames or packets, some of which may be missing or bad, or sends frames that may lack bytes of input
-abbrev pub WritesReport : Command → Type 0
+abbrev pub WritesReport : Request → Type 0
 WritesReport Fac = ⊥
 WritesReport (Check name) = ⊥
 WritesReport (Serve name to pace from live) = IsTrue (is_any live)
-WritesReport (Receive addresses rules) = Unit {0}
-WritesReport (ReceiveCapture rules) = Unit {0}
-WritesReport (Air name script window) = Unit {0}
-WritesReport Show = Unit {0}
-WritesReport (Exercise n) = Unit {0}
-WritesReport (Convert carry window first frames) = Unit {0}
-WritesReport (Gate from to carry rules) = Unit {0}
 WritesReport (Pack pid length) = ⊥
-WritesReport (Unpack stream pid length window first frames) = Unit {0}
-WritesReport (Texts stream window first frames) = Unit {0}
+WritesReport _ = Unit {0}

@@ -1,5 +1,5 @@
 -- The headline over a run of the program that ended with a report.
-use Rattle.std.specs.Prelude.{ℕ, Bool, List, Ok}
+use Rattle.std.specs.Prelude.{ℕ, Bool, List, None, Some, Ok}
 use Rattle.drm_links.specs.Told.{Known}
 use Rattle.drm_links.specs.Shelf.{Files}
 use Rattle.drm_links.specs.Source.{Inputs}
@@ -15,8 +15,9 @@ use Rattle.drm_receive.specs.Receive.{AreReports, WritesReports}
 use Rattle.drm_receive.specs.Capture.{WritesReport}
 use Rattle.drm_air.specs.Air.{AreAired}
 use Rattle.drm_top.specs.Outside.{Outside}
-use Rattle.drm_top.specs.declared.words.Command.{Command}
-use Rattle.drm_top.specs.declared.words.Command.TheVariants.{Receive, ReceiveCapture, Air}
+use Rattle.drm_top.specs.Words.{options_of}
+use Rattle.drm_words.specs.declared.request.Request.{Request}
+use Rattle.drm_words.specs.declared.request.Request.TheVariants.{Receive, Air}
 
 -- The files are a schedule and a script for it, and the report of each feed was written.
 pub record WroteFeeds {S O : Type 0} (name script : List ℕ) (window : ℕ) (clean : Bool)
@@ -31,13 +32,13 @@ pub record WroteFeeds {S O : Type 0} (name script : List ℕ) (window : ℕ) (cl
 
 -- The headline where a command ended with a report: what was written is the report of what was ahead of the link at each address, of what the capture brings, or of what each
 -- feed delivers. Of each report `HeadlineOf` holds: whatever delivery of whatever valid schedule came, it says what that calls for.
-abbrev pub HeadlineOfRun : {S I O E D : Type 0} → Command → Bool → Outside S I O E D → Type 0
-HeadlineOfRun (Receive addresses rules) clean o =
+abbrev pub HeadlineOfRun : {S I O E D : Type 0} → Request → Bool → Outside S I O E D → Type 0
+HeadlineOfRun (Receive (Some addresses) window first frames idle limit) clean o =
     Docked (o.dock.known o.dock.before) (o.dock.known o.dock.after) (λ told.
-    WritesReports (AreReports rules told addresses) (Ok clean) o.out.known o.out.before o.out.after)
-HeadlineOfRun (ReceiveCapture rules) clean o =
+    WritesReports (AreReports (options_of window first frames idle limit) told addresses) (Ok clean) o.out.known o.out.before o.out.after)
+HeadlineOfRun (Receive None window first frames idle limit) clean o =
     Inputs (o.input.known o.input.before) (o.input.known o.input.after) (λ left _.
-    WritesReport rules left clean o.out.known o.out.before o.out.after)
+    WritesReport (options_of window first frames idle limit) left clean o.out.known o.out.before o.out.after)
 HeadlineOfRun (Air name script window) clean o =
     WroteFeeds name script window clean o.shelf.known o.shelf.before o.shelf.after o.out.known o.out.before o.out.after
-HeadlineOfRun command clean o = Unit {0}
+HeadlineOfRun _ clean o = Unit {0}

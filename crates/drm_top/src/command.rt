@@ -10,9 +10,9 @@ ghost use Rattle.drm_top.specs.Command.{CommandRun, Runs, Ends, IsQuiet, IsUntou
 ghost use Rattle.drm_top.specs.Headline.{HeadlineOfRun};
 ghost use Rattle.drm_top.specs.Outside.{outside};
 ghost use Rattle.drm_top.specs.Words.{AsksFor, AsksForNothing, IsInRange};
-ghost use Rattle.drm_top.specs.declared.words.Command.{Command};
+ghost use Rattle.drm_words.specs.declared.request.Request.{Request};
 
-use crate::words::{Command, read_command, text};
+use crate::words::{options_of, text};
 use capture_data::{texts, unpack};
 use data_units::pack;
 use drm_air::air;
@@ -23,7 +23,7 @@ use drm_inspect::{fac, show};
 use drm_links::{Dock, Link, Shelf, Sink, Source, Status};
 use drm_receive::{receive, receive_from_capture};
 use drm_transmit::{check, send, send_live, serve, serve_live};
-use drm_words::WordsFault;
+use drm_words::{Request, WordsFault, read_words};
 use gate_command::gate;
 use std::alloc::Global;
 use std::thread::Threads;
@@ -56,9 +56,9 @@ where
     D::L: Link + Send,
     // Words that ask for a command are a run of it, or memory ran out while they were read. Each command has a record: what is
     // loaded, read, opened, written and sent, when each refusal comes, and that nothing is lost where nothing fails.
-    ensures runs { (command : Command) → AsksFor command (map string_bytes words.now)
+    ensures runs { (request : Request) → AsksFor request (map string_bytes words.now)
         → (ending : Result Bool Fault) × (told : Bool) × (mid : E) × Ends ending told result.code E.known mid err.new
-        × Runs command ending told (outside S.known shelf.old shelf.new I.known input.old input.new
+        × Runs request ending told (outside S.known shelf.old shelf.new I.known input.old input.new
         O.known out.old out.new E.known err.old mid D.known dock.old dock.new) }
     // Words that ask for none are refused, and nothing is touched.
     ensures nothing { AsksForNothing (map string_bytes words.now)
@@ -67,9 +67,9 @@ where
         × IsUntouched shelf.old shelf.new input.old input.new out.old out.new dock.old dock.new }
     // The headline. Where `receive` or `air` ends with 0 or 7, each report says of whatever delivery of whatever valid schedule
     // came what that calls for.
-    ensures headline { (command : Command) → AsksFor command (map string_bytes words.now)
+    ensures headline { (request : Request) → AsksFor request (map string_bytes words.now)
         → (clean : Bool) → result.code ≡ clean_status clean
-        → HeadlineOfRun command clean (outside S.known shelf.old shelf.new I.known input.old input.new
+        → HeadlineOfRun request clean (outside S.known shelf.old shelf.new I.known input.old input.new
         O.known out.old out.new E.known err.old err.new D.known dock.old dock.new) }
 
     // What the statuses say of any command. 1: neither read nor written was anything, and nothing was sent.
@@ -84,14 +84,14 @@ where
     // 5: one write to out failed, and with any other status none did.
     ensures write { HasCause (O.known out.old) (O.known out.new) (result.code ≡ 5) }
     // 6: the command opens a link. Any other leaves the dock alone. With any other status no opening failed.
-    ensures link { result.code ≡ 6 → (command : Command) × OpensALink command
-        × AsksFor command (map string_bytes words.now) }
+    ensures link { result.code ≡ 6 → (request : Request) × OpensALink request
+        × AsksFor request (map string_bytes words.now) }
     ensures opening { OpeningFailed (D.known dock.old) (D.known dock.new) (result.code ≡ 6) }
-    ensures dock { ((command : Command) → OpensALink command
-        → AsksFor command (map string_bytes words.now) → ⊥) → dock.new ≡ dock.old }
+    ensures dock { ((request : Request) → OpensALink request
+        → AsksFor request (map string_bytes words.now) → ⊥) → dock.new ≡ dock.old }
     // 7: the command reports what was received, or takes bytes of live streams from input.
-    ensures lacking { result.code ≡ 7 → (command : Command) × WritesReport command
-        × AsksFor command (map string_bytes words.now) }
+    ensures lacking { result.code ≡ 7 → (request : Request) × WritesReport request
+        × AsksFor request (map string_bytes words.now) }
 {
     // Whether `err` took all lines that it was given.
     let mut told = true;
@@ -125,8 +125,8 @@ fn execute<R: Threads + Sync, S: Shelf, I: Source, O: Sink, E: Sink, D: Dock>(
 where
     D::L: Link + Send,
     requires { told.old ≡ true }
-    ensures runs { (command : Command) → AsksFor command (map string_bytes words.now)
-        → Runs command result told.new (outside S.known shelf.old shelf.new I.known input.old input.new
+    ensures runs { (request : Request) → AsksFor request (map string_bytes words.now)
+        → Runs request result told.new (outside S.known shelf.old shelf.new I.known input.old input.new
         O.known out.old out.new E.known err.old err.new D.known dock.old dock.new) }
     ensures nothing { AsksForNothing (map string_bytes words.now)
         → (IsErrOf result Fault.Words ⊎ IsErrOf result Fault.NoMemory)
@@ -139,16 +139,16 @@ where
     ensures read { (IsErrOf result Fault.Link → ⊥) → OneFailed (I.known input.old) (I.known input.new)
         (S.known shelf.old) (S.known shelf.new) (IsErrOf result Fault.Read) }
     ensures write { HasCause (O.known out.old) (O.known out.new) (IsErrOf result Fault.Write) }
-    ensures link { IsErrOf result Fault.Link → (command : Command) × OpensALink command
-        × AsksFor command (map string_bytes words.now) }
+    ensures link { IsErrOf result Fault.Link → (request : Request) × OpensALink request
+        × AsksFor request (map string_bytes words.now) }
     ensures opening { OpeningFailed (D.known dock.old) (D.known dock.new) (IsErrOf result Fault.Link) }
-    ensures dock { ((command : Command) → OpensALink command
-        → AsksFor command (map string_bytes words.now) → ⊥) → dock.new ≡ dock.old }
-    ensures lacking { result ≡ Ok false → (command : Command) × WritesReport command
-        × AsksFor command (map string_bytes words.now) }
+    ensures dock { ((request : Request) → OpensALink request
+        → AsksFor request (map string_bytes words.now) → ⊥) → dock.new ≡ dock.old }
+    ensures lacking { result ≡ Ok false → (request : Request) × WritesReport request
+        × AsksFor request (map string_bytes words.now) }
 {
-    match read_command(alloc, words) {
-        Ok(command) => run_command(rt, alloc, &command, shelf, input, out, err, told, dock),
+    match read_words(alloc, words) {
+        Ok(request) => run_command(rt, alloc, &request, shelf, input, out, err, told, dock),
         Err(WordsFault::Words) => Err(Fault::Words),
         Err(WordsFault::NoMemory) => Err(Fault::NoMemory),
     }
@@ -157,7 +157,7 @@ where
 fn run_command<R: Threads + Sync, S: Shelf, I: Source, O: Sink, E: Sink, D: Dock>(
     rt: &R,
     alloc: Global,
-    command: &Command,
+    request: &Request,
     shelf: &mut S,
     input: &mut I,
     out: &mut O,
@@ -167,27 +167,27 @@ fn run_command<R: Threads + Sync, S: Shelf, I: Source, O: Sink, E: Sink, D: Dock
 ) -> Result<bool, Fault>
 where
     D::L: Link + Send,
-    requires range { IsInRange command.now }
+    requires range { IsInRange request.now }
     requires told { told.old ≡ true }
     ensures words { IsErrOf result Fault.Words → ⊥ }
     ensures memory { IsErrOf result Fault.NoMemory → (input.new ≡ input.old) × (out.new ≡ out.old) }
-    ensures run { CommandRun command.now result told.new (outside S.known shelf.old shelf.new
+    ensures run { CommandRun request.now result told.new (outside S.known shelf.old shelf.new
         I.known input.old input.new O.known out.old out.new
         E.known err.old err.new D.known dock.old dock.new) }
     ensures read { (IsErrOf result Fault.Link → ⊥) → OneFailed (I.known input.old) (I.known input.new)
         (S.known shelf.old) (S.known shelf.new) (IsErrOf result Fault.Read) }
     ensures write { HasCause (O.known out.old) (O.known out.new) (IsErrOf result Fault.Write) }
-    ensures link { IsErrOf result Fault.Link → OpensALink command.now }
+    ensures link { IsErrOf result Fault.Link → OpensALink request.now }
     ensures opening { OpeningFailed (D.known dock.old) (D.known dock.new) (IsErrOf result Fault.Link) }
-    ensures lacking { result ≡ Ok false → WritesReport command.now }
+    ensures lacking { result ≡ Ok false → WritesReport request.now }
     ensures unsent { IsErrOf result Fault.NoMemory
         → WhileTold (D.known dock.old) (D.known dock.new) NothingSent }
-    ensures dock { (OpensALink command.now → ⊥) → dock.new ≡ dock.old }
+    ensures dock { (OpensALink request.now → ⊥) → dock.new ≡ dock.old }
 {
-    match command {
-        Command::Fac => whole(fac(input, out)),
-        Command::Check { name } => whole(check(alloc, text(name), shelf, out)),
-        Command::Serve {
+    match request {
+        Request::Fac => whole(fac(input, out)),
+        Request::Check { name } => whole(check(alloc, text(name), shelf, out)),
+        Request::Serve {
             name,
             to,
             pace,
@@ -207,16 +207,28 @@ where
                 whole(send(alloc, name, to, *pace, *from, shelf, dock))
             }
         }
-        Command::Receive { addresses, rules } => receive(rt, alloc, rules, addresses, dock, out),
-        Command::ReceiveCapture { rules } => receive_from_capture(alloc, rules, input, out),
-        Command::Air {
+        Request::Receive {
+            addresses,
+            window,
+            first,
+            frames,
+            idle,
+            limit,
+        } => {
+            let options = options_of(*window, *first, *frames, *idle, *limit);
+            match addresses {
+                Some(links) => receive(rt, alloc, &options, links, dock, out),
+                None => receive_from_capture(alloc, &options, input, out),
+            }
+        }
+        Request::Air {
             name,
             script,
             window,
         } => air(rt, alloc, text(name), text(script), *window, shelf, out),
-        Command::Show => show(alloc, input, out),
-        Command::Exercise { n } => exercise(rt, alloc, *n, out),
-        Command::Convert {
+        Request::Show => show(alloc, input, out),
+        Request::Exercise { n } => exercise(rt, alloc, *n, out),
+        Request::Convert {
             carry,
             window,
             first,
@@ -224,14 +236,21 @@ where
         } => convert(
             alloc, *carry, *window, *first, *frames, input, out, err, told,
         ),
-        Command::Gate {
+        Request::Gate {
             from,
             to,
             carry,
-            rules,
-        } => gate(alloc, rules, *carry, *from, to, dock, out),
-        Command::Pack { pid, length } => whole(pack(alloc, *pid, *length, input, out)),
-        Command::Unpack {
+            window,
+            first,
+            frames,
+            idle,
+            limit,
+        } => {
+            let options = options_of(*window, *first, *frames, *idle, *limit);
+            gate(alloc, &options, *carry, *from, to, dock, out)
+        }
+        Request::Pack { pid, length } => whole(pack(alloc, *pid, *length, input, out)),
+        Request::Unpack {
             stream,
             pid,
             length,
@@ -241,7 +260,7 @@ where
         } => unpack(
             alloc, *stream, *pid, *length, *window, *first, *frames, input, out,
         ),
-        Command::Texts {
+        Request::Texts {
             stream,
             window,
             first,

@@ -14,30 +14,30 @@ use Rattle.drm_top.proofs.command.run.Goals as goal
 -- ---- the runs
 
 pub returns-in-Ok-true-clause-runs : goal.returns-in-Ok-true-clause-runs
-returns-in-Ok-true-clause-runs g c = λ command asked. (
+returns-in-Ok-true-clause-runs g c = λ request asked. (
   Ok c.in-Ok-true.field-0,
   c.execute.new.told,
   c.execute.new.err,
   (sym (ap clean_status c.in-Ok-true.field-0-test), done_told c.execute.new.told c.in-Ok-true.field-0 g.E.Sink.known c.execute.new.err),
-  c.in-Ok-true.ensures.runs command asked,
+  c.in-Ok-true.ensures.runs request asked,
 )
 
 pub returns-in-Ok-false-clause-runs : goal.returns-in-Ok-false-clause-runs
-returns-in-Ok-false-clause-runs g c = λ command asked. (
+returns-in-Ok-false-clause-runs g c = λ request asked. (
   Ok c.in-Ok-false.field-0,
   c.execute.new.told,
   c.execute.new.err,
   (sym (ap clean_status c.in-Ok-false.field-0-test), done_told c.execute.new.told c.in-Ok-false.field-0 g.E.Sink.known c.execute.new.err),
-  c.in-Ok-false.ensures.runs command asked,
+  c.in-Ok-false.ensures.runs request asked,
 )
 
 pub returns-in-Err-clause-runs : goal.returns-in-Err-clause-runs
-returns-in-Err-clause-runs g c = λ command asked. (
+returns-in-Err-clause-runs g c = λ request asked. (
   Err c.in-Err.fault,
   c.execute.new.told,
   c.execute.new.err,
   (c.report_if.ensures.status, fault_told c.execute.new.told c.in-Err.fault g.E.Sink.known c.execute.new.err c.report_if.new.err c.report_if.ensures.line c.report_if.ensures.still),
-  c.in-Err.ensures.runs command asked,
+  c.in-Err.ensures.runs request asked,
 )
 
 pub returns-in-Err-clause-nothing : goal.returns-in-Err-clause-nothing
@@ -52,21 +52,21 @@ returns-in-Err-clause-nothing g c = λ none.
 -- ---- the headline
 
 pub returns-in-Ok-true-clause-headline : goal.returns-in-Ok-true-clause-headline
-returns-in-Ok-true-clause-headline g c = λ command asked clean is.
+returns-in-Ok-true-clause-headline g c = λ request asked clean is.
     headline_of c.in-Ok-true.field-0 c.execute.new.told
     (outside g.S.Shelf.known c.args.shelf.now c.execute.new.shelf g.I.Source.known c.args.input.now c.execute.new.input g.O.Sink.known c.args.out.now c.execute.new.out
     g.E.Sink.known c.args.err.now c.execute.new.err g.D.Dock.known c.args.dock.now c.execute.new.dock)
-    command clean (ap clean_status c.in-Ok-true.field-0-test ∙ is) (c.in-Ok-true.ensures.runs command asked)
+    request clean (ap clean_status c.in-Ok-true.field-0-test ∙ is) (c.in-Ok-true.ensures.runs request asked)
 
 pub returns-in-Ok-false-clause-headline : goal.returns-in-Ok-false-clause-headline
-returns-in-Ok-false-clause-headline g c = λ command asked clean is.
+returns-in-Ok-false-clause-headline g c = λ request asked clean is.
     headline_of c.in-Ok-false.field-0 c.execute.new.told
     (outside g.S.Shelf.known c.args.shelf.now c.execute.new.shelf g.I.Source.known c.args.input.now c.execute.new.input g.O.Sink.known c.args.out.now c.execute.new.out
     g.E.Sink.known c.args.err.now c.execute.new.err g.D.Dock.known c.args.dock.now c.execute.new.dock)
-    command clean (ap clean_status c.in-Ok-false.field-0-test ∙ is) (c.in-Ok-false.ensures.runs command asked)
+    request clean (ap clean_status c.in-Ok-false.field-0-test ∙ is) (c.in-Ok-false.ensures.runs request asked)
 
 pub returns-in-Err-clause-headline : goal.returns-in-Err-clause-headline
-returns-in-Err-clause-headline g c = λ command asked clean is. absurd (not_a_fault c.in-Err.fault clean (sym c.report_if.ensures.status ∙ is))
+returns-in-Err-clause-headline g c = λ request asked clean is. absurd (not_a_fault c.in-Err.fault clean (sym c.report_if.ensures.status ∙ is))
 
 -- ---- the statuses
 

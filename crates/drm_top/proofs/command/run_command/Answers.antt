@@ -118,36 +118,56 @@ returns-else-is_empty-2 g c =
       dock = λ none. absurd (none (rw c.in-Serve.is (opens_some c.in-Serve.name c.in-Serve.to c.in-Serve.pace c.in-Serve.from c.in-Serve.live some)));
     }
 
-pub returns-in-Receive-clause-run : goal.returns-in-Receive-clause-run
-returns-in-Receive-clause-run g c = rw c.in-Receive.is (c.receive.ensures.run, refl, refl, (c.requires.told, refl))
+-- ---- what receives, from links or from a capture
 
-pub returns-in-Receive-clause-read : goal.returns-in-Receive-clause-read
-returns-in-Receive-clause-read g c = λ _. none_failed (λ e. not_gate faults.Read (λ is. cc) (λ is. cc) (λ is. cc) (c.receive.ensures.run.kind faults.Read e)) refl refl
+pub receive-requires-clause-rules : goal.receive-requires-clause-rules
+receive-requires-clause-rules g c = λ lifetimes within. rw c.options_of-options.ensures ((rw (c.in-Receive.is, c.in-Some.is) at c.requires.range).0)
 
-pub returns-in-Receive-clause-opening : goal.returns-in-Receive-clause-opening
-returns-in-Receive-clause-opening g c = c.receive.ensures.run.dock_cause
+pub receive-requires-clause-listed : goal.receive-requires-clause-listed
+receive-requires-clause-listed g c = λ lifetimes within. (rw (c.in-Receive.is, c.in-Some.is) at c.requires.range).1
 
-pub returns-in-Receive-clause-unsent : goal.returns-in-Receive-clause-unsent
-returns-in-Receive-clause-unsent g c = λ e. opens_unsent c.in-Receive.rules c.in-Receive.addresses c.receive.result g.O.Sink.known c.args.out.now c.receive.new.out (g.D.Dock.known c.args.dock.now) (g.D.Dock.known c.receive.new.dock) c.receive.ensures.run.opens
+pub receive_from_capture-requires : goal.receive_from_capture-requires
+receive_from_capture-requires g c = rw c.options_of-options.ensures (rw (c.in-Receive.is, c.in-None.is) at c.requires.range)
 
-pub returns-in-Air-clause-read : goal.returns-in-Air-clause-read
-returns-in-Air-clause-read g c = λ _. other_alone refl c.air.ensures.run.read_cause
+pub returns-in-Some-clause-run : goal.returns-in-Some-clause-run
+returns-in-Some-clause-run g c = rw (c.in-Receive.is, c.in-Some.is) (rw c.options_of-options.ensures at c.receive.ensures.run, refl, refl, (c.requires.told, refl))
 
-pub returns-in-ReceiveCapture : goal.returns-in-ReceiveCapture
-returns-in-ReceiveCapture g c =
+pub returns-in-Some-clause-read : goal.returns-in-Some-clause-read
+returns-in-Some-clause-read g c = λ _. none_failed (λ e. not_gate faults.Read (λ is. cc) (λ is. cc) (λ is. cc) (c.receive.ensures.run.kind faults.Read e)) refl refl
+
+pub returns-in-Some-clause-opening : goal.returns-in-Some-clause-opening
+returns-in-Some-clause-opening g c = c.receive.ensures.run.dock_cause
+
+pub returns-in-Some-clause-unsent : goal.returns-in-Some-clause-unsent
+returns-in-Some-clause-unsent g c = λ e. opens_unsent c.options_of-options.result c.in-Some.links c.receive.result g.O.Sink.known c.args.out.now c.receive.new.out (g.D.Dock.known c.args.dock.now) (g.D.Dock.known c.receive.new.dock) c.receive.ensures.run.opens
+
+pub returns-in-Some-clause-link : goal.returns-in-Some-clause-link
+returns-in-Some-clause-link g c = λ e. rw (c.in-Receive.is, c.in-Some.is) tt
+
+pub returns-in-Some-clause-lacking : goal.returns-in-Some-clause-lacking
+returns-in-Some-clause-lacking g c = λ e. rw c.in-Receive.is tt
+
+pub returns-in-Some-clause-dock : goal.returns-in-Some-clause-dock
+returns-in-Some-clause-dock g c = λ none. absurd (none (rw (c.in-Receive.is, c.in-Some.is) tt))
+
+pub returns-in-None : goal.returns-in-None
+returns-in-None g c =
     let run = c.receive_from_capture.ensures.run in
     record {
       words = λ e. run.kind faults.Words e;
       memory = λ e. run.untouched e;
-      run = rw c.in-ReceiveCapture.is (run, refl, refl, (c.requires.told, refl));
+      run = rw (c.in-Receive.is, c.in-None.is) (rw c.options_of-options.ensures at run, refl, refl, (c.requires.told, refl));
       read = λ _. one_alone run.read_cause refl;
       write = run.write_cause;
       opening = inl refl;
       link = λ e. absurd (run.kind faults.Link e);
-      lacking = λ e. rw c.in-ReceiveCapture.is tt;
+      lacking = λ e. rw c.in-Receive.is tt;
       unsent = λ e. dock_still (g.D.Dock.known c.args.dock.now);
       dock = λ none. refl;
     }
+
+pub returns-in-Air-clause-read : goal.returns-in-Air-clause-read
+returns-in-Air-clause-read g c = λ _. other_alone refl c.air.ensures.run.read_cause
 
 pub returns-in-Show : goal.returns-in-Show
 returns-in-Show g c =
@@ -197,13 +217,16 @@ returns-in-Convert g c =
       dock = λ none. refl;
     }
 
+pub gate-requires-clause-rules : goal.gate-requires-clause-rules
+gate-requires-clause-rules g c = rw c.options_of-options-in-Gate.ensures ((rw c.in-Gate.is at c.requires.range).1)
+
 pub returns-in-Gate : goal.returns-in-Gate
 returns-in-Gate g c =
     let run = c.gate.ensures in
     record {
       words = λ e. not_gate faults.Words (λ is. cc) (λ is. cc) (λ is. cc) (run.kind faults.Words e);
-      memory = λ e. (refl, (no_gate c.in-Gate.rules c.in-Gate.carry c.in-Gate.from c.in-Gate.to _ _ _ _ _ _ _ e run.run).1);
-      run = rw c.in-Gate.is (run, refl, refl, (c.requires.told, refl));
+      memory = λ e. (refl, (no_gate c.options_of-options-in-Gate.result c.in-Gate.carry c.in-Gate.from c.in-Gate.to _ _ _ _ _ _ _ e run.run).1);
+      run = rw c.in-Gate.is (rw c.options_of-options-in-Gate.ensures at run, refl, refl, (c.requires.told, refl));
       read = λ _. none_failed (λ e. not_gate faults.Read (λ is. cc) (λ is. cc) (λ is. cc) (run.kind faults.Read e)) refl refl;
       write = run.write_cause;
       opening = run.dock_cause;
@@ -211,7 +234,7 @@ returns-in-Gate g c =
       lacking = λ e. rw c.in-Gate.is tt;
       unsent = λ e.
           subst (λ d. WhileTold (g.D.Dock.known c.args.dock.now) (g.D.Dock.known d) NothingSent)
-          (sym (no_gate c.in-Gate.rules c.in-Gate.carry c.in-Gate.from c.in-Gate.to _ _ _ _ _ _ _ e run.run).0) (dock_still (g.D.Dock.known c.args.dock.now));
+          (sym (no_gate c.options_of-options-in-Gate.result c.in-Gate.carry c.in-Gate.from c.in-Gate.to _ _ _ _ _ _ _ e run.run).0) (dock_still (g.D.Dock.known c.args.dock.now));
       dock = λ none. absurd (none (rw c.in-Gate.is tt));
     }
 
