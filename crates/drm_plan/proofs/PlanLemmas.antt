@@ -21,100 +21,60 @@ use Rattle.plan_said.specs.declared.said.Block.{Block}
 use Rattle.plan_said.specs.declared.said.Read.{Read}
 use Rattle.plan_said.specs.Said.{count}
 use Rattle.plan_said.specs.Rules.{lacks_a_line}
-use Rattle.drm_plan.specs.Projection.{first_said, occupancy_in, msc_in, prot_a_in, prot_b_in, room_in, clock_in, carry_in, seq_in, dlfc_in, length_in, service_said, stream_said, services_in, streams_in, entities_until, timed_in, or_one, blocks_in, config_of, blocks_of, plan_of}
+use Rattle.drm_plan.specs.Projection.{first_said, content, first_line, occupancy_in, msc_in, prot_a_in, prot_b_in, room_in, clock_in, carry_in, seq_in, dlfc_in, length_in, service_said, stream_said, services_in, streams_in, entities_until, timed_in, or_one, blocks_in, config_of, blocks_of, plan_of}
 use Rattle.plan_said.proofs.KeywordLemmas.{one, entity_is_no_stream}
 use Rattle.plan_said.specs.InLines.{AllInLines, AreFew, BlockInLines, EndedInLines, ReadInLines}
 use Rattle.drm_plan.proofs.BlockLemmas.{few_until, all_until, timed_fit, timed_counted}
 
 -- what the first line of a keyword says is one that a text can have
-first_fits : (k : Keyword) (said : List Said) → AllInLines said → IfSome (first_said k said) (λ s. LineInLines s.says)
+first_fits : (k : Keyword) (said : List Said) → AllInLines said → IfSome (first_line k said) LineInLines
 first_fits k [] fits = tt
 first_fits k (s ∷ said) fits = by (same (keyword_said s.says) k) (All-head (λ x. LineInLines x.says) s said fits) (first_fits k said (All-tail (λ x. LineInLines x.says) s said fits))
   where
-    by : (b : Bool) → LineInLines s.says → IfSome (first_said k said) (λ x. LineInLines x.says) → IfSome (if b then Some s else first_said k said) (λ x. LineInLines x.says)
+    by : (b : Bool) → LineInLines s.says → IfSome (first_line k said) LineInLines → IfSome (content (if b then Some s else first_said k said)) LineInLines
     by true here more = here
     by false here more = more
 
 -- a setting in its range, by what its line says
-occupancy_fits : (o : Option Said) → IfSome o (λ s. LineInLines s.says) → occupancy_in o < 6
-occupancy_fits None fits = omega arith
-occupancy_fits (Some s) fits = by s.line s.says fits
-  where
-    by : (n : ℕ) (l : Line) → LineInLines l → occupancy_in (Some (record { line = n; says = l })) < 6
-    by n (lines.Occupancy x) fits = fits
-    by n _ fits = omega arith
+occupancy_fits : (o : Option Line) → IfSome o LineInLines → occupancy_in o < 6
+occupancy_fits (Some (lines.Occupancy x)) fits = fits
+occupancy_fits _ fits = omega arith
 
-msc_fits : (o : Option Said) → IfSome o (λ s. LineInLines s.says) → msc_in o < 2 ^ 2
-msc_fits None fits = omega arith
-msc_fits (Some s) fits = by s.line s.says fits
-  where
-    by : (n : ℕ) (l : Line) → LineInLines l → msc_in (Some (record { line = n; says = l })) < 2 ^ 2
-    by n (lines.Msc x) fits = fits
-    by n _ fits = omega arith
+msc_fits : (o : Option Line) → IfSome o LineInLines → msc_in o < 2 ^ 2
+msc_fits (Some (lines.Msc x)) fits = fits
+msc_fits _ fits = omega arith
 
-prot_a_fits : (o : Option Said) → IfSome o (λ s. LineInLines s.says) → prot_a_in o < 2 ^ 2
-prot_a_fits None fits = omega arith
-prot_a_fits (Some s) fits = by s.line s.says fits
-  where
-    by : (n : ℕ) (l : Line) → LineInLines l → prot_a_in (Some (record { line = n; says = l })) < 2 ^ 2
-    by n (lines.Protection a b) fits = fits.0
-    by n _ fits = omega arith
+prot_a_fits : (o : Option Line) → IfSome o LineInLines → prot_a_in o < 2 ^ 2
+prot_a_fits (Some (lines.Protection a b)) fits = fits.0
+prot_a_fits _ fits = omega arith
 
-prot_b_fits : (o : Option Said) → IfSome o (λ s. LineInLines s.says) → prot_b_in o < 2 ^ 2
-prot_b_fits None fits = omega arith
-prot_b_fits (Some s) fits = by s.line s.says fits
-  where
-    by : (n : ℕ) (l : Line) → LineInLines l → prot_b_in (Some (record { line = n; says = l })) < 2 ^ 2
-    by n (lines.Protection a b) fits = fits.1
-    by n _ fits = omega arith
+prot_b_fits : (o : Option Line) → IfSome o LineInLines → prot_b_in o < 2 ^ 2
+prot_b_fits (Some (lines.Protection a b)) fits = fits.1
+prot_b_fits _ fits = omega arith
 
-room_fits : (o : Option Said) → IfSome o (λ s. LineInLines s.says) → room_in o < 2 ^ 10
-room_fits None fits = omega arith
-room_fits (Some s) fits = by s.line s.says fits
-  where
-    by : (n : ℕ) (l : Line) → LineInLines l → room_in (Some (record { line = n; says = l })) < 2 ^ 10
-    by n (lines.Room x) fits = fits
-    by n _ fits = omega arith
+room_fits : (o : Option Line) → IfSome o LineInLines → room_in o < 2 ^ 10
+room_fits (Some (lines.Room x)) fits = fits
+room_fits _ fits = omega arith
 
-clock_fits : (o : Option Said) → IfSome o (λ s. LineInLines s.says) → IfSome (clock_in o) ClockInLines
-clock_fits None fits = tt
-clock_fits (Some s) fits = by s.line s.says fits
-  where
-    by : (n : ℕ) (l : Line) → LineInLines l → IfSome (clock_in (Some (record { line = n; says = l }))) ClockInLines
-    by n (lines.Clock clock) fits = fits
-    by n _ fits = tt
+clock_fits : (o : Option Line) → IfSome o LineInLines → IfSome (clock_in o) ClockInLines
+clock_fits (Some (lines.Clock clock)) fits = fits
+clock_fits _ fits = tt
 
-carry_fits : (o : Option Said) → IfSome o (λ s. LineInLines s.says) → CarryFits (carry_in o)
-carry_fits None fits = tt
-carry_fits (Some s) fits = by s.line s.says fits
-  where
-    by : (n : ℕ) (l : Line) → LineInLines l → CarryFits (carry_in (Some (record { line = n; says = l })))
-    by n (lines.Carry carry) fits = fits
-    by n _ fits = tt
+carry_fits : (o : Option Line) → IfSome o LineInLines → CarryFits (carry_in o)
+carry_fits (Some (lines.Carry carry)) fits = fits
+carry_fits _ fits = tt
 
-seq_fits : (o : Option Said) → IfSome o (λ s. LineInLines s.says) → seq_in o < 2 ^ 16
-seq_fits None fits = omega arith
-seq_fits (Some s) fits = by s.line s.says fits
-  where
-    by : (n : ℕ) (l : Line) → LineInLines l → seq_in (Some (record { line = n; says = l })) < 2 ^ 16
-    by n (lines.First seq dlfc) fits = fits.0
-    by n _ fits = omega arith
+seq_fits : (o : Option Line) → IfSome o LineInLines → seq_in o < 2 ^ 16
+seq_fits (Some (lines.First seq dlfc)) fits = fits.0
+seq_fits _ fits = omega arith
 
-dlfc_fits : (o : Option Said) → IfSome o (λ s. LineInLines s.says) → dlfc_in o < 2 ^ 32
-dlfc_fits None fits = omega arith
-dlfc_fits (Some s) fits = by s.line s.says fits
-  where
-    by : (n : ℕ) (l : Line) → LineInLines l → dlfc_in (Some (record { line = n; says = l })) < 2 ^ 32
-    by n (lines.First seq dlfc) fits = fits.1
-    by n _ fits = omega arith
+dlfc_fits : (o : Option Line) → IfSome o LineInLines → dlfc_in o < 2 ^ 32
+dlfc_fits (Some (lines.First seq dlfc)) fits = fits.1
+dlfc_fits _ fits = omega arith
 
-length_fits : (o : Option Said) → IfSome o (λ s. LineInLines s.says) → (1 ≤ length_in o) × (length_in o ≤ 1000000)
-length_fits None fits = (omega arith, omega arith)
-length_fits (Some s) fits = by s.line s.says fits
-  where
-    by : (n : ℕ) (l : Line) → LineInLines l → (1 ≤ length_in (Some (record { line = n; says = l }))) × (length_in (Some (record { line = n; says = l })) ≤ 1000000)
-    by n (lines.Length x) fits = fits
-    by n _ fits = (omega arith, omega arith)
+length_fits : (o : Option Line) → IfSome o LineInLines → (1 ≤ length_in o) × (length_in o ≤ 1000000)
+length_fits (Some (lines.Length x)) fits = fits
+length_fits _ fits = (omega arith, omega arith)
 
 -- what lines list, each by what its line says
 listed : {X : Type 0} (h : Line → Option X) (P : X → Type 0) → ((l : Line) → LineInLines l → IfSome (h l) P) → (said : List Said) → AllInLines said → All P (filter_map (λ s. h s.says) said)
@@ -221,17 +181,17 @@ config_fits b fits whole =
     record {
       start_fits = fits.start_fits;
       countdown_fits = fits.countdown_fits;
-      occupancy_fits = occupancy_fits (first_said keywords.Occupancy b.lines) (found keywords.Occupancy);
-      msc_fits = msc_fits (first_said keywords.Msc b.lines) (found keywords.Msc);
-      prot_a_fits = prot_a_fits (first_said keywords.Protection b.lines) (found keywords.Protection);
-      prot_b_fits = prot_b_fits (first_said keywords.Protection b.lines) (found keywords.Protection);
-      room_fits = room_fits (first_said keywords.Room b.lines) (found keywords.Room);
+      occupancy_fits = occupancy_fits (first_line keywords.Occupancy b.lines) (found keywords.Occupancy);
+      msc_fits = msc_fits (first_line keywords.Msc b.lines) (found keywords.Msc);
+      prot_a_fits = prot_a_fits (first_line keywords.Protection b.lines) (found keywords.Protection);
+      prot_b_fits = prot_b_fits (first_line keywords.Protection b.lines) (found keywords.Protection);
+      room_fits = room_fits (first_line keywords.Room b.lines) (found keywords.Room);
       some_service = rw (services_counted b.lines) both.service;
       each_service = listed service_said ServiceInLines service_listed b.lines fits.each_line;
       some_stream = rw (streams_counted b.lines) both.stream;
       few_streams = rw (streams_counted b.lines) fits.few_streams;
       each_stream = listed stream_said StreamInLines stream_listed b.lines fits.each_line;
-      clock_fits = clock_fits (first_said keywords.Clock b.lines) (found keywords.Clock);
+      clock_fits = clock_fits (first_line keywords.Clock b.lines) (found keywords.Clock);
       some_block = blocks.some;
       few_blocks = blocks.few;
       each_block = blocks.each;
@@ -252,11 +212,11 @@ plan_fits read b fits current whole =
     let ended : EndedInLines b = record { in_lines = last; complete = whole } in
     let all : All EndedInLines (blocks_of read) = rw blocks (All-append EndedInLines read.closed (b ∷ []) fits.closed (All-cons EndedInLines b [] ended (All-nil EndedInLines))) in
     let count : length (map config_of (blocks_of read)) ≡ length read.closed + 1 = length-map (blocks_of read) config_of ∙ ap (λ (l : List Block). length l) blocks ∙ length-append read.closed (b ∷ []) in
-    let length_is = length_fits (first_said keywords.Length read.front) (found keywords.Length) in
+    let length_is = length_fits (first_line keywords.Length read.front) (found keywords.Length) in
     record {
-      carry_fits = carry_fits (first_said keywords.Carry read.front) (found keywords.Carry);
-      seq_fits = seq_fits (first_said keywords.First read.front) (found keywords.First);
-      dlfc_fits = dlfc_fits (first_said keywords.First read.front) (found keywords.First);
+      carry_fits = carry_fits (first_line keywords.Carry read.front) (found keywords.Carry);
+      seq_fits = seq_fits (first_line keywords.First read.front) (found keywords.First);
+      dlfc_fits = dlfc_fits (first_line keywords.First read.front) (found keywords.First);
       some_frames = length_is.0;
       few_frames = length_is.1;
       some_config = omega (arith, count);

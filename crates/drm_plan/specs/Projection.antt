@@ -39,80 +39,52 @@ line_of keyword said = of (first_said keyword said)
     of None = 0
     of (Some s) = s.line
 
+-- what it says
+abbrev pub content : Option Said → Option Line
+content None = None
+content (Some s) = Some s.says
+
+abbrev pub first_line : Keyword → List Said → Option Line
+first_line keyword said = content (first_said keyword said)
+
 -- What the line of a setting says. Where there is none, which a configuration that lacks nothing never shows, it is the
 -- first value of its kind.
-abbrev pub mode_in : Option Said → Mode
-mode_in None = modes.A
-mode_in (Some s) = of s.says
-  where
-    of : Line → Mode
-    of (lines.Mode mode) = mode
-    of _ = modes.A
+abbrev pub mode_in : Option Line → Mode
+mode_in (Some (lines.Mode mode)) = mode
+mode_in _ = modes.A
 
-abbrev pub occupancy_in : Option Said → ℕ
-occupancy_in None = 0
-occupancy_in (Some s) = of s.says
-  where
-    of : Line → ℕ
-    of (lines.Occupancy n) = n
-    of _ = 0
+abbrev pub occupancy_in : Option Line → ℕ
+occupancy_in (Some (lines.Occupancy n)) = n
+occupancy_in _ = 0
 
-abbrev pub short_depth_in : Option Said → Bool
-short_depth_in None = false
-short_depth_in (Some s) = of s.says
-  where
-    of : Line → Bool
-    of (lines.Depth short) = short
-    of _ = false
+abbrev pub short_depth_in : Option Line → Bool
+short_depth_in (Some (lines.Depth short)) = short
+short_depth_in _ = false
 
-abbrev pub msc_in : Option Said → ℕ
-msc_in None = 0
-msc_in (Some s) = of s.says
-  where
-    of : Line → ℕ
-    of (lines.Msc n) = n
-    of _ = 0
+abbrev pub msc_in : Option Line → ℕ
+msc_in (Some (lines.Msc n)) = n
+msc_in _ = 0
 
-abbrev pub qam4_in : Option Said → Bool
-qam4_in None = false
-qam4_in (Some s) = of s.says
-  where
-    of : Line → Bool
-    of (lines.Sdc qam4) = qam4
-    of _ = false
+abbrev pub qam4_in : Option Line → Bool
+qam4_in (Some (lines.Sdc qam4)) = qam4
+qam4_in _ = false
 
-abbrev pub prot_a_in : Option Said → ℕ
-prot_a_in None = 0
-prot_a_in (Some s) = of s.says
-  where
-    of : Line → ℕ
-    of (lines.Protection a b) = a
-    of _ = 0
+abbrev pub prot_a_in : Option Line → ℕ
+prot_a_in (Some (lines.Protection a b)) = a
+prot_a_in _ = 0
 
-abbrev pub prot_b_in : Option Said → ℕ
-prot_b_in None = 0
-prot_b_in (Some s) = of s.says
-  where
-    of : Line → ℕ
-    of (lines.Protection a b) = b
-    of _ = 0
+abbrev pub prot_b_in : Option Line → ℕ
+prot_b_in (Some (lines.Protection a b)) = b
+prot_b_in _ = 0
 
-abbrev pub room_in : Option Said → ℕ
-room_in None = 0
-room_in (Some s) = of s.says
-  where
-    of : Line → ℕ
-    of (lines.Room n) = n
-    of _ = 0
+abbrev pub room_in : Option Line → ℕ
+room_in (Some (lines.Room n)) = n
+room_in _ = 0
 
 -- a configuration may have no clock
-abbrev pub clock_in : Option Said → Option Clock
-clock_in None = None
-clock_in (Some s) = of s.says
-  where
-    of : Line → Option Clock
-    of (lines.Clock clock) = Some clock
-    of _ = None
+abbrev pub clock_in : Option Line → Option Clock
+clock_in (Some (lines.Clock clock)) = Some clock
+clock_in _ = None
 
 -- what is a list: each line says one more
 abbrev pub service_said : Line → Option Service
@@ -187,17 +159,17 @@ abbrev pub config_of : Block → Config
 config_of block = record {
   start = block.start;
   countdown = block.countdown;
-  mode = mode_in (first_said keywords.Mode block.lines);
-  occupancy = occupancy_in (first_said keywords.Occupancy block.lines);
-  short_depth = short_depth_in (first_said keywords.Depth block.lines);
-  msc = msc_in (first_said keywords.Msc block.lines);
-  qam4 = qam4_in (first_said keywords.Sdc block.lines);
-  prot_a = prot_a_in (first_said keywords.Protection block.lines);
-  prot_b = prot_b_in (first_said keywords.Protection block.lines);
-  room = room_in (first_said keywords.Room block.lines);
+  mode = mode_in (first_line keywords.Mode block.lines);
+  occupancy = occupancy_in (first_line keywords.Occupancy block.lines);
+  short_depth = short_depth_in (first_line keywords.Depth block.lines);
+  msc = msc_in (first_line keywords.Msc block.lines);
+  qam4 = qam4_in (first_line keywords.Sdc block.lines);
+  prot_a = prot_a_in (first_line keywords.Protection block.lines);
+  prot_b = prot_b_in (first_line keywords.Protection block.lines);
+  room = room_in (first_line keywords.Room block.lines);
   services = services_in block.lines;
   streams = streams_in block.lines;
-  clock = clock_in (first_said keywords.Clock block.lines);
+  clock = clock_in (first_line keywords.Clock block.lines);
   blocks = blocks_in block.lines;
 }
 
@@ -215,45 +187,29 @@ places_of block = record {
 abbrev pub blocks_of : Read → List Block
 blocks_of read = read.closed ++ option_to_list read.current
 
-abbrev pub carry_in : Option Said → Carry
-carry_in None = carries.Plain
-carry_in (Some s) = of s.says
-  where
-    of : Line → Carry
-    of (lines.Carry carry) = carry
-    of _ = carries.Plain
+abbrev pub carry_in : Option Line → Carry
+carry_in (Some (lines.Carry carry)) = carry
+carry_in _ = carries.Plain
 
-abbrev pub seq_in : Option Said → ℕ
-seq_in None = 0
-seq_in (Some s) = of s.says
-  where
-    of : Line → ℕ
-    of (lines.First seq dlfc) = seq
-    of _ = 0
+abbrev pub seq_in : Option Line → ℕ
+seq_in (Some (lines.First seq dlfc)) = seq
+seq_in _ = 0
 
-abbrev pub dlfc_in : Option Said → ℕ
-dlfc_in None = 0
-dlfc_in (Some s) = of s.says
-  where
-    of : Line → ℕ
-    of (lines.First seq dlfc) = dlfc
-    of _ = 0
+abbrev pub dlfc_in : Option Line → ℕ
+dlfc_in (Some (lines.First seq dlfc)) = dlfc
+dlfc_in _ = 0
 
-abbrev pub length_in : Option Said → ℕ
-length_in None = 1
-length_in (Some s) = of s.says
-  where
-    of : Line → ℕ
-    of (lines.Length n) = n
-    of _ = 1
+abbrev pub length_in : Option Line → ℕ
+length_in (Some (lines.Length n)) = n
+length_in _ = 1
 
 -- the plan that lines give, its files without their bytes
 abbrev pub plan_of : Read → Plan
 plan_of read = record {
-  carry = carry_in (first_said keywords.Carry read.front);
-  seq = seq_in (first_said keywords.First read.front);
-  dlfc = dlfc_in (first_said keywords.First read.front);
-  length = length_in (first_said keywords.Length read.front);
+  carry = carry_in (first_line keywords.Carry read.front);
+  seq = seq_in (first_line keywords.First read.front);
+  dlfc = dlfc_in (first_line keywords.First read.front);
+  length = length_in (first_line keywords.Length read.front);
   configs = map config_of (blocks_of read);
 }
 

@@ -1,8 +1,13 @@
 -- A line that was found, as its value.
 use Rattle.std.specs.Prelude.{Option, Some, None}
 use Rattle.std.specs.Borrow.{Bor}
+use Rattle.line_forms.specs.declared.line.Line.{Line}
 use Rattle.plan_said.specs.declared.said.Said.{Said}
 
 abbrev pub said_by : Option (Bor Said) → Option Said
 said_by None = None
 said_by (Some said) = Some said.now
+
+abbrev pub line_by : Option (Bor Line) → Option Line
+line_by None = None
+line_by (Some line) = Some line.now

@@ -1,9 +1,9 @@
 //! What the lines of a configuration say of its settings.
 
 ghost use Rattle.std.specs.Prelude.{◌≡◌, Option, Some, None};
-ghost use Rattle.drm_plan.specs.Projection.{first_said, line_of, mode_in, occupancy_in, short_depth_in, msc_in, qam4_in, prot_a_in, prot_b_in, room_in, clock_in, carry_in, seq_in, dlfc_in, length_in};
+ghost use Rattle.drm_plan.specs.Projection.{first_said, first_line, line_of, mode_in, occupancy_in, short_depth_in, msc_in, qam4_in, prot_a_in, prot_b_in, room_in, clock_in, carry_in, seq_in, dlfc_in, length_in};
 ghost use Rattle.line_forms.specs.declared.first_word.Keyword.TheVariants as keywords;
-ghost use Rattle.drm_plan.specs.Settings.{said_by};
+ghost use Rattle.drm_plan.specs.Settings.{said_by, line_by};
 
 use drm_schedule::{Carry, Clock, Mode};
 use plan_lines::{Keyword, Line};
@@ -23,6 +23,13 @@ fn find(keyword: Keyword, lines: &[Said]) -> Option<&Said>
     None
 }
 
+/// What it says.
+fn says(keyword: Keyword, lines: &[Said]) -> Option<&Line>
+    ensures { line_by result ≡ first_line keyword lines.now }
+{
+    Some(&find(keyword, lines)?.says)
+}
+
 /// The number of the first line of this keyword, 0 where there is none.
 pub fn line_of(keyword: Keyword, lines: &[Said]) -> u32
     ensures { result ≡ line_of keyword lines.now }
@@ -34,157 +41,118 @@ pub fn line_of(keyword: Keyword, lines: &[Said]) -> u32
 }
 
 pub fn mode(lines: &[Said]) -> Mode
-    ensures { result ≡ mode_in (first_said keywords.Mode lines.now) }
+    ensures { result ≡ mode_in (first_line keywords.Mode lines.now) }
 {
-    let Some(said) = find(Keyword::Mode, lines) else {
-        return Mode::A;
-    };
-    match &said.says {
-        Line::Mode(mode) => *mode,
+    match says(Keyword::Mode, lines) {
+        Some(Line::Mode(mode)) => *mode,
         _ => Mode::A,
     }
 }
 
 pub fn occupancy(lines: &[Said]) -> u8
-    ensures { result ≡ occupancy_in (first_said keywords.Occupancy lines.now) }
+    ensures { result ≡ occupancy_in (first_line keywords.Occupancy lines.now) }
 {
-    let Some(said) = find(Keyword::Occupancy, lines) else {
-        return 0;
-    };
-    match &said.says {
-        Line::Occupancy(occupancy) => *occupancy,
+    match says(Keyword::Occupancy, lines) {
+        Some(Line::Occupancy(occupancy)) => *occupancy,
         _ => 0,
     }
 }
 
 pub fn short_depth(lines: &[Said]) -> bool
-    ensures { result ≡ short_depth_in (first_said keywords.Depth lines.now) }
+    ensures { result ≡ short_depth_in (first_line keywords.Depth lines.now) }
 {
-    let Some(said) = find(Keyword::Depth, lines) else {
-        return false;
-    };
-    match &said.says {
-        Line::Depth { short } => *short,
+    match says(Keyword::Depth, lines) {
+        Some(Line::Depth { short }) => *short,
         _ => false,
     }
 }
 
 pub fn msc(lines: &[Said]) -> u8
-    ensures { result ≡ msc_in (first_said keywords.Msc lines.now) }
+    ensures { result ≡ msc_in (first_line keywords.Msc lines.now) }
 {
-    let Some(said) = find(Keyword::Msc, lines) else {
-        return 0;
-    };
-    match &said.says {
-        Line::Msc(msc) => *msc,
+    match says(Keyword::Msc, lines) {
+        Some(Line::Msc(msc)) => *msc,
         _ => 0,
     }
 }
 
 pub fn qam4(lines: &[Said]) -> bool
-    ensures { result ≡ qam4_in (first_said keywords.Sdc lines.now) }
+    ensures { result ≡ qam4_in (first_line keywords.Sdc lines.now) }
 {
-    let Some(said) = find(Keyword::Sdc, lines) else {
-        return false;
-    };
-    match &said.says {
-        Line::Sdc { qam4 } => *qam4,
+    match says(Keyword::Sdc, lines) {
+        Some(Line::Sdc { qam4 }) => *qam4,
         _ => false,
     }
 }
 
 pub fn prot_a(lines: &[Said]) -> u8
-    ensures { result ≡ prot_a_in (first_said keywords.Protection lines.now) }
+    ensures { result ≡ prot_a_in (first_line keywords.Protection lines.now) }
 {
-    let Some(said) = find(Keyword::Protection, lines) else {
-        return 0;
-    };
-    match &said.says {
-        Line::Protection { a, .. } => *a,
+    match says(Keyword::Protection, lines) {
+        Some(Line::Protection { a, .. }) => *a,
         _ => 0,
     }
 }
 
 pub fn prot_b(lines: &[Said]) -> u8
-    ensures { result ≡ prot_b_in (first_said keywords.Protection lines.now) }
+    ensures { result ≡ prot_b_in (first_line keywords.Protection lines.now) }
 {
-    let Some(said) = find(Keyword::Protection, lines) else {
-        return 0;
-    };
-    match &said.says {
-        Line::Protection { b, .. } => *b,
+    match says(Keyword::Protection, lines) {
+        Some(Line::Protection { b, .. }) => *b,
         _ => 0,
     }
 }
 
 pub fn room(lines: &[Said]) -> u16
-    ensures { result ≡ room_in (first_said keywords.Room lines.now) }
+    ensures { result ≡ room_in (first_line keywords.Room lines.now) }
 {
-    let Some(said) = find(Keyword::Room, lines) else {
-        return 0;
-    };
-    match &said.says {
-        Line::Room(room) => *room,
+    match says(Keyword::Room, lines) {
+        Some(Line::Room(room)) => *room,
         _ => 0,
     }
 }
 
 pub fn clock(lines: &[Said]) -> Option<Clock>
-    ensures { result ≡ clock_in (first_said keywords.Clock lines.now) }
+    ensures { result ≡ clock_in (first_line keywords.Clock lines.now) }
 {
-    let Some(said) = find(Keyword::Clock, lines) else {
-        return None;
-    };
-    match &said.says {
-        Line::Clock(clock) => Some(*clock),
+    match says(Keyword::Clock, lines) {
+        Some(Line::Clock(clock)) => Some(*clock),
         _ => None,
     }
 }
 
 pub fn carry(lines: &[Said]) -> Carry
-    ensures { result ≡ carry_in (first_said keywords.Carry lines.now) }
+    ensures { result ≡ carry_in (first_line keywords.Carry lines.now) }
 {
-    let Some(said) = find(Keyword::Carry, lines) else {
-        return Carry::Plain;
-    };
-    match &said.says {
-        Line::Carry(carry) => *carry,
+    match says(Keyword::Carry, lines) {
+        Some(Line::Carry(carry)) => *carry,
         _ => Carry::Plain,
     }
 }
 
 pub fn seq(lines: &[Said]) -> u16
-    ensures { result ≡ seq_in (first_said keywords.First lines.now) }
+    ensures { result ≡ seq_in (first_line keywords.First lines.now) }
 {
-    let Some(said) = find(Keyword::First, lines) else {
-        return 0;
-    };
-    match &said.says {
-        Line::First { seq, .. } => *seq,
+    match says(Keyword::First, lines) {
+        Some(Line::First { seq, .. }) => *seq,
         _ => 0,
     }
 }
 
 pub fn dlfc(lines: &[Said]) -> u32
-    ensures { result ≡ dlfc_in (first_said keywords.First lines.now) }
+    ensures { result ≡ dlfc_in (first_line keywords.First lines.now) }
 {
-    let Some(said) = find(Keyword::First, lines) else {
-        return 0;
-    };
-    match &said.says {
-        Line::First { dlfc, .. } => *dlfc,
+    match says(Keyword::First, lines) {
+        Some(Line::First { dlfc, .. }) => *dlfc,
         _ => 0,
     }
 }
 
 pub fn length(lines: &[Said]) -> u32
-    ensures { result ≡ length_in (first_said keywords.Length lines.now) }
+    ensures { result ≡ length_in (first_line keywords.Length lines.now) }
 {
-    let Some(said) = find(Keyword::Length, lines) else {
-        return 1;
-    };
-    match &said.says {
-        Line::Length(length) => *length,
+    match says(Keyword::Length, lines) {
+        Some(Line::Length(length)) => *length,
         _ => 1,
     }
 }

@@ -23,7 +23,7 @@ use Rattle.plan_said.specs.declared.said.Block.{Block}
 use Rattle.plan_said.specs.Said.{count}
 use Rattle.plan_said.specs.Rules.{lacks_a_line, is_incomplete}
 use Rattle.plan_writing.specs.Canonical.{service_lines, stream_lines, clock_lines, entity_lines, block_lines}
-use Rattle.drm_plan.specs.Projection.{first_said, clock_in, service_said, stream_said, services_in, streams_in, entities_until, timed_in, or_one, blocks_in, config_of}
+use Rattle.drm_plan.specs.Projection.{first_said, content, first_line, clock_in, service_said, stream_said, services_in, streams_in, entities_until, timed_in, or_one, blocks_in, config_of}
 use Rattle.drm_plan.specs.Parts.{into_last, before_first}
 use Rattle.drm_plan.proofs.BlockLemmas.{until_append, timed_append, timed_counted}
 use Rattle.plan_laws.proofs.AgainLemmas.{two, numbered}
@@ -197,16 +197,16 @@ no_clock n (b ∷ blocks) =
     ∙ no_clock_in (n + 1) b.entities (numbered (n + 1 + length (entity_lines b.entities)) (flat_map block_lines blocks))
     ∙ no_clock (n + 1 + length (entity_lines b.entities)) blocks
 
-clock_here : (n m : ℕ) (clock : Option Clock) (blocks : List Timed) → clock_in (first_said keywords.Clock (numbered n (clock_lines clock) ++ numbered m (flat_map block_lines blocks))) ≡ clock
-clock_here n m None blocks = ap clock_in (no_clock m blocks)
+clock_here : (n m : ℕ) (clock : Option Clock) (blocks : List Timed) → clock_in (first_line keywords.Clock (numbered n (clock_lines clock) ++ numbered m (flat_map block_lines blocks))) ≡ clock
+clock_here n m None blocks = ap (λ s. clock_in (content s)) (no_clock m blocks)
 clock_here n m (Some c) blocks = refl
 
-clock_again : (n : ℕ) (c : Config) → clock_in (first_said keywords.Clock (numbered n (inner_lines c))) ≡ c.clock
+clock_again : (n : ℕ) (c : Config) → clock_in (first_line keywords.Clock (numbered n (inner_lines c))) ≡ c.clock
 clock_again n c =
     let l = lists (n + 1 + 1 + 1 + 1 + 1 + 1 + 1) c in
     let behind : List Said = numbered l.n3 (clock_lines c.clock) ++ numbered l.n4 (flat_map block_lines c.blocks) in
-    ap (λ s. clock_in (first_said keywords.Clock s)) l.is
-    ∙ ap clock_in (
+    ap (λ s. clock_in (first_line keywords.Clock s)) l.is
+    ∙ ap (λ s. clock_in (content s)) (
     skips keywords.Clock (λ s. lines.Service s) (λ s. refl) (n + 1 + 1 + 1 + 1 + 1 + 1 + 1) c.services (numbered l.n2 (stream_lines c.streams) ++ behind)
     ∙ skips keywords.Clock (λ s. lines.Stream s) (λ s. refl) l.n2 c.streams behind
     )

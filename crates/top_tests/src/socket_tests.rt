@@ -1,9 +1,10 @@
 //! Schedules over UDP, on the loopback.
 
-use crate::small::{REPORTS, is_done};
+use crate::small::is_done;
 use drm_adapt::UdpDock;
 use drm_bits::zeros;
 use drm_links::{Address, Came, Dock, LONGEST_DATAGRAM, Link, Opened};
+use gated_links::reports;
 use std::alloc::Global;
 use std::net::Net;
 use std::thread::{Threads, join, sleep};
@@ -116,15 +117,20 @@ fn where_nobody_sends_the_report_ends_idle(rt: HostRuntime) {
 
 const BOTH: &str = "127.0.0.1:47812,127.0.0.1:47813";
 
+// Whether two receivers get all of it.
+fn both_hear_it<R: AllocGlobal + Threads + Sync + Net + Clock>(rt: &R) -> bool {
+    let line = ["receive", BOTH, "--frames", "3", "--idle", "100"];
+    match reports(rt.alloc(), 2) {
+        Ok(reports) => is_done_over_udp(rt, &line, &reports),
+        Err(_) => false,
+    }
+}
+
 #[test]
 fn two_modulators_give_what_is_served(rt: HostRuntime) {
     let (heard, served) = join(
         &rt,
-        || is_done_over_udp(
-            &rt,
-            &["receive", BOTH, "--frames", "3", "--idle", "100"],
-            REPORTS,
-        ),
+        || both_hear_it(&rt),
         || {
             // So long the receivers have to open their links.
             sleep(&rt, Duration::from_millis(500));
