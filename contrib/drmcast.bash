@@ -33,7 +33,7 @@ _drmcast() {
     _drmcast_words
     local at=$((${#words[@]} - 1))
     if [ "$at" -le 1 ]; then
-        _drmcast_among 'fac check serve receive air show convert gate pack unpack texts exercise'
+        _drmcast_among 'fac check serve receive count air show convert gate pack unpack texts exercise'
         return
     fi
     case ${words[at - 1]} in
@@ -41,7 +41,7 @@ _drmcast() {
     esac
     case ${words[1]}:$at:${words[at]} in
         serve:*:-*) _drmcast_among '--to --pace --from --live' ;;
-        receive:*:-* | gate:*:-*) _drmcast_among "$common --idle --limit" ;;
+        receive:*:-* | count:*:-* | gate:*:-*) _drmcast_among "$common --idle --limit" ;;
         convert:*:-* | unpack:*:-* | texts:*:-*) _drmcast_among "$common" ;;
         air:*:-*) _drmcast_among '--window' ;;
         convert:2:* | gate:4:*) _drmcast_among "$carries" ;;

@@ -183,7 +183,7 @@ def gather(listening, got, is_ended):
 def words_of(program, case, ports):
     words = [ADDRESS.sub(lambda it: f"{HOST}:{ports[it[0]]}" if it[0] in ports else it[0], word.decode()) for word in case.words]
     commands = 0 if pathlib.Path(program).name == "drmpaths" else 1
-    if (commands and words[:1] not in (["receive"], ["gate"])) or not ports:
+    if (commands and words[:1] not in (["receive"], ["count"], ["gate"])) or not ports:
         return words
     for at, word in enumerate(words):
         if word == "--idle":

@@ -2,7 +2,7 @@
 use Rattle.std.proofs.Common.{◌≡◌, ◌≤◌, ℕ, List, [], ◌∷◌, Option, None, Some, IfSome, IsUtf8, sym, subst, arith}
 use Rattle.drm_links.specs.declared.dock.Address.{Address}
 use Rattle.drm_words.specs.declared.request.Request.{Request}
-use Rattle.drm_words.specs.declared.request.Request.TheVariants.{Check, Serve, Receive, Air, Exercise, Convert, Gate, Pack, Unpack, Texts}
+use Rattle.drm_words.specs.declared.request.Request.TheVariants.{Check, Serve, Receive, Count, Air, Exercise, Convert, Gate, Pack, Unpack, Texts}
 use Rattle.drm_words.specs.Table.{Options, IsNumberOr, IsNumberOrNone, IsStretch, IsReading, AreAddressesOrNone, AreAddressesIfTold, HasTextNames}
 use Rattle.drm_words.specs.Line.{IsLine}
 use Rattle.recv_reading.specs.declared.options.ReceiveOptions.{ReceiveOptions}
@@ -78,6 +78,7 @@ in_range (Serve name to pace from live) words line text =
 in_range (Receive (Some addresses) window first frames idle limit) words line text =
     (reads words (Some addresses) window first frames idle limit line, let asks = line.asks in listed _ addresses asks.1)
 in_range (Receive None window first frames idle limit) words line text = reads words None window first frames idle limit line
+in_range (Count address window first frames idle limit) words line text = let asks = line.asks in in_reading _ (options_of window first frames idle limit) asks.3
 in_range (Air name script window) words line text =
     let range = within 8 1 64 window _ (omega arith) (omega arith) line.asks.3 in
     (text.0, text.1, range.0, range.1)

@@ -14,6 +14,7 @@ use Rattle.drm_schedule.specs.declared.live.Live.{Live}
 use Rattle.drm_schedule.specs.Live.{is_any}
 use Rattle.drm_receive.specs.Receive.{ReceiveRun}
 use Rattle.drm_receive.specs.Capture.{CaptureRun}
+use Rattle.drm_count.specs.Run.{CountRun, CountCaptureRun}
 use Rattle.drm_air.specs.Air.{AirRun}
 use Rattle.drm_exercise.specs.Run.{ExerciseRun}
 use Rattle.drm_convert.specs.Run.{ConvertRun}
@@ -27,7 +28,7 @@ use Rattle.drm_faults.specs.declared.fault.Fault.TheVariants.{NoMemory}
 use Rattle.drm_top.specs.Outside.{Outside, IsStill}
 use Rattle.drm_top.specs.Words.{options_of}
 use Rattle.drm_words.specs.declared.request.Request.{Request}
-use Rattle.drm_words.specs.declared.request.Request.TheVariants.{Fac, Check, Serve, Receive, Air, Show, Exercise, Convert, Gate, Pack, Unpack, Texts}
+use Rattle.drm_words.specs.declared.request.Request.TheVariants.{Fac, Check, Serve, Receive, Count, Air, Show, Exercise, Convert, Gate, Pack, Unpack, Texts}
 
 -- a run that tells of no frames
 abbrev pub Whole : Result Bool Fault → (Result (Unit {0}) Fault → Type 0) → Type 0
@@ -65,6 +66,10 @@ CommandRun (Receive (Some addresses) window first frames idle limit) ending told
     ReceiveRun (options_of window first frames idle limit) addresses ending o.dock.known o.dock.before o.dock.after o.out.known o.out.before o.out.after × IsStill o.shelf × IsStill o.input × IsQuiet told o.err.before o.err.after
 CommandRun (Receive None window first frames idle limit) ending told o =
     CaptureRun (options_of window first frames idle limit) ending o.input.known o.input.before o.input.after o.out.known o.out.before o.out.after × IsStill o.shelf × IsStill o.dock × IsQuiet told o.err.before o.err.after
+CommandRun (Count (Some at) window first frames idle limit) ending told o =
+    CountRun (options_of window first frames idle limit) at ending o.dock.known o.dock.before o.dock.after o.out.known o.out.before o.out.after × IsStill o.shelf × IsStill o.input × IsQuiet told o.err.before o.err.after
+CommandRun (Count None window first frames idle limit) ending told o =
+    CountCaptureRun (options_of window first frames idle limit) ending o.input.known o.input.before o.input.after o.out.known o.out.before o.out.after × IsStill o.shelf × IsStill o.dock × IsQuiet told o.err.before o.err.after
 CommandRun (Air name script window) ending told o =
     AirRun name script window ending o.shelf.known o.shelf.before o.shelf.after o.out.known o.out.before o.out.after × IsStill o.input × IsStill o.dock × IsQuiet told o.err.before o.err.after
 CommandRun Show ending told o =
@@ -102,6 +107,7 @@ Ends ending told code known err err' = (code ≡ report_status ending) × Report
 abbrev pub OpensALink : Request → Type 0
 OpensALink (Serve name (at ∷ others) pace from live) = Unit {0}
 OpensALink (Receive (Some addresses) window first frames idle limit) = Unit {0}
+OpensALink (Count (Some at) window first frames idle limit) = Unit {0}
 OpensALink (Gate from to carry window first frames idle limit) = Unit {0}
 OpensALink _ = ⊥
 

@@ -3,7 +3,7 @@ use Rattle.std.specs.Prelude.{ℕ, ◌≤◌, ◌<◌, List, Option, None, Some,
 use Rattle.dcp_pft.specs.Carrying.{CarryFits}
 use Rattle.drm_words.specs.Line.{IsLine}
 use Rattle.drm_words.specs.declared.request.Request.{Request}
-use Rattle.drm_words.specs.declared.request.Request.TheVariants.{Check, Serve, Receive, Air, Exercise, Convert, Gate, Pack, Unpack, Texts}
+use Rattle.drm_words.specs.declared.request.Request.TheVariants.{Check, Serve, Receive, Count, Air, Exercise, Convert, Gate, Pack, Unpack, Texts}
 use Rattle.drm_links.specs.Dock.{AreDifferent}
 use Rattle.several_links.specs.Listed.{AreListed}
 use Rattle.recv_reading.specs.Options.{AreInRange}
@@ -31,6 +31,7 @@ IsInRange (Check name) = IsUtf8 name
 IsInRange (Serve name to pace from live) = IsUtf8 name × (from ≤ 1000000) × AreDifferent to
 IsInRange (Receive (Some addresses) window first frames idle limit) = AreInRange (options_of window first frames idle limit) × AreListed addresses
 IsInRange (Receive None window first frames idle limit) = AreInRange (options_of window first frames idle limit)
+IsInRange (Count address window first frames idle limit) = AreInRange (options_of window first frames idle limit)
 IsInRange (Air name script window) = IsUtf8 name × IsUtf8 script × (1 ≤ window) × (window ≤ 64)
 IsInRange (Exercise n) = (1 ≤ n) × (n ≤ 1000)
 IsInRange (Convert carry window first frames) = CarryFits carry × IsInStretch window frames

@@ -17,6 +17,7 @@ use capture_data::{texts, unpack};
 use data_units::pack;
 use drm_air::air;
 use drm_convert::convert;
+use drm_count::{count, count_capture};
 use drm_exercise::exercise;
 use drm_faults::Fault;
 use drm_inspect::{fac, show};
@@ -34,7 +35,8 @@ use std::thread::Threads;
 /// from `shelf` and writes its canonical text to `out`; `serve` reads them too and writes the datagrams of the schedule to
 /// `out` as a capture, or sends them over links that it opens in `dock`; its live streams take their bytes from `input`. `receive` opens links in `dock`, or reads a capture
 /// from `input`, and writes their reports to `out`: that of one link or of a capture as it is read, those of several links,
-/// which are read side by side, when all have ended. `air` does the same in memory with a schedule and a script from
+/// which are read side by side, when all have ended. `count` receives as `receive` does from one link or from a capture, and writes
+/// one line of what came. `air` does the same in memory with a schedule and a script from
 /// `shelf`, `exercise` with those that it makes itself; their reports come at the end. `gate` opens links in `dock`, and
 /// sends over all but the first what comes over that one. Of a capture in `input` `show` writes what is in it, `convert` another
 /// capture, `unpack` and `texts` the data in a stream; `pack` makes the packets of such data.
@@ -219,6 +221,20 @@ where
             match addresses {
                 Some(links) => receive(rt, alloc, &options, links, dock, out),
                 None => receive_from_capture(alloc, &options, input, out),
+            }
+        }
+        Request::Count {
+            address,
+            window,
+            first,
+            frames,
+            idle,
+            limit,
+        } => {
+            let options = options_of(*window, *first, *frames, *idle, *limit);
+            match address {
+                Some(at) => count(alloc, &options, *at, dock, out),
+                None => count_capture(alloc, &options, input, out),
             }
         }
         Request::Air {

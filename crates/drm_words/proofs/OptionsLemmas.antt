@@ -9,12 +9,12 @@ use Rattle.drm_words.specs.declared.request.Request.{Request}
 use Rattle.drm_words.specs.declared.options.Stretch.{Stretch}
 use Rattle.drm_words.specs.declared.options.Reading.{Reading}
 use Rattle.word_forms.specs.Reading.{within}
-use Rattle.word_forms.specs.Addressing.{addresses_of}
-use Rattle.drm_words.specs.Table.{Options, told, IsOneOf, AreOf, IsNumberOr, IsNumberOrNone, AreAddressesIfTold, AreStreamsIfTold, AreAddressesOrNone, IsStretch, IsReading}
-use Rattle.drm_words.specs.Asking.{is_one_of, are_of, number_or, number_or_none, addresses_if_told, live_if_told, addresses_or_none, with_options, window_of, first_of, frames_of, stretch_of, reading_of, idle_of, limit_of, pace_of, from_of, to_of, live_told}
+use Rattle.word_forms.specs.Addressing.{address_of, addresses_of}
+use Rattle.drm_words.specs.Table.{Options, told, IsOneOf, AreOf, IsNumberOr, IsNumberOrNone, AreAddressesIfTold, AreStreamsIfTold, AreAddressesOrNone, IsAddressOrNone, IsStretch, IsReading}
+use Rattle.drm_words.specs.Asking.{is_one_of, are_of, number_or, number_or_none, addresses_if_told, live_if_told, addresses_or_none, address_or_none, with_options, window_of, first_of, frames_of, stretch_of, reading_of, idle_of, limit_of, pace_of, from_of, to_of, live_told}
 use Rattle.word_forms.proofs.OptionLemmas.{mapped, stepped}
 use Rattle.word_forms.proofs.NumberLemmas.{within_fits, within_is}
-use Rattle.word_forms.proofs.AddressLemmas.{addresses_fit, addresses_are}
+use Rattle.word_forms.proofs.AddressLemmas.{address_fits, address_is, addresses_fit, addresses_are}
 use Rattle.word_forms.proofs.StreamLemmas.{live_fits, live_is}
 use Rattle.drm_schedule.specs.declared.live.Live.{Live}
 use Rattle.drm_schedule.specs.Live as live
@@ -64,6 +64,18 @@ pub addresses_or_none_are : (texts : List (List ℕ)) (addresses : Option (List 
 addresses_or_none_are [] addresses h = ap Some (sym h)
 addresses_or_none_are (text ∷ []) addresses h = ap (option_map Some) (addresses_are text h.0 h.2) ∙ ap Some (sym h.1)
 addresses_or_none_are (text ∷ other ∷ more) addresses h = absurd h
+
+pub address_or_none_fits : (texts : List (List ℕ)) (address : Option Address) → address_or_none texts ≡ Some address → IsAddressOrNone texts address
+address_or_none_fits [] address e = sym (same_Some None address e)
+address_or_none_fits (text ∷ []) address e =
+    let p = mapped (address_of text) Some address e in
+    (p.value, sym p.rest, address_fits text p.value p.is)
+address_or_none_fits (text ∷ other ∷ more) address e = absurd cc
+
+pub address_or_none_is : (texts : List (List ℕ)) (address : Option Address) → IsAddressOrNone texts address → address_or_none texts ≡ Some address
+address_or_none_is [] address h = ap Some (sym h)
+address_or_none_is (text ∷ []) address h = ap (option_map Some) (address_is text h.0 h.2) ∙ ap Some (sym h.1)
+address_or_none_is (text ∷ other ∷ more) address h = absurd h
 
 one_by : (name known : List ℕ) (others : List (List ℕ)) (t : Bool) → t ≡ bytes_eq name known → (is_one_of others name ≡ true → IsOneOf others name) → (t || is_one_of others name) ≡ true → (name ≡ known) ⊎ IsOneOf others name
 one_by name known others true is later e = inl ((bytes_eq-Decides name known).0 (sym is))

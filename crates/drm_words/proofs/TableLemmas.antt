@@ -10,18 +10,18 @@ use Rattle.drm_links.specs.declared.dock.Address.{Address}
 use Rattle.drm_schedule.specs.declared.live.Live.{Live}
 use Rattle.dcp_pft.specs.declared.carry.Carry.{Carry}
 use Rattle.drm_words.specs.declared.request.Request.{Request}
-use Rattle.drm_words.specs.declared.request.Request.TheVariants.{Fac, Check, Serve, Receive, Air, Show, Convert, Exercise, Gate, Pack, Unpack, Texts}
+use Rattle.drm_words.specs.declared.request.Request.TheVariants.{Fac, Check, Serve, Receive, Count, Air, Show, Convert, Exercise, Gate, Pack, Unpack, Texts}
 use Rattle.word_forms.specs.Reading.{within}
 use Rattle.word_forms.specs.Addressing.{address_of, addresses_of, carry_of}
 use Rattle.drm_words.specs.declared.options.Stretch.{Stretch}
 use Rattle.drm_words.specs.declared.options.Reading.{Reading}
 use Rattle.drm_words.specs.Table.{Options, AreOf, IsRequest, serve_names, stretch_names, reading_names}
-use Rattle.drm_words.specs.Asking.{addresses_or_none, window_of, stretch_of, reading_of, pace_of, from_of, to_of, live_told, is_bare, bare_of, check_of, serve_asked, serve_of, receive_with, receive_of, air_with, air_of, convert_with, convert_of, exercise_with, exercise_of, gate_with, gate_of, pack_with, pack_of, unpack_with, unpack_of, texts_with, texts_of, request_of}
+use Rattle.drm_words.specs.Asking.{addresses_or_none, address_or_none, window_of, stretch_of, reading_of, pace_of, from_of, to_of, live_told, is_bare, bare_of, check_of, serve_asked, serve_of, receive_with, receive_of, count_with, count_of, air_with, air_of, convert_with, convert_of, exercise_with, exercise_of, gate_with, gate_of, pack_with, pack_of, unpack_with, unpack_of, texts_with, texts_of, request_of}
 use Rattle.word_forms.proofs.OptionLemmas.{stepped}
 use Rattle.word_forms.proofs.NumberLemmas.{within_fits, within_is}
 use Rattle.word_forms.proofs.CarryLemmas.{carry_fits, carry_is}
 use Rattle.word_forms.proofs.AddressLemmas.{address_fits, address_is, addresses_fit, addresses_are}
-use Rattle.drm_words.proofs.OptionsLemmas.{addresses_or_none_fit, addresses_or_none_are, with_fits, with_is, none_of, window_fits, window_is, stretch_fits, stretch_is, reading_fits, reading_is, pace_fits, pace_is, from_fits, from_is, to_fits, to_is, live_told_fits, live_told_is}
+use Rattle.drm_words.proofs.OptionsLemmas.{addresses_or_none_fit, addresses_or_none_are, address_or_none_fits, address_or_none_is, with_fits, with_is, none_of, window_fits, window_is, stretch_fits, stretch_is, reading_fits, reading_is, pace_fits, pace_is, from_fits, from_is, to_fits, to_is, live_told_fits, live_told_is}
 
 bare_fits : (asked : Request) (texts : List (List ℕ)) (options : Options) (r : Request) → bare_of asked texts options ≡ Some r → (texts ≡ []) × (options ≡ []) × (asked ≡ r)
 bare_fits asked texts options r e =
@@ -72,6 +72,17 @@ receive_fits texts options r e =
     subst (λ (x : Request). IsRequest x (codes "receive") texts options)
     (same_Some (Receive addresses.value taken.stretch.window taken.stretch.first taken.stretch.frames taken.idle taken.limit) r reading.rest)
     (refl, addresses_or_none_fit texts addresses.value addresses.is, w.0, reading_fits options taken reading.is)
+
+count_fits : (texts : List (List ℕ)) (options : Options) (r : Request) → count_of texts options ≡ Some r → IsRequest r (codes "count") texts options
+unfolding count_of
+count_fits texts options r e =
+    let w = with_fits reading_names options _ r e in
+    let address = stepped (address_or_none texts) (count_with options) r w.1 in
+    let reading = stepped (reading_of options) _ r address.rest in
+    let taken : Reading = reading.value in
+    subst (λ (x : Request). IsRequest x (codes "count") texts options)
+    (same_Some (Count address.value taken.stretch.window taken.stretch.first taken.stretch.frames taken.idle taken.limit) r reading.rest)
+    (refl, address_or_none_fits texts address.value address.is, w.0, reading_fits options taken reading.is)
 
 air_fits : (texts : List (List ℕ)) (options : Options) (r : Request) → air_of texts options ≡ Some r → IsRequest r (codes "air") texts options
 unfolding air_of
@@ -199,6 +210,7 @@ request_fits command texts options r e =
     chosen command (codes "check") _ _ _ r P refl (λ same f. at (codes "check") same (check_fits texts options r f)) (λ e.
     chosen command (codes "serve") _ _ _ r P refl (λ same f. at (codes "serve") same (serve_fits texts options r f)) (λ e.
     chosen command (codes "receive") _ _ _ r P refl (λ same f. at (codes "receive") same (receive_fits texts options r f)) (λ e.
+    chosen command (codes "count") _ _ _ r P refl (λ same f. at (codes "count") same (count_fits texts options r f)) (λ e.
     chosen command (codes "air") _ _ _ r P refl (λ same f. at (codes "air") same (air_fits texts options r f)) (λ e.
     chosen command (codes "show") _ _ _ r P refl (λ same f. at (codes "show") same (show_fits texts options r f)) (λ e.
     chosen command (codes "convert") _ _ _ r P refl (λ same f. at (codes "convert") same (convert_fits texts options r f)) (λ e.
@@ -207,7 +219,7 @@ request_fits command texts options r e =
     chosen command (codes "pack") _ _ _ r P refl (λ same f. at (codes "pack") same (pack_fits texts options r f)) (λ e.
     chosen command (codes "unpack") _ _ _ r P refl (λ same f. at (codes "unpack") same (unpack_fits texts options r f)) (λ e.
     chosen command (codes "texts") _ _ _ r P refl (λ same f. at (codes "texts") same (texts_fits texts options r f)) (λ e. absurd cc)
-    e) e) e) e) e) e) e) e) e) e) e) e
+    e) e) e) e) e) e) e) e) e) e) e) e) e
 
 bare_is : (r : Request) (texts : List (List ℕ)) (options : Options) → texts ≡ [] → options ≡ [] → bare_of r texts options ≡ Some r
 bare_is r texts options e f = rw (e, f) refl
@@ -227,6 +239,12 @@ receive_is : (addresses : Option (List Address)) (window : ℕ) (first frames : 
 unfolding receive_of
 receive_is addresses window first frames idle limit texts options h =
     with_is reading_names options _ h.2 ∙ rw (addresses_or_none_are texts addresses h.1, reading_is options window first frames idle limit h.3) refl
+
+count_is : (address : Option Address) (window : ℕ) (first frames : Option ℕ) (idle limit : ℕ) (texts : List (List ℕ)) (options : Options)
+    → IsRequest (Count address window first frames idle limit) (codes "count") texts options → count_of texts options ≡ Some (Count address window first frames idle limit)
+unfolding count_of
+count_is address window first frames idle limit texts options h =
+    with_is reading_names options _ h.2 ∙ rw (address_or_none_is texts address h.1, reading_is options window first frames idle limit h.3) refl
 
 air_is : (name script : List ℕ) (window : ℕ) (texts : List (List ℕ)) (options : Options) → IsRequest (Air name script window) (codes "air") texts options → air_of texts options ≡ Some (Air name script window)
 unfolding air_of
@@ -275,6 +293,8 @@ request_is (Check name) command texts options h = rw h.0 (check_is name texts op
 request_is (Serve name to pace from live) command texts options h = rw h.0 (serve_is name to pace from live texts options (refl, h.1, h.2, h.3, h.4, h.5, h.6))
 request_is (Receive addresses window first frames idle limit) command texts options h =
     rw h.0 (receive_is addresses window first frames idle limit texts options (refl, h.1, h.2, h.3))
+request_is (Count address window first frames idle limit) command texts options h =
+    rw h.0 (count_is address window first frames idle limit texts options (refl, h.1, h.2, h.3))
 request_is (Air name script window) command texts options h = rw h.0 (air_is name script window texts options (refl, h.1, h.2, h.3))
 request_is Show command texts options h = rw h.0 (bare_is Show texts options h.1 (none_of options h.2))
 request_is (Convert carry window first frames) command texts options h =

@@ -3,7 +3,7 @@ use Rattle.std.specs.Prelude.{ℕ, ◌==◌, ◌&&◌, Bool, true, false, ◌||�
 use Rattle.std.specs.Str.{bytes_eq}
 use Rattle.drm_links.specs.declared.dock.Address.{Address}
 use Rattle.drm_words.specs.declared.request.Request.{Request}
-use Rattle.drm_words.specs.declared.request.Request.TheVariants.{Fac, Check, Serve, Receive, Air, Show, Convert, Exercise, Gate, Pack, Unpack, Texts}
+use Rattle.drm_words.specs.declared.request.Request.TheVariants.{Fac, Check, Serve, Receive, Count, Air, Show, Convert, Exercise, Gate, Pack, Unpack, Texts}
 use Rattle.word_forms.specs.Reading.{within}
 use Rattle.word_forms.specs.Addressing.{◌>>=◌, address_of, addresses_of, carry_of}
 use Rattle.drm_words.specs.declared.options.Stretch.{Stretch}
@@ -85,6 +85,11 @@ addresses_or_none [] = Some None
 addresses_or_none (text ∷ []) = option_map Some (addresses_of text)
 addresses_or_none _ = None
 
+abbrev pub address_or_none : List (List ℕ) → Option (Option Address)
+address_or_none [] = Some None
+address_or_none (text ∷ []) = option_map Some (address_of text)
+address_or_none _ = None
+
 -- the value where the options are some of these, each at most once
 abbrev pub with_options : List (List ℕ) → Options → Option Request → Option Request
 with_options names options request = if are_of names options then request else None
@@ -123,6 +128,15 @@ receive_with options addresses = do
 unfoldable pub receive_of : List (List ℕ) → Options → Option Request
 receive_of texts options = with_options reading_names options
     (option_and_then (receive_with options) (addresses_or_none texts))
+
+abbrev pub count_with : Options → Option Address → Option Request
+count_with options address = do
+  reading ← reading_of options
+  Some (Count address reading.stretch.window reading.stretch.first reading.stretch.frames reading.idle reading.limit)
+
+unfoldable pub count_of : List (List ℕ) → Options → Option Request
+count_of texts options = with_options reading_names options
+    (option_and_then (count_with options) (address_or_none texts))
 
 abbrev pub air_with : List ℕ → List ℕ → Options → Option Request
 air_with name script options = option_and_then (λ window. Some (Air name script window)) (window_of options)
@@ -197,6 +211,7 @@ request_of command texts options =
     else if bytes_eq command (codes "check") then check_of texts options
     else if bytes_eq command (codes "serve") then serve_of texts options
     else if bytes_eq command (codes "receive") then receive_of texts options
+    else if bytes_eq command (codes "count") then count_of texts options
     else if bytes_eq command (codes "air") then air_of texts options
     else if bytes_eq command (codes "show") then bare_of Show texts options
     else if bytes_eq command (codes "convert") then convert_of texts options

@@ -3,7 +3,7 @@ use Rattle.std.specs.Prelude.{ℕ, ◌≡◌, ◌⊎◌, List, [], ◌∷◌, �
 use Rattle.std.specs.Str.{bytes_eq}
 use Rattle.drm_links.specs.declared.dock.Address.{Address}
 use Rattle.drm_words.specs.declared.request.Request.{Request}
-use Rattle.drm_words.specs.declared.request.Request.TheVariants.{Fac, Check, Serve, Receive, Air, Show, Convert, Exercise, Gate, Pack, Unpack, Texts}
+use Rattle.drm_words.specs.declared.request.Request.TheVariants.{Fac, Check, Serve, Receive, Count, Air, Show, Convert, Exercise, Gate, Pack, Unpack, Texts}
 use Rattle.word_forms.specs.Numbers.{IsWithin}
 use Rattle.word_forms.specs.Addresses.{IsAddress, AreAddresses}
 use Rattle.word_forms.specs.Carries.{IsCarry}
@@ -55,6 +55,12 @@ AreAddressesOrNone [] addresses = addresses ≡ None
 AreAddressesOrNone (text ∷ []) addresses = (list : List Address) × (addresses ≡ Some list) × AreAddresses text list
 AreAddressesOrNone _ addresses = ⊥
 
+-- no plain word and no address, or one plain word that is an address
+abbrev pub IsAddressOrNone : List (List ℕ) → Option Address → Type 0
+IsAddressOrNone [] address = address ≡ None
+IsAddressOrNone (text ∷ []) address = (at : Address) × (address ≡ Some at) × IsAddress text at
+IsAddressOrNone _ address = ⊥
+
 -- [--to ADDRS] [--pace MS] [--from N] [--live LIST]: where datagrams go, how fast, of which super frames, and which streams take
 -- their bytes from input
 abbrev pub serve_names : List (List ℕ)
@@ -95,6 +101,10 @@ IsRequest (Serve name to pace from live) command texts options =
 -- receive [ADDRS] [--window W] [--first N] [--frames N] [--idle K] [--limit L]
 IsRequest (Receive addresses window first frames idle limit) command texts options =
     (command ≡ codes "receive") × AreAddressesOrNone texts addresses
+    × AreOf reading_names options × IsReading options window first frames idle limit
+-- count [ADDR] [--window W] [--first N] [--frames N] [--idle K] [--limit L]
+IsRequest (Count address window first frames idle limit) command texts options =
+    (command ≡ codes "count") × IsAddressOrNone texts address
     × AreOf reading_names options × IsReading options window first frames idle limit
 -- air NAME SCRIPT [--window W]
 IsRequest (Air name script window) command texts options =

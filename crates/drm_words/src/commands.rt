@@ -2,7 +2,7 @@
 
 ghost use Rattle.std.specs.Prelude.{◌≡◌, IfOk, IfErr, IfSome, IsUtf8, map};
 ghost use Rattle.word_forms.specs.Arguing.{option_said};
-ghost use Rattle.drm_words.specs.Asking.{is_bare, bare_of, check_of, serve_with, serve_of, addresses_or_none, receive_with, receive_of, air_with, air_of, convert_with, convert_of, exercise_with, exercise_of, gate_with, gate_of, pack_with, pack_of, unpack_with, unpack_of, texts_with, texts_of, request_of};
+ghost use Rattle.drm_words.specs.Asking.{is_bare, bare_of, check_of, serve_with, serve_of, addresses_or_none, receive_with, receive_of, address_or_none, count_with, count_of, air_with, air_of, convert_with, convert_of, exercise_with, exercise_of, gate_with, gate_of, pack_with, pack_of, unpack_with, unpack_of, texts_with, texts_of, request_of};
 ghost use Rattle.word_forms.specs.Gives.{Gives};
 ghost use Rattle.drm_words.specs.Table.{HasTextNames};
 ghost use Rattle.word_forms.specs.declared.fault.WordsFault.TheVariants as faults;
@@ -10,7 +10,7 @@ ghost use Rattle.word_forms.specs.declared.fault.WordsFault.TheVariants as fault
 use crate::options::{are_of, from, live, pace, to, told_reading, told_stretch, window};
 use crate::request::Request;
 use drm_bits::Octets;
-use drm_links::Addresses;
+use drm_links::{Address, Addresses};
 use drm_schedule::Live;
 use std::alloc::Global;
 use word_forms::{Named, WordsFault, address, carry, read_addresses, within};
@@ -145,6 +145,50 @@ fn receive(alloc: Global, texts: &[&str], options: &[Named<'_>]) -> Result<Reque
     }
     let addresses = addresses_or_none(alloc, texts)?;
     asked(receive_with(options, addresses))
+}
+
+// No address, or that of the one plain word.
+fn address_or_none(texts: &[&str]) -> Option<Option<Address>>
+    ensures { result ≡ address_or_none (map (λ text. text.now) texts.now) }
+{
+    if texts.is_empty() {
+        return Some(None);
+    }
+    let [text] = texts else {
+        return None;
+    };
+    let address = address(text)?;
+    Some(Some(address))
+}
+
+fn count_with(options: &[Named<'_>], address: Option<Address>) -> Option<Request>
+    ensures value { result ≡ count_with (map option_said options.now) address }
+    ensures text { IfSome result HasTextNames }
+{
+    let reading = told_reading(options)?;
+    Some(Request::Count {
+        address,
+        window: reading.stretch.window,
+        first: reading.stretch.first,
+        frames: reading.stretch.frames,
+        idle: reading.idle,
+        limit: reading.limit,
+    })
+}
+
+// count [ADDR] [--window W] [--first N] [--frames N] [--idle K] [--limit L]
+#[tactic(auto, unfolding(crate::specs::Asking::count_of))]
+fn count(texts: &[&str], options: &[Named<'_>]) -> Result<Request, WordsFault>
+    ensures gives { Gives result (count_of (map (λ text. text.now) texts.now) (map option_said options.now)) }
+    ensures text { IfOk result HasTextNames }
+{
+    if !are_of(&["window", "first", "frames", "idle", "limit"], options) {
+        return Err(WordsFault::Words);
+    }
+    let Some(address) = address_or_none(texts) else {
+        return Err(WordsFault::Words);
+    };
+    asked(count_with(options, address))
 }
 
 fn air_with(name: Octets, script: Octets, options: &[Named<'_>]) -> Option<Request>
@@ -371,6 +415,8 @@ pub(crate) fn request(
         serve(alloc, texts, options)
     } else if command == "receive" {
         receive(alloc, texts, options)
+    } else if command == "count" {
+        count(texts, options)
     } else if command == "air" {
         air(alloc, texts, options)
     } else if command == "show" {

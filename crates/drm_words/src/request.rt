@@ -38,6 +38,19 @@ pub enum Request {
         /// The most datagrams of a link.
         limit: u32,
     },
+    /// Count what a link brings, or a capture.
+    Count {
+        address: Option<Address>,
+        /// In packets.
+        window: u8,
+        /// The first sequence number.
+        first: Option<u16>,
+        frames: Option<u64>,
+        /// How many idle answers of a link in a row end it.
+        idle: u32,
+        /// The most datagrams of a link.
+        limit: u32,
+    },
     /// Report what a script delivers of a schedule.
     Air {
         name: Octets,

@@ -9,7 +9,7 @@ use std::alloc::{AllocError, Global};
 // Lines of words, each word behind a `|`, and what they ask for: the command, then the plain words and the options in
 // the order of the command's row, `-` where one isn't told. By hand from the rules of the command line; a reader of the
 // same rules in Python gives the same.
-const ASKED: [(&str, &str); 69] = [
+const ASKED: [(&str, &str); 72] = [
     ("|fac", "fac"),
     ("|fac|--", "fac"),
     ("|show", "show"),
@@ -93,6 +93,12 @@ const ASKED: [(&str, &str); 69] = [
     (
         "|receive|--limit|8|--idle|7|--frames|6|9.9.9.9:9|--first|5|--window|4",
         "receive 9.9.9.9:9 4 5 6 7 8",
+    ),
+    ("|count", "count - 8 - - 50 4294967295"),
+    ("|count|1.2.3.4:5|--", "count 1.2.3.4:5 8 - - 50 4294967295"),
+    (
+        "|count|--window=4|--first=5|9.9.9.9:9|--frames=6|--idle=7|--limit=8",
+        "count 9.9.9.9:9 4 5 6 7 8",
     ),
     ("|air|a|b", "air a b 8"),
     ("|air|a|--window|4|b", "air a b 4"),
@@ -191,6 +197,13 @@ fn addresses_shown(alloc: Global, addresses: &Option<Addresses>) -> Result<Strin
     }
 }
 
+fn address_if_shown(alloc: Global, address: &Option<Address>) -> Result<String, AllocError> {
+    match address {
+        Some(address) => address_shown(alloc, address),
+        None => String::from_str(alloc, "-"),
+    }
+}
+
 fn carry_shown(alloc: Global, carry: Carry) -> Result<String, AllocError> {
     match carry {
         Carry::Plain => String::from_str(alloc, "plain"),
@@ -259,6 +272,18 @@ fn shown(alloc: Global, request: &Request) -> Result<String, AllocError> {
             let addresses = addresses_shown(alloc, addresses)?;
             let rules = rules_shown(alloc, *window, *first, *frames)?;
             format!(in alloc; "receive {addresses} {rules} {idle} {limit}")
+        }
+        Request::Count {
+            address,
+            window,
+            first,
+            frames,
+            idle,
+            limit,
+        } => {
+            let address = address_if_shown(alloc, address)?;
+            let rules = rules_shown(alloc, *window, *first, *frames)?;
+            format!(in alloc; "count {address} {rules} {idle} {limit}")
         }
         Request::Air {
             name,

@@ -107,10 +107,8 @@ fn compare(found: &mut String, name: &str, got: &[u8], wanted: &[u8]) -> Result<
 // Whether the links of this case are there to be read.
 fn receives(program: Program, case: &Case) -> bool {
     match program {
-        Program::Drmcast => case
-            .words
-            .first()
-            .is_some_and(|word| word.as_str() == "receive"),
+        Program::Drmcast => case.words.first().is_some_and(|word| word.as_str() == "receive"
+            || word.as_str() == "count"),
         Program::Drmpaths => true,
     }
 }

@@ -1,4 +1,4 @@
-use Rattle.std.proofs.Common.{◌≡◌, ◌∙◌, inl, true, false, [], Err, refl, sym, ap, subst}
+use Rattle.std.proofs.Common.{◌≡◌, ◌∙◌, inl, true, false, [], ◌∷◌, Err, refl, sym, ap, subst}
 use Rattle.drm_schedule.specs.Live.{is_any}
 use Rattle.drm_links.specs.Told.{WhileTold}
 use Rattle.several_links.specs.Reaching.{NothingSent}
@@ -11,6 +11,7 @@ use Rattle.drm_top.specs.Outside.{outside}
 use Rattle.drm_top.proofs.CommandLemmas.{fault_of_whole, whole_cause, whole_lacks_none, dock_still, not_else, not_convert, not_a_link, not_gate, no_gate}
 use Rattle.drm_top.proofs.ServeLemmas.{sends, opens_some}
 use Rattle.drm_receive.proofs.OpeningLemmas.{opens_unsent}
+use Rattle.drm_count.specs.Run.{ended, unseen}
 use Rattle.drm_top.proofs.command.run_command.Goals as goal
 
 pub returns-in-Fac : goal.returns-in-Fac
@@ -165,6 +166,20 @@ returns-in-None g c =
       unsent = λ e. dock_still (g.D.Dock.known c.args.dock.now);
       dock = λ none. refl;
     }
+
+-- ---- what counts
+
+pub count-requires : goal.count-requires
+count-requires g c = rw c.options_of-options-in-Count.ensures (rw c.in-Count.is at c.requires.range)
+
+pub count_capture-requires : goal.count_capture-requires
+count_capture-requires g c = rw c.options_of-options-in-Count.ensures (rw c.in-Count.is at c.requires.range)
+
+pub returns-in-Some-address-clause-unsent : goal.returns-in-Some-address-clause-unsent
+returns-in-Some-address-clause-unsent g c = λ e.
+    let run = c.count.ensures.run in
+    opens_unsent c.options_of-options-in-Count.result (c.in-Some-address.at ∷ []) (ended run.counted) unseen tt tt
+    (g.D.Dock.known c.args.dock.now) (g.D.Dock.known c.count.new.dock) run.reads.receives.opens
 
 pub returns-in-Air-clause-read : goal.returns-in-Air-clause-read
 returns-in-Air-clause-read g c = λ _. other_alone refl c.air.ensures.run.read_cause

@@ -1,0 +1,4 @@
+pub mod TotalsLemmas
+pub mod ReadingLemmas
+pub mod Running
+pub mod Endings

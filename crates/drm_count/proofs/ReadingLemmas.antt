@@ -1,0 +1,184 @@
+-- A reading is counted, call by call.
+use Rattle.std.proofs.Common.{◌≡◌, ◌+◌, ◌<◌, ◌^◌, true, List, [], ◌∷◌, ◌++◌, length, Option, None, Some, Ok, Err, refl, sym, ◌∙◌, ap, subst, arith, append_assoc}
+use Rattle.std.proofs.lemmas.List.{append-nil}
+use Rattle.drm_links.specs.Link.{Answer, Datagram, Failed}
+use Rattle.dcp_collect.specs.declared.taken.Taken.{Taken}
+use Rattle.dcp_collect.specs.State.{State, made}
+use Rattle.dcp_collect.specs.Runs.{Item}
+use Rattle.drm_switches.specs.Tracker.{TrackerState, new_tracker}
+use Rattle.mod_feed.specs.Feeding.{FeedStep, Feeds}
+use Rattle.mod_feed.proofs.FeedingLemmas.{feedings_join}
+use Rattle.recv_reading.specs.declared.options.ReceiveOptions.{ReceiveOptions}
+use Rattle.recv_reading.specs.declared.source.SourceFault.{SourceFault}
+use Rattle.recv_reading.specs.Options.{AreInRange, AreUsable, bounds_of}
+use Rattle.recv_reading.specs.Ending.{datagrams}
+use Rattle.recv_reading.specs.State.{ReadingState, new_reading, has_ended, one_given, word_of}
+use Rattle.recv_reading.specs.Reached.{Reached, Waits, ReadsOn}
+use Rattle.recv_reading.proofs.Reaching.{reached_none, one_more_few}
+use Rattle.recv_reading.proofs.Finishing.{IsOver, finishes, all_given, answers_many}
+use Rattle.recv_reading.proofs.AtOnce.{few_given}
+use Rattle.report_lines.specs.Report.{feed_line}
+use Rattle.report_lines.specs.Reports.{refusals, steps_text, report}
+use Rattle.report_lines.specs.Tallies.{items_in}
+use Rattle.report_lines.proofs.StepLemmas as lines
+use Rattle.mod_receiver.specs.Received.{Broken}
+use Rattle.drm_count.specs.Totals.{totals_of, answered, one_more, noted}
+use Rattle.drm_count.specs.Run.{Counted, CountsNext, unseen}
+use Rattle.drm_count.specs.declared.totals.Totals.{Totals}
+use Rattle.drm_count.proofs.TotalsLemmas.{item_more, answer_more, each_once, clean_as}
+
+-- what a command's options say can be gone by
+pub usable : (options : ReceiveOptions) → AreInRange options → AreUsable options
+usable options range = record {
+  window = range.some_window;
+  frames = range.some_frames;
+  most_frames = range.few_frames;
+  idle = range.some_idles;
+  limit = range.some_datagrams;
+  most_datagrams = (let few = range.few_datagrams in omega (arith, few));
+}
+
+pub none_answered : (answer : Option Taken) → ((taken : Taken) → answer ≡ Some taken → ⊥) → answer ≡ None
+none_answered None other = refl
+none_answered (Some taken) other = absurd (other taken refl)
+
+-- The reading has come so far, and each item was given to the feed and counted.
+pub record Counting (options : ReceiveOptions) (came : List Answer → Type 0) (r : ReadingState) (c : State) (f : TrackerState) (t : Totals) : Type 0 where
+  pub answers : List Answer
+  pub heard : came answers
+  pub taken : List Taken
+  pub during : List Item
+  pub more : List Item
+  pub reached : Reached options answers taken during more r c
+  pub steps : List FeedStep
+  pub feeds : Feeds new_tracker (during ++ more) steps f
+  pub calls : f.calls ≡ r.given
+  pub are : t ≡ totals_of steps taken
+  pub items : items_in t.sums ≡ r.given
+
+-- nothing came yet
+pub none_counted : (options : ReceiveOptions) (came : List Answer → Type 0) (r : ReadingState) (c : State) (f : TrackerState) (t : Totals)
+    → AreUsable options → r ≡ new_reading (bounds_of options) → c ≡ made options.window options.first → f ≡ new_tracker → t ≡ totals_of [] [] → came []
+    → Counting options came r c f t
+none_counted options came r c f t usable reads is new empty heard = record {
+  answers = [];
+  heard = heard;
+  taken = [];
+  during = [];
+  more = [];
+  reached = subst (λ s. Reached options [] [] [] [] s c) (sym reads) (reached_none options c usable is);
+  steps = [];
+  feeds = new;
+  calls = ap (λ (s : TrackerState). s.calls) new ∙ sym (ap (λ (s : ReadingState). s.given) reads);
+  are = empty;
+  items = ap (λ (u : Totals). items_in u.sums) empty ∙ sym (ap (λ (s : ReadingState). s.given) reads);
+}
+
+module _ (options : ReceiveOptions) (came : List Answer → Type 0) (r : ReadingState) (c : State) (f : TrackerState) (t : Totals) (p : Counting options came r c f t) where
+  pub all_answered : answered t ≡ length (datagrams p.answers)
+  all_answered = ap answered p.are ∙ each_once 0 p.taken ∙ answers_many options p.answers p.taken p.during p.more r c p.reached
+
+  pub few_answered : answered t < 2 ^ 62
+  few_answered =
+      let all : answered t ≡ length (datagrams p.answers) = all_answered in
+      let are = p.reached.taken_are in
+      let most = p.reached.most in
+      let far = p.reached.usable.most_datagrams in
+      omega (arith, all, are, most, far)
+
+  -- an item was counted
+  pub one_counted : (s : ReadingState) (d : State) (g : TrackerState) (u : Totals) (next : CountsNext c f g t u)
+      → Reached options p.answers p.taken p.during (p.more ++ next.0 ∷ []) s d → s ≡ one_given r → Counting options came s d g u
+  one_counted s d g u (item, step, is, stepping, after, counts, more) reached gives = record {
+    answers = p.answers;
+    heard = p.heard;
+    taken = p.taken;
+    during = p.during;
+    more = p.more ++ item ∷ [];
+    reached = reached;
+    steps = p.steps ++ step ∷ [];
+    feeds = subst (λ l. Feeds new_tracker l (p.steps ++ step ∷ []) g) (append_assoc p.during p.more (item ∷ []))
+        (feedings_join new_tracker f g (p.during ++ p.more) (item ∷ []) p.steps (step ∷ []) p.feeds (stepping, after));
+    calls = counts ∙ ap (λ n. n + 1) p.calls ∙ sym (ap (λ (x : ReadingState). x.given) gives);
+    are = more ∙ ap (λ (x : Totals). one_more x step.item) p.are ∙ item_more p.steps step p.taken;
+    items = ap (λ (x : Totals). items_in x.sums) more ∙ lines.one_more t.sums step.item ∙ ap (λ n. n + 1) p.items ∙ sym (ap (λ (x : ReadingState). x.given) gives);
+  }
+
+  -- one answer more came, or none
+  read_on : (came' : List Answer → Type 0) (answers : List Answer) (taken : List Taken) (s : ReadingState) (d : State) (u : Totals)
+      → came' answers → Reached options answers taken (p.during ++ p.more) [] s d → u ≡ totals_of p.steps taken → Counting options came' s d f u
+  read_on came' answers taken s d u heard reached counts =
+      let given : s.given ≡ r.given = sym reached.given_are ∙ ap length (append-nil (p.during ++ p.more)) ∙ p.reached.given_are in
+      record {
+        answers = answers;
+        heard = heard;
+        taken = taken;
+        during = p.during ++ p.more;
+        more = [];
+        reached = reached;
+        steps = p.steps;
+        feeds = subst (λ l. Feeds new_tracker l p.steps f) (sym (append-nil (p.during ++ p.more))) p.feeds;
+        calls = p.calls ∙ sym given;
+        are = counts;
+        items = ap (λ (x : Totals). items_in x.sums) counts ∙ sym (ap (λ (x : Totals). items_in x.sums) p.are) ∙ p.items ∙ sym given;
+      }
+
+  pub one_taken : (came' : List Answer → Type 0) (breaks : SourceFault → List Answer → Type 0) (answer : Taken) (s : ReadingState) (d : State) (u : Totals)
+      → ReadsOn came' breaks options p.answers p.taken (p.during ++ p.more) (Ok (Some answer)) s d → u ≡ noted t answer → Counting options came' s d f u
+  one_taken came' breaks answer s d u (bytes, heard, reached) is =
+      read_on came' (p.answers ++ Datagram bytes ∷ []) (p.taken ++ answer ∷ []) s d u heard reached
+      (is ∙ ap (λ (x : Totals). noted x answer) p.are ∙ answer_more p.steps p.taken answer)
+
+  pub none_taken : (came' : List Answer → Type 0) (breaks : SourceFault → List Answer → Type 0) (s : ReadingState) (d : State)
+      → ReadsOn came' breaks options p.answers p.taken (p.during ++ p.more) (Ok None) s d → Counting options came' s d f t
+  none_taken came' breaks s d (others, heard, reached) = read_on came' (p.answers ++ others) p.taken s d t heard reached p.are
+
+  -- no more can be had
+  pub breaks_off : (came' : List Answer → Type 0) (breaks : SourceFault → List Answer → Type 0) (why : SourceFault) (s : ReadingState) (d : State)
+      → Waits r c → ReadsOn came' breaks options p.answers p.taken (p.during ++ p.more) (Err why) s d → Broken options 1 (breaks why) (unseen tt) (unseen tt)
+  breaks_off came' breaks why s d waits (heard, broken, gave) = record {
+    answers = p.answers ++ Failed ∷ [];
+    heard = heard;
+    few = one_more_few options p.answers p.taken p.during p.more r c p.reached waits Failed;
+    at_once = few_given options (p.answers ++ Failed ∷ []) p.reached.usable.window;
+    whole = feed_line 1 ++ steps_text p.steps;
+    is = record {
+      before = p.answers;
+      reading = broken;
+      taken = p.taken;
+      items = p.during ++ p.more;
+      end = d;
+      gave = gave;
+      steps = p.steps;
+      after = f;
+      feeds = subst (λ l. Feeds new_tracker l p.steps f) (sym (all_given options p.answers p.taken p.during p.more r c p.reached)) p.feeds;
+      text_is = refl;
+    };
+    text = tt;
+  }
+
+  -- no more is read
+  pub all_counted : has_ended r ≡ true → IsOver r c → Counted options came t
+  all_counted ended over =
+      let all = finishes options p.answers p.taken p.during p.more r c p.reached ended over in
+      record {
+        answers = p.answers;
+        heard = p.heard;
+        few = p.reached.few;
+        at_once = few_given options p.answers p.reached.usable.window;
+        text = report 1 p.steps (refusals p.taken) (word_of r.end);
+        is = record {
+          word = word_of r.end;
+          reading = all.reading;
+          taken = p.taken;
+          items = p.during ++ p.more;
+          run = all.run;
+          steps = p.steps;
+          after = f;
+          feeds = p.feeds;
+          text_is = refl;
+          clean_is = clean_as t p.steps p.taken p.are;
+        };
+        are = p.are;
+        all = all_answered;
+      }
