@@ -47,7 +47,7 @@ at_far : (c : State) (n : ℤ) (head : Head) (cause : Field) → answer_at c n h
 at_far c n head cause = far_by (is_far c n) (answer_within c n head) cause (within_not c n head cause)
 
 -- a cause that lies in the bytes
-unread_has : (c : State) (cause : Field) (datagram : List ℕ) → IsRead (Unread cause) datagram → HasCause c cause datagram
+pub unread_has : (c : State) (cause : Field) (datagram : List ℕ) → IsRead (Unread cause) datagram → HasCause c cause datagram
 unread_has c Sync datagram is = is
 unread_has c (Af fault) datagram is = is
 unread_has c (Pft fault) datagram is = is

@@ -10,6 +10,7 @@ use Rattle.dcp_collect.specs.Reading.{Unread}
 use Rattle.dcp_collect.specs.State.{State, made, ready}
 use Rattle.dcp_collect.specs.Runs.{Item as Collected, Takes, Gives, Steps}
 use Rattle.collect_laws.specs.Laws.{IsRight, Refusing}
+use Rattle.collect_laws.proofs.Refusals.{unread_has}
 use Rattle.collect_laws.proofs.Runs.{gives_given}
 use Rattle.mod_delivery.specs.Sent.{Arrival, OfSchedule, Stray, IsArrival, AreSent, pairs_in, IsFollowed}
 use Rattle.mod_delivery.specs.Laws.{Suits, Delivering, DeliveringEarly, StraysRefused}
@@ -78,7 +79,7 @@ module _ (refusing : Refusing) (plan : Plan) where
       }
   without c after (Stray cause ∷ arrivals) (d ∷ ds) (a ∷ answers) items all idle (now, later, kept, mid, takes, gives, steps, are) =
       let refused = refusing c kept d a cause takes in
-      let is : a ≡ Refused cause = refused.0.0 all.0 in
+      let is : a ≡ Refused cause = refused.0.0 (unread_has c cause d all.0) in
       let none = nothing_given c kept mid now idle (refused.1 is) gives in
       let rest = without c after arrivals ds answers later all.1 idle (subst (λ m. Steps m ds answers later after) none.1 steps) in
       record {
@@ -109,26 +110,26 @@ with_strays plan c after (Stray cause ∷ arrivals) (d ∷ ds) replies items all
 -- ---- the laws
 
 pub delivering : Refusing → DeliveringPairs → Delivering
-delivering refusing law plan window first told base arrivals datagrams answers collected steps after is some followed run feeds =
-    let w = without refusing plan (made window first) run.mid arrivals datagrams answers run.during followed.arrive refl run.steps in
-    let (given, right) = law plan window first told base (pairs_in arrivals) w.others w.replies collected steps after is some
+delivering refusing law plan window reach first told base arrivals datagrams answers collected steps after is some followed run feeds =
+    let w = without refusing plan (made window reach first) run.mid arrivals datagrams answers run.during followed.arrive refl run.steps in
+    let (given, right) = law plan window reach first told base (pairs_in arrivals) w.others w.replies collected steps after is some
     (record { sent = w.sent; based = followed.based; within_span = followed.within_span })
     (record { during = run.during; rest = run.rest; mid = run.mid; after = run.after; steps = w.steps; gives = run.gives; are = run.are }) feeds in
     (given, w.suit right)
 
 -- A front of a delivery without the strays, and what of it is still to come.
-record FrontWithout (plan : Plan) (first : Option ℕ) (base : ℤ) (arrivals : List Arrival) (n : ℕ) (c mid : State) (answers : List Taken) (items : List Collected) : Type 0 where
+record FrontWithout (plan : Plan) (reach : ℕ) (first : Option ℕ) (base : ℤ) (arrivals : List Arrival) (n : ℕ) (c mid : State) (answers : List Taken) (items : List Collected) : Type 0 where
   front : Without plan c mid (take n arrivals) answers items
   more : List (List ℕ)
-  paired : IsPaired plan first base (pairs_in arrivals) (front.others ++ more)
+  paired : IsPaired plan reach first base (pairs_in arrivals) (front.others ++ more)
 
-front_without : Refusing → (plan : Plan) (window : ℕ) (first : Option ℕ) (base : ℤ) (arrivals : List Arrival) (ds later : List (List ℕ)) (answers : List Taken) (items : List Collected) (mid : State)
-    → IsFollowed plan first base arrivals (ds ++ later) → Steps (made window first) ds answers items mid
-    → FrontWithout plan first base arrivals (length ds) (made window first) mid answers items
-front_without refusing plan window first base arrivals ds later answers items mid followed steps =
+front_without : Refusing → (plan : Plan) (window reach : ℕ) (first : Option ℕ) (base : ℤ) (arrivals : List Arrival) (ds later : List (List ℕ)) (answers : List Taken) (items : List Collected) (mid : State)
+    → IsFollowed plan reach first base arrivals (ds ++ later) → Steps (made window reach first) ds answers items mid
+    → FrontWithout plan reach first base arrivals (length ds) (made window reach first) mid answers items
+front_without refusing plan window reach first base arrivals ds later answers items mid followed steps =
     let n : ℕ = length ds in
     let (front, back) = front_arrives plan arrivals ds later followed.arrive in
-    let w : Without plan (made window first) mid (take n arrivals) answers items = without refusing plan (made window first) mid (take n arrivals) ds answers items front refl steps in
+    let w : Without plan (made window reach first) mid (take n arrivals) answers items = without refusing plan (made window reach first) mid (take n arrivals) ds answers items front refl steps in
     let (more, sent) = others_of plan (drop n arrivals) later back in
     let are : pairs_in (take n arrivals) ++ pairs_in (drop n arrivals) ≡ pairs_in arrivals =
     sym (pairs_join (take n arrivals) (drop n arrivals)) ∙ ap pairs_in (take-append-drop n arrivals) in
@@ -143,11 +144,11 @@ front_without refusing plan window first base arrivals ds later answers items mi
     }
 
 pub delivering_early : Refusing → PairsEarly → DeliveringEarly
-delivering_early refusing law plan window n first base arrivals datagrams later answers collected mid steps after is some followed before enough feeds =
-    let f = front_without refusing plan window first base arrivals datagrams later answers collected mid followed before in
-    law plan window n first base (pairs_in arrivals) f.front.others f.more f.front.replies collected mid steps after is some f.paired f.front.steps enough feeds
+delivering_early refusing law plan window reach n first base arrivals datagrams later answers collected mid steps after is some followed before enough feeds =
+    let f = front_without refusing plan window reach first base arrivals datagrams later answers collected mid followed before in
+    law plan window reach n first base (pairs_in arrivals) f.front.others f.more f.front.replies collected mid steps after is some f.paired f.front.steps enough feeds
 
 pub strays_refused : Refusing → PairsRight → StraysRefused
-strays_refused refusing law plan window first base arrivals datagrams later answers collected mid is some followed before =
-    let f = front_without refusing plan window first base arrivals datagrams later answers collected mid followed before in
-    f.front.suit (law plan window first base (pairs_in arrivals) f.front.others f.more f.front.replies collected mid is some f.paired f.front.steps)
+strays_refused refusing law plan window reach first base arrivals datagrams later answers collected mid is some followed before =
+    let f = front_without refusing plan window reach first base arrivals datagrams later answers collected mid followed before in
+    f.front.suit (law plan window reach first base (pairs_in arrivals) f.front.others f.more f.front.replies collected mid is some f.paired f.front.steps)
