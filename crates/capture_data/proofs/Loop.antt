@@ -60,7 +60,7 @@ usable : (told : Option ℕ) (c : State) → 1 ≤ c.window → IfSome told (λ 
 usable told c window some few = record { window = window; frames = some; most_frames = few; idle = omega arith; limit = omega arith; most_datagrams = omega arith }
 
 pub loop_none : (taker : Taker) (r : ReadingState) (c : State) (told : Option ℕ) (reader : WalkerState) (calls : ℕ) (before : Known Input) (a : Known Output)
-    → r ≡ new_reading (capture_bounds told) → c ≡ made c.window c.first → reader ≡ new_walker → calls ≡ 0 → 1 ≤ c.window → IfSome told (λ n. 1 ≤ n) → IfSome told (λ n. n ≤ 3000000) → IsReady taker → AreBelow (counts_in taker) 0
+    → r ≡ new_reading (capture_bounds told) → c ≡ made c.window c.reach c.first → reader ≡ new_walker → calls ≡ 0 → 1 ≤ c.window → IfSome told (λ n. 1 ≤ n) → IfSome told (λ n. n ≤ 3000000) → IsReady taker → AreBelow (counts_in taker) 0
     → Loop (options_of c (capture_bounds told)) taker taker r c calls reader before before a a
 loop_none taker r c told reader calls before a reads is new none_called window some few is_ready none =
     let given : r.given ≡ 0 = ap (λ (s : ReadingState). s.given) reads in

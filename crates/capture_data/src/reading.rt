@@ -57,7 +57,7 @@ fn take_items<I: Source, O: Sink>(
     out: &mut O,
 ) -> Result<(), Fault>
     requires window { (1 ≤ collector.old.window) × (collector.old.window ≤ 64) }
-    requires collector { collector.old ≡ made collector.old.window collector.old.first }
+    requires collector { collector.old ≡ made collector.old.window collector.old.reach collector.old.first }
     requires packets { packets.old ≡ new_walker }
     requires some { IfSome told (λ n. 1 ≤ n) }
     requires few { IfSome told (λ n. n ≤ 3000000) }

@@ -111,7 +111,7 @@ conversions collects giving_ends one_reading refusing one_run steps_part at_once
 conversions collects giving_ends one_reading refusing one_run steps_part at_once plan carry terms arrivals packets later parts whole may (inr (taken, items, end, steps, full)) is =
     let (known, enough) = enough_of plan terms.told (length items) may full in
     let (run, during) = run_as terms.window terms.first terms.told (frame_count plan) packets is.taken is.items known is.run in
-    let same : items ≡ is.run.during = (one_run (made terms.window terms.first) is.run.mid end packets is.taken taken is.run.during items is.run.steps steps).1 in
+    let same : items ≡ is.run.during = (one_run (made terms.window terms.reach terms.first) is.run.mid end packets is.taken taken is.run.during items is.run.steps steps).1 in
     let least = whole.schedule.in_lines.some_frames in
     let all : frame_count plan ≤ length run.during = omega (arith, enough, ap length same, ap length during) in
     let some : 1 ≤ length is.run.during = omega (arith, least, enough, ap length same) in

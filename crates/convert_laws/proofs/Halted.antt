@@ -70,7 +70,7 @@ module _ (collects : Collects) (giving_ends : GivingEnds) (one_reading : OneRead
   module _ (plan : Plan) (terms : Terms) (arrivals : List Arrival) (packets later : List (List ℕ)) (items : List Item) (item : Item) (last : State)
       (whole : AllInTime plan terms.window terms.first arrivals (packets ++ later)) (may : MayBeTold plan terms.told) (at : ComesAt terms packets items item last) where
     abbrev new : State
-    new = made terms.window terms.first
+    new = made terms.window terms.reach terms.first
 
     counted : (c : State) → KnowsFirst plan c → c.first ≡ last.first → IsFirstOf plan (first_of last)
     counted c (n, known, is) same = counted_from plan last (n, sym same ∙ known, is)

@@ -115,7 +115,7 @@ module _ (collecting : Collecting) (giving_ends : GivingEnds) (steps_count : Ste
         let (end, after, gives) = giving_ends (after_finish h.mid terms.told) h.fit.0 h.fit.1 in
         let (rest, begins) = finished_starts terms packets given next last at none ends h.answers h.given end h.mid after h.steps gives in
         let on = given_on at.more at.state last at.gives in
-        let counted : at.mid.next ≡ 0 + length at.during = steps_count (made terms.window terms.first) at.mid at.before at.taken at.during at.steps in
+        let counted : at.mid.next ≡ 0 + length at.during = steps_count (made terms.window terms.reach terms.first) at.mid at.before at.taken at.during at.steps in
         let first : at.state.next ≡ at.mid.next = ap (λ s. s.next) ends in
         let count : last.next ≡ length given = omega (arith, on.0, counted, first, ap length at.items_are, length-append at.during at.more) in
         let end_is : last.end ≡ Some (end_of terms.told at.mid.newest) = on.1 ∙ ap (λ s. s.end) ends in

@@ -68,7 +68,7 @@ none_in_front terms packets others (x ∷ rest) shorter lacks is enough =
 
 module _ (one_way : ReadOneWay) (some_way : ReadSomeWay) (in_front : PacketsInFront) (terms : Terms) (carry : Carry) where
   abbrev new : State
-  new = made terms.window terms.first
+  new = made terms.window terms.reach terms.first
 
   module _ (left : List ℕ) where
     -- ---- fronts of the capture

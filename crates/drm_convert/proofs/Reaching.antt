@@ -54,7 +54,7 @@ usable : (told : Option ℕ) (c : State) → 1 ≤ c.window → IfSome told (λ 
 usable told c window some few = record { window = window; frames = some; most_frames = few; idle = omega arith; limit = omega arith; most_datagrams = omega arith }
 
 pub loop_none : (carry : Carry) (r : ReadingState) (c : State) (p : Progress) (told : Option ℕ) (reader : WalkerState) (before : Known Input) (a x : Known Output)
-    → r ≡ new_reading (capture_bounds told) → c ≡ made c.window c.first → p ≡ new_progress → reader ≡ new_walker → 1 ≤ c.window → IfSome told (λ n. 1 ≤ n) → IfSome told (λ n. n ≤ 3000000)
+    → r ≡ new_reading (capture_bounds told) → c ≡ made c.window c.reach c.first → p ≡ new_progress → reader ≡ new_walker → 1 ≤ c.window → IfSome told (λ n. 1 ≤ n) → IfSome told (λ n. n ≤ 3000000)
     → Loop (options_of c (capture_bounds told)) carry r c p reader before before a a x x
 loop_none carry r c p told reader before a x reads is empty new window some few = record {
   answers = [];

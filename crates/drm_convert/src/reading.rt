@@ -61,7 +61,7 @@ pub(crate) fn convert_packets<I: Source, O: Sink, E: Sink>(
     err: &mut E,
 ) -> Result<(), Unconverted>
     requires window { (1 ≤ collector.old.window) × (collector.old.window ≤ 64) }
-    requires collector { collector.old ≡ made collector.old.window collector.old.first }
+    requires collector { collector.old ≡ made collector.old.window collector.old.reach collector.old.first }
     requires packets { packets.old ≡ new_walker }
     requires progress { progress.old ≡ new_progress }
     requires some { IfSome told (λ n. 1 ≤ n) }

@@ -86,7 +86,7 @@ pub record Loop (rules : ReceiveOptions) (carry : Carry) (came : List Answer →
   pub up : SomeUp y
 
 pub loop_none : (rules : ReceiveOptions) (carry : Carry) (came : List Answer → Type 0) (x : List Target) (r : ReadingState) (c : State) (t : Tally) → AreUsable rules
-    → r ≡ new_reading (bounds_of rules) → c ≡ made rules.window rules.first → t ≡ nothing → came [] → SomeUp x → Loop rules carry came x x r c t
+    → r ≡ new_reading (bounds_of rules) → c ≡ made rules.window rules.reach rules.first → t ≡ nothing → came [] → SomeUp x → Loop rules carry came x x r c t
 loop_none rules carry came x r c t usable reads is empty heard up = record {
   answers = [];
   heard = heard;

@@ -14,7 +14,7 @@ pub record Gateway : Type 0 where
 pub record IsNew (gate : Gateway) : Type 0 where
   pub some : 1 ≤ gate.collector.window
   pub few : gate.collector.window ≤ 64
-  pub is : gate.collector ≡ made gate.collector.window gate.collector.first
+  pub is : gate.collector ≡ made gate.collector.window gate.collector.reach gate.collector.first
 
 -- what a call reads by: from its new collector and its options
 abbrev pub rules_of : State → GateOptions → ReceiveOptions

@@ -132,7 +132,7 @@ passes_schedules collecting giving_ends one_reading one_run plan carry rules bas
     let pairs : List (ℕ × ℕ) = pairs_in arrivals in
     let run = passed.onward.run in
     let h : Hears plan rules.window rules.first base pairs datagrams = hears collecting giving_ends plan rules.window rules.first base arrivals datagrams passed.schedule passed.some passed.followed in
-    let same = one_run (made rules.window rules.first) run.mid h.mid datagrams passed.onward.taken h.answers run.during h.given run.steps h.steps in
+    let same = one_run (made rules.window rules.reach rules.first) run.mid h.mid datagrams passed.onward.taken h.answers run.during h.given run.steps h.steps in
     let gives : Gives (after_finish h.mid rules.frames) run.rest run.after = subst (λ (s : State). Gives (after_finish s rules.frames) run.rest run.after) (sym same.2) run.gives in
     let are : passed.onward.items ≡ items plan.carry h.packets rules.window base rules.frames pairs =
     run.are ∙ (ap (λ (l : List Item). up_to rules.frames (l ++ run.rest)) (sym same.1) ∙ h.law rules.frames run.rest run.after gives) in

@@ -30,7 +30,7 @@ use Rattle.report_lines.proofs.CountLemmas.{steps_counted, answer_noted, refusal
 
 -- nothing came yet
 pub progress_none : (options : ReceiveOptions) (came : List Answer → Type 0) (a : Known Output) (r : ReadingState) (c : State) (f : TrackerState) (t : Tallied) (lines : List ℕ)
-    → AreUsable options → r ≡ new_reading (bounds_of options) → c ≡ made options.window options.first → f ≡ new_tracker → t ≡ new_tally → lines ≡ [] → came []
+    → AreUsable options → r ≡ new_reading (bounds_of options) → c ≡ made options.window options.reach options.first → f ≡ new_tracker → t ≡ new_tally → lines ≡ [] → came []
     → Progress options came a a r c f t lines
 progress_none options came a r c f t lines usable reads is new empty none heard = record {
   answers = [];

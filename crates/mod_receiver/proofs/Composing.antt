@@ -222,7 +222,7 @@ module _ (laws : DeliveryLaws) (rules : ReceiveOptions) (feed : ℕ) (ahead rest
   complete_early : (n : ℕ) (later : List (List ℕ)) → HasGiven rules answers (Some n) → rules.frames ≡ Some n → n ≡ frame_count plan
       → IsFollowed plan rules.first (pos 0) arrivals (datagrams answers ++ later) → ModulatesAll plan rules feed arrivals ahead text clean
   complete_early n later (taken, items, end, gave, enough) told size followed =
-      let same : r.run.during ≡ items = (one_way (made rules.window rules.first) end r.run.mid (datagrams answers) taken r.taken items r.run.during gave r.run.steps).1 in
+      let same : r.run.during ≡ items = (one_way (made rules.window rules.reach rules.first) end r.run.mid (datagrams answers) taken r.taken items r.run.during gave r.run.steps).1 in
       let long : length r.run.during ≡ length items = ap length same in
       let l : n ≤ length r.run.during = omega (arith, long, enough) in
       let are : r.items ≡ take n r.run.during = r.run.are ∙ ap (λ t. up_to t (r.run.during ++ r.run.rest)) told ∙ take_front n r.run.during r.run.rest l in

@@ -43,8 +43,8 @@ text_written P first text writes is some =
 abbrev pub told_of : {L : Type 0} → Job L → Report
 told_of job = record { text = text_of job; clean = clean_of job }
 
-pub rules_are : (rules : ReceiveOptions) (number : ℕ) (c : State) (options : Options) → c ≡ made rules.window rules.first → options ≡ options_for rules number → rules_of c options ≡ rules
-rules_are rules number c options c_is options_is = ap (λ d. rules_of d options) c_is ∙ ap (λ o. rules_of (made rules.window rules.first) o) options_is
+pub rules_are : (rules : ReceiveOptions) (number : ℕ) (c : State) (options : Options) → c ≡ made rules.window rules.reach rules.first → options ≡ options_for rules number → rules_of c options ≡ rules
+rules_are rules number c options c_is options_is = ap (λ d. rules_of d options) c_is ∙ ap (λ o. rules_of (made rules.window rules.reach rules.first) o) options_is
 
 failed_is : (ended : Option Ended) → is_failed ended ≡ true → ended ≡ Some LinkFailed
 failed_is None is = absurd (let same : false ≡ true = is in cc)

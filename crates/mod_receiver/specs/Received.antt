@@ -25,7 +25,7 @@ pub record IsReport (rules : ReceiveOptions) (feed : ℕ) (answers : List Answer
   pub reading : IsFinished rules answers word
   pub taken : List Taken
   pub items : List Item
-  pub run : Run rules.window rules.first rules.frames (datagrams answers) taken items
+  pub run : Run rules.window rules.reach rules.first rules.frames (datagrams answers) taken items
   pub steps : List FeedStep
   pub after : TrackerState
   pub feeds : Feeds new_tracker items steps after

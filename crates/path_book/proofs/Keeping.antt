@@ -33,7 +33,7 @@ none_fed None = refl
 none_fed (Some zero) = refl
 none_fed (Some (suc n)) = refl
 
-pub so_far_none : (by : Settings) → IsReportSoFar by [] (made by.window by.first) new_tracker new_tally (feed_line 1)
+pub so_far_none : (by : Settings) → IsReportSoFar by [] (made by.window by.reach by.first) new_tracker new_tally (feed_line 1)
 so_far_none by = record {
   taken = [];
   items = [];
@@ -45,13 +45,13 @@ so_far_none by = record {
 }
 
 so_far_new : (by : Settings) (ds : List (List ℕ)) (c : State) (f : TrackerState) (t : Tallied) (text : List ℕ)
-    → ds ≡ [] → c ≡ made by.window by.first → f ≡ new_tracker → t ≡ new_tally → text ≡ feed_line 1 → IsReportSoFar by ds c f t text
+    → ds ≡ [] → c ≡ made by.window by.reach by.first → f ≡ new_tracker → t ≡ new_tally → text ≡ feed_line 1 → IsReportSoFar by ds c f t text
 so_far_new by ds c f t text none is_made is_new is_empty is_first =
     subst (λ es. IsReportSoFar by es c f t text) (sym none)
     (subst (λ d. IsReportSoFar by [] d f t text) (sym is_made)
-    (subst (λ g. IsReportSoFar by [] (made by.window by.first) g t text) (sym is_new)
-    (subst (λ u. IsReportSoFar by [] (made by.window by.first) new_tracker u text) (sym is_empty)
-    (subst (λ l. IsReportSoFar by [] (made by.window by.first) new_tracker new_tally l) (sym is_first) (so_far_none by)))))
+    (subst (λ g. IsReportSoFar by [] (made by.window by.reach by.first) g t text) (sym is_new)
+    (subst (λ u. IsReportSoFar by [] (made by.window by.reach by.first) new_tracker u text) (sym is_empty)
+    (subst (λ l. IsReportSoFar by [] (made by.window by.reach by.first) new_tracker new_tally l) (sym is_first) (so_far_none by)))))
 
 pace_none : (told : Option ℕ) (window : ℕ) (first : Option ℕ) → KeepsPace told (made window first) new_tracker new_tally
 pace_none None window first = record { calls = refl; items = omega arith }
@@ -69,7 +69,7 @@ none_ready window first = refl
 fit_made : (window : ℕ) (first : Option ℕ) → 1 ≤ window → IsFit (made window first)
 fit_made window first some = (some, tt)
 
-pub sound_new : (j : Inside) → AreInRange j.settings → j.entries.items ≡ [] → j.collector ≡ made j.settings.window j.settings.first → j.feed ≡ new_tracker → j.counts ≡ new_tally
+pub sound_new : (j : Inside) → AreInRange j.settings → j.entries.items ≡ [] → j.collector ≡ made j.settings.window j.settings.reach j.settings.first → j.feed ≡ new_tracker → j.counts ≡ new_tally
     → j.text.items ≡ feed_line 1 → j.stopped ≡ false → IsSound j
 sound_new j range none is_made is_new is_empty is_first goes = record {
   range = range;
@@ -93,7 +93,7 @@ steps_behind text after ss ts was is = is ∙ ap (λ l. l ++ ts) was ∙ append_
 module _ (by : Settings) (ds : List (List ℕ)) (c : State) (f : TrackerState) (t : Tallied) (text : List ℕ) (r : IsReportSoFar by ds c f t text) where
   -- as many answers as datagrams
   many : length r.taken ≡ length ds
-  many = steps_many (made by.window by.first) c ds r.taken r.items r.gave
+  many = steps_many (made by.window by.reach by.first) c ds r.taken r.items r.gave
 
   -- no more refusals than datagrams
   pub refused_few : t.sums.refused ≤ length ds
@@ -107,7 +107,7 @@ module _ (by : Settings) (ds : List (List ℕ)) (c : State) (f : TrackerState) (
   pub refused_told : AreTold t.refused
   refused_told =
       subst (λ (u : Tallied). AreTold u.refused) (sym r.counts)
-      (last_told 16 (refusals r.taken) (refusals_told (made by.window by.first) c ds r.taken r.items 0 r.gave))
+      (last_told 16 (refusals r.taken) (refusals_told (made by.window by.reach by.first) c ds r.taken r.items 0 r.gave))
 
   more_text : (after : List ℕ) (ss : List FeedStep) → after ≡ text ++ steps_text ss → after ≡ feed_line 1 ++ steps_text (r.steps ++ ss)
   more_text after ss is =
@@ -121,7 +121,7 @@ module _ (by : Settings) (ds : List (List ℕ)) (c : State) (f : TrackerState) (
     so_far_more d g u v after notes w = record {
       taken = r.taken ++ answer ∷ [];
       items = r.items ++ w.items;
-      gave = steps_more ds r.taken r.items w.items (made by.window by.first) c kept d bytes answer r.gave takes w.gives;
+      gave = steps_more ds r.taken r.items w.items (made by.window by.reach by.first) c kept d bytes answer r.gave takes w.gives;
       steps = r.steps ++ w.steps;
       feeds = feeds_more by.frames f g r.items w.items r.steps w.steps r.feeds w.feeds;
       counts = w.counts
@@ -139,7 +139,7 @@ module _ (by : Settings) (ds : List (List ℕ)) (c : State) (f : TrackerState) (
           items = r.items;
           more = more.0;
           last = more.1;
-          gave = steps_more ds r.taken r.items more.0 (made by.window by.first) c kept more.1 bytes answer r.gave takes more.2;
+          gave = steps_more ds r.taken r.items more.0 (made by.window by.reach by.first) c kept more.1 bytes answer r.gave takes more.2;
           steps = r.steps;
           after = f;
           feeds = r.feeds;
@@ -159,7 +159,7 @@ module _ (by : Settings) (ds : List (List ℕ)) (c : State) (f : TrackerState) (
   -- the reason to end is by what was given
   same_word : word_for by.frames (items_in t.sums) ≡ word_for by.frames (length r.items)
   same_word =
-      let next : c.next ≡ 0 + length r.items = steps_count (made by.window by.first) c ds r.taken r.items r.gave in
+      let next : c.next ≡ 0 + length r.items = steps_count (made by.window by.reach by.first) c ds r.taken r.items r.gave in
       let e : length r.items ≡ c.next = omega (arith, next) in
       ap (λ (b : Bool). word_by b) (full_same by.frames (items_in t.sums) c.next (pace.items ∙ pace.calls) ∙ ap (is_full by.frames) (sym e))
     where

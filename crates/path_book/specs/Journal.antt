@@ -40,7 +40,7 @@ abbrev pub new_journal : Settings → JournalState
 new_journal by = record {
   entries = [];
   settings = by;
-  collector = made by.window by.first;
+  collector = made by.window by.reach by.first;
   feed = new_tracker;
   tally = new_tally;
   text = feed_line 1;

@@ -22,7 +22,7 @@ use Rattle.drm_paths.specs.Closing.{of_path}
 
 -- A new collector that takes these datagrams, and gives all that is ready after each, has given so many items.
 abbrev pub HasGiven : Settings → List (List ℕ) → ℕ → Type 0
-HasGiven by came many = (taken : List Taken) × (items : List Item) × (mid : State) × Steps (made by.window by.first) came taken items mid × (length items ≡ many)
+HasGiven by came many = (taken : List Taken) × (items : List Item) × (mid : State) × Steps (made by.window by.reach by.first) came taken items mid × (length items ≡ many)
 
 -- The text is the report of what a delivery of a schedule calls for: of what was refused it names the strays, and last it says
 -- whether the told number of frames was given before all paths had ended.

@@ -62,7 +62,7 @@ module _ (options : ReceiveOptions) where
     where
       by : (frames : Option ℕ) → is_full frames (length items) ≡ true → HasGiven options answers frames
       by None full = absurd (let clash : false ≡ true = full in cc)
-      by (Some n) full = (taken, items, end, subst (λ l. Steps (made options.window options.first) l taken items end) (sym are) steps, (let f : nat_le n (length items) ≡ true = full in grind (arith, nat_tests)))
+      by (Some n) full = (taken, items, end, subst (λ l. Steps (made options.window options.reach options.first) l taken items end) (sym are) steps, (let f : nat_le n (length items) ≡ true = full in grind (arith, nat_tests)))
 
   given_enough : (packets : List (List ℕ)) (answers : List Answer) → datagrams answers ≡ packets → HasGiven options answers options.frames → HasEnough (terms_of options) packets
   given_enough packets answers are given = by options.frames refl given
@@ -73,7 +73,7 @@ module _ (options : ReceiveOptions) where
         taken,
         items,
         end,
-        subst (λ l. Steps (made options.window options.first) l taken items end) are steps,
+        subst (λ l. Steps (made options.window options.reach options.first) l taken items end) are steps,
         ap (λ o. is_full o (length items)) is ∙ (let m : n ≤ length items = many in grind (arith, nat_tests)),
       )
 
@@ -179,7 +179,7 @@ module _ (options : ReceiveOptions) (answers : List Answer) (taken : List Taken)
                 taken = taken;
                 during = during;
                 mid = e.mid;
-                steps = subst (λ l. Steps (made options.window options.first) l taken during e.mid) same e.drained.gave;
+                steps = subst (λ l. Steps (made options.window options.reach options.first) l taken during e.mid) same e.drained.gave;
                 state = after_finish e.mid options.frames;
                 comes = inr (refl, refl);
                 more = more;
@@ -198,7 +198,7 @@ module _ (options : ReceiveOptions) (answers : List Answer) (taken : List Taken)
           enough_here : HasGiven options answers options.frames → is_full options.frames (length during) ≡ true
           enough_here given =
               let (taken', items, end, steps, full) = given_enough options (datagrams answers) answers refl given in
-              let same : items ≡ during = (one_way (made options.window options.first) e.mid end (datagrams answers) taken taken' during items e.drained.gave steps).1 in
+              let same : items ≡ during = (one_way (made options.window options.reach options.first) e.mid end (datagrams answers) taken taken' during items e.drained.gave steps).1 in
               ap (λ (l : List Item). is_full options.frames (length l)) (sym same) ∙ full
 
       by : (end : Option EndWord) → Comes options answers taken during more end c → GivesAt item
@@ -227,7 +227,7 @@ module _ (options : ReceiveOptions) (answers : List Answer) (taken : List Taken)
             rest = f.run.rest;
             mid = f.run.mid;
             after = f.run.after;
-            steps = subst (λ l. Steps (made options.window options.first) l taken f.run.during f.run.mid) same f.run.steps;
+            steps = subst (λ l. Steps (made options.window options.reach options.first) l taken f.run.during f.run.mid) same f.run.steps;
             gives = f.run.gives;
             are = f.run.are;
           };
@@ -268,7 +268,7 @@ gives_until options answers taken items c stop before after (packets, whole, sto
         shorter = none_shorter options packets [] (subst (GoesOn options) (same ∙ sym (append-nil (map Datagram packets))) broken.goes_on);
         taken = taken;
         mid = c;
-        steps = subst (λ l. Steps (made options.window options.first) l taken items c) those gave;
+        steps = subst (λ l. Steps (made options.window options.reach options.first) l taken items c) those gave;
       },
       refl,
     )
