@@ -100,7 +100,7 @@ module _ (collects : Collects) (giving_ends : GivingEnds) (one_reading : OneRead
         let least = whole.schedule.in_lines.some_frames in
         let enough = c.enough in
         let some : 1 ≤ length c.given = omega (arith, least, enough) in
-        let followed : IsFollowed plan terms.first (pos 0) arrivals ((packets ++ later) ++ []) = subst (λ l. IsFollowed plan terms.first (pos 0) arrivals l) (sym (append-nil (packets ++ later))) whole.followed in
+        let followed : IsFollowed plan terms.reach terms.first (pos 0) arrivals ((packets ++ later) ++ []) = subst (λ l. IsFollowed plan terms.reach terms.first (pos 0) arrivals l) (sym (append-nil (packets ++ later))) whole.followed in
         let first : KnowsFirst plan c.mid =
         knows_first one_reading refusing plan whole.schedule terms.window terms.first arrivals (packets ++ later) [] c.answers c.given c.mid followed c.steps some in
         let there : c.mid ≡ at.mid =

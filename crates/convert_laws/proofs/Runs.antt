@@ -134,7 +134,7 @@ module _ (in_front : PacketsInFront) (one_way : ReadOneWay) (conversions : Conve
   captures_are_converted plan carry terms (Err faults.NoMemory) told before after out out' err err' input rest fits small is_before is_after has may (same, still, silent) = (still, silent)
   captures_are_converted plan carry terms (Err (faults.PacketSize number)) told before after out out' err err' input rest fits small is_before is_after has may (items, item, last, reads, large, parts, converts, text, names) =
       let (later, same, all) = begin_read in_front one_way input.left has.packets has.capture reads.at.later reads.packets before after input rest is_before is_after refl reads.read in
-      let followed : IsFollowed plan terms.first (pos 0) has.arrivals (reads.packets ++ later) = subst (λ l. IsFollowed plan terms.first (pos 0) has.arrivals l) same has.in_time.followed in
+      let followed : IsFollowed plan terms.reach terms.first (pos 0) has.arrivals (reads.packets ++ later) = subst (λ l. IsFollowed plan terms.reach terms.first (pos 0) has.arrivals l) same has.in_time.followed in
       none_is_too_large plan carry terms has.arrivals reads.packets later items item last number has.in_time.schedule small has.in_time.some followed reads.at large
   captures_are_converted plan carry terms (Err (faults.Capture fault)) told before after out out' err err' input rest fits small is_before is_after has may (read, whole, stops, lacks, shorter, parts, broken, text, names) =
       let at = told_of (λ left more. IsCaptureOf left read (capture.Fault fault)) before after input rest is_before is_after stops in

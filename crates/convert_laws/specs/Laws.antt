@@ -95,7 +95,7 @@ abbrev pub NoneIsTooLarge : Type 0
 NoneIsTooLarge =
     (plan : Plan) (carry : Carry) (terms : Terms) (arrivals : List Arrival) (packets later : List (List ℕ)) (items : List Item)
     (item : Item) (last : State) (number : ℕ)
-    → IsSchedule plan → FitsCarry carry plan → 1 ≤ terms.window → IsFollowed plan terms.first (pos 0) arrivals (packets ++ later)
+    → IsSchedule plan → FitsCarry carry plan → 1 ≤ terms.window → IsFollowed plan terms.reach terms.first (pos 0) arrivals (packets ++ later)
     → ComesAt terms packets items item last → IsTooLarge carry item number → ⊥
 
 -- What a conversion makes of the packets of such a delivery is the schedule's capture under the new carry, whether it reads them

@@ -25,6 +25,7 @@ pub fn convert<I: Source, O: Sink, E: Sink>(
     alloc: Global,
     carry: Carry,
     window: u8,
+    reach: u16,
     first: Option<u16>,
     frames: Option<u64>,
     input: &mut I,
@@ -36,13 +37,13 @@ pub fn convert<I: Source, O: Sink, E: Sink>(
     requires window { (1 ≤ window) × (window ≤ 64) }
     requires frames { IfSome frames (λ n. (1 ≤ n) × (n ≤ 3000000)) }
     requires told { told.old ≡ true }
-    ensures run { ConvertRun (record { window = window; first = first; told = frames }) carry result told.new
+    ensures run { ConvertRun (record { window = window; reach = reach; first = first; told = frames }) carry result told.new
         I.known input.old input.new O.known out.old out.new E.known err.old err.new }
 {
     read_one_way();
     read_some_way();
     packets_in_front();
-    let mut collector = Collector::make(alloc, window, first)?;
+    let mut collector = Collector::make(alloc, window, reach, first)?;
     let mut cutter = PacketSender::make(alloc, carry)?;
     let mut packets = Packets::make(alloc)?;
     let mut lines = LineWriter::make(alloc)?;

@@ -31,7 +31,7 @@ use Rattle.drm_gate.proofs.Fates.{begins_front, all_sent, split}
 -- ---- where the item stands
 
 abbrev terms_of : ReceiveOptions → Terms
-terms_of rules = record { window = rules.window; first = rules.first; told = rules.frames }
+terms_of rules = record { window = rules.window; reach = rules.reach; first = rules.first; told = rules.frames }
 
 of_answers : (xs ys : List Answer) → datagrams (xs ++ ys) ≡ datagrams xs ++ datagrams ys
 of_answers xs ys = filter_map-append datagram_of xs ys

@@ -18,7 +18,7 @@ pub record IsNew (gate : Gateway) : Type 0 where
 
 -- what a call reads by: from its new collector and its options
 abbrev pub rules_of : State → GateOptions → ReceiveOptions
-rules_of c options = record { window = c.window; first = c.first; frames = options.frames; idle = options.idle; limit = options.limit }
+rules_of c options = record { window = c.window; reach = c.reach; first = c.first; frames = options.frames; idle = options.idle; limit = options.limit }
 
 -- each number of the options is in its range
 pub record IsReasonable (options : GateOptions) : Type 0 where

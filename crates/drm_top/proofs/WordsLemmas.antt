@@ -15,15 +15,15 @@ command_by requests.Fac = Fac
 command_by (requests.Check name) = Check name
 command_by (requests.Serve name to pace from live) = Serve name to pace from live
 command_by (requests.Receive (Some addresses) window first frames idle limit) =
-    Receive addresses (record { window = window; first = first; frames = frames; idle = idle; limit = limit })
+    Receive addresses (record { window = window; reach = reach; first = first; frames = frames; idle = idle; limit = limit })
 command_by (requests.Receive None window first frames idle limit) =
-    ReceiveCapture (record { window = window; first = first; frames = frames; idle = idle; limit = limit })
+    ReceiveCapture (record { window = window; reach = reach; first = first; frames = frames; idle = idle; limit = limit })
 command_by (requests.Air name script window) = Air name script window
 command_by requests.Show = Show
 command_by (requests.Exercise n) = Exercise n
 command_by (requests.Convert carry window first frames) = Convert carry window first frames
 command_by (requests.Gate from to carry window first frames idle limit) =
-    Gate from to carry (record { window = window; first = first; frames = frames; idle = idle; limit = limit })
+    Gate from to carry (record { window = window; reach = reach; first = first; frames = frames; idle = idle; limit = limit })
 command_by (requests.Pack pid length) = Pack pid length
 command_by (requests.Unpack stream pid length window first frames) = Unpack stream pid length window first frames
 command_by (requests.Texts stream window first frames) = Texts stream window first frames

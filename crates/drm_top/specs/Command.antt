@@ -71,16 +71,16 @@ CommandRun Show ending told o =
 CommandRun (Exercise n) ending told o =
     ExerciseRun n ending o.out.known o.out.before o.out.after × IsStill o.shelf × IsStill o.input × IsStill o.dock × IsQuiet told o.err.before o.err.after
 CommandRun (Convert carry window first frames) ending told o =
-    ConvertRun (record { window = window; first = first; told = frames }) carry ending told o.input.known o.input.before o.input.after o.out.known o.out.before o.out.after o.err.known o.err.before o.err.after × IsStill o.shelf × IsStill o.dock
+    ConvertRun (record { window = window; reach = reach; first = first; told = frames }) carry ending told o.input.known o.input.before o.input.after o.out.known o.out.before o.out.after o.err.known o.err.before o.err.after × IsStill o.shelf × IsStill o.dock
 CommandRun (Gate from to carry rules) ending told o =
     GateCommandRun rules carry from to ending o.dock.known o.dock.before o.dock.after o.out.known o.out.before o.out.after × IsStill o.shelf × IsStill o.input × IsQuiet told o.err.before o.err.after
 CommandRun (Pack pid length) ending told o =
     Whole ending (λ done. PackRun pid length done o.input.known o.input.before o.input.after o.out.known o.out.before o.out.after) × IsStill o.shelf × IsStill o.dock × IsQuiet told o.err.before o.err.after
 CommandRun (Unpack stream pid length window first frames) ending told o =
-    DataRun (record { window = window; first = first; told = frames }) (UnitsOf stream pid length) ending o.input.known o.input.before o.input.after o.out.known o.out.before o.out.after
+    DataRun (record { window = window; reach = reach; first = first; told = frames }) (UnitsOf stream pid length) ending o.input.known o.input.before o.input.after o.out.known o.out.before o.out.after
     × IsStill o.shelf × IsStill o.dock × IsQuiet told o.err.before o.err.after
 CommandRun (Texts stream window first frames) ending told o =
-    DataRun (record { window = window; first = first; told = frames }) (TextsOf stream) ending o.input.known o.input.before o.input.after o.out.known o.out.before o.out.after
+    DataRun (record { window = window; reach = reach; first = first; told = frames }) (TextsOf stream) ending o.input.known o.input.before o.input.after o.out.known o.out.before o.out.after
     × IsStill o.shelf × IsStill o.dock × IsQuiet told o.err.before o.err.after
 
 -- nothing of the outside was touched

@@ -81,7 +81,7 @@ pub record IsPassedOn (plan : Plan) (carry : Carry) (rules : ReceiveOptions) (ba
   pub schedule : IsSchedule plan
   pub other : IsSchedule (under carry plan)
   pub some : 1 ≤ rules.window
-  pub followed : IsFollowed plan rules.first base arrivals datagrams
+  pub followed : IsFollowed plan rules.reach rules.first base arrivals datagrams
   pub onward : IsOnward rules carry datagrams fates
 
 -- It is a delivery of the schedule under that carry.

@@ -61,6 +61,7 @@ some_now (Some n) some = some
 pub job_ready : {L : Type 0} (rules : ReceiveOptions) (k : ℕ) (job : Job L) → AreInRange rules → IsJob rules (k + 1) job → IsReady job
 job_ready {L} rules k job valid is =
     let window : job.collector.window ≡ rules.window = ap (λ (c : State). c.window) is.collector in
+    let reach : job.collector.reach ≡ rules.reach = ap (λ (c : State). c.reach) is.collector in
     let first : job.collector.first ≡ rules.first = ap (λ (c : State). c.first) is.collector in
     record {
       buffer = is.buffer;
@@ -72,7 +73,7 @@ job_ready {L} rules k job valid is =
         few_frames = valid.few_frames;
       });
       window = ((let some = valid.some_window in omega (arith, some, window)), (let few = valid.few_packets in omega (arith, few, window)));
-      collector = is.collector ∙ (λ i. made (sym window i) (sym first i));
+      collector = is.collector ∙ (λ i. made (sym window i) (sym reach i) (sym first i));
       feed = is.feed;
     }
 

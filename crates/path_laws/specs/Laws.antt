@@ -41,7 +41,7 @@ pub record ReportsDelivery (plan : Plan) (by : Settings) (base : ℤ) (arrivals 
 abbrev pub ReportsDeliveries : Type 0
 ReportsDeliveries =
     (plan : Plan) (by : Settings) (base : ℤ) (arrivals : List Arrival) (came : List (List ℕ)) (text : List ℕ) (clean : Bool)
-    → IsSchedule plan → AreInRange by → IsFollowed plan by.first base arrivals came → IsReportOf by came text clean
+    → IsSchedule plan → AreInRange by → IsFollowed plan by.reach by.first base arrivals came → IsReportOf by came text clean
     → ReportsDelivery plan by base arrivals came text clean
 
 -- It is the report of all frames of the schedule, each the server's, and nothing is missing.
@@ -57,7 +57,7 @@ abbrev pub ReportsAll : Type 0
 ReportsAll =
     (plan : Plan) (by : Settings) (arrivals : List Arrival) (came : List (List ℕ)) (text : List ℕ) (clean : Bool)
     → IsSchedule plan → AreInRange by → (by.frames ≡ None) ⊎ (by.frames ≡ Some (frame_count plan))
-    → IsFollowed plan by.first (pos 0) arrivals came
+    → IsFollowed plan by.reach by.first (pos 0) arrivals came
     → ((q : ℕ) → q < frame_count plan → IsInTime plan by.window (pos 0) (pairs_in arrivals) q)
     → IsReportOf by came text clean → ReportsAllFrames plan by arrivals came text clean
 
