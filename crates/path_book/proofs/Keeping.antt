@@ -53,21 +53,21 @@ so_far_new by ds c f t text none is_made is_new is_empty is_first =
     (subst (λ u. IsReportSoFar by [] (made by.window by.reach by.first) new_tracker u text) (sym is_empty)
     (subst (λ l. IsReportSoFar by [] (made by.window by.reach by.first) new_tracker new_tally l) (sym is_first) (so_far_none by)))))
 
-pace_none : (told : Option ℕ) (window : ℕ) (first : Option ℕ) → KeepsPace told (made window first) new_tracker new_tally
-pace_none None window first = record { calls = refl; items = omega arith }
-pace_none (Some n) window first = record { calls = omega arith; items = omega arith }
+pace_none : (told : Option ℕ) (window reach : ℕ) (first : Option ℕ) → KeepsPace told (made window reach first) new_tracker new_tally
+pace_none None window reach first = record { calls = refl; items = omega arith }
+pace_none (Some n) window reach first = record { calls = omega arith; items = omega arith }
 
-pace_new : (told : Option ℕ) (window : ℕ) (first : Option ℕ) (c : State) (f : TrackerState) (t : Tallied) → c ≡ made window first → f ≡ new_tracker → t ≡ new_tally → KeepsPace told c f t
-pace_new told window first c f t is_made is_new is_empty =
+pace_new : (told : Option ℕ) (window reach : ℕ) (first : Option ℕ) (c : State) (f : TrackerState) (t : Tallied) → c ≡ made window reach first → f ≡ new_tracker → t ≡ new_tally → KeepsPace told c f t
+pace_new told window reach first c f t is_made is_new is_empty =
     subst (λ d. KeepsPace told d f t) (sym is_made)
-    (subst (λ g. KeepsPace told (made window first) g t) (sym is_new)
-    (subst (λ u. KeepsPace told (made window first) new_tracker u) (sym is_empty) (pace_none told window first)))
+    (subst (λ g. KeepsPace told (made window reach first) g t) (sym is_new)
+    (subst (λ u. KeepsPace told (made window reach first) new_tracker u) (sym is_empty) (pace_none told window reach first)))
 
-none_ready : (window : ℕ) (first : Option ℕ) → ready (made window first) ≡ false
-none_ready window first = refl
+none_ready : (window reach : ℕ) (first : Option ℕ) → ready (made window reach first) ≡ false
+none_ready window reach first = refl
 
-fit_made : (window : ℕ) (first : Option ℕ) → 1 ≤ window → IsFit (made window first)
-fit_made window first some = (some, tt)
+fit_made : (window reach : ℕ) (first : Option ℕ) → 1 ≤ window → IsFit (made window reach first)
+fit_made window reach first some = (some, tt)
 
 pub sound_new : (j : Inside) → AreInRange j.settings → j.entries.items ≡ [] → j.collector ≡ made j.settings.window j.settings.reach j.settings.first → j.feed ≡ new_tracker → j.counts ≡ new_tally
     → j.text.items ≡ feed_line 1 → j.stopped ≡ false → IsSound j
@@ -78,10 +78,10 @@ sound_new j range none is_made is_new is_empty is_first goes = record {
     front = λ e. absurd (let x : true ≡ false = sym e ∙ goes in cc);
   };
   goes_on = λ e. record {
-    fit = subst IsFit (sym is_made) (fit_made j.settings.window j.settings.first range.some_window);
-    pace = pace_new j.settings.frames j.settings.window j.settings.first j.collector j.feed j.counts is_made is_new is_empty;
+    fit = subst IsFit (sym is_made) (fit_made j.settings.window j.settings.reach j.settings.first range.some_window);
+    pace = pace_new j.settings.frames j.settings.window j.settings.reach j.settings.first j.collector j.feed j.counts is_made is_new is_empty;
     unfinished = ap (λ (s : State). s.end) is_made;
-    quiet = ap ready is_made ∙ none_ready j.settings.window j.settings.first;
+    quiet = ap ready is_made ∙ none_ready j.settings.window j.settings.reach j.settings.first;
   };
 }
 
