@@ -57,7 +57,7 @@ pub record AreDeliveredOn (old new : Carry) (sequence0 : ℕ) (packets : List (L
 abbrev pub PassesDeliveries : Type 0
 PassesDeliveries =
     (old new : Carry) (sequence0 : ℕ) (packets : List (List ℕ)) (rules : ReceiveOptions) (base : ℤ) (pairs : List (ℕ × ℕ)) (datagrams : List (List ℕ)) (fates : List Fate)
-    → 1 ≤ rules.window → CarryFits new → AreWithin new packets → IsHeard old sequence0 packets rules.first base pairs datagrams
+    → 1 ≤ rules.window → CarryFits new → AreWithin new packets → IsHeard old sequence0 packets rules.reach rules.first base pairs datagrams
     → IsOnward rules new datagrams fates → AreDeliveredOn old new sequence0 packets rules base pairs (sent_of fates)
 
 -- ---- schedules
@@ -105,8 +105,8 @@ ComesAgain =
     → (later : List (List ℕ)) → AllByRecursion (IsAmong (sent_of fates)) later → (again : List Arrival) × AllZip (IsArrival (under carry plan)) again later
 
 -- they have a base, and are within the span from it
-abbrev pub HaveBase : Plan → Option ℕ → ℤ → List Arrival → Type 0
-HaveBase plan first base arrivals = IsBase plan.seq first (pairs_in arrivals) base × IsWithinSpan base None (pairs_in arrivals)
+abbrev pub HaveBase : Plan → ℕ → Option ℕ → ℤ → List Arrival → Type 0
+HaveBase plan reach first base arrivals = IsBase plan.seq first (pairs_in arrivals) base × IsWithinSpan reach base None (pairs_in arrivals)
 
 -- Each frame among them is the server's, and its line is that of the schedule's frame.
 abbrev pub AreServed : Plan → ℤ → List FeedStep → Type 0
@@ -117,8 +117,8 @@ AreServed plan base steps =
 -- What a receiver gives that follows a delivery of what was sent.
 abbrev pub GivesServed : Plan → List (List ℕ) → List Arrival → Type 0
 GivesServed plan later again =
-    (window : ℕ) (first told : Option ℕ) (base : ℤ) (answers : List Taken) (collected : List Item) (steps : List FeedStep) (after : TrackerState)
-    → 1 ≤ window → HaveBase plan first base again → Run window first told later answers collected → Feeds new_tracker collected steps after → AreServed plan base steps
+    (window reach : ℕ) (first told : Option ℕ) (base : ℤ) (answers : List Taken) (collected : List Item) (steps : List FeedStep) (after : TrackerState)
+    → 1 ≤ window → HaveBase plan reach first base again → Run window reach first told later answers collected → Feeds new_tracker collected steps after → AreServed plan base steps
 
 -- Over one gateway: what comes of what it sends is a delivery of the schedule, and where a receiver follows that, each frame that it
 -- gives is the server's.
@@ -137,5 +137,5 @@ ServedBehindTwo =
     → IsPassedOn plan one rules base arrivals datagrams fates → IsSchedule (under other plan) → 1 ≤ rules'.window
     → AllByRecursion (IsAmong (sent_of fates)) datagrams' → IsOnward rules' other datagrams' fates'
     → (arrivals' : List Arrival) × AllZip (IsArrival (under one plan)) arrivals' datagrams'
-    × ((base' : ℤ) (later : List (List ℕ)) → HaveBase plan rules'.first base' arrivals' → AllByRecursion (IsAmong (sent_of fates')) later
+    × ((base' : ℤ) (later : List (List ℕ)) → HaveBase plan rules'.reach rules'.first base' arrivals' → AllByRecursion (IsAmong (sent_of fates')) later
     → (again : List Arrival) × AllZip (IsArrival (under other plan)) again later × GivesServed plan later again)

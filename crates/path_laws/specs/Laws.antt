@@ -76,9 +76,9 @@ MixedPathsAreOneDelivery =
     → ((k : ℕ) → k < paths → AllZip (IsArrival plan) (each k) (of_path k entries))
     → (arrivals : List Arrival) × AllZip (IsArrival plan) arrivals (datagrams entries) × ((k : ℕ) → k < paths → arrivals_of k entries arrivals ≡ each k)
 
--- A receiver that is told the schedule's first number can follow each delivery of a schedule of at most 32,768 frames, in
--- whatever order it comes.
+-- A receiver that is told the schedule's first number can follow each delivery of a schedule of at most 32,768 frames, and of at
+-- most one more than it reaches, in whatever order it comes.
 abbrev pub FollowedInAnyOrder : Type 0
 FollowedInAnyOrder =
-    (plan : Plan) (arrivals : List Arrival) (came : List (List ℕ)) → frame_count plan ≤ 32768
-    → AllZip (IsArrival plan) arrivals came → IsFollowed plan (Some plan.seq) (pos 0) arrivals came
+    (plan : Plan) (reach : ℕ) (arrivals : List Arrival) (came : List (List ℕ)) → frame_count plan ≤ 32768 → frame_count plan ≤ reach + 1
+    → AllZip (IsArrival plan) arrivals came → IsFollowed plan reach (Some plan.seq) (pos 0) arrivals came
