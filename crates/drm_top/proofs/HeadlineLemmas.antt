@@ -86,11 +86,11 @@ module _ {S I O E D : Type 0} (clean told : Bool) (o : Outside S I O E D) where
       of_schedule name script window clean o.shelf.known o.shelf.before run.0.between o.shelf.after o.out.known o.out.before o.out.after run.0.came run.0.loads run.0.runs
   of_command Show run = tt
   of_command (Exercise n) run = tt
-  of_command (Convert carry window first frames) run = tt
+  of_command (Convert carry window reach first frames) run = tt
   of_command (Gate from to carry rules) run = tt
   of_command (Pack pid length) run = tt
-  of_command (Unpack stream pid length window first frames) run = tt
-  of_command (Texts stream window first frames) run = tt
+  of_command (Unpack stream pid length window reach first frames) run = tt
+  of_command (Texts stream window reach first frames) run = tt
 
   of_runs : (command : Command) → Runs command (Ok clean) told o → HeadlineOfRun command clean o
   of_runs command (inl run) = of_command command run

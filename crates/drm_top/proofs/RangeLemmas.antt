@@ -36,11 +36,12 @@ listed (text ∷ other ∷ texts) addresses is = absurd is
 
 -- the request of a reading, with these addresses or of a capture
 abbrev reading_of : Option (List Address) → ReceiveOptions → Request
-reading_of addresses rules = requests.Receive addresses rules.window rules.first rules.frames rules.idle rules.limit
+reading_of addresses rules = requests.Receive addresses rules.window rules.reach rules.first rules.frames rules.idle rules.limit
 
-in_reading : (options : Options) (rules : ReceiveOptions) → IsReading options rules.window rules.first rules.frames rules.idle rules.limit → AreInRange rules
+in_reading : (options : Options) (rules : ReceiveOptions) → IsReading options rules.window rules.reach rules.first rules.frames rules.idle rules.limit → AreInRange rules
 in_reading options rules reading =
     let window = within 8 1 64 rules.window _ (omega arith) (omega arith) reading.stretch.has_window in
+    let reach = within 32767 1 32767 rules.reach _ (omega arith) (omega arith) reading.stretch.has_reach in
     let frames = within_or_none 1 3000000 _ rules.frames reading.stretch.has_frames in
     let idle = within 50 1 1000000 rules.idle _ (omega arith) (omega arith) reading.has_idle in
     let limit = within 4294967295 1 4294967295 rules.limit _ (omega arith) (omega arith) reading.has_limit in
@@ -48,6 +49,8 @@ in_reading options rules reading =
     record {
       some_window = window.0;
       few_packets = window.1;
+      some_reach = reach.0;
+      near_reach = reach.1;
       some_frames = frames.0;
       few_frames = frames.1;
       some_idles = idle.0;
@@ -83,14 +86,14 @@ both : (frames : Option ℕ) → IfSome frames (λ n. 1 ≤ n) → IfSome frames
 both None some few = tt
 both (Some n) some few = (some, few)
 
-in_stretch : (options : Options) (window : ℕ) (first frames : Option ℕ) → IsStretch options window first frames → IsInStretch window frames
-in_stretch options window first frames stretch =
+in_stretch : (options : Options) (window reach : ℕ) (first frames : Option ℕ) → IsStretch options window reach first frames → IsInStretch window frames
+in_stretch options window reach first frames stretch =
     let size = within 8 1 64 window _ (omega arith) (omega arith) stretch.has_window in
     let some = within_or_none 1 3000000 _ frames stretch.has_frames in
     (size.0, size.1, both frames some.0 some.1)
 
-converts : (words : List (List ℕ)) (carry : Carry) (window : ℕ) (first frames : Option ℕ) → IsLine words (request_of (Convert carry window first frames)) → IsInRange (Convert carry window first frames)
-converts words carry window first frames line = (carry_fits line.asks.1 carry line.asks.3, in_stretch _ window first frames line.asks.5)
+converts : (words : List (List ℕ)) (carry : Carry) (window reach : ℕ) (first frames : Option ℕ) → IsLine words (request_of (Convert carry window reach first frames)) → IsInRange (Convert carry window reach first frames)
+converts words carry window reach first frames line = (carry_fits line.asks.1 carry line.asks.3, in_stretch _ window reach first frames line.asks.5)
 
 gates : (words : List (List ℕ)) (from : Address) (to : List Address) (carry : Carry) (rules : ReceiveOptions) → IsLine words (request_of (Gate from to carry rules)) → IsInRange (Gate from to carry rules)
 gates words from to carry rules line =
@@ -100,17 +103,17 @@ gates words from to carry rules line =
 packs : (words : List (List ℕ)) (pid length : ℕ) → IsLine words (request_of (Pack pid length)) → IsInRange (Pack pid length)
 packs words pid length line = (let few = line.asks.4.2 in omega (arith, few), line.asks.5.1)
 
-unpacks : (words : List (List ℕ)) (stream pid length window : ℕ) (first frames : Option ℕ) → IsLine words (request_of (Unpack stream pid length window first frames))
-    → IsInRange (Unpack stream pid length window first frames)
-unpacks words stream pid length window first frames line = (
+unpacks : (words : List (List ℕ)) (stream pid length window reach : ℕ) (first frames : Option ℕ) → IsLine words (request_of (Unpack stream pid length window reach first frames))
+    → IsInRange (Unpack stream pid length window reach first frames)
+unpacks words stream pid length window reach first frames line = (
   let few = line.asks.5.2 in omega (arith, few),
   let few = line.asks.6.2 in omega (arith, few),
   line.asks.7.1,
-  in_stretch _ window first frames line.asks.9,
+  in_stretch _ window reach first frames line.asks.9,
 )
 
-tells_texts : (words : List (List ℕ)) (stream window : ℕ) (first frames : Option ℕ) → IsLine words (request_of (Texts stream window first frames)) → IsInRange (Texts stream window first frames)
-tells_texts words stream window first frames line = (let few = line.asks.3.2 in omega (arith, few), in_stretch _ window first frames line.asks.5)
+tells_texts : (words : List (List ℕ)) (stream window reach : ℕ) (first frames : Option ℕ) → IsLine words (request_of (Texts stream window reach first frames)) → IsInRange (Texts stream window reach first frames)
+tells_texts words stream window reach first frames line = (let few = line.asks.3.2 in omega (arith, few), in_stretch _ window reach first frames line.asks.5)
 
 pub in_range : (came : Command) (request : Request) (words : List (List ℕ)) → request ≡ request_of came → IsLine words request → HasTextNames request → IsInRange came
 in_range Fac request words asks line text = tt
@@ -128,8 +131,8 @@ in_range (Air name script window) request words asks line text =
     (names.0, names.1, range.0, range.1)
 in_range Show request words asks line text = tt
 in_range (Exercise n) request words asks line text = exercises words n (subst (λ r. IsLine words r) asks line)
-in_range (Convert carry window first frames) request words asks line text = converts words carry window first frames (subst (λ r. IsLine words r) asks line)
+in_range (Convert carry window reach first frames) request words asks line text = converts words carry window reach first frames (subst (λ r. IsLine words r) asks line)
 in_range (Gate from to carry rules) request words asks line text = gates words from to carry rules (subst (λ r. IsLine words r) asks line)
 in_range (Pack pid length) request words asks line text = packs words pid length (subst (λ r. IsLine words r) asks line)
-in_range (Unpack stream pid length window first frames) request words asks line text = unpacks words stream pid length window first frames (subst (λ r. IsLine words r) asks line)
-in_range (Texts stream window first frames) request words asks line text = tells_texts words stream window first frames (subst (λ r. IsLine words r) asks line)
+in_range (Unpack stream pid length window reach first frames) request words asks line text = unpacks words stream pid length window reach first frames (subst (λ r. IsLine words r) asks line)
+in_range (Texts stream window reach first frames) request words asks line text = tells_texts words stream window reach first frames (subst (λ r. IsLine words r) asks line)

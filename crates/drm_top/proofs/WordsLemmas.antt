@@ -14,19 +14,19 @@ abbrev command_by : Request → Command
 command_by requests.Fac = Fac
 command_by (requests.Check name) = Check name
 command_by (requests.Serve name to pace from live) = Serve name to pace from live
-command_by (requests.Receive (Some addresses) window first frames idle limit) =
+command_by (requests.Receive (Some addresses) window reach first frames idle limit) =
     Receive addresses (record { window = window; reach = reach; first = first; frames = frames; idle = idle; limit = limit })
-command_by (requests.Receive None window first frames idle limit) =
+command_by (requests.Receive None window reach first frames idle limit) =
     ReceiveCapture (record { window = window; reach = reach; first = first; frames = frames; idle = idle; limit = limit })
 command_by (requests.Air name script window) = Air name script window
 command_by requests.Show = Show
 command_by (requests.Exercise n) = Exercise n
-command_by (requests.Convert carry window first frames) = Convert carry window first frames
-command_by (requests.Gate from to carry window first frames idle limit) =
+command_by (requests.Convert carry window reach first frames) = Convert carry window reach first frames
+command_by (requests.Gate from to carry window reach first frames idle limit) =
     Gate from to carry (record { window = window; reach = reach; first = first; frames = frames; idle = idle; limit = limit })
 command_by (requests.Pack pid length) = Pack pid length
-command_by (requests.Unpack stream pid length window first frames) = Unpack stream pid length window first frames
-command_by (requests.Texts stream window first frames) = Texts stream window first frames
+command_by (requests.Unpack stream pid length window reach first frames) = Unpack stream pid length window reach first frames
+command_by (requests.Texts stream window reach first frames) = Texts stream window reach first frames
 
 same_command : (a : Command) → command_by (request_of a) ≡ a
 same_command Fac = refl
@@ -37,11 +37,11 @@ same_command (ReceiveCapture rules) = refl
 same_command (Air name script window) = refl
 same_command Show = refl
 same_command (Exercise n) = refl
-same_command (Convert carry window first frames) = refl
+same_command (Convert carry window reach first frames) = refl
 same_command (Gate from to carry rules) = refl
 same_command (Pack pid length) = refl
-same_command (Unpack stream pid length window first frames) = refl
-same_command (Texts stream window first frames) = refl
+same_command (Unpack stream pid length window reach first frames) = refl
+same_command (Texts stream window reach first frames) = refl
 
 one_command : (a b : Command) → request_of a ≡ request_of b → a ≡ b
 one_command a b is = sym (same_command a) ∙ (ap command_by is ∙ same_command b)

@@ -70,16 +70,16 @@ CommandRun Show ending told o =
     ShowRun ending o.input.known o.input.before o.input.after o.out.known o.out.before o.out.after × IsStill o.shelf × IsStill o.dock × IsQuiet told o.err.before o.err.after
 CommandRun (Exercise n) ending told o =
     ExerciseRun n ending o.out.known o.out.before o.out.after × IsStill o.shelf × IsStill o.input × IsStill o.dock × IsQuiet told o.err.before o.err.after
-CommandRun (Convert carry window first frames) ending told o =
+CommandRun (Convert carry window reach first frames) ending told o =
     ConvertRun (record { window = window; reach = reach; first = first; told = frames }) carry ending told o.input.known o.input.before o.input.after o.out.known o.out.before o.out.after o.err.known o.err.before o.err.after × IsStill o.shelf × IsStill o.dock
 CommandRun (Gate from to carry rules) ending told o =
     GateCommandRun rules carry from to ending o.dock.known o.dock.before o.dock.after o.out.known o.out.before o.out.after × IsStill o.shelf × IsStill o.input × IsQuiet told o.err.before o.err.after
 CommandRun (Pack pid length) ending told o =
     Whole ending (λ done. PackRun pid length done o.input.known o.input.before o.input.after o.out.known o.out.before o.out.after) × IsStill o.shelf × IsStill o.dock × IsQuiet told o.err.before o.err.after
-CommandRun (Unpack stream pid length window first frames) ending told o =
+CommandRun (Unpack stream pid length window reach first frames) ending told o =
     DataRun (record { window = window; reach = reach; first = first; told = frames }) (UnitsOf stream pid length) ending o.input.known o.input.before o.input.after o.out.known o.out.before o.out.after
     × IsStill o.shelf × IsStill o.dock × IsQuiet told o.err.before o.err.after
-CommandRun (Texts stream window first frames) ending told o =
+CommandRun (Texts stream window reach first frames) ending told o =
     DataRun (record { window = window; reach = reach; first = first; told = frames }) (TextsOf stream) ending o.input.known o.input.before o.input.after o.out.known o.out.before o.out.after
     × IsStill o.shelf × IsStill o.dock × IsQuiet told o.err.before o.err.after
 
@@ -108,11 +108,11 @@ OpensALink (ReceiveCapture rules) = ⊥
 OpensALink (Air name script window) = ⊥
 OpensALink Show = ⊥
 OpensALink (Exercise n) = ⊥
-OpensALink (Convert carry window first frames) = ⊥
+OpensALink (Convert carry window reach first frames) = ⊥
 OpensALink (Gate from to carry rules) = Unit {0}
 OpensALink (Pack pid length) = ⊥
-OpensALink (Unpack stream pid length window first frames) = ⊥
-OpensALink (Texts stream window first frames) = ⊥
+OpensALink (Unpack stream pid length window reach first frames) = ⊥
+OpensALink (Texts stream window reach first frames) = ⊥
 
 -- a command that tells of frames or packets, some of which may be missing or bad, or sends frames that may lack bytes of input
 abbrev pub WritesReport : Command → Type 0
@@ -124,8 +124,8 @@ WritesReport (ReceiveCapture rules) = Unit {0}
 WritesReport (Air name script window) = Unit {0}
 WritesReport Show = Unit {0}
 WritesReport (Exercise n) = Unit {0}
-WritesReport (Convert carry window first frames) = Unit {0}
+WritesReport (Convert carry window reach first frames) = Unit {0}
 WritesReport (Gate from to carry rules) = Unit {0}
 WritesReport (Pack pid length) = ⊥
-WritesReport (Unpack stream pid length window first frames) = Unit {0}
-WritesReport (Texts stream window first frames) = Unit {0}
+WritesReport (Unpack stream pid length window reach first frames) = Unit {0}
+WritesReport (Texts stream window reach first frames) = Unit {0}

@@ -15,16 +15,16 @@ abbrev pub request_of : Command → Request
 request_of Fac = requests.Fac
 request_of (Check name) = requests.Check name
 request_of (Serve name to pace from live) = requests.Serve name to pace from live
-request_of (Receive addresses rules) = requests.Receive (Some addresses) rules.window rules.first rules.frames rules.idle rules.limit
-request_of (ReceiveCapture rules) = requests.Receive None rules.window rules.first rules.frames rules.idle rules.limit
+request_of (Receive addresses rules) = requests.Receive (Some addresses) rules.window rules.reach rules.first rules.frames rules.idle rules.limit
+request_of (ReceiveCapture rules) = requests.Receive None rules.window rules.reach rules.first rules.frames rules.idle rules.limit
 request_of (Air name script window) = requests.Air name script window
 request_of Show = requests.Show
 request_of (Exercise n) = requests.Exercise n
-request_of (Convert carry window first frames) = requests.Convert carry window first frames
-request_of (Gate from to carry rules) = requests.Gate from to carry rules.window rules.first rules.frames rules.idle rules.limit
+request_of (Convert carry window reach first frames) = requests.Convert carry window reach first frames
+request_of (Gate from to carry rules) = requests.Gate from to carry rules.window rules.reach rules.first rules.frames rules.idle rules.limit
 request_of (Pack pid length) = requests.Pack pid length
-request_of (Unpack stream pid length window first frames) = requests.Unpack stream pid length window first frames
-request_of (Texts stream window first frames) = requests.Texts stream window first frames
+request_of (Unpack stream pid length window reach first frames) = requests.Unpack stream pid length window reach first frames
+request_of (Texts stream window reach first frames) = requests.Texts stream window reach first frames
 
 -- the words are a command line of this command
 abbrev pub AsksFor : Command → List (List ℕ) → Type 0
@@ -48,8 +48,8 @@ IsInRange (ReceiveCapture rules) = AreInRange rules
 IsInRange (Air name script window) = IsUtf8 name × IsUtf8 script × (1 ≤ window) × (window ≤ 64)
 IsInRange Show = Unit {0}
 IsInRange (Exercise n) = (1 ≤ n) × (n ≤ 1000)
-IsInRange (Convert carry window first frames) = CarryFits carry × IsInStretch window frames
+IsInRange (Convert carry window reach first frames) = CarryFits carry × IsInStretch window frames
 IsInRange (Gate from to carry rules) = CarryFits carry × AreInRange rules × AreListed to
 IsInRange (Pack pid length) = (pid < 4) × (1 ≤ length)
-IsInRange (Unpack stream pid length window first frames) = (stream < 4) × (pid < 4) × (1 ≤ length) × IsInStretch window frames
-IsInRange (Texts stream window first frames) = (stream < 4) × IsInStretch window frames
+IsInRange (Unpack stream pid length window reach first frames) = (stream < 4) × (pid < 4) × (1 ≤ length) × IsInStretch window frames
+IsInRange (Texts stream window reach first frames) = (stream < 4) × IsInStretch window frames

@@ -219,10 +219,11 @@ where
         Command::Convert {
             carry,
             window,
+            reach,
             first,
             frames,
         } => convert(
-            alloc, *carry, *window, *first, *frames, input, out, err, told,
+            alloc, *carry, *window, *reach, *first, *frames, input, out, err, told,
         ),
         Command::Gate {
             from,
@@ -236,17 +237,19 @@ where
             pid,
             length,
             window,
+            reach,
             first,
             frames,
         } => unpack(
-            alloc, *stream, *pid, *length, *window, *first, *frames, input, out,
+            alloc, *stream, *pid, *length, *window, *reach, *first, *frames, input, out,
         ),
         Command::Texts {
             stream,
             window,
+            reach,
             first,
             frames,
-        } => texts(alloc, *stream, *window, *first, *frames, input, out),
+        } => texts(alloc, *stream, *window, *reach, *first, *frames, input, out),
     }
 }
 

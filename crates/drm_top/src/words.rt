@@ -53,6 +53,7 @@ pub enum Command {
     Convert {
         carry: Carry,
         window: u8,
+        reach: u16,
         first: Option<u16>,
         frames: Option<u64>,
     },
@@ -74,6 +75,7 @@ pub enum Command {
         pid: u8,
         length: u8,
         window: u8,
+        reach: u16,
         first: Option<u16>,
         frames: Option<u64>,
     },
@@ -81,6 +83,7 @@ pub enum Command {
     Texts {
         stream: u8,
         window: u8,
+        reach: u16,
         first: Option<u16>,
         frames: Option<u64>,
     },
@@ -124,6 +127,7 @@ fn command_of(request: Request) -> Command
         Request::Receive {
             addresses,
             window,
+            reach,
             first,
             frames,
             idle,
@@ -131,6 +135,7 @@ fn command_of(request: Request) -> Command
         } => {
             let rules = ReceiveOptions {
                 window,
+                reach,
                 first,
                 frames,
                 idle,
@@ -155,11 +160,13 @@ fn command_of(request: Request) -> Command
         Request::Convert {
             carry,
             window,
+            reach,
             first,
             frames,
         } => Command::Convert {
             carry,
             window,
+            reach,
             first,
             frames,
         },
@@ -168,6 +175,7 @@ fn command_of(request: Request) -> Command
             to,
             carry,
             window,
+            reach,
             first,
             frames,
             idle,
@@ -178,6 +186,7 @@ fn command_of(request: Request) -> Command
             carry,
             rules: ReceiveOptions {
                 window,
+                reach,
                 first,
                 frames,
                 idle,
@@ -190,6 +199,7 @@ fn command_of(request: Request) -> Command
             pid,
             length,
             window,
+            reach,
             first,
             frames,
         } => Command::Unpack {
@@ -197,17 +207,20 @@ fn command_of(request: Request) -> Command
             pid,
             length,
             window,
+            reach,
             first,
             frames,
         },
         Request::Texts {
             stream,
             window,
+            reach,
             first,
             frames,
         } => Command::Texts {
             stream,
             window,
+            reach,
             first,
             frames,
         },

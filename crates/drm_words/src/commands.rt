@@ -127,6 +127,7 @@ fn receive_with(options: &[Named<'_>], addresses: Option<Addresses>) -> Option<R
     Some(Request::Receive {
         addresses,
         window: reading.stretch.window,
+        reach: reading.stretch.reach,
         first: reading.stretch.first,
         frames: reading.stretch.frames,
         idle: reading.idle,
@@ -134,13 +135,16 @@ fn receive_with(options: &[Named<'_>], addresses: Option<Addresses>) -> Option<R
     })
 }
 
-// receive [ADDRS] [--window W] [--first N] [--frames N] [--idle K] [--limit L]
+// receive [ADDRS] [--window W] [--reach A] [--first N] [--frames N] [--idle K] [--limit L]
 #[tactic(auto, unfolding(crate::specs::Asking::receive_of))]
 fn receive(alloc: Global, texts: &[&str], options: &[Named<'_>]) -> Result<Request, WordsFault>
     ensures gives { Gives result (receive_of (map (λ text. text.now) texts.now) (map option_said options.now)) }
     ensures text { IfOk result HasTextNames }
 {
-    if !are_of(&["window", "first", "frames", "idle", "limit"], options) {
+    if !are_of(
+        &["window", "reach", "first", "frames", "idle", "limit"],
+        options,
+    ) {
         return Err(WordsFault::Words);
     }
     let addresses = addresses_or_none(alloc, texts)?;
@@ -187,12 +191,13 @@ fn convert_with(text: &str, options: &[Named<'_>]) -> Option<Request>
     Some(Request::Convert {
         carry,
         window: stretch.window,
+        reach: stretch.reach,
         first: stretch.first,
         frames: stretch.frames,
     })
 }
 
-// convert CARRY [--window W] [--first N] [--frames N]
+// convert CARRY [--window W] [--reach A] [--first N] [--frames N]
 #[tactic(auto, unfolding(crate::specs::Asking::convert_of))]
 fn convert(texts: &[&str], options: &[Named<'_>]) -> Result<Request, WordsFault>
     ensures gives { Gives result (convert_of (map (λ text. text.now) texts.now) (map option_said options.now)) }
@@ -201,7 +206,7 @@ fn convert(texts: &[&str], options: &[Named<'_>]) -> Result<Request, WordsFault>
     let [text] = texts else {
         return Err(WordsFault::Words);
     };
-    if !are_of(&["window", "first", "frames"], options) {
+    if !are_of(&["window", "reach", "first", "frames"], options) {
         return Err(WordsFault::Words);
     }
     asked(convert_with(text, options))
@@ -242,6 +247,7 @@ fn gate_with(from: &str, to: Addresses, text: &str, options: &[Named<'_>]) -> Op
         to,
         carry,
         window: reading.stretch.window,
+        reach: reading.stretch.reach,
         first: reading.stretch.first,
         frames: reading.stretch.frames,
         idle: reading.idle,
@@ -249,7 +255,7 @@ fn gate_with(from: &str, to: Addresses, text: &str, options: &[Named<'_>]) -> Op
     })
 }
 
-// gate FROM ADDRS CARRY [--window W] [--first N] [--frames N] [--idle K] [--limit L]
+// gate FROM ADDRS CARRY [--window W] [--reach A] [--first N] [--frames N] [--idle K] [--limit L]
 #[tactic(auto, unfolding(crate::specs::Asking::gate_of))]
 fn gate(alloc: Global, texts: &[&str], options: &[Named<'_>]) -> Result<Request, WordsFault>
     ensures gives { Gives result (gate_of (map (λ text. text.now) texts.now) (map option_said options.now)) }
@@ -258,7 +264,10 @@ fn gate(alloc: Global, texts: &[&str], options: &[Named<'_>]) -> Result<Request,
     let [from, to, text] = texts else {
         return Err(WordsFault::Words);
     };
-    if !are_of(&["window", "first", "frames", "idle", "limit"], options) {
+    if !are_of(
+        &["window", "reach", "first", "frames", "idle", "limit"],
+        options,
+    ) {
         return Err(WordsFault::Words);
     }
     let to = read_addresses(alloc, to)?;
@@ -302,12 +311,13 @@ fn unpack_with(stream: &str, pid: &str, length: &str, options: &[Named<'_>]) -> 
         pid,
         length,
         window: stretch.window,
+        reach: stretch.reach,
         first: stretch.first,
         frames: stretch.frames,
     })
 }
 
-// unpack STREAM PID LENGTH [--window W] [--first N] [--frames N]
+// unpack STREAM PID LENGTH [--window W] [--reach A] [--first N] [--frames N]
 #[tactic(auto, unfolding(crate::specs::Asking::unpack_of))]
 fn unpack(texts: &[&str], options: &[Named<'_>]) -> Result<Request, WordsFault>
     ensures gives { Gives result (unpack_of (map (λ text. text.now) texts.now) (map option_said options.now)) }
@@ -316,7 +326,7 @@ fn unpack(texts: &[&str], options: &[Named<'_>]) -> Result<Request, WordsFault>
     let [stream, pid, length] = texts else {
         return Err(WordsFault::Words);
     };
-    if !are_of(&["window", "first", "frames"], options) {
+    if !are_of(&["window", "reach", "first", "frames"], options) {
         return Err(WordsFault::Words);
     }
     asked(unpack_with(stream, pid, length, options))
@@ -331,12 +341,13 @@ fn texts_with(stream: &str, options: &[Named<'_>]) -> Option<Request>
     Some(Request::Texts {
         stream,
         window: stretch.window,
+        reach: stretch.reach,
         first: stretch.first,
         frames: stretch.frames,
     })
 }
 
-// texts STREAM [--window W] [--first N] [--frames N]
+// texts STREAM [--window W] [--reach A] [--first N] [--frames N]
 #[tactic(auto, unfolding(crate::specs::Asking::texts_of))]
 fn messages(texts: &[&str], options: &[Named<'_>]) -> Result<Request, WordsFault>
     ensures gives { Gives result (texts_of (map (λ text. text.now) texts.now) (map option_said options.now)) }
@@ -345,7 +356,7 @@ fn messages(texts: &[&str], options: &[Named<'_>]) -> Result<Request, WordsFault
     let [stream] = texts else {
         return Err(WordsFault::Words);
     };
-    if !are_of(&["window", "first", "frames"], options) {
+    if !are_of(&["window", "reach", "first", "frames"], options) {
         return Err(WordsFault::Words);
     }
     asked(texts_with(stream, options))

@@ -4,7 +4,7 @@ ghost use Rattle.std.specs.Prelude.{◌≡◌, ◌≤◌, IfSome, map, option_ma
 ghost use Rattle.word_forms.specs.Arguing.{option_said};
 ghost use Rattle.word_forms.specs.Gives.{Gives};
 ghost use Rattle.drm_words.specs.Table.{told};
-ghost use Rattle.drm_words.specs.Asking.{is_one_of, are_of, number_or, number_or_none, window_of, first_of, frames_of, stretch_of, reading_of, idle_of, limit_of, pace_of, from_of, to_of, live_told};
+ghost use Rattle.drm_words.specs.Asking.{is_one_of, are_of, number_or, number_or_none, window_of, reach_of, first_of, frames_of, stretch_of, reading_of, idle_of, limit_of, pace_of, from_of, to_of, live_told};
 
 use drm_links::Addresses;
 use drm_schedule::{Live, MOST_FRAMES};
@@ -16,6 +16,8 @@ use word_forms::{Named, WordsFault, read_addresses, read_live, within};
 pub(crate) struct Stretch {
     /// In packets.
     pub(crate) window: u8,
+    /// How far one may be ahead of the newest packet.
+    pub(crate) reach: u16,
     /// The first sequence number.
     pub(crate) first: Option<u16>,
     pub(crate) frames: Option<u64>,
@@ -85,6 +87,15 @@ pub(crate) fn window(options: &[Named<'_>]) -> Option<u8>
     Some(number as u8)
 }
 
+// How far a packet may be ahead of the newest one.
+#[tactic(auto, unfolding(crate::specs::Asking::reach_of))]
+fn reach(options: &[Named<'_>]) -> Option<u16>
+    ensures { result ≡ reach_of (map option_said options.now) }
+{
+    let number = number_or(32_767, 1, 32_767, told(options, "reach"))?;
+    Some(number as u16)
+}
+
 // The first sequence number.
 #[tactic(auto, unfolding(crate::specs::Asking::first_of))]
 fn first(options: &[Named<'_>]) -> Option<Option<u16>>
@@ -133,10 +144,12 @@ pub(crate) fn told_stretch(options: &[Named<'_>]) -> Option<Stretch>
     ensures { result ≡ stretch_of (map option_said options.now) }
 {
     let window = window(options)?;
+    let reach = reach(options)?;
     let first = first(options)?;
     let frames = frames(options)?;
     Some(Stretch {
         window,
+        reach,
         first,
         frames,
     })

@@ -30,6 +30,8 @@ pub enum Request {
         addresses: Option<Addresses>,
         /// In packets.
         window: u8,
+        /// How far one may be ahead of the newest packet.
+        reach: u16,
         /// The first sequence number.
         first: Option<u16>,
         frames: Option<u64>,
@@ -52,6 +54,8 @@ pub enum Request {
         carry: Carry,
         /// In packets.
         window: u8,
+        /// How far one may be ahead of the newest packet.
+        reach: u16,
         /// The first sequence number.
         first: Option<u16>,
         frames: Option<u64>,
@@ -67,6 +71,8 @@ pub enum Request {
         carry: Carry,
         /// In packets.
         window: u8,
+        /// How far one may be ahead of the newest packet.
+        reach: u16,
         /// The first sequence number.
         first: Option<u16>,
         frames: Option<u64>,
@@ -92,6 +98,8 @@ pub enum Request {
         length: u8,
         /// In packets of the capture.
         window: u8,
+        /// How far one may be ahead of the newest packet.
+        reach: u16,
         /// The first sequence number.
         first: Option<u16>,
         frames: Option<u64>,
@@ -102,6 +110,8 @@ pub enum Request {
         stream: u8,
         /// In packets.
         window: u8,
+        /// How far one may be ahead of the newest packet.
+        reach: u16,
         /// The first sequence number.
         first: Option<u16>,
         frames: Option<u64>,
