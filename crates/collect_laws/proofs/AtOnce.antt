@@ -20,11 +20,11 @@ use Rattle.collect_laws.proofs.Stays.{after_by, take_next}
 use Rattle.collect_laws.proofs.Runs.{gives_given, gives_count, steps_reach}
 
 -- no number above the newest is kept, or was given
-record IsReached (window : ℕ) (c : State) : Type 0 where
-  window_is : c.window ≡ window
-  no_end : c.end ≡ None
-  below : c.next ≤ end_of None c.newest
-  kept : AllByRecursion (λ f. reached c.newest f.number ≡ true) c.kept
+pub record IsReached (window : ℕ) (c : State) : Type 0 where
+  pub window_is : c.window ≡ window
+  pub no_end : c.end ≡ None
+  pub below : c.next ≤ end_of None c.newest
+  pub kept : AllByRecursion (λ f. reached c.newest f.number ≡ true) c.kept
 
 -- ---- it stays so
 
@@ -40,7 +40,7 @@ reached_kept window c n incoming a h =
           (all_weaker (λ f. reached c.newest f.number ≡ true) (λ f. reached (newer c.newest m) f.number ≡ true) (λ f r. reached_more c.newest m f.number r) c.kept h.kept);
     })
 
-reached_take : (window : ℕ) (c : State) (read : Read) → IsReached window c → IsReached window (after_take c read)
+pub reached_take : (window : ℕ) (c : State) (read : Read) → IsReached window c → IsReached window (after_take c read)
 reached_take window c (Unread field) h = h
 reached_take window c (Brings incoming) h = reached_kept window c (number_of c incoming) incoming (answer c (Brings incoming)) h
 
@@ -62,7 +62,7 @@ reached_item window c h r = record {
       (all_filter (λ f. reached c.newest f.number ≡ true) (λ f. not (eqb f.number c.next)) c.kept h.kept);
 }
 
-reached_gives : (window : ℕ) (items : List Item) (c d : State) → IsReached window c → Gives c items d → IsReached window d
+pub reached_gives : (window : ℕ) (items : List Item) (c d : State) → IsReached window c → Gives c items d → IsReached window d
 reached_gives window [] c d h g = subst (IsReached window) (sym g.1) h
 reached_gives window (item ∷ items) c d h g = reached_gives window items (after_item c) d (reached_item window c h g.0) g.2
 
@@ -75,7 +75,7 @@ reached_steps window (b ∷ datagrams) (a ∷ answers) given c d h quiet (now, m
     let taken : IsReached window kept = subst (IsReached window) (sym takes.after_is) (reached_take window c takes.read h) in
     reached_steps window datagrams answers more mid d (reached_gives window now kept mid taken gives) (gives_given now kept mid gives).1 steps
 
-reached_new : (window reach : ℕ) (first : Option ℕ) → IsReached window (made window reach first)
+pub reached_new : (window reach : ℕ) (first : Option ℕ) → IsReached window (made window reach first)
 reached_new window reach first = record { window_is = refl; no_end = refl; below = omega arith; kept = tt }
 
 -- ---- how far the newest number rises
@@ -131,7 +131,7 @@ near_take : (c : State) (read : Read) (m : ℕ) → c.newest ≡ Some m → end_
 near_take c (Unread field) m e = subst (λ o. end_of None o ≤ m + c.reach + 1) (sym e) (omega arith)
 near_take c (Brings incoming) m e = near_by c (number_of c incoming) incoming m (is_far c (number_of c incoming)) refl e
 
-gives_newest : (items : List Item) (c d : State) → Gives c items d → d.newest ≡ c.newest
+pub gives_newest : (items : List Item) (c d : State) → Gives c items d → d.newest ≡ c.newest
 gives_newest [] c d g = ap (λ m. m.newest) g.1
 gives_newest (item ∷ items) c d g = gives_newest items (after_item c) d g.2
 

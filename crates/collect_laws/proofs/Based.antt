@@ -46,17 +46,23 @@ base_after sequence0 c incoming pair rest base n a None e b s k =
     (pos ((sequence0 + pair.0) / 65536), omega (arith, ints, b))
 
 -- within the span the collector counts as the delivery does
+pub number_by : (sequence0 reach : ℕ) (base : ℤ) (newest : Option ℕ) (c : State) (pair : ℕ × ℕ) (rest : List (ℕ × ℕ)) (incoming : Incoming) → c.newest ≡ newest
+    → IsBase sequence0 c.first (pair ∷ rest) base → IsWithinSpan reach base newest (pair ∷ rest)
+    → incoming.sequence ≡ sequence_at sequence0 pair.0 → number_of c incoming ≡ number base pair
+number_by sequence0 reach base newest c pair rest incoming same b span s =
+    let k = first_number sequence0 c.first pair rest base b in
+    let e : (pos (unwrap_or c.first incoming.sequence) +ℤ number base pair) ≡ (pos incoming.sequence +ℤ (k.0 *ℤ pos 65536))
+    = subst (λ x. (pos (unwrap_or c.first x) +ℤ number base pair) ≡ (pos x +ℤ (k.0 *ℤ pos 65536))) (sym s) k.1 in
+    nearest_is (unwrap_or c.first incoming.sequence) (unwrap_or c.newest 0) incoming.sequence (number base pair) k.0 e
+    (subst (λ m. number base pair <ℤ (pos (unwrap_or m 0) +ℤ pos 32768)) (sym same) span.0)
+    (let near : pos (unwrap_or c.newest 0) <ℤ (number base pair +ℤ pos 32768) = subst (λ m. pos (unwrap_or m 0) <ℤ (number base pair +ℤ pos 32768)) (sym same) span.1 in omega (arith, ints, near))
+
 pub number_is : (carry : Carry) (packets : List (List ℕ)) (sequence0 window reach : ℕ) (base : ℤ) (c : State) (pairs : List (ℕ × ℕ)) (pair : ℕ × ℕ) (rest : List (ℕ × ℕ)) (incoming : Incoming)
     → IsAfter carry packets window base pairs c
     → IsBase sequence0 c.first (pair ∷ rest) base → IsWithinSpan reach base (newest_of base None pairs) (pair ∷ rest)
     → incoming.sequence ≡ sequence_at sequence0 pair.0 → number_of c incoming ≡ number base pair
 number_is carry packets sequence0 window reach base c pairs pair rest incoming h b span s =
-    let k = first_number sequence0 c.first pair rest base b in
-    let e : (pos (unwrap_or c.first incoming.sequence) +ℤ number base pair) ≡ (pos incoming.sequence +ℤ (k.0 *ℤ pos 65536))
-    = subst (λ x. (pos (unwrap_or c.first x) +ℤ number base pair) ≡ (pos x +ℤ (k.0 *ℤ pos 65536))) (sym s) k.1 in
-    nearest_is (unwrap_or c.first incoming.sequence) (unwrap_or c.newest 0) incoming.sequence (number base pair) k.0 e
-    (subst (λ m. number base pair <ℤ (pos (unwrap_or m 0) +ℤ pos 32768)) (sym h.newest_is) span.0)
-    (let near : pos (unwrap_or c.newest 0) <ℤ (number base pair +ℤ pos 32768) = subst (λ m. pos (unwrap_or m 0) <ℤ (number base pair +ℤ pos 32768)) (sym h.newest_is) span.1 in omega (arith, ints, near))
+    number_by sequence0 reach base (newest_of base None pairs) c pair rest incoming h.newest_is b span s
 
 -- and within the reach of its newest number no datagram is far
 pub near_is : (c : State) (n : ℤ) (reach : ℕ) → c.reach ≡ reach → IfSome c.newest (λ m. n ≤ℤ pos (m + reach)) → is_far c n ≡ false
