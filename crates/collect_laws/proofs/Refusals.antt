@@ -74,7 +74,7 @@ is_refused one_reading c read Far datagram is (incoming, brings, far) =
     ∙ ap (λ b. if b then Refused Far else answer_within c (number_of c incoming) incoming.head) far
 
 -- after a refusal
-after_refused : (c : State) (read : Read) (cause : Field) → answer c read ≡ Refused cause → after_take c read ≡ c
+pub after_refused : (c : State) (read : Read) (cause : Field) → answer c read ≡ Refused cause → after_take c read ≡ c
 after_refused c (Unread field) cause e = refl
 after_refused c (Brings incoming) cause e = ap (after_answer c (number_of c incoming) incoming) e
 

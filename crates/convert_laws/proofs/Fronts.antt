@@ -4,6 +4,7 @@ use Rattle.std.specs.Prelude.{ℤ, pos}
 use Rattle.collect_laws.specs.Delivery.{number, newer_number, IsWithinSpan, IsBase}
 use Rattle.drm_schedule.specs.declared.plan.Plan.{Plan}
 use Rattle.mod_delivery.specs.Sent.{Arrival, OfSchedule, Stray, pairs_in, IsFollowed}
+use Rattle.mod_delivery.proofs.Following.{far_front}
 use Rattle.mod_delivery.proofs.Strays.{front_arrives}
 
 front_spans : (reach : ℕ) (arrivals : List Arrival) (n : ℕ) (base : ℤ) (newest : Option ℕ) → IsWithinSpan reach base newest (pairs_in arrivals) → IsWithinSpan reach base newest (pairs_in (take n arrivals))
@@ -31,4 +32,5 @@ front_followed plan reach first arrivals datagrams later followed = record {
   arrive = (front_arrives plan arrivals datagrams later followed.arrive).0;
   based = front_based plan.seq first arrivals (length datagrams) followed.based;
   within_span = front_spans reach arrivals (length datagrams) (pos 0) None followed.within_span;
+  far = far_front reach plan.seq (pos 0) None arrivals datagrams later followed.far;
 }

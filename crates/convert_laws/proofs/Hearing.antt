@@ -1,5 +1,5 @@
 -- What a collector gives of a delivery of a schedule, with any strays in it.
-use Rattle.std.proofs.Common.{ℕ, ◌≡◌, ◌≤◌, List, ◌++◌, Option, refl}
+use Rattle.std.proofs.Common.{ℕ, ◌≡◌, ◌≤◌, List, [], ◌++◌, Option, None, refl}
 use Rattle.std.specs.Prelude.{ℤ}
 use Rattle.dcp_collect.specs.declared.taken.Taken.{Taken}
 use Rattle.dcp_collect.specs.State.{State, made, after_finish}
@@ -11,7 +11,7 @@ use Rattle.drm_schedule.specs.Valid.{IsSchedule}
 use Rattle.mod_delivery.specs.Sent.{Arrival, pairs_in, AreSent, IsFollowed}
 use Rattle.mod_delivery.proofs.Early.{GoesOn, goes_on, all_brought_of}
 use Rattle.mod_delivery.proofs.Packets.{ArePackets, some_packets, all_sent, delivered}
-use Rattle.mod_delivery.proofs.Strays.{others_of, with_strays}
+use Rattle.mod_delivery.proofs.Strays.{others_of, with_strays, stands_new}
 
 -- The datagrams of the delivery that aren't strays, and the packets that were sent; steps over those datagrams, and over all
 -- of them, which come to the same; and what is given with the end.
@@ -44,7 +44,8 @@ module _ (collecting : Collecting) (giving_ends : GivingEnds) where
         within_span = followed.within_span;
       } in
       let on : GoesOn (made window reach first) others = goes_on giving_ends (made window reach first) others (all_brought_of plan pairs others is sent) (some, tt) in
-      let (answers, again) = with_strays plan (made window reach first) on.after arrivals datagrams on.answers on.given followed.arrive refl on.steps in
+      let stands = stands_new plan window reach first base arrivals datagrams followed in
+      let (answers, again) = with_strays plan is window reach base (made window reach first) on.after None arrivals [] datagrams on.answers on.given followed.arrive stands on.steps in
       record {
         others = others;
         sent = sent;

@@ -27,7 +27,7 @@ use Rattle.mod_delivery.proofs.Needed.{some_got}
 use Rattle.mod_delivery.proofs.Numbering.{frame_is}
 use Rattle.mod_delivery.proofs.Packets.{IsChosen, ArePackets, some_packets, all_sent, delivered, at_number}
 use Rattle.mod_delivery.proofs.Paired.{IsPaired}
-use Rattle.mod_delivery.proofs.Strays.{others_of, with_strays}
+use Rattle.mod_delivery.proofs.Strays.{others_of, with_strays, stands_new}
 
 -- ---- after the last datagram nothing is ready, and there is no end
 
@@ -166,5 +166,6 @@ all_at_once collecting giving_ends plan window reach first arrivals datagrams is
     let (others, sent) = others_of plan arrivals datagrams followed.arrive in
     let (replies, given, mid, steps, enough) = pairs_all collecting giving_ends plan window reach first (pairs_in arrivals) others is some
     (record { sent = sent; based = followed.based; within_span = followed.within_span }) in_time in
-    let (answers, again) = with_strays plan (made window reach first) mid arrivals datagrams replies given followed.arrive refl steps in
+    let stands = stands_new plan window reach first (pos 0) arrivals datagrams followed in
+    let (answers, again) = with_strays plan is window reach (pos 0) (made window reach first) mid None arrivals [] datagrams replies given followed.arrive stands steps in
     (answers, given, mid, again, enough)

@@ -37,8 +37,9 @@ within_span plan reach newest (OfSchedule pair ∷ arrivals) (datagram ∷ came)
     )
 
 pub followed_in_any_order : FollowedInAnyOrder
-followed_in_any_order plan reach arrivals came short near are = record {
+followed_in_any_order plan reach arrivals came short near are far = record {
   arrive = are;
   based = (pos 0, omega (arith, ints));
   within_span = within_span plan reach None arrivals came short near (omega arith) are;
+  far = far;
 }

@@ -8,7 +8,7 @@ use Rattle.dcp_collect.specs.declared.taken.Taken.{Taken}
 use Rattle.dcp_collect.specs.State.{State, made}
 use Rattle.dcp_collect.specs.Runs.{Item, Steps}
 use Rattle.mod_feed.specs.Feeding.{FeedStep}
-use Rattle.mod_delivery.specs.Sent.{Arrival, IsArrival, pairs_in, IsFollowed, IsInTime}
+use Rattle.mod_delivery.specs.Sent.{Arrival, IsArrival, AreFar, pairs_in, IsFollowed, IsInTime}
 use Rattle.mod_delivery.specs.Given.{AreGiven, AreAllServed}
 use Rattle.mod_receiver.specs.Headline.{GivesInTime, PrintsFrames, TellsSwitches, strays}
 use Rattle.report_lines.specs.Reports.{report, is_clean}
@@ -81,4 +81,5 @@ MixedPathsAreOneDelivery =
 abbrev pub FollowedInAnyOrder : Type 0
 FollowedInAnyOrder =
     (plan : Plan) (reach : ℕ) (arrivals : List Arrival) (came : List (List ℕ)) → frame_count plan ≤ 32768 → frame_count plan ≤ reach + 1
-    → AllZip (IsArrival plan) arrivals came → IsFollowed plan reach (Some plan.seq) (pos 0) arrivals came
+    → AllZip (IsArrival plan) arrivals came → AreFar reach plan.seq (pos 0) None arrivals came
+    → IsFollowed plan reach (Some plan.seq) (pos 0) arrivals came
