@@ -1,5 +1,5 @@
 -- How many items one datagram brings.
-use Rattle.std.proofs.Common.{ℕ, ◌≡◌, ◌+◌, ◌≤◌, Bool, true, false, if◌then◌else◌, not, eqb, List, [], ◌∷◌, Option, Some, None, inl, ⊎_elim, refl, sym, ap, ◌∙◌, subst, arith}
+use Rattle.std.proofs.Common.{ℕ, ◌≡◌, ◌+◌, ◌≤◌, Bool, true, false, if◌then◌else◌, not, eqb, List, [], ◌∷◌, length, Option, Some, None, inl, ⊎_elim, refl, sym, ap, ◌∙◌, subst, arith}
 use Rattle.std.specs.Prelude.{ℤ, pos, negsuc, ◌+ℤ◌, ◌<ℤ◌, ◌≤ℤ◌, IfSome, unwrap_or}
 use Rattle.std.specs.List.{AllByRecursion}
 use Rattle.std.proofs.lemmas.Bool.{leb-false, ltb-false, or_parts}
@@ -147,10 +147,10 @@ within window c some h quiet =
     (or_parts (suffice (of_packet c.next c.kept)) (reached c.newest (c.next + c.window)) (sym (ap (λ o. ready_by o c) h.no_end) ∙ quiet)).1)
 
 -- so many items lie ahead, where the newest number rose by the reach at most
-by_reach : {next window reach count : ℕ} (m : Option ℕ) → unwrap_or m 0 + 1 ≤ next + window
+by_reach : (next window reach count : ℕ) (m : Option ℕ) → unwrap_or m 0 + 1 ≤ next + window
     → ((n : ℕ) → m ≡ Some n → next + count ≤ n + reach + 1) → IfSome m (λ n. count ≤ reach + window)
-by_reach None ahead few = tt
-by_reach (Some n) ahead few = let l = few n refl in omega (arith, ahead, l)
+by_reach next window reach count None ahead few = tt
+by_reach next window reach count (Some n) ahead few = let l = few n refl in omega (arith, ahead, l)
 
 pub few_at_once : FewAtOnce
 few_at_once window reach first datagrams answers given mid datagram taken kept items after some steps takes gives =
@@ -165,7 +165,7 @@ few_at_once window reach first datagrams answers given mid datagram taken kept i
     let count = gives_count items kept after gives in
     let same = steps_reach (made window reach first) mid datagrams answers given steps in (
       omega (arith, last, newest, ahead, start, count),
-      by_reach mid.newest ahead
+      by_reach mid.next window reach (length items) mid.newest ahead
           (λ n e. let near = subst (λ m. end_of None m ≤ n + mid.reach + 1) (sym end_is) (near_take mid takes.read n e) in
           let few : end_of None after.newest ≤ n + reach + 1 = omega (arith, near, same) in
           omega (arith, last, few, start, count)),
