@@ -7,7 +7,10 @@ ghost use Rattle.word_forms.specs.Gives.{Gives};
 ghost use Rattle.drm_words.specs.Table.{HasTextNames};
 ghost use Rattle.word_forms.specs.declared.fault.WordsFault.TheVariants as faults;
 
-use crate::options::{are_of, from, live, pace, to, told_reading, told_stretch, window};
+use crate::options::{
+    are_of, are_of_reading, are_of_stretch, from, live, pace, to, told_reading, told_stretch,
+    window,
+};
 use crate::request::Request;
 use drm_bits::Octets;
 use drm_links::Addresses;
@@ -141,10 +144,7 @@ fn receive(alloc: Global, texts: &[&str], options: &[Named<'_>]) -> Result<Reque
     ensures gives { Gives result (receive_of (map (λ text. text.now) texts.now) (map option_said options.now)) }
     ensures text { IfOk result HasTextNames }
 {
-    if !are_of(
-        &["window", "reach", "first", "frames", "idle", "limit"],
-        options,
-    ) {
+    if !are_of_reading(options) {
         return Err(WordsFault::Words);
     }
     let addresses = addresses_or_none(alloc, texts)?;
@@ -206,7 +206,7 @@ fn convert(texts: &[&str], options: &[Named<'_>]) -> Result<Request, WordsFault>
     let [text] = texts else {
         return Err(WordsFault::Words);
     };
-    if !are_of(&["window", "reach", "first", "frames"], options) {
+    if !are_of_stretch(options) {
         return Err(WordsFault::Words);
     }
     asked(convert_with(text, options))
@@ -264,10 +264,7 @@ fn gate(alloc: Global, texts: &[&str], options: &[Named<'_>]) -> Result<Request,
     let [from, to, text] = texts else {
         return Err(WordsFault::Words);
     };
-    if !are_of(
-        &["window", "reach", "first", "frames", "idle", "limit"],
-        options,
-    ) {
+    if !are_of_reading(options) {
         return Err(WordsFault::Words);
     }
     let to = read_addresses(alloc, to)?;
@@ -326,7 +323,7 @@ fn unpack(texts: &[&str], options: &[Named<'_>]) -> Result<Request, WordsFault>
     let [stream, pid, length] = texts else {
         return Err(WordsFault::Words);
     };
-    if !are_of(&["window", "reach", "first", "frames"], options) {
+    if !are_of_stretch(options) {
         return Err(WordsFault::Words);
     }
     asked(unpack_with(stream, pid, length, options))
@@ -356,7 +353,7 @@ fn messages(texts: &[&str], options: &[Named<'_>]) -> Result<Request, WordsFault
     let [stream] = texts else {
         return Err(WordsFault::Words);
     };
-    if !are_of(&["window", "reach", "first", "frames"], options) {
+    if !are_of_stretch(options) {
         return Err(WordsFault::Words);
     }
     asked(texts_with(stream, options))

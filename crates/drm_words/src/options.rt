@@ -3,7 +3,7 @@
 ghost use Rattle.std.specs.Prelude.{◌≡◌, ◌≤◌, IfSome, map, option_map, codes};
 ghost use Rattle.word_forms.specs.Arguing.{option_said};
 ghost use Rattle.word_forms.specs.Gives.{Gives};
-ghost use Rattle.drm_words.specs.Table.{told};
+ghost use Rattle.drm_words.specs.Table.{told, stretch_names, reading_names};
 ghost use Rattle.drm_words.specs.Asking.{is_one_of, are_of, number_or, number_or_none, window_of, reach_of, first_of, frames_of, stretch_of, reading_of, idle_of, limit_of, pace_of, from_of, to_of, live_told};
 
 use drm_links::Addresses;
@@ -65,6 +65,23 @@ pub(crate) fn are_of(names: &[&str], options: &[Named<'_>]) -> bool
         return true;
     };
     is_one_of(names, option.name) && told(others, option.name).is_none() && are_of(names, others)
+}
+
+/// Whether these are options of a stretch, none twice.
+pub(crate) fn are_of_stretch(options: &[Named<'_>]) -> bool
+    ensures { result ≡ are_of stretch_names (map option_said options.now) }
+{
+    are_of(&["window", "reach", "first", "frames"], options)
+}
+
+/// Whether these are options of a reading, none twice.
+pub(crate) fn are_of_reading(options: &[Named<'_>]) -> bool
+    ensures { result ≡ are_of reading_names (map option_said options.now) }
+{
+    are_of(
+        &["window", "reach", "first", "frames", "idle", "limit"],
+        options,
+    )
 }
 
 fn number_or(default: u64, least: u64, greatest: u64, value: Option<&str>) -> Option<u64>
