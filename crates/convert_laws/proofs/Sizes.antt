@@ -131,5 +131,5 @@ module _ (collecting : Collecting) (giving_ends : GivingEnds) (steps_count : Ste
   pub none_is_too_large : NoneIsTooLarge
   none_is_too_large plan carry terms arrivals packets later given next last number is fits some followed at large =
       let h = hears collecting giving_ends plan terms.window terms.reach terms.first (pos 0) (take (length packets) arrivals) packets is some
-      (front_followed plan terms.first arrivals packets later followed) in
+      (front_followed plan terms.reach terms.first arrivals packets later followed) in
       not_next plan carry is fits terms (pairs_in (take (length packets) arrivals)) packets given next last number h at at.comes large
