@@ -27,7 +27,7 @@ _drmcast_file() {
 }
 
 _drmcast() {
-    local common='--window --first --frames' words
+    local common='--window --reach --first --frames' words
     local carries='plain pft:0:1400 pft:1:1400 pft:2:1400 pft:3:1400 pft:4:1400 pft:5:1400'
     COMPREPLY=()
     _drmcast_words
@@ -37,7 +37,7 @@ _drmcast() {
         return
     fi
     case ${words[at - 1]} in
-        --to | --pace | --from | --live | --window | --first | --frames | --idle | --limit) return ;;
+        --to | --pace | --from | --live | --window | --reach | --first | --frames | --idle | --limit) return ;;
     esac
     case ${words[1]}:$at:${words[at]} in
         serve:*:-*) _drmcast_among '--to --pace --from --live' ;;
@@ -56,8 +56,8 @@ _drmpaths() {
     COMPREPLY=()
     _drmcast_words
     case ${words[-2]}:${words[-1]} in
-        --window:* | --first:* | --frames:* | --idle:* | --limit:*) ;;
-        *:-*) _drmcast_among '--window --first --frames --idle --limit' ;;
+        --window:* | --reach:* | --first:* | --frames:* | --idle:* | --limit:*) ;;
+        *:-*) _drmcast_among '--window --reach --first --frames --idle --limit' ;;
     esac
 }
 

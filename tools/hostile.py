@@ -7,8 +7,8 @@
 PROGRAM is crates/drmcast/out/drmcast. A capture has up to 400 packets that `serve` wrote, of which some are altered: bits and bytes
 of them, fields of their heads with the check value made right again or not, their numbers, their order; or packets of random
 bytes, and perhaps another end. Each is shown, received twice (from a file and from a pipe in random pieces, which is to give the
-same) and converted twice, in so many MiB of memory at the most (4; 0 for no bound, where a sanitizer takes its own). Then as many
-datagrams of this kind as are told go to a receiver over the loopback. Each run has to end within a minute with a status that its
+same) and converted twice, some of them with a random --reach, in so many MiB of memory at the most (4; 0 for no bound, where a
+sanitizer takes its own). Then as many datagrams of this kind as are told go to a receiver over the loopback. Each run has to end within a minute with a status that its
 output calls for. What ends otherwise is named and its capture is kept in the current folder; the status is 1 then.
 
 With --costs it measures instead what the dearest datagrams cost, in processor time beside a usual datagram of their bytes: one whose
@@ -130,6 +130,11 @@ def hostile(draw, packets):
     return [altered(draw, packet) if draw.random() < rate else packet for packet in taken if draw.random() >= rate]
 
 
+def reach(draw):
+    """How far a datagram may be ahead, or nothing."""
+    return ["--reach", str(draw.choice((1, 2, 8, 9, 40, 450, 32767)))] if draw.random() < 0.5 else []
+
+
 class Program:
     """The program, with the most bytes of memory that it may take."""
 
@@ -202,9 +207,10 @@ def over_captures(program, draw, served, count):
         capture = b"".join(parts)
         if draw.random() < 0.3:
             capture = draw.choice((capture[:draw.randrange(len(capture) + 1)], capture + noise(draw)))
-        frames = ["--frames", str(draw.randint(1, 60))] if draw.random() < 0.3 else []
+        options = ["--frames", str(draw.randint(1, 60))] if draw.random() < 0.3 else []
+        options += reach(draw)
         received = None
-        for words in (["show"], ["receive", *frames], ["receive", *frames], ["convert", "plain", *frames], ["convert", "pft:2:1400", *frames]):
+        for words in (["show"], ["receive", *options], ["receive", *options], ["convert", "plain", *options], ["convert", "pft:2:1400", *options]):
             pieces = number if received else None
             ended = ran(program, words, capture, pieces if words[0] == "receive" else None)
             statuses[ended[0]] = statuses.get(ended[0], 0) + 1
@@ -222,7 +228,7 @@ def over_captures(program, draw, served, count):
 
 def over_a_socket(program, draw, served, count):
     """Sends datagrams to one receiver, and answers whether it ended as it may."""
-    words = ["receive", f"127.0.0.1:{PORT}", "--idle", "20"]
+    words = ["receive", f"127.0.0.1:{PORT}", "--idle", "20", *reach(draw)]
     with tempfile.TemporaryFile() as report:
         receiver = program.start(words, stdout=report)
         time.sleep(0.5)

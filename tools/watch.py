@@ -1,8 +1,8 @@
 #!/usr/bin/env python3
 """Watches a modulator: reads its reports as they come, and prints a line a minute.
 
-    watch.py -- drmcast receive 0.0.0.0:5000 --window 16 --idle 600
-    watch.py --metrics /run/drmcast/nord.prom -- drmcast receive 0.0.0.0:5000 --idle 600
+    watch.py -- drmcast receive 0.0.0.0:5000 --window 16 --reach 450 --idle 600
+    watch.py --metrics /run/drmcast/nord.prom -- drmcast receive 0.0.0.0:5000 --reach 450 --idle 600
     drmcast receive 0.0.0.0:5000 | watch.py --every 10 --format csv >> modulator.csv
 
 A line has the time (UTC); how many frames were given, missing and bad since the line before; the longest time without a frame,

@@ -26,8 +26,8 @@ use Rattle.capture_data.proofs.Sound.{sound}
 
 -- ---- the end of what is printed
 
-pub terms_as : (c : State) (window : ℕ) (first told : Option ℕ) → c ≡ made window first → (let terms : Terms = record { window = c.window; first = c.first; told = told } in terms ≡ record { window = window; first = first; told = told })
-terms_as c window first told is = ap (λ (s : State). record { window = s.window; first = s.first; told = told }) is
+pub terms_as : (c : State) (window reach : ℕ) (first told : Option ℕ) → c ≡ made window reach first → (let terms : Terms = record { window = c.window; reach = c.reach; first = c.first; told = told } in terms ≡ record { window = window; reach = reach; first = first; told = told })
+terms_as c window reach first told is = ap (λ (s : State). record { window = s.window; reach = s.reach; first = s.first; told = told }) is
 
 pub whole_written : {E : Type 0} (terms : Terms) (what : What) (taker ended : Taker) (before after : Known Input) (a b o : Known Output) (result : Result (Unit {0}) E) (done all : Unit {0}) (clean : Bool)
     → TakesAll terms what (Ok all) taker before after a b

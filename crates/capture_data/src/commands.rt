@@ -26,6 +26,7 @@ pub fn unpack<I: Source, O: Sink>(
     id: u8,
     length: u8,
     window: u8,
+    reach: u16,
     first: Option<u16>,
     frames: Option<u64>,
     input: &mut I,
@@ -36,7 +37,7 @@ pub fn unpack<I: Source, O: Sink>(
     requires length { 1 ≤ length }
     requires window { (1 ≤ window) × (window ≤ 64) }
     requires frames { IfSome frames (λ n. (1 ≤ n) × (n ≤ 3000000)) }
-    ensures run { DataRun (record { window = window; first = first; told = frames }) (UnitsOf stream id length) result
+    ensures run { DataRun (record { window = window; reach = reach; first = first; told = frames }) (UnitsOf stream id length) result
         I.known input.old input.new O.known out.old out.new }
 {
     read_one_way();
@@ -48,7 +49,7 @@ pub fn unpack<I: Source, O: Sink>(
         joiner,
         counts: no_counts(),
     });
-    take_capture(alloc, window, first, frames, &mut taker, input, out)
+    take_capture(alloc, window, reach, first, frames, &mut taker, input, out)
 }
 
 /// Receives a capture from `input`, and writes the text messages in a stream of its frames, each as it comes. Answers whether
@@ -57,6 +58,7 @@ pub fn texts<I: Source, O: Sink>(
     alloc: Global,
     stream: u8,
     window: u8,
+    reach: u16,
     first: Option<u16>,
     frames: Option<u64>,
     input: &mut I,
@@ -65,7 +67,7 @@ pub fn texts<I: Source, O: Sink>(
     requires stream { stream < 4 }
     requires window { (1 ≤ window) × (window ≤ 64) }
     requires frames { IfSome frames (λ n. (1 ≤ n) × (n ≤ 3000000)) }
-    ensures run { DataRun (record { window = window; first = first; told = frames }) (TextsOf stream) result
+    ensures run { DataRun (record { window = window; reach = reach; first = first; told = frames }) (TextsOf stream) result
         I.known input.old input.new O.known out.old out.new }
 {
     read_one_way();
@@ -75,5 +77,5 @@ pub fn texts<I: Source, O: Sink>(
         joiner: TextJoiner::new(),
         counts: no_counts(),
     });
-    take_capture(alloc, window, first, frames, &mut taker, input, out)
+    take_capture(alloc, window, reach, first, frames, &mut taker, input, out)
 }

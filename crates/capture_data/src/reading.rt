@@ -23,6 +23,7 @@ use std::alloc::Global;
 pub(crate) fn take_capture<I: Source, O: Sink>(
     alloc: Global,
     window: u8,
+    reach: u16,
     first: Option<u16>,
     told: Option<u64>,
     taker: &mut Taker,
@@ -34,13 +35,13 @@ pub(crate) fn take_capture<I: Source, O: Sink>(
     requires ready { IsReady taker.old }
     requires none { AreBelow (counts_in taker.old) 0 }
     ensures ends { (what : What) → Took what [] [] taker.old
-        → Ends (record { window = window; first = first; told = told }) what result
+        → Ends (record { window = window; reach = reach; first = first; told = told }) what result
         (I.known input.old) (I.known input.new) (O.known out.old) (O.known out.new) }
     ensures memory { result ≡ Err Fault.NoMemory → (input.new ≡ input.old) × (out.new ≡ out.old) }
     ensures read { HasCause (I.known input.old) (I.known input.new) (result ≡ Err Fault.Read) }
     ensures write { HasCause (O.known out.old) (O.known out.new) (result ≡ Err Fault.Write) }
 {
-    let mut collector = Collector::make(alloc, window, first)?;
+    let mut collector = Collector::make(alloc, window, reach, first)?;
     let mut packets = Packets::make(alloc)?;
     take_items(&mut collector, &mut packets, told, taker, input, out)?;
     taker.end(out)?;
@@ -57,14 +58,14 @@ fn take_items<I: Source, O: Sink>(
     out: &mut O,
 ) -> Result<(), Fault>
     requires window { (1 ≤ collector.old.window) × (collector.old.window ≤ 64) }
-    requires collector { collector.old ≡ made collector.old.window collector.old.first }
+    requires collector { collector.old ≡ made collector.old.window collector.old.reach collector.old.first }
     requires packets { packets.old ≡ new_walker }
     requires some { IfSome told (λ n. 1 ≤ n) }
     requires few { IfSome told (λ n. n ≤ 3000000) }
     requires ready { IsReady taker.old }
     requires none { AreBelow (counts_in taker.old) 0 }
     ensures takes { (what : What) → Took what [] [] taker.old
-        → TakesAll (record { window = collector.old.window; first = collector.old.first; told = told }) what result taker.new
+        → TakesAll (record { window = collector.old.window; reach = collector.old.reach; first = collector.old.first; told = told }) what result taker.new
         (I.known input.old) (I.known input.new) (O.known out.old) (O.known out.new) }
     ensures room { OnOk result (AreBelow (counts_in taker.new) (2 ^ 126)) }
     ensures read { HasCause (I.known input.old) (I.known input.new) (result ≡ Err Fault.Read) }

@@ -1,14 +1,15 @@
 -- How many items one datagram brings.
-use Rattle.std.proofs.Common.{ℕ, ◌≡◌, ◌+◌, ◌≤◌, true, false, not, eqb, List, [], ◌∷◌, Option, Some, None, inl, ⊎_elim, refl, sym, ap, ◌∙◌, subst, arith}
-use Rattle.std.specs.Prelude.{ℤ, pos, negsuc, ◌+ℤ◌, ◌<ℤ◌, unwrap_or}
+use Rattle.std.proofs.Common.{ℕ, ◌≡◌, ◌+◌, ◌≤◌, Bool, true, false, if◌then◌else◌, not, eqb, List, [], ◌∷◌, length, Option, Some, None, inl, ⊎_elim, refl, sym, ap, ◌∙◌, subst, arith}
+use Rattle.std.specs.Prelude.{ℤ, pos, negsuc, ◌+ℤ◌, ◌<ℤ◌, ◌≤ℤ◌, IfSome, unwrap_or}
 use Rattle.std.specs.List.{AllByRecursion}
-use Rattle.std.proofs.lemmas.Bool.{leb-false, or_parts}
+use Rattle.std.proofs.lemmas.Bool.{leb-false, ltb-false, or_parts}
 use Rattle.std.proofs.lemmas.Int.{ints}
+use Rattle.dcp_collect.specs.declared.taken.Field.TheVariants.{Far}
 use Rattle.dcp_collect.specs.declared.taken.Taken.{Taken}
 use Rattle.dcp_collect.specs.declared.taken.Taken.TheVariants.{Kept, Repeated, Late, Refused, Inconsistent}
 use Rattle.dcp_collect.specs.Fragments.{suffice, of_packet}
 use Rattle.dcp_collect.specs.Reading.{Incoming, Read, Unread, Brings}
-use Rattle.dcp_collect.specs.State.{State, made, ready, ready_by, reached, answer, number_of, after_answer, after_take, after_item}
+use Rattle.dcp_collect.specs.State.{State, made, ready, ready_by, is_above, is_far, reached, answer_within, answer_at, answer, number_of, after_answer, after_take, after_item}
 use Rattle.dcp_collect.specs.Numbers.{newer, end_of}
 use Rattle.dcp_collect.specs.Runs.{Item, Gives, Steps}
 use Rattle.dcp_collect.proofs.Lists.{all_insert, all_filter, all_weaker}
@@ -16,14 +17,14 @@ use Rattle.collect_laws.specs.Laws.{FewAtOnce}
 use Rattle.collect_laws.proofs.Numbers.{one_nearest}
 use Rattle.collect_laws.proofs.Reached.{reached_more, reached_now, reached_less, reached_end, end_more, numbered, ready_why}
 use Rattle.collect_laws.proofs.Stays.{after_by, take_next}
-use Rattle.collect_laws.proofs.Runs.{gives_given, gives_count}
+use Rattle.collect_laws.proofs.Runs.{gives_given, gives_count, steps_reach}
 
 -- no number above the newest is kept, or was given
-record IsReached (window : ℕ) (c : State) : Type 0 where
-  window_is : c.window ≡ window
-  no_end : c.end ≡ None
-  below : c.next ≤ end_of None c.newest
-  kept : AllByRecursion (λ f. reached c.newest f.number ≡ true) c.kept
+pub record IsReached (window : ℕ) (c : State) : Type 0 where
+  pub window_is : c.window ≡ window
+  pub no_end : c.end ≡ None
+  pub below : c.next ≤ end_of None c.newest
+  pub kept : AllByRecursion (λ f. reached c.newest f.number ≡ true) c.kept
 
 -- ---- it stays so
 
@@ -39,7 +40,7 @@ reached_kept window c n incoming a h =
           (all_weaker (λ f. reached c.newest f.number ≡ true) (λ f. reached (newer c.newest m) f.number ≡ true) (λ f r. reached_more c.newest m f.number r) c.kept h.kept);
     })
 
-reached_take : (window : ℕ) (c : State) (read : Read) → IsReached window c → IsReached window (after_take c read)
+pub reached_take : (window : ℕ) (c : State) (read : Read) → IsReached window c → IsReached window (after_take c read)
 reached_take window c (Unread field) h = h
 reached_take window c (Brings incoming) h = reached_kept window c (number_of c incoming) incoming (answer c (Brings incoming)) h
 
@@ -61,7 +62,7 @@ reached_item window c h r = record {
       (all_filter (λ f. reached c.newest f.number ≡ true) (λ f. not (eqb f.number c.next)) c.kept h.kept);
 }
 
-reached_gives : (window : ℕ) (items : List Item) (c d : State) → IsReached window c → Gives c items d → IsReached window d
+pub reached_gives : (window : ℕ) (items : List Item) (c d : State) → IsReached window c → Gives c items d → IsReached window d
 reached_gives window [] c d h g = subst (IsReached window) (sym g.1) h
 reached_gives window (item ∷ items) c d h g = reached_gives window items (after_item c) d (reached_item window c h g.0) g.2
 
@@ -74,8 +75,8 @@ reached_steps window (b ∷ datagrams) (a ∷ answers) given c d h quiet (now, m
     let taken : IsReached window kept = subst (IsReached window) (sym takes.after_is) (reached_take window c takes.read h) in
     reached_steps window datagrams answers more mid d (reached_gives window now kept mid taken gives) (gives_given now kept mid gives).1 steps
 
-reached_new : (window : ℕ) (first : Option ℕ) → IsReached window (made window first)
-reached_new window first = record { window_is = refl; no_end = refl; below = omega arith; kept = tt }
+pub reached_new : (window reach : ℕ) (first : Option ℕ) → IsReached window (made window reach first)
+reached_new window reach first = record { window_is = refl; no_end = refl; below = omega arith; kept = tt }
 
 -- ---- how far the newest number rises
 
@@ -102,7 +103,35 @@ most_take c (Brings incoming) =
     most_after c (number_of c incoming) incoming (answer c (Brings incoming))
     (one_nearest (unwrap_or c.first incoming.sequence) (unwrap_or c.newest 0) incoming.sequence).1.0
 
-gives_newest : (items : List Item) (c d : State) → Gives c items d → d.newest ≡ c.newest
+-- by the reach, where there is a newest number
+
+near_after : (c : State) (n : ℤ) (incoming : Incoming) (a : Taken) (m : ℕ) → c.newest ≡ Some m → n ≤ℤ pos (m + c.reach)
+    → end_of None (after_answer c n incoming a).newest ≤ m + c.reach + 1
+near_after c (pos n) incoming Kept m e l = subst (λ o. end_of None (newer o n) ≤ m + c.reach + 1) (sym e) (omega (arith, ints, l))
+near_after c (negsuc n) incoming Kept m e l = subst (λ o. end_of None o ≤ m + c.reach + 1) (sym e) (omega arith)
+near_after c n incoming Repeated m e l = subst (λ o. end_of None o ≤ m + c.reach + 1) (sym e) (omega arith)
+near_after c n incoming Late m e l = subst (λ o. end_of None o ≤ m + c.reach + 1) (sym e) (omega arith)
+near_after c n incoming (Refused field) m e l = subst (λ o. end_of None o ≤ m + c.reach + 1) (sym e) (omega arith)
+near_after c n incoming (Inconsistent kept came) m e l = subst (λ o. end_of None o ≤ m + c.reach + 1) (sym e) (omega arith)
+
+near_of : (c : State) (n : ℤ) (m : ℕ) → c.newest ≡ Some m → is_far c n ≡ false → n ≤ℤ pos (m + c.reach)
+near_of c (negsuc n) m e near = omega (arith, ints)
+near_of c (pos n) m e near =
+    let l = ltb-false (m + c.reach) n (subst (λ o. is_above o c.reach n ≡ false) e near) in omega (arith, ints, l)
+
+near_by : (c : State) (n : ℤ) (incoming : Incoming) (m : ℕ) (b : Bool) → is_far c n ≡ b → c.newest ≡ Some m
+    → end_of None (after_answer c n incoming (answer_at c n incoming.head)).newest ≤ m + c.reach + 1
+near_by c n incoming m true far e =
+    subst (λ a. end_of None (after_answer c n incoming a).newest ≤ m + c.reach + 1)
+    (sym (ap (λ b. if b then Refused Far else answer_within c n incoming.head) far))
+    (subst (λ o. end_of None o ≤ m + c.reach + 1) (sym e) (omega arith))
+near_by c n incoming m false near e = near_after c n incoming (answer_at c n incoming.head) m e (near_of c n m e near)
+
+near_take : (c : State) (read : Read) (m : ℕ) → c.newest ≡ Some m → end_of None (after_take c read).newest ≤ m + c.reach + 1
+near_take c (Unread field) m e = subst (λ o. end_of None o ≤ m + c.reach + 1) (sym e) (omega arith)
+near_take c (Brings incoming) m e = near_by c (number_of c incoming) incoming m (is_far c (number_of c incoming)) refl e
+
+pub gives_newest : (items : List Item) (c d : State) → Gives c items d → d.newest ≡ c.newest
 gives_newest [] c d g = ap (λ m. m.newest) g.1
 gives_newest (item ∷ items) c d g = gives_newest items (after_item c) d g.2
 
@@ -117,14 +146,27 @@ within window c some h quiet =
     (near c.newest (c.next + c.window) (let w = h.window_is in omega (arith, w, some))
     (or_parts (suffice (of_packet c.next c.kept)) (reached c.newest (c.next + c.window)) (sym (ap (λ o. ready_by o c) h.no_end) ∙ quiet)).1)
 
+-- so many items lie ahead, where the newest number rose by the reach at most
+by_reach : (next window reach count : ℕ) (m : Option ℕ) → unwrap_or m 0 + 1 ≤ next + window
+    → ((n : ℕ) → m ≡ Some n → next + count ≤ n + reach + 1) → IfSome m (λ n. count ≤ reach + window)
+by_reach next window reach count None ahead few = tt
+by_reach next window reach count (Some n) ahead few = let l = few n refl in omega (arith, ahead, l)
+
 pub few_at_once : FewAtOnce
-few_at_once window first datagrams answers given mid datagram taken kept items after some steps takes gives =
-    let (h, quiet) = reached_steps window datagrams answers given (made window first) mid (reached_new window first) refl steps in
+few_at_once window reach first datagrams answers given mid datagram taken kept items after some steps takes gives =
+    let (h, quiet) = reached_steps window datagrams answers given (made window reach first) mid (reached_new window reach first) refl steps in
     let now : IsReached window kept = subst (IsReached window) (sym takes.after_is) (reached_take window mid takes.read h) in
     let last = (reached_gives window items kept after now gives).below in
+    let end_is : after.newest ≡ (after_take mid takes.read).newest = gives_newest items kept after gives ∙ ap (λ m. m.newest) takes.after_is in
     let newest : end_of None after.newest ≤ unwrap_or mid.newest 0 + 32768
-    = subst (λ m. end_of None m ≤ unwrap_or mid.newest 0 + 32768) (sym (gives_newest items kept after gives ∙ ap (λ m. m.newest) takes.after_is)) (most_take mid takes.read) in
+    = subst (λ m. end_of None m ≤ unwrap_or mid.newest 0 + 32768) (sym end_is) (most_take mid takes.read) in
     let ahead = within window mid some h quiet in
     let start : kept.next ≡ mid.next = ap (λ m. m.next) takes.after_is ∙ take_next mid takes.read in
     let count = gives_count items kept after gives in
-    omega (arith, last, newest, ahead, start, count)
+    let same = steps_reach (made window reach first) mid datagrams answers given steps in (
+      omega (arith, last, newest, ahead, start, count),
+      by_reach mid.next window reach (length items) mid.newest ahead
+          (λ n e. let near = subst (λ m. end_of None m ≤ n + mid.reach + 1) (sym end_is) (near_take mid takes.read n e) in
+          let few : end_of None after.newest ≤ n + reach + 1 = omega (arith, near, same) in
+          omega (arith, last, few, start, count)),
+    )

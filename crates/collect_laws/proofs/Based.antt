@@ -1,14 +1,15 @@
 -- The base of a delivery, and the number of each pair.
 use Rattle.std.proofs.Common.{ℕ, ◌≡◌, ◌+◌, ◌/◌, false, true, List, [], ◌∷◌, Option, Some, None, refl, sym, ap, ◌∙◌, subst, arith}
-use Rattle.std.specs.Prelude.{ℤ, pos, ◌+ℤ◌, ◌-ℤ◌, ◌*ℤ◌, ◌<ℤ◌, unwrap_or}
+use Rattle.std.specs.Prelude.{ℤ, pos, negsuc, ◌+ℤ◌, ◌-ℤ◌, ◌*ℤ◌, ◌<ℤ◌, ◌≤ℤ◌, IfSome, unwrap_or}
 use Rattle.std.specs.List.{AllByRecursion}
+use Rattle.std.proofs.lemmas.Bool.{le-ltb}
 use Rattle.std.proofs.lemmas.Int.{ints}
 use Rattle.dcp_collect.specs.declared.head.Head.{Head}
 use Rattle.dcp_collect.specs.declared.taken.Taken.{Taken}
 use Rattle.dcp_collect.specs.declared.taken.Taken.TheVariants.{Kept}
 use Rattle.dcp_collect.specs.Fragments.{Fragment}
 use Rattle.dcp_collect.specs.Reading.{Incoming}
-use Rattle.dcp_collect.specs.State.{State, reached, number_of, answer_at, after_answer}
+use Rattle.dcp_collect.specs.State.{State, is_above, is_far, reached, number_of, answer_at, after_answer}
 use Rattle.dcp_pft.specs.declared.carry.Carry.{Carry}
 use Rattle.collect_laws.specs.Delivery.{sequence_at, number, newest_of, IsWithinSpan, IsBase}
 use Rattle.collect_laws.proofs.Numbers.{nearest_is}
@@ -45,14 +46,29 @@ base_after sequence0 c incoming pair rest base n a None e b s k =
     (pos ((sequence0 + pair.0) / 65536), omega (arith, ints, b))
 
 -- within the span the collector counts as the delivery does
-pub number_is : (carry : Carry) (packets : List (List ℕ)) (sequence0 window : ℕ) (base : ℤ) (c : State) (pairs : List (ℕ × ℕ)) (pair : ℕ × ℕ) (rest : List (ℕ × ℕ)) (incoming : Incoming)
-    → IsAfter carry packets window base pairs c
-    → IsBase sequence0 c.first (pair ∷ rest) base → IsWithinSpan base (newest_of base None pairs) (pair ∷ rest)
+pub number_by : (sequence0 reach : ℕ) (base : ℤ) (newest : Option ℕ) (c : State) (pair : ℕ × ℕ) (rest : List (ℕ × ℕ)) (incoming : Incoming) → c.newest ≡ newest
+    → IsBase sequence0 c.first (pair ∷ rest) base → IsWithinSpan reach base newest (pair ∷ rest)
     → incoming.sequence ≡ sequence_at sequence0 pair.0 → number_of c incoming ≡ number base pair
-number_is carry packets sequence0 window base c pairs pair rest incoming h b span s =
+number_by sequence0 reach base newest c pair rest incoming same b span s =
     let k = first_number sequence0 c.first pair rest base b in
     let e : (pos (unwrap_or c.first incoming.sequence) +ℤ number base pair) ≡ (pos incoming.sequence +ℤ (k.0 *ℤ pos 65536))
     = subst (λ x. (pos (unwrap_or c.first x) +ℤ number base pair) ≡ (pos x +ℤ (k.0 *ℤ pos 65536))) (sym s) k.1 in
     nearest_is (unwrap_or c.first incoming.sequence) (unwrap_or c.newest 0) incoming.sequence (number base pair) k.0 e
-    (subst (λ m. number base pair <ℤ (pos (unwrap_or m 0) +ℤ pos 32768)) (sym h.newest_is) span.0)
-    (let near : pos (unwrap_or c.newest 0) <ℤ (number base pair +ℤ pos 32768) = subst (λ m. pos (unwrap_or m 0) <ℤ (number base pair +ℤ pos 32768)) (sym h.newest_is) span.1 in omega (arith, ints, near))
+    (subst (λ m. number base pair <ℤ (pos (unwrap_or m 0) +ℤ pos 32768)) (sym same) span.0)
+    (let near : pos (unwrap_or c.newest 0) <ℤ (number base pair +ℤ pos 32768) = subst (λ m. pos (unwrap_or m 0) <ℤ (number base pair +ℤ pos 32768)) (sym same) span.1 in omega (arith, ints, near))
+
+pub number_is : (carry : Carry) (packets : List (List ℕ)) (sequence0 window reach : ℕ) (base : ℤ) (c : State) (pairs : List (ℕ × ℕ)) (pair : ℕ × ℕ) (rest : List (ℕ × ℕ)) (incoming : Incoming)
+    → IsAfter carry packets window base pairs c
+    → IsBase sequence0 c.first (pair ∷ rest) base → IsWithinSpan reach base (newest_of base None pairs) (pair ∷ rest)
+    → incoming.sequence ≡ sequence_at sequence0 pair.0 → number_of c incoming ≡ number base pair
+number_is carry packets sequence0 window reach base c pairs pair rest incoming h b span s =
+    number_by sequence0 reach base (newest_of base None pairs) c pair rest incoming h.newest_is b span s
+
+-- and within the reach of its newest number no datagram is far
+pub near_is : (c : State) (n : ℤ) (reach : ℕ) → c.reach ≡ reach → IfSome c.newest (λ m. n ≤ℤ pos (m + reach)) → is_far c n ≡ false
+near_is c (negsuc n) reach r near = refl
+near_is c (pos n) reach r near = by c.newest near
+  where
+    by : (m : Option ℕ) → IfSome m (λ k. pos n ≤ℤ pos (k + reach)) → is_above m c.reach n ≡ false
+    by None near = refl
+    by (Some m) near = le-ltb (m + c.reach) n (omega (arith, ints, r, near))

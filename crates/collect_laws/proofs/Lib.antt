@@ -26,3 +26,4 @@ pub mod SentCollected
 pub mod Fit
 pub mod Refusals
 pub mod AtOnce
+pub mod Following

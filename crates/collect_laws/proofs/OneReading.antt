@@ -9,7 +9,7 @@ use Rattle.dcp_pft.specs.Faults.{table}
 use Rattle.dcp_pft.proofs.Table.{one_first, none_first}
 use Rattle.dcp_pft.proofs.Answered.{none_holds, is_fragment_at, placed_at}
 use Rattle.dcp_collect.specs.declared.taken.Field.{Field}
-use Rattle.dcp_collect.specs.declared.taken.Field.TheVariants.{Sync, Af, Pft, Large}
+use Rattle.dcp_collect.specs.declared.taken.Field.TheVariants.{Sync, Af, Pft, Large, Far}
 use Rattle.dcp_collect.specs.Reading.{Incoming, Unread, Brings, whole_packet, fragment_of, IsIncoming, IsRead}
 use Rattle.collect_laws.specs.Laws.{OneReading}
 
@@ -48,24 +48,30 @@ no_refusal a (Pft fault) bytes (inl (af, is, few, e)) k = apart bytes (af_begins
 no_refusal a (Pft fault) bytes (inr (f, is, e)) k = none_first table fault bytes (none_holds f bytes is) k.1
 no_refusal a Large bytes (inl (af, is, few, e)) k = absurd (omega (arith, few, k.2))
 no_refusal a Large bytes (inr (f, is, e)) k = apart bytes (af_begins k.0 bytes k.1) (pft_begins f bytes is)
+no_refusal a Far bytes is k = k
 
 one_refusal : (a b : Field) (bytes : List ℕ) → IsRead (Unread a) bytes → IsRead (Unread b) bytes → b ≡ a
 one_refusal Sync Sync bytes h k = refl
 one_refusal Sync (Af g) bytes h k = absurd (h.0 k.0)
 one_refusal Sync (Pft g) bytes h k = absurd (h.1 k.0)
 one_refusal Sync Large bytes h k = absurd (h.0 (af_begins k.0 bytes k.1))
+one_refusal Sync Far bytes h k = absurd k
 one_refusal (Af f) Sync bytes h k = absurd (k.0 h.0)
 one_refusal (Af f) (Af g) bytes h k = ap Af (one_fault g f bytes k.1 h.1)
 one_refusal (Af f) (Pft g) bytes h k = absurd (apart bytes h.0 k.0)
 one_refusal (Af f) Large bytes h k = absurd (no_fault k.0 f bytes k.1 h.1)
+one_refusal (Af f) Far bytes h k = absurd k
 one_refusal (Pft f) Sync bytes h k = absurd (k.1 h.0)
 one_refusal (Pft f) (Af g) bytes h k = absurd (apart bytes k.0 h.0)
 one_refusal (Pft f) (Pft g) bytes h k = ap Pft (one_first table g f bytes k.1 h.1)
 one_refusal (Pft f) Large bytes h k = absurd (apart bytes (af_begins k.0 bytes k.1) h.0)
+one_refusal (Pft f) Far bytes h k = absurd k
 one_refusal Large Sync bytes h k = absurd (k.0 (af_begins h.0 bytes h.1))
 one_refusal Large (Af g) bytes h k = absurd (no_fault h.0 g bytes h.1 k.1)
 one_refusal Large (Pft g) bytes h k = absurd (apart bytes (af_begins h.0 bytes h.1) k.0)
 one_refusal Large Large bytes h k = refl
+one_refusal Large Far bytes h k = absurd k
+one_refusal Far b bytes h k = absurd h
 
 pub one_reading : OneReading
 one_reading bytes (Unread a) (Unread b) h k = ap Unread (one_refusal a b bytes h k)

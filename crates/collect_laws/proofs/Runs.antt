@@ -5,7 +5,7 @@ use Rattle.dcp_collect.specs.declared.taken.Taken.{Taken}
 use Rattle.dcp_collect.specs.State.{State, ready, after_item}
 use Rattle.dcp_collect.specs.Runs.{Item, IsItem, Takes, Gives, Steps}
 use Rattle.collect_laws.specs.Laws.{Given, StepsJoin, StepsPart, StepsCount}
-use Rattle.collect_laws.proofs.Stays.{take_next}
+use Rattle.collect_laws.proofs.Stays.{take_next, take_reach}
 
 -- one item more
 pub given_more : (items : List Item) (c d : State) (item : Item)
@@ -77,6 +77,24 @@ steps_part c after (datagram ∷ before) later (a ∷ answers) given (now, more,
 pub gives_count : (items : List Item) (c d : State) → Gives c items d → d.next ≡ c.next + length items
 gives_count [] c d g = ap (λ m. m.next) g.1 ∙ omega arith
 gives_count (first ∷ items) c d g = gives_count items (after_item c) d g.2 ∙ omega arith
+
+-- ---- the reach stays as it is
+
+pub gives_reach : (items : List Item) (c d : State) → Gives c items d → d.reach ≡ c.reach
+gives_reach [] c d g = ap (λ m. m.reach) g.1
+gives_reach (first ∷ items) c d g = gives_reach items (after_item c) d g.2
+
+pub takes_reach : (c kept : State) (datagram : List ℕ) (a : Taken) → Takes c datagram a kept → kept.reach ≡ c.reach
+takes_reach c kept datagram a takes = ap (λ m. m.reach) takes.after_is ∙ take_reach c takes.read
+
+pub steps_reach : (c d : State) (datagrams : List (List ℕ)) (answers : List Taken) (given : List Item) → Steps c datagrams answers given d → d.reach ≡ c.reach
+steps_reach c d [] [] given s = ap (λ m. m.reach) s.1
+steps_reach c d [] (a ∷ answers) given s = absurd s
+steps_reach c d (datagram ∷ datagrams) [] given s = absurd s
+steps_reach c d (datagram ∷ datagrams) (a ∷ answers) given (now, more, kept, mid, takes, gives, steps, are) =
+    steps_reach mid d datagrams answers more steps ∙ (gives_reach now kept mid gives ∙ takes_reach c kept datagram a takes)
+
+-- ---- the number of each item
 
 pub steps_count : StepsCount
 steps_count c after [] [] given s =

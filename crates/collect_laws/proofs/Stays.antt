@@ -24,6 +24,9 @@ next_stays c n incoming a = after_by (λ d. d.next ≡ c.next) c n incoming a re
 pub end_stays : (c : State) (n : ℤ) (incoming : Incoming) (a : Taken) → (after_answer c n incoming a).end ≡ c.end
 end_stays c n incoming a = after_by (λ d. d.end ≡ c.end) c n incoming a refl (λ m. refl)
 
+pub reach_stays : (c : State) (n : ℤ) (incoming : Incoming) (a : Taken) → (after_answer c n incoming a).reach ≡ c.reach
+reach_stays c n incoming a = after_by (λ d. d.reach ≡ c.reach) c n incoming a refl (λ m. refl)
+
 pub first_stays : (c : State) (n : ℤ) (incoming : Incoming) (a : Taken) (first : ℕ) → c.first ≡ Some first → (after_answer c n incoming a).first ≡ Some first
 first_stays c n incoming a first e =
     after_by (λ d. d.first ≡ Some first) c n incoming a e (λ m. ap (λ o. Some (unwrap_or o incoming.sequence)) e)
@@ -50,3 +53,8 @@ take_next c (Brings incoming) = next_stays c (number_of c incoming) incoming (an
 pub take_end : (c : State) (read : Read) → (after_take c read).end ≡ c.end
 take_end c (Unread field) = refl
 take_end c (Brings incoming) = end_stays c (number_of c incoming) incoming (answer c (Brings incoming))
+
+-- and the reach
+pub take_reach : (c : State) (read : Read) → (after_take c read).reach ≡ c.reach
+take_reach c (Unread field) = refl
+take_reach c (Brings incoming) = reach_stays c (number_of c incoming) incoming (answer c (Brings incoming))

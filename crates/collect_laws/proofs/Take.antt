@@ -7,12 +7,13 @@ use Rattle.dcp_pft.specs.Loss.{size}
 use Rattle.dcp_collect.specs.declared.taken.Taken.TheVariants.{Repeated, Late}
 use Rattle.dcp_collect.specs.Fragments.{Fragment, agree, has_index, suffice, of_packet}
 use Rattle.dcp_collect.specs.Reading.{Incoming}
-use Rattle.dcp_collect.specs.State.{State, reached, is_late, answer_by, answer_at, insert_kept, kept_at, after_answer}
+use Rattle.dcp_collect.specs.State.{State, reached, is_far, is_late, answer_by, answer_at, insert_kept, kept_at, after_answer}
 use Rattle.dcp_collect.specs.Numbers.{newer, end_of}
 use Rattle.dcp_pft.specs.declared.carry.Carry.{Carry}
 use Rattle.collect_laws.specs.Delivery.{packet_at, number, is_number, got, newer_number, newest_of}
 use Rattle.collect_laws.specs.Laws.{IsRight}
 use Rattle.collect_laws.proofs.Sent.{datagrams_of, head_of, IsPayload, IsOf, IsCut}
+use Rattle.dcp_collect.proofs.Answering.{not_far}
 use Rattle.dcp_collect.proofs.Sets.{size_more}
 use Rattle.dcp_collect.proofs.Lists.{all_weaker, all_insert, count_insert, insert_other, has_inserted}
 use Rattle.collect_laws.proofs.Ordered.{ordered_insert, others_of}
@@ -204,8 +205,9 @@ module _ (carry : Carry) (packets : List (List ℕ)) (window : ℕ) (base : ℤ)
       (kept_new (sym (closed_same carry packets window base pairs c h n) ∙ p.0) (ltb-false n c.next r.0) (sym d) (sym a), tt)
 
   -- a datagram that is taken: the collector is that of one pair more, and its fragment was consistent
-  pub take_pos : n < 2 ^ 62
+  pub take_pos : n < 2 ^ 62 → is_far c (pos n) ≡ false
       → IsAfter carry packets window base (pairs ++ pair ∷ []) (after_answer c (pos n) incoming (answer_at c (pos n) incoming.head)) × IsRight (answer_at c (pos n) incoming.head)
-  take_pos small =
-      by_tests (is_late c n) (suffice (of_packet n c.kept)) (has_index (of_packet n c.kept) incoming.head.index)
-      (find (λ f. not (agree f.head incoming.head)) (of_packet n c.kept)) small refl refl refl refl
+  take_pos small near =
+      subst (λ a. IsAfter carry packets window base (pairs ++ pair ∷ []) (after_answer c (pos n) incoming a) × IsRight a) (sym (not_far c (pos n) incoming.head near))
+      (by_tests (is_late c n) (suffice (of_packet n c.kept)) (has_index (of_packet n c.kept) incoming.head.index)
+      (find (λ f. not (agree f.head incoming.head)) (of_packet n c.kept)) small refl refl refl refl)

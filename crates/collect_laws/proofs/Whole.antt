@@ -1,6 +1,6 @@
 -- Whole runs: from the calls of a collector to the items of a delivery.
-use Rattle.std.proofs.Common.{ℕ, zero, suc, ◌≡◌, ◌<◌, ◌≤◌, false, List, [], ◌∷◌, ◌++◌, length, Option, Some, None, inr, refl, sym, ap, ◌∙◌, subst, append_assoc, arith}
-use Rattle.std.specs.Prelude.{ℤ, pos, negsuc, ◌+ℤ◌, ◌<ℤ◌, slice_get}
+use Rattle.std.proofs.Common.{ℕ, zero, suc, ◌≡◌, ◌+◌, ◌<◌, ◌≤◌, false, List, [], ◌∷◌, ◌++◌, length, Option, Some, None, inr, refl, sym, ap, ◌∙◌, subst, append_assoc, arith}
+use Rattle.std.specs.Prelude.{ℤ, pos, negsuc, ◌+ℤ◌, ◌<ℤ◌, ◌≤ℤ◌, slice_get, IfSome}
 use Rattle.std.specs.List.{AllByRecursion, AllZip}
 use Rattle.std.proofs.lemmas.Int.{ints}
 use Rattle.std.proofs.lemmas.List.{append-nil}
@@ -10,7 +10,7 @@ use Rattle.dcp_pft.specs.Loss.{size}
 use Rattle.dcp_collect.specs.declared.taken.Taken.{Taken}
 use Rattle.dcp_collect.specs.declared.taken.Taken.TheVariants.{Kept}
 use Rattle.dcp_collect.specs.Reading.{Incoming, Brings}
-use Rattle.dcp_collect.specs.State.{State, made, number_of, answer, answer_at, after_answer, after_take, after_finish}
+use Rattle.dcp_collect.specs.State.{State, made, is_far, number_of, answer, answer_at, after_answer, after_take, after_finish}
 use Rattle.dcp_collect.specs.Numbers.{end_of}
 use Rattle.dcp_collect.specs.Runs.{Item, Takes, Gives, Steps, Run, up_to}
 use Rattle.dcp_pft.specs.declared.carry.Carry.{Carry}
@@ -22,7 +22,8 @@ use Rattle.collect_laws.proofs.Stays.{next_stays, end_stays, below_after, fresh_
 use Rattle.collect_laws.proofs.After.{IsAfter}
 use Rattle.collect_laws.proofs.Take.{before_all, take_pos}
 use Rattle.collect_laws.proofs.Going.{first_items, IsOpen, gives_during, gives_to_end}
-use Rattle.collect_laws.proofs.Based.{kept_first, nothing_kept, base_after, number_is}
+use Rattle.collect_laws.proofs.Based.{kept_first, nothing_kept, base_after, number_is, near_is}
+use Rattle.collect_laws.proofs.Runs.{gives_reach, takes_reach}
 
 -- each packet is cut as it is to be
 abbrev AreCut : Carry → List (List ℕ) → Type 0
@@ -33,20 +34,20 @@ cut_at : (carry : Carry) (packets : List (List ℕ)) (z : ℤ) (packet : List �
 cut_at carry packets (pos p) packet cuts e = cuts p packet e
 cut_at carry packets (negsuc p) packet cuts e = absurd (let x : None ≡ Some packet = e in cc)
 
-module _ (carry : Carry) (packets : List (List ℕ)) (sequence0 window : ℕ) (base : ℤ) (some : 1 ≤ window)
+module _ (carry : Carry) (packets : List (List ℕ)) (sequence0 window reach : ℕ) (base : ℤ) (some : 1 ≤ window)
     (few : length packets ≤ 3000000) (cuts : AreCut carry packets) (low : pos 0 <ℤ (base +ℤ pos 32768)) where
   taken : (c : State) (pairs : List (ℕ × ℕ)) (pair : ℕ × ℕ) (incoming : Incoming) (packet : List ℕ) → IsOpen carry packets window base pairs c
       → slice_get packets pair.0 ≡ Some packet → pair.1 < datagrams_of carry packet
       → incoming.head ≡ head_of carry packet pair.1 → IsPayload carry packet pair.1 incoming.payload
-      → (z : ℤ) → number base pair ≡ z
+      → (z : ℤ) → number base pair ≡ z → is_far c z ≡ false
       → IsAfter carry packets window base (pairs ++ pair ∷ []) (after_answer c z incoming (answer_at c z incoming.head)) × IsRight (answer_at c z incoming.head)
-  taken c pairs pair incoming packet o at in' head_is payload_is (negsuc n) e = (before_all carry packets window base pairs c o.is_after pair n e, tt)
-  taken c pairs pair incoming packet o at in' head_is payload_is (pos n) e =
+  taken c pairs pair incoming packet o at in' head_is payload_is (negsuc n) e near = (before_all carry packets window base pairs c o.is_after pair n e, tt)
+  taken c pairs pair incoming packet o at in' head_is payload_is (pos n) e near =
       let place : (base +ℤ pos n) ≡ pos pair.0 = omega (arith, ints, e) in
       let there : packet_at packets (base +ℤ pos n) ≡ Some packet = ap (packet_at packets) place ∙ at in
       let p : pair.0 < length packets = slice_get_within packets pair.0 packet at in
       take_pos carry packets window base pairs c o.is_after pair incoming n packet (cuts pair.0 packet at) some o.below e there in' head_is payload_is
-      (omega (arith, ints, e, low))
+      (omega (arith, ints, e, low)) near
 
   -- where no sequence number is known yet, the datagram is kept under number 0
   first_kept : (c : State) (pairs : List (ℕ × ℕ)) (pair : ℕ × ℕ) (rest : List (ℕ × ℕ)) (incoming : Incoming) → IsOpen carry packets window base pairs c
@@ -62,15 +63,19 @@ module _ (carry : Carry) (packets : List (List ℕ)) (sequence0 window : ℕ) (b
 
   -- the collector after one datagram more
   step : (c : State) (pairs : List (ℕ × ℕ)) (pair : ℕ × ℕ) (rest : List (ℕ × ℕ)) (datagram : List ℕ) → IsOpen carry packets window base pairs c
-      → (brings : BringsPair carry sequence0 packets pair datagram) → IsBase sequence0 c.first (pair ∷ rest) base → IsWithinSpan base (newest_of base None pairs) (pair ∷ rest)
+      → (brings : BringsPair carry sequence0 packets pair datagram) → IsBase sequence0 c.first (pair ∷ rest) base → c.reach ≡ reach
+      → IsWithinSpan reach base (newest_of base None pairs) (pair ∷ rest)
       → IsOpen carry packets window base (pairs ++ pair ∷ []) (after_take c (Brings brings.incoming))
       × IsRight (answer c (Brings brings.incoming))
       × IsBase sequence0 (after_take c (Brings brings.incoming)).first rest base
       × ((after_take c (Brings brings.incoming)).next ≡ c.next)
-  step c pairs pair rest datagram o brings b span =
+  step c pairs pair rest datagram o brings b r span =
       let v = brings.incoming in
-      let num : number_of c v ≡ number base pair = number_is carry packets sequence0 window base c pairs pair rest v o.is_after b span brings.sequence in
-      let t = taken c pairs pair v brings.packet o brings.at brings.within brings.head brings.payload (number_of c v) (sym num) in (
+      let num : number_of c v ≡ number base pair = number_is carry packets sequence0 window reach base c pairs pair rest v o.is_after b span brings.sequence in
+      let near : is_far c (number_of c v) ≡ false
+      = subst (λ z. is_far c z ≡ false) (sym num)
+      (near_is c (number base pair) reach r (subst (λ m. IfSome m (λ n. number base pair ≤ℤ pos (n + reach))) (sym o.is_after.newest_is) span.2)) in
+      let t = taken c pairs pair v brings.packet o brings.at brings.within brings.head brings.payload (number_of c v) (sym num) near in (
         record {
           is_after = t.0;
           no_end = end_stays c (number_of c v) v (answer c (Brings v)) ∙ o.no_end;
@@ -86,22 +91,22 @@ module _ (carry : Carry) (packets : List (List ℕ)) (sequence0 window : ℕ) (b
     -- however it was read
     step_by : (c d : State) (a : Taken) (pairs : List (ℕ × ℕ)) (pair : ℕ × ℕ) (rest : List (ℕ × ℕ)) (datagram : List ℕ) → Takes c datagram a d
         → IsOpen carry packets window base pairs c → BringsPair carry sequence0 packets pair datagram
-        → IsBase sequence0 c.first (pair ∷ rest) base → IsWithinSpan base (newest_of base None pairs) (pair ∷ rest)
+        → IsBase sequence0 c.first (pair ∷ rest) base → c.reach ≡ reach → IsWithinSpan reach base (newest_of base None pairs) (pair ∷ rest)
         → IsOpen carry packets window base (pairs ++ pair ∷ []) d × IsRight a × IsBase sequence0 d.first rest base × (d.next ≡ c.next)
-    step_by c d a pairs pair rest datagram takes o brings b span =
+    step_by c d a pairs pair rest datagram takes o brings b r span =
         let e : takes.read ≡ Brings brings.incoming = one_reading datagram (Brings brings.incoming) takes.read brings.is_read takes.is_read in
         let now : d ≡ after_take c (Brings brings.incoming) = takes.after_is ∙ ap (after_take c) e in
         let told : a ≡ answer c (Brings brings.incoming) = takes.taken_is ∙ ap (answer c) e in
-        let s = step c pairs pair rest datagram o brings b span in
+        let s = step c pairs pair rest datagram o brings b r span in
         subst (λ x. IsOpen carry packets window base (pairs ++ pair ∷ []) x × IsRight a × IsBase sequence0 x.first rest base × (x.next ≡ c.next)) (sym now)
         (s.0, subst IsRight (sym told) s.1, s.2, s.3)
 
     steps_are : (rest pairs all : List (ℕ × ℕ)) (datagrams : List (List ℕ)) (c d : State) (answers : List Taken) (given : List Item)
         → pairs ++ rest ≡ all → IsOpen carry packets window base pairs c → AllZip (BringsPair carry sequence0 packets) rest datagrams
-        → IsBase sequence0 c.first rest base → IsWithinSpan base (newest_of base None pairs) rest → Steps c datagrams answers given d
+        → IsBase sequence0 c.first rest base → c.reach ≡ reach → IsWithinSpan reach base (newest_of base None pairs) rest → Steps c datagrams answers given d
         → IsOpen carry packets window base all d × AllByRecursion IsRight answers
         × (first_items (item carry packets window base all) c.next ++ given ≡ first_items (item carry packets window base all) d.next)
-    steps_are [] pairs all [] c d [] given e o z b span run =
+    steps_are [] pairs all [] c d [] given e o z b r span run =
         let same : pairs ≡ all = sym (append-nil pairs) ∙ e in (
           subst (λ x. IsOpen carry packets window base x d) same (subst (λ x. IsOpen carry packets window base pairs x) (sym run.1) o),
           tt,
@@ -109,18 +114,19 @@ module _ (carry : Carry) (packets : List (List ℕ)) (sequence0 window : ℕ) (b
               ∙ append-nil (first_items (item carry packets window base all) c.next)
               ∙ ap (λ x. first_items (item carry packets window base all) x.next) (sym run.1),
         )
-    steps_are [] pairs all [] c d (a ∷ answers) given e o z b span run = absurd run
-    steps_are [] pairs all (datagram ∷ datagrams) c d answers given e o z b span run = absurd z
-    steps_are (pair ∷ rest) pairs all [] c d answers given e o z b span run = absurd z
-    steps_are (pair ∷ rest) pairs all (datagram ∷ datagrams) c d [] given e o z b span run = absurd run
-    steps_are (pair ∷ rest) pairs all (datagram ∷ datagrams) c d (a ∷ answers) given e o z b span (now, later, kept, mid, takes, gives, steps, are) =
+    steps_are [] pairs all [] c d (a ∷ answers) given e o z b r span run = absurd run
+    steps_are [] pairs all (datagram ∷ datagrams) c d answers given e o z b r span run = absurd z
+    steps_are (pair ∷ rest) pairs all [] c d answers given e o z b r span run = absurd z
+    steps_are (pair ∷ rest) pairs all (datagram ∷ datagrams) c d [] given e o z b r span run = absurd run
+    steps_are (pair ∷ rest) pairs all (datagram ∷ datagrams) c d (a ∷ answers) given e o z b r span (now, later, kept, mid, takes, gives, steps, are) =
         let I : ℕ → Item = item carry packets window base all in
-        let st = step_by c kept a pairs pair rest datagram takes o z.0 b span in
+        let st = step_by c kept a pairs pair rest datagram takes o z.0 b r span in
         let during = gives_during carry packets window base (λ q packet at. cut_at carry packets (base +ℤ pos q) packet cuts at) (pairs ++ pair ∷ []) rest now kept mid st.0 gives in
         let joined : (pairs ++ pair ∷ []) ++ rest ≡ all = append_assoc pairs (pair ∷ []) rest ∙ e in
         let more = steps_are rest (pairs ++ pair ∷ []) all datagrams mid d answers later joined during.0 z.1
         (subst (λ f. IsBase sequence0 f rest base) (sym during.1) st.2)
-        (subst (λ m. IsWithinSpan base m rest) (sym (newest_last base None pairs pair)) span.2) steps in
+        (gives_reach now kept mid gives ∙ (takes_reach c kept datagram a takes ∙ r))
+        (subst (λ m. IsWithinSpan reach base m rest) (sym (newest_last base None pairs pair)) span.3) steps in
         let given_now : first_items I c.next ++ now ≡ first_items I mid.next
         = subst (λ n. first_items I n ++ now ≡ first_items I mid.next) st.3
         (subst (λ xs. first_items (item carry packets window base xs) kept.next ++ now ≡ first_items (item carry packets window base xs) mid.next) joined during.2) in (
@@ -134,8 +140,8 @@ unfolding size
 size_none zero = refl
 size_none (suc n) = omega (arith, size_none n)
 
-open_made : (carry : Carry) (packets : List (List ℕ)) (window : ℕ) (base : ℤ) (first : Option ℕ) → IsOpen carry packets window base [] (made window first)
-open_made carry packets window base first = record {
+open_made : (carry : Carry) (packets : List (List ℕ)) (window reach : ℕ) (base : ℤ) (first : Option ℕ) → IsOpen carry packets window base [] (made window reach first)
+open_made carry packets window reach base first = record {
   is_after = record {
     window_is = refl;
     newest_is = refl;
@@ -175,24 +181,24 @@ ended carry packets window told base cuts pairs before rest given mid after o be
     ∙ ap (λ m. first_items (item carry packets window base pairs) (end_of told m)) o.is_after.newest_is
 
 -- Every run over the datagrams of a delivery gives its items, and finds no datagram refused or inconsistent.
-pub collecting_by : (one_reading : OneReading) (carry : Carry) (sequence0 window : ℕ) (packets : List (List ℕ)) (first told : Option ℕ) (base : ℤ)
+pub collecting_by : (one_reading : OneReading) (carry : Carry) (sequence0 window reach : ℕ) (packets : List (List ℕ)) (first told : Option ℕ) (base : ℤ)
     (pairs : List (ℕ × ℕ)) (datagrams : List (List ℕ)) (answers : List Taken) (given : List Item)
     → 1 ≤ window → length packets ≤ 3000000
     → ((p : ℕ) (packet : List ℕ) → slice_get packets p ≡ Some packet → IsCut carry packet)
-    → AllZip (BringsPair carry sequence0 packets) pairs datagrams → IsBase sequence0 first pairs base → IsWithinSpan base None pairs
-    → Run window first told datagrams answers given
+    → AllZip (BringsPair carry sequence0 packets) pairs datagrams → IsBase sequence0 first pairs base → IsWithinSpan reach base None pairs
+    → Run window reach first told datagrams answers given
     → (given ≡ items carry packets window base told pairs) × AllByRecursion IsRight answers
-collecting_by one_reading carry sequence0 window packets first told base [] [] [] given some few cuts z b span run = (
+collecting_by one_reading carry sequence0 window reach packets first told base [] [] [] given some few cuts z b span run = (
   ended carry packets window told base cuts [] run.during run.rest given run.mid run.after
-      (subst (λ c. IsOpen carry packets window base [] c) (sym run.steps.1) (open_made carry packets window base first))
+      (subst (λ c. IsOpen carry packets window base [] c) (sym run.steps.1) (open_made carry packets window reach base first))
       (run.steps.0 ∙ ap (λ c. first_items (item carry packets window base []) c.next) (sym run.steps.1)) run.gives run.are,
   tt,
 )
-collecting_by one_reading carry sequence0 window packets first told base [] [] (a ∷ answers) given some few cuts z b span run = absurd run.steps
-collecting_by one_reading carry sequence0 window packets first told base [] (datagram ∷ datagrams) answers given some few cuts z b span run = absurd z
-collecting_by one_reading carry sequence0 window packets first told base (pair ∷ pairs) datagrams answers given some few cuts z b span run =
+collecting_by one_reading carry sequence0 window reach packets first told base [] [] (a ∷ answers) given some few cuts z b span run = absurd run.steps
+collecting_by one_reading carry sequence0 window reach packets first told base [] (datagram ∷ datagrams) answers given some few cuts z b span run = absurd z
+collecting_by one_reading carry sequence0 window reach packets first told base (pair ∷ pairs) datagrams answers given some few cuts z b span run =
     let p = span.0 in
     let low : pos 0 <ℤ (base +ℤ pos 32768) = omega (arith, ints, p) in
-    let st = steps_are carry packets sequence0 window base some few cuts low one_reading (pair ∷ pairs) [] (pair ∷ pairs) datagrams (made window first) run.mid answers run.during refl
-    (open_made carry packets window base first) z b span run.steps in
+    let st = steps_are carry packets sequence0 window reach base some few cuts low one_reading (pair ∷ pairs) [] (pair ∷ pairs) datagrams (made window reach first) run.mid answers run.during refl
+    (open_made carry packets window reach base first) z b refl span run.steps in
     (ended carry packets window told base cuts (pair ∷ pairs) run.during run.rest given run.mid run.after st.0 st.2 run.gives run.are, st.1)

@@ -1,13 +1,14 @@
 -- The laws of collecting.
-use Rattle.std.specs.Prelude.{ℕ, ℤ, pos, ◌+ℤ◌, ◌*ℤ◌, ◌<ℤ◌, ◌≡◌, ◌+◌, ◌≤◌, ◌↔◌, true, List, [], ◌∷◌, ◌++◌, length, Option, None, Some}
+use Rattle.std.specs.Prelude.{ℕ, ℤ, pos, ◌+ℤ◌, ◌*ℤ◌, ◌<ℤ◌, ◌≡◌, ◌+◌, ◌≤◌, ◌↔◌, true, List, [], ◌∷◌, ◌++◌, length, Option, None, Some, IfSome}
 use Rattle.std.specs.List.{AllByRecursion}
 use Rattle.drm_bits.specs.Bits.{IsBytes}
 use Rattle.dcp_pft.specs.Loss.{size}
 use Rattle.dcp_collect.specs.declared.taken.Field.{Field}
+use Rattle.dcp_collect.specs.declared.taken.Field.TheVariants.{Far}
 use Rattle.dcp_collect.specs.declared.taken.Taken.{Taken}
 use Rattle.dcp_collect.specs.declared.taken.Taken.TheVariants.{Kept, Repeated, Late, Refused}
-use Rattle.dcp_collect.specs.Reading.{Read, Unread, IsRead}
-use Rattle.dcp_collect.specs.State.{State, made, ready, after_item, nearest}
+use Rattle.dcp_collect.specs.Reading.{Incoming, Read, Unread, Brings, IsRead}
+use Rattle.dcp_collect.specs.State.{State, made, is_far, number_of, answer_within, ready, after_item, nearest}
 use Rattle.dcp_collect.specs.Runs.{Item, Packet, IsItem, Takes, Gives, Steps, Run}
 use Rattle.dcp_pft.specs.declared.carry.Carry.{Carry}
 use Rattle.dcp_pft.specs.Carrying.{shape_under, losses}
@@ -45,26 +46,38 @@ IsRight Repeated = Unit {0}
 IsRight Late = Unit {0}
 IsRight other = ⊥
 
--- Whether a datagram is refused, and why, lies in its bytes alone, whatever the collector; and the collector stays as it was.
+-- A datagram has cause to be refused: it can be read and is far, or it can't be read, which lies in its bytes alone.
+abbrev pub HasCause : State → Field → List ℕ → Type 0
+HasCause c Far datagram = (incoming : Incoming) × IsRead (Brings incoming) datagram × (is_far c (number_of c incoming) ≡ true)
+HasCause c cause datagram = IsRead (Unread cause) datagram
+
+-- What has cause to be refused is, and nothing else; and the collector stays as it was.
 abbrev pub Refusing : Type 0
 Refusing =
     (c after : State) (datagram : List ℕ) (taken : Taken) (cause : Field) → Takes c datagram taken after
-    → (IsRead (Unread cause) datagram ↔ (taken ≡ Refused cause)) × (taken ≡ Refused cause → after ≡ c)
+    → (HasCause c cause datagram ↔ (taken ≡ Refused cause)) × (taken ≡ Refused cause → after ≡ c)
+
+-- With the greatest reach nothing is far: what can be read is answered as if there were none.
+abbrev pub ReachingAll : Type 0
+ReachingAll =
+    (c after : State) (datagram : List ℕ) (taken : Taken) → 32767 ≤ c.reach → Takes c datagram taken after
+    → (taken ≡ Refused Far → ⊥)
+    × ((incoming : Incoming) → IsRead (Brings incoming) datagram → taken ≡ answer_within c (number_of c incoming) incoming.head)
 
 -- a delivery of sent packets, within the span
-pub record IsHeard (carry : Carry) (sequence0 : ℕ) (packets : List (List ℕ)) (first : Option ℕ) (base : ℤ) (pairs : List (ℕ × ℕ)) (datagrams : List (List ℕ)) : Type 0 where
+pub record IsHeard (carry : Carry) (sequence0 : ℕ) (packets : List (List ℕ)) (reach : ℕ) (first : Option ℕ) (base : ℤ) (pairs : List (ℕ × ℕ)) (datagrams : List (List ℕ)) : Type 0 where
   pub sent : AreSent carry sequence0 packets
   pub delivered : AreDelivered carry sequence0 packets pairs datagrams
   pub based : IsBase sequence0 first pairs base
-  pub within_span : IsWithinSpan base None pairs
+  pub within_span : IsWithinSpan reach base None pairs
 
 -- Every run over a delivery gives its items, each once and in order, and finds no datagram refused or inconsistent.
 abbrev pub Collecting : Type 0
 Collecting =
-    (carry : Carry) (sequence0 window : ℕ) (packets : List (List ℕ)) (first told : Option ℕ) (base : ℤ)
+    (carry : Carry) (sequence0 window reach : ℕ) (packets : List (List ℕ)) (first told : Option ℕ) (base : ℤ)
     (pairs : List (ℕ × ℕ)) (datagrams : List (List ℕ)) (answers : List Taken) (given : List Item)
-    → 1 ≤ window → IsHeard carry sequence0 packets first base pairs datagrams
-    → Run window first told datagrams answers given
+    → 1 ≤ window → IsHeard carry sequence0 packets reach first base pairs datagrams
+    → Run window reach first told datagrams answers given
     → (given ≡ items carry packets window base told pairs) × AllByRecursion IsRight answers
 
 -- The item of a packet that lost no more datagrams than it was cut for, and whose others came within the window, is the
@@ -121,14 +134,16 @@ GivingEnds =
     (c : State) → 1 ≤ c.window → AllByRecursion (λ f. IsBytes f.payload) c.kept
     → (given : List Item) × (after : State) × Gives c given after
 
--- so many items one datagram brings at most: it can be newer by 32,767, and as many as the window are waited for
+-- So many items one datagram brings at most: it can be newer by 32,767, and as many as the window are waited for. Once
+-- something was kept, it can be newer by the reach.
 abbrev pub most_at_once : ℕ → ℕ
 most_at_once window = 32767 + window
 
 -- what is given after one more datagram, whatever the datagrams before it
 abbrev pub FewAtOnce : Type 0
 FewAtOnce =
-    (window : ℕ) (first : Option ℕ) (datagrams : List (List ℕ)) (answers : List Taken) (given : List Item) (mid : State)
+    (window reach : ℕ) (first : Option ℕ) (datagrams : List (List ℕ)) (answers : List Taken) (given : List Item) (mid : State)
     (datagram : List ℕ) (taken : Taken) (kept : State) (items : List Item) (after : State)
-    → 1 ≤ window → Steps (made window first) datagrams answers given mid
-    → Takes mid datagram taken kept → Gives kept items after → length items ≤ most_at_once window
+    → 1 ≤ window → Steps (made window reach first) datagrams answers given mid
+    → Takes mid datagram taken kept → Gives kept items after
+    → (length items ≤ most_at_once window) × IfSome mid.newest (λ n. length items ≤ reach + window)

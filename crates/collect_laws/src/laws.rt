@@ -1,6 +1,6 @@
 //! The laws of collecting, each on a function that does nothing.
 
-ghost use Rattle.collect_laws.specs.Laws.{OneNearest, OneReading, Refusing, Collecting, InTime, OneRun, OneGiving, StepsJoin, StepsPart, StepsCount, GivingEnds, FewAtOnce};
+ghost use Rattle.collect_laws.specs.Laws.{OneNearest, OneReading, Refusing, ReachingAll, Collecting, InTime, OneRun, OneGiving, StepsJoin, StepsPart, StepsCount, GivingEnds, FewAtOnce};
 
 /// A datagram is read as one thing.
 pub fn one_reading()
@@ -12,9 +12,14 @@ pub fn one_nearest()
     ensures { OneNearest }
 {}
 
-/// What one collector refuses, every collector refuses, and stays as it was.
+/// What can't be read every collector refuses, and what is far the one for which it is; and stays as it was.
 pub fn refusing()
     ensures { Refusing }
+{}
+
+/// With the greatest reach a collector answers as if it had none.
+pub fn reaching_all()
+    ensures { ReachingAll }
 {}
 
 /// Every run gives the items of its delivery, each once and in order.
@@ -57,7 +62,7 @@ pub fn giving_ends()
     ensures { GivingEnds }
 {}
 
-/// One datagram brings no more than so many items.
+/// One datagram brings no more than so many items, by the reach once something was kept.
 pub fn few_at_once()
     ensures { FewAtOnce }
 {}

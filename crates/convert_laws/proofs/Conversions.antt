@@ -29,10 +29,10 @@ captured plan carry n items parts all first converts =
     ((w.datagrams, subst (λ k. AreOfFrames (under carry plan) 0 k w.datagrams) many w.are, w.text), w.lines)
 
 -- a run over the delivery gives all packets
-run_gives : OneRun → (plan : Plan) (window : ℕ) (first told : Option ℕ) (datagrams : List (List ℕ)) (answers : List Taken) (items : List Item)
-    → IsCollected plan window first datagrams → MayBeTold plan told → Run window first told datagrams answers items → AreAll plan items
-run_gives one_run plan window first told datagrams answers items c may run =
-    let (same, given, mid) = one_run (made window first) run.mid c.mid datagrams answers c.answers run.during c.given run.steps c.steps in
+run_gives : OneRun → (plan : Plan) (window reach : ℕ) (first told : Option ℕ) (datagrams : List (List ℕ)) (answers : List Taken) (items : List Item)
+    → IsCollected plan window reach first datagrams → MayBeTold plan told → Run window reach first told datagrams answers items → AreAll plan items
+run_gives one_run plan window reach first told datagrams answers items c may run =
+    let (same, given, mid) = one_run (made window reach first) run.mid c.mid datagrams answers c.answers run.during c.given run.steps c.steps in
     let gives : Gives (after_finish c.mid told) run.rest run.after = subst (λ s. Gives (after_finish s told) run.rest run.after) (sym mid) run.gives in
     let as_given : up_to told (c.given ++ run.rest) ≡ items = ap (λ l. up_to told (l ++ run.rest)) given ∙ sym run.are in
     subst (AreAll plan) as_given (c.all told run.rest run.after may gives)
@@ -41,13 +41,13 @@ take_front : (n : ℕ) (now later rest : List Item) → n ≤ length now → tak
 take_front n now later rest enough = ap (take n) (append_assoc now later rest) ∙ take-append-le n now (later ++ rest) enough
 
 -- and so does one over a front of it that gave as many
-front_gives : GivingEnds → OneRun → StepsPart → (plan : Plan) (window : ℕ) (first : Option ℕ) (datagrams later : List (List ℕ)) (answers : List Taken) (items : List Item)
-    → IsCollected plan window first (datagrams ++ later) → (run : Run window first (Some (frame_count plan)) datagrams answers items) → frame_count plan ≤ length run.during
+front_gives : GivingEnds → OneRun → StepsPart → (plan : Plan) (window reach : ℕ) (first : Option ℕ) (datagrams later : List (List ℕ)) (answers : List Taken) (items : List Item)
+    → IsCollected plan window reach first (datagrams ++ later) → (run : Run window reach first (Some (frame_count plan)) datagrams answers items) → frame_count plan ≤ length run.during
     → AreAll plan items
-front_gives giving_ends one_run steps_part plan window first datagrams later answers items c run enough =
+front_gives giving_ends one_run steps_part plan window reach first datagrams later answers items c run enough =
     let n : ℕ = frame_count plan in
-    let (mid, replies, more, now, then_given, steps, steps_on, are_answers, are_given) = steps_part (made window first) c.mid datagrams later c.answers c.given c.steps in
-    let same : now ≡ run.during = (one_run (made window first) run.mid mid datagrams answers replies run.during now run.steps steps).1 in
+    let (mid, replies, more, now, then_given, steps, steps_on, are_answers, are_given) = steps_part (made window reach first) c.mid datagrams later c.answers c.given c.steps in
+    let same : now ≡ run.during = (one_run (made window reach first) run.mid mid datagrams answers replies run.during now run.steps steps).1 in
     let (rest, after, gives) = giving_ends (after_finish c.mid (Some n)) c.fit.0 c.fit.1 in
     let all : AreAll plan (take n (c.given ++ rest)) = c.all (Some n) rest after (inr refl) gives in
     let of_whole : take n (c.given ++ rest) ≡ take n run.during =
@@ -57,25 +57,25 @@ front_gives giving_ends one_run steps_part plan window first datagrams later ans
 
 -- the delivery is collected
 abbrev pub Collects : Type 0
-Collects = (plan : Plan) (window : ℕ) (first : Option ℕ) (arrivals : List Arrival) (datagrams : List (List ℕ)) → AllInTime plan window first arrivals datagrams
-    → IsCollected plan window first datagrams
+Collects = (plan : Plan) (window reach : ℕ) (first : Option ℕ) (arrivals : List Arrival) (datagrams : List (List ℕ)) → AllInTime plan window reach first arrivals datagrams
+    → IsCollected plan window reach first datagrams
 
 pub converting : Collects → OneRun → Converting
-converting collects one_run plan carry window n first told arrivals datagrams answers items parts whole may run is converts =
-    let c = collects plan window first arrivals datagrams whole in
-    captured plan carry n items parts (run_gives one_run plan window first told datagrams answers items c may run) is converts
+converting collects one_run plan carry window reach n first told arrivals datagrams answers items parts whole may run is converts =
+    let c = collects plan window reach first arrivals datagrams whole in
+    captured plan carry n items parts (run_gives one_run plan window reach first told datagrams answers items c may run) is converts
 
 pub converting_early : Collects → GivingEnds → OneRun → StepsPart → ConvertingEarly
-converting_early collects giving_ends one_run steps_part plan carry window n first arrivals datagrams later answers items parts whole run enough is converts =
-    let c = collects plan window first arrivals (datagrams ++ later) whole in
-    captured plan carry n items parts (front_gives giving_ends one_run steps_part plan window first datagrams later answers items c run enough) is converts
+converting_early collects giving_ends one_run steps_part plan carry window reach n first arrivals datagrams later answers items parts whole run enough is converts =
+    let c = collects plan window reach first arrivals (datagrams ++ later) whole in
+    captured plan carry n items parts (front_gives giving_ends one_run steps_part plan window reach first datagrams later answers items c run enough) is converts
 
 -- ---- by the terms of a conversion
 
 -- with the told number known
-run_as : (window : ℕ) (first told : Option ℕ) (n : ℕ) (packets : List (List ℕ)) (taken : List Taken) (items : List Item) → told ≡ Some n
-    → (run : Run window first told packets taken items) → (as_told : Run window first (Some n) packets taken items) × (as_told.during ≡ run.during)
-run_as window first told n packets taken items known run = (
+run_as : (window reach : ℕ) (first told : Option ℕ) (n : ℕ) (packets : List (List ℕ)) (taken : List Taken) (items : List Item) → told ≡ Some n
+    → (run : Run window reach first told packets taken items) → (as_told : Run window reach first (Some n) packets taken items) × (as_told.during ≡ run.during)
+run_as window reach first told n packets taken items known run = (
   record {
     during = run.during;
     rest = run.rest;
@@ -104,19 +104,19 @@ counted_from plan c (n, known, is) = ap (λ o. unwrap_or o 0 % 2 ^ 16) known ∙
 pub conversions : Collects → GivingEnds → OneReading → Refusing → OneRun → StepsPart → AllAtOnce → ConversionsAreCaptures
 conversions collects giving_ends one_reading refusing one_run steps_part at_once plan carry terms arrivals packets later parts whole may (inl none) is =
     let same : packets ++ later ≡ packets = ap (λ l. packets ++ l) none ∙ append-nil packets in
-    let all : AllInTime plan terms.window terms.first arrivals packets = subst (λ l. AllInTime plan terms.window terms.first arrivals l) same whole in
-    let first = first_of_all one_reading refusing one_run at_once plan terms.window terms.first terms.told arrivals packets is.taken is.items all is.run in
-    converting collects one_run plan carry terms.window (first_of is.run.mid) terms.first terms.told arrivals packets is.taken is.items parts all may is.run
+    let all : AllInTime plan terms.window terms.reach terms.first arrivals packets = subst (λ l. AllInTime plan terms.window terms.reach terms.first arrivals l) same whole in
+    let first = first_of_all one_reading refusing one_run at_once plan terms.window terms.reach terms.first terms.told arrivals packets is.taken is.items all is.run in
+    converting collects one_run plan carry terms.window terms.reach (first_of is.run.mid) terms.first terms.told arrivals packets is.taken is.items parts all may is.run
     (counted_from plan is.run.mid first) is.converts
 conversions collects giving_ends one_reading refusing one_run steps_part at_once plan carry terms arrivals packets later parts whole may (inr (taken, items, end, steps, full)) is =
     let (known, enough) = enough_of plan terms.told (length items) may full in
-    let (run, during) = run_as terms.window terms.first terms.told (frame_count plan) packets is.taken is.items known is.run in
-    let same : items ≡ is.run.during = (one_run (made terms.window terms.first) is.run.mid end packets is.taken taken is.run.during items is.run.steps steps).1 in
+    let (run, during) = run_as terms.window terms.reach terms.first terms.told (frame_count plan) packets is.taken is.items known is.run in
+    let same : items ≡ is.run.during = (one_run (made terms.window terms.reach terms.first) is.run.mid end packets is.taken taken is.run.during items is.run.steps steps).1 in
     let least = whole.schedule.in_lines.some_frames in
     let all : frame_count plan ≤ length run.during = omega (arith, enough, ap length same, ap length during) in
     let some : 1 ≤ length is.run.during = omega (arith, least, enough, ap length same) in
-    let first = knows_first one_reading refusing plan whole.schedule terms.window terms.first arrivals packets later is.taken is.run.during is.run.mid whole.followed is.run.steps some in
-    converting_early collects giving_ends one_run steps_part plan carry terms.window (first_of is.run.mid) terms.first arrivals packets later is.taken is.items parts whole run all
+    let first = knows_first one_reading refusing plan whole.schedule terms.window terms.reach terms.first arrivals packets later is.taken is.run.during is.run.mid whole.followed is.run.steps some in
+    converting_early collects giving_ends one_run steps_part plan carry terms.window terms.reach (first_of is.run.mid) terms.first arrivals packets later is.taken is.items parts whole run all
     (counted_from plan is.run.mid first) is.converts
 
 -- ---- of a front
@@ -127,11 +127,11 @@ first_of_all_packets plan t [] more are = tt
 first_of_all_packets plan t (item ∷ given) more are = (are.0, first_of_all_packets plan (t + 1) given more are.1)
 
 -- what was given of a front are packets of some first frames
-front_packets : GivingEnds → OneRun → StepsPart → (plan : Plan) (window : ℕ) (first : Option ℕ) (packets later : List (List ℕ)) (answers : List Taken) (given : List Item) (mid : State)
-    → IsCollected plan window first (packets ++ later) → Steps (made window first) packets answers given mid → AreFrom plan 0 given × (length given ≤ frame_count plan)
-front_packets giving_ends one_run steps_part plan window first packets later answers given mid c steps =
-    let (between, replies, more, now, then_given, first_steps, steps_on, are_answers, are_given) = steps_part (made window first) c.mid packets later c.answers c.given c.steps in
-    let same : now ≡ given = (one_run (made window first) mid between packets answers replies given now steps first_steps).1 in
+front_packets : GivingEnds → OneRun → StepsPart → (plan : Plan) (window reach : ℕ) (first : Option ℕ) (packets later : List (List ℕ)) (answers : List Taken) (given : List Item) (mid : State)
+    → IsCollected plan window reach first (packets ++ later) → Steps (made window reach first) packets answers given mid → AreFrom plan 0 given × (length given ≤ frame_count plan)
+front_packets giving_ends one_run steps_part plan window reach first packets later answers given mid c steps =
+    let (between, replies, more, now, then_given, first_steps, steps_on, are_answers, are_given) = steps_part (made window reach first) c.mid packets later c.answers c.given c.steps in
+    let same : now ≡ given = (one_run (made window reach first) mid between packets answers replies given now steps first_steps).1 in
     let (rest, after, gives) = giving_ends (after_finish c.mid None) c.fit.0 c.fit.1 in
     let all : AreAll plan (c.given ++ rest) = c.all None rest after (inl refl) gives in
     let parted : c.given ++ rest ≡ given ++ (then_given ++ rest) = ap (λ l. l ++ rest) (are_given ∙ ap (λ l. l ++ then_given) same) ∙ append_assoc given then_given rest in
@@ -156,13 +156,13 @@ pub broken_conversions : Collects → GivingEnds → OneReading → Refusing →
 broken_conversions collects giving_ends one_reading refusing one_run steps_part plan carry terms arrivals packets later parts whole is =
     by is.items refl
   where
-    c : IsCollected plan terms.window terms.first (packets ++ later)
-    c = collects plan terms.window terms.first arrivals (packets ++ later) whole
+    c : IsCollected plan terms.window terms.reach terms.first (packets ++ later)
+    c = collects plan terms.window terms.reach terms.first arrivals (packets ++ later) whole
 
     by : (items : List Item) → is.items ≡ items → IsOfFirstFrames (under carry plan) (text_of parts) × (lines_of parts ≡ [])
     by [] none = none_written plan carry (first_of is.mid) parts (subst (λ l. ConvertsAll carry (first_of is.mid) l parts) none is.converts)
     by (item ∷ items) some =
-        let (are, few) = front_packets giving_ends one_run steps_part plan terms.window terms.first packets later is.taken is.items is.mid c is.steps in
+        let (are, few) = front_packets giving_ends one_run steps_part plan terms.window terms.reach terms.first packets later is.taken is.items is.mid c is.steps in
         let long : length is.items ≡ length items + 1 = ap length some ∙ omega arith in
-        let known = knows_first one_reading refusing plan whole.schedule terms.window terms.first arrivals packets later is.taken is.items is.mid whole.followed is.steps (omega (arith, long)) in
+        let known = knows_first one_reading refusing plan whole.schedule terms.window terms.reach terms.first arrivals packets later is.taken is.items is.mid whole.followed is.steps (omega (arith, long)) in
         some_written plan carry (first_of is.mid) is.items parts are few (counted_from plan is.mid known) is.converts

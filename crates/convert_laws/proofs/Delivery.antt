@@ -85,12 +85,12 @@ pub record AreAll (plan : Plan) (given : List Item) : Type 0 where
   pub are : AreFrom plan 0 given
 
 -- Steps over the delivery give them, and with what is given when it ends there are no others.
-pub record IsCollected (plan : Plan) (window : ℕ) (first : Option ℕ) (datagrams : List (List ℕ)) : Type 0 where
+pub record IsCollected (plan : Plan) (window reach : ℕ) (first : Option ℕ) (datagrams : List (List ℕ)) : Type 0 where
   pub answers : List Taken
   pub given : List Item
   pub mid : State
   pub fit : IsFit mid
-  pub steps : Steps (made window first) datagrams answers given mid
+  pub steps : Steps (made window reach first) datagrams answers given mid
   pub enough : frame_count plan ≤ length given
   pub all : (told : Option ℕ) (rest : List Item) (after : State) → MayBeTold plan told → Gives (after_finish mid told) rest after → AreAll plan (up_to told (given ++ rest))
 
@@ -115,13 +115,13 @@ all_packets in_time plan window pairs told packets others given rest is are sent
     record { many = long ∙ many; are = subst (AreFrom plan 0) same (from_each plan of 0 (frame_count plan) each) }
 
 module _ (collecting : Collecting) (giving_ends : GivingEnds) (in_time : InTime) (one_run : OneRun) (at_once : AllAtOnce) where
-  pub collected : (plan : Plan) (window : ℕ) (first : Option ℕ) (arrivals : List Arrival) (datagrams : List (List ℕ)) → AllInTime plan window first arrivals datagrams
-      → IsCollected plan window first datagrams
-  collected plan window first arrivals datagrams whole =
+  pub collected : (plan : Plan) (window reach : ℕ) (first : Option ℕ) (arrivals : List Arrival) (datagrams : List (List ℕ)) → AllInTime plan window reach first arrivals datagrams
+      → IsCollected plan window reach first datagrams
+  collected plan window reach first arrivals datagrams whole =
       let pairs : List (ℕ × ℕ) = pairs_in arrivals in
-      let h : Hears plan window first (pos 0) pairs datagrams = hears collecting giving_ends plan window first (pos 0) arrivals datagrams whole.schedule whole.some whole.followed in
-      let (answers, given, mid, steps, enough) = at_once plan window first arrivals datagrams whole.schedule whole.followed whole.in_time in
-      let same : h.given ≡ given = (one_run (made window first) mid h.mid datagrams answers h.answers given h.given steps h.steps).1 in
+      let h : Hears plan window reach first (pos 0) pairs datagrams = hears collecting giving_ends plan window reach first (pos 0) arrivals datagrams whole.schedule whole.some whole.followed in
+      let (answers, given, mid, steps, enough) = at_once plan window reach first arrivals datagrams whole.schedule whole.followed whole.in_time in
+      let same : h.given ≡ given = (one_run (made window reach first) mid h.mid datagrams answers h.answers given h.given steps h.steps).1 in
       let all_of : frame_count plan ≤ length h.given = omega (arith, enough, ap length same) in
       record {
         answers = h.answers;

@@ -1,28 +1,29 @@
 -- The sequence number that a collector counts from is that of the schedule's first packet.
-use Rattle.std.proofs.Common.{ℕ, ◌≡◌, ◌≤◌, false, List, [], ◌∷◌, ◌++◌, length, take, Option, None, Some, refl, sym, ap, subst, ◌∙◌, arith}
+use Rattle.std.proofs.Common.{ℕ, ◌≡◌, ◌≤◌, false, true, List, [], ◌∷◌, ◌++◌, length, take, Option, None, Some, refl, sym, ap, subst, ◌∙◌, arith}
 use Rattle.std.specs.Prelude.{pos, negsuc}
 use Rattle.std.specs.List.{AllZip}
 use Rattle.std.proofs.lemmas.Bool.{true≢false}
 use Rattle.std.proofs.lemmas.Int.{ints}
 use Rattle.std.proofs.lemmas.List.{append-nil}
 use Rattle.dcp_pft.specs.declared.carry.Carry.{Carry}
+use Rattle.dcp_collect.specs.declared.taken.Field.{Field}
+use Rattle.dcp_collect.specs.declared.taken.Field.TheVariants.{Sync, Af, Pft, Large, Far}
 use Rattle.dcp_collect.specs.declared.taken.Taken.{Taken}
 use Rattle.dcp_collect.specs.declared.taken.Taken.TheVariants.{Kept}
 use Rattle.dcp_collect.specs.Reading.{Incoming, Read, Unread, Brings}
 use Rattle.dcp_collect.specs.State.{State, made, ready, number_of, answer, answer_at, after_answer, after_take}
 use Rattle.dcp_collect.specs.Runs.{Item, Takes, Gives, Steps}
 use Rattle.collect_laws.specs.Delivery.{sequence_at, IsBase}
-use Rattle.collect_laws.specs.Laws.{OneReading, Refusing, OneRun}
+use Rattle.collect_laws.specs.Laws.{OneReading, HasCause, Refusing, OneRun}
 use Rattle.collect_laws.proofs.Based.{kept_first}
-use Rattle.collect_laws.proofs.Brought.{brought}
 use Rattle.collect_laws.proofs.Numbers.{nearest_is}
 use Rattle.collect_laws.proofs.Sent.{BringsPair}
 use Rattle.collect_laws.proofs.Stays.{first_stays}
 use Rattle.drm_schedule.specs.declared.plan.Plan.{Plan}
 use Rattle.drm_schedule.specs.Valid.{IsSchedule}
 use Rattle.mod_delivery.specs.Laws.{AllAtOnce}
-use Rattle.mod_delivery.specs.Sent.{Arrival, OfSchedule, Stray, IsArrival, IsSent, pairs_in, IsFollowed}
-use Rattle.mod_delivery.proofs.Packets.{some_packets, all_sent, delivered}
+use Rattle.mod_delivery.specs.Sent.{Arrival, OfSchedule, Stray, IsStray, IsArrival, IsFarIfSo, AreFar, pairs_in, IsFollowed}
+use Rattle.mod_delivery.proofs.Following.{brings_of}
 use Rattle.recv_reading.proofs.Ways.{gives_first}
 use Rattle.convert_laws.specs.Laws.{IsFirstOf, KnowsFirst, FirstIsKnown, FirstOfAll}
 use Rattle.convert_laws.proofs.Fronts.{front_followed}
@@ -43,18 +44,12 @@ first_steps c d (datagram ∷ datagrams) (a ∷ answers) given f (now, later, ke
 
 -- ---- the first datagram tells it
 
-brings_of : (plan : Plan) (pair : ℕ × ℕ) (datagram : List ℕ) → IsSchedule plan → IsSent plan pair datagram → (packets : List (List ℕ)) × BringsPair plan.carry plan.seq packets pair datagram
-brings_of plan pair datagram is sent =
-    let (packets, are) = some_packets plan (pair ∷ []) (datagram ∷ []) (sent, tt) in
-    let one = (delivered plan is (pair ∷ []) packets are (datagram ∷ []) (sent, tt)).0 in
-    (packets, brought plan.carry plan.seq packets (all_sent plan is (pair ∷ []) packets are) pair datagram one)
-
 module _ (one_reading : OneReading) where
-  pub first_told : (carry : Carry) (sequence0 window : ℕ) (packets : List (List ℕ)) (pair : ℕ × ℕ) (datagram : List ℕ) (a : Taken) (kept : State)
-      → BringsPair carry sequence0 packets pair datagram → Takes (made window None) datagram a kept → kept.first ≡ Some (sequence_at sequence0 pair.0)
-  first_told carry sequence0 window packets pair datagram a kept brings takes =
+  pub first_told : (carry : Carry) (sequence0 window reach : ℕ) (packets : List (List ℕ)) (pair : ℕ × ℕ) (datagram : List ℕ) (a : Taken) (kept : State)
+      → BringsPair carry sequence0 packets pair datagram → Takes (made window reach None) datagram a kept → kept.first ≡ Some (sequence_at sequence0 pair.0)
+  first_told carry sequence0 window reach packets pair datagram a kept brings takes =
       let v : Incoming = brings.incoming in
-      let c : State = made window None in
+      let c : State = made window reach None in
       let same : takes.read ≡ Brings v = one_reading datagram (Brings v) takes.read brings.is_read takes.is_read in
       let here : number_of c v ≡ pos 0 = nearest_is v.sequence 0 v.sequence (pos 0) (pos 0) (omega (arith, ints)) (omega (arith, ints)) (omega (arith, ints)) in
       let is_kept : answer c (Brings v) ≡ Kept = ap (λ z. answer_at c z v.head) here ∙ kept_first c v.head refl refl refl in
@@ -67,25 +62,33 @@ nothing_given : (c kept mid : State) (now : List Item) → ready c ≡ false →
 nothing_given c kept mid [] idle same gives = (refl, gives.1 ∙ same)
 nothing_given c kept mid (item ∷ now) idle same gives = absurd (true≢false (sym gives.0 ∙ (ap ready same ∙ idle)))
 
-module _ (one_reading : OneReading) (refusing : Refusing) (plan : Plan) (is : IsSchedule plan) (window : ℕ) where
+-- before anything was kept no stray is far
+fresh_cause : (reach sequence0 : ℕ) (c : State) (cause : Field) (datagram : List ℕ) → IsStray cause datagram → IsFarIfSo cause reach sequence0 (pos 0) None datagram → HasCause c cause datagram
+fresh_cause reach sequence0 c Sync datagram stray far = stray
+fresh_cause reach sequence0 c (Af fault) datagram stray far = stray
+fresh_cause reach sequence0 c (Pft fault) datagram stray far = stray
+fresh_cause reach sequence0 c Large datagram stray far = stray
+fresh_cause reach sequence0 c Far datagram stray far = absurd (let above = far.above in let clash : false ≡ true = above in cc)
+
+module _ (one_reading : OneReading) (refusing : Refusing) (plan : Plan) (is : IsSchedule plan) (window reach : ℕ) where
   none_told : (arrivals : List Arrival) (datagrams : List (List ℕ)) (answers : List Taken) (given : List Item) (mid : State) → AllZip (IsArrival plan) arrivals datagrams
-      → IsBase plan.seq None (pairs_in arrivals) (pos 0) → Steps (made window None) datagrams answers given mid → 1 ≤ length given → mid.first ≡ Some (sequence_at plan.seq 0)
-  none_told [] [] [] given mid all base steps some = absurd (let none : length given ≡ 0 = ap length steps.0 in omega (arith, some, none))
-  none_told [] [] (a ∷ answers) given mid all base steps some = absurd steps
-  none_told [] (datagram ∷ datagrams) answers given mid all base steps some = absurd all
-  none_told (arrival ∷ arrivals) [] answers given mid all base steps some = absurd all
-  none_told (arrival ∷ arrivals) (datagram ∷ datagrams) [] given mid all base steps some = absurd steps
-  none_told (OfSchedule pair ∷ arrivals) (datagram ∷ datagrams) (a ∷ answers) given mid all base (now, later, kept, after, takes, gives, steps, are) some =
+      → AreFar reach plan.seq (pos 0) None arrivals datagrams → IsBase plan.seq None (pairs_in arrivals) (pos 0) → Steps (made window reach None) datagrams answers given mid → 1 ≤ length given → mid.first ≡ Some (sequence_at plan.seq 0)
+  none_told [] [] [] given mid all far base steps some = absurd (let none : length given ≡ 0 = ap length steps.0 in omega (arith, some, none))
+  none_told [] [] (a ∷ answers) given mid all far base steps some = absurd steps
+  none_told [] (datagram ∷ datagrams) answers given mid all far base steps some = absurd all
+  none_told (arrival ∷ arrivals) [] answers given mid all far base steps some = absurd all
+  none_told (arrival ∷ arrivals) (datagram ∷ datagrams) [] given mid all far base steps some = absurd steps
+  none_told (OfSchedule pair ∷ arrivals) (datagram ∷ datagrams) (a ∷ answers) given mid all far base (now, later, kept, after, takes, gives, steps, are) some =
       let (packets, brings) = brings_of plan pair datagram is all.0 in
       let place : pair.0 ≡ 0 = omega (arith, ints, base) in
-      let told : kept.first ≡ Some (sequence_at plan.seq pair.0) = first_told one_reading plan.carry plan.seq window packets pair datagram a kept brings takes in
+      let told : kept.first ≡ Some (sequence_at plan.seq pair.0) = first_told one_reading plan.carry plan.seq window reach packets pair datagram a kept brings takes in
       first_steps after mid datagrams answers later (sequence_at plan.seq 0) steps (gives_first now kept after gives ∙ (told ∙ ap (λ p. Some (sequence_at plan.seq p)) place))
-  none_told (Stray cause ∷ arrivals) (datagram ∷ datagrams) (a ∷ answers) given mid all base (now, later, kept, after, takes, gives, steps, are) some =
-      let c : State = made window None in
+  none_told (Stray cause ∷ arrivals) (datagram ∷ datagrams) (a ∷ answers) given mid all far base (now, later, kept, after, takes, gives, steps, are) some =
+      let c : State = made window reach None in
       let refused = refusing c kept datagram a cause takes in
-      let none = nothing_given c kept after now refl (refused.1 (refused.0.0 all.0)) gives in
+      let none = nothing_given c kept after now refl (refused.1 (refused.0.0 (fresh_cause reach plan.seq c cause datagram all.0 far.0))) gives in
       let same : given ≡ later = are ∙ ap (λ l. l ++ later) none.0 in
-      none_told arrivals datagrams answers later mid all.1 base (subst (λ s. Steps s datagrams answers later mid) none.1 steps) (omega (arith, some, ap length same))
+      none_told arrivals datagrams answers later mid all.1 far.1 base (subst (λ s. Steps s datagrams answers later mid) none.1 steps) (omega (arith, some, ap length same))
 
   -- one that was told has it, too
   told_first : (f : ℕ) (pairs : List (ℕ × ℕ)) → IsBase plan.seq (Some f) pairs (pos 0) → IsFirstOf plan f
@@ -94,24 +97,24 @@ module _ (one_reading : OneReading) (refusing : Refusing) (plan : Plan) (is : Is
 
   -- after steps over a front of a delivery that gave anything
   pub knows_first : (first : Option ℕ) (arrivals : List Arrival) (datagrams later : List (List ℕ)) (answers : List Taken) (given : List Item) (mid : State)
-      → IsFollowed plan first (pos 0) arrivals (datagrams ++ later) → Steps (made window first) datagrams answers given mid → 1 ≤ length given → KnowsFirst plan mid
+      → IsFollowed plan reach first (pos 0) arrivals (datagrams ++ later) → Steps (made window reach first) datagrams answers given mid → 1 ≤ length given → KnowsFirst plan mid
   knows_first None arrivals datagrams later answers given mid followed steps some =
-      let front = front_followed plan None arrivals datagrams later followed in
-      (sequence_at plan.seq 0, none_told (take (length datagrams) arrivals) datagrams answers given mid front.arrive front.based steps some, omega arith)
+      let front = front_followed plan reach None arrivals datagrams later followed in
+      (sequence_at plan.seq 0, none_told (take (length datagrams) arrivals) datagrams answers given mid front.arrive front.far front.based steps some, omega arith)
   knows_first (Some f) arrivals datagrams later answers given mid followed steps some =
-      (f, first_steps (made window (Some f)) mid datagrams answers given f steps refl, told_first f (pairs_in arrivals) followed.based)
+      (f, first_steps (made window reach (Some f)) mid datagrams answers given f steps refl, told_first f (pairs_in arrivals) followed.based)
 
 -- ---- the laws
 
 pub first_known : OneReading → Refusing → FirstIsKnown
-first_known one_reading refusing plan window first arrivals datagrams later answers given mid is followed steps some =
-    knows_first one_reading refusing plan is window first arrivals datagrams later answers given mid followed steps some
+first_known one_reading refusing plan window reach first arrivals datagrams later answers given mid is followed steps some =
+    knows_first one_reading refusing plan is window reach first arrivals datagrams later answers given mid followed steps some
 
 pub first_of_all : OneReading → Refusing → OneRun → AllAtOnce → FirstOfAll
-first_of_all one_reading refusing one_run at_once plan window first told arrivals datagrams answers items whole run =
+first_of_all one_reading refusing one_run at_once plan window reach first told arrivals datagrams answers items whole run =
     let least = whole.schedule.in_lines.some_frames in
-    let (replies, given, mid, steps, enough) = at_once plan window first arrivals datagrams whole.schedule whole.followed whole.in_time in
-    let same : given ≡ run.during = (one_run (made window first) run.mid mid datagrams answers replies run.during given run.steps steps).1 in
+    let (replies, given, mid, steps, enough) = at_once plan window reach first arrivals datagrams whole.schedule whole.followed whole.in_time in
+    let same : given ≡ run.during = (one_run (made window reach first) run.mid mid datagrams answers replies run.during given run.steps steps).1 in
     let some : 1 ≤ length run.during = omega (arith, least, enough, ap length same) in
-    let followed : IsFollowed plan first (pos 0) arrivals (datagrams ++ []) = subst (λ l. IsFollowed plan first (pos 0) arrivals l) (sym (append-nil datagrams)) whole.followed in
-    knows_first one_reading refusing plan whole.schedule window first arrivals datagrams [] answers run.during run.mid followed run.steps some
+    let followed : IsFollowed plan reach first (pos 0) arrivals (datagrams ++ []) = subst (λ l. IsFollowed plan reach first (pos 0) arrivals l) (sym (append-nil datagrams)) whole.followed in
+    knows_first one_reading refusing plan whole.schedule window reach first arrivals datagrams [] answers run.during run.mid followed run.steps some

@@ -4,14 +4,15 @@ use Rattle.std.specs.Prelude.{ℤ, pos}
 use Rattle.collect_laws.specs.Delivery.{number, newer_number, IsWithinSpan, IsBase}
 use Rattle.drm_schedule.specs.declared.plan.Plan.{Plan}
 use Rattle.mod_delivery.specs.Sent.{Arrival, OfSchedule, Stray, pairs_in, IsFollowed}
+use Rattle.mod_delivery.proofs.Following.{far_front}
 use Rattle.mod_delivery.proofs.Strays.{front_arrives}
 
-front_spans : (arrivals : List Arrival) (n : ℕ) (base : ℤ) (newest : Option ℕ) → IsWithinSpan base newest (pairs_in arrivals) → IsWithinSpan base newest (pairs_in (take n arrivals))
-front_spans [] zero base newest span = tt
-front_spans [] (suc n) base newest span = tt
-front_spans (arrival ∷ arrivals) zero base newest span = tt
-front_spans (OfSchedule pair ∷ arrivals) (suc n) base newest (low, high, rest) = (low, high, front_spans arrivals n base (newer_number newest (number base pair)) rest)
-front_spans (Stray cause ∷ arrivals) (suc n) base newest span = front_spans arrivals n base newest span
+front_spans : (reach : ℕ) (arrivals : List Arrival) (n : ℕ) (base : ℤ) (newest : Option ℕ) → IsWithinSpan reach base newest (pairs_in arrivals) → IsWithinSpan reach base newest (pairs_in (take n arrivals))
+front_spans reach [] zero base newest span = tt
+front_spans reach [] (suc n) base newest span = tt
+front_spans reach (arrival ∷ arrivals) zero base newest span = tt
+front_spans reach (OfSchedule pair ∷ arrivals) (suc n) base newest (low, high, near, rest) = (low, high, near, front_spans reach arrivals n base (newer_number newest (number base pair)) rest)
+front_spans reach (Stray cause ∷ arrivals) (suc n) base newest span = front_spans reach arrivals n base newest span
 
 none_based : (seq : ℕ) (arrivals : List Arrival) (n : ℕ) → IsBase seq None (pairs_in arrivals) (pos 0) → IsBase seq None (pairs_in (take n arrivals)) (pos 0)
 none_based seq [] zero base = refl
@@ -25,10 +26,11 @@ front_based seq None arrivals n base = none_based seq arrivals n base
 front_based seq (Some f) arrivals n base = base
 
 -- where numbers count from the schedule's first frame
-pub front_followed : (plan : Plan) (first : Option ℕ) (arrivals : List Arrival) (datagrams later : List (List ℕ)) → IsFollowed plan first (pos 0) arrivals (datagrams ++ later)
-    → IsFollowed plan first (pos 0) (take (length datagrams) arrivals) datagrams
-front_followed plan first arrivals datagrams later followed = record {
+pub front_followed : (plan : Plan) (reach : ℕ) (first : Option ℕ) (arrivals : List Arrival) (datagrams later : List (List ℕ)) → IsFollowed plan reach first (pos 0) arrivals (datagrams ++ later)
+    → IsFollowed plan reach first (pos 0) (take (length datagrams) arrivals) datagrams
+front_followed plan reach first arrivals datagrams later followed = record {
   arrive = (front_arrives plan arrivals datagrams later followed.arrive).0;
   based = front_based plan.seq first arrivals (length datagrams) followed.based;
-  within_span = front_spans arrivals (length datagrams) (pos 0) None followed.within_span;
+  within_span = front_spans reach arrivals (length datagrams) (pos 0) None followed.within_span;
+  far = far_front reach plan.seq (pos 0) None arrivals datagrams later followed.far;
 }

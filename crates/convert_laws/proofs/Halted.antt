@@ -68,21 +68,21 @@ pub record IsComeTo (plan : Plan) (items : List Item) (item : Item) (last : Stat
 
 module _ (collects : Collects) (giving_ends : GivingEnds) (one_reading : OneReading) (refusing : Refusing) (steps_part : StepsPart) where
   module _ (plan : Plan) (terms : Terms) (arrivals : List Arrival) (packets later : List (List ℕ)) (items : List Item) (item : Item) (last : State)
-      (whole : AllInTime plan terms.window terms.first arrivals (packets ++ later)) (may : MayBeTold plan terms.told) (at : ComesAt terms packets items item last) where
+      (whole : AllInTime plan terms.window terms.reach terms.first arrivals (packets ++ later)) (may : MayBeTold plan terms.told) (at : ComesAt terms packets items item last) where
     abbrev new : State
-    new = made terms.window terms.first
+    new = made terms.window terms.reach terms.first
 
     counted : (c : State) → KnowsFirst plan c → c.first ≡ last.first → IsFirstOf plan (first_of last)
     counted c (n, known, is) same = counted_from plan last (n, sym same ∙ known, is)
 
     behind_packet : (bytes : List ℕ) (answer : Taken) → at.later ≡ bytes ∷ [] → Takes at.mid bytes answer at.state → IsComeTo plan items item last
     behind_packet bytes answer is takes =
-        let c : IsCollected plan terms.window terms.first (packets ++ later) = collects plan terms.window terms.first arrivals (packets ++ later) whole in
+        let c : IsCollected plan terms.window terms.reach terms.first (packets ++ later) = collects plan terms.window terms.reach terms.first arrivals (packets ++ later) whole in
         let (end, after, gives) = giving_ends (after_finish c.mid None) c.fit.0 c.fit.1 in
         let (mid, replies, more, now, then_given, front, back, are_answers, are_given) = steps_part new c.mid packets later c.answers c.given c.steps in
         let (rest, begins) = taken_starts terms packets items item last at bytes answer is takes packets [] replies now mid (sym (append-nil packets)) front in
         let some : 1 ≤ length now = omega (arith, ap length begins, length-append items (item ∷ rest)) in
-        let first : KnowsFirst plan mid = knows_first one_reading refusing plan whole.schedule terms.window terms.first arrivals packets later replies now mid whole.followed front some in
+        let first : KnowsFirst plan mid = knows_first one_reading refusing plan whole.schedule terms.window terms.reach terms.first arrivals packets later replies now mid whole.followed front some in
         record {
           all = c.given ++ end;
           are = c.all None end after (inl refl) gives;
@@ -92,7 +92,7 @@ module _ (collects : Collects) (giving_ends : GivingEnds) (one_reading : OneRead
 
     when_finished : at.later ≡ [] → at.state ≡ after_finish at.mid terms.told → later ≡ [] → is_full terms.told (length items) ≡ false → IsComeTo plan items item last
     when_finished none is no_more room =
-        let c : IsCollected plan terms.window terms.first (packets ++ later) = collects plan terms.window terms.first arrivals (packets ++ later) whole in
+        let c : IsCollected plan terms.window terms.reach terms.first (packets ++ later) = collects plan terms.window terms.reach terms.first arrivals (packets ++ later) whole in
         let all : packets ++ later ≡ packets = ap (λ l. packets ++ l) no_more ∙ append-nil packets in
         let steps : Steps new packets c.answers c.given c.mid = subst (λ l. Steps new l c.answers c.given c.mid) all c.steps in
         let (end, after, gives) = giving_ends (after_finish c.mid terms.told) c.fit.0 c.fit.1 in
@@ -100,9 +100,9 @@ module _ (collects : Collects) (giving_ends : GivingEnds) (one_reading : OneRead
         let least = whole.schedule.in_lines.some_frames in
         let enough = c.enough in
         let some : 1 ≤ length c.given = omega (arith, least, enough) in
-        let followed : IsFollowed plan terms.first (pos 0) arrivals ((packets ++ later) ++ []) = subst (λ l. IsFollowed plan terms.first (pos 0) arrivals l) (sym (append-nil (packets ++ later))) whole.followed in
+        let followed : IsFollowed plan terms.reach terms.first (pos 0) arrivals ((packets ++ later) ++ []) = subst (λ l. IsFollowed plan terms.reach terms.first (pos 0) arrivals l) (sym (append-nil (packets ++ later))) whole.followed in
         let first : KnowsFirst plan c.mid =
-        knows_first one_reading refusing plan whole.schedule terms.window terms.first arrivals (packets ++ later) [] c.answers c.given c.mid followed c.steps some in
+        knows_first one_reading refusing plan whole.schedule terms.window terms.reach terms.first arrivals (packets ++ later) [] c.answers c.given c.mid followed c.steps some in
         let there : c.mid ≡ at.mid =
         (one_way new at.mid c.mid packets at.taken c.answers at.during c.given (subst (λ l. Steps new l at.taken at.during at.mid) (sym (all_before terms packets items item last at none)) at.steps) steps).2 in
         record {

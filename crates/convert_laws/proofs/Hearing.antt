@@ -1,5 +1,5 @@
 -- What a collector gives of a delivery of a schedule, with any strays in it.
-use Rattle.std.proofs.Common.{ℕ, ◌≡◌, ◌≤◌, List, ◌++◌, Option, refl}
+use Rattle.std.proofs.Common.{ℕ, ◌≡◌, ◌≤◌, List, [], ◌++◌, Option, None, refl}
 use Rattle.std.specs.Prelude.{ℤ}
 use Rattle.dcp_collect.specs.declared.taken.Taken.{Taken}
 use Rattle.dcp_collect.specs.State.{State, made, after_finish}
@@ -11,11 +11,11 @@ use Rattle.drm_schedule.specs.Valid.{IsSchedule}
 use Rattle.mod_delivery.specs.Sent.{Arrival, pairs_in, AreSent, IsFollowed}
 use Rattle.mod_delivery.proofs.Early.{GoesOn, goes_on, all_brought_of}
 use Rattle.mod_delivery.proofs.Packets.{ArePackets, some_packets, all_sent, delivered}
-use Rattle.mod_delivery.proofs.Strays.{others_of, with_strays}
+use Rattle.mod_delivery.proofs.Strays.{others_of, with_strays, stands_new}
 
 -- The datagrams of the delivery that aren't strays, and the packets that were sent; steps over those datagrams, and over all
 -- of them, which come to the same; and what is given with the end.
-pub record Hears (plan : Plan) (window : ℕ) (first : Option ℕ) (base : ℤ) (pairs : List (ℕ × ℕ)) (datagrams : List (List ℕ)) : Type 0 where
+pub record Hears (plan : Plan) (window reach : ℕ) (first : Option ℕ) (base : ℤ) (pairs : List (ℕ × ℕ)) (datagrams : List (List ℕ)) : Type 0 where
   pub others : List (List ℕ)
   pub sent : AreSent plan pairs others
   pub packets : List (List ℕ)
@@ -26,25 +26,26 @@ pub record Hears (plan : Plan) (window : ℕ) (first : Option ℕ) (base : ℤ) 
   pub given : List Item
   pub mid : State
   pub fit : IsFit mid
-  pub without : Steps (made window first) others replies given mid
-  pub steps : Steps (made window first) datagrams answers given mid
+  pub without : Steps (made window reach first) others replies given mid
+  pub steps : Steps (made window reach first) datagrams answers given mid
   pub law : (told : Option ℕ) (rest : List Item) (after : State) → Gives (after_finish mid told) rest after → up_to told (given ++ rest) ≡ items plan.carry packets window base told pairs
 
 module _ (collecting : Collecting) (giving_ends : GivingEnds) where
-  pub hears : (plan : Plan) (window : ℕ) (first : Option ℕ) (base : ℤ) (arrivals : List Arrival) (datagrams : List (List ℕ)) → IsSchedule plan → 1 ≤ window
-      → IsFollowed plan first base arrivals datagrams → Hears plan window first base (pairs_in arrivals) datagrams
-  hears plan window first base arrivals datagrams is some followed =
+  pub hears : (plan : Plan) (window reach : ℕ) (first : Option ℕ) (base : ℤ) (arrivals : List Arrival) (datagrams : List (List ℕ)) → IsSchedule plan → 1 ≤ window
+      → IsFollowed plan reach first base arrivals datagrams → Hears plan window reach first base (pairs_in arrivals) datagrams
+  hears plan window reach first base arrivals datagrams is some followed =
       let pairs : List (ℕ × ℕ) = pairs_in arrivals in
       let (others, sent) = others_of plan arrivals datagrams followed.arrive in
       let (packets, are) = some_packets plan pairs others sent in
-      let heard : IsHeard plan.carry plan.seq packets first base pairs others = record {
+      let heard : IsHeard plan.carry plan.seq packets reach first base pairs others = record {
         sent = all_sent plan is pairs packets are;
         delivered = delivered plan is pairs packets are others sent;
         based = followed.based;
         within_span = followed.within_span;
       } in
-      let on : GoesOn (made window first) others = goes_on giving_ends (made window first) others (all_brought_of plan pairs others is sent) (some, tt) in
-      let (answers, again) = with_strays plan (made window first) on.after arrivals datagrams on.answers on.given followed.arrive refl on.steps in
+      let on : GoesOn (made window reach first) others = goes_on giving_ends (made window reach first) others (all_brought_of plan pairs others is sent) (some, tt) in
+      let stands = stands_new plan window reach first base arrivals datagrams followed in
+      let (answers, again) = with_strays plan is window reach base (made window reach first) on.after None arrivals [] datagrams on.answers on.given followed.arrive stands on.steps in
       record {
         others = others;
         sent = sent;
@@ -59,7 +60,7 @@ module _ (collecting : Collecting) (giving_ends : GivingEnds) where
         without = on.steps;
         steps = again;
         law = λ told rest after gives.
-            let run : Run window first told others on.answers (up_to told (on.given ++ rest)) =
+            let run : Run window reach first told others on.answers (up_to told (on.given ++ rest)) =
             record { during = on.given; rest = rest; mid = on.after; after = after; steps = on.steps; gives = gives; are = refl } in
-            (collecting plan.carry plan.seq window packets first told base pairs others on.answers (up_to told (on.given ++ rest)) some heard run).0;
+            (collecting plan.carry plan.seq window reach packets first told base pairs others on.answers (up_to told (on.given ++ rest)) some heard run).0;
       }

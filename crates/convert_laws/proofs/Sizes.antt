@@ -100,7 +100,7 @@ before_end (Some n) newest last k end next is_ready =
 
 module _ (collecting : Collecting) (giving_ends : GivingEnds) (steps_count : StepsCount) where
   module _ (plan : Plan) (carry : Carry) (is : IsSchedule plan) (fits : FitsCarry carry plan) (terms : Terms) (pairs : List (ℕ × ℕ)) (packets : List (List ℕ)) (given : List Item) (next : Item) (last : State) (number : ℕ)
-      (h : Hears plan terms.window terms.first (pos 0) pairs packets) (at : ComesAt terms packets given next last) where
+      (h : Hears plan terms.window terms.reach terms.first (pos 0) pairs packets) (at : ComesAt terms packets given next last) where
     not_taken : (bytes : List ℕ) (answer : Taken) → at.later ≡ bytes ∷ [] → Takes at.mid bytes answer at.state → IsTooLarge carry next number → ⊥
     not_taken bytes answer same takes large =
         let (rest, begins) = taken_starts terms packets given next last at bytes answer same takes packets [] h.answers h.given h.mid (sym (append-nil packets)) h.steps in
@@ -115,7 +115,7 @@ module _ (collecting : Collecting) (giving_ends : GivingEnds) (steps_count : Ste
         let (end, after, gives) = giving_ends (after_finish h.mid terms.told) h.fit.0 h.fit.1 in
         let (rest, begins) = finished_starts terms packets given next last at none ends h.answers h.given end h.mid after h.steps gives in
         let on = given_on at.more at.state last at.gives in
-        let counted : at.mid.next ≡ 0 + length at.during = steps_count (made terms.window terms.first) at.mid at.before at.taken at.during at.steps in
+        let counted : at.mid.next ≡ 0 + length at.during = steps_count (made terms.window terms.reach terms.first) at.mid at.before at.taken at.during at.steps in
         let first : at.state.next ≡ at.mid.next = ap (λ s. s.next) ends in
         let count : last.next ≡ length given = omega (arith, on.0, counted, first, ap length at.items_are, length-append at.during at.more) in
         let end_is : last.end ≡ Some (end_of terms.told at.mid.newest) = on.1 ∙ ap (λ s. s.end) ends in
@@ -130,6 +130,6 @@ module _ (collecting : Collecting) (giving_ends : GivingEnds) (steps_count : Ste
 
   pub none_is_too_large : NoneIsTooLarge
   none_is_too_large plan carry terms arrivals packets later given next last number is fits some followed at large =
-      let h = hears collecting giving_ends plan terms.window terms.first (pos 0) (take (length packets) arrivals) packets is some
-      (front_followed plan terms.first arrivals packets later followed) in
+      let h = hears collecting giving_ends plan terms.window terms.reach terms.first (pos 0) (take (length packets) arrivals) packets is some
+      (front_followed plan terms.reach terms.first arrivals packets later followed) in
       not_next plan carry is fits terms (pairs_in (take (length packets) arrivals)) packets given next last number h at at.comes large

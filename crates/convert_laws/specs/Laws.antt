@@ -30,10 +30,10 @@ abbrev pub under : Carry → Plan → Plan
 under carry plan = record plan { carry = carry }
 
 -- A delivery of a valid schedule from its first frame on, with any strays in it, in which each frame is in time.
-pub record AllInTime (plan : Plan) (window : ℕ) (first : Option ℕ) (arrivals : List Arrival) (datagrams : List (List ℕ)) : Type 0 where
+pub record AllInTime (plan : Plan) (window reach : ℕ) (first : Option ℕ) (arrivals : List Arrival) (datagrams : List (List ℕ)) : Type 0 where
   pub schedule : IsSchedule plan
   pub some : 1 ≤ window
-  pub followed : IsFollowed plan first (pos 0) arrivals datagrams
+  pub followed : IsFollowed plan reach first (pos 0) arrivals datagrams
   pub in_time : (q : ℕ) → q < frame_count plan → IsInTime plan window (pos 0) (pairs_in arrivals) q
 
 -- the number of the schedule's frames is told, or no number is
@@ -51,17 +51,17 @@ IsItsCapture plan carry parts = IsCapture (under carry plan) 0 (text_of parts) �
 -- What a collector gives of such a delivery becomes the schedule's capture under the new carry.
 abbrev pub Converting : Type 0
 Converting =
-    (plan : Plan) (carry : Carry) (window n : ℕ) (first told : Option ℕ) (arrivals : List Arrival) (datagrams : List (List ℕ))
+    (plan : Plan) (carry : Carry) (window reach n : ℕ) (first told : Option ℕ) (arrivals : List Arrival) (datagrams : List (List ℕ))
     (answers : List Taken) (items : List Item) (parts : List Part)
-    → AllInTime plan window first arrivals datagrams → MayBeTold plan told → Run window first told datagrams answers items
+    → AllInTime plan window reach first arrivals datagrams → MayBeTold plan told → Run window reach first told datagrams answers items
     → IsFirstOf plan n → ConvertsAll carry n items parts → IsItsCapture plan carry parts
 
 -- The same where a reading ends as soon as all frames were given, whatever of the delivery is still to come.
 abbrev pub ConvertingEarly : Type 0
 ConvertingEarly =
-    (plan : Plan) (carry : Carry) (window n : ℕ) (first : Option ℕ) (arrivals : List Arrival) (datagrams later : List (List ℕ))
+    (plan : Plan) (carry : Carry) (window reach n : ℕ) (first : Option ℕ) (arrivals : List Arrival) (datagrams later : List (List ℕ))
     (answers : List Taken) (items : List Item) (parts : List Part)
-    → AllInTime plan window first arrivals (datagrams ++ later) → (run : Run window first (Some (frame_count plan)) datagrams answers items)
+    → AllInTime plan window reach first arrivals (datagrams ++ later) → (run : Run window reach first (Some (frame_count plan)) datagrams answers items)
     → frame_count plan ≤ length run.during
     → IsFirstOf plan n → ConvertsAll carry n items parts → IsItsCapture plan carry parts
 
@@ -73,17 +73,17 @@ KnowsFirst plan c = (n : ℕ) × (c.first ≡ Some n) × IsFirstOf plan n
 -- still to come.
 abbrev pub FirstIsKnown : Type 0
 FirstIsKnown =
-    (plan : Plan) (window : ℕ) (first : Option ℕ) (arrivals : List Arrival) (datagrams later : List (List ℕ))
+    (plan : Plan) (window reach : ℕ) (first : Option ℕ) (arrivals : List Arrival) (datagrams later : List (List ℕ))
     (answers : List Taken) (given : List Item) (mid : State)
-    → IsSchedule plan → IsFollowed plan first (pos 0) arrivals (datagrams ++ later)
-    → Steps (made window first) datagrams answers given mid → 1 ≤ length given → KnowsFirst plan mid
+    → IsSchedule plan → IsFollowed plan reach first (pos 0) arrivals (datagrams ++ later)
+    → Steps (made window reach first) datagrams answers given mid → 1 ≤ length given → KnowsFirst plan mid
 
 -- And so does each collector that took the whole of a delivery in which each frame is in time.
 abbrev pub FirstOfAll : Type 0
 FirstOfAll =
-    (plan : Plan) (window : ℕ) (first told : Option ℕ) (arrivals : List Arrival) (datagrams : List (List ℕ))
+    (plan : Plan) (window reach : ℕ) (first told : Option ℕ) (arrivals : List Arrival) (datagrams : List (List ℕ))
     (answers : List Taken) (items : List Item)
-    → AllInTime plan window first arrivals datagrams → (run : Run window first told datagrams answers items) → KnowsFirst plan run.mid
+    → AllInTime plan window reach first arrivals datagrams → (run : Run window reach first told datagrams answers items) → KnowsFirst plan run.mid
 
 -- no packet of the schedule is longer than this carry allows
 abbrev pub FitsCarry : Carry → Plan → Type 0
@@ -95,7 +95,7 @@ abbrev pub NoneIsTooLarge : Type 0
 NoneIsTooLarge =
     (plan : Plan) (carry : Carry) (terms : Terms) (arrivals : List Arrival) (packets later : List (List ℕ)) (items : List Item)
     (item : Item) (last : State) (number : ℕ)
-    → IsSchedule plan → FitsCarry carry plan → 1 ≤ terms.window → IsFollowed plan terms.first (pos 0) arrivals (packets ++ later)
+    → IsSchedule plan → FitsCarry carry plan → 1 ≤ terms.window → IsFollowed plan terms.reach terms.first (pos 0) arrivals (packets ++ later)
     → ComesAt terms packets items item last → IsTooLarge carry item number → ⊥
 
 -- What a conversion makes of the packets of such a delivery is the schedule's capture under the new carry, whether it reads them
@@ -103,7 +103,7 @@ NoneIsTooLarge =
 abbrev pub ConversionsAreCaptures : Type 0
 ConversionsAreCaptures =
     (plan : Plan) (carry : Carry) (terms : Terms) (arrivals : List Arrival) (packets later : List (List ℕ)) (parts : List Part)
-    → AllInTime plan terms.window terms.first arrivals (packets ++ later) → MayBeTold plan terms.told
+    → AllInTime plan terms.window terms.reach terms.first arrivals (packets ++ later) → MayBeTold plan terms.told
     → (later ≡ []) ⊎ HasEnough terms packets → IsConversion terms carry packets parts → IsItsCapture plan carry parts
 
 -- the text is that of the datagrams of some first frames
@@ -114,7 +114,7 @@ IsOfFirstFrames plan text = (n : ℕ) × (datagrams : List (List ℕ)) × (n ≤
 abbrev pub BrokenConversions : Type 0
 BrokenConversions =
     (plan : Plan) (carry : Carry) (terms : Terms) (arrivals : List Arrival) (packets later : List (List ℕ)) (parts : List Part)
-    → AllInTime plan terms.window terms.first arrivals (packets ++ later) → IsBroken terms carry packets parts
+    → AllInTime plan terms.window terms.reach terms.first arrivals (packets ++ later) → IsBroken terms carry packets parts
     → IsOfFirstFrames (under carry plan) (text_of parts) × (lines_of parts ≡ [])
 
 -- the text is of the datagrams of one first frame or more, and so a front of the schedule's capture
@@ -126,7 +126,7 @@ abbrev pub HaltedConversions : Type 0
 HaltedConversions =
     (plan : Plan) (carry : Carry) (terms : Terms) (arrivals : List Arrival) (packets later : List (List ℕ)) (items : List Item) (item : Item)
     (last : State) (parts : List Part)
-    → CarryFits carry → AllInTime plan terms.window terms.first arrivals (packets ++ later) → MayBeTold plan terms.told
+    → CarryFits carry → AllInTime plan terms.window terms.reach terms.first arrivals (packets ++ later) → MayBeTold plan terms.told
     → (at : ComesAt terms packets items item last) → (at.later ≡ [] → later ≡ []) → is_full terms.told (length items) ≡ false
     → ConvertsAll carry (first_of last) (items ++ item ∷ []) parts → IsOfSomeFrames (under carry plan) (text_of parts) × (lines_of parts ≡ [])
 
@@ -135,7 +135,7 @@ pub record HasSchedule (plan : Plan) (terms : Terms) (bytes : List ℕ) : Type 0
   pub arrivals : List Arrival
   pub packets : List (List ℕ)
   pub capture : IsCaptureOf bytes packets End
-  pub in_time : AllInTime plan terms.window terms.first arrivals packets
+  pub in_time : AllInTime plan terms.window terms.reach terms.first arrivals packets
 
 -- The schedule's capture under the new carry was written; after a failed read the datagrams of some first frames; after a failed
 -- write a front of the capture; where memory is wanting, nothing. No other fault comes, and nothing was named.

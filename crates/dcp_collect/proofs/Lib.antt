@@ -6,6 +6,7 @@ pub mod Words
 pub mod Solved
 pub mod Decided
 pub mod Decoded
+pub mod Answering
 pub mod SoundLemmas
 pub mod Covering
 pub mod CoveringRows

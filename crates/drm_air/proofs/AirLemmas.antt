@@ -54,6 +54,8 @@ air_in_range plan window valid some few =
     record {
       some_window = some;
       few_packets = few;
+      some_reach = omega arith;
+      near_reach = omega arith;
       some_frames = omega (arith, least);
       few_frames = omega (arith, most);
       some_idles = omega arith;

@@ -170,7 +170,7 @@ front_arrives (suc n) (p ∷ pairs) = ap (λ l. OfSchedule p ∷ l) (front_arriv
 -- ---- the report of a feed is that of its whole delivery
 
 module _ (one_run : OneRun) (laws : DeliveryLaws) (plan : Plan) (window number : ℕ) (base : ℤ) (pairs : List (ℕ × ℕ)) (brought : List (List ℕ)) (r : Report)
-    (valid : IsSchedule plan) (some : 1 ≤ window) (few : length brought < 4294967295) (followed : IsFollowed plan (Some plan.seq) base (map OfSchedule pairs) brought)
+    (valid : IsSchedule plan) (some : 1 ≤ window) (few : length brought < 4294967295) (followed : IsFollowed plan 32767 (Some plan.seq) base (map OfSchedule pairs) brought)
     (of : IsReportOf (air_rules plan window) number (map Datagram brought) r) where
   abbrev arrivals : List Arrival
   arrivals = map OfSchedule pairs
@@ -181,16 +181,16 @@ module _ (one_run : OneRun) (laws : DeliveryLaws) (plan : Plan) (window number :
       let is = of.is in
       let n : ℕ = frame_count plan in
       let came = front_came brought of.answers of.rest of.next in
-      let whole : IsFollowed plan (Some plan.seq) base arrivals (datagrams of.answers ++ came.0) = subst (λ l. IsFollowed plan (Some plan.seq) base arrivals l) came.1 followed in
-      let same : is.run.during ≡ holds.1 = (one_run (made window (Some plan.seq)) holds.2 is.run.mid (datagrams of.answers) holds.0 is.taken holds.1 is.run.during holds.3 is.run.steps).1 in
+      let whole : IsFollowed plan 32767 (Some plan.seq) base arrivals (datagrams of.answers ++ came.0) = subst (λ l. IsFollowed plan 32767 (Some plan.seq) base arrivals l) came.1 followed in
+      let same : is.run.during ≡ holds.1 = (one_run (made window 32767 (Some plan.seq)) holds.2 is.run.mid (datagrams of.answers) holds.0 is.taken holds.1 is.run.during holds.3 is.run.steps).1 in
       let many : n ≤ length is.run.during = subst (λ l. n ≤ length l) (sym same) holds.4 in
       let items : is.items ≡ take n is.run.during = is.run.are ∙ take-append-le n is.run.during is.run.rest many in
-      let suit = laws.refused plan window (Some plan.seq) base arrivals (datagrams of.answers) came.0 is.taken is.run.during is.run.mid valid some whole is.run.steps in
+      let suit = laws.refused plan window 32767 (Some plan.seq) base arrivals (datagrams of.answers) came.0 is.taken is.run.during is.run.mid valid some whole is.run.steps in
       let size : ℕ = length (datagrams of.answers) in
       let none : refusals is.taken ≡ strays_from 0 arrivals =
       strays_noted 0 (take size arrivals) is.taken suit ∙ ap (strays_from 0) (front_arrives size pairs) ∙ no_strays 0 (take size pairs) ∙ sym (no_strays 0 pairs) in
       let given : AreGiven plan window base (Some n) (pairs_in arrivals) is.steps =
-      laws.early plan window n (Some plan.seq) base arrivals (datagrams of.answers) came.0 is.taken is.run.during is.run.mid is.steps is.after
+      laws.early plan window 32767 n (Some plan.seq) base arrivals (datagrams of.answers) came.0 is.taken is.run.during is.run.mid is.steps is.after
       valid some whole is.run.steps many (subst (λ l. Feeds new_tracker l is.steps is.after) items is.feeds) in
       record {
         steps = is.steps;
@@ -214,7 +214,7 @@ module _ (one_run : OneRun) (laws : DeliveryLaws) (plan : Plan) (window number :
   headline_by word.Idle ends =
       elim (all_came brought of.answers of.rest of.next) [
         | inl none ↦ absurd (let idle : 1 ≤ idles of.answers = ends.0 in omega (arith, none, idle))
-        | inr all ↦ of.headline plan base arrivals valid (subst (λ l. IsFollowed plan (Some plan.seq) base arrivals l) (sym all) followed)
+        | inr all ↦ of.headline plan base arrivals valid (subst (λ l. IsFollowed plan 32767 (Some plan.seq) base arrivals l) (sym all) followed)
       ]
   headline_by word.Input ends = absurd (never_ends brought of.answers of.rest ends.0.0 of.next ends.0.1)
   headline_by word.Paths ends = absurd ends
@@ -224,9 +224,9 @@ module _ (one_run : OneRun) (laws : DeliveryLaws) (plan : Plan) (window number :
 
 pub complete : (plan : Plan) (window number : ℕ) (pairs : List (ℕ × ℕ)) (brought : List (List ℕ)) (r : Report)
     → IsSchedule plan → length brought < 4294967295 → IsReportOf (air_rules plan window) number (map Datagram brought) r
-    → IsFollowed plan (Some plan.seq) (pos 0) (map OfSchedule pairs) brought → ((q : ℕ) → q < frame_count plan → IsInTime plan window (pos 0) pairs q)
+    → IsFollowed plan 32767 (Some plan.seq) (pos 0) (map OfSchedule pairs) brought → ((q : ℕ) → q < frame_count plan → IsInTime plan window (pos 0) pairs q)
     → ModulatesAll plan (air_rules plan window) number (map OfSchedule pairs) (map Datagram brought) r.text r.clean
 complete plan window number pairs brought r valid few of followed in_time =
     of.complete plan (map OfSchedule pairs) (all_answers brought) valid (would_be_read (air_rules plan window) brought refl few)
-    (subst (λ l. IsFollowed plan (Some plan.seq) (pos 0) (map OfSchedule pairs) l) (sym (came_all brought)) followed) (inr refl)
+    (subst (λ l. IsFollowed plan 32767 (Some plan.seq) (pos 0) (map OfSchedule pairs) l) (sym (came_all brought)) followed) (inr refl)
     (λ q within. subst (λ l. IsInTime plan window (pos 0) l q) (sym (pairs_again pairs)) (in_time q within))

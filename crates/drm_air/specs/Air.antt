@@ -24,9 +24,9 @@ use Rattle.drm_faults.specs.Fault.{UnlessMemory}
 use Rattle.drm_faults.specs.declared.fault.Fault.{Fault}
 use Rattle.drm_faults.specs.declared.fault.Fault.TheVariants as faults
 
--- a feed is read by the schedule's first sequence number and all its frames, and ends where nothing is left
+-- A feed is read by the greatest reach, the schedule's first sequence number and all its frames, and ends where nothing is left.
 abbrev pub air_rules : Plan → ℕ → ReceiveOptions
-air_rules plan window = record { window = window; first = Some plan.seq; frames = Some (frame_count plan); idle = 1; limit = 4294967295 }
+air_rules plan window = record { window = window; reach = 32767; first = Some plan.seq; frames = Some (frame_count plan); idle = 1; limit = 4294967295 }
 
 -- the pairs that a feed delivers
 abbrev pub pairs_of : List Delivery → List (ℕ × ℕ)
@@ -41,9 +41,9 @@ pub record IsAired (plan : Plan) (window feed : ℕ) (deliveries : List Delivery
   pub datagrams : List (List ℕ)
   pub sent : AreSent plan (pairs_of deliveries) datagrams
   pub report : IsReportOf (air_rules plan window) feed (map Datagram datagrams) r
-  pub headline : (base : ℤ) → IsFollowed plan (Some plan.seq) base (arrivals_of deliveries) datagrams
+  pub headline : (base : ℤ) → IsFollowed plan 32767 (Some plan.seq) base (arrivals_of deliveries) datagrams
       → Modulates plan (air_rules plan window) feed base (arrivals_of deliveries) report.answers r.text r.clean
-  pub complete : IsFollowed plan (Some plan.seq) (pos 0) (arrivals_of deliveries) datagrams
+  pub complete : IsFollowed plan 32767 (Some plan.seq) (pos 0) (arrivals_of deliveries) datagrams
       → ((q : ℕ) → q < frame_count plan → IsInTime plan window (pos 0) (pairs_of deliveries) q)
       → ModulatesAll plan (air_rules plan window) feed (arrivals_of deliveries) (map Datagram datagrams) r.text r.clean
 
@@ -110,7 +110,7 @@ FeedsAreInTime plan window feeds =
     (k : ℕ) (feed : List Delivery) (datagrams : List (List ℕ)) → k < length feeds
     → let here = slice_index_or feeds k feed in
     AreSent plan (pairs_of here) datagrams
-    → IsFollowed plan (Some plan.seq) (pos 0) (arrivals_of here) datagrams
+    → IsFollowed plan 32767 (Some plan.seq) (pos 0) (arrivals_of here) datagrams
     × ((q : ℕ) → q < frame_count plan → IsInTime plan window (pos 0) (pairs_of here) q)
 
 -- A run of `air`: the schedule is read, then the script, and then the feeds are received.

@@ -104,12 +104,14 @@ fn feed_all(
     Ok(jobs)
 }
 
-// A feed is read by the schedule's first sequence number and all its frames, and ends where nothing is left.
+// A feed is read by the greatest reach, the schedule's first sequence number and all its frames, and ends where nothing is
+// left.
 fn rules_for(plan: &Schedule, window: u8) -> ReceiveOptions
     ensures { result ≡ air_rules plan.now window }
 {
     ReceiveOptions {
         window,
+        reach: 32_767,
         first: Some(plan.seq()),
         frames: Some(u64::from(frame_count(plan))),
         idle: 1,

@@ -36,8 +36,8 @@ by_write (Err (unconverted.Halted halt.Write)) clean is = refl
 by_write (Err (unconverted.Halted (halt.PacketSize number))) clean is = absurd (cc)
 
 -- with what was told in place of the collector and the cutter that were made of it
-pub as_told : (window : ℕ) (first told : Option ℕ) (carry used : Carry) (c : State) (ending : Result Bool Fault) (named : Bool) (before after : Known Input) (a b x y : Known Output) → c ≡ made window first → used ≡ carry
-    → Ends (record { window = c.window; first = c.first; told = told }) used ending named before after a b x y → Ends (record { window = window; first = first; told = told }) carry ending named before after a b x y
-as_told window first told carry used c ending named before after a b x y is same ends =
-    subst (λ k. Ends (record { window = window; first = first; told = told }) k ending named before after a b x y) same
-    (subst (λ (s : State). Ends (record { window = s.window; first = s.first; told = told }) used ending named before after a b x y) is ends)
+pub as_told : (window reach : ℕ) (first told : Option ℕ) (carry used : Carry) (c : State) (ending : Result Bool Fault) (named : Bool) (before after : Known Input) (a b x y : Known Output) → c ≡ made window reach first → used ≡ carry
+    → Ends (record { window = c.window; reach = c.reach; first = c.first; told = told }) used ending named before after a b x y → Ends (record { window = window; reach = reach; first = first; told = told }) carry ending named before after a b x y
+as_told window reach first told carry used c ending named before after a b x y is same ends =
+    subst (λ k. Ends (record { window = window; reach = reach; first = first; told = told }) k ending named before after a b x y) same
+    (subst (λ (s : State). Ends (record { window = s.window; reach = s.reach; first = s.first; told = told }) used ending named before after a b x y) is ends)

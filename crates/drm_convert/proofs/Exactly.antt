@@ -56,7 +56,7 @@ one_number carry (Damaged index) m n a b = absurd a
 
 module _ (one_way : ReadOneWay) (some_way : ReadSomeWay) (in_front : PacketsInFront) (terms : Terms) (carry : Carry) where
   abbrev new : State
-  new = made terms.window terms.first
+  new = made terms.window terms.reach terms.first
 
   module _ (left : List ℕ) where
     -- ---- fronts of the capture

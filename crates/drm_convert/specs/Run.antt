@@ -31,7 +31,7 @@ use Rattle.recv_reading.specs.State.{is_full}
 pub record IsConversion (terms : Terms) (carry : Carry) (packets : List (List ℕ)) (parts : List Part) : Type 0 where
   pub taken : List Taken
   pub items : List Item
-  pub run : Run terms.window terms.first terms.told packets taken items
+  pub run : Run terms.window terms.reach terms.first terms.told packets taken items
   pub converts : ConvertsAll carry (first_of run.mid) items parts
 
 -- Those that it gives before any end, and their parts.
@@ -39,7 +39,7 @@ pub record IsBroken (terms : Terms) (carry : Carry) (packets : List (List ℕ)) 
   pub taken : List Taken
   pub items : List Item
   pub mid : State
-  pub steps : Steps (made terms.window terms.first) packets taken items mid
+  pub steps : Steps (made terms.window terms.reach terms.first) packets taken items mid
   pub converts : ConvertsAll carry (first_of mid) items parts
 
 -- Packets that are read give these items first, and then this one, which isn't past the told number; fewer of them aren't enough.

@@ -28,6 +28,7 @@ pub fn convert<I: Source, O: Sink, E: Sink>(
     alloc: Global,
     carry: Carry,
     window: u8,
+    reach: u16,
     first: Option<u16>,
     frames: Option<u64>,
     input: &mut I,
@@ -39,13 +40,15 @@ pub fn convert<I: Source, O: Sink, E: Sink>(
     requires window { (1 ≤ window) × (window ≤ 64) }
     requires frames { IfSome frames (λ n. (1 ≤ n) × (n ≤ 3000000)) }
     requires told { told.old ≡ true }
-    ensures run { ConvertRun (record { window = window; first = first; told = frames }) carry result told.new
+    ensures run { ConvertRun (record { window = window; reach = reach; first = first; told = frames }) carry result told.new
         I.known input.old input.new O.known out.old out.new E.known err.old err.new }
 {
     read_one_way();
     read_some_way();
     packets_in_front();
-    let (mut collector, mut cutter, mut packets, mut lines) = parts(alloc, carry, window, first)?;
+    let (mut collector, mut cutter, mut packets, mut lines) = parts(
+        alloc, carry, window, reach, first,
+    )?;
     let mut progress = Progress {
         given: 0,
         clean: true,
@@ -71,13 +74,14 @@ fn parts(
     alloc: Global,
     carry: Carry,
     window: u8,
+    reach: u16,
     first: Option<u16>,
 ) -> Result<(Collector, PacketSender, Packets, LineWriter), NoMemory>
     requires carry { CarryFits carry }
     requires window { (1 ≤ window) × (window ≤ 64) }
-    ensures { IfOk result (λ parts. (parts.0 ≡ made window first) × (parts.1 ≡ carry) × (parts.2 ≡ new_walker) × (parts.3 ≡ [])) }
+    ensures { IfOk result (λ parts. (parts.0 ≡ made window reach first) × (parts.1 ≡ carry) × (parts.2 ≡ new_walker) × (parts.3 ≡ [])) }
 {
-    let collector = Collector::make(alloc, window, first)?;
+    let collector = Collector::make(alloc, window, reach, first)?;
     let cutter = PacketSender::make(alloc, carry)?;
     let packets = Packets::make(alloc)?;
     let lines = LineWriter::make(alloc)?;

@@ -61,12 +61,12 @@ pub(crate) fn convert_packets<I: Source, O: Sink, E: Sink>(
     err: &mut E,
 ) -> Result<(), Unconverted>
     requires window { (1 ≤ collector.old.window) × (collector.old.window ≤ 64) }
-    requires collector { collector.old ≡ made collector.old.window collector.old.first }
+    requires collector { collector.old ≡ made collector.old.window collector.old.reach collector.old.first }
     requires packets { packets.old ≡ new_walker }
     requires progress { progress.old ≡ new_progress }
     requires some { IfSome told (λ n. 1 ≤ n) }
     requires few { IfSome told (λ n. n ≤ 3000000) }
-    ensures ends { EndsBy result (record { window = collector.old.window; first = collector.old.first; told = told })
+    ensures ends { EndsBy result (record { window = collector.old.window; reach = collector.old.reach; first = collector.old.first; told = told })
         cutter.old progress.new (I.known input.old) (I.known input.new) (O.known out.old) (O.known out.new)
         (E.known err.old) (E.known err.new) }
     ensures read { HasCause (I.known input.old) (I.known input.new) (result ≡ Err (Unconverted.Stopped CaptureStop.Read)) }

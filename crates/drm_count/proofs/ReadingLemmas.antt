@@ -58,7 +58,7 @@ pub record Counting (options : ReceiveOptions) (came : List Answer → Type 0) (
 
 -- nothing came yet
 pub none_counted : (options : ReceiveOptions) (came : List Answer → Type 0) (r : ReadingState) (c : State) (f : TrackerState) (t : Totals)
-    → AreUsable options → r ≡ new_reading (bounds_of options) → c ≡ made options.window options.first → f ≡ new_tracker → t ≡ totals_of [] [] → came []
+    → AreUsable options → r ≡ new_reading (bounds_of options) → c ≡ made options.window options.reach options.first → f ≡ new_tracker → t ≡ totals_of [] [] → came []
     → Counting options came r c f t
 none_counted options came r c f t usable reads is new empty heard = record {
   answers = [];

@@ -57,7 +57,7 @@ fn count_link<D: Dock>(
 {
     reports_follow();
     in_time_is_unbroken();
-    let mut collector = Collector::make(alloc, options.window, options.first)?;
+    let mut collector = Collector::make(alloc, options.window, options.reach, options.first)?;
     let mut buffer = zeros(alloc, LONGEST_DATAGRAM)?;
     let mut room = Room {
         bytes: buffer.as_mut_slice(),
@@ -87,7 +87,7 @@ fn count_packets<I: Source>(
     reports_follow();
     in_time_is_unbroken();
     read_some_way();
-    let mut collector = Collector::make(alloc, options.window, options.first)?;
+    let mut collector = Collector::make(alloc, options.window, options.reach, options.first)?;
     let mut packets = Packets::make(alloc)?;
     match count_all(options, &mut collector, &mut packets, input) {
         Ok(totals) => Ok(totals),

@@ -21,7 +21,7 @@ pub(crate) fn count_all<F, R: Datagrams<F>>(
     from: &mut F,
 ) -> Result<Totals, SourceFault>
     requires options { AreInRange options.now }
-    requires collector { collector.old ≡ made options.now.window options.now.first }
+    requires collector { collector.old ≡ made options.now.window options.now.reach options.now.first }
     requires room { R.is_ready room.old }
     requires nothing_came { R.so_far from.old room.old from.old [] }
     ensures counted { IfOk result (Counted options.now (R.so_far from.old room.new from.new)) }

@@ -80,7 +80,7 @@ may_steps c d (b ∷ ds) (a ∷ taken) items first (now, later, kept, mid, takes
 
 module _ (rules : ReceiveOptions) (carry : Carry) (answers : List Answer) (sent : List (List ℕ)) (s : StopsAt rules carry answers sent) where
   abbrev new : State
-  new = made rules.window rules.first
+  new = made rules.window rules.reach rules.first
 
   abbrev before : List Item
   before = s.during ++ s.more
@@ -138,7 +138,7 @@ module _ (rules : ReceiveOptions) (carry : Carry) (answers : List Answer) (sent 
 
 pub one_onward : (rules : ReceiveOptions) (carry : Carry) (ds : List (List ℕ)) (fs gs : List Fate) → IsOnward rules carry ds fs → IsOnward rules carry ds gs → sent_of fs ≡ sent_of gs
 one_onward rules carry ds fs gs a b =
-    let steps = one_way (made rules.window rules.first) a.run.mid b.run.mid ds a.taken b.taken a.run.during b.run.during a.run.steps b.run.steps in
+    let steps = one_way (made rules.window rules.reach rules.first) a.run.mid b.run.mid ds a.taken b.taken a.run.during b.run.during a.run.steps b.run.steps in
     let gives : Gives (after_finish a.run.mid rules.frames) b.run.rest b.run.after = subst (λ (s : State). Gives (after_finish s rules.frames) b.run.rest b.run.after) steps.2 b.run.gives in
     let rest = one_giving one_decoding (after_finish a.run.mid rules.frames) a.run.after b.run.after a.run.rest b.run.rest a.run.gives gives in
     let items : b.items ≡ a.items = b.run.are ∙ (ap₂ (λ x y. up_to rules.frames (x ++ y)) steps.1 rest.0 ∙ sym a.run.are) in

@@ -14,11 +14,11 @@ pub record Gateway : Type 0 where
 pub record IsNew (gate : Gateway) : Type 0 where
   pub some : 1 ≤ gate.collector.window
   pub few : gate.collector.window ≤ 64
-  pub is : gate.collector ≡ made gate.collector.window gate.collector.first
+  pub is : gate.collector ≡ made gate.collector.window gate.collector.reach gate.collector.first
 
 -- what a call reads by: from its new collector and its options
 abbrev pub rules_of : State → GateOptions → ReceiveOptions
-rules_of c options = record { window = c.window; first = c.first; frames = options.frames; idle = options.idle; limit = options.limit }
+rules_of c options = record { window = c.window; reach = c.reach; first = c.first; frames = options.frames; idle = options.idle; limit = options.limit }
 
 -- each number of the options is in its range
 pub record IsReasonable (options : GateOptions) : Type 0 where

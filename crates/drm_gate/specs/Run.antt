@@ -29,7 +29,7 @@ use Rattle.drm_gate.specs.Tallies.{tally_of, over}
 pub record IsOnward (rules : ReceiveOptions) (carry : Carry) (datagrams : List (List ℕ)) (fates : List Fate) : Type 0 where
   pub taken : List Taken
   pub items : List Item
-  pub run : Run rules.window rules.first rules.frames datagrams taken items
+  pub run : Run rules.window rules.reach rules.first rules.frames datagrams taken items
   pub become : BecomeAll carry (first_of run.mid) items fates
 
 -- What becomes of what these datagrams make ready, while more may come.
@@ -37,7 +37,7 @@ pub record IsReady (rules : ReceiveOptions) (carry : Carry) (datagrams : List (L
   pub taken : List Taken
   pub items : List Item
   pub mid : State
-  pub steps : Steps (made rules.window rules.first) datagrams taken items mid
+  pub steps : Steps (made rules.window rules.reach rules.first) datagrams taken items mid
   pub become : BecomeAll carry (first_of mid) items fates
 
 -- a front of a list, and not the whole

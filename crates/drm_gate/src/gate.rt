@@ -62,18 +62,19 @@ impl Model for Gate {
 }
 
 impl Gate {
-    /// A new gateway. The window counts packets; `first` is the sequence number of number 0, where it is known.
+    /// A new gateway. The window and the reach count packets; `first` is the sequence number of number 0, where it is known.
     pub fn make(
         alloc: Global,
         window: u8,
+        reach: u16,
         first: Option<u16>,
         carry: Carry,
     ) -> Result<Gate, NoMemory>
         requires window { (1 ≤ window) × (window ≤ 64) }
         requires carry { CarryFits carry }
-        ensures { IfOk result (λ gate. gate ≡ record { collector = made window first; carry = carry }) }
+        ensures { IfOk result (λ gate. gate ≡ record { collector = made window reach first; carry = carry }) }
     {
-        let collector = Collector::make(alloc, window, first)?;
+        let collector = Collector::make(alloc, window, reach, first)?;
         let sender = PacketSender::make(alloc, carry)?;
         Ok(Gate { collector, sender })
     }

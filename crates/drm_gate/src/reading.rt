@@ -61,7 +61,7 @@ pub(crate) fn pass_on<L: Link, K: Link>(
     requires buffer { 65536 ≤ length buffer.old }
     requires options { IsReasonable options.now }
     requires window { 1 ≤ collector.old.window }
-    requires collector { collector.old ≡ made collector.old.window collector.old.first }
+    requires collector { collector.old ≡ made collector.old.window collector.old.reach collector.old.first }
     requires up { SomeUp (targets K.known to.old) }
     ensures ends { EndsReading (rules_of collector.old options.now) sender.old
         (Heard (L.known from.old) (L.known from.new)) (targets K.known to.old) (targets K.known to.new) result }

@@ -43,8 +43,8 @@ abbrev pub book_state : JournalState → ℕ → BookState
 book_state journal total = record { journal = journal; total = total }
 
 -- by what a report is made
-abbrev pub settings_of : ℕ → Option ℕ → Option ℕ → Settings
-settings_of window first frames = record { window = window; first = first; frames = frames }
+abbrev pub settings_of : ℕ → ℕ → Option ℕ → Option ℕ → Settings
+settings_of window reach first frames = record { window = window; reach = reach; first = first; frames = frames }
 
 -- The datagram was taken with this answer: it stands last in the journal under the path's number, and last among those of the
 -- path; the ledger's total and the path's share are one more.

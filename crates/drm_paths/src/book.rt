@@ -29,14 +29,14 @@ impl<G: Road> Model for Book<G> {
 
     ghost view = { λ b. book_state b.journal b.total.total };
 
-    ghost invariant = { λ b. (b.journal.settings ≡ settings_of G.window G.first G.frames)
+    ghost invariant = { λ b. (b.journal.settings ≡ settings_of G.window G.reach G.first G.frames)
         × (length b.journal.entries ≡ b.total.total) × AreNumbered G.parts b.journal.entries };
 }
 
 impl<G: Road> Book<G> {
     // A book with a new journal.
     pub(crate) fn new(journal: Journal, total: Total<G>) -> Book<G>
-        requires settings { journal.settings ≡ settings_of G.window G.first G.frames }
+        requires settings { journal.settings ≡ settings_of G.window G.reach G.first G.frames }
         requires counted { length journal.entries ≡ total.total }
         requires numbered { AreNumbered G.parts journal.entries }
         ensures { result.journal ≡ journal }
@@ -78,7 +78,7 @@ impl<G: Road> Book<G> {
     /// what its type says; or a front of that, where it has stopped.
     pub fn keeps_its_report(&self)
         ensures kept { IsKept self.now.journal }
-        ensures settings { self.now.journal.settings ≡ settings_of G.window G.first G.frames }
+        ensures settings { self.now.journal.settings ≡ settings_of G.window G.reach G.first G.frames }
         ensures counted { length self.now.journal.entries ≡ self.now.total }
         ensures numbered { AreNumbered G.parts self.now.journal.entries }
     {
@@ -111,7 +111,7 @@ impl<G: Road> Book<G> {
 
     // Ends the report.
     pub(crate) fn finish(self, alloc: Global) -> Result<Ending, NoMemory>
-        ensures { IfOk result (λ ending. IsReportOf (settings_of G.window G.first G.frames) (datagrams self.journal.entries) ending.text ending.clean) }
+        ensures { IfOk result (λ ending. IsReportOf (settings_of G.window G.reach G.first G.frames) (datagrams self.journal.entries) ending.text ending.clean) }
     {
         let Book { journal, .. } = self;
         journal.finish(alloc)

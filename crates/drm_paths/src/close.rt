@@ -159,7 +159,7 @@ fn merged<G: Road>(mut paths: Vec<Path<G>>) -> Share<G>
 pub fn close_paths<G: Road>(alloc: Global, shared: Shared<G>, paths: Paths<G>) -> Closed
     requires some { 0 < length paths }
     requires all { sum_by (λ p. p.parts) paths ≡ G.parts }
-    ensures { (journal : JournalState) × Closes (settings_of G.window G.first G.frames) journal paths result }
+    ensures { (journal : JournalState) × Closes (settings_of G.window G.reach G.first G.frames) journal paths result }
 {
     close_book(alloc, shared.into_book(), paths)
 }
@@ -169,7 +169,7 @@ pub fn close_paths<G: Road>(alloc: Global, shared: Shared<G>, paths: Paths<G>) -
 pub fn close_book<G: Road>(alloc: Global, mut book: Book<G>, paths: Paths<G>) -> Closed
     requires some { 0 < length paths }
     requires all { sum_by (λ p. p.parts) paths ≡ G.parts }
-    ensures { Closes (settings_of G.window G.first G.frames) book.journal paths result }
+    ensures { Closes (settings_of G.window G.reach G.first G.frames) book.journal paths result }
 {
     if book.is_stopped() {
         return Closed::NoMemory;

@@ -10,6 +10,8 @@ use std::sync::ledger::Ledger;
 pub trait Road: Ledger {
     ghost window: { ℕ };
 
+    ghost reach: { ℕ };
+
     ghost first: { Option ℕ };
 
     ghost frames: { Option ℕ };
@@ -19,6 +21,8 @@ impl Road for Brand {
     ghost use Rattle.std.specs.Prelude.{None};
 
     ghost window = { 0 };
+
+    ghost reach = { 0 };
 
     ghost first = { None };
 

@@ -1,5 +1,5 @@
 -- The headline of a command that ended with a report.
-use Rattle.std.proofs.Common.{◌≡◌, inl, inr, ℕ, Bool, true, false, List, [], None, Some, Result, Ok, Err, refl}
+use Rattle.std.proofs.Common.{◌≡◌, inl, inr, ℕ, Bool, true, false, List, None, Some, Result, Ok, Err, refl}
 use Rattle.drm_links.specs.Told.{Known}
 use Rattle.drm_links.specs.Shelf.{Files}
 use Rattle.drm_links.specs.Sink.{Output}
@@ -78,9 +78,9 @@ one_status false false same = refl
 
 module _ {S I O E D : Type 0} (clean told : Bool) (o : Outside S I O E D) where
   of_command : (request : Request) → CommandRun request (Ok clean) told o → HeadlineOfRun request clean o
-  of_command (Receive (Some addresses) window first frames idle limit) run =
-      of_links (options_of window first frames idle limit) addresses clean o.dock.known o.dock.before o.dock.after o.out.known o.out.before o.out.after run.0
-  of_command (Receive None window first frames idle limit) run = run.0.writes clean refl
+  of_command (Receive (Some addresses) window reach first frames idle limit) run =
+      of_links (options_of window reach first frames idle limit) addresses clean o.dock.known o.dock.before o.dock.after o.out.known o.out.before o.out.after run.0
+  of_command (Receive None window reach first frames idle limit) run = run.0.writes clean refl
   of_command (Air name script window) run =
       of_schedule name script window clean o.shelf.known o.shelf.before run.0.between o.shelf.after o.out.known o.out.before o.out.after run.0.came run.0.loads run.0.runs
   of_command _ run = tt

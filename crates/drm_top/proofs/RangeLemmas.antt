@@ -1,5 +1,5 @@
 -- The numbers of a request that was read are in their ranges.
-use Rattle.std.proofs.Common.{◌≡◌, ◌≤◌, ℕ, List, [], ◌∷◌, Option, None, Some, IfSome, IsUtf8, sym, subst, arith}
+use Rattle.std.proofs.Common.{◌≡◌, ◌≤◌, ℕ, List, [], ◌∷◌, Option, None, Some, IfSome, sym, subst, arith}
 use Rattle.drm_links.specs.declared.dock.Address.{Address}
 use Rattle.drm_words.specs.declared.request.Request.{Request}
 use Rattle.drm_words.specs.declared.request.Request.TheVariants.{Check, Serve, Receive, Count, Air, Exercise, Convert, Gate, Pack, Unpack, Texts}
@@ -31,9 +31,10 @@ listed (text ∷ []) addresses (list, is, are) =
     subst AreListed (sym same) (record { some = are.some; few = are.few; different = are.different })
 listed (text ∷ other ∷ texts) addresses is = absurd is
 
-in_reading : (options : Options) (rules : ReceiveOptions) → IsReading options rules.window rules.first rules.frames rules.idle rules.limit → AreInRange rules
+in_reading : (options : Options) (rules : ReceiveOptions) → IsReading options rules.window rules.reach rules.first rules.frames rules.idle rules.limit → AreInRange rules
 in_reading options rules reading =
     let window = within 8 1 64 rules.window _ (omega arith) (omega arith) reading.stretch.has_window in
+    let reach = within 32767 1 32767 rules.reach _ (omega arith) (omega arith) reading.stretch.has_reach in
     let frames = within_or_none 1 3000000 _ rules.frames reading.stretch.has_frames in
     let idle = within 50 1 1000000 rules.idle _ (omega arith) (omega arith) reading.has_idle in
     let limit = within 4294967295 1 4294967295 rules.limit _ (omega arith) (omega arith) reading.has_limit in
@@ -41,6 +42,8 @@ in_reading options rules reading =
     record {
       some_window = window.0;
       few_packets = window.1;
+      some_reach = reach.0;
+      near_reach = reach.1;
       some_frames = frames.0;
       few_frames = frames.1;
       some_idles = idle.0;
@@ -49,9 +52,9 @@ in_reading options rules reading =
       few_datagrams = omega (arith, less);
     }
 
-reads : (words : List (List ℕ)) (addresses : Option (List Address)) (window : ℕ) (first frames : Option ℕ) (idle limit : ℕ) → IsLine words (Receive addresses window first frames idle limit)
-    → AreInRange (options_of window first frames idle limit)
-reads words addresses window first frames idle limit line = let asks = line.asks in in_reading _ (options_of window first frames idle limit) asks.3
+reads : (words : List (List ℕ)) (addresses : Option (List Address)) (window reach : ℕ) (first frames : Option ℕ) (idle limit : ℕ) → IsLine words (Receive addresses window reach first frames idle limit)
+    → AreInRange (options_of window reach first frames idle limit)
+reads words addresses window reach first frames idle limit line = let asks = line.asks in in_reading _ (options_of window reach first frames idle limit) asks.3
 
 different : (value : Option (List ℕ)) (to : List Address) → AreAddressesIfTold value to → AreDifferent to
 different None to none = subst AreDifferent (sym none) tt
@@ -65,8 +68,8 @@ both : (frames : Option ℕ) → IfSome frames (λ n. 1 ≤ n) → IfSome frames
 both None some few = tt
 both (Some n) some few = (some, few)
 
-in_stretch : (options : Options) (window : ℕ) (first frames : Option ℕ) → IsStretch options window first frames → IsInStretch window frames
-in_stretch options window first frames stretch =
+in_stretch : (options : Options) (window reach : ℕ) (first frames : Option ℕ) → IsStretch options window reach first frames → IsInStretch window frames
+in_stretch options window reach first frames stretch =
     let size = within 8 1 64 window _ (omega arith) (omega arith) stretch.has_window in
     let some = within_or_none 1 3000000 _ frames stretch.has_frames in
     (size.0, size.1, both frames some.0 some.1)
@@ -75,27 +78,27 @@ pub in_range : (request : Request) (words : List (List ℕ)) → IsLine words re
 in_range (Check name) words line text = text
 in_range (Serve name to pace from live) words line text =
     (text, (within 0 0 1000000 from _ (omega arith) (omega arith) line.asks.5).1, different _ to line.asks.3)
-in_range (Receive (Some addresses) window first frames idle limit) words line text =
-    (reads words (Some addresses) window first frames idle limit line, let asks = line.asks in listed _ addresses asks.1)
-in_range (Receive None window first frames idle limit) words line text = reads words None window first frames idle limit line
-in_range (Count address window first frames idle limit) words line text = let asks = line.asks in in_reading _ (options_of window first frames idle limit) asks.3
+in_range (Receive (Some addresses) window reach first frames idle limit) words line text =
+    (reads words (Some addresses) window reach first frames idle limit line, let asks = line.asks in listed _ addresses asks.1)
+in_range (Receive None window reach first frames idle limit) words line text = reads words None window reach first frames idle limit line
+in_range (Count address window reach first frames idle limit) words line text = let asks = line.asks in in_reading _ (options_of window reach first frames idle limit) asks.3
 in_range (Air name script window) words line text =
     let range = within 8 1 64 window _ (omega arith) (omega arith) line.asks.3 in
     (text.0, text.1, range.0, range.1)
 in_range (Exercise n) words line text = (line.asks.3.1, line.asks.3.2)
-in_range (Convert carry window first frames) words line text = (carry_fits line.asks.1 carry line.asks.3, in_stretch _ window first frames line.asks.5)
-in_range (Gate from to carry window first frames idle limit) words line text =
+in_range (Convert carry window reach first frames) words line text = (carry_fits line.asks.1 carry line.asks.3, in_stretch _ window reach first frames line.asks.5)
+in_range (Gate from to carry window reach first frames idle limit) words line text =
     let are = line.asks.6 in (
       carry_fits line.asks.3 carry line.asks.7,
-      in_reading _ (options_of window first frames idle limit) line.asks.9,
+      in_reading _ (options_of window reach first frames idle limit) line.asks.9,
       record { some = are.some; few = are.few; different = are.different },
     )
 in_range (Pack pid length) words line text = (let few = line.asks.4.2 in omega (arith, few), line.asks.5.1)
-in_range (Unpack stream pid length window first frames) words line text = (
+in_range (Unpack stream pid length window reach first frames) words line text = (
   let few = line.asks.5.2 in omega (arith, few),
   let few = line.asks.6.2 in omega (arith, few),
   line.asks.7.1,
-  in_stretch _ window first frames line.asks.9,
+  in_stretch _ window reach first frames line.asks.9,
 )
-in_range (Texts stream window first frames) words line text = (let few = line.asks.3.2 in omega (arith, few), in_stretch _ window first frames line.asks.5)
+in_range (Texts stream window reach first frames) words line text = (let few = line.asks.3.2 in omega (arith, few), in_stretch _ window reach first frames line.asks.5)
 in_range _ words line text = tt

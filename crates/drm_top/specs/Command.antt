@@ -62,31 +62,31 @@ CommandRun (Serve name [] pace from live) ending told o =
     ServesOut (is_any live) name from live ending o × IsStill o.dock × IsQuiet told o.err.before o.err.after
 CommandRun (Serve name (at ∷ others) pace from live) ending told o =
     ServesOver (is_any live) name (at ∷ others) pace from live ending o × IsStill o.out × IsQuiet told o.err.before o.err.after
-CommandRun (Receive (Some addresses) window first frames idle limit) ending told o =
-    ReceiveRun (options_of window first frames idle limit) addresses ending o.dock.known o.dock.before o.dock.after o.out.known o.out.before o.out.after × IsStill o.shelf × IsStill o.input × IsQuiet told o.err.before o.err.after
-CommandRun (Receive None window first frames idle limit) ending told o =
-    CaptureRun (options_of window first frames idle limit) ending o.input.known o.input.before o.input.after o.out.known o.out.before o.out.after × IsStill o.shelf × IsStill o.dock × IsQuiet told o.err.before o.err.after
-CommandRun (Count (Some at) window first frames idle limit) ending told o =
-    CountRun (options_of window first frames idle limit) at ending o.dock.known o.dock.before o.dock.after o.out.known o.out.before o.out.after × IsStill o.shelf × IsStill o.input × IsQuiet told o.err.before o.err.after
-CommandRun (Count None window first frames idle limit) ending told o =
-    CountCaptureRun (options_of window first frames idle limit) ending o.input.known o.input.before o.input.after o.out.known o.out.before o.out.after × IsStill o.shelf × IsStill o.dock × IsQuiet told o.err.before o.err.after
+CommandRun (Receive (Some addresses) window reach first frames idle limit) ending told o =
+    ReceiveRun (options_of window reach first frames idle limit) addresses ending o.dock.known o.dock.before o.dock.after o.out.known o.out.before o.out.after × IsStill o.shelf × IsStill o.input × IsQuiet told o.err.before o.err.after
+CommandRun (Receive None window reach first frames idle limit) ending told o =
+    CaptureRun (options_of window reach first frames idle limit) ending o.input.known o.input.before o.input.after o.out.known o.out.before o.out.after × IsStill o.shelf × IsStill o.dock × IsQuiet told o.err.before o.err.after
+CommandRun (Count (Some at) window reach first frames idle limit) ending told o =
+    CountRun (options_of window reach first frames idle limit) at ending o.dock.known o.dock.before o.dock.after o.out.known o.out.before o.out.after × IsStill o.shelf × IsStill o.input × IsQuiet told o.err.before o.err.after
+CommandRun (Count None window reach first frames idle limit) ending told o =
+    CountCaptureRun (options_of window reach first frames idle limit) ending o.input.known o.input.before o.input.after o.out.known o.out.before o.out.after × IsStill o.shelf × IsStill o.dock × IsQuiet told o.err.before o.err.after
 CommandRun (Air name script window) ending told o =
     AirRun name script window ending o.shelf.known o.shelf.before o.shelf.after o.out.known o.out.before o.out.after × IsStill o.input × IsStill o.dock × IsQuiet told o.err.before o.err.after
 CommandRun Show ending told o =
     ShowRun ending o.input.known o.input.before o.input.after o.out.known o.out.before o.out.after × IsStill o.shelf × IsStill o.dock × IsQuiet told o.err.before o.err.after
 CommandRun (Exercise n) ending told o =
     ExerciseRun n ending o.out.known o.out.before o.out.after × IsStill o.shelf × IsStill o.input × IsStill o.dock × IsQuiet told o.err.before o.err.after
-CommandRun (Convert carry window first frames) ending told o =
-    ConvertRun (record { window = window; first = first; told = frames }) carry ending told o.input.known o.input.before o.input.after o.out.known o.out.before o.out.after o.err.known o.err.before o.err.after × IsStill o.shelf × IsStill o.dock
-CommandRun (Gate from to carry window first frames idle limit) ending told o =
-    GateCommandRun (options_of window first frames idle limit) carry from to ending o.dock.known o.dock.before o.dock.after o.out.known o.out.before o.out.after × IsStill o.shelf × IsStill o.input × IsQuiet told o.err.before o.err.after
+CommandRun (Convert carry window reach first frames) ending told o =
+    ConvertRun (record { window = window; reach = reach; first = first; told = frames }) carry ending told o.input.known o.input.before o.input.after o.out.known o.out.before o.out.after o.err.known o.err.before o.err.after × IsStill o.shelf × IsStill o.dock
+CommandRun (Gate from to carry window reach first frames idle limit) ending told o =
+    GateCommandRun (options_of window reach first frames idle limit) carry from to ending o.dock.known o.dock.before o.dock.after o.out.known o.out.before o.out.after × IsStill o.shelf × IsStill o.input × IsQuiet told o.err.before o.err.after
 CommandRun (Pack pid length) ending told o =
     Whole ending (λ done. PackRun pid length done o.input.known o.input.before o.input.after o.out.known o.out.before o.out.after) × IsStill o.shelf × IsStill o.dock × IsQuiet told o.err.before o.err.after
-CommandRun (Unpack stream pid length window first frames) ending told o =
-    DataRun (record { window = window; first = first; told = frames }) (UnitsOf stream pid length) ending o.input.known o.input.before o.input.after o.out.known o.out.before o.out.after
+CommandRun (Unpack stream pid length window reach first frames) ending told o =
+    DataRun (record { window = window; reach = reach; first = first; told = frames }) (UnitsOf stream pid length) ending o.input.known o.input.before o.input.after o.out.known o.out.before o.out.after
     × IsStill o.shelf × IsStill o.dock × IsQuiet told o.err.before o.err.after
-CommandRun (Texts stream window first frames) ending told o =
-    DataRun (record { window = window; first = first; told = frames }) (TextsOf stream) ending o.input.known o.input.before o.input.after o.out.known o.out.before o.out.after
+CommandRun (Texts stream window reach first frames) ending told o =
+    DataRun (record { window = window; reach = reach; first = first; told = frames }) (TextsOf stream) ending o.input.known o.input.before o.input.after o.out.known o.out.before o.out.after
     × IsStill o.shelf × IsStill o.dock × IsQuiet told o.err.before o.err.after
 
 -- nothing of the outside was touched
@@ -106,9 +106,9 @@ Ends ending told code known err err' = (code ≡ report_status ending) × Report
 -- a command that opens a link
 abbrev pub OpensALink : Request → Type 0
 OpensALink (Serve name (at ∷ others) pace from live) = Unit {0}
-OpensALink (Receive (Some addresses) window first frames idle limit) = Unit {0}
-OpensALink (Count (Some at) window first frames idle limit) = Unit {0}
-OpensALink (Gate from to carry window first frames idle limit) = Unit {0}
+OpensALink (Receive (Some addresses) window reach first frames idle limit) = Unit {0}
+OpensALink (Count (Some at) window reach first frames idle limit) = Unit {0}
+OpensALink (Gate from to carry window reach first frames idle limit) = Unit {0}
 OpensALink _ = ⊥
 
 -- a command that tells of frames or packets, some of which may be missing or bad, or sends frames that may lack bytes of input

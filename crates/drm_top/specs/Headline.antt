@@ -33,12 +33,12 @@ pub record WroteFeeds {S O : Type 0} (name script : List ℕ) (window : ℕ) (cl
 -- The headline where a command ended with a report: what was written is the report of what was ahead of the link at each address, of what the capture brings, or of what each
 -- feed delivers. Of each report `HeadlineOf` holds: whatever delivery of whatever valid schedule came, it says what that calls for.
 abbrev pub HeadlineOfRun : {S I O E D : Type 0} → Request → Bool → Outside S I O E D → Type 0
-HeadlineOfRun (Receive (Some addresses) window first frames idle limit) clean o =
+HeadlineOfRun (Receive (Some addresses) window reach first frames idle limit) clean o =
     Docked (o.dock.known o.dock.before) (o.dock.known o.dock.after) (λ told.
-    WritesReports (AreReports (options_of window first frames idle limit) told addresses) (Ok clean) o.out.known o.out.before o.out.after)
-HeadlineOfRun (Receive None window first frames idle limit) clean o =
+    WritesReports (AreReports (options_of window reach first frames idle limit) told addresses) (Ok clean) o.out.known o.out.before o.out.after)
+HeadlineOfRun (Receive None window reach first frames idle limit) clean o =
     Inputs (o.input.known o.input.before) (o.input.known o.input.after) (λ left _.
-    WritesReport (options_of window first frames idle limit) left clean o.out.known o.out.before o.out.after)
+    WritesReport (options_of window reach first frames idle limit) left clean o.out.known o.out.before o.out.after)
 HeadlineOfRun (Air name script window) clean o =
     WroteFeeds name script window clean o.shelf.known o.shelf.before o.shelf.after o.out.known o.out.before o.out.after
 HeadlineOfRun _ clean o = Unit {0}

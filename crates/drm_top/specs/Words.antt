@@ -18,8 +18,8 @@ abbrev pub AsksForNothing : List (List ℕ) → Type 0
 AsksForNothing words = (request : Request) → AsksFor request words → ⊥
 
 -- by what a request with these numbers receives
-abbrev pub options_of : ℕ → Option ℕ → Option ℕ → ℕ → ℕ → ReceiveOptions
-options_of window first frames idle limit = record { window = window; first = first; frames = frames; idle = idle; limit = limit }
+abbrev pub options_of : ℕ → ℕ → Option ℕ → Option ℕ → ℕ → ℕ → ReceiveOptions
+options_of window reach first frames idle limit = record { window = window; reach = reach; first = first; frames = frames; idle = idle; limit = limit }
 
 -- the window and the number of frames, where it is told, are in their ranges
 abbrev pub IsInStretch : ℕ → Option ℕ → Type 0
@@ -29,14 +29,14 @@ IsInStretch window frames = (1 ≤ window) × (window ≤ 64) × IfSome frames (
 abbrev pub IsInRange : Request → Type 0
 IsInRange (Check name) = IsUtf8 name
 IsInRange (Serve name to pace from live) = IsUtf8 name × (from ≤ 1000000) × AreDifferent to
-IsInRange (Receive (Some addresses) window first frames idle limit) = AreInRange (options_of window first frames idle limit) × AreListed addresses
-IsInRange (Receive None window first frames idle limit) = AreInRange (options_of window first frames idle limit)
-IsInRange (Count address window first frames idle limit) = AreInRange (options_of window first frames idle limit)
+IsInRange (Receive (Some addresses) window reach first frames idle limit) = AreInRange (options_of window reach first frames idle limit) × AreListed addresses
+IsInRange (Receive None window reach first frames idle limit) = AreInRange (options_of window reach first frames idle limit)
+IsInRange (Count address window reach first frames idle limit) = AreInRange (options_of window reach first frames idle limit)
 IsInRange (Air name script window) = IsUtf8 name × IsUtf8 script × (1 ≤ window) × (window ≤ 64)
 IsInRange (Exercise n) = (1 ≤ n) × (n ≤ 1000)
-IsInRange (Convert carry window first frames) = CarryFits carry × IsInStretch window frames
-IsInRange (Gate from to carry window first frames idle limit) = CarryFits carry × AreInRange (options_of window first frames idle limit) × AreListed to
+IsInRange (Convert carry window reach first frames) = CarryFits carry × IsInStretch window frames
+IsInRange (Gate from to carry window reach first frames idle limit) = CarryFits carry × AreInRange (options_of window reach first frames idle limit) × AreListed to
 IsInRange (Pack pid length) = (pid < 4) × (1 ≤ length)
-IsInRange (Unpack stream pid length window first frames) = (stream < 4) × (pid < 4) × (1 ≤ length) × IsInStretch window frames
-IsInRange (Texts stream window first frames) = (stream < 4) × IsInStretch window frames
+IsInRange (Unpack stream pid length window reach first frames) = (stream < 4) × (pid < 4) × (1 ≤ length) × IsInStretch window frames
+IsInRange (Texts stream window reach first frames) = (stream < 4) × IsInStretch window frames
 IsInRange _ = Unit {0}

@@ -212,12 +212,13 @@ where
         Request::Receive {
             addresses,
             window,
+            reach,
             first,
             frames,
             idle,
             limit,
         } => {
-            let options = options_of(*window, *first, *frames, *idle, *limit);
+            let options = options_of(*window, *reach, *first, *frames, *idle, *limit);
             match addresses {
                 Some(links) => receive(rt, alloc, &options, links, dock, out),
                 None => receive_from_capture(alloc, &options, input, out),
@@ -226,12 +227,13 @@ where
         Request::Count {
             address,
             window,
+            reach,
             first,
             frames,
             idle,
             limit,
         } => {
-            let options = options_of(*window, *first, *frames, *idle, *limit);
+            let options = options_of(*window, *reach, *first, *frames, *idle, *limit);
             match address {
                 Some(at) => count(alloc, &options, *at, dock, out),
                 None => count_capture(alloc, &options, input, out),
@@ -247,22 +249,24 @@ where
         Request::Convert {
             carry,
             window,
+            reach,
             first,
             frames,
         } => convert(
-            alloc, *carry, *window, *first, *frames, input, out, err, told,
+            alloc, *carry, *window, *reach, *first, *frames, input, out, err, told,
         ),
         Request::Gate {
             from,
             to,
             carry,
             window,
+            reach,
             first,
             frames,
             idle,
             limit,
         } => {
-            let options = options_of(*window, *first, *frames, *idle, *limit);
+            let options = options_of(*window, *reach, *first, *frames, *idle, *limit);
             gate(alloc, &options, *carry, *from, to, dock, out)
         }
         Request::Pack { pid, length } => whole(pack(alloc, *pid, *length, input, out)),
@@ -271,17 +275,19 @@ where
             pid,
             length,
             window,
+            reach,
             first,
             frames,
         } => unpack(
-            alloc, *stream, *pid, *length, *window, *first, *frames, input, out,
+            alloc, *stream, *pid, *length, *window, *reach, *first, *frames, input, out,
         ),
         Request::Texts {
             stream,
             window,
+            reach,
             first,
             frames,
-        } => texts(alloc, *stream, *window, *first, *frames, input, out),
+        } => texts(alloc, *stream, *window, *reach, *first, *frames, input, out),
     }
 }
 

@@ -9,15 +9,17 @@ use recv_reading::ReceiveOptions;
 /// By what a request with these numbers receives.
 pub(crate) fn options_of(
     window: u8,
+    reach: u16,
     first: Option<u16>,
     frames: Option<u64>,
     idle: u32,
     limit: u32,
 ) -> ReceiveOptions
-    ensures { result ≡ words.options_of window first frames idle limit }
+    ensures { result ≡ words.options_of window reach first frames idle limit }
 {
     ReceiveOptions {
         window,
+        reach,
         first,
         frames,
         idle,

@@ -11,7 +11,7 @@ use Rattle.drm_words.specs.declared.options.Reading.{Reading}
 use Rattle.word_forms.specs.Reading.{within}
 use Rattle.word_forms.specs.Addressing.{address_of, addresses_of}
 use Rattle.drm_words.specs.Table.{Options, told, IsOneOf, AreOf, IsNumberOr, IsNumberOrNone, AreAddressesIfTold, AreStreamsIfTold, AreAddressesOrNone, IsAddressOrNone, IsStretch, IsReading}
-use Rattle.drm_words.specs.Asking.{is_one_of, are_of, number_or, number_or_none, addresses_if_told, live_if_told, addresses_or_none, address_or_none, with_options, window_of, first_of, frames_of, stretch_of, reading_of, idle_of, limit_of, pace_of, from_of, to_of, live_told}
+use Rattle.drm_words.specs.Asking.{is_one_of, are_of, number_or, number_or_none, addresses_if_told, live_if_told, addresses_or_none, address_or_none, with_options, window_of, reach_of, first_of, frames_of, stretch_of, reading_of, idle_of, limit_of, pace_of, from_of, to_of, live_told}
 use Rattle.word_forms.proofs.OptionLemmas.{mapped, stepped}
 use Rattle.word_forms.proofs.NumberLemmas.{within_fits, within_is}
 use Rattle.word_forms.proofs.AddressLemmas.{address_fits, address_is, addresses_fit, addresses_are}
@@ -141,6 +141,14 @@ module _ (options : Options) where
   unfolding window_of
   window_is n h = number_or_is 8 1 64 (told (codes "window") options) n h
 
+  pub reach_fits : (n : ℕ) → reach_of options ≡ Some n → IsNumberOr 32767 1 32767 (told (codes "reach") options) n
+  unfolding reach_of
+  reach_fits n e = number_or_fits 32767 1 32767 (told (codes "reach") options) n e
+
+  pub reach_is : (n : ℕ) → IsNumberOr 32767 1 32767 (told (codes "reach") options) n → reach_of options ≡ Some n
+  unfolding reach_of
+  reach_is n h = number_or_is 32767 1 32767 (told (codes "reach") options) n h
+
   pub first_fits : (n : Option ℕ) → first_of options ≡ Some n → IsNumberOrNone 0 65535 (told (codes "first") options) n
   unfolding first_of
   first_fits n e = number_or_none_fits 0 65535 (told (codes "first") options) n e
@@ -173,33 +181,34 @@ module _ (options : Options) where
   unfolding limit_of
   limit_is n h = number_or_is 4294967295 1 4294967295 (told (codes "limit") options) n h
 
-  pub stretch_fits : (s : Stretch) → stretch_of options ≡ Some s → IsStretch options s.window s.first s.frames
+  pub stretch_fits : (s : Stretch) → stretch_of options ≡ Some s → IsStretch options s.window s.reach s.first s.frames
   unfolding stretch_of
   stretch_fits s e =
       let window = stepped (window_of options) _ s e in
-      let first = stepped (first_of options) _ s window.rest in
+      let reach = stepped (reach_of options) _ s window.rest in
+      let first = stepped (first_of options) _ s reach.rest in
       let frames = stepped (frames_of options) _ s first.rest in
-      subst (λ (x : Stretch). IsStretch options x.window x.first x.frames) (same_Some (record { window = window.value; first = first.value; frames = frames.value }) s frames.rest)
-      (record { has_window = window_fits window.value window.is; has_first = first_fits first.value first.is; has_frames = frames_fit frames.value frames.is })
+      subst (λ (x : Stretch). IsStretch options x.window x.reach x.first x.frames) (same_Some (record { window = window.value; reach = reach.value; first = first.value; frames = frames.value }) s frames.rest)
+      (record { has_window = window_fits window.value window.is; has_reach = reach_fits reach.value reach.is; has_first = first_fits first.value first.is; has_frames = frames_fit frames.value frames.is })
 
-  pub stretch_is : (window : ℕ) (first frames : Option ℕ) → IsStretch options window first frames → stretch_of options ≡ Some (record { window = window; first = first; frames = frames })
+  pub stretch_is : (window reach : ℕ) (first frames : Option ℕ) → IsStretch options window reach first frames → stretch_of options ≡ Some (record { window = window; reach = reach; first = first; frames = frames })
   unfolding stretch_of
-  stretch_is window first frames h = rw (window_is window h.has_window, first_is first h.has_first, frames_are frames h.has_frames) refl
+  stretch_is window reach first frames h = rw (window_is window h.has_window, reach_is reach h.has_reach, first_is first h.has_first, frames_are frames h.has_frames) refl
 
-  pub reading_fits : (r : Reading) → reading_of options ≡ Some r → IsReading options r.stretch.window r.stretch.first r.stretch.frames r.idle r.limit
+  pub reading_fits : (r : Reading) → reading_of options ≡ Some r → IsReading options r.stretch.window r.stretch.reach r.stretch.first r.stretch.frames r.idle r.limit
   unfolding reading_of
   reading_fits r e =
       let stretch = stepped (stretch_of options) _ r e in
       let idle = stepped (idle_of options) _ r stretch.rest in
       let limit = stepped (limit_of options) _ r idle.rest in
-      subst (λ (x : Reading). IsReading options x.stretch.window x.stretch.first x.stretch.frames x.idle x.limit)
+      subst (λ (x : Reading). IsReading options x.stretch.window x.stretch.reach x.stretch.first x.stretch.frames x.idle x.limit)
       (same_Some (record { stretch = stretch.value; idle = idle.value; limit = limit.value }) r limit.rest)
       (record { stretch = stretch_fits stretch.value stretch.is; has_idle = idle_fits idle.value idle.is; has_limit = limit_fits limit.value limit.is })
 
-  pub reading_is : (window : ℕ) (first frames : Option ℕ) (idle limit : ℕ) → IsReading options window first frames idle limit
-      → reading_of options ≡ Some (record { stretch = record { window = window; first = first; frames = frames }; idle = idle; limit = limit })
+  pub reading_is : (window reach : ℕ) (first frames : Option ℕ) (idle limit : ℕ) → IsReading options window reach first frames idle limit
+      → reading_of options ≡ Some (record { stretch = record { window = window; reach = reach; first = first; frames = frames }; idle = idle; limit = limit })
   unfolding reading_of
-  reading_is window first frames idle limit h = rw (stretch_is window first frames h.stretch, idle_is idle h.has_idle, limit_is limit h.has_limit) refl
+  reading_is window reach first frames idle limit h = rw (stretch_is window reach first frames h.stretch, idle_is idle h.has_idle, limit_is limit h.has_limit) refl
 
   pub pace_fits : (n : ℕ) → pace_of options ≡ Some n → IsNumberOr 0 0 10000 (told (codes "pace") options) n
   unfolding pace_of

@@ -70,7 +70,7 @@ receive_fits texts options r e =
     let reading = stepped (reading_of options) _ r addresses.rest in
     let taken : Reading = reading.value in
     subst (λ (x : Request). IsRequest x (codes "receive") texts options)
-    (same_Some (Receive addresses.value taken.stretch.window taken.stretch.first taken.stretch.frames taken.idle taken.limit) r reading.rest)
+    (same_Some (Receive addresses.value taken.stretch.window taken.stretch.reach taken.stretch.first taken.stretch.frames taken.idle taken.limit) r reading.rest)
     (refl, addresses_or_none_fit texts addresses.value addresses.is, w.0, reading_fits options taken reading.is)
 
 count_fits : (texts : List (List ℕ)) (options : Options) (r : Request) → count_of texts options ≡ Some r → IsRequest r (codes "count") texts options
@@ -81,7 +81,7 @@ count_fits texts options r e =
     let reading = stepped (reading_of options) _ r address.rest in
     let taken : Reading = reading.value in
     subst (λ (x : Request). IsRequest x (codes "count") texts options)
-    (same_Some (Count address.value taken.stretch.window taken.stretch.first taken.stretch.frames taken.idle taken.limit) r reading.rest)
+    (same_Some (Count address.value taken.stretch.window taken.stretch.reach taken.stretch.first taken.stretch.frames taken.idle taken.limit) r reading.rest)
     (refl, address_or_none_fits texts address.value address.is, w.0, reading_fits options taken reading.is)
 
 air_fits : (texts : List (List ℕ)) (options : Options) (r : Request) → air_of texts options ≡ Some r → IsRequest r (codes "air") texts options
@@ -103,7 +103,7 @@ convert_fits (text ∷ []) options r e =
     let carry = stepped (carry_of text) _ r w.1 in
     let stretch = stepped (stretch_of options) _ r carry.rest in
     let taken : Stretch = stretch.value in
-    subst (λ (x : Request). IsRequest x (codes "convert") (text ∷ []) options) (same_Some (Convert carry.value taken.window taken.first taken.frames) r stretch.rest)
+    subst (λ (x : Request). IsRequest x (codes "convert") (text ∷ []) options) (same_Some (Convert carry.value taken.window taken.reach taken.first taken.frames) r stretch.rest)
     (refl, text, refl, carry_fits text carry.value carry.is, w.0, stretch_fits options taken stretch.is)
 convert_fits (text ∷ other ∷ more) options r e = absurd cc
 
@@ -130,7 +130,7 @@ gate_fits (source ∷ target ∷ text ∷ []) options r e =
     let reading = stepped (reading_of options) _ r carry.rest in
     let taken : Reading = reading.value in
     subst (λ (x : Request). IsRequest x (codes "gate") (source ∷ target ∷ text ∷ []) options)
-    (same_Some (Gate from.value to.value carry.value taken.stretch.window taken.stretch.first taken.stretch.frames taken.idle taken.limit) r reading.rest) (
+    (same_Some (Gate from.value to.value carry.value taken.stretch.window taken.stretch.reach taken.stretch.first taken.stretch.frames taken.idle taken.limit) r reading.rest) (
       refl,
       source,
       target,
@@ -169,7 +169,7 @@ unpack_fits (a ∷ b ∷ c ∷ []) options r e =
     let stretch = stepped (stretch_of options) _ r length.rest in
     let taken : Stretch = stretch.value in
     subst (λ (x : Request). IsRequest x (codes "unpack") (a ∷ b ∷ c ∷ []) options)
-    (same_Some (Unpack stream.value pid.value length.value taken.window taken.first taken.frames) r stretch.rest) (
+    (same_Some (Unpack stream.value pid.value length.value taken.window taken.reach taken.first taken.frames) r stretch.rest) (
       refl,
       a,
       b,
@@ -192,7 +192,7 @@ texts_fits (text ∷ []) options r e =
     let stretch = stepped (stretch_of options) _ r stream.rest in
     let taken : Stretch = stretch.value in
     subst (λ (x : Request). IsRequest x (codes "texts") (text ∷ []) options)
-    (same_Some (Texts stream.value taken.window taken.first taken.frames) r stretch.rest)
+    (same_Some (Texts stream.value taken.window taken.reach taken.first taken.frames) r stretch.rest)
     (refl, text, refl, within_fits 0 3 text stream.value stream.is, w.0, stretch_fits options taken stretch.is)
 texts_fits (text ∷ other ∷ more) options r e = absurd cc
 
@@ -234,76 +234,76 @@ unfolding serve_of
 serve_is name to pace from live texts options h =
     rw h.1 (with_is serve_names options (serve_asked name options) h.2 ∙ rw (to_is options to h.3, live_told_is options live h.6, pace_is options pace h.4, from_is options from h.5) refl)
 
-receive_is : (addresses : Option (List Address)) (window : ℕ) (first frames : Option ℕ) (idle limit : ℕ) (texts : List (List ℕ)) (options : Options)
-    → IsRequest (Receive addresses window first frames idle limit) (codes "receive") texts options → receive_of texts options ≡ Some (Receive addresses window first frames idle limit)
+receive_is : (addresses : Option (List Address)) (window reach : ℕ) (first frames : Option ℕ) (idle limit : ℕ) (texts : List (List ℕ)) (options : Options)
+    → IsRequest (Receive addresses window reach first frames idle limit) (codes "receive") texts options → receive_of texts options ≡ Some (Receive addresses window reach first frames idle limit)
 unfolding receive_of
-receive_is addresses window first frames idle limit texts options h =
-    with_is reading_names options _ h.2 ∙ rw (addresses_or_none_are texts addresses h.1, reading_is options window first frames idle limit h.3) refl
+receive_is addresses window reach first frames idle limit texts options h =
+    with_is reading_names options _ h.2 ∙ rw (addresses_or_none_are texts addresses h.1, reading_is options window reach first frames idle limit h.3) refl
 
-count_is : (address : Option Address) (window : ℕ) (first frames : Option ℕ) (idle limit : ℕ) (texts : List (List ℕ)) (options : Options)
-    → IsRequest (Count address window first frames idle limit) (codes "count") texts options → count_of texts options ≡ Some (Count address window first frames idle limit)
+count_is : (address : Option Address) (window reach : ℕ) (first frames : Option ℕ) (idle limit : ℕ) (texts : List (List ℕ)) (options : Options)
+    → IsRequest (Count address window reach first frames idle limit) (codes "count") texts options → count_of texts options ≡ Some (Count address window reach first frames idle limit)
 unfolding count_of
-count_is address window first frames idle limit texts options h =
-    with_is reading_names options _ h.2 ∙ rw (address_or_none_is texts address h.1, reading_is options window first frames idle limit h.3) refl
+count_is address window reach first frames idle limit texts options h =
+    with_is reading_names options _ h.2 ∙ rw (address_or_none_is texts address h.1, reading_is options window reach first frames idle limit h.3) refl
 
 air_is : (name script : List ℕ) (window : ℕ) (texts : List (List ℕ)) (options : Options) → IsRequest (Air name script window) (codes "air") texts options → air_of texts options ≡ Some (Air name script window)
 unfolding air_of
 air_is name script window texts options h =
     rw h.1 (with_is (codes "window" ∷ []) options (air_with name script options) h.2 ∙ rw (window_is options window h.3) refl)
 
-convert_is : (carry : Carry) (window : ℕ) (first frames : Option ℕ) (texts : List (List ℕ)) (options : Options)
-    → IsRequest (Convert carry window first frames) (codes "convert") texts options → convert_of texts options ≡ Some (Convert carry window first frames)
+convert_is : (carry : Carry) (window reach : ℕ) (first frames : Option ℕ) (texts : List (List ℕ)) (options : Options)
+    → IsRequest (Convert carry window reach first frames) (codes "convert") texts options → convert_of texts options ≡ Some (Convert carry window reach first frames)
 unfolding convert_of
-convert_is carry window first frames texts options h =
-    rw h.2 (with_is stretch_names options (convert_with h.1 options) h.4 ∙ rw (carry_is h.1 carry h.3, stretch_is options window first frames h.5) refl)
+convert_is carry window reach first frames texts options h =
+    rw h.2 (with_is stretch_names options (convert_with h.1 options) h.4 ∙ rw (carry_is h.1 carry h.3, stretch_is options window reach first frames h.5) refl)
 
 exercise_is : (n : ℕ) (texts : List (List ℕ)) (options : Options) → IsRequest (Exercise n) (codes "exercise") texts options → exercise_of texts options ≡ Some (Exercise n)
 unfolding exercise_of
 exercise_is n texts options h = rw h.2 (with_is [] options (exercise_with h.1) h.4 ∙ rw (within_is 1 1000 h.1 n h.3) refl)
 
-gate_is : (from : Address) (to : List Address) (carry : Carry) (window : ℕ) (first frames : Option ℕ) (idle limit : ℕ) (texts : List (List ℕ)) (options : Options)
-    → IsRequest (Gate from to carry window first frames idle limit) (codes "gate") texts options → gate_of texts options ≡ Some (Gate from to carry window first frames idle limit)
+gate_is : (from : Address) (to : List Address) (carry : Carry) (window reach : ℕ) (first frames : Option ℕ) (idle limit : ℕ) (texts : List (List ℕ)) (options : Options)
+    → IsRequest (Gate from to carry window reach first frames idle limit) (codes "gate") texts options → gate_of texts options ≡ Some (Gate from to carry window reach first frames idle limit)
 unfolding gate_of
-gate_is from to carry window first frames idle limit texts options h =
+gate_is from to carry window reach first frames idle limit texts options h =
     rw h.4 (with_is reading_names options (option_and_then (λ to. gate_with h.1 to h.3 options) (addresses_of h.2)) h.8
-    ∙ rw (addresses_are h.2 to h.6, address_is h.1 from h.5, carry_is h.3 carry h.7, reading_is options window first frames idle limit h.9) refl)
+    ∙ rw (addresses_are h.2 to h.6, address_is h.1 from h.5, carry_is h.3 carry h.7, reading_is options window reach first frames idle limit h.9) refl)
 
 pack_is : (pid length : ℕ) (texts : List (List ℕ)) (options : Options) → IsRequest (Pack pid length) (codes "pack") texts options → pack_of texts options ≡ Some (Pack pid length)
 unfolding pack_of
 pack_is pid length texts options h =
     rw h.3 (with_is [] options (pack_with h.1 h.2) h.6 ∙ rw (within_is 0 3 h.1 pid h.4, within_is 1 255 h.2 length h.5) refl)
 
-unpack_is : (stream pid length window : ℕ) (first frames : Option ℕ) (texts : List (List ℕ)) (options : Options)
-    → IsRequest (Unpack stream pid length window first frames) (codes "unpack") texts options → unpack_of texts options ≡ Some (Unpack stream pid length window first frames)
+unpack_is : (stream pid length window reach : ℕ) (first frames : Option ℕ) (texts : List (List ℕ)) (options : Options)
+    → IsRequest (Unpack stream pid length window reach first frames) (codes "unpack") texts options → unpack_of texts options ≡ Some (Unpack stream pid length window reach first frames)
 unfolding unpack_of
-unpack_is stream pid length window first frames texts options h =
+unpack_is stream pid length window reach first frames texts options h =
     rw h.4 (with_is stretch_names options (unpack_with h.1 h.2 h.3 options) h.8
-    ∙ rw (within_is 0 3 h.1 stream h.5, within_is 0 3 h.2 pid h.6, within_is 1 255 h.3 length h.7, stretch_is options window first frames h.9) refl)
+    ∙ rw (within_is 0 3 h.1 stream h.5, within_is 0 3 h.2 pid h.6, within_is 1 255 h.3 length h.7, stretch_is options window reach first frames h.9) refl)
 
-texts_is : (stream window : ℕ) (first frames : Option ℕ) (texts : List (List ℕ)) (options : Options)
-    → IsRequest (Texts stream window first frames) (codes "texts") texts options → texts_of texts options ≡ Some (Texts stream window first frames)
+texts_is : (stream window reach : ℕ) (first frames : Option ℕ) (texts : List (List ℕ)) (options : Options)
+    → IsRequest (Texts stream window reach first frames) (codes "texts") texts options → texts_of texts options ≡ Some (Texts stream window reach first frames)
 unfolding texts_of
-texts_is stream window first frames texts options h =
-    rw h.2 (with_is stretch_names options (texts_with h.1 options) h.4 ∙ rw (within_is 0 3 h.1 stream h.3, stretch_is options window first frames h.5) refl)
+texts_is stream window reach first frames texts options h =
+    rw h.2 (with_is stretch_names options (texts_with h.1 options) h.4 ∙ rw (within_is 0 3 h.1 stream h.3, stretch_is options window reach first frames h.5) refl)
 
 pub request_is : (r : Request) (command : List ℕ) (texts : List (List ℕ)) (options : Options) → IsRequest r command texts options → request_of command texts options ≡ Some r
 unfolding request_of
 request_is Fac command texts options h = rw h.0 (bare_is Fac texts options h.1 (none_of options h.2))
 request_is (Check name) command texts options h = rw h.0 (check_is name texts options (refl, h.1, h.2))
 request_is (Serve name to pace from live) command texts options h = rw h.0 (serve_is name to pace from live texts options (refl, h.1, h.2, h.3, h.4, h.5, h.6))
-request_is (Receive addresses window first frames idle limit) command texts options h =
-    rw h.0 (receive_is addresses window first frames idle limit texts options (refl, h.1, h.2, h.3))
-request_is (Count address window first frames idle limit) command texts options h =
-    rw h.0 (count_is address window first frames idle limit texts options (refl, h.1, h.2, h.3))
+request_is (Receive addresses window reach first frames idle limit) command texts options h =
+    rw h.0 (receive_is addresses window reach first frames idle limit texts options (refl, h.1, h.2, h.3))
+request_is (Count address window reach first frames idle limit) command texts options h =
+    rw h.0 (count_is address window reach first frames idle limit texts options (refl, h.1, h.2, h.3))
 request_is (Air name script window) command texts options h = rw h.0 (air_is name script window texts options (refl, h.1, h.2, h.3))
 request_is Show command texts options h = rw h.0 (bare_is Show texts options h.1 (none_of options h.2))
-request_is (Convert carry window first frames) command texts options h =
-    rw h.0 (convert_is carry window first frames texts options (refl, h.1, h.2, h.3, h.4, h.5))
+request_is (Convert carry window reach first frames) command texts options h =
+    rw h.0 (convert_is carry window reach first frames texts options (refl, h.1, h.2, h.3, h.4, h.5))
 request_is (Exercise n) command texts options h = rw h.0 (exercise_is n texts options (refl, h.1, h.2, h.3, h.4))
-request_is (Gate from to carry window first frames idle limit) command texts options h =
-    rw h.0 (gate_is from to carry window first frames idle limit texts options (refl, h.1, h.2, h.3, h.4, h.5, h.6, h.7, h.8, h.9))
+request_is (Gate from to carry window reach first frames idle limit) command texts options h =
+    rw h.0 (gate_is from to carry window reach first frames idle limit texts options (refl, h.1, h.2, h.3, h.4, h.5, h.6, h.7, h.8, h.9))
 request_is (Pack pid length) command texts options h = rw h.0 (pack_is pid length texts options (refl, h.1, h.2, h.3, h.4, h.5, h.6))
-request_is (Unpack stream pid length window first frames) command texts options h =
-    rw h.0 (unpack_is stream pid length window first frames texts options (refl, h.1, h.2, h.3, h.4, h.5, h.6, h.7, h.8, h.9))
-request_is (Texts stream window first frames) command texts options h =
-    rw h.0 (texts_is stream window first frames texts options (refl, h.1, h.2, h.3, h.4, h.5))
+request_is (Unpack stream pid length window reach first frames) command texts options h =
+    rw h.0 (unpack_is stream pid length window reach first frames texts options (refl, h.1, h.2, h.3, h.4, h.5, h.6, h.7, h.8, h.9))
+request_is (Texts stream window reach first frames) command texts options h =
+    rw h.0 (texts_is stream window reach first frames texts options (refl, h.1, h.2, h.3, h.4, h.5))

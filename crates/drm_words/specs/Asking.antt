@@ -37,6 +37,9 @@ addresses_if_told (Some text) = addresses_of text
 unfoldable pub window_of : Options → Option ℕ
 window_of options = number_or 8 1 64 (told (codes "window") options)
 
+unfoldable pub reach_of : Options → Option ℕ
+reach_of options = number_or 32767 1 32767 (told (codes "reach") options)
+
 unfoldable pub first_of : Options → Option (Option ℕ)
 first_of options = number_or_none 0 65535 (told (codes "first") options)
 
@@ -53,9 +56,10 @@ limit_of options = number_or 4294967295 1 4294967295 (told (codes "limit") optio
 unfoldable pub stretch_of : Options → Option Stretch
 stretch_of options = do
   window ← window_of options
+  reach ← reach_of options
   first ← first_of options
   frames ← frames_of options
-  Some (record { window = window; first = first; frames = frames })
+  Some (record { window = window; reach = reach; first = first; frames = frames })
 
 unfoldable pub reading_of : Options → Option Reading
 reading_of options = do
@@ -123,7 +127,7 @@ serve_of _ options = None
 abbrev pub receive_with : Options → Option (List Address) → Option Request
 receive_with options addresses = do
   reading ← reading_of options
-  Some (Receive addresses reading.stretch.window reading.stretch.first reading.stretch.frames reading.idle reading.limit)
+  Some (Receive addresses reading.stretch.window reading.stretch.reach reading.stretch.first reading.stretch.frames reading.idle reading.limit)
 
 unfoldable pub receive_of : List (List ℕ) → Options → Option Request
 receive_of texts options = with_options reading_names options
@@ -132,7 +136,7 @@ receive_of texts options = with_options reading_names options
 abbrev pub count_with : Options → Option Address → Option Request
 count_with options address = do
   reading ← reading_of options
-  Some (Count address reading.stretch.window reading.stretch.first reading.stretch.frames reading.idle reading.limit)
+  Some (Count address reading.stretch.window reading.stretch.reach reading.stretch.first reading.stretch.frames reading.idle reading.limit)
 
 unfoldable pub count_of : List (List ℕ) → Options → Option Request
 count_of texts options = with_options reading_names options
@@ -149,7 +153,7 @@ abbrev pub convert_with : List ℕ → Options → Option Request
 convert_with text options = do
   carry ← carry_of text
   stretch ← stretch_of options
-  Some (Convert carry stretch.window stretch.first stretch.frames)
+  Some (Convert carry stretch.window stretch.reach stretch.first stretch.frames)
 
 unfoldable pub convert_of : List (List ℕ) → Options → Option Request
 convert_of (text ∷ []) options = with_options stretch_names options (convert_with text options)
@@ -167,7 +171,7 @@ gate_with from_text to text options = do
   from ← address_of from_text
   carry ← carry_of text
   reading ← reading_of options
-  Some (Gate from to carry reading.stretch.window reading.stretch.first reading.stretch.frames reading.idle reading.limit)
+  Some (Gate from to carry reading.stretch.window reading.stretch.reach reading.stretch.first reading.stretch.frames reading.idle reading.limit)
 
 unfoldable pub gate_of : List (List ℕ) → Options → Option Request
 gate_of (from ∷ to ∷ text ∷ []) options = with_options reading_names options (option_and_then (λ to. gate_with from to text options) (addresses_of to))
@@ -189,7 +193,7 @@ unpack_with stream_text pid_text length_text options = do
   pid ← within 0 3 pid_text
   length ← within 1 255 length_text
   stretch ← stretch_of options
-  Some (Unpack stream pid length stretch.window stretch.first stretch.frames)
+  Some (Unpack stream pid length stretch.window stretch.reach stretch.first stretch.frames)
 
 unfoldable pub unpack_of : List (List ℕ) → Options → Option Request
 unpack_of (stream ∷ pid ∷ length ∷ []) options = with_options stretch_names options (unpack_with stream pid length options)
@@ -199,7 +203,7 @@ abbrev pub texts_with : List ℕ → Options → Option Request
 texts_with stream_text options = do
   stream ← within 0 3 stream_text
   stretch ← stretch_of options
-  Some (Texts stream stretch.window stretch.first stretch.frames)
+  Some (Texts stream stretch.window stretch.reach stretch.first stretch.frames)
 
 unfoldable pub texts_of : List (List ℕ) → Options → Option Request
 texts_of (stream ∷ []) options = with_options stretch_names options (texts_with stream options)

@@ -66,12 +66,13 @@ IsAddressOrNone _ address = ⊥
 abbrev pub serve_names : List (List ℕ)
 serve_names = codes "to" ∷ codes "pace" ∷ codes "from" ∷ codes "live" ∷ []
 
--- [--window W] [--first N] [--frames N]: which packets are read, and how many frames of them
+-- [--window W] [--reach A] [--first N] [--frames N]: which packets are read, how far ahead, and how many frames of them
 abbrev pub stretch_names : List (List ℕ)
-stretch_names = codes "window" ∷ codes "first" ∷ codes "frames" ∷ []
+stretch_names = codes "window" ∷ codes "reach" ∷ codes "first" ∷ codes "frames" ∷ []
 
-pub record IsStretch (options : Options) (window : ℕ) (first frames : Option ℕ) : Type 0 where
+pub record IsStretch (options : Options) (window reach : ℕ) (first frames : Option ℕ) : Type 0 where
   pub has_window : IsNumberOr 8 1 64 (told (codes "window") options) window
+  pub has_reach : IsNumberOr 32767 1 32767 (told (codes "reach") options) reach
   pub has_first : IsNumberOrNone 0 65535 (told (codes "first") options) first
   pub has_frames : IsNumberOrNone 1 3000000 (told (codes "frames") options) frames
 
@@ -79,8 +80,8 @@ pub record IsStretch (options : Options) (window : ℕ) (first frames : Option �
 abbrev pub reading_names : List (List ℕ)
 reading_names = stretch_names ++ codes "idle" ∷ codes "limit" ∷ []
 
-pub record IsReading (options : Options) (window : ℕ) (first frames : Option ℕ) (idle limit : ℕ) : Type 0 where
-  pub stretch : IsStretch options window first frames
+pub record IsReading (options : Options) (window reach : ℕ) (first frames : Option ℕ) (idle limit : ℕ) : Type 0 where
+  pub stretch : IsStretch options window reach first frames
   pub has_idle : IsNumberOr 50 1 1000000 (told (codes "idle") options) idle
   pub has_limit : IsNumberOr 4294967295 1 4294967295 (told (codes "limit") options) limit
 
@@ -98,45 +99,45 @@ IsRequest (Serve name to pace from live) command texts options =
     × IsNumberOr 0 0 10000 (told (codes "pace") options) pace
     × IsNumberOr 0 0 1000000 (told (codes "from") options) from
     × AreStreamsIfTold (told (codes "live") options) live
--- receive [ADDRS] [--window W] [--first N] [--frames N] [--idle K] [--limit L]
-IsRequest (Receive addresses window first frames idle limit) command texts options =
+-- receive [ADDRS] [--window W] [--reach A] [--first N] [--frames N] [--idle K] [--limit L]
+IsRequest (Receive addresses window reach first frames idle limit) command texts options =
     (command ≡ codes "receive") × AreAddressesOrNone texts addresses
-    × AreOf reading_names options × IsReading options window first frames idle limit
--- count [ADDR] [--window W] [--first N] [--frames N] [--idle K] [--limit L]
-IsRequest (Count address window first frames idle limit) command texts options =
+    × AreOf reading_names options × IsReading options window reach first frames idle limit
+-- count [ADDR] [--window W] [--reach A] [--first N] [--frames N] [--idle K] [--limit L]
+IsRequest (Count address window reach first frames idle limit) command texts options =
     (command ≡ codes "count") × IsAddressOrNone texts address
-    × AreOf reading_names options × IsReading options window first frames idle limit
+    × AreOf reading_names options × IsReading options window reach first frames idle limit
 -- air NAME SCRIPT [--window W]
 IsRequest (Air name script window) command texts options =
     (command ≡ codes "air") × (texts ≡ name ∷ script ∷ []) × AreOf (codes "window" ∷ []) options
     × IsNumberOr 8 1 64 (told (codes "window") options) window
 -- show
 IsRequest Show command texts options = (command ≡ codes "show") × (texts ≡ []) × AreOf [] options
--- convert CARRY [--window W] [--first N] [--frames N]
-IsRequest (Convert carry window first frames) command texts options =
+-- convert CARRY [--window W] [--reach A] [--first N] [--frames N]
+IsRequest (Convert carry window reach first frames) command texts options =
     (command ≡ codes "convert") × (text : List ℕ) × (texts ≡ text ∷ []) × IsCarry text carry
-    × AreOf stretch_names options × IsStretch options window first frames
+    × AreOf stretch_names options × IsStretch options window reach first frames
 -- exercise N
 IsRequest (Exercise n) command texts options =
     (command ≡ codes "exercise") × (text : List ℕ) × (texts ≡ text ∷ []) × IsWithin 1 1000 text n × AreOf [] options
--- gate FROM ADDRS CARRY [--window W] [--first N] [--frames N] [--idle K] [--limit L]
-IsRequest (Gate from to carry window first frames idle limit) command texts options =
+-- gate FROM ADDRS CARRY [--window W] [--reach A] [--first N] [--frames N] [--idle K] [--limit L]
+IsRequest (Gate from to carry window reach first frames idle limit) command texts options =
     (command ≡ codes "gate") × (source target text : List ℕ) × (texts ≡ source ∷ target ∷ text ∷ [])
     × IsAddress source from × AreAddresses target to × IsCarry text carry
-    × AreOf reading_names options × IsReading options window first frames idle limit
+    × AreOf reading_names options × IsReading options window reach first frames idle limit
 -- pack PID LENGTH
 IsRequest (Pack pid length) command texts options =
     (command ≡ codes "pack") × (first second : List ℕ) × (texts ≡ first ∷ second ∷ [])
     × IsWithin 0 3 first pid × IsWithin 1 255 second length × AreOf [] options
--- unpack STREAM PID LENGTH [--window W] [--first N] [--frames N]
-IsRequest (Unpack stream pid length window first frames) command texts options =
+-- unpack STREAM PID LENGTH [--window W] [--reach A] [--first N] [--frames N]
+IsRequest (Unpack stream pid length window reach first frames) command texts options =
     (command ≡ codes "unpack") × (a b c : List ℕ) × (texts ≡ a ∷ b ∷ c ∷ [])
     × IsWithin 0 3 a stream × IsWithin 0 3 b pid × IsWithin 1 255 c length
-    × AreOf stretch_names options × IsStretch options window first frames
--- texts STREAM [--window W] [--first N] [--frames N]
-IsRequest (Texts stream window first frames) command texts options =
+    × AreOf stretch_names options × IsStretch options window reach first frames
+-- texts STREAM [--window W] [--reach A] [--first N] [--frames N]
+IsRequest (Texts stream window reach first frames) command texts options =
     (command ≡ codes "texts") × (text : List ℕ) × (texts ≡ text ∷ []) × IsWithin 0 3 text stream
-    × AreOf stretch_names options × IsStretch options window first frames
+    × AreOf stretch_names options × IsStretch options window reach first frames
 
 -- each name is text
 abbrev pub HasTextNames : Request → Type 0

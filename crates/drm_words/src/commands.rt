@@ -7,7 +7,10 @@ ghost use Rattle.word_forms.specs.Gives.{Gives};
 ghost use Rattle.drm_words.specs.Table.{HasTextNames};
 ghost use Rattle.word_forms.specs.declared.fault.WordsFault.TheVariants as faults;
 
-use crate::options::{are_of, from, live, pace, to, told_reading, told_stretch, window};
+use crate::options::{
+    are_of, are_of_reading, are_of_stretch, from, live, pace, to, told_reading, told_stretch,
+    window,
+};
 use crate::request::Request;
 use drm_bits::Octets;
 use drm_links::{Address, Addresses};
@@ -127,6 +130,7 @@ fn receive_with(options: &[Named<'_>], addresses: Option<Addresses>) -> Option<R
     Some(Request::Receive {
         addresses,
         window: reading.stretch.window,
+        reach: reading.stretch.reach,
         first: reading.stretch.first,
         frames: reading.stretch.frames,
         idle: reading.idle,
@@ -134,13 +138,13 @@ fn receive_with(options: &[Named<'_>], addresses: Option<Addresses>) -> Option<R
     })
 }
 
-// receive [ADDRS] [--window W] [--first N] [--frames N] [--idle K] [--limit L]
+// receive [ADDRS] [--window W] [--reach A] [--first N] [--frames N] [--idle K] [--limit L]
 #[tactic(auto, unfolding(crate::specs::Asking::receive_of))]
 fn receive(alloc: Global, texts: &[&str], options: &[Named<'_>]) -> Result<Request, WordsFault>
     ensures gives { Gives result (receive_of (map (λ text. text.now) texts.now) (map option_said options.now)) }
     ensures text { IfOk result HasTextNames }
 {
-    if !are_of(&["window", "first", "frames", "idle", "limit"], options) {
+    if !are_of_reading(options) {
         return Err(WordsFault::Words);
     }
     let addresses = addresses_or_none(alloc, texts)?;
@@ -169,6 +173,7 @@ fn count_with(options: &[Named<'_>], address: Option<Address>) -> Option<Request
     Some(Request::Count {
         address,
         window: reading.stretch.window,
+        reach: reading.stretch.reach,
         first: reading.stretch.first,
         frames: reading.stretch.frames,
         idle: reading.idle,
@@ -176,13 +181,13 @@ fn count_with(options: &[Named<'_>], address: Option<Address>) -> Option<Request
     })
 }
 
-// count [ADDR] [--window W] [--first N] [--frames N] [--idle K] [--limit L]
+// count [ADDR] [--window W] [--reach A] [--first N] [--frames N] [--idle K] [--limit L]
 #[tactic(auto, unfolding(crate::specs::Asking::count_of))]
 fn count(texts: &[&str], options: &[Named<'_>]) -> Result<Request, WordsFault>
     ensures gives { Gives result (count_of (map (λ text. text.now) texts.now) (map option_said options.now)) }
     ensures text { IfOk result HasTextNames }
 {
-    if !are_of(&["window", "first", "frames", "idle", "limit"], options) {
+    if !are_of_reading(options) {
         return Err(WordsFault::Words);
     }
     let Some(address) = address_or_none(texts) else {
@@ -231,12 +236,13 @@ fn convert_with(text: &str, options: &[Named<'_>]) -> Option<Request>
     Some(Request::Convert {
         carry,
         window: stretch.window,
+        reach: stretch.reach,
         first: stretch.first,
         frames: stretch.frames,
     })
 }
 
-// convert CARRY [--window W] [--first N] [--frames N]
+// convert CARRY [--window W] [--reach A] [--first N] [--frames N]
 #[tactic(auto, unfolding(crate::specs::Asking::convert_of))]
 fn convert(texts: &[&str], options: &[Named<'_>]) -> Result<Request, WordsFault>
     ensures gives { Gives result (convert_of (map (λ text. text.now) texts.now) (map option_said options.now)) }
@@ -245,7 +251,7 @@ fn convert(texts: &[&str], options: &[Named<'_>]) -> Result<Request, WordsFault>
     let [text] = texts else {
         return Err(WordsFault::Words);
     };
-    if !are_of(&["window", "first", "frames"], options) {
+    if !are_of_stretch(options) {
         return Err(WordsFault::Words);
     }
     asked(convert_with(text, options))
@@ -286,6 +292,7 @@ fn gate_with(from: &str, to: Addresses, text: &str, options: &[Named<'_>]) -> Op
         to,
         carry,
         window: reading.stretch.window,
+        reach: reading.stretch.reach,
         first: reading.stretch.first,
         frames: reading.stretch.frames,
         idle: reading.idle,
@@ -293,7 +300,7 @@ fn gate_with(from: &str, to: Addresses, text: &str, options: &[Named<'_>]) -> Op
     })
 }
 
-// gate FROM ADDRS CARRY [--window W] [--first N] [--frames N] [--idle K] [--limit L]
+// gate FROM ADDRS CARRY [--window W] [--reach A] [--first N] [--frames N] [--idle K] [--limit L]
 #[tactic(auto, unfolding(crate::specs::Asking::gate_of))]
 fn gate(alloc: Global, texts: &[&str], options: &[Named<'_>]) -> Result<Request, WordsFault>
     ensures gives { Gives result (gate_of (map (λ text. text.now) texts.now) (map option_said options.now)) }
@@ -302,7 +309,7 @@ fn gate(alloc: Global, texts: &[&str], options: &[Named<'_>]) -> Result<Request,
     let [from, to, text] = texts else {
         return Err(WordsFault::Words);
     };
-    if !are_of(&["window", "first", "frames", "idle", "limit"], options) {
+    if !are_of_reading(options) {
         return Err(WordsFault::Words);
     }
     let to = read_addresses(alloc, to)?;
@@ -346,12 +353,13 @@ fn unpack_with(stream: &str, pid: &str, length: &str, options: &[Named<'_>]) -> 
         pid,
         length,
         window: stretch.window,
+        reach: stretch.reach,
         first: stretch.first,
         frames: stretch.frames,
     })
 }
 
-// unpack STREAM PID LENGTH [--window W] [--first N] [--frames N]
+// unpack STREAM PID LENGTH [--window W] [--reach A] [--first N] [--frames N]
 #[tactic(auto, unfolding(crate::specs::Asking::unpack_of))]
 fn unpack(texts: &[&str], options: &[Named<'_>]) -> Result<Request, WordsFault>
     ensures gives { Gives result (unpack_of (map (λ text. text.now) texts.now) (map option_said options.now)) }
@@ -360,7 +368,7 @@ fn unpack(texts: &[&str], options: &[Named<'_>]) -> Result<Request, WordsFault>
     let [stream, pid, length] = texts else {
         return Err(WordsFault::Words);
     };
-    if !are_of(&["window", "first", "frames"], options) {
+    if !are_of_stretch(options) {
         return Err(WordsFault::Words);
     }
     asked(unpack_with(stream, pid, length, options))
@@ -375,12 +383,13 @@ fn texts_with(stream: &str, options: &[Named<'_>]) -> Option<Request>
     Some(Request::Texts {
         stream,
         window: stretch.window,
+        reach: stretch.reach,
         first: stretch.first,
         frames: stretch.frames,
     })
 }
 
-// texts STREAM [--window W] [--first N] [--frames N]
+// texts STREAM [--window W] [--reach A] [--first N] [--frames N]
 #[tactic(auto, unfolding(crate::specs::Asking::texts_of))]
 fn messages(texts: &[&str], options: &[Named<'_>]) -> Result<Request, WordsFault>
     ensures gives { Gives result (texts_of (map (λ text. text.now) texts.now) (map option_said options.now)) }
@@ -389,7 +398,7 @@ fn messages(texts: &[&str], options: &[Named<'_>]) -> Result<Request, WordsFault
     let [stream] = texts else {
         return Err(WordsFault::Words);
     };
-    if !are_of(&["window", "first", "frames"], options) {
+    if !are_of_stretch(options) {
         return Err(WordsFault::Words);
     }
     asked(texts_with(stream, options))

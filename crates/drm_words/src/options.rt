@@ -3,8 +3,8 @@
 ghost use Rattle.std.specs.Prelude.{◌≡◌, ◌≤◌, IfSome, map, option_map, codes};
 ghost use Rattle.word_forms.specs.Arguing.{option_said};
 ghost use Rattle.word_forms.specs.Gives.{Gives};
-ghost use Rattle.drm_words.specs.Table.{told};
-ghost use Rattle.drm_words.specs.Asking.{is_one_of, are_of, number_or, number_or_none, window_of, first_of, frames_of, stretch_of, reading_of, idle_of, limit_of, pace_of, from_of, to_of, live_told};
+ghost use Rattle.drm_words.specs.Table.{told, stretch_names, reading_names};
+ghost use Rattle.drm_words.specs.Asking.{is_one_of, are_of, number_or, number_or_none, window_of, reach_of, first_of, frames_of, stretch_of, reading_of, idle_of, limit_of, pace_of, from_of, to_of, live_told};
 
 use drm_links::Addresses;
 use drm_schedule::{Live, MOST_FRAMES};
@@ -16,6 +16,8 @@ use word_forms::{Named, WordsFault, read_addresses, read_live, within};
 pub(crate) struct Stretch {
     /// In packets.
     pub(crate) window: u8,
+    /// How far one may be ahead of the newest packet.
+    pub(crate) reach: u16,
     /// The first sequence number.
     pub(crate) first: Option<u16>,
     pub(crate) frames: Option<u64>,
@@ -65,6 +67,23 @@ pub(crate) fn are_of(names: &[&str], options: &[Named<'_>]) -> bool
     is_one_of(names, option.name) && told(others, option.name).is_none() && are_of(names, others)
 }
 
+/// Whether these are options of a stretch, none twice.
+pub(crate) fn are_of_stretch(options: &[Named<'_>]) -> bool
+    ensures { result ≡ are_of stretch_names (map option_said options.now) }
+{
+    are_of(&["window", "reach", "first", "frames"], options)
+}
+
+/// Whether these are options of a reading, none twice.
+pub(crate) fn are_of_reading(options: &[Named<'_>]) -> bool
+    ensures { result ≡ are_of reading_names (map option_said options.now) }
+{
+    are_of(
+        &["window", "reach", "first", "frames", "idle", "limit"],
+        options,
+    )
+}
+
 fn number_or(default: u64, least: u64, greatest: u64, value: Option<&str>) -> Option<u64>
     requires { default ≤ greatest }
     ensures value { result ≡ number_or default least greatest (option_map (λ text. text.now) value.entry) }
@@ -83,6 +102,15 @@ pub(crate) fn window(options: &[Named<'_>]) -> Option<u8>
 {
     let number = number_or(8, 1, 64, told(options, "window"))?;
     Some(number as u8)
+}
+
+// How far a packet may be ahead of the newest one.
+#[tactic(auto, unfolding(crate::specs::Asking::reach_of))]
+fn reach(options: &[Named<'_>]) -> Option<u16>
+    ensures { result ≡ reach_of (map option_said options.now) }
+{
+    let number = number_or(32_767, 1, 32_767, told(options, "reach"))?;
+    Some(number as u16)
 }
 
 // The first sequence number.
@@ -133,10 +161,12 @@ pub(crate) fn told_stretch(options: &[Named<'_>]) -> Option<Stretch>
     ensures { result ≡ stretch_of (map option_said options.now) }
 {
     let window = window(options)?;
+    let reach = reach(options)?;
     let first = first(options)?;
     let frames = frames(options)?;
     Some(Stretch {
         window,
+        reach,
         first,
         frames,
     })

@@ -30,6 +30,8 @@ pub enum Request {
         addresses: Option<Addresses>,
         /// In packets.
         window: u8,
+        /// How far one may be ahead of the newest packet.
+        reach: u16,
         /// The first sequence number.
         first: Option<u16>,
         frames: Option<u64>,
@@ -43,6 +45,8 @@ pub enum Request {
         address: Option<Address>,
         /// In packets.
         window: u8,
+        /// In packets.
+        reach: u16,
         /// The first sequence number.
         first: Option<u16>,
         frames: Option<u64>,
@@ -65,6 +69,8 @@ pub enum Request {
         carry: Carry,
         /// In packets.
         window: u8,
+        /// How far one may be ahead of the newest packet.
+        reach: u16,
         /// The first sequence number.
         first: Option<u16>,
         frames: Option<u64>,
@@ -80,6 +86,8 @@ pub enum Request {
         carry: Carry,
         /// In packets.
         window: u8,
+        /// How far one may be ahead of the newest packet.
+        reach: u16,
         /// The first sequence number.
         first: Option<u16>,
         frames: Option<u64>,
@@ -105,6 +113,8 @@ pub enum Request {
         length: u8,
         /// In packets of the capture.
         window: u8,
+        /// How far one may be ahead of the newest packet.
+        reach: u16,
         /// The first sequence number.
         first: Option<u16>,
         frames: Option<u64>,
@@ -115,6 +125,8 @@ pub enum Request {
         stream: u8,
         /// In packets.
         window: u8,
+        /// How far one may be ahead of the newest packet.
+        reach: u16,
         /// The first sequence number.
         first: Option<u16>,
         frames: Option<u64>,

@@ -43,9 +43,9 @@ use Rattle.gate_command.specs.Run.{PassesOn}
 
 -- ---- by what it reads
 
-pub rules_same : (c : State) (options : GateOptions) (rules : ReceiveOptions) → c.window ≡ rules.window → c.first ≡ rules.first → options ≡ options_of rules → rules_of c options ≡ rules
-rules_same c options rules window first is =
-    λ i. record { window = window i; first = first i; frames = (is i).frames; idle = (is i).idle; limit = (is i).limit }
+pub rules_same : (c : State) (options : GateOptions) (rules : ReceiveOptions) → c.window ≡ rules.window → c.reach ≡ rules.reach → c.first ≡ rules.first → options ≡ options_of rules → rules_of c options ≡ rules
+rules_same c options rules window reach first is =
+    λ i. record { window = window i; reach = reach i; first = first i; frames = (is i).frames; idle = (is i).idle; limit = (is i).limit }
 
 -- ---- what is told, and when
 

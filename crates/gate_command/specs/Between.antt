@@ -30,6 +30,7 @@ pub record IsSetUp (gateway : Gateway) (rules : ReceiveOptions) (to : List Addre
   pub new : IsNew gateway
   pub in_range : AreInRange rules
   pub window : gateway.collector.window ≡ rules.window
+  pub reach : gateway.collector.reach ≡ rules.reach
   pub first : gateway.collector.first ≡ rules.first
   pub listed : AreListed to
   pub none : links ≡ 0

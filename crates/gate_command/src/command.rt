@@ -33,7 +33,7 @@ pub fn gate<D: Dock, O: Sink>(
     requires listed { AreListed to.now }
     ensures { GateCommandRun rules.now carry from to.now result D.known dock.old dock.new O.known out.old out.new }
 {
-    let mut gate = Gate::make(alloc, rules.window, rules.first, carry)?;
+    let mut gate = Gate::make(alloc, rules.window, rules.reach, rules.first, carry)?;
     let mut buffer = zeros(alloc, LONGEST_DATAGRAM)?;
     let room = room_for(alloc, to)?;
     let tally = pass_between(&mut gate, rules, from, to, room, &mut buffer, dock)?;

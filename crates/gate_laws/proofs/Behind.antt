@@ -65,16 +65,16 @@ served_by plan base q kept item (Some t) at is frame = (t, (frame_is plan (base 
 
 module _ (lines : ServedLines) where
   gives_under : (plan : Plan) (carry : Carry) (later : List (List ℕ)) (again : List Arrival) → GivesServed (under carry plan) later again → GivesServed plan later again
-  gives_under plan carry later again gives window first told base answers collected steps after some based run feeds q step at frame =
-      let (t, place, served, line) = gives window first told base answers collected steps after some based run feeds q step at frame in
+  gives_under plan carry later again gives window reach first told base answers collected steps after some based run feeds q step at frame =
+      let (t, place, served, line) = gives window reach first told base answers collected steps after some based run feeds q step at frame in
       let is : IsServed plan t q step.item = served_under plan carry t q step.item served in
       (t, place, is, lines plan t q step.item is)
 
   module _ (delivering : Delivering) (passes : PassesSchedules) where
     gives_served : (plan : Plan) (later : List (List ℕ)) (again : List Arrival) → IsSchedule plan → AllZip (IsArrival plan) again later → GivesServed plan later again
-    gives_served plan later again schedule arrive window first told base answers collected steps after some (based, within) run feeds q step at frame =
-        let followed : IsFollowed plan first base again later = record { arrive = arrive; based = based; within_span = within } in
-        let (given, suits) = delivering plan window first told base again later answers collected steps after schedule some followed run feeds in
+    gives_served plan later again schedule arrive window reach first told base answers collected steps after some (based, within, far) run feeds q step at frame =
+        let followed : IsFollowed plan reach first base again later = record { arrive = arrive; based = based; within_span = within; far = far } in
+        let (given, suits) = delivering plan window reach first told base again later answers collected steps after schedule some followed run feeds in
         let (t, place, is) = served_by plan base q (got window base (pairs_in again) q) step.item (frame_of_number plan base q) refl (given.items q step at) frame in
         (t, place, is, lines plan t q step.item is)
 
@@ -89,12 +89,12 @@ module _ (lines : ServedLines) where
       let (arrivals', arrive) = comes plan one rules base arrivals datagrams fates passed datagrams' among in (
         arrivals',
         arrive,
-        λ base' later (based, within) among_later.
+        λ base' later (based, within, far) among_later.
             let second : IsPassedOn (under one plan) other rules' base' arrivals' datagrams' fates' = record {
               schedule = passed.other;
               other = schedule;
               some = some;
-              followed = record { arrive = arrive; based = based; within_span = within };
+              followed = record { arrive = arrive; based = based; within_span = within; far = far };
               onward = onward;
             } in
             let (again, is, gives) = served (under one plan) other rules' base' arrivals' datagrams' fates' second later among_later in

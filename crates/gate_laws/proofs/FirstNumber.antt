@@ -26,16 +26,16 @@ known_as : (sequence0 : ℕ) (base : ℤ) (mid : State) (f : ℕ) → mid.first 
 known_as sequence0 base mid f is at = subst (λ (n : ℕ). IsAtBase sequence0 base n) (sym (ap (λ (o : Option ℕ). unwrap_or o 0) is)) at
 
 -- It has that of the base, where anything of the delivery came, or it was told one.
-pub first_known : OneReading → (carry : Carry) (sequence0 window : ℕ) (packets : List (List ℕ)) (first : Option ℕ) (base : ℤ) (pairs : List (ℕ × ℕ)) (datagrams : List (List ℕ)) (answers : List Taken) (given : List Item)
-    (mid : State) → AllZip (BringsPair carry sequence0 packets) pairs datagrams → IsBase sequence0 first pairs base → Steps (made window first) datagrams answers given mid
+pub first_known : OneReading → (carry : Carry) (sequence0 window reach : ℕ) (packets : List (List ℕ)) (first : Option ℕ) (base : ℤ) (pairs : List (ℕ × ℕ)) (datagrams : List (List ℕ)) (answers : List Taken) (given : List Item)
+    (mid : State) → AllZip (BringsPair carry sequence0 packets) pairs datagrams → IsBase sequence0 first pairs base → Steps (made window reach first) datagrams answers given mid
     → (pairs ≡ []) ⊎ IsAtBase sequence0 base (first_of mid)
-first_known one_reading carry sequence0 window packets (Some f) base pairs datagrams answers given mid brings based steps =
-    inr (known_as sequence0 base mid f (first_steps (made window (Some f)) mid datagrams answers given f steps refl) based)
-first_known one_reading carry sequence0 window packets None base [] datagrams answers given mid brings based steps = inl refl
-first_known one_reading carry sequence0 window packets None base (pair ∷ pairs) [] answers given mid brings based steps = absurd brings
-first_known one_reading carry sequence0 window packets None base (pair ∷ pairs) (datagram ∷ datagrams) [] given mid brings based steps = absurd steps
-first_known one_reading carry sequence0 window packets None base (pair ∷ pairs) (datagram ∷ datagrams) (a ∷ answers) given mid brings based (now, later, kept, after, takes, gives, steps, are) =
-    let told : kept.first ≡ Some (sequence_at sequence0 pair.0) = first_told one_reading carry sequence0 window packets pair datagram a kept brings.0 takes in
+first_known one_reading carry sequence0 window reach packets (Some f) base pairs datagrams answers given mid brings based steps =
+    inr (known_as sequence0 base mid f (first_steps (made window reach (Some f)) mid datagrams answers given f steps refl) based)
+first_known one_reading carry sequence0 window reach packets None base [] datagrams answers given mid brings based steps = inl refl
+first_known one_reading carry sequence0 window reach packets None base (pair ∷ pairs) [] answers given mid brings based steps = absurd brings
+first_known one_reading carry sequence0 window reach packets None base (pair ∷ pairs) (datagram ∷ datagrams) [] given mid brings based steps = absurd steps
+first_known one_reading carry sequence0 window reach packets None base (pair ∷ pairs) (datagram ∷ datagrams) (a ∷ answers) given mid brings based (now, later, kept, after, takes, gives, steps, are) =
+    let told : kept.first ≡ Some (sequence_at sequence0 pair.0) = first_told one_reading carry sequence0 window reach packets pair datagram a kept brings.0 takes in
     let known = first_steps after mid datagrams answers later (sequence_at sequence0 pair.0) steps (gives_first now kept after gives ∙ told) in
     inr (known_as sequence0 base mid (sequence_at sequence0 pair.0) known (at_first sequence0 pair.0 base based))
 

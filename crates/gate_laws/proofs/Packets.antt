@@ -94,11 +94,11 @@ module _ (old new : Carry) (sequence0 window : ℕ) (packets : List (List ℕ)) 
 
 pub passes_deliveries : Collecting → OneReading → PassesDeliveries
 passes_deliveries collecting one_reading old new sequence0 packets rules base pairs datagrams fates some fits within heard onward =
-    let law = collecting old sequence0 rules.window packets rules.first rules.frames base pairs datagrams onward.taken onward.items some heard onward.run in
+    let law = collecting old sequence0 rules.window rules.reach packets rules.first rules.frames base pairs datagrams onward.taken onward.items some heard onward.run in
     let first : ℕ = first_of onward.run.mid in
     let of : ℕ → Item = item old packets rules.window base pairs in
     let n : ℕ = end_of rules.frames (newest_of base None pairs) in
-    let known = first_known one_reading old sequence0 rules.window packets rules.first base pairs datagrams onward.taken onward.run.during onward.run.mid
+    let known = first_known one_reading old sequence0 rules.window rules.reach packets rules.first base pairs datagrams onward.taken onward.run.during onward.run.mid
     (all_brought old sequence0 packets heard.sent pairs datagrams heard.delivered) heard.based onward.run.steps in
     let become : BecomeAll new first (map of (range_with_len 0 n)) fates = subst (λ (l : List Item). BecomeAll new first l fates) law.0 onward.become in
     let all : AllZip (IsDatagramAt new sequence0 packets) (flat_map (λ q. pairs_of new base (of q)) (range_with_len 0 n)) (sent_of fates) =

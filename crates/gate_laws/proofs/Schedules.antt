@@ -131,15 +131,15 @@ pub passes_schedules : Collecting → GivingEnds → OneReading → OneRun → P
 passes_schedules collecting giving_ends one_reading one_run plan carry rules base arrivals datagrams fates passed =
     let pairs : List (ℕ × ℕ) = pairs_in arrivals in
     let run = passed.onward.run in
-    let h : Hears plan rules.window rules.first base pairs datagrams = hears collecting giving_ends plan rules.window rules.first base arrivals datagrams passed.schedule passed.some passed.followed in
-    let same = one_run (made rules.window rules.first) run.mid h.mid datagrams passed.onward.taken h.answers run.during h.given run.steps h.steps in
+    let h : Hears plan rules.window rules.reach rules.first base pairs datagrams = hears collecting giving_ends plan rules.window rules.reach rules.first base arrivals datagrams passed.schedule passed.some passed.followed in
+    let same = one_run (made rules.window rules.reach rules.first) run.mid h.mid datagrams passed.onward.taken h.answers run.during h.given run.steps h.steps in
     let gives : Gives (after_finish h.mid rules.frames) run.rest run.after = subst (λ (s : State). Gives (after_finish s rules.frames) run.rest run.after) (sym same.2) run.gives in
     let are : passed.onward.items ≡ items plan.carry h.packets rules.window base rules.frames pairs =
     run.are ∙ (ap (λ (l : List Item). up_to rules.frames (l ++ run.rest)) (sym same.1) ∙ h.law rules.frames run.rest run.after gives) in
     let first : ℕ = first_of run.mid in
     let known : (pairs ≡ []) ⊎ IsAtBase plan.seq base first =
     subst (λ (s : State). (pairs ≡ []) ⊎ IsAtBase plan.seq base (first_of s)) same.2
-    (first_known one_reading plan.carry plan.seq rules.window h.packets rules.first base pairs h.others h.replies h.given h.mid
+    (first_known one_reading plan.carry plan.seq rules.window rules.reach h.packets rules.first base pairs h.others h.replies h.given h.mid
     (all_brought plan.carry plan.seq h.packets h.all_sent pairs h.others (delivered plan passed.schedule pairs h.packets h.are h.others h.sent)) passed.followed.based h.without) in
     let of : ℕ → Item = item plan.carry h.packets rules.window base pairs in
     let n : ℕ = end_of rules.frames (newest_of base None pairs) in

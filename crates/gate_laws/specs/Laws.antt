@@ -8,7 +8,6 @@ use Rattle.dcp_pft.specs.Carrying.{CarryFits, datagram_count}
 use Rattle.dcp_collect.specs.declared.taken.Field.{Field}
 use Rattle.dcp_collect.specs.declared.taken.Taken.{Taken}
 use Rattle.dcp_collect.specs.Numbers.{end_of}
-use Rattle.dcp_collect.specs.Reading.{Unread, IsRead}
 use Rattle.dcp_collect.specs.Runs.{Item, Packet, Run}
 use Rattle.collect_laws.specs.Delivery.{AreSent, AreDelivered, items, got, newest_of, IsBase, IsWithinSpan}
 use Rattle.collect_laws.specs.Laws.{IsHeard}
@@ -18,7 +17,7 @@ use Rattle.drm_switches.specs.Tracker.{TrackerState, new_tracker}
 use Rattle.drm_timeline.specs.Numbers.{packet_size}
 use Rattle.mod_feed.specs.Feeding.{FeedStep, Feeds}
 use Rattle.mod_delivery.specs.Sent as schedules
-use Rattle.mod_delivery.specs.Sent.{Arrival, IsArrival, pairs_in, IsFollowed, shape_at, frame_of_number}
+use Rattle.mod_delivery.specs.Sent.{Arrival, IsStray, IsArrival, AreFar, pairs_in, IsFollowed, shape_at, frame_of_number}
 use Rattle.mod_delivery.specs.Given.{IsServed, IsAFrame}
 use Rattle.report_lines.specs.Report.{item_line}
 use Rattle.frame_lines.specs.Line.{IsFrameLine}
@@ -57,7 +56,7 @@ pub record AreDeliveredOn (old new : Carry) (sequence0 : ℕ) (packets : List (L
 abbrev pub PassesDeliveries : Type 0
 PassesDeliveries =
     (old new : Carry) (sequence0 : ℕ) (packets : List (List ℕ)) (rules : ReceiveOptions) (base : ℤ) (pairs : List (ℕ × ℕ)) (datagrams : List (List ℕ)) (fates : List Fate)
-    → 1 ≤ rules.window → CarryFits new → AreWithin new packets → IsHeard old sequence0 packets rules.first base pairs datagrams
+    → 1 ≤ rules.window → CarryFits new → AreWithin new packets → IsHeard old sequence0 packets rules.reach rules.first base pairs datagrams
     → IsOnward rules new datagrams fates → AreDeliveredOn old new sequence0 packets rules base pairs (sent_of fates)
 
 -- ---- schedules
@@ -81,7 +80,7 @@ pub record IsPassedOn (plan : Plan) (carry : Carry) (rules : ReceiveOptions) (ba
   pub schedule : IsSchedule plan
   pub other : IsSchedule (under carry plan)
   pub some : 1 ≤ rules.window
-  pub followed : IsFollowed plan rules.first base arrivals datagrams
+  pub followed : IsFollowed plan rules.reach rules.first base arrivals datagrams
   pub onward : IsOnward rules carry datagrams fates
 
 -- It is a delivery of the schedule under that carry.
@@ -93,9 +92,9 @@ PassesSchedules =
 
 -- ---- behind a gateway
 
--- it is among these, or can't be read
+-- it is among these, or is a stray
 abbrev pub IsAmong : List (List ℕ) → List ℕ → Type 0
-IsAmong sent datagram = ((k : ℕ) × (slice_get sent k ≡ Some datagram)) ⊎ ((cause : Field) × IsRead (Unread cause) datagram)
+IsAmong sent datagram = ((k : ℕ) × (slice_get sent k ≡ Some datagram)) ⊎ ((cause : Field) × IsStray cause datagram)
 
 -- Whatever of what was sent comes, in whatever order, and with whatever strays, is a delivery of the schedule again.
 abbrev pub ComesAgain : Type 0
@@ -104,9 +103,10 @@ ComesAgain =
     → IsPassedOn plan carry rules base arrivals datagrams fates
     → (later : List (List ℕ)) → AllByRecursion (IsAmong (sent_of fates)) later → (again : List Arrival) × AllZip (IsArrival (under carry plan)) again later
 
--- they have a base, and are within the span from it
-abbrev pub HaveBase : Plan → Option ℕ → ℤ → List Arrival → Type 0
-HaveBase plan first base arrivals = IsBase plan.seq first (pairs_in arrivals) base × IsWithinSpan base None (pairs_in arrivals)
+-- they have a base, and are within the span from it, and strays that are to be far are
+abbrev pub HaveBase : Plan → ℕ → Option ℕ → ℤ → List Arrival → List (List ℕ) → Type 0
+HaveBase plan reach first base arrivals datagrams =
+    IsBase plan.seq first (pairs_in arrivals) base × IsWithinSpan reach base None (pairs_in arrivals) × AreFar reach plan.seq base None arrivals datagrams
 
 -- Each frame among them is the server's, and its line is that of the schedule's frame.
 abbrev pub AreServed : Plan → ℤ → List FeedStep → Type 0
@@ -117,8 +117,8 @@ AreServed plan base steps =
 -- What a receiver gives that follows a delivery of what was sent.
 abbrev pub GivesServed : Plan → List (List ℕ) → List Arrival → Type 0
 GivesServed plan later again =
-    (window : ℕ) (first told : Option ℕ) (base : ℤ) (answers : List Taken) (collected : List Item) (steps : List FeedStep) (after : TrackerState)
-    → 1 ≤ window → HaveBase plan first base again → Run window first told later answers collected → Feeds new_tracker collected steps after → AreServed plan base steps
+    (window reach : ℕ) (first told : Option ℕ) (base : ℤ) (answers : List Taken) (collected : List Item) (steps : List FeedStep) (after : TrackerState)
+    → 1 ≤ window → HaveBase plan reach first base again later → Run window reach first told later answers collected → Feeds new_tracker collected steps after → AreServed plan base steps
 
 -- Over one gateway: what comes of what it sends is a delivery of the schedule, and where a receiver follows that, each frame that it
 -- gives is the server's.
@@ -137,5 +137,5 @@ ServedBehindTwo =
     → IsPassedOn plan one rules base arrivals datagrams fates → IsSchedule (under other plan) → 1 ≤ rules'.window
     → AllByRecursion (IsAmong (sent_of fates)) datagrams' → IsOnward rules' other datagrams' fates'
     → (arrivals' : List Arrival) × AllZip (IsArrival (under one plan)) arrivals' datagrams'
-    × ((base' : ℤ) (later : List (List ℕ)) → HaveBase plan rules'.first base' arrivals' → AllByRecursion (IsAmong (sent_of fates')) later
+    × ((base' : ℤ) (later : List (List ℕ)) → HaveBase plan rules'.reach rules'.first base' arrivals' datagrams' → AllByRecursion (IsAmong (sent_of fates')) later
     → (again : List Arrival) × AllZip (IsArrival (under other plan)) again later × GivesServed plan later again)

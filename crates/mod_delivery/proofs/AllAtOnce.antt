@@ -27,7 +27,7 @@ use Rattle.mod_delivery.proofs.Needed.{some_got}
 use Rattle.mod_delivery.proofs.Numbering.{frame_is}
 use Rattle.mod_delivery.proofs.Packets.{IsChosen, ArePackets, some_packets, all_sent, delivered, at_number}
 use Rattle.mod_delivery.proofs.Paired.{IsPaired}
-use Rattle.mod_delivery.proofs.Strays.{others_of, with_strays}
+use Rattle.mod_delivery.proofs.Strays.{others_of, with_strays, stands_new}
 
 -- ---- after the last datagram nothing is ready, and there is no end
 
@@ -117,11 +117,11 @@ some_window plan (suc window) base pairs q is time = omega arith
 
 -- ---- all of them
 
-module _ (collecting : Collecting) (giving_ends : GivingEnds) (plan : Plan) (window : ℕ) (first : Option ℕ) (pairs : List (ℕ × ℕ)) (ds : List (List ℕ))
-    (is : IsSchedule plan) (some : 1 ≤ window) (paired : IsPaired plan first (pos 0) pairs ds) (in_time : (q : ℕ) → q < frame_count plan → IsInTime plan window (pos 0) pairs q) where
+module _ (collecting : Collecting) (giving_ends : GivingEnds) (plan : Plan) (window reach : ℕ) (first : Option ℕ) (pairs : List (ℕ × ℕ)) (ds : List (List ℕ))
+    (is : IsSchedule plan) (some : 1 ≤ window) (paired : IsPaired plan reach first (pos 0) pairs ds) (in_time : (q : ℕ) → q < frame_count plan → IsInTime plan window (pos 0) pairs q) where
   -- the steps go on over all datagrams
-  run : GoesOn (made window first) ds
-  run = goes_on giving_ends (made window first) ds (all_brought_of plan pairs ds is paired.sent) (some, tt)
+  run : GoesOn (made window reach first) ds
+  run = goes_on giving_ends (made window reach first) ds (all_brought_of plan pairs ds is paired.sent) (some, tt)
 
   not_fewer : length run.given < frame_count plan → ⊥
   not_fewer few =
@@ -130,24 +130,24 @@ module _ (collecting : Collecting) (giving_ends : GivingEnds) (plan : Plan) (win
       let m : ℕ = length run.given in
       let (rest, after, gives) = giving_ends (after_finish mid (Some n)) run.fit.0 run.fit.1 in
       let (packets, are) = some_packets plan pairs ds paired.sent in
-      let heard : IsHeard plan.carry plan.seq packets first (pos 0) pairs ds = record {
+      let heard : IsHeard plan.carry plan.seq packets reach first (pos 0) pairs ds = record {
         sent = all_sent plan is pairs packets are;
         delivered = delivered plan is pairs packets are ds paired.sent;
         based = paired.based;
         within_span = paired.within_span;
       } in
-      let whole : Run window first (Some n) ds run.answers (take n (run.given ++ rest)) =
+      let whole : Run window reach first (Some n) ds run.answers (take n (run.given ++ rest)) =
       record { during = run.given; rest = rest; mid = mid; after = after; steps = run.steps; gives = gives; are = refl } in
-      let law = (collecting plan.carry plan.seq window packets first (Some n) (pos 0) pairs ds run.answers (take n (run.given ++ rest)) some heard whole).0 in
+      let law = (collecting plan.carry plan.seq window reach packets first (Some n) (pos 0) pairs ds run.answers (take n (run.given ++ rest)) some heard whole).0 in
       let of : ℕ → Item = item plan.carry packets window (pos 0) pairs in
       let at : slice_get rest 0 ≡ Some (of m) = sym (at_seam n run.given rest few) ∙ ap (λ l. slice_get l m) law ∙ at_number of n m few in
       let (more, begins) = first_is rest (of m) at in
       let (packet, there) = item_there plan window pairs packets is are m (in_time m few) in
       let next : IsItem (after_finish mid (Some n)) (of m) = (subst (λ l. Gives (after_finish mid (Some n)) l after) begins gives).1 in
       let made_next : IsItem (after_finish mid (Some n)) (Packet m packet) = subst (IsItem (after_finish mid (Some n))) there next in
-      not_sufficient mid (steps_end (made window first) mid ds run.answers run.given run.steps) (steps_idle (made window first) mid ds run.answers run.given run.steps refl) made_next.1
+      not_sufficient mid (steps_end (made window reach first) mid ds run.answers run.given run.steps) (steps_idle (made window reach first) mid ds run.answers run.given run.steps refl) made_next.1
 
-  pub pairs_all : (answers : List Taken) × (given : List Item) × (mid : State) × Steps (made window first) ds answers given mid × (frame_count plan ≤ length given)
+  pub pairs_all : (answers : List Taken) × (given : List Item) × (mid : State) × Steps (made window reach first) ds answers given mid × (frame_count plan ≤ length given)
   pairs_all = (
     run.answers,
     run.given,
@@ -160,11 +160,12 @@ module _ (collecting : Collecting) (giving_ends : GivingEnds) (plan : Plan) (win
   )
 
 pub all_at_once : Collecting → GivingEnds → AllAtOnce
-all_at_once collecting giving_ends plan window first arrivals datagrams is followed in_time =
+all_at_once collecting giving_ends plan window reach first arrivals datagrams is followed in_time =
     let one : 0 < frame_count plan = (let least = is.in_lines.some_frames in omega (arith, least)) in
     let some : 1 ≤ window = some_window plan window (pos 0) (pairs_in arrivals) 0 is (in_time 0 one) in
     let (others, sent) = others_of plan arrivals datagrams followed.arrive in
-    let (replies, given, mid, steps, enough) = pairs_all collecting giving_ends plan window first (pairs_in arrivals) others is some
+    let (replies, given, mid, steps, enough) = pairs_all collecting giving_ends plan window reach first (pairs_in arrivals) others is some
     (record { sent = sent; based = followed.based; within_span = followed.within_span }) in_time in
-    let (answers, again) = with_strays plan (made window first) mid arrivals datagrams replies given followed.arrive refl steps in
+    let stands = stands_new plan window reach first (pos 0) arrivals datagrams followed in
+    let (answers, again) = with_strays plan is window reach (pos 0) (made window reach first) mid None arrivals [] datagrams replies given followed.arrive stands steps in
     (answers, given, mid, again, enough)

@@ -61,11 +61,11 @@ ends_there None n some last none = absurd (let e : false ≡ true = last in cc)
 ends_there (Some m) n some last none = let low : n - 1 ≤ m = leb-true (n - 1) m last in let high : m < n = leb-false n m none in omega (arith, low, high, some)
 
 -- whether the number of items is told or not, they are as many as the schedule's frames
-all_many : (plan : Plan) (window : ℕ) (told : Option ℕ) (arrivals : List Arrival) (datagrams : List (List ℕ)) (first : Option ℕ)
-    → IsSchedule plan → (told ≡ None) ⊎ (told ≡ Some (frame_count plan)) → IsFollowed plan first (pos 0) arrivals datagrams
+all_many : (plan : Plan) (window reach : ℕ) (told : Option ℕ) (arrivals : List Arrival) (datagrams : List (List ℕ)) (first : Option ℕ)
+    → IsSchedule plan → (told ≡ None) ⊎ (told ≡ Some (frame_count plan)) → IsFollowed plan reach first (pos 0) arrivals datagrams
     → ((q : ℕ) → q < frame_count plan → IsInTime plan window (pos 0) (pairs_in arrivals) q) → end_of told (newest_of (pos 0) None (pairs_in arrivals)) ≡ frame_count plan
-all_many plan window told arrivals datagrams first is (inr known) followed in_time = ap (λ (o : Option ℕ). end_of o (newest_of (pos 0) None (pairs_in arrivals))) known
-all_many plan window told arrivals datagrams first is (inl unknown) followed in_time =
+all_many plan window reach told arrivals datagrams first is (inr known) followed in_time = ap (λ (o : Option ℕ). end_of o (newest_of (pos 0) None (pairs_in arrivals))) known
+all_many plan window reach told arrivals datagrams first is (inl unknown) followed in_time =
     let n : ℕ = frame_count plan in
     let some : 1 ≤ frame_count plan = omega (arith, is.in_lines.some_frames) in
     let last = in_time (n - 1) (omega (arith, some)) in
@@ -75,8 +75,8 @@ all_many plan window told arrivals datagrams first is (inl unknown) followed in_
     ap (λ (o : Option ℕ). end_of o (newest_of (pos 0) None (pairs_in arrivals))) unknown ∙ ends_there (newest_of (pos 0) None (pairs_in arrivals)) n some came none
 
 pub all_frames : AllFrames
-all_frames plan window told arrivals datagrams first steps is known followed in_time given =
-    let many : length steps ≡ frame_count plan = given.many ∙ all_many plan window told arrivals datagrams first is known followed in_time in (
+all_frames plan window reach told arrivals datagrams first steps is known followed in_time given =
+    let many : length steps ≡ frame_count plan = given.many ∙ all_many plan window reach told arrivals datagrams first is known followed in_time in (
       many,
       λ q step at.
           let within : q < length steps = slice_get_within steps q step at in

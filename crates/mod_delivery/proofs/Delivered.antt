@@ -173,17 +173,17 @@ given_of_items plan window base told pairs packets steps after switches is are f
 
 -- a collector and a feed give what the delivery calls for
 pub delivering : Collecting → FeedTellsTheSwitches → DeliveringPairs
-delivering collecting switches plan window first told base pairs datagrams answers collected steps after is some followed run feeds =
+delivering collecting switches plan window reach first told base pairs datagrams answers collected steps after is some followed run feeds =
     let made = some_packets plan pairs datagrams followed.sent in
     let packets : List (List ℕ) = made.0 in
     let are : ArePackets plan pairs packets = made.1 in
     let carry : Carry = plan.carry in
-    let heard : IsHeard carry plan.seq packets first base pairs datagrams = record {
+    let heard : IsHeard carry plan.seq packets reach first base pairs datagrams = record {
       sent = all_sent plan is pairs packets are;
       delivered = delivered plan is pairs packets are datagrams followed.sent;
       based = followed.based;
       within_span = followed.within_span;
     } in
-    let law = collecting carry plan.seq window packets first told base pairs datagrams answers collected some heard run in
+    let law = collecting carry plan.seq window reach packets first told base pairs datagrams answers collected some heard run in
     let fed : Feeds new_tracker (items carry packets window base told pairs) steps after = subst (λ (l : List Collected). Feeds new_tracker l steps after) law.0 feeds in
     (given_of_items plan window base told pairs packets steps after switches is are fed, law.1)

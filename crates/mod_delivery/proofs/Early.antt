@@ -106,10 +106,10 @@ all_bytes carry sequence0 packets bytes (pair ∷ pairs) (datagram ∷ datagrams
 )
 
 -- some run over the whole delivery gives what was given early
-whole_run : StepsJoin → GivingEnds → (window n : ℕ) (first : Option ℕ) (datagrams later : List (List ℕ)) (answers : List Taken) (collected : List Collected) (mid : State)
-    → Steps (made window first) datagrams answers collected mid → n ≤ length collected → AllByRecursion IsBrought later → IsFit mid
-    → (more : List Taken) × Run window first (Some n) (datagrams ++ later) (answers ++ more) (take n collected)
-whole_run steps_join giving_ends window n first datagrams later answers collected mid before enough brought fit =
+whole_run : StepsJoin → GivingEnds → (window reach n : ℕ) (first : Option ℕ) (datagrams later : List (List ℕ)) (answers : List Taken) (collected : List Collected) (mid : State)
+    → Steps (made window reach first) datagrams answers collected mid → n ≤ length collected → AllByRecursion IsBrought later → IsFit mid
+    → (more : List Taken) × Run window reach first (Some n) (datagrams ++ later) (answers ++ more) (take n collected)
+whole_run steps_join giving_ends window reach n first datagrams later answers collected mid before enough brought fit =
     let more = goes_on giving_ends mid later brought fit in
     let end = giving_ends (after_finish more.after (Some n)) more.fit.0 more.fit.1 in
     let within : n ≤ length (collected ++ more.given) = omega (arith, enough, length-append collected more.given) in
@@ -121,7 +121,7 @@ whole_run steps_join giving_ends window n first datagrams later answers collecte
         rest = end.0;
         mid = more.after;
         after = end.1;
-        steps = steps_join (made window first) mid more.after datagrams later answers more.answers collected more.given before more.steps;
+        steps = steps_join (made window reach first) mid more.after datagrams later answers more.answers collected more.given before more.steps;
         gives = end.2;
         are = sym front;
       },
@@ -138,23 +138,23 @@ all_brought_of plan pairs datagrams is sent =
     (all_brought carry plan.seq packets (all_sent plan is pairs packets are) pairs datagrams (delivered plan is pairs packets are datagrams sent))
 
 module _ (delivering : DeliveringPairs) (one_reading : OneReading) (steps_join : StepsJoin) (giving_ends : GivingEnds) where
-  run_on : (plan : Plan) (window n : ℕ) (first : Option ℕ) (base : ℤ) (pairs : List (ℕ × ℕ)) (datagrams later : List (List ℕ)) (answers : List Taken) (collected : List Collected) (mid : State)
-      → IsSchedule plan → 1 ≤ window → IsPaired plan first base pairs (datagrams ++ later) → Steps (made window first) datagrams answers collected mid → n ≤ length collected
-      → (more : List Taken) × Run window first (Some n) (datagrams ++ later) (answers ++ more) (take n collected)
-  run_on plan window n first base pairs datagrams later answers collected mid is some followed before enough =
+  run_on : (plan : Plan) (window reach n : ℕ) (first : Option ℕ) (base : ℤ) (pairs : List (ℕ × ℕ)) (datagrams later : List (List ℕ)) (answers : List Taken) (collected : List Collected) (mid : State)
+      → IsSchedule plan → 1 ≤ window → IsPaired plan reach first base pairs (datagrams ++ later) → Steps (made window reach first) datagrams answers collected mid → n ≤ length collected
+      → (more : List Taken) × Run window reach first (Some n) (datagrams ++ later) (answers ++ more) (take n collected)
+  run_on plan window reach n first base pairs datagrams later answers collected mid is some followed before enough =
       let brought : AllByRecursion IsBrought (datagrams ++ later) = all_brought_of plan pairs (datagrams ++ later) is followed.sent in
-      let fit : IsFit mid = fit_steps one_reading (made window first) mid datagrams answers collected (all_front IsBrought datagrams later brought) before (some, tt) in
-      whole_run steps_join giving_ends window n first datagrams later answers collected mid before enough (all_behind datagrams later brought) fit
+      let fit : IsFit mid = fit_steps one_reading (made window reach first) mid datagrams answers collected (all_front IsBrought datagrams later brought) before (some, tt) in
+      whole_run steps_join giving_ends window reach n first datagrams later answers collected mid before enough (all_behind datagrams later brought) fit
 
   -- those that are given early are those of the whole delivery
   pub pairs_early : PairsEarly
-  pairs_early plan window n first base pairs datagrams later answers collected mid steps after is some followed before enough feeds =
-      let whole = run_on plan window n first base pairs datagrams later answers collected mid is some followed before enough in
-      (delivering plan window first (Some n) base pairs (datagrams ++ later) (answers ++ whole.0) (take n collected) steps after is some followed whole.1 feeds).0
+  pairs_early plan window reach n first base pairs datagrams later answers collected mid steps after is some followed before enough feeds =
+      let whole = run_on plan window reach n first base pairs datagrams later answers collected mid is some followed before enough in
+      (delivering plan window reach first (Some n) base pairs (datagrams ++ later) (answers ++ whole.0) (take n collected) steps after is some followed whole.1 feeds).0
 
   -- and no datagram is refused
   pub pairs_right : PairsRight
-  pairs_right plan window first base pairs datagrams later answers collected mid is some followed before =
-      let whole = run_on plan window 0 first base pairs datagrams later answers collected mid is some followed before (omega arith) in
-      let law = delivering plan window first (Some 0) base pairs (datagrams ++ later) (answers ++ whole.0) (take 0 collected) [] new_tracker is some followed whole.1 refl in
+  pairs_right plan window reach first base pairs datagrams later answers collected mid is some followed before =
+      let whole = run_on plan window reach 0 first base pairs datagrams later answers collected mid is some followed before (omega arith) in
+      let law = delivering plan window reach first (Some 0) base pairs (datagrams ++ later) (answers ++ whole.0) (take 0 collected) [] new_tracker is some followed whole.1 refl in
       all_front IsRight answers whole.0 law.1

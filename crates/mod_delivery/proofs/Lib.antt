@@ -13,6 +13,7 @@ pub mod Delivered
 pub mod Bytes
 pub mod Early
 pub mod Paired
+pub mod Following
 pub mod Strays
 pub mod ServedFrames
 pub mod AllAtOnce

@@ -14,31 +14,31 @@ use Rattle.mod_delivery.specs.Sent.{AreSent}
 use Rattle.mod_delivery.specs.Given.{AreGiven}
 
 -- a delivery of pairs alone that a receiver can follow
-pub record IsPaired (plan : Plan) (first : Option ℕ) (base : ℤ) (pairs : List (ℕ × ℕ)) (datagrams : List (List ℕ)) : Type 0 where
+pub record IsPaired (plan : Plan) (reach : ℕ) (first : Option ℕ) (base : ℤ) (pairs : List (ℕ × ℕ)) (datagrams : List (List ℕ)) : Type 0 where
   pub sent : AreSent plan pairs datagrams
   pub based : IsBase plan.seq first pairs base
-  pub within_span : IsWithinSpan base None pairs
+  pub within_span : IsWithinSpan reach base None pairs
 
 abbrev pub DeliveringPairs : Type 0
 DeliveringPairs =
-    (plan : Plan) (window : ℕ) (first told : Option ℕ) (base : ℤ) (pairs : List (ℕ × ℕ)) (datagrams : List (List ℕ))
+    (plan : Plan) (window reach : ℕ) (first told : Option ℕ) (base : ℤ) (pairs : List (ℕ × ℕ)) (datagrams : List (List ℕ))
     (answers : List Taken) (collected : List Collected) (steps : List FeedStep) (after : TrackerState)
-    → IsSchedule plan → 1 ≤ window → IsPaired plan first base pairs datagrams
-    → Run window first told datagrams answers collected → Feeds new_tracker collected steps after
+    → IsSchedule plan → 1 ≤ window → IsPaired plan reach first base pairs datagrams
+    → Run window reach first told datagrams answers collected → Feeds new_tracker collected steps after
     → AreGiven plan window base told pairs steps × AllByRecursion IsRight answers
 
 abbrev pub PairsEarly : Type 0
 PairsEarly =
-    (plan : Plan) (window n : ℕ) (first : Option ℕ) (base : ℤ) (pairs : List (ℕ × ℕ)) (datagrams later : List (List ℕ))
+    (plan : Plan) (window reach n : ℕ) (first : Option ℕ) (base : ℤ) (pairs : List (ℕ × ℕ)) (datagrams later : List (List ℕ))
     (answers : List Taken) (collected : List Collected) (mid : State) (steps : List FeedStep) (after : TrackerState)
-    → IsSchedule plan → 1 ≤ window → IsPaired plan first base pairs (datagrams ++ later)
-    → Steps (made window first) datagrams answers collected mid → n ≤ length collected
+    → IsSchedule plan → 1 ≤ window → IsPaired plan reach first base pairs (datagrams ++ later)
+    → Steps (made window reach first) datagrams answers collected mid → n ≤ length collected
     → Feeds new_tracker (take n collected) steps after
     → AreGiven plan window base (Some n) pairs steps
 
 abbrev pub PairsRight : Type 0
 PairsRight =
-    (plan : Plan) (window : ℕ) (first : Option ℕ) (base : ℤ) (pairs : List (ℕ × ℕ)) (datagrams later : List (List ℕ))
+    (plan : Plan) (window reach : ℕ) (first : Option ℕ) (base : ℤ) (pairs : List (ℕ × ℕ)) (datagrams later : List (List ℕ))
     (answers : List Taken) (collected : List Collected) (mid : State)
-    → IsSchedule plan → 1 ≤ window → IsPaired plan first base pairs (datagrams ++ later)
-    → Steps (made window first) datagrams answers collected mid → AllByRecursion IsRight answers
+    → IsSchedule plan → 1 ≤ window → IsPaired plan reach first base pairs (datagrams ++ later)
+    → Steps (made window reach first) datagrams answers collected mid → AllByRecursion IsRight answers

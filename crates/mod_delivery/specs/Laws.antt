@@ -25,30 +25,30 @@ Suits (Stray cause) answer = answer ≡ Refused cause
 -- give of them is what the delivery calls for, and the strays alone are refused.
 abbrev pub Delivering : Type 0
 Delivering =
-    (plan : Plan) (window : ℕ) (first told : Option ℕ) (base : ℤ) (arrivals : List Arrival) (datagrams : List (List ℕ))
+    (plan : Plan) (window reach : ℕ) (first told : Option ℕ) (base : ℤ) (arrivals : List Arrival) (datagrams : List (List ℕ))
     (answers : List Taken) (collected : List Collected) (steps : List FeedStep) (after : TrackerState)
-    → IsSchedule plan → 1 ≤ window → IsFollowed plan first base arrivals datagrams
-    → Run window first told datagrams answers collected → Feeds new_tracker collected steps after
+    → IsSchedule plan → 1 ≤ window → IsFollowed plan reach first base arrivals datagrams
+    → Run window reach first told datagrams answers collected → Feeds new_tracker collected steps after
     → AreGiven plan window base told (pairs_in arrivals) steps × AllZip Suits arrivals answers
 
 -- The same where a reading ends as soon as the told number of items was given: they are those of the whole delivery,
 -- whatever of it is still to come.
 abbrev pub DeliveringEarly : Type 0
 DeliveringEarly =
-    (plan : Plan) (window n : ℕ) (first : Option ℕ) (base : ℤ) (arrivals : List Arrival) (datagrams later : List (List ℕ))
+    (plan : Plan) (window reach n : ℕ) (first : Option ℕ) (base : ℤ) (arrivals : List Arrival) (datagrams later : List (List ℕ))
     (answers : List Taken) (collected : List Collected) (mid : State) (steps : List FeedStep) (after : TrackerState)
-    → IsSchedule plan → 1 ≤ window → IsFollowed plan first base arrivals (datagrams ++ later)
-    → Steps (made window first) datagrams answers collected mid → n ≤ length collected
+    → IsSchedule plan → 1 ≤ window → IsFollowed plan reach first base arrivals (datagrams ++ later)
+    → Steps (made window reach first) datagrams answers collected mid → n ≤ length collected
     → Feeds new_tracker (take n collected) steps after
     → AreGiven plan window base (Some n) (pairs_in arrivals) steps
 
 -- The strays of such a delivery alone are refused, whatever of it is still to come.
 abbrev pub StraysRefused : Type 0
 StraysRefused =
-    (plan : Plan) (window : ℕ) (first : Option ℕ) (base : ℤ) (arrivals : List Arrival) (datagrams later : List (List ℕ))
+    (plan : Plan) (window reach : ℕ) (first : Option ℕ) (base : ℤ) (arrivals : List Arrival) (datagrams later : List (List ℕ))
     (answers : List Taken) (collected : List Collected) (mid : State)
-    → IsSchedule plan → 1 ≤ window → IsFollowed plan first base arrivals (datagrams ++ later)
-    → Steps (made window first) datagrams answers collected mid → AllZip Suits (take (length datagrams) arrivals) answers
+    → IsSchedule plan → 1 ≤ window → IsFollowed plan reach first base arrivals (datagrams ++ later)
+    → Steps (made window reach first) datagrams answers collected mid → AllZip Suits (take (length datagrams) arrivals) answers
 
 -- A frame whose packet lost no more datagrams than it was cut for, and whose others came within the window, is given.
 abbrev pub GivenInTime : Type 0
@@ -78,8 +78,8 @@ AllSwitches =
 -- their number is told or not.
 abbrev pub AllFrames : Type 0
 AllFrames =
-    (plan : Plan) (window : ℕ) (told : Option ℕ) (arrivals : List Arrival) (datagrams : List (List ℕ)) (first : Option ℕ) (steps : List FeedStep)
-    → IsSchedule plan → (told ≡ None) ⊎ (told ≡ Some (frame_count plan)) → IsFollowed plan first (pos 0) arrivals datagrams
+    (plan : Plan) (window reach : ℕ) (told : Option ℕ) (arrivals : List Arrival) (datagrams : List (List ℕ)) (first : Option ℕ) (steps : List FeedStep)
+    → IsSchedule plan → (told ≡ None) ⊎ (told ≡ Some (frame_count plan)) → IsFollowed plan reach first (pos 0) arrivals datagrams
     → ((q : ℕ) → q < frame_count plan → IsInTime plan window (pos 0) (pairs_in arrivals) q)
     → AreGiven plan window (pos 0) told (pairs_in arrivals) steps
     → (length steps ≡ frame_count plan) × AreAllServed plan (pos 0) steps
@@ -87,8 +87,8 @@ AllFrames =
 -- In such a delivery all of them were given with its last datagram, whether an end is known or not.
 abbrev pub AllAtOnce : Type 0
 AllAtOnce =
-    (plan : Plan) (window : ℕ) (first : Option ℕ) (arrivals : List Arrival) (datagrams : List (List ℕ))
-    → IsSchedule plan → IsFollowed plan first (pos 0) arrivals datagrams
+    (plan : Plan) (window reach : ℕ) (first : Option ℕ) (arrivals : List Arrival) (datagrams : List (List ℕ))
+    → IsSchedule plan → IsFollowed plan reach first (pos 0) arrivals datagrams
     → ((q : ℕ) → q < frame_count plan → IsInTime plan window (pos 0) (pairs_in arrivals) q)
     → (answers : List Taken) × (collected : List Collected) × (mid : State)
-    × Steps (made window first) datagrams answers collected mid × (frame_count plan ≤ length collected)
+    × Steps (made window reach first) datagrams answers collected mid × (frame_count plan ≤ length collected)

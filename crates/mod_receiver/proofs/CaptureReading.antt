@@ -8,8 +8,8 @@ use Rattle.recv_reading.specs.Source.{ReadSoFar, HeardOf}
 use Rattle.mod_receiver.specs.Received.{Reported, Stopped}
 
 -- a new collector goes by the options that it was made of
-pub options_are : (options : ReceiveOptions) (c : State) (bounds : Bounds) → c ≡ made options.window options.first → bounds ≡ bounds_of options → options_of c bounds ≡ options
-options_are options c bounds is by = ap (λ (s : State). options_of s bounds) is ∙ ap (options_of (made options.window options.first)) by
+pub options_are : (options : ReceiveOptions) (c : State) (bounds : Bounds) → c ≡ made options.window options.reach options.first → bounds ≡ bounds_of options → options_of c bounds ≡ options
+options_are options c bounds is by = ap (λ (s : State). options_of s bounds) is ∙ ap (options_of (made options.window options.reach options.first)) by
 
 module _ (options : ReceiveOptions) (reader : WalkerState) (before after : Known Input) (a b : Known Output) where
   pub as_reported : (clean : Bool) → Reported options 1 (ReadSoFar reader before after) a b clean → Reported options 1 (HeardOf before after) a b clean

@@ -78,7 +78,7 @@ gives_in_time laws plan window base told pairs steps schedule given = λ q step 
 pub headline : Delivering → ItemLaws → (rules : ReceiveOptions) (feed : ℕ) (answers : List Answer) (text : List ℕ) (clean : Bool) → 1 ≤ rules.window
     → IsReport rules feed answers text clean → HeadlineOf rules feed answers text clean
 headline law laws rules feed answers text clean some r plan base arrivals schedule followed =
-    let (given, suit) = law plan rules.window rules.first rules.frames base arrivals (datagrams answers) r.taken r.items r.steps r.after schedule some followed r.run r.feeds in
+    let (given, suit) = law plan rules.window rules.reach rules.first rules.frames base arrivals (datagrams answers) r.taken r.items r.steps r.after schedule some followed r.run r.feeds in
     let pairs = pairs_in arrivals in
     record {
       steps = r.steps;
@@ -105,12 +105,12 @@ served_clean plan base steps all = all_given steps (λ q step e. let (t, is, ser
 -- what is known of the frames makes the text that of all frames
 modulates_all : AllFrames → ItemLaws → (plan : Plan) (rules : ReceiveOptions) (told : Option ℕ) (feed : ℕ) (ahead rest answers : List Answer) (arrivals : List Arrival) (ds : List (List ℕ)) (text : List ℕ) (clean : Bool)
     → AreNext ahead answers rest → (r : IsReport rules feed answers text clean)
-    → IsSchedule plan → (told ≡ None) ⊎ (told ≡ Some (frame_count plan)) → IsFollowed plan rules.first (pos 0) arrivals ds
+    → IsSchedule plan → (told ≡ None) ⊎ (told ≡ Some (frame_count plan)) → IsFollowed plan rules.reach rules.first (pos 0) arrivals ds
     → ((q : ℕ) → q < frame_count plan → IsInTime plan rules.window (pos 0) (pairs_in arrivals) q)
     → AreGiven plan rules.window (pos 0) told (pairs_in arrivals) r.steps → AllZip Suits (take (length (datagrams answers)) arrivals) r.taken
     → ModulatesAll plan rules feed arrivals ahead text clean
 modulates_all law laws plan rules told feed ahead rest answers arrivals ds text clean next r schedule known followed in_time given suit =
-    let (many, all) = law plan rules.window told arrivals ds rules.first r.steps schedule known followed in_time given in
+    let (many, all) = law plan rules.window rules.reach told arrivals ds rules.first r.steps schedule known followed in_time given in
     record {
       steps = r.steps;
       many = many;
@@ -187,43 +187,43 @@ pub record DeliveryLaws : Type 0 where
 module _ (laws : DeliveryLaws) (rules : ReceiveOptions) (feed : ℕ) (ahead rest answers : List Answer) (text : List ℕ) (clean : Bool) (plan : Plan) (arrivals : List Arrival)
     (some : 1 ≤ rules.window) (next : AreNext ahead answers rest) (r : IsReport rules feed answers text clean) (schedule : IsSchedule plan)
     (in_time : (q : ℕ) → q < frame_count plan → IsInTime plan rules.window (pos 0) (pairs_in arrivals) q) where
-  suits : (later : List (List ℕ)) → IsFollowed plan rules.first (pos 0) arrivals (datagrams answers ++ later) → AllZip Suits (take (length (datagrams answers)) arrivals) r.taken
+  suits : (later : List (List ℕ)) → IsFollowed plan rules.reach rules.first (pos 0) arrivals (datagrams answers ++ later) → AllZip Suits (take (length (datagrams answers)) arrivals) r.taken
   suits later followed =
-      laws.refused plan rules.window rules.first (pos 0) arrivals (datagrams answers) later r.taken r.run.during r.run.mid schedule some followed r.run.steps
+      laws.refused plan rules.window rules.reach rules.first (pos 0) arrivals (datagrams answers) later r.taken r.run.during r.run.mid schedule some followed r.run.steps
 
   -- where the reading ends by the told number
   complete_early : (n : ℕ) (later : List (List ℕ)) → HasGiven rules answers (Some n) → rules.frames ≡ Some n → n ≡ frame_count plan
-      → IsFollowed plan rules.first (pos 0) arrivals (datagrams answers ++ later) → ModulatesAll plan rules feed arrivals ahead text clean
+      → IsFollowed plan rules.reach rules.first (pos 0) arrivals (datagrams answers ++ later) → ModulatesAll plan rules feed arrivals ahead text clean
   complete_early n later (taken, items, end, gave, enough) told size followed =
-      let same : r.run.during ≡ items = (one_way (made rules.window rules.first) end r.run.mid (datagrams answers) taken r.taken items r.run.during gave r.run.steps).1 in
+      let same : r.run.during ≡ items = (one_way (made rules.window rules.reach rules.first) end r.run.mid (datagrams answers) taken r.taken items r.run.during gave r.run.steps).1 in
       let long : length r.run.during ≡ length items = ap length same in
       let l : n ≤ length r.run.during = omega (arith, long, enough) in
       let are : r.items ≡ take n r.run.during = r.run.are ∙ ap (λ t. up_to t (r.run.during ++ r.run.rest)) told ∙ take-append-le n r.run.during r.run.rest l in
       let feeds : Feeds new_tracker (take n r.run.during) r.steps r.after = subst (λ xs. Feeds new_tracker xs r.steps r.after) are r.feeds in
       let given : AreGiven plan rules.window (pos 0) (Some n) (pairs_in arrivals) r.steps =
-      laws.early plan rules.window n rules.first (pos 0) arrivals (datagrams answers) later r.taken r.run.during r.run.mid r.steps r.after schedule some followed r.run.steps l feeds in
+      laws.early plan rules.window rules.reach n rules.first (pos 0) arrivals (datagrams answers) later r.taken r.run.during r.run.mid r.steps r.after schedule some followed r.run.steps l feeds in
       modulates_all laws.all_frames laws.items plan rules (Some n) feed ahead rest answers arrivals (datagrams answers ++ later) text clean next r schedule (inr (ap Some size)) followed in_time given (suits later followed)
 
   -- where it ends otherwise
-  complete_same : (rules.frames ≡ None) ⊎ (rules.frames ≡ Some (frame_count plan)) → IsFollowed plan rules.first (pos 0) arrivals (datagrams answers) → ModulatesAll plan rules feed arrivals ahead text clean
+  complete_same : (rules.frames ≡ None) ⊎ (rules.frames ≡ Some (frame_count plan)) → IsFollowed plan rules.reach rules.first (pos 0) arrivals (datagrams answers) → ModulatesAll plan rules feed arrivals ahead text clean
   complete_same known followed =
-      let given = (laws.whole plan rules.window rules.first rules.frames (pos 0) arrivals (datagrams answers) r.taken r.items r.steps r.after schedule some followed r.run r.feeds).0 in
-      let suit = suits [] (subst (IsFollowed plan rules.first (pos 0) arrivals) (sym (append-nil (datagrams answers))) followed) in
+      let given = (laws.whole plan rules.window rules.reach rules.first rules.frames (pos 0) arrivals (datagrams answers) r.taken r.items r.steps r.after schedule some followed r.run r.feeds).0 in
+      let suit = suits [] (subst (IsFollowed plan rules.reach rules.first (pos 0) arrivals) (sym (append-nil (datagrams answers))) followed) in
       modulates_all laws.all_frames laws.items plan rules rules.frames feed ahead rest answers arrivals (datagrams answers) text clean next r schedule known followed in_time given suit
 
-  complete_whole : (others : List Answer) (w : EndWord) → IsFinished rules answers w → WouldBeRead rules ahead others → IsFollowed plan rules.first (pos 0) arrivals (datagrams others)
+  complete_whole : (others : List Answer) (w : EndWord) → IsFinished rules answers w → WouldBeRead rules ahead others → IsFollowed plan rules.reach rules.first (pos 0) arrivals (datagrams others)
       → (rules.frames ≡ None) ⊎ (rules.frames ≡ Some (frame_count plan)) → Holds (untold rules) answers w → ModulatesAll plan rules feed arrivals ahead text clean
   complete_whole others w f would followed known holds =
-      complete_same known (subst (λ l. IsFollowed plan rules.first (pos 0) arrivals (datagrams l)) (sym (read_all rules ahead rest answers others w next f would holds)) followed)
+      complete_same known (subst (λ l. IsFollowed plan rules.reach rules.first (pos 0) arrivals (datagrams l)) (sym (read_all rules ahead rest answers others w next f would holds)) followed)
 
   -- by why the reading ends
   complete_by : (others : List Answer) (w : EndWord) → IsFinished rules answers w → WouldBeRead rules ahead others
-      → IsFollowed plan rules.first (pos 0) arrivals (datagrams others) → (rules.frames ≡ None) ⊎ (rules.frames ≡ Some (frame_count plan)) → ModulatesAll plan rules feed arrivals ahead text clean
+      → IsFollowed plan rules.reach rules.first (pos 0) arrivals (datagrams others) → (rules.frames ≡ None) ⊎ (rules.frames ≡ Some (frame_count plan)) → ModulatesAll plan rules feed arrivals ahead text clean
   complete_by others word.Frames f would followed (inl none) = absurd (subst (HasGiven rules answers) none f.ends)
   complete_by others word.Frames f would followed (inr told) =
       let (later, are) = read_front rules ahead rest answers others word.Frames next f would in
       let joined : datagrams others ≡ datagrams answers ++ datagrams later = ap datagrams are ∙ filter_map-append datagram_of answers later in
-      complete_early (frame_count plan) (datagrams later) (subst (HasGiven rules answers) told f.ends) told refl (subst (IsFollowed plan rules.first (pos 0) arrivals) joined followed)
+      complete_early (frame_count plan) (datagrams later) (subst (HasGiven rules answers) told f.ends) told refl (subst (IsFollowed plan rules.reach rules.first (pos 0) arrivals) joined followed)
   complete_by others word.Limit f would followed known = complete_whole others word.Limit f would followed known f.ends.0
   complete_by others word.Idle f would followed known = complete_whole others word.Idle f would followed known f.ends.0
   complete_by others word.Input f would followed known = complete_whole others word.Input f would followed known f.ends.0

@@ -39,8 +39,8 @@ text_written P first text writes is some =
 abbrev pub told_of : {L : Type 0} → Job L → Report
 told_of job = record { text = text_of job; clean = clean_of job }
 
-pub rules_are : (rules : ReceiveOptions) (number : ℕ) (c : State) (options : Options) → c ≡ made rules.window rules.first → options ≡ options_for rules number → rules_of c options ≡ rules
-rules_are rules number c options c_is options_is = ap (λ d. rules_of d options) c_is ∙ ap (λ o. rules_of (made rules.window rules.first) o) options_is
+pub rules_are : (rules : ReceiveOptions) (number : ℕ) (c : State) (options : Options) → c ≡ made rules.window rules.reach rules.first → options ≡ options_for rules number → rules_of c options ≡ rules
+rules_are rules number c options c_is options_is = ap (λ d. rules_of d options) c_is ∙ ap (λ o. rules_of (made rules.window rules.reach rules.first) o) options_is
 
 failed_is : (ended : Option Ended) → is_failed ended ≡ true → ended ≡ Some LinkFailed
 failed_is None is = absurd (let same : false ≡ true = is in cc)
@@ -53,6 +53,7 @@ failed_is (Some NoMemory) is = absurd (let same : false ≡ true = is in cc)
 pub job_ready : {L : Type 0} (rules : ReceiveOptions) (k : ℕ) (job : Job L) → AreInRange rules → IsJob rules (k + 1) job → IsReady job
 job_ready {L} rules k job valid is =
     let window : job.collector.window ≡ rules.window = ap (λ (c : State). c.window) is.collector in
+    let reach : job.collector.reach ≡ rules.reach = ap (λ (c : State). c.reach) is.collector in
     let first : job.collector.first ≡ rules.first = ap (λ (c : State). c.first) is.collector in
     record {
       buffer = is.buffer;
@@ -64,7 +65,7 @@ job_ready {L} rules k job valid is =
         few_frames = valid.few_frames;
       });
       window = ((let some = valid.some_window in omega (arith, some, window)), (let few = valid.few_packets in omega (arith, few, window)));
-      collector = is.collector ∙ (λ i. made (sym window i) (sym first i));
+      collector = is.collector ∙ (λ i. made (sym window i) (sym reach i) (sym first i));
       feed = is.feed;
     }
 

@@ -28,7 +28,7 @@ use Rattle.report_lines.proofs.StepLemmas.{front_further}
 pub read_told : (options : ReceiveOptions) (came : List Answer → Type 0) (a b : Known Output) (t : Tallied) (word : EndWord) → WroteItems options came a b t word → AreTold t.refused
 read_told options came a b t word w =
     subst (λ (u : Tallied). AreTold u.refused) (sym w.tally)
-    (last_told 16 (refusals w.taken) (refusals_told (made options.window options.first) w.run.mid (datagrams w.answers) w.taken w.run.during 0 w.run.steps))
+    (last_told 16 (refusals w.taken) (refusals_told (made options.window options.reach options.first) w.run.mid (datagrams w.answers) w.taken w.run.during 0 w.run.steps))
 
 -- the text from the refusals on
 abbrev tail_of : List FeedStep → List Taken → EndWord → List ℕ

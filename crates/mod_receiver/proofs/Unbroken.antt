@@ -32,7 +32,7 @@ given_before : AllAtOnce → (rules : ReceiveOptions) (ahead : List Answer) → 
     → (rules.frames ≡ None → ⊥) → HasGiven rules t.answers rules.frames
 given_before law rules ahead t (inl none) told = absurd (told none)
 given_before law rules ahead t (inr known) told =
-    subst (HasGiven rules t.answers) (sym known) (law t.plan rules.window rules.first t.arrivals (datagrams t.answers) t.valid t.followed t.in_time)
+    subst (HasGiven rules t.answers) (sym known) (law t.plan rules.window rules.reach rules.first t.arrivals (datagrams t.answers) t.valid t.followed t.in_time)
 
 breaks_by : AllAtOnce → (rules : ReceiveOptions) (ahead : List Answer) → (t : IsInTimeAhead rules ahead) → WouldBeRead rules ahead t.answers → BreaksOff rules ahead → ⊥
 breaks_by law rules ahead t (inl (w, of)) b =

@@ -30,7 +30,7 @@ pub record IsInTimeAhead (rules : ReceiveOptions) (ahead : List Answer) : Type 0
   pub arrivals : List Arrival
   pub answers : List Answer
   pub read : WouldBeRead rules ahead answers
-  pub followed : IsFollowed plan rules.first (pos 0) arrivals (datagrams answers)
+  pub followed : IsFollowed plan rules.reach rules.first (pos 0) arrivals (datagrams answers)
   pub frames : (rules.frames ≡ None) ⊎ (rules.frames ≡ Some (frame_count plan))
   pub in_time : (q : ℕ) → q < frame_count plan → IsInTime plan rules.window (pos 0) (pairs_in arrivals) q
 

@@ -66,7 +66,7 @@ pub record Modulates (plan : Plan) (rules : ReceiveOptions) (feed : ℕ) (base :
 abbrev pub HeadlineOf : ReceiveOptions → ℕ → List Answer → List ℕ → Bool → Type 0
 HeadlineOf rules feed answers text clean =
     (plan : Plan) (base : ℤ) (arrivals : List Arrival)
-    → IsSchedule plan → IsFollowed plan rules.first base arrivals (datagrams answers)
+    → IsSchedule plan → IsFollowed plan rules.reach rules.first base arrivals (datagrams answers)
     → Modulates plan rules feed base arrivals answers text clean
 
 -- without a told number of frames
@@ -100,7 +100,7 @@ abbrev pub CompleteOf : ReceiveOptions → ℕ → List Answer → List ℕ → 
 CompleteOf rules feed ahead text clean =
     (plan : Plan) (arrivals : List Arrival) (answers : List Answer)
     → IsSchedule plan → WouldBeRead rules ahead answers
-    → IsFollowed plan rules.first (pos 0) arrivals (datagrams answers)
+    → IsFollowed plan rules.reach rules.first (pos 0) arrivals (datagrams answers)
     → (rules.frames ≡ None) ⊎ (rules.frames ≡ Some (frame_count plan))
     → ((q : ℕ) → q < frame_count plan → IsInTime plan rules.window (pos 0) (pairs_in arrivals) q)
     → ModulatesAll plan rules feed arrivals ahead text clean

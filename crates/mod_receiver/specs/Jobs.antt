@@ -21,14 +21,14 @@ options_for rules number = record { feed = number; frames = rules.frames; idle =
 pub record IsSeat (rules : ReceiveOptions) (number : ℕ) (seat : Seat) : Type 0 where
   pub buffer : 65536 ≤ vec_len seat.buffer
   pub options : seat.options ≡ options_for rules number
-  pub collector : seat.collector ≡ made rules.window rules.first
+  pub collector : seat.collector ≡ made rules.window rules.reach rules.first
   pub text : (text_known seat.text).told ≡ Some (record { written = []; calls = 0 })
 
 -- a receiver with this number, which goes by these rules
 pub record IsJob {L : Type 0} (rules : ReceiveOptions) (number : ℕ) (job : Job L) : Type 0 where
   pub buffer : 65536 ≤ vec_len job.buffer
   pub options : job.options ≡ options_for rules number
-  pub collector : job.collector ≡ made rules.window rules.first
+  pub collector : job.collector ≡ made rules.window rules.reach rules.first
   pub feed : job.feed ≡ new_tracker
   pub text : (text_known job.text).told ≡ Some (record { written = []; calls = 0 })
 
@@ -41,7 +41,7 @@ pub record IsReady {L : Type 0} (job : Job L) : Type 0 where
   pub buffer : 65536 ≤ vec_len job.buffer
   pub options : IsReasonable job.options
   pub window : (1 ≤ job.collector.window) × (job.collector.window ≤ 64)
-  pub collector : job.collector ≡ made job.collector.window job.collector.first
+  pub collector : job.collector ≡ made job.collector.window job.collector.reach job.collector.first
   pub feed : job.feed ≡ new_tracker
 
 -- what a receiver reads by

@@ -63,7 +63,7 @@ pub record WroteItems (options : ReceiveOptions) (came : List Answer → Type 0)
   pub reading : IsFinished options answers word
   pub taken : List Taken
   pub items : List Item
-  pub run : Run options.window options.first options.frames (datagrams answers) taken items
+  pub run : Run options.window options.reach options.first options.frames (datagrams answers) taken items
   pub steps : List FeedStep
   pub last : TrackerState
   pub feeds : Feeds new_tracker items steps last

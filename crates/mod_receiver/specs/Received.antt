@@ -25,7 +25,7 @@ pub record IsReport (rules : ReceiveOptions) (feed : ℕ) (answers : List Answer
   pub reading : IsFinished rules answers word
   pub taken : List Taken
   pub items : List Item
-  pub run : Run rules.window rules.first rules.frames (datagrams answers) taken items
+  pub run : Run rules.window rules.reach rules.first rules.frames (datagrams answers) taken items
   pub steps : List FeedStep
   pub after : TrackerState
   pub feeds : Feeds new_tracker items steps after
@@ -97,7 +97,7 @@ pub record Stopped (rules : ReceiveOptions) (feed : ℕ) (hears : List Answer �
 
 -- what a call reads by: from its new collector and its options
 abbrev pub rules_of : State → Options → ReceiveOptions
-rules_of c options = record { window = c.window; first = c.first; frames = options.frames; idle = options.idle; limit = options.limit }
+rules_of c options = record { window = c.window; reach = c.reach; first = c.first; frames = options.frames; idle = options.idle; limit = options.limit }
 
 -- each number of the options is in its range
 pub record IsReasonable (options : Options) : Type 0 where

@@ -52,7 +52,7 @@ pub fn receive_capture<I: Source, O: Sink>(
         (result ≡ Err (Unfinished.Stopped CaptureStop.Read)) }
     ensures write { HasCause (O.known out.old) (O.known out.new) (result ≡ Err Unfinished.Write) }
 {
-    let mut collector = Collector::make(alloc, rules.window, rules.first)?;
+    let mut collector = Collector::make(alloc, rules.window, rules.reach, rules.first)?;
     let mut packets = Packets::make(alloc)?;
     let mut feed = Feed::new();
     match write_report(

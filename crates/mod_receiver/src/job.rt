@@ -49,7 +49,7 @@ pub fn seat_for(alloc: Global, rules: &ReceiveOptions, feed: u8) -> Result<Seat,
     requires few { rules.now.window ≤ 64 }
     ensures { IfOk result (IsSeat rules.now feed) }
 {
-    let collector = Collector::make(alloc, rules.window, rules.first)?;
+    let collector = Collector::make(alloc, rules.window, rules.reach, rules.first)?;
     let buffer = zeros(alloc, LONGEST_DATAGRAM)?;
     Ok(Seat {
         collector,

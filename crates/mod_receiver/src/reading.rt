@@ -74,7 +74,7 @@ pub(crate) fn write_report<F, R: Datagrams<F>, O: Sink>(
     out: &mut O,
 ) -> Result<bool, ReceiveFault>
     requires options { AreUsable (options_of collector.old bounds) }
-    requires collector { collector.old ≡ made collector.old.window collector.old.first }
+    requires collector { collector.old ≡ made collector.old.window collector.old.reach collector.old.first }
     requires feed { feed.old ≡ new_tracker }
     requires room { R.is_ready room.old }
     requires nothing_came { R.so_far from.old room.old from.old [] }
@@ -109,7 +109,7 @@ fn read_all<F, R: Datagrams<F>, O: Sink>(
     out: &mut O,
 ) -> Result<EndWord, ReceiveFault>
     requires options { AreUsable (options_of collector.old bounds) }
-    requires collector { collector.old ≡ made collector.old.window collector.old.first }
+    requires collector { collector.old ≡ made collector.old.window collector.old.reach collector.old.first }
     requires feed { feed.old ≡ new_tracker }
     requires tally { tally.old ≡ new_tally }
     requires lines { lines.old ≡ [] }

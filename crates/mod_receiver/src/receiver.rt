@@ -52,7 +52,7 @@ pub fn receive_one<L: Link, O: Sink>(
     requires buffer { 65536 ≤ length buffer.old }
     requires options { IsReasonable options.now }
     requires window { (1 ≤ collector.old.window) × (collector.old.window ≤ 64) }
-    requires collector { collector.old ≡ made collector.old.window collector.old.first }
+    requires collector { collector.old ≡ made collector.old.window collector.old.reach collector.old.first }
     requires feed { feed.old ≡ new_tracker }
     // What was read of the link, and what was written of it.
     ensures ended { EndsAs (rules_of collector.old options.now) options.now.feed

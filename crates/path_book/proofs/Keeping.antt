@@ -34,7 +34,7 @@ none_fed None = refl
 none_fed (Some zero) = refl
 none_fed (Some (suc n)) = refl
 
-pub so_far_none : (by : Settings) → IsReportSoFar by [] (made by.window by.first) new_tracker new_tally (feed_line 1)
+pub so_far_none : (by : Settings) → IsReportSoFar by [] (made by.window by.reach by.first) new_tracker new_tally (feed_line 1)
 so_far_none by = record {
   taken = [];
   items = [];
@@ -45,7 +45,7 @@ so_far_none by = record {
   text_is = sym (append-nil (feed_line 1));
 }
 
-pub sound_new : (j : Inside) → AreInRange j.settings → j.entries.items ≡ [] → j.collector ≡ made j.settings.window j.settings.first → j.feed ≡ new_tracker → j.counts ≡ new_tally
+pub sound_new : (j : Inside) → AreInRange j.settings → j.entries.items ≡ [] → j.collector ≡ made j.settings.window j.settings.reach j.settings.first → j.feed ≡ new_tracker → j.counts ≡ new_tally
     → j.text.items ≡ feed_line 1 → j.stopped ≡ false → IsSound j
 sound_new j range none is_made is_new is_empty is_first goes = record {
   range = range;
@@ -105,7 +105,7 @@ feeds_more told f g xs ys ss ts p q =
 module _ (by : Settings) (ds : List (List ℕ)) (c : State) (f : TrackerState) (t : Tallied) (text : List ℕ) (r : IsReportSoFar by ds c f t text) where
   -- as many answers as datagrams
   many : length r.taken ≡ length ds
-  many = steps_many (made by.window by.first) c ds r.taken r.items r.gave
+  many = steps_many (made by.window by.reach by.first) c ds r.taken r.items r.gave
 
   -- no more refusals than datagrams
   pub refused_few : t.sums.refused ≤ length ds
@@ -117,7 +117,7 @@ module _ (by : Settings) (ds : List (List ℕ)) (c : State) (f : TrackerState) (
   pub refused_told : AreTold t.refused
   refused_told =
       subst (λ (u : Tallied). AreTold u.refused) (sym r.counts)
-      (last_told 16 (refusals r.taken) (refusals_told (made by.window by.first) c ds r.taken r.items 0 r.gave))
+      (last_told 16 (refusals r.taken) (refusals_told (made by.window by.reach by.first) c ds r.taken r.items 0 r.gave))
 
   -- the feed has the items that were given, up to the told number, and each is counted
   told_here : IsToldOf by.frames r.items f.calls
@@ -128,7 +128,7 @@ module _ (by : Settings) (ds : List (List ℕ)) (c : State) (f : TrackerState) (
     counted = ap (λ (u : Tallied). items_in u.sums) (r.counts ∙ sym (steps_counted [] r.steps r.taken))
         ∙ fed_counts new_tracker f (up_to by.frames r.items) r.steps (tally_of [] r.taken) r.feeds (omega arith);
     within = told_here.0;
-    in_order = λ room. told_here.1 room ∙ sym (steps_count (made by.window by.first) c ds r.taken r.items r.gave ∙ omega arith);
+    in_order = λ room. told_here.1 room ∙ sym (steps_count (made by.window by.reach by.first) c ds r.taken r.items r.gave ∙ omega arith);
   }
 
   -- the reason to end is by what was given
@@ -147,7 +147,7 @@ module _ (by : Settings) (ds : List (List ℕ)) (c : State) (f : TrackerState) (
     so_far_more d g u v after notes w = record {
       taken = r.taken ++ answer ∷ [];
       items = r.items ++ w.items;
-      gave = steps_more ds r.taken r.items w.items (made by.window by.first) c kept d bytes answer r.gave takes w.gives;
+      gave = steps_more ds r.taken r.items w.items (made by.window by.reach by.first) c kept d bytes answer r.gave takes w.gives;
       steps = r.steps ++ w.steps;
       feeds = feeds_more by.frames f g r.items w.items r.steps w.steps r.feeds w.feeds;
       counts = w.counts
@@ -165,7 +165,7 @@ module _ (by : Settings) (ds : List (List ℕ)) (c : State) (f : TrackerState) (
           items = r.items;
           more = more.0;
           last = more.1;
-          gave = steps_more ds r.taken r.items more.0 (made by.window by.first) c kept more.1 bytes answer r.gave takes more.2;
+          gave = steps_more ds r.taken r.items more.0 (made by.window by.reach by.first) c kept more.1 bytes answer r.gave takes more.2;
           steps = r.steps;
           after = f;
           feeds = r.feeds;

@@ -15,6 +15,8 @@ use Rattle.path_book.specs.Lines.{WritesAll, CountsFirst}
 pub record AreInRange (by : Settings) : Type 0 where
   pub some_window : 1 ≤ by.window
   pub few_packets : by.window ≤ 64
+  pub some_reach : 1 ≤ by.reach
+  pub near_reach : by.reach ≤ 32767
   pub some_frames : IfSome by.frames (λ n. 1 ≤ n)
   pub few_frames : IfSome by.frames (λ n. n ≤ 3000000)
 
@@ -40,7 +42,7 @@ abbrev pub new_journal : Settings → JournalState
 new_journal by = record {
   entries = [];
   settings = by;
-  collector = made by.window by.first;
+  collector = made by.window by.reach by.first;
   feed = new_tracker;
   tally = new_tally;
   text = feed_line 1;

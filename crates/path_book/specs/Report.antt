@@ -19,7 +19,7 @@ use Rattle.path_book.specs.declared.settings.Settings.{Settings}
 pub record IsReportSoFar (by : Settings) (datagrams : List (List ℕ)) (c : State) (f : TrackerState) (t : Tallied) (text : List ℕ) : Type 0 where
   pub taken : List Taken
   pub items : List Item
-  pub gave : Steps (made by.window by.first) datagrams taken items c
+  pub gave : Steps (made by.window by.reach by.first) datagrams taken items c
   pub steps : List FeedStep
   pub feeds : Feeds new_tracker (up_to by.frames items) steps f
   pub counts : t ≡ tally_of steps taken
@@ -32,7 +32,7 @@ pub record IsFrontSoFar (by : Settings) (datagrams : List (List ℕ)) (text : Li
   pub items : List Item
   pub more : List Item
   pub last : State
-  pub gave : Steps (made by.window by.first) datagrams taken (items ++ more) last
+  pub gave : Steps (made by.window by.reach by.first) datagrams taken (items ++ more) last
   pub steps : List FeedStep
   pub after : TrackerState
   pub feeds : Feeds new_tracker (up_to by.frames items) steps after
@@ -47,7 +47,7 @@ word_for told given = if is_full told given then Frames else Paths
 pub record IsReportOf (by : Settings) (datagrams : List (List ℕ)) (text : List ℕ) (clean : Bool) : Type 0 where
   pub taken : List Taken
   pub items : List Item
-  pub run : Run by.window by.first by.frames datagrams taken items
+  pub run : Run by.window by.reach by.first by.frames datagrams taken items
   pub steps : List FeedStep
   pub after : TrackerState
   pub feeds : Feeds new_tracker items steps after

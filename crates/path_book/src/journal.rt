@@ -58,7 +58,7 @@ impl Journal {
         requires { AreInRange settings }
         ensures { IfOk result (λ journal. journal ≡ new_journal settings) }
     {
-        let collector = Collector::make(alloc, settings.window, settings.first)?;
+        let collector = Collector::make(alloc, settings.window, settings.reach, settings.first)?;
         let counts = ReportCounts::new(alloc)?;
         let text = first_line(alloc)?;
         Ok(Journal {

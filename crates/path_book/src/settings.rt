@@ -5,6 +5,8 @@
 pub struct Settings {
     /// In packets, from 1 to 64.
     pub window: u8,
+    /// How far one may be ahead of the newest packet, from 1 to 32,767.
+    pub reach: u16,
     /// The first sequence number, where it is told.
     pub first: Option<u16>,
     /// The number of frames, where it is told, from 1 to 3,000,000.

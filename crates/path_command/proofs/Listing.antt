@@ -1,5 +1,5 @@
 -- Lists whose elements go over to jobs, one after another.
-use Rattle.std.proofs.Common.{◌≡◌, ℕ, suc, List, [], ◌∷◌, ◌++◌, length, take, drop, map, All, refl, sym, ◌∙◌, ap, arith}
+use Rattle.std.proofs.Common.{◌≡◌, ℕ, suc, List, [], ◌∷◌, ◌++◌, length, take, drop, map, All, sym, ◌∙◌, ap, arith}
 use Rattle.std.proofs.lemmas.List.{take_at}
 
 -- the first one stands behind those of the jobs so far

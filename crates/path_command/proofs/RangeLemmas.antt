@@ -20,11 +20,12 @@ pub in_range : (words : List (List ℕ)) (request : Request) → IsPathsLine wor
 in_range words request line =
     let asks = line.asks in
     let window = number_range 8 1 64 (omega arith) (omega arith) (told (codes "window") (options line.arguments)) request.window asks.window in
+    let reach = number_range 32767 1 32767 (omega arith) (omega arith) (told (codes "reach") (options line.arguments)) request.reach asks.reach in
     let frames = some_range 1 3000000 (told (codes "frames") (options line.arguments)) request.frames asks.frames in
     let idle = number_range 50 1 1000000 (omega arith) (omega arith) (told (codes "idle") (options line.arguments)) request.idle asks.idle in
     let limit = number_range 1000000 1 1000000 (omega arith) (omega arith) (told (codes "limit") (options line.arguments)) request.limit asks.limit in
     record {
-      settings = record { some_window = window.0; few_packets = window.1; some_frames = frames.0; few_frames = frames.1 };
+      settings = record { some_window = window.0; few_packets = window.1; some_reach = reach.0; near_reach = reach.1; some_frames = frames.0; few_frames = frames.1 };
       options = record { idle = idle.0; limit = limit.0; few = limit.1 };
       few_idles = idle.1;
       some_paths = asks.some_paths;

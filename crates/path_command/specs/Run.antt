@@ -28,7 +28,7 @@ use Rattle.path_command.specs.declared.fault.Fault.TheVariants as faults
 
 -- by what the report of a request is made
 abbrev pub settings_in : Request → Settings
-settings_in request = settings_of request.window request.first request.frames
+settings_in request = settings_of request.window request.reach request.first request.frames
 
 -- when each path has read enough
 abbrev pub options_in : Request → PathOptions

@@ -123,12 +123,13 @@ fn run_links<G: Road + Send + Sync, R: Threads + Wait + Sync, D: Dock>(
 where
     D::L: Link + Send,
     requires blank { (blank.name ≡ G.name) × (blank.parts ≡ G.parts) × (G.parts ≡ length request.now.addresses) }
-    requires settings { settings_in request.now ≡ settings_of G.window G.first G.frames }
+    requires settings { settings_in request.now ≡ settings_of G.window G.reach G.first G.frames }
     requires range { IsInRange request.now }
     ensures { RunsLinks request.now D.L.known result (D.known dock.old) (D.known dock.new) }
 {
     let settings = Settings {
         window: request.window,
+        reach: request.reach,
         first: request.first,
         frames: request.frames,
     };
@@ -152,7 +153,7 @@ fn read_links<G: Road + Send + Sync, R: Threads + Wait + Sync, D: Dock>(
 ) -> Result<Ending, Fault>
 where
     D::L: Link + Send,
-    requires settings { settings_in request.now ≡ settings_of G.window G.first G.frames }
+    requires settings { settings_in request.now ≡ settings_of G.window G.reach G.first G.frames }
     requires range { IsInRange request.now }
     requires new { HaveNewPaths jobs.items }
     requires buffers { All (λ job. vec_len job.buffer ≡ 65536) jobs.items }

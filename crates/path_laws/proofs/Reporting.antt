@@ -13,7 +13,7 @@ use Rattle.path_laws.specs.Laws.{ReportsDeliveries, ReportsAll}
 
 pub reports_deliveries : Delivering → ItemLaws → ReportsDeliveries
 reports_deliveries law laws plan by base arrivals came text clean schedule range followed r =
-    let (given, suit) = law plan by.window by.first by.frames base arrivals came r.taken r.items r.steps r.after schedule range.some_window followed r.run r.feeds in
+    let (given, suit) = law plan by.window by.reach by.first by.frames base arrivals came r.taken r.items r.steps r.after schedule range.some_window followed r.run r.feeds in
     let pairs = pairs_in arrivals in
     record {
       steps = r.steps;
@@ -38,5 +38,5 @@ served_clean plan base steps all = all_given steps (λ q step at. let (t, is, se
 pub reports_all : AllFrames → ReportsDeliveries → ReportsAll
 reports_all law reported plan by arrivals came text clean schedule range known followed in_time r =
     let reports = reported plan by (pos 0) arrivals came text clean schedule range followed r in
-    let (count, all) = law plan by.window by.frames arrivals came by.first reports.steps schedule known followed in_time reports.given in
+    let (count, all) = law plan by.window by.reach by.frames arrivals came by.first reports.steps schedule known followed in_time reports.given in
     record { reports = reports; count = count; all = all; nothing_missing = reports.clean_is ∙ served_clean plan (pos 0) reports.steps all }

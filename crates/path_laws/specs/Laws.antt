@@ -1,5 +1,5 @@
 -- What the report of several paths says of a delivery, and what several paths bring.
-use Rattle.std.specs.Prelude.{ℕ, ℤ, pos, ◌≡◌, ◌<◌, ◌≤◌, ◌==◌, ◌⊎◌, if◌then◌else◌, Bool, true, List, [], ◌∷◌, length, None, Some}
+use Rattle.std.specs.Prelude.{ℕ, ℤ, pos, ◌≡◌, ◌+◌, ◌<◌, ◌≤◌, ◌==◌, ◌⊎◌, if◌then◌else◌, Bool, true, List, [], ◌∷◌, length, None, Some}
 use Rattle.std.specs.List.{AllZip}
 use Rattle.drm_schedule.specs.declared.plan.Plan.{Plan}
 use Rattle.drm_schedule.specs.Valid.{IsSchedule}
@@ -8,7 +8,7 @@ use Rattle.dcp_collect.specs.declared.taken.Taken.{Taken}
 use Rattle.dcp_collect.specs.State.{State, made}
 use Rattle.dcp_collect.specs.Runs.{Item, Steps}
 use Rattle.mod_feed.specs.Feeding.{FeedStep}
-use Rattle.mod_delivery.specs.Sent.{Arrival, IsArrival, pairs_in, IsFollowed, IsInTime}
+use Rattle.mod_delivery.specs.Sent.{Arrival, IsArrival, AreFar, pairs_in, IsFollowed, IsInTime}
 use Rattle.mod_delivery.specs.Given.{AreGiven, AreAllServed}
 use Rattle.mod_receiver.specs.Headline.{GivesInTime, PrintsFrames, TellsSwitches, strays}
 use Rattle.report_lines.specs.Reports.{report, is_clean}
@@ -22,7 +22,7 @@ use Rattle.drm_paths.specs.Closing.{of_path}
 
 -- A new collector that takes these datagrams, and gives all that is ready after each, has given so many items.
 abbrev pub HasGiven : Settings → List (List ℕ) → ℕ → Type 0
-HasGiven by came many = (taken : List Taken) × (items : List Item) × (mid : State) × Steps (made by.window by.first) came taken items mid × (length items ≡ many)
+HasGiven by came many = (taken : List Taken) × (items : List Item) × (mid : State) × Steps (made by.window by.reach by.first) came taken items mid × (length items ≡ many)
 
 -- The text is the report of what a delivery of a schedule calls for: of what was refused it names the strays, and last it says
 -- whether the told number of frames was given before all paths had ended.
@@ -41,7 +41,7 @@ pub record ReportsDelivery (plan : Plan) (by : Settings) (base : ℤ) (arrivals 
 abbrev pub ReportsDeliveries : Type 0
 ReportsDeliveries =
     (plan : Plan) (by : Settings) (base : ℤ) (arrivals : List Arrival) (came : List (List ℕ)) (text : List ℕ) (clean : Bool)
-    → IsSchedule plan → AreInRange by → IsFollowed plan by.first base arrivals came → IsReportOf by came text clean
+    → IsSchedule plan → AreInRange by → IsFollowed plan by.reach by.first base arrivals came → IsReportOf by came text clean
     → ReportsDelivery plan by base arrivals came text clean
 
 -- It is the report of all frames of the schedule, each the server's, and nothing is missing.
@@ -57,7 +57,7 @@ abbrev pub ReportsAll : Type 0
 ReportsAll =
     (plan : Plan) (by : Settings) (arrivals : List Arrival) (came : List (List ℕ)) (text : List ℕ) (clean : Bool)
     → IsSchedule plan → AreInRange by → (by.frames ≡ None) ⊎ (by.frames ≡ Some (frame_count plan))
-    → IsFollowed plan by.first (pos 0) arrivals came
+    → IsFollowed plan by.reach by.first (pos 0) arrivals came
     → ((q : ℕ) → q < frame_count plan → IsInTime plan by.window (pos 0) (pairs_in arrivals) q)
     → IsReportOf by came text clean → ReportsAllFrames plan by arrivals came text clean
 
@@ -76,9 +76,10 @@ MixedPathsAreOneDelivery =
     → ((k : ℕ) → k < paths → AllZip (IsArrival plan) (each k) (of_path k entries))
     → (arrivals : List Arrival) × AllZip (IsArrival plan) arrivals (datagrams entries) × ((k : ℕ) → k < paths → arrivals_of k entries arrivals ≡ each k)
 
--- A receiver that is told the schedule's first number can follow each delivery of a schedule of at most 32,768 frames, in
--- whatever order it comes.
+-- A receiver that is told the schedule's first number can follow each delivery of a schedule of at most 32,768 frames, and of at
+-- most one more than it reaches, in whatever order it comes.
 abbrev pub FollowedInAnyOrder : Type 0
 FollowedInAnyOrder =
-    (plan : Plan) (arrivals : List Arrival) (came : List (List ℕ)) → frame_count plan ≤ 32768
-    → AllZip (IsArrival plan) arrivals came → IsFollowed plan (Some plan.seq) (pos 0) arrivals came
+    (plan : Plan) (reach : ℕ) (arrivals : List Arrival) (came : List (List ℕ)) → frame_count plan ≤ 32768 → frame_count plan ≤ reach + 1
+    → AllZip (IsArrival plan) arrivals came → AreFar reach plan.seq (pos 0) None arrivals came
+    → IsFollowed plan reach (Some plan.seq) (pos 0) arrivals came

@@ -16,6 +16,7 @@ const FRAGMENT: &[u8] =
 
 const SETTINGS: Settings = Settings {
     window: 8,
+    reach: 32767,
     first: Some(0),
     frames: Some(3),
 };
@@ -48,7 +49,7 @@ fn a_datagram_of_two_paths_is_kept_and_then_repeated(rt: HostRuntime) {
 // Whether each of two paths has taken the datagram.
 fn both_take_it<G: Road, R: Wait>(rt: &R, alloc: Global, blank: Blank) -> bool
     requires blank { (blank.name ≡ G.name) × (blank.parts ≡ G.parts) × (G.parts ≡ 2) }
-    requires settings { (G.window ≡ 8) × (G.first ≡ Some 0) × (G.frames ≡ Some 3) }
+    requires settings { (G.window ≡ 8) × (G.reach ≡ 32767) × (G.first ≡ Some 0) × (G.frames ≡ Some 3) }
 {
     let Ok((shared, paths)) = open_paths::<G>(alloc, blank, SETTINGS, 2) else {
         return false;

@@ -79,6 +79,7 @@ pub record IsAsked (t : Told) (r : Request) : Type 0 where
   pub some_paths : 2 ≤ length r.addresses
   pub few_paths : length r.addresses ≤ 4
   pub window : IsNumberOr 8 1 64 t.window r.window
+  pub reach : IsNumberOr 32767 1 32767 t.reach r.reach
   pub first : IsNumberOrNone 0 65535 t.first r.first
   pub frames : IsNumberOrNone 1 3000000 t.frames r.frames
   pub idle : IsNumberOr 50 1 1000000 t.idle r.idle
@@ -90,7 +91,8 @@ asked_fits t r e =
     let a = stepped (several_of t.addresses) _ r e in
     let s = several_fits t.addresses a.value a.is in
     let w = stepped (number_or 8 1 64 t.window) _ r a.rest in
-    let f = stepped (number_or_none 0 65535 t.first) _ r w.rest in
+    let n = stepped (number_or 32767 1 32767 t.reach) _ r w.rest in
+    let f = stepped (number_or_none 0 65535 t.first) _ r n.rest in
     let g = stepped (number_or_none 1 3000000 t.frames) _ r f.rest in
     let i = stepped (number_or 50 1 1000000 t.idle) _ r g.rest in
     let l = stepped (number_or 1000000 1 1000000 t.limit) _ r i.rest in
@@ -99,6 +101,7 @@ asked_fits t r e =
       some_paths = s.1;
       few_paths = s.2;
       window = number_or_fits 8 1 64 t.window w.value w.is;
+      reach = number_or_fits 32767 1 32767 t.reach n.value n.is;
       first = number_or_none_fits 0 65535 t.first f.value f.is;
       frames = number_or_none_fits 1 3000000 t.frames g.value g.is;
       idle = number_or_fits 50 1 1000000 t.idle i.value i.is;
@@ -108,7 +111,7 @@ asked_fits t r e =
 asked_is : (t : Told) (r : Request) → IsAsked t r → request_of t ≡ Some r
 unfolding request_of
 asked_is t r h =
-    rw (several_is t.addresses r.addresses h.addresses h.some_paths h.few_paths, number_or_is 8 1 64 t.window r.window h.window, number_or_none_is 0 65535 t.first r.first h.first)
+    rw (several_is t.addresses r.addresses h.addresses h.some_paths h.few_paths, number_or_is 8 1 64 t.window r.window h.window, number_or_is 32767 1 32767 t.reach r.reach h.reach, number_or_none_is 0 65535 t.first r.first h.first)
     (rw (number_or_none_is 1 3000000 t.frames r.frames h.frames, number_or_is 50 1 1000000 t.idle r.idle h.idle, number_or_is 1000000 1 1000000 t.limit r.limit h.limit) refl)
 
 -- ---- no text of a request looks like an option
@@ -162,23 +165,26 @@ number_or_none_plain : (least greatest : ℕ) (n : Option ℕ) (value : Option (
 number_or_none_plain least greatest n None text h e = absurd cc
 number_or_none_plain least greatest n (Some x) text h e = subst IsPlain (same_Some x text e) (undashed_plain x (number_undashed x h.0 h.2.0))
 
--- whatever is told of a name is no option, where the five options tell numbers
+-- whatever is told of a name is no option, where the options tell numbers
 abbrev NumbersPlain : (List ℕ → Option (List ℕ)) → Type 0
 NumbersPlain tell = (name text : List ℕ) → is_known name ≡ true → tell name ≡ Some text → IsPlain text
 
-numbers_plain : (tell : List ℕ → Option (List ℕ)) (r : Request) → IsNumberOr 8 1 64 (tell (codes "window")) r.window → IsNumberOrNone 0 65535 (tell (codes "first")) r.first → IsNumberOrNone 1 3000000 (tell (codes "frames")) r.frames
+numbers_plain : (tell : List ℕ → Option (List ℕ)) (r : Request) → IsNumberOr 8 1 64 (tell (codes "window")) r.window → IsNumberOr 32767 1 32767 (tell (codes "reach")) r.reach → IsNumberOrNone 0 65535 (tell (codes "first")) r.first → IsNumberOrNone 1 3000000 (tell (codes "frames")) r.frames
     → IsNumberOr 50 1 1000000 (tell (codes "idle")) r.idle → IsNumberOr 1000000 1 1000000 (tell (codes "limit")) r.limit → NumbersPlain tell
-numbers_plain tell r w f g i l name text k e = elim (known_is name k) [
+numbers_plain tell r w n f g i l name text k e = elim (known_is name k) [
   | inl a ↦ number_or_plain 8 1 64 r.window (tell (codes "window")) text w (sym (ap tell a) ∙ e)
   | inr b ↦ elim b [
-    | inl a ↦ number_or_none_plain 0 65535 r.first (tell (codes "first")) text f (sym (ap tell a) ∙ e)
+    | inl a ↦ number_or_plain 32767 1 32767 r.reach (tell (codes "reach")) text n (sym (ap tell a) ∙ e)
     | inr b ↦ elim b [
-      | inl a ↦ number_or_none_plain 1 3000000 r.frames (tell (codes "frames")) text g (sym (ap tell a) ∙ e)
+      | inl a ↦ number_or_none_plain 0 65535 r.first (tell (codes "first")) text f (sym (ap tell a) ∙ e)
       | inr b ↦ elim b [
-        | inl a ↦ number_or_plain 50 1 1000000 r.idle (tell (codes "idle")) text i (sym (ap tell a) ∙ e)
+        | inl a ↦ number_or_none_plain 1 3000000 r.frames (tell (codes "frames")) text g (sym (ap tell a) ∙ e)
         | inr b ↦ elim b [
-          | inl a ↦ number_or_plain 1000000 1 1000000 r.limit (tell (codes "limit")) text l (sym (ap tell a) ∙ e)
-          | inr b ↦ absurd b
+          | inl a ↦ number_or_plain 50 1 1000000 r.idle (tell (codes "idle")) text i (sym (ap tell a) ∙ e)
+          | inr b ↦ elim b [
+            | inl a ↦ number_or_plain 1000000 1 1000000 r.limit (tell (codes "limit")) text l (sym (ap tell a) ∙ e)
+            | inr b ↦ absurd b
+          ]
         ]
       ]
     ]
@@ -203,6 +209,7 @@ fits_spelled words all text r e asked fresh s = record {
     few_paths = asked.few_paths;
     names = are_of [] s.arguments f s.known;
     window = subst (λ (o : Option (List ℕ)). IsNumberOr 8 1 64 o r.window) (told_same (codes "window") refl s.arguments all s.same) asked.window;
+    reach = subst (λ (o : Option (List ℕ)). IsNumberOr 32767 1 32767 o r.reach) (told_same (codes "reach") refl s.arguments all s.same) asked.reach;
     first = subst (λ (o : Option (List ℕ)). IsNumberOrNone 0 65535 o r.first) (told_same (codes "first") refl s.arguments all s.same) asked.first;
     frames = subst (λ (o : Option (List ℕ)). IsNumberOrNone 1 3000000 o r.frames) (told_same (codes "frames") refl s.arguments all s.same) asked.frames;
     idle = subst (λ (o : Option (List ℕ)). IsNumberOr 50 1 1000000 o r.idle) (told_same (codes "idle") refl s.arguments all s.same) asked.idle;
@@ -216,7 +223,7 @@ fits_spelled words all text r e asked fresh s = record {
 texts_plain : (all : List Use) (text : List ℕ) (r : Request) → told plain all ≡ Some text → IsAsked (told_with all text) r → (id t : List ℕ) → IsName id → told id all ≡ Some t → IsPlain t
 texts_plain all text r e asked id t is told_is = elim is [
   | inl same ↦ subst IsPlain (same_Some text t (sym e ∙ sym (ap (λ (n : List ℕ). told n all) same) ∙ told_is)) (undashed_plain text (addresses_undashed text r.addresses asked.addresses))
-  | inr known ↦ numbers_plain (λ n. told n all) r asked.window asked.first asked.frames asked.idle asked.limit id t known told_is
+  | inr known ↦ numbers_plain (λ n. told n all) r asked.window asked.reach asked.first asked.frames asked.idle asked.limit id t known told_is
 ]
 
 fits_run : (words : List (List ℕ)) (all : List Use) (text : List ℕ) (r : Request) → run words Idle [] ≡ Some all → told plain all ≡ Some text → IsAsked (told_with all text) r → IsPathsLine words r
@@ -241,7 +248,7 @@ line_is words r h =
     let known = all_known h.arguments a.names in
     let once : Once [] (texts h.arguments) = subst (Once []) (sym a.one) refl in
     let fresh = fresh_is h.arguments [] a.names (apart_none (options h.arguments)) once in
-    let values : PlainValues (options h.arguments) = plain_values (options h.arguments) a.names (numbers_plain (λ n. told n (options h.arguments)) r a.window a.first a.frames a.idle a.limit) in
+    let values : PlainValues (options h.arguments) = plain_values (options h.arguments) a.names (numbers_plain (λ n. told n (options h.arguments)) r a.window a.reach a.first a.frames a.idle a.limit) in
     let ran = run_is h.spelled [] fresh known values in
     let text = text_told h.arguments a.text known a.one in
     rw (ran, text) (asked_is (told_with (uses_of h.arguments) a.text) r (record {
@@ -249,6 +256,7 @@ line_is words r h =
       some_paths = a.some_paths;
       few_paths = a.few_paths;
       window = subst (λ (o : Option (List ℕ)). IsNumberOr 8 1 64 o r.window) (sym (told_options h.arguments (codes "window") refl)) a.window;
+      reach = subst (λ (o : Option (List ℕ)). IsNumberOr 32767 1 32767 o r.reach) (sym (told_options h.arguments (codes "reach") refl)) a.reach;
       first = subst (λ (o : Option (List ℕ)). IsNumberOrNone 0 65535 o r.first) (sym (told_options h.arguments (codes "first") refl)) a.first;
       frames = subst (λ (o : Option (List ℕ)). IsNumberOrNone 1 3000000 o r.frames) (sym (told_options h.arguments (codes "frames") refl)) a.frames;
       idle = subst (λ (o : Option (List ℕ)). IsNumberOr 50 1 1000000 o r.idle) (sym (told_options h.arguments (codes "idle") refl)) a.idle;

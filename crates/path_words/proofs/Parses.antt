@@ -30,7 +30,7 @@ NoDefaults rs = AllByRecursion (λ r. r.defaults ≡ []) rs
 
 none_there : NoDefaults rules
 unfolding rules
-none_there = (refl, (refl, (refl, (refl, (refl, (refl, tt))))))
+none_there = (refl, (refl, (refl, (refl, (refl, (refl, (refl, tt)))))))
 
 same_either : {A : Type 0} (b : Bool) (x : A) → cond b x x ≡ x
 same_either true x = refl
@@ -80,7 +80,8 @@ told_used id (u ∷ us) = used_by id u us (bytes_eq u.0 id) refl (told_used id u
 -- the words are refused, or taken with these texts
 abbrev pub Parsed : List Text → Option Told → Type 0
 Parsed words None = fault_of paths words ≡ [] → ⊥
-Parsed words (Some t) = (fault_of paths words ≡ []) × (text_of plain words ≡ Some t.addresses) × (text_of (codes "window") words ≡ t.window) × (text_of (codes "first") words ≡ t.first)
+Parsed words (Some t) = (fault_of paths words ≡ []) × (text_of plain words ≡ Some t.addresses) × (text_of (codes "window") words ≡ t.window)
+    × (text_of (codes "reach") words ≡ t.reach) × (text_of (codes "first") words ≡ t.first)
     × (text_of (codes "frames") words ≡ t.frames) × (text_of (codes "idle") words ≡ t.idle) × (text_of (codes "limit") words ≡ t.limit)
 
 -- the command with its rules looked up
@@ -155,6 +156,7 @@ module _ (words : List Text) (done : List Use) (meets : Meets (walk_from nothing
         fault_is words ∙ all_none (part_walk words) (part_below words) (part_end words) (part_defaults words) (part_checks words) meets.0 (ap (entered_fault parsed) meets.2) (no_default_fault rules _ none_there) (checks ∙ ap (λ (b : Bool). cond b [] (MissingRequiredArgument ∷ [])) u),
         text_is plain ∙ e,
         text_is (codes "window"),
+        text_is (codes "reach"),
         text_is (codes "first"),
         text_is (codes "frames"),
         text_is (codes "idle"),

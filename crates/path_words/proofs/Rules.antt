@@ -40,6 +40,10 @@ found_window : Found (codes "window")
 unfolding rules
 found_window = (refl, refl)
 
+found_reach : Found (codes "reach")
+unfolding rules
+found_reach = (refl, refl)
+
 found_first : Found (codes "first")
 unfolding rules
 found_first = (refl, refl)
@@ -78,10 +82,15 @@ known_found name h = by_window (bytes_eq (codes "window") name) refl h
     by_first true e h = named (codes "first") name e found_first
     by_first false e h = by_frames (bytes_eq (codes "frames") name) refl h
 
-    by_window : (b : Bool) → bytes_eq (codes "window") name ≡ b
+    by_reach : (b : Bool) → bytes_eq (codes "reach") name ≡ b
         → (b || (bytes_eq (codes "first") name || (bytes_eq (codes "frames") name || (bytes_eq (codes "idle") name || (bytes_eq (codes "limit") name || false))))) ≡ true → Found name
+    by_reach true e h = named (codes "reach") name e found_reach
+    by_reach false e h = by_first (bytes_eq (codes "first") name) refl h
+
+    by_window : (b : Bool) → bytes_eq (codes "window") name ≡ b
+        → (b || (bytes_eq (codes "reach") name || (bytes_eq (codes "first") name || (bytes_eq (codes "frames") name || (bytes_eq (codes "idle") name || (bytes_eq (codes "limit") name || false)))))) ≡ true → Found name
     by_window true e h = named (codes "window") name e found_window
-    by_window false e h = by_first (bytes_eq (codes "first") name) refl h
+    by_window false e h = by_reach (bytes_eq (codes "reach") name) refl h
 
 or_parts : (a b : Bool) → (a || b) ≡ false → (a ≡ false) × (b ≡ false)
 or_parts false false e = (refl, refl)
@@ -92,8 +101,9 @@ pub unknown : (name : Text) → is_known name ≡ false → arg_by_long rules na
 unfolding rules
 unknown name h =
     let a = or_parts (bytes_eq (codes "window") name) _ h in
-    let b = or_parts (bytes_eq (codes "first") name) _ a.1 in
+    let g = or_parts (bytes_eq (codes "reach") name) _ a.1 in
+    let b = or_parts (bytes_eq (codes "first") name) _ g.1 in
     let c = or_parts (bytes_eq (codes "frames") name) _ b.1 in
     let d = or_parts (bytes_eq (codes "idle") name) _ c.1 in
     let f = or_parts (bytes_eq (codes "limit") name) _ d.1 in
-    rw (a.0, b.0, c.0, d.0, f.0) refl
+    rw (a.0, g.0, b.0) (rw (c.0, d.0, f.0) refl)

@@ -25,6 +25,7 @@ unfoldable pub request_of : Told → Option Request
 request_of t = do
   addresses ← several_of t.addresses
   window ← number_or 8 1 64 t.window
+  reach ← number_or 32767 1 32767 t.reach
   first ← number_or_none 0 65535 t.first
   frames ← number_or_none 1 3000000 t.frames
   idle ← number_or 50 1 1000000 t.idle
@@ -32,6 +33,7 @@ request_of t = do
   Some (record {
     addresses = addresses;
     window = window;
+    reach = reach;
     first = first;
     frames = frames;
     idle = idle;

@@ -7,6 +7,7 @@ abbrev pub texts_said : Texts → Told
 texts_said t = record {
   addresses = t.addresses.now;
   window = option_map (λ s. s.now) t.window;
+  reach = option_map (λ s. s.now) t.reach;
   first = option_map (λ s. s.now) t.first;
   frames = option_map (λ s. s.now) t.frames;
   idle = option_map (λ s. s.now) t.idle;

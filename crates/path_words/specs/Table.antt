@@ -28,7 +28,7 @@ abbrev pub IsNumberOrNone : ℕ → ℕ → Option (List ℕ) → Option ℕ →
 IsNumberOrNone least greatest None n = n ≡ None
 IsNumberOrNone least greatest (Some text) n = (number : ℕ) × (n ≡ Some number) × IsWithin least greatest text number
 
--- ADDRS [--window W] [--first N] [--frames N] [--idle K] [--limit L]
+-- ADDRS [--window W] [--reach A] [--first N] [--frames N] [--idle K] [--limit L]
 -- Where an option has a default it stands before the option's range.
 pub record IsPaths (request : Request) (texts : List (List ℕ)) (options : Options) : Type 0 where
   pub text : List ℕ
@@ -36,8 +36,9 @@ pub record IsPaths (request : Request) (texts : List (List ℕ)) (options : Opti
   pub addresses : AreAddresses text request.addresses
   pub some_paths : 2 ≤ length request.addresses
   pub few_paths : length request.addresses ≤ 4
-  pub names : AreOf (codes "window" ∷ codes "first" ∷ codes "frames" ∷ codes "idle" ∷ codes "limit" ∷ []) options
+  pub names : AreOf (codes "window" ∷ codes "reach" ∷ codes "first" ∷ codes "frames" ∷ codes "idle" ∷ codes "limit" ∷ []) options
   pub window : IsNumberOr 8 1 64 (told (codes "window") options) request.window
+  pub reach : IsNumberOr 32767 1 32767 (told (codes "reach") options) request.reach
   pub first : IsNumberOrNone 0 65535 (told (codes "first") options) request.first
   pub frames : IsNumberOrNone 1 3000000 (told (codes "frames") options) request.frames
   pub idle : IsNumberOr 50 1 1000000 (told (codes "idle") options) request.idle

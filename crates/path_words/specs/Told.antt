@@ -15,6 +15,7 @@ told name (use_ ∷ others) = if bytes_eq use_.0 name then Some use_.1 else told
 pub record Told : Type 0 where
   pub addresses : List ℕ
   pub window : Option (List ℕ)
+  pub reach : Option (List ℕ)
   pub first : Option (List ℕ)
   pub frames : Option (List ℕ)
   pub idle : Option (List ℕ)
@@ -24,6 +25,7 @@ abbrev pub told_with : List Use → List ℕ → Told
 told_with done addresses = record {
   addresses = addresses;
   window = told (codes "window") done;
+  reach = told (codes "reach") done;
   first = told (codes "first") done;
   frames = told (codes "frames") done;
   idle = told (codes "idle") done;

@@ -46,6 +46,7 @@ pub(crate) fn command<'a>(alloc: Global) -> Result<Command<'a>, AllocError>
 {
     let command = with_addresses(alloc, bare(alloc))?;
     let command = with_option(alloc, command, "window")?;
+    let command = with_option(alloc, command, "reach")?;
     let command = with_option(alloc, command, "first")?;
     let command = with_option(alloc, command, "frames")?;
     let command = with_option(alloc, command, "idle")?;

@@ -41,6 +41,9 @@ fn request(alloc: Global, texts: Texts<'_>) -> Result<Request, WordsFault>
     let Some(window) = number_or(8, 1, 64, texts.window) else {
         return Err(WordsFault::Words);
     };
+    let Some(reach) = number_or(32_767, 1, 32_767, texts.reach) else {
+        return Err(WordsFault::Words);
+    };
     let Some(first) = number_or_none(0, 65_535, texts.first) else {
         return Err(WordsFault::Words);
     };
@@ -56,6 +59,7 @@ fn request(alloc: Global, texts: Texts<'_>) -> Result<Request, WordsFault>
     Ok(Request {
         addresses,
         window: window as u8,
+        reach: reach as u16,
         first: first.map(|n| n as u16),
         frames,
         idle: idle as u32,

@@ -9,6 +9,8 @@ pub struct Request {
     pub addresses: Addresses,
     /// 1 to 64.
     pub window: u8,
+    /// 1 to 32,767.
+    pub reach: u16,
     /// The first sequence number, where it is told.
     pub first: Option<u16>,
     /// 1 to 3,000,000.

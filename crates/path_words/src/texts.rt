@@ -17,6 +17,7 @@ use word_forms::WordsFault;
 pub(crate) struct Texts<'a> {
     pub(crate) addresses: &'a str,
     pub(crate) window: Option<&'a str>,
+    pub(crate) reach: Option<&'a str>,
     pub(crate) first: Option<&'a str>,
     pub(crate) frames: Option<&'a str>,
     pub(crate) idle: Option<&'a str>,
@@ -45,6 +46,7 @@ pub(crate) fn read_texts<'a>(alloc: Global, words: &'a [String]) -> Result<Texts
                 return Err(WordsFault::Words);
             };
             let window = matches.get_str("window");
+            let reach = matches.get_str("reach");
             let first = matches.get_str("first");
             let frames = matches.get_str("frames");
             let idle = matches.get_str("idle");
@@ -52,6 +54,7 @@ pub(crate) fn read_texts<'a>(alloc: Global, words: &'a [String]) -> Result<Texts
             Ok(Texts {
                 addresses,
                 window,
+                reach,
                 first,
                 frames,
                 idle,

@@ -85,7 +85,7 @@ pub record Stands (options : ReceiveOptions) (answers : List Answer) (during mor
 -- What ends a reading, and what was given in all.
 pub record Finishes (options : ReceiveOptions) (answers : List Answer) (taken : List Taken) (items : List Item) (c : State) (why : EndWord) : Type 0 where
   pub reading : IsFinished options answers why
-  pub run : Run options.window options.first options.frames (datagrams answers) taken items
+  pub run : Run options.window options.reach options.first options.frames (datagrams answers) taken items
   pub first : run.mid.first ≡ c.first
 
 module _ (options : ReceiveOptions) (answers : List Answer) (taken : List Taken) (during more : List Item) (r : ReadingState) (c : State) (z : Reached options answers taken during more r c) where
@@ -171,7 +171,7 @@ module _ (options : ReceiveOptions) (answers : List Answer) (taken : List Taken)
   answers_many = by r.end z.comes
     where
       drained_many : (xs : List Answer) (ts : List Taken) (ys : List Item) (d : State) → IsDrained options xs ts ys d → length ts ≡ length (datagrams xs)
-      drained_many xs ts ys d all = steps_many (made options.window options.first) d (datagrams xs) ts ys all.gave
+      drained_many xs ts ys d all = steps_many (made options.window options.reach options.first) d (datagrams xs) ts ys all.gave
 
       by : (end : Option EndWord) → Comes options answers taken during more end c → length taken ≡ length (datagrams answers)
       by None (goes, inl (none, d)) = drained_many answers taken during c d

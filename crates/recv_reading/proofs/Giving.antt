@@ -7,29 +7,29 @@ use Rattle.recv_reading.proofs.Common.{ReceiveOptions, datagrams, Gave, HasGiven
 use Rattle.collect_laws.specs.Laws.{OneRun}
 use Rattle.collect_laws.proofs.Runs.{steps_more}
 
-pub gave_none : (rules : ReceiveOptions) → Gave rules [] [] [] (made rules.window rules.first)
+pub gave_none : (rules : ReceiveOptions) → Gave rules [] [] [] (made rules.window rules.reach rules.first)
 gave_none rules = (refl, refl)
 
 pub gave_datagram : (rules : ReceiveOptions) (xs : List Answer) (taken : List Taken) (items now : List Item) (c kept d : State) (bytes : List ℕ) (answer : Taken)
     → Gave rules xs taken items c → Takes c bytes answer kept → Gives kept now d
     → Gave rules (xs ++ Datagram bytes ∷ []) (taken ++ answer ∷ []) (items ++ now) d
 gave_datagram rules xs taken items now c kept d bytes answer gave takes gives =
-    subst (λ v. Steps (made rules.window rules.first) v (taken ++ answer ∷ []) (items ++ now) d) (sym (filter_map-append datagram_of xs (Datagram bytes ∷ [])))
-    (steps_more (datagrams xs) taken items now (made rules.window rules.first) c kept d bytes answer gave takes gives)
+    subst (λ v. Steps (made rules.window rules.reach rules.first) v (taken ++ answer ∷ []) (items ++ now) d) (sym (filter_map-append datagram_of xs (Datagram bytes ∷ [])))
+    (steps_more (datagrams xs) taken items now (made rules.window rules.reach rules.first) c kept d bytes answer gave takes gives)
 
 pub gave_idle : (rules : ReceiveOptions) (xs : List Answer) (taken : List Taken) (items : List Item) (c : State) → Gave rules xs taken items c → Gave rules (xs ++ Idle ∷ []) taken items c
 gave_idle rules xs taken items c gave =
-    subst (λ v. Steps (made rules.window rules.first) v taken items c) (sym (filter_map-append datagram_of xs (Idle ∷ []) ∙ append-nil (datagrams xs))) gave
+    subst (λ v. Steps (made rules.window rules.reach rules.first) v taken items c) (sym (filter_map-append datagram_of xs (Idle ∷ []) ∙ append-nil (datagrams xs))) gave
 
 pub gave_end : (rules : ReceiveOptions) (xs : List Answer) (taken : List Taken) (items : List Item) (c : State) → Gave rules xs taken items c → Gave rules (xs ++ End ∷ []) taken items c
 gave_end rules xs taken items c gave =
-    subst (λ v. Steps (made rules.window rules.first) v taken items c) (sym (filter_map-append datagram_of xs (End ∷ []) ∙ append-nil (datagrams xs))) gave
+    subst (λ v. Steps (made rules.window rules.reach rules.first) v taken items c) (sym (filter_map-append datagram_of xs (End ∷ []) ∙ append-nil (datagrams xs))) gave
 
 pub none_given : (rules : ReceiveOptions) (answers : List Answer) (told : Option ℕ) (taken : List Taken) (items : List Item) (c : State) → OneRun
     → Gave rules answers taken items c → ((n : ℕ) → told ≡ Some n → length items < n) → HasGiven rules answers told → ⊥
 none_given rules answers None taken items c one gave few h = h
 none_given rules answers (Some n) taken items c one gave few (taken', other, end, h, enough) =
-    let same : items ≡ other = (one (made rules.window rules.first) end c (datagrams answers) taken' taken other items h gave).1 in
+    let same : items ≡ other = (one (made rules.window rules.reach rules.first) end c (datagrams answers) taken' taken other items h gave).1 in
     let l : length items < n = few n refl in
     let s : length items ≡ length other = ap length same in
     omega (arith, l, s, enough)

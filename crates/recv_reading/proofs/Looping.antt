@@ -19,7 +19,7 @@ pub record Loop (options : ReceiveOptions) (came : List Answer → Type 0) (Has 
   pub has : Has taken during more c
 
 pub loop_none : (options : ReceiveOptions) (came : List Answer → Type 0) (Has : List Taken → List Item → List Item → State → Type 0) (r : ReadingState) (c : State) → AreUsable options
-    → r ≡ new_reading (bounds_of options) → c ≡ made options.window options.first → came [] → Has [] [] [] c → Loop options came Has r c
+    → r ≡ new_reading (bounds_of options) → c ≡ made options.window options.reach options.first → came [] → Has [] [] [] c → Loop options came Has r c
 loop_none options came Has r c usable reads is none has = record {
   answers = [];
   heard = none;

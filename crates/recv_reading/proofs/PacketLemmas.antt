@@ -55,7 +55,7 @@ module _ (options : ReceiveOptions) where
     where
       by : (frames : Option ℕ) → is_full frames (length items) ≡ true → HasGiven options answers frames
       by None full = absurd (let clash : false ≡ true = full in cc)
-      by (Some n) full = (taken, items, end, subst (λ l. Steps (made options.window options.first) l taken items end) (sym are) steps, (let f : nat_le n (length items) ≡ true = full in grind (arith, nat_tests)))
+      by (Some n) full = (taken, items, end, subst (λ l. Steps (made options.window options.reach options.first) l taken items end) (sym are) steps, (let f : nat_le n (length items) ≡ true = full in grind (arith, nat_tests)))
 
   given_enough : (packets : List (List ℕ)) (answers : List Answer) → datagrams answers ≡ packets → HasGiven options answers options.frames → HasEnough (terms_of options) packets
   given_enough packets answers are given = by options.frames refl given
@@ -66,7 +66,7 @@ module _ (options : ReceiveOptions) where
         taken,
         items,
         end,
-        subst (λ l. Steps (made options.window options.first) l taken items end) are steps,
+        subst (λ l. Steps (made options.window options.reach options.first) l taken items end) are steps,
         ap (λ o. is_full o (length items)) is ∙ (let m : n ≤ length items = many in grind (arith, nat_tests)),
       )
 
@@ -226,7 +226,7 @@ gives_until options answers taken items c stop before after (packets, whole, sto
         shorter = none_shorter options packets [] (subst (GoesOn options) (same ∙ sym (append-nil (map Datagram packets))) broken.goes_on);
         taken = taken;
         mid = c;
-        steps = subst (λ l. Steps (made options.window options.first) l taken items c) those gave;
+        steps = subst (λ l. Steps (made options.window options.reach options.first) l taken items c) those gave;
       },
       refl,
     )

@@ -75,7 +75,7 @@ open_enough (Some w) enough h = absurd (let clash : true ≡ false = h in cc)
 
 -- ---- at the start
 
-pub reached_none : (options : ReceiveOptions) (c : State) → AreUsable options → c ≡ made options.window options.first → Reached options [] [] [] [] (new_reading (bounds_of options)) c
+pub reached_none : (options : ReceiveOptions) (c : State) → AreUsable options → c ≡ made options.window options.reach options.first → Reached options [] [] [] [] (new_reading (bounds_of options)) c
 reached_none options c usable is = record {
   bounds_are = refl;
   usable = usable;

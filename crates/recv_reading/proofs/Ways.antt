@@ -145,7 +145,7 @@ step_first c d state bytes answer (a ∷ b ∷ answers) given (now, later, kept,
 
 module _ (terms : Terms) where
   abbrev new : State
-  new = made terms.window terms.first
+  new = made terms.window terms.reach terms.first
 
   module _ (packets : List (List ℕ)) (items : List Item) (item : Item) (last : State) (at : ComesAt terms packets items item last) where
     -- where it comes behind a packet, it is among what these packets give, and more of them

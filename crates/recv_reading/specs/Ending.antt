@@ -1,5 +1,5 @@
 -- When a receiver has read enough of a link, or of a capture.
-use Rattle.std.specs.Prelude.{ℕ, ◌≡◌, ◌+◌, ◌*◌, ◌<◌, ◌≤◌, ◌⊎◌, List, [], ◌∷◌, ◌++◌, length, take, Option, None, Some}
+use Rattle.std.specs.Prelude.{ℕ, ◌≡◌, ◌+◌, ◌*◌, ◌<◌, ◌≤◌, ◌⊎◌, List, [], ◌∷◌, ◌++◌, length, take, Option, None, Some, IfSome}
 use Rattle.std.specs.List.{filter_map, AllByRecursion}
 use Rattle.drm_links.specs.Link.{Answer, Datagram, Idle, Failed, End, datagram_of}
 use Rattle.dcp_collect.specs.declared.taken.Taken.{Taken}
@@ -27,17 +27,23 @@ idles answers = idles_from 0 answers
 
 -- A new collector that takes these datagrams, and gives all that is ready after each, has given these items.
 abbrev pub Gave : ReceiveOptions → List Answer → List Taken → List Item → State → Type 0
-Gave rules answers taken items end = Steps (made rules.window rules.first) (datagrams answers) taken items end
+Gave rules answers taken items end = Steps (made rules.window rules.reach rules.first) (datagrams answers) taken items end
 
 -- the items that are given after these answers
 abbrev pub GaveItems : ReceiveOptions → List Answer → List Item → Type 0
 GaveItems rules answers items = (taken : List Taken) × (end : State) × Gave rules answers taken items end
 
+-- So few items are given behind those before, by one datagram more: where the collector has a newest number, by the reach.
+abbrev pub FewMore : ReceiveOptions → State → List Item → List Item → Type 0
+FewMore rules c before items =
+    (length items ≤ length before + most_at_once rules.window)
+    × IfSome c.newest (λ n. length items ≤ length before + (rules.reach + rules.window))
+
 -- each of these answers brings no more items than one datagram can
 abbrev pub FewAtOnce : ReceiveOptions → List Answer → Type 0
 FewAtOnce rules answers =
-    (k : ℕ) (before items : List Item) → GaveItems rules (take k answers) before → GaveItems rules (take (k + 1) answers) items
-    → length items ≤ length before + most_at_once rules.window
+    (k : ℕ) (taken : List Taken) (before items : List Item) (c : State) → Gave rules (take k answers) taken before c
+    → GaveItems rules (take (k + 1) answers) items → FewMore rules c before items
 
 -- as many items were given as are told
 abbrev pub HasGiven : ReceiveOptions → List Answer → Option ℕ → Type 0

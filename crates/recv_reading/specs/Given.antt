@@ -17,7 +17,7 @@ pub record GivesAll (terms : Terms) (items : List Item) (before after : Known In
   pub enough : AreEnough terms packets before after
   pub shorter : NoneShorter terms packets
   pub taken : List Taken
-  pub run : Run terms.window terms.first terms.told packets taken items
+  pub run : Run terms.window terms.reach terms.first terms.told packets taken items
 
 -- No more can be read for this reason, and these are given before.
 pub record GivesUntil (terms : Terms) (stop : CaptureStop) (items : List Item) (before after : Known Input) : Type 0 where
@@ -28,7 +28,7 @@ pub record GivesUntil (terms : Terms) (stop : CaptureStop) (items : List Item) (
   pub shorter : NoneShorter terms packets
   pub taken : List Taken
   pub mid : State
-  pub steps : Steps (made terms.window terms.first) packets taken items mid
+  pub steps : Steps (made terms.window terms.reach terms.first) packets taken items mid
 
 -- These come first, and then this one, which isn't past the told number.
 pub record GivesTo (terms : Terms) (items : List Item) (item : Item) (before after : Known Input) : Type 0 where

@@ -8,6 +8,8 @@ use Rattle.recv_reading.specs.declared.options.Bounds.{Bounds}
 pub record AreInRange (options : ReceiveOptions) : Type 0 where
   pub some_window : 1 ≤ options.window
   pub few_packets : options.window ≤ 64
+  pub some_reach : 1 ≤ options.reach
+  pub near_reach : options.reach ≤ 32767
   pub some_frames : IfSome options.frames (λ n. 1 ≤ n)
   pub few_frames : IfSome options.frames (λ n. n ≤ 3000000)
   pub some_idles : 1 ≤ options.idle
@@ -29,7 +31,7 @@ bounds_of options = record { frames = options.frames; idle = options.idle; limit
 
 -- the options of a reading with this new collector
 abbrev pub options_of : State → Bounds → ReceiveOptions
-options_of c bounds = record { window = c.window; first = c.first; frames = bounds.frames; idle = bounds.idle; limit = bounds.limit }
+options_of c bounds = record { window = c.window; reach = c.reach; first = c.first; frames = bounds.frames; idle = bounds.idle; limit = bounds.limit }
 
 -- those of a reading that ends with its capture, which has fewer packets than that, or by the number of items
 abbrev pub capture_bounds : Option ℕ → Bounds

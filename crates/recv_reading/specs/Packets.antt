@@ -12,22 +12,23 @@ use Rattle.drm_capture.specs.Reading.{HasRead}
 use Rattle.recv_reading.specs.declared.options.ReceiveOptions.{ReceiveOptions}
 use Rattle.recv_reading.specs.State.{is_full}
 
--- by what a capture is read: the window, the first sequence number and the number of items, where these are told
+-- by what a capture is read: the window, the reach, the first sequence number and the number of items, where these are told
 pub record Terms : Type 0 where
   pub window : ℕ
+  pub reach : ℕ
   pub first : Option ℕ
   pub told : Option ℕ
 
 -- those of a reading that ends with its capture, or by the number of items
 abbrev pub terms_of : ReceiveOptions → Terms
-terms_of options = record { window = options.window; first = options.first; told = options.frames }
+terms_of options = record { window = options.window; reach = options.reach; first = options.first; told = options.frames }
 
 -- ---- which packets are read
 
 -- as many items as are told, or more, are given of these packets
 abbrev pub HasEnough : Terms → List (List ℕ) → Type 0
 HasEnough terms packets =
-    (taken : List Taken) × (items : List Item) × (end : State) × Steps (made terms.window terms.first) packets taken items end
+    (taken : List Taken) × (items : List Item) × (end : State) × Steps (made terms.window terms.reach terms.first) packets taken items end
     × (is_full terms.told (length items) ≡ true)
 
 -- fewer packets aren't enough
@@ -55,7 +56,7 @@ pub record ComesAt (terms : Terms) (packets : List (List ℕ)) (items : List Ite
   pub taken : List Taken
   pub during : List Item
   pub mid : State
-  pub steps : Steps (made terms.window terms.first) before taken during mid
+  pub steps : Steps (made terms.window terms.reach terms.first) before taken during mid
   pub state : State
   pub comes : ComesTo terms later mid state
   pub more : List Item

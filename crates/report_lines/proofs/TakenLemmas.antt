@@ -12,7 +12,7 @@ use Rattle.dcp_collect.specs.declared.taken.Taken.{Taken}
 use Rattle.dcp_collect.specs.declared.taken.Taken.TheVariants.{Repeated, Late, Refused}
 use Rattle.dcp_collect.specs.Fragments.{Fragment, suffice, of_packet, agree, has_index}
 use Rattle.dcp_collect.specs.Reading.{Read, Unread, Brings, IsRead}
-use Rattle.dcp_collect.specs.State.{State, answer, answer_at, answer_among, answer_by, is_late, number_of}
+use Rattle.dcp_collect.specs.State.{State, answer, answer_at, answer_within, answer_among, answer_by, is_far, is_late, number_of}
 use Rattle.dcp_collect.specs.Runs.{Takes}
 use Rattle.report_lines.specs.FaultWords.{IsTold}
 use Rattle.report_lines.specs.Reports.{is_refused}
@@ -37,11 +37,18 @@ late_told : (b : Bool) (a : Taken) → (is_refused a ≡ true → IsTold a) → 
 late_told true a told e = absurd (let x : false ≡ true = e in cc)
 late_told false a told e = told e
 
-at_told : (c : State) (n : ℤ) (head : Head) → is_refused (answer_at c n head) ≡ true → IsTold (answer_at c n head)
-at_told c (negsuc n) head e = absurd (let x : false ≡ true = e in cc)
-at_told c (pos n) head e =
+far_told : (b : Bool) (a : Taken) → (is_refused a ≡ true → IsTold a) → is_refused (if b then Refused field.Far else a) ≡ true → IsTold (if b then Refused field.Far else a)
+far_told true a told e = tt
+far_told false a told e = told e
+
+within_told : (c : State) (n : ℤ) (head : Head) → is_refused (answer_within c n head) ≡ true → IsTold (answer_within c n head)
+within_told c (negsuc n) head e = absurd (let x : false ≡ true = e in cc)
+within_told c (pos n) head e =
     late_told (is_late c n) (answer_among (of_packet n c.kept) head)
     (among_told (suffice (of_packet n c.kept)) (find (λ f. not (agree f.head head)) (of_packet n c.kept)) (has_index (of_packet n c.kept) head.index) head) e
+
+at_told : (c : State) (n : ℤ) (head : Head) → is_refused (answer_at c n head) ≡ true → IsTold (answer_at c n head)
+at_told c n head e = far_told (is_far c n) (answer_within c n head) (within_told c n head) e
 
 row_holds : (rows : List PftFault) (fault : PftFault) (bytes : List ℕ) → IsFirst rows fault bytes → Row fault bytes
 row_holds [] fault bytes h = absurd h
@@ -64,6 +71,7 @@ field_told (field.Pft pft.TooMany) bytes r = tt
 field_told (field.Pft pft.TooLarge) bytes r = tt
 field_told (field.Pft pft.Chunks) bytes r = tt
 field_told field.Large bytes r = tt
+field_told field.Far bytes r = absurd r
 
 read_told : (c : State) (read : Read) (bytes : List ℕ) → IsRead read bytes → is_refused (answer c read) ≡ true → IsTold (answer c read)
 read_told c (Unread f) bytes r e = field_told f bytes r

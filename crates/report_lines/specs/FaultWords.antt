@@ -82,6 +82,7 @@ field_words field.Sync = codes "dcp sync"
 field_words (field.Af cause) = af_words cause
 field_words (field.Pft cause) = pft_words cause
 field_words field.Large = codes "af large"
+field_words field.Far = codes "dcp far"
 
 -- of a datagram that is refused or disagrees; of all others nothing is told
 abbrev pub taken_words : Taken → List ℕ

@@ -47,6 +47,7 @@ fn field_words(field: Field) -> &'static str
         Field::Af(cause) => af_words(cause),
         Field::Pft(cause) => pft_words(cause),
         Field::Large => "af large",
+        Field::Far => "dcp far",
     }
 }
 

@@ -66,6 +66,11 @@ const ASKED: [(&str, &str); 72] = [
     ),
     ("|receive|--window|1", "receive - 1 - - 50 4294967295"),
     ("|receive|--window|64", "receive - 64 - - 50 4294967295"),
+    (
+        "|receive|--reach|1",
+        "receive - 8 - - reach 1 50 4294967295",
+    ),
+    ("|receive|--reach=32767", "receive - 8 - - 50 4294967295"),
     ("|receive|--first|0", "receive - 8 0 - 50 4294967295"),
     (
         "|receive|--first|65535",
@@ -238,16 +243,27 @@ fn serve_shown(
     format!(in alloc; "serve {} {to} {pace} {from}{live}", text(name))
 }
 
-// The window, the first number and how many frames.
+// Nothing of the greatest reach.
+fn reach_shown(alloc: Global, reach: u16) -> Result<String, AllocError> {
+    if reach == 32_767 {
+        String::from_str(alloc, "")
+    } else {
+        format!(in alloc; " reach {reach}")
+    }
+}
+
+// The window, the first number, how many frames, and how far one may be ahead.
 fn rules_shown(
     alloc: Global,
     window: u8,
+    reach: u16,
     first: Option<u16>,
     frames: Option<u64>,
 ) -> Result<String, AllocError> {
     let first = number_shown(alloc, first.map(u64::from))?;
     let frames = number_shown(alloc, frames)?;
-    format!(in alloc; "{window} {first} {frames}")
+    let reach = reach_shown(alloc, reach)?;
+    format!(in alloc; "{window} {first} {frames}{reach}")
 }
 
 fn shown(alloc: Global, request: &Request) -> Result<String, AllocError> {
@@ -264,25 +280,27 @@ fn shown(alloc: Global, request: &Request) -> Result<String, AllocError> {
         Request::Receive {
             addresses,
             window,
+            reach,
             first,
             frames,
             idle,
             limit,
         } => {
             let addresses = addresses_shown(alloc, addresses)?;
-            let rules = rules_shown(alloc, *window, *first, *frames)?;
+            let rules = rules_shown(alloc, *window, *reach, *first, *frames)?;
             format!(in alloc; "receive {addresses} {rules} {idle} {limit}")
         }
         Request::Count {
             address,
             window,
+            reach,
             first,
             frames,
             idle,
             limit,
         } => {
             let address = address_if_shown(alloc, address)?;
-            let rules = rules_shown(alloc, *window, *first, *frames)?;
+            let rules = rules_shown(alloc, *window, *reach, *first, *frames)?;
             format!(in alloc; "count {address} {rules} {idle} {limit}")
         }
         Request::Air {
@@ -294,11 +312,12 @@ fn shown(alloc: Global, request: &Request) -> Result<String, AllocError> {
         Request::Convert {
             carry,
             window,
+            reach,
             first,
             frames,
         } => {
             let carry = carry_shown(alloc, *carry)?;
-            let rules = rules_shown(alloc, *window, *first, *frames)?;
+            let rules = rules_shown(alloc, *window, *reach, *first, *frames)?;
             format!(in alloc; "convert {carry} {rules}")
         }
         Request::Exercise { n } => format!(in alloc; "exercise {n}"),
@@ -307,6 +326,7 @@ fn shown(alloc: Global, request: &Request) -> Result<String, AllocError> {
             to,
             carry,
             window,
+            reach,
             first,
             frames,
             idle,
@@ -315,7 +335,7 @@ fn shown(alloc: Global, request: &Request) -> Result<String, AllocError> {
             let from = address_shown(alloc, from)?;
             let to = list_shown(alloc, to)?;
             let carry = carry_shown(alloc, *carry)?;
-            let rules = rules_shown(alloc, *window, *first, *frames)?;
+            let rules = rules_shown(alloc, *window, *reach, *first, *frames)?;
             format!(in alloc; "gate {from} {to} {carry} {rules} {idle} {limit}")
         }
         Request::Pack { .. } | Request::Unpack { .. } | Request::Texts { .. } => {
@@ -332,19 +352,21 @@ fn data_shown(alloc: Global, request: &Request) -> Result<String, AllocError> {
             pid,
             length,
             window,
+            reach,
             first,
             frames,
         } => {
-            let rules = rules_shown(alloc, *window, *first, *frames)?;
+            let rules = rules_shown(alloc, *window, *reach, *first, *frames)?;
             format!(in alloc; "unpack {stream} {pid} {length} {rules}")
         }
         Request::Texts {
             stream,
             window,
+            reach,
             first,
             frames,
         } => {
-            let rules = rules_shown(alloc, *window, *first, *frames)?;
+            let rules = rules_shown(alloc, *window, *reach, *first, *frames)?;
             format!(in alloc; "texts {stream} {rules}")
         }
         _ => String::from_str(alloc, "no data"),

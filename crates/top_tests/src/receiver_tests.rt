@@ -25,7 +25,7 @@ fn receives(alloc: Global, case: &Case<'_>) -> Result<bool, NoMemory> {
     let mut link = MemLink::make(alloc, case.link, &[], 0)?;
     link.bring(alloc, &EMPTY)?;
     let mut out = MemSink::make(alloc, 2000, case.sink, 100)?;
-    let mut collector = Collector::make(alloc, 8, None)?;
+    let mut collector = Collector::make(alloc, 8, 32_767, None)?;
     let mut feed = Feed::new();
     let mut buffer = zeros(alloc, LONGEST_DATAGRAM)?;
     let options = Options {

@@ -182,10 +182,10 @@ module _ (plan : Plan) (window : ℕ) (base : ℤ) (pairs : List (ℕ × ℕ)) (
   packets_are t (ps ∷ frames) = ap (λ l. ps ++ l) (packets_are (t + 1) frames)
 
 pub unpacks_deliveries : Delivering → UnpacksDeliveries
-unpacks_deliveries delivering plan window first told base arrivals datagrams answers collected k id d units frames items text clean is some followed carries run are whole =
+unpacks_deliveries delivering plan window reach first told base arrivals datagrams answers collected k id d units frames items text clean is some followed carries run are whole =
     let pairs : List (ℕ × ℕ) = pairs_in arrivals in
     let end : ℕ = end_of told (newest_of base None pairs) in
-    let at = placed plan window first told base arrivals datagrams answers collected items delivering is some followed run are in
+    let at = placed plan window reach first told base arrivals datagrams answers collected items delivering is some followed run are in
     let shows = shows_all plan window base pairs end k id d base items frames refl at.many carries.all carries.carry at.at in
     unpacked_by k id d units (carried_by plan window base told pairs frames) shows.shown items text clean carries.some_length carries.are_units
     (packets_are plan window base pairs end k id d 0 frames ∙ carries.packets_are)

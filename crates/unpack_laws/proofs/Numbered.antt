@@ -46,9 +46,9 @@ steps_from c after (datagram ∷ datagrams) (a ∷ answers) items (now, more, ke
     let rest : AreFrom (c.next + length now) more = subst (λ m. AreFrom m more) then (steps_from mid after datagrams answers more steps) in
     subst (λ l. AreFrom c.next l) (sym are) (from_join c.next now more first rest)
 
-pub run_from : (window : ℕ) (first told : Option ℕ) (datagrams : List (List ℕ)) (answers : List Taken) (items : List Collected)
-    → Run window first told datagrams answers items → AreFrom 0 items
-run_from window first told datagrams answers items run =
+pub run_from : (window reach : ℕ) (first told : Option ℕ) (datagrams : List (List ℕ)) (answers : List Taken) (items : List Collected)
+    → Run window reach first told datagrams answers items → AreFrom 0 items
+run_from window reach first told datagrams answers items run =
     let during : AreFrom 0 run.during = steps_from _ run.mid datagrams answers run.during run.steps in
     let after : run.mid.next ≡ 0 + length run.during = steps_count _ run.mid datagrams answers run.during run.steps in
     let rest : AreFrom (0 + length run.during) run.rest = subst (λ m. AreFrom m run.rest) after (gives_from run.rest _ run.after run.gives) in

@@ -126,15 +126,15 @@ pub record ArePlaced (plan : Plan) (window : ℕ) (base : ℤ) (told : Option �
   pub many : length items ≡ end_of told (newest_of base None pairs)
   pub at : AreAt plan window base pairs 0 items
 
-pub placed : (plan : Plan) (window : ℕ) (first told : Option ℕ) (base : ℤ) (arrivals : List Arrival) (datagrams : List (List ℕ))
+pub placed : (plan : Plan) (window reach : ℕ) (first told : Option ℕ) (base : ℤ) (arrivals : List Arrival) (datagrams : List (List ℕ))
     (answers : List Taken) (collected : List Collected) (items : List Item) → Delivering
-    → IsSchedule plan → 1 ≤ window → IsFollowed plan first base arrivals datagrams → Run window first told datagrams answers collected
+    → IsSchedule plan → 1 ≤ window → IsFollowed plan reach first base arrivals datagrams → Run window reach first told datagrams answers collected
     → AreItems collected items → ArePlaced plan window base told (pairs_in arrivals) items
-placed plan window first told base arrivals datagrams answers collected items delivering is some followed run are =
+placed plan window reach first told base arrivals datagrams answers collected items delivering is some followed run are =
     let pairs : List (ℕ × ℕ) = pairs_in arrivals in
-    let steps : Fed new_tracker collected items = fed new_tracker collected items (run_from window first told datagrams answers collected run) are in
+    let steps : Fed new_tracker collected items = fed new_tracker collected items (run_from window reach first told datagrams answers collected run) are in
     let given : AreGiven plan window base told pairs steps.steps =
-    (delivering plan window first told base arrivals datagrams answers collected steps.steps steps.after is some followed run steps.feeds).0 in
+    (delivering plan window reach first told base arrivals datagrams answers collected steps.steps steps.after is some followed run steps.feeds).0 in
     record {
       many = ap length (sym steps.items_are) ∙ (length-map steps.steps (λ (s : FeedStep). s.item) ∙ given.many);
       at = λ q item at.

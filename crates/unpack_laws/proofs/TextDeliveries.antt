@@ -167,10 +167,10 @@ clean_by bad missing pieces end is = grind (arith, nat_tests)
 -- ---- what is printed
 
 pub texts_of_deliveries : JoinsMessages → Delivering → TextsOfDeliveries
-texts_of_deliveries joins delivering plan window first told base arrivals datagrams answers collected k items text clean is some followed run are (said, left, runs, (text_is, clean_is)) =
+texts_of_deliveries joins delivering plan window reach first told base arrivals datagrams answers collected k items text clean is some followed run are (said, left, runs, (text_is, clean_is)) =
     let pairs : List (ℕ × ℕ) = pairs_in arrivals in
     let end : ℕ = end_of told (newest_of base None pairs) in
-    let at = placed plan window first told base arrivals datagrams answers collected items delivering is some followed run are in
+    let at = placed plan window reach first told base arrivals datagrams answers collected items delivering is some followed run are in
     let frames : Reading = entries_by plan window base pairs end k in
     let same = same_all plan window base pairs end k base items refl at.many at.at in
     let gives = same.gives said left runs in

@@ -76,9 +76,9 @@ carried_by plan window base told pairs frames = carried_from plan window base pa
 -- that of the first packet to that of the last, and tells one cut for each other unit whose first packet came.
 abbrev pub UnpacksDeliveries : Type 0
 UnpacksDeliveries =
-    (plan : Plan) (window : ℕ) (first told : Option ℕ) (base : ℤ) (arrivals : List Arrival) (datagrams : List (List ℕ))
+    (plan : Plan) (window reach : ℕ) (first told : Option ℕ) (base : ℤ) (arrivals : List Arrival) (datagrams : List (List ℕ))
     (answers : List Taken) (collected : List Collected)
     (k id d : ℕ) (units : List (List ℕ)) (frames : List (List Packet)) (items : List Item) (text : List ℕ) (clean : Bool)
-    → IsSchedule plan → 1 ≤ window → IsFollowed plan first base arrivals datagrams → CarriesUnits plan k id d units frames
-    → Run window first told datagrams answers collected → AreItems collected items → IsWholeText (UnitsOf k id d) items text clean
+    → IsSchedule plan → 1 ≤ window → IsFollowed plan reach first base arrivals datagrams → CarriesUnits plan k id d units frames
+    → Run window reach first told datagrams answers collected → AreItems collected items → IsWholeText (UnitsOf k id d) items text clean
     → Unpacked k id d units (carried_by plan window base told (pairs_in arrivals) frames) items text clean

@@ -50,9 +50,9 @@ pub record ShowsMessages (k end : ℕ) (reading : Reading) (items : List Item) (
 -- with a gap for each other frame. A reading ends at the told number, or behind the newest one.
 abbrev pub TextsOfDeliveries : Type 0
 TextsOfDeliveries =
-    (plan : Plan) (window : ℕ) (first told : Option ℕ) (base : ℤ) (arrivals : List Arrival) (datagrams : List (List ℕ))
+    (plan : Plan) (window reach : ℕ) (first told : Option ℕ) (base : ℤ) (arrivals : List Arrival) (datagrams : List (List ℕ))
     (answers : List Taken) (collected : List Collected) (k : ℕ) (items : List Item) (text : List ℕ) (clean : Bool)
-    → IsSchedule plan → 1 ≤ window → IsFollowed plan first base arrivals datagrams → Run window first told datagrams answers collected
+    → IsSchedule plan → 1 ≤ window → IsFollowed plan reach first base arrivals datagrams → Run window reach first told datagrams answers collected
     → AreItems collected items → IsWholeText (TextsOf k) items text clean
     → let pairs : List (ℕ × ℕ) = pairs_in arrivals in
     let end : ℕ = end_of told (newest_of base None pairs) in

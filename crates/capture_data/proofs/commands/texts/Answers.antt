@@ -6,7 +6,7 @@ use Rattle.capture_data.proofs.commands.texts.Goals as goal
 
 pub returns : goal.returns
 returns g c =
-    let terms : Terms = record { window = c.args.window; first = c.args.first; told = c.args.frames } in
+    let terms : Terms = record { window = c.args.window; reach = c.args.reach; first = c.args.first; told = c.args.frames } in
     record {
       run = data_run c.read_one_way.ensures c.packets_in_front.ensures terms (TextsOf c.args.stream) c.take_capture.result
           g.I.Source.known c.args.input.now c.take_capture.new.input g.O.Sink.known c.args.out.now c.take_capture.new.out

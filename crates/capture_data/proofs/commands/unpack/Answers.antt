@@ -9,7 +9,7 @@ use Rattle.capture_data.proofs.commands.unpack.Goals as goal
 pub returns-in_err-joiner : goal.returns-in_err-joiner
 returns-in_err-joiner g c =
     let p = err_from_is_err_and c.from_residual.result c.from_residual.ensures.1 in
-    let terms : Terms = record { window = c.args.window; first = c.args.first; told = c.args.frames } in
+    let terms : Terms = record { window = c.args.window; reach = c.args.reach; first = c.args.first; told = c.args.frames } in
     record {
       run = rw (p.1 ∙ ap Err p.2)
           (memory_run c.read_one_way.ensures c.packets_in_front.ensures terms (UnitsOf c.args.stream c.args.id c.args.length) g.I.Source.known c.args.input.now g.O.Sink.known c.args.out.now);
@@ -17,7 +17,7 @@ returns-in_err-joiner g c =
 
 pub returns : goal.returns
 returns g c =
-    let terms : Terms = record { window = c.args.window; first = c.args.first; told = c.args.frames } in
+    let terms : Terms = record { window = c.args.window; reach = c.args.reach; first = c.args.first; told = c.args.frames } in
     record {
       run = data_run c.read_one_way.ensures c.packets_in_front.ensures terms (UnitsOf c.args.stream c.args.id c.args.length) c.take_capture.result
           g.I.Source.known c.args.input.now c.take_capture.new.input g.O.Sink.known c.args.out.now c.take_capture.new.out

@@ -23,7 +23,7 @@ returns g c =
       run = rw c.ending.ensures
           (convert_run c.read_one_way.ensures c.read_some_way.ensures c.packets_in_front.ensures _ c.args.carry (ending_of run.result clean) run.new.progress.told
           g.I.Source.known c.args.input.now run.new.input g.O.Sink.known c.args.out.now run.new.out g.E.Sink.known c.args.err.now run.new.err
-          (as_told c.args.window c.args.first c.args.frames c.args.carry c.in_ok-collector.cutter c.in_ok-collector.collector (ending_of run.result clean) run.new.progress.told
+          (as_told c.args.window c.args.reach c.args.first c.args.frames c.args.carry c.in_ok-collector.cutter c.in_ok-collector.collector (ending_of run.result clean) run.new.progress.told
           (g.I.Source.known c.args.input.now) (g.I.Source.known run.new.input) (g.O.Sink.known c.args.out.now) (g.O.Sink.known run.new.out) (g.E.Sink.known c.args.err.now) (g.E.Sink.known run.new.err)
           c.in_ok-collector.ensures.0 c.in_ok-collector.ensures.1 run.ensures.ends)
           (λ is. absurd (not_memory run.result clean is))

@@ -220,13 +220,13 @@ pub returns-in-Convert : goal.returns-in-Convert
 returns-in-Convert g c =
     let run = c.convert.ensures.run in
     record {
-      words = λ e. not_convert (record { window = c.in-Convert.window; first = c.in-Convert.first; told = c.in-Convert.frames }) c.in-Convert.carry _ _ _ _ _ _ _ _ run.ends e;
+      words = λ e. not_convert (record { window = c.in-Convert.window; reach = c.in-Convert.reach; first = c.in-Convert.first; told = c.in-Convert.frames }) c.in-Convert.carry _ _ _ _ _ _ _ _ run.ends e;
       memory = λ e. (let none = run.untouched e in (none.0, none.1));
       run = rw c.in-Convert.is (run, refl, refl);
       read = λ _. one_alone run.read_cause refl;
       write = run.write_cause;
       opening = inl refl;
-      link = λ e. absurd (not_a_link (record { window = c.in-Convert.window; first = c.in-Convert.first; told = c.in-Convert.frames }) c.in-Convert.carry _ _ _ _ _ _ _ _ run.ends e);
+      link = λ e. absurd (not_a_link (record { window = c.in-Convert.window; reach = c.in-Convert.reach; first = c.in-Convert.first; told = c.in-Convert.frames }) c.in-Convert.carry _ _ _ _ _ _ _ _ run.ends e);
       lacking = λ e. rw c.in-Convert.is tt;
       unsent = λ e. dock_still (g.D.Dock.known c.args.dock.now);
       dock = λ none. refl;

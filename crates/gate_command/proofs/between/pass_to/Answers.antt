@@ -32,7 +32,7 @@ returns-in-Ok-clause-told g c =
     let up : AreUp before = subst (λ (ms : List (Member g.row.D-L.Denot)). AreUp ms) (sym value) c.in-Ok.ensures.up in
     let from = g.L.Link.known c.args.source.now in
     let from' = g.L.Link.known c.gate_one-ended.new.from in
-    let same = rules_same c.args.gate.now.collector c.options.result c.args.rules.now c.requires.window c.requires.first c.options.ensures in
+    let same = rules_same c.args.gate.now.collector c.options.result c.args.rules.now c.requires.window c.requires.reach c.requires.first c.options.ensures in
     let run = subst (λ (r : ReceiveOptions). GateRun r c.args.gate.now.carry from from' (targets known before) (targets known after) c.gate_one-ended.result) same c.gate_one-ended.ensures.ended in
     rw c.passed.ensures
     (opened_out c.args.rules.now c.args.gate.now.carry to from from' (passed_of c.gate_one-ended.result) a d

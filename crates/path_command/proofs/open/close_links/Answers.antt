@@ -1,13 +1,13 @@
 use Rattle.std.proofs.Common.{rules, ◌≡◌, ℕ, ◌<◌, true, [], ◌∷◌, ◌++◌, List, length, map, slice_index_or, refl, sym, ◌∙◌, ap, arith, append_assoc}
 use Rattle.std.specs.Vec.Iter.{into_iter_items}
-use Rattle.std.proofs.lemmas.List.{length-drop, length-map, get_or-map, append-nil}
+use Rattle.std.proofs.lemmas.List.{length-map, get_or-map, append-nil}
 use Rattle.std.proofs.lemmas.Grind.{common_steps}
 use Rattle.several_links.specs.declared.member.Member.{Member}
-use Rattle.several_links.proofs.CloseLemmas.{next_left, closing_first, close_more, closed_all}
+use Rattle.several_links.proofs.CloseLemmas.{next_left, closing_first, close_more}
 use Rattle.several_links.proofs.BindLemmas.{as_members, member_at, members_many}
 use Rattle.path_command.specs.declared.job.PathJob.{PathJob}
 use Rattle.path_command.specs.Opening.{member_of}
-use Rattle.path_command.proofs.Opening.{itself}
+use Rattle.path_command.proofs.Opening.{itself, closed_over}
 use Rattle.path_command.proofs.open.close_links.Goals as goal
 
 pub loop-job-init : goal.loop-job-init
@@ -57,24 +57,12 @@ returns-then-fits-clause-paths g c =
 
 pub returns-then-fits-clause-closed : goal.returns-then-fits-clause-closed
 returns-then-fits-clause-closed g c =
-    let i = c.loop-job.invariant in
-    let jobs : List (PathJob g.row.G.Denot g.row.D-L.Denot) = c.args.jobs.items in
-    let links : List g.row.D-L.Denot = map (λ job. job.link) jobs in
     let none : into_iter_items c.loop-job.job-iterator ≡ [] = grind (arith, common_steps) in
-    let size = ap length (sym none ∙ i.1) ∙ length-drop c.loop-job.k jobs in
-    let mapped = length-map jobs (λ (j : PathJob g.row.G.Denot g.row.D-L.Denot). j.link) in
-    let sized = members_many itself links in
-    closed_all g.D.L.Link.known (as_members itself links) c.args.addresses.now c.loop-job.k (g.D.Dock.known c.args.dock.now) (g.D.Dock.known c.loop-job.dock)
-    (omega (arith, size, mapped, sized)) i.0
+    closed_over (λ (j : PathJob g.row.G.Denot g.row.D-L.Denot). j.link) g.D.L.Link.known c.args.addresses.now c.args.jobs.items c.loop-job.k (g.D.Dock.known c.args.dock.now) (g.D.Dock.known c.loop-job.dock)
+    (sym none ∙ c.loop-job.invariant.1) c.loop-job.invariant.0
 
 pub returns-clause-closed : goal.returns-clause-closed
 returns-clause-closed g c =
-    let i = c.loop-job.invariant in
-    let jobs : List (PathJob g.row.G.Denot g.row.D-L.Denot) = c.args.jobs.items in
-    let links : List g.row.D-L.Denot = map (λ job. job.link) jobs in
     let none : into_iter_items c.loop-job.job-iterator ≡ [] = grind (arith, common_steps) in
-    let size = ap length (sym none ∙ i.1) ∙ length-drop c.loop-job.k jobs in
-    let mapped = length-map jobs (λ (j : PathJob g.row.G.Denot g.row.D-L.Denot). j.link) in
-    let sized = members_many itself links in
-    closed_all g.D.L.Link.known (as_members itself links) c.args.addresses.now c.loop-job.k (g.D.Dock.known c.args.dock.now) (g.D.Dock.known c.loop-job.dock)
-    (omega (arith, size, mapped, sized)) i.0
+    closed_over (λ (j : PathJob g.row.G.Denot g.row.D-L.Denot). j.link) g.D.L.Link.known c.args.addresses.now c.args.jobs.items c.loop-job.k (g.D.Dock.known c.args.dock.now) (g.D.Dock.known c.loop-job.dock)
+    (sym none ∙ c.loop-job.invariant.1) c.loop-job.invariant.0

@@ -5,4 +5,4 @@ abbrev pub ghosts-both_take_it-G-Ledger : goal.ghosts-both_take_it-G-Ledger
 ghosts-both_take_it-G-Ledger g a = record { name = a.blank.name; parts = a.blank.parts }
 
 abbrev pub ghosts-both_take_it-G-Road : goal.ghosts-both_take_it-G-Road
-ghosts-both_take_it-G-Road g a = record { window = 8; first = Some 0; frames = Some 3 }
+ghosts-both_take_it-G-Road g a = record { window = 8; reach = 32767; first = Some 0; frames = Some 3 }

@@ -19,8 +19,9 @@ returns-in-Some c =
     (record {
       addresses = c.in-Some.addresses.now;
       window = option_map (λ s. s.now) c.get_str-window.result;
+      reach = option_map (λ s. s.now) c.get_str-reach.result;
       first = option_map (λ s. s.now) c.get_str-first.result;
       frames = option_map (λ s. s.now) c.get_str-frames.result;
       idle = option_map (λ s. s.now) c.get_str-idle.result;
       limit = option_map (λ s. s.now) c.get_str-limit.result;
-    }) (ap (option_map (λ s. s.now)) (sym c.in-Some.is) ∙ c.get_str.ensures) c.get_str-window.ensures c.get_str-first.ensures c.get_str-frames.ensures c.get_str-idle.ensures c.get_str-limit.ensures
+    }) (ap (option_map (λ s. s.now)) (sym c.in-Some.is) ∙ c.get_str.ensures) c.get_str-window.ensures c.get_str-reach.ensures c.get_str-first.ensures c.get_str-frames.ensures c.get_str-idle.ensures c.get_str-limit.ensures
