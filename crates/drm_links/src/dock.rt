@@ -5,7 +5,7 @@ ghost use Rattle.drm_links.specs.Told.{Known, HasCause, CountsCall, WhileTold};
 ghost use Rattle.drm_links.specs.Dock.{DockContents, Binds, Reaches, Closes, IsFresh, IsFailed};
 
 use crate::Link;
-use owned_items::Items;
+use drm_lists::Items;
 
 /// An IPv4 address, the first byte as it is written first, and a port.
 #[derive(Clone, Copy, Debug, PartialEq, Eq)]

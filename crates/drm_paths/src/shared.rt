@@ -7,7 +7,7 @@ ghost use Rattle.drm_paths.specs.declared.shared.Given.{Given};
 
 use crate::{Book, Path, Road};
 use drm_bits::NoMemory;
-use owned_items::Items;
+use drm_lists::Items;
 use path_book::{Event, Journal, Settings};
 use std::alloc::Global;
 use std::sync::ledger::Blank;

@@ -6,7 +6,7 @@ ghost use Rattle.drm_schedule.specs.InForce.{entities_in_force, first_entities};
 use crate::{Blocks, Stream};
 use drm_fac::{Mode, Service};
 use drm_sdc::Entity;
-use owned_items::Items;
+use drm_lists::Items;
 
 /// The services of a configuration, in the order of their lines.
 pub type Services = Items<Service>;

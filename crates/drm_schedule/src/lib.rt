@@ -24,7 +24,7 @@ pub use drm_sdc::{AppMode, Body, Channel15, Channels, Entities, Entity, MuxDesc,
 pub use invalid::{Invalid, Place, Reason};
 pub use laws::{entities_can_be_written, one_is_in_force};
 pub use live::Live;
-pub use owned_items::Items;
+pub use drm_lists::Items;
 pub use plan::{MOST_FRAMES, Plan};
 pub use schedule::Schedule;
 pub use sizes::{entity_len, free_len, packet_len};

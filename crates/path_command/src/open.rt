@@ -10,7 +10,7 @@ use crate::job::{PathJob, Seat, job_for};
 use drm_bits::NoMemory;
 use drm_links::{Addresses, Dock, Link, LinkFault, Opened};
 use drm_paths::{Path, Paths, Road};
-use owned_items::Items;
+use drm_lists::Items;
 use std::alloc::Global;
 
 /// Takes the memory for jobs at these addresses.

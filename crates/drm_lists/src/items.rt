@@ -22,7 +22,7 @@ impl<T> Model for Items<T> {
 
 impl<T: Drop> Items<T> {
     ghost use Rattle.std.specs.Borrow.{sem};
-    ghost use Rattle.owned_items.specs.Items.{lends_item};
+    ghost use Rattle.drm_lists.specs.Items.{lends_item};
 
     /// No value.
     pub fn new(alloc: Global) -> Items<T>
