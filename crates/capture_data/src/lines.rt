@@ -3,7 +3,7 @@
 ghost use Rattle.std.specs.Prelude.{◌≡◌};
 ghost use Rattle.std.specs.List.{flat_map};
 ghost use Rattle.drm_links.specs.Sink.{Writes};
-ghost use Rattle.text_pieces.specs.Text.{text_of};
+ghost use Rattle.text_output.specs.Text.{text_of};
 ghost use Rattle.drm_data.specs.Joining.{told};
 ghost use Rattle.capture_data.specs.Lines.{unit_line, cut_line, answer_text, is_escaped, escaped, text_line, units_end, units_end_text, texts_end, texts_end_text};
 
@@ -11,7 +11,7 @@ use crate::counts::Counts;
 use drm_data::Joined;
 use drm_links::{Sink, WriteFault, write_all};
 use itoa::Buffer;
-use text_pieces::{Piece, write_pieces};
+use text_output::{Piece, write_pieces};
 
 /// Writes what is printed of a joiner's answer.
 pub(crate) fn write_answer<O: Sink>(out: &mut O, said: &Joined<'_>) -> Result<(), WriteFault>

@@ -10,7 +10,7 @@ use dcp_collect::Taken;
 use drm_links::{Sink, WriteFault};
 use mod_feed::FeedItem;
 use report_lines::Sums;
-use text_pieces::{Piece, write_pieces};
+use text_output::{Piece, write_pieces};
 
 /// The numbers of a report's end line, and how many datagrams were kept, repeated and late.
 #[derive(Clone, Copy, Debug, PartialEq, Eq)]

@@ -7,7 +7,7 @@ ghost use Rattle.drm_links.specs.Sink.{Writes};
 ghost use Rattle.drm_exercise.specs.Exercise as exercise;
 
 use drm_links::{Sink, WriteFault};
-use text_pieces::{Piece, write_pieces};
+use text_output::{Piece, write_pieces};
 
 /// Writes the line of an exercise of this size in which so many datagrams were delivered, and this was reported, with this
 /// check value.

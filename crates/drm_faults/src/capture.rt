@@ -2,10 +2,10 @@
 
 ghost use Rattle.std.specs.Prelude.{◌≡◌};
 ghost use Rattle.drm_faults.specs.Captures.{capture_line, field_word};
-ghost use Rattle.text_pieces.specs.Text.{text_of};
+ghost use Rattle.text_output.specs.Text.{text_of};
 
 use drm_capture::{CaptureFault, CaptureField};
-use text_pieces::Piece;
+use text_output::Piece;
 
 /// The line of a fault at a byte of a capture.
 pub fn capture_pieces(fault: CaptureFault) -> [Piece<'static>; 5]

@@ -2,7 +2,7 @@
 
 ghost use Rattle.std.specs.Prelude.{◌≡◌};
 ghost use Rattle.drm_links.specs.Sink.{Writes};
-ghost use Rattle.text_pieces.specs.Text.{text_of};
+ghost use Rattle.text_output.specs.Text.{text_of};
 ghost use Rattle.drm_faults.specs.CrcLine.{crc_line};
 
 use crate::capture::capture_pieces;
@@ -13,7 +13,7 @@ use drm_capture::{CaptureFault, CaptureStop};
 use drm_fac::FacFault;
 use drm_links::{LinkFault, Sink, Status, WriteFault, write_all};
 use drm_schedule::Reason;
-use text_pieces::{Piece, write_pieces};
+use text_output::{Piece, write_pieces};
 
 /// A fault of a run. Each has a status and a line.
 #[derive(Clone, Copy, Debug, PartialEq, Eq)]

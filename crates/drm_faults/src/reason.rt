@@ -2,10 +2,10 @@
 
 ghost use Rattle.std.specs.Prelude.{◌≡◌};
 ghost use Rattle.drm_faults.specs.Reasons.{reason_word, reason_line, schedule_line, script_line};
-ghost use Rattle.text_pieces.specs.Text.{text_of};
+ghost use Rattle.text_output.specs.Text.{text_of};
 
 use drm_schedule::Reason;
-use text_pieces::Piece;
+use text_output::Piece;
 
 /// The line of a fault in a line of a schedule's text.
 pub fn schedule_pieces(line: u32, reason: Reason) -> [Piece<'static>; 5]

@@ -2,9 +2,9 @@
 
 ghost use Rattle.std.specs.Prelude.{◌≡◌};
 ghost use Rattle.drm_faults.specs.Units.{units_line, units_word};
-ghost use Rattle.text_pieces.specs.Text.{text_of};
+ghost use Rattle.text_output.specs.Text.{text_of};
 
-use text_pieces::Piece;
+use text_output::Piece;
 
 /// Why an input isn't a list of units.
 #[derive(Clone, Copy, Debug, PartialEq, Eq)]

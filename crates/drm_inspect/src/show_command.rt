@@ -9,7 +9,7 @@ use drm_faults::Fault;
 use drm_links::{Sink, Source, write_all};
 use packet_lines::{ShowFault, one_text, write_end_packets, write_packet};
 use std::alloc::Global;
-use text_pieces::Lines;
+use text_output::Lines;
 
 /// Writes what is in each packet of a capture, as its bytes come. Answers whether no line says that something is bad.
 pub fn show<I: Source, O: Sink>(alloc: Global, input: &mut I, out: &mut O) -> Result<bool, Fault>

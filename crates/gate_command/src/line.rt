@@ -6,7 +6,7 @@ ghost use Rattle.gate_command.specs.Line as line;
 
 use drm_gate::Tally;
 use drm_links::{Sink, WriteFault};
-use text_pieces::{Piece, write_pieces};
+use text_output::{Piece, write_pieces};
 
 /// Writes what was counted.
 pub(crate) fn write_tally<O: Sink>(out: &mut O, tally: &Tally) -> Result<(), WriteFault>

@@ -9,7 +9,7 @@ use Rattle.dcp_collect.specs.Runs.{Item, IsItem, Run, up_to}
 use Rattle.drm_switches.specs.Tracker.{TrackerState, new_tracker}
 use Rattle.mod_feed.specs.Feeding.{FeedStep, IsStep, Feeds, after_step}
 use Rattle.report_lines.specs.Report.{step_text}
-use Rattle.text_pieces.specs.Gathering.{Puts}
+use Rattle.text_output.specs.Gathering.{Puts}
 use Rattle.recv_reading.specs.declared.options.ReceiveOptions.{ReceiveOptions}
 use Rattle.recv_reading.specs.declared.reason.EndWord.{EndWord}
 use Rattle.recv_reading.specs.declared.source.SourceFault.{SourceFault}

@@ -2,12 +2,12 @@
 
 ghost use Rattle.std.specs.Prelude.{◌≡◌, ◌++◌};
 ghost use Rattle.drm_links.specs.Sink.{Writes};
-ghost use Rattle.text_pieces.specs.Text.{piece_text, text_of};
+ghost use Rattle.text_output.specs.Text.{piece_text, text_of};
 ghost use Rattle.packet_lines.specs.Lines.{bad_line};
 
 use drm_links::{Sink, WriteFault};
 use report_lines::FaultWords;
-use text_pieces::{Piece, write_pieces};
+use text_output::{Piece, write_pieces};
 
 /// Words with nothing behind them.
 pub(crate) fn plain(words: &'static str) -> FaultWords

@@ -15,7 +15,7 @@ use drm_bits::Bits;
 use drm_links::{Sink, WriteFault, write_all};
 use mdi_items::SdcSpan;
 use report_lines::{block_bits, digit, write_digits};
-use text_pieces::{Piece, write_pieces};
+use text_output::{Piece, write_pieces};
 
 /// Writes a line for each entity of the block, and one for its tail.
 pub(crate) fn write_block<O: Sink>(

@@ -4,7 +4,7 @@ ghost use Rattle.drm_links.specs.Sink.{Writes};
 ghost use Rattle.packet_lines.specs.Lines.{end_packets_line};
 
 use drm_links::{Sink, WriteFault};
-use text_pieces::{Piece, write_pieces};
+use text_output::{Piece, write_pieces};
 
 /// Writes how many packets a capture has, and how many bytes.
 pub fn write_end_packets<O: Sink>(out: &mut O, packets: u64, bytes: u64) -> Result<(), WriteFault>

@@ -3,12 +3,12 @@
 ghost use Rattle.std.specs.Prelude.{◌≡◌, ◌++◌, codes};
 ghost use Rattle.drm_links.specs.Sink.{Writes};
 ghost use Rattle.dcp_pft.specs.Reading.{pft_of};
-ghost use Rattle.text_pieces.specs.Text.{piece_text, text_of};
+ghost use Rattle.text_output.specs.Text.{piece_text, text_of};
 ghost use Rattle.packet_lines.specs.Lines.{fragment_line, two_numbers, code_text, addr_text};
 
 use dcp_pft::{Addr, Fragment, Rs};
 use drm_links::{Sink, WriteFault};
-use text_pieces::{Piece, write_pieces};
+use text_output::{Piece, write_pieces};
 
 const PIECES: usize = 19;
 

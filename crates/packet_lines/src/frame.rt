@@ -17,7 +17,7 @@ use drm_fac::Fac;
 use drm_links::{Sink, WriteFault, write_all};
 use mdi_items::MdiView;
 use report_lines::write_fac;
-use text_pieces::{Piece, write_pieces};
+use text_output::{Piece, write_pieces};
 
 /// Writes the lines of a frame, with those of its block where it has one.
 pub(crate) fn write_frame<O: Sink>(out: &mut O, view: &MdiView<'_>) -> Result<(), WriteFault>

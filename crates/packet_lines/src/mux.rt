@@ -8,7 +8,7 @@ ghost use Rattle.packet_lines.specs.Lines.{mux_line, protection_text, part_text}
 
 use drm_links::{Sink, WriteFault, write_all};
 use drm_mux::{MuxDesc, Part};
-use text_pieces::{Piece, write_pieces};
+use text_output::{Piece, write_pieces};
 
 /// Writes the protections, and the lengths of the parts of each stream.
 pub(crate) fn write_mux<O: Sink>(out: &mut O, mux: &MuxDesc) -> Result<(), WriteFault>

@@ -12,7 +12,7 @@ ghost use Rattle.packet_lines.specs.Text.{items_text};
 
 use dcp_tag::{Item, Items};
 use drm_links::{Sink, WriteFault, write_all};
-use text_pieces::{Piece, write_pieces};
+use text_output::{Piece, write_pieces};
 
 /// Writes a line for each item, up to one that goes past the end of the payload.
 pub(crate) fn write_tags<O: Sink>(out: &mut O, payload: &[u8]) -> Result<(), WriteFault>

@@ -10,7 +10,7 @@ ghost use Rattle.mdi_items.specs.Frame.{frame_of};
 ghost use Rattle.mdi_items.specs.Mdi.{IsMdi};
 ghost use Rattle.mdi_items.specs.View.{IsWholeView};
 ghost use Rattle.report_lines.specs.FaultWords.{mdi_words};
-ghost use Rattle.text_pieces.specs.Text.{piece_text};
+ghost use Rattle.text_output.specs.Text.{piece_text};
 ghost use Rattle.packet_lines.specs.Content.{AreItems, IsBlockOf};
 ghost use Rattle.packet_lines.specs.Lines.{af_line, bad_line};
 ghost use Rattle.packet_lines.specs.Text.{front_text, frame_text};
@@ -24,7 +24,7 @@ use dcp_af::{Af, read_af};
 use drm_links::{Sink, WriteFault};
 use mdi_items::{MdiFault, MdiView, read_mdi};
 use report_lines::{af_words, mdi_words};
-use text_pieces::{Piece, write_pieces};
+use text_output::{Piece, write_pieces};
 
 /// Writes the lines of the AF packet at a byte of the capture.
 pub(crate) fn write_af<O: Sink>(out: &mut O, at: u64, bytes: &[u8]) -> Result<bool, ShowFault>

@@ -5,7 +5,7 @@ ghost use Rattle.drm_links.specs.Sink.{Writes};
 
 use drm_bits::NoMemory;
 use drm_links::{Sink, Status, WriteFault, write_all};
-use text_pieces::{Piece, write_pieces};
+use text_output::{Piece, write_pieces};
 
 /// A fault of a run. Each has a status and a line.
 #[derive(Clone, Copy, Debug, PartialEq, Eq)]

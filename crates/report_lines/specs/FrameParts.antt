@@ -3,7 +3,7 @@ use Rattle.std.specs.Prelude.{ℕ, List}
 use Rattle.mdi_items.specs.Frame.{Frame}
 use Rattle.report_lines.specs.declared.frame_line.Part.{Part}
 use Rattle.report_lines.specs.declared.frame_line.Part.TheVariants.{Text, Block, Description, Streams}
-use Rattle.text_pieces.specs.Text.{piece_text}
+use Rattle.text_output.specs.Text.{piece_text}
 use Rattle.report_lines.specs.FrameLine.{block_text, description_text, frame_bytes, bytes_text}
 
 -- the text of a part, in the line of this frame

@@ -6,12 +6,12 @@ ghost use Rattle.hex.specs.Hex.{encode_lower};
 ghost use Rattle.drm_links.specs.Sink.{Writes};
 ghost use Rattle.drm_fac.specs.Fac.{FacFits};
 ghost use Rattle.drm_fac.specs.Services.{counts_of};
-ghost use Rattle.text_pieces.specs.Text.{piece_text, text_of};
+ghost use Rattle.text_output.specs.Text.{piece_text, text_of};
 ghost use Rattle.report_lines.specs.FacLine.{fac_line, id_digits, services_text};
 
 use drm_fac::{Fac, counts};
 use drm_links::{Sink, WriteFault};
-use text_pieces::{Piece, write_pieces};
+use text_output::{Piece, write_pieces};
 
 /// Writes the line of a FAC.
 #[tactic(auto, unfolding(crate::specs::FacLine::id_digits))]

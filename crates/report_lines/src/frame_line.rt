@@ -15,7 +15,7 @@ use Part::Text;
 use Piece::{Hex, Number, Words};
 use drm_links::{Sink, WriteFault};
 use mdi_items::MdiView;
-use text_pieces::{Piece, write_piece};
+use text_output::{Piece, write_piece};
 
 /// Writes the line of a frame.
 pub(crate) fn write_frame<O: Sink>(

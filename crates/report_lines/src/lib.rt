@@ -24,5 +24,5 @@ pub use line_writer::LineWriter;
 pub use recv_reading::EndWord;
 pub use report::{Sums, write_end, write_feed, write_refused};
 pub use step::write_step;
-pub use text_pieces::{Piece, write_pieces};
+pub use text_output::{Piece, write_pieces};
 pub use words::{FaultWords, af_words, mdi_words, pft_words};

@@ -5,7 +5,7 @@ ghost use Rattle.mod_feed.specs.Items.{IsRead};
 ghost use Rattle.mod_feed.specs.Feeding.{step_of};
 ghost use Rattle.report_lines.specs.Report.{step_text};
 ghost use Rattle.drm_links.specs.Sink.{Writes};
-ghost use Rattle.text_pieces.specs.Gathering.{Puts, Flushes};
+ghost use Rattle.text_output.specs.Gathering.{Puts, Flushes};
 
 use crate::step::write_step;
 use drm_bits::NoMemory;
@@ -13,7 +13,7 @@ use drm_links::{Sink, WriteFault, write_all};
 use mod_feed::Step;
 use std::alloc::Global;
 use std::marker::Model;
-use text_pieces::{Gathered, Lines};
+use text_output::{Gathered, Lines};
 
 /// Writes the lines of items. Those of one item are put together, so that they go out in one call, and short ones are gathered until
 /// they are flushed. All its memory is taken where it is made.

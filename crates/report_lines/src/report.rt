@@ -9,7 +9,7 @@ use crate::words::taken_words;
 use dcp_collect::Taken;
 use drm_links::{Sink, WriteFault};
 use recv_reading::EndWord;
-use text_pieces::{Piece, write_pieces};
+use text_output::{Piece, write_pieces};
 
 /// How many items of each kind a report tells, and how many datagrams were refused or disagreed.
 #[derive(Clone, Copy, Debug, PartialEq, Eq)]

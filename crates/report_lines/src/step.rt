@@ -4,7 +4,7 @@ ghost use Rattle.std.specs.Prelude.{◌≡◌};
 ghost use Rattle.drm_links.specs.Sink.{Writes};
 ghost use Rattle.mod_feed.specs.Items.{item_of, IsRead};
 ghost use Rattle.mod_feed.specs.Feeding.{step_of};
-ghost use Rattle.text_pieces.specs.Text.{text_of};
+ghost use Rattle.text_output.specs.Text.{text_of};
 ghost use Rattle.report_lines.specs.Report.{before_line, missing_line, bad_line, item_line, step_text};
 
 use crate::frame_line::write_frame;
@@ -12,7 +12,7 @@ use crate::words::bad_words;
 use drm_links::{Sink, WriteFault};
 use drm_switches::Before;
 use mod_feed::{BadFault, FeedItem, Step};
-use text_pieces::{Piece, write_pieces};
+use text_output::{Piece, write_pieces};
 
 /// Writes the line of an item, behind that of the switch that stands before it.
 pub fn write_step<O: Sink>(out: &mut O, step: &Step<'_>) -> Result<(), WriteFault>

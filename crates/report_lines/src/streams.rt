@@ -8,7 +8,7 @@ ghost use Rattle.report_lines.specs.FrameLine.{bytes_text};
 
 use drm_links::{Sink, WriteFault, write_all};
 use drm_mux::{MuxDesc, Spans, frame_len, range};
-use text_pieces::write_hex;
+use text_output::write_hex;
 
 /// Writes the digits of the multiplex frame.
 pub(crate) fn write_streams<O: Sink>(

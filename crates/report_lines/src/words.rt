@@ -1,7 +1,7 @@
 //! The words for what is wrong: a layer, and a field of it.
 
 ghost use Rattle.std.specs.Prelude.{◌≡◌, ◌++◌};
-ghost use Rattle.text_pieces.specs.Text.{piece_text};
+ghost use Rattle.text_output.specs.Text.{piece_text};
 ghost use Rattle.report_lines.specs.FaultWords.{af_words, pft_words, sdc_words, mux_words, mdi_words, bad_words, field_words, taken_words};
 
 use dcp_af::AfFault;
@@ -11,7 +11,7 @@ use drm_mux::MuxFault;
 use drm_sdc::SdcFault;
 use mdi_items::MdiFault;
 use mod_feed::BadFault;
-use text_pieces::Piece;
+use text_output::Piece;
 
 /// A layer and a field, and what stands behind the field's colon.
 pub type FaultWords = (Piece<'static>, Piece<'static>);

@@ -1,5 +1,5 @@
 use Rattle.std.proofs.lemmas.Result.{err_from_is_err_and}
-use Rattle.text_pieces.proofs.TextLemmas.{next_broken}
+use Rattle.text_output.proofs.TextLemmas.{next_broken}
 use Rattle.capture_data.specs.Lines.{escaped}
 use Rattle.capture_data.proofs.lines.write_escaped.Goals as goal
 

@@ -1,7 +1,7 @@
 use Rattle.std.proofs.Common.{◌∙◌, ap, subst}
 use Rattle.std.proofs.lemmas.Result.{err_from_is_err_and}
 use Rattle.drm_links.specs.Sink.{Writes}
-use Rattle.text_pieces.proofs.TextLemmas.{next_broken}
+use Rattle.text_output.proofs.TextLemmas.{next_broken}
 use Rattle.mod_receiver.specs.Jobs.{text_of}
 use Rattle.mod_receiver.specs.declared.job.Job.{Job}
 use Rattle.mod_receiver.proofs.job.write_texts.Goals as goal

@@ -3,7 +3,7 @@ use Rattle.std.proofs.lemmas.Result.{err_from_is_err_and}
 use Rattle.drm_links.proofs.ToldLemmas.{done_counts}
 use Rattle.drm_links.proofs.WritingLemmas.{Writes-done, Writes-front}
 use Rattle.recv_reading.proofs.Common.{Answer, State, after_item, options_of, Reached}
-use Rattle.text_pieces.proofs.GatheringLemmas.{put_done, put_failed}
+use Rattle.text_output.proofs.GatheringLemmas.{put_done, put_failed}
 use Rattle.recv_reading.specs.declared.source.SourceFault.{SourceFault}
 use Rattle.recv_reading.proofs.Finishing.{gives_so}
 use Rattle.recv_reading.proofs.Looping.{loop_none, rests_over, rests_waiting, loop_rests}

@@ -1,5 +1,5 @@
 use Rattle.std.proofs.lemmas.Result.{err_from_is_err_and}
-use Rattle.text_pieces.proofs.TextLemmas.{next_broken}
+use Rattle.text_output.proofs.TextLemmas.{next_broken}
 use Rattle.packet_lines.specs.Lines.{name_byte}
 use Rattle.packet_lines.proofs.tags.write_name.Goals as goal
 

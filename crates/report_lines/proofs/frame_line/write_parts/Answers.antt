@@ -1,6 +1,6 @@
 use Rattle.std.proofs.lemmas.Result.{err_from_is_err_and}
 use Rattle.mdi_items.specs.Frame.{frame_of}
-use Rattle.text_pieces.proofs.TextLemmas.{next_broken}
+use Rattle.text_output.proofs.TextLemmas.{next_broken}
 use Rattle.report_lines.specs.FrameParts.{part_text}
 use Rattle.report_lines.proofs.frame_line.write_parts.Goals as goal
 

@@ -9,7 +9,7 @@ use Rattle.report_lines.specs.FrameLine.{bytes_text}
 use Rattle.drm_mux.specs.Frame.{multiplex_frame, streams_in}
 use Rattle.drm_mux.specs.Ranges.{ranges}
 use Rattle.drm_mux.proofs.RangeLemmas.{cut, frame_cut, length-ranges}
-use Rattle.text_pieces.proofs.TextLemmas.{digits_parts}
+use Rattle.text_output.proofs.TextLemmas.{digits_parts}
 use Rattle.report_lines.proofs.StreamLemmas.{length-frame, dash_written, some_bytes, one_part, all_parts}
 use Rattle.report_lines.proofs.streams.write_streams.Goals as goal
 

@@ -1,9 +1,0 @@
-use Rattle.std.proofs.Common.{refl}
-use Rattle.text_pieces.proofs.Pairs.{turns_are_pairs}
-use Rattle.text_pieces.proofs.digits.pairs.Goals as goal
-
-pub returns-clause-turns : goal.returns-clause-turns
-returns-clause-turns c = turns_are_pairs c.args.first c.args.second c.fits-first.0 c.fits-second.0
-
-pub returns-clause-long : goal.returns-clause-long
-returns-clause-long c = (refl, refl)
