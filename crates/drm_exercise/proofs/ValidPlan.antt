@@ -11,7 +11,7 @@ use Rattle.drm_schedule.specs.declared.plan.Plan.{Plan}
 use Rattle.drm_schedule.specs.InForce.{first_entities, entities_of_last}
 use Rattle.drm_schedule.specs.Sizes.{told_with, free_bytes}
 use Rattle.drm_schedule.specs.Announcement.{announced, free_in_countdown, lacks_announcement}
-use Rattle.block_packing.specs.Packing.{can_be_packed}
+use Rattle.plan_packing.specs.Packing.{can_be_packed}
 use Rattle.drm_schedule.specs.Ranges.{InLines, ConfigInLines, ServiceInLines, StreamInLines, EntityInLines, TimedInLines}
 use Rattle.drm_schedule.specs.Valid.{rows, first_fault, first_of, first_invalid_from, first_invalid}
 use Rattle.drm_exercise.specs.Exercise.{config, plan}

@@ -10,7 +10,7 @@ use Rattle.drm_schedule.specs.declared.config.Config.{Config}
 use Rattle.drm_schedule.specs.InForce.{first_entities}
 use Rattle.drm_schedule.specs.SameLines.{those_of}
 use Rattle.drm_schedule.specs.Sizes.{description_size, free_bytes}
-use Rattle.block_packing.specs.Packing.{can_be_packed}
+use Rattle.plan_packing.specs.Packing.{can_be_packed}
 
 -- the entities of the lines that an announcement repeats, in its order
 abbrev pub repeated_of : Repeated → Config → List Entity

@@ -6,14 +6,14 @@ ghost use Rattle.drm_sdc.specs.Entity.{entity_size};
 ghost use Rattle.drm_schedule.specs.Ranges.{EntityInLines, ConfigInLines};
 ghost use Rattle.drm_schedule.specs.InForce.{first_entities};
 ghost use Rattle.drm_schedule.specs.Sizes.{description_size, free_bytes};
-ghost use Rattle.block_packing.specs.Packing as packing;
-ghost use Rattle.block_packing.specs.Packing.{last_spot};
+ghost use Rattle.plan_packing.specs.Packing as packing;
+ghost use Rattle.plan_packing.specs.Packing.{last_spot};
 ghost use Rattle.drm_schedule.specs.Announcement as announcement;
 ghost use Rattle.drm_schedule.specs.Announcement.{repeated_of, all_repeated, parameters_size};
 
 use crate::sizes::{entity_len, free_len};
 use crate::{Body, Config, Entity};
-use block_packing::Spot;
+use plan_packing::Spot;
 
 /// The entities of the lines that an announcement repeats.
 #[derive(Clone, Copy)]

@@ -16,7 +16,7 @@ mod timed;
 mod valid;
 
 pub use announcement::{Repeated, free_in_countdown};
-pub use block_packing::{Spot, can_be_packed};
+pub use plan_packing::{Spot, can_be_packed};
 pub use config::{Clock, Config, Configs, Services, Streams};
 pub use dcp_pft::Carry;
 pub use drm_fac::{Mode, Service};

@@ -12,12 +12,12 @@ use Rattle.drm_sdc.specs.declared.entity.Entity.{Entity}
 use Rattle.drm_sdc.specs.Entity.{entity_size}
 use Rattle.drm_sdc.specs.Writing.{total_size}
 use Rattle.drm_schedule.specs.declared.config.Config.{Config}
-use Rattle.block_packing.specs.declared.packing.Spot.{Spot}
+use Rattle.plan_packing.specs.declared.packing.Spot.{Spot}
 use Rattle.drm_schedule.specs.declared.announcement.Repeated.TheVariants.{Audio, App}
 use Rattle.drm_schedule.specs.Sizes.{description_size, free_bytes}
-use Rattle.block_packing.specs.Packing.{chain, placed, last_spot, front}
+use Rattle.plan_packing.specs.Packing.{chain, placed, last_spot, front}
 use Rattle.drm_schedule.specs.Announcement.{repeated_of, announced, parameters_size, countdown_start, free_in_countdown, can_be_announced}
-use Rattle.block_packing.proofs.PackingLemmas.{last_spot-append, last_is_packed}
+use Rattle.plan_packing.proofs.PackingLemmas.{last_spot-append, last_is_packed}
 use Rattle.drm_timeline.specs.Standing.{is_counting}
 use Rattle.drm_timeline.specs.FastAccess.{services_of}
 use Rattle.drm_timeline.specs.Description.{description_of, parameters_of}

@@ -11,11 +11,11 @@ use Rattle.drm_sdc.specs.Entity.{EntityFits, entity_fields, entity_size}
 use Rattle.drm_bits.specs.Sink.{Wrote}
 use Rattle.drm_sdc.specs.Writing.{entity_bits, total_size}
 use Rattle.drm_bits.proofs.WroteLemmas.{then as behind, wrote_none}
-use Rattle.block_packing.specs.declared.packing.Spot.{Spot}
+use Rattle.plan_packing.specs.declared.packing.Spot.{Spot}
 use Rattle.drm_schedule.specs.declared.announcement.Repeated.{Repeated}
 use Rattle.drm_schedule.specs.SameLines.{is_of}
-use Rattle.block_packing.specs.Packing.{chain, first_that_holds, placed, packed, last_spot}
-use Rattle.block_packing.proofs.PackingLemmas.{last_is_packed, last_spot-append}
+use Rattle.plan_packing.specs.Packing.{chain, first_that_holds, placed, packed, last_spot}
+use Rattle.plan_packing.proofs.PackingLemmas.{last_is_packed, last_spot-append}
 use Rattle.drm_timeline.specs.Announcing.{as_next, those_in, by_frames, packed_in, left_in}
 use Rattle.drm_timeline.specs.Telling.{WroteEntities}
 

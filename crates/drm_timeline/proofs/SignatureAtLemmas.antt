@@ -8,7 +8,7 @@ use Rattle.drm_fac.specs.Pattern.{order_of, service_at}
 use Rattle.drm_fac.proofs.OrderLemmas.{round}
 use Rattle.drm_schedule.specs.declared.config.Config.{Config}
 use Rattle.drm_schedule.specs.declared.plan.Plan.{Plan}
-use Rattle.block_packing.specs.Packing.{chain}
+use Rattle.plan_packing.specs.Packing.{chain}
 use Rattle.drm_schedule.specs.Ranges.{ConfigInLines}
 use Rattle.drm_schedule.specs.Valid.{AreFaultless}
 use Rattle.drm_switches.specs.declared.seen.Signature.{Signature}

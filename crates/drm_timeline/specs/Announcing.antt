@@ -5,8 +5,8 @@ use Rattle.drm_sdc.specs.declared.body.Body.TheVariants.{Mux}
 use Rattle.drm_sdc.specs.declared.entity.Entity.{Entity}
 use Rattle.drm_sdc.specs.Entity.{entity_size}
 use Rattle.drm_schedule.specs.declared.config.Config.{Config}
-use Rattle.block_packing.specs.declared.packing.Spot.{Spot}
-use Rattle.block_packing.specs.Packing.{packed, front}
+use Rattle.plan_packing.specs.declared.packing.Spot.{Spot}
+use Rattle.plan_packing.specs.Packing.{packed, front}
 use Rattle.drm_schedule.specs.Announcement.{all_repeated, countdown_start, free_in_countdown}
 use Rattle.drm_timeline.specs.Description.{description_of, parameters_of}
 

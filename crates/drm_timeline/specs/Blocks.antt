@@ -10,7 +10,7 @@ use Rattle.drm_schedule.specs.declared.config.Config.{Config}
 use Rattle.drm_schedule.specs.declared.plan.Plan.{Plan}
 use Rattle.drm_schedule.specs.InForce.{entities_in_force}
 use Rattle.drm_schedule.specs.Sizes.{tells_clock}
-use Rattle.block_packing.specs.Packing.{chain}
+use Rattle.plan_packing.specs.Packing.{chain}
 use Rattle.drm_timeline.specs.Standing.{config_of, announced_in}
 use Rattle.drm_timeline.specs.Description.{description_of, moment_of}
 use Rattle.drm_timeline.specs.Announcing.{announced_by}

@@ -9,7 +9,7 @@ use Rattle.drm_fac.specs.Services.{code_of}
 use Rattle.drm_fac.specs.Pattern as pattern
 use Rattle.drm_schedule.specs.declared.config.Config.{Config}
 use Rattle.drm_schedule.specs.declared.plan.Plan.{Plan}
-use Rattle.block_packing.specs.Packing.{chain}
+use Rattle.plan_packing.specs.Packing.{chain}
 use Rattle.drm_timeline.specs.Standing.{config_of, index_of}
 
 -- whether a service is a data service, or is none

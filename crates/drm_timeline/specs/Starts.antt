@@ -2,7 +2,7 @@
 use Rattle.std.specs.Prelude.{ℕ, ◌≡◌, ◌≢◌, ◌+◌, ◌-◌, ◌*◌, ◌/◌, ◌%◌, ◌<◌, ◌≤◌, List, All, Contains, length, drop, map, option_map, IsSome, Option, Some}
 use Rattle.drm_schedule.specs.declared.config.Config.{Config}
 use Rattle.drm_schedule.specs.declared.plan.Plan.{Plan}
-use Rattle.block_packing.specs.Packing.{chain}
+use Rattle.plan_packing.specs.Packing.{chain}
 use Rattle.drm_switches.specs.declared.seen.Seen.{Seen}
 use Rattle.drm_switches.specs.declared.seen.Signature.{Signature}
 use Rattle.drm_timeline.specs.Standing.{config_of, index_of}

@@ -5,7 +5,7 @@ ghost use Rattle.std.specs.List.{find, last_or};
 ghost use Rattle.std.specs.Option.{option_copied};
 ghost use Rattle.dcp_pft.specs.Limits.{most_packet};
 ghost use Rattle.drm_schedule.specs.Ranges.{ConfigInLines};
-ghost use Rattle.block_packing.specs.Packing.{chain};
+ghost use Rattle.plan_packing.specs.Packing.{chain};
 ghost use Rattle.drm_schedule.specs.declared.config.Config.{Config};
 ghost use Rattle.drm_schedule.specs.Announcement.{can_be_announced};
 ghost use Rattle.drm_schedule.specs.Sizes.{HasRoom, packet_len};

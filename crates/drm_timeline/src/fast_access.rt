@@ -4,7 +4,7 @@ ghost use Rattle.std.specs.Prelude.{◌≡◌, ◌*◌, ◌/◌, ◌%◌, ◌==�
 ghost use Rattle.drm_fac.specs.Fac.{FacFits};
 ghost use Rattle.drm_fac.specs.Pattern.{service_at};
 ghost use Rattle.drm_schedule.specs.Ranges.{ConfigInLines, ServiceInLines};
-ghost use Rattle.block_packing.specs.Packing.{chain};
+ghost use Rattle.plan_packing.specs.Packing.{chain};
 ghost use Rattle.drm_timeline.specs.Standing.{config_of};
 ghost use Rattle.drm_timeline.specs.FastAccess as fast_access;
 ghost use Rattle.drm_timeline.specs.FastAccess.{audio_services, data_services, is_of_kind, services_of, service_of, service_in, channel_of, fac_of, fac_under};

@@ -2,7 +2,7 @@
 -- that came.
 use Rattle.std.proofs.Common.{◌≡◌, ◌<◌, ◌+◌, ◌-◌, ◌*◌, ◌/◌, ◌%◌, ◌==◌, ℕ, List, ◌++◌, length, map, unwrap_or, option_map, Option, Some, None, refl, sym, ap, ◌∙◌, arith}
 use Rattle.std.proofs.lemmas.List.{length-map}
-use Rattle.block_packing.specs.Packing.{chain}
+use Rattle.plan_packing.specs.Packing.{chain}
 use Rattle.drm_fac.specs.declared.fac.Fac.{Fac}
 use Rattle.drm_sdc.specs.declared.block.Block.{Block}
 use Rattle.drm_sdc.specs.declared.entity.Entity.{Entity}

@@ -7,7 +7,7 @@ use Rattle.drm_bits.specs.declared.description.Part.{Part}
 use Rattle.drm_sdc.specs.declared.body.Body.TheVariants.{Mux}
 use Rattle.drm_sdc.specs.Entity.{entity_size}
 use Rattle.drm_sdc.specs.Writing.{total_size}
-use Rattle.block_packing.specs.Packing.{front, can_be_packed}
+use Rattle.plan_packing.specs.Packing.{front, can_be_packed}
 use Rattle.drm_schedule.specs.declared.live.Live.{Live}
 use Rattle.drm_schedule.specs.declared.stream.Content.TheVariants.{File}
 use Rattle.drm_schedule.specs.declared.stream.Stream.{Stream}

@@ -8,7 +8,7 @@ use Rattle.drm_fac.specs.declared.service.Service.{Service}
 use Rattle.drm_schedule.specs.declared.config.Config.{Config}
 use Rattle.drm_fac.specs.declared.mode.Mode.{Mode}
 use Rattle.drm_schedule.specs.declared.plan.Plan.{Plan}
-use Rattle.block_packing.specs.Packing.{chain}
+use Rattle.plan_packing.specs.Packing.{chain}
 use Rattle.dcp_pft.specs.Loss.{is_recoverable}
 use Rattle.collect_laws.specs.Delivery.{got}
 use Rattle.drm_switches.specs.declared.seen.Seen.{Seen}

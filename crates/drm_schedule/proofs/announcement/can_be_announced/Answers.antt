@@ -1,6 +1,6 @@
 use Rattle.std.proofs.Common.{◌≡◌, take, ap, ◌∙◌}
 use Rattle.drm_schedule.specs.Announcement.{free_in_countdown, announced}
-use Rattle.block_packing.proofs.PackingLemmas.{tests_all}
+use Rattle.plan_packing.proofs.PackingLemmas.{tests_all}
 use Rattle.drm_schedule.proofs.announcement.can_be_announced.Goals as goal
 
 pub returns : goal.returns

@@ -1,7 +1,7 @@
 use Rattle.std.proofs.Common.{◌<◌, length, arith}
 use Rattle.std.proofs.lemmas.List.{length-set}
 use Rattle.drm_schedule.specs.Sizes.{free_bytes}
-use Rattle.block_packing.proofs.PackingLemmas.{one_more}
+use Rattle.plan_packing.proofs.PackingLemmas.{one_more}
 use Rattle.drm_schedule.proofs.announcement.free_lens.Goals as goal
 
 pub loop-i-preserved : goal.loop-i-preserved

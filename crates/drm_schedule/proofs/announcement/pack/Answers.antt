@@ -1,9 +1,9 @@
 use Rattle.std.proofs.Common.{◌∷◌, [], length, map}
 use Rattle.drm_sdc.specs.Entity.{entity_size}
 use Rattle.drm_schedule.specs.Sizes.{description_size}
-use Rattle.block_packing.specs.Packing.{front}
+use Rattle.plan_packing.specs.Packing.{front}
 use Rattle.drm_schedule.specs.Announcement.{all_repeated, parameters_size}
-use Rattle.block_packing.proofs.PackingLemmas.{goes_on, stops}
+use Rattle.plan_packing.proofs.PackingLemmas.{goes_on, stops}
 use Rattle.drm_schedule.proofs.InForceLemmas.{AreOfLines, of_first, each_of_lines}
 use Rattle.drm_schedule.proofs.announcement.pack.Goals as goal
 

@@ -1,7 +1,7 @@
 use Rattle.std.proofs.Common.{◌≡◌, length, map, filter, All}
 use Rattle.drm_sdc.specs.Entity.{entity_size}
 use Rattle.drm_schedule.specs.Ranges.{EntityInLines}
-use Rattle.block_packing.specs.Packing.{last_spot}
+use Rattle.plan_packing.specs.Packing.{last_spot}
 use Rattle.drm_schedule.specs.SameLines.{is_of}
 use Rattle.drm_schedule.specs.Announcement.{repeated_of}
 use Rattle.drm_schedule.proofs.announcement.place_all.Given as goal

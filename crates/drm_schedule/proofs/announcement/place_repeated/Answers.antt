@@ -3,7 +3,7 @@ use Rattle.std.proofs.lemmas.List.{map-append}
 use Rattle.drm_sdc.specs.Entity.{entity_size}
 use Rattle.drm_schedule.specs.declared.announcement.Repeated.TheVariants.{Audio, App}
 use Rattle.drm_schedule.specs.Announcement.{repeated_of}
-use Rattle.block_packing.proofs.PackingLemmas.{goes_on, stops}
+use Rattle.plan_packing.proofs.PackingLemmas.{goes_on, stops}
 use Rattle.drm_schedule.proofs.announcement.place_repeated.Goals as goal
 
 pub returns-in_err-spot : goal.returns-in_err-spot

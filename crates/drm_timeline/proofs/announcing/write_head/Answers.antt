@@ -2,7 +2,7 @@ use Rattle.std.proofs.Common.{◌∙◌, sym, ap, subst, length, true}
 use Rattle.drm_bits.specs.declared.description.MuxDesc.{MuxDesc}
 use Rattle.drm_sdc.specs.declared.body.Body.TheVariants.{Mux}
 use Rattle.drm_sdc.specs.Entity.{EntityFits}
-use Rattle.block_packing.specs.Packing.{placed, front}
+use Rattle.plan_packing.specs.Packing.{placed, front}
 use Rattle.drm_timeline.specs.Announcing.{next}
 use Rattle.drm_timeline.specs.Description.{description_of}
 use Rattle.drm_timeline.proofs.PackedLemmas.{wrote_two, room_one}

@@ -1,10 +1,10 @@
 -- The walk that packs sizes finds what a packing is, and nothing else.
 use Rattle.std.proofs.Common.{◌≡◌, ◌<◌, ◌≤◌, ◌+◌, ◌↔◌, ℕ, zero, suc, List, [], ◌∷◌, length, get_or, IsTrue, is_some, option_map, Option, None, Some, refl, sym, ap, subst, ◌∙◌, ⊎_elim, arith}
 use Rattle.std.proofs.lemmas.Bool.{cases_lt, true≢false}
-use Rattle.block_packing.specs.declared.packing.Spot.{Spot}
-use Rattle.block_packing.specs.Packing.{chain, placed, packed, front, can_be_packed}
-use Rattle.block_packing.specs.Relation.{bytes_in, frame_before, IsPacking}
-use Rattle.block_packing.proofs.PlaceLemmas.{bytes_at, at_same, at_before, at_behind, at_none, spot_at, Places, places, is_placed}
+use Rattle.plan_packing.specs.declared.packing.Spot.{Spot}
+use Rattle.plan_packing.specs.Packing.{chain, placed, packed, front, can_be_packed}
+use Rattle.plan_packing.specs.Relation.{bytes_in, frame_before, IsPacking}
+use Rattle.plan_packing.proofs.PlaceLemmas.{bytes_at, at_same, at_before, at_behind, at_none, spot_at, Places, places, is_placed}
 
 abbrev before : ℕ → List ℕ → ℕ → ℕ
 before start frames zero = start

@@ -3,8 +3,8 @@ use Rattle.std.proofs.Common.{◌≡◌, ◌<◌, ◌+◌, ℕ, List, [], ◌∷
 use Rattle.std.proofs.lemmas.List.{take_more_set}
 use Rattle.std.proofs.lemmas.List.FromFn.{map-range_with_len_more}
 use Rattle.std.specs.List.{range_with_len}
-use Rattle.block_packing.specs.declared.packing.Spot.{Spot}
-use Rattle.block_packing.specs.Packing.{chain, placed, packed, last_spot, front}
+use Rattle.plan_packing.specs.declared.packing.Spot.{Spot}
+use Rattle.plan_packing.specs.Packing.{chain, placed, packed, last_spot, front}
 
 -- some sizes, and then others
 pub last_spot-append : (free : List ℕ) (spot : Spot) (xs ys : List ℕ) → last_spot free spot (xs ++ ys) ≡ chain (last_spot free spot xs) (λ s. last_spot free s ys)

@@ -3,8 +3,8 @@ use Rattle.std.proofs.Common.{◌≡◌, ◌<◌, ◌≤◌, ◌+◌, ◌==◌, 
 use Rattle.std.proofs.lemmas.Bool.{cases_lt, leb-true, leb-false}
 use Rattle.std.proofs.lemmas.Bool.Decides.{nat_tests}
 use Rattle.std.proofs.lemmas.List.{get_or-drop}
-use Rattle.block_packing.specs.declared.packing.Spot.{Spot}
-use Rattle.block_packing.specs.Packing.{first_that_holds, placed}
+use Rattle.plan_packing.specs.declared.packing.Spot.{Spot}
+use Rattle.plan_packing.specs.Packing.{first_that_holds, placed}
 
 -- so many bytes in one frame, seen from frame g
 abbrev pub bytes_at : ℕ → ℕ → ℕ → ℕ

@@ -1,6 +1,6 @@
 use Rattle.std.proofs.Common.{◌≡◌, ◌+◌, length}
-use Rattle.block_packing.specs.Packing.{first_that_holds, placed}
-use Rattle.block_packing.proofs.packing.Spot.place.Given as goal
+use Rattle.plan_packing.specs.Packing.{first_that_holds, placed}
+use Rattle.plan_packing.proofs.packing.Spot.place.Given as goal
 
 abbrev pub invariant-loop-left : goal.invariant-loop-left
 invariant-loop-left l = (first_that_holds l.size l.frame l.taken l.left ≡ placed l.free l.fn.self l.size) × (l.frame + length l.left ≡ length l.free)

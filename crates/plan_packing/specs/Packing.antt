@@ -1,7 +1,7 @@
 -- How the entities of an announcement are packed into super frames, by their sizes: each in turn goes into the first
 -- super frame, not before that of the one before it, whose free bytes hold it.
 use Rattle.std.specs.Prelude.{ℕ, ◌+◌, nat_le, Bool, if◌then◌else◌, List, [], ◌∷◌, drop, is_some, option_map, Option, Some, None}
-use Rattle.block_packing.specs.declared.packing.Spot.{Spot}
+use Rattle.plan_packing.specs.declared.packing.Spot.{Spot}
 
 -- where a size goes of which so many bytes of the first of these super frames, which has this number, are taken
 abbrev pub first_that_holds : ℕ → ℕ → ℕ → List ℕ → Option Spot

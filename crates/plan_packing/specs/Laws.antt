@@ -1,7 +1,7 @@
 -- The packing that is found is the one that there is.
 use Rattle.std.specs.Prelude.{ℕ, ◌≡◌, ◌↔◌, List, IsTrue, None, Some}
-use Rattle.block_packing.specs.Packing.{packed, front, can_be_packed}
-use Rattle.block_packing.specs.Relation.{IsPacking}
+use Rattle.plan_packing.specs.Packing.{packed, front, can_be_packed}
+use Rattle.plan_packing.specs.Relation.{IsPacking}
 
 -- the frames that are found are a packing, and so are no others
 abbrev pub FindsThePacking : Type 0

@@ -1,8 +1,8 @@
 //! How the entities of an announcement are packed into super frames.
 
 ghost use Rattle.std.specs.Prelude.{◌≡◌, ◌+◌, length};
-ghost use Rattle.block_packing.specs.Packing.{placed};
-ghost use Rattle.block_packing.specs.Packing as packing;
+ghost use Rattle.plan_packing.specs.Packing.{placed};
+ghost use Rattle.plan_packing.specs.Packing as packing;
 
 /// Up to where an announcement is packed.
 #[derive(Clone, Copy, Debug, PartialEq, Eq)]
