@@ -5,10 +5,10 @@ use Rattle.std.proofs.lemmas.List.Elements.{All-nil, All-cons, All-head, All-tai
 use Rattle.drm_sdc.specs.declared.entity.Entity.{Entity}
 use Rattle.drm_schedule.specs.declared.timed.Timed.{Timed}
 use Rattle.drm_schedule.specs.Ranges.{EntityInLines, TimedInLines}
-use Rattle.line_forms.specs.declared.line.Line.{Line}
-use Rattle.line_forms.specs.declared.line.Line.TheVariants as lines
-use Rattle.line_forms.specs.declared.first_word.Keyword.TheVariants as keywords
-use Rattle.line_forms.specs.Said.{keyword_said, LineInLines}
+use Rattle.plan_grammar.specs.declared.line.Line.{Line}
+use Rattle.plan_grammar.specs.declared.line.Line.TheVariants as lines
+use Rattle.plan_grammar.specs.declared.first_word.Keyword.TheVariants as keywords
+use Rattle.plan_grammar.specs.Said.{keyword_said, LineInLines}
 use Rattle.plan_said.specs.declared.said.Said.{Said}
 use Rattle.plan_said.specs.Said.{count}
 use Rattle.plan_said.specs.Rules.{count_with}

@@ -10,12 +10,12 @@ use Rattle.drm_sdc.specs.declared.body.Body.TheVariants as bodies
 use Rattle.dcp_pft.specs.Carrying.{CarryFits}
 use Rattle.drm_schedule.specs.Ranges.{StreamInLines, ServiceInLines, ClockInLines, TimedInLines, ConfigInLines, InLines}
 use Rattle.drm_schedule.specs.declared.timed.Timed.{Timed}
-use Rattle.line_forms.specs.declared.line.Line.{Line}
-use Rattle.line_forms.specs.declared.line.Line.TheVariants as lines
-use Rattle.line_forms.specs.declared.first_word.Keyword.{Keyword}
-use Rattle.line_forms.specs.declared.first_word.Keyword.TheVariants as keywords
-use Rattle.line_forms.specs.Said.{keyword_of_body, keyword_said, LineInLines}
-use Rattle.line_forms.specs.Same.{same}
+use Rattle.plan_grammar.specs.declared.line.Line.{Line}
+use Rattle.plan_grammar.specs.declared.line.Line.TheVariants as lines
+use Rattle.plan_grammar.specs.declared.first_word.Keyword.{Keyword}
+use Rattle.plan_grammar.specs.declared.first_word.Keyword.TheVariants as keywords
+use Rattle.plan_grammar.specs.Said.{keyword_of_body, keyword_said, LineInLines}
+use Rattle.plan_grammar.specs.Same.{same}
 use Rattle.plan_said.specs.declared.said.Said.{Said}
 use Rattle.plan_said.specs.declared.said.Block.{Block}
 use Rattle.plan_said.specs.declared.said.Read.{Read}

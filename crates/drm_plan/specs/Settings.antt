@@ -1,7 +1,7 @@
 -- A line that was found, as its value.
 use Rattle.std.specs.Prelude.{Option, Some, None}
 use Rattle.std.specs.Borrow.{Bor}
-use Rattle.line_forms.specs.declared.line.Line.{Line}
+use Rattle.plan_grammar.specs.declared.line.Line.{Line}
 use Rattle.plan_said.specs.declared.said.Said.{Said}
 
 abbrev pub said_by : Option (Bor Said) → Option Said

@@ -3,17 +3,17 @@ use Rattle.std.proofs.Common.{◌≡◌, ℕ, ◌+◌, suc, Bool, true, false, L
 use Rattle.std.specs.Prelude.{◌==◌, slice_index}
 use Rattle.std.specs.List.{AllByRecursion}
 use Rattle.text_lines.specs.Lines.{words_of}
-use Rattle.line_forms.specs.declared.first_word.Keyword.{Keyword}
-use Rattle.line_forms.specs.declared.first_word.Keyword.TheVariants as keywords
-use Rattle.line_forms.specs.declared.version.Version.{Version}
-use Rattle.line_forms.specs.declared.version.Version.TheVariants.{Two}
-use Rattle.line_forms.specs.declared.line.Line.{Line}
-use Rattle.line_forms.specs.declared.line.Line.TheVariants as lines
-use Rattle.line_forms.specs.Keywords.{keyword_of, keyword_text}
-use Rattle.line_forms.specs.Lines.{shape_of}
-use Rattle.line_forms.specs.Same.{same}
-use Rattle.line_forms.specs.Said.{keyword_said, words_said, canonical}
-use Rattle.line_forms.specs.Shape.{reading}
+use Rattle.plan_grammar.specs.declared.first_word.Keyword.{Keyword}
+use Rattle.plan_grammar.specs.declared.first_word.Keyword.TheVariants as keywords
+use Rattle.plan_grammar.specs.declared.version.Version.{Version}
+use Rattle.plan_grammar.specs.declared.version.Version.TheVariants.{Two}
+use Rattle.plan_grammar.specs.declared.line.Line.{Line}
+use Rattle.plan_grammar.specs.declared.line.Line.TheVariants as lines
+use Rattle.plan_grammar.specs.Keywords.{keyword_of, keyword_text}
+use Rattle.plan_grammar.specs.Lines.{shape_of}
+use Rattle.plan_grammar.specs.Same.{same}
+use Rattle.plan_grammar.specs.Said.{keyword_said, words_said, canonical}
+use Rattle.plan_grammar.specs.Shape.{reading}
 use Rattle.plan_said.specs.declared.said.Said.{Said}
 use Rattle.plan_said.specs.declared.said.Block.{Block}
 use Rattle.plan_said.specs.declared.said.Read.{Read}

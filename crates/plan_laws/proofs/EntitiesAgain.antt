@@ -11,12 +11,12 @@ use Rattle.drm_sdc.specs.declared.channels.Channel15.{Channel15}
 use Rattle.drm_schedule.specs.Ranges.{IsLabel, AppInLines, BytesInLines, is_raw_kind}
 use Rattle.text_lines.specs.Lines.{words_of, behind_two}
 use Rattle.text_lines.proofs.SpellingLaws.{decimal_is_number, decimal_value}
-use Rattle.line_forms.specs.declared.line.Line.{Line}
-use Rattle.line_forms.specs.declared.line.Line.TheVariants as lines
-use Rattle.line_forms.specs.Shape.{Part, number, value, bit, flag, hex, hex_value, optional_byte, optional_byte_value, bytes, bytes_value, text as label_part, reading}
-use Rattle.line_forms.specs.Frequencies.{frequencies, channels}
-use Rattle.line_forms.specs.Entities.{says, label_line, freq_line, when_line, app_line, audio_line, language_line, raw_kind, raw_line}
-use Rattle.line_forms.specs.Said.{bit_word, hex6, hex4, optional_byte_word, bytes_word, config_words, channels_word, app_words}
+use Rattle.plan_grammar.specs.declared.line.Line.{Line}
+use Rattle.plan_grammar.specs.declared.line.Line.TheVariants as lines
+use Rattle.plan_grammar.specs.Shape.{Part, number, value, bit, flag, hex, hex_value, optional_byte, optional_byte_value, bytes, bytes_value, text as label_part, reading}
+use Rattle.plan_grammar.specs.Frequencies.{frequencies, channels}
+use Rattle.plan_grammar.specs.Entities.{says, label_line, freq_line, when_line, app_line, audio_line, language_line, raw_kind, raw_line}
+use Rattle.plan_grammar.specs.Said.{bit_word, hex6, hex4, optional_byte_word, bytes_word, config_words, channels_word, app_words}
 use Rattle.plan_laws.proofs.Parts.{Good, read_as, number_good, bit_good, flag_again, hex6_good, hex6_value, hex4_good, hex4_value, optional_good, optional_again, bytes_good, bytes_value_again}
 use Rattle.plan_laws.proofs.FrequencyLaws.{Fits, frequencies_good, channels_again}
 use Rattle.plan_laws.proofs.LabelLaws.{IsMore, has_word, label_good}

@@ -8,13 +8,13 @@ use Rattle.std.proofs.lemmas.List.Splits.{join_with_byte-slice_split}
 use Rattle.drm_schedule.specs.declared.invalid.Reason.TheVariants.{Word, Missing}
 use Rattle.drm_schedule.specs.Ranges.{InLines}
 use Rattle.text_lines.specs.Lines.{words_of, lines_of, without_last_empty}
-use Rattle.line_forms.specs.declared.first_word.Keyword.{Keyword}
-use Rattle.line_forms.specs.declared.version.Version.{Version}
-use Rattle.line_forms.specs.declared.line.Line.{Line}
-use Rattle.line_forms.specs.Lines.{shape_of}
-use Rattle.line_forms.specs.Said.{LineInLines}
-use Rattle.line_forms.proofs.Keywords.{SaysKeyword}
-use Rattle.line_forms.specs.Shape.{Shape, reading}
+use Rattle.plan_grammar.specs.declared.first_word.Keyword.{Keyword}
+use Rattle.plan_grammar.specs.declared.version.Version.{Version}
+use Rattle.plan_grammar.specs.declared.line.Line.{Line}
+use Rattle.plan_grammar.specs.Lines.{shape_of}
+use Rattle.plan_grammar.specs.Said.{LineInLines}
+use Rattle.plan_grammar.proofs.Keywords.{SaysKeyword}
+use Rattle.plan_grammar.specs.Shape.{Shape, reading}
 use Rattle.plan_lines.proofs.CleanLemmas.{clean, lines_are_single}
 use Rattle.plan_lines.proofs.KeywordLemmas.{says_keyword}
 use Rattle.plan_lines.proofs.KindLemmas.{line_fits}

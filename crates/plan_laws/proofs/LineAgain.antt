@@ -21,12 +21,12 @@ use Rattle.plan_laws.specs.Lines.{IsReadAgain}
 use Rattle.text_lines.proofs.Lacking.{lacks_both}
 use Rattle.text_lines.proofs.WordLaws.{word_and_rest}
 use Rattle.text_lines.proofs.LineLaws.{IsLine, lines_again}
-use Rattle.line_forms.specs.declared.first_word.Keyword.TheVariants as keywords
-use Rattle.line_forms.specs.declared.version.Version.TheVariants.{One, Two}
-use Rattle.line_forms.specs.declared.line.Line.{Line}
-use Rattle.line_forms.specs.declared.line.Line.TheVariants as lines
-use Rattle.line_forms.specs.Keywords.{keyword_text}
-use Rattle.line_forms.specs.Said.{keyword_said, carry_words, depth_word, kind_word, content_words, app_words, config_words, bytes_word, parts_said, canonical, line_text, words_said, LineInLines}
+use Rattle.plan_grammar.specs.declared.first_word.Keyword.TheVariants as keywords
+use Rattle.plan_grammar.specs.declared.version.Version.TheVariants.{One, Two}
+use Rattle.plan_grammar.specs.declared.line.Line.{Line}
+use Rattle.plan_grammar.specs.declared.line.Line.TheVariants as lines
+use Rattle.plan_grammar.specs.Keywords.{keyword_text}
+use Rattle.plan_grammar.specs.Said.{keyword_said, carry_words, depth_word, kind_word, content_words, app_words, config_words, bytes_word, parts_said, canonical, line_text, words_said, LineInLines}
 use Rattle.plan_laws.proofs.EntitiesAgain.{fit_all}
 use Rattle.plan_laws.proofs.SaidAgain.{raw_small, said_again}
 use Rattle.plan_laws.proofs.Tokens.{IsToken, cut_again, joined_line, lacks_from, keyword_token, number_token, bit_token, hex_token, hex6_token, hex4_token, optional_token, bytes_token, name_token, channels_token}

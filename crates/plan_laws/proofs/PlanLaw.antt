@@ -17,10 +17,10 @@ use Rattle.drm_schedule.specs.declared.plan.Plan.{Plan}
 use Rattle.drm_schedule.specs.Ranges.{ContentInLines, StreamInLines, ServiceInLines, ClockInLines, EntityInLines, TimedInLines, ConfigInLines, InLines}
 use Rattle.text_lines.specs.Lines.{lines_of}
 use Rattle.text_lines.proofs.LineLaws.{IsLine, lines_again}
-use Rattle.line_forms.specs.declared.version.Version.TheVariants.{Two}
-use Rattle.line_forms.specs.declared.line.Line.{Line}
-use Rattle.line_forms.specs.declared.line.Line.TheVariants as lines
-use Rattle.line_forms.specs.Said.{canonical as line_of, line_text, detached, LineInLines}
+use Rattle.plan_grammar.specs.declared.version.Version.TheVariants.{Two}
+use Rattle.plan_grammar.specs.declared.line.Line.{Line}
+use Rattle.plan_grammar.specs.declared.line.Line.TheVariants as lines
+use Rattle.plan_grammar.specs.Said.{canonical as line_of, line_text, detached, LineInLines}
 use Rattle.plan_laws.proofs.LineAgain.{line_again}
 use Rattle.plan_laws.proofs.SaidAgain.{said_again}
 use Rattle.plan_said.specs.declared.said.Block.{Block}

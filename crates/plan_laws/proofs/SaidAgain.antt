@@ -7,13 +7,13 @@ use Rattle.drm_sdc.specs.declared.body.Body.TheVariants as bodies
 use Rattle.drm_schedule.specs.Ranges.{BodyInLines, VersionInLines, IsLabel, is_raw_kind}
 use Rattle.text_lines.specs.Lines.{words_of}
 use Rattle.text_lines.proofs.WordLaws.{decimal_is_word}
-use Rattle.line_forms.specs.declared.first_word.Keyword.TheVariants as keywords
-use Rattle.line_forms.specs.declared.line.Line.{Line}
-use Rattle.line_forms.specs.declared.line.Line.TheVariants as lines
-use Rattle.line_forms.specs.Shape.{reading}
-use Rattle.line_forms.specs.Lines.{shape_of}
-use Rattle.line_forms.specs.Entities.{says}
-use Rattle.line_forms.specs.Said.{keyword_of_body, keyword_said, body_parts, canonical, words_said, detached, LineInLines}
+use Rattle.plan_grammar.specs.declared.first_word.Keyword.TheVariants as keywords
+use Rattle.plan_grammar.specs.declared.line.Line.{Line}
+use Rattle.plan_grammar.specs.declared.line.Line.TheVariants as lines
+use Rattle.plan_grammar.specs.Shape.{reading}
+use Rattle.plan_grammar.specs.Lines.{shape_of}
+use Rattle.plan_grammar.specs.Entities.{says}
+use Rattle.plan_grammar.specs.Said.{keyword_of_body, keyword_said, body_parts, canonical, words_said, detached, LineInLines}
 use Rattle.plan_laws.proofs.LabelLaws.{text_behind}
 use Rattle.plan_laws.proofs.SettingsAgain.{version_again, block_again, carry_again, first_again, length_again, config_again, mode_again, occupancy_again, depth_again, msc_again, sdc_again, protection_again, room_again, service_again, stream_again, clock_again}
 use Rattle.plan_laws.proofs.EntitiesAgain.{label_again, freq_again, when_again, app_again, audio_again, language_again, raw_again}

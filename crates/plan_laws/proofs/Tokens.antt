@@ -12,10 +12,10 @@ use Rattle.text_lines.specs.Lines.{words_of}
 use Rattle.text_lines.proofs.Lacking.{lacks, lacks_both}
 use Rattle.text_lines.proofs.WordLaws.{IsWord, words_again, decimal_is_word, hex_is_word}
 use Rattle.text_lines.proofs.LineLaws.{IsLine, joined_is_line, decimal_is_line, hex_is_line}
-use Rattle.line_forms.specs.declared.first_word.Keyword.{Keyword}
-use Rattle.line_forms.specs.declared.first_word.Keyword.TheVariants as keywords
-use Rattle.line_forms.specs.Keywords.{keyword_text}
-use Rattle.line_forms.specs.Said.{bit_word, hex6, hex4, optional_byte_word, bytes_word, channel_word, channels_word}
+use Rattle.plan_grammar.specs.declared.first_word.Keyword.{Keyword}
+use Rattle.plan_grammar.specs.declared.first_word.Keyword.TheVariants as keywords
+use Rattle.plan_grammar.specs.Keywords.{keyword_text}
+use Rattle.plan_grammar.specs.Said.{bit_word, hex6, hex4, optional_byte_word, bytes_word, channel_word, channels_word}
 use Rattle.plan_laws.proofs.FrequencyLaws.{Fits, channel_lacks}
 
 -- a word without a line feed

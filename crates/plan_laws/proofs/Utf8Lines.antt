@@ -25,13 +25,13 @@ use Rattle.drm_schedule.specs.declared.stream.Content.{Content}
 use Rattle.drm_schedule.specs.declared.stream.Content.TheVariants.{Fill, File}
 use Rattle.dcp_pft.specs.Carrying.{CarryFits}
 use Rattle.drm_schedule.specs.Ranges.{ContentInLines, AppInLines, BodyInLines}
-use Rattle.line_forms.specs.declared.first_word.Keyword.{Keyword}
-use Rattle.line_forms.specs.declared.first_word.Keyword.TheVariants as keywords
-use Rattle.line_forms.specs.declared.version.Version.TheVariants.{One, Two}
-use Rattle.line_forms.specs.declared.line.Line.{Line}
-use Rattle.line_forms.specs.declared.line.Line.TheVariants as lines
-use Rattle.line_forms.specs.Keywords.{keyword_text}
-use Rattle.line_forms.specs.Said.{keyword_said, carry_words, depth_word, kind_word, content_words, app_words, config_words, bit_word, optional_byte_word, bytes_word, channel_word, channels_word, parts_said, canonical, LineInLines}
+use Rattle.plan_grammar.specs.declared.first_word.Keyword.{Keyword}
+use Rattle.plan_grammar.specs.declared.first_word.Keyword.TheVariants as keywords
+use Rattle.plan_grammar.specs.declared.version.Version.TheVariants.{One, Two}
+use Rattle.plan_grammar.specs.declared.line.Line.{Line}
+use Rattle.plan_grammar.specs.declared.line.Line.TheVariants as lines
+use Rattle.plan_grammar.specs.Keywords.{keyword_text}
+use Rattle.plan_grammar.specs.Said.{keyword_said, carry_words, depth_word, kind_word, content_words, app_words, config_words, bit_word, optional_byte_word, bytes_word, channel_word, channels_word, parts_said, canonical, LineInLines}
 use Rattle.plan_laws.proofs.SaidAgain.{raw_small}
 
 abbrev is_low : List ℕ → Bool

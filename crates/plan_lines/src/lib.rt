@@ -10,5 +10,5 @@ mod read;
 mod services;
 mod settings;
 
-pub use line_forms::{Keyword, Line, LineFault, Version};
+pub use plan_grammar::{Keyword, Line, LineFault, Version};
 pub use read::{keyword, read_line};

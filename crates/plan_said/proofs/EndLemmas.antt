@@ -7,7 +7,7 @@ use Rattle.plan_said.specs.declared.fault.PlanFault.TheVariants as plan
 use Rattle.plan_said.specs.declared.said.Block.{Block}
 use Rattle.plan_said.specs.declared.said.Read.{Read}
 use Rattle.std.proofs.lemmas.Bool.{or_parts}
-use Rattle.line_forms.specs.declared.version.Version.{Version}
+use Rattle.plan_grammar.specs.declared.version.Version.{Version}
 use Rattle.plan_said.specs.Said.{nothing}
 use Rattle.text_lines.specs.Faults.{fault, first_fault, ok_unless}
 use Rattle.plan_said.specs.Rules.{version_in, is_incomplete, end_rows, ended, said_from, said}

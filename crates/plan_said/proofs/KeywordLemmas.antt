@@ -2,9 +2,9 @@
 use Rattle.std.proofs.Common.{◌≡◌, ℕ, Bool, true, false, refl}
 use Rattle.drm_sdc.specs.declared.body.Body.{Body}
 use Rattle.drm_sdc.specs.declared.body.Body.TheVariants as bodies
-use Rattle.line_forms.specs.declared.first_word.Keyword.TheVariants as keywords
-use Rattle.line_forms.specs.Said.{keyword_of_body}
-use Rattle.line_forms.specs.Same.{same}
+use Rattle.plan_grammar.specs.declared.first_word.Keyword.TheVariants as keywords
+use Rattle.plan_grammar.specs.Said.{keyword_of_body}
+use Rattle.plan_grammar.specs.Same.{same}
 use Rattle.plan_said.specs.Rules.{is_entity}
 
 -- how many there are of what lines list

@@ -4,17 +4,17 @@ use Rattle.std.specs.Prelude.{not, ◌||◌, IfOk}
 use Rattle.std.specs.List.{list_all}
 use Rattle.drm_schedule.specs.declared.invalid.Reason.{Reason}
 use Rattle.drm_schedule.specs.declared.invalid.Reason.TheVariants as reasons
-use Rattle.line_forms.specs.declared.fault.LineFault.{LineFault}
-use Rattle.line_forms.specs.declared.fault.LineFault.TheVariants as line_faults
-use Rattle.line_forms.specs.declared.line.Line.{Line}
-use Rattle.line_forms.specs.declared.first_word.Keyword.{Keyword}
-use Rattle.line_forms.specs.Gives.{Gives}
-use Rattle.line_forms.proofs.Clean.{IsClean}
-use Rattle.line_forms.specs.Lines.{shape_of}
-use Rattle.line_forms.specs.Said.{keyword_said, LineInLines}
-use Rattle.line_forms.proofs.Keywords.{SaysKeyword}
+use Rattle.plan_grammar.specs.declared.fault.LineFault.{LineFault}
+use Rattle.plan_grammar.specs.declared.fault.LineFault.TheVariants as line_faults
+use Rattle.plan_grammar.specs.declared.line.Line.{Line}
+use Rattle.plan_grammar.specs.declared.first_word.Keyword.{Keyword}
+use Rattle.plan_grammar.specs.Gives.{Gives}
+use Rattle.plan_grammar.proofs.Clean.{IsClean}
+use Rattle.plan_grammar.specs.Lines.{shape_of}
+use Rattle.plan_grammar.specs.Said.{keyword_said, LineInLines}
+use Rattle.plan_grammar.proofs.Keywords.{SaysKeyword}
 use Rattle.plan_lines.proofs.KindLemmas.{line_fits}
-use Rattle.line_forms.specs.Shape.{Shape, reading, first_row, ok_unless as line_unless}
+use Rattle.plan_grammar.specs.Shape.{Shape, reading, first_row, ok_unless as line_unless}
 use Rattle.plan_said.specs.declared.said.Read.{Read}
 use Rattle.plan_said.specs.declared.fault.PlanFault.{PlanFault}
 use Rattle.plan_said.specs.Said.{add}

@@ -1,7 +1,7 @@
 -- What holds of the lines that are read: each is one that a text can give, and there are no more than there may be.
 use Rattle.std.specs.Prelude.{ℕ, ◌≡◌, ◌≢◌, ◌≤◌, ◌<◌, ◌^◌, false, List, [], ◌∷◌, length, All, IfSome, Some}
-use Rattle.line_forms.specs.declared.first_word.Keyword.TheVariants as keywords
-use Rattle.line_forms.specs.Said.{keyword_said, LineInLines}
+use Rattle.plan_grammar.specs.declared.first_word.Keyword.TheVariants as keywords
+use Rattle.plan_grammar.specs.Said.{keyword_said, LineInLines}
 use Rattle.plan_said.specs.declared.said.Said.{Said}
 use Rattle.plan_said.specs.declared.said.Block.{Block}
 use Rattle.plan_said.specs.declared.said.Read.{Read}

@@ -5,17 +5,17 @@ use Rattle.text_lines.specs.Faults.{FaultOf, fault, first_fault, ok_unless, word
 use Rattle.text_lines.specs.Lines.{words_of}
 use Rattle.drm_schedule.specs.declared.invalid.Reason.{Reason}
 use Rattle.drm_schedule.specs.declared.invalid.Reason.TheVariants.{Word, Order, Number, Range, Twice, TooLong, Missing}
-use Rattle.line_forms.specs.declared.version.Version.{Version}
-use Rattle.line_forms.specs.declared.version.Version.TheVariants.{One, Two}
-use Rattle.line_forms.specs.declared.line.Line.{Line}
-use Rattle.line_forms.specs.declared.line.Line.TheVariants as lines
-use Rattle.line_forms.specs.declared.first_word.Keyword.{Keyword}
-use Rattle.line_forms.specs.declared.first_word.Keyword.TheVariants as keywords
-use Rattle.line_forms.specs.Shape.{Shape}
-use Rattle.line_forms.specs.Keywords.{keyword_of}
-use Rattle.line_forms.specs.Lines.{shape_of}
-use Rattle.line_forms.specs.Same.{same}
-use Rattle.line_forms.specs.Said.{keyword_said}
+use Rattle.plan_grammar.specs.declared.version.Version.{Version}
+use Rattle.plan_grammar.specs.declared.version.Version.TheVariants.{One, Two}
+use Rattle.plan_grammar.specs.declared.line.Line.{Line}
+use Rattle.plan_grammar.specs.declared.line.Line.TheVariants as lines
+use Rattle.plan_grammar.specs.declared.first_word.Keyword.{Keyword}
+use Rattle.plan_grammar.specs.declared.first_word.Keyword.TheVariants as keywords
+use Rattle.plan_grammar.specs.Shape.{Shape}
+use Rattle.plan_grammar.specs.Keywords.{keyword_of}
+use Rattle.plan_grammar.specs.Lines.{shape_of}
+use Rattle.plan_grammar.specs.Same.{same}
+use Rattle.plan_grammar.specs.Said.{keyword_said}
 use Rattle.plan_said.specs.declared.said.Said.{Said}
 use Rattle.plan_said.specs.declared.said.Block.{Block}
 use Rattle.plan_said.specs.declared.said.Read.{Read}

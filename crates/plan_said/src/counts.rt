@@ -2,7 +2,7 @@
 
 ghost use Rattle.std.specs.Prelude.{◌≡◌, ◌==◌, length};
 ghost use Rattle.plan_said.specs.Said.{count};
-ghost use Rattle.line_forms.specs.declared.first_word.Keyword.TheVariants as keywords;
+ghost use Rattle.plan_grammar.specs.declared.first_word.Keyword.TheVariants as keywords;
 ghost use Rattle.plan_said.specs.Rules.{count_entities, is_out_of_order, lacks_a_line, is_incomplete, is_second, is_too_many};
 
 use crate::keywords::{is_entity, is_setting, is_single};

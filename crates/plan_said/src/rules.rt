@@ -2,11 +2,11 @@
 
 ghost use Rattle.std.specs.Prelude.{◌≡◌, ◌||◌, ◌<◌, ◌^◌, ◌-◌, false, length, map, List, ℕ, ◌∷◌, All, Option, IfOk, OnOk};
 ghost use Rattle.text_lines.specs.Lines.{words_of};
-ghost use Rattle.line_forms.specs.Shape.{Shape, reading};
-ghost use Rattle.line_forms.specs.Gives.{Gives};
-ghost use Rattle.line_forms.specs.Said.{LineInLines, keyword_said};
+ghost use Rattle.plan_grammar.specs.Shape.{Shape, reading};
+ghost use Rattle.plan_grammar.specs.Gives.{Gives};
+ghost use Rattle.plan_grammar.specs.Said.{LineInLines, keyword_said};
 ghost use Rattle.plan_said.specs.InLines.{IsSingle, ReadInLines, EndsComplete};
-ghost use Rattle.line_forms.specs.Lines.{shape_of};
+ghost use Rattle.plan_grammar.specs.Lines.{shape_of};
 ghost use Rattle.plan_said.specs.Said.{nothing};
 ghost use Rattle.plan_said.specs.Rules.{version_in, keyword_in, is_misplaced, in_current, is_second, is_too_many, is_17th, ends_incomplete, current_line, said_shape, said_words, said_line, said_from, said};
 ghost use Rattle.plan_said.specs.Steps.{Steps, Reads, check_of, refused_of, end_check};

@@ -4,7 +4,7 @@ use Rattle.std.specs.List.{join_with_byte}
 use Rattle.std.specs.Borrow.{Bor}
 use Rattle.std.proofs.lemmas.List.{append-nil, take_all}
 use Rattle.drm_sdc.specs.declared.channels.Channel15.{Channel15}
-use Rattle.line_forms.specs.Said.{channel_word, channels_word, separator}
+use Rattle.plan_grammar.specs.Said.{channel_word, channels_word, separator}
 
 -- words with a space before each
 abbrev pub spaced : List (Bor (List ℕ)) → List ℕ

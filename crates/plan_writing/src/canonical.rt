@@ -7,7 +7,7 @@ ghost use Rattle.plan_writing.specs.Canonical.{text_of, front_lines, settings_li
 use crate::{write_entity, write_line, write_stream};
 use drm_bits::{NoMemory, Octets};
 use drm_schedule::{Clock, Config, Entity, Schedule, Service, Stream, Timed};
-use line_forms::{Line, Version};
+use plan_grammar::{Line, Version};
 use std::alloc::{AllocError, Global};
 
 fn write_lines(alloc: Global, out: &mut Vec<u8>, lines: &[Line]) -> Result<(), AllocError>

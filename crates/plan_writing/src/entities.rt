@@ -2,13 +2,13 @@
 
 ghost use Rattle.std.specs.Prelude.{◌≡◌, ◌++◌, ◌∷◌, false, decimal, OnOk, IfOk, string_bytes};
 ghost use Rattle.std.specs.List.{join_with_byte};
-ghost use Rattle.line_forms.specs.Said.{line_text, entity_text, config_words};
+ghost use Rattle.plan_grammar.specs.Said.{line_text, entity_text, config_words};
 
 use crate::words_out::{
     bit, bytes_or_none, frequencies, number, optional_byte, six_digits, write_words,
 };
 use drm_sdc::{AppMode, Body, Channels, Entity};
-use line_forms::Line;
+use plan_grammar::Line;
 use std::alloc::{AllocError, Global};
 
 fn label(alloc: Global, out: &mut Vec<u8>, short: u8, text: &[u8]) -> Result<(), AllocError>

@@ -3,13 +3,13 @@
 ghost use Rattle.std.specs.Prelude.{◌≡◌, ◌++◌, [], OnOk, IfOk, string_bytes};
 ghost use Rattle.dcp_pft.specs.declared.carry.Carry.TheVariants.{Pft};
 ghost use Rattle.drm_schedule.specs.declared.stream.Content.TheVariants.{Fill, File};
-ghost use Rattle.line_forms.specs.Said.{line_text, IsSetting, depth_word, kind_word};
+ghost use Rattle.plan_grammar.specs.Said.{line_text, IsSetting, depth_word, kind_word};
 
 use crate::entities::write_entity;
 use crate::words_out::{bit, number, six_digits, write_words};
 use drm_fac::Service;
 use drm_schedule::{Carry, Clock, Content, Stream};
-use line_forms::{Line, Version};
+use plan_grammar::{Line, Version};
 use std::alloc::{AllocError, Global};
 
 fn depth(short: bool) -> &'static str

@@ -2,7 +2,7 @@
 
 ghost use Rattle.std.specs.Prelude.{◌≡◌, ◌++◌, ◌∷◌, [], map, decimal, OnOk, IfOk, string_bytes};
 ghost use Rattle.std.specs.List.{join_with_byte};
-ghost use Rattle.line_forms.specs.Said.{bit_word, hex6, optional_byte_word, bytes_word, channel_word, channels_word, separator};
+ghost use Rattle.plan_grammar.specs.Said.{bit_word, hex6, optional_byte_word, bytes_word, channel_word, channels_word, separator};
 
 use drm_sdc::{Channel15, Channels};
 use std::alloc::{AllocError, Global};

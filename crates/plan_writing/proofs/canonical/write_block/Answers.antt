@@ -1,5 +1,5 @@
 use Rattle.std.proofs.Common.{[], ◌∷◌}
-use Rattle.line_forms.specs.declared.line.Line.TheVariants as lines
+use Rattle.plan_grammar.specs.declared.line.Line.TheVariants as lines
 use Rattle.plan_writing.specs.Canonical.{entity_lines}
 use Rattle.plan_writing.proofs.TextLemmas.{both_written}
 use Rattle.plan_writing.proofs.canonical.write_block.Goals as goal

@@ -1,4 +1,4 @@
-use Rattle.line_forms.specs.declared.line.Line.TheVariants as lines
+use Rattle.plan_grammar.specs.declared.line.Line.TheVariants as lines
 use Rattle.plan_writing.proofs.TextLemmas.{one_line_written, nothing_written}
 use Rattle.plan_writing.proofs.canonical.write_clock.Goals as goal
 

@@ -1,4 +1,4 @@
-use Rattle.line_forms.specs.Said.{line_text}
+use Rattle.plan_grammar.specs.Said.{line_text}
 use Rattle.plan_writing.specs.Canonical.{text_of}
 use Rattle.plan_writing.proofs.TextLemmas.{one_written, all_written, lines_each, no_text}
 use Rattle.plan_writing.proofs.canonical.write_lines.Goals as goal

@@ -1,6 +1,6 @@
 use Rattle.std.proofs.Common.{refl, map, List}
-use Rattle.line_forms.specs.Said.{line_text}
-use Rattle.line_forms.specs.declared.line.Line.TheVariants as lines
+use Rattle.plan_grammar.specs.Said.{line_text}
+use Rattle.plan_grammar.specs.declared.line.Line.TheVariants as lines
 use Rattle.plan_writing.specs.Canonical.{text_of}
 use Rattle.drm_fac.specs.declared.service.Service.{Service}
 use Rattle.plan_writing.proofs.TextLemmas.{one_written, all_written, mapped_each, no_text}

@@ -1,6 +1,6 @@
 use Rattle.std.specs.Prelude.{string_bytes}
 use Rattle.std.proofs.Common.{ap, ◌∙◌, arith}
-use Rattle.line_forms.specs.Said.{channel_word}
+use Rattle.plan_grammar.specs.Said.{channel_word}
 use Rattle.plan_writing.proofs.Joining.{frequency_on}
 use Rattle.plan_writing.proofs.words_out.frequencies.Goals as goal
 

@@ -1,8 +1,8 @@
 use Rattle.std.proofs.lemmas.Result.{err_from_is_err_and}
-use Rattle.line_forms.specs.Shape.{reading}
+use Rattle.plan_grammar.specs.Shape.{reading}
 use Rattle.plan_said.proofs.StepLemmas.{fails, goes_on, refuses, gives_broken}
 use Rattle.std.proofs.Common.{◌≡◌, sym, ◌∙◌}
-use Rattle.line_forms.specs.Said.{keyword_said, LineInLines}
+use Rattle.plan_grammar.specs.Said.{keyword_said, LineInLines}
 use Rattle.plan_said.proofs.KeptLemmas.{add_fits}
 use Rattle.plan_said.proofs.said.Read.judge.Goals as goal
 

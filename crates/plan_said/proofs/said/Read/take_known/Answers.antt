@@ -1,5 +1,5 @@
 use Rattle.std.proofs.Common.{◌∙◌, sym, map}
-use Rattle.line_forms.specs.Lines.{shape_of}
+use Rattle.plan_grammar.specs.Lines.{shape_of}
 use Rattle.plan_lines.proofs.CleanLemmas.{clean}
 use Rattle.plan_lines.proofs.KeywordLemmas.{says_keyword}
 use Rattle.plan_said.proofs.StepLemmas.{ends_early, gives_keyword, gives_fits}
