@@ -1,10 +1,10 @@
 -- A schedule from a shelf, load by load.
 use Rattle.std.proofs.Common.{◌≡◌, ℕ, ◌+◌, ◌-◌, ◌<◌, ◌≤◌, zero, suc, inl, inr, List, length, Result, Ok, Err, refl, sym, ◌∙◌, ap, arith}
 use Rattle.drm_schedule.specs.declared.plan.Plan.{Plan}
-use Rattle.plan_said.specs.declared.fault.PlanFault.{PlanFault}
-use Rattle.plan_said.specs.declared.fault.PlanFault.TheVariants as plan
-use Rattle.plan_said.specs.Rules.{Fault}
-use Rattle.plan_said.specs.Steps.{Reads}
+use Rattle.plan_rules.specs.declared.fault.PlanFault.{PlanFault}
+use Rattle.plan_rules.specs.declared.fault.PlanFault.TheVariants as plan
+use Rattle.plan_rules.specs.Rules.{Fault}
+use Rattle.plan_rules.specs.Steps.{Reads}
 use Rattle.drm_plan.specs.Projection.{Drafted}
 use Rattle.drm_plan.specs.Text.{draft_of}
 use Rattle.plan_writing.specs.Canonical.{canonical}

@@ -1,6 +1,6 @@
 -- The fault of a schedule that a fault of its text becomes.
-use Rattle.plan_said.specs.declared.fault.PlanFault.{PlanFault}
-use Rattle.plan_said.specs.declared.fault.PlanFault.TheVariants as plan
+use Rattle.plan_rules.specs.declared.fault.PlanFault.{PlanFault}
+use Rattle.plan_rules.specs.declared.fault.PlanFault.TheVariants as plan
 use Rattle.drm_load.specs.declared.loading.ScheduleFault.{ScheduleFault}
 use Rattle.drm_load.specs.declared.loading.ScheduleFault.TheVariants.{NoMemory, Line}
 

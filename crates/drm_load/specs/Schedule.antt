@@ -1,9 +1,9 @@
 -- The schedule of a text on a shelf, with its files.
 use Rattle.std.specs.Prelude.{ℕ, zero, suc, ◌+◌, List, length, Result, Ok, Err}
 use Rattle.drm_schedule.specs.declared.plan.Plan.{Plan}
-use Rattle.plan_said.specs.declared.fault.PlanFault.{PlanFault}
-use Rattle.plan_said.specs.declared.fault.PlanFault.TheVariants as plan
-use Rattle.plan_said.specs.Rules.{Fault}
+use Rattle.plan_rules.specs.declared.fault.PlanFault.{PlanFault}
+use Rattle.plan_rules.specs.declared.fault.PlanFault.TheVariants as plan
+use Rattle.plan_rules.specs.Rules.{Fault}
 use Rattle.drm_plan.specs.Projection.{Drafted}
 use Rattle.drm_plan.specs.Text.{draft_of}
 use Rattle.plan_writing.specs.Canonical.{canonical}

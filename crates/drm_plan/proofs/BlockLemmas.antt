@@ -9,11 +9,11 @@ use Rattle.plan_grammar.specs.declared.line.Line.{Line}
 use Rattle.plan_grammar.specs.declared.line.Line.TheVariants as lines
 use Rattle.plan_grammar.specs.declared.first_word.Keyword.TheVariants as keywords
 use Rattle.plan_grammar.specs.Said.{keyword_said, LineInLines}
-use Rattle.plan_said.specs.declared.said.Said.{Said}
-use Rattle.plan_said.specs.Said.{count}
-use Rattle.plan_said.specs.Rules.{count_with}
-use Rattle.plan_said.specs.InLines.{AllInLines, AreFew}
-use Rattle.plan_said.proofs.KeywordLemmas.{entity_is_one, entity_is_no_block}
+use Rattle.plan_rules.specs.declared.said.Said.{Said}
+use Rattle.plan_rules.specs.Said.{count}
+use Rattle.plan_rules.specs.Rules.{count_with}
+use Rattle.plan_rules.specs.InLines.{AllInLines, AreFew}
+use Rattle.plan_rules.proofs.KeywordLemmas.{entity_is_one, entity_is_no_block}
 use Rattle.drm_plan.specs.Projection.{entities_until, timed_in}
 use Rattle.drm_plan.specs.Parts.{into_last, before_first}
 

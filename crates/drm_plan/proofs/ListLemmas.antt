@@ -5,8 +5,8 @@ use Rattle.std.proofs.lemmas.List.Elements.{filter_map-append}
 use Rattle.drm_schedule.specs.declared.config.Config.{Config}
 use Rattle.plan_grammar.specs.declared.line.Line.{Line}
 use Rattle.plan_grammar.specs.declared.line.Line.TheVariants as lines
-use Rattle.plan_said.specs.declared.said.Said.{Said}
-use Rattle.plan_said.specs.declared.said.Block.{Block}
+use Rattle.plan_rules.specs.declared.said.Said.{Said}
+use Rattle.plan_rules.specs.declared.said.Block.{Block}
 use Rattle.drm_plan.specs.declared.configs.Parts.{Parts}
 use Rattle.drm_plan.specs.Files.{stream_files, config_files}
 use Rattle.drm_plan.specs.Parts.{no_parts, parts_of, into_last, before_first, more, more_by}

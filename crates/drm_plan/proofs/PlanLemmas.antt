@@ -16,14 +16,14 @@ use Rattle.plan_grammar.specs.declared.first_word.Keyword.{Keyword}
 use Rattle.plan_grammar.specs.declared.first_word.Keyword.TheVariants as keywords
 use Rattle.plan_grammar.specs.Said.{keyword_of_body, keyword_said, LineInLines}
 use Rattle.plan_grammar.specs.Same.{same}
-use Rattle.plan_said.specs.declared.said.Said.{Said}
-use Rattle.plan_said.specs.declared.said.Block.{Block}
-use Rattle.plan_said.specs.declared.said.Read.{Read}
-use Rattle.plan_said.specs.Said.{count}
-use Rattle.plan_said.specs.Rules.{lacks_a_line}
+use Rattle.plan_rules.specs.declared.said.Said.{Said}
+use Rattle.plan_rules.specs.declared.said.Block.{Block}
+use Rattle.plan_rules.specs.declared.said.Read.{Read}
+use Rattle.plan_rules.specs.Said.{count}
+use Rattle.plan_rules.specs.Rules.{lacks_a_line}
 use Rattle.drm_plan.specs.Projection.{first_said, content, first_line, occupancy_in, msc_in, prot_a_in, prot_b_in, room_in, clock_in, carry_in, seq_in, dlfc_in, length_in, service_said, stream_said, services_in, streams_in, entities_until, timed_in, or_one, blocks_in, config_of, blocks_of, plan_of}
-use Rattle.plan_said.proofs.KeywordLemmas.{one, entity_is_no_stream}
-use Rattle.plan_said.specs.InLines.{AllInLines, AreFew, BlockInLines, EndedInLines, ReadInLines}
+use Rattle.plan_rules.proofs.KeywordLemmas.{one, entity_is_no_stream}
+use Rattle.plan_rules.specs.InLines.{AllInLines, AreFew, BlockInLines, EndedInLines, ReadInLines}
 use Rattle.drm_plan.proofs.BlockLemmas.{few_until, all_until, timed_fit, timed_counted}
 
 -- what the first line of a keyword says is one that a text can have

@@ -9,11 +9,11 @@ use Rattle.text_lines.specs.declared.text.NoText.{NoText}
 use Rattle.text_lines.specs.declared.text.NoText.TheVariants as no_text
 use Rattle.text_lines.specs.Texts.{longest_text, IsNoText}
 use Rattle.drm_schedule.specs.declared.invalid.Reason.TheVariants.{TooLong, Utf8}
-use Rattle.plan_said.specs.declared.fault.PlanFault.{PlanFault}
-use Rattle.plan_said.specs.declared.fault.PlanFault.TheVariants as plan
-use Rattle.plan_said.specs.declared.said.Read.{Read}
-use Rattle.plan_said.specs.Rules.{said}
-use Rattle.plan_said.specs.Steps.{FailsAs}
+use Rattle.plan_rules.specs.declared.fault.PlanFault.{PlanFault}
+use Rattle.plan_rules.specs.declared.fault.PlanFault.TheVariants as plan
+use Rattle.plan_rules.specs.declared.said.Read.{Read}
+use Rattle.plan_rules.specs.Rules.{said}
+use Rattle.plan_rules.specs.Steps.{FailsAs}
 use Rattle.drm_plan.specs.Projection.{drafted}
 use Rattle.drm_plan.specs.Text.{lines_give, draft_of}
 

@@ -5,8 +5,8 @@ use Rattle.drm_schedule.specs.declared.invalid.Place.{Place}
 use Rattle.drm_schedule.specs.declared.invalid.Place.TheVariants as places
 use Rattle.drm_schedule.specs.declared.plan.Plan.{Plan}
 use Rattle.drm_schedule.specs.Valid.{first_invalid}
-use Rattle.plan_said.specs.declared.fault.PlanFault.{PlanFault}
-use Rattle.plan_said.specs.declared.fault.PlanFault.TheVariants as plan
+use Rattle.plan_rules.specs.declared.fault.PlanFault.{PlanFault}
+use Rattle.plan_rules.specs.declared.fault.PlanFault.TheVariants as plan
 use Rattle.drm_plan.specs.declared.files.Filed.{Filed}
 use Rattle.drm_plan.specs.declared.places.Places.{Places}
 use Rattle.drm_plan.specs.Files.{name_of, with_file}

@@ -1,6 +1,6 @@
 -- The configurations of a text, one after another.
 use Rattle.std.specs.Prelude.{List, [], ◌∷◌, ◌++◌, map, length}
-use Rattle.plan_said.specs.declared.said.Block.{Block}
+use Rattle.plan_rules.specs.declared.said.Block.{Block}
 use Rattle.drm_plan.specs.declared.lists.Lists.{Lists}
 use Rattle.drm_plan.specs.Files.{stream_files, config_files}
 use Rattle.drm_plan.specs.Projection.{config_of, places_of}

@@ -5,8 +5,8 @@ use Rattle.drm_schedule.specs.declared.timed.Timed.{Timed}
 use Rattle.drm_schedule.specs.declared.config.Config.{Config}
 use Rattle.plan_grammar.specs.declared.line.Line.{Line}
 use Rattle.plan_grammar.specs.declared.line.Line.TheVariants as lines
-use Rattle.plan_said.specs.declared.said.Said.{Said}
-use Rattle.plan_said.specs.declared.said.Block.{Block}
+use Rattle.plan_rules.specs.declared.said.Said.{Said}
+use Rattle.plan_rules.specs.declared.said.Block.{Block}
 use Rattle.drm_plan.specs.declared.places.Places.{Places}
 use Rattle.drm_plan.specs.declared.configs.Parts.{Parts}
 use Rattle.drm_plan.specs.Projection.{services_in, streams_in, stream_lines_in, entities_until, timed_in, block_lines_in, config_of, places_of}

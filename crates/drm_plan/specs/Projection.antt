@@ -19,9 +19,9 @@ use Rattle.plan_grammar.specs.declared.first_word.Keyword.{Keyword}
 use Rattle.plan_grammar.specs.declared.first_word.Keyword.TheVariants as keywords
 use Rattle.plan_grammar.specs.Same.{same}
 use Rattle.plan_grammar.specs.Said.{keyword_said}
-use Rattle.plan_said.specs.declared.said.Said.{Said}
-use Rattle.plan_said.specs.declared.said.Block.{Block}
-use Rattle.plan_said.specs.declared.said.Read.{Read}
+use Rattle.plan_rules.specs.declared.said.Said.{Said}
+use Rattle.plan_rules.specs.declared.said.Block.{Block}
+use Rattle.plan_rules.specs.declared.said.Read.{Read}
 use Rattle.drm_plan.specs.declared.places.Places.{Places}
 use Rattle.drm_plan.specs.declared.files.Filed.{Filed}
 use Rattle.drm_plan.specs.Files.{config_files}

@@ -2,7 +2,7 @@
 use Rattle.std.specs.Prelude.{Option, Some, None}
 use Rattle.std.specs.Borrow.{Bor}
 use Rattle.plan_grammar.specs.declared.line.Line.{Line}
-use Rattle.plan_said.specs.declared.said.Said.{Said}
+use Rattle.plan_rules.specs.declared.said.Said.{Said}
 
 abbrev pub said_by : Option (Bor Said) → Option Said
 said_by None = None

@@ -6,7 +6,7 @@ use Rattle.text_lines.specs.Lines.{lines_of, bad_line_of}
 use Rattle.text_lines.specs.Texts.{longest_text}
 use Rattle.drm_schedule.specs.declared.invalid.Reason.TheVariants.{TooLong, Utf8}
 use Rattle.drm_schedule.specs.declared.plan.Plan.{Plan}
-use Rattle.plan_said.specs.Rules.{Fault, said}
+use Rattle.plan_rules.specs.Rules.{Fault, said}
 use Rattle.drm_plan.specs.Files.{without_files}
 use Rattle.drm_plan.specs.Projection.{Drafted, drafted}
 

@@ -9,7 +9,7 @@ use crate::settings;
 use drm_bits::NoMemory;
 use drm_schedule::{Blocks, Config, Entities, Entity, Items, Services, Streams, Timed};
 use plan_lines::{Keyword, Line};
-use plan_said::{Block, Said};
+use plan_rules::{Block, Said};
 use std::alloc::Global;
 
 /// What the lines of a configuration list: its services, streams and blocks.

@@ -8,7 +8,7 @@ ghost use Rattle.drm_plan.specs.Lookup.{at};
 use crate::files::{Filed, put_bytes};
 use crate::places::{Places, place_line};
 use drm_schedule::{Items, Octets, Place, Plan, Schedule};
-use plan_said::{PlanFault, at};
+use plan_rules::{PlanFault, at};
 use std::marker::Model;
 
 /// What the lines of a text give, while the files that it names come.

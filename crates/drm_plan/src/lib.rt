@@ -15,6 +15,6 @@ pub use drm_schedule::{
     Carry, Clock, Config, Configs, Content, Invalid, Items, Mode, Place, Plan, Reason, Schedule,
     Services, Stream, Streams,
 };
-pub use plan_said::PlanFault;
+pub use plan_rules::PlanFault;
 pub use plan_writing::write_plan;
 pub use reading::read_plan;

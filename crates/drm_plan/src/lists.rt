@@ -8,7 +8,7 @@ use crate::files::{Filed, put_files};
 use crate::places::Places;
 use drm_bits::NoMemory;
 use drm_schedule::{Configs, Items};
-use plan_said::Block;
+use plan_rules::Block;
 use std::alloc::Global;
 
 /// Configurations, the lines of each that a fault can name, and their files.

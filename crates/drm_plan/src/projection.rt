@@ -2,7 +2,7 @@
 
 ghost use Rattle.std.specs.Prelude.{◌≡◌, ◌++◌, IfOk};
 ghost use Rattle.std.specs.Option.{option_to_list};
-ghost use Rattle.plan_said.specs.InLines.{ReadInLines, EndsComplete};
+ghost use Rattle.plan_rules.specs.InLines.{ReadInLines, EndsComplete};
 ghost use Rattle.drm_plan.specs.Projection.{drafted};
 
 use crate::draft::Draft;
@@ -10,7 +10,7 @@ use crate::lists::make_lists;
 use crate::settings;
 use drm_bits::NoMemory;
 use drm_schedule::{Items, Plan};
-use plan_said::{Block, Read};
+use plan_rules::{Block, Read};
 use std::alloc::Global;
 
 fn all_blocks(closed: Items<Block>, current: Option<Block>) -> Result<Items<Block>, NoMemory>

@@ -3,13 +3,13 @@
 ghost use Rattle.std.specs.Prelude.{◌≡◌, ◌<◌, ◌≤◌, length, IsUtf8, Err};
 ghost use Rattle.text_lines.specs.Lines.{lines_of, bad_line_of};
 ghost use Rattle.text_lines.specs.Texts.{longest_text};
-ghost use Rattle.plan_said.specs.Steps.{Reads};
+ghost use Rattle.plan_rules.specs.Steps.{Reads};
 ghost use Rattle.drm_plan.specs.Text.{lines_give, draft_of};
 
 use crate::draft::Draft;
 use crate::projection::make_draft;
 use drm_schedule::Reason;
-use plan_said::{PlanFault, at, read_lines};
+use plan_rules::{PlanFault, at, read_lines};
 use std::alloc::Global;
 use text_lines::{NoText, lines, readable};
 

@@ -7,7 +7,7 @@ ghost use Rattle.drm_plan.specs.Settings.{said_by, line_by};
 
 use drm_schedule::{Carry, Clock, Mode};
 use plan_lines::{Keyword, Line};
-use plan_said::Said;
+use plan_rules::Said;
 
 /// The first line of this keyword.
 fn find(keyword: Keyword, lines: &[Said]) -> Option<&Said>

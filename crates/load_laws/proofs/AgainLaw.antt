@@ -16,7 +16,7 @@ use Rattle.drm_plan.specs.Draft.{line_of_file, name_of_file, with_bytes, valid_o
 use Rattle.drm_plan.specs.Files.{config_files, name_of, with_file}
 use Rattle.drm_plan.specs.Lookup.{at}
 use Rattle.drm_plan.specs.Projection.{Drafted}
-use Rattle.plan_said.specs.Rules.{Fault}
+use Rattle.plan_rules.specs.Rules.{Fault}
 use Rattle.drm_plan.specs.Text.{draft_of, IsText}
 use Rattle.plan_laws.proofs.AttachLaw.{Fills, at_seam, files_come, files_came, fills_fit, fills_same, each_weaker}
 use Rattle.plan_laws.proofs.WholeLaw.{came_of, given_by, canonical_is_text}

@@ -14,14 +14,14 @@ use Rattle.plan_grammar.specs.Lines.{shape_of}
 use Rattle.plan_grammar.specs.Same.{same}
 use Rattle.plan_grammar.specs.Said.{keyword_said, words_said, canonical}
 use Rattle.plan_grammar.specs.Shape.{reading}
-use Rattle.plan_said.specs.declared.said.Said.{Said}
-use Rattle.plan_said.specs.declared.said.Block.{Block}
-use Rattle.plan_said.specs.declared.said.Read.{Read}
-use Rattle.plan_said.specs.Said.{add}
+use Rattle.plan_rules.specs.declared.said.Said.{Said}
+use Rattle.plan_rules.specs.declared.said.Block.{Block}
+use Rattle.plan_rules.specs.declared.said.Read.{Read}
+use Rattle.plan_rules.specs.Said.{add}
 use Rattle.text_lines.specs.Faults.{lines_say}
-use Rattle.plan_said.specs.Rules.{version_in, is_one, keyword_in, is_out_of_order, ends_incomplete, is_front, is_second, is_too_many, said_line, said_from}
-use Rattle.plan_said.specs.Steps.{check_of}
-use Rattle.plan_said.proofs.StepLemmas.{goes_on}
+use Rattle.plan_rules.specs.Rules.{version_in, is_one, keyword_in, is_out_of_order, ends_incomplete, is_front, is_second, is_too_many, said_line, said_from}
+use Rattle.plan_rules.specs.Steps.{check_of}
+use Rattle.plan_rules.proofs.StepLemmas.{goes_on}
 
 -- A canonical line is cut into its words, and reads as what it says.
 pub record LineAgain (l : Line) : Type 0 where

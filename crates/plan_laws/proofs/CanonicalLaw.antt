@@ -11,12 +11,12 @@ use Rattle.drm_schedule.specs.declared.plan.Plan.{Plan}
 use Rattle.drm_schedule.specs.Ranges.{ConfigInLines}
 use Rattle.plan_grammar.specs.declared.first_word.Keyword.TheVariants as keywords
 use Rattle.plan_grammar.specs.declared.line.Line.{Line}
-use Rattle.plan_said.specs.declared.said.Said.{Said}
-use Rattle.plan_said.specs.declared.said.Block.{Block}
-use Rattle.plan_said.specs.declared.said.Read.{Read}
-use Rattle.plan_said.specs.Said.{nothing, begin, count}
-use Rattle.plan_said.specs.Rules.{version_in, is_one, is_incomplete, is_second, is_too_many, ends_incomplete}
-use Rattle.plan_said.specs.Steps.{check_rows, check_of}
+use Rattle.plan_rules.specs.declared.said.Said.{Said}
+use Rattle.plan_rules.specs.declared.said.Block.{Block}
+use Rattle.plan_rules.specs.declared.said.Read.{Read}
+use Rattle.plan_rules.specs.Said.{nothing, begin, count}
+use Rattle.plan_rules.specs.Rules.{version_in, is_one, is_incomplete, is_second, is_too_many, ends_incomplete}
+use Rattle.plan_rules.specs.Steps.{check_rows, check_of}
 use Rattle.plan_writing.specs.Canonical.{front_lines, config_lines, plan_lines}
 use Rattle.drm_plan.specs.Projection.{config_of, plan_of}
 use Rattle.plan_laws.proofs.AgainLemmas.{two, adds, Fine, adds_append, fine_append, numbered, inner_fine, inner_adds}

@@ -22,12 +22,12 @@ use Rattle.plan_grammar.specs.declared.line.Line.{Line}
 use Rattle.plan_grammar.specs.declared.line.Line.TheVariants as lines
 use Rattle.plan_grammar.specs.Same.{same}
 use Rattle.plan_grammar.specs.Said.{keyword_said, keyword_of_body}
-use Rattle.plan_said.specs.declared.said.Said.{Said}
-use Rattle.plan_said.specs.Said.{count}
-use Rattle.plan_said.specs.Rules.{is_entity, is_front, count_with, count_entities, is_out_of_order, is_second, is_too_many}
+use Rattle.plan_rules.specs.declared.said.Said.{Said}
+use Rattle.plan_rules.specs.Said.{count}
+use Rattle.plan_rules.specs.Rules.{is_entity, is_front, count_with, count_entities, is_out_of_order, is_second, is_too_many}
 use Rattle.plan_writing.specs.Canonical.{service_lines, stream_lines, clock_lines, entity_lines, block_lines}
 use Rattle.plan_laws.proofs.AgainLemmas.{two, numbered, is_inner, InnerFine}
-use Rattle.plan_said.proofs.KeywordLemmas.{one, entity_is_one, entity_is_no_block}
+use Rattle.plan_rules.proofs.KeywordLemmas.{one, entity_is_one, entity_is_no_block}
 
 append_nil : {X : Type 0} (xs : List X) → xs ++ [] ≡ xs
 append_nil [] = refl

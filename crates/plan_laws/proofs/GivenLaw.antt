@@ -19,17 +19,17 @@ use Rattle.plan_lines.proofs.CleanLemmas.{clean, lines_are_single}
 use Rattle.plan_lines.proofs.KeywordLemmas.{says_keyword}
 use Rattle.plan_lines.proofs.KindLemmas.{line_fits}
 use Rattle.plan_lines.proofs.CleanLemmas.{utf8_cut}
-use Rattle.plan_said.specs.declared.said.Block.{Block}
-use Rattle.plan_said.specs.declared.said.Read.{Read}
-use Rattle.plan_said.specs.Said.{nothing, add}
+use Rattle.plan_rules.specs.declared.said.Block.{Block}
+use Rattle.plan_rules.specs.declared.said.Read.{Read}
+use Rattle.plan_rules.specs.Said.{nothing, add}
 use Rattle.drm_plan.specs.Files.{config_files}
-use Rattle.plan_said.specs.InLines.{IsSingle, EndedInLines, ReadInLines, EndsComplete}
+use Rattle.plan_rules.specs.InLines.{IsSingle, EndedInLines, ReadInLines, EndsComplete}
 use Rattle.drm_plan.specs.Projection.{Drafted, drafted}
 use Rattle.text_lines.specs.Faults.{fault, first_fault, ok_unless, ◌>>=◌, lines_say}
-use Rattle.plan_said.specs.Rules.{Fault, version_in, keyword_in, is_misplaced, is_second, is_too_many, is_17th, in_current, is_incomplete, current_line, end_rows, ended, ends_incomplete, said_shape, said_keyword, said_words, said_line, said_from, said}
-use Rattle.plan_said.specs.Steps.{check_of}
+use Rattle.plan_rules.specs.Rules.{Fault, version_in, keyword_in, is_misplaced, is_second, is_too_many, is_17th, in_current, is_incomplete, current_line, end_rows, ended, ends_incomplete, said_shape, said_keyword, said_words, said_line, said_from, said}
+use Rattle.plan_rules.specs.Steps.{check_of}
 use Rattle.drm_plan.specs.Text.{lines_give}
-use Rattle.plan_said.proofs.KeptLemmas.{add_fits}
+use Rattle.plan_rules.proofs.KeptLemmas.{add_fits}
 use Rattle.drm_plan.proofs.PlanLemmas.{plan_fits}
 
 -- ---- the lines of a text in UTF-8

@@ -23,10 +23,10 @@ use Rattle.plan_grammar.specs.declared.line.Line.TheVariants as lines
 use Rattle.plan_grammar.specs.Said.{canonical as line_of, line_text, detached, LineInLines}
 use Rattle.plan_laws.proofs.LineAgain.{line_again}
 use Rattle.plan_laws.proofs.SaidAgain.{said_again}
-use Rattle.plan_said.specs.declared.said.Block.{Block}
-use Rattle.plan_said.specs.declared.said.Read.{Read}
-use Rattle.plan_said.specs.Said.{nothing}
-use Rattle.plan_said.specs.Rules.{Fault, version_in, ended, is_incomplete, said_from, said}
+use Rattle.plan_rules.specs.declared.said.Block.{Block}
+use Rattle.plan_rules.specs.declared.said.Read.{Read}
+use Rattle.plan_rules.specs.Said.{nothing}
+use Rattle.plan_rules.specs.Rules.{Fault, version_in, ended, is_incomplete, said_from, said}
 use Rattle.plan_writing.specs.Canonical.{front_lines, settings_lines, service_lines, stream_lines, clock_lines, block_lines, config_lines, plan_lines, text_of, canonical}
 use Rattle.drm_plan.specs.Files.{emptied, without_bytes, config_without_bytes, without_files}
 use Rattle.plan_laws.specs.Texts.{IsReadAgain}

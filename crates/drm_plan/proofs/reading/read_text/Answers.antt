@@ -6,7 +6,7 @@ use Rattle.text_lines.specs.Lines.{lines_of}
 use Rattle.drm_plan.proofs.TextLemmas.{text_fails, text_gives}
 use Rattle.std.specs.Prelude.{All}
 use Rattle.plan_lines.proofs.CleanLemmas.{lines_are_single}
-use Rattle.plan_said.specs.InLines.{IsSingle}
+use Rattle.plan_rules.specs.InLines.{IsSingle}
 use Rattle.text_lines.proofs.CountLemmas.{few_lines}
 use Rattle.drm_plan.proofs.CountLemmas.{all_unmapped}
 use Rattle.drm_plan.proofs.reading.read_text.Goals as goal
