@@ -6,7 +6,7 @@ use Rattle.plan_rules.specs.declared.fault.PlanFault.TheVariants as plan
 use Rattle.plan_rules.specs.Rules.{Fault}
 use Rattle.drm_plan.specs.Projection.{Drafted}
 use Rattle.drm_plan.specs.Text.{draft_of}
-use Rattle.plan_writing.specs.Canonical.{canonical}
+use Rattle.plan_writer.specs.Canonical.{canonical}
 use Rattle.drm_plan.specs.Draft.{name_at, line_at, attached, valid_of}
 use Rattle.drm_load.specs.declared.loading.ScheduleFault.{ScheduleFault}
 use Rattle.drm_load.specs.declared.loading.ScheduleFault.TheVariants.{NoMemory, Line}

@@ -16,5 +16,5 @@ pub use drm_schedule::{
     Services, Stream, Streams,
 };
 pub use plan_rules::PlanFault;
-pub use plan_writing::write_plan;
+pub use plan_writer::write_plan;
 pub use reading::read_plan;

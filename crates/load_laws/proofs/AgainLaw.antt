@@ -11,7 +11,7 @@ use Rattle.drm_schedule.specs.declared.invalid.Invalid.{Invalid}
 use Rattle.drm_schedule.specs.declared.plan.Plan.{Plan}
 use Rattle.drm_schedule.specs.Valid.{IsSchedule, first_invalid}
 use Rattle.drm_plan.specs.declared.files.Filed.{Filed}
-use Rattle.plan_writing.specs.Canonical.{canonical}
+use Rattle.plan_writer.specs.Canonical.{canonical}
 use Rattle.drm_plan.specs.Draft.{line_of_file, name_of_file, with_bytes, valid_of, valid_unless}
 use Rattle.drm_plan.specs.Files.{config_files, name_of, with_file}
 use Rattle.drm_plan.specs.Lookup.{at}

@@ -3,7 +3,7 @@ use Rattle.std.specs.Prelude.{ℕ, ◌≡◌, ◌≤◌, List, length, Contains,
 use Rattle.drm_links.specs.Shelf.{Files, file_at}
 use Rattle.drm_schedule.specs.declared.plan.Plan.{Plan}
 use Rattle.drm_schedule.specs.Valid.{IsSchedule}
-use Rattle.plan_writing.specs.Canonical.{canonical}
+use Rattle.plan_writer.specs.Canonical.{canonical}
 use Rattle.drm_plan.specs.Text.{IsText}
 use Rattle.plan_laws.specs.Texts.{EachFile}
 use Rattle.drm_load.specs.Schedule.{longest_text, longest_file, schedule_named, checked}

@@ -17,7 +17,7 @@ use Rattle.plan_rules.specs.declared.said.Read.{Read}
 use Rattle.plan_rules.specs.Said.{nothing, begin, count}
 use Rattle.plan_rules.specs.Rules.{version_in, is_one, is_incomplete, is_second, is_too_many, ends_incomplete}
 use Rattle.plan_rules.specs.Steps.{check_rows, check_of}
-use Rattle.plan_writing.specs.Canonical.{front_lines, config_lines, plan_lines}
+use Rattle.plan_writer.specs.Canonical.{front_lines, config_lines, plan_lines}
 use Rattle.drm_plan.specs.Projection.{config_of, plan_of}
 use Rattle.plan_laws.proofs.AgainLemmas.{two, adds, Fine, adds_append, fine_append, numbered, inner_fine, inner_adds}
 use Rattle.plan_laws.proofs.ConfigLemmas.{inner_lines, all_fine}

@@ -22,7 +22,7 @@ use Rattle.plan_rules.specs.declared.said.Said.{Said}
 use Rattle.plan_rules.specs.declared.said.Block.{Block}
 use Rattle.plan_rules.specs.Said.{count}
 use Rattle.plan_rules.specs.Rules.{lacks_a_line, is_incomplete}
-use Rattle.plan_writing.specs.Canonical.{service_lines, stream_lines, clock_lines, entity_lines, block_lines}
+use Rattle.plan_writer.specs.Canonical.{service_lines, stream_lines, clock_lines, entity_lines, block_lines}
 use Rattle.drm_plan.specs.Projection.{first_said, content, first_line, clock_in, service_said, stream_said, services_in, streams_in, entities_until, timed_in, or_one, blocks_in, config_of}
 use Rattle.drm_plan.specs.Parts.{into_last, before_first}
 use Rattle.drm_plan.proofs.BlockLemmas.{until_append, timed_append, timed_counted}

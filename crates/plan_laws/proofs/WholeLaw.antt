@@ -18,7 +18,7 @@ use Rattle.drm_schedule.specs.declared.plan.Plan.{Plan}
 use Rattle.drm_schedule.specs.Ranges.{InLines}
 use Rattle.drm_schedule.specs.Valid.{IsSchedule, first_invalid}
 use Rattle.plan_rules.specs.declared.fault.PlanFault.{PlanFault}
-use Rattle.plan_writing.specs.Canonical.{canonical}
+use Rattle.plan_writer.specs.Canonical.{canonical}
 use Rattle.drm_plan.specs.declared.files.Filed.{Filed}
 use Rattle.drm_plan.specs.Draft.{attached, with_bytes, valid_of, valid_unless}
 use Rattle.drm_plan.specs.Files.{config_files, with_file, without_bytes, config_without_bytes, without_files}

@@ -6,7 +6,7 @@ use Rattle.drm_schedule.specs.declared.stream.Content.{Content}
 use Rattle.drm_schedule.specs.declared.stream.Content.TheVariants.{Fill, File}
 use Rattle.drm_schedule.specs.declared.plan.Plan.{Plan}
 use Rattle.drm_schedule.specs.Valid.{IsSchedule}
-use Rattle.plan_writing.specs.Canonical.{canonical}
+use Rattle.plan_writer.specs.Canonical.{canonical}
 use Rattle.text_lines.specs.Texts.{longest_text}
 use Rattle.drm_plan.specs.Draft.{attached, valid_of}
 use Rattle.drm_plan.specs.Projection.{Drafted}

@@ -1,7 +1,7 @@
 //! Laws of the canonical text.
 
 ghost use Rattle.std.specs.Prelude.{◌≡◌, ◌↔◌, IsUtf8};
-ghost use Rattle.plan_writing.specs.Canonical.{canonical};
+ghost use Rattle.plan_writer.specs.Canonical.{canonical};
 ghost use Rattle.drm_plan.specs.Files.{without_files};
 ghost use Rattle.plan_laws.specs.Texts.{IsReadAgain};
 

@@ -1,6 +1,6 @@
 use Rattle.std.proofs.Common.{◌≡◌, ◌∙◌, ap, refl, Err}
 use Rattle.std.proofs.lemmas.Result.{err_from_is_err_and}
-use Rattle.plan_writing.specs.Canonical.{canonical}
+use Rattle.plan_writer.specs.Canonical.{canonical}
 use Rattle.drm_links.specs.Sink.{Outputs, IsFront}
 use Rattle.drm_links.proofs.ToldLemmas.{counts_as, counts_none}
 use Rattle.drm_load.specs.Schedule.{checked}
