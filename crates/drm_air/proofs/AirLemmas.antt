@@ -14,8 +14,8 @@ use Rattle.drm_links.proofs.Places.{index_of}
 use Rattle.collect_laws.specs.Laws.{OneRun}
 use Rattle.drm_schedule.specs.declared.plan.Plan.{Plan}
 use Rattle.drm_schedule.specs.Valid.{IsSchedule}
-use Rattle.script_lines.specs.declared.delivery.Delivery.{Delivery}
-use Rattle.script_lines.specs.Script.{IsScript}
+use Rattle.plan_script.specs.declared.delivery.Delivery.{Delivery}
+use Rattle.plan_script.specs.Script.{IsScript}
 use Rattle.recv_reading.specs.declared.options.ReceiveOptions.{ReceiveOptions}
 use Rattle.mod_receiver.specs.declared.job.Job.{Job}
 use Rattle.drm_faults.specs.declared.fault.Fault.{Fault}

@@ -1,7 +1,7 @@
 -- What is said of how a run of `air` ends.
 use Rattle.std.proofs.Common.{◌≡◌, ℕ, ◌<◌, ◌⊎◌, inl, inr, Bool, true, IsTrue, List, [], length, Result, Ok, Err, refl, sym, ◌∙◌, ap, subst, arith}
 use Rattle.drm_schedule.specs.declared.plan.Plan.{Plan}
-use Rattle.script_lines.specs.declared.delivery.Delivery.{Delivery}
+use Rattle.plan_script.specs.declared.delivery.Delivery.{Delivery}
 use Rattle.drm_links.specs.Told.{HasFailed, HasCause, Known}
 use Rattle.drm_links.specs.Shelf.{Files, Supplies}
 use Rattle.drm_links.specs.Sink.{Output}

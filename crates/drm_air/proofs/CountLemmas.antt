@@ -5,7 +5,7 @@ use Rattle.dcp_pft.specs.Carrying.{datagram_count}
 use Rattle.drm_timeline.specs.Numbers.{packet_size}
 use Rattle.drm_server.specs.Frames.{IsPacketAt}
 use Rattle.drm_server.specs.Datagrams.{HasDatagrams}
-use Rattle.script_lines.specs.Script.{fragment_count}
+use Rattle.plan_script.specs.Script.{fragment_count}
 
 pub datagrams_counted : (plan : Plan) (t : ℕ) (packet : List ℕ) → IsPacketAt plan t packet → length packet ≡ packet_size plan t → HasDatagrams plan t (fragment_count plan t)
 unfolding fragment_count

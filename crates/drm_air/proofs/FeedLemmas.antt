@@ -3,7 +3,7 @@ use Rattle.std.proofs.Common.{◌≡◌, ℕ, ◌+◌, ◌<◌, List, [], ◌∷
 use Rattle.std.proofs.lemmas.List.{take_more}
 use Rattle.drm_links.specs.MemoryLink.{LinkState}
 use Rattle.drm_schedule.specs.declared.plan.Plan.{Plan}
-use Rattle.script_lines.specs.declared.delivery.Delivery.{Delivery}
+use Rattle.plan_script.specs.declared.delivery.Delivery.{Delivery}
 use Rattle.mod_delivery.specs.Sent.{IsSent, AreSent}
 use Rattle.drm_air.specs.Air.{pairs_of}
 

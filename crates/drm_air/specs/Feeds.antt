@@ -1,7 +1,7 @@
 -- The links of the feeds of a script.
 use Rattle.std.specs.Prelude.{ℕ, ◌≡◌, ◌<◌, List, map, length, slice_index_or, Some}
 use Rattle.drm_schedule.specs.declared.plan.Plan.{Plan}
-use Rattle.script_lines.specs.declared.delivery.Delivery.{Delivery}
+use Rattle.plan_script.specs.declared.delivery.Delivery.{Delivery}
 use Rattle.drm_links.specs.Link.{Datagram}
 use Rattle.drm_links.specs.Dock.{first_traffic}
 use Rattle.drm_links.specs.MemoryLink.{LinkState, link_known}

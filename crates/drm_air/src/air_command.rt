@@ -3,7 +3,7 @@
 ghost use Rattle.std.specs.Prelude.{ℕ, ◌≡◌, ◌<◌, ◌≤◌, ◌⊎◌, ◌++◌, [], ◌∷◌, List, length, vec_len, All, IfOk, OnOk, Err};
 ghost use Rattle.drm_links.specs.Told.{HasCause};
 ghost use Rattle.mod_delivery.specs.Sent.{IsSent};
-ghost use Rattle.script_lines.specs.Script.{IsDelivery, fragment_count};
+ghost use Rattle.plan_script.specs.Script.{IsDelivery, fragment_count};
 ghost use Rattle.drm_timeline.specs.Numbers as numbers;
 ghost use Rattle.drm_server.specs.Datagrams.{HasDatagrams};
 ghost use Rattle.drm_faults.specs.declared.fault.Fault.{Fault};
@@ -23,7 +23,7 @@ use drm_server::Server;
 use drm_timeline::frame_count;
 use mod_receiver::{Job, job_for, laws_of_deliveries, reports_follow, run_all, settle};
 use recv_reading::ReceiveOptions;
-use script_lines::{Delivery, Script};
+use plan_script::{Delivery, Script};
 use std::alloc::Global;
 use std::thread::Threads;
 

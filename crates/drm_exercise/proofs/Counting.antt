@@ -11,8 +11,8 @@ use Rattle.drm_schedule.specs.declared.config.Config.{Config}
 use Rattle.drm_schedule.specs.Sizes.{packet_len}
 use Rattle.drm_timeline.specs.Numbers.{packet_size}
 use Rattle.drm_timeline.specs.Standing.{has_started}
-use Rattle.script_lines.specs.declared.delivery.Delivery.{Delivery}
-use Rattle.script_lines.specs.Script.{delivery, fragment_count, IsDelivery}
+use Rattle.plan_script.specs.declared.delivery.Delivery.{Delivery}
+use Rattle.plan_script.specs.Script.{delivery, fragment_count, IsDelivery}
 use Rattle.drm_air.specs.Air.{AreFeeds}
 use Rattle.drm_exercise.specs.Exercise.{config, plan, is_left_out, twice_unless, of_packet, deliveries}
 use Rattle.drm_exercise.proofs.Ranges.{forward_more, back_more}

@@ -2,8 +2,8 @@
 use Rattle.std.proofs.Common.{◌≡◌, ℕ, ◌+◌, ◌*◌, List, [], ◌∷◌, ◌++◌, true, false, refl, sym, ◌∙◌, ap}
 use Rattle.std.specs.Prelude.{reverse}
 use Rattle.std.specs.List.{flat_map, range_with_len}
-use Rattle.script_lines.specs.declared.delivery.Delivery.{Delivery}
-use Rattle.script_lines.specs.Script.{delivery, fragment_count}
+use Rattle.plan_script.specs.declared.delivery.Delivery.{Delivery}
+use Rattle.plan_script.specs.Script.{delivery, fragment_count}
 use Rattle.drm_schedule.specs.declared.plan.Plan.{Plan}
 use Rattle.drm_timeline.specs.Numbers.{packet_size}
 use Rattle.dcp_pft.specs.Carrying.{datagram_count}

@@ -14,8 +14,8 @@ use Rattle.drm_schedule.specs.declared.config.Config.{Config}
 use Rattle.drm_schedule.specs.declared.plan.Plan.{Plan}
 use Rattle.drm_schedule.specs.declared.stream.Content.TheVariants.{Fill}
 use Rattle.drm_schedule.specs.declared.stream.Stream.{Stream}
-use Rattle.script_lines.specs.declared.delivery.Delivery.{Delivery}
-use Rattle.script_lines.specs.Script.{delivery, fragment_count}
+use Rattle.plan_script.specs.declared.delivery.Delivery.{Delivery}
+use Rattle.plan_script.specs.Script.{delivery, fragment_count}
 
 -- one audio service, in one stream of which each byte is the same
 abbrev pub services : List Service

@@ -1,7 +1,7 @@
 //! What is delivered in an exercise.
 
 ghost use Rattle.std.specs.Prelude.{◌≡◌, ◌≤◌, ◌<◌, ◌++◌, ◌∷◌, [], IfOk, OnOk};
-ghost use Rattle.script_lines.specs.Script.{fragment_count};
+ghost use Rattle.plan_script.specs.Script.{fragment_count};
 ghost use Rattle.drm_timeline.specs.Numbers.{frame_count as frames};
 ghost use Rattle.drm_exercise.specs.Exercise as exercise;
 
@@ -9,7 +9,7 @@ use dcp_pft::{cut_for, datagrams};
 use drm_bits::NoMemory;
 use drm_schedule::{Items, Schedule};
 use drm_timeline::{frame_count, packet_len};
-use script_lines::{Delivery, Script};
+use plan_script::{Delivery, Script};
 use std::alloc::Global;
 
 /// The script of the exercise of this size: each packet in its order, its fragments from the last to the first, each

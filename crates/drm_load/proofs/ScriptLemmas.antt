@@ -1,11 +1,11 @@
 -- A script from a shelf.
 use Rattle.std.proofs.Common.{◌≡◌, ℕ, inl, inr, List, Result, Ok, Err, refl, sym, ap}
 use Rattle.drm_schedule.specs.declared.plan.Plan.{Plan}
-use Rattle.script_lines.specs.declared.delivery.Delivery.{Delivery}
-use Rattle.script_lines.specs.declared.fault.ScriptFault.{ScriptFault}
-use Rattle.script_lines.specs.declared.fault.ScriptFault.TheVariants as script
-use Rattle.script_lines.specs.Script.{Fault, script_of_text}
-use Rattle.script_lines.specs.Steps.{Reads}
+use Rattle.plan_script.specs.declared.delivery.Delivery.{Delivery}
+use Rattle.plan_script.specs.declared.fault.ScriptFault.{ScriptFault}
+use Rattle.plan_script.specs.declared.fault.ScriptFault.TheVariants as script
+use Rattle.plan_script.specs.Script.{Fault, script_of_text}
+use Rattle.plan_script.specs.Steps.{Reads}
 use Rattle.drm_links.specs.Told.{Known}
 use Rattle.drm_links.specs.Shelf.{Files}
 use Rattle.drm_load.specs.declared.loading.ScheduleFault.{ScheduleFault}

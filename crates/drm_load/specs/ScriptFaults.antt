@@ -1,6 +1,6 @@
 -- The fault that a fault of a script becomes.
-use Rattle.script_lines.specs.declared.fault.ScriptFault.{ScriptFault}
-use Rattle.script_lines.specs.declared.fault.ScriptFault.TheVariants as script
+use Rattle.plan_script.specs.declared.fault.ScriptFault.{ScriptFault}
+use Rattle.plan_script.specs.declared.fault.ScriptFault.TheVariants as script
 use Rattle.drm_load.specs.declared.loading.ScheduleFault.{ScheduleFault}
 use Rattle.drm_load.specs.declared.loading.ScheduleFault.TheVariants.{NoMemory, Line}
 

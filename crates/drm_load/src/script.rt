@@ -2,7 +2,7 @@
 
 ghost use Rattle.std.specs.Prelude.{◌≡◌, Err, IfOk};
 ghost use Rattle.drm_links.specs.Told.{HasCause};
-ghost use Rattle.script_lines.specs.Script.{IsScript};
+ghost use Rattle.plan_script.specs.Script.{IsScript};
 ghost use Rattle.drm_load.specs.Loading.{ReadBy};
 ghost use Rattle.drm_load.specs.Scripts.{script_named};
 ghost use Rattle.drm_load.specs.Faults.{fault_of_script};
@@ -11,7 +11,7 @@ use crate::loading::{ScheduleFault, load};
 use drm_faults::Fault;
 use drm_links::Shelf;
 use drm_schedule::Schedule;
-use script_lines::{Script, ScriptFault, read_script};
+use plan_script::{Script, ScriptFault, read_script};
 use std::alloc::Global;
 use text_lines::LONGEST_TEXT;
 

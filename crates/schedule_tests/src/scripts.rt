@@ -2,7 +2,7 @@
 //! ten fragments, and the others have nine.
 
 use drm_schedule::Schedule;
-use script_lines::{Delivery, read_script};
+use plan_script::{Delivery, read_script};
 use std::alloc::Global;
 use trial_schedules::{Edit, SMALL, schedule};
 

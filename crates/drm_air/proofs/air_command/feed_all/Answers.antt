@@ -2,7 +2,7 @@ use Rattle.std.proofs.Common.{◌≡◌, ℕ, ◌+◌, ◌<◌, ◌≤◌, slice
 use Rattle.std.proofs.lemmas.List.{get_or_default}
 use Rattle.drm_links.specs.MemoryLink.{LinkState}
 use Rattle.drm_links.proofs.Places.{each_more}
-use Rattle.script_lines.specs.declared.delivery.Delivery.{Delivery}
+use Rattle.plan_script.specs.declared.delivery.Delivery.{Delivery}
 use Rattle.mod_receiver.specs.declared.job.Job.{Job}
 use Rattle.drm_air.specs.Air.{air_rules}
 use Rattle.mod_receiver.specs.Jobs.{IsJob}

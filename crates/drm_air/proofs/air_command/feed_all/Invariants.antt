@@ -1,6 +1,6 @@
 use Rattle.std.proofs.Common.{◌≡◌, ℕ, ◌<◌, List, vec_len, slice_index_or, length}
 use Rattle.drm_links.specs.MemoryLink.{LinkState}
-use Rattle.script_lines.specs.declared.delivery.Delivery.{Delivery}
+use Rattle.plan_script.specs.declared.delivery.Delivery.{Delivery}
 use Rattle.mod_receiver.specs.declared.job.Job.{Job}
 use Rattle.drm_air.specs.Air.{air_rules}
 use Rattle.mod_receiver.specs.Jobs.{AreJobs}

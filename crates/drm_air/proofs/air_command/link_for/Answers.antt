@@ -1,6 +1,6 @@
 use Rattle.std.proofs.Common.{◌++◌, ◌∷◌, [], ◌∙◌, ap}
 use Rattle.drm_links.specs.MemoryLink.{LinkState}
-use Rattle.script_lines.specs.declared.delivery.Delivery.{Delivery}
+use Rattle.plan_script.specs.declared.delivery.Delivery.{Delivery}
 use Rattle.drm_air.proofs.FeedLemmas.{sent_more}
 use Rattle.drm_air.proofs.air_command.link_for.Goals as goal
 

@@ -1,6 +1,6 @@
 use Rattle.std.proofs.Common.{◌≡◌, ◌+◌, ◌-◌, ◌++◌, List, [], ◌∷◌, sym, ◌∙◌, ap, arith, le_refl}
-use Rattle.script_lines.specs.declared.delivery.Delivery.{Delivery}
-use Rattle.script_lines.specs.Script.{delivery}
+use Rattle.plan_script.specs.declared.delivery.Delivery.{Delivery}
+use Rattle.plan_script.specs.Script.{delivery}
 use Rattle.drm_exercise.proofs.Delivering.{left_of, whole, skipped, taken, twice_behind}
 use Rattle.drm_exercise.proofs.script.deliver.Goals as goal
 

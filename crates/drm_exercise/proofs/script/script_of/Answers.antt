@@ -1,5 +1,5 @@
 use Rattle.std.proofs.Common.{◌≡◌, ◌*◌, ◌++◌, ◌∷◌, [], IfOk, ◌∙◌, ap, subst, arith}
-use Rattle.script_lines.specs.Script.{fragment_count}
+use Rattle.plan_script.specs.Script.{fragment_count}
 use Rattle.drm_timeline.specs.Numbers.{frame_count}
 use Rattle.drm_exercise.specs.Exercise.{of_packet, deliveries, plan}
 use Rattle.drm_exercise.proofs.Delivering.{up_to, packet_more, all_delivered}

@@ -1,0 +1,196 @@
+-- Scripts: which fragments of which packets are delivered to each feed, and in which order; and what can be wrong with one.
+use Rattle.std.specs.Prelude.{ℕ, ◌+◌, ◌-◌, ◌<◌, ◌≤◌, ◌==◌, ◌&&◌, ◌||◌, not, nat_le, nat_lt, Bool, true, false, is_none, length, sum_by, All, List, [], ◌∷◌, ◌++◌, map, reverse, drop, codes, Option, Some, None, Result, Err, if◌then◌else◌}
+use Rattle.std.specs.List.{list_all, flat_map, range_with_len, slice_split}
+use Rattle.std.specs.Str.{bytes_eq, is_utf8}
+use Rattle.std.specs.Str.Parse.{digits_value}
+use Rattle.text_lines.specs.Faults.{FaultOf, fault, first_fault, ok_unless, words_say, lines_say, ◌>>=◌}
+use Rattle.text_lines.specs.Lines.{lines_of, words_of, bad_line_of}
+use Rattle.text_lines.specs.Numbers.{is_number}
+use Rattle.text_lines.specs.Texts.{longest_text}
+use Rattle.drm_schedule.specs.declared.invalid.Reason.{Reason}
+use Rattle.drm_schedule.specs.declared.invalid.Reason.TheVariants.{Word, Number, Range, Missing, TooLong, Utf8}
+use Rattle.drm_schedule.specs.declared.plan.Plan.{Plan}
+use Rattle.drm_timeline.specs.Numbers.{frame_count, packet_size}
+use Rattle.dcp_pft.specs.Carrying.{datagram_count, datagram_size}
+use Rattle.plan_script.specs.declared.delivery.Delivery.{Delivery}
+use Rattle.plan_script.specs.declared.line.Line.{Line}
+use Rattle.plan_script.specs.declared.line.Line.TheVariants as lines
+use Rattle.plan_script.specs.declared.line.Delivers.{Delivers}
+use Rattle.plan_script.specs.declared.line.Delivers.TheVariants as delivers
+
+-- how many fragments this packet of the schedule has; one, where it is carried whole
+unfoldable pub fragment_count : Plan → ℕ → ℕ
+fragment_count plan packet = datagram_count plan.carry (packet_size plan packet)
+
+-- the bytes that a delivery takes: those of its datagram
+unfoldable pub delivery_size : Plan → Delivery → ℕ
+delivery_size plan d = datagram_size plan.carry (packet_size plan d.packet) d.fragment
+
+abbrev pub delivery : ℕ → ℕ → Delivery
+delivery packet i = record { packet = packet; fragment = i }
+
+-- a fragment of the schedule
+pub record IsDelivery (plan : Plan) (d : Delivery) : Type 0 where
+  pub packet : d.packet < frame_count plan
+  pub fragment : d.fragment < fragment_count plan d.packet
+
+-- all fragments of a packet, in their order
+unfoldable pub all_of : Plan → ℕ → List Delivery
+all_of plan packet = map (delivery packet) (range_with_len 0 (fragment_count plan packet))
+
+-- the fragments that a line delivers, in their order
+unfoldable pub delivered : Plan → Delivers → List Delivery
+delivered plan (delivers.Take packet i) = delivery packet i ∷ []
+delivered plan (delivers.Packet packet) = all_of plan packet
+delivered plan (delivers.Packets first last) = flat_map (all_of plan) (range_with_len first (last + 1 - first))
+delivered plan (delivers.Back packet) = reverse (all_of plan packet)
+
+abbrev pub has_packet : Plan → ℕ → Bool
+has_packet plan packet = nat_lt packet (frame_count plan)
+
+-- there are such packets and such a fragment, and the first packet isn't behind the last
+unfoldable pub in_schedule : Plan → Delivers → Bool
+in_schedule plan (delivers.Take packet i) = has_packet plan packet && nat_lt i (fragment_count plan packet)
+in_schedule plan (delivers.Packet packet) = has_packet plan packet
+in_schedule plan (delivers.Packets first last) = nat_le first last && has_packet plan last
+in_schedule plan (delivers.Back packet) = has_packet plan packet
+
+abbrev pub in_range : Plan → Line → Bool
+in_range plan lines.Feed = true
+in_range plan (lines.Deliver d) = in_schedule plan d
+
+-- a line of the right words: those that have to be numbers, and what it says
+pub record Form : Type 0 where
+  pub numbers : List (List ℕ)
+  pub says : Line
+
+abbrev pub form : List (List ℕ) → Line → Option Form
+form numbers says = Some (record { numbers = numbers; says = says })
+
+-- the number that a word spells
+abbrev pub value : List ℕ → ℕ
+value word = digits_value 10 word
+
+-- feed
+unfoldable pub feed_line : List (List ℕ) → Option Form
+feed_line [] = form [] lines.Feed
+feed_line _ = None
+
+-- take PACKET FRAGMENT
+unfoldable pub take_line : List (List ℕ) → Option Form
+take_line (packet ∷ i ∷ []) = form (packet ∷ i ∷ []) (lines.Deliver (delivers.Take (value packet) (value i)))
+take_line _ = None
+
+-- packet PACKET
+unfoldable pub packet_line : List (List ℕ) → Option Form
+packet_line (packet ∷ []) = form (packet ∷ []) (lines.Deliver (delivers.Packet (value packet)))
+packet_line _ = None
+
+-- packets FIRST LAST
+unfoldable pub packets_line : List (List ℕ) → Option Form
+packets_line (first ∷ last ∷ []) = form (first ∷ last ∷ []) (lines.Deliver (delivers.Packets (value first) (value last)))
+packets_line _ = None
+
+-- back PACKET
+unfoldable pub back_line : List (List ℕ) → Option Form
+back_line (packet ∷ []) = form (packet ∷ []) (lines.Deliver (delivers.Back (value packet)))
+back_line _ = None
+
+-- a line by its first word and those after it
+abbrev pub form_of : List ℕ → List (List ℕ) → Option Form
+form_of first words =
+    if bytes_eq first (codes "feed") then feed_line words
+    else if bytes_eq first (codes "take") then take_line words
+    else if bytes_eq first (codes "packet") then packet_line words
+    else if bytes_eq first (codes "packets") then packets_line words
+    else if bytes_eq first (codes "back") then back_line words
+    else None
+
+abbrev pub is_feed : Line → Bool
+is_feed lines.Feed = true
+is_feed (lines.Deliver d) = false
+
+abbrev pub line_delivers : Plan → Line → List Delivery
+line_delivers plan lines.Feed = []
+line_delivers plan (lines.Deliver d) = delivered plan d
+
+-- the feeds of these lines: each feed line begins one, which gets what the lines behind it deliver, up to the next one
+unfoldable pub feeds_of : Plan → List Line → List (List Delivery)
+feeds_of plan said = map (flat_map (line_delivers plan)) (drop 1 (slice_split is_feed said))
+
+-- more than 16 feeds, 100,000 deliveries or 268,435,456 bytes
+unfoldable pub is_too_long : Plan → List (List Delivery) → Bool
+is_too_long plan feeds = nat_lt 16 (length feeds) || nat_lt 100000 (sum_by length feeds) || nat_lt 268435456 (sum_by (sum_by (delivery_size plan)) feeds)
+
+-- One to sixteen feeds of fragments of the schedule, within the limits.
+pub record IsScript (plan : Plan) (feeds : List (List Delivery)) : Type 0 where
+  pub some : 1 ≤ length feeds
+  pub few : length feeds ≤ 16
+  pub each : All (All (IsDelivery plan)) feeds
+  pub few_deliveries : sum_by length feeds ≤ 100000
+  pub few_bytes : sum_by (sum_by (delivery_size plan)) feeds ≤ 268435456
+
+-- a fault of a script's text
+abbrev pub Fault : Type 0
+Fault = FaultOf Reason
+
+abbrev pub are_numbers : Option Form → Bool
+are_numbers None = true
+are_numbers (Some f) = list_all is_number f.numbers
+
+abbrev pub is_in_range : Plan → Option Form → Bool
+is_in_range plan None = true
+is_in_range plan (Some f) = in_range plan f.says
+
+-- these lines, and one of this form after them
+abbrev pub with_form : List Line → Option Form → List Line
+with_form said None = said
+with_form said (Some f) = said ++ f.says ∷ []
+
+-- a line that delivers, where there is no feed
+abbrev pub lacks_feed : List (List Delivery) → Option Form → Bool
+lacks_feed feeds None = false
+lacks_feed feeds (Some f) = not (is_feed f.says) && length feeds == 0
+
+-- The rows for line n of this form: the first that holds is the fault. A line that isn't of the right words has no form.
+abbrev pub rows : Plan → ℕ → Option Form → Bool → Bool → List (Bool × Fault)
+rows plan n line missing long =
+    (is_none line, fault n Word)
+    ∷ (not (are_numbers line), fault n Number)
+    ∷ (not (is_in_range plan line), fault n Range)
+    ∷ (missing, fault n Missing)
+    ∷ (long, fault n TooLong)
+    ∷ []
+
+-- those for a line after these: no feed stands before it, or it goes past a limit
+abbrev pub rows_of : Plan → List Line → ℕ → Option Form → List (Bool × Fault)
+rows_of plan said n line = rows plan n line (lacks_feed (feeds_of plan said) line) (is_too_long plan (feeds_of plan (with_form said line)))
+
+-- a line of this form after these lines
+unfoldable pub said_form : Plan → List Line → ℕ → Option Form → Result (List Line) Fault
+said_form plan said n line = ok_unless (first_fault (rows_of plan said n line)) (with_form said line)
+
+-- a line of these words
+abbrev pub said_words : Plan → List Line → ℕ → List (List ℕ) → Result (List Line) Fault
+said_words plan said n words = words_say said (λ first more. said_form plan said n (form_of first more)) words
+
+-- lines from line n on, after these lines
+abbrev pub said_from : Plan → List Line → ℕ → List (List ℕ) → Result (List Line) Fault
+said_from plan said n lines = lines_say (λ before k line. said_words plan before k (words_of line)) said n lines
+
+-- the end of a text of n lines, where no feed may be missing
+unfoldable pub ended : ℕ → List (List Delivery) → Result (List (List Delivery)) Fault
+ended n feeds = ok_unless (first_fault ((length feeds == 0, fault (n + 1) Missing) ∷ [])) feeds
+
+-- the feeds that the lines of a text give, or their first fault
+unfoldable pub script_of : Plan → List (List ℕ) → Result (List (List Delivery)) Fault
+script_of plan lines = do
+  said ← said_from plan [] 1 lines
+  ended (length lines) (feeds_of plan said)
+
+-- the feeds that a text gives, or its first fault: that it is too long, then that it is no UTF-8, then that of its lines
+unfoldable pub script_of_text : Plan → List ℕ → Result (List (List Delivery)) Fault
+script_of_text plan text =
+    if nat_lt longest_text (length text) then Err (fault 0 TooLong)
+    else if is_utf8 text then script_of plan (lines_of text)
+    else Err (fault (bad_line_of text) Utf8)

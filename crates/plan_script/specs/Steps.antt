@@ -1,0 +1,134 @@
+-- What a reader keeps of the lines so far, and what its calls answer.
+use Rattle.std.specs.Prelude.{ℕ, ◌≡◌, ◌+◌, ◌<◌, ◌≤◌, ◌||◌, not, nat_lt, Bool, false, true, length, sum_by, List, [], ◌∷◌, ◌++◌, Option, Some, None, option_map, Result, Ok, Err, if◌then◌else◌}
+use Rattle.std.specs.List.{list_all}
+use Rattle.std.specs.Option.{option_to_list}
+use Rattle.text_lines.specs.Faults.{FailsAt, GivesSaid, LeavesSaid, fault, first_fault, ok_unless, words_say, lines_say}
+use Rattle.text_lines.specs.Lines.{words_of}
+use Rattle.text_lines.specs.Numbers.{is_number}
+use Rattle.drm_schedule.specs.declared.invalid.Reason.{Reason}
+use Rattle.drm_schedule.specs.declared.invalid.Reason.TheVariants.{Word, Number, Range, TooLong}
+use Rattle.drm_schedule.specs.declared.plan.Plan.{Plan}
+use Rattle.drm_timeline.specs.Numbers.{packet_size}
+use Rattle.dcp_pft.specs.Carrying.{cut_of}
+use Rattle.plan_script.specs.declared.delivery.Delivery.{Delivery}
+use Rattle.plan_script.specs.declared.fault.ScriptFault.{ScriptFault}
+use Rattle.plan_script.specs.declared.fault.ScriptFault.TheVariants as faults
+use Rattle.plan_script.specs.declared.feeds.Feeds.{Feeds}
+use Rattle.plan_script.specs.declared.line.Line.{Line}
+use Rattle.plan_script.specs.declared.line.Line.TheVariants as lines
+use Rattle.plan_script.specs.declared.packet.Packet.{Packet}
+use Rattle.plan_script.specs.Script.{Form, Fault, delivery_size, delivered, in_range, form_of, lacks_feed, is_too_long, rows}
+
+-- a packet of the schedule, and how it is cut
+pub record IsPacket (plan : Plan) (packet : Packet) : Type 0 where
+  pub size : packet.len ≡ packet_size plan packet.number
+  pub cut : packet.cut ≡ cut_of plan.carry packet.len
+
+-- the first row that holds of those that ask only for the line
+abbrev pub first_row : List (Bool × Reason) → Option Reason
+first_row [] = None
+first_row (row ∷ rows) = if row.0 then Some row.1 else first_row rows
+
+abbrev pub line_unless : Option Reason → Line → Result Line Reason
+line_unless None line = Ok line
+line_unless (Some reason) line = Err reason
+
+-- what a line says by itself
+abbrev pub reading : Plan → Option Form → Result Line Reason
+reading plan None = Err Word
+reading plan (Some f) = line_unless (first_row ((not (list_all is_number f.numbers), Number) ∷ (not (in_range plan f.says), Range) ∷ [])) f.says
+
+-- more deliveries for the last feed
+abbrev pub to_last : List Delivery → List (List Delivery) → List (List Delivery)
+to_last more [] = []
+to_last more (feed ∷ []) = (feed ++ more) ∷ []
+to_last more (feed ∷ next ∷ feeds) = feed ∷ to_last more (next ∷ feeds)
+
+-- one more line
+abbrev pub with_line : Plan → Line → List (List Delivery) → List (List Delivery)
+with_line plan lines.Feed feeds = feeds ++ [] ∷ []
+with_line plan (lines.Deliver d) feeds = to_last (delivered plan d) feeds
+
+abbrev pub feeds_with : Plan → List (List Delivery) → Option Form → List (List Delivery)
+feeds_with plan feeds None = feeds
+feeds_with plan feeds (Some f) = with_line plan f.says feeds
+
+-- a line of this form after these feeds
+unfoldable pub form_after : Plan → List (List Delivery) → ℕ → Option Form → Result (List (List Delivery)) Fault
+form_after plan feeds n line = ok_unless (first_fault (rows plan n line (lacks_feed feeds line) (is_too_long plan (feeds_with plan feeds line)))) (feeds_with plan feeds line)
+
+abbrev pub words_after : Plan → List (List Delivery) → ℕ → List (List ℕ) → Result (List (List Delivery)) Fault
+words_after plan feeds n words = words_say feeds (λ first more. form_after plan feeds n (form_of first more)) words
+
+-- what line n does to the feeds
+abbrev pub line_after : Plan → List (List Delivery) → ℕ → List ℕ → Result (List (List Delivery)) Fault
+line_after plan feeds n line = words_after plan feeds n (words_of line)
+
+abbrev pub lines_after : Plan → List (List Delivery) → ℕ → List (List ℕ) → Result (List (List Delivery)) Fault
+lines_after plan feeds n lines = lines_say (line_after plan) feeds n lines
+
+-- the feeds that are kept
+abbrev pub feeds_in : Feeds → List (List Delivery)
+feeds_in feeds = feeds.closed ++ option_to_list feeds.current
+
+-- so many deliveries, or so many bytes, that a limit is passed
+abbrev pub is_full : Feeds → Bool
+is_full feeds = nat_lt 100000 feeds.count || nat_lt 268435456 feeds.bytes
+
+-- The feeds are counted, and no limit is passed.
+pub record AreCounted (plan : Plan) (feeds : Feeds) : Type 0 where
+  pub count : feeds.count ≡ sum_by length (feeds_in feeds)
+  pub bytes : feeds.bytes ≡ sum_by (sum_by (delivery_size plan)) (feeds_in feeds)
+  pub few : length feeds.closed ≤ 15
+  pub closed : feeds.current ≡ None → feeds.closed ≡ []
+  pub fits : is_full feeds ≡ false
+
+-- more deliveries for the last feed
+abbrev pub with_all : Plan → List Delivery → Feeds → Feeds
+with_all plan more feeds = record feeds {
+  current = option_map (λ feed. feed ++ more) feeds.current;
+  count = feeds.count + length more;
+  bytes = feeds.bytes + sum_by (delivery_size plan) more;
+}
+
+-- one more delivery for the last feed, that isn't counted yet
+abbrev pub pushed : Delivery → Feeds → Feeds
+pushed d feeds = record feeds { current = option_map (λ feed. feed ++ d ∷ []) feeds.current }
+
+-- one more feed
+abbrev pub begun : Feeds → Feeds
+begun feeds = record feeds { closed = feeds_in feeds; current = Some [] }
+
+-- at line n one more feed begins, or there are 16 already, unless memory ran out
+abbrev pub Begins : Result (Unit {0}) ScriptFault → ℕ → Feeds → Feeds → Type 0
+Begins (Ok done) n new whole = (new ≡ whole) × (length whole.closed ≤ 15)
+Begins (Err faults.NoMemory) n new whole = Unit {0}
+Begins (Err (faults.Line line reason)) n new whole = (line ≡ n) × (reason ≡ TooLong) × (15 < length whole.closed)
+
+-- at line n all are kept, or they pass a limit, unless memory ran out
+abbrev pub Puts : Result (Unit {0}) ScriptFault → ℕ → Feeds → Feeds → Type 0
+Puts (Ok done) n new whole = (new ≡ whole) × (is_full whole ≡ false)
+Puts (Err faults.NoMemory) n new whole = Unit {0}
+Puts (Err (faults.Line line reason)) n new whole = (line ≡ n) × (reason ≡ TooLong) × (is_full whole ≡ true)
+
+-- a call's fault as one of the text
+abbrev pub told : ScriptFault → Option Fault
+told faults.NoMemory = None
+told (faults.Line line reason) = Some (fault line reason)
+
+-- a call that fails as the reading does, unless memory ran out
+abbrev pub FailsAs : {X : Type 0} → ScriptFault → Result X Fault → Type 0
+FailsAs p read = FailsAt (told p) read
+
+-- the lines are read on, or failed at their first fault, unless memory ran out
+abbrev pub Steps : Result (Unit {0}) ScriptFault → List (List Delivery) → Result (List (List Delivery)) Fault → Type 0
+Steps r new read = LeavesSaid told r new read
+
+-- what is read, or the first fault, unless memory ran out
+abbrev pub Reads : {X : Type 0} → Result X ScriptFault → Result X Fault → Type 0
+Reads r read = GivesSaid told r read
+
+-- the feeds that lines give, or their first fault, unless memory ran out
+abbrev pub ReadsFeeds : Result Feeds ScriptFault → Result (List (List Delivery)) Fault → Type 0
+ReadsFeeds (Ok feeds) read = read ≡ Ok (feeds_in feeds)
+ReadsFeeds (Err p) read = FailsAs p read

@@ -1,5 +1,0 @@
-use Rattle.script_lines.proofs.PacketLemmas.{sized}
-use Rattle.script_lines.proofs.packet.Packet.size.Goals as goal
-
-pub returns-clause-size : goal.returns-clause-size
-returns-clause-size c = λ plan is. sized plan c.args.self.now c.args.i _ is (c.datagram_len.ensures.size plan.carry is.cut)
