@@ -18,8 +18,8 @@ use Rattle.drm_plan.specs.Lookup.{at}
 use Rattle.drm_plan.specs.Projection.{Drafted}
 use Rattle.plan_rules.specs.Rules.{Fault}
 use Rattle.drm_plan.specs.Text.{draft_of, IsText}
-use Rattle.plan_laws.proofs.AttachLaw.{Fills, at_seam, files_come, files_came, fills_fit, fills_same, each_weaker}
-use Rattle.plan_laws.proofs.WholeLaw.{came_of, given_by, canonical_is_text}
+use Rattle.law_plan.proofs.AttachLaw.{Fills, at_seam, files_come, files_came, fills_fit, fills_same, each_weaker}
+use Rattle.law_plan.proofs.WholeLaw.{came_of, given_by, canonical_is_text}
 use Rattle.drm_load.specs.declared.loading.ScheduleFault.{ScheduleFault}
 use Rattle.load_laws.specs.Again.{HasFiles, HasText, HasAll, NoLoadFails}
 use Rattle.drm_load.specs.Loading.{Step, Reading, given, after, ◌>>=◌, bytes_or_fault, load_for}

@@ -5,7 +5,7 @@ use Rattle.drm_schedule.specs.declared.plan.Plan.{Plan}
 use Rattle.drm_schedule.specs.Valid.{IsSchedule}
 use Rattle.plan_writer.specs.Canonical.{canonical}
 use Rattle.drm_plan.specs.Text.{IsText}
-use Rattle.plan_laws.specs.Texts.{EachFile}
+use Rattle.law_plan.specs.Texts.{EachFile}
 use Rattle.drm_load.specs.Schedule.{longest_text, longest_file, schedule_named, checked}
 
 -- each file of the schedule is on the shelf, under its name, and isn't too long to be loaded

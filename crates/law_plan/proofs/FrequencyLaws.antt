@@ -12,7 +12,7 @@ use Rattle.plan_grammar.specs.Shape.{value}
 use Rattle.plan_grammar.specs.Frequencies.{elements, has_plus, digits, channel, are_spelled, frequencies, channels}
 use Rattle.plan_grammar.specs.Said.{channel_word, channels_word}
 use Rattle.plan_lines.proofs.Elements.{no_plus}
-use Rattle.plan_laws.proofs.Parts.{Good}
+use Rattle.law_plan.proofs.Parts.{Good}
 
 -- a frequency fits its 15 bits
 abbrev pub Fits : Channel15 → Type 0

@@ -3,7 +3,7 @@
 ghost use Rattle.std.specs.Prelude.{◌≡◌, ◌↔◌, IsUtf8};
 ghost use Rattle.plan_writer.specs.Canonical.{canonical};
 ghost use Rattle.drm_plan.specs.Files.{without_files};
-ghost use Rattle.plan_laws.specs.Texts.{IsReadAgain};
+ghost use Rattle.law_plan.specs.Texts.{IsReadAgain};
 
 use drm_schedule::Schedule;
 

@@ -26,7 +26,7 @@ use Rattle.plan_rules.specs.declared.said.Said.{Said}
 use Rattle.plan_rules.specs.Said.{count}
 use Rattle.plan_rules.specs.Rules.{is_entity, is_front, count_with, count_entities, is_out_of_order, is_second, is_too_many}
 use Rattle.plan_writer.specs.Canonical.{service_lines, stream_lines, clock_lines, entity_lines, block_lines}
-use Rattle.plan_laws.proofs.AgainLemmas.{two, numbered, is_inner, InnerFine}
+use Rattle.law_plan.proofs.AgainLemmas.{two, numbered, is_inner, InnerFine}
 use Rattle.plan_rules.proofs.KeywordLemmas.{one, entity_is_one, entity_is_no_block}
 
 append_nil : {X : Type 0} (xs : List X) → xs ++ [] ≡ xs

@@ -32,7 +32,7 @@ use Rattle.plan_grammar.specs.declared.line.Line.{Line}
 use Rattle.plan_grammar.specs.declared.line.Line.TheVariants as lines
 use Rattle.plan_grammar.specs.Keywords.{keyword_text}
 use Rattle.plan_grammar.specs.Said.{keyword_said, carry_words, depth_word, kind_word, content_words, app_words, config_words, bit_word, optional_byte_word, bytes_word, channel_word, channels_word, parts_said, canonical, LineInLines}
-use Rattle.plan_laws.proofs.SaidAgain.{raw_small}
+use Rattle.law_plan.proofs.SaidAgain.{raw_small}
 
 abbrev is_low : List ℕ → Bool
 is_low [] = true

@@ -11,7 +11,7 @@ use Rattle.drm_schedule.specs.Ranges.{IsLabel}
 use Rattle.text_lines.specs.Lines.{words_of, behind_two}
 use Rattle.text_lines.proofs.WordLaws.{IsWord, behind_again}
 use Rattle.plan_grammar.specs.Shape.{text as label_part}
-use Rattle.plan_laws.proofs.Parts.{Good}
+use Rattle.law_plan.proofs.Parts.{Good}
 
 -- a list that has an element
 pub record IsMore (words : List (List ℕ)) : Type 0 where

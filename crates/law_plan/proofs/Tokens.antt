@@ -16,7 +16,7 @@ use Rattle.plan_grammar.specs.declared.first_word.Keyword.{Keyword}
 use Rattle.plan_grammar.specs.declared.first_word.Keyword.TheVariants as keywords
 use Rattle.plan_grammar.specs.Keywords.{keyword_text}
 use Rattle.plan_grammar.specs.Said.{bit_word, hex6, hex4, optional_byte_word, bytes_word, channel_word, channels_word}
-use Rattle.plan_laws.proofs.FrequencyLaws.{Fits, channel_lacks}
+use Rattle.law_plan.proofs.FrequencyLaws.{Fits, channel_lacks}
 
 -- a word without a line feed
 pub record IsToken (w : List ℕ) : Type 0 where

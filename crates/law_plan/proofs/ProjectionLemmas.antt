@@ -26,8 +26,8 @@ use Rattle.plan_writer.specs.Canonical.{service_lines, stream_lines, clock_lines
 use Rattle.drm_plan.specs.Projection.{first_said, content, first_line, clock_in, service_said, stream_said, services_in, streams_in, entities_until, timed_in, or_one, blocks_in, config_of}
 use Rattle.drm_plan.specs.Parts.{into_last, before_first}
 use Rattle.drm_plan.proofs.BlockLemmas.{until_append, timed_append, timed_counted}
-use Rattle.plan_laws.proofs.AgainLemmas.{two, numbered}
-use Rattle.plan_laws.proofs.ConfigLemmas.{numbered_append, inner_lines, tested, tested_append, tested_all, services_of}
+use Rattle.law_plan.proofs.AgainLemmas.{two, numbered}
+use Rattle.law_plan.proofs.ConfigLemmas.{numbered_append, inner_lines, tested, tested_append, tested_all, services_of}
 
 -- what lines list is listed again
 listed_all : {X : Type 0} (h : Line → Option X) (f : X → Line) → ((x : X) → h (f x) ≡ Some x) → (n : ℕ) (xs : List X) → filter_map (λ s. h s.says) (numbered n (map f xs)) ≡ xs

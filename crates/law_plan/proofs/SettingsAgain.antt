@@ -25,7 +25,7 @@ use Rattle.plan_grammar.specs.declared.line.Line.TheVariants as lines
 use Rattle.plan_grammar.specs.Shape.{Part, number, value, bit, flag, hex, hex_value, byte_value, name, some_of, reading}
 use Rattle.plan_grammar.specs.Settings.{version_line, carry_line, first_line, length_line, config_line, mode_line, occupancy_line, depth_line, msc_line, sdc_line, protection_line, room_line, service_line, stream_line, clock_line, block_line}
 use Rattle.plan_grammar.specs.Said.{version_word, carry_words, depth_word, bit_word, kind_word, service_words, content_words, hex6, detached}
-use Rattle.plan_laws.proofs.Parts.{Good, read_as, number_good, bit_good, flag_again, hex6_good, hex6_value, byte_good, byte_again}
+use Rattle.law_plan.proofs.Parts.{Good, read_as, number_good, bit_good, flag_again, hex6_good, hex6_value, byte_good, byte_again}
 
 pub version_again : (version : Version) → reading (version_line (version_word version ∷ [])) ≡ Ok (lines.Version version)
 unfolding version_line

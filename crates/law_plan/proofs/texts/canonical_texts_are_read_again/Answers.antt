@@ -1,5 +1,5 @@
-use Rattle.plan_laws.proofs.PlanLaw.{canonical_utf8, read_again, one_text, one_plan}
-use Rattle.plan_laws.proofs.texts.canonical_texts_are_read_again.Goals as goal
+use Rattle.law_plan.proofs.PlanLaw.{canonical_utf8, read_again, one_text, one_plan}
+use Rattle.law_plan.proofs.texts.canonical_texts_are_read_again.Goals as goal
 
 pub returns-clause-utf8 : goal.returns-clause-utf8
 returns-clause-utf8 c = canonical_utf8 c.args.a.now c.always_valid.ensures.schedule.in_lines

@@ -17,7 +17,7 @@ use Rattle.dcp_pft.specs.Carrying.{CarryFits}
 use Rattle.drm_schedule.specs.Ranges.{ContentInLines, AppInLines, BodyInLines, IsLabel}
 use Rattle.text_lines.specs.Lines.{words_of, lines_of}
 use Rattle.std.proofs.lemmas.List.{append-nil}
-use Rattle.plan_laws.specs.Lines.{IsReadAgain}
+use Rattle.law_plan.specs.Lines.{IsReadAgain}
 use Rattle.text_lines.proofs.Lacking.{lacks_both}
 use Rattle.text_lines.proofs.WordLaws.{word_and_rest}
 use Rattle.text_lines.proofs.LineLaws.{IsLine, lines_again}
@@ -27,9 +27,9 @@ use Rattle.plan_grammar.specs.declared.line.Line.{Line}
 use Rattle.plan_grammar.specs.declared.line.Line.TheVariants as lines
 use Rattle.plan_grammar.specs.Keywords.{keyword_text}
 use Rattle.plan_grammar.specs.Said.{keyword_said, carry_words, depth_word, kind_word, content_words, app_words, config_words, bytes_word, parts_said, canonical, line_text, words_said, LineInLines}
-use Rattle.plan_laws.proofs.EntitiesAgain.{fit_all}
-use Rattle.plan_laws.proofs.SaidAgain.{raw_small, said_again}
-use Rattle.plan_laws.proofs.Tokens.{IsToken, cut_again, joined_line, lacks_from, keyword_token, number_token, bit_token, hex_token, hex6_token, hex4_token, optional_token, bytes_token, name_token, channels_token}
+use Rattle.law_plan.proofs.EntitiesAgain.{fit_all}
+use Rattle.law_plan.proofs.SaidAgain.{raw_small, said_again}
+use Rattle.law_plan.proofs.Tokens.{IsToken, cut_again, joined_line, lacks_from, keyword_token, number_token, bit_token, hex_token, hex6_token, hex4_token, optional_token, bytes_token, name_token, channels_token}
 
 -- The words of a canonical line are its keyword and what is said, and no line feed is in it.
 pub record IsCut (l : Line) : Type 0 where

@@ -11,7 +11,7 @@ use Rattle.drm_schedule.specs.declared.plan.Plan.{Plan}
 use Rattle.drm_schedule.specs.Ranges.{InLines}
 use Rattle.drm_plan.specs.declared.files.Filed.{Filed}
 use Rattle.drm_plan.specs.Files.{file_here, stream_files, config_files, filled, filled_stream, filled_config, with_file, name_in, name_of_stream, name_of_config, name_of, emptied, without_bytes, config_without_bytes, without_files}
-use Rattle.plan_laws.specs.Texts.{OfFile, EachFile}
+use Rattle.law_plan.specs.Texts.{OfFile, EachFile}
 use Rattle.drm_plan.specs.Lookup.{at, changed}
 use Rattle.drm_plan.proofs.FileLemmas.{with_file_fits}
 

@@ -27,11 +27,11 @@ use Rattle.drm_plan.specs.Projection.{Drafted}
 use Rattle.drm_plan.specs.Text.{lines_give, draft_of, IsText}
 use Rattle.drm_plan.proofs.FileLemmas.{with_file_fits}
 use Rattle.drm_plan.proofs.TextLemmas.{right_text}
-use Rattle.plan_laws.specs.Whole.{files_in, with_all, Makes}
-use Rattle.plan_laws.proofs.AttachLaw.{at_seam}
-use Rattle.plan_laws.proofs.FillLaw.{filled_with, plan_fills, plan_count, plan_with}
-use Rattle.plan_laws.proofs.GivenLaw.{IsGiven, lines_given}
-use Rattle.plan_laws.proofs.PlanLaw.{read_again, canonical_utf8}
+use Rattle.law_plan.specs.Whole.{files_in, with_all, Makes}
+use Rattle.law_plan.proofs.AttachLaw.{at_seam}
+use Rattle.law_plan.proofs.FillLaw.{filled_with, plan_fills, plan_count, plan_with}
+use Rattle.law_plan.proofs.GivenLaw.{IsGiven, lines_given}
+use Rattle.law_plan.proofs.PlanLaw.{read_again, canonical_utf8}
 
 -- ---- files one after another
 

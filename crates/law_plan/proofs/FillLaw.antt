@@ -10,8 +10,8 @@ use Rattle.drm_schedule.specs.declared.stream.Stream.{Stream}
 use Rattle.drm_schedule.specs.declared.plan.Plan.{Plan}
 use Rattle.drm_plan.specs.declared.files.Filed.{Filed}
 use Rattle.drm_plan.specs.Files.{file_here, stream_files, config_files, with_file, name_in, emptied, without_bytes, config_without_bytes, without_files}
-use Rattle.plan_laws.specs.Whole.{file_in, files_of, files_in}
-use Rattle.plan_laws.proofs.AttachLaw.{with_configs, here, one_longer, filled_here, heads, tails}
+use Rattle.law_plan.specs.Whole.{file_in, files_of, files_in}
+use Rattle.law_plan.proofs.AttachLaw.{with_configs, here, one_longer, filled_here, heads, tails}
 
 -- the plan whose files get these bytes, one after another
 abbrev pub filled_with : List Filed → List (List ℕ) → Plan → Plan

@@ -19,9 +19,9 @@ use Rattle.plan_rules.specs.Rules.{version_in, is_one, is_incomplete, is_second,
 use Rattle.plan_rules.specs.Steps.{check_rows, check_of}
 use Rattle.plan_writer.specs.Canonical.{front_lines, config_lines, plan_lines}
 use Rattle.drm_plan.specs.Projection.{config_of, plan_of}
-use Rattle.plan_laws.proofs.AgainLemmas.{two, adds, Fine, adds_append, fine_append, numbered, inner_fine, inner_adds}
-use Rattle.plan_laws.proofs.ConfigLemmas.{inner_lines, all_fine}
-use Rattle.plan_laws.proofs.ProjectionLemmas.{block_of, config_again, complete_again}
+use Rattle.law_plan.proofs.AgainLemmas.{two, adds, Fine, adds_append, fine_append, numbered, inner_fine, inner_adds}
+use Rattle.law_plan.proofs.ConfigLemmas.{inner_lines, all_fine}
+use Rattle.law_plan.proofs.ProjectionLemmas.{block_of, config_again, complete_again}
 
 -- what is read, with this configuration as the last one
 abbrev pub full : List Said → List Block → Block → Read

@@ -17,9 +17,9 @@ use Rattle.plan_grammar.specs.Shape.{Part, number, value, bit, flag, hex, hex_va
 use Rattle.plan_grammar.specs.Frequencies.{frequencies, channels}
 use Rattle.plan_grammar.specs.Entities.{says, label_line, freq_line, when_line, app_line, audio_line, language_line, raw_kind, raw_line}
 use Rattle.plan_grammar.specs.Said.{bit_word, hex6, hex4, optional_byte_word, bytes_word, config_words, channels_word, app_words}
-use Rattle.plan_laws.proofs.Parts.{Good, read_as, number_good, bit_good, flag_again, hex6_good, hex6_value, hex4_good, hex4_value, optional_good, optional_again, bytes_good, bytes_value_again}
-use Rattle.plan_laws.proofs.FrequencyLaws.{Fits, frequencies_good, channels_again}
-use Rattle.plan_laws.proofs.LabelLaws.{IsMore, has_word, label_good}
+use Rattle.law_plan.proofs.Parts.{Good, read_as, number_good, bit_good, flag_again, hex6_good, hex6_value, hex4_good, hex4_value, optional_good, optional_again, bytes_good, bytes_value_again}
+use Rattle.law_plan.proofs.FrequencyLaws.{Fits, frequencies_good, channels_again}
+use Rattle.law_plan.proofs.LabelLaws.{IsMore, has_word, label_good}
 
 pub fit_all : (cs : List Channel15) → All (λ (c : Channel15). c.number < 2 ^ 15) cs → AllByRecursion Fits cs
 fit_all [] fits = tt

@@ -14,10 +14,10 @@ use Rattle.plan_grammar.specs.Shape.{reading}
 use Rattle.plan_grammar.specs.Lines.{shape_of}
 use Rattle.plan_grammar.specs.Entities.{says}
 use Rattle.plan_grammar.specs.Said.{keyword_of_body, keyword_said, body_parts, canonical, words_said, detached, LineInLines}
-use Rattle.plan_laws.proofs.LabelLaws.{text_behind}
-use Rattle.plan_laws.proofs.SettingsAgain.{version_again, block_again, carry_again, first_again, length_again, config_again, mode_again, occupancy_again, depth_again, msc_again, sdc_again, protection_again, room_again, service_again, stream_again, clock_again}
-use Rattle.plan_laws.proofs.EntitiesAgain.{label_again, freq_again, when_again, app_again, audio_again, language_again, raw_again}
-use Rattle.plan_laws.proofs.Tokens.{keyword_token}
+use Rattle.law_plan.proofs.LabelLaws.{text_behind}
+use Rattle.law_plan.proofs.SettingsAgain.{version_again, block_again, carry_again, first_again, length_again, config_again, mode_again, occupancy_again, depth_again, msc_again, sdc_again, protection_again, room_again, service_again, stream_again, clock_again}
+use Rattle.law_plan.proofs.EntitiesAgain.{label_again, freq_again, when_again, app_again, audio_again, language_again, raw_again}
+use Rattle.law_plan.proofs.Tokens.{keyword_token}
 
 abbrev entity : Bool → Body → Line
 entity version body = lines.Entity (record { version = version; body = body })

@@ -21,22 +21,22 @@ use Rattle.plan_grammar.specs.declared.version.Version.TheVariants.{Two}
 use Rattle.plan_grammar.specs.declared.line.Line.{Line}
 use Rattle.plan_grammar.specs.declared.line.Line.TheVariants as lines
 use Rattle.plan_grammar.specs.Said.{canonical as line_of, line_text, detached, LineInLines}
-use Rattle.plan_laws.proofs.LineAgain.{line_again}
-use Rattle.plan_laws.proofs.SaidAgain.{said_again}
+use Rattle.law_plan.proofs.LineAgain.{line_again}
+use Rattle.law_plan.proofs.SaidAgain.{said_again}
 use Rattle.plan_rules.specs.declared.said.Block.{Block}
 use Rattle.plan_rules.specs.declared.said.Read.{Read}
 use Rattle.plan_rules.specs.Said.{nothing}
 use Rattle.plan_rules.specs.Rules.{Fault, version_in, ended, is_incomplete, said_from, said}
 use Rattle.plan_writer.specs.Canonical.{front_lines, settings_lines, service_lines, stream_lines, clock_lines, block_lines, config_lines, plan_lines, text_of, canonical}
 use Rattle.drm_plan.specs.Files.{emptied, without_bytes, config_without_bytes, without_files}
-use Rattle.plan_laws.specs.Texts.{IsReadAgain}
+use Rattle.law_plan.specs.Texts.{IsReadAgain}
 use Rattle.drm_plan.specs.Projection.{Drafted, drafted}
 use Rattle.drm_plan.specs.Text.{lines_give}
-use Rattle.plan_laws.proofs.AgainLemmas.{two, LineAgain, lines_said}
-use Rattle.plan_laws.proofs.CanonicalLaw.{plan_read}
+use Rattle.law_plan.proofs.AgainLemmas.{two, LineAgain, lines_said}
+use Rattle.law_plan.proofs.CanonicalLaw.{plan_read}
 use Rattle.drm_plan.proofs.TextLemmas.{text_gives}
 use Rattle.plan_writer.proofs.TextLemmas.{text_append, no_text}
-use Rattle.plan_laws.proofs.Utf8Lines.{line_utf8}
+use Rattle.law_plan.proofs.Utf8Lines.{line_utf8}
 use Rattle.drm_plan.proofs.FileLemmas.{with_streams}
 
 -- A line that has no bytes of a file, is written as one line of UTF-8, and reads as itself.
