@@ -9,7 +9,7 @@ use Rattle.dcp_collect.specs.State.{made}
 use Rattle.drm_schedule.specs.declared.plan.Plan.{Plan}
 use Rattle.drm_schedule.specs.Valid.{IsSchedule}
 use Rattle.mod_feed.specs.Feeding.{Feeds}
-use Rattle.drm_switches.specs.Tracker.{new_tracker}
+use Rattle.drm_reconfiguration.specs.Tracker.{new_tracker}
 use Rattle.drm_timeline.specs.Numbers.{frame_count}
 use Rattle.mod_delivery.specs.Sent.{AreSent, Arrival, OfSchedule, pairs_in, IsFollowed, IsInTime}
 use Rattle.mod_delivery.specs.Given.{AreGiven}

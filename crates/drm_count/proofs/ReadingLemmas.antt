@@ -5,7 +5,7 @@ use Rattle.drm_links.specs.Link.{Answer, Datagram, Failed}
 use Rattle.dcp_collect.specs.declared.taken.Taken.{Taken}
 use Rattle.dcp_collect.specs.State.{State, made}
 use Rattle.dcp_collect.specs.Runs.{Item}
-use Rattle.drm_switches.specs.Tracker.{TrackerState, new_tracker}
+use Rattle.drm_reconfiguration.specs.Tracker.{TrackerState, new_tracker}
 use Rattle.mod_feed.specs.Feeding.{FeedStep, Feeds}
 use Rattle.mod_feed.proofs.FeedingLemmas.{feedings_join}
 use Rattle.recv_reading.specs.declared.options.ReceiveOptions.{ReceiveOptions}

@@ -6,12 +6,12 @@ use Rattle.std.proofs.lemmas.Option.{slice_get_within}
 use Rattle.drm_schedule.specs.declared.config.Config.{Config}
 use Rattle.drm_schedule.specs.declared.plan.Plan.{Plan}
 use Rattle.drm_schedule.specs.Valid.{IsSchedule, AreFaultless}
-use Rattle.drm_switches.specs.declared.seen.Seen.{Seen}
-use Rattle.drm_switches.specs.declared.seen.Signature.{Signature}
+use Rattle.drm_reconfiguration.specs.declared.seen.Seen.{Seen}
+use Rattle.drm_reconfiguration.specs.declared.seen.Signature.{Signature}
 use Rattle.drm_timeline.specs.Standing.{index_of, frames_before}
-use Rattle.drm_switches.specs.Announced.{Announces, AreSent}
+use Rattle.drm_reconfiguration.specs.Announced.{Announces, AreSent}
 use Rattle.drm_timeline.specs.Starts.{later_starts, signature_at, AnnouncesStarts, AreSeenOf, SwitchesOnlyAtStarts, SwitchesAtAllStarts, ResumesNowhere}
-use Rattle.drm_switches.proofs.AnnouncedLemmas.{only_at_starts, at_all_starts, none_resumed}
+use Rattle.drm_reconfiguration.proofs.AnnouncedLemmas.{only_at_starts, at_all_starts, none_resumed}
 use Rattle.drm_timeline.proofs.SignatureAtLemmas.{IsThere, there, signed_in, changes_in}
 use Rattle.drm_timeline.proofs.StartsLemmas.{from_map, not_the_first, is_later, all_within, HasCountdown, all_have_countdown, IsAnnouncedIn, all_announced, named_in, small_in}
 

@@ -11,11 +11,11 @@ use Rattle.drm_schedule.specs.declared.plan.Plan.{Plan}
 use Rattle.plan_packing.specs.Packing.{chain}
 use Rattle.drm_schedule.specs.Ranges.{ConfigInLines}
 use Rattle.drm_schedule.specs.Valid.{AreFaultless}
-use Rattle.drm_switches.specs.declared.seen.Signature.{Signature}
+use Rattle.drm_reconfiguration.specs.declared.seen.Signature.{Signature}
 use Rattle.drm_timeline.specs.Standing.{has_started, config_of}
 use Rattle.drm_timeline.specs.FastAccess.{audio_services, data_services, services_of, service_of, service_in, channel_of}
 use Rattle.drm_timeline.specs.Description.{description_of}
-use Rattle.drm_switches.specs.Seen.{signature_of}
+use Rattle.drm_reconfiguration.specs.Seen.{signature_of}
 use Rattle.drm_timeline.specs.Starts.{IsFirstFrame, signature_at}
 use Rattle.drm_timeline.proofs.FastAccessLemmas.{service_there}
 use Rattle.drm_timeline.proofs.ScheduleLemmas.{all_sound, some_config, sound_services}

@@ -3,14 +3,14 @@ use Rattle.std.specs.Prelude.{ℕ, ◌≡◌, ◌≢◌, ◌+◌, ◌-◌, ◌*�
 use Rattle.drm_schedule.specs.declared.config.Config.{Config}
 use Rattle.drm_schedule.specs.declared.plan.Plan.{Plan}
 use Rattle.plan_packing.specs.Packing.{chain}
-use Rattle.drm_switches.specs.declared.seen.Seen.{Seen}
-use Rattle.drm_switches.specs.declared.seen.Signature.{Signature}
+use Rattle.drm_reconfiguration.specs.declared.seen.Seen.{Seen}
+use Rattle.drm_reconfiguration.specs.declared.seen.Signature.{Signature}
 use Rattle.drm_timeline.specs.Standing.{config_of, index_of}
 use Rattle.drm_timeline.specs.FastAccess.{fac_of}
 use Rattle.drm_timeline.specs.Description.{description_of}
-use Rattle.drm_switches.specs.Seen.{signature_of}
-use Rattle.drm_switches.specs.Switches.{IsFrame, SwitchesAt, ResumesAt}
-use Rattle.drm_switches.specs.Announced.{NoneMissing}
+use Rattle.drm_reconfiguration.specs.Seen.{signature_of}
+use Rattle.drm_reconfiguration.specs.Switches.{IsFrame, SwitchesAt, ResumesAt}
+use Rattle.drm_reconfiguration.specs.Announced.{NoneMissing}
 
 -- the super frames in which the later configurations start: all but the first, which starts with the schedule
 abbrev pub later_starts : Plan → List ℕ

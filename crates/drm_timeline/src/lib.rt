@@ -13,7 +13,7 @@ mod schedule_laws;
 pub use block::block_into;
 pub use block_contents::description;
 pub use configuration::{config_at, index_at};
-pub use drm_switches::{
+pub use drm_reconfiguration::{
     Before, Seen, Signature, Tracker, none_is_resumed, switches_at_all_starts,
     switches_only_at_starts, the_tracker_tells_the_switches,
 };

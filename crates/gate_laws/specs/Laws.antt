@@ -13,7 +13,7 @@ use Rattle.collect_laws.specs.Delivery.{AreSent, AreDelivered, items, got, newes
 use Rattle.collect_laws.specs.Laws.{IsHeard}
 use Rattle.drm_schedule.specs.declared.plan.Plan.{Plan}
 use Rattle.drm_schedule.specs.Valid.{IsSchedule}
-use Rattle.drm_switches.specs.Tracker.{TrackerState, new_tracker}
+use Rattle.drm_reconfiguration.specs.Tracker.{TrackerState, new_tracker}
 use Rattle.drm_timeline.specs.Numbers.{packet_size}
 use Rattle.mod_feed.specs.Feeding.{FeedStep, Feeds}
 use Rattle.mod_delivery.specs.Sent as schedules

@@ -17,7 +17,7 @@ use Rattle.collect_laws.specs.Laws.{IsHeard, Collecting}
 use Rattle.dcp_collect.proofs.Sets.{recoverable_same, size_same}
 use Rattle.drm_schedule.specs.declared.plan.Plan.{Plan}
 use Rattle.drm_schedule.specs.Valid.{IsSchedule}
-use Rattle.drm_switches.specs.Tracker.{TrackerState, new_tracker}
+use Rattle.drm_reconfiguration.specs.Tracker.{TrackerState, new_tracker}
 use Rattle.drm_timeline.specs.Numbers.{frame_count}
 use Rattle.drm_server.specs.Frames.{IsPacketAt}
 use Rattle.mod_feed.specs.Items.{Item, Missing, IsItemOf}

@@ -6,7 +6,7 @@ use Rattle.std.proofs.lemmas.List.{take-append-le}
 use Rattle.drm_bits.specs.Bits.{IsBytes}
 use Rattle.drm_schedule.specs.declared.plan.Plan.{Plan}
 use Rattle.drm_schedule.specs.Valid.{IsSchedule}
-use Rattle.drm_switches.specs.Tracker.{new_tracker}
+use Rattle.drm_reconfiguration.specs.Tracker.{new_tracker}
 use Rattle.dcp_collect.specs.declared.taken.Taken.{Taken}
 use Rattle.dcp_collect.specs.Reading.{Incoming, Read, Brings, IsRead}
 use Rattle.dcp_collect.specs.State.{State, made, answer, after_take, after_finish}

@@ -11,14 +11,14 @@ use Rattle.drm_schedule.specs.declared.plan.Plan.{Plan}
 use Rattle.plan_packing.specs.Packing.{chain}
 use Rattle.dcp_pft.specs.Loss.{is_recoverable}
 use Rattle.collect_laws.specs.Delivery.{got}
-use Rattle.drm_switches.specs.declared.seen.Seen.{Seen}
-use Rattle.drm_switches.specs.declared.seen.Signature.{Signature}
+use Rattle.drm_reconfiguration.specs.declared.seen.Seen.{Seen}
+use Rattle.drm_reconfiguration.specs.declared.seen.Signature.{Signature}
 use Rattle.drm_timeline.specs.Description.{description_of}
 use Rattle.drm_timeline.specs.FastAccess.{identity_of, channel_of, fac_under, fac_of, services_of, service_of}
-use Rattle.drm_switches.specs.Seen.{signature_of}
+use Rattle.drm_reconfiguration.specs.Seen.{signature_of}
 use Rattle.drm_timeline.specs.Standing.{config_of, index_of}
 use Rattle.drm_timeline.specs.Starts.{IsSeenOf, signature_at}
-use Rattle.drm_switches.specs.Switches.{IsFrame}
+use Rattle.drm_reconfiguration.specs.Switches.{IsFrame}
 use Rattle.mod_feed.specs.Items.{Item, Missing, position_of, shown_by, seen_in}
 use Rattle.mod_feed.specs.Feeding.{FeedStep, all_seen}
 use Rattle.drm_timeline.specs.Numbers.{frame_count}

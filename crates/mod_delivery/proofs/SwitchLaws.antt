@@ -6,15 +6,15 @@ use Rattle.std.proofs.lemmas.Option.{slice_get_within}
 use Rattle.drm_schedule.specs.declared.plan.Plan.{Plan}
 use Rattle.drm_schedule.specs.Valid.{IsSchedule}
 use Rattle.drm_schedule.proofs.Faultless.{all_faultless}
-use Rattle.drm_switches.specs.declared.tracker.Before.{Before}
-use Rattle.drm_switches.specs.declared.seen.Seen.{Seen}
-use Rattle.drm_switches.specs.declared.tracker.Before.TheVariants.{Switch, Resumed}
+use Rattle.drm_reconfiguration.specs.declared.tracker.Before.{Before}
+use Rattle.drm_reconfiguration.specs.declared.seen.Seen.{Seen}
+use Rattle.drm_reconfiguration.specs.declared.tracker.Before.TheVariants.{Switch, Resumed}
 use Rattle.drm_timeline.specs.Standing.{index_of}
 use Rattle.drm_timeline.specs.Starts.{AnnouncesStarts, IsSeenOf, later_starts}
 use Rattle.drm_timeline.specs.Starts.{AreSeenOf}
-use Rattle.drm_switches.specs.Switches.{SwitchesAt}
-use Rattle.drm_switches.specs.Announced.{NoneMissing}
-use Rattle.drm_switches.proofs.SwitchesLemmas.{StandsBefore-same}
+use Rattle.drm_reconfiguration.specs.Switches.{SwitchesAt}
+use Rattle.drm_reconfiguration.specs.Announced.{NoneMissing}
+use Rattle.drm_reconfiguration.proofs.SwitchesLemmas.{StandsBefore-same}
 use Rattle.drm_timeline.proofs.ScheduleLaws.{announces_starts, at_all_its_starts, resumes_nowhere}
 use Rattle.mod_feed.specs.Items.{seen_in}
 use Rattle.mod_feed.specs.Feeding.{FeedStep, told_before, all_seen}

@@ -1,8 +1,8 @@
 -- What a modulator gives of a delivery of a schedule. No receiver is spoken of here.
 use Rattle.std.specs.Prelude.{ℕ, ℤ, pos, ◌+ℤ◌, ◌≡◌, ◌==◌, Bool, true, false, if◌then◌else◌, List, length, slice_get, Option, Some, None}
 use Rattle.drm_schedule.specs.declared.plan.Plan.{Plan}
-use Rattle.drm_switches.specs.declared.tracker.Before.{Before}
-use Rattle.drm_switches.specs.Switches.{StandsBefore}
+use Rattle.drm_reconfiguration.specs.declared.tracker.Before.{Before}
+use Rattle.drm_reconfiguration.specs.Switches.{StandsBefore}
 use Rattle.drm_timeline.specs.Starts.{IsFirstFrame}
 use Rattle.dcp_pft.specs.Loss.{size, is_recoverable}
 use Rattle.mdi_items.specs.RoundTrip.{Parts, IsWrittenOf, IsFrameOf}

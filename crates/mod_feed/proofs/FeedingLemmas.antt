@@ -2,10 +2,10 @@
 use Rattle.std.proofs.Common.{◌≡◌, ℕ, ◌+◌, ◌<◌, List, [], ◌∷◌, length, slice_get, suc, Option, None, Some, refl, sym, ap, ap₂, subst, ◌∙◌, arith}
 use Rattle.dcp_collect.specs.State.{State}
 use Rattle.dcp_collect.specs.Runs.{Item as Given, Packet, Lost, Damaged, IsItem}
-use Rattle.drm_switches.specs.declared.seen.Seen.{Seen}
-use Rattle.drm_switches.specs.declared.tracker.Before.{Before}
-use Rattle.drm_switches.specs.Tracker.{TrackerState, new_tracker, answered, answers, stepped}
-use Rattle.drm_switches.proofs.TrackerLemmas.{tells_the_switches}
+use Rattle.drm_reconfiguration.specs.declared.seen.Seen.{Seen}
+use Rattle.drm_reconfiguration.specs.declared.tracker.Before.{Before}
+use Rattle.drm_reconfiguration.specs.Tracker.{TrackerState, new_tracker, answered, answers, stepped}
+use Rattle.drm_reconfiguration.proofs.TrackerLemmas.{tells_the_switches}
 use Rattle.mod_feed.specs.Items.{Item, number_of, seen_in}
 use Rattle.mod_feed.specs.Feeding.{FeedStep, IsStep, after_step, Feeds, told_before, all_seen, IsOneFeeding, FeedingJoins, FeedTellsTheSwitches}
 use Rattle.mod_feed.proofs.ItemLemmas.{item_is_one}

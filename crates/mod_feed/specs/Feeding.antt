@@ -4,10 +4,10 @@ use Rattle.dcp_collect.specs.declared.item.Out.{Out}
 use Rattle.dcp_collect.specs.Runs.{Item as Given}
 use Rattle.dcp_collect.specs.View.{item_of as given_of}
 use Rattle.dcp_collect.specs.WholePackets.{IsAfIfWhole}
-use Rattle.drm_switches.specs.declared.seen.Seen.{Seen}
-use Rattle.drm_switches.specs.declared.tracker.Before.{Before}
-use Rattle.drm_switches.specs.Switches.{StandsBefore}
-use Rattle.drm_switches.specs.Tracker.{TrackerState, new_tracker, answered, stepped}
+use Rattle.drm_reconfiguration.specs.declared.seen.Seen.{Seen}
+use Rattle.drm_reconfiguration.specs.declared.tracker.Before.{Before}
+use Rattle.drm_reconfiguration.specs.Switches.{StandsBefore}
+use Rattle.drm_reconfiguration.specs.Tracker.{TrackerState, new_tracker, answered, stepped}
 use Rattle.mod_feed.specs.declared.feed.Step.{Step}
 use Rattle.mod_feed.specs.Items.{Item, item_of, IsItemOf, number_of, seen_in}
 

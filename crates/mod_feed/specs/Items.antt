@@ -3,8 +3,8 @@ use Rattle.std.specs.Prelude.{ℕ, ◌≡◌, List, Option, Some, None, nat_eq, 
 use Rattle.dcp_af.specs.Packet.{AfPacket, IsAf}
 use Rattle.dcp_af.specs.Faults.{IsFault}
 use Rattle.dcp_collect.specs.Runs.{Item as Given, Packet, Lost, Damaged}
-use Rattle.drm_switches.specs.declared.seen.Seen.{Seen}
-use Rattle.drm_switches.specs.Seen.{signature_of}
+use Rattle.drm_reconfiguration.specs.declared.seen.Seen.{Seen}
+use Rattle.drm_reconfiguration.specs.Seen.{signature_of}
 use Rattle.mdi_items.specs.Frame.{Frame as MdiFrame, frame_of}
 use Rattle.mdi_items.specs.Mdi.{IsMdi, IsMdiFault}
 use Rattle.mdi_items.specs.View.{IsWholeView}

@@ -1,7 +1,7 @@
 //! A feed, which follows the items of one modulator.
 
 ghost use Rattle.std.specs.Prelude.{◌≡◌, ◌+◌};
-ghost use Rattle.drm_switches.specs.Tracker.{new_tracker, answered, stepped};
+ghost use Rattle.drm_reconfiguration.specs.Tracker.{new_tracker, answered, stepped};
 ghost use Rattle.dcp_collect.specs.View.{item_of as given_of};
 ghost use Rattle.mod_feed.specs.Feeding.{IsNext};
 ghost use Rattle.mod_feed.specs.Items.{Item, item_of, IsItemOf, seen_in, IsRead};
@@ -10,7 +10,7 @@ use crate::FeedItem;
 use crate::read::read_item;
 use crate::seen::seen_in;
 use dcp_collect::Out;
-use drm_switches::{Before, Tracker};
+use drm_reconfiguration::{Before, Tracker};
 use std::marker::Model;
 
 /// An item, and the switch or the resumption that stands before it.
@@ -27,7 +27,7 @@ pub struct Feed {
 }
 
 impl Model for Feed {
-    ghost use Rattle.drm_switches.specs.Tracker.{TrackerState};
+    ghost use Rattle.drm_reconfiguration.specs.Tracker.{TrackerState};
 
     ghost Value = { TrackerState };
 

@@ -2,11 +2,11 @@
 
 ghost use Rattle.std.specs.Prelude.{◌≡◌, ◌<◌};
 ghost use Rattle.std.specs.Option.{ForSome};
-ghost use Rattle.drm_switches.specs.Seen.{IsInRange};
+ghost use Rattle.drm_reconfiguration.specs.Seen.{IsInRange};
 ghost use Rattle.mod_feed.specs.Items.{item_of, position_of, seen_in, IsRead};
 
 use crate::FeedItem;
-use drm_switches::{Seen, Signature};
+use drm_reconfiguration::{Seen, Signature};
 
 /// What is seen in an item: nothing where it is no frame.
 pub(crate) fn seen_in(item: &FeedItem<'_>) -> Option<Seen>

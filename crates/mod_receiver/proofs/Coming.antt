@@ -5,7 +5,7 @@ use Rattle.recv_reading.proofs.Common.{Known, Answer, Failed, Output, Outputs, I
 use Rattle.recv_reading.proofs.Common.{ReadingState, has_ended, word_of, Reached, Waits, ReadsOn}
 use Rattle.recv_reading.specs.declared.options.ReceiveOptions.{ReceiveOptions}
 use Rattle.drm_links.proofs.ToldLemmas.{Outputs-then, Outputs-nothing, Outputs-weaker}
-use Rattle.drm_switches.specs.Tracker.{TrackerState, new_tracker}
+use Rattle.drm_reconfiguration.specs.Tracker.{TrackerState, new_tracker}
 use Rattle.mod_feed.specs.Feeding.{FeedStep, IsStep, Feeds, after_step}
 use Rattle.mod_feed.proofs.FeedingLemmas.{feedings_join}
 use Rattle.report_lines.specs.Report.{step_text}

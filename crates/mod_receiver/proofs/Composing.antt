@@ -14,7 +14,7 @@ use Rattle.drm_links.specs.Told.{BothTold}
 use Rattle.drm_links.specs.Link.{Traffic}
 use Rattle.drm_links.proofs.ToldLemmas.{Outputs-weaker}
 use Rattle.dcp_collect.specs.declared.taken.Taken.TheVariants.{Kept, Repeated, Late, Refused, Inconsistent}
-use Rattle.drm_switches.specs.Tracker.{new_tracker}
+use Rattle.drm_reconfiguration.specs.Tracker.{new_tracker}
 use Rattle.mod_feed.specs.Items.{Item}
 use Rattle.mod_feed.specs.Feeding.{FeedStep, Feeds}
 use Rattle.drm_timeline.specs.Numbers.{frame_count}

@@ -6,7 +6,7 @@ use Rattle.recv_reading.specs.declared.reason.EndWord.{EndWord}
 use Rattle.recv_reading.specs.declared.options.ReceiveOptions.{ReceiveOptions}
 use Rattle.drm_links.proofs.ToldLemmas.{Outputs-weaker}
 use Rattle.drm_links.proofs.WritingLemmas.{text_then, front_more, front_then, front_behind}
-use Rattle.drm_switches.specs.Tracker.{new_tracker}
+use Rattle.drm_reconfiguration.specs.Tracker.{new_tracker}
 use Rattle.mod_feed.specs.Feeding.{FeedStep, Feeds}
 use Rattle.report_lines.specs.Report.{feed_line, end_line}
 use Rattle.recv_reading.specs.declared.source.SourceFault.{SourceFault}

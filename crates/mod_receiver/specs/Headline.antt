@@ -6,7 +6,7 @@ use Rattle.drm_links.specs.Told.{Known, WhileTold}
 use Rattle.drm_links.specs.Link.{Answer, Failed, Traffic}
 use Rattle.drm_links.specs.Sink.{Output, Outputs}
 use Rattle.dcp_collect.specs.declared.taken.Taken.TheVariants.{Refused}
-use Rattle.drm_switches.specs.declared.tracker.Before.TheVariants.{Switch, Resumed}
+use Rattle.drm_reconfiguration.specs.declared.tracker.Before.TheVariants.{Switch, Resumed}
 use Rattle.drm_timeline.specs.Starts.{later_starts}
 use Rattle.mod_feed.specs.Feeding.{FeedStep, told_before}
 use Rattle.drm_timeline.specs.Numbers.{frame_count}

@@ -6,7 +6,7 @@ use Rattle.drm_links.specs.Sink.{Output, Outputs, IsFrontBehind}
 use Rattle.dcp_collect.specs.declared.taken.Taken.{Taken}
 use Rattle.dcp_collect.specs.State.{State}
 use Rattle.dcp_collect.specs.Runs.{Item, IsItem, Run, up_to}
-use Rattle.drm_switches.specs.Tracker.{TrackerState, new_tracker}
+use Rattle.drm_reconfiguration.specs.Tracker.{TrackerState, new_tracker}
 use Rattle.mod_feed.specs.Feeding.{FeedStep, IsStep, Feeds, after_step}
 use Rattle.report_lines.specs.Report.{step_text}
 use Rattle.text_output.specs.Gathering.{Puts}

@@ -6,7 +6,7 @@ use Rattle.drm_links.specs.Sink.{Output, Outputs, IsFront, IsFrontBehind}
 use Rattle.dcp_collect.specs.declared.taken.Taken.{Taken}
 use Rattle.dcp_collect.specs.State.{State}
 use Rattle.dcp_collect.specs.Runs.{Item, Run, up_to}
-use Rattle.drm_switches.specs.Tracker.{TrackerState, new_tracker}
+use Rattle.drm_reconfiguration.specs.Tracker.{TrackerState, new_tracker}
 use Rattle.mod_feed.specs.Feeding.{FeedStep, Feeds}
 use Rattle.recv_reading.specs.declared.reason.EndWord.{EndWord}
 use Rattle.report_lines.specs.Report.{feed_line}

@@ -3,7 +3,7 @@
 ghost use Rattle.std.specs.Prelude.{◌≡◌, ◌<◌, ◌^◌, [], true, Err, IfOk, IfErr, IsErr};
 ghost use Rattle.drm_links.specs.Told.{Counts, HasCause};
 ghost use Rattle.dcp_collect.specs.State.{made, ready, after_item};
-ghost use Rattle.drm_switches.specs.Tracker.{new_tracker};
+ghost use Rattle.drm_reconfiguration.specs.Tracker.{new_tracker};
 ghost use Rattle.recv_reading.specs.Options.{AreUsable, options_of};
 ghost use Rattle.mod_receiver.specs.Received.{Reported};
 ghost use Rattle.report_lines.specs.Tallies.{new_tally, items_in};

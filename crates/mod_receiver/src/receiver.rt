@@ -2,7 +2,7 @@
 
 ghost use Rattle.std.specs.Prelude.{◌≡◌, ◌≤◌, length};
 ghost use Rattle.dcp_collect.specs.State.{made};
-ghost use Rattle.drm_switches.specs.Tracker.{new_tracker};
+ghost use Rattle.drm_reconfiguration.specs.Tracker.{new_tracker};
 ghost use Rattle.drm_links.specs.Told.{HasCause};
 ghost use Rattle.mod_receiver.specs.Received.{rules_of, IsReasonable, EndsAs, IfDone};
 ghost use Rattle.mod_receiver.specs.Headline.{Headline, Complete};

@@ -6,7 +6,7 @@ use Rattle.recv_reading.proofs.Common.{is_full}
 use Rattle.recv_reading.specs.declared.reason.EndWord.{EndWord}
 use Rattle.collect_laws.proofs.Runs.{steps_more, steps_count, gives_given}
 use Rattle.collect_laws.proofs.Fit.{fit_given}
-use Rattle.drm_switches.specs.Tracker.{TrackerState, new_tracker}
+use Rattle.drm_reconfiguration.specs.Tracker.{TrackerState, new_tracker}
 use Rattle.mod_feed.specs.Items.{seen_in}
 use Rattle.mod_feed.specs.Feeding.{FeedStep, Feeds, after_step}
 use Rattle.mod_feed.proofs.FeedingLemmas.{feedings_join, stepped_calls, feeds_calls}

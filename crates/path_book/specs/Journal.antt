@@ -3,7 +3,7 @@ use Rattle.std.specs.Prelude.{ℕ, ◌≡◌, ◌≤◌, ◌++◌, ◌∷◌, []
 use Rattle.dcp_collect.specs.declared.taken.Taken.{Taken}
 use Rattle.dcp_collect.specs.State.{State, made}
 use Rattle.dcp_collect.specs.Runs.{Takes}
-use Rattle.drm_switches.specs.Tracker.{TrackerState, new_tracker}
+use Rattle.drm_reconfiguration.specs.Tracker.{TrackerState, new_tracker}
 use Rattle.report_lines.specs.Report.{feed_line}
 use Rattle.report_lines.specs.Tallies.{Tallied, new_tally, noted}
 use Rattle.path_book.specs.declared.journal.Entry.{Entry}

@@ -2,8 +2,8 @@
 use Rattle.std.specs.Prelude.{ℕ, List, [], ◌∷◌, ◌++◌, codes, decimal, Option, None, Some}
 use Rattle.std.specs.List.{concat}
 use Rattle.dcp_collect.specs.declared.taken.Taken.{Taken}
-use Rattle.drm_switches.specs.declared.tracker.Before.{Before}
-use Rattle.drm_switches.specs.declared.tracker.Before.TheVariants.{Switch, Resumed}
+use Rattle.drm_reconfiguration.specs.declared.tracker.Before.{Before}
+use Rattle.drm_reconfiguration.specs.declared.tracker.Before.TheVariants.{Switch, Resumed}
 use Rattle.mod_feed.specs.declared.item.BadFault.{BadFault}
 use Rattle.mod_feed.specs.Items.{Item, Frame, Missing, Bad}
 use Rattle.mod_feed.specs.Feeding.{FeedStep}

@@ -10,7 +10,7 @@ ghost use Rattle.report_lines.specs.Report.{before_line, missing_line, bad_line,
 use crate::frame_line::write_frame;
 use crate::words::bad_words;
 use drm_links::{Sink, WriteFault};
-use drm_switches::Before;
+use drm_reconfiguration::Before;
 use mod_feed::{BadFault, FeedItem, Step};
 use text_output::{Piece, write_pieces};
 

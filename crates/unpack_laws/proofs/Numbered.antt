@@ -5,12 +5,12 @@ use Rattle.dcp_collect.specs.State.{State, after_item}
 use Rattle.dcp_collect.specs.Runs.{Item as Collected, Packet, Lost, Damaged, IsItem, Gives, Steps, Run, up_to}
 use Rattle.collect_laws.proofs.Stays.{take_next}
 use Rattle.collect_laws.proofs.Runs.{gives_count, steps_count}
-use Rattle.drm_switches.specs.Tracker.{TrackerState}
+use Rattle.drm_reconfiguration.specs.Tracker.{TrackerState}
 use Rattle.mod_feed.specs.Items.{Item, number_of, seen_in}
 use Rattle.mod_feed.specs.Feeding.{FeedStep, Feeds, after_step}
 use Rattle.mod_feed.proofs.FeedingLemmas.{number_is, stepped_calls}
-use Rattle.drm_switches.specs.Tracker.{answered, stepped}
-use Rattle.drm_switches.specs.declared.seen.Seen.{Seen}
+use Rattle.drm_reconfiguration.specs.Tracker.{answered, stepped}
+use Rattle.drm_reconfiguration.specs.declared.seen.Seen.{Seen}
 use Rattle.capture_data.specs.Printed.{AreItems}
 
 -- they have the numbers from n on

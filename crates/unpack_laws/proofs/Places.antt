@@ -11,7 +11,7 @@ use Rattle.drm_schedule.specs.declared.plan.Plan.{Plan}
 use Rattle.drm_schedule.specs.Contents.{stream_bytes}
 use Rattle.drm_schedule.specs.Valid.{IsSchedule}
 use Rattle.drm_timeline.specs.Numbers.{frame_count}
-use Rattle.drm_switches.specs.Tracker.{new_tracker}
+use Rattle.drm_reconfiguration.specs.Tracker.{new_tracker}
 use Rattle.mdi_items.specs.Frame.{Frame as MdiFrame}
 use Rattle.dcp_pft.specs.Loss.{is_recoverable}
 use Rattle.dcp_collect.specs.declared.taken.Taken.{Taken}

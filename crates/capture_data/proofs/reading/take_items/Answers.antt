@@ -1,7 +1,7 @@
 use Rattle.std.proofs.Common.{◌+◌, [], ◌∷◌, ◌++◌, Err, ap, refl, sym, subst, ◌∙◌, arith}
 use Rattle.std.proofs.lemmas.Result.{err_from_is_err_and}
 use Rattle.drm_links.proofs.ToldLemmas.{done_counts}
-use Rattle.drm_switches.specs.Tracker.{TrackerState}
+use Rattle.drm_reconfiguration.specs.Tracker.{TrackerState}
 use Rattle.dcp_collect.specs.View.{item_of as given_of}
 use Rattle.mod_feed.specs.Items.{item_of}
 use Rattle.recv_reading.proofs.Common.{capture_bounds, options_of, State, new_reading, Reached}

@@ -3,9 +3,9 @@ use Rattle.std.specs.Prelude.{ℕ, ◌+◌, ◌-◌, ◌*◌, ◌<◌, ◌==◌,
 use Rattle.drm_bits.specs.declared.description.MuxDesc.{MuxDesc}
 use Rattle.drm_fac.specs.declared.channel.Channel.{Channel}
 use Rattle.drm_fac.specs.declared.mode.Mode.{Mode}
-use Rattle.drm_switches.specs.declared.seen.Seen.{Seen}
-use Rattle.drm_switches.specs.declared.seen.Signature.{Signature}
-use Rattle.drm_switches.specs.contracts.seen.SignaturePartialEq.TheImpl.{ghosts}
+use Rattle.drm_reconfiguration.specs.declared.seen.Seen.{Seen}
+use Rattle.drm_reconfiguration.specs.declared.seen.Signature.{Signature}
+use Rattle.drm_reconfiguration.specs.contracts.seen.SignaturePartialEq.TheImpl.{ghosts}
 
 -- the signature of a frame: identity, index and last two bits of its channel parameters are set to 0
 abbrev pub signature_of : Mode → Channel → MuxDesc → Signature

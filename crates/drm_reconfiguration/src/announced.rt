@@ -1,6 +1,6 @@
 //! Laws of switches over a multiplex that announces its reconfigurations, each on a function that does nothing.
 
-ghost use Rattle.drm_switches.specs.Announced.{OnlyAtStarts, AtAllStarts, NoneResumed};
+ghost use Rattle.drm_reconfiguration.specs.Announced.{OnlyAtStarts, AtAllStarts, NoneResumed};
 
 /// Switches stand only where a configuration starts, whatever is missing.
 pub fn switches_only_at_starts()

@@ -1,9 +1,9 @@
 -- Laws of what stands before items, from one item to the next.
 use Rattle.std.proofs.Common.{◌≡◌, ℕ, ◌+◌, ◌<◌, ◌⊎◌, inl, inr, List, Option, Some, None, refl, sym, ◌∙◌, ap, subst, arith}
-use Rattle.drm_switches.specs.Switches.{IsFrame, Names, IsNamedLast, SwitchesAt, IsLastFrame, ResumesAt, StandsBefore}
-use Rattle.drm_switches.specs.declared.seen.Seen.{Seen}
-use Rattle.drm_switches.specs.declared.tracker.Before.{Before}
-use Rattle.drm_switches.specs.declared.tracker.Before.TheVariants.{Switch, Resumed}
+use Rattle.drm_reconfiguration.specs.Switches.{IsFrame, Names, IsNamedLast, SwitchesAt, IsLastFrame, ResumesAt, StandsBefore}
+use Rattle.drm_reconfiguration.specs.declared.seen.Seen.{Seen}
+use Rattle.drm_reconfiguration.specs.declared.tracker.Before.{Before}
+use Rattle.drm_reconfiguration.specs.declared.tracker.Before.TheVariants.{Switch, Resumed}
 
 -- a place below m + 1 is below m, or m
 pub below_or_at : (q m : ℕ) → q < m + 1 → (q < m) ⊎ (q ≡ m)

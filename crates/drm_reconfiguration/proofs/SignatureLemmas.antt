@@ -12,9 +12,9 @@ use Rattle.drm_fac.specs.declared.channel.Channel.{Channel}
 use Rattle.drm_fac.specs.contracts.channel.ChannelPartialEq.TheImpl as channel
 use Rattle.drm_fac.specs.declared.mode.Mode.{Mode}
 use Rattle.drm_fac.specs.contracts.mode.ModePartialEq.TheImpl as mode
-use Rattle.drm_switches.specs.declared.seen.Signature.{Signature}
-use Rattle.drm_switches.specs.contracts.seen.SignatureEq.TheImpl.Laws as signature_laws
-use Rattle.drm_switches.specs.Seen.{is_same}
+use Rattle.drm_reconfiguration.specs.declared.seen.Signature.{Signature}
+use Rattle.drm_reconfiguration.specs.contracts.seen.SignatureEq.TheImpl.Laws as signature_laws
+use Rattle.drm_reconfiguration.specs.Seen.{is_same}
 
 mode_same : (a b : Mode) → mode.ghosts.eq a b ≡ true → a ≡ b
 mode_same a b h = search rules

@@ -1,7 +1,7 @@
 //! What a receiver sees of a logical frame.
 
 ghost use Rattle.std.specs.Prelude.{◌≡◌, ◌+◌, ◌*◌, ◌<◌, ◌^◌};
-ghost use Rattle.drm_switches.specs.Seen.{signature_of, named_by, IsInRange};
+ghost use Rattle.drm_reconfiguration.specs.Seen.{signature_of, named_by, IsInRange};
 
 use drm_bits::MuxDesc;
 use drm_fac::{Channel, Mode};

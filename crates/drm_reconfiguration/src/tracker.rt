@@ -2,8 +2,8 @@
 
 ghost use Rattle.std.specs.Prelude.{◌≡◌, ◌<◌, ◌^◌};
 ghost use Rattle.std.specs.Option.{ForSome};
-ghost use Rattle.drm_switches.specs.Seen.{IsInRange};
-ghost use Rattle.drm_switches.specs.Tracker.{new_tracker, answered, stepped, is_named, TellsTheSwitches};
+ghost use Rattle.drm_reconfiguration.specs.Seen.{IsInRange};
+ghost use Rattle.drm_reconfiguration.specs.Tracker.{new_tracker, answered, stepped, is_named, TellsTheSwitches};
 
 use crate::{Seen, Signature};
 use std::marker::Model;
@@ -31,7 +31,7 @@ pub struct Tracker {
 }
 
 impl Model for Tracker {
-    ghost use Rattle.drm_switches.specs.Tracker.{TrackerState};
+    ghost use Rattle.drm_reconfiguration.specs.Tracker.{TrackerState};
 
     ghost Value = { TrackerState };
 

@@ -1,15 +1,15 @@
 -- What a tracker knows of the items before its next call, and that it answers by the whole list.
 use Rattle.std.proofs.Common.{◌≡◌, ◌≢◌, ℕ, zero, suc, add-zero, zero-add, ◌+◌, ◌-◌, ◌*◌, ◌<◌, ◌≤◌, ◌⊎◌, inl, inr, Bool, true, false, cond, not, ◌&&◌, ◌||◌, List, [], ◌∷◌, length, slice_get, Option, Some, None, refl, sym, ◌∙◌, ap, subst, arith, eqb, eqb-true, eq-eqb}
 use Rattle.std.specs.Option.{option_map_or}
-use Rattle.drm_switches.specs.Seen.{is_same, named_by}
-use Rattle.drm_switches.specs.Switches.{IsFrame, Names, IsNamedLast, SwitchesAt, IsLastFrame, ResumesAt, StandsBefore}
-use Rattle.drm_switches.specs.Tracker.{TrackerState, new_tracker, is_named, resumption, answered, name_after, stepped, answers, TellsTheSwitches}
-use Rattle.drm_switches.specs.declared.seen.Seen.{Seen}
-use Rattle.drm_switches.specs.declared.seen.Signature.{Signature}
-use Rattle.drm_switches.specs.declared.tracker.Before.{Before}
-use Rattle.drm_switches.specs.declared.tracker.Before.TheVariants.{Switch, Resumed}
-use Rattle.drm_switches.proofs.SignatureLemmas.{is_same-equal, is_same-refl}
-use Rattle.drm_switches.proofs.SwitchesLemmas as law
+use Rattle.drm_reconfiguration.specs.Seen.{is_same, named_by}
+use Rattle.drm_reconfiguration.specs.Switches.{IsFrame, Names, IsNamedLast, SwitchesAt, IsLastFrame, ResumesAt, StandsBefore}
+use Rattle.drm_reconfiguration.specs.Tracker.{TrackerState, new_tracker, is_named, resumption, answered, name_after, stepped, answers, TellsTheSwitches}
+use Rattle.drm_reconfiguration.specs.declared.seen.Seen.{Seen}
+use Rattle.drm_reconfiguration.specs.declared.seen.Signature.{Signature}
+use Rattle.drm_reconfiguration.specs.declared.tracker.Before.{Before}
+use Rattle.drm_reconfiguration.specs.declared.tracker.Before.TheVariants.{Switch, Resumed}
+use Rattle.drm_reconfiguration.proofs.SignatureLemmas.{is_same-equal, is_same-refl}
+use Rattle.drm_reconfiguration.proofs.SwitchesLemmas as law
 use Rattle.std.proofs.lemmas.Option.{slice_get_within}
 use Rattle.std.proofs.lemmas.Bool.Decides.{nat_tests}
 

@@ -1,9 +1,9 @@
 -- Switches over the frames of a multiplex that announces its reconfigurations: what holds whatever is missing, and what
 -- holds where nothing is.
 use Rattle.std.specs.Prelude.{ℕ, ◌≡◌, ◌≢◌, ◌+◌, ◌-◌, ◌*◌, ◌/◌, ◌%◌, ◌<◌, List, Contains, length, Option}
-use Rattle.drm_switches.specs.Switches.{IsFrame, SwitchesAt, ResumesAt}
-use Rattle.drm_switches.specs.declared.seen.Seen.{Seen}
-use Rattle.drm_switches.specs.declared.seen.Signature.{Signature}
+use Rattle.drm_reconfiguration.specs.Switches.{IsFrame, SwitchesAt, ResumesAt}
+use Rattle.drm_reconfiguration.specs.declared.seen.Seen.{Seen}
+use Rattle.drm_reconfiguration.specs.declared.seen.Signature.{Signature}
 
 -- an index above 0 counts down to a start, it is 1 before each later start, and signatures change only at starts: the
 -- index is that of a super frame, and the signature that of a frame

@@ -1,8 +1,8 @@
 -- Where switches stand over announced reconfigurations.
 use Rattle.std.proofs.Common.{◌≡◌, ◌≢◌, ℕ, ◌+◌, ◌-◌, ◌*◌, ◌/◌, ◌%◌, ◌<◌, ◌⊎◌, inl, inr, sym, ◌∙◌, ap, subst, arith}
-use Rattle.drm_switches.specs.Announced.{OnlyAtStarts, AtAllStarts, NoneResumed}
-use Rattle.drm_switches.specs.Switches.{SwitchesAt}
-use Rattle.drm_switches.specs.declared.seen.Seen.{Seen}
+use Rattle.drm_reconfiguration.specs.Announced.{OnlyAtStarts, AtAllStarts, NoneResumed}
+use Rattle.drm_reconfiguration.specs.Switches.{SwitchesAt}
+use Rattle.drm_reconfiguration.specs.declared.seen.Seen.{Seen}
 
 pub only_at_starts : OnlyAtStarts
 only_at_starts index signature starts base items f announces sent switches =

@@ -1,5 +1,0 @@
-use Rattle.drm_switches.proofs.AnnouncedLemmas.{none_resumed}
-use Rattle.drm_switches.proofs.announced.none_is_resumed.Goals as goal
-
-pub returns : goal.returns
-returns c = none_resumed

@@ -1,5 +1,0 @@
-use Rattle.drm_switches.proofs.AnnouncedLemmas.{at_all_starts}
-use Rattle.drm_switches.proofs.announced.switches_at_all_starts.Goals as goal
-
-pub returns : goal.returns
-returns c = at_all_starts

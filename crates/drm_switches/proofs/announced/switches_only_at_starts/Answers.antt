@@ -1,5 +1,0 @@
-use Rattle.drm_switches.proofs.AnnouncedLemmas.{only_at_starts}
-use Rattle.drm_switches.proofs.announced.switches_only_at_starts.Goals as goal
-
-pub returns : goal.returns
-returns c = only_at_starts
