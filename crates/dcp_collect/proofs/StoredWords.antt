@@ -7,7 +7,7 @@ use Rattle.rs_erase.specs.Code.{AgreesOutside}
 use Rattle.dcp_collect.specs.Fragments.{Fragment, has_index}
 use Rattle.dcp_collect.specs.Erasure.{erased_positions, position, received, received_word}
 use Rattle.dcp_collect.specs.Counters.{Tells}
-use Rattle.chunk_patterns.proofs.Positions.{position_in_chunk, position_in_parity, kept_outside}
+use Rattle.rs_patterns.proofs.Positions.{position_in_chunk, position_in_parity, kept_outside}
 use Rattle.drm_bits.proofs.PutLemmas.{put_byte, put_before, put_behind, put_long}
 use Rattle.dcp_collect.proofs.Received.{at_chunk, at_fill, at_parity, word_at, word_length}
 

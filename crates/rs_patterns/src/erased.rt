@@ -1,9 +1,9 @@
 //! Which bytes of a chunk are erased.
 
 ghost use Rattle.std.specs.Prelude.{ℕ, ◌≡◌, ◌+◌, ◌%◌, ◌<◌, ◌≤◌, length, take};
-ghost use Rattle.chunk_patterns.specs.Positions.{position, erased_positions};
-ghost use Rattle.chunk_patterns.specs.Marks.{is_marked};
-ghost use Rattle.chunk_patterns.specs.Marks.{HasMarks, IsByteOf};
+ghost use Rattle.rs_patterns.specs.Positions.{position, erased_positions};
+ghost use Rattle.rs_patterns.specs.Marks.{is_marked};
+ghost use Rattle.rs_patterns.specs.Marks.{HasMarks, IsByteOf};
 
 // The most bytes of a chunk, and the bytes of parity behind it.
 const CHUNK_BYTES: usize = 207;

@@ -2,10 +2,10 @@
 use Rattle.std.specs.Prelude.{ℕ, ◌≡◌, ◌+◌, ◌<◌, ◌≤◌, Bool, List, IfSome, length, take}
 use Rattle.std.specs.List.{All}
 use Rattle.dcp_pft.specs.Loss.{erased}
-use Rattle.chunk_patterns.specs.declared.patterns.Kept.{Kept}
-use Rattle.chunk_patterns.specs.Positions.{erased_positions}
+use Rattle.rs_patterns.specs.declared.patterns.Kept.{Kept}
+use Rattle.rs_patterns.specs.Positions.{erased_positions}
 use Rattle.dcp_pft.specs.Limits.{most_carried}
-use Rattle.chunk_patterns.specs.Marks.{is_marked}
+use Rattle.rs_patterns.specs.Marks.{is_marked}
 
 -- the chunk that starts at a place, of which enough has come, with the marks of its packet's fragments
 pub record IsErased (count k start : ℕ) (marks : List Bool) : Type 0 where

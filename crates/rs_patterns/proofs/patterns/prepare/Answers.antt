@@ -1,9 +1,9 @@
 use Rattle.std.proofs.Common.{arith, ap, length, subst, sym, List, ℕ, ◌+◌, ◌≡◌}
 use Rattle.std.specs.Option.{IfSome}
 use Rattle.rs_erase.specs.Code.{ArePlaces}
-use Rattle.chunk_patterns.specs.Marks.{is_marked}
-use Rattle.chunk_patterns.proofs.Positions.{are_places, erased_length}
-use Rattle.chunk_patterns.proofs.patterns.prepare.Goals as goal
+use Rattle.rs_patterns.specs.Marks.{is_marked}
+use Rattle.rs_patterns.proofs.Positions.{are_places, erased_length}
+use Rattle.rs_patterns.proofs.patterns.prepare.Goals as goal
 
 pub prepare-requires-clause-places : goal.prepare-requires-clause-places
 prepare-requires-clause-places c =

@@ -3,9 +3,9 @@
 ghost use Rattle.std.specs.Prelude.{◌≡◌, ◌+◌, ◌<◌, ◌≤◌, ◌↔◌, true, length, take, IfOk, IfSome, IsOk, OnOk};
 ghost use Rattle.rs_erase.specs.Code.{HasCodeWord};
 ghost use Rattle.rs_erase.specs.Spaced.{HasMessage};
-ghost use Rattle.chunk_patterns.specs.Positions.{erased_positions};
-ghost use Rattle.chunk_patterns.specs.Patterns.{AreKept, IsErased, IsFor, IsRight};
-ghost use Rattle.chunk_patterns.specs.Marks.{is_marked};
+ghost use Rattle.rs_patterns.specs.Positions.{erased_positions};
+ghost use Rattle.rs_patterns.specs.Patterns.{AreKept, IsErased, IsFor, IsRight};
+ghost use Rattle.rs_patterns.specs.Marks.{is_marked};
 
 use crate::erased::write_erased;
 use drm_bits::NoMemory;
@@ -49,7 +49,7 @@ pub struct Patterns {
 
 impl Model for Patterns {
     ghost use Rattle.std.specs.Prelude.{ℕ, length};
-    ghost use Rattle.chunk_patterns.specs.Patterns.{AreKept};
+    ghost use Rattle.rs_patterns.specs.Patterns.{AreKept};
 
     // What is seen of them: how many there are.
     ghost Value = { ℕ };

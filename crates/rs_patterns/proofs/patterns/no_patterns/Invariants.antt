@@ -1,7 +1,7 @@
 use Rattle.std.proofs.Common.{◌≡◌, length}
 use Rattle.std.specs.List.{All}
-use Rattle.chunk_patterns.specs.Patterns.{IsRight}
-use Rattle.chunk_patterns.proofs.patterns.no_patterns.Given as goal
+use Rattle.rs_patterns.specs.Patterns.{IsRight}
+use Rattle.rs_patterns.proofs.patterns.no_patterns.Given as goal
 
 abbrev pub invariant-loop : goal.invariant-loop
 invariant-loop l = record {

@@ -2,10 +2,10 @@ use Rattle.std.proofs.Common.{List, arith, ap, length, subst, sym, take, ◌+◌
 use Rattle.std.specs.Result.{OnOk}
 use Rattle.rs_erase.specs.Code.{ArePlaces, HasCodeWord}
 use Rattle.rs_erase.specs.Spaced.{HasMessage}
-use Rattle.chunk_patterns.proofs.PatternPlaces.{whole_message}
-use Rattle.chunk_patterns.specs.Marks.{is_marked}
-use Rattle.chunk_patterns.proofs.Positions.{are_places, erased_length}
-use Rattle.chunk_patterns.proofs.patterns.solve_once.Goals as goal
+use Rattle.rs_patterns.proofs.PatternPlaces.{whole_message}
+use Rattle.rs_patterns.specs.Marks.{is_marked}
+use Rattle.rs_patterns.proofs.Positions.{are_places, erased_length}
+use Rattle.rs_patterns.proofs.patterns.solve_once.Goals as goal
 
 pub solve-requires : goal.solve-requires
 solve-requires c =

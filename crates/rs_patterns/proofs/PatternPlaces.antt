@@ -5,12 +5,12 @@ use Rattle.std.proofs.Common.{subst, ℕ, zero, suc, ◌≡◌, ◌+◌, ◌*◌
 use Rattle.std.proofs.Math.Nat.{add-mul-mod_self_left, div-add-mod}
 use Rattle.std.proofs.lemmas.List.{ext_get_or, get_or-take, length-take-le}
 use Rattle.std.proofs.lemmas.Nat.{mod_below}
-use Rattle.chunk_patterns.specs.Positions.{erased_positions, position}
+use Rattle.rs_patterns.specs.Positions.{erased_positions, position}
 use Rattle.rs_erase.specs.Code.{AgreesOutside, IsCodeWord, IsOnlyCodeWord}
 use Rattle.rs_erase.specs.Spaced.{HasMessage, SpacedPlaces}
-use Rattle.chunk_patterns.specs.declared.patterns.Kept.{Kept}
-use Rattle.chunk_patterns.specs.Patterns.{IsFor, IsRight}
-use Rattle.chunk_patterns.specs.Marks.{is_marked}
+use Rattle.rs_patterns.specs.declared.patterns.Kept.{Kept}
+use Rattle.rs_patterns.specs.Patterns.{IsFor, IsRight}
+use Rattle.rs_patterns.specs.Marks.{is_marked}
 
 -- the marks of the fragments decide
 pub positions_below : (count : ℕ) (a b : ℕ → Bool) → 0 < count → ((i : ℕ) → i < count → a i ≡ b i) → (start k n : ℕ)

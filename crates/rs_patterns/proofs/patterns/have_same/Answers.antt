@@ -1,6 +1,6 @@
 use Rattle.std.specs.Cmp.{booleans_Decides}
 use Rattle.std.proofs.lemmas.Slice.Eq.{slice_eq-Decides}
-use Rattle.chunk_patterns.proofs.patterns.have_same.Goals as goal
+use Rattle.rs_patterns.proofs.patterns.have_same.Goals as goal
 
 pub returns : goal.returns
 returns c = (slice_eq-Decides booleans_Decides _ _ c.eq.result c.eq.ensures).0

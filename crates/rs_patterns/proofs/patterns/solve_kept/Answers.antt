@@ -2,10 +2,10 @@ use Rattle.std.proofs.Common.{List, ◌∙◌, refl, subst, sym, ℕ}
 use Rattle.std.specs.Result.{OnOk}
 use Rattle.rs_erase.specs.Code.{HasCodeWord}
 use Rattle.rs_erase.specs.Spaced.{HasMessage}
-use Rattle.chunk_patterns.specs.Patterns.{IsRight}
-use Rattle.chunk_patterns.proofs.PatternPlaces.{right_pattern, right_with}
-use Rattle.chunk_patterns.proofs.patterns.solve_kept.Goals as goal
-use Rattle.chunk_patterns.proofs.patterns.solve_kept.Goals.{then-not-is_for, else-not-is_for+in_default}
+use Rattle.rs_patterns.specs.Patterns.{IsRight}
+use Rattle.rs_patterns.proofs.PatternPlaces.{right_pattern, right_with}
+use Rattle.rs_patterns.proofs.patterns.solve_kept.Goals as goal
+use Rattle.rs_patterns.proofs.patterns.solve_kept.Goals.{then-not-is_for, else-not-is_for+in_default}
 
 pub solve_spaced-requires : goal.solve_spaced-requires
 solve_spaced-requires c =
