@@ -2,7 +2,7 @@
 """Tells how large the definitions are that a definition, or the clauses of a source file, rest on: the files that are reached by
 imports, and their lines.
 
-    tools/reached.py crates/mod_receiver/specs/Headline.antt
+    tools/reached.py crates/recv_report/specs/Headline.antt
     tools/reached.py --check docs/BELIEVED.md
     tools/reached.py --write docs/BELIEVED.md
 

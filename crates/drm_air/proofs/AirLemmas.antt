@@ -17,7 +17,7 @@ use Rattle.drm_schedule.specs.Valid.{IsSchedule}
 use Rattle.plan_script.specs.declared.delivery.Delivery.{Delivery}
 use Rattle.plan_script.specs.Script.{IsScript}
 use Rattle.recv_reading.specs.declared.options.ReceiveOptions.{ReceiveOptions}
-use Rattle.mod_receiver.specs.declared.job.Job.{Job}
+use Rattle.recv_report.specs.declared.job.Job.{Job}
 use Rattle.drm_faults.specs.declared.fault.Fault.{Fault}
 use Rattle.drm_faults.specs.declared.fault.Fault.TheVariants as faults
 use Rattle.drm_faults.proofs.CauseLemmas.{inner_fault}
@@ -29,20 +29,20 @@ use Rattle.drm_load.specs.Loading.{ReadBy}
 use Rattle.drm_load.specs.Schedule.{schedule_named}
 use Rattle.drm_load.specs.Scripts.{script_named}
 use Rattle.drm_load.specs.Faults.{fault_of_schedule, fault_of_script}
-use Rattle.mod_receiver.specs.Jobs.{IsDone, NoneFailed}
-use Rattle.mod_receiver.specs.Settling.{Settles}
-use Rattle.mod_receiver.specs.declared.stop.Stop.{Stop}
+use Rattle.recv_report.specs.Jobs.{IsDone, NoneFailed}
+use Rattle.recv_report.specs.Settling.{Settles}
+use Rattle.recv_report.specs.declared.stop.Stop.{Stop}
 use Rattle.drm_receive.specs.Receive.{WritesReports}
 use Rattle.drm_receive.specs.Stopping.{ending_of}
 use Rattle.drm_air.specs.Feeds.{BringsFeed, BringFeeds}
-use Rattle.mod_receiver.specs.Following.{HeadlinesFollow, CompletesFollow}
+use Rattle.recv_report.specs.Following.{HeadlinesFollow, CompletesFollow}
 use Rattle.recv_reading.specs.OneReading.{BreaksOff}
-use Rattle.mod_receiver.specs.Ahead.{IsReportOf}
+use Rattle.recv_report.specs.Ahead.{IsReportOf}
 use Rattle.drm_air.specs.Air.{air_rules, pairs_of, IsAired, AreFeeds, AreAired, ByScript, AirRun}
-use Rattle.mod_receiver.proofs.JobLemmas.{told_of, job_report, job_breaks, SomeFailed, some_failed}
+use Rattle.recv_report.proofs.JobLemmas.{told_of, job_report, job_breaks, SomeFailed, some_failed}
 use Rattle.drm_receive.proofs.ReceiveLemmas.{Ran, reports_written, ending_kind}
 use Rattle.drm_load.proofs.ScriptLemmas.{read_schedule, read_script, write_schedule, write_script}
-use Rattle.mod_receiver.proofs.Composing.{DeliveryLaws}
+use Rattle.recv_report.proofs.Composing.{DeliveryLaws}
 use Rattle.drm_air.proofs.AirStatus.{air_run}
 use Rattle.drm_air.proofs.FedLemmas as fed
 

@@ -19,10 +19,10 @@ use Rattle.drm_links.specs.Hearing.{AreNext}
 use Rattle.recv_reading.specs.declared.options.ReceiveOptions.{ReceiveOptions}
 use Rattle.recv_reading.specs.Ending.{datagrams, idles, Holds, IsOpen, IsSound, EndsBy}
 use Rattle.report_lines.specs.Reports.{refusals, report, Report}
-use Rattle.mod_receiver.specs.Headline.{strays_from, Modulates, ModulatesAll, untold, WouldBeRead}
-use Rattle.mod_receiver.specs.Ahead.{IsReportOf}
+use Rattle.recv_report.specs.Headline.{strays_from, Modulates, ModulatesAll, untold, WouldBeRead}
+use Rattle.recv_report.specs.Ahead.{IsReportOf}
 use Rattle.drm_air.specs.Air.{air_rules}
-use Rattle.mod_receiver.proofs.Composing.{DeliveryLaws, tells_switches, gives_in_time, prints_frames, strays_noted}
+use Rattle.recv_report.proofs.Composing.{DeliveryLaws, tells_switches, gives_in_time, prints_frames, strays_noted}
 
 -- ---- the answers
 

@@ -11,10 +11,10 @@ use Rattle.drm_links.specs.Sink.{Output}
 use Rattle.drm_timeline.specs.Numbers.{frame_count}
 use Rattle.mod_delivery.specs.Sent.{AreSent, Arrival, OfSchedule, IsFollowed, IsInTime}
 use Rattle.recv_reading.specs.declared.options.ReceiveOptions.{ReceiveOptions}
-use Rattle.mod_receiver.specs.Headline.{Modulates, ModulatesAll}
+use Rattle.recv_report.specs.Headline.{Modulates, ModulatesAll}
 use Rattle.drm_receive.specs.Receive.{WritesReports, WroteReports}
 use Rattle.report_lines.specs.Reports.{Report}
-use Rattle.mod_receiver.specs.Ahead.{IsReportOf}
+use Rattle.recv_report.specs.Ahead.{IsReportOf}
 use Rattle.drm_load.specs.Loading.{Step, ReadBy}
 use Rattle.drm_load.specs.Schedule.{schedule_named}
 use Rattle.drm_load.specs.Scripts.{script_named}

@@ -6,7 +6,7 @@ use Rattle.drm_links.specs.Link.{Datagram}
 use Rattle.drm_links.specs.Dock.{first_traffic}
 use Rattle.drm_links.specs.MemoryLink.{LinkState, link_known}
 use Rattle.mod_delivery.specs.Sent.{AreSent}
-use Rattle.mod_receiver.specs.declared.job.Job.{Job}
+use Rattle.recv_report.specs.declared.job.Job.{Job}
 use Rattle.drm_air.specs.Air.{pairs_of}
 
 -- The link brings the datagrams of these deliveries, and is to fail nowhere.

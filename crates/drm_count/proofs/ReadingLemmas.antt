@@ -21,7 +21,7 @@ use Rattle.report_lines.specs.Report.{feed_line}
 use Rattle.report_lines.specs.Reports.{refusals, steps_text, report}
 use Rattle.report_lines.specs.Tallies.{items_in}
 use Rattle.report_lines.proofs.StepLemmas as lines
-use Rattle.mod_receiver.specs.Received.{Broken}
+use Rattle.recv_report.specs.Received.{Broken}
 use Rattle.drm_count.specs.Totals.{totals_of, answered, one_more, noted}
 use Rattle.drm_count.specs.Run.{Counted, CountsNext, unseen}
 use Rattle.drm_count.specs.declared.totals.Totals.{Totals}

@@ -21,13 +21,13 @@ use Rattle.recv_reading.proofs.Going.{few_answers}
 use Rattle.several_links.specs.Binding.{HearsEach}
 use Rattle.several_links.proofs.OpeningLemmas.{Opened, opened_now, opened_all, found_now, docked_still}
 use Rattle.several_links.proofs.BindLemmas.{Missed, missed_now, went_over}
-use Rattle.mod_receiver.specs.Following.{HeadlinesFollow, CompletesFollow, NoneBreaksOff}
-use Rattle.mod_receiver.specs.Received.{Reported, Broken, EndsAs}
-use Rattle.mod_receiver.specs.Captures.{EndsReceiving}
-use Rattle.mod_receiver.specs.declared.receiver.Ended.{Ended}
-use Rattle.mod_receiver.specs.declared.receiver.Ended.TheVariants.{Done, LinkFailed, WriteFailed}
-use Rattle.mod_receiver.specs.declared.capture.Unfinished.{Unfinished}
-use Rattle.mod_receiver.specs.declared.capture.Unfinished.TheVariants as unfinished
+use Rattle.recv_report.specs.Following.{HeadlinesFollow, CompletesFollow, NoneBreaksOff}
+use Rattle.recv_report.specs.Received.{Reported, Broken, EndsAs}
+use Rattle.recv_report.specs.Captures.{EndsReceiving}
+use Rattle.recv_report.specs.declared.receiver.Ended.{Ended}
+use Rattle.recv_report.specs.declared.receiver.Ended.TheVariants.{Done, LinkFailed, WriteFailed}
+use Rattle.recv_report.specs.declared.capture.Unfinished.{Unfinished}
+use Rattle.recv_report.specs.declared.capture.Unfinished.TheVariants as unfinished
 use Rattle.drm_faults.specs.declared.fault.Fault.TheVariants as faults
 use Rattle.drm_faults.specs.Captures.{stop_fault}
 use Rattle.drm_faults.proofs.CauseLemmas.{inner_fault}

@@ -15,7 +15,7 @@ use Rattle.recv_reading.specs.declared.source.SourceFault.{SourceFault}
 use Rattle.recv_reading.specs.Ending.{datagrams, FewAtOnce, most_answers}
 use Rattle.recv_reading.specs.Source.{HeardOf, IsFailedCall}
 use Rattle.several_links.specs.Binding.{HearsEach}
-use Rattle.mod_receiver.specs.Received.{IsReport}
+use Rattle.recv_report.specs.Received.{IsReport}
 use Rattle.drm_receive.specs.Receive.{ReceiveRun, Alone}
 use Rattle.drm_receive.specs.Capture.{CaptureRun}
 use Rattle.drm_faults.specs.declared.fault.Fault.{Fault}

@@ -11,7 +11,7 @@ use drm_bits::zeros;
 use drm_capture::{Packets, read_some_way};
 use drm_faults::Fault;
 use drm_links::{Address, Dock, LONGEST_DATAGRAM, Opened, Sink, Source};
-use mod_receiver::{in_time_is_unbroken, reports_follow};
+use recv_report::{in_time_is_unbroken, reports_follow};
 use recv_reading::{ReceiveOptions, Room, SourceFault};
 use std::alloc::Global;
 

@@ -9,7 +9,7 @@ use Rattle.drm_links.specs.Sink.{Output, Outputs, IsFront}
 use Rattle.report_lines.specs.Reports.{Report}
 use Rattle.report_lines.specs.Texts.{text_known}
 use Rattle.report_lines.specs.declared.buffer.ReportBuffer.{ReportBuffer}
-use Rattle.mod_receiver.proofs.JobLemmas.{text_written}
+use Rattle.recv_report.proofs.JobLemmas.{text_written}
 use Rattle.drm_receive.specs.Receive.{all_texts, AreClean, WritesReports}
 use Rattle.drm_air.specs.Air.{IsAired, AreAired}
 use Rattle.drm_faults.specs.declared.fault.Fault.{Fault}

@@ -6,7 +6,7 @@ use Rattle.drm_links.specs.Hearing.{AreNext}
 use Rattle.recv_reading.specs.declared.options.ReceiveOptions.{ReceiveOptions}
 use Rattle.report_lines.specs.Reports.{Report}
 use Rattle.recv_reading.specs.OneReading.{BreaksOff}
-use Rattle.mod_receiver.specs.Ahead.{IsReportOf}
+use Rattle.recv_report.specs.Ahead.{IsReportOf}
 use Rattle.recv_reading.proofs.OneReading.{finished_whole}
 use Rattle.several_links.proofs.BindLemmas.{found_once, is_found}
 

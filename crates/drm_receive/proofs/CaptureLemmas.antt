@@ -14,16 +14,16 @@ use Rattle.drm_capture.specs.Capture as capture
 use Rattle.drm_capture.specs.Laws.{ReadSomeWay}
 use Rattle.drm_capture.specs.Reading.{Breaks}
 use Rattle.recv_reading.specs.declared.options.ReceiveOptions.{ReceiveOptions}
-use Rattle.mod_receiver.specs.declared.capture.Unfinished.{Unfinished}
-use Rattle.mod_receiver.specs.declared.capture.Unfinished.TheVariants as unfinished
+use Rattle.recv_report.specs.declared.capture.Unfinished.{Unfinished}
+use Rattle.recv_report.specs.declared.capture.Unfinished.TheVariants as unfinished
 use Rattle.drm_links.specs.Hearing.{AreNext}
 use Rattle.recv_reading.specs.Ending.{most_answers}
 use Rattle.recv_reading.specs.Options.{AreInRange}
-use Rattle.mod_receiver.specs.Received.{Reported, Broken, Stopped}
-use Rattle.mod_receiver.specs.Captures.{EndsReceiving}
+use Rattle.recv_report.specs.Received.{Reported, Broken, Stopped}
+use Rattle.recv_report.specs.Captures.{EndsReceiving}
 use Rattle.recv_reading.specs.Source.{answers_of, Brings, HeardOf, HeardUntil}
-use Rattle.mod_receiver.specs.Following.{HeadlinesFollow, CompletesFollow}
-use Rattle.mod_receiver.proofs.JobLemmas.{report_ahead}
+use Rattle.recv_report.specs.Following.{HeadlinesFollow, CompletesFollow}
+use Rattle.recv_report.proofs.JobLemmas.{report_ahead}
 use Rattle.drm_faults.specs.declared.fault.Fault.{Fault}
 use Rattle.drm_faults.specs.declared.fault.Fault.TheVariants as faults
 use Rattle.drm_faults.specs.Captures.{EndsEarly}

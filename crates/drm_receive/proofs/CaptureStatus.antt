@@ -10,9 +10,9 @@ use Rattle.drm_capture.proofs.CaptureLaws.{read_one_way}
 use Rattle.recv_reading.specs.declared.options.ReceiveOptions.{ReceiveOptions}
 use Rattle.drm_links.specs.Hearing.{AreNext}
 use Rattle.report_lines.specs.Reports.{Report}
-use Rattle.mod_receiver.specs.Ahead.{IsInTimeAhead, IsReportOf}
+use Rattle.recv_report.specs.Ahead.{IsInTimeAhead, IsReportOf}
 use Rattle.recv_reading.specs.Source.{answers_of, Brings}
-use Rattle.mod_receiver.specs.Following.{NoneBreaksOff}
+use Rattle.recv_report.specs.Following.{NoneBreaksOff}
 use Rattle.recv_reading.proofs.OneReading.{finished_whole}
 use Rattle.drm_faults.specs.Fault.{UnlessMemory}
 use Rattle.drm_faults.specs.declared.fault.Fault.{Fault}

@@ -7,16 +7,16 @@ use Rattle.drm_links.specs.Dock.{LinkStart, first_traffic}
 use Rattle.drm_links.specs.Hearing.{Heard}
 use Rattle.recv_reading.specs.declared.options.ReceiveOptions.{ReceiveOptions}
 use Rattle.recv_reading.specs.Ending.{GoesOn, most_answers}
-use Rattle.mod_receiver.specs.Received.{EndsAs}
+use Rattle.recv_report.specs.Received.{EndsAs}
 use Rattle.report_lines.specs.Texts.{text_known}
 use Rattle.recv_reading.specs.Options.{AreInRange}
-use Rattle.mod_receiver.specs.Jobs.{IsJob, EndedAs, HasEnded}
-use Rattle.mod_receiver.specs.declared.receiver.Ended.{Ended}
-use Rattle.mod_receiver.specs.declared.receiver.Ended.TheVariants.{Done, LinkFailed, WriteFailed, NoMemory}
-use Rattle.mod_receiver.specs.declared.job.Job.{Job}
+use Rattle.recv_report.specs.Jobs.{IsJob, EndedAs, HasEnded}
+use Rattle.recv_report.specs.declared.receiver.Ended.{Ended}
+use Rattle.recv_report.specs.declared.receiver.Ended.TheVariants.{Done, LinkFailed, WriteFailed, NoMemory}
+use Rattle.recv_report.specs.declared.job.Job.{Job}
 use Rattle.recv_reading.proofs.Going.{goes_none, few_answers}
 use Rattle.drm_links.proofs.Hearing.{heard_none}
-use Rattle.mod_receiver.proofs.JobLemmas.{rules_are}
+use Rattle.recv_report.proofs.JobLemmas.{rules_are}
 use Rattle.several_links.proofs.BindLemmas.{WentOver, went_over}
 use Rattle.drm_receive.specs.Receive.{AreAll, AreBroken}
 

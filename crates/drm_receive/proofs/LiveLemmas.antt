@@ -8,20 +8,20 @@ use Rattle.drm_links.specs.Sink.{Output}
 use Rattle.drm_links.specs.Dock.{DockContents, LinkStart, Over, Closes, first_traffic, after_close, HasLink, Docked, Finds, FindsNone, after_openings}
 use Rattle.drm_links.specs.declared.dock.Address.{Address}
 use Rattle.recv_reading.specs.declared.options.ReceiveOptions.{ReceiveOptions}
-use Rattle.mod_receiver.specs.declared.receiver.Ended.{Ended}
-use Rattle.mod_receiver.specs.declared.receiver.Ended.TheVariants.{Done, LinkFailed, WriteFailed, NoMemory}
+use Rattle.recv_report.specs.declared.receiver.Ended.{Ended}
+use Rattle.recv_report.specs.declared.receiver.Ended.TheVariants.{Done, LinkFailed, WriteFailed, NoMemory}
 use Rattle.recv_reading.specs.Options.{AreInRange}
-use Rattle.mod_receiver.specs.declared.receiver.Options.{Options}
-use Rattle.mod_receiver.specs.declared.job.Job.{Job}
-use Rattle.mod_receiver.specs.Jobs.{IsJob, AreJobs, job_rules}
+use Rattle.recv_report.specs.declared.receiver.Options.{Options}
+use Rattle.recv_report.specs.declared.job.Job.{Job}
+use Rattle.recv_report.specs.Jobs.{IsJob, AreJobs, job_rules}
 use Rattle.drm_links.specs.Hearing.{Heard}
 use Rattle.recv_reading.specs.Ending.{most_answers}
-use Rattle.mod_receiver.specs.Received.{EndsAs}
-use Rattle.mod_receiver.specs.Following.{HeadlinesFollow, CompletesFollow, NoneBreaksOff}
+use Rattle.recv_report.specs.Received.{EndsAs}
+use Rattle.recv_report.specs.Following.{HeadlinesFollow, CompletesFollow, NoneBreaksOff}
 use Rattle.recv_reading.specs.OneReading.{BreaksOff}
 use Rattle.drm_links.proofs.Hearing.{heard_none}
 use Rattle.recv_reading.proofs.Going.{few_answers}
-use Rattle.mod_receiver.proofs.JobLemmas.{rules_are, live_report, live_given, live_breaks, live_front}
+use Rattle.recv_report.proofs.JobLemmas.{rules_are, live_report, live_given, live_breaks, live_front}
 use Rattle.drm_faults.specs.declared.fault.Fault.{Fault}
 use Rattle.drm_faults.specs.declared.fault.Fault.TheVariants as faults
 use Rattle.drm_faults.proofs.CauseLemmas.{inner_fault}

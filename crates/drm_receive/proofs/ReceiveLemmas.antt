@@ -14,20 +14,20 @@ use Rattle.drm_links.proofs.Places.{index_of}
 use Rattle.recv_reading.specs.declared.options.ReceiveOptions.{ReceiveOptions}
 use Rattle.drm_faults.specs.declared.fault.Fault.{Fault}
 use Rattle.drm_faults.specs.declared.fault.Fault.TheVariants as faults
-use Rattle.mod_receiver.specs.declared.job.Job.{Job}
+use Rattle.recv_report.specs.declared.job.Job.{Job}
 use Rattle.recv_reading.specs.Options.{AreInRange}
 use Rattle.recv_reading.specs.Ending.{GoesOn}
-use Rattle.mod_receiver.specs.Received.{IsReport}
-use Rattle.mod_receiver.specs.declared.receiver.Ended.{Ended}
-use Rattle.mod_receiver.specs.declared.receiver.Ended.TheVariants.{Done, LinkFailed, WriteFailed, NoMemory}
-use Rattle.mod_receiver.specs.Jobs.{HasEnded, IsDone, AreJobs, NoneFailed, clean_of, is_failed}
+use Rattle.recv_report.specs.Received.{IsReport}
+use Rattle.recv_report.specs.declared.receiver.Ended.{Ended}
+use Rattle.recv_report.specs.declared.receiver.Ended.TheVariants.{Done, LinkFailed, WriteFailed, NoMemory}
+use Rattle.recv_report.specs.Jobs.{HasEnded, IsDone, AreJobs, NoneFailed, clean_of, is_failed}
 use Rattle.drm_receive.specs.Opening.{HaveLinks, EndsOpening, StopsOpening, members_of}
 use Rattle.several_links.specs.Reaching.{HaveGone, after_closes}
-use Rattle.mod_receiver.specs.Settling.{job_texts, Settles}
-use Rattle.mod_receiver.specs.declared.stop.Stop.{Stop}
-use Rattle.mod_receiver.specs.declared.stop.Stop.TheVariants as stops
+use Rattle.recv_report.specs.Settling.{job_texts, Settles}
+use Rattle.recv_report.specs.declared.stop.Stop.{Stop}
+use Rattle.recv_report.specs.declared.stop.Stop.TheVariants as stops
 use Rattle.drm_receive.specs.Stopping.{ending_of}
-use Rattle.mod_receiver.specs.Following.{HeadlinesFollow, CompletesFollow, NoneBreaksOff}
+use Rattle.recv_report.specs.Following.{HeadlinesFollow, CompletesFollow, NoneBreaksOff}
 use Rattle.drm_faults.specs.Fault.{UnlessMemory}
 use Rattle.drm_faults.proofs.CauseLemmas.{inner_fault}
 use Rattle.several_links.specs.Binding.{BindsFew, HearsEach}
@@ -36,10 +36,10 @@ use Rattle.several_links.proofs.BindLemmas.{went_weaker, hears_each}
 use Rattle.drm_receive.proofs.HearingLemmas.{ReadAs, has_read, link_in}
 use Rattle.drm_receive.proofs.ReceiveStatus.{receive_run}
 use Rattle.report_lines.specs.Reports.{Report}
-use Rattle.mod_receiver.specs.Ahead.{IsReportOf}
+use Rattle.recv_report.specs.Ahead.{IsReportOf}
 use Rattle.several_links.proofs.OpeningLemmas.{docked_weaker}
 use Rattle.drm_receive.proofs.BreakingOff.{report_whole}
-use Rattle.mod_receiver.proofs.JobLemmas.{told_of, job_report, job_heard, job_breaks, all_told, SomeFailed, some_failed}
+use Rattle.recv_report.proofs.JobLemmas.{told_of, job_report, job_heard, job_breaks, all_told, SomeFailed, some_failed}
 
 -- ---- what is written
 

@@ -16,8 +16,8 @@ use Rattle.drm_faults.specs.Fault.{UnlessMemory}
 use Rattle.drm_receive.specs.Receive.{AreReports, AreClean, all_texts, FailsSome, OpensEach, WritesReports, WritesAll, WritesSome, WroteReports, AreInTime, IsLive, ReceiveRun}
 use Rattle.report_lines.specs.Reports.{Report}
 use Rattle.recv_reading.specs.OneReading.{BreaksOff}
-use Rattle.mod_receiver.specs.Ahead.{IsInTimeAhead, IsReportOf}
-use Rattle.mod_receiver.specs.Following.{NoneBreaksOff}
+use Rattle.recv_report.specs.Ahead.{IsInTimeAhead, IsReportOf}
+use Rattle.recv_report.specs.Following.{NoneBreaksOff}
 use Rattle.several_links.proofs.OpeningLemmas.{docked_weaker, docked_both}
 
 pub is_true : IsTrue true

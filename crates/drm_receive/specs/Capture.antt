@@ -7,10 +7,10 @@ use Rattle.drm_links.specs.Sink.{Output, Outputs}
 use Rattle.drm_capture.specs.declared.packets.CaptureStop.TheVariants as stops
 use Rattle.drm_capture.specs.Capture as capture
 use Rattle.recv_reading.specs.declared.options.ReceiveOptions.{ReceiveOptions}
-use Rattle.mod_receiver.specs.Received.{Reported, Broken, Stopped}
+use Rattle.recv_report.specs.Received.{Reported, Broken, Stopped}
 use Rattle.report_lines.specs.Reports.{Report}
 use Rattle.recv_reading.specs.OneReading.{BreaksOff}
-use Rattle.mod_receiver.specs.Ahead.{IsInTimeAhead, IsReportOf}
+use Rattle.recv_report.specs.Ahead.{IsInTimeAhead, IsReportOf}
 use Rattle.recv_reading.specs.Source.{answers_of, Brings, HeardOf, HeardUntil}
 use Rattle.drm_faults.specs.Captures.{EndsEarly, EndsByIt}
 use Rattle.drm_faults.specs.Fault.{UnlessMemory}

@@ -10,10 +10,10 @@ use Rattle.drm_links.specs.declared.dock.Address.{Address}
 use Rattle.recv_reading.specs.declared.options.ReceiveOptions.{ReceiveOptions}
 use Rattle.recv_reading.specs.declared.reason.EndWord.{EndWord}
 use Rattle.recv_reading.specs.Ending.{GoesOn, IsFinished, IsBroken}
-use Rattle.mod_receiver.specs.Received.{IsReport, Reported, Broken, Stopped}
+use Rattle.recv_report.specs.Received.{IsReport, Reported, Broken, Stopped}
 use Rattle.report_lines.specs.Reports.{Report}
 use Rattle.recv_reading.specs.OneReading.{BreaksOff}
-use Rattle.mod_receiver.specs.Ahead.{IsInTimeAhead, IsReportOf, IsGivenOf, IsFrontOf}
+use Rattle.recv_report.specs.Ahead.{IsInTimeAhead, IsReportOf, IsGivenOf, IsFrontOf}
 use Rattle.drm_faults.specs.Causes.{OpeningFailed}
 use Rattle.drm_faults.specs.Fault.{UnlessMemory}
 use Rattle.drm_faults.specs.declared.fault.Fault.{Fault}

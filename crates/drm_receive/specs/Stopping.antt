@@ -1,11 +1,11 @@
 -- How a run ends whose receivers end so.
 use Rattle.std.specs.Prelude.{Bool, Result, Ok, Err}
-use Rattle.mod_receiver.specs.declared.stop.Stop.{Stop}
-use Rattle.mod_receiver.specs.declared.stop.Stop.TheVariants as stops
-use Rattle.mod_receiver.specs.declared.receiver.Ended.{Ended}
-use Rattle.mod_receiver.specs.declared.receiver.Ended.TheVariants as ended
-use Rattle.mod_receiver.specs.declared.capture.Unfinished.{Unfinished}
-use Rattle.mod_receiver.specs.declared.capture.Unfinished.TheVariants as unfinished
+use Rattle.recv_report.specs.declared.stop.Stop.{Stop}
+use Rattle.recv_report.specs.declared.stop.Stop.TheVariants as stops
+use Rattle.recv_report.specs.declared.receiver.Ended.{Ended}
+use Rattle.recv_report.specs.declared.receiver.Ended.TheVariants as ended
+use Rattle.recv_report.specs.declared.capture.Unfinished.{Unfinished}
+use Rattle.recv_report.specs.declared.capture.Unfinished.TheVariants as unfinished
 use Rattle.drm_faults.specs.Captures.{stop_fault}
 use Rattle.drm_faults.specs.declared.fault.Fault.{Fault}
 use Rattle.drm_faults.specs.declared.fault.Fault.TheVariants as faults

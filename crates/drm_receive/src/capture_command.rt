@@ -8,7 +8,7 @@ ghost use Rattle.drm_receive.specs.Stopping.{ending_captured};
 use drm_capture::read_some_way;
 use drm_faults::Fault;
 use drm_links::{Sink, Source};
-use mod_receiver::{Unfinished, in_time_is_unbroken, receive_capture, reports_follow};
+use recv_report::{Unfinished, in_time_is_unbroken, receive_capture, reports_follow};
 use recv_reading::ReceiveOptions;
 use std::alloc::Global;
 

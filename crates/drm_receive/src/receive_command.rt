@@ -7,13 +7,13 @@ ghost use Rattle.recv_reading.specs.Options.{AreInRange};
 ghost use Rattle.several_links.specs.Listed.{AreListed};
 ghost use Rattle.several_links.specs.Reaching.{HaveGone, after_closes};
 ghost use Rattle.drm_receive.specs.Receive.{ReceiveRun};
-ghost use Rattle.mod_receiver.specs.Jobs.{IsJob, AreJobs};
+ghost use Rattle.recv_report.specs.Jobs.{IsJob, AreJobs};
 ghost use Rattle.drm_receive.specs.Opening.{HaveLinks, EndsOpening, StopsOpening, members_of};
 ghost use Rattle.drm_receive.specs.Stopping.{ending_of, ending_live};
 
 use drm_faults::Fault;
 use drm_links::{Address, Addresses, Dock, Link, Opened, Sink};
-use mod_receiver::{
+use recv_report::{
     Ended, Job, Stop, in_time_is_unbroken, reports_follow, run_all, run_live, seat_for, seated,
     settle,
 };

@@ -2,7 +2,7 @@
 
 ghost use Rattle.path_laws.specs.Laws.{ReportsDeliveries, ReportsAll, MixedPathsAreOneDelivery, FollowedInAnyOrder};
 
-use mod_receiver::laws_of_deliveries;
+use recv_report::laws_of_deliveries;
 
 /// The report of several paths is that of what their delivery calls for: the server's frames, with its switches.
 pub fn paths_report_deliveries()

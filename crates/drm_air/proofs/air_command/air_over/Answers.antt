@@ -2,15 +2,15 @@ use Rattle.std.proofs.Common.{◌≡◌, ℕ, ◌<◌, List, length, slice_index
 use Rattle.std.specs.List.{All}
 use Rattle.drm_links.specs.MemoryLink.{LinkState, link_known}
 use Rattle.drm_schedule.specs.Valid.{IsSchedule}
-use Rattle.mod_receiver.specs.declared.job.Job.{Job}
-use Rattle.mod_receiver.specs.Jobs.{HasEnded, IsReady}
-use Rattle.mod_receiver.specs.Settling.{Settles}
+use Rattle.recv_report.specs.declared.job.Job.{Job}
+use Rattle.recv_report.specs.Jobs.{HasEnded, IsReady}
+use Rattle.recv_report.specs.Settling.{Settles}
 use Rattle.drm_air.specs.Air.{air_rules}
 use Rattle.drm_links.proofs.ToldLemmas.{counts_as}
 use Rattle.drm_receive.specs.Stopping.{ending_of}
 use Rattle.drm_receive.proofs.ReceiveLemmas.{Ran, written_back, write_is}
-use Rattle.mod_receiver.proofs.JobLemmas.{jobs_ready}
-use Rattle.mod_receiver.proofs.Composing.{DeliveryLaws}
+use Rattle.recv_report.proofs.JobLemmas.{jobs_ready}
+use Rattle.recv_report.proofs.Composing.{DeliveryLaws}
 use Rattle.drm_air.proofs.AirLemmas.{air_in_range, aired, kind_by}
 use Rattle.drm_air.proofs.air_command.air_over.Goals as goal
 

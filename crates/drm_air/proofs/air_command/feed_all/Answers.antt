@@ -3,9 +3,9 @@ use Rattle.std.proofs.lemmas.List.{get_or_default}
 use Rattle.drm_links.specs.MemoryLink.{LinkState}
 use Rattle.drm_links.proofs.Places.{each_more}
 use Rattle.plan_script.specs.declared.delivery.Delivery.{Delivery}
-use Rattle.mod_receiver.specs.declared.job.Job.{Job}
+use Rattle.recv_report.specs.declared.job.Job.{Job}
 use Rattle.drm_air.specs.Air.{air_rules}
-use Rattle.mod_receiver.specs.Jobs.{IsJob}
+use Rattle.recv_report.specs.Jobs.{IsJob}
 use Rattle.drm_air.specs.Feeds.{BringsFeed}
 use Rattle.drm_air.proofs.air_command.feed_all.Goals as goal
 

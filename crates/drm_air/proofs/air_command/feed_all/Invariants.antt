@@ -1,9 +1,9 @@
 use Rattle.std.proofs.Common.{◌≡◌, ℕ, ◌<◌, List, vec_len, slice_index_or, length}
 use Rattle.drm_links.specs.MemoryLink.{LinkState}
 use Rattle.plan_script.specs.declared.delivery.Delivery.{Delivery}
-use Rattle.mod_receiver.specs.declared.job.Job.{Job}
+use Rattle.recv_report.specs.declared.job.Job.{Job}
 use Rattle.drm_air.specs.Air.{air_rules}
-use Rattle.mod_receiver.specs.Jobs.{AreJobs}
+use Rattle.recv_report.specs.Jobs.{AreJobs}
 use Rattle.drm_air.specs.Feeds.{BringsFeed}
 use Rattle.drm_air.proofs.air_command.feed_all.Given as goal
 

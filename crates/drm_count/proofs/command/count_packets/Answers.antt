@@ -3,7 +3,7 @@ use Rattle.std.proofs.lemmas.Result.{err_from_is_err_and}
 use Rattle.drm_links.specs.Told.{HasCause}
 use Rattle.recv_reading.specs.Source.{StopsReading}
 use Rattle.recv_reading.proofs.Sources.{read_none}
-use Rattle.mod_receiver.specs.Received.{Broken}
+use Rattle.recv_report.specs.Received.{Broken}
 use Rattle.drm_count.specs.Run.{IsReadFailed, unseen}
 use Rattle.drm_count.proofs.Running.{not_read, packets_counted, packets_stopped}
 use Rattle.drm_count.proofs.command.count_packets.Goals as goal

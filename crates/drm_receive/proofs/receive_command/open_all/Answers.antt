@@ -5,12 +5,12 @@ use Rattle.drm_links.specs.Dock.{DockContents, Docked, HasLink}
 use Rattle.drm_links.specs.declared.dock.Address.{Address}
 use Rattle.drm_links.proofs.ToldLemmas.{counts_none, then_counts, Tells-nothing, Tells-weaker}
 use Rattle.drm_links.proofs.Places.{each_more}
-use Rattle.mod_receiver.specs.declared.job.Job.{Job}
+use Rattle.recv_report.specs.declared.job.Job.{Job}
 use Rattle.drm_faults.specs.declared.fault.Fault.{Fault}
 use Rattle.drm_faults.specs.declared.fault.Fault.TheVariants as faults
 use Rattle.several_links.specs.Binding.{BindsFew, StopsBehind}
 use Rattle.drm_receive.specs.Opening.{StopsOpening}
-use Rattle.mod_receiver.specs.Jobs.{IsJob}
+use Rattle.recv_report.specs.Jobs.{IsJob}
 use Rattle.several_links.proofs.OpeningLemmas.{Opened, found_now, opened_now, opened_all, docked_any, docked_still}
 use Rattle.drm_receive.proofs.HearingLemmas.{link_in}
 use Rattle.several_links.proofs.BindLemmas.{HaveFirst, missed_now, stopped_few, failed_few, all_links}

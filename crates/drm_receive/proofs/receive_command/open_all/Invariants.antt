@@ -1,8 +1,8 @@
 use Rattle.std.proofs.Common.{◌≡◌, ℕ, ◌+◌, ◌<◌, ◌≤◌, vec_len, vec_capacity, slice_index_or, length}
 use Rattle.drm_links.specs.declared.dock.Address.{Address}
-use Rattle.mod_receiver.specs.declared.job.Job.{Job}
+use Rattle.recv_report.specs.declared.job.Job.{Job}
 use Rattle.drm_links.specs.Dock.{Docked, HasLink}
-use Rattle.mod_receiver.specs.Jobs.{IsJob}
+use Rattle.recv_report.specs.Jobs.{IsJob}
 use Rattle.drm_links.specs.Told.{Tells}
 use Rattle.several_links.proofs.OpeningLemmas.{Opened}
 use Rattle.drm_receive.proofs.receive_command.open_all.Given as goal

@@ -1,9 +1,9 @@
 use Rattle.std.proofs.Common.{◌≡◌, ℕ, ◌<◌, ◌-◌, List, length, vec_len, slice_index_or, refl, sym, ◌∙◌, ap, subst, arith, Some, Err}
 use Rattle.std.proofs.lemmas.Result.{err_from_is_err_and}
-use Rattle.mod_receiver.specs.declared.job.Job.{Job}
-use Rattle.mod_receiver.specs.Jobs.{HasEnded, IsJob, IsReady}
-use Rattle.mod_receiver.specs.Settling.{Settles}
-use Rattle.mod_receiver.proofs.JobLemmas.{job_ready, jobs_ready}
+use Rattle.recv_report.specs.declared.job.Job.{Job}
+use Rattle.recv_report.specs.Jobs.{HasEnded, IsJob, IsReady}
+use Rattle.recv_report.specs.Settling.{Settles}
+use Rattle.recv_report.proofs.JobLemmas.{job_ready, jobs_ready}
 use Rattle.std.specs.List.{All}
 use Rattle.std.proofs.lemmas.List.{get_or_default}
 use Rattle.drm_links.specs.Told.{WhileTold, Tells}

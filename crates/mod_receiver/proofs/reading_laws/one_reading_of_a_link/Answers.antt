@@ -1,5 +1,0 @@
-use Rattle.recv_reading.proofs.OneReading.{one_reading}
-use Rattle.mod_receiver.proofs.reading_laws.one_reading_of_a_link.Goals as goal
-
-pub returns : goal.returns
-returns c = one_reading

@@ -1,0 +1,111 @@
+-- How far a report has come.
+use Rattle.std.specs.Prelude.{ℕ, ◌≡◌, ◌+◌, ◌≤◌, List, [], ◌++◌, length, Option, None, Some, Result}
+use Rattle.drm_links.specs.Told.{Known}
+use Rattle.drm_links.specs.Link.{Answer}
+use Rattle.drm_links.specs.Sink.{Output, Outputs, IsFrontBehind}
+use Rattle.dcp_collect.specs.declared.taken.Taken.{Taken}
+use Rattle.dcp_collect.specs.State.{State}
+use Rattle.dcp_collect.specs.Runs.{Item, IsItem, Run, up_to}
+use Rattle.drm_reconfiguration.specs.Tracker.{TrackerState, new_tracker}
+use Rattle.mod_feed.specs.Feeding.{FeedStep, IsStep, Feeds, after_step}
+use Rattle.report_lines.specs.Report.{step_text}
+use Rattle.text_output.specs.Gathering.{Puts}
+use Rattle.recv_reading.specs.declared.options.ReceiveOptions.{ReceiveOptions}
+use Rattle.recv_reading.specs.declared.reason.EndWord.{EndWord}
+use Rattle.recv_reading.specs.declared.source.SourceFault.{SourceFault}
+use Rattle.recv_reading.specs.Ending.{datagrams, Gave, GoesOn, IsFinished, IsBroken, most_answers}
+use Rattle.recv_report.specs.declared.reading.ReceiveFault.{ReceiveFault}
+use Rattle.recv_report.specs.declared.reading.ReceiveFault.TheVariants as fault
+use Rattle.report_lines.specs.Reports.{steps_text}
+use Rattle.report_lines.specs.Tallies.{Tallied, counted, noted, items_in, tally_of}
+use Rattle.recv_report.specs.Received.{Stepped, Broken, Stopped}
+
+-- The lines of the earlier steps are written; those of the later ones are written behind them, or gathered.
+abbrev pub AreOut : List FeedStep → List FeedStep → List ℕ → List ℕ → Type 0
+AreOut earlier later gathered text =
+    (written : List ℕ) × (text ≡ steps_text earlier ++ written) × (written ++ gathered ≡ steps_text later)
+
+-- Each item was given to the feed and counted, and its lines are out or gathered. The earlier steps are those of the items that were
+-- given before the last answer.
+pub record HasPrinted (a b : Known Output) (f : TrackerState) (t : Tallied) (gathered : List ℕ) (taken : List Taken) (during more : List Item) (c : State) : Type 0 where
+  pub earlier : List FeedStep
+  pub mid : TrackerState
+  pub before : Feeds new_tracker during earlier mid
+  pub later : List FeedStep
+  pub since : Feeds mid more later f
+  pub calls : f.calls ≡ c.next
+  pub tally : t ≡ tally_of (earlier ++ later) taken
+  pub items : items_in t.sums ≡ c.next
+  pub quiet : more ≡ [] → gathered ≡ []
+  pub text : Outputs a b (AreOut earlier later gathered)
+
+-- The next item of a collector was given to the feed and counted, and its lines were put behind those that are gathered.
+pub record WritesNext {E : Type 0} (result : Result (Unit {0}) E) (c : State) (f g : TrackerState) (t u : Tallied) (gathered more : List ℕ) (a b : Known Output) : Type 0 where
+  pub item : Item
+  pub is : IsItem c item
+  pub step : FeedStep
+  pub stepping : IsStep f item step
+  pub feed : g ≡ after_step f step
+  pub calls : g.calls ≡ f.calls + 1
+  pub tally : u ≡ counted t step.item
+  pub puts : Puts result gathered more a b (step_text step)
+
+-- with what became of a datagram, if one came
+abbrev pub noted_if : Tallied → ℕ → Option Taken → Tallied
+noted_if tally number None = tally
+noted_if tally number (Some taken) = noted tally number taken
+
+-- The reading is finished, for this reason, and the lines of all items are written.
+pub record WroteItems (options : ReceiveOptions) (came : List Answer → Type 0) (a b : Known Output) (t : Tallied) (word : EndWord) : Type 0 where
+  pub answers : List Answer
+  pub heard : came answers
+  pub few : length answers ≤ most_answers options
+  pub reading : IsFinished options answers word
+  pub taken : List Taken
+  pub items : List Item
+  pub run : Run options.window options.reach options.first options.frames (datagrams answers) taken items
+  pub steps : List FeedStep
+  pub last : TrackerState
+  pub feeds : Feeds new_tracker items steps last
+  pub tally : t ≡ tally_of steps taken
+  pub text : Outputs a b (λ text. text ≡ steps_text steps)
+
+-- the reading ended in `Failed`, and what was given before was written
+pub record ReadsBroken (options : ReceiveOptions) (came : List Answer → Type 0) (a b : Known Output) : Type 0 where
+  pub answers : List Answer
+  pub heard : came answers
+  pub few : length answers ≤ most_answers options
+  pub sound : List Answer
+  pub reading : IsBroken options sound answers
+  pub taken : List Taken
+  pub items : List Item
+  pub end : State
+  pub gave : Gave options sound taken items end
+  pub all : up_to options.frames items ≡ items
+  pub steps : List FeedStep
+  pub last : TrackerState
+  pub feeds : Feeds new_tracker items steps last
+  pub text : Outputs a b (λ text. text ≡ steps_text steps)
+
+-- a write failed: what was given before the last answer was written, and a front of what that one made ready
+pub record ReadsFront (options : ReceiveOptions) (came : List Answer → Type 0) (a b : Known Output) : Type 0 where
+  pub answers : List Answer
+  pub heard : came answers
+  pub few : length answers ≤ most_answers options
+  pub goes_on : GoesOn options answers
+  pub earlier : List FeedStep
+  pub later : List FeedStep
+  pub stepped : Stepped options answers earlier later
+  pub text : Outputs a b (IsFrontBehind (steps_text earlier) (steps_text later))
+
+-- what stops a reading
+abbrev pub StopsReading : ReceiveOptions → (List Answer → Type 0) → (SourceFault → List Answer → Type 0) → Known Output → Known Output → ReceiveFault → Type 0
+StopsReading options came breaks a b (fault.Source why) = ReadsBroken options (breaks why) a b
+StopsReading options came breaks a b fault.Write = ReadsFront options came a b
+StopsReading options came breaks a b fault.NoMemory = ⊥
+
+-- and so a report
+abbrev pub StopsReport : ReceiveOptions → ℕ → (List Answer → Type 0) → (SourceFault → List Answer → Type 0) → Known Output → Known Output → ReceiveFault → Type 0
+StopsReport options feed came breaks a b (fault.Source why) = Broken options feed (breaks why) a b
+StopsReport options feed came breaks a b fault.Write = Stopped options feed came a b
+StopsReport options feed came breaks a b fault.NoMemory = Unit {0}

@@ -1,0 +1,48 @@
+//! What the laws of deliveries say of reports.
+
+ghost use Rattle.mod_delivery.specs.Laws.{Delivering, DeliveringEarly, StraysRefused, GivenInTime, SwitchesAtStarts, AllSwitches, AllFrames};
+ghost use Rattle.frame_lines.specs.Laws.{ServedLines};
+ghost use Rattle.recv_report.specs.Following.{HeadlinesFollow, CompletesFollow, NoneBreaksOff};
+
+use frame_lines::served_frames_are_printed;
+use mod_delivery::{
+    all_frames_are_given, all_frames_are_given_at_once, all_switches_are_told,
+    frames_in_time_are_given, modulators_give, modulators_give_early, strays_are_refused,
+    switches_are_told_at_starts,
+};
+
+/// A report is that of the delivery that was read, and that of all frames where each of them is in time.
+pub fn reports_follow()
+    ensures headlines { HeadlinesFollow }
+    ensures completes { CompletesFollow }
+{
+    laws_of_deliveries();
+}
+
+/// Where each frame is in time, no failure of the link comes before the end of the reading.
+pub fn in_time_is_unbroken()
+    ensures { NoneBreaksOff }
+{
+    all_frames_are_given_at_once();
+}
+
+/// The laws that these reports rest on.
+pub fn laws_of_deliveries()
+    ensures delivering { Delivering }
+    ensures early { DeliveringEarly }
+    ensures refused { StraysRefused }
+    ensures in_time { GivenInTime }
+    ensures at_starts { SwitchesAtStarts }
+    ensures all_switches { AllSwitches }
+    ensures all_frames { AllFrames }
+    ensures lines { ServedLines }
+{
+    modulators_give();
+    modulators_give_early();
+    strays_are_refused();
+    frames_in_time_are_given();
+    switches_are_told_at_starts();
+    all_switches_are_told();
+    all_frames_are_given();
+    served_frames_are_printed();
+}

@@ -1,0 +1,21 @@
+//! Why a receiver stops before its report is whole.
+
+use drm_links::WriteFault;
+
+#[derive(Clone, Copy, Debug, PartialEq, Eq)]
+pub enum Stop {
+    Link,
+    Write,
+    NoMemory,
+}
+
+impl From<WriteFault> for Stop {
+    ghost use Rattle.std.specs.Prelude.{◌≡◌};
+    ghost use Rattle.recv_report.specs.declared.stop.Stop.TheVariants.{Write};
+
+    ghost from_gives = { λ _ stop. stop ≡ Write };
+
+    fn from(_: WriteFault) -> Self {
+        Stop::Write
+    }
+}
