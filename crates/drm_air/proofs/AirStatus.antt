@@ -17,7 +17,7 @@ use Rattle.drm_load.specs.Schedule.{schedule_named}
 use Rattle.drm_load.specs.Scripts.{script_named}
 use Rattle.drm_load.proofs.LoadingLemmas.{Comes, came_by}
 use Rattle.drm_receive.specs.Receive.{AreClean, WritesReports, WroteReports}
-use Rattle.report_lines.specs.Reports.{Report}
+use Rattle.report_text.specs.Reports.{Report}
 use Rattle.drm_air.specs.Air.{AreAired, ByScript, BySchedule, with_feeds, with_script, schedule_and_script, EndsByFiles, FeedsAreInTime, AirRun}
 use Rattle.drm_receive.proofs.ReceiveStatus.{is_true}
 

@@ -18,7 +18,7 @@ use Rattle.recv_reading.specs.declared.reason.EndWord.TheVariants as word
 use Rattle.drm_links.specs.Hearing.{AreNext}
 use Rattle.recv_reading.specs.declared.options.ReceiveOptions.{ReceiveOptions}
 use Rattle.recv_reading.specs.Ending.{datagrams, idles, Holds, IsOpen, IsSound, EndsBy}
-use Rattle.report_lines.specs.Reports.{refusals, report, Report}
+use Rattle.report_text.specs.Reports.{refusals, report, Report}
 use Rattle.recv_report.specs.Headline.{strays_from, Modulates, ModulatesAll, untold, WouldBeRead}
 use Rattle.recv_report.specs.Ahead.{IsReportOf}
 use Rattle.drm_air.specs.Air.{air_rules}

@@ -13,7 +13,7 @@ use Rattle.mod_delivery.specs.Sent.{AreSent, Arrival, OfSchedule, IsFollowed, Is
 use Rattle.recv_reading.specs.declared.options.ReceiveOptions.{ReceiveOptions}
 use Rattle.recv_report.specs.Headline.{Modulates, ModulatesAll}
 use Rattle.drm_receive.specs.Receive.{WritesReports, WroteReports}
-use Rattle.report_lines.specs.Reports.{Report}
+use Rattle.report_text.specs.Reports.{Report}
 use Rattle.recv_report.specs.Ahead.{IsReportOf}
 use Rattle.drm_load.specs.Loading.{Step, ReadBy}
 use Rattle.drm_load.specs.Schedule.{schedule_named}

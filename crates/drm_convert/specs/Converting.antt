@@ -6,7 +6,7 @@ use Rattle.dcp_af.specs.declared.fault.AfFault.{AfFault}
 use Rattle.dcp_af.specs.Faults.{IsFault}
 use Rattle.dcp_collect.specs.Runs.{Item, Packet, Lost, Damaged}
 use Rattle.mod_feed.specs.declared.item.BadFault.TheVariants.{Code, Af}
-use Rattle.report_lines.specs.Report.{missing_line, bad_line}
+use Rattle.report_text.specs.Report.{missing_line, bad_line}
 use Rattle.dcp_sender.specs.Packets.{IsAny, sequence_of}
 use Rattle.dcp_sender.specs.Carried.{Carried, is_too_long}
 

@@ -19,7 +19,7 @@ use drm_bits::NoMemory;
 use drm_capture::{Packets, read_one_way, read_some_way};
 use drm_faults::Fault;
 use drm_links::{Sink, Source};
-use report_lines::LineWriter;
+use report_text::LineWriter;
 use std::alloc::Global;
 
 /// Reads a capture from `input`, and writes its packets under a carry to `out`; each that is missing or bad is named on

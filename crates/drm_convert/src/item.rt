@@ -17,7 +17,7 @@ use dcp_collect::{Collector, Out};
 use dcp_sender::{PacketSender, sequence};
 use drm_links::Sink;
 use mod_feed::{BadFault, FeedItem};
-use report_lines::LineWriter;
+use report_text::LineWriter;
 
 /// Why no more is converted.
 #[derive(Clone, Copy, Debug, PartialEq, Eq)]

@@ -2,12 +2,12 @@
 
 ghost use Rattle.std.specs.Prelude.{◌≡◌, ◌+◌, ◌<◌, ◌^◌, false};
 ghost use Rattle.mod_feed.specs.Items.{item_of, IsRead};
-ghost use Rattle.report_lines.specs.Report.{item_line};
+ghost use Rattle.report_text.specs.Report.{item_line};
 ghost use Rattle.drm_convert.specs.Naming.{Names};
 
 use drm_links::Sink;
 use mod_feed::{FeedItem, Step};
-use report_lines::LineWriter;
+use report_text::LineWriter;
 
 /// How far a conversion has come.
 #[derive(Clone, Copy, Debug, PartialEq, Eq)]

@@ -16,7 +16,7 @@ use dcp_sender::PacketSender;
 use drm_capture::{CaptureStop, Packets};
 use drm_links::{Sink, Source};
 use recv_reading::{Bounds, Reading};
-use report_lines::LineWriter;
+use report_text::LineWriter;
 
 /// Why a conversion isn't whole.
 #[derive(Clone, Copy, Debug, PartialEq, Eq)]

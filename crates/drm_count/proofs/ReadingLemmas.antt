@@ -17,10 +17,10 @@ use Rattle.recv_reading.specs.Reached.{Reached, Waits, ReadsOn}
 use Rattle.recv_reading.proofs.Reaching.{reached_none, one_more_few}
 use Rattle.recv_reading.proofs.Finishing.{IsOver, finishes, all_given, answers_many}
 use Rattle.recv_reading.proofs.AtOnce.{few_given}
-use Rattle.report_lines.specs.Report.{feed_line}
-use Rattle.report_lines.specs.Reports.{refusals, steps_text, report}
-use Rattle.report_lines.specs.Tallies.{items_in}
-use Rattle.report_lines.proofs.StepLemmas as lines
+use Rattle.report_text.specs.Report.{feed_line}
+use Rattle.report_text.specs.Reports.{refusals, steps_text, report}
+use Rattle.report_text.specs.Tallies.{items_in}
+use Rattle.report_text.proofs.StepLemmas as lines
 use Rattle.recv_report.specs.Received.{Broken}
 use Rattle.drm_count.specs.Totals.{totals_of, answered, one_more, noted}
 use Rattle.drm_count.specs.Run.{Counted, CountsNext, unseen}

@@ -7,10 +7,10 @@ use Rattle.std.proofs.lemmas.List.Elements.{filter-append}
 use Rattle.dcp_collect.specs.declared.taken.Taken.{Taken}
 use Rattle.dcp_collect.specs.declared.taken.Taken.TheVariants.{Kept, Repeated, Late, Refused, Inconsistent}
 use Rattle.mod_feed.specs.Feeding.{FeedStep}
-use Rattle.report_lines.specs.declared.report.Sums.{Sums}
-use Rattle.report_lines.specs.Reports.{refusals_from, refusals, sums_of, is_clean}
-use Rattle.report_lines.specs.Tallies.{Tallied, one_more_item, noted, tally_of}
-use Rattle.report_lines.proofs.CountLemmas.{steps_counted, answer_noted, clean_is}
+use Rattle.report_text.specs.declared.report.Sums.{Sums}
+use Rattle.report_text.specs.Reports.{refusals_from, refusals, sums_of, is_clean}
+use Rattle.report_text.specs.Tallies.{Tallied, one_more_item, noted, tally_of}
+use Rattle.report_text.proofs.CountLemmas.{steps_counted, answer_noted, clean_is}
 use Rattle.drm_count.specs.Totals as totals
 use Rattle.drm_count.specs.Totals.{is_kept, is_repeated, is_late, totals_of, answered, one_more}
 use Rattle.drm_count.specs.declared.totals.Totals.{Totals}

@@ -5,8 +5,8 @@ use Rattle.dcp_collect.specs.declared.taken.Taken.{Taken}
 use Rattle.dcp_collect.specs.declared.taken.Taken.TheVariants.{Kept, Repeated, Late}
 use Rattle.mod_feed.specs.Items.{Item}
 use Rattle.mod_feed.specs.Feeding.{FeedStep}
-use Rattle.report_lines.specs.Reports.{refusals, sums_of}
-use Rattle.report_lines.specs.Tallies.{one_more_item}
+use Rattle.report_text.specs.Reports.{refusals, sums_of}
+use Rattle.report_text.specs.Tallies.{one_more_item}
 use Rattle.drm_count.specs.declared.totals.Totals.{Totals}
 
 -- what was answered to a datagram

@@ -4,7 +4,7 @@ ghost use Rattle.std.specs.Prelude.{◌≡◌, ◌+◌, [], true, IfOk, IfErr};
 ghost use Rattle.drm_links.specs.Told as told;
 ghost use Rattle.dcp_collect.specs.State.{made, ready, after_item};
 ghost use Rattle.recv_reading.specs.Options.{AreInRange};
-ghost use Rattle.report_lines.specs.Tallies.{items_in};
+ghost use Rattle.report_text.specs.Tallies.{items_in};
 ghost use Rattle.recv_report.specs.Received.{Broken};
 ghost use Rattle.drm_count.specs.Run.{Counted, CountsNext, IsReadFailed, unseen};
 

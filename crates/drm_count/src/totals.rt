@@ -3,13 +3,13 @@
 ghost use Rattle.std.specs.Prelude.{◌≡◌, ◌+◌, ◌<◌, ◌^◌, []};
 ghost use Rattle.drm_links.specs.Sink.{Writes};
 ghost use Rattle.mod_feed.specs.Items.{item_of};
-ghost use Rattle.report_lines.specs.Tallies.{items_in};
+ghost use Rattle.report_text.specs.Tallies.{items_in};
 ghost use Rattle.drm_count.specs.Totals as totals;
 
 use dcp_collect::Taken;
 use drm_links::{Sink, WriteFault};
 use mod_feed::FeedItem;
-use report_lines::Sums;
+use report_text::Sums;
 use text_output::{Piece, write_pieces};
 
 /// The numbers of a report's end line, and how many datagrams were kept, repeated and late.

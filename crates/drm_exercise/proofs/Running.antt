@@ -6,9 +6,9 @@ use Rattle.drm_bits.specs.Crc.{IsCheckOf}
 use Rattle.drm_links.specs.Told.{Known, HasFailed}
 use Rattle.drm_links.proofs.ToldLemmas.{counts_one, counts_none}
 use Rattle.drm_links.specs.Sink.{Output, Outputs, IsFront}
-use Rattle.report_lines.specs.Reports.{Report}
-use Rattle.report_lines.specs.Texts.{text_known}
-use Rattle.report_lines.specs.declared.buffer.ReportBuffer.{ReportBuffer}
+use Rattle.report_text.specs.Reports.{Report}
+use Rattle.report_text.specs.Texts.{text_known}
+use Rattle.report_text.specs.declared.buffer.ReportBuffer.{ReportBuffer}
 use Rattle.recv_report.proofs.JobLemmas.{text_written}
 use Rattle.drm_receive.specs.Receive.{all_texts, AreClean, WritesReports}
 use Rattle.drm_air.specs.Air.{IsAired, AreAired}

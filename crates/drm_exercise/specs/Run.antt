@@ -3,7 +3,7 @@ use Rattle.std.specs.Prelude.{ℕ, ◌≡◌, ◌⊎◌, Bool, List, length, Res
 use Rattle.drm_bits.specs.Crc.{IsCheckOf}
 use Rattle.drm_links.specs.Told.{HasFailed, Known, HasCause}
 use Rattle.drm_links.specs.Sink.{Output, Outputs, IsFront}
-use Rattle.report_lines.specs.Reports.{Report}
+use Rattle.report_text.specs.Reports.{Report}
 use Rattle.drm_air.specs.Air.{IsAired}
 use Rattle.drm_faults.specs.Fault.{UnlessMemory}
 use Rattle.drm_faults.specs.declared.fault.Fault.{Fault}

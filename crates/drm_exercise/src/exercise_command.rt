@@ -10,7 +10,7 @@ use drm_air::air_over;
 use drm_bits::crc16;
 use drm_faults::Fault;
 use drm_links::Sink;
-use report_lines::ReportBuffer;
+use report_text::ReportBuffer;
 use std::alloc::Global;
 use std::thread::Threads;
 

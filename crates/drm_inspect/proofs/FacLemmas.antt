@@ -13,7 +13,7 @@ use Rattle.drm_links.proofs.ToldLemmas.{counts_as, counts_none, counts_one, Inpu
 use Rattle.drm_faults.specs.declared.fault.Fault.{Fault}
 use Rattle.drm_faults.specs.declared.fault.Fault.TheVariants.{NoMemory, Words, FacLength, FacOver, FacCrc, Schedule, Script, Capture, CaptureTooLong, PacketSize, Units, Read, Write, Link}
 use Rattle.drm_inspect.specs.Input.{ReadsHead, FailsWithin}
-use Rattle.report_lines.specs.FacLine.{fac_line}
+use Rattle.report_text.specs.FacLine.{fac_line}
 use Rattle.drm_faults.specs.Fault.{status_of}
 use Rattle.drm_inspect.specs.Fac.{ComesTo, Reads, WritesCame, FacRun}
 

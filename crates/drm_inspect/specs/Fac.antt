@@ -7,7 +7,7 @@ use Rattle.drm_links.specs.Told.{HasFailed, Known, HasCause}
 use Rattle.drm_links.specs.Source.{Input, Inputs}
 use Rattle.drm_links.specs.Sink.{Output, Outputs, IsFront}
 use Rattle.drm_inspect.specs.Input.{ReadsHead, FailsWithin}
-use Rattle.report_lines.specs.FacLine.{fac_line}
+use Rattle.report_text.specs.FacLine.{fac_line}
 use Rattle.drm_faults.specs.Fault.{status_of}
 use Rattle.drm_faults.specs.declared.fault.Fault.{Fault}
 use Rattle.drm_faults.specs.declared.fault.Fault.TheVariants.{FacLength, FacOver, FacCrc, Read, Write}

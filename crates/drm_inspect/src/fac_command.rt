@@ -9,7 +9,7 @@ use crate::head::read_head;
 use drm_fac::{Fac, decode};
 use drm_faults::Fault;
 use drm_links::{Sink, Source};
-use report_lines::write_fac;
+use report_text::write_fac;
 
 /// Reads a FAC and writes its line.
 pub fn fac<I: Source, O: Sink>(input: &mut I, out: &mut O) -> Result<(), Fault>

@@ -4,7 +4,7 @@ use Rattle.drm_links.specs.Dock.{DockContents, LinkStart, Finds, FindsNone}
 use Rattle.drm_links.specs.declared.dock.Address.{Address}
 use Rattle.drm_links.specs.Hearing.{AreNext}
 use Rattle.recv_reading.specs.declared.options.ReceiveOptions.{ReceiveOptions}
-use Rattle.report_lines.specs.Reports.{Report}
+use Rattle.report_text.specs.Reports.{Report}
 use Rattle.recv_reading.specs.OneReading.{BreaksOff}
 use Rattle.recv_report.specs.Ahead.{IsReportOf}
 use Rattle.recv_reading.proofs.OneReading.{finished_whole}

@@ -9,7 +9,7 @@ use Rattle.drm_capture.specs.Capture as capture
 use Rattle.drm_capture.proofs.CaptureLaws.{read_one_way}
 use Rattle.recv_reading.specs.declared.options.ReceiveOptions.{ReceiveOptions}
 use Rattle.drm_links.specs.Hearing.{AreNext}
-use Rattle.report_lines.specs.Reports.{Report}
+use Rattle.report_text.specs.Reports.{Report}
 use Rattle.recv_report.specs.Ahead.{IsInTimeAhead, IsReportOf}
 use Rattle.recv_reading.specs.Source.{answers_of, Brings}
 use Rattle.recv_report.specs.Following.{NoneBreaksOff}

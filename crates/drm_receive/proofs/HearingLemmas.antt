@@ -8,7 +8,7 @@ use Rattle.drm_links.specs.Hearing.{Heard}
 use Rattle.recv_reading.specs.declared.options.ReceiveOptions.{ReceiveOptions}
 use Rattle.recv_reading.specs.Ending.{GoesOn, most_answers}
 use Rattle.recv_report.specs.Received.{EndsAs}
-use Rattle.report_lines.specs.Texts.{text_known}
+use Rattle.report_text.specs.Texts.{text_known}
 use Rattle.recv_reading.specs.Options.{AreInRange}
 use Rattle.recv_report.specs.Jobs.{IsJob, EndedAs, HasEnded}
 use Rattle.recv_report.specs.declared.receiver.Ended.{Ended}

@@ -35,7 +35,7 @@ use Rattle.drm_receive.specs.Receive.{AreReports, AreAll, AreBroken, ReadsOne, R
 use Rattle.several_links.proofs.BindLemmas.{went_weaker, hears_each}
 use Rattle.drm_receive.proofs.HearingLemmas.{ReadAs, has_read, link_in}
 use Rattle.drm_receive.proofs.ReceiveStatus.{receive_run}
-use Rattle.report_lines.specs.Reports.{Report}
+use Rattle.report_text.specs.Reports.{Report}
 use Rattle.recv_report.specs.Ahead.{IsReportOf}
 use Rattle.several_links.proofs.OpeningLemmas.{docked_weaker}
 use Rattle.drm_receive.proofs.BreakingOff.{report_whole}

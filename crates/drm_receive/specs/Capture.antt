@@ -8,7 +8,7 @@ use Rattle.drm_capture.specs.declared.packets.CaptureStop.TheVariants as stops
 use Rattle.drm_capture.specs.Capture as capture
 use Rattle.recv_reading.specs.declared.options.ReceiveOptions.{ReceiveOptions}
 use Rattle.recv_report.specs.Received.{Reported, Broken, Stopped}
-use Rattle.report_lines.specs.Reports.{Report}
+use Rattle.report_text.specs.Reports.{Report}
 use Rattle.recv_reading.specs.OneReading.{BreaksOff}
 use Rattle.recv_report.specs.Ahead.{IsInTimeAhead, IsReportOf}
 use Rattle.recv_reading.specs.Source.{answers_of, Brings, HeardOf, HeardUntil}

@@ -11,7 +11,7 @@ use Rattle.recv_reading.specs.declared.options.ReceiveOptions.{ReceiveOptions}
 use Rattle.recv_reading.specs.declared.reason.EndWord.{EndWord}
 use Rattle.recv_reading.specs.Ending.{GoesOn, IsFinished, IsBroken}
 use Rattle.recv_report.specs.Received.{IsReport, Reported, Broken, Stopped}
-use Rattle.report_lines.specs.Reports.{Report}
+use Rattle.report_text.specs.Reports.{Report}
 use Rattle.recv_reading.specs.OneReading.{BreaksOff}
 use Rattle.recv_report.specs.Ahead.{IsInTimeAhead, IsReportOf, IsGivenOf, IsFrontOf}
 use Rattle.drm_faults.specs.Causes.{OpeningFailed}

@@ -3,6 +3,6 @@
 
 pub use drm_capture::{CaptureFault, CaptureField, Packet, Walker};
 pub use packet_lines::{ShowFault, write_packet};
-pub use report_lines::{
+pub use report_text::{
     EndWord, Piece, Sums, write_end, write_fac, write_feed, write_pieces, write_refused, write_step,
 };

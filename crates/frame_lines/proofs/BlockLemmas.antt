@@ -8,8 +8,8 @@ use Rattle.dcp_tag.specs.Tag.{bytes_for}
 use Rattle.drm_schedule.specs.declared.plan.Plan.{Plan}
 use Rattle.mdi_items.specs.declared.view.SdcSpan.{SdcSpan}
 use Rattle.mdi_items.specs.RoundTrip.{BlockBytes, IsBlockOf}
-use Rattle.report_lines.specs.HexBits.{hex_of_bits}
-use Rattle.report_lines.specs.FrameLine.{front_bits, block_text}
+use Rattle.report_text.specs.HexBits.{hex_of_bits}
+use Rattle.report_text.specs.FrameLine.{front_bits, block_text}
 use Rattle.drm_server.specs.Frames.{HasBlockWhere}
 use Rattle.frame_lines.specs.Line.{block_digits}
 

@@ -9,8 +9,8 @@ use Rattle.drm_schedule.specs.declared.plan.Plan.{Plan}
 use Rattle.mdi_items.specs.RoundTrip.{BlockBytes, Parts}
 use Rattle.drm_server.specs.Frames.{IsFrameAt}
 use Rattle.drm_server.specs.Multiplex.{multiplex_at}
-use Rattle.report_lines.specs.HexBits.{hex_of_bits}
-use Rattle.report_lines.specs.FrameLine.{description_text, bytes_text}
+use Rattle.report_text.specs.HexBits.{hex_of_bits}
+use Rattle.report_text.specs.FrameLine.{description_text, bytes_text}
 
 -- the bits of the block; those of a schedule have no zero bits in front
 abbrev pub block_digits : Option BlockBytes → List ℕ

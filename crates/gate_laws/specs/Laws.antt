@@ -19,7 +19,7 @@ use Rattle.mod_feed.specs.Feeding.{FeedStep, Feeds}
 use Rattle.mod_delivery.specs.Sent as schedules
 use Rattle.mod_delivery.specs.Sent.{Arrival, IsStray, IsArrival, AreFar, pairs_in, IsFollowed, shape_at, frame_of_number}
 use Rattle.mod_delivery.specs.Given.{IsServed, IsAFrame}
-use Rattle.report_lines.specs.Report.{item_line}
+use Rattle.report_text.specs.Report.{item_line}
 use Rattle.frame_lines.specs.Line.{IsFrameLine}
 use Rattle.recv_reading.specs.declared.options.ReceiveOptions.{ReceiveOptions}
 use Rattle.convert_laws.specs.Laws.{under}

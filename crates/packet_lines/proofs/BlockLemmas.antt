@@ -25,9 +25,9 @@ use Rattle.drm_sdc.specs.Entity.{IsEntity, entity_size}
 use Rattle.drm_sdc.specs.Field.{IsTail, IsField}
 use Rattle.drm_sdc.proofs.EntityLaws.{length-entity, no_tail, small_rest, size_within}
 use Rattle.drm_sdc.proofs.BlockLaws.{framed_length, one_told}
-use Rattle.report_lines.specs.HexBits.{hex_of_bits}
-use Rattle.report_lines.specs.FrameLine.{front_bits}
-use Rattle.report_lines.proofs.HexLemmas.{next_digit}
+use Rattle.report_text.specs.HexBits.{hex_of_bits}
+use Rattle.report_text.specs.FrameLine.{front_bits}
+use Rattle.report_text.proofs.HexLemmas.{next_digit}
 use Rattle.packet_lines.specs.declared.block.Head.{Head}
 use Rattle.packet_lines.specs.Block.{IsTold, Holds, IsHead, IsZero, head_text}
 use Rattle.packet_lines.specs.Content.{bits_at}

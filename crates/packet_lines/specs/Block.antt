@@ -9,7 +9,7 @@ use Rattle.drm_sdc.specs.Block.{IsBlock, info_of}
 use Rattle.drm_sdc.specs.Field.{IsField}
 use Rattle.mdi_items.specs.declared.view.SdcSpan.{SdcSpan}
 use Rattle.packet_lines.specs.declared.block.Head.{Head}
-use Rattle.report_lines.specs.HexBits.{hex_of_bits}
+use Rattle.report_text.specs.HexBits.{hex_of_bits}
 use Rattle.packet_lines.specs.Content.{bits_at}
 use Rattle.packet_lines.specs.Lines.{kind_text}
 

@@ -18,8 +18,8 @@ use Rattle.dcp_pft.specs.declared.shape.Rs.{Rs}
 use Rattle.dcp_pft.specs.declared.fragment.Addr.{Addr}
 use Rattle.dcp_pft.specs.Head.{PftFragment}
 use Rattle.mdi_items.specs.Frame.{Frame}
-use Rattle.report_lines.specs.FacLine.{fac_line}
-use Rattle.report_lines.specs.HexBits.{hex_of_bits}
+use Rattle.report_text.specs.FacLine.{fac_line}
+use Rattle.report_text.specs.HexBits.{hex_of_bits}
 
 abbrev pub two_numbers : ℕ → ℕ → List ℕ
 two_numbers first second = concat (decimal first ∷ codes " " ∷ decimal second ∷ [])

@@ -6,7 +6,7 @@ use Rattle.drm_sdc.specs.declared.block.Block.{Block}
 use Rattle.dcp_tag.specs.Tag.{TagItem}
 use Rattle.dcp_af.specs.Packet.{AfPacket}
 use Rattle.mdi_items.specs.Frame.{Frame}
-use Rattle.report_lines.specs.FaultWords.{af_words, pft_words, mdi_words}
+use Rattle.report_text.specs.FaultWords.{af_words, pft_words, mdi_words}
 use Rattle.packet_lines.specs.Content.{Saying, FrameOf, NoFrame, Content, Fragment, NoFragment, Whole, NoPacket, IsContent}
 use Rattle.packet_lines.specs.Lines.{fragment_line, af_line, bad_line, tag_line, mdi_line, fac_text, mux_line, entity_line, tail_line}
 

@@ -6,7 +6,7 @@ ghost use Rattle.text_output.specs.Text.{piece_text, text_of};
 ghost use Rattle.packet_lines.specs.Lines.{bad_line};
 
 use drm_links::{Sink, WriteFault};
-use report_lines::FaultWords;
+use report_text::FaultWords;
 use text_output::{Piece, write_pieces};
 
 /// Words with nothing behind them.

@@ -14,7 +14,7 @@ ghost use Rattle.packet_lines.specs.Text.{field_text};
 use drm_bits::Bits;
 use drm_links::{Sink, WriteFault, write_all};
 use mdi_items::SdcSpan;
-use report_lines::{block_bits, digit, write_digits};
+use report_text::{block_bits, digit, write_digits};
 use text_output::{Piece, write_pieces};
 
 /// Writes a line for each entity of the block, and one for its tail.

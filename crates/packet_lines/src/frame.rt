@@ -16,7 +16,7 @@ use crate::mux::write_mux;
 use drm_fac::Fac;
 use drm_links::{Sink, WriteFault, write_all};
 use mdi_items::MdiView;
-use report_lines::write_fac;
+use report_text::write_fac;
 use text_output::{Piece, write_pieces};
 
 /// Writes the lines of a frame, with those of its block where it has one.

@@ -11,7 +11,7 @@ use crate::whole::write_af;
 use dcp_pft::read_fragment;
 use drm_capture::Packet;
 use drm_links::{Sink, WriteFault};
-use report_lines::pft_words;
+use report_text::pft_words;
 use std::alloc::Global;
 
 /// A packet wasn't shown.

@@ -9,7 +9,7 @@ ghost use Rattle.dcp_af.specs.Reading.{packet_of};
 ghost use Rattle.mdi_items.specs.Frame.{frame_of};
 ghost use Rattle.mdi_items.specs.Mdi.{IsMdi};
 ghost use Rattle.mdi_items.specs.View.{IsWholeView};
-ghost use Rattle.report_lines.specs.FaultWords.{mdi_words};
+ghost use Rattle.report_text.specs.FaultWords.{mdi_words};
 ghost use Rattle.text_output.specs.Text.{piece_text};
 ghost use Rattle.packet_lines.specs.Content.{AreItems, IsBlockOf};
 ghost use Rattle.packet_lines.specs.Lines.{af_line, bad_line};
@@ -23,7 +23,7 @@ use crate::tags::write_tags;
 use dcp_af::{Af, read_af};
 use drm_links::{Sink, WriteFault};
 use mdi_items::{MdiFault, MdiView, read_mdi};
-use report_lines::{af_words, mdi_words};
+use report_text::{af_words, mdi_words};
 use text_output::{Piece, write_pieces};
 
 /// Writes the lines of the AF packet at a byte of the capture.

@@ -11,16 +11,16 @@ use Rattle.mod_feed.specs.Items.{seen_in}
 use Rattle.mod_feed.specs.Feeding.{FeedStep, Feeds, after_step}
 use Rattle.mod_feed.proofs.FeedingLemmas.{feedings_join, stepped_calls, feeds_calls}
 use Rattle.recv_reading.specs.declared.reason.EndWord.TheVariants as word
-use Rattle.report_lines.specs.Report.{feed_line, end_line}
-use Rattle.report_lines.specs.Reports.{refusals, refused_text, steps_text}
-use Rattle.report_lines.specs.Tallies.{Tallied, new_tally, noted, counted, items_in, with_steps, tally_of}
+use Rattle.report_text.specs.Report.{feed_line, end_line}
+use Rattle.report_text.specs.Reports.{refusals, refused_text, steps_text}
+use Rattle.report_text.specs.Tallies.{Tallied, new_tally, noted, counted, items_in, with_steps, tally_of}
 use Rattle.path_book.specs.Lines.{left_of, HasFed, WritesAll, CountsFirst}
 use Rattle.recv_reading.proofs.Reaching.{le_not}
 use Rattle.recv_reading.proofs.Finishing.{giving}
 use Rattle.recv_reading.proofs.Giving.{steps_many}
-use Rattle.report_lines.proofs.CountLemmas.{steps_counted, answer_noted, refusals_few, refusals_told, last_told, clean_is}
-use Rattle.report_lines.proofs.RefusalLemmas.{AreTold}
-use Rattle.report_lines.proofs.StepLemmas.{one_more, text_more}
+use Rattle.report_text.proofs.CountLemmas.{steps_counted, answer_noted, refusals_few, refusals_told, last_told, clean_is}
+use Rattle.report_text.proofs.RefusalLemmas.{AreTold}
+use Rattle.report_text.proofs.StepLemmas.{one_more, text_more}
 use Rattle.path_book.specs.declared.settings.Settings.{Settings}
 use Rattle.path_book.specs.Report.{IsReportSoFar, IsFrontSoFar, IsReportOf, word_for}
 use Rattle.path_book.specs.declared.journal.Journal.TheInside.{Inside}

@@ -10,11 +10,11 @@ use Rattle.drm_reconfiguration.specs.Tracker.{TrackerState}
 use Rattle.mod_feed.specs.Items.{Item as FeedItem}
 use Rattle.mod_feed.specs.Feeding.{FeedStep, Feeds}
 use Rattle.mod_feed.proofs.FeedingLemmas.{feedings_join, feeds_calls}
-use Rattle.report_lines.specs.Report.{step_text}
-use Rattle.report_lines.specs.Reports.{steps_text}
-use Rattle.report_lines.specs.Tallies.{Tallied, counted, items_in, with_steps}
+use Rattle.report_text.specs.Report.{step_text}
+use Rattle.report_text.specs.Reports.{steps_text}
+use Rattle.report_text.specs.Tallies.{Tallied, counted, items_in, with_steps}
 use Rattle.recv_reading.proofs.Reaching.{one_below}
-use Rattle.report_lines.proofs.StepLemmas.{one_more, one_text, text_more}
+use Rattle.report_text.proofs.StepLemmas.{one_more, one_text, text_more}
 use Rattle.path_book.specs.Lines.{left_of, HasFed, PrintsNext, Prints, PrintsAll, CountsFirst}
 
 -- ---- what is printed

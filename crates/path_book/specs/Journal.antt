@@ -4,8 +4,8 @@ use Rattle.dcp_collect.specs.declared.taken.Taken.{Taken}
 use Rattle.dcp_collect.specs.State.{State, made}
 use Rattle.dcp_collect.specs.Runs.{Takes}
 use Rattle.drm_reconfiguration.specs.Tracker.{TrackerState, new_tracker}
-use Rattle.report_lines.specs.Report.{feed_line}
-use Rattle.report_lines.specs.Tallies.{Tallied, new_tally, noted}
+use Rattle.report_text.specs.Report.{feed_line}
+use Rattle.report_text.specs.Tallies.{Tallied, new_tally, noted}
 use Rattle.path_book.specs.declared.journal.Entry.{Entry}
 use Rattle.path_book.specs.declared.settings.Settings.{Settings}
 use Rattle.path_book.specs.Report.{IsReportSoFar, IsFrontSoFar}

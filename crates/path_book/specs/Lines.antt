@@ -8,9 +8,9 @@ use Rattle.collect_laws.specs.Laws.{Given}
 use Rattle.drm_reconfiguration.specs.Tracker.{TrackerState}
 use Rattle.mod_feed.specs.Feeding.{FeedStep, IsStep, Feeds, after_step}
 use Rattle.recv_reading.specs.State.{is_full}
-use Rattle.report_lines.specs.Report.{step_text}
-use Rattle.report_lines.specs.Reports.{steps_text}
-use Rattle.report_lines.specs.Tallies.{Tallied, counted, items_in, with_steps}
+use Rattle.report_text.specs.Report.{step_text}
+use Rattle.report_text.specs.Reports.{steps_text}
+use Rattle.report_text.specs.Tallies.{Tallied, counted, items_in, with_steps}
 
 -- how many of those told are left
 abbrev pub left_of : Option ℕ → ℕ → Option ℕ

@@ -8,9 +8,9 @@ use Rattle.drm_reconfiguration.specs.Tracker.{TrackerState, new_tracker}
 use Rattle.mod_feed.specs.Feeding.{FeedStep, Feeds}
 use Rattle.recv_reading.specs.declared.reason.EndWord.{EndWord}
 use Rattle.recv_reading.specs.declared.reason.EndWord.TheVariants.{Frames, Paths}
-use Rattle.report_lines.specs.Report.{feed_line}
-use Rattle.report_lines.specs.Reports.{refusals, steps_text, report, is_clean}
-use Rattle.report_lines.specs.Tallies.{tally_of, Tallied}
+use Rattle.report_text.specs.Report.{feed_line}
+use Rattle.report_text.specs.Reports.{refusals, steps_text, report, is_clean}
+use Rattle.report_text.specs.Tallies.{tally_of, Tallied}
 use Rattle.recv_reading.specs.State.{is_full}
 use Rattle.path_book.specs.declared.settings.Settings.{Settings}
 

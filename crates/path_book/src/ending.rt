@@ -2,14 +2,14 @@
 
 ghost use Rattle.std.specs.Prelude.{◌≡◌, ◌++◌, ◌↔◌, IsTrue, IfOk, OnErr, IsErr};
 ghost use Rattle.std.specs.List.{AllByRecursion};
-ghost use Rattle.report_lines.specs.FaultWords.{IsTold};
-ghost use Rattle.report_lines.specs.Report.{end_line};
-ghost use Rattle.report_lines.specs.Reports.{refused_text, Report};
+ghost use Rattle.report_text.specs.FaultWords.{IsTold};
+ghost use Rattle.report_text.specs.Report.{end_line};
+ghost use Rattle.report_text.specs.Reports.{refused_text, Report};
 ghost use Rattle.drm_links.specs.Told.{HasCause};
 ghost use Rattle.drm_links.specs.Sink.{Outputs, IsFront};
 
 use drm_links::{Sink, WriteFault, write_all};
-use report_lines::{EndWord, ReportCounts};
+use report_text::{EndWord, ReportCounts};
 use std::marker::Model;
 
 /// The whole report of a journal: contracts see its text, and whether no line of it is missing or bad.
@@ -25,9 +25,9 @@ pub struct Ending {
 impl Model for Ending {
     ghost use Rattle.std.specs.Prelude.{◌++◌};
     ghost use Rattle.std.specs.List.{AllByRecursion};
-    ghost use Rattle.report_lines.specs.FaultWords.{IsTold};
-    ghost use Rattle.report_lines.specs.Report.{end_line};
-    ghost use Rattle.report_lines.specs.Reports.{refused_text, Report};
+    ghost use Rattle.report_text.specs.FaultWords.{IsTold};
+    ghost use Rattle.report_text.specs.Report.{end_line};
+    ghost use Rattle.report_text.specs.Reports.{refused_text, Report};
 
     ghost Value = { Report };
 

@@ -1,9 +1,9 @@
 //! The journal.
 
 ghost use Rattle.std.specs.Prelude.{◌≡◌, ◌<◌, ◌^◌, ◌++◌, ◌∷◌, [], true, map, IsErr, IfOk, OnOk, OnErr, IfSome};
-ghost use Rattle.report_lines.specs.Report.{feed_line};
+ghost use Rattle.report_text.specs.Report.{feed_line};
 ghost use Rattle.path_book.specs.Journal.{AreInRange, new_journal, datagrams, entry_of, IsKept, Enters};
-ghost use Rattle.report_lines.specs.Tallies.{items_in};
+ghost use Rattle.report_text.specs.Tallies.{items_in};
 ghost use Rattle.path_book.specs.Report.{IsReportOf, word_for};
 ghost use Rattle.path_book.specs.Took.{IfTook};
 ghost use Rattle.path_book.specs.declared.event.Event.{Event};
@@ -13,7 +13,7 @@ use crate::{Ending, Event, Settings};
 use dcp_collect::Collector;
 use drm_bits::NoMemory;
 use mod_feed::Feed;
-use report_lines::{EndWord, ReportBuffer, ReportCounts, write_feed};
+use report_text::{EndWord, ReportBuffer, ReportCounts, write_feed};
 use std::alloc::Global;
 use std::marker::Model;
 

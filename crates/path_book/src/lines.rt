@@ -2,7 +2,7 @@
 
 ghost use Rattle.std.specs.Prelude.{◌≡◌, ◌≤◌, ◌<◌, ◌^◌, ◌⊎◌, true, false, OnOk, OnErr, IsErr, IfSome};
 ghost use Rattle.dcp_collect.specs.State.{ready, after_item};
-ghost use Rattle.report_lines.specs.Tallies.{items_in};
+ghost use Rattle.report_text.specs.Tallies.{items_in};
 ghost use Rattle.recv_reading.specs.State.{is_full};
 ghost use Rattle.path_book.specs.Lines.{HasFed, PrintsNext, Prints, PrintsAll, WritesAll, CountsFirst, GivesRest};
 
@@ -10,7 +10,7 @@ use dcp_collect::Collector;
 use drm_bits::NoMemory;
 use drm_links::{Sink, WriteFault};
 use mod_feed::Feed;
-use report_lines::{ReportBuffer, ReportCounts, write_step};
+use report_text::{ReportBuffer, ReportCounts, write_step};
 use std::alloc::Global;
 
 /// Whether the told number of items was given.

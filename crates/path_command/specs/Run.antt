@@ -12,7 +12,7 @@ use Rattle.path_words.specs.Line.{IsPathsLine}
 use Rattle.path_book.specs.declared.settings.Settings.{Settings}
 use Rattle.path_book.specs.Journal.{JournalState, AreInRange, datagrams}
 use Rattle.path_book.specs.Report.{IsReportOf}
-use Rattle.report_lines.specs.Reports.{Report}
+use Rattle.report_text.specs.Reports.{Report}
 use Rattle.drm_paths.specs.declared.run.PathOptions.{PathOptions}
 use Rattle.drm_paths.specs.State.{PathState, settings_of}
 use Rattle.drm_paths.specs.declared.run.PathEnded.TheVariants.{Idle, Limit, LinkFailed, NoMemory}

@@ -6,7 +6,7 @@ use Rattle.mod_feed.specs.Feeding.{FeedStep}
 use Rattle.mod_delivery.specs.Sent.{pairs_in}
 use Rattle.mod_delivery.specs.Given.{AreAllServed}
 use Rattle.mod_delivery.specs.Laws.{Delivering, AllFrames}
-use Rattle.report_lines.specs.Reports.{is_given, is_clean, report}
+use Rattle.report_text.specs.Reports.{is_given, is_clean, report}
 use Rattle.recv_report.proofs.Composing.{ItemLaws, strays_noted, tells_switches, prints_frames, gives_in_time}
 use Rattle.path_book.specs.Report.{word_for}
 use Rattle.path_laws.specs.Laws.{ReportsDeliveries, ReportsAll}

@@ -11,7 +11,7 @@ use Rattle.mod_feed.specs.Feeding.{FeedStep}
 use Rattle.mod_delivery.specs.Sent.{Arrival, IsArrival, AreFar, pairs_in, IsFollowed, IsInTime}
 use Rattle.mod_delivery.specs.Given.{AreGiven, AreAllServed}
 use Rattle.recv_report.specs.Headline.{GivesInTime, PrintsFrames, TellsSwitches, strays}
-use Rattle.report_lines.specs.Reports.{report, is_clean}
+use Rattle.report_text.specs.Reports.{report, is_clean}
 use Rattle.path_book.specs.declared.settings.Settings.{Settings}
 use Rattle.path_book.specs.Journal.{AreInRange, datagrams}
 use Rattle.path_book.specs.Report.{word_for, IsReportOf}

@@ -8,18 +8,18 @@ use Rattle.drm_links.proofs.ToldLemmas.{Outputs-then, Outputs-nothing, Outputs-w
 use Rattle.drm_reconfiguration.specs.Tracker.{TrackerState, new_tracker}
 use Rattle.mod_feed.specs.Feeding.{FeedStep, IsStep, Feeds, after_step}
 use Rattle.mod_feed.proofs.FeedingLemmas.{feedings_join}
-use Rattle.report_lines.specs.Report.{step_text}
+use Rattle.report_text.specs.Report.{step_text}
 use Rattle.recv_reading.specs.declared.source.SourceFault.{SourceFault}
 use Rattle.recv_reading.specs.State.{one_given}
 use Rattle.recv_reading.proofs.Reaching.{one_more_few}
 use Rattle.recv_reading.proofs.Finishing.{IsOver, finishes, gives_some, all_given, answers_many}
-use Rattle.report_lines.specs.Reports.{steps_text, refusals}
-use Rattle.report_lines.specs.Tallies.{Tallied, new_tally, counted, noted, items_in, tally_of}
+use Rattle.report_text.specs.Reports.{steps_text, refusals}
+use Rattle.report_text.specs.Tallies.{Tallied, new_tally, counted, noted, items_in, tally_of}
 use Rattle.recv_reading.proofs.Looping.{Loop, with_answer, loop_given, loop_on}
 use Rattle.recv_report.specs.Progress.{AreOut, HasPrinted, noted_if, WroteItems, ReadsBroken, ReadsFront}
-use Rattle.report_lines.proofs.StepLemmas.{one_more, one_text, text_more}
-use Rattle.report_lines.proofs.TakenLemmas.{noted_items}
-use Rattle.report_lines.proofs.CountLemmas.{steps_counted, answer_noted, refusals_few}
+use Rattle.report_text.proofs.StepLemmas.{one_more, one_text, text_more}
+use Rattle.report_text.proofs.TakenLemmas.{noted_items}
+use Rattle.report_text.proofs.CountLemmas.{steps_counted, answer_noted, refusals_few}
 
 -- nothing came yet
 pub none_printed : (a : Known Output) (c : State) (f : TrackerState) (t : Tallied) (lines : List ℕ) → c.next ≡ 0 → f ≡ new_tracker → t ≡ new_tally → lines ≡ [] → HasPrinted a a f t lines [] [] [] c

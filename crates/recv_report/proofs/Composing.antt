@@ -24,7 +24,7 @@ use Rattle.mod_delivery.specs.Laws.{Suits, Delivering, DeliveringEarly, StraysRe
 use Rattle.recv_reading.specs.declared.reason.EndWord.TheVariants as word
 use Rattle.drm_links.specs.Hearing.{AreNext, HeardTold, Heard}
 use Rattle.recv_reading.specs.Ending.{Holds}
-use Rattle.report_lines.specs.Reports.{is_given, refusals_from, report, is_clean}
+use Rattle.report_text.specs.Reports.{is_given, refusals_from, report, is_clean}
 use Rattle.recv_report.specs.Received.{IsReport, Reported}
 use Rattle.frame_lines.specs.Laws.{ServedLines}
 use Rattle.recv_report.specs.Headline.{strays_from, TellsSwitches, GivesInTime, HeadlineOf, untold, WouldBeRead, ModulatesAll, Came, CompleteOf, Headline, Complete, PrintsFrames}

@@ -11,15 +11,15 @@ use Rattle.drm_links.proofs.Hearing.{heard_next}
 use Rattle.drm_links.specs.Hearing.{AreNext, Heard}
 use Rattle.recv_reading.specs.Ending.{most_answers}
 use Rattle.recv_report.specs.Received.{IsReport, Reported, Broken, Stopped, IsReportFront, IsReasonable, rules_of}
-use Rattle.report_lines.specs.Texts.{text_known}
+use Rattle.report_text.specs.Texts.{text_known}
 use Rattle.recv_reading.specs.Options.{AreInRange}
 use Rattle.recv_reading.proofs.Going.{few_answers}
 use Rattle.recv_report.specs.Jobs.{IsReady, EndedAs, HasEnded, job_rules, text_of, is_failed, clean_of, IsDone, options_for, IsJob, AreJobs, NoneFailed}
-use Rattle.report_lines.specs.Reports.{Report}
+use Rattle.report_text.specs.Reports.{Report}
 use Rattle.recv_reading.specs.OneReading.{BreaksOff}
 use Rattle.recv_report.specs.Ahead.{IsReportOf, IsGivenOf, IsFrontOf}
 use Rattle.recv_report.specs.Following.{HeadlinesFollow, CompletesFollow}
-use Rattle.report_lines.specs.declared.buffer.ReportBuffer.{ReportBuffer}
+use Rattle.report_text.specs.declared.buffer.ReportBuffer.{ReportBuffer}
 use Rattle.recv_report.specs.declared.receiver.Options.{Options}
 use Rattle.recv_report.specs.declared.receiver.Ended.{Ended}
 use Rattle.recv_report.specs.declared.receiver.Ended.TheVariants.{Done, LinkFailed, WriteFailed, NoMemory}

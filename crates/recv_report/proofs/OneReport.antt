@@ -6,7 +6,7 @@ use Rattle.collect_laws.proofs.Unique.{one_giving}
 use Rattle.drm_reconfiguration.specs.Tracker.{new_tracker}
 use Rattle.mod_feed.specs.Feeding.{Feeds}
 use Rattle.mod_feed.proofs.FeedingLemmas.{feeding_is_one}
-use Rattle.report_lines.specs.Reports.{refusals, report, is_clean}
+use Rattle.report_text.specs.Reports.{refusals, report, is_clean}
 use Rattle.recv_report.specs.OneReport.{IsOneReport}
 use Rattle.recv_reading.proofs.OneReading.{one_word}
 use Rattle.recv_reading.proofs.Reaching.{one_way}

@@ -8,19 +8,19 @@ use Rattle.drm_links.proofs.ToldLemmas.{Outputs-weaker}
 use Rattle.drm_links.proofs.WritingLemmas.{text_then, front_more, front_then, front_behind}
 use Rattle.drm_reconfiguration.specs.Tracker.{new_tracker}
 use Rattle.mod_feed.specs.Feeding.{FeedStep, Feeds}
-use Rattle.report_lines.specs.Report.{feed_line, end_line}
+use Rattle.report_text.specs.Report.{feed_line, end_line}
 use Rattle.recv_reading.specs.declared.source.SourceFault.{SourceFault}
 use Rattle.recv_report.specs.declared.reading.ReceiveFault.{ReceiveFault}
 use Rattle.recv_report.specs.declared.reading.ReceiveFault.TheVariants as fault
-use Rattle.report_lines.specs.Reports.{refusals, refused_text, steps_text, sums_of, report, is_clean}
-use Rattle.report_lines.specs.Tallies.{Tallied}
+use Rattle.report_text.specs.Reports.{refusals, refused_text, steps_text, sums_of, report, is_clean}
+use Rattle.report_text.specs.Tallies.{Tallied}
 use Rattle.recv_report.specs.Received.{IsReport, IsReportFront, Reported, Broken, Stopped}
 use Rattle.recv_report.specs.Progress.{WroteItems, ReadsBroken, ReadsFront, StopsReading, StopsReport}
 use Rattle.recv_reading.proofs.AtOnce.{few_given}
 use Rattle.recv_reading.proofs.Going.{goes_none}
-use Rattle.report_lines.proofs.RefusalLemmas.{AreTold}
-use Rattle.report_lines.proofs.CountLemmas.{refusals_told, last_told, clean_is}
-use Rattle.report_lines.proofs.StepLemmas.{front_further}
+use Rattle.report_text.proofs.RefusalLemmas.{AreTold}
+use Rattle.report_text.proofs.CountLemmas.{refusals_told, last_told, clean_is}
+use Rattle.report_text.proofs.StepLemmas.{front_further}
 
 -- ---- all items were written
 

@@ -8,7 +8,7 @@ use Rattle.mod_delivery.specs.Sent.{Arrival, pairs_in, IsFollowed, IsInTime}
 use Rattle.drm_links.specs.Hearing.{AreNext}
 use Rattle.recv_reading.specs.declared.options.ReceiveOptions.{ReceiveOptions}
 use Rattle.recv_reading.specs.Ending.{datagrams, GoesOn}
-use Rattle.report_lines.specs.Reports.{Report}
+use Rattle.report_text.specs.Reports.{Report}
 use Rattle.recv_report.specs.Received.{IsReport, IsBrokenOff, IsReportFront}
 use Rattle.recv_report.specs.Headline.{WouldBeRead, HeadlineOf, CompleteOf}
 

@@ -13,13 +13,13 @@ use Rattle.drm_timeline.specs.Numbers.{frame_count}
 use Rattle.mod_delivery.specs.Sent.{Arrival, OfSchedule, Stray, pairs_in, IsFollowed, IsInTime}
 use Rattle.mod_delivery.specs.Given.{IsServed, AreGiven, IsStart, AreAllServed, AreAllFrames}
 use Rattle.frame_lines.specs.Line.{IsFrameLine}
-use Rattle.report_lines.specs.Report.{item_line}
+use Rattle.report_text.specs.Report.{item_line}
 use Rattle.recv_reading.specs.declared.reason.EndWord.{EndWord}
-use Rattle.report_lines.specs.declared.counts.Refusal.{Refusal}
+use Rattle.report_text.specs.declared.counts.Refusal.{Refusal}
 use Rattle.recv_reading.specs.declared.options.ReceiveOptions.{ReceiveOptions}
 use Rattle.recv_reading.specs.Ending.{datagrams, IsFinished}
 use Rattle.recv_reading.specs.OneReading.{IsReadingOf}
-use Rattle.report_lines.specs.Reports.{report, is_clean}
+use Rattle.report_text.specs.Reports.{report, is_clean}
 
 -- Whatever is missing, a switch is told only before the first frame of a later configuration of the schedule. Where no frame
 -- is missing one is told before each of these behind the first item, and nothing is resumed.

@@ -5,7 +5,7 @@ use Rattle.drm_links.specs.Link.{Traffic}
 use Rattle.dcp_collect.specs.State.{made}
 use Rattle.drm_reconfiguration.specs.Tracker.{new_tracker}
 use Rattle.recv_reading.specs.declared.options.ReceiveOptions.{ReceiveOptions}
-use Rattle.report_lines.specs.Texts.{text_known}
+use Rattle.report_text.specs.Texts.{text_known}
 use Rattle.recv_report.specs.Received.{IsReasonable, EndsAs, rules_of}
 use Rattle.recv_report.specs.declared.receiver.Options.{Options}
 use Rattle.recv_report.specs.declared.receiver.Ended.{Ended}

@@ -8,7 +8,7 @@ use Rattle.dcp_collect.specs.State.{State}
 use Rattle.dcp_collect.specs.Runs.{Item, IsItem, Run, up_to}
 use Rattle.drm_reconfiguration.specs.Tracker.{TrackerState, new_tracker}
 use Rattle.mod_feed.specs.Feeding.{FeedStep, IsStep, Feeds, after_step}
-use Rattle.report_lines.specs.Report.{step_text}
+use Rattle.report_text.specs.Report.{step_text}
 use Rattle.text_output.specs.Gathering.{Puts}
 use Rattle.recv_reading.specs.declared.options.ReceiveOptions.{ReceiveOptions}
 use Rattle.recv_reading.specs.declared.reason.EndWord.{EndWord}
@@ -16,8 +16,8 @@ use Rattle.recv_reading.specs.declared.source.SourceFault.{SourceFault}
 use Rattle.recv_reading.specs.Ending.{datagrams, Gave, GoesOn, IsFinished, IsBroken, most_answers}
 use Rattle.recv_report.specs.declared.reading.ReceiveFault.{ReceiveFault}
 use Rattle.recv_report.specs.declared.reading.ReceiveFault.TheVariants as fault
-use Rattle.report_lines.specs.Reports.{steps_text}
-use Rattle.report_lines.specs.Tallies.{Tallied, counted, noted, items_in, tally_of}
+use Rattle.report_text.specs.Reports.{steps_text}
+use Rattle.report_text.specs.Tallies.{Tallied, counted, noted, items_in, tally_of}
 use Rattle.recv_report.specs.Received.{Stepped, Broken, Stopped}
 
 -- The lines of the earlier steps are written; those of the later ones are written behind them, or gathered.

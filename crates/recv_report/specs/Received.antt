@@ -9,11 +9,11 @@ use Rattle.dcp_collect.specs.Runs.{Item, Run, up_to}
 use Rattle.drm_reconfiguration.specs.Tracker.{TrackerState, new_tracker}
 use Rattle.mod_feed.specs.Feeding.{FeedStep, Feeds}
 use Rattle.recv_reading.specs.declared.reason.EndWord.{EndWord}
-use Rattle.report_lines.specs.Report.{feed_line}
+use Rattle.report_text.specs.Report.{feed_line}
 use Rattle.drm_links.specs.Hearing.{Heard}
 use Rattle.recv_reading.specs.declared.options.ReceiveOptions.{ReceiveOptions}
 use Rattle.recv_reading.specs.Ending.{datagrams, Gave, FewAtOnce, GoesOn, IsFinished, IsBroken, most_answers, GivesSome}
-use Rattle.report_lines.specs.Reports.{refusals, steps_text, report, is_clean}
+use Rattle.report_text.specs.Reports.{refusals, steps_text, report, is_clean}
 use Rattle.recv_report.specs.declared.receiver.Options.{Options}
 use Rattle.recv_report.specs.declared.receiver.Ended.{Ended}
 use Rattle.recv_report.specs.declared.receiver.Ended.TheVariants.{Done, LinkFailed, WriteFailed, NoMemory}

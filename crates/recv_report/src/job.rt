@@ -14,7 +14,7 @@ use drm_bits::{NoMemory, zeros};
 use drm_links::{LONGEST_DATAGRAM, Link, Sink, WriteFault, write_all};
 use mod_feed::Feed;
 use recv_reading::ReceiveOptions;
-use report_lines::ReportBuffer;
+use report_text::ReportBuffer;
 use std::alloc::Global;
 use std::thread;
 use std::thread::Threads;

@@ -6,7 +6,7 @@ ghost use Rattle.dcp_collect.specs.State.{made, ready, after_item};
 ghost use Rattle.drm_reconfiguration.specs.Tracker.{new_tracker};
 ghost use Rattle.recv_reading.specs.Options.{AreUsable, options_of};
 ghost use Rattle.recv_report.specs.Received.{Reported};
-ghost use Rattle.report_lines.specs.Tallies.{new_tally, items_in};
+ghost use Rattle.report_text.specs.Tallies.{new_tally, items_in};
 ghost use Rattle.recv_report.specs.Progress.{WritesNext, noted_if, WroteItems, StopsReading, StopsReport};
 ghost use Rattle.recv_report.specs.Faults.{IsCallFailed};
 ghost use Rattle.recv_report.specs.declared.reading.ReceiveFault.{ReceiveFault};
@@ -16,7 +16,7 @@ use drm_bits::NoMemory;
 use drm_links::{Sink, WriteFault};
 use mod_feed::Feed;
 use recv_reading::{Bounds, Datagrams, EndWord, Reading, SourceFault};
-use report_lines::{LineWriter, ReportCounts, write_feed};
+use report_text::{LineWriter, ReportCounts, write_feed};
 use std::alloc::Global;
 
 /// Why a report isn't whole.

@@ -2,7 +2,7 @@
 
 use drm_bits::NoMemory;
 use drm_links::MemSink;
-use report_lines::{EndWord, Sums, write_end, write_feed};
+use report_text::{EndWord, Sums, write_end, write_feed};
 use std::alloc::Global;
 
 const SUMS: Sums = Sums {

@@ -4,7 +4,7 @@ use Rattle.std.proofs.lemmas.Result.{err_from_is_err_and}
 use Rattle.drm_bits.specs.Crc.{IsCheckOf}
 use Rattle.drm_links.proofs.ToldLemmas.{done_counts, failed_counts}
 use Rattle.drm_links.proofs.WritingLemmas.{Writes-done, Writes-front}
-use Rattle.report_lines.specs.Texts.{text_known}
+use Rattle.report_text.specs.Texts.{text_known}
 use Rattle.drm_receive.specs.Receive.{WritesReports}
 use Rattle.drm_air.specs.Air.{AreAired, AreFeeds}
 use Rattle.drm_exercise.specs.Exercise.{plan, deliveries}

@@ -4,7 +4,7 @@ use Rattle.std.proofs.lemmas.Result.{err_from_is_err_and}
 use Rattle.hex.specs.Hex.{lower_digits}
 use Rattle.drm_links.specs.Sink.{Writes}
 use Rattle.drm_links.proofs.WritingLemmas.{Writes-cut, Writes-then}
-use Rattle.report_lines.specs.HexBits.{hex_of_bits}
+use Rattle.report_text.specs.HexBits.{hex_of_bits}
 use Rattle.packet_lines.specs.Lines.{kind_text}
 use Rattle.packet_lines.proofs.block.write_entity.Goals as goal
 

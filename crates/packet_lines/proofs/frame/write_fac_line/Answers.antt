@@ -1,6 +1,6 @@
 use Rattle.std.proofs.lemmas.Result.{err_from_is_err_and}
 use Rattle.std.specs.Prelude.{codes}
-use Rattle.report_lines.specs.FacLine.{fac_line}
+use Rattle.report_text.specs.FacLine.{fac_line}
 use Rattle.drm_links.proofs.WritingLemmas.{Writes-cut, Writes-then}
 use Rattle.packet_lines.proofs.frame.write_fac_line.Goals as goal
 

@@ -1,7 +1,7 @@
 use Rattle.std.proofs.lemmas.Result.{err_from_is_err_and}
 use Rattle.drm_links.proofs.WritingLemmas.{Writes-cut, Writes-then}
 use Rattle.dcp_af.specs.Reading.{packet_of}
-use Rattle.report_lines.specs.FaultWords.{mdi_words}
+use Rattle.report_text.specs.FaultWords.{mdi_words}
 use Rattle.packet_lines.specs.Lines.{bad_line}
 use Rattle.packet_lines.specs.Text.{front_text}
 use Rattle.packet_lines.proofs.whole.write_unframed.Goals as goal

@@ -1,5 +1,5 @@
 use Rattle.std.proofs.lemmas.Result.{err_from_is_err_and}
-use Rattle.report_lines.specs.Texts.{text_known}
+use Rattle.report_text.specs.Texts.{text_known}
 use Rattle.path_book.proofs.Printing.{all_counted}
 use Rattle.path_book.proofs.lines.write_ready.Goals as goal
 

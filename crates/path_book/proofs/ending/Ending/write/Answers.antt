@@ -3,8 +3,8 @@ use Rattle.std.proofs.lemmas.Result.{err_from_is_err_and}
 use Rattle.drm_links.specs.Sink.{Outputs, IsFront}
 use Rattle.drm_links.proofs.ToldLemmas.{Outputs-weaker}
 use Rattle.drm_links.proofs.WritingLemmas.{Writes-done, Writes-front, front_more, front_then}
-use Rattle.report_lines.specs.Report.{end_line}
-use Rattle.report_lines.specs.Reports.{refused_text, Report}
+use Rattle.report_text.specs.Report.{end_line}
+use Rattle.report_text.specs.Reports.{refused_text, Report}
 use Rattle.path_book.proofs.ending.Ending.write.Goals as goal
 
 pub returns-in_err-write_refused-clause-front : goal.returns-in_err-write_refused-clause-front

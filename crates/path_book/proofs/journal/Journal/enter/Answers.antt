@@ -2,8 +2,8 @@ use Rattle.std.proofs.Common.{◌≡◌, false, length, map, sym, ◌∙◌, ap,
 use Rattle.std.proofs.lemmas.List.{length-map}
 use Rattle.collect_laws.proofs.Fit.{fit_taken}
 use Rattle.recv_reading.proofs.Reaching.{takes_next, takes_end}
-use Rattle.report_lines.specs.Tallies.{Tallied, items_in}
-use Rattle.report_lines.proofs.TakenLemmas.{noted_items}
+use Rattle.report_text.specs.Tallies.{Tallied, items_in}
+use Rattle.report_text.proofs.TakenLemmas.{noted_items}
 use Rattle.path_book.specs.Journal.{JournalState, entry_of, datagrams, IsKept, Enters}
 use Rattle.path_book.proofs.Keeping.{refused_few, has_fed, as_many, entered, enters, goes_on}
 use Rattle.path_book.proofs.journal.Journal.enter.Goals as goal

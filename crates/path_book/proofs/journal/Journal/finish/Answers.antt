@@ -1,9 +1,9 @@
 use Rattle.std.proofs.Common.{◌≡◌, ◌++◌, map, sym, ◌∙◌, ap, subst}
 use Rattle.dcp_collect.specs.State.{State, after_finish}
 use Rattle.recv_reading.specs.declared.reason.EndWord.{EndWord}
-use Rattle.report_lines.specs.Report.{end_line}
-use Rattle.report_lines.specs.Reports.{refused_text}
-use Rattle.report_lines.specs.Tallies.{items_in}
+use Rattle.report_text.specs.Report.{end_line}
+use Rattle.report_text.specs.Reports.{refused_text}
+use Rattle.report_text.specs.Tallies.{items_in}
 use Rattle.path_book.specs.Lines.{HasFed, WritesAll}
 use Rattle.path_book.specs.Journal.{JournalState, entry_of, datagrams}
 use Rattle.path_book.specs.Report.{IsReportOf, word_for}

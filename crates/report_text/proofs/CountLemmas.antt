@@ -1,0 +1,171 @@
+-- What is counted is what the whole report tells.
+use Rattle.std.proofs.Common.{◌≡◌, ℕ, ◌+◌, ◌-◌, ◌≤◌, ◌↔◌, ◌&&◌, Bool, true, false, IsTrue, if◌then◌else◌, List, [], ◌∷◌, ◌++◌, length, drop, refl, sym, ◌∙◌, ap, subst, arith, length-append, length-drop, append_assoc, zero, suc}
+use Rattle.std.specs.List.{filter}
+use Rattle.std.proofs.lemmas.List.{append-nil, drop-append-le, drop-drop}
+use Rattle.std.proofs.lemmas.List.Elements.{filter-append}
+use Rattle.circular_buffer.specs.Buffer.{keep_last}
+use Rattle.dcp_collect.specs.declared.taken.Taken.{Taken}
+use Rattle.dcp_collect.specs.State.{State}
+use Rattle.dcp_collect.specs.Runs.{Item as Given, Steps}
+use Rattle.mod_feed.specs.Items.{Item, Frame, Missing, Bad}
+use Rattle.mod_feed.specs.Feeding.{FeedStep}
+use Rattle.report_text.specs.declared.report.Sums.{Sums}
+use Rattle.report_text.specs.FaultWords.{IsTold}
+use Rattle.report_text.specs.declared.counts.Refusal.{Refusal}
+use Rattle.report_text.specs.Reports.{is_given, is_missing, is_bad, is_refused, refusals_from, refusals, sums_of, is_clean}
+use Rattle.report_text.specs.Tallies.{Tallied, one_more_item, noted, with_steps, tally_of}
+use Rattle.report_text.proofs.TakenLemmas.{takes_told}
+use Rattle.report_text.proofs.RefusalLemmas.{AreTold}
+
+-- ---- refusals
+
+abbrev one_refusal : ℕ → Taken → List Refusal
+one_refusal n a = if is_refused a then record { number = n; taken = a } ∷ [] else []
+
+put_before : (b : Bool) (r : Refusal) (rs more : List Refusal) → (if b then r ∷ (rs ++ more) else rs ++ more) ≡ (if b then r ∷ rs else rs) ++ more
+put_before true r rs more = refl
+put_before false r rs more = refl
+
+refusals_more : (n : ℕ) (taken : List Taken) (a : Taken) → refusals_from n (taken ++ a ∷ []) ≡ refusals_from n taken ++ one_refusal (n + length taken) a
+refusals_more n [] a = ap (λ k. one_refusal k a) (let e : n ≡ n + 0 = omega arith in e)
+refusals_more n (first ∷ taken) a =
+    let e : (n + 1) + length taken ≡ n + length (first ∷ taken) = omega arith in
+    let more : refusals_from (n + 1) (taken ++ a ∷ []) ≡ refusals_from (n + 1) taken ++ one_refusal (n + length (first ∷ taken)) a =
+    refusals_more (n + 1) taken a ∙ ap (λ k. refusals_from (n + 1) taken ++ one_refusal k a) e in
+    ap (λ l. if is_refused first then record { number = n; taken = first } ∷ l else l) more
+    ∙ put_before (is_refused first) (record { number = n; taken = first }) (refusals_from (n + 1) taken) (one_refusal (n + length (first ∷ taken)) a)
+
+one_at_most : (b : Bool) (r : Refusal) (rs : List Refusal) (k : ℕ) → length rs ≤ k → length (if b then r ∷ rs else rs) ≤ k + 1
+one_at_most true r rs k l = omega (arith, l)
+one_at_most false r rs k l = omega (arith, l)
+
+pub refusals_few : (n : ℕ) (taken : List Taken) → length (refusals_from n taken) ≤ length taken
+refusals_few n [] = omega arith
+refusals_few n (a ∷ taken) =
+    let l = one_at_most (is_refused a) (record { number = n; taken = a }) (refusals_from (n + 1) taken) (length taken) (refusals_few (n + 1) taken) in
+    omega (arith, l)
+
+put_told : (b : Bool) (r : Refusal) (rs : List Refusal) → (b ≡ true → IsTold r.taken) → AreTold rs → AreTold (if b then r ∷ rs else rs)
+put_told true r rs one all = (one refl, all)
+put_told false r rs one all = all
+
+pub refusals_told : (c d : State) (ds : List (List ℕ)) (taken : List Taken) (items : List Given) (n : ℕ) → Steps c ds taken items d → AreTold (refusals_from n taken)
+refusals_told c d [] [] items n s = tt
+refusals_told c d [] (a ∷ taken) items n s = absurd s
+refusals_told c d (b ∷ ds) [] items n s = absurd s
+refusals_told c d (b ∷ ds) (a ∷ taken) items n (now, later, kept, mid, takes, gives, steps, are) =
+    put_told (is_refused a) (record { number = n; taken = a }) (refusals_from (n + 1) taken) (takes_told c kept b a takes) (refusals_told mid d ds taken later (n + 1) steps)
+
+drop_told : (n : ℕ) (rs : List Refusal) → AreTold rs → AreTold (drop n rs)
+drop_told zero rs all = all
+drop_told (suc n) [] all = tt
+drop_told (suc n) (r ∷ rs) all = drop_told n rs all.1
+
+pub last_told : (n : ℕ) (rs : List Refusal) → AreTold rs → AreTold (keep_last n rs)
+last_told n rs all = drop_told (length rs - n) rs all
+
+-- ---- the last ones
+
+pub last_more : (n : ℕ) (rs : List Refusal) (r : Refusal) → keep_last n (keep_last n rs ++ r ∷ []) ≡ keep_last n (rs ++ r ∷ [])
+last_more n rs r =
+    let k : ℕ = length rs - n in
+    let below : k ≤ length rs = omega arith in
+    let whole : drop k rs ++ r ∷ [] ≡ drop k (rs ++ r ∷ []) = sym (drop-append-le k rs (r ∷ []) below) in
+    let size : length (rs ++ r ∷ []) ≡ length rs + 1 = length-append rs (r ∷ []) in
+    let left : length (drop k (rs ++ r ∷ [])) ≡ length (rs ++ r ∷ []) - k = length-drop k (rs ++ r ∷ []) in
+    let at : k + (length (drop k (rs ++ r ∷ [])) - n) ≡ length (rs ++ r ∷ []) - n = omega (arith, size, left) in
+    ap (keep_last n) whole
+    ∙ drop-drop (length (drop k (rs ++ r ∷ [])) - n) k (rs ++ r ∷ [])
+    ∙ ap (λ m. drop m (rs ++ r ∷ [])) at
+
+-- ---- the sums
+
+abbrev sums_from : ℕ → ℕ → ℕ → ℕ → Sums
+sums_from g m b r = record { given = g; missing = m; bad = b; refused = r }
+
+sums_same : (g g' m m' b b' r r' : ℕ) → g ≡ g' → m ≡ m' → b ≡ b' → r ≡ r'
+    → sums_from g m b r ≡ sums_from g' m' b' r'
+sums_same g g' m m' b b' r r' p q s t = λ i. record { given = p i; missing = q i; bad = s i; refused = t i }
+
+abbrev one : Bool → ℕ
+one true = 1
+one false = 0
+
+one_kept : (P : FeedStep → Bool) (s : FeedStep) → length (filter P (s ∷ [])) ≡ one (P s)
+one_kept P s = by (P s)
+  where
+    by : (b : Bool) → length (if b then s ∷ [] else []) ≡ one b
+    by true = refl
+    by false = refl
+
+count_more : (P : FeedStep → Bool) (ss : List FeedStep) (s : FeedStep) → length (filter P (ss ++ s ∷ [])) ≡ length (filter P ss) + one (P s)
+count_more P ss s = ap length (filter-append P ss (s ∷ [])) ∙ length-append (filter P ss) (filter P (s ∷ [])) ∙ ap (λ k. length (filter P ss) + k) (one_kept P s)
+
+one_item : (g m b r : ℕ) (item : Item)
+    → one_more_item (sums_from g m b r) item ≡ sums_from (g + one (is_given item)) (m + one (is_missing item)) (b + one (is_bad item)) r
+one_item g m b r (Frame index frame payload) = sums_same (g + 1) (g + 1) m (m + 0) b (b + 0) r r refl (omega arith) (omega arith) refl
+one_item g m b r (Missing index had total) = sums_same g (g + 0) (m + 1) (m + 1) b (b + 0) r r (omega arith) refl (omega arith) refl
+one_item g m b r (Bad index fault) = sums_same g (g + 0) m (m + 0) (b + 1) (b + 1) r r (omega arith) (omega arith) refl refl
+
+sums_more : (ss : List FeedStep) (s : FeedStep) (rs : List Refusal) → one_more_item (sums_of ss rs) s.item ≡ sums_of (ss ++ s ∷ []) rs
+sums_more ss s rs =
+    one_item (length (filter (λ x. is_given x.item) ss)) (length (filter (λ x. is_missing x.item) ss)) (length (filter (λ x. is_bad x.item) ss)) (length rs) s.item
+    ∙ sums_same _ _ _ _ _ _ _ _
+    (sym (count_more (λ x. is_given x.item) ss s)) (sym (count_more (λ x. is_missing x.item) ss s)) (sym (count_more (λ x. is_bad x.item) ss s)) refl
+
+-- ---- the tally
+
+abbrev tally_from : Sums → List Refusal → Tallied
+tally_from sums refused = record { sums = sums; refused = refused }
+
+tally_same : (s s' : Sums) (rs : List Refusal) → s ≡ s' → tally_from s rs ≡ tally_from s' rs
+tally_same s s' rs e = ap (λ (x : Sums). tally_from x rs) e
+
+pub steps_counted : (ss more : List FeedStep) (taken : List Taken) → with_steps (tally_of ss taken) more ≡ tally_of (ss ++ more) taken
+steps_counted ss [] taken = ap (λ l. tally_of l taken) (sym (append-nil ss))
+steps_counted ss (s ∷ more) taken =
+    ap (λ t. with_steps t more) (tally_same (one_more_item (sums_of ss (refusals taken)) s.item) (sums_of (ss ++ s ∷ []) (refusals taken)) (keep_last 16 (refusals taken)) (sums_more ss s (refusals taken)))
+    ∙ steps_counted (ss ++ s ∷ []) more taken
+    ∙ ap (λ l. tally_of l taken) (append_assoc ss (s ∷ []) more)
+
+noted_as : (ss : List FeedStep) (rs : List Refusal) (b : Bool) (r : Refusal)
+    → (if b then tally_from (record (sums_of ss rs) { refused = length rs + 1 }) (keep_last 16 (keep_last 16 rs ++ r ∷ [])) else tally_from (sums_of ss rs) (keep_last 16 rs))
+    ≡ tally_from (sums_of ss (rs ++ (if b then r ∷ [] else []))) (keep_last 16 (rs ++ (if b then r ∷ [] else [])))
+noted_as ss rs true r =
+    let size : length rs + 1 ≡ length (rs ++ r ∷ []) = sym (length-append rs (r ∷ [])) in
+    ap (λ (k : ℕ). tally_from (record (sums_of ss rs) { refused = k }) (keep_last 16 (keep_last 16 rs ++ r ∷ []))) size
+    ∙ ap (λ (l : List Refusal). tally_from (sums_of ss (rs ++ r ∷ [])) l) (last_more 16 rs r)
+noted_as ss rs false r =
+    ap (λ (l : List Refusal). tally_from (sums_of ss l) (keep_last 16 l)) (sym (append-nil rs))
+
+pub answer_noted : (ss : List FeedStep) (taken : List Taken) (a : Taken) (number : ℕ) → number ≡ length taken → noted (tally_of ss taken) number a ≡ tally_of ss (taken ++ a ∷ [])
+answer_noted ss taken a number is =
+    ap (λ k. noted (tally_of ss taken) k a) (let e : number ≡ 0 + length taken = omega (arith, is) in e)
+    ∙ noted_as ss (refusals taken) (is_refused a) (record { number = 0 + length taken; taken = a })
+    ∙ ap (λ (l : List Refusal). tally_from (sums_of ss l) (keep_last 16 l)) (sym (refusals_more 0 taken a))
+
+-- ---- whether a report is clean
+
+abbrev AreNone : Bool → List FeedStep → List FeedStep → Type 0
+AreNone all missing bad = IsTrue all ↔ ((length missing ≡ 0) × (length bad ≡ 0))
+
+one_kind : (item : Item) (s : FeedStep) (all : Bool) (missing bad : List FeedStep)
+    → AreNone all missing bad → AreNone (is_given item && all) (if is_missing item then s ∷ missing else missing) (if is_bad item then s ∷ bad else bad)
+one_kind (Frame index frame payload) s all missing bad h = h
+one_kind (Missing index had total) s all missing bad h = ((λ t. absurd (let e : false ≡ true = t in cc)), (λ (m, b). absurd (omega (arith, m))))
+one_kind (Bad index fault) s all missing bad h = ((λ t. absurd (let e : false ≡ true = t in cc)), (λ (m, b). absurd (omega (arith, b))))
+
+clean_as : (steps : List FeedStep) → AreNone (is_clean steps) (filter (λ s. is_missing s.item) steps) (filter (λ s. is_bad s.item) steps)
+clean_as [] = ((λ t. (refl, refl)), (λ z. refl))
+clean_as (s ∷ steps) = one_kind s.item s (is_clean steps) (filter (λ s. is_missing s.item) steps) (filter (λ s. is_bad s.item) steps) (clean_as steps)
+
+same_true : (x y : Bool) (P : Type 0) → IsTrue x ↔ P → IsTrue y ↔ P → x ≡ y
+same_true true true P h k = refl
+same_true true false P h k = absurd (let e : false ≡ true = k.1 (h.0 refl) in cc)
+same_true false true P h k = absurd (let e : false ≡ true = h.1 (k.0 refl) in cc)
+same_true false false P h k = refl
+
+pub clean_is : (clean : Bool) (t : Tallied) (steps : List FeedStep) (taken : List Taken) → IsTrue clean ↔ ((t.sums.missing ≡ 0) × (t.sums.bad ≡ 0)) → t ≡ tally_of steps taken → clean ≡ is_clean steps
+clean_is clean t steps taken h is =
+    same_true clean (is_clean steps) ((length (filter (λ s. is_missing s.item) steps) ≡ 0) × (length (filter (λ s. is_bad s.item) steps) ≡ 0))
+    (subst (λ (u : Tallied). IsTrue clean ↔ ((u.sums.missing ≡ 0) × (u.sums.bad ≡ 0))) is h) (clean_as steps)
