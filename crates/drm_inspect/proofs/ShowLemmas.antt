@@ -17,11 +17,11 @@ use Rattle.drm_capture.specs.Front.{IsWhole}
 use Rattle.drm_capture.specs.Laws.{ReadOneWay}
 use Rattle.drm_capture.specs.Walking.{WalkerState, new_walker}
 use Rattle.drm_capture.specs.Reading.{HasRead, Stops}
-use Rattle.packet_lines.specs.declared.packet.ShowFault.{ShowFault}
-use Rattle.packet_lines.specs.Text.{IsPacketText}
-use Rattle.packet_lines.specs.Shown.{Shows}
-use Rattle.packet_lines.specs.Laws.{HasOneText}
-use Rattle.packet_lines.specs.Lines.{end_packets_line}
+use Rattle.report_dump.specs.declared.packet.ShowFault.{ShowFault}
+use Rattle.report_dump.specs.Text.{IsPacketText}
+use Rattle.report_dump.specs.Shown.{Shows}
+use Rattle.report_dump.specs.Laws.{HasOneText}
+use Rattle.report_dump.specs.Lines.{end_packets_line}
 use Rattle.drm_faults.specs.Fault.{UnlessMemory}
 use Rattle.drm_faults.specs.declared.fault.Fault.{Fault}
 use Rattle.drm_faults.specs.declared.fault.Fault.TheVariants as faults

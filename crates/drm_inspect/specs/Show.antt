@@ -10,8 +10,8 @@ use Rattle.drm_capture.specs.Front.{IsWhole}
 use Rattle.drm_capture.specs.Capture as capture
 use Rattle.drm_capture.specs.Walking.{WalkerState}
 use Rattle.drm_capture.specs.Reading.{HasRead, Stops}
-use Rattle.packet_lines.specs.Text.{IsPacketText}
-use Rattle.packet_lines.specs.Lines.{end_packets_line}
+use Rattle.report_dump.specs.Text.{IsPacketText}
+use Rattle.report_dump.specs.Lines.{end_packets_line}
 use Rattle.drm_faults.specs.Captures.{EndsEarly}
 use Rattle.drm_faults.specs.Fault.{UnlessMemory}
 use Rattle.drm_faults.specs.declared.fault.Fault.{Fault}

@@ -1,13 +1,13 @@
 //! The command `show`.
 
-ghost use Rattle.packet_lines.specs.Content.{Begins};
-ghost use Rattle.packet_lines.specs.Shown.{Shows};
+ghost use Rattle.report_dump.specs.Content.{Begins};
+ghost use Rattle.report_dump.specs.Shown.{Shows};
 ghost use Rattle.drm_inspect.specs.Show.{ShowRun};
 
 use drm_capture::{Packet, Packets, read_one_way};
 use drm_faults::Fault;
 use drm_links::{Sink, Source, write_all};
-use packet_lines::{ShowFault, one_text, write_end_packets, write_packet};
+use report_dump::{ShowFault, one_text, write_end_packets, write_packet};
 use std::alloc::Global;
 use text_output::Lines;
 

@@ -2,7 +2,7 @@
 #![tactic(auto)]
 
 pub use drm_capture::{CaptureFault, CaptureField, Packet, Walker};
-pub use packet_lines::{ShowFault, write_packet};
+pub use report_dump::{ShowFault, write_packet};
 pub use report_text::{
     EndWord, Piece, Sums, write_end, write_fac, write_feed, write_pieces, write_refused, write_step,
 };

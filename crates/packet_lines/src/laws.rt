@@ -1,8 +1,0 @@
-//! Laws of what is printed.
-
-ghost use Rattle.packet_lines.specs.Laws.{HasOneText};
-
-/// A packet has one text.
-pub fn one_text()
-    ensures { HasOneText }
-{}
