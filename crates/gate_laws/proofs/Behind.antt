@@ -12,7 +12,7 @@ use Rattle.mod_delivery.specs.Laws.{Delivering}
 use Rattle.mod_delivery.specs.Sent.{Arrival, OfSchedule, Stray, AreSent, IsSent, IsArrival, IsFollowed, pairs_in, shape_at, frame_of_number}
 use Rattle.mod_delivery.specs.Given.{IsServed, IsServedWhere, IsItemBy, IsAFrame}
 use Rattle.mod_delivery.proofs.Numbering.{frame_is}
-use Rattle.frame_lines.specs.Laws.{ServedLines}
+use Rattle.law_frame_lines.specs.Laws.{ServedLines}
 use Rattle.convert_laws.specs.Laws.{under}
 use Rattle.convert_laws.proofs.OtherCarry.{frame_under}
 use Rattle.drm_gate.specs.Passing.{sent_of}

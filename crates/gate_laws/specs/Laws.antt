@@ -20,7 +20,7 @@ use Rattle.mod_delivery.specs.Sent as schedules
 use Rattle.mod_delivery.specs.Sent.{Arrival, IsStray, IsArrival, AreFar, pairs_in, IsFollowed, shape_at, frame_of_number}
 use Rattle.mod_delivery.specs.Given.{IsServed, IsAFrame}
 use Rattle.report_text.specs.Report.{item_line}
-use Rattle.frame_lines.specs.Line.{IsFrameLine}
+use Rattle.law_frame_lines.specs.Line.{IsFrameLine}
 use Rattle.recv_reading.specs.declared.options.ReceiveOptions.{ReceiveOptions}
 use Rattle.convert_laws.specs.Laws.{under}
 use Rattle.drm_gate.specs.Passing.{Fate, sent_of}

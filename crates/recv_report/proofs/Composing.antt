@@ -26,7 +26,7 @@ use Rattle.drm_links.specs.Hearing.{AreNext, HeardTold, Heard}
 use Rattle.recv_reading.specs.Ending.{Holds}
 use Rattle.report_text.specs.Reports.{is_given, refusals_from, report, is_clean}
 use Rattle.recv_report.specs.Received.{IsReport, Reported}
-use Rattle.frame_lines.specs.Laws.{ServedLines}
+use Rattle.law_frame_lines.specs.Laws.{ServedLines}
 use Rattle.recv_report.specs.Headline.{strays_from, TellsSwitches, GivesInTime, HeadlineOf, untold, WouldBeRead, ModulatesAll, Came, CompleteOf, Headline, Complete, PrintsFrames}
 use Rattle.recv_report.specs.Following.{HeadlinesFollow, CompletesFollow}
 use Rattle.recv_reading.proofs.Reaching.{one_way}

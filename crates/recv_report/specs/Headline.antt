@@ -12,7 +12,7 @@ use Rattle.mod_feed.specs.Feeding.{FeedStep, told_before}
 use Rattle.drm_timeline.specs.Numbers.{frame_count}
 use Rattle.mod_delivery.specs.Sent.{Arrival, OfSchedule, Stray, pairs_in, IsFollowed, IsInTime}
 use Rattle.mod_delivery.specs.Given.{IsServed, AreGiven, IsStart, AreAllServed, AreAllFrames}
-use Rattle.frame_lines.specs.Line.{IsFrameLine}
+use Rattle.law_frame_lines.specs.Line.{IsFrameLine}
 use Rattle.report_text.specs.Report.{item_line}
 use Rattle.recv_reading.specs.declared.reason.EndWord.{EndWord}
 use Rattle.report_text.specs.declared.counts.Refusal.{Refusal}

@@ -1,10 +1,10 @@
 //! What the laws of deliveries say of reports.
 
 ghost use Rattle.mod_delivery.specs.Laws.{Delivering, DeliveringEarly, StraysRefused, GivenInTime, SwitchesAtStarts, AllSwitches, AllFrames};
-ghost use Rattle.frame_lines.specs.Laws.{ServedLines};
+ghost use Rattle.law_frame_lines.specs.Laws.{ServedLines};
 ghost use Rattle.recv_report.specs.Following.{HeadlinesFollow, CompletesFollow, NoneBreaksOff};
 
-use frame_lines::served_frames_are_printed;
+use law_frame_lines::served_frames_are_printed;
 use mod_delivery::{
     all_frames_are_given, all_frames_are_given_at_once, all_switches_are_told,
     frames_in_time_are_given, modulators_give, modulators_give_early, strays_are_refused,

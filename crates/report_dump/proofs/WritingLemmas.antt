@@ -32,13 +32,13 @@ last_written whole s a b c (Err fault) first still second =
     still refl second
 
 -- the lines of a frame, one after another
-pub frame_lines : (frame : Frame) (block : Option Block) → mdi_line frame ++ (fac_text frame.fac ++ (mux_line frame.mux ++ block_text block)) ≡ frame_text frame block
+pub law_frame_lines : (frame : Frame) (block : Option Block) → mdi_line frame ++ (fac_text frame.fac ++ (mux_line frame.mux ++ block_text block)) ≡ frame_text frame block
 unfolding frame_text
-frame_lines frame block = refl
+law_frame_lines frame block = refl
 
 pub as_frame : {E : Type 0} (frame : Frame) (block : Option Block) (a b : Known Output) (r : Result (Unit {0}) E)
     → Writes r a b (mdi_line frame ++ (fac_text frame.fac ++ (mux_line frame.mux ++ block_text block))) → Writes r a b (frame_text frame block)
-as_frame frame block a b r writes = subst (λ l. Writes r a b l) (frame_lines frame block) writes
+as_frame frame block a b r writes = subst (λ l. Writes r a b l) (law_frame_lines frame block) writes
 
 -- a packet's own line, and those of its items
 pub front_lines : (at : ℕ) (p : AfPacket) (items : List TagItem) → af_line at p ++ items_text items ≡ front_text at p items

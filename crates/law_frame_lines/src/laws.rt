@@ -1,6 +1,6 @@
 //! Laws of the printed lines of a schedule's frames, each on a function that does nothing.
 
-ghost use Rattle.frame_lines.specs.Laws.{ServedLines, HasOneLine};
+ghost use Rattle.law_frame_lines.specs.Laws.{ServedLines, HasOneLine};
 
 /// Where an item is a frame of a schedule, the line that is printed of it is that frame's.
 pub fn served_frames_are_printed()

@@ -4,7 +4,7 @@ use Rattle.drm_schedule.specs.declared.plan.Plan.{Plan}
 use Rattle.mod_feed.specs.Items.{Item}
 use Rattle.mod_delivery.specs.Given.{IsServed}
 use Rattle.report_text.specs.Report.{item_line}
-use Rattle.frame_lines.specs.Line.{IsFrameLine}
+use Rattle.law_frame_lines.specs.Line.{IsFrameLine}
 
 -- Where an item is frame t of the schedule, what is printed of it is the line of that frame.
 abbrev pub ServedLines : Type 0

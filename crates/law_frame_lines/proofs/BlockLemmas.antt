@@ -11,7 +11,7 @@ use Rattle.mdi_items.specs.RoundTrip.{BlockBytes, IsBlockOf}
 use Rattle.report_text.specs.HexBits.{hex_of_bits}
 use Rattle.report_text.specs.FrameLine.{front_bits, block_text}
 use Rattle.drm_server.specs.Frames.{HasBlockWhere}
-use Rattle.frame_lines.specs.Line.{block_digits}
+use Rattle.law_frame_lines.specs.Line.{block_digits}
 
 -- the first bits of bytes are those of as many bytes as they need
 first_bits : (n : ℕ) (bytes : List ℕ) → take n (bits_of (take (bytes_for n) bytes)) ≡ take n (bits_of bytes)

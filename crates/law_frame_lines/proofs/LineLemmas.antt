@@ -24,9 +24,9 @@ use Rattle.drm_server.proofs.MultiplexLemmas.{of_parts}
 use Rattle.drm_server.proofs.OnePacket.{one_frame}
 use Rattle.report_text.specs.FrameLine.{block_text, description_text, bytes_text, frame_bytes, frame_line}
 use Rattle.report_text.specs.Report.{item_line}
-use Rattle.frame_lines.specs.Line.{block_digits, line_of, IsFrameLine}
-use Rattle.frame_lines.proofs.StreamLemmas.{same_multiplex, length-pieces, piece_at}
-use Rattle.frame_lines.proofs.BlockLemmas.{block_read}
+use Rattle.law_frame_lines.specs.Line.{block_digits, line_of, IsFrameLine}
+use Rattle.law_frame_lines.proofs.StreamLemmas.{same_multiplex, length-pieces, piece_at}
+use Rattle.law_frame_lines.proofs.BlockLemmas.{block_read}
 
 -- a line of its words
 words : ℕ → ℕ → Mode → List ℕ → List ℕ → List ℕ → List ℕ → List ℕ

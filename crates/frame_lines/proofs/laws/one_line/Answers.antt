@@ -1,5 +1,0 @@
-use Rattle.frame_lines.proofs.LineLemmas.{has_one_line}
-use Rattle.frame_lines.proofs.laws.one_line.Goals as goal
-
-pub returns : goal.returns
-returns c = has_one_line
