@@ -11,8 +11,8 @@ use Rattle.collect_laws.specs.Laws.{GivingEnds, OneReading, Refusing, OneRun, St
 use Rattle.drm_schedule.specs.declared.plan.Plan.{Plan}
 use Rattle.drm_timeline.specs.Numbers.{frame_count}
 use Rattle.drm_server.specs.Datagrams.{AreOfFrames}
-use Rattle.mod_delivery.specs.Laws.{AllAtOnce}
-use Rattle.mod_delivery.specs.Sent.{Arrival}
+use Rattle.law_delivery.specs.Laws.{AllAtOnce}
+use Rattle.law_delivery.specs.Sent.{Arrival}
 use Rattle.recv_reading.specs.State.{is_full}
 use Rattle.recv_reading.specs.First.{first_of}
 use Rattle.drm_convert.specs.Converting.{Part, ConvertsAll, text_of, lines_of}

@@ -18,13 +18,13 @@ use Rattle.drm_schedule.specs.declared.plan.Plan.{Plan}
 use Rattle.drm_schedule.specs.Valid.{IsSchedule}
 use Rattle.drm_timeline.specs.Numbers.{frame_count}
 use Rattle.drm_server.specs.Frames.{IsPacketAt}
-use Rattle.mod_delivery.specs.Laws.{AllAtOnce}
-use Rattle.mod_delivery.specs.Sent.{Arrival, shape_at, pairs_in, AreSent, IsInTime}
-use Rattle.mod_delivery.proofs.Delivered.{none_got}
-use Rattle.mod_delivery.proofs.Lengths.{packet_long}
-use Rattle.mod_delivery.proofs.Needed.{some_got}
-use Rattle.mod_delivery.proofs.Numbering.{frame_is}
-use Rattle.mod_delivery.proofs.Packets.{IsChosen, ArePackets, all_sent}
+use Rattle.law_delivery.specs.Laws.{AllAtOnce}
+use Rattle.law_delivery.specs.Sent.{Arrival, shape_at, pairs_in, AreSent, IsInTime}
+use Rattle.law_delivery.proofs.Delivered.{none_got}
+use Rattle.law_delivery.proofs.Lengths.{packet_long}
+use Rattle.law_delivery.proofs.Needed.{some_got}
+use Rattle.law_delivery.proofs.Numbering.{frame_is}
+use Rattle.law_delivery.proofs.Packets.{IsChosen, ArePackets, all_sent}
 use Rattle.convert_laws.specs.Laws.{AllInTime, MayBeTold}
 use Rattle.convert_laws.proofs.Hearing.{Hears, hears}
 use Rattle.convert_laws.proofs.Packets.{IsPacketOf, AreFrom, from_each}

@@ -21,9 +21,9 @@ use Rattle.collect_laws.proofs.Sent.{BringsPair}
 use Rattle.collect_laws.proofs.Stays.{first_stays}
 use Rattle.drm_schedule.specs.declared.plan.Plan.{Plan}
 use Rattle.drm_schedule.specs.Valid.{IsSchedule}
-use Rattle.mod_delivery.specs.Laws.{AllAtOnce}
-use Rattle.mod_delivery.specs.Sent.{Arrival, OfSchedule, Stray, IsStray, IsArrival, IsFarIfSo, AreFar, pairs_in, IsFollowed}
-use Rattle.mod_delivery.proofs.Following.{brings_of}
+use Rattle.law_delivery.specs.Laws.{AllAtOnce}
+use Rattle.law_delivery.specs.Sent.{Arrival, OfSchedule, Stray, IsStray, IsArrival, IsFarIfSo, AreFar, pairs_in, IsFollowed}
+use Rattle.law_delivery.proofs.Following.{brings_of}
 use Rattle.recv_reading.proofs.Ways.{gives_first}
 use Rattle.convert_laws.specs.Laws.{IsFirstOf, KnowsFirst, FirstIsKnown, FirstOfAll}
 use Rattle.convert_laws.proofs.Fronts.{front_followed}

@@ -3,9 +3,9 @@ use Rattle.std.proofs.Common.{ℕ, zero, suc, List, [], ◌∷◌, ◌++◌, len
 use Rattle.std.specs.Prelude.{ℤ, pos}
 use Rattle.collect_laws.specs.Delivery.{number, newer_number, IsWithinSpan, IsBase}
 use Rattle.drm_schedule.specs.declared.plan.Plan.{Plan}
-use Rattle.mod_delivery.specs.Sent.{Arrival, OfSchedule, Stray, pairs_in, IsFollowed}
-use Rattle.mod_delivery.proofs.Following.{far_front}
-use Rattle.mod_delivery.proofs.Strays.{front_arrives}
+use Rattle.law_delivery.specs.Sent.{Arrival, OfSchedule, Stray, pairs_in, IsFollowed}
+use Rattle.law_delivery.proofs.Following.{far_front}
+use Rattle.law_delivery.proofs.Strays.{front_arrives}
 
 front_spans : (reach : ℕ) (arrivals : List Arrival) (n : ℕ) (base : ℤ) (newest : Option ℕ) → IsWithinSpan reach base newest (pairs_in arrivals) → IsWithinSpan reach base newest (pairs_in (take n arrivals))
 front_spans reach [] zero base newest span = tt

@@ -19,9 +19,9 @@ use Rattle.drm_server.specs.Datagrams.{HasDatagrams, AreOfFrames}
 use Rattle.drm_server.specs.Capture.{IsFrontOfCapture}
 use Rattle.drm_server.proofs.CaptureLemmas.{one_or_more}
 use Rattle.drm_server.proofs.OnePacket.{one_packet}
-use Rattle.mod_delivery.specs.Sent.{Arrival, IsFollowed}
-use Rattle.mod_delivery.proofs.Configurations.{size_fits}
-use Rattle.mod_delivery.proofs.Lengths.{packet_long}
+use Rattle.law_delivery.specs.Sent.{Arrival, IsFollowed}
+use Rattle.law_delivery.proofs.Configurations.{size_fits}
+use Rattle.law_delivery.proofs.Lengths.{packet_long}
 use Rattle.recv_reading.specs.Packets.{ComesAt, ComesTo, Terms}
 use Rattle.recv_reading.specs.State.{is_full}
 use Rattle.recv_reading.specs.First.{first_of}

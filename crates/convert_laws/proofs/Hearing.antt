@@ -8,10 +8,10 @@ use Rattle.collect_laws.specs.Delivery.{AreSent as AllSent, items}
 use Rattle.collect_laws.specs.Laws.{IsHeard, Collecting, IsFit, GivingEnds}
 use Rattle.drm_schedule.specs.declared.plan.Plan.{Plan}
 use Rattle.drm_schedule.specs.Valid.{IsSchedule}
-use Rattle.mod_delivery.specs.Sent.{Arrival, pairs_in, AreSent, IsFollowed}
-use Rattle.mod_delivery.proofs.Early.{GoesOn, goes_on, all_brought_of}
-use Rattle.mod_delivery.proofs.Packets.{ArePackets, some_packets, all_sent, delivered}
-use Rattle.mod_delivery.proofs.Strays.{others_of, with_strays, stands_new}
+use Rattle.law_delivery.specs.Sent.{Arrival, pairs_in, AreSent, IsFollowed}
+use Rattle.law_delivery.proofs.Early.{GoesOn, goes_on, all_brought_of}
+use Rattle.law_delivery.proofs.Packets.{ArePackets, some_packets, all_sent, delivered}
+use Rattle.law_delivery.proofs.Strays.{others_of, with_strays, stands_new}
 
 -- The datagrams of the delivery that aren't strays, and the packets that were sent; steps over those datagrams, and over all
 -- of them, which come to the same; and what is given with the end.

@@ -20,9 +20,9 @@ use Rattle.collect_laws.specs.Laws.{Collecting, GivingEnds, StepsCount}
 use Rattle.drm_schedule.specs.declared.plan.Plan.{Plan}
 use Rattle.drm_schedule.specs.Valid.{IsSchedule}
 use Rattle.drm_timeline.specs.Numbers.{frame_count}
-use Rattle.mod_delivery.specs.Sent.{pairs_in}
-use Rattle.mod_delivery.proofs.Lengths.{af_long, packet_long}
-use Rattle.mod_delivery.proofs.Packets.{at_number, IsChosen, ArePackets, filler, filler_af, filler_is, chosen_at}
+use Rattle.law_delivery.specs.Sent.{pairs_in}
+use Rattle.law_delivery.proofs.Lengths.{af_long, packet_long}
+use Rattle.law_delivery.proofs.Packets.{at_number, IsChosen, ArePackets, filler, filler_af, filler_is, chosen_at}
 use Rattle.dcp_sender.specs.Carried.{is_too_long}
 use Rattle.drm_convert.specs.Converting.{IsTooLarge}
 use Rattle.recv_reading.specs.Packets.{ComesAt, ComesTo, Terms}

@@ -11,8 +11,8 @@ use Rattle.drm_schedule.specs.Valid.{IsSchedule}
 use Rattle.mod_feed.specs.Feeding.{Feeds}
 use Rattle.drm_reconfiguration.specs.Tracker.{new_tracker}
 use Rattle.drm_timeline.specs.Numbers.{frame_count}
-use Rattle.mod_delivery.specs.Sent.{AreSent, Arrival, OfSchedule, pairs_in, IsFollowed, IsInTime}
-use Rattle.mod_delivery.specs.Given.{AreGiven}
+use Rattle.law_delivery.specs.Sent.{AreSent, Arrival, OfSchedule, pairs_in, IsFollowed, IsInTime}
+use Rattle.law_delivery.specs.Given.{AreGiven}
 use Rattle.recv_reading.specs.declared.reason.EndWord.{EndWord}
 use Rattle.recv_reading.specs.declared.reason.EndWord.TheVariants as word
 use Rattle.drm_links.specs.Hearing.{AreNext}

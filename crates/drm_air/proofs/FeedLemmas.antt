@@ -4,7 +4,7 @@ use Rattle.std.proofs.lemmas.List.{take_more}
 use Rattle.drm_links.specs.MemoryLink.{LinkState}
 use Rattle.drm_schedule.specs.declared.plan.Plan.{Plan}
 use Rattle.plan_script.specs.declared.delivery.Delivery.{Delivery}
-use Rattle.mod_delivery.specs.Sent.{IsSent, AreSent}
+use Rattle.law_delivery.specs.Sent.{IsSent, AreSent}
 use Rattle.drm_air.specs.Air.{pairs_of}
 
 -- a new link to which these were brought

@@ -9,7 +9,7 @@ use Rattle.drm_links.specs.Shelf.{Files, Supplies}
 use Rattle.drm_links.specs.Link.{Datagram}
 use Rattle.drm_links.specs.Sink.{Output}
 use Rattle.drm_timeline.specs.Numbers.{frame_count}
-use Rattle.mod_delivery.specs.Sent.{AreSent, Arrival, OfSchedule, IsFollowed, IsInTime}
+use Rattle.law_delivery.specs.Sent.{AreSent, Arrival, OfSchedule, IsFollowed, IsInTime}
 use Rattle.recv_reading.specs.declared.options.ReceiveOptions.{ReceiveOptions}
 use Rattle.recv_report.specs.Headline.{Modulates, ModulatesAll}
 use Rattle.drm_receive.specs.Receive.{WritesReports, WroteReports}

@@ -5,7 +5,7 @@ use Rattle.plan_script.specs.declared.delivery.Delivery.{Delivery}
 use Rattle.drm_links.specs.Link.{Datagram}
 use Rattle.drm_links.specs.Dock.{first_traffic}
 use Rattle.drm_links.specs.MemoryLink.{LinkState, link_known}
-use Rattle.mod_delivery.specs.Sent.{AreSent}
+use Rattle.law_delivery.specs.Sent.{AreSent}
 use Rattle.recv_report.specs.declared.job.Job.{Job}
 use Rattle.drm_air.specs.Air.{pairs_of}
 

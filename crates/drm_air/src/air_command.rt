@@ -2,7 +2,7 @@
 
 ghost use Rattle.std.specs.Prelude.{ℕ, ◌≡◌, ◌<◌, ◌≤◌, ◌⊎◌, ◌++◌, [], ◌∷◌, List, length, vec_len, All, IfOk, OnOk, Err};
 ghost use Rattle.drm_links.specs.Told.{HasCause};
-ghost use Rattle.mod_delivery.specs.Sent.{IsSent};
+ghost use Rattle.law_delivery.specs.Sent.{IsSent};
 ghost use Rattle.plan_script.specs.Script.{IsDelivery, fragment_count};
 ghost use Rattle.drm_timeline.specs.Numbers as numbers;
 ghost use Rattle.drm_server.specs.Datagrams.{HasDatagrams};

@@ -8,10 +8,10 @@ use Rattle.collect_laws.specs.Delivery.{got}
 use Rattle.drm_schedule.specs.declared.plan.Plan.{Plan}
 use Rattle.drm_schedule.specs.Valid.{IsSchedule}
 use Rattle.mod_feed.specs.Items.{Item}
-use Rattle.mod_delivery.specs.Laws.{Delivering}
-use Rattle.mod_delivery.specs.Sent.{Arrival, OfSchedule, Stray, AreSent, IsSent, IsArrival, IsFollowed, pairs_in, shape_at, frame_of_number}
-use Rattle.mod_delivery.specs.Given.{IsServed, IsServedWhere, IsItemBy, IsAFrame}
-use Rattle.mod_delivery.proofs.Numbering.{frame_is}
+use Rattle.law_delivery.specs.Laws.{Delivering}
+use Rattle.law_delivery.specs.Sent.{Arrival, OfSchedule, Stray, AreSent, IsSent, IsArrival, IsFollowed, pairs_in, shape_at, frame_of_number}
+use Rattle.law_delivery.specs.Given.{IsServed, IsServedWhere, IsItemBy, IsAFrame}
+use Rattle.law_delivery.proofs.Numbering.{frame_is}
 use Rattle.law_frame_lines.specs.Laws.{ServedLines}
 use Rattle.convert_laws.specs.Laws.{under}
 use Rattle.convert_laws.proofs.OtherCarry.{frame_under}

@@ -18,7 +18,7 @@ use Rattle.collect_laws.proofs.Brought.{all_brought}
 use Rattle.collect_laws.proofs.SentCuts.{packet_long}
 use Rattle.dcp_sender.specs.Packets.{IsAny, sequence_of}
 use Rattle.recv_reading.specs.First.{first_of}
-use Rattle.mod_delivery.proofs.Needed.{needed_of}
+use Rattle.law_delivery.proofs.Needed.{needed_of}
 use Rattle.dcp_sender.specs.OverLinks.{is_large}
 use Rattle.drm_gate.specs.Passing.{Fate, Sent, Bad, Large, Missing, Becomes, BecomeAll, datagrams_of, sent_of}
 use Rattle.gate_laws.specs.Laws.{pairs_at, place_of, pairs_of, AreWithin, PassesDeliveries}

@@ -22,13 +22,13 @@ use Rattle.drm_timeline.specs.Numbers.{frame_count, packet_size, sequence_number
 use Rattle.drm_server.specs.Frames.{IsPacketAt}
 use Rattle.dcp_sender.specs.Packets.{sequence_of}
 use Rattle.recv_reading.specs.First.{first_of}
-use Rattle.mod_delivery.specs.Sent.{IsSent, pairs_in, shape_at, frame_at}
-use Rattle.mod_delivery.proofs.Configurations.{size_fits}
-use Rattle.mod_delivery.proofs.Delivered.{none_got}
-use Rattle.mod_delivery.proofs.Lengths.{af_long, packet_long}
-use Rattle.mod_delivery.proofs.Needed.{needed_of, some_needed}
-use Rattle.mod_delivery.proofs.Numbering.{frame_within}
-use Rattle.mod_delivery.proofs.Packets.{IsChosen, ArePackets, delivered, filler, filler_af, filler_is}
+use Rattle.law_delivery.specs.Sent.{IsSent, pairs_in, shape_at, frame_at}
+use Rattle.law_delivery.proofs.Configurations.{size_fits}
+use Rattle.law_delivery.proofs.Delivered.{none_got}
+use Rattle.law_delivery.proofs.Lengths.{af_long, packet_long}
+use Rattle.law_delivery.proofs.Needed.{needed_of, some_needed}
+use Rattle.law_delivery.proofs.Numbering.{frame_within}
+use Rattle.law_delivery.proofs.Packets.{IsChosen, ArePackets, delivered, filler, filler_af, filler_is}
 use Rattle.convert_laws.specs.Laws.{under}
 use Rattle.convert_laws.proofs.Hearing.{Hears, hears}
 use Rattle.convert_laws.proofs.OtherCarry.{packet_under}

@@ -16,9 +16,9 @@ use Rattle.drm_schedule.specs.Valid.{IsSchedule}
 use Rattle.drm_reconfiguration.specs.Tracker.{TrackerState, new_tracker}
 use Rattle.drm_timeline.specs.Numbers.{packet_size}
 use Rattle.mod_feed.specs.Feeding.{FeedStep, Feeds}
-use Rattle.mod_delivery.specs.Sent as schedules
-use Rattle.mod_delivery.specs.Sent.{Arrival, IsStray, IsArrival, AreFar, pairs_in, IsFollowed, shape_at, frame_of_number}
-use Rattle.mod_delivery.specs.Given.{IsServed, IsAFrame}
+use Rattle.law_delivery.specs.Sent as schedules
+use Rattle.law_delivery.specs.Sent.{Arrival, IsStray, IsArrival, AreFar, pairs_in, IsFollowed, shape_at, frame_of_number}
+use Rattle.law_delivery.specs.Given.{IsServed, IsAFrame}
 use Rattle.report_text.specs.Report.{item_line}
 use Rattle.law_frame_lines.specs.Line.{IsFrameLine}
 use Rattle.recv_reading.specs.declared.options.ReceiveOptions.{ReceiveOptions}

@@ -4,7 +4,7 @@ ghost use Rattle.gate_laws.specs.Laws.{PassesDeliveries, PassesSchedules, ComesA
 
 use collect_laws::{collecting, giving_ends, one_reading, one_run};
 use law_frame_lines::served_frames_are_printed;
-use mod_delivery::modulators_give;
+use law_delivery::modulators_give;
 
 /// What becomes of a delivery of packets is a delivery of them under the new carry: all datagrams of exactly those that are given.
 pub fn deliveries_are_passed_on()

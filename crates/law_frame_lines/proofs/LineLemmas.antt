@@ -17,7 +17,7 @@ use Rattle.drm_schedule.specs.declared.plan.Plan.{Plan}
 use Rattle.mdi_items.specs.Frame.{Frame as MdiFrame}
 use Rattle.mdi_items.specs.RoundTrip.{Parts, IsFrameOf}
 use Rattle.mod_feed.specs.Items.{Item}
-use Rattle.mod_delivery.specs.Given.{IsServed}
+use Rattle.law_delivery.specs.Given.{IsServed}
 use Rattle.drm_schedule.specs.Contents.{stream_bytes}
 use Rattle.drm_server.specs.Frames.{IsFrameAt}
 use Rattle.drm_server.proofs.MultiplexLemmas.{of_parts}

@@ -2,7 +2,7 @@
 use Rattle.std.specs.Prelude.{ℕ, ◌≡◌, List}
 use Rattle.drm_schedule.specs.declared.plan.Plan.{Plan}
 use Rattle.mod_feed.specs.Items.{Item}
-use Rattle.mod_delivery.specs.Given.{IsServed}
+use Rattle.law_delivery.specs.Given.{IsServed}
 use Rattle.report_text.specs.Report.{item_line}
 use Rattle.law_frame_lines.specs.Line.{IsFrameLine}
 

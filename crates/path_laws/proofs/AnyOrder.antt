@@ -7,7 +7,7 @@ use Rattle.dcp_collect.specs.Numbers.{newer}
 use Rattle.collect_laws.specs.Delivery.{number, newer_number, IsWithinSpan}
 use Rattle.drm_schedule.specs.declared.plan.Plan.{Plan}
 use Rattle.drm_timeline.specs.Numbers.{frame_count}
-use Rattle.mod_delivery.specs.Sent.{Arrival, OfSchedule, Stray, IsArrival, pairs_in}
+use Rattle.law_delivery.specs.Sent.{Arrival, OfSchedule, Stray, IsArrival, pairs_in}
 use Rattle.path_laws.specs.Laws.{FollowedInAnyOrder}
 
 from_first : (pair : ℕ × ℕ) → number (pos 0) pair ≡ pos pair.0

@@ -3,7 +3,7 @@ use Rattle.std.proofs.Common.{ℕ, suc, ◌≡◌, ◌==◌, if◌then◌else◌
 use Rattle.std.specs.List.{AllZip}
 use Rattle.std.proofs.lemmas.Bool.Decides.{nat_tests}
 use Rattle.drm_schedule.specs.declared.plan.Plan.{Plan}
-use Rattle.mod_delivery.specs.Sent.{Arrival, IsArrival}
+use Rattle.law_delivery.specs.Sent.{Arrival, IsArrival}
 use Rattle.drm_paths.specs.Closing.{of_path}
 use Rattle.path_laws.specs.Laws.{arrivals_of, MixedPathsAreOneDelivery}
 

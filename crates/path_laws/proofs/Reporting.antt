@@ -3,9 +3,9 @@ use Rattle.std.proofs.Common.{ℕ, suc, ◌≡◌, true, ◌&&◌, List, [], ◌
 use Rattle.std.specs.Prelude.{ℤ, pos}
 use Rattle.drm_schedule.specs.declared.plan.Plan.{Plan}
 use Rattle.mod_feed.specs.Feeding.{FeedStep}
-use Rattle.mod_delivery.specs.Sent.{pairs_in}
-use Rattle.mod_delivery.specs.Given.{AreAllServed}
-use Rattle.mod_delivery.specs.Laws.{Delivering, AllFrames}
+use Rattle.law_delivery.specs.Sent.{pairs_in}
+use Rattle.law_delivery.specs.Given.{AreAllServed}
+use Rattle.law_delivery.specs.Laws.{Delivering, AllFrames}
 use Rattle.report_text.specs.Reports.{is_given, is_clean, report}
 use Rattle.recv_report.proofs.Composing.{ItemLaws, strays_noted, tells_switches, prints_frames, gives_in_time}
 use Rattle.path_book.specs.Report.{word_for}

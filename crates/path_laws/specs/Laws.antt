@@ -8,8 +8,8 @@ use Rattle.dcp_collect.specs.declared.taken.Taken.{Taken}
 use Rattle.dcp_collect.specs.State.{State, made}
 use Rattle.dcp_collect.specs.Runs.{Item, Steps}
 use Rattle.mod_feed.specs.Feeding.{FeedStep}
-use Rattle.mod_delivery.specs.Sent.{Arrival, IsArrival, AreFar, pairs_in, IsFollowed, IsInTime}
-use Rattle.mod_delivery.specs.Given.{AreGiven, AreAllServed}
+use Rattle.law_delivery.specs.Sent.{Arrival, IsArrival, AreFar, pairs_in, IsFollowed, IsInTime}
+use Rattle.law_delivery.specs.Given.{AreGiven, AreAllServed}
 use Rattle.recv_report.specs.Headline.{GivesInTime, PrintsFrames, TellsSwitches, strays}
 use Rattle.report_text.specs.Reports.{report, is_clean}
 use Rattle.path_book.specs.declared.settings.Settings.{Settings}

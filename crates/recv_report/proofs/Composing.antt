@@ -18,9 +18,9 @@ use Rattle.drm_reconfiguration.specs.Tracker.{new_tracker}
 use Rattle.mod_feed.specs.Items.{Item}
 use Rattle.mod_feed.specs.Feeding.{FeedStep, Feeds}
 use Rattle.drm_timeline.specs.Numbers.{frame_count}
-use Rattle.mod_delivery.specs.Sent.{Arrival, OfSchedule, Stray, pairs_in, IsFollowed, IsInTime}
-use Rattle.mod_delivery.specs.Given.{AreGiven, AreAllServed}
-use Rattle.mod_delivery.specs.Laws.{Suits, Delivering, DeliveringEarly, StraysRefused, GivenInTime, SwitchesAtStarts, AllSwitches, AllFrames}
+use Rattle.law_delivery.specs.Sent.{Arrival, OfSchedule, Stray, pairs_in, IsFollowed, IsInTime}
+use Rattle.law_delivery.specs.Given.{AreGiven, AreAllServed}
+use Rattle.law_delivery.specs.Laws.{Suits, Delivering, DeliveringEarly, StraysRefused, GivenInTime, SwitchesAtStarts, AllSwitches, AllFrames}
 use Rattle.recv_reading.specs.declared.reason.EndWord.TheVariants as word
 use Rattle.drm_links.specs.Hearing.{AreNext, HeardTold, Heard}
 use Rattle.recv_reading.specs.Ending.{Holds}

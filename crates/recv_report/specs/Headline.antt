@@ -10,8 +10,8 @@ use Rattle.drm_reconfiguration.specs.declared.tracker.Before.TheVariants.{Switch
 use Rattle.drm_timeline.specs.Starts.{later_starts}
 use Rattle.mod_feed.specs.Feeding.{FeedStep, told_before}
 use Rattle.drm_timeline.specs.Numbers.{frame_count}
-use Rattle.mod_delivery.specs.Sent.{Arrival, OfSchedule, Stray, pairs_in, IsFollowed, IsInTime}
-use Rattle.mod_delivery.specs.Given.{IsServed, AreGiven, IsStart, AreAllServed, AreAllFrames}
+use Rattle.law_delivery.specs.Sent.{Arrival, OfSchedule, Stray, pairs_in, IsFollowed, IsInTime}
+use Rattle.law_delivery.specs.Given.{IsServed, AreGiven, IsStart, AreAllServed, AreAllFrames}
 use Rattle.law_frame_lines.specs.Line.{IsFrameLine}
 use Rattle.report_text.specs.Report.{item_line}
 use Rattle.recv_reading.specs.declared.reason.EndWord.{EndWord}

@@ -10,11 +10,11 @@ use Rattle.drm_schedule.specs.declared.plan.Plan.{Plan}
 use Rattle.drm_timeline.specs.Numbers.{frame_count}
 use Rattle.drm_schedule.specs.Contents.{stream_bytes}
 use Rattle.collect_laws.specs.Delivery.{newest_of}
-use Rattle.mod_delivery.specs.Given.{IsServed, IsServedWhere, IsItemBy}
-use Rattle.mod_delivery.specs.Laws.{Delivering}
+use Rattle.law_delivery.specs.Given.{IsServed, IsServedWhere, IsItemBy}
+use Rattle.law_delivery.specs.Laws.{Delivering}
 use Rattle.dcp_pft.specs.Loss.{is_recoverable}
-use Rattle.mod_delivery.specs.Sent.{pairs_in, frame_of_number, shape_at}
-use Rattle.mod_delivery.proofs.Numbering.{frame_within}
+use Rattle.law_delivery.specs.Sent.{pairs_in, frame_of_number, shape_at}
+use Rattle.law_delivery.proofs.Numbering.{frame_within}
 use Rattle.drm_data.specs.Packet.{Packet}
 use Rattle.drm_data.specs.Joining.{Event, Gap, State, made, closed}
 use Rattle.data_laws.specs.Runs.{answers, cuts_in}

@@ -18,9 +18,9 @@ use Rattle.dcp_collect.specs.declared.taken.Taken.{Taken}
 use Rattle.dcp_collect.specs.Numbers.{end_of}
 use Rattle.dcp_collect.specs.Runs.{Item as Collected, Run}
 use Rattle.collect_laws.specs.Delivery.{got, newest_of}
-use Rattle.mod_delivery.specs.Given.{IsServed, IsItemBy, IsItemAt, AreGiven}
-use Rattle.mod_delivery.specs.Laws.{Delivering}
-use Rattle.mod_delivery.specs.Sent.{Arrival, pairs_in, frame_at, frame_of_number, shape_at, IsFollowed}
+use Rattle.law_delivery.specs.Given.{IsServed, IsItemBy, IsItemAt, AreGiven}
+use Rattle.law_delivery.specs.Laws.{Delivering}
+use Rattle.law_delivery.specs.Sent.{Arrival, pairs_in, frame_at, frame_of_number, shape_at, IsFollowed}
 use Rattle.mod_feed.specs.Items.{Item, Missing}
 use Rattle.mod_feed.specs.Feeding.{FeedStep}
 use Rattle.capture_data.specs.Streams.{stream_of}

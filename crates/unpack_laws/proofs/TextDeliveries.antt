@@ -16,10 +16,10 @@ use Rattle.drm_text.specs.Joining.{State, made}
 use Rattle.text_laws.specs.Readings.{Reading, IsEntry}
 use Rattle.text_laws.specs.Runs.{messages_in}
 use Rattle.text_laws.specs.Laws.{JoinsMessages}
-use Rattle.mod_delivery.specs.Given.{IsServed, IsServedWhere, IsItemBy}
-use Rattle.mod_delivery.specs.Laws.{Delivering}
-use Rattle.mod_delivery.specs.Sent.{pairs_in, frame_of_number, shape_at}
-use Rattle.mod_delivery.proofs.Numbering.{frame_within}
+use Rattle.law_delivery.specs.Given.{IsServed, IsServedWhere, IsItemBy}
+use Rattle.law_delivery.specs.Laws.{Delivering}
+use Rattle.law_delivery.specs.Sent.{pairs_in, frame_of_number, shape_at}
+use Rattle.law_delivery.proofs.Numbering.{frame_within}
 use Rattle.mod_feed.specs.Items.{Item, Frame, Missing, Bad}
 use Rattle.capture_data.specs.Streams.{TextsOf, stream_of, pieces_of, entries_of, entries_at, lacking, bad_at, missing_at, reading, bad_in, missing_in}
 use Rattle.unpack_laws.specs.Delivered.{is_given}

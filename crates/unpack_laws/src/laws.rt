@@ -4,7 +4,7 @@ ghost use Rattle.unpack_laws.specs.Delivered.{UnpacksDeliveries};
 ghost use Rattle.unpack_laws.specs.Laws.{GivesWhatFramesBring, UnpacksWhatIsWhole};
 ghost use Rattle.unpack_laws.specs.Texts.{TextsOfDeliveries};
 
-use mod_delivery::modulators_give;
+use law_delivery::modulators_give;
 use text_laws::joins_messages;
 
 /// Of the packets of units in frames, some of which are lost, a joiner gives those units of which all frames are given.

@@ -1,5 +1,5 @@
 use Rattle.std.proofs.Common.{◌≡◌, ℕ, List, take}
-use Rattle.mod_delivery.specs.Sent.{AreSent}
+use Rattle.law_delivery.specs.Sent.{AreSent}
 use Rattle.drm_air.specs.Air.{pairs_of}
 use Rattle.drm_air.proofs.FeedLemmas.{link_of}
 use Rattle.drm_air.proofs.air_command.link_for.Given as goal

@@ -1,0 +1,44 @@
+-- Deliveries without strays, and what is shown of them first.
+use Rattle.std.specs.Prelude.{ℕ, ℤ, ◌≤◌, List, ◌++◌, length, take, Option, None, Some}
+use Rattle.std.specs.List.{AllByRecursion}
+use Rattle.drm_schedule.specs.declared.plan.Plan.{Plan}
+use Rattle.drm_schedule.specs.Valid.{IsSchedule}
+use Rattle.drm_reconfiguration.specs.Tracker.{TrackerState, new_tracker}
+use Rattle.dcp_collect.specs.declared.taken.Taken.{Taken}
+use Rattle.dcp_collect.specs.State.{State, made}
+use Rattle.dcp_collect.specs.Runs.{Item as Collected, Steps, Run}
+use Rattle.collect_laws.specs.Delivery.{IsWithinSpan, IsBase}
+use Rattle.collect_laws.specs.Laws.{IsRight}
+use Rattle.mod_feed.specs.Feeding.{FeedStep, Feeds}
+use Rattle.law_delivery.specs.Sent.{AreSent}
+use Rattle.law_delivery.specs.Given.{AreGiven}
+
+-- a delivery of pairs alone that a receiver can follow
+pub record IsPaired (plan : Plan) (reach : ℕ) (first : Option ℕ) (base : ℤ) (pairs : List (ℕ × ℕ)) (datagrams : List (List ℕ)) : Type 0 where
+  pub sent : AreSent plan pairs datagrams
+  pub based : IsBase plan.seq first pairs base
+  pub within_span : IsWithinSpan reach base None pairs
+
+abbrev pub DeliveringPairs : Type 0
+DeliveringPairs =
+    (plan : Plan) (window reach : ℕ) (first told : Option ℕ) (base : ℤ) (pairs : List (ℕ × ℕ)) (datagrams : List (List ℕ))
+    (answers : List Taken) (collected : List Collected) (steps : List FeedStep) (after : TrackerState)
+    → IsSchedule plan → 1 ≤ window → IsPaired plan reach first base pairs datagrams
+    → Run window reach first told datagrams answers collected → Feeds new_tracker collected steps after
+    → AreGiven plan window base told pairs steps × AllByRecursion IsRight answers
+
+abbrev pub PairsEarly : Type 0
+PairsEarly =
+    (plan : Plan) (window reach n : ℕ) (first : Option ℕ) (base : ℤ) (pairs : List (ℕ × ℕ)) (datagrams later : List (List ℕ))
+    (answers : List Taken) (collected : List Collected) (mid : State) (steps : List FeedStep) (after : TrackerState)
+    → IsSchedule plan → 1 ≤ window → IsPaired plan reach first base pairs (datagrams ++ later)
+    → Steps (made window reach first) datagrams answers collected mid → n ≤ length collected
+    → Feeds new_tracker (take n collected) steps after
+    → AreGiven plan window base (Some n) pairs steps
+
+abbrev pub PairsRight : Type 0
+PairsRight =
+    (plan : Plan) (window reach : ℕ) (first : Option ℕ) (base : ℤ) (pairs : List (ℕ × ℕ)) (datagrams later : List (List ℕ))
+    (answers : List Taken) (collected : List Collected) (mid : State)
+    → IsSchedule plan → 1 ≤ window → IsPaired plan reach first base pairs (datagrams ++ later)
+    → Steps (made window reach first) datagrams answers collected mid → AllByRecursion IsRight answers

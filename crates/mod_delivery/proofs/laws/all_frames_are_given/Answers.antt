@@ -1,5 +1,0 @@
-use Rattle.mod_delivery.proofs.AllGiven.{all_frames}
-use Rattle.mod_delivery.proofs.laws.all_frames_are_given.Goals as goal
-
-pub returns : goal.returns
-returns c = all_frames

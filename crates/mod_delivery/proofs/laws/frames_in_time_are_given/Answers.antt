@@ -1,5 +1,0 @@
-use Rattle.mod_delivery.proofs.InTime.{given_in_time}
-use Rattle.mod_delivery.proofs.laws.frames_in_time_are_given.Goals as goal
-
-pub returns : goal.returns
-returns c = given_in_time

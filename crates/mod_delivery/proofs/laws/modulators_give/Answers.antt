@@ -1,6 +1,0 @@
-use Rattle.mod_delivery.proofs.Delivered.{delivering as delivering_pairs}
-use Rattle.mod_delivery.proofs.Strays.{delivering}
-use Rattle.mod_delivery.proofs.laws.modulators_give.Goals as goal
-
-pub returns : goal.returns
-returns c = delivering c.refusing.ensures (delivering_pairs c.collecting.ensures c.the_feed_tells_the_switches.ensures)

@@ -1,9 +1,0 @@
-use Rattle.mod_delivery.proofs.Delivered.{delivering}
-use Rattle.mod_delivery.proofs.Early.{pairs_early}
-use Rattle.mod_delivery.proofs.Strays.{delivering_early}
-use Rattle.mod_delivery.proofs.laws.modulators_give_early.Goals as goal
-
-pub returns : goal.returns
-returns c =
-    delivering_early c.refusing.ensures
-    (pairs_early (delivering c.collecting.ensures c.the_feed_tells_the_switches.ensures) c.one_reading.ensures c.steps_join.ensures c.giving_ends.ensures)
