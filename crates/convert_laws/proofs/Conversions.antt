@@ -7,7 +7,7 @@ use Rattle.dcp_pft.specs.declared.carry.Carry.{Carry}
 use Rattle.dcp_collect.specs.declared.taken.Taken.{Taken}
 use Rattle.dcp_collect.specs.State.{State, made, after_finish}
 use Rattle.dcp_collect.specs.Runs.{Item, Gives, Steps, Run, up_to}
-use Rattle.collect_laws.specs.Laws.{GivingEnds, OneReading, Refusing, OneRun, StepsPart}
+use Rattle.law_collect.specs.Laws.{GivingEnds, OneReading, Refusing, OneRun, StepsPart}
 use Rattle.drm_schedule.specs.declared.plan.Plan.{Plan}
 use Rattle.drm_timeline.specs.Numbers.{frame_count}
 use Rattle.drm_server.specs.Datagrams.{AreOfFrames}

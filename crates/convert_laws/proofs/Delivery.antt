@@ -12,8 +12,8 @@ use Rattle.dcp_collect.specs.declared.taken.Taken.{Taken}
 use Rattle.dcp_collect.specs.Numbers.{newer, end_of}
 use Rattle.dcp_collect.specs.State.{State, made, after_finish}
 use Rattle.dcp_collect.specs.Runs.{Item, Gives, Steps, up_to}
-use Rattle.collect_laws.specs.Delivery.{number, newer_number, newest_of, packet_at, got, item, items}
-use Rattle.collect_laws.specs.Laws.{Collecting, InTime, IsFit, GivingEnds, OneRun}
+use Rattle.law_collect.specs.Delivery.{number, newer_number, newest_of, packet_at, got, item, items}
+use Rattle.law_collect.specs.Laws.{Collecting, InTime, IsFit, GivingEnds, OneRun}
 use Rattle.drm_schedule.specs.declared.plan.Plan.{Plan}
 use Rattle.drm_schedule.specs.Valid.{IsSchedule}
 use Rattle.drm_timeline.specs.Numbers.{frame_count}

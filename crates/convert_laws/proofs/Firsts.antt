@@ -13,12 +13,12 @@ use Rattle.dcp_collect.specs.declared.taken.Taken.TheVariants.{Kept}
 use Rattle.dcp_collect.specs.Reading.{Incoming, Read, Unread, Brings}
 use Rattle.dcp_collect.specs.State.{State, made, ready, number_of, answer, answer_at, after_answer, after_take}
 use Rattle.dcp_collect.specs.Runs.{Item, Takes, Gives, Steps}
-use Rattle.collect_laws.specs.Delivery.{sequence_at, IsBase}
-use Rattle.collect_laws.specs.Laws.{OneReading, HasCause, Refusing, OneRun}
-use Rattle.collect_laws.proofs.Based.{kept_first}
-use Rattle.collect_laws.proofs.Numbers.{nearest_is}
-use Rattle.collect_laws.proofs.Sent.{BringsPair}
-use Rattle.collect_laws.proofs.Stays.{first_stays}
+use Rattle.law_collect.specs.Delivery.{sequence_at, IsBase}
+use Rattle.law_collect.specs.Laws.{OneReading, HasCause, Refusing, OneRun}
+use Rattle.law_collect.proofs.Based.{kept_first}
+use Rattle.law_collect.proofs.Numbers.{nearest_is}
+use Rattle.law_collect.proofs.Sent.{BringsPair}
+use Rattle.law_collect.proofs.Stays.{first_stays}
 use Rattle.drm_schedule.specs.declared.plan.Plan.{Plan}
 use Rattle.drm_schedule.specs.Valid.{IsSchedule}
 use Rattle.law_delivery.specs.Laws.{AllAtOnce}

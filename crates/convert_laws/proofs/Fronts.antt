@@ -1,7 +1,7 @@
 -- A front of a delivery that a receiver can follow is one.
 use Rattle.std.proofs.Common.{ℕ, zero, suc, List, [], ◌∷◌, ◌++◌, length, take, Option, None, Some, refl}
 use Rattle.std.specs.Prelude.{ℤ, pos}
-use Rattle.collect_laws.specs.Delivery.{number, newer_number, IsWithinSpan, IsBase}
+use Rattle.law_collect.specs.Delivery.{number, newer_number, IsWithinSpan, IsBase}
 use Rattle.drm_schedule.specs.declared.plan.Plan.{Plan}
 use Rattle.law_delivery.specs.Sent.{Arrival, OfSchedule, Stray, pairs_in, IsFollowed}
 use Rattle.law_delivery.proofs.Following.{far_front}

@@ -10,7 +10,7 @@ use Rattle.dcp_pft.proofs.Sizes.{some_fragments}
 use Rattle.dcp_collect.specs.declared.taken.Taken.{Taken}
 use Rattle.dcp_collect.specs.State.{State, made, after_finish}
 use Rattle.dcp_collect.specs.Runs.{Item, Takes, Steps, up_to}
-use Rattle.collect_laws.specs.Laws.{GivingEnds, OneReading, Refusing, StepsPart}
+use Rattle.law_collect.specs.Laws.{GivingEnds, OneReading, Refusing, StepsPart}
 use Rattle.drm_schedule.specs.declared.plan.Plan.{Plan}
 use Rattle.drm_schedule.specs.Valid.{IsSchedule}
 use Rattle.drm_timeline.specs.Numbers.{frame_count, packet_size}

@@ -4,8 +4,8 @@ use Rattle.std.specs.Prelude.{ℤ}
 use Rattle.dcp_collect.specs.declared.taken.Taken.{Taken}
 use Rattle.dcp_collect.specs.State.{State, made, after_finish}
 use Rattle.dcp_collect.specs.Runs.{Item, Gives, Steps, Run, up_to}
-use Rattle.collect_laws.specs.Delivery.{AreSent as AllSent, items}
-use Rattle.collect_laws.specs.Laws.{IsHeard, Collecting, IsFit, GivingEnds}
+use Rattle.law_collect.specs.Delivery.{AreSent as AllSent, items}
+use Rattle.law_collect.specs.Laws.{IsHeard, Collecting, IsFit, GivingEnds}
 use Rattle.drm_schedule.specs.declared.plan.Plan.{Plan}
 use Rattle.drm_schedule.specs.Valid.{IsSchedule}
 use Rattle.law_delivery.specs.Sent.{Arrival, pairs_in, AreSent, IsFollowed}

@@ -2,7 +2,7 @@
 use Rattle.std.proofs.Common.{ℕ, zero, suc, ◌≡◌, ◌+◌, ◌<◌, List, [], ◌∷◌, ◌++◌, length, take, slice_get, Some, refl, ap, arith}
 use Rattle.dcp_collect.specs.State.{State, after_item}
 use Rattle.dcp_collect.specs.Runs.{Item}
-use Rattle.collect_laws.specs.Laws.{Given}
+use Rattle.law_collect.specs.Laws.{Given}
 
 pub at_place : {X : Type 0} (xs ys : List X) (y : X) → slice_get (xs ++ y ∷ ys) (length xs) ≡ Some y
 at_place [] ys y = refl

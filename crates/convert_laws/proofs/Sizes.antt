@@ -15,8 +15,8 @@ use Rattle.dcp_collect.specs.Numbers.{end_of}
 use Rattle.dcp_collect.specs.State.{State, made, ready, ready_by, after_finish}
 use Rattle.dcp_collect.specs.declared.taken.Taken.{Taken}
 use Rattle.dcp_collect.specs.Runs.{Item, Packet, Lost, Takes, up_to}
-use Rattle.collect_laws.specs.Delivery.{packet_at, got, newest_of, item_by, item, items}
-use Rattle.collect_laws.specs.Laws.{Collecting, GivingEnds, StepsCount}
+use Rattle.law_collect.specs.Delivery.{packet_at, got, newest_of, item_by, item, items}
+use Rattle.law_collect.specs.Laws.{Collecting, GivingEnds, StepsCount}
 use Rattle.drm_schedule.specs.declared.plan.Plan.{Plan}
 use Rattle.drm_schedule.specs.Valid.{IsSchedule}
 use Rattle.drm_timeline.specs.Numbers.{frame_count}

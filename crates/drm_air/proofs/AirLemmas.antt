@@ -11,7 +11,7 @@ use Rattle.drm_links.specs.Dock.{LinkStart}
 use Rattle.drm_links.specs.MemoryLink.{LinkState, link_known}
 use Rattle.drm_links.proofs.ToldLemmas.{counts_none, counts_then, counts_as}
 use Rattle.drm_links.proofs.Places.{index_of}
-use Rattle.collect_laws.specs.Laws.{OneRun}
+use Rattle.law_collect.specs.Laws.{OneRun}
 use Rattle.drm_schedule.specs.declared.plan.Plan.{Plan}
 use Rattle.drm_schedule.specs.Valid.{IsSchedule}
 use Rattle.plan_script.specs.declared.delivery.Delivery.{Delivery}

@@ -4,7 +4,7 @@ use Rattle.std.specs.Prelude.{ℤ, pos}
 use Rattle.std.specs.List.{AllByRecursion}
 use Rattle.std.proofs.lemmas.List.{take-append-le}
 use Rattle.drm_links.specs.Link.{Answer, Datagram, Idle, End}
-use Rattle.collect_laws.specs.Laws.{OneRun}
+use Rattle.law_collect.specs.Laws.{OneRun}
 use Rattle.dcp_collect.specs.State.{made}
 use Rattle.drm_schedule.specs.declared.plan.Plan.{Plan}
 use Rattle.drm_schedule.specs.Valid.{IsSchedule}

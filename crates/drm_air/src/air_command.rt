@@ -12,7 +12,7 @@ ghost use Rattle.drm_air.specs.Feeds.{BringsFeed, BringFeeds};
 ghost use Rattle.drm_air.specs.Air.{AirRun, AreFeeds, AreAired, air_rules};
 ghost use Rattle.drm_receive.specs.Receive.{WritesReports};
 
-use collect_laws::one_run;
+use law_collect::one_run;
 use drm_bits::NoMemory;
 use drm_faults::Fault;
 use drm_links::{MemLink, Shelf, Sink};

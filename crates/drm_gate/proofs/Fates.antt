@@ -8,7 +8,7 @@ use Rattle.dcp_pft.specs.Carrying.{Carries}
 use Rattle.dcp_pft.proofs.OneFragment.{one_datagram}
 use Rattle.dcp_af.proofs.Answered.{no_fault}
 use Rattle.dcp_collect.specs.Runs.{Item, Packet, Lost, Damaged}
-use Rattle.collect_laws.proofs.SentCuts.{packet_long}
+use Rattle.law_collect.proofs.SentCuts.{packet_long}
 use Rattle.dcp_sender.specs.Carried.{AreOf}
 use Rattle.dcp_sender.specs.Packets.{IsAny, sequence_of}
 use Rattle.dcp_sender.specs.OverLinks.{AreSome}

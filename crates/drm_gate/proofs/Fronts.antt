@@ -12,8 +12,8 @@ use Rattle.recv_reading.specs.Ending.{ComesTo}
 use Rattle.drm_links.specs.Hearing.{AreNext}
 use Rattle.recv_reading.specs.OneReading.{Ends, IsOneReading}
 use Rattle.recv_reading.specs.Packets.{terms_of, ComesAt}
-use Rattle.collect_laws.proofs.Runs.{steps_part}
-use Rattle.collect_laws.proofs.Unique.{one_giving}
+use Rattle.law_collect.proofs.Runs.{steps_part}
+use Rattle.law_collect.proofs.Unique.{one_giving}
 use Rattle.recv_reading.proofs.OneReading.{one_reading}
 use Rattle.recv_reading.proofs.First.{may_taken, first_itself, given_first}
 use Rattle.recv_reading.proofs.Reaching.{one_way}

@@ -5,7 +5,7 @@ use Rattle.dcp_pft.specs.Limits.{most_fragments}
 use Rattle.dcp_collect.specs.declared.taken.Taken.{Taken}
 use Rattle.dcp_collect.specs.State.{State, made, ready}
 use Rattle.dcp_collect.specs.Runs.{Item, IsItem, Steps, Run}
-use Rattle.collect_laws.specs.Laws.{Given}
+use Rattle.law_collect.specs.Laws.{Given}
 use Rattle.drm_links.specs.Told.{Known, HasFailed}
 use Rattle.drm_links.specs.Link.{Answer, Traffic}
 use Rattle.drm_links.specs.Transmission.{Transmits, SendsNoMore}

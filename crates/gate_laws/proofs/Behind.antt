@@ -4,7 +4,7 @@ use Rattle.std.specs.Prelude.{ℤ, pos, ◌+ℤ◌}
 use Rattle.std.specs.List.{AllZip, AllByRecursion}
 use Rattle.dcp_pft.specs.declared.carry.Carry.{Carry}
 use Rattle.dcp_pft.specs.Loss.{is_recoverable}
-use Rattle.collect_laws.specs.Delivery.{got}
+use Rattle.law_collect.specs.Delivery.{got}
 use Rattle.drm_schedule.specs.declared.plan.Plan.{Plan}
 use Rattle.drm_schedule.specs.Valid.{IsSchedule}
 use Rattle.mod_feed.specs.Items.{Item}

@@ -7,9 +7,9 @@ use Rattle.dcp_pft.specs.declared.carry.Carry.{Carry}
 use Rattle.dcp_collect.specs.declared.taken.Taken.{Taken}
 use Rattle.dcp_collect.specs.State.{State, made}
 use Rattle.dcp_collect.specs.Runs.{Item, Steps}
-use Rattle.collect_laws.specs.Delivery.{sequence_at, IsBase}
-use Rattle.collect_laws.specs.Laws.{OneReading}
-use Rattle.collect_laws.proofs.Sent.{BringsPair}
+use Rattle.law_collect.specs.Delivery.{sequence_at, IsBase}
+use Rattle.law_collect.specs.Laws.{OneReading}
+use Rattle.law_collect.proofs.Sent.{BringsPair}
 use Rattle.dcp_sender.specs.Packets.{sequence_of}
 use Rattle.recv_reading.specs.First.{first_of}
 use Rattle.recv_reading.proofs.Ways.{gives_first}

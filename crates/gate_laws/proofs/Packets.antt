@@ -12,10 +12,10 @@ use Rattle.dcp_pft.specs.Loss.{size, is_recoverable}
 use Rattle.dcp_pft.specs.Carrying.{shape_under, datagram_count, Carries}
 use Rattle.dcp_collect.specs.Runs.{Item, Packet, Lost}
 use Rattle.dcp_collect.specs.Numbers.{end_of}
-use Rattle.collect_laws.specs.Delivery.{IsPacketWith, sequence_at, AreSent, IsDatagramAt, packet_at, got, newest_of, item_by, item}
-use Rattle.collect_laws.specs.Laws.{Collecting, OneReading}
-use Rattle.collect_laws.proofs.Brought.{all_brought}
-use Rattle.collect_laws.proofs.SentCuts.{packet_long}
+use Rattle.law_collect.specs.Delivery.{IsPacketWith, sequence_at, AreSent, IsDatagramAt, packet_at, got, newest_of, item_by, item}
+use Rattle.law_collect.specs.Laws.{Collecting, OneReading}
+use Rattle.law_collect.proofs.Brought.{all_brought}
+use Rattle.law_collect.proofs.SentCuts.{packet_long}
 use Rattle.dcp_sender.specs.Packets.{IsAny, sequence_of}
 use Rattle.recv_reading.specs.First.{first_of}
 use Rattle.law_delivery.proofs.Needed.{needed_of}

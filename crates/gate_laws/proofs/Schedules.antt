@@ -13,9 +13,9 @@ use Rattle.dcp_collect.specs.State.{State, made, after_finish}
 use Rattle.dcp_collect.specs.Runs.{Item, Packet, Lost, Gives, up_to}
 use Rattle.dcp_collect.specs.Numbers.{end_of}
 use Rattle.dcp_collect.proofs.Sets.{recoverable_same}
-use Rattle.collect_laws.specs.Delivery.{packet_at, got, newest_of, item_by, item, items}
-use Rattle.collect_laws.specs.Laws.{Collecting, GivingEnds, OneReading, OneRun}
-use Rattle.collect_laws.proofs.Brought.{all_brought}
+use Rattle.law_collect.specs.Delivery.{packet_at, got, newest_of, item_by, item, items}
+use Rattle.law_collect.specs.Laws.{Collecting, GivingEnds, OneReading, OneRun}
+use Rattle.law_collect.proofs.Brought.{all_brought}
 use Rattle.drm_schedule.specs.declared.plan.Plan.{Plan}
 use Rattle.drm_schedule.specs.Valid.{IsSchedule}
 use Rattle.drm_timeline.specs.Numbers.{frame_count, packet_size, sequence_number}

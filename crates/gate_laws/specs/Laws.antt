@@ -9,8 +9,8 @@ use Rattle.dcp_collect.specs.declared.taken.Field.{Field}
 use Rattle.dcp_collect.specs.declared.taken.Taken.{Taken}
 use Rattle.dcp_collect.specs.Numbers.{end_of}
 use Rattle.dcp_collect.specs.Runs.{Item, Packet, Run}
-use Rattle.collect_laws.specs.Delivery.{AreSent, AreDelivered, items, got, newest_of, IsBase, IsWithinSpan}
-use Rattle.collect_laws.specs.Laws.{IsHeard}
+use Rattle.law_collect.specs.Delivery.{AreSent, AreDelivered, items, got, newest_of, IsBase, IsWithinSpan}
+use Rattle.law_collect.specs.Laws.{IsHeard}
 use Rattle.drm_schedule.specs.declared.plan.Plan.{Plan}
 use Rattle.drm_schedule.specs.Valid.{IsSchedule}
 use Rattle.drm_reconfiguration.specs.Tracker.{TrackerState, new_tracker}

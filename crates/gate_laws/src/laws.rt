@@ -2,7 +2,7 @@
 
 ghost use Rattle.gate_laws.specs.Laws.{PassesDeliveries, PassesSchedules, ComesAgain, ServedBehindOne, ServedBehindTwo};
 
-use collect_laws::{collecting, giving_ends, one_reading, one_run};
+use law_collect::{collecting, giving_ends, one_reading, one_run};
 use law_frame_lines::served_frames_are_printed;
 use law_delivery::modulators_give;
 

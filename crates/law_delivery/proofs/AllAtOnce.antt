@@ -9,10 +9,10 @@ use Rattle.dcp_collect.specs.declared.taken.Taken.{Taken}
 use Rattle.dcp_collect.specs.Fragments.{suffice, of_packet}
 use Rattle.dcp_collect.specs.State.{State, made, ready, ready_by, reached, after_item, after_finish}
 use Rattle.dcp_collect.specs.Runs.{Item, Packet, IsItem, Gives, Steps, Run}
-use Rattle.collect_laws.specs.Delivery.{number, is_number, is_at_least, packet_at, got, item_by, item}
-use Rattle.collect_laws.specs.Laws.{IsHeard, Collecting, GivingEnds}
-use Rattle.collect_laws.proofs.Runs.{gives_given}
-use Rattle.collect_laws.proofs.Stays.{take_end}
+use Rattle.law_collect.specs.Delivery.{number, is_number, is_at_least, packet_at, got, item_by, item}
+use Rattle.law_collect.specs.Laws.{IsHeard, Collecting, GivingEnds}
+use Rattle.law_collect.proofs.Runs.{gives_given}
+use Rattle.law_collect.proofs.Stays.{take_end}
 use Rattle.drm_schedule.specs.declared.plan.Plan.{Plan}
 use Rattle.drm_schedule.specs.Valid.{IsSchedule}
 use Rattle.drm_timeline.specs.Numbers.{frame_count}

@@ -9,8 +9,8 @@ use Rattle.drm_schedule.specs.declared.plan.Plan.{Plan}
 use Rattle.drm_schedule.specs.Valid.{IsSchedule}
 use Rattle.dcp_collect.specs.State.{reached}
 use Rattle.dcp_collect.specs.Numbers.{end_of}
-use Rattle.collect_laws.specs.Delivery.{number, is_number, is_at_least, got, newest_of}
-use Rattle.collect_laws.proofs.Got.{reached_is}
+use Rattle.law_collect.specs.Delivery.{number, is_number, is_at_least, got, newest_of}
+use Rattle.law_collect.proofs.Got.{reached_is}
 use Rattle.drm_timeline.specs.Numbers.{frame_count}
 use Rattle.std.specs.List.{AllZip}
 use Rattle.law_delivery.specs.Sent.{Arrival, OfSchedule, Stray, IsArrival, pairs_in, IsFollowed, IsInTime}

@@ -14,7 +14,7 @@ use Rattle.dcp_pft.proofs.Fragments.{with_rs, chunks_by, parities_with}
 use Rattle.dcp_pft.proofs.Written.{IsBytes-append}
 use Rattle.dcp_pft.specs.declared.carry.Carry.{Carry}
 use Rattle.dcp_pft.specs.declared.carry.Carry.TheVariants.{Plain, Pft}
-use Rattle.collect_laws.proofs.Sent.{IsPayload}
+use Rattle.law_collect.proofs.Sent.{IsPayload}
 use Rattle.drm_server.proofs.ByteLemmas.{bytes_take, bytes_drop, bytes_behind}
 
 bytes_of : (xs : List ℕ) → AreElements xs → IsBytes xs

@@ -12,8 +12,8 @@ use Rattle.dcp_collect.specs.Numbers.{end_of}
 use Rattle.dcp_pft.specs.declared.carry.Carry.{Carry}
 use Rattle.dcp_pft.specs.Carrying.{shape_under}
 use Rattle.dcp_pft.proofs.Carried.{limit_is}
-use Rattle.collect_laws.specs.Delivery.{got, number, is_number, is_at_least, packet_at, item_by, item, items, newest_of}
-use Rattle.collect_laws.specs.Laws.{IsHeard, Collecting}
+use Rattle.law_collect.specs.Delivery.{got, number, is_number, is_at_least, packet_at, item_by, item, items, newest_of}
+use Rattle.law_collect.specs.Laws.{IsHeard, Collecting}
 use Rattle.dcp_collect.proofs.Sets.{recoverable_same, size_same}
 use Rattle.drm_schedule.specs.declared.plan.Plan.{Plan}
 use Rattle.drm_schedule.specs.Valid.{IsSchedule}

@@ -12,10 +12,10 @@ use Rattle.dcp_collect.specs.Reading.{Incoming, Read, Brings, IsRead}
 use Rattle.dcp_collect.specs.State.{State, made, answer, after_take, after_finish}
 use Rattle.dcp_collect.specs.Runs.{Item as Collected, Takes, Steps, Run}
 use Rattle.dcp_pft.specs.declared.carry.Carry.{Carry}
-use Rattle.collect_laws.specs.Laws.{IsRight, OneReading, StepsJoin, IsFit, GivingEnds}
-use Rattle.collect_laws.proofs.Fit.{fit_after, fit_given}
-use Rattle.collect_laws.proofs.Sent.{BringsPair}
-use Rattle.collect_laws.proofs.Brought.{all_brought}
+use Rattle.law_collect.specs.Laws.{IsRight, OneReading, StepsJoin, IsFit, GivingEnds}
+use Rattle.law_collect.proofs.Fit.{fit_after, fit_given}
+use Rattle.law_collect.proofs.Sent.{BringsPair}
+use Rattle.law_collect.proofs.Brought.{all_brought}
 use Rattle.law_delivery.specs.Sent.{AreSent}
 use Rattle.law_delivery.proofs.Paired.{IsPaired, DeliveringPairs, PairsEarly, PairsRight}
 use Rattle.law_delivery.proofs.Bytes.{carried_bytes}

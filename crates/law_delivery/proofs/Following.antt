@@ -13,15 +13,15 @@ use Rattle.dcp_collect.specs.declared.taken.Taken.TheVariants.{Refused}
 use Rattle.dcp_collect.specs.Reading.{Unread, Brings}
 use Rattle.dcp_collect.specs.State.{State, nearest, is_above, is_far, number_of, answer, answer_within, ready}
 use Rattle.dcp_collect.specs.Runs.{Item as Collected, Takes, Gives}
-use Rattle.collect_laws.specs.Delivery.{number, newer_number, IsWithinSpan, IsBase}
-use Rattle.collect_laws.specs.Laws.{HasCause}
-use Rattle.collect_laws.proofs.Brought.{brought}
-use Rattle.collect_laws.proofs.Following.{Follows, follows_pair}
-use Rattle.collect_laws.proofs.Numbers.{nearest_is}
-use Rattle.collect_laws.proofs.OneReading.{one_reading}
-use Rattle.collect_laws.proofs.Refusals.{after_refused}
-use Rattle.collect_laws.proofs.Runs.{gives_given}
-use Rattle.collect_laws.proofs.Sent.{BringsPair}
+use Rattle.law_collect.specs.Delivery.{number, newer_number, IsWithinSpan, IsBase}
+use Rattle.law_collect.specs.Laws.{HasCause}
+use Rattle.law_collect.proofs.Brought.{brought}
+use Rattle.law_collect.proofs.Following.{Follows, follows_pair}
+use Rattle.law_collect.proofs.Numbers.{nearest_is}
+use Rattle.law_collect.proofs.OneReading.{one_reading}
+use Rattle.law_collect.proofs.Refusals.{after_refused}
+use Rattle.law_collect.proofs.Runs.{gives_given}
+use Rattle.law_collect.proofs.Sent.{BringsPair}
 use Rattle.law_delivery.specs.Sent.{Arrival, OfSchedule, Stray, IsSent, IsStray, IsFar, IsFarIfSo, AreFar, pairs_in}
 use Rattle.law_delivery.proofs.Packets.{some_packets, all_sent, delivered}
 

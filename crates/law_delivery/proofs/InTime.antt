@@ -4,7 +4,7 @@ use Rattle.std.specs.Prelude.{pos, ◌+ℤ◌}
 use Rattle.dcp_pft.specs.Loss.{size, is_recoverable}
 use Rattle.dcp_pft.proofs.Carried.{any_may_be_lost}
 use Rattle.dcp_pft.specs.Carrying.{losses}
-use Rattle.collect_laws.specs.Delivery.{got}
+use Rattle.law_collect.specs.Delivery.{got}
 use Rattle.drm_schedule.specs.declared.plan.Plan.{Plan}
 use Rattle.drm_schedule.specs.Valid.{IsSchedule}
 use Rattle.drm_timeline.specs.Numbers.{packet_size}

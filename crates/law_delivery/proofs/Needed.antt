@@ -9,7 +9,7 @@ use Rattle.dcp_pft.proofs.Payloads.{shape_is_taken}
 use Rattle.dcp_pft.specs.declared.carry.Carry.{Carry}
 use Rattle.dcp_pft.specs.declared.carry.Carry.TheVariants.{Plain, Pft}
 use Rattle.dcp_pft.specs.Carrying.{CarryFits, shape_under, losses}
-use Rattle.collect_laws.proofs.Heads.{none_all, cut_needed}
+use Rattle.law_collect.proofs.Heads.{none_all, cut_needed}
 use Rattle.drm_schedule.specs.declared.plan.Plan.{Plan}
 use Rattle.drm_schedule.specs.Valid.{IsSchedule}
 use Rattle.drm_timeline.specs.Numbers.{packet_size}

@@ -6,7 +6,7 @@ use Rattle.std.proofs.lemmas.Bool.{eqb-true, eq-eqb, true≢false}
 use Rattle.std.proofs.lemmas.List.FromFn.{length-map-range_with_len, get_or-map-range_with_len}
 use Rattle.std.proofs.lemmas.Option.{slice_get-get_or, slice_get_within}
 use Rattle.dcp_af.specs.Packet.{AfPacket, IsAf, head}
-use Rattle.collect_laws.specs.Delivery.{IsPacketWith, sequence_at, AreSent as AllSent, IsDatagramAt as IsDatagramOf, AreDelivered}
+use Rattle.law_collect.specs.Delivery.{IsPacketWith, sequence_at, AreSent as AllSent, IsDatagramAt as IsDatagramOf, AreDelivered}
 use Rattle.dcp_pft.proofs.Carried.{limit_is}
 use Rattle.drm_schedule.specs.declared.plan.Plan.{Plan}
 use Rattle.drm_schedule.specs.Valid.{IsSchedule}

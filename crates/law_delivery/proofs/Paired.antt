@@ -7,8 +7,8 @@ use Rattle.drm_reconfiguration.specs.Tracker.{TrackerState, new_tracker}
 use Rattle.dcp_collect.specs.declared.taken.Taken.{Taken}
 use Rattle.dcp_collect.specs.State.{State, made}
 use Rattle.dcp_collect.specs.Runs.{Item as Collected, Steps, Run}
-use Rattle.collect_laws.specs.Delivery.{IsWithinSpan, IsBase}
-use Rattle.collect_laws.specs.Laws.{IsRight}
+use Rattle.law_collect.specs.Delivery.{IsWithinSpan, IsBase}
+use Rattle.law_collect.specs.Laws.{IsRight}
 use Rattle.mod_feed.specs.Feeding.{FeedStep, Feeds}
 use Rattle.law_delivery.specs.Sent.{AreSent}
 use Rattle.law_delivery.specs.Given.{AreGiven}

@@ -10,7 +10,7 @@ use Rattle.drm_fac.specs.declared.mode.Mode.{Mode}
 use Rattle.drm_schedule.specs.declared.plan.Plan.{Plan}
 use Rattle.plan_packing.specs.Packing.{chain}
 use Rattle.dcp_pft.specs.Loss.{is_recoverable}
-use Rattle.collect_laws.specs.Delivery.{got}
+use Rattle.law_collect.specs.Delivery.{got}
 use Rattle.drm_reconfiguration.specs.declared.seen.Seen.{Seen}
 use Rattle.drm_reconfiguration.specs.declared.seen.Signature.{Signature}
 use Rattle.drm_timeline.specs.Description.{description_of}

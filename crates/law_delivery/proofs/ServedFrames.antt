@@ -3,7 +3,7 @@ use Rattle.std.proofs.Common.{ℕ, ◌≡◌, Bool, true, false, List, Option, S
 use Rattle.std.specs.Prelude.{ℤ, pos, ◌+ℤ◌}
 use Rattle.dcp_pft.specs.Loss.{is_recoverable}
 use Rattle.drm_schedule.specs.declared.plan.Plan.{Plan}
-use Rattle.collect_laws.specs.Delivery.{got}
+use Rattle.law_collect.specs.Delivery.{got}
 use Rattle.mod_feed.specs.Items.{Item}
 use Rattle.mod_feed.specs.Feeding.{FeedStep}
 use Rattle.law_delivery.specs.Sent.{shape_at, frame_of_number}

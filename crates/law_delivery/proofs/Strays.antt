@@ -9,9 +9,9 @@ use Rattle.dcp_collect.specs.declared.taken.Taken.TheVariants.{Refused}
 use Rattle.dcp_collect.specs.State.{State, made, ready}
 use Rattle.dcp_collect.specs.Runs.{Item as Collected, Takes, Gives, Steps}
 use Rattle.drm_schedule.specs.Valid.{IsSchedule}
-use Rattle.collect_laws.specs.Delivery.{number, newer_number, IsWithinSpan, IsBase}
-use Rattle.collect_laws.specs.Laws.{IsRight, Refusing}
-use Rattle.collect_laws.proofs.Following.{follows_new}
+use Rattle.law_collect.specs.Delivery.{number, newer_number, IsWithinSpan, IsBase}
+use Rattle.law_collect.specs.Laws.{IsRight, Refusing}
+use Rattle.law_collect.proofs.Following.{follows_new}
 use Rattle.law_delivery.proofs.Following.{Stands, low_of, stands_pair, stands_stray, stray_cause, stray_takes, far_front}
 use Rattle.law_delivery.specs.Sent.{Arrival, OfSchedule, Stray, IsArrival, AreSent, pairs_in, IsFollowed}
 use Rattle.law_delivery.specs.Laws.{Suits, Delivering, DeliveringEarly, StraysRefused}

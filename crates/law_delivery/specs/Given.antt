@@ -7,7 +7,7 @@ use Rattle.drm_timeline.specs.Starts.{IsFirstFrame}
 use Rattle.dcp_pft.specs.Loss.{size, is_recoverable}
 use Rattle.mdi_items.specs.RoundTrip.{Parts, IsWrittenOf, IsFrameOf}
 use Rattle.dcp_collect.specs.Numbers.{end_of}
-use Rattle.collect_laws.specs.Delivery.{got, newest_of}
+use Rattle.law_collect.specs.Delivery.{got, newest_of}
 use Rattle.mod_feed.specs.Items.{Item, Frame, Missing, Bad}
 use Rattle.mod_feed.specs.Feeding.{FeedStep, told_before, all_seen}
 use Rattle.drm_server.specs.Frames.{IsFrameAt}

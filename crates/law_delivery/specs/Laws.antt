@@ -10,7 +10,7 @@ use Rattle.dcp_collect.specs.declared.taken.Taken.{Taken}
 use Rattle.dcp_collect.specs.declared.taken.Taken.TheVariants.{Refused}
 use Rattle.dcp_collect.specs.State.{State, made}
 use Rattle.dcp_collect.specs.Runs.{Item as Collected, Steps, Run}
-use Rattle.collect_laws.specs.Laws.{IsRight}
+use Rattle.law_collect.specs.Laws.{IsRight}
 use Rattle.mod_feed.specs.Feeding.{FeedStep, Feeds, told_before}
 use Rattle.drm_timeline.specs.Numbers.{frame_count}
 use Rattle.law_delivery.specs.Sent.{Arrival, OfSchedule, Stray, pairs_in, IsFollowed, IsInTime}

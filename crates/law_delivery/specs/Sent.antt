@@ -10,7 +10,7 @@ use Rattle.dcp_collect.specs.declared.taken.Field.{Field}
 use Rattle.dcp_collect.specs.declared.taken.Field.TheVariants.{Far}
 use Rattle.dcp_collect.specs.Reading.{Incoming, Unread, Brings, IsRead}
 use Rattle.dcp_collect.specs.State.{is_above}
-use Rattle.collect_laws.specs.Delivery.{got, number, newer_number, IsWithinSpan, IsBase}
+use Rattle.law_collect.specs.Delivery.{got, number, newer_number, IsWithinSpan, IsBase}
 use Rattle.drm_server.specs.Datagrams.{IsDatagramAt}
 
 -- The datagram is that of the pair (t, i): datagram i of frame t of the schedule.

@@ -3,7 +3,7 @@
 ghost use Rattle.law_delivery.specs.Laws.{Delivering, DeliveringEarly, StraysRefused, GivenInTime, SwitchesAtStarts, AllSwitches, AllFrames, AllAtOnce};
 ghost use Rattle.law_delivery.specs.Ways.{TwoWays, LaterStart};
 
-use collect_laws::{collecting, giving_ends, one_reading, refusing, steps_join};
+use law_collect::{collecting, giving_ends, one_reading, refusing, steps_join};
 use mod_feed::the_feed_tells_the_switches;
 
 /// Whatever comes of a schedule's datagrams, a collector and a feed give what the delivery calls for.

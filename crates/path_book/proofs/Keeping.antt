@@ -4,8 +4,8 @@ use Rattle.std.proofs.lemmas.List.{append-nil, map-append, length-map, length-ta
 use Rattle.recv_reading.proofs.Common.{Taken, State, made, ready, after_item, after_finish, Item, Takes, up_to, IsFit, Given}
 use Rattle.recv_reading.proofs.Common.{is_full}
 use Rattle.recv_reading.specs.declared.reason.EndWord.{EndWord}
-use Rattle.collect_laws.proofs.Runs.{steps_more, steps_count, gives_given}
-use Rattle.collect_laws.proofs.Fit.{fit_given}
+use Rattle.law_collect.proofs.Runs.{steps_more, steps_count, gives_given}
+use Rattle.law_collect.proofs.Fit.{fit_given}
 use Rattle.drm_reconfiguration.specs.Tracker.{TrackerState, new_tracker}
 use Rattle.mod_feed.specs.Items.{seen_in}
 use Rattle.mod_feed.specs.Feeding.{FeedStep, Feeds, after_step}

@@ -5,7 +5,7 @@ use Rattle.std.proofs.lemmas.Bool.Decides.{nat_tests}
 use Rattle.std.proofs.lemmas.List.{append-nil, take_all, take_at}
 use Rattle.recv_reading.proofs.Common.{Known, Output, Outputs, State, ready, after_item, Item, Gives, up_to, Given, is_full}
 use Rattle.drm_links.proofs.ToldLemmas.{Outputs-then, Outputs-nothing}
-use Rattle.collect_laws.proofs.Runs.{given_more, gives_after, gives_given}
+use Rattle.law_collect.proofs.Runs.{given_more, gives_after, gives_given}
 use Rattle.drm_reconfiguration.specs.Tracker.{TrackerState}
 use Rattle.mod_feed.specs.Items.{Item as FeedItem}
 use Rattle.mod_feed.specs.Feeding.{FeedStep, Feeds}

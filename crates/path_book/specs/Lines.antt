@@ -4,7 +4,7 @@ use Rattle.drm_links.specs.Told.{Known}
 use Rattle.drm_links.specs.Sink.{Output, Outputs, Writes}
 use Rattle.dcp_collect.specs.State.{State}
 use Rattle.dcp_collect.specs.Runs.{Item, IsItem, Gives, up_to}
-use Rattle.collect_laws.specs.Laws.{Given}
+use Rattle.law_collect.specs.Laws.{Given}
 use Rattle.drm_reconfiguration.specs.Tracker.{TrackerState}
 use Rattle.mod_feed.specs.Feeding.{FeedStep, IsStep, Feeds, after_step}
 use Rattle.recv_reading.specs.State.{is_full}

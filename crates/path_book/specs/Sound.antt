@@ -1,7 +1,7 @@
 -- What a journal's fields stand for, and what holds of them.
 use Rattle.std.specs.Prelude.{◌≡◌, map, false, None}
 use Rattle.dcp_collect.specs.State.{ready}
-use Rattle.collect_laws.specs.Laws.{IsFit}
+use Rattle.law_collect.specs.Laws.{IsFit}
 use Rattle.path_book.specs.declared.journal.Journal.TheInside.{Inside}
 use Rattle.path_book.specs.Journal.{JournalState, AreInRange, entry_of, IsKept}
 

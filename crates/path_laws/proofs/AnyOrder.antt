@@ -4,7 +4,7 @@ use Rattle.std.specs.Prelude.{pos, ◌≤ℤ◌, unwrap_or}
 use Rattle.std.specs.List.{AllZip}
 use Rattle.std.proofs.lemmas.Int.{ints}
 use Rattle.dcp_collect.specs.Numbers.{newer}
-use Rattle.collect_laws.specs.Delivery.{number, newer_number, IsWithinSpan}
+use Rattle.law_collect.specs.Delivery.{number, newer_number, IsWithinSpan}
 use Rattle.drm_schedule.specs.declared.plan.Plan.{Plan}
 use Rattle.drm_timeline.specs.Numbers.{frame_count}
 use Rattle.law_delivery.specs.Sent.{Arrival, OfSchedule, Stray, IsArrival, pairs_in}

@@ -6,9 +6,9 @@ use Rattle.drm_links.specs.Link.{Answer, Datagram, Idle, Failed, End, datagram_o
 use Rattle.dcp_collect.specs.declared.taken.Taken.{Taken}
 use Rattle.dcp_collect.specs.State.{State, made}
 use Rattle.dcp_collect.specs.Runs.{Item, Steps}
-use Rattle.collect_laws.specs.Laws.{most_at_once}
-use Rattle.collect_laws.proofs.AtOnce.{few_at_once}
-use Rattle.collect_laws.proofs.Runs.{steps_part}
+use Rattle.law_collect.specs.Laws.{most_at_once}
+use Rattle.law_collect.proofs.AtOnce.{few_at_once}
+use Rattle.law_collect.proofs.Runs.{steps_part}
 use Rattle.recv_reading.specs.declared.options.ReceiveOptions.{ReceiveOptions}
 use Rattle.recv_reading.specs.Ending.{datagrams, Gave, GaveItems, FewMore, FewAtOnce}
 use Rattle.recv_reading.proofs.Reaching.{one_way}

@@ -6,7 +6,7 @@ pub use Rattle.drm_links.specs.Sink.{Output, Outputs, IsFront, IsFrontBehind}
 pub use Rattle.dcp_collect.specs.declared.taken.Taken.{Taken}
 pub use Rattle.dcp_collect.specs.State.{State, made, ready, after_item, after_finish}
 pub use Rattle.dcp_collect.specs.Runs.{Item, Packet, Lost, Damaged, IsItem, Takes, Gives, Steps, Run, up_to}
-pub use Rattle.collect_laws.specs.Laws.{Given, IsFit}
+pub use Rattle.law_collect.specs.Laws.{Given, IsFit}
 pub use Rattle.recv_reading.specs.declared.options.ReceiveOptions.{ReceiveOptions}
 pub use Rattle.recv_reading.specs.declared.reason.EndWord.{EndWord}
 pub use Rattle.recv_reading.specs.Options.{options_of, capture_bounds, bounds_of, AreUsable}

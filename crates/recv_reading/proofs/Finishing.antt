@@ -7,10 +7,10 @@ use Rattle.recv_reading.proofs.Common.{Answer, Datagram, Taken, State, made, rea
 use Rattle.recv_reading.proofs.Common.{Given, ReceiveOptions, EndWord, datagrams, Gave, HasGiven, IsFinished, ReadingState}
 use Rattle.recv_reading.proofs.Common.{is_full, has_enough, has_ended, word_of, Reached, Waits}
 use Rattle.dcp_collect.proofs.Decoded.{decoded_or_none}
-use Rattle.collect_laws.specs.Laws.{GivingEnds}
-use Rattle.collect_laws.proofs.Ending.{giving_ends}
-use Rattle.collect_laws.proofs.Runs.{gives_after, gives_given}
-use Rattle.collect_laws.proofs.Fit.{fit_given}
+use Rattle.law_collect.specs.Laws.{GivingEnds}
+use Rattle.law_collect.proofs.Ending.{giving_ends}
+use Rattle.law_collect.proofs.Runs.{gives_after, gives_given}
+use Rattle.law_collect.proofs.Fit.{fit_given}
 use Rattle.recv_reading.specs.declared.reason.EndWord.TheVariants as word
 use Rattle.recv_reading.specs.Ending.{ComesTo, GivesSome}
 use Rattle.recv_reading.specs.State.{ended_or, one_given}

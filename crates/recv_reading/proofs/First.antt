@@ -5,7 +5,7 @@ use Rattle.recv_reading.proofs.Common.{first_of}
 use Rattle.dcp_collect.specs.Fragments.{Fragment, suffice, of_packet}
 use Rattle.dcp_collect.specs.Reading.{Incoming, Read, Unread, Brings}
 use Rattle.dcp_collect.specs.State.{after_take, answer, number_of}
-use Rattle.collect_laws.proofs.Stays.{after_by, first_stays}
+use Rattle.law_collect.proofs.Stays.{after_by, first_stays}
 
 may_by : (c : State) (incoming : Incoming) (n : ℕ) (o : Option ℕ) → c.first ≡ o → (first : ℕ) → MayBeFirst (after_take c (Brings incoming)) first → MayBeFirst c first
 may_by c incoming n None is first may = subst (λ (v : Option ℕ). IfSome v (λ m. m ≡ first)) (sym is) tt

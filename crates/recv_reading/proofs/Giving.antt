@@ -4,8 +4,8 @@ use Rattle.std.proofs.lemmas.List.{append-nil}
 use Rattle.std.proofs.lemmas.List.Elements.{filter_map-append}
 use Rattle.recv_reading.proofs.Common.{Answer, Datagram, Idle, End, datagram_of, Taken, State, made, Item, Takes, Gives, Steps}
 use Rattle.recv_reading.proofs.Common.{ReceiveOptions, datagrams, Gave, HasGiven}
-use Rattle.collect_laws.specs.Laws.{OneRun}
-use Rattle.collect_laws.proofs.Runs.{steps_more}
+use Rattle.law_collect.specs.Laws.{OneRun}
+use Rattle.law_collect.proofs.Runs.{steps_more}
 
 pub gave_none : (rules : ReceiveOptions) → Gave rules [] [] [] (made rules.window rules.reach rules.first)
 gave_none rules = (refl, refl)

@@ -6,7 +6,7 @@ use Rattle.dcp_collect.specs.Fragments.{Fragment, suffice, of_packet}
 use Rattle.dcp_collect.specs.Reading.{Read, Unread, Brings}
 use Rattle.dcp_collect.specs.State.{State, is_before, insert_kept, number_of, answer, after_take, after_item}
 use Rattle.dcp_collect.specs.Runs.{Item, Packet, Lost, Damaged, IsItem, Takes}
-use Rattle.collect_laws.proofs.Stays.{after_by}
+use Rattle.law_collect.proofs.Stays.{after_by}
 use Rattle.recv_reading.specs.Reached.{packets_in}
 
 -- ---- one more is kept

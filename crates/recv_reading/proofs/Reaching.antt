@@ -8,12 +8,12 @@ use Rattle.recv_reading.proofs.Common.{Item, IsItem, Takes, Gives, IsFit, Receiv
 use Rattle.recv_reading.proofs.Common.{datagrams, Gave, HasGiven, HaveEnded, EndsBy, GoesOn, IsBroken, KnowsFirst, ReadingState}
 use Rattle.recv_reading.proofs.Common.{new_reading, is_full, has_enough, Reached, Waits}
 use Rattle.dcp_collect.proofs.Decoded.{one_decoding}
-use Rattle.collect_laws.specs.Laws.{OneRun}
-use Rattle.collect_laws.proofs.OneReading.{one_reading as one_datagram}
-use Rattle.collect_laws.proofs.Stays.{take_next, take_end}
-use Rattle.collect_laws.proofs.Unique.{one_run}
-use Rattle.collect_laws.proofs.Runs.{given_all, given_more}
-use Rattle.collect_laws.proofs.Fit.{fit_next}
+use Rattle.law_collect.specs.Laws.{OneRun}
+use Rattle.law_collect.proofs.OneReading.{one_reading as one_datagram}
+use Rattle.law_collect.proofs.Stays.{take_next, take_end}
+use Rattle.law_collect.proofs.Unique.{one_run}
+use Rattle.law_collect.proofs.Runs.{given_all, given_more}
+use Rattle.law_collect.proofs.Fit.{fit_next}
 use Rattle.recv_reading.specs.declared.options.Bounds.{Bounds}
 use Rattle.recv_reading.specs.declared.reason.EndWord.TheVariants as word
 use Rattle.recv_reading.specs.Ending.{idles, IsOpen, most_answers}

@@ -7,9 +7,9 @@ use Rattle.std.proofs.lemmas.List.{append-nil}
 use Rattle.recv_reading.proofs.Common.{Taken, State, made, ready, after_item, after_finish, Item, Packet, Lost, Damaged, IsItem}
 use Rattle.recv_reading.proofs.Common.{Takes, Gives, Steps, up_to, Given, is_full}
 use Rattle.dcp_collect.proofs.Decoded.{one_decoding}
-use Rattle.collect_laws.proofs.OneReading.{one_reading}
-use Rattle.collect_laws.proofs.Runs.{steps_part}
-use Rattle.collect_laws.proofs.Unique.{one_giving, one_taking}
+use Rattle.law_collect.proofs.OneReading.{one_reading}
+use Rattle.law_collect.proofs.Runs.{steps_part}
+use Rattle.law_collect.proofs.Unique.{one_giving, one_taking}
 use Rattle.recv_reading.proofs.First.{given_first}
 use Rattle.recv_reading.proofs.Reaching.{one_way}
 use Rattle.recv_reading.specs.Packets.{ComesAt, HasEnough, Terms}

@@ -5,7 +5,7 @@ use Rattle.drm_links.specs.Link.{Answer, Datagram, Idle, Failed, End, datagram_o
 use Rattle.dcp_collect.specs.declared.taken.Taken.{Taken}
 use Rattle.dcp_collect.specs.State.{State, made, after_finish}
 use Rattle.dcp_collect.specs.Runs.{Item, Takes, Steps, up_to}
-use Rattle.collect_laws.specs.Laws.{Given, most_at_once}
+use Rattle.law_collect.specs.Laws.{Given, most_at_once}
 use Rattle.recv_reading.specs.declared.reason.EndWord.{EndWord}
 use Rattle.recv_reading.specs.declared.reason.EndWord.TheVariants as word
 use Rattle.recv_reading.specs.declared.options.ReceiveOptions.{ReceiveOptions}

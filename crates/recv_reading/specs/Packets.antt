@@ -3,7 +3,7 @@ use Rattle.std.specs.Prelude.{ℕ, ◌≡◌, ◌<◌, ◌⊎◌, true, List, []
 use Rattle.dcp_collect.specs.declared.taken.Taken.{Taken}
 use Rattle.dcp_collect.specs.State.{State, made, ready, after_finish}
 use Rattle.dcp_collect.specs.Runs.{Item, IsItem, Takes, Steps}
-use Rattle.collect_laws.specs.Laws.{Given}
+use Rattle.law_collect.specs.Laws.{Given}
 use Rattle.drm_links.specs.Told.{Known}
 use Rattle.drm_links.specs.Source.{Input, Inputs}
 use Rattle.drm_capture.specs.Capture.{IsCaptureOf, Ending, End}

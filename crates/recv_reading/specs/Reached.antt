@@ -4,7 +4,7 @@ use Rattle.drm_links.specs.Link.{Answer, Datagram, Failed}
 use Rattle.dcp_collect.specs.declared.taken.Taken.{Taken}
 use Rattle.dcp_collect.specs.State.{State, ready, after_finish}
 use Rattle.dcp_collect.specs.Runs.{Item, Packet, Takes}
-use Rattle.collect_laws.specs.Laws.{IsFit, Given}
+use Rattle.law_collect.specs.Laws.{IsFit, Given}
 use Rattle.recv_reading.specs.declared.options.ReceiveOptions.{ReceiveOptions}
 use Rattle.recv_reading.specs.declared.reason.EndWord.{EndWord}
 use Rattle.recv_reading.specs.Options.{AreUsable, bounds_of}

@@ -2,7 +2,7 @@
 use Rattle.std.proofs.Common.{◌≡◌, ℕ, ◌++◌, List, Option, sym, ◌∙◌, ap, ap₂, subst}
 use Rattle.recv_reading.proofs.Common.{Taken, made, after_finish, Item, Gives, Run, up_to, datagrams}
 use Rattle.dcp_collect.proofs.Decoded.{one_decoding}
-use Rattle.collect_laws.proofs.Unique.{one_giving}
+use Rattle.law_collect.proofs.Unique.{one_giving}
 use Rattle.drm_reconfiguration.specs.Tracker.{new_tracker}
 use Rattle.mod_feed.specs.Feeding.{Feeds}
 use Rattle.mod_feed.proofs.FeedingLemmas.{feeding_is_one}

@@ -9,7 +9,7 @@ use Rattle.drm_schedule.specs.declared.config.Config.{Config}
 use Rattle.drm_schedule.specs.declared.plan.Plan.{Plan}
 use Rattle.drm_timeline.specs.Numbers.{frame_count}
 use Rattle.drm_schedule.specs.Contents.{stream_bytes}
-use Rattle.collect_laws.specs.Delivery.{newest_of}
+use Rattle.law_collect.specs.Delivery.{newest_of}
 use Rattle.law_delivery.specs.Given.{IsServed, IsServedWhere, IsItemBy}
 use Rattle.law_delivery.specs.Laws.{Delivering}
 use Rattle.dcp_pft.specs.Loss.{is_recoverable}

@@ -3,8 +3,8 @@ use Rattle.std.proofs.Common.{◌≡◌, ℕ, zero, suc, ◌+◌, List, [], ◌�
 use Rattle.dcp_collect.specs.declared.taken.Taken.{Taken}
 use Rattle.dcp_collect.specs.State.{State, after_item}
 use Rattle.dcp_collect.specs.Runs.{Item as Collected, Packet, Lost, Damaged, IsItem, Gives, Steps, Run, up_to}
-use Rattle.collect_laws.proofs.Stays.{take_next}
-use Rattle.collect_laws.proofs.Runs.{gives_count, steps_count}
+use Rattle.law_collect.proofs.Stays.{take_next}
+use Rattle.law_collect.proofs.Runs.{gives_count, steps_count}
 use Rattle.drm_reconfiguration.specs.Tracker.{TrackerState}
 use Rattle.mod_feed.specs.Items.{Item, number_of, seen_in}
 use Rattle.mod_feed.specs.Feeding.{FeedStep, Feeds, after_step}

@@ -11,7 +11,7 @@ use Rattle.drm_timeline.specs.Standing.{config_of}
 use Rattle.drm_timeline.specs.Numbers.{frame_count}
 use Rattle.dcp_pft.specs.Loss.{is_recoverable}
 use Rattle.dcp_collect.specs.Numbers.{end_of}
-use Rattle.collect_laws.specs.Delivery.{newest_of}
+use Rattle.law_collect.specs.Delivery.{newest_of}
 use Rattle.drm_text.specs.Joining.{State, made}
 use Rattle.text_laws.specs.Readings.{Reading, IsEntry}
 use Rattle.text_laws.specs.Runs.{messages_in}

@@ -11,7 +11,7 @@ use Rattle.dcp_pft.specs.Loss.{is_recoverable}
 use Rattle.dcp_collect.specs.declared.taken.Taken.{Taken}
 use Rattle.dcp_collect.specs.Numbers.{end_of}
 use Rattle.dcp_collect.specs.Runs.{Item as Collected, Run}
-use Rattle.collect_laws.specs.Delivery.{got, newest_of}
+use Rattle.law_collect.specs.Delivery.{got, newest_of}
 use Rattle.law_delivery.specs.Sent.{Arrival, pairs_in, shape_at, IsFollowed}
 use Rattle.drm_data.specs.Packet.{Packet}
 use Rattle.drm_data.specs.Units.{packets}

@@ -10,7 +10,7 @@ use Rattle.drm_timeline.specs.Numbers.{frame_count}
 use Rattle.dcp_collect.specs.declared.taken.Taken.{Taken}
 use Rattle.dcp_collect.specs.Numbers.{end_of}
 use Rattle.dcp_collect.specs.Runs.{Item as Collected, Run}
-use Rattle.collect_laws.specs.Delivery.{newest_of}
+use Rattle.law_collect.specs.Delivery.{newest_of}
 use Rattle.law_delivery.specs.Sent.{Arrival, pairs_in, IsFollowed}
 use Rattle.text_laws.specs.Readings.{Reading, AreMessages}
 use Rattle.mod_feed.specs.Items.{Item}

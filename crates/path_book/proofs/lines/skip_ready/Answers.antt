@@ -1,8 +1,8 @@
 use Rattle.std.proofs.Common.{◌∙◌, [], ◌∷◌, ◌++◌, refl, sym, subst}
 use Rattle.dcp_collect.specs.Runs.{Gives}
 use Rattle.dcp_collect.specs.View.{item_of}
-use Rattle.collect_laws.specs.Laws.{Given}
-use Rattle.collect_laws.proofs.Runs.{given_more, given_all}
+use Rattle.law_collect.specs.Laws.{Given}
+use Rattle.law_collect.proofs.Runs.{given_more, given_all}
 use Rattle.path_book.proofs.lines.skip_ready.Goals as goal
 
 pub past-init : goal.past-init

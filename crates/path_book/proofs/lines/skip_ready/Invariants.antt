@@ -1,6 +1,6 @@
 use Rattle.std.proofs.Common.{◌-◌, ◌^◌, List}
 use Rattle.dcp_collect.specs.Runs.{Item}
-use Rattle.collect_laws.specs.Laws.{Given}
+use Rattle.law_collect.specs.Laws.{Given}
 use Rattle.path_book.proofs.lines.skip_ready.Given as goal
 
 abbrev pub invariant-past : goal.invariant-past

@@ -1,6 +1,6 @@
 use Rattle.std.proofs.Common.{◌≡◌, false, length, map, sym, ◌∙◌, ap, subst, arith}
 use Rattle.std.proofs.lemmas.List.{length-map}
-use Rattle.collect_laws.proofs.Fit.{fit_taken}
+use Rattle.law_collect.proofs.Fit.{fit_taken}
 use Rattle.recv_reading.proofs.Reaching.{takes_next, takes_end}
 use Rattle.report_text.specs.Tallies.{Tallied, items_in}
 use Rattle.report_text.proofs.TakenLemmas.{noted_items}

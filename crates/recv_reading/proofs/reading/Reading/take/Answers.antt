@@ -1,6 +1,6 @@
 use Rattle.std.proofs.Common.{◌++◌, ◌∷◌, [], ◌<◌, sym, ap, subst}
 use Rattle.drm_links.specs.Link.{Datagram}
-use Rattle.collect_laws.proofs.Fit.{fit_taken}
+use Rattle.law_collect.proofs.Fit.{fit_taken}
 use Rattle.recv_reading.specs.State.{one_taken, ahead}
 use Rattle.recv_reading.specs.Reached.{Reached}
 use Rattle.recv_reading.proofs.First.{may_taken}

@@ -1,6 +1,0 @@
-use Rattle.dcp_collect.proofs.Decoded.{decoded_or_none}
-use Rattle.collect_laws.proofs.Ending.{giving_ends}
-use Rattle.collect_laws.proofs.laws.giving_ends.Goals as goal
-
-pub returns : goal.returns
-returns c = giving_ends decoded_or_none
