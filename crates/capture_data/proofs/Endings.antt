@@ -4,8 +4,8 @@ use Rattle.recv_reading.proofs.Common.{Known, Input, Inputs, Output, State, made
 use Rattle.drm_links.specs.Told.{HasCause}
 use Rattle.drm_links.proofs.ToldLemmas.{counts_none, Inputs-nothing, Inputs-weaker, Outputs-then}
 use Rattle.drm_links.proofs.WritingLemmas.{Writes-done, Writes-front, front_behind}
-use Rattle.drm_capture.specs.Capture as capture
-use Rattle.drm_capture.specs.Laws.{ReadOneWay}
+use Rattle.capture_reader.specs.Capture as capture
+use Rattle.capture_reader.specs.Laws.{ReadOneWay}
 use Rattle.capture_laws.specs.Laws.{PacketsInFront}
 use Rattle.mod_feed.specs.Items.{Item}
 use Rattle.drm_faults.specs.Captures.{EndsEarly, EndsByIt}

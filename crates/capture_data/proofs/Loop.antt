@@ -6,10 +6,10 @@ use Rattle.recv_reading.proofs.Common.{ReadingState, has_enough, has_ended, Reac
 use Rattle.recv_reading.specs.declared.options.ReceiveOptions.{ReceiveOptions}
 use Rattle.drm_links.proofs.ToldLemmas.{Outputs-nothing, Outputs-then}
 use Rattle.drm_links.proofs.WritingLemmas.{Writes-done, Writes-front, front_behind}
-use Rattle.drm_capture.specs.Capture.{most_bytes}
-use Rattle.drm_capture.specs.Walking.{WalkerState}
-use Rattle.drm_capture.specs.declared.packets.CaptureStop.{CaptureStop}
-use Rattle.drm_capture.specs.declared.packets.CaptureStop.TheVariants as stops
+use Rattle.capture_reader.specs.Capture.{most_bytes}
+use Rattle.capture_reader.specs.Walking.{WalkerState}
+use Rattle.capture_reader.specs.declared.packets.CaptureStop.{CaptureStop}
+use Rattle.capture_reader.specs.declared.packets.CaptureStop.TheVariants as stops
 use Rattle.dcp_collect.specs.State.{after_next}
 use Rattle.mod_feed.specs.Items.{Item, IsItemOf}
 use Rattle.drm_faults.specs.Captures.{stop_fault}

@@ -4,8 +4,8 @@ use Rattle.std.proofs.lemmas.List.{append-nil}
 use Rattle.recv_reading.proofs.Common.{Known, Input, Output, Outputs, IsFront, IsFrontBehind}
 use Rattle.drm_links.proofs.ToldLemmas.{Outputs-nothing, Outputs-weaker}
 use Rattle.drm_links.proofs.WritingLemmas.{front_of_both}
-use Rattle.drm_capture.specs.declared.packets.CaptureStop.{CaptureStop}
-use Rattle.drm_capture.specs.declared.packets.CaptureStop.TheVariants as stops
+use Rattle.capture_reader.specs.declared.packets.CaptureStop.{CaptureStop}
+use Rattle.capture_reader.specs.declared.packets.CaptureStop.TheVariants as stops
 use Rattle.mod_feed.specs.Items.{Item}
 use Rattle.drm_data.specs.Joining.{made}
 use Rattle.data_laws.specs.Runs.{answers, after_all}

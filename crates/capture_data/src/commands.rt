@@ -11,7 +11,7 @@ use crate::reading::take_capture;
 use crate::taker::Taker;
 use crate::units::UnitTaker;
 use capture_laws::packets_in_front;
-use drm_capture::read_one_way;
+use capture_reader::read_one_way;
 use drm_data::Joiner;
 use drm_faults::Fault;
 use drm_links::{Sink, Source};

@@ -3,7 +3,7 @@
 ghost use Rattle.std.specs.Prelude.{◌≡◌, ◌≤◌, ◌^◌, [], Err, Ok, IfSome, OnOk};
 ghost use Rattle.dcp_collect.specs.State.{made};
 ghost use Rattle.drm_links.specs.Told.{HasCause};
-ghost use Rattle.drm_capture.specs.Walking.{new_walker};
+ghost use Rattle.capture_reader.specs.Walking.{new_walker};
 ghost use Rattle.recv_reading.specs.Packets.{Terms};
 ghost use Rattle.capture_data.specs.Streams.{What};
 ghost use Rattle.capture_data.specs.Taken.{AreBelow, counts_in, IsReady, Took, TakesAll};
@@ -11,7 +11,7 @@ ghost use Rattle.capture_data.specs.Run.{Ends};
 
 use crate::taker::Taker;
 use dcp_collect::Collector;
-use drm_capture::Packets;
+use capture_reader::Packets;
 use drm_faults::Fault;
 use drm_links::{Sink, Source};
 use mod_feed::Feed;

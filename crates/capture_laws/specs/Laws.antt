@@ -1,8 +1,8 @@
 -- Laws of captures.
 use Rattle.std.specs.Prelude.{ℕ, ◌≡◌, ◌≤◌, List, ◌++◌, length, All}
 use Rattle.std.specs.List.{concat}
-use Rattle.drm_capture.specs.Front.{IsWhole}
-use Rattle.drm_capture.specs.Capture.{Ending, IsCaptureOf, most_bytes}
+use Rattle.capture_reader.specs.Front.{IsWhole}
+use Rattle.capture_reader.specs.Capture.{Ending, IsCaptureOf, most_bytes}
 
 -- Packets that bytes begin with, and that are no longer than a capture may be, are the first ones of the capture that the bytes are.
 abbrev pub PacketsInFront : Type 0

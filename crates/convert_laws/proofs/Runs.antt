@@ -7,12 +7,12 @@ use Rattle.drm_links.specs.Told.{Known}
 use Rattle.drm_links.specs.Source.{Input, Inputs, LeftBy, FewReads}
 use Rattle.drm_links.specs.Sink.{Output, Outputs, IsFront, IsFrontBehind}
 use Rattle.drm_links.proofs.ToldLemmas.{Outputs-nothing, Outputs-weaker, told_through}
-use Rattle.drm_capture.specs.declared.fault.CaptureFault.{CaptureFault}
-use Rattle.drm_capture.specs.Capture as capture
-use Rattle.drm_capture.specs.Capture.{IsCaptureOf, End}
-use Rattle.drm_capture.specs.Front.{IsWhole}
-use Rattle.drm_capture.specs.Reading.{Breaks}
-use Rattle.drm_capture.specs.Laws.{ReadOneWay}
+use Rattle.capture_reader.specs.declared.fault.CaptureFault.{CaptureFault}
+use Rattle.capture_reader.specs.Capture as capture
+use Rattle.capture_reader.specs.Capture.{IsCaptureOf, End}
+use Rattle.capture_reader.specs.Front.{IsWhole}
+use Rattle.capture_reader.specs.Reading.{Breaks}
+use Rattle.capture_reader.specs.Laws.{ReadOneWay}
 use Rattle.capture_laws.specs.Laws.{PacketsInFront}
 use Rattle.drm_schedule.specs.declared.plan.Plan.{Plan}
 use Rattle.drm_server.specs.Capture.{IsCapture, IsFrontOfCapture}

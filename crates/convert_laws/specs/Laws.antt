@@ -16,7 +16,7 @@ use Rattle.drm_timeline.specs.Numbers.{frame_count, packet_size}
 use Rattle.drm_server.specs.Datagrams.{AreOfFrames}
 use Rattle.drm_server.specs.Capture.{IsCapture, IsFrontOfCapture}
 use Rattle.law_delivery.specs.Sent.{Arrival, pairs_in, IsFollowed, IsInTime}
-use Rattle.drm_capture.specs.Capture.{IsCaptureOf, End}
+use Rattle.capture_reader.specs.Capture.{IsCaptureOf, End}
 use Rattle.drm_faults.specs.declared.fault.Fault.{Fault}
 use Rattle.drm_faults.specs.declared.fault.Fault.TheVariants as faults
 use Rattle.drm_convert.specs.Converting.{Part, ConvertsAll, IsTooLarge, text_of, lines_of}

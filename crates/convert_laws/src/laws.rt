@@ -6,7 +6,7 @@ use capture_laws::packets_in_front;
 use law_collect::{
     collecting, giving_ends, in_time, one_reading, one_run, refusing, steps_count, steps_part,
 };
-use drm_capture::read_one_way;
+use capture_reader::read_one_way;
 use law_delivery::all_frames_are_given_at_once;
 
 /// Where each frame of a schedule is in time, what a collector gives becomes the schedule's capture under the other carry.

@@ -2,7 +2,7 @@
 use Rattle.std.proofs.Common.{ℕ, ◌≡◌, Bool, Option, Result, Ok, Err, refl, subst}
 use Rattle.dcp_pft.specs.declared.carry.Carry.{Carry}
 use Rattle.recv_reading.proofs.Common.{State, made, Known, Input, Output}
-use Rattle.drm_capture.specs.declared.packets.CaptureStop.TheVariants as stops
+use Rattle.capture_reader.specs.declared.packets.CaptureStop.TheVariants as stops
 use Rattle.drm_faults.specs.declared.fault.Fault.{Fault}
 use Rattle.drm_faults.specs.declared.fault.Fault.TheVariants as faults
 use Rattle.drm_convert.specs.declared.item.Halt.TheVariants as halt

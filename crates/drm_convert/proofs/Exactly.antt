@@ -10,11 +10,11 @@ use Rattle.recv_reading.proofs.Common.{State, made, Taken, Item, Packet, Lost, D
 use Rattle.recv_reading.proofs.Common.{Output, first_of}
 use Rattle.drm_links.specs.Told.{HasCause}
 use Rattle.drm_links.proofs.ToldLemmas.{counts_none, Inputs-nothing, Inputs-weaker}
-use Rattle.drm_capture.specs.Capture as capture
-use Rattle.drm_capture.specs.Capture.{IsCaptureOf, Ending, End}
-use Rattle.drm_capture.specs.Laws.{ReadOneWay, ReadSomeWay}
-use Rattle.drm_capture.specs.Walking.{WalkerState}
-use Rattle.drm_capture.specs.Reading.{HasRead}
+use Rattle.capture_reader.specs.Capture as capture
+use Rattle.capture_reader.specs.Capture.{IsCaptureOf, Ending, End}
+use Rattle.capture_reader.specs.Laws.{ReadOneWay, ReadSomeWay}
+use Rattle.capture_reader.specs.Walking.{WalkerState}
+use Rattle.capture_reader.specs.Reading.{HasRead}
 use Rattle.capture_laws.specs.Laws.{PacketsInFront}
 use Rattle.drm_faults.specs.Fault.{UnlessMemory}
 use Rattle.drm_faults.specs.declared.fault.Fault.{Fault}

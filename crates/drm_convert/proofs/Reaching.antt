@@ -5,10 +5,10 @@ use Rattle.recv_reading.proofs.Common.{Known, Input, Output, Outputs, Taken, Sta
 use Rattle.recv_reading.proofs.Common.{ReadingState, has_enough, has_ended, Reached, ReadsOn}
 use Rattle.recv_reading.specs.declared.options.ReceiveOptions.{ReceiveOptions}
 use Rattle.drm_links.proofs.WritingLemmas.{front_behind}
-use Rattle.drm_capture.specs.Capture.{most_bytes}
-use Rattle.drm_capture.specs.Walking.{WalkerState}
-use Rattle.drm_capture.specs.declared.packets.CaptureStop.{CaptureStop}
-use Rattle.drm_capture.specs.declared.packets.CaptureStop.TheVariants as stops
+use Rattle.capture_reader.specs.Capture.{most_bytes}
+use Rattle.capture_reader.specs.Walking.{WalkerState}
+use Rattle.capture_reader.specs.declared.packets.CaptureStop.{CaptureStop}
+use Rattle.capture_reader.specs.declared.packets.CaptureStop.TheVariants as stops
 use Rattle.dcp_pft.specs.declared.carry.Carry.{Carry}
 use Rattle.recv_reading.specs.Source.{ReadSoFar, HeardUntil}
 use Rattle.recv_reading.specs.Packets.{terms_of}

@@ -4,8 +4,8 @@ use Rattle.std.proofs.lemmas.List.{append-nil}
 use Rattle.dcp_pft.specs.declared.carry.Carry.{Carry}
 use Rattle.recv_reading.proofs.Common.{Item, Known, Input, Output, Outputs, IsFrontBehind, first_of}
 use Rattle.drm_links.proofs.ToldLemmas.{Outputs-nothing, Outputs-weaker}
-use Rattle.drm_capture.specs.declared.packets.CaptureStop.{CaptureStop}
-use Rattle.drm_capture.specs.declared.packets.CaptureStop.TheVariants as stops
+use Rattle.capture_reader.specs.declared.packets.CaptureStop.{CaptureStop}
+use Rattle.capture_reader.specs.declared.packets.CaptureStop.TheVariants as stops
 use Rattle.drm_faults.specs.declared.fault.Fault.{Fault}
 use Rattle.drm_faults.proofs.CaptureLemmas.{each_early}
 use Rattle.recv_reading.specs.Packets.{Terms}

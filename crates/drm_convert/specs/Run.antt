@@ -8,12 +8,12 @@ use Rattle.dcp_collect.specs.Runs.{Item, Steps, Run}
 use Rattle.drm_links.specs.Told.{Known, HasFailed, HasCause}
 use Rattle.drm_links.specs.Source.{Input, Inputs}
 use Rattle.drm_links.specs.Sink.{Output, Outputs, IsFront, IsFrontBehind}
-use Rattle.drm_capture.specs.Front.{IsWhole}
-use Rattle.drm_capture.specs.Capture as capture
-use Rattle.drm_capture.specs.Capture.{IsCaptureOf, Ending, End}
-use Rattle.drm_capture.specs.Reading.{Stops}
-use Rattle.drm_capture.specs.declared.packets.CaptureStop.{CaptureStop}
-use Rattle.drm_capture.specs.declared.packets.CaptureStop.TheVariants as stops
+use Rattle.capture_reader.specs.Front.{IsWhole}
+use Rattle.capture_reader.specs.Capture as capture
+use Rattle.capture_reader.specs.Capture.{IsCaptureOf, Ending, End}
+use Rattle.capture_reader.specs.Reading.{Stops}
+use Rattle.capture_reader.specs.declared.packets.CaptureStop.{CaptureStop}
+use Rattle.capture_reader.specs.declared.packets.CaptureStop.TheVariants as stops
 use Rattle.drm_faults.specs.Captures.{EndsEarlyOr, EndsByIt}
 use Rattle.drm_faults.specs.Fault.{UnlessMemory}
 use Rattle.drm_faults.specs.declared.fault.Fault.{Fault}

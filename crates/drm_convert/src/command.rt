@@ -2,7 +2,7 @@
 
 ghost use Rattle.std.specs.Prelude.{◌≡◌, ◌≤◌, [], true, IfSome, IfOk};
 ghost use Rattle.dcp_collect.specs.State.{made};
-ghost use Rattle.drm_capture.specs.Walking.{new_walker};
+ghost use Rattle.capture_reader.specs.Walking.{new_walker};
 ghost use Rattle.dcp_pft.specs.Carrying.{CarryFits};
 ghost use Rattle.drm_convert.specs.Reading.{ending_of};
 ghost use Rattle.drm_convert.specs.Run.{ConvertRun};
@@ -16,7 +16,7 @@ use dcp_collect::Collector;
 use dcp_pft::Carry;
 use dcp_sender::PacketSender;
 use drm_bits::NoMemory;
-use drm_capture::{Packets, read_one_way, read_some_way};
+use capture_reader::{Packets, read_one_way, read_some_way};
 use drm_faults::Fault;
 use drm_links::{Sink, Source};
 use report_text::LineWriter;

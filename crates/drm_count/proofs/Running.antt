@@ -8,10 +8,10 @@ use Rattle.drm_links.specs.Hearing.{Heard}
 use Rattle.drm_links.specs.declared.dock.Address.{Address}
 use Rattle.drm_links.specs.declared.dock.Opened.TheVariants as opened
 use Rattle.drm_links.proofs.ToldLemmas.{counts_as, counts_none, Tells-nothing, Tells-both, Tells-weaker}
-use Rattle.drm_capture.specs.declared.packets.CaptureStop.{CaptureStop}
-use Rattle.drm_capture.specs.declared.packets.CaptureStop.TheVariants as stops
-use Rattle.drm_capture.specs.Walking.{WalkerState}
-use Rattle.drm_capture.specs.Laws.{ReadSomeWay}
+use Rattle.capture_reader.specs.declared.packets.CaptureStop.{CaptureStop}
+use Rattle.capture_reader.specs.declared.packets.CaptureStop.TheVariants as stops
+use Rattle.capture_reader.specs.Walking.{WalkerState}
+use Rattle.capture_reader.specs.Laws.{ReadSomeWay}
 use Rattle.recv_reading.specs.declared.options.ReceiveOptions.{ReceiveOptions}
 use Rattle.recv_reading.specs.declared.source.SourceFault.{SourceFault}
 use Rattle.recv_reading.specs.declared.source.SourceFault.TheVariants as source

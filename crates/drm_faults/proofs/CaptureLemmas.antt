@@ -1,7 +1,7 @@
 -- A run that reads a capture, by how it ends.
 use Rattle.std.proofs.Common.{ℕ, ◌≡◌, ◌⊎◌, inl, inr, Bool, Result, Ok, Err, refl, ap}
-use Rattle.drm_capture.specs.declared.fault.CaptureFault.{CaptureFault}
-use Rattle.drm_capture.specs.Capture as capture
+use Rattle.capture_reader.specs.declared.fault.CaptureFault.{CaptureFault}
+use Rattle.capture_reader.specs.Capture as capture
 use Rattle.drm_faults.specs.declared.fault.Fault.{Fault}
 use Rattle.drm_faults.specs.declared.fault.Fault.TheVariants as faults
 use Rattle.drm_faults.specs.Captures.{EndsEarlyOr, EndsByIt}

@@ -1,12 +1,12 @@
 -- The line of what is wrong with a capture, and the faults of a run that reads one.
 use Rattle.std.specs.Prelude.{List, ℕ, ◌≡◌, [], ◌∷◌, Bool, Result, Err, codes, decimal}
 use Rattle.std.specs.List.{concat}
-use Rattle.drm_capture.specs.declared.fault.CaptureField.{CaptureField}
-use Rattle.drm_capture.specs.declared.fault.CaptureField.TheVariants.{Sync, HeadCrc, TooLarge, HeadCut, BodyCut}
-use Rattle.drm_capture.specs.declared.fault.CaptureFault.{CaptureFault}
-use Rattle.drm_capture.specs.declared.packets.CaptureStop.{CaptureStop}
-use Rattle.drm_capture.specs.declared.packets.CaptureStop.TheVariants as stops
-use Rattle.drm_capture.specs.Capture as capture
+use Rattle.capture_reader.specs.declared.fault.CaptureField.{CaptureField}
+use Rattle.capture_reader.specs.declared.fault.CaptureField.TheVariants.{Sync, HeadCrc, TooLarge, HeadCut, BodyCut}
+use Rattle.capture_reader.specs.declared.fault.CaptureFault.{CaptureFault}
+use Rattle.capture_reader.specs.declared.packets.CaptureStop.{CaptureStop}
+use Rattle.capture_reader.specs.declared.packets.CaptureStop.TheVariants as stops
+use Rattle.capture_reader.specs.Capture as capture
 use Rattle.drm_faults.specs.declared.fault.Fault.{Fault}
 use Rattle.drm_faults.specs.declared.fault.Fault.TheVariants as faults
 

@@ -4,7 +4,7 @@ ghost use Rattle.std.specs.Prelude.{◌≡◌};
 ghost use Rattle.drm_faults.specs.Captures.{capture_line, field_word};
 ghost use Rattle.text_output.specs.Text.{text_of};
 
-use drm_capture::{CaptureFault, CaptureField};
+use capture_reader::{CaptureFault, CaptureField};
 use text_output::Piece;
 
 /// The line of a fault at a byte of a capture.

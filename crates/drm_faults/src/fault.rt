@@ -9,7 +9,7 @@ use crate::capture::capture_pieces;
 use crate::reason::{schedule_pieces, script_pieces};
 use crate::units::{UnitsFault, units_pieces};
 use drm_bits::NoMemory;
-use drm_capture::{CaptureFault, CaptureStop};
+use capture_reader::{CaptureFault, CaptureStop};
 use drm_fac::FacFault;
 use drm_links::{LinkFault, Sink, Status, WriteFault, write_all};
 use drm_schedule::Reason;

@@ -10,13 +10,13 @@ use Rattle.drm_links.specs.Source.{Input, Inputs}
 use Rattle.drm_links.specs.Sink.{Output, Outputs, IsFront, IsFrontBehind}
 use Rattle.drm_links.proofs.ToldLemmas.{counts_as, counts_none, Inputs-nothing, Inputs-weaker, Outputs-nothing, Outputs-then, Outputs-weaker}
 use Rattle.drm_links.proofs.WritingLemmas.{front_behind, front_more, front_of_both}
-use Rattle.drm_capture.specs.declared.packets.CaptureStop.{CaptureStop}
-use Rattle.drm_capture.specs.declared.packets.CaptureStop.TheVariants as stops
-use Rattle.drm_capture.specs.Capture as capture
-use Rattle.drm_capture.specs.Front.{IsWhole}
-use Rattle.drm_capture.specs.Laws.{ReadOneWay}
-use Rattle.drm_capture.specs.Walking.{WalkerState, new_walker}
-use Rattle.drm_capture.specs.Reading.{HasRead, Stops}
+use Rattle.capture_reader.specs.declared.packets.CaptureStop.{CaptureStop}
+use Rattle.capture_reader.specs.declared.packets.CaptureStop.TheVariants as stops
+use Rattle.capture_reader.specs.Capture as capture
+use Rattle.capture_reader.specs.Front.{IsWhole}
+use Rattle.capture_reader.specs.Laws.{ReadOneWay}
+use Rattle.capture_reader.specs.Walking.{WalkerState, new_walker}
+use Rattle.capture_reader.specs.Reading.{HasRead, Stops}
 use Rattle.report_dump.specs.declared.packet.ShowFault.{ShowFault}
 use Rattle.report_dump.specs.Text.{IsPacketText}
 use Rattle.report_dump.specs.Shown.{Shows}

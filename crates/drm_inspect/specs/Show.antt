@@ -4,12 +4,12 @@ use Rattle.std.specs.List.{concat, flat_map, list_all}
 use Rattle.drm_links.specs.Told.{HasFailed, Known, HasCause}
 use Rattle.drm_links.specs.Source.{Input, Inputs}
 use Rattle.drm_links.specs.Sink.{Output, Outputs, IsFront, IsFrontBehind}
-use Rattle.drm_capture.specs.declared.packets.CaptureStop.{CaptureStop}
-use Rattle.drm_capture.specs.declared.packets.CaptureStop.TheVariants as stops
-use Rattle.drm_capture.specs.Front.{IsWhole}
-use Rattle.drm_capture.specs.Capture as capture
-use Rattle.drm_capture.specs.Walking.{WalkerState}
-use Rattle.drm_capture.specs.Reading.{HasRead, Stops}
+use Rattle.capture_reader.specs.declared.packets.CaptureStop.{CaptureStop}
+use Rattle.capture_reader.specs.declared.packets.CaptureStop.TheVariants as stops
+use Rattle.capture_reader.specs.Front.{IsWhole}
+use Rattle.capture_reader.specs.Capture as capture
+use Rattle.capture_reader.specs.Walking.{WalkerState}
+use Rattle.capture_reader.specs.Reading.{HasRead, Stops}
 use Rattle.report_dump.specs.Text.{IsPacketText}
 use Rattle.report_dump.specs.Lines.{end_packets_line}
 use Rattle.drm_faults.specs.Captures.{EndsEarly}

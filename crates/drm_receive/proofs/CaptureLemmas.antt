@@ -7,12 +7,12 @@ use Rattle.drm_links.specs.Link.{Answer, Datagram, End}
 use Rattle.drm_links.specs.Source.{Input, Inputs}
 use Rattle.drm_links.specs.Sink.{Output}
 use Rattle.drm_links.proofs.ToldLemmas.{Inputs-nothing, Inputs-weaker}
-use Rattle.drm_capture.specs.declared.packets.CaptureStop.{CaptureStop}
-use Rattle.drm_capture.specs.declared.packets.CaptureStop.TheVariants as stops
-use Rattle.drm_capture.specs.Front.{IsWhole}
-use Rattle.drm_capture.specs.Capture as capture
-use Rattle.drm_capture.specs.Laws.{ReadSomeWay}
-use Rattle.drm_capture.specs.Reading.{Breaks}
+use Rattle.capture_reader.specs.declared.packets.CaptureStop.{CaptureStop}
+use Rattle.capture_reader.specs.declared.packets.CaptureStop.TheVariants as stops
+use Rattle.capture_reader.specs.Front.{IsWhole}
+use Rattle.capture_reader.specs.Capture as capture
+use Rattle.capture_reader.specs.Laws.{ReadSomeWay}
+use Rattle.capture_reader.specs.Reading.{Breaks}
 use Rattle.recv_reading.specs.declared.options.ReceiveOptions.{ReceiveOptions}
 use Rattle.recv_report.specs.declared.capture.Unfinished.{Unfinished}
 use Rattle.recv_report.specs.declared.capture.Unfinished.TheVariants as unfinished

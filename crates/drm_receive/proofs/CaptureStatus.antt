@@ -5,8 +5,8 @@ use Rattle.drm_links.specs.Link.{Answer}
 use Rattle.drm_links.specs.Source.{Input, Inputs}
 use Rattle.drm_links.specs.Sink.{Output}
 use Rattle.drm_links.proofs.ToldLemmas.{Inputs-weaker}
-use Rattle.drm_capture.specs.Capture as capture
-use Rattle.drm_capture.proofs.CaptureLaws.{read_one_way}
+use Rattle.capture_reader.specs.Capture as capture
+use Rattle.capture_reader.proofs.CaptureLaws.{read_one_way}
 use Rattle.recv_reading.specs.declared.options.ReceiveOptions.{ReceiveOptions}
 use Rattle.drm_links.specs.Hearing.{AreNext}
 use Rattle.report_text.specs.Reports.{Report}

@@ -4,8 +4,8 @@ use Rattle.drm_links.specs.Told.{HasFailed, Known, HasCause}
 use Rattle.drm_links.specs.Link.{Answer}
 use Rattle.drm_links.specs.Source.{Input, Inputs}
 use Rattle.drm_links.specs.Sink.{Output, Outputs}
-use Rattle.drm_capture.specs.declared.packets.CaptureStop.TheVariants as stops
-use Rattle.drm_capture.specs.Capture as capture
+use Rattle.capture_reader.specs.declared.packets.CaptureStop.TheVariants as stops
+use Rattle.capture_reader.specs.Capture as capture
 use Rattle.recv_reading.specs.declared.options.ReceiveOptions.{ReceiveOptions}
 use Rattle.recv_report.specs.Received.{Reported, Broken, Stopped}
 use Rattle.report_text.specs.Reports.{Report}

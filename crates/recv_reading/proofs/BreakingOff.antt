@@ -5,10 +5,10 @@ use Rattle.std.proofs.Math.Seq.{take-append_seam}
 use Rattle.std.proofs.lemmas.List.{append-nil}
 use Rattle.recv_reading.proofs.Common.{Item, Known, Input, Inputs}
 use Rattle.drm_links.proofs.ToldLemmas.{Inputs-weaker}
-use Rattle.drm_capture.specs.Capture.{IsCaptureOf, Ending, End}
-use Rattle.drm_capture.specs.Laws.{ReadOneWay}
+use Rattle.capture_reader.specs.Capture.{IsCaptureOf, Ending, End}
+use Rattle.capture_reader.specs.Laws.{ReadOneWay}
 use Rattle.capture_laws.specs.Laws.{PacketsInFront}
-use Rattle.drm_capture.specs.declared.packets.CaptureStop.{CaptureStop}
+use Rattle.capture_reader.specs.declared.packets.CaptureStop.{CaptureStop}
 use Rattle.recv_reading.specs.Packets.{Terms, HasEnough, NoneShorter, AreEnough, BreaksOffBy}
 use Rattle.recv_reading.specs.Given.{GivesAll, GivesUntil}
 

@@ -7,12 +7,12 @@ use Rattle.std.proofs.lemmas.List.Elements.{All-head, All-tail, filter_map-appen
 use Rattle.recv_reading.proofs.Common.{Known, Answer, Datagram, Failed, End, datagram_of, Input, Inputs, Taken, State, made}
 use Rattle.recv_reading.proofs.Common.{ready, Item, IsItem, Steps, ReceiveOptions, EndWord, datagrams, Gave, HasGiven, HaveEnded}
 use Rattle.recv_reading.proofs.Common.{EndsBy, GoesOn, IsBroken, ReadingState, is_full, has_enough, Reached}
-use Rattle.drm_capture.specs.declared.packets.CaptureStop.{CaptureStop}
-use Rattle.drm_capture.specs.Front.{IsWhole, Af, Pft, Other}
-use Rattle.drm_capture.specs.Capture as capture
-use Rattle.drm_capture.specs.Capture.{most_bytes}
-use Rattle.drm_capture.specs.Walking.{WalkerState}
-use Rattle.drm_capture.specs.Reading.{HasRead}
+use Rattle.capture_reader.specs.declared.packets.CaptureStop.{CaptureStop}
+use Rattle.capture_reader.specs.Front.{IsWhole, Af, Pft, Other}
+use Rattle.capture_reader.specs.Capture as capture
+use Rattle.capture_reader.specs.Capture.{most_bytes}
+use Rattle.capture_reader.specs.Walking.{WalkerState}
+use Rattle.capture_reader.specs.Reading.{HasRead}
 use Rattle.recv_reading.specs.declared.reason.EndWord.TheVariants as word
 use Rattle.recv_reading.specs.Ending.{idles, ComesTo}
 use Rattle.recv_reading.specs.Source.{ReadSoFar, HeardUntil}

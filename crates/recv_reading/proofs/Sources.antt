@@ -3,12 +3,12 @@ use Rattle.std.proofs.Common.{◌≡◌, ℕ, inl, inr, Bool, List, [], ◌∷�
 use Rattle.std.proofs.lemmas.List.Elements.{All-nil}
 use Rattle.recv_reading.proofs.Common.{Known, Answer, Datagram, Failed, End, Input, Inputs, HaveEnded}
 use Rattle.drm_links.proofs.ToldLemmas.{Inputs-nothing}
-use Rattle.drm_capture.specs.declared.packets.CaptureStop.{CaptureStop}
-use Rattle.drm_capture.specs.declared.packets.CaptureStop.TheVariants as stops
-use Rattle.drm_capture.specs.Front.{IsWhole}
-use Rattle.drm_capture.specs.Capture as capture
-use Rattle.drm_capture.specs.Walking.{WalkerState, new_walker}
-use Rattle.drm_capture.specs.Reading.{HasRead, Stops}
+use Rattle.capture_reader.specs.declared.packets.CaptureStop.{CaptureStop}
+use Rattle.capture_reader.specs.declared.packets.CaptureStop.TheVariants as stops
+use Rattle.capture_reader.specs.Front.{IsWhole}
+use Rattle.capture_reader.specs.Capture as capture
+use Rattle.capture_reader.specs.Walking.{WalkerState, new_walker}
+use Rattle.capture_reader.specs.Reading.{HasRead, Stops}
 use Rattle.recv_reading.specs.Source.{ReadSoFar, HeardUntil}
 
 -- nothing was read yet

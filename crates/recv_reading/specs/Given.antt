@@ -5,9 +5,9 @@ use Rattle.dcp_collect.specs.State.{State, made}
 use Rattle.dcp_collect.specs.Runs.{Item, Steps, Run}
 use Rattle.drm_links.specs.Told.{Known}
 use Rattle.drm_links.specs.Source.{Input}
-use Rattle.drm_capture.specs.declared.packets.CaptureStop.{CaptureStop}
-use Rattle.drm_capture.specs.Front.{IsWhole}
-use Rattle.drm_capture.specs.Reading.{Stops}
+use Rattle.capture_reader.specs.declared.packets.CaptureStop.{CaptureStop}
+use Rattle.capture_reader.specs.Front.{IsWhole}
+use Rattle.capture_reader.specs.Reading.{Stops}
 use Rattle.recv_reading.specs.Packets.{Terms, HasEnough, NoneShorter, AreEnough, ComesAt, AreReadBy}
 use Rattle.recv_reading.specs.State.{is_full}
 

@@ -6,9 +6,9 @@ use Rattle.dcp_collect.specs.Runs.{Item, IsItem, Takes, Steps}
 use Rattle.law_collect.specs.Laws.{Given}
 use Rattle.drm_links.specs.Told.{Known}
 use Rattle.drm_links.specs.Source.{Input, Inputs}
-use Rattle.drm_capture.specs.Capture.{IsCaptureOf, Ending, End}
-use Rattle.drm_capture.specs.Walking.{WalkerState}
-use Rattle.drm_capture.specs.Reading.{HasRead}
+use Rattle.capture_reader.specs.Capture.{IsCaptureOf, Ending, End}
+use Rattle.capture_reader.specs.Walking.{WalkerState}
+use Rattle.capture_reader.specs.Reading.{HasRead}
 use Rattle.recv_reading.specs.declared.options.ReceiveOptions.{ReceiveOptions}
 use Rattle.recv_reading.specs.State.{is_full}
 

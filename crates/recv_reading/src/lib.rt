@@ -1,6 +1,6 @@
 //! A reading: datagrams of a link or of a capture are taken one after another, what a collector makes of them is given item by
 //! item, and for the first reason that holds nothing more is read. Whoever receives does it by this crate, and adds what it
-//! makes of each item. It stands on the collector (`dcp_collect`), the links (`drm_links`) and the captures (`drm_capture`), and
+//! makes of each item. It stands on the collector (`dcp_collect`), the links (`drm_links`) and the captures (`capture_reader`), and
 //! knows nothing of reports or commands. Begin with `Reading`.
 #![tactic(auto)]
 

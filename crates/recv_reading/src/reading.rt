@@ -3,7 +3,7 @@
 ghost use Rattle.std.specs.Prelude.{ℕ, ◌≡◌, ◌<◌, ◌≤◌, ◌^◌, List, [], ◌∷◌, ◌++◌, true, None, Err, IfSome, IfErr, OnOk};
 ghost use Rattle.drm_links.specs.Link.{Answer, Datagram, Idle, End};
 ghost use Rattle.drm_links.specs.Told.{Counts, HasCause};
-ghost use Rattle.drm_capture.specs.declared.packets.CaptureStop.{CaptureStop};
+ghost use Rattle.capture_reader.specs.declared.packets.CaptureStop.{CaptureStop};
 ghost use Rattle.dcp_collect.specs.declared.taken.Taken.{Taken};
 ghost use Rattle.dcp_collect.specs.State.{after_item, after_finish};
 ghost use Rattle.dcp_collect.specs.Runs.{Item, IsItem};
@@ -17,7 +17,7 @@ use crate::options::Bounds;
 use crate::reason::EndWord;
 use crate::source::{Datagrams, SourceFault};
 use dcp_collect::{Collector, Taken};
-use drm_capture::{CaptureStop, Packets};
+use capture_reader::{CaptureStop, Packets};
 use drm_links::Source;
 use std::marker::Model;
 

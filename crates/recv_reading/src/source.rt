@@ -14,7 +14,7 @@ ghost use Rattle.recv_reading.specs.Source.{ReadSoFar, StopsReading, BreaksLink,
 
 use crate::reading::Reading;
 use dcp_collect::{Collector, Taken};
-use drm_capture::{CaptureStop, Packets};
+use capture_reader::{CaptureStop, Packets};
 use drm_links::{Came, Link, Source};
 
 /// Why no datagram can be had any more.

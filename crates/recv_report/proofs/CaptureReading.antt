@@ -2,7 +2,7 @@
 use Rattle.std.proofs.Common.{◌≡◌, Bool, ap, ◌∙◌}
 use Rattle.recv_reading.proofs.Common.{Known, Input, Output, State, made, bounds_of, options_of}
 use Rattle.recv_reading.specs.declared.options.ReceiveOptions.{ReceiveOptions}
-use Rattle.drm_capture.specs.Walking.{WalkerState}
+use Rattle.capture_reader.specs.Walking.{WalkerState}
 use Rattle.recv_reading.specs.declared.options.Bounds.{Bounds}
 use Rattle.recv_reading.specs.Source.{ReadSoFar, HeardOf}
 use Rattle.recv_report.specs.Received.{Reported, Stopped}

@@ -1,6 +1,6 @@
 -- Which call failed where a report isn't whole.
 use Rattle.std.specs.Prelude.{Result, Ok, Err}
-use Rattle.drm_capture.specs.declared.packets.CaptureStop.TheVariants as stops
+use Rattle.capture_reader.specs.declared.packets.CaptureStop.TheVariants as stops
 use Rattle.recv_reading.specs.declared.source.SourceFault.TheVariants as faults
 use Rattle.recv_report.specs.declared.reading.ReceiveFault.{ReceiveFault}
 use Rattle.recv_report.specs.declared.reading.ReceiveFault.TheVariants as fault

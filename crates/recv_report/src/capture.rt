@@ -2,7 +2,7 @@
 
 ghost use Rattle.std.specs.Prelude.{◌≡◌, Err};
 ghost use Rattle.drm_links.specs.Told.{HasCause};
-ghost use Rattle.drm_capture.specs.declared.packets.CaptureStop.{CaptureStop};
+ghost use Rattle.capture_reader.specs.declared.packets.CaptureStop.{CaptureStop};
 ghost use Rattle.recv_reading.specs.Options.{AreInRange};
 ghost use Rattle.recv_report.specs.Captures.{EndsReceiving};
 ghost use Rattle.recv_report.specs.declared.capture.Unfinished.{Unfinished};
@@ -10,7 +10,7 @@ ghost use Rattle.recv_report.specs.declared.capture.Unfinished.{Unfinished};
 use crate::reading::{ReceiveFault, write_report};
 use dcp_collect::Collector;
 use drm_bits::NoMemory;
-use drm_capture::{CaptureStop, Packets};
+use capture_reader::{CaptureStop, Packets};
 use drm_links::{Sink, Source};
 use mod_feed::Feed;
 use recv_reading::{ReceiveOptions, SourceFault};

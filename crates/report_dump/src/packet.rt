@@ -9,7 +9,7 @@ use crate::bad::{plain, write_bad};
 use crate::fragment::write_fragment;
 use crate::whole::write_af;
 use dcp_pft::read_fragment;
-use drm_capture::Packet;
+use capture_reader::Packet;
 use drm_links::{Sink, WriteFault};
 use report_text::pft_words;
 use std::alloc::Global;

@@ -1,5 +1,5 @@
 use Rattle.std.proofs.Common.{◌≡◌, ◌-◌, ◌≤◌}
-use Rattle.drm_capture.specs.Capture.{most_bytes}
+use Rattle.capture_reader.specs.Capture.{most_bytes}
 use Rattle.drm_inspect.proofs.ShowLemmas.{HasShown}
 use Rattle.drm_inspect.proofs.show_command.show.Given as goal
 

@@ -1,5 +1,0 @@
-use Rattle.drm_capture.proofs.FrontLaws.{one_front, packet_alone, cut_size}
-use Rattle.drm_capture.proofs.laws.one_front.Goals as goal
-
-pub returns : goal.returns
-returns c = one_front
