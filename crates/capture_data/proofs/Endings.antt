@@ -6,7 +6,7 @@ use Rattle.drm_links.proofs.ToldLemmas.{counts_none, Inputs-nothing, Inputs-weak
 use Rattle.drm_links.proofs.WritingLemmas.{Writes-done, Writes-front, front_behind}
 use Rattle.capture_reader.specs.Capture as capture
 use Rattle.capture_reader.specs.Laws.{ReadOneWay}
-use Rattle.capture_laws.specs.Laws.{PacketsInFront}
+use Rattle.law_capture.specs.Laws.{PacketsInFront}
 use Rattle.mod_feed.specs.Items.{Item}
 use Rattle.drm_faults.specs.Captures.{EndsEarly, EndsByIt}
 use Rattle.drm_faults.specs.Fault.{UnlessMemory}

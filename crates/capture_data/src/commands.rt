@@ -10,7 +10,7 @@ use crate::messages::MessageTaker;
 use crate::reading::take_capture;
 use crate::taker::Taker;
 use crate::units::UnitTaker;
-use capture_laws::packets_in_front;
+use law_capture::packets_in_front;
 use capture_reader::read_one_way;
 use drm_data::Joiner;
 use drm_faults::Fault;

@@ -13,7 +13,7 @@ use Rattle.capture_reader.specs.Capture.{IsCaptureOf, End}
 use Rattle.capture_reader.specs.Front.{IsWhole}
 use Rattle.capture_reader.specs.Reading.{Breaks}
 use Rattle.capture_reader.specs.Laws.{ReadOneWay}
-use Rattle.capture_laws.specs.Laws.{PacketsInFront}
+use Rattle.law_capture.specs.Laws.{PacketsInFront}
 use Rattle.drm_schedule.specs.declared.plan.Plan.{Plan}
 use Rattle.drm_server.specs.Capture.{IsCapture, IsFrontOfCapture}
 use Rattle.drm_server.proofs.CaptureLemmas.{end_written}

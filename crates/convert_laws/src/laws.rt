@@ -2,7 +2,7 @@
 
 ghost use Rattle.convert_laws.specs.Laws.{Converting, ConvertingEarly, FirstIsKnown, FirstOfAll, NoneIsTooLarge, ConversionsAreCaptures, BrokenConversions, HaltedConversions, CapturesAreConverted};
 
-use capture_laws::packets_in_front;
+use law_capture::packets_in_front;
 use law_collect::{
     collecting, giving_ends, in_time, one_reading, one_run, refusing, steps_count, steps_part,
 };

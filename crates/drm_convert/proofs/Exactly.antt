@@ -15,7 +15,7 @@ use Rattle.capture_reader.specs.Capture.{IsCaptureOf, Ending, End}
 use Rattle.capture_reader.specs.Laws.{ReadOneWay, ReadSomeWay}
 use Rattle.capture_reader.specs.Walking.{WalkerState}
 use Rattle.capture_reader.specs.Reading.{HasRead}
-use Rattle.capture_laws.specs.Laws.{PacketsInFront}
+use Rattle.law_capture.specs.Laws.{PacketsInFront}
 use Rattle.drm_faults.specs.Fault.{UnlessMemory}
 use Rattle.drm_faults.specs.declared.fault.Fault.{Fault}
 use Rattle.drm_faults.specs.declared.fault.Fault.TheVariants as faults

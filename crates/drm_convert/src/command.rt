@@ -11,7 +11,7 @@ ghost use Rattle.recv_reading.specs.Packets.{Terms};
 use crate::item::Halt;
 use crate::naming::Progress;
 use crate::reading::{Unconverted, convert_packets};
-use capture_laws::packets_in_front;
+use law_capture::packets_in_front;
 use dcp_collect::Collector;
 use dcp_pft::Carry;
 use dcp_sender::PacketSender;

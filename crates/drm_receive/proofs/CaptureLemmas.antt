@@ -30,7 +30,7 @@ use Rattle.drm_faults.specs.Captures.{EndsEarly}
 use Rattle.drm_faults.proofs.CauseLemmas.{inner_fault}
 use Rattle.drm_receive.specs.Capture.{BreaksOffBy, Ends, WritesReport}
 use Rattle.drm_receive.specs.Stopping.{ending_captured}
-use Rattle.capture_laws.proofs.CaptureFronts.{packets_front}
+use Rattle.law_capture.proofs.CaptureFronts.{packets_front}
 use Rattle.drm_receive.proofs.CaptureStatus.{Says}
 use Rattle.drm_receive.proofs.ReceiveLemmas.{no_fault}
 

@@ -7,7 +7,7 @@ use Rattle.recv_reading.proofs.Common.{Item, Known, Input, Inputs}
 use Rattle.drm_links.proofs.ToldLemmas.{Inputs-weaker}
 use Rattle.capture_reader.specs.Capture.{IsCaptureOf, Ending, End}
 use Rattle.capture_reader.specs.Laws.{ReadOneWay}
-use Rattle.capture_laws.specs.Laws.{PacketsInFront}
+use Rattle.law_capture.specs.Laws.{PacketsInFront}
 use Rattle.capture_reader.specs.declared.packets.CaptureStop.{CaptureStop}
 use Rattle.recv_reading.specs.Packets.{Terms, HasEnough, NoneShorter, AreEnough, BreaksOffBy}
 use Rattle.recv_reading.specs.Given.{GivesAll, GivesUntil}

@@ -7,7 +7,7 @@ use Rattle.std.proofs.lemmas.List.Elements.{All-head, All-tail}
 use Rattle.capture_reader.specs.declared.fault.CaptureField.{CaptureField}
 use Rattle.capture_reader.specs.Front.{Packet, Wrong, Cut, Begins, IsWhole}
 use Rattle.capture_reader.specs.Capture.{Ending, End, Fault, TooLong, EndsWith, most_bytes}
-use Rattle.capture_laws.specs.Laws.{PacketsInFront}
+use Rattle.law_capture.specs.Laws.{PacketsInFront}
 use Rattle.capture_reader.proofs.FrontLaws.{one_front, packet_in_front, packet_alone, packet_size}
 
 in_front : (p more : List ℕ) → IsWhole p → Begins (p ++ more) (Packet (length p))
