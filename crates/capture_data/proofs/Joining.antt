@@ -8,9 +8,9 @@ use Rattle.drm_links.specs.Sink.{Output}
 use Rattle.std.specs.List.{AllByRecursion}
 use Rattle.drm_bits.specs.Bits.{IsBytes}
 use Rattle.drm_data.specs.Joining.{Event, Came, Broken, Gap, State, Begun, Answer, Silent, Whole, CutOff, CutWhole, Refuses, cut_answer, answer, after, begun_after, closed}
-use Rattle.data_laws.specs.Readings.{AreEvents}
-use Rattle.data_laws.specs.Runs.{answers, after_all, unit_in, with_unit, units_in, cuts_in}
-use Rattle.data_laws.proofs.Totals.{some_event}
+use Rattle.law_data.specs.Readings.{AreEvents}
+use Rattle.law_data.specs.Runs.{answers, after_all, unit_in, with_unit, units_in, cuts_in}
+use Rattle.law_data.proofs.Totals.{some_event}
 use Rattle.capture_data.specs.declared.counts.Counts.{Counts}
 use Rattle.capture_data.specs.declared.units.UnitTaker.{UnitTaker}
 use Rattle.capture_data.specs.Lines.{cut_line, answer_text, answers_text}

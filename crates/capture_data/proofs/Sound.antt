@@ -8,7 +8,7 @@ use Rattle.capture_reader.specs.declared.packets.CaptureStop.{CaptureStop}
 use Rattle.capture_reader.specs.declared.packets.CaptureStop.TheVariants as stops
 use Rattle.mod_feed.specs.Items.{Item}
 use Rattle.drm_data.specs.Joining.{made}
-use Rattle.data_laws.specs.Runs.{answers, after_all}
+use Rattle.law_data.specs.Runs.{answers, after_all}
 use Rattle.drm_text.specs.Joining as joining
 use Rattle.drm_faults.specs.declared.fault.Fault.{Fault}
 use Rattle.drm_faults.specs.Captures.{EndsEarly}

@@ -5,8 +5,8 @@ use Rattle.std.specs.Int.{from_bool}
 use Rattle.dcp_collect.specs.Runs.{Item as Given}
 use Rattle.mod_feed.specs.Items.{Item, IsItemOf}
 use Rattle.drm_data.specs.Joining.{Event, Answer, Refuses, made}
-use Rattle.data_laws.specs.Readings.{AreEvents}
-use Rattle.data_laws.specs.Runs.{answers, after_all, units_in, cuts_in}
+use Rattle.law_data.specs.Readings.{AreEvents}
+use Rattle.law_data.specs.Runs.{answers, after_all, units_in, cuts_in}
 use Rattle.drm_text.specs.Joining as joining
 use Rattle.text_laws.specs.Runs.{Runs, messages_in}
 use Rattle.capture_data.specs.declared.counts.Counts.{Counts}

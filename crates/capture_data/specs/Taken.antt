@@ -12,8 +12,8 @@ use Rattle.recv_reading.specs.Packets.{Terms}
 use Rattle.recv_reading.specs.Given.{GivesAll}
 use Rattle.mod_feed.specs.Items.{Item}
 use Rattle.drm_data.specs.Joining.{Event, Answer, Silent, Whole, CutOff, CutWhole, Refuses, made}
-use Rattle.data_laws.specs.Readings.{AreEvents}
-use Rattle.data_laws.specs.Runs.{answers, after_all, units_in, cuts_in}
+use Rattle.law_data.specs.Readings.{AreEvents}
+use Rattle.law_data.specs.Runs.{answers, after_all, units_in, cuts_in}
 use Rattle.drm_text.specs.Segment.{Segment}
 use Rattle.drm_text.specs.Joining as joining
 use Rattle.drm_text.specs.Taking.{Tells, text_of}

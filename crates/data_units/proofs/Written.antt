@@ -11,7 +11,7 @@ use Rattle.drm_links.proofs.WritingLemmas.{Writes-broken, Writes-whole}
 use Rattle.drm_data.specs.Packet.{Packet}
 use Rattle.drm_data.specs.Units.{unit_packet, packet_count, next_continuity, packets_from, unit_packets, packets_after, packets}
 use Rattle.drm_data.specs.Writing.{IsWritten, Packing, new_packer, after_packet}
-use Rattle.data_laws.proofs.Totals.{some_written}
+use Rattle.law_data.proofs.Totals.{some_written}
 use Rattle.data_units.specs.Units.{BeginsWith, AreUnits}
 use Rattle.data_units.specs.Packed.{AreWritten, after_unit}
 use Rattle.data_units.proofs.Files.{one_begin, begin_size}

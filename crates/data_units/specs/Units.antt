@@ -2,7 +2,7 @@
 use Rattle.std.specs.Prelude.{ℕ, ◌≡◌, ◌+◌, ◌<◌, ◌≤◌, ◌⊎◌, List, [], ◌∷◌, ◌++◌, length, take, Result, Ok, Err}
 use Rattle.std.specs.Int.{w32, from_be_bytes}
 use Rattle.drm_data.specs.Units.{most_unit}
-use Rattle.data_laws.specs.Losses.{IsUnit}
+use Rattle.law_data.specs.Losses.{IsUnit}
 use Rattle.drm_faults.specs.declared.units.UnitsReason.{UnitsReason}
 use Rattle.drm_faults.specs.declared.units.UnitsReason.TheVariants.{Empty, TooLong, Cut}
 use Rattle.drm_faults.specs.declared.units.UnitsFault.{UnitsFault}

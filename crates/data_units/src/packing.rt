@@ -3,7 +3,7 @@
 ghost use Rattle.std.specs.Prelude.{◌≡◌, ◌<◌, ◌≤◌, ℕ, List, [], OnOk};
 ghost use Rattle.drm_links.specs.Sink.{Writes};
 ghost use Rattle.drm_data.specs.Units.{unit_packets};
-ghost use Rattle.data_laws.specs.Losses.{IsUnit};
+ghost use Rattle.law_data.specs.Losses.{IsUnit};
 ghost use Rattle.data_units.specs.Units.{AreUnits};
 ghost use Rattle.data_units.specs.Packed.{AreWritten, ArePacked, after_unit};
 

@@ -5,7 +5,7 @@ use Rattle.std.specs.Int.{from_bool}
 use Rattle.drm_data.specs.Packet.{Packet}
 use Rattle.drm_data.specs.Units.{most_unit, next_continuity}
 use Rattle.drm_data.specs.Joining.{Event, Came, Gap, State, Begun, Silent, Whole, CutOff, CutWhole, goes_on, is_unit, begun_by, begun_after, answer_after, cut_answer, answer, after}
-use Rattle.data_laws.specs.Runs.{answers, after_all, unit_in, tells_cut, with_unit, units_in, cuts_in}
+use Rattle.law_data.specs.Runs.{answers, after_all, unit_in, tells_cut, with_unit, units_in, cuts_in}
 
 abbrev open_in : State → ℕ
 open_in s = from_bool (is_some s.begun)

@@ -17,7 +17,7 @@ use Rattle.law_delivery.specs.Sent.{pairs_in, frame_of_number, shape_at}
 use Rattle.law_delivery.proofs.Numbering.{frame_within}
 use Rattle.drm_data.specs.Packet.{Packet}
 use Rattle.drm_data.specs.Joining.{Event, Gap, State, made, closed}
-use Rattle.data_laws.specs.Runs.{answers, cuts_in}
+use Rattle.law_data.specs.Runs.{answers, cuts_in}
 use Rattle.mod_feed.specs.Items.{Item}
 use Rattle.capture_data.specs.Streams.{What, UnitsOf, stream_of, pieces_of, entries_of, entries_at}
 use Rattle.unpack_laws.specs.Frames.{Carried, came_of, packets_of, Brings, BringAll}

@@ -7,8 +7,8 @@ use Rattle.std.proofs.Common.{append_assoc}
 use Rattle.std.proofs.lemmas.List.Concat.{flat_map-append}
 use Rattle.drm_data.specs.Units.{packets}
 use Rattle.drm_data.specs.Joining.{Event, Gap, State, Answer, Begun, made, closed, answer, after, cut_answer}
-use Rattle.data_laws.specs.Losses.{IsUnit}
-use Rattle.data_laws.specs.Runs.{answers, after_all, unit_in, with_unit, units_in, cuts_in}
+use Rattle.law_data.specs.Losses.{IsUnit}
+use Rattle.law_data.specs.Runs.{answers, after_all, unit_in, with_unit, units_in, cuts_in}
 use Rattle.mod_feed.specs.Items.{Item}
 use Rattle.capture_data.specs.Streams.{What, UnitsOf, reading, bad_in, missing_in}
 use Rattle.capture_data.specs.Lines.{cut_line, answer_text, answers_text, units_end, units_end_text, is_clean}

@@ -5,10 +5,10 @@ use Rattle.drm_data.specs.Packet.{Packet}
 use Rattle.drm_data.specs.Units.{packets}
 use Rattle.drm_data.specs.Joining.{Event, Came, Gap, State, made, answer, after}
 use Rattle.drm_data.proofs.Joinings.{one_event}
-use Rattle.data_laws.specs.Losses as losses
-use Rattle.data_laws.specs.Readings.{AreEvents}
-use Rattle.data_laws.specs.Runs.{answers, after_all, unit_in, tells_cut, with_unit, units_in, cuts_in}
-use Rattle.data_laws.proofs.LostPackets.{gives_what_is_whole}
+use Rattle.law_data.specs.Losses as losses
+use Rattle.law_data.specs.Readings.{AreEvents}
+use Rattle.law_data.specs.Runs.{answers, after_all, unit_in, tells_cut, with_unit, units_in, cuts_in}
+use Rattle.law_data.proofs.LostPackets.{gives_what_is_whole}
 use Rattle.mod_feed.specs.Items.{Item}
 use Rattle.capture_data.specs.Streams.{What, entries_at, reading}
 use Rattle.capture_data.proofs.Joining.{events_join}

@@ -15,7 +15,7 @@ use Rattle.law_collect.specs.Delivery.{got, newest_of}
 use Rattle.law_delivery.specs.Sent.{Arrival, pairs_in, shape_at, IsFollowed}
 use Rattle.drm_data.specs.Packet.{Packet}
 use Rattle.drm_data.specs.Units.{packets}
-use Rattle.data_laws.specs.Losses.{IsUnit}
+use Rattle.law_data.specs.Losses.{IsUnit}
 use Rattle.mod_feed.specs.Items.{Item}
 use Rattle.capture_data.specs.Streams.{UnitsOf, pieces_in}
 use Rattle.capture_data.specs.Printed.{AreItems, IsWholeText}

@@ -3,8 +3,8 @@ use Rattle.std.specs.Prelude.{ℕ, ◌≡◌, ◌≤◌, Bool, false, List, ◌+
 use Rattle.std.specs.List.{AllByRecursion}
 use Rattle.drm_data.specs.Units.{packets}
 use Rattle.drm_data.specs.Joining.{Answer, made}
-use Rattle.data_laws.specs.Losses.{IsUnit, whole_units, cut_count}
-use Rattle.data_laws.specs.Runs.{answers, after_all, units_in, cuts_in}
+use Rattle.law_data.specs.Losses.{IsUnit, whole_units, cut_count}
+use Rattle.law_data.specs.Runs.{answers, after_all, units_in, cuts_in}
 use Rattle.mod_feed.specs.Items.{Item}
 use Rattle.capture_data.specs.Streams.{UnitsOf}
 use Rattle.capture_data.specs.Lines.{answers_text, units_end, is_clean}

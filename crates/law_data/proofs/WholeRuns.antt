@@ -8,11 +8,11 @@ use Rattle.drm_data.specs.Packet.{Packet}
 use Rattle.drm_data.specs.Units.{most_unit}
 use Rattle.drm_data.specs.Joining.{Event, Came, Broken, Gap, Reads, Begun, State, Silent, made, begun_after, answer_after, cut_answer, answer, after}
 use Rattle.drm_data.proofs.Spellings.{useful_fit}
-use Rattle.data_laws.specs.Readings.{AreEvents, of_id, AreChained, IsOpen, Ends, AreUnits}
-use Rattle.data_laws.specs.Runs.{answers, after_all, unit_in, tells_cut, with_unit, units_in}
-use Rattle.data_laws.specs.Laws.{AnswersRight, JoinsUnits, AnswersEach, KnowsOpen}
-use Rattle.data_laws.proofs.Cases.{case_of}
-use Rattle.data_laws.proofs.Steps.{Knows, clash_some, knows_past, knows_break, open_some, some_open, knows_mine, ends_given, given_ends, told_cuts, cuts_told}
+use Rattle.law_data.specs.Readings.{AreEvents, of_id, AreChained, IsOpen, Ends, AreUnits}
+use Rattle.law_data.specs.Runs.{answers, after_all, unit_in, tells_cut, with_unit, units_in}
+use Rattle.law_data.specs.Laws.{AnswersRight, JoinsUnits, AnswersEach, KnowsOpen}
+use Rattle.law_data.proofs.Cases.{case_of}
+use Rattle.law_data.proofs.Steps.{Knows, clash_some, knows_past, knows_break, open_some, some_open, knows_mine, ends_given, given_ends, told_cuts, cuts_told}
 
 -- a packet brings no more than a unit may have
 abbrev pub IsSmall : Event → Type 0

@@ -7,9 +7,9 @@ use Rattle.drm_data.specs.Packet.{Packet}
 use Rattle.drm_data.specs.Units.{packets}
 use Rattle.drm_data.specs.Writing.{IsWritten}
 use Rattle.drm_data.specs.Joining.{Event, Came, Reads, State, made, answer}
-use Rattle.data_laws.specs.Readings.{AreEvents, IsOpen, Ends, AreUnits, Cuts}
-use Rattle.data_laws.specs.Runs.{answers, after_all, unit_in, tells_cut, units_in, cuts_in, begun_count}
-use Rattle.data_laws.specs.Losses.{IsUnit, kept_of, whole_units, cut_count}
+use Rattle.law_data.specs.Readings.{AreEvents, IsOpen, Ends, AreUnits, Cuts}
+use Rattle.law_data.specs.Runs.{answers, after_all, unit_in, tells_cut, units_in, cuts_in, begun_count}
+use Rattle.law_data.specs.Losses.{IsUnit, kept_of, whole_units, cut_count}
 
 -- bytes are one event
 abbrev pub OneEvent : Type 0

@@ -1,6 +1,6 @@
 //! The laws of joining packets, each on a function that does nothing.
 
-ghost use Rattle.data_laws.specs.Laws.{OneEvent, SomeEvent, WrittenIsRead, JoinsUnits, AnswersEach, KnowsOpen, TellsEachOnce, GivesWhatIsWhole};
+ghost use Rattle.law_data.specs.Laws.{OneEvent, SomeEvent, WrittenIsRead, JoinsUnits, AnswersEach, KnowsOpen, TellsEachOnce, GivesWhatIsWhole};
 
 /// Bytes are one packet, or are refused for one reason.
 pub fn one_event()

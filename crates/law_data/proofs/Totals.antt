@@ -17,7 +17,7 @@ use Rattle.drm_data.specs.Joining.{Event, Came, Broken, Reads}
 use Rattle.drm_data.specs.Writing.{IsWritten, Fits}
 use Rattle.drm_data.proofs.Joinings.{one_event}
 use Rattle.drm_data.proofs.Spellings.{packet_at, found_at}
-use Rattle.data_laws.specs.Laws.{WrittenIsRead}
+use Rattle.law_data.specs.Laws.{WrittenIsRead}
 
 -- the register of sixteen bits behind these bytes
 abbrev low : List Bool

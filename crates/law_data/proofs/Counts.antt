@@ -4,10 +4,10 @@ use Rattle.std.specs.Int.{from_bool}
 use Rattle.std.proofs.lemmas.Bool.{cases_eq, ne_eqb}
 use Rattle.drm_data.specs.Packet.{Packet}
 use Rattle.drm_data.specs.Joining.{Event, Came, Broken, Gap, Begun, State, made, cut_answer, answer, after}
-use Rattle.data_laws.specs.Runs.{answers, after_all, unit_in, tells_cut, with_unit, units_in, cuts_in, begins, begun_count}
-use Rattle.data_laws.specs.Laws.{TellsEachOnce}
-use Rattle.data_laws.proofs.Cases.{Case, Alone, Begins, Goes, Finishes, Breaks, Strays, case_of}
-use Rattle.data_laws.proofs.WholeRuns.{after_id, begun_mine, begun_other, answer_mine, answer_other}
+use Rattle.law_data.specs.Runs.{answers, after_all, unit_in, tells_cut, with_unit, units_in, cuts_in, begins, begun_count}
+use Rattle.law_data.specs.Laws.{TellsEachOnce}
+use Rattle.law_data.proofs.Cases.{Case, Alone, Begins, Goes, Finishes, Breaks, Strays, case_of}
+use Rattle.law_data.proofs.WholeRuns.{after_id, begun_mine, begun_other, answer_mine, answer_other}
 
 -- what was open and what is begun, against what is given, cut and open
 abbrev Balanced : Bool → Option Begun → Option (List ℕ) → Bool → Option Begun → Type 0

@@ -6,7 +6,7 @@ use Rattle.std.proofs.lemmas.List.{same_from_push}
 use Rattle.drm_data.specs.Packet.{Packet}
 use Rattle.drm_data.specs.Units.{most_unit, next_continuity}
 use Rattle.drm_data.specs.Joining.{Event, Came}
-use Rattle.data_laws.specs.Readings.{IsAPacket, of_id_at, of_id, bytes_of, continuity_behind, continuity_of, Follow, IsNotFirst, AreChained, EndsIn}
+use Rattle.law_data.specs.Readings.{IsAPacket, of_id_at, of_id, bytes_of, continuity_behind, continuity_of, Follow, IsNotFirst, AreChained, EndsIn}
 
 pub all_push : {X : Type 0} (P : X → Type 0) (xs : List X) (x : X) → AllByRecursion P xs → P x → AllByRecursion P (xs ++ x ∷ [])
 all_push P [] x h k = (k, tt)

@@ -8,10 +8,10 @@ use Rattle.std.proofs.lemmas.List.{take_all, take-take, drop-take, length-take, 
 use Rattle.drm_data.specs.Packet.{Packet}
 use Rattle.drm_data.specs.Units.{most_unit, next_continuity, unit_packet, packet_count, packets_from, unit_packets, packets_after}
 use Rattle.drm_data.specs.Joining.{Event, Came, Gap, Begun, State, Answer, Silent, Whole, CutOff, CutWhole, is_unit, begun_by, goes_on, begun_after, answer_after, answer, after}
-use Rattle.data_laws.specs.Runs.{answers, after_all, unit_in, tells_cut, with_unit, units_in, cuts_in}
-use Rattle.data_laws.specs.Losses.{IsUnit, came_of, kept_of, all_kept, first_kept, whole_units, cut_count}
-use Rattle.data_laws.specs.Laws.{GivesWhatIsWhole}
-use Rattle.data_laws.proofs.Cases.{GoesOn}
+use Rattle.law_data.specs.Runs.{answers, after_all, unit_in, tells_cut, with_unit, units_in, cuts_in}
+use Rattle.law_data.specs.Losses.{IsUnit, came_of, kept_of, all_kept, first_kept, whole_units, cut_count}
+use Rattle.law_data.specs.Laws.{GivesWhatIsWhole}
+use Rattle.law_data.proofs.Cases.{GoesOn}
 
 -- a joiner with this unit open
 abbrev at : ℕ → ℕ → Option Begun → State

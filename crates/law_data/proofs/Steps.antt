@@ -4,9 +4,9 @@ use Rattle.std.specs.List.{AllByRecursion}
 use Rattle.drm_data.specs.Packet.{Packet}
 use Rattle.drm_data.specs.Units.{most_unit, next_continuity}
 use Rattle.drm_data.specs.Joining.{Event, Came, Begun}
-use Rattle.data_laws.specs.Readings.{IsAPacket, bytes_of, continuity_of, IsNotLast, AreChained, IsOpen, EndsUnit, Cuts}
-use Rattle.data_laws.proofs.Cases.{GoesOn, Case, Alone, Begins, Goes, Finishes, Breaks, Strays}
-use Rattle.data_laws.proofs.Pushes.{all_push, all_front, bytes_of-push, continuity_of-push, chained_one, chained_more, chained_cases, GoesWith, ends_in_none, ends_more, ends_past, ended_more, ended_past, ended_break}
+use Rattle.law_data.specs.Readings.{IsAPacket, bytes_of, continuity_of, IsNotLast, AreChained, IsOpen, EndsUnit, Cuts}
+use Rattle.law_data.proofs.Cases.{GoesOn, Case, Alone, Begins, Goes, Finishes, Breaks, Strays}
+use Rattle.law_data.proofs.Pushes.{all_push, all_front, bytes_of-push, continuity_of-push, chained_one, chained_more, chained_cases, GoesWith, ends_in_none, ends_more, ends_past, ended_more, ended_past, ended_break}
 
 -- the unit is the one that is is_open
 pub record OpensAs (id : ℕ) (before : List Event) (u : Begun) : Type 0 where

@@ -4,7 +4,7 @@ use Rattle.std.proofs.lemmas.Bool.{and_parts, and_cases, eqb-true, eqb-false, le
 use Rattle.drm_data.specs.Packet.{Packet}
 use Rattle.drm_data.specs.Units.{most_unit, next_continuity}
 use Rattle.drm_data.specs.Joining.{Begun, Silent, Whole, CutOff, begun_after, answer_after}
-use Rattle.data_laws.specs.Runs.{unit_in, tells_cut}
+use Rattle.law_data.specs.Runs.{unit_in, tells_cut}
 
 -- the packet is the next one of the unit
 pub record GoesOn (u : Begun) (p : Packet) : Type 0 where

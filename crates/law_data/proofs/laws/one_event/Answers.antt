@@ -1,5 +1,5 @@
 use Rattle.drm_data.proofs.Joinings.{one_event}
-use Rattle.data_laws.proofs.laws.one_event.Goals as goal
+use Rattle.law_data.proofs.laws.one_event.Goals as goal
 
 pub returns : goal.returns
 returns c = one_event
