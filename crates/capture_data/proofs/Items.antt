@@ -10,8 +10,8 @@ use Rattle.mod_feed.specs.Items.{Item, IsItemOf}
 use Rattle.drm_text.specs.Segment.{Segment}
 use Rattle.drm_text.specs.Joining as joining
 use Rattle.drm_text.specs.Taking.{Tells, text_of}
-use Rattle.text_laws.specs.Runs.{Runs, with_message, messages_in}
-use Rattle.text_laws.proofs.WholeRuns.{runs_by_calls}
+use Rattle.law_text.specs.Runs.{Runs, with_message, messages_in}
+use Rattle.law_text.proofs.WholeRuns.{runs_by_calls}
 use Rattle.capture_data.specs.declared.counts.Counts.{Counts}
 use Rattle.capture_data.specs.declared.messages.MessageTaker.{MessageTaker}
 use Rattle.capture_data.specs.Streams.{What, TextsOf, entries_at, bad_at, missing_at, reading, bad_in, missing_in}

@@ -8,7 +8,7 @@ use Rattle.drm_data.specs.Joining.{Event, Answer, Refuses, made}
 use Rattle.law_data.specs.Readings.{AreEvents}
 use Rattle.law_data.specs.Runs.{answers, after_all, units_in, cuts_in}
 use Rattle.drm_text.specs.Joining as joining
-use Rattle.text_laws.specs.Runs.{Runs, messages_in}
+use Rattle.law_text.specs.Runs.{Runs, messages_in}
 use Rattle.capture_data.specs.declared.counts.Counts.{Counts}
 use Rattle.capture_data.specs.Streams.{What, UnitsOf, TextsOf, reading, bad_in, missing_in}
 use Rattle.capture_data.specs.Lines.{cut_line, answers_text, text_line, units_end, texts_end, is_clean}

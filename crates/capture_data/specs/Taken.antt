@@ -17,7 +17,7 @@ use Rattle.law_data.specs.Runs.{answers, after_all, units_in, cuts_in}
 use Rattle.drm_text.specs.Segment.{Segment}
 use Rattle.drm_text.specs.Joining as joining
 use Rattle.drm_text.specs.Taking.{Tells, text_of}
-use Rattle.text_laws.specs.Runs.{Runs, messages_in}
+use Rattle.law_text.specs.Runs.{Runs, messages_in}
 use Rattle.capture_data.specs.declared.counts.Counts.{Counts}
 use Rattle.capture_data.specs.declared.units.UnitTaker.{UnitTaker}
 use Rattle.capture_data.specs.declared.messages.MessageTaker.{MessageTaker}

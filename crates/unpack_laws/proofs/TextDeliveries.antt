@@ -13,9 +13,9 @@ use Rattle.dcp_pft.specs.Loss.{is_recoverable}
 use Rattle.dcp_collect.specs.Numbers.{end_of}
 use Rattle.law_collect.specs.Delivery.{newest_of}
 use Rattle.drm_text.specs.Joining.{State, made}
-use Rattle.text_laws.specs.Readings.{Reading, IsEntry}
-use Rattle.text_laws.specs.Runs.{messages_in}
-use Rattle.text_laws.specs.Laws.{JoinsMessages}
+use Rattle.law_text.specs.Readings.{Reading, IsEntry}
+use Rattle.law_text.specs.Runs.{messages_in}
+use Rattle.law_text.specs.Laws.{JoinsMessages}
 use Rattle.law_delivery.specs.Given.{IsServed, IsServedWhere, IsItemBy}
 use Rattle.law_delivery.specs.Laws.{Delivering}
 use Rattle.law_delivery.specs.Sent.{pairs_in, frame_of_number, shape_at}

@@ -2,8 +2,8 @@
 use Rattle.std.proofs.Common.{◌≡◌, ◌∙◌, ℕ, ◌+◌, List, [], ◌∷◌, ◌++◌, Option, None, Some, refl, sym, ap, subst, arith}
 use Rattle.std.specs.List.{AllByRecursion}
 use Rattle.drm_text.specs.Joining.{State, made, after}
-use Rattle.text_laws.specs.Readings.{Reading}
-use Rattle.text_laws.specs.Runs.{Runs, with_message, messages_in}
+use Rattle.law_text.specs.Readings.{Reading}
+use Rattle.law_text.specs.Runs.{Runs, with_message, messages_in}
 use Rattle.unpack_laws.specs.Texts.{piece_count}
 
 -- a run over a reading that gives the messages of these texts

@@ -12,7 +12,7 @@ use Rattle.dcp_collect.specs.Numbers.{end_of}
 use Rattle.dcp_collect.specs.Runs.{Item as Collected, Run}
 use Rattle.law_collect.specs.Delivery.{newest_of}
 use Rattle.law_delivery.specs.Sent.{Arrival, pairs_in, IsFollowed}
-use Rattle.text_laws.specs.Readings.{Reading, AreMessages}
+use Rattle.law_text.specs.Readings.{Reading, AreMessages}
 use Rattle.mod_feed.specs.Items.{Item}
 use Rattle.capture_data.specs.Streams.{TextsOf, pieces_of, entries_of, bad_in, missing_in}
 use Rattle.capture_data.specs.Lines.{text_line, texts_end_text}

@@ -5,7 +5,7 @@ ghost use Rattle.unpack_laws.specs.Laws.{GivesWhatFramesBring, UnpacksWhatIsWhol
 ghost use Rattle.unpack_laws.specs.Texts.{TextsOfDeliveries};
 
 use law_delivery::modulators_give;
-use text_laws::joins_messages;
+use law_text::joins_messages;
 
 /// Of the packets of units in frames, some of which are lost, a joiner gives those units of which all frames are given.
 pub fn gives_what_frames_bring()

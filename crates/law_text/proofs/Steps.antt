@@ -4,7 +4,7 @@ use Rattle.std.proofs.lemmas.Bool.{cases_Bool, ne_eqb, and_parts, eqb-true, leb-
 use Rattle.drm_text.specs.Segment.{Segment, most_body, IsSegment}
 use Rattle.drm_text.specs.Message.{start, most_message}
 use Rattle.drm_text.specs.Joining.{Begun, State, Gathered, Starts, Strays, Grows, Fills, made, is_start, is_complete, gather, gather_on, segment_after, same_flag, joined, bytes_with, going_on, ReadsIn, begun_by, whole_with, Gives}
-use Rattle.text_laws.specs.Readings.{Reading, came, bytes_of, CameWhole, GoesOn, AreBegun, EndsMessage}
+use Rattle.law_text.specs.Readings.{Reading, came, bytes_of, CameWhole, GoesOn, AreBegun, EndsMessage}
 
 -- what was read ends in the segments of the message that was begun
 pub record StandsBegun (behind : Reading) (u : Begun) : Type 0 where

@@ -4,11 +4,11 @@ use Rattle.std.specs.Prelude.{◌↔◌}
 use Rattle.std.specs.List.{AllByRecursion}
 use Rattle.drm_text.specs.Joining.{State, made, after}
 use Rattle.drm_text.specs.Taking.{text_of}
-use Rattle.text_laws.specs.Readings.{Reading, IsEntry, EndsMessage, AreMessages}
-use Rattle.text_laws.specs.Runs.{Runs, with_message, messages_in}
-use Rattle.text_laws.specs.Laws.{RunsByCalls, JoinsMessages, AnswersEach}
-use Rattle.text_laws.proofs.Steps.{Holds, clash_some, step, step_gap}
-use Rattle.text_laws.proofs.Arrivals.{all_parts, ends_given}
+use Rattle.law_text.specs.Readings.{Reading, IsEntry, EndsMessage, AreMessages}
+use Rattle.law_text.specs.Runs.{Runs, with_message, messages_in}
+use Rattle.law_text.specs.Laws.{RunsByCalls, JoinsMessages, AnswersEach}
+use Rattle.law_text.proofs.Steps.{Holds, clash_some, step, step_gap}
+use Rattle.law_text.proofs.Arrivals.{all_parts, ends_given}
 
 all_push : (xs : Reading) (x : Option (List ℕ)) → AllByRecursion IsEntry xs → IsEntry x → AllByRecursion IsEntry (xs ++ x ∷ [])
 all_push [] x h k = (k, tt)

@@ -11,9 +11,9 @@ use Rattle.drm_text.specs.Joining.{Begun, State, Gathered, Starts, Grows, Fills,
 use Rattle.drm_text.proofs.Spellings.{placed}
 use Rattle.drm_text.proofs.Joinings.{one_read}
 use Rattle.drm_text.proofs.Starts.{IsPlain, text_plain, later_piece}
-use Rattle.text_laws.specs.Readings.{Reading, IsEntry, came, bytes_of, CameWhole, GoesOn, AreBegun, EndsMessage}
-use Rattle.text_laws.specs.Runs.{Runs, with_message, messages_in}
-use Rattle.text_laws.proofs.Steps.{is_the_start}
+use Rattle.law_text.specs.Readings.{Reading, IsEntry, came, bytes_of, CameWhole, GoesOn, AreBegun, EndsMessage}
+use Rattle.law_text.specs.Runs.{Runs, with_message, messages_in}
+use Rattle.law_text.proofs.Steps.{is_the_start}
 
 abbrev pub IsFour : List ℕ → Type 0
 IsFour piece = length piece ≡ 4

@@ -1,6 +1,6 @@
 //! The laws of joining pieces, each on a function that does nothing.
 
-ghost use Rattle.text_laws.specs.Laws.{RunsByCalls, JoinsMessages, AnswersEach, OneList, GivesWhatIsWhole};
+ghost use Rattle.law_text.specs.Laws.{RunsByCalls, JoinsMessages, AnswersEach, OneList, GivesWhatIsWhole};
 
 /// What a joiner's calls say one after another is its run.
 pub fn runs_by_calls()

@@ -5,9 +5,9 @@ use Rattle.std.specs.Borrow.{Bor}
 use Rattle.drm_text.specs.Segment.{Segment}
 use Rattle.drm_text.specs.Joining.{State, made, gather, ReadsIn, after}
 use Rattle.drm_text.specs.Taking.{Tells, text_of}
-use Rattle.text_laws.specs.Readings.{Reading, IsEntry, EndsMessage, AreMessages}
-use Rattle.text_laws.specs.Runs.{Runs, messages_in}
-use Rattle.text_laws.specs.Losses.{ArePiecesFrom, Sending, IsSending, reading_of, whole_messages}
+use Rattle.law_text.specs.Readings.{Reading, IsEntry, EndsMessage, AreMessages}
+use Rattle.law_text.specs.Runs.{Runs, messages_in}
+use Rattle.law_text.specs.Losses.{ArePiecesFrom, Sending, IsSending, reading_of, whole_messages}
 
 -- What a joiner's calls say one after another is its run: where a piece is taken, by what is told and by what the joiner is then, however
 -- the piece is read; and where a gap is.

@@ -8,12 +8,12 @@ use Rattle.drm_text.specs.Message.{start, most_message, segment_at}
 use Rattle.drm_text.specs.Joining.{Begun, State, Gathered, Starts, Strays, made, is_start, gather, gather_on, segment_after, joined, bytes_with, going_on, whole, ReadsIn, begun_by, Gives}
 use Rattle.drm_text.proofs.Spellings.{placed}
 use Rattle.drm_text.proofs.Starts.{IsPlain, text_plain, all_take, all_drop}
-use Rattle.text_laws.specs.Readings.{Reading, came, bytes_of}
-use Rattle.text_laws.specs.Runs.{Runs, with_message, messages_in}
-use Rattle.text_laws.specs.Losses.{IsMessage, ArePiecesFrom, Sending, IsSending, kept_of, all_kept, reading_of, whole_messages}
-use Rattle.text_laws.specs.Laws.{GivesWhatIsWhole}
-use Rattle.text_laws.proofs.Arrivals.{Arriving, Filled, runs_split, in_segment, not_start, grow, nothing_given, filled_on, filling, begins_with, joins_with, goes_on, given_text}
-use Rattle.text_laws.proofs.Sendings.{Parts, parts_of}
+use Rattle.law_text.specs.Readings.{Reading, came, bytes_of}
+use Rattle.law_text.specs.Runs.{Runs, with_message, messages_in}
+use Rattle.law_text.specs.Losses.{IsMessage, ArePiecesFrom, Sending, IsSending, kept_of, all_kept, reading_of, whole_messages}
+use Rattle.law_text.specs.Laws.{GivesWhatIsWhole}
+use Rattle.law_text.proofs.Arrivals.{Arriving, Filled, runs_split, in_segment, not_start, grow, nothing_given, filled_on, filling, begins_with, joins_with, goes_on, given_text}
+use Rattle.law_text.proofs.Sendings.{Parts, parts_of}
 
 -- a run that gives nothing, and leaves the joiner as new
 record Quiet (texts : List (Option (List ℕ))) (left : State) : Type 0 where

@@ -7,11 +7,11 @@ use Rattle.std.proofs.lemmas.List.{length-take-le, take-append-drop, drop-drop, 
 use Rattle.drm_text.specs.Segment.{Segment, round_up, front, IsSegment}
 use Rattle.drm_text.specs.Message.{start, segment_at, piece_at, IsPieceOf}
 use Rattle.drm_bits.proofs.Checks.{one_check}
-use Rattle.text_laws.specs.Readings.{bytes_of}
-use Rattle.text_laws.specs.Losses.{ArePiecesFrom}
-use Rattle.text_laws.specs.Laws.{OneList}
-use Rattle.text_laws.proofs.Steps.{same_some}
-use Rattle.text_laws.proofs.Arrivals.{IsFour}
+use Rattle.law_text.specs.Readings.{bytes_of}
+use Rattle.law_text.specs.Losses.{ArePiecesFrom}
+use Rattle.law_text.specs.Laws.{OneList}
+use Rattle.law_text.proofs.Steps.{same_some}
+use Rattle.law_text.proofs.Arrivals.{IsFour}
 
 -- a segment has one spelling
 same_bytes : (s : Segment) (xs ys : List ℕ) → IsSegment s xs → IsSegment s ys → xs ≡ ys
