@@ -20,11 +20,11 @@ use Rattle.drm_data.specs.Joining.{Event, Gap, State, made, closed}
 use Rattle.law_data.specs.Runs.{answers, cuts_in}
 use Rattle.mod_feed.specs.Items.{Item}
 use Rattle.capture_data.specs.Streams.{What, UnitsOf, stream_of, pieces_of, entries_of, entries_at}
-use Rattle.unpack_laws.specs.Frames.{Carried, came_of, packets_of, Brings, BringAll}
-use Rattle.unpack_laws.specs.Delivered.{CarriesAt, CarryFrom, is_given, carried_from, carried_by, together, UnpacksDeliveries}
-use Rattle.unpack_laws.proofs.LostFrames.{Same, same_one, same_front, none_said}
-use Rattle.unpack_laws.proofs.Ends.{to_end, same_self, unpacked_by}
-use Rattle.unpack_laws.proofs.Places.{AreMissing, AreAt, first_at, next_at, kept_at, missing_by, place_next, none_before, all_behind, given_within, lost_past, lost_early, stream_served, placed}
+use Rattle.law_unpack.specs.Frames.{Carried, came_of, packets_of, Brings, BringAll}
+use Rattle.law_unpack.specs.Delivered.{CarriesAt, CarryFrom, is_given, carried_from, carried_by, together, UnpacksDeliveries}
+use Rattle.law_unpack.proofs.LostFrames.{Same, same_one, same_front, none_said}
+use Rattle.law_unpack.proofs.Ends.{to_end, same_self, unpacked_by}
+use Rattle.law_unpack.proofs.Places.{AreMissing, AreAt, first_at, next_at, kept_at, missing_by, place_next, none_before, all_behind, given_within, lost_past, lost_early, stream_served, placed}
 
 -- ---- a frame that is given
 

@@ -19,8 +19,8 @@ use Rattle.law_data.specs.Losses.{IsUnit}
 use Rattle.mod_feed.specs.Items.{Item}
 use Rattle.capture_data.specs.Streams.{UnitsOf, pieces_in}
 use Rattle.capture_data.specs.Printed.{AreItems, IsWholeText}
-use Rattle.unpack_laws.specs.Frames.{Carried, ArePackets}
-use Rattle.unpack_laws.specs.Laws.{Unpacked}
+use Rattle.law_unpack.specs.Frames.{Carried, ArePackets}
+use Rattle.law_unpack.specs.Laws.{Unpacked}
 
 -- In frame t of the schedule the stream with this number has these bytes.
 pub record IsStreamAt (plan : Plan) (k t : ℕ) (bytes : List ℕ) : Type 0 where

@@ -1,8 +1,8 @@
 //! The laws, each on a function that does nothing.
 
-ghost use Rattle.unpack_laws.specs.Delivered.{UnpacksDeliveries};
-ghost use Rattle.unpack_laws.specs.Laws.{GivesWhatFramesBring, UnpacksWhatIsWhole};
-ghost use Rattle.unpack_laws.specs.Texts.{TextsOfDeliveries};
+ghost use Rattle.law_unpack.specs.Delivered.{UnpacksDeliveries};
+ghost use Rattle.law_unpack.specs.Laws.{GivesWhatFramesBring, UnpacksWhatIsWhole};
+ghost use Rattle.law_unpack.specs.Texts.{TextsOfDeliveries};
 
 use law_delivery::modulators_give;
 use law_text::joins_messages;

@@ -13,9 +13,9 @@ use Rattle.mod_feed.specs.Items.{Item}
 use Rattle.capture_data.specs.Streams.{What, UnitsOf, reading, bad_in, missing_in}
 use Rattle.capture_data.specs.Lines.{cut_line, answer_text, answers_text, units_end, units_end_text, is_clean}
 use Rattle.capture_data.specs.Printed.{IsWholeText, unit_counts, refused_at, refused_in}
-use Rattle.unpack_laws.specs.Frames.{Carried, came_of, events_of, packets_of, BringAll}
-use Rattle.unpack_laws.specs.Laws.{Unpacked, UnpacksWhatIsWhole}
-use Rattle.unpack_laws.proofs.LostFrames.{Same, all_events, one_reading, gives_what_frames_bring}
+use Rattle.law_unpack.specs.Frames.{Carried, came_of, events_of, packets_of, BringAll}
+use Rattle.law_unpack.specs.Laws.{Unpacked, UnpacksWhatIsWhole}
+use Rattle.law_unpack.proofs.LostFrames.{Same, all_events, one_reading, gives_what_frames_bring}
 
 -- what frames bring, and the end
 abbrev pub to_end : List Carried → List Event

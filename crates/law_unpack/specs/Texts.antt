@@ -17,7 +17,7 @@ use Rattle.mod_feed.specs.Items.{Item}
 use Rattle.capture_data.specs.Streams.{TextsOf, pieces_of, entries_of, bad_in, missing_in}
 use Rattle.capture_data.specs.Lines.{text_line, texts_end_text}
 use Rattle.capture_data.specs.Printed.{AreItems, IsWholeText}
-use Rattle.unpack_laws.specs.Delivered.{is_given}
+use Rattle.law_unpack.specs.Delivered.{is_given}
 
 -- the bytes of stream k in frame t of the schedule, where it has that stream
 abbrev pub bytes_in : ℕ → ℕ → Option Config → Option (List ℕ)

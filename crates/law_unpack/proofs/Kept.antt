@@ -6,8 +6,8 @@ use Rattle.drm_data.specs.Packet.{Packet}
 use Rattle.drm_data.specs.Units.{next_continuity, unit_packets, packet_count, packets_from, packets_after, packets}
 use Rattle.drm_data.specs.Joining.{Event, Came, Gap}
 use Rattle.law_data.specs.Losses as losses
-use Rattle.unpack_laws.specs.Frames.{Carried, came_of, events_of, packets_of, kept_in, unbroken_behind, kept_from}
-use Rattle.unpack_laws.proofs.Alike.{Always, IsMine, nothing, gap_behind, came_more, came_all, two_gaps, one_gap, gap_before_other, gap_before_first}
+use Rattle.law_unpack.specs.Frames.{Carried, came_of, events_of, packets_of, kept_in, unbroken_behind, kept_from}
+use Rattle.law_unpack.proofs.Alike.{Always, IsMine, nothing, gap_behind, came_more, came_all, two_gaps, one_gap, gap_before_other, gap_before_first}
 
 -- ---- the packets of a frame and those behind it
 

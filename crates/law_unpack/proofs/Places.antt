@@ -25,8 +25,8 @@ use Rattle.mod_feed.specs.Items.{Item, Missing}
 use Rattle.mod_feed.specs.Feeding.{FeedStep}
 use Rattle.capture_data.specs.Streams.{stream_of}
 use Rattle.capture_data.specs.Printed.{AreItems}
-use Rattle.unpack_laws.specs.Delivered.{is_given, is_given_at}
-use Rattle.unpack_laws.proofs.Numbered.{Fed, fed, run_from}
+use Rattle.law_unpack.specs.Delivered.{is_given, is_given_at}
+use Rattle.law_unpack.proofs.Numbered.{Fed, fed, run_from}
 
 -- ---- the stream of a frame that is given
 

@@ -4,7 +4,7 @@ use Rattle.std.specs.List.{AllByRecursion}
 use Rattle.drm_text.specs.Joining.{State, made, after}
 use Rattle.law_text.specs.Readings.{Reading}
 use Rattle.law_text.specs.Runs.{Runs, with_message, messages_in}
-use Rattle.unpack_laws.specs.Texts.{piece_count}
+use Rattle.law_unpack.specs.Texts.{piece_count}
 
 -- a run over a reading that gives the messages of these texts
 pub record Gives (s : State) (reading : Reading) (texts : List (Option (List ℕ))) : Type 0 where

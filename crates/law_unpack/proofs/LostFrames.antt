@@ -12,10 +12,10 @@ use Rattle.law_data.proofs.LostPackets.{gives_what_is_whole}
 use Rattle.mod_feed.specs.Items.{Item}
 use Rattle.capture_data.specs.Streams.{What, entries_at, reading}
 use Rattle.capture_data.proofs.Joining.{events_join}
-use Rattle.unpack_laws.specs.Frames.{Carried, came_of, events_of, packets_of, kept_of, ArePackets, Brings, BringAll}
-use Rattle.unpack_laws.specs.Laws.{GivesWhatFramesBring}
-use Rattle.unpack_laws.proofs.Alike.{Alike, same_cuts}
-use Rattle.unpack_laws.proofs.Kept.{AreMine, all_mine, alike, kept_size}
+use Rattle.law_unpack.specs.Frames.{Carried, came_of, events_of, packets_of, kept_of, ArePackets, Brings, BringAll}
+use Rattle.law_unpack.specs.Laws.{GivesWhatFramesBring}
+use Rattle.law_unpack.proofs.Alike.{Alike, same_cuts}
+use Rattle.law_unpack.proofs.Kept.{AreMine, all_mine, alike, kept_size}
 
 -- a joiner gives the same of both, and comes to the same
 pub record Same (s : State) (xs ys : List Event) : Type 0 where

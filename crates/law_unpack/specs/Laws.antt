@@ -9,7 +9,7 @@ use Rattle.mod_feed.specs.Items.{Item}
 use Rattle.capture_data.specs.Streams.{UnitsOf}
 use Rattle.capture_data.specs.Lines.{answers_text, units_end, is_clean}
 use Rattle.capture_data.specs.Printed.{unit_counts, IsWholeText}
-use Rattle.unpack_laws.specs.Frames.{Carried, events_of, packets_of, kept_of, BringAll}
+use Rattle.law_unpack.specs.Frames.{Carried, events_of, packets_of, kept_of, BringAll}
 
 -- Of the packets of units in frames, some of which are lost, a joiner gives exactly the units for which each frame is given from that of the
 -- first packet to that of the last, and tells one cut for each other unit whose first packet came. At the end no unit is open.

@@ -1,5 +1,0 @@
-use Rattle.unpack_laws.proofs.TextDeliveries.{texts_of_deliveries}
-use Rattle.unpack_laws.proofs.laws.texts_of_deliveries.Goals as goal
-
-pub returns : goal.returns
-returns c = texts_of_deliveries c.joins_messages.ensures c.modulators_give.ensures
