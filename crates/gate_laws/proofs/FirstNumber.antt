@@ -13,7 +13,7 @@ use Rattle.law_collect.proofs.Sent.{BringsPair}
 use Rattle.dcp_sender.specs.Packets.{sequence_of}
 use Rattle.recv_reading.specs.First.{first_of}
 use Rattle.recv_reading.proofs.Ways.{gives_first}
-use Rattle.convert_laws.proofs.Firsts.{first_steps, first_told}
+use Rattle.law_convert.proofs.Firsts.{first_steps, first_told}
 
 -- the base has this sequence number
 abbrev pub IsAtBase : ℕ → ℤ → ℕ → Type 0

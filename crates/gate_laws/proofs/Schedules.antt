@@ -29,9 +29,9 @@ use Rattle.law_delivery.proofs.Lengths.{af_long, packet_long}
 use Rattle.law_delivery.proofs.Needed.{needed_of, some_needed}
 use Rattle.law_delivery.proofs.Numbering.{frame_within}
 use Rattle.law_delivery.proofs.Packets.{IsChosen, ArePackets, delivered, filler, filler_af, filler_is}
-use Rattle.convert_laws.specs.Laws.{under}
-use Rattle.convert_laws.proofs.Hearing.{Hears, hears}
-use Rattle.convert_laws.proofs.OtherCarry.{packet_under}
+use Rattle.law_convert.specs.Laws.{under}
+use Rattle.law_convert.proofs.Hearing.{Hears, hears}
+use Rattle.law_convert.proofs.OtherCarry.{packet_under}
 use Rattle.drm_gate.specs.Passing.{Fate, Becomes, BecomeAll, datagrams_of}
 use Rattle.gate_laws.specs.Laws.{pairs_where, pairs_by, PassesSchedules}
 use Rattle.gate_laws.proofs.Listed.{gather}

@@ -12,8 +12,8 @@ use Rattle.drm_server.specs.Frames.{IsPacketAt}
 use Rattle.drm_server.specs.Datagrams.{AreOfFrame, AreOfFrames}
 use Rattle.drm_server.proofs.DatagramLemmas.{next_frame}
 use Rattle.drm_convert.specs.Converting.{Part, Converts, ConvertsAll, text_of, lines_of}
-use Rattle.convert_laws.specs.Laws.{under, IsFirstOf}
-use Rattle.convert_laws.proofs.Frames.{IsOfFrame, of_frame}
+use Rattle.law_convert.specs.Laws.{under, IsFirstOf}
+use Rattle.law_convert.proofs.Frames.{IsOfFrame, of_frame}
 
 -- The item is the packet of frame t.
 pub record IsPacketOf (plan : Plan) (t : ℕ) (item : Item) : Type 0 where

@@ -24,7 +24,7 @@ use Rattle.drm_convert.specs.Steps.{has_none}
 use Rattle.drm_convert.specs.Converted.{are_clean}
 use Rattle.drm_convert.proofs.PartLemmas.{front_of_all, no_lines_before}
 use Rattle.recv_reading.specs.Packets.{AreEnough, AreReadBy, HasEnough, Terms}
-use Rattle.convert_laws.specs.Laws.{under, AllInTime, NoneIsTooLarge, ConversionsAreCaptures, IsOfFirstFrames, BrokenConversions, IsOfSomeFrames, HaltedConversions, CapturesAreConverted}
+use Rattle.law_convert.specs.Laws.{under, AllInTime, NoneIsTooLarge, ConversionsAreCaptures, IsOfFirstFrames, BrokenConversions, IsOfSomeFrames, HaltedConversions, CapturesAreConverted}
 
 -- ---- what is told of an input
 

@@ -1,6 +1,6 @@
 //! The laws of the conversion, each on a function that does nothing.
 
-ghost use Rattle.convert_laws.specs.Laws.{Converting, ConvertingEarly, FirstIsKnown, FirstOfAll, NoneIsTooLarge, ConversionsAreCaptures, BrokenConversions, HaltedConversions, CapturesAreConverted};
+ghost use Rattle.law_convert.specs.Laws.{Converting, ConvertingEarly, FirstIsKnown, FirstOfAll, NoneIsTooLarge, ConversionsAreCaptures, BrokenConversions, HaltedConversions, CapturesAreConverted};
 
 use law_capture::packets_in_front;
 use law_collect::{

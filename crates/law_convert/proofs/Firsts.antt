@@ -25,8 +25,8 @@ use Rattle.law_delivery.specs.Laws.{AllAtOnce}
 use Rattle.law_delivery.specs.Sent.{Arrival, OfSchedule, Stray, IsStray, IsArrival, IsFarIfSo, AreFar, pairs_in, IsFollowed}
 use Rattle.law_delivery.proofs.Following.{brings_of}
 use Rattle.recv_reading.proofs.Ways.{gives_first}
-use Rattle.convert_laws.specs.Laws.{IsFirstOf, KnowsFirst, FirstIsKnown, FirstOfAll}
-use Rattle.convert_laws.proofs.Fronts.{front_followed}
+use Rattle.law_convert.specs.Laws.{IsFirstOf, KnowsFirst, FirstIsKnown, FirstOfAll}
+use Rattle.law_convert.proofs.Fronts.{front_followed}
 
 -- ---- it stays
 

@@ -1,5 +1,5 @@
-use Rattle.convert_laws.proofs.Firsts.{first_known, first_of_all}
-use Rattle.convert_laws.proofs.laws.the_first_number_is_known.Goals as goal
+use Rattle.law_convert.proofs.Firsts.{first_known, first_of_all}
+use Rattle.law_convert.proofs.laws.the_first_number_is_known.Goals as goal
 
 pub returns : goal.returns
 returns c = record {

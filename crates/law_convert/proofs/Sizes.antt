@@ -27,10 +27,10 @@ use Rattle.dcp_sender.specs.Carried.{is_too_long}
 use Rattle.drm_convert.specs.Converting.{IsTooLarge}
 use Rattle.recv_reading.specs.Packets.{ComesAt, ComesTo, Terms}
 use Rattle.recv_reading.proofs.Ways.{taken_starts, finished_starts}
-use Rattle.convert_laws.specs.Laws.{FitsCarry, NoneIsTooLarge}
-use Rattle.convert_laws.proofs.Fronts.{front_followed}
-use Rattle.convert_laws.proofs.Hearing.{Hears, hears}
-use Rattle.convert_laws.proofs.Places.{at_place, in_front, given_on}
+use Rattle.law_convert.specs.Laws.{FitsCarry, NoneIsTooLarge}
+use Rattle.law_convert.proofs.Fronts.{front_followed}
+use Rattle.law_convert.proofs.Hearing.{Hears, hears}
+use Rattle.law_convert.proofs.Places.{at_place, in_front, given_on}
 
 -- ---- an item of a delivery isn't
 

@@ -1,7 +1,7 @@
-use Rattle.convert_laws.proofs.Delivery.{collected}
-use Rattle.convert_laws.proofs.Conversions.{Collects, converting, converting_early, conversions, broken_conversions}
-use Rattle.convert_laws.proofs.Halted.{halted_conversions}
-use Rattle.convert_laws.proofs.laws.conversions_are_captures.Goals as goal
+use Rattle.law_convert.proofs.Delivery.{collected}
+use Rattle.law_convert.proofs.Conversions.{Collects, converting, converting_early, conversions, broken_conversions}
+use Rattle.law_convert.proofs.Halted.{halted_conversions}
+use Rattle.law_convert.proofs.laws.conversions_are_captures.Goals as goal
 
 pub returns : goal.returns
 returns c =

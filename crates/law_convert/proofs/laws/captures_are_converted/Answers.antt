@@ -1,5 +1,5 @@
-use Rattle.convert_laws.proofs.Runs.{captures_are_converted}
-use Rattle.convert_laws.proofs.laws.captures_are_converted.Goals as goal
+use Rattle.law_convert.proofs.Runs.{captures_are_converted}
+use Rattle.law_convert.proofs.laws.captures_are_converted.Goals as goal
 
 pub returns : goal.returns
 returns c =

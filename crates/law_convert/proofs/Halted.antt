@@ -29,12 +29,12 @@ use Rattle.drm_convert.specs.Converting.{Part, ConvertsAll, text_of, lines_of}
 use Rattle.recv_reading.proofs.Reaching.{one_way}
 use Rattle.recv_reading.proofs.Ways.{Starts, starts_more, starts_up_to, taken_starts, finished_starts, taken_first, all_before}
 use Rattle.recv_reading.proofs.First.{given_first}
-use Rattle.convert_laws.specs.Laws.{under, IsFirstOf, AllInTime, MayBeTold, KnowsFirst, IsOfSomeFrames, HaltedConversions}
-use Rattle.convert_laws.proofs.OtherCarry.{packet_under}
-use Rattle.convert_laws.proofs.Packets.{IsPacketOf, AreFrom, IsWritten, all_written}
-use Rattle.convert_laws.proofs.Firsts.{knows_first}
-use Rattle.convert_laws.proofs.Delivery.{AreAll, IsCollected}
-use Rattle.convert_laws.proofs.Conversions.{Collects, counted_from, first_of_all_packets}
+use Rattle.law_convert.specs.Laws.{under, IsFirstOf, AllInTime, MayBeTold, KnowsFirst, IsOfSomeFrames, HaltedConversions}
+use Rattle.law_convert.proofs.OtherCarry.{packet_under}
+use Rattle.law_convert.proofs.Packets.{IsPacketOf, AreFrom, IsWritten, all_written}
+use Rattle.law_convert.proofs.Firsts.{knows_first}
+use Rattle.law_convert.proofs.Delivery.{AreAll, IsCollected}
+use Rattle.law_convert.proofs.Conversions.{Collects, counted_from, first_of_all_packets}
 
 -- ---- one datagram or more
 

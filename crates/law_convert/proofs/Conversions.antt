@@ -16,10 +16,10 @@ use Rattle.law_delivery.specs.Sent.{Arrival}
 use Rattle.recv_reading.specs.State.{is_full}
 use Rattle.recv_reading.specs.First.{first_of}
 use Rattle.drm_convert.specs.Converting.{Part, ConvertsAll, text_of, lines_of}
-use Rattle.convert_laws.specs.Laws.{under, IsFirstOf, AllInTime, MayBeTold, IsItsCapture, Converting, ConvertingEarly, KnowsFirst, ConversionsAreCaptures, IsOfFirstFrames, BrokenConversions}
-use Rattle.convert_laws.proofs.Firsts.{knows_first, first_of_all}
-use Rattle.convert_laws.proofs.Packets.{AreFrom, all_written}
-use Rattle.convert_laws.proofs.Delivery.{AreAll, IsCollected}
+use Rattle.law_convert.specs.Laws.{under, IsFirstOf, AllInTime, MayBeTold, IsItsCapture, Converting, ConvertingEarly, KnowsFirst, ConversionsAreCaptures, IsOfFirstFrames, BrokenConversions}
+use Rattle.law_convert.proofs.Firsts.{knows_first, first_of_all}
+use Rattle.law_convert.proofs.Packets.{AreFrom, all_written}
+use Rattle.law_convert.proofs.Delivery.{AreAll, IsCollected}
 
 captured : (plan : Plan) (carry : Carry) (n : ℕ) (items : List Item) (parts : List Part) → AreAll plan items → IsFirstOf plan n → ConvertsAll carry n items parts
     → IsItsCapture plan carry parts

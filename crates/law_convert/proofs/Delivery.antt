@@ -25,9 +25,9 @@ use Rattle.law_delivery.proofs.Lengths.{packet_long}
 use Rattle.law_delivery.proofs.Needed.{some_got}
 use Rattle.law_delivery.proofs.Numbering.{frame_is}
 use Rattle.law_delivery.proofs.Packets.{IsChosen, ArePackets, all_sent}
-use Rattle.convert_laws.specs.Laws.{AllInTime, MayBeTold}
-use Rattle.convert_laws.proofs.Hearing.{Hears, hears}
-use Rattle.convert_laws.proofs.Packets.{IsPacketOf, AreFrom, from_each}
+use Rattle.law_convert.specs.Laws.{AllInTime, MayBeTold}
+use Rattle.law_convert.proofs.Hearing.{Hears, hears}
+use Rattle.law_convert.proofs.Packets.{IsPacketOf, AreFrom, from_each}
 
 -- ---- no number is beyond the schedule
 

@@ -11,8 +11,8 @@ use Rattle.drm_server.specs.Frames.{IsPacketAt}
 use Rattle.drm_server.specs.Datagrams.{IsDatagramAt, AreFirst, AreOfFrame}
 use Rattle.dcp_sender.specs.Carried.{Carried}
 use Rattle.dcp_sender.specs.Packets.{sequence_of}
-use Rattle.convert_laws.specs.Laws.{under, IsFirstOf}
-use Rattle.convert_laws.proofs.OtherCarry.{packet_under}
+use Rattle.law_convert.specs.Laws.{under, IsFirstOf}
+use Rattle.law_convert.proofs.OtherCarry.{packet_under}
 
 -- some first ones of a list in which each place has its datagram
 first_ones : (plan : Plan) (t : ℕ) (datagrams : List (List ℕ)) → ((i : ℕ) → i < length datagrams → IsDatagramAt plan t i (slice_index_or datagrams i []))

@@ -1,5 +1,5 @@
-use Rattle.convert_laws.proofs.Sizes.{none_is_too_large}
-use Rattle.convert_laws.proofs.laws.none_is_too_large.Goals as goal
+use Rattle.law_convert.proofs.Sizes.{none_is_too_large}
+use Rattle.law_convert.proofs.laws.none_is_too_large.Goals as goal
 
 pub returns : goal.returns
 returns c =
