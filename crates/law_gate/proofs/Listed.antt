@@ -5,7 +5,7 @@ use Rattle.std.specs.List.{range_with_len, flat_map, AllZip}
 use Rattle.dcp_pft.specs.declared.carry.Carry.{Carry}
 use Rattle.dcp_collect.specs.Runs.{Item}
 use Rattle.drm_gate.specs.Passing.{Fate, Becomes, BecomeAll, datagrams_of, sent_of}
-use Rattle.gate_laws.specs.Laws.{pairs_at}
+use Rattle.law_gate.specs.Laws.{pairs_at}
 
 join : {A B : Type 0} (P : A → B → Type 0) (xs : List A) (ys : List B) (us : List A) (vs : List B) → AllZip P xs ys → AllZip P us vs → AllZip P (xs ++ us) (ys ++ vs)
 join P [] [] us vs first second = second

@@ -21,9 +21,9 @@ use Rattle.recv_reading.specs.First.{first_of}
 use Rattle.law_delivery.proofs.Needed.{needed_of}
 use Rattle.dcp_sender.specs.OverLinks.{is_large}
 use Rattle.drm_gate.specs.Passing.{Fate, Sent, Bad, Large, Missing, Becomes, BecomeAll, datagrams_of, sent_of}
-use Rattle.gate_laws.specs.Laws.{pairs_at, place_of, pairs_of, AreWithin, PassesDeliveries}
-use Rattle.gate_laws.proofs.Listed.{each_at, gather}
-use Rattle.gate_laws.proofs.FirstNumber.{IsAtBase, first_known, sequence_same}
+use Rattle.law_gate.specs.Laws.{pairs_at, place_of, pairs_of, AreWithin, PassesDeliveries}
+use Rattle.law_gate.proofs.Listed.{each_at, gather}
+use Rattle.law_gate.proofs.FirstNumber.{IsAtBase, first_known, sequence_same}
 
 -- ---- one item
 

@@ -1,6 +1,6 @@
 //! The laws of a gateway, each on a function that does nothing.
 
-ghost use Rattle.gate_laws.specs.Laws.{PassesDeliveries, PassesSchedules, ComesAgain, ServedBehindOne, ServedBehindTwo};
+ghost use Rattle.law_gate.specs.Laws.{PassesDeliveries, PassesSchedules, ComesAgain, ServedBehindOne, ServedBehindTwo};
 
 use law_collect::{collecting, giving_ends, one_reading, one_run};
 use law_frame_lines::served_frames_are_printed;

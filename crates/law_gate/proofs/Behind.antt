@@ -16,7 +16,7 @@ use Rattle.law_frame_lines.specs.Laws.{ServedLines}
 use Rattle.law_convert.specs.Laws.{under}
 use Rattle.law_convert.proofs.OtherCarry.{frame_under}
 use Rattle.drm_gate.specs.Passing.{sent_of}
-use Rattle.gate_laws.specs.Laws.{IsAmong, IsPassedOn, PassesSchedules, ComesAgain, GivesServed, ServedBehindOne, ServedBehindTwo, pairs_given}
+use Rattle.law_gate.specs.Laws.{IsAmong, IsPassedOn, PassesSchedules, ComesAgain, GivesServed, ServedBehindOne, ServedBehindTwo, pairs_given}
 
 -- ---- it comes again
 

@@ -33,10 +33,10 @@ use Rattle.law_convert.specs.Laws.{under}
 use Rattle.law_convert.proofs.Hearing.{Hears, hears}
 use Rattle.law_convert.proofs.OtherCarry.{packet_under}
 use Rattle.drm_gate.specs.Passing.{Fate, Becomes, BecomeAll, datagrams_of}
-use Rattle.gate_laws.specs.Laws.{pairs_where, pairs_by, PassesSchedules}
-use Rattle.gate_laws.proofs.Listed.{gather}
-use Rattle.gate_laws.proofs.FirstNumber.{IsAtBase, first_known, sequence_same}
-use Rattle.gate_laws.proofs.Packets.{lost_sends, packet_sends}
+use Rattle.law_gate.specs.Laws.{pairs_where, pairs_by, PassesSchedules}
+use Rattle.law_gate.proofs.Listed.{gather}
+use Rattle.law_gate.proofs.FirstNumber.{IsAtBase, first_known, sequence_same}
+use Rattle.law_gate.proofs.Packets.{lost_sends, packet_sends}
 
 -- the item of a packet that was cut in this shape
 abbrev item_in : Shape → List ℕ → ℕ → (ℕ → Bool) → Item

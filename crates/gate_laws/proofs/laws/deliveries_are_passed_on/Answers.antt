@@ -1,5 +1,0 @@
-use Rattle.gate_laws.proofs.Packets.{passes_deliveries}
-use Rattle.gate_laws.proofs.laws.deliveries_are_passed_on.Goals as goal
-
-pub returns : goal.returns
-returns c = passes_deliveries c.collecting.ensures c.one_reading.ensures

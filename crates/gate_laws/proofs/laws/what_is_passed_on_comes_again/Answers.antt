@@ -1,5 +1,0 @@
-use Rattle.gate_laws.proofs.Behind.{comes_again}
-use Rattle.gate_laws.proofs.laws.what_is_passed_on_comes_again.Goals as goal
-
-pub returns : goal.returns
-returns c = comes_again c.schedules_are_passed_on.ensures
