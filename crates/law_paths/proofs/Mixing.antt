@@ -5,7 +5,7 @@ use Rattle.std.proofs.lemmas.Bool.Decides.{nat_tests}
 use Rattle.drm_schedule.specs.declared.plan.Plan.{Plan}
 use Rattle.law_delivery.specs.Sent.{Arrival, IsArrival}
 use Rattle.drm_paths.specs.Closing.{of_path}
-use Rattle.path_laws.specs.Laws.{arrivals_of, MixedPathsAreOneDelivery}
+use Rattle.law_paths.specs.Laws.{arrivals_of, MixedPathsAreOneDelivery}
 
 -- what stands for a list that isn't empty
 first_of : (plan : Plan) (arrivals : List Arrival) (datagram : List ℕ) (came : List (List ℕ)) → AllZip (IsArrival plan) arrivals (datagram ∷ came)

@@ -8,7 +8,7 @@ use Rattle.law_collect.specs.Delivery.{number, newer_number, IsWithinSpan}
 use Rattle.drm_schedule.specs.declared.plan.Plan.{Plan}
 use Rattle.drm_timeline.specs.Numbers.{frame_count}
 use Rattle.law_delivery.specs.Sent.{Arrival, OfSchedule, Stray, IsArrival, pairs_in}
-use Rattle.path_laws.specs.Laws.{FollowedInAnyOrder}
+use Rattle.law_paths.specs.Laws.{FollowedInAnyOrder}
 
 from_first : (pair : ℕ × ℕ) → number (pos 0) pair ≡ pos pair.0
 from_first pair = omega (arith, ints)

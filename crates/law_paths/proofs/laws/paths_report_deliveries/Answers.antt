@@ -1,5 +1,5 @@
-use Rattle.path_laws.proofs.Reporting.{reports_deliveries}
-use Rattle.path_laws.proofs.laws.paths_report_deliveries.Goals as goal
+use Rattle.law_paths.proofs.Reporting.{reports_deliveries}
+use Rattle.law_paths.proofs.laws.paths_report_deliveries.Goals as goal
 
 pub returns : goal.returns
 returns c =

@@ -1,6 +1,6 @@
 //! The laws of several paths, each on a function that does nothing.
 
-ghost use Rattle.path_laws.specs.Laws.{ReportsDeliveries, ReportsAll, MixedPathsAreOneDelivery, FollowedInAnyOrder};
+ghost use Rattle.law_paths.specs.Laws.{ReportsDeliveries, ReportsAll, MixedPathsAreOneDelivery, FollowedInAnyOrder};
 
 use recv_report::laws_of_deliveries;
 

@@ -1,5 +1,0 @@
-use Rattle.path_laws.proofs.AnyOrder.{followed_in_any_order}
-use Rattle.path_laws.proofs.laws.short_schedules_are_followed_in_any_order.Goals as goal
-
-pub returns : goal.returns
-returns c = followed_in_any_order
