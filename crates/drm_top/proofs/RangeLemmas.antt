@@ -9,7 +9,7 @@ use Rattle.recv_reading.specs.declared.options.ReceiveOptions.{ReceiveOptions}
 use Rattle.dcp_pft.specs.declared.carry.Carry.{Carry}
 use Rattle.dcp_pft.specs.declared.carry.Carry.TheVariants.{Plain, Pft}
 use Rattle.dcp_pft.specs.Carrying.{CarryFits}
-use Rattle.word_forms.specs.Carries.{IsCarry}
+use Rattle.cli_syntax.specs.Carries.{IsCarry}
 use Rattle.drm_links.specs.Dock.{AreDifferent}
 use Rattle.several_links.specs.Listed.{AreListed}
 use Rattle.recv_reading.specs.Options.{AreInRange}

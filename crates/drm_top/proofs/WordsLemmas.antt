@@ -1,7 +1,7 @@
 -- The request that was read is the one that was asked for.
 use Rattle.std.proofs.Common.{◌≡◌, ◌⊎◌, inl, inr, Result, Ok, Err}
-use Rattle.word_forms.specs.declared.fault.WordsFault.{WordsFault}
-use Rattle.word_forms.specs.declared.fault.WordsFault.TheVariants as faults
+use Rattle.cli_syntax.specs.declared.fault.WordsFault.{WordsFault}
+use Rattle.cli_syntax.specs.declared.fault.WordsFault.TheVariants as faults
 use Rattle.drm_words.specs.declared.request.Request.{Request}
 
 pub request_read : (read asked : Request) → (let came : Result Request WordsFault = Ok read in (came ≡ Ok asked) ⊎ (came ≡ Err faults.NoMemory)) → read ≡ asked

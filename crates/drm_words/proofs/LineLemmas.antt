@@ -3,16 +3,16 @@ use Rattle.std.proofs.Common.{◌≡◌, ◌⊎◌, inl, inr, ℕ, List, [], ◌
 use Rattle.std.specs.Prelude.{IfOk}
 use Rattle.std.proofs.lemmas.Option.{same_Some}
 use Rattle.drm_words.specs.declared.request.Request.{Request}
-use Rattle.word_forms.specs.declared.fault.WordsFault.{WordsFault}
-use Rattle.word_forms.specs.declared.fault.WordsFault.TheVariants.{Words, NoMemory}
+use Rattle.cli_syntax.specs.declared.fault.WordsFault.{WordsFault}
+use Rattle.cli_syntax.specs.declared.fault.WordsFault.TheVariants.{Words, NoMemory}
 use Rattle.drm_words.specs.Table.{IsRequest}
-use Rattle.word_forms.specs.Arguing.{Sorted, read}
+use Rattle.cli_syntax.specs.Arguing.{Sorted, read}
 use Rattle.drm_words.specs.Asking.{request_of}
 use Rattle.drm_words.specs.Line.{IsLine}
 use Rattle.drm_words.specs.Whole.{line_of}
-use Rattle.word_forms.specs.Gives.{Gives}
-use Rattle.word_forms.proofs.OptionLemmas.{stepped}
-use Rattle.word_forms.proofs.SpellingLemmas.{read_fits, read_is}
+use Rattle.cli_syntax.specs.Gives.{Gives}
+use Rattle.cli_syntax.proofs.OptionLemmas.{stepped}
+use Rattle.cli_syntax.proofs.SpellingLemmas.{read_fits, read_is}
 use Rattle.drm_words.proofs.TableLemmas.{request_fits, request_is}
 
 pub line_fits : (words : List (List ℕ)) (r : Request) → line_of words ≡ Some r → IsLine words r

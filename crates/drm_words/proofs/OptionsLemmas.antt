@@ -8,14 +8,14 @@ use Rattle.drm_links.specs.declared.dock.Address.{Address}
 use Rattle.drm_words.specs.declared.request.Request.{Request}
 use Rattle.drm_words.specs.declared.options.Stretch.{Stretch}
 use Rattle.drm_words.specs.declared.options.Reading.{Reading}
-use Rattle.word_forms.specs.Reading.{within}
-use Rattle.word_forms.specs.Addressing.{address_of, addresses_of}
+use Rattle.cli_syntax.specs.Reading.{within}
+use Rattle.cli_syntax.specs.Addressing.{address_of, addresses_of}
 use Rattle.drm_words.specs.Table.{Options, told, IsOneOf, AreOf, IsNumberOr, IsNumberOrNone, AreAddressesIfTold, AreStreamsIfTold, AreAddressesOrNone, IsAddressOrNone, IsStretch, IsReading}
 use Rattle.drm_words.specs.Asking.{is_one_of, are_of, number_or, number_or_none, addresses_if_told, live_if_told, addresses_or_none, address_or_none, with_options, window_of, reach_of, first_of, frames_of, stretch_of, reading_of, idle_of, limit_of, pace_of, from_of, to_of, live_told}
-use Rattle.word_forms.proofs.OptionLemmas.{mapped, stepped}
-use Rattle.word_forms.proofs.NumberLemmas.{within_fits, within_is}
-use Rattle.word_forms.proofs.AddressLemmas.{address_fits, address_is, addresses_fit, addresses_are}
-use Rattle.word_forms.proofs.StreamLemmas.{live_fits, live_is}
+use Rattle.cli_syntax.proofs.OptionLemmas.{mapped, stepped}
+use Rattle.cli_syntax.proofs.NumberLemmas.{within_fits, within_is}
+use Rattle.cli_syntax.proofs.AddressLemmas.{address_fits, address_is, addresses_fit, addresses_are}
+use Rattle.cli_syntax.proofs.StreamLemmas.{live_fits, live_is}
 use Rattle.drm_schedule.specs.declared.live.Live.{Live}
 use Rattle.drm_schedule.specs.Live as live
 

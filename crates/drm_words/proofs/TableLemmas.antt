@@ -11,16 +11,16 @@ use Rattle.drm_schedule.specs.declared.live.Live.{Live}
 use Rattle.dcp_pft.specs.declared.carry.Carry.{Carry}
 use Rattle.drm_words.specs.declared.request.Request.{Request}
 use Rattle.drm_words.specs.declared.request.Request.TheVariants.{Fac, Check, Serve, Receive, Count, Air, Show, Convert, Exercise, Gate, Pack, Unpack, Texts}
-use Rattle.word_forms.specs.Reading.{within}
-use Rattle.word_forms.specs.Addressing.{address_of, addresses_of, carry_of}
+use Rattle.cli_syntax.specs.Reading.{within}
+use Rattle.cli_syntax.specs.Addressing.{address_of, addresses_of, carry_of}
 use Rattle.drm_words.specs.declared.options.Stretch.{Stretch}
 use Rattle.drm_words.specs.declared.options.Reading.{Reading}
 use Rattle.drm_words.specs.Table.{Options, AreOf, IsRequest, serve_names, stretch_names, reading_names}
 use Rattle.drm_words.specs.Asking.{addresses_or_none, address_or_none, window_of, stretch_of, reading_of, pace_of, from_of, to_of, live_told, is_bare, bare_of, check_of, serve_asked, serve_of, receive_with, receive_of, count_with, count_of, air_with, air_of, convert_with, convert_of, exercise_with, exercise_of, gate_with, gate_of, pack_with, pack_of, unpack_with, unpack_of, texts_with, texts_of, request_of}
-use Rattle.word_forms.proofs.OptionLemmas.{stepped}
-use Rattle.word_forms.proofs.NumberLemmas.{within_fits, within_is}
-use Rattle.word_forms.proofs.CarryLemmas.{carry_fits, carry_is}
-use Rattle.word_forms.proofs.AddressLemmas.{address_fits, address_is, addresses_fit, addresses_are}
+use Rattle.cli_syntax.proofs.OptionLemmas.{stepped}
+use Rattle.cli_syntax.proofs.NumberLemmas.{within_fits, within_is}
+use Rattle.cli_syntax.proofs.CarryLemmas.{carry_fits, carry_is}
+use Rattle.cli_syntax.proofs.AddressLemmas.{address_fits, address_is, addresses_fit, addresses_are}
 use Rattle.drm_words.proofs.OptionsLemmas.{addresses_or_none_fit, addresses_or_none_are, address_or_none_fits, address_or_none_is, with_fits, with_is, none_of, window_fits, window_is, stretch_fits, stretch_is, reading_fits, reading_is, pace_fits, pace_is, from_fits, from_is, to_fits, to_is, live_told_fits, live_told_is}
 
 bare_fits : (asked : Request) (texts : List (List ℕ)) (options : Options) (r : Request) → bare_of asked texts options ≡ Some r → (texts ≡ []) × (options ≡ []) × (asked ≡ r)

@@ -4,13 +4,13 @@ use Rattle.std.specs.Str.{bytes_eq}
 use Rattle.drm_links.specs.declared.dock.Address.{Address}
 use Rattle.drm_words.specs.declared.request.Request.{Request}
 use Rattle.drm_words.specs.declared.request.Request.TheVariants.{Fac, Check, Serve, Receive, Count, Air, Show, Convert, Exercise, Gate, Pack, Unpack, Texts}
-use Rattle.word_forms.specs.Reading.{within}
-use Rattle.word_forms.specs.Addressing.{◌>>=◌, address_of, addresses_of, carry_of}
+use Rattle.cli_syntax.specs.Reading.{within}
+use Rattle.cli_syntax.specs.Addressing.{◌>>=◌, address_of, addresses_of, carry_of}
 use Rattle.drm_words.specs.declared.options.Stretch.{Stretch}
 use Rattle.drm_words.specs.declared.options.Reading.{Reading}
 use Rattle.drm_schedule.specs.declared.live.Live.{Live}
 use Rattle.drm_schedule.specs.Live.{none}
-use Rattle.word_forms.specs.Streams.{live_of}
+use Rattle.cli_syntax.specs.Streams.{live_of}
 use Rattle.drm_words.specs.Table.{Options, told, serve_names, stretch_names, reading_names}
 
 abbrev pub is_one_of : List (List ℕ) → List ℕ → Bool

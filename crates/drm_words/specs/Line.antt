@@ -1,7 +1,7 @@
 -- A command line.
 use Rattle.std.specs.Prelude.{ℕ, ◌≡◌, List, ◌∷◌}
 use Rattle.drm_words.specs.declared.request.Request.{Request}
-use Rattle.word_forms.specs.Spelling.{Argument, Spells, texts, options}
+use Rattle.cli_syntax.specs.Spelling.{Argument, Spells, texts, options}
 use Rattle.drm_words.specs.Table.{IsRequest}
 
 -- The words are a command and then the spelling of arguments, and this is the request of that command with these arguments.

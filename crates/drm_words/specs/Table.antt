@@ -4,10 +4,10 @@ use Rattle.std.specs.Str.{bytes_eq}
 use Rattle.drm_links.specs.declared.dock.Address.{Address}
 use Rattle.drm_words.specs.declared.request.Request.{Request}
 use Rattle.drm_words.specs.declared.request.Request.TheVariants.{Fac, Check, Serve, Receive, Count, Air, Show, Convert, Exercise, Gate, Pack, Unpack, Texts}
-use Rattle.word_forms.specs.Numbers.{IsWithin}
-use Rattle.word_forms.specs.Addresses.{IsAddress, AreAddresses}
-use Rattle.word_forms.specs.Carries.{IsCarry}
-use Rattle.word_forms.specs.Streams.{AreStreams}
+use Rattle.cli_syntax.specs.Numbers.{IsWithin}
+use Rattle.cli_syntax.specs.Addresses.{IsAddress, AreAddresses}
+use Rattle.cli_syntax.specs.Carries.{IsCarry}
+use Rattle.cli_syntax.specs.Streams.{AreStreams}
 use Rattle.drm_schedule.specs.declared.live.Live.{Live}
 use Rattle.drm_schedule.specs.Live.{none}
 

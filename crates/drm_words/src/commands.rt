@@ -1,11 +1,11 @@
 //! The commands: the plain words and options of each.
 
 ghost use Rattle.std.specs.Prelude.{◌≡◌, IfOk, IfErr, IfSome, IsUtf8, map};
-ghost use Rattle.word_forms.specs.Arguing.{option_said};
+ghost use Rattle.cli_syntax.specs.Arguing.{option_said};
 ghost use Rattle.drm_words.specs.Asking.{is_bare, bare_of, check_of, serve_with, serve_of, addresses_or_none, receive_with, receive_of, address_or_none, count_with, count_of, air_with, air_of, convert_with, convert_of, exercise_with, exercise_of, gate_with, gate_of, pack_with, pack_of, unpack_with, unpack_of, texts_with, texts_of, request_of};
-ghost use Rattle.word_forms.specs.Gives.{Gives};
+ghost use Rattle.cli_syntax.specs.Gives.{Gives};
 ghost use Rattle.drm_words.specs.Table.{HasTextNames};
-ghost use Rattle.word_forms.specs.declared.fault.WordsFault.TheVariants as faults;
+ghost use Rattle.cli_syntax.specs.declared.fault.WordsFault.TheVariants as faults;
 
 use crate::options::{
     are_of, are_of_reading, are_of_stretch, from, live, pace, to, told_reading, told_stretch,
@@ -16,7 +16,7 @@ use drm_bits::Octets;
 use drm_links::{Address, Addresses};
 use drm_schedule::Live;
 use std::alloc::Global;
-use word_forms::{Named, WordsFault, address, carry, read_addresses, within};
+use cli_syntax::{Named, WordsFault, address, carry, read_addresses, within};
 
 fn octets(alloc: Global, text: &str) -> Result<Octets, WordsFault>
     ensures ok { IfOk result (λ octets. octets ≡ text.now) }

@@ -9,4 +9,4 @@ mod request;
 pub use drm_links::Addresses;
 pub use read::{one_request, read_words};
 pub use request::Request;
-pub use word_forms::WordsFault;
+pub use cli_syntax::WordsFault;

@@ -1,15 +1,15 @@
 //! Options and what they tell: each with its range, and its default where it has one.
 
 ghost use Rattle.std.specs.Prelude.{◌≡◌, ◌≤◌, IfSome, map, option_map, codes};
-ghost use Rattle.word_forms.specs.Arguing.{option_said};
-ghost use Rattle.word_forms.specs.Gives.{Gives};
+ghost use Rattle.cli_syntax.specs.Arguing.{option_said};
+ghost use Rattle.cli_syntax.specs.Gives.{Gives};
 ghost use Rattle.drm_words.specs.Table.{told, stretch_names, reading_names};
 ghost use Rattle.drm_words.specs.Asking.{is_one_of, are_of, number_or, number_or_none, window_of, reach_of, first_of, frames_of, stretch_of, reading_of, idle_of, limit_of, pace_of, from_of, to_of, live_told};
 
 use drm_links::Addresses;
 use drm_schedule::{Live, MOST_FRAMES};
 use std::alloc::Global;
-use word_forms::{Named, WordsFault, read_addresses, read_live, within};
+use cli_syntax::{Named, WordsFault, read_addresses, read_live, within};
 
 /// Which packets are read, and how many frames of them.
 #[derive(Clone, Copy)]

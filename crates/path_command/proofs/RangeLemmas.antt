@@ -4,7 +4,7 @@ use Rattle.path_words.specs.declared.request.Request.{Request}
 use Rattle.path_words.specs.Line.{IsPathsLine}
 use Rattle.path_words.specs.Told.{told}
 use Rattle.path_words.specs.Table.{IsNumberOr, IsNumberOrNone}
-use Rattle.word_forms.specs.Spelling.{options}
+use Rattle.cli_syntax.specs.Spelling.{options}
 use Rattle.path_command.specs.Run.{IsInRange}
 
 number_range : (default least greatest : ℕ) → least ≤ default → default ≤ greatest → (value : Option (List ℕ)) (n : ℕ) → IsNumberOr default least greatest value n → (least ≤ n) × (n ≤ greatest)

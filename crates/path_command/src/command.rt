@@ -24,7 +24,7 @@ use std::marker::Brand;
 use std::sync::Wait;
 use std::sync::ledger::Blank;
 use std::thread::Threads;
-use word_forms::WordsFault;
+use cli_syntax::WordsFault;
 
 /// Runs one command line: the words that stand behind the program's name.
 ///

@@ -4,7 +4,7 @@ use Rattle.std.specs.List.{AllByRecursion}
 use Rattle.std.specs.Str.{bytes_eq}
 use Rattle.std.proofs.lemmas.List.{append_assoc}
 use Rattle.std.proofs.lemmas.Slice.Eq.{bytes_eq-Decides}
-use Rattle.word_forms.specs.Spelling.{Argument, Plain as PlainWord, Named, Begins, plain as plain_word, in_one, in_two, Spells, none, more, behind, IsPlain, texts, options}
+use Rattle.cli_syntax.specs.Spelling.{Argument, Plain as PlainWord, Named, Begins, plain as plain_word, in_one, in_two, Spells, none, more, behind, IsPlain, texts, options}
 use Rattle.path_words.specs.Uses.{Use, names, Idle, is_known, plain, has_use, trailed, run}
 use Rattle.path_words.specs.Told.{told}
 use Rattle.path_words.specs.Table.{Options, AreOf}

@@ -4,7 +4,7 @@ use Rattle.std.specs.List.{AllByRecursion, list_any}
 use Rattle.std.specs.Str.{bytes_eq}
 use Rattle.std.proofs.lemmas.Option.{same_Some}
 use Rattle.std.proofs.lemmas.Slice.Eq.{bytes_eq-Decides}
-use Rattle.word_forms.specs.Spelling.{Argument, Plain, Named, IsPlain, texts, options}
+use Rattle.cli_syntax.specs.Spelling.{Argument, Plain, Named, IsPlain, texts, options}
 use Rattle.path_words.specs.Uses.{Use, names, is_known, plain, has_use}
 use Rattle.path_words.specs.Told.{told}
 use Rattle.path_words.specs.Table.{IsOneOf, AreOf}

@@ -6,22 +6,22 @@ use Rattle.std.specs.Char.{is_ascii_digit}
 use Rattle.std.proofs.lemmas.Option.{same_Some}
 use Rattle.path_words.specs.declared.request.Request.{Request}
 use Rattle.drm_links.specs.declared.dock.Address.{Address}
-use Rattle.word_forms.specs.declared.fault.WordsFault.{WordsFault}
-use Rattle.word_forms.specs.declared.fault.WordsFault.TheVariants.{Words, NoMemory}
-use Rattle.word_forms.specs.Numbers.{IsNumber}
-use Rattle.word_forms.specs.Reading.{within}
-use Rattle.word_forms.specs.Addresses.{AreWithin, IsAddress, EachIsAddress, AreAddresses}
-use Rattle.word_forms.specs.Addressing.{addresses_of}
-use Rattle.word_forms.specs.Spelling.{Argument, IsPlain, texts, options}
+use Rattle.cli_syntax.specs.declared.fault.WordsFault.{WordsFault}
+use Rattle.cli_syntax.specs.declared.fault.WordsFault.TheVariants.{Words, NoMemory}
+use Rattle.cli_syntax.specs.Numbers.{IsNumber}
+use Rattle.cli_syntax.specs.Reading.{within}
+use Rattle.cli_syntax.specs.Addresses.{AreWithin, IsAddress, EachIsAddress, AreAddresses}
+use Rattle.cli_syntax.specs.Addressing.{addresses_of}
+use Rattle.cli_syntax.specs.Spelling.{Argument, IsPlain, texts, options}
 use Rattle.path_words.specs.Uses.{Use, Idle, is_known, plain, run}
 use Rattle.path_words.specs.Told.{Told, told, told_with, told_of, parse_of}
 use Rattle.path_words.specs.Table.{IsNumberOr, IsNumberOrNone}
 use Rattle.path_words.specs.Line.{IsPathsLine}
 use Rattle.path_words.specs.Asking.{if_several, several_of, number_or, number_or_none, request_of, line_of}
-use Rattle.word_forms.specs.Gives.{Gives}
-use Rattle.word_forms.proofs.OptionLemmas.{stepped, mapped}
-use Rattle.word_forms.proofs.NumberLemmas.{within_fits, within_is}
-use Rattle.word_forms.proofs.AddressLemmas.{addresses_fit, addresses_are}
+use Rattle.cli_syntax.specs.Gives.{Gives}
+use Rattle.cli_syntax.proofs.OptionLemmas.{stepped, mapped}
+use Rattle.cli_syntax.proofs.NumberLemmas.{within_fits, within_is}
+use Rattle.cli_syntax.proofs.AddressLemmas.{addresses_fit, addresses_are}
 use Rattle.path_words.proofs.Fresh.{Fresh, uses_of, IsName, all_plain, told_options, are_of, one_text, text_told, known_is}
 use Rattle.path_words.proofs.Sound.{IsSpelled, sound}
 use Rattle.path_words.proofs.Complete.{run_is, all_known, fresh_is, apart_none, plain_values, PlainValues, Once}

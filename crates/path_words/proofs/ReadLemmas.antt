@@ -13,10 +13,10 @@ use Rattle.clap.proofs.WalkLemmas.{first_value-rows}
 use Rattle.path_words.specs.Command.{paths}
 use Rattle.path_words.specs.Uses.{plain}
 use Rattle.path_words.specs.Told.{Told, parse_of, text_of}
-use Rattle.word_forms.specs.Gives.{GivesBy}
+use Rattle.cli_syntax.specs.Gives.{GivesBy}
 use Rattle.path_words.specs.Said.{texts_said}
-use Rattle.word_forms.specs.declared.fault.WordsFault.{WordsFault}
-use Rattle.word_forms.specs.declared.fault.WordsFault.TheVariants.{Words, NoMemory}
+use Rattle.cli_syntax.specs.declared.fault.WordsFault.{WordsFault}
+use Rattle.cli_syntax.specs.declared.fault.WordsFault.TheVariants.{Words, NoMemory}
 use Rattle.path_words.proofs.Parses.{paths_simple, Parsed, parses}
 use Rattle.std.specs.Prelude.{Err, ◌↔◌}
 

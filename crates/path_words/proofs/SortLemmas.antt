@@ -6,12 +6,12 @@ use Rattle.std.proofs.lemmas.Bool.Decides.{nat_tests}
 use Rattle.std.proofs.lemmas.Slice.Eq.{bytes_eq-Decides}
 use Rattle.clap.specs.Lexer.{long_of, long_of_rest, short_of, name_and_value}
 use Rattle.clap.proofs.CutLemmas.{before_first-Lacks, before_first-at, after_first-at, list_any-Lacks, list_any-at, Lacks as LacksAt}
-use Rattle.word_forms.specs.Spelling.{IsPlain, IsName, dashes, joined}
+use Rattle.cli_syntax.specs.Spelling.{IsPlain, IsName, dashes, joined}
 use Rattle.path_words.specs.Uses.{Sort, Dashes, Plain, Joined, Apart, Stray, sort_of, long_sort, short_sort, option_sort, flags_sort}
 use Rattle.std.proofs.lemmas.Option.{same_Some}
 use Rattle.std.specs.Prelude.{slice_get}
-use Rattle.word_forms.specs.Addressing.{cut}
-use Rattle.word_forms.proofs.CutLemmas.{cut_is, lacks_by_cut}
+use Rattle.cli_syntax.specs.Addressing.{cut}
+use Rattle.cli_syntax.proofs.CutLemmas.{cut_is, lacks_by_cut}
 
 lacks_by : (c x : ℕ) (xs : List ℕ) → x ≢ c → LacksAt c xs → LacksAt c (x ∷ xs)
 lacks_by c x xs first more zero lt = first

@@ -2,7 +2,7 @@
 use Rattle.std.proofs.Common.{◌≡◌, ◌≢◌, inl, inr, ℕ, Bool, true, false, cond, List, [], ◌∷◌, ◌++◌, map, Some, None, refl, ap, sym, ◌∙◌, subst}
 use Rattle.std.proofs.lemmas.Option.{same_Some}
 use Rattle.std.proofs.lemmas.List.{append_assoc}
-use Rattle.word_forms.specs.Spelling.{Argument, Plain as PlainWord, Named, Begins, plain as plain_word, in_one, in_two, Spells, none, more, behind, IsPlain, IsName as HasName, dashes, joined}
+use Rattle.cli_syntax.specs.Spelling.{Argument, Plain as PlainWord, Named, Begins, plain as plain_word, in_one, in_two, Spells, none, more, behind, IsPlain, IsName as HasName, dashes, joined}
 use Rattle.path_words.specs.Uses.{Use, Sort, Dashes, Plain, Joined, Apart, Stray, sort_of, Idle, Value, is_known, plain, has_use, trailed, run, stepped}
 use Rattle.path_words.proofs.Fresh.{Fresh, uses_of, AllKnown, AllPlain, AllNamed}
 use Rattle.path_words.proofs.SortLemmas.{IsSort, sort_is}

@@ -2,8 +2,8 @@
 use Rattle.std.specs.Prelude.{ℕ, nat_le, ◌&&◌, if◌then◌else◌, List, length, Option, Some, None, option_map, option_and_then}
 use Rattle.drm_links.specs.declared.dock.Address.{Address}
 use Rattle.path_words.specs.declared.request.Request.{Request}
-use Rattle.word_forms.specs.Reading.{within}
-use Rattle.word_forms.specs.Addressing.{◌>>=◌, addresses_of}
+use Rattle.cli_syntax.specs.Reading.{within}
+use Rattle.cli_syntax.specs.Addressing.{◌>>=◌, addresses_of}
 use Rattle.path_words.specs.Told.{Told, parse_of}
 
 abbrev pub number_or : ℕ → ℕ → ℕ → Option (List ℕ) → Option ℕ

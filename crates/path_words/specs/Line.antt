@@ -1,7 +1,7 @@
 -- A command line.
 use Rattle.std.specs.Prelude.{ℕ, ◌≡◌, List}
 use Rattle.path_words.specs.declared.request.Request.{Request}
-use Rattle.word_forms.specs.Spelling.{Argument, Spells, texts, options}
+use Rattle.cli_syntax.specs.Spelling.{Argument, Spells, texts, options}
 use Rattle.path_words.specs.Table.{IsPaths}
 
 -- The words are the spelling of arguments, and this is the request with these arguments.

@@ -1,8 +1,8 @@
 -- What the plain words and the options ask for.
 use Rattle.std.specs.Prelude.{ℕ, ◌≡◌, ◌≤◌, ◌⊎◌, List, [], ◌∷◌, Option, Some, None, MatchOption, codes, length}
 use Rattle.path_words.specs.declared.request.Request.{Request}
-use Rattle.word_forms.specs.Numbers.{IsWithin}
-use Rattle.word_forms.specs.Addresses.{AreAddresses}
+use Rattle.cli_syntax.specs.Numbers.{IsWithin}
+use Rattle.cli_syntax.specs.Addresses.{AreAddresses}
 use Rattle.path_words.specs.Told.{told}
 
 -- the options: names and values

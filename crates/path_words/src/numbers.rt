@@ -3,7 +3,7 @@
 ghost use Rattle.std.specs.Prelude.{◌≡◌, ◌≤◌, IfSome, option_map};
 ghost use Rattle.path_words.specs.Asking.{number_or, number_or_none};
 
-use word_forms::within;
+use cli_syntax::within;
 
 /// The number of an option in its range, or its default where it isn't told.
 pub(crate) fn number_or(default: u64, least: u64, greatest: u64, value: Option<&str>) -> Option<u64>

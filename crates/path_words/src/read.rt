@@ -4,8 +4,8 @@ ghost use Rattle.std.specs.Prelude.{◌≡◌, ◌⊎◌, Err, IfOk, map, string
 ghost use Rattle.path_words.specs.Line.{IsPathsLine, HasOneRequest};
 ghost use Rattle.path_words.specs.Asking.{line_of, several_of, number_or, number_or_none, request_of};
 ghost use Rattle.path_words.specs.Said.{texts_said};
-ghost use Rattle.word_forms.specs.Gives.{Gives};
-ghost use Rattle.word_forms.specs.declared.fault.WordsFault.TheVariants as faults;
+ghost use Rattle.cli_syntax.specs.Gives.{Gives};
+ghost use Rattle.cli_syntax.specs.declared.fault.WordsFault.TheVariants as faults;
 ghost use Rattle.path_words.specs.declared.request.Request.{Request};
 
 use crate::numbers::{number_or, number_or_none};
@@ -14,7 +14,7 @@ use crate::texts::{Texts, read_texts};
 use drm_links::Addresses;
 use drm_schedule::MOST_FRAMES;
 use std::alloc::Global;
-use word_forms::{WordsFault, read_addresses};
+use cli_syntax::{WordsFault, read_addresses};
 
 /// The fewest paths of a run.
 const FEWEST_PATHS: usize = 2;

@@ -3,14 +3,14 @@
 ghost use Rattle.std.specs.Prelude.{◌≡◌, ◌≢◌, ◌↔◌, map, string_bytes};
 ghost use Rattle.clap.specs.Values.{kind_of};
 ghost use Rattle.path_words.specs.Told.{parse_of};
-ghost use Rattle.word_forms.specs.Gives.{GivesBy};
+ghost use Rattle.cli_syntax.specs.Gives.{GivesBy};
 ghost use Rattle.path_words.specs.Said.{texts_said};
 
 use crate::command::command;
 use clap::Error;
 use clap::error::ErrorKind;
 use std::alloc::Global;
-use word_forms::WordsFault;
+use cli_syntax::WordsFault;
 
 /// The texts of a command line.
 #[derive(Clone, Copy)]

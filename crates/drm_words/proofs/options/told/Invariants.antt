@@ -1,5 +1,5 @@
 use Rattle.std.proofs.Common.{◌≡◌, map, drop}
-use Rattle.word_forms.specs.Arguing.{option_said}
+use Rattle.cli_syntax.specs.Arguing.{option_said}
 use Rattle.drm_words.specs.Table.{told}
 use Rattle.drm_words.proofs.options.told.Given as goal
 

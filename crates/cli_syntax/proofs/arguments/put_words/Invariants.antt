@@ -1,0 +1,6 @@
+use Rattle.std.proofs.Common.{◌≡◌, ◌++◌, map, string_bytes, take}
+use Rattle.cli_syntax.proofs.arguments.put_words.Given as goal
+
+abbrev pub invariant-loop-word : goal.invariant-loop-word
+invariant-loop-word l =
+    map (λ text. text.now) l.texts.items ≡ map (λ text. text.now) l.initial.texts.items ++ map string_bytes (take l.word-index l.words)

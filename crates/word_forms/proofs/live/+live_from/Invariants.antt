@@ -1,5 +1,0 @@
-use Rattle.std.proofs.Common.{length}
-use Rattle.word_forms.proofs.live.+live_from.Given as goal
-
-abbrev pub decreases-live_from : goal.decreases-live_from
-decreases-live_from l = length l.parts.now
