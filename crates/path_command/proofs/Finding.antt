@@ -7,7 +7,7 @@ use Rattle.drm_links.specs.declared.dock.Address.{Address}
 use Rattle.drm_links.proofs.Places.{index_of}
 use Rattle.drm_paths.specs.State.{PathState, new_path}
 use Rattle.drm_paths.specs.Closing.{of_path, AreCounted, AllAgree}
-use Rattle.path_words.specs.declared.request.Request.{Request}
+use Rattle.cli_paths.specs.declared.request.Request.{Request}
 use Rattle.path_command.specs.declared.fault.Fault.TheVariants as faults
 use Rattle.path_command.specs.Ahead.{IsAllOf, BreaksOff}
 use Rattle.path_command.specs.Opening.{HaveLinks}

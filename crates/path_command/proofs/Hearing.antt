@@ -5,7 +5,7 @@ use Rattle.drm_links.specs.Told.{Known}
 use Rattle.drm_links.specs.Link.{Traffic}
 use Rattle.drm_links.specs.Dock.{LinkStart, first_traffic}
 use Rattle.drm_links.proofs.Hearing.{heard_next}
-use Rattle.path_words.specs.declared.request.Request.{Request}
+use Rattle.cli_paths.specs.declared.request.Request.{Request}
 use Rattle.drm_paths.specs.declared.run.PathEnded.{PathEnded}
 use Rattle.drm_paths.specs.Reading.{most_answers}
 use Rattle.path_command.specs.Ahead.{IsRead, IsAllOf}

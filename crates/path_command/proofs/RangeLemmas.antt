@@ -1,9 +1,9 @@
 -- What the words of a request say of its numbers.
 use Rattle.std.proofs.Common.{ℕ, ◌≤◌, List, Option, None, Some, IfSome, codes, subst, sym, arith}
-use Rattle.path_words.specs.declared.request.Request.{Request}
-use Rattle.path_words.specs.Line.{IsPathsLine}
-use Rattle.path_words.specs.Told.{told}
-use Rattle.path_words.specs.Table.{IsNumberOr, IsNumberOrNone}
+use Rattle.cli_paths.specs.declared.request.Request.{Request}
+use Rattle.cli_paths.specs.Line.{IsPathsLine}
+use Rattle.cli_paths.specs.Told.{told}
+use Rattle.cli_paths.specs.Table.{IsNumberOr, IsNumberOrNone}
 use Rattle.cli_syntax.specs.Spelling.{options}
 use Rattle.path_command.specs.Run.{IsInRange}
 

@@ -10,7 +10,7 @@ use Rattle.report_text.specs.Reports.{Report}
 use Rattle.several_links.proofs.OpeningLemmas.{docked_both, docked_weaker}
 use Rattle.several_links.specs.Binding.{HearsEach, BindsFew}
 use Rattle.several_links.proofs.BindLemmas.{docked_then, went_over, hears_each}
-use Rattle.path_words.specs.declared.request.Request.{Request}
+use Rattle.cli_paths.specs.declared.request.Request.{Request}
 use Rattle.path_book.specs.Journal.{datagrams}
 use Rattle.path_book.specs.Report.{IsReportOf}
 use Rattle.drm_paths.specs.declared.run.PathOptions.{PathOptions}

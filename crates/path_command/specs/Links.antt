@@ -6,7 +6,7 @@ use Rattle.drm_links.specs.Dock.{DockContents, Docked, after_openings}
 use Rattle.several_links.specs.Binding.{BindsFew}
 use Rattle.drm_links.specs.Hearing.{Heard}
 use Rattle.report_text.specs.Reports.{Report}
-use Rattle.path_words.specs.declared.request.Request.{Request}
+use Rattle.cli_paths.specs.declared.request.Request.{Request}
 use Rattle.path_book.specs.Journal.{JournalState}
 use Rattle.drm_paths.specs.declared.run.PathOptions.{PathOptions}
 use Rattle.drm_paths.specs.declared.run.PathEnded.{PathEnded}

@@ -7,8 +7,8 @@ use Rattle.drm_links.specs.Dock.{DockContents, LinkStart, AreDifferent, Finds, F
 use Rattle.drm_links.specs.declared.dock.Address.{Address}
 use Rattle.drm_faults.specs.Causes.{OpeningFailed}
 use Rattle.drm_faults.specs.Fault.{WritesLine}
-use Rattle.path_words.specs.declared.request.Request.{Request}
-use Rattle.path_words.specs.Line.{IsPathsLine}
+use Rattle.cli_paths.specs.declared.request.Request.{Request}
+use Rattle.cli_paths.specs.Line.{IsPathsLine}
 use Rattle.path_book.specs.declared.settings.Settings.{Settings}
 use Rattle.path_book.specs.Journal.{JournalState, AreInRange, datagrams}
 use Rattle.path_book.specs.Report.{IsReportOf}

@@ -1,5 +1,5 @@
 use Rattle.std.proofs.Common.{◌≡◌, inl, inr, ap, subst, Err, map, string_bytes}
-use Rattle.path_words.specs.declared.request.Request.{Request}
+use Rattle.cli_paths.specs.declared.request.Request.{Request}
 use Rattle.path_command.specs.Run.{PathsRun}
 use Rattle.path_command.proofs.RangeLemmas.{in_range}
 use Rattle.path_command.proofs.command.execute.Goals as goal

@@ -1,5 +1,0 @@
-use Rattle.path_words.proofs.LineLemmas.{line_once}
-use Rattle.path_words.proofs.read.one_request.Goals as goal
-
-pub returns : goal.returns
-returns c = λ words request other h k. line_once words request other h k
