@@ -4,7 +4,7 @@
 
 use drm_adapt::{FileShelf, StreamSink, StreamSource, UdpDock};
 use drm_top::{no_memory, run};
-use program_words::given_words;
+use cli_program::given_words;
 use std::env;
 use std::process::ExitCode;
 

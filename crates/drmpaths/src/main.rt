@@ -4,7 +4,7 @@
 
 use drm_adapt::{StreamSink, UdpDock};
 use path_command::{no_memory, run_paths};
-use program_words::given_words;
+use cli_program::given_words;
 use std::env;
 use std::process::ExitCode;
 

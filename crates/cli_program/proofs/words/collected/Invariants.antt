@@ -1,6 +1,6 @@
 use Rattle.std.proofs.Common.{◌≡◌, ◌++◌}
 use Rattle.std.specs.Vec.Iter.{into_iter_items}
-use Rattle.program_words.proofs.words.collected.Given as goal
+use Rattle.cli_program.proofs.words.collected.Given as goal
 
 -- the words so far, and those that are still to come
 abbrev pub invariant-loop-word : goal.invariant-loop-word
