@@ -8,11 +8,11 @@ use Rattle.capture_reader.specs.Capture as capture
 use Rattle.capture_reader.specs.Laws.{ReadOneWay}
 use Rattle.law_capture.specs.Laws.{PacketsInFront}
 use Rattle.mod_feed.specs.Items.{Item}
-use Rattle.drm_faults.specs.Captures.{EndsEarly, EndsByIt}
-use Rattle.drm_faults.specs.Fault.{UnlessMemory}
-use Rattle.drm_faults.specs.declared.fault.Fault.{Fault}
-use Rattle.drm_faults.specs.declared.fault.Fault.TheVariants as faults
-use Rattle.drm_faults.proofs.CaptureLemmas.{each_early, none_by, fault_by, length_by, done_or}
+use Rattle.cmd_faults.specs.Captures.{EndsEarly, EndsByIt}
+use Rattle.cmd_faults.specs.Fault.{UnlessMemory}
+use Rattle.cmd_faults.specs.declared.fault.Fault.{Fault}
+use Rattle.cmd_faults.specs.declared.fault.Fault.TheVariants as faults
+use Rattle.cmd_faults.proofs.CaptureLemmas.{each_early, none_by, fault_by, length_by, done_or}
 use Rattle.recv_reading.specs.Packets.{Terms, BreaksOffBy}
 use Rattle.recv_reading.proofs.BreakingOff.{all_unbroken, BreaksBy, until_breaks}
 use Rattle.capture_data.specs.declared.taker.Taker.{Taker}

@@ -12,8 +12,8 @@ use Rattle.capture_reader.specs.declared.packets.CaptureStop.{CaptureStop}
 use Rattle.capture_reader.specs.declared.packets.CaptureStop.TheVariants as stops
 use Rattle.dcp_collect.specs.State.{after_next}
 use Rattle.mod_feed.specs.Items.{Item, IsItemOf}
-use Rattle.drm_faults.specs.Captures.{stop_fault}
-use Rattle.drm_faults.specs.declared.fault.Fault.TheVariants as faults
+use Rattle.cmd_faults.specs.Captures.{stop_fault}
+use Rattle.cmd_faults.specs.declared.fault.Fault.TheVariants as faults
 use Rattle.recv_reading.specs.Source.{ReadSoFar, HeardUntil}
 use Rattle.recv_reading.specs.Packets.{Terms, terms_of}
 use Rattle.recv_reading.proofs.Finishing.{IsOver, finishes}

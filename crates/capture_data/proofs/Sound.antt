@@ -10,9 +10,9 @@ use Rattle.mod_feed.specs.Items.{Item}
 use Rattle.drm_data.specs.Joining.{made}
 use Rattle.law_data.specs.Runs.{answers, after_all}
 use Rattle.drm_text.specs.Joining as joining
-use Rattle.drm_faults.specs.declared.fault.Fault.{Fault}
-use Rattle.drm_faults.specs.Captures.{EndsEarly}
-use Rattle.drm_faults.proofs.CaptureLemmas.{each_early}
+use Rattle.cmd_faults.specs.declared.fault.Fault.{Fault}
+use Rattle.cmd_faults.specs.Captures.{EndsEarly}
+use Rattle.cmd_faults.proofs.CaptureLemmas.{each_early}
 use Rattle.recv_reading.specs.Packets.{Terms}
 use Rattle.capture_data.specs.Streams.{What, UnitsOf, TextsOf}
 use Rattle.capture_data.specs.Lines.{cut_line, units_end, texts_end, is_clean}

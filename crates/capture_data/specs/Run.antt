@@ -8,10 +8,10 @@ use Rattle.drm_links.specs.Sink.{Output, Outputs, IsFront, IsFrontBehind}
 use Rattle.capture_reader.specs.Capture as capture
 use Rattle.capture_reader.specs.declared.packets.CaptureStop.{CaptureStop}
 use Rattle.capture_reader.specs.declared.packets.CaptureStop.TheVariants as stops
-use Rattle.drm_faults.specs.Captures.{EndsEarly, EndsByIt}
-use Rattle.drm_faults.specs.Fault.{UnlessMemory}
-use Rattle.drm_faults.specs.declared.fault.Fault.{Fault}
-use Rattle.drm_faults.specs.declared.fault.Fault.TheVariants as faults
+use Rattle.cmd_faults.specs.Captures.{EndsEarly, EndsByIt}
+use Rattle.cmd_faults.specs.Fault.{UnlessMemory}
+use Rattle.cmd_faults.specs.declared.fault.Fault.{Fault}
+use Rattle.cmd_faults.specs.declared.fault.Fault.TheVariants as faults
 use Rattle.recv_reading.specs.Packets.{Terms, BreaksOffBy}
 use Rattle.recv_reading.specs.Given.{GivesAll, GivesUntil, GivesTo}
 use Rattle.capture_data.specs.Streams.{What}

@@ -7,7 +7,7 @@ use Rattle.drm_links.specs.Told.{Known}
 use Rattle.drm_links.specs.Source.{Input}
 use Rattle.drm_links.specs.Sink.{Output, Outputs, Writes}
 use Rattle.dcp_collect.specs.Runs.{Item as Given}
-use Rattle.drm_faults.specs.declared.fault.Fault.{Fault}
+use Rattle.cmd_faults.specs.declared.fault.Fault.{Fault}
 use Rattle.recv_reading.specs.Packets.{Terms}
 use Rattle.recv_reading.specs.Given.{GivesAll}
 use Rattle.mod_feed.specs.Items.{Item}

@@ -13,7 +13,7 @@ use crate::units::UnitTaker;
 use law_capture::packets_in_front;
 use capture_reader::read_one_way;
 use drm_data::Joiner;
-use drm_faults::Fault;
+use cmd_faults::Fault;
 use drm_links::{Sink, Source};
 use drm_text::TextJoiner;
 use std::alloc::Global;

@@ -12,7 +12,7 @@ ghost use Rattle.capture_data.specs.Run.{Ends};
 use crate::taker::Taker;
 use dcp_collect::Collector;
 use capture_reader::Packets;
-use drm_faults::Fault;
+use cmd_faults::Fault;
 use drm_links::{Sink, Source};
 use mod_feed::Feed;
 use recv_reading::{Bounds, Reading};

@@ -3,9 +3,9 @@ use Rattle.std.proofs.Common.{◌≡◌, ℕ, ◌+◌, ◌≤◌, inl, inr, List
 use Rattle.std.specs.Prelude.{Result, Ok, Err}
 use Rattle.std.specs.Int.{w32, from_be_bytes}
 use Rattle.std.proofs.lemmas.List.{take_at, drop_at}
-use Rattle.drm_faults.specs.declared.units.UnitsReason.{UnitsReason}
-use Rattle.drm_faults.specs.declared.units.UnitsReason.TheVariants.{Empty, TooLong, Cut}
-use Rattle.drm_faults.specs.declared.units.UnitsFault.{UnitsFault}
+use Rattle.cmd_faults.specs.declared.units.UnitsReason.{UnitsReason}
+use Rattle.cmd_faults.specs.declared.units.UnitsReason.TheVariants.{Empty, TooLong, Cut}
+use Rattle.cmd_faults.specs.declared.units.UnitsFault.{UnitsFault}
 use Rattle.data_units.specs.Units.{BeginsWith, AreUnits, said_length, IsWrong, IsWrongAt, ComesTo}
 
 -- one unit more

@@ -1,9 +1,9 @@
 -- The front of a file's bytes, as the code has it.
 use Rattle.std.specs.Prelude.{ℕ, ◌≡◌, ◌<◌, ◌≤◌, List, [], ◌++◌, length, Result, Ok, Err}
 use Rattle.drm_data.specs.Units.{most_unit}
-use Rattle.drm_faults.specs.declared.units.UnitsReason.TheVariants.{Empty, TooLong, Cut}
-use Rattle.drm_faults.specs.declared.fault.Fault.{Fault}
-use Rattle.drm_faults.specs.declared.fault.Fault.TheVariants.{Units}
+use Rattle.cmd_faults.specs.declared.units.UnitsReason.TheVariants.{Empty, TooLong, Cut}
+use Rattle.cmd_faults.specs.declared.fault.Fault.{Fault}
+use Rattle.cmd_faults.specs.declared.fault.Fault.TheVariants.{Units}
 use Rattle.data_units.specs.declared.units.Front.{Front}
 use Rattle.data_units.specs.declared.units.Front.TheVariants.{End, Unit as OneUnit, Wrong}
 use Rattle.data_units.specs.Units.{BeginsWith, IsWrong, AreUnits, IsWrongAt}

@@ -3,10 +3,10 @@ use Rattle.std.specs.Prelude.{ℕ, ◌≡◌, ◌↔◌, List, Result, Ok, Err}
 use Rattle.drm_links.specs.Told.{HasFailed, Known, HasCause}
 use Rattle.drm_links.specs.Source.{Input, Inputs}
 use Rattle.drm_links.specs.Sink.{Output, Outputs, IsFront}
-use Rattle.drm_faults.specs.Fault.{UnlessMemory}
-use Rattle.drm_faults.specs.declared.units.UnitsFault.{UnitsFault}
-use Rattle.drm_faults.specs.declared.fault.Fault.{Fault}
-use Rattle.drm_faults.specs.declared.fault.Fault.TheVariants as faults
+use Rattle.cmd_faults.specs.Fault.{UnlessMemory}
+use Rattle.cmd_faults.specs.declared.units.UnitsFault.{UnitsFault}
+use Rattle.cmd_faults.specs.declared.fault.Fault.{Fault}
+use Rattle.cmd_faults.specs.declared.fault.Fault.TheVariants as faults
 use Rattle.data_units.specs.Units.{ComesTo}
 use Rattle.data_units.specs.Input.{ReadsFile}
 use Rattle.input_front.specs.Input.{FailsBehind}

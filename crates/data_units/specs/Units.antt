@@ -3,9 +3,9 @@ use Rattle.std.specs.Prelude.{ℕ, ◌≡◌, ◌+◌, ◌<◌, ◌≤◌, ◌�
 use Rattle.std.specs.Int.{w32, from_be_bytes}
 use Rattle.drm_data.specs.Units.{most_unit}
 use Rattle.law_data.specs.Losses.{IsUnit}
-use Rattle.drm_faults.specs.declared.units.UnitsReason.{UnitsReason}
-use Rattle.drm_faults.specs.declared.units.UnitsReason.TheVariants.{Empty, TooLong, Cut}
-use Rattle.drm_faults.specs.declared.units.UnitsFault.{UnitsFault}
+use Rattle.cmd_faults.specs.declared.units.UnitsReason.{UnitsReason}
+use Rattle.cmd_faults.specs.declared.units.UnitsReason.TheVariants.{Empty, TooLong, Cut}
+use Rattle.cmd_faults.specs.declared.units.UnitsFault.{UnitsFault}
 
 -- the most bytes of a file
 abbrev pub most_bytes : ℕ

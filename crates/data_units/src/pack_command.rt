@@ -7,7 +7,7 @@ ghost use Rattle.data_units.specs.Pack.{Ends, PackRun, Judges};
 use crate::packing::write_packets;
 use crate::units::judge;
 use drm_bits::{NoMemory, zeros};
-use drm_faults::{Fault, UnitsFault, UnitsReason};
+use cmd_faults::{Fault, UnitsFault, UnitsReason};
 use drm_links::{Sink, Source};
 use input_front::read_front;
 use std::alloc::Global;

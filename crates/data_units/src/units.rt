@@ -2,7 +2,7 @@
 
 ghost use Rattle.data_units.specs.Front.{IsFrontOf, IsCutOf, FindsFault};
 
-use drm_faults::{Fault, UnitsFault, UnitsReason};
+use cmd_faults::{Fault, UnitsFault, UnitsReason};
 
 /// The most bytes of a unit.
 const MOST_UNIT: usize = 65_535;

@@ -8,9 +8,9 @@ use Rattle.drm_links.specs.Sink.{Output}
 use Rattle.drm_links.proofs.ToldLemmas.{Tells-then, Tells-weaker}
 use Rattle.drm_load.specs.declared.loading.ScheduleFault.{ScheduleFault}
 use Rattle.drm_load.specs.declared.loading.ScheduleFault.TheVariants as loads
-use Rattle.drm_faults.specs.declared.fault.Fault.{Fault}
-use Rattle.drm_faults.specs.declared.fault.Fault.TheVariants as faults
-use Rattle.drm_faults.specs.Fault.{UnlessMemory}
+use Rattle.cmd_faults.specs.declared.fault.Fault.{Fault}
+use Rattle.cmd_faults.specs.declared.fault.Fault.TheVariants as faults
+use Rattle.cmd_faults.specs.Fault.{UnlessMemory}
 use Rattle.drm_load.specs.Faults.{fault_of_schedule, fault_of_script}
 use Rattle.drm_load.specs.Loading.{Step, ReadBy}
 use Rattle.drm_load.specs.Schedule.{schedule_named}

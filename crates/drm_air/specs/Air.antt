@@ -20,9 +20,9 @@ use Rattle.drm_load.specs.Schedule.{schedule_named}
 use Rattle.drm_load.specs.Scripts.{script_named}
 use Rattle.drm_load.specs.Faults.{fault_of_schedule, fault_of_script}
 use Rattle.drm_load.specs.declared.loading.ScheduleFault.{ScheduleFault}
-use Rattle.drm_faults.specs.Fault.{UnlessMemory}
-use Rattle.drm_faults.specs.declared.fault.Fault.{Fault}
-use Rattle.drm_faults.specs.declared.fault.Fault.TheVariants as faults
+use Rattle.cmd_faults.specs.Fault.{UnlessMemory}
+use Rattle.cmd_faults.specs.declared.fault.Fault.{Fault}
+use Rattle.cmd_faults.specs.declared.fault.Fault.TheVariants as faults
 
 -- A feed is read by the greatest reach, the schedule's first sequence number and all its frames, and ends where nothing is left.
 abbrev pub air_rules : Plan → ℕ → ReceiveOptions

@@ -6,7 +6,7 @@ ghost use Rattle.law_delivery.specs.Sent.{IsSent};
 ghost use Rattle.plan_script.specs.Script.{IsDelivery, fragment_count};
 ghost use Rattle.drm_timeline.specs.Numbers as numbers;
 ghost use Rattle.drm_server.specs.Datagrams.{HasDatagrams};
-ghost use Rattle.drm_faults.specs.declared.fault.Fault.{Fault};
+ghost use Rattle.cmd_faults.specs.declared.fault.Fault.{Fault};
 ghost use Rattle.recv_report.specs.Jobs.{AreJobs};
 ghost use Rattle.drm_air.specs.Feeds.{BringsFeed, BringFeeds};
 ghost use Rattle.drm_air.specs.Air.{AirRun, AreFeeds, AreAired, air_rules};
@@ -14,7 +14,7 @@ ghost use Rattle.drm_receive.specs.Receive.{WritesReports};
 
 use law_collect::one_run;
 use drm_bits::NoMemory;
-use drm_faults::Fault;
+use cmd_faults::Fault;
 use drm_links::{MemLink, Shelf, Sink};
 use drm_load::{read_schedule, read_script_named, script_fault};
 use drm_receive::ending;

@@ -3,8 +3,8 @@ use Rattle.std.proofs.Common.{ℕ, ◌≡◌, Bool, Option, Result, Ok, Err, ref
 use Rattle.dcp_pft.specs.declared.carry.Carry.{Carry}
 use Rattle.recv_reading.proofs.Common.{State, made, Known, Input, Output}
 use Rattle.capture_reader.specs.declared.packets.CaptureStop.TheVariants as stops
-use Rattle.drm_faults.specs.declared.fault.Fault.{Fault}
-use Rattle.drm_faults.specs.declared.fault.Fault.TheVariants as faults
+use Rattle.cmd_faults.specs.declared.fault.Fault.{Fault}
+use Rattle.cmd_faults.specs.declared.fault.Fault.TheVariants as faults
 use Rattle.drm_convert.specs.declared.item.Halt.TheVariants as halt
 use Rattle.drm_convert.specs.declared.reading.Unconverted.{Unconverted}
 use Rattle.drm_convert.specs.declared.reading.Unconverted.TheVariants as unconverted

@@ -16,11 +16,11 @@ use Rattle.capture_reader.specs.Laws.{ReadOneWay, ReadSomeWay}
 use Rattle.capture_reader.specs.Walking.{WalkerState}
 use Rattle.capture_reader.specs.Reading.{HasRead}
 use Rattle.law_capture.specs.Laws.{PacketsInFront}
-use Rattle.drm_faults.specs.Fault.{UnlessMemory}
-use Rattle.drm_faults.specs.declared.fault.Fault.{Fault}
-use Rattle.drm_faults.specs.declared.fault.Fault.TheVariants as faults
-use Rattle.drm_faults.specs.Captures.{EndsByIt}
-use Rattle.drm_faults.proofs.CaptureLemmas.{each_early, none_by, fault_by, length_by, done_or}
+use Rattle.cmd_faults.specs.Fault.{UnlessMemory}
+use Rattle.cmd_faults.specs.declared.fault.Fault.{Fault}
+use Rattle.cmd_faults.specs.declared.fault.Fault.TheVariants as faults
+use Rattle.cmd_faults.specs.Captures.{EndsByIt}
+use Rattle.cmd_faults.proofs.CaptureLemmas.{each_early, none_by, fault_by, length_by, done_or}
 use Rattle.recv_reading.proofs.BreakingOff.{none_in_front}
 use Rattle.drm_convert.proofs.Sound.{sound}
 use Rattle.drm_convert.specs.Converting.{Part, Converts, ConvertsAll, IsTooLarge}

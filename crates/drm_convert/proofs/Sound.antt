@@ -6,8 +6,8 @@ use Rattle.recv_reading.proofs.Common.{Item, Known, Input, Output, Outputs, IsFr
 use Rattle.drm_links.proofs.ToldLemmas.{Outputs-nothing, Outputs-weaker}
 use Rattle.capture_reader.specs.declared.packets.CaptureStop.{CaptureStop}
 use Rattle.capture_reader.specs.declared.packets.CaptureStop.TheVariants as stops
-use Rattle.drm_faults.specs.declared.fault.Fault.{Fault}
-use Rattle.drm_faults.proofs.CaptureLemmas.{each_early}
+use Rattle.cmd_faults.specs.declared.fault.Fault.{Fault}
+use Rattle.cmd_faults.proofs.CaptureLemmas.{each_early}
 use Rattle.recv_reading.specs.Packets.{Terms}
 use Rattle.drm_convert.specs.Converting.{Part, ConvertsAll, text_of}
 use Rattle.drm_convert.specs.Converted.{are_clean}

@@ -14,10 +14,10 @@ use Rattle.capture_reader.specs.Capture.{IsCaptureOf, Ending, End}
 use Rattle.capture_reader.specs.Reading.{Stops}
 use Rattle.capture_reader.specs.declared.packets.CaptureStop.{CaptureStop}
 use Rattle.capture_reader.specs.declared.packets.CaptureStop.TheVariants as stops
-use Rattle.drm_faults.specs.Captures.{EndsEarlyOr, EndsByIt}
-use Rattle.drm_faults.specs.Fault.{UnlessMemory}
-use Rattle.drm_faults.specs.declared.fault.Fault.{Fault}
-use Rattle.drm_faults.specs.declared.fault.Fault.TheVariants as faults
+use Rattle.cmd_faults.specs.Captures.{EndsEarlyOr, EndsByIt}
+use Rattle.cmd_faults.specs.Fault.{UnlessMemory}
+use Rattle.cmd_faults.specs.declared.fault.Fault.{Fault}
+use Rattle.cmd_faults.specs.declared.fault.Fault.TheVariants as faults
 use Rattle.drm_convert.specs.Converting.{Part, ConvertsAll, IsTooLarge, text_of, lines_of}
 use Rattle.drm_convert.specs.Naming.{Names}
 use Rattle.drm_convert.specs.Converted.{are_clean}

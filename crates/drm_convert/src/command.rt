@@ -17,7 +17,7 @@ use dcp_pft::Carry;
 use dcp_sender::PacketSender;
 use drm_bits::NoMemory;
 use capture_reader::{Packets, read_one_way, read_some_way};
-use drm_faults::Fault;
+use cmd_faults::Fault;
 use drm_links::{Sink, Source};
 use report_text::LineWriter;
 use std::alloc::Global;

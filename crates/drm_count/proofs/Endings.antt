@@ -3,8 +3,8 @@ use Rattle.std.proofs.Common.{◌≡◌, Bool, Result, Err, refl, sym, ◌∙◌
 use Rattle.drm_links.specs.Told.{Known, HasCause, one_more}
 use Rattle.drm_links.specs.Sink.{Output}
 use Rattle.drm_links.proofs.ToldLemmas.{counts_none}
-use Rattle.drm_faults.specs.declared.fault.Fault.{Fault}
-use Rattle.drm_faults.specs.declared.fault.Fault.TheVariants as faults
+use Rattle.cmd_faults.specs.declared.fault.Fault.{Fault}
+use Rattle.cmd_faults.specs.declared.fault.Fault.TheVariants as faults
 use Rattle.drm_count.specs.Run.{ended, unseen, EndsCount}
 use Rattle.drm_count.specs.declared.totals.Totals.{Totals}
 

@@ -28,9 +28,9 @@ use Rattle.recv_report.specs.declared.receiver.Ended.{Ended}
 use Rattle.recv_report.specs.declared.receiver.Ended.TheVariants.{Done, LinkFailed, WriteFailed}
 use Rattle.recv_report.specs.declared.capture.Unfinished.{Unfinished}
 use Rattle.recv_report.specs.declared.capture.Unfinished.TheVariants as unfinished
-use Rattle.drm_faults.specs.declared.fault.Fault.TheVariants as faults
-use Rattle.drm_faults.specs.Captures.{stop_fault}
-use Rattle.drm_faults.proofs.CauseLemmas.{inner_fault}
+use Rattle.cmd_faults.specs.declared.fault.Fault.TheVariants as faults
+use Rattle.cmd_faults.specs.Captures.{stop_fault}
+use Rattle.cmd_faults.proofs.CauseLemmas.{inner_fault}
 use Rattle.drm_receive.specs.Opening.{StopsOpening}
 use Rattle.drm_receive.specs.Stopping.{ending_live, ending_captured}
 use Rattle.drm_receive.specs.Receive.{ReceiveRun, OpensEach, ReadsLive, Alone}

@@ -18,8 +18,8 @@ use Rattle.several_links.specs.Binding.{HearsEach}
 use Rattle.recv_report.specs.Received.{IsReport}
 use Rattle.drm_receive.specs.Receive.{ReceiveRun, Alone}
 use Rattle.drm_receive.specs.Capture.{CaptureRun}
-use Rattle.drm_faults.specs.declared.fault.Fault.{Fault}
-use Rattle.drm_faults.specs.declared.fault.Fault.TheVariants as faults
+use Rattle.cmd_faults.specs.declared.fault.Fault.{Fault}
+use Rattle.cmd_faults.specs.declared.fault.Fault.TheVariants as faults
 use Rattle.drm_count.specs.Totals.{totals_of, answered, one_more, is_clean, count_line}
 use Rattle.drm_count.specs.declared.totals.Totals.{Totals}
 

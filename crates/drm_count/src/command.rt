@@ -9,7 +9,7 @@ use crate::totals::Totals;
 use dcp_collect::Collector;
 use drm_bits::zeros;
 use capture_reader::{Packets, read_some_way};
-use drm_faults::Fault;
+use cmd_faults::Fault;
 use drm_links::{Address, Dock, LONGEST_DATAGRAM, Opened, Sink, Source};
 use recv_report::{in_time_is_unbroken, reports_follow};
 use recv_reading::{ReceiveOptions, Room, SourceFault};

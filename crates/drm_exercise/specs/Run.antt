@@ -5,9 +5,9 @@ use Rattle.drm_links.specs.Told.{HasFailed, Known, HasCause}
 use Rattle.drm_links.specs.Sink.{Output, Outputs, IsFront}
 use Rattle.report_text.specs.Reports.{Report}
 use Rattle.drm_air.specs.Air.{IsAired}
-use Rattle.drm_faults.specs.Fault.{UnlessMemory}
-use Rattle.drm_faults.specs.declared.fault.Fault.{Fault}
-use Rattle.drm_faults.specs.declared.fault.Fault.TheVariants as faults
+use Rattle.cmd_faults.specs.Fault.{UnlessMemory}
+use Rattle.cmd_faults.specs.declared.fault.Fault.{Fault}
+use Rattle.cmd_faults.specs.declared.fault.Fault.TheVariants as faults
 use Rattle.drm_exercise.specs.Exercise.{plan, deliveries, line}
 
 -- the packets of the window

@@ -8,7 +8,7 @@ use crate::schedule::schedule_of;
 use crate::script::script_of;
 use drm_air::air_over;
 use drm_bits::crc16;
-use drm_faults::Fault;
+use cmd_faults::Fault;
 use drm_links::Sink;
 use report_text::ReportBuffer;
 use std::alloc::Global;

@@ -10,11 +10,11 @@ use Rattle.drm_links.specs.Told.{HasFailed, Known, HasCause}
 use Rattle.drm_links.specs.Source.{Input, Inputs}
 use Rattle.drm_links.specs.Sink.{Output, Outputs, IsFront}
 use Rattle.drm_links.proofs.ToldLemmas.{counts_as, counts_none, counts_one, Inputs-weaker}
-use Rattle.drm_faults.specs.declared.fault.Fault.{Fault}
-use Rattle.drm_faults.specs.declared.fault.Fault.TheVariants.{NoMemory, Words, FacLength, FacOver, FacCrc, Schedule, Script, Capture, CaptureTooLong, PacketSize, Units, Read, Write, Link}
+use Rattle.cmd_faults.specs.declared.fault.Fault.{Fault}
+use Rattle.cmd_faults.specs.declared.fault.Fault.TheVariants.{NoMemory, Words, FacLength, FacOver, FacCrc, Schedule, Script, Capture, CaptureTooLong, PacketSize, Units, Read, Write, Link}
 use Rattle.drm_inspect.specs.Input.{ReadsHead, FailsWithin}
 use Rattle.report_text.specs.FacLine.{fac_line}
-use Rattle.drm_faults.specs.Fault.{status_of}
+use Rattle.cmd_faults.specs.Fault.{status_of}
 use Rattle.drm_inspect.specs.Fac.{ComesTo, Reads, WritesCame, FacRun}
 
 -- bytes come to one FAC or one fault

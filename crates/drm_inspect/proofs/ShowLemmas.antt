@@ -22,11 +22,11 @@ use Rattle.report_dump.specs.Text.{IsPacketText}
 use Rattle.report_dump.specs.Shown.{Shows}
 use Rattle.report_dump.specs.Laws.{HasOneText}
 use Rattle.report_dump.specs.Lines.{end_packets_line}
-use Rattle.drm_faults.specs.Fault.{UnlessMemory}
-use Rattle.drm_faults.specs.declared.fault.Fault.{Fault}
-use Rattle.drm_faults.specs.declared.fault.Fault.TheVariants as faults
-use Rattle.drm_faults.specs.Captures.{EndsEarly, stop_fault}
-use Rattle.drm_faults.proofs.CauseLemmas.{inner_fault}
+use Rattle.cmd_faults.specs.Fault.{UnlessMemory}
+use Rattle.cmd_faults.specs.declared.fault.Fault.{Fault}
+use Rattle.cmd_faults.specs.declared.fault.Fault.TheVariants as faults
+use Rattle.cmd_faults.specs.Captures.{EndsEarly, stop_fault}
+use Rattle.cmd_faults.proofs.CauseLemmas.{inner_fault}
 use Rattle.drm_inspect.specs.Show.{PacketText, AreTexts, all_texts, capture_text, are_clean, IsShown, Ends, IsWholeText, IsFrontOfText, IsSound, EndsByIt, ShowRun}
 
 -- ---- texts one after another

@@ -8,9 +8,9 @@ use Rattle.drm_links.specs.Source.{Input, Inputs}
 use Rattle.drm_links.specs.Sink.{Output, Outputs, IsFront}
 use Rattle.drm_inspect.specs.Input.{ReadsHead, FailsWithin}
 use Rattle.report_text.specs.FacLine.{fac_line}
-use Rattle.drm_faults.specs.Fault.{status_of}
-use Rattle.drm_faults.specs.declared.fault.Fault.{Fault}
-use Rattle.drm_faults.specs.declared.fault.Fault.TheVariants.{FacLength, FacOver, FacCrc, Read, Write}
+use Rattle.cmd_faults.specs.Fault.{status_of}
+use Rattle.cmd_faults.specs.declared.fault.Fault.{Fault}
+use Rattle.cmd_faults.specs.declared.fault.Fault.TheVariants.{FacLength, FacOver, FacCrc, Read, Write}
 
 -- What the bytes of an input come to: the FAC that they are, or the fault that refuses them.
 abbrev pub ComesTo : List ℕ → Result Fac Fault → Type 0

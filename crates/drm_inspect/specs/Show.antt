@@ -12,10 +12,10 @@ use Rattle.capture_reader.specs.Walking.{WalkerState}
 use Rattle.capture_reader.specs.Reading.{HasRead, Stops}
 use Rattle.report_dump.specs.Text.{IsPacketText}
 use Rattle.report_dump.specs.Lines.{end_packets_line}
-use Rattle.drm_faults.specs.Captures.{EndsEarly}
-use Rattle.drm_faults.specs.Fault.{UnlessMemory}
-use Rattle.drm_faults.specs.declared.fault.Fault.{Fault}
-use Rattle.drm_faults.specs.declared.fault.Fault.TheVariants as faults
+use Rattle.cmd_faults.specs.Captures.{EndsEarly}
+use Rattle.cmd_faults.specs.Fault.{UnlessMemory}
+use Rattle.cmd_faults.specs.declared.fault.Fault.{Fault}
+use Rattle.cmd_faults.specs.declared.fault.Fault.TheVariants as faults
 
 -- the lines of a packet, and whether one of them says what is wrong
 pub record PacketText : Type 0 where

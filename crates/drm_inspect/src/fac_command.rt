@@ -7,7 +7,7 @@ ghost use Rattle.drm_inspect.specs.Fac.{Reads, FacRun};
 
 use crate::head::read_head;
 use drm_fac::{Fac, decode};
-use drm_faults::Fault;
+use cmd_faults::Fault;
 use drm_links::{Sink, Source};
 use report_text::write_fac;
 

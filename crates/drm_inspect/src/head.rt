@@ -4,7 +4,7 @@ ghost use Rattle.std.specs.Prelude.{ℕ, ◌≡◌, IfOk, OnErr, IsErr, length};
 ghost use Rattle.drm_links.specs.Told.{HasCause};
 ghost use Rattle.drm_inspect.specs.Input.{ReadsHead, FailsWithin};
 
-use drm_faults::Fault;
+use cmd_faults::Fault;
 use drm_links::{ReadOut, Source};
 use std::marker::Model;
 
@@ -16,7 +16,7 @@ pub struct ReadFault;
 
 impl From<ReadFault> for Fault {
     ghost use Rattle.std.specs.Prelude.{◌≡◌};
-    ghost use Rattle.drm_faults.specs.declared.fault.Fault.TheVariants.{Read};
+    ghost use Rattle.cmd_faults.specs.declared.fault.Fault.TheVariants.{Read};
 
     ghost from_gives = { λ _ fault. fault ≡ Read };
 

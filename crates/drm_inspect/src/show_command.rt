@@ -5,7 +5,7 @@ ghost use Rattle.report_dump.specs.Shown.{Shows};
 ghost use Rattle.drm_inspect.specs.Show.{ShowRun};
 
 use capture_reader::{Packet, Packets, read_one_way};
-use drm_faults::Fault;
+use cmd_faults::Fault;
 use drm_links::{Sink, Source, write_all};
 use report_dump::{ShowFault, one_text, write_end_packets, write_packet};
 use std::alloc::Global;

@@ -5,7 +5,7 @@ ghost use Rattle.drm_links.specs.Told.{HasCause};
 ghost use Rattle.drm_load.specs.Loading.{load_for, ReadBy};
 
 use drm_bits::Octets;
-use drm_faults::Fault;
+use cmd_faults::Fault;
 use drm_links::{Loaded, Shelf};
 use drm_schedule::Reason;
 use std::alloc::Global;

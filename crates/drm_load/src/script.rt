@@ -8,7 +8,7 @@ ghost use Rattle.drm_load.specs.Scripts.{script_named};
 ghost use Rattle.drm_load.specs.Faults.{fault_of_script};
 
 use crate::loading::{ScheduleFault, load};
-use drm_faults::Fault;
+use cmd_faults::Fault;
 use drm_links::Shelf;
 use drm_schedule::Schedule;
 use plan_script::{Script, ScriptFault, read_script};

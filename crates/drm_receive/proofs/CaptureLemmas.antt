@@ -24,10 +24,10 @@ use Rattle.recv_report.specs.Captures.{EndsReceiving}
 use Rattle.recv_reading.specs.Source.{answers_of, Brings, HeardOf, HeardUntil}
 use Rattle.recv_report.specs.Following.{HeadlinesFollow, CompletesFollow}
 use Rattle.recv_report.proofs.JobLemmas.{report_ahead}
-use Rattle.drm_faults.specs.declared.fault.Fault.{Fault}
-use Rattle.drm_faults.specs.declared.fault.Fault.TheVariants as faults
-use Rattle.drm_faults.specs.Captures.{EndsEarly}
-use Rattle.drm_faults.proofs.CauseLemmas.{inner_fault}
+use Rattle.cmd_faults.specs.declared.fault.Fault.{Fault}
+use Rattle.cmd_faults.specs.declared.fault.Fault.TheVariants as faults
+use Rattle.cmd_faults.specs.Captures.{EndsEarly}
+use Rattle.cmd_faults.proofs.CauseLemmas.{inner_fault}
 use Rattle.drm_receive.specs.Capture.{BreaksOffBy, Ends, WritesReport}
 use Rattle.drm_receive.specs.Stopping.{ending_captured}
 use Rattle.law_capture.proofs.CaptureFronts.{packets_front}

@@ -14,11 +14,11 @@ use Rattle.recv_report.specs.Ahead.{IsInTimeAhead, IsReportOf}
 use Rattle.recv_reading.specs.Source.{answers_of, Brings}
 use Rattle.recv_report.specs.Following.{NoneBreaksOff}
 use Rattle.recv_reading.proofs.OneReading.{finished_whole}
-use Rattle.drm_faults.specs.Fault.{UnlessMemory}
-use Rattle.drm_faults.specs.declared.fault.Fault.{Fault}
-use Rattle.drm_faults.specs.declared.fault.Fault.TheVariants as faults
-use Rattle.drm_faults.specs.Captures.{EndsEarly, EndsByIt}
-use Rattle.drm_faults.proofs.CaptureLemmas.{each_early, none_by, fault_by, length_by, done_or}
+use Rattle.cmd_faults.specs.Fault.{UnlessMemory}
+use Rattle.cmd_faults.specs.declared.fault.Fault.{Fault}
+use Rattle.cmd_faults.specs.declared.fault.Fault.TheVariants as faults
+use Rattle.cmd_faults.specs.Captures.{EndsEarly, EndsByIt}
+use Rattle.cmd_faults.proofs.CaptureLemmas.{each_early, none_by, fault_by, length_by, done_or}
 use Rattle.drm_receive.specs.Capture.{BreaksOffBy, Ends, WritesReport, WroteReport, CaptureRun}
 use Rattle.drm_receive.proofs.ReceiveStatus.{clean_in_time}
 

@@ -2,7 +2,7 @@
 use Rattle.std.proofs.Common.{◌≡◌, ℕ, zero, suc, ◌<◌, ◌≤◌, ◌⊎◌, ◌↔◌, ◌∙◌, inl, inr, Bool, List, [], ◌∷◌, length, slice_index_or, Some, Result, Err, refl, sym, ap, subst, arith, le_trans}
 use Rattle.drm_links.specs.Told.{Known, HasCause, WhileTold, CountsCall, Tells}
 use Rattle.drm_links.proofs.ToldLemmas.{counts_as, Tells-weaker, Tells-both}
-use Rattle.drm_faults.specs.Fault.{UnlessMemory}
+use Rattle.cmd_faults.specs.Fault.{UnlessMemory}
 use Rattle.drm_links.specs.Link.{Answer, Traffic}
 use Rattle.drm_links.specs.Sink.{Output}
 use Rattle.drm_links.specs.Dock.{DockContents, LinkStart, Over, Closes, first_traffic, after_close, HasLink, Docked, Finds, FindsNone, after_openings}
@@ -22,9 +22,9 @@ use Rattle.recv_reading.specs.OneReading.{BreaksOff}
 use Rattle.drm_links.proofs.Hearing.{heard_none}
 use Rattle.recv_reading.proofs.Going.{few_answers}
 use Rattle.recv_report.proofs.JobLemmas.{rules_are, live_report, live_given, live_breaks, live_front}
-use Rattle.drm_faults.specs.declared.fault.Fault.{Fault}
-use Rattle.drm_faults.specs.declared.fault.Fault.TheVariants as faults
-use Rattle.drm_faults.proofs.CauseLemmas.{inner_fault}
+use Rattle.cmd_faults.specs.declared.fault.Fault.{Fault}
+use Rattle.cmd_faults.specs.declared.fault.Fault.TheVariants as faults
+use Rattle.cmd_faults.proofs.CauseLemmas.{inner_fault}
 use Rattle.drm_receive.specs.Stopping.{ending_live}
 use Rattle.drm_receive.specs.Opening.{HaveLinks}
 use Rattle.several_links.specs.Binding.{Hears, HearsEach}

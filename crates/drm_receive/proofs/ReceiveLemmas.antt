@@ -12,8 +12,8 @@ use Rattle.drm_links.specs.declared.dock.Address.{Address}
 use Rattle.drm_links.proofs.ToldLemmas.{counts_as, counts_none, Outputs-weaker, Tells-weaker}
 use Rattle.drm_links.proofs.Places.{index_of}
 use Rattle.recv_reading.specs.declared.options.ReceiveOptions.{ReceiveOptions}
-use Rattle.drm_faults.specs.declared.fault.Fault.{Fault}
-use Rattle.drm_faults.specs.declared.fault.Fault.TheVariants as faults
+use Rattle.cmd_faults.specs.declared.fault.Fault.{Fault}
+use Rattle.cmd_faults.specs.declared.fault.Fault.TheVariants as faults
 use Rattle.recv_report.specs.declared.job.Job.{Job}
 use Rattle.recv_reading.specs.Options.{AreInRange}
 use Rattle.recv_reading.specs.Ending.{GoesOn}
@@ -28,8 +28,8 @@ use Rattle.recv_report.specs.declared.stop.Stop.{Stop}
 use Rattle.recv_report.specs.declared.stop.Stop.TheVariants as stops
 use Rattle.drm_receive.specs.Stopping.{ending_of}
 use Rattle.recv_report.specs.Following.{HeadlinesFollow, CompletesFollow, NoneBreaksOff}
-use Rattle.drm_faults.specs.Fault.{UnlessMemory}
-use Rattle.drm_faults.proofs.CauseLemmas.{inner_fault}
+use Rattle.cmd_faults.specs.Fault.{UnlessMemory}
+use Rattle.cmd_faults.proofs.CauseLemmas.{inner_fault}
 use Rattle.several_links.specs.Binding.{BindsFew, HearsEach}
 use Rattle.drm_receive.specs.Receive.{AreReports, AreAll, AreBroken, ReadsOne, ReadsBy, all_texts, FailsSome, OpensEach, WritesReports, WritesAll, AreSomeReports, WritesSome, IsLive, ReceiveRun}
 use Rattle.several_links.proofs.BindLemmas.{went_weaker, hears_each}

@@ -9,10 +9,10 @@ use Rattle.std.proofs.lemmas.List.{append-nil}
 use Rattle.drm_links.specs.Dock.{DockContents, LinkStart, Docked, Finds}
 use Rattle.drm_links.specs.declared.dock.Address.{Address}
 use Rattle.recv_reading.specs.declared.options.ReceiveOptions.{ReceiveOptions}
-use Rattle.drm_faults.specs.declared.fault.Fault.{Fault}
-use Rattle.drm_faults.specs.declared.fault.Fault.TheVariants as faults
-use Rattle.drm_faults.specs.Causes.{OpeningFailed}
-use Rattle.drm_faults.specs.Fault.{UnlessMemory}
+use Rattle.cmd_faults.specs.declared.fault.Fault.{Fault}
+use Rattle.cmd_faults.specs.declared.fault.Fault.TheVariants as faults
+use Rattle.cmd_faults.specs.Causes.{OpeningFailed}
+use Rattle.cmd_faults.specs.Fault.{UnlessMemory}
 use Rattle.drm_receive.specs.Receive.{AreReports, AreClean, all_texts, FailsSome, OpensEach, WritesReports, WritesAll, WritesSome, WroteReports, AreInTime, IsLive, ReceiveRun}
 use Rattle.report_text.specs.Reports.{Report}
 use Rattle.recv_reading.specs.OneReading.{BreaksOff}

@@ -12,10 +12,10 @@ use Rattle.report_text.specs.Reports.{Report}
 use Rattle.recv_reading.specs.OneReading.{BreaksOff}
 use Rattle.recv_report.specs.Ahead.{IsInTimeAhead, IsReportOf}
 use Rattle.recv_reading.specs.Source.{answers_of, Brings, HeardOf, HeardUntil}
-use Rattle.drm_faults.specs.Captures.{EndsEarly, EndsByIt}
-use Rattle.drm_faults.specs.Fault.{UnlessMemory}
-use Rattle.drm_faults.specs.declared.fault.Fault.{Fault}
-use Rattle.drm_faults.specs.declared.fault.Fault.TheVariants as faults
+use Rattle.cmd_faults.specs.Captures.{EndsEarly, EndsByIt}
+use Rattle.cmd_faults.specs.Fault.{UnlessMemory}
+use Rattle.cmd_faults.specs.declared.fault.Fault.{Fault}
+use Rattle.cmd_faults.specs.declared.fault.Fault.TheVariants as faults
 
 -- The bytes end so behind their packets, and what comes of the packets doesn't finish the reading.
 pub record BreaksOffBy (rules : ReceiveOptions) (bytes : List ℕ) (ending : capture.Ending) : Type 0 where

@@ -4,8 +4,8 @@ use Rattle.drm_links.specs.Told.{Known}
 use Rattle.drm_links.specs.Link.{Traffic}
 use Rattle.drm_links.specs.Dock.{DockContents, HasLink}
 use Rattle.drm_links.specs.declared.dock.Address.{Address}
-use Rattle.drm_faults.specs.declared.fault.Fault.{Fault}
-use Rattle.drm_faults.specs.declared.fault.Fault.TheVariants as faults
+use Rattle.cmd_faults.specs.declared.fault.Fault.{Fault}
+use Rattle.cmd_faults.specs.declared.fault.Fault.TheVariants as faults
 use Rattle.recv_report.specs.declared.job.Job.{Job}
 use Rattle.several_links.specs.declared.member.Member.{Member}
 use Rattle.several_links.specs.Binding.{BindsFew, StopsBehind}

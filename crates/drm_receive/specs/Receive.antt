@@ -14,10 +14,10 @@ use Rattle.recv_report.specs.Received.{IsReport, Reported, Broken, Stopped}
 use Rattle.report_text.specs.Reports.{Report}
 use Rattle.recv_reading.specs.OneReading.{BreaksOff}
 use Rattle.recv_report.specs.Ahead.{IsInTimeAhead, IsReportOf, IsGivenOf, IsFrontOf}
-use Rattle.drm_faults.specs.Causes.{OpeningFailed}
-use Rattle.drm_faults.specs.Fault.{UnlessMemory}
-use Rattle.drm_faults.specs.declared.fault.Fault.{Fault}
-use Rattle.drm_faults.specs.declared.fault.Fault.TheVariants as faults
+use Rattle.cmd_faults.specs.Causes.{OpeningFailed}
+use Rattle.cmd_faults.specs.Fault.{UnlessMemory}
+use Rattle.cmd_faults.specs.declared.fault.Fault.{Fault}
+use Rattle.cmd_faults.specs.declared.fault.Fault.TheVariants as faults
 use Rattle.several_links.specs.Binding.{HearsEach, BindsFew, StopsBehind}
 
 -- a report for each address, in their order

@@ -6,9 +6,9 @@ use Rattle.recv_report.specs.declared.receiver.Ended.{Ended}
 use Rattle.recv_report.specs.declared.receiver.Ended.TheVariants as ended
 use Rattle.recv_report.specs.declared.capture.Unfinished.{Unfinished}
 use Rattle.recv_report.specs.declared.capture.Unfinished.TheVariants as unfinished
-use Rattle.drm_faults.specs.Captures.{stop_fault}
-use Rattle.drm_faults.specs.declared.fault.Fault.{Fault}
-use Rattle.drm_faults.specs.declared.fault.Fault.TheVariants as faults
+use Rattle.cmd_faults.specs.Captures.{stop_fault}
+use Rattle.cmd_faults.specs.declared.fault.Fault.{Fault}
+use Rattle.cmd_faults.specs.declared.fault.Fault.TheVariants as faults
 
 abbrev pub ending_of : Result Bool Stop → Result Bool Fault
 ending_of (Ok clean) = Ok clean

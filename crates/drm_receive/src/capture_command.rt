@@ -6,7 +6,7 @@ ghost use Rattle.drm_receive.specs.Capture.{CaptureRun};
 ghost use Rattle.drm_receive.specs.Stopping.{ending_captured};
 
 use capture_reader::read_some_way;
-use drm_faults::Fault;
+use cmd_faults::Fault;
 use drm_links::{Sink, Source};
 use recv_report::{Unfinished, in_time_is_unbroken, receive_capture, reports_follow};
 use recv_reading::ReceiveOptions;

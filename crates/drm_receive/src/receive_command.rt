@@ -11,7 +11,7 @@ ghost use Rattle.recv_report.specs.Jobs.{IsJob, AreJobs};
 ghost use Rattle.drm_receive.specs.Opening.{HaveLinks, EndsOpening, StopsOpening, members_of};
 ghost use Rattle.drm_receive.specs.Stopping.{ending_of, ending_live};
 
-use drm_faults::Fault;
+use cmd_faults::Fault;
 use drm_links::{Address, Addresses, Dock, Link, Opened, Sink};
 use recv_report::{
     Ended, Job, Stop, in_time_is_unbroken, reports_follow, run_all, run_live, seat_for, seated,

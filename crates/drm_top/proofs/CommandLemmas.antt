@@ -4,11 +4,11 @@ use Rattle.drm_links.specs.Told.{Known, Counts, WhileTold, BothTold}
 use Rattle.drm_links.proofs.ToldLemmas.{counts_as}
 use Rattle.drm_links.specs.Dock.{DockContents}
 use Rattle.several_links.specs.Reaching.{NothingSent}
-use Rattle.drm_faults.specs.declared.fault.Fault.{Fault}
-use Rattle.drm_faults.specs.declared.fault.Fault.TheVariants as faults
-use Rattle.drm_faults.specs.Lines.{fault_line}
-use Rattle.drm_faults.specs.Fault.{whole_of, done_of, fault_status, ReportsIf, WritesLine}
-use Rattle.drm_faults.proofs.CauseLemmas.{inner_fault}
+use Rattle.cmd_faults.specs.declared.fault.Fault.{Fault}
+use Rattle.cmd_faults.specs.declared.fault.Fault.TheVariants as faults
+use Rattle.cmd_faults.specs.Lines.{fault_line}
+use Rattle.cmd_faults.specs.Fault.{whole_of, done_of, fault_status, ReportsIf, WritesLine}
+use Rattle.cmd_faults.proofs.CauseLemmas.{inner_fault}
 use Rattle.dcp_pft.specs.declared.carry.Carry.{Carry}
 use Rattle.drm_links.specs.Source.{Input}
 use Rattle.drm_links.specs.Sink.{Output}

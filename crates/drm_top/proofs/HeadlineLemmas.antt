@@ -18,9 +18,9 @@ use Rattle.recv_reading.specs.declared.options.ReceiveOptions.{ReceiveOptions}
 use Rattle.drm_receive.specs.Receive.{AreReports, WritesReports, WritesAll, ReceiveRun}
 use Rattle.drm_receive.proofs.ReceiveStatus.{all_reports}
 use Rattle.drm_air.specs.Air.{BySchedule, ByScript}
-use Rattle.drm_faults.specs.declared.fault.Fault.{Fault}
-use Rattle.drm_faults.specs.declared.fault.Fault.TheVariants as faults
-use Rattle.drm_faults.specs.Fault.{clean_status, fault_status}
+use Rattle.cmd_faults.specs.declared.fault.Fault.{Fault}
+use Rattle.cmd_faults.specs.declared.fault.Fault.TheVariants as faults
+use Rattle.cmd_faults.specs.Fault.{clean_status, fault_status}
 use Rattle.drm_top.specs.Outside.{Outside}
 use Rattle.drm_words.specs.declared.request.Request.{Request}
 use Rattle.drm_words.specs.declared.request.Request.TheVariants.{Receive, Air}

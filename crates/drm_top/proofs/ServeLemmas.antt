@@ -3,7 +3,7 @@ use Rattle.std.proofs.Common.{◌≡◌, ℕ, Bool, List, [], ◌∷◌, Result,
 use Rattle.drm_links.specs.declared.dock.Address.{Address}
 use Rattle.drm_schedule.specs.declared.live.Live.{Live}
 use Rattle.drm_schedule.specs.Live.{is_any}
-use Rattle.drm_faults.specs.declared.fault.Fault.{Fault}
+use Rattle.cmd_faults.specs.declared.fault.Fault.{Fault}
 use Rattle.drm_words.specs.declared.request.Request.TheVariants.{Serve}
 use Rattle.drm_top.specs.Outside.{Outside, IsStill}
 use Rattle.drm_top.specs.Command.{CommandRun, ServesOver, IsQuiet, OpensALink}

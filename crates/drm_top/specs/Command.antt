@@ -22,9 +22,9 @@ use Rattle.gate_command.specs.Run.{GateCommandRun}
 use Rattle.data_units.specs.Pack.{PackRun}
 use Rattle.capture_data.specs.Streams.{UnitsOf, TextsOf}
 use Rattle.capture_data.specs.Run.{DataRun}
-use Rattle.drm_faults.specs.Fault.{done_of, whole_of, report_status, ReportsIf}
-use Rattle.drm_faults.specs.declared.fault.Fault.{Fault}
-use Rattle.drm_faults.specs.declared.fault.Fault.TheVariants.{NoMemory}
+use Rattle.cmd_faults.specs.Fault.{done_of, whole_of, report_status, ReportsIf}
+use Rattle.cmd_faults.specs.declared.fault.Fault.{Fault}
+use Rattle.cmd_faults.specs.declared.fault.Fault.TheVariants.{NoMemory}
 use Rattle.drm_top.specs.Outside.{Outside, IsStill}
 use Rattle.drm_top.specs.Words.{options_of}
 use Rattle.drm_words.specs.declared.request.Request.{Request}

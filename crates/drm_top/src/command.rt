@@ -2,9 +2,9 @@
 
 ghost use Rattle.std.specs.Prelude.{◌≡◌, ◌≤◌, ◌⊎◌, map, string_bytes, Result, Ok, IsErrOf, Bool, true, false};
 ghost use Rattle.drm_links.specs.Told.{HasCause, WhileTold};
-ghost use Rattle.drm_faults.specs.Causes.{OneFailed, OpeningFailed};
-ghost use Rattle.drm_faults.specs.Lines.{fault_line};
-ghost use Rattle.drm_faults.specs.Fault.{WritesLine, whole_of, clean_status};
+ghost use Rattle.cmd_faults.specs.Causes.{OneFailed, OpeningFailed};
+ghost use Rattle.cmd_faults.specs.Lines.{fault_line};
+ghost use Rattle.cmd_faults.specs.Fault.{WritesLine, whole_of, clean_status};
 ghost use Rattle.several_links.specs.Reaching.{NothingSent};
 ghost use Rattle.drm_top.specs.Command.{CommandRun, Runs, Ends, IsQuiet, IsUntouched, OpensALink, WritesReport};
 ghost use Rattle.drm_top.specs.Headline.{HeadlineOfRun};
@@ -19,7 +19,7 @@ use drm_air::air;
 use drm_convert::convert;
 use drm_count::{count, count_capture};
 use drm_exercise::exercise;
-use drm_faults::Fault;
+use cmd_faults::Fault;
 use drm_inspect::{fac, show};
 use drm_links::{Dock, Link, Shelf, Sink, Source, Status};
 use drm_receive::{receive, receive_from_capture};

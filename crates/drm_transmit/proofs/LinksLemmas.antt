@@ -11,7 +11,7 @@ use Rattle.several_links.specs.declared.member.Member.{Member}
 use Rattle.several_links.proofs.RunLemmas.{over_each}
 use Rattle.drm_schedule.specs.declared.plan.Plan.{Plan}
 use Rattle.drm_load.specs.Loading.{Reading}
-use Rattle.drm_faults.specs.declared.fault.Fault.{Fault}
+use Rattle.cmd_faults.specs.declared.fault.Fault.{Fault}
 use Rattle.drm_transmit.specs.Send.{Go, LinksRun}
 use Rattle.drm_transmit.specs.OverLinks.{OverLinks}
 use Rattle.drm_transmit.proofs.OverLinksLemmas.{gone_by}

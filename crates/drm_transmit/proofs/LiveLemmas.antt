@@ -12,7 +12,7 @@ use Rattle.drm_load.specs.Schedule.{schedule_named}
 use Rattle.drm_load.specs.declared.loading.ScheduleFault.{ScheduleFault}
 use Rattle.drm_load.proofs.LoadingLemmas.{given_only, ReadBy-then, ReadBy-stops, ReadBy-given}
 use Rattle.drm_load.proofs.ScheduleLemmas.{schedule_only}
-use Rattle.drm_faults.specs.declared.fault.Fault.{Fault}
+use Rattle.cmd_faults.specs.declared.fault.Fault.{Fault}
 use Rattle.live_server.specs.Feeding.{fed, AreTaken, HasRead}
 use Rattle.drm_transmit.specs.Live.{live_named, FedRun}
 use Rattle.drm_transmit.proofs.ScheduleRunLemmas.{came_or_memory}

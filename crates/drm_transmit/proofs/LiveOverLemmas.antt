@@ -18,9 +18,9 @@ use Rattle.drm_load.specs.Schedule.{schedule_named}
 use Rattle.drm_load.specs.Faults.{fault_of_schedule}
 use Rattle.drm_load.specs.declared.loading.ScheduleFault.{ScheduleFault}
 use Rattle.drm_load.specs.declared.loading.ScheduleFault.TheVariants as schedule
-use Rattle.drm_faults.specs.Fault.{done_of}
-use Rattle.drm_faults.specs.declared.fault.Fault.{Fault}
-use Rattle.drm_faults.specs.declared.fault.Fault.TheVariants as faults
+use Rattle.cmd_faults.specs.Fault.{done_of}
+use Rattle.cmd_faults.specs.declared.fault.Fault.{Fault}
+use Rattle.cmd_faults.specs.declared.fault.Fault.TheVariants as faults
 use Rattle.live_server.specs.Feeding.{fed, AreTaken}
 use Rattle.live_server.specs.Links.{ServedEach, ServedAll, ServedSome, ServedLive}
 use Rattle.drm_transmit.specs.Live.{live_named}

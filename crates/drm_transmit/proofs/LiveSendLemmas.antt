@@ -18,13 +18,13 @@ use Rattle.several_links.specs.declared.member.Member.{Member}
 use Rattle.several_links.proofs.RunLemmas.{over_each}
 use Rattle.drm_server.specs.Laws.{HasOneDelivery, FirstOnesAreFront}
 use Rattle.drm_load.specs.Loading.{Reading}
-use Rattle.drm_faults.specs.Fault.{done_of}
-use Rattle.drm_faults.specs.Causes.{OneFailed, OpeningFailed}
-use Rattle.drm_faults.proofs.CauseLemmas.{one_alone, other_alone}
+use Rattle.cmd_faults.specs.Fault.{done_of}
+use Rattle.cmd_faults.specs.Causes.{OneFailed, OpeningFailed}
+use Rattle.cmd_faults.proofs.CauseLemmas.{one_alone, other_alone}
 use Rattle.drm_links.proofs.ToldLemmas.{counts_as, counts_one}
 use Rattle.drm_links.proofs.Places.{index_of}
-use Rattle.drm_faults.specs.declared.fault.Fault.{Fault}
-use Rattle.drm_faults.specs.declared.fault.Fault.TheVariants as faults
+use Rattle.cmd_faults.specs.declared.fault.Fault.{Fault}
+use Rattle.cmd_faults.specs.declared.fault.Fault.TheVariants as faults
 use Rattle.live_server.specs.Feeding.{fed}
 use Rattle.live_server.specs.Links.{ServedEach}
 use Rattle.drm_transmit.specs.Live.{live_named, FedRun, BrokenSend, EndsBroken}

@@ -14,12 +14,12 @@ use Rattle.drm_load.specs.Schedule.{schedule_named}
 use Rattle.drm_load.specs.Faults.{fault_of_schedule}
 use Rattle.drm_load.specs.declared.loading.ScheduleFault.{ScheduleFault}
 use Rattle.drm_load.specs.declared.loading.ScheduleFault.TheVariants as schedule
-use Rattle.drm_faults.specs.Fault.{done_of}
-use Rattle.drm_faults.specs.Causes.{OneFailed}
-use Rattle.drm_faults.proofs.CauseLemmas.{one_alone, other_alone}
+use Rattle.cmd_faults.specs.Fault.{done_of}
+use Rattle.cmd_faults.specs.Causes.{OneFailed}
+use Rattle.cmd_faults.proofs.CauseLemmas.{one_alone, other_alone}
 use Rattle.drm_links.proofs.ToldLemmas.{counts_as, counts_one}
-use Rattle.drm_faults.specs.declared.fault.Fault.{Fault}
-use Rattle.drm_faults.specs.declared.fault.Fault.TheVariants.{NoMemory, Words, FacLength, FacOver, FacCrc, Schedule, Script, Capture, CaptureTooLong, PacketSize, Units, Read, Write, Link}
+use Rattle.cmd_faults.specs.declared.fault.Fault.{Fault}
+use Rattle.cmd_faults.specs.declared.fault.Fault.TheVariants.{NoMemory, Words, FacLength, FacOver, FacCrc, Schedule, Script, Capture, CaptureTooLong, PacketSize, Units, Read, Write, Link}
 use Rattle.live_server.specs.Feeding.{fed}
 use Rattle.live_server.specs.Capture.{WroteLive}
 use Rattle.drm_transmit.specs.ScheduleRun.{ScheduleRun}

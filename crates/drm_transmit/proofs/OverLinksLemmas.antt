@@ -17,8 +17,8 @@ use Rattle.several_links.specs.Reaching.{HasGone, AreUp}
 use Rattle.several_links.specs.declared.member.Member.{Member}
 use Rattle.drm_server.specs.Sending.{SendsPart}
 use Rattle.drm_server.specs.Several.{ServedBy, Served}
-use Rattle.drm_faults.specs.declared.fault.Fault.{Fault}
-use Rattle.drm_faults.specs.declared.fault.Fault.TheVariants.{Link, Read}
+use Rattle.cmd_faults.specs.declared.fault.Fault.{Fault}
+use Rattle.cmd_faults.specs.declared.fault.Fault.TheVariants.{Link, Read}
 use Rattle.drm_load.specs.declared.loading.ScheduleFault.{ScheduleFault}
 use Rattle.drm_load.specs.declared.loading.ScheduleFault.TheVariants as schedule
 use Rattle.drm_load.specs.Faults.{fault_of_schedule}

@@ -14,9 +14,9 @@ use Rattle.several_links.proofs.RunLemmas as several
 use Rattle.drm_server.specs.Datagrams.{AreDatagrams, AreBefore}
 use Rattle.drm_server.specs.Laws.{HasOneDelivery, FirstOnesAreFront}
 use Rattle.drm_load.specs.Loading.{Reading}
-use Rattle.drm_faults.specs.declared.fault.Fault.{Fault}
-use Rattle.drm_faults.specs.declared.fault.Fault.TheVariants as faults
-use Rattle.drm_faults.proofs.CauseLemmas.{inner_fault}
+use Rattle.cmd_faults.specs.declared.fault.Fault.{Fault}
+use Rattle.cmd_faults.specs.declared.fault.Fault.TheVariants as faults
+use Rattle.cmd_faults.proofs.CauseLemmas.{inner_fault}
 use Rattle.drm_load.specs.declared.loading.ScheduleFault.{ScheduleFault}
 use Rattle.drm_load.specs.declared.loading.ScheduleFault.TheVariants as schedule
 use Rattle.drm_transmit.specs.ScheduleRun.{EndsBy}

@@ -8,7 +8,7 @@ use Rattle.drm_schedule.specs.Valid.{IsSchedule}
 use Rattle.plan_writer.specs.Canonical.{canonical}
 use Rattle.drm_load.specs.Schedule.{checked}
 use Rattle.drm_transmit.specs.ScheduleRun.{ScheduleRun}
-use Rattle.drm_faults.specs.declared.fault.Fault.{Fault}
+use Rattle.cmd_faults.specs.declared.fault.Fault.{Fault}
 
 -- the canonical text of a valid schedule
 abbrev pub IsCanonical : List ℕ → Type 0

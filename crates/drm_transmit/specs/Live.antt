@@ -14,9 +14,9 @@ use Rattle.several_links.specs.Reaching.{GoesOver}
 use Rattle.drm_server.specs.Capture.{IsCapture, IsFrontOfCapture}
 use Rattle.drm_load.specs.Loading.{Reading, ReadBy, given, ◌>>=◌}
 use Rattle.drm_load.specs.Schedule.{schedule_named}
-use Rattle.drm_faults.specs.Fault.{done_of}
-use Rattle.drm_faults.specs.declared.fault.Fault.{Fault}
-use Rattle.drm_faults.specs.declared.fault.Fault.TheVariants as faults
+use Rattle.cmd_faults.specs.Fault.{done_of}
+use Rattle.cmd_faults.specs.declared.fault.Fault.{Fault}
+use Rattle.cmd_faults.specs.declared.fault.Fault.TheVariants as faults
 use Rattle.live_server.specs.Feeding.{fed, AreTaken, HasRead, BreaksOff, OfEach}
 use Rattle.live_server.specs.Capture.{AreWritten}
 use Rattle.drm_transmit.specs.ScheduleRun.{ScheduleRun}

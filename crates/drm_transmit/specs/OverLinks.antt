@@ -14,8 +14,8 @@ use Rattle.drm_load.specs.Loading.{Reading, ReadBy}
 use Rattle.drm_transmit.specs.ScheduleRun.{EndsBy}
 use Rattle.drm_transmit.specs.Send.{Go}
 use Rattle.drm_load.specs.declared.loading.ScheduleFault.{ScheduleFault}
-use Rattle.drm_faults.specs.declared.fault.Fault.{Fault}
-use Rattle.drm_faults.specs.declared.fault.Fault.TheVariants as faults
+use Rattle.cmd_faults.specs.declared.fault.Fault.{Fault}
+use Rattle.cmd_faults.specs.declared.fault.Fault.TheVariants as faults
 
 -- Some datagrams went over a link, with some rests, of which P holds and of how many sends it takes, and nothing was received on it.
 abbrev pub GoesBy : (Option ℕ → List (List ℕ) → List ℕ → Type 0) → Traffic → Traffic → Type 0

@@ -7,9 +7,9 @@ use Rattle.drm_links.specs.Link.{Traffic}
 use Rattle.drm_schedule.specs.declared.live.Live.{Live}
 use Rattle.several_links.specs.Reaching.{AreUp}
 use Rattle.several_links.specs.declared.member.Member.{Member}
-use Rattle.drm_faults.specs.Fault.{done_of}
-use Rattle.drm_faults.specs.declared.fault.Fault.{Fault}
-use Rattle.drm_faults.specs.declared.fault.Fault.TheVariants as faults
+use Rattle.cmd_faults.specs.Fault.{done_of}
+use Rattle.cmd_faults.specs.declared.fault.Fault.{Fault}
+use Rattle.cmd_faults.specs.declared.fault.Fault.TheVariants as faults
 use Rattle.live_server.specs.Links.{ServedEach}
 use Rattle.drm_transmit.specs.Live.{FedRun, BrokenRun}
 use Rattle.drm_transmit.specs.OverLinks.{OverLinks}

@@ -6,9 +6,9 @@ use Rattle.drm_links.specs.Sink.{Output, Outputs}
 use Rattle.drm_load.specs.Loading.{Reading, ReadBy}
 use Rattle.drm_load.specs.Faults.{fault_of_schedule}
 use Rattle.drm_load.specs.declared.loading.ScheduleFault.{ScheduleFault}
-use Rattle.drm_faults.specs.Fault.{UnlessMemory}
-use Rattle.drm_faults.specs.declared.fault.Fault.{Fault}
-use Rattle.drm_faults.specs.declared.fault.Fault.TheVariants.{Read, Write}
+use Rattle.cmd_faults.specs.Fault.{UnlessMemory}
+use Rattle.cmd_faults.specs.declared.fault.Fault.{Fault}
+use Rattle.cmd_faults.specs.declared.fault.Fault.TheVariants.{Read, Write}
 
 -- What out gets: the whole text of what came, or after a failed write a front of it; after another fault nothing.
 abbrev pub WritesCame : {T O : Type 0} → (T → List ℕ → Type 0) → (T → List ℕ → Type 0) → Result T ScheduleFault → Result (Unit {0}) Fault → (O → Known Output) → O → O → Type 0

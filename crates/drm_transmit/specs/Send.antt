@@ -14,11 +14,11 @@ use Rattle.drm_server.specs.Datagrams.{AreDatagrams, AreBefore, AreOfFrames}
 use Rattle.drm_server.specs.Rests.{ArePaced}
 use Rattle.drm_load.specs.Loading.{Reading, ReadBy}
 use Rattle.drm_transmit.specs.ScheduleRun.{EndsBy}
-use Rattle.drm_faults.specs.Fault.{UnlessMemory}
-use Rattle.drm_faults.specs.Causes.{OpeningFailed}
+use Rattle.cmd_faults.specs.Fault.{UnlessMemory}
+use Rattle.cmd_faults.specs.Causes.{OpeningFailed}
 use Rattle.drm_load.specs.declared.loading.ScheduleFault.{ScheduleFault}
-use Rattle.drm_faults.specs.declared.fault.Fault.{Fault}
-use Rattle.drm_faults.specs.declared.fault.Fault.TheVariants as faults
+use Rattle.cmd_faults.specs.declared.fault.Fault.{Fault}
+use Rattle.cmd_faults.specs.declared.fault.Fault.TheVariants as faults
 
 -- What goes over a link that takes so many sends, of n frames of a schedule from frame `first` on, and the rests before each datagram
 -- and after the last: all of their datagrams, at this pace, without a rest after the last, where the link doesn't fail; where it does,

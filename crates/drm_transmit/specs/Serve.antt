@@ -8,7 +8,7 @@ use Rattle.drm_schedule.specs.Valid.{IsSchedule}
 use Rattle.drm_server.specs.Capture.{IsCapture, IsFrontOfCapture}
 use Rattle.drm_load.specs.Schedule.{schedule_named}
 use Rattle.drm_transmit.specs.ScheduleRun.{ScheduleRun}
-use Rattle.drm_faults.specs.declared.fault.Fault.{Fault}
+use Rattle.cmd_faults.specs.declared.fault.Fault.{Fault}
 
 -- A run of `serve`: it writes a capture of the schedule that came, from super frame `from` on.
 abbrev pub ServeRun : {S O : Type 0} → List ℕ → ℕ → Result (Unit {0}) Fault → (S → Known Files) → S → S → (O → Known Output) → O → O → Type 0

@@ -3,7 +3,7 @@
 ghost use Rattle.std.specs.Prelude.{◌≡◌, IsErrOf};
 ghost use Rattle.drm_transmit.specs.Check.{CheckRun};
 
-use drm_faults::Fault;
+use cmd_faults::Fault;
 use drm_links::{Shelf, Sink, write_all};
 use drm_load::read_schedule;
 use drm_plan::write_plan;

@@ -4,11 +4,11 @@ ghost use Rattle.std.specs.Prelude.{◌≡◌, ◌≤◌, length, IsErrOf};
 ghost use Rattle.drm_links.specs.Told.{HasCause, WhileTold};
 ghost use Rattle.drm_links.specs.Dock.{AreDifferent};
 ghost use Rattle.several_links.specs.Reaching.{AreUp, NothingSent};
-ghost use Rattle.drm_faults.specs.Causes.{OneFailed, OpeningFailed};
+ghost use Rattle.cmd_faults.specs.Causes.{OneFailed, OpeningFailed};
 ghost use Rattle.drm_transmit.specs.Live.{LiveServeRun, LiveSendRun};
 ghost use Rattle.drm_transmit.specs.OverLiveLinks.{OverLiveLinks};
 
-use drm_faults::Fault;
+use cmd_faults::Fault;
 use drm_links::{Addresses, Dock, Link, Shelf, Sink, Source};
 use drm_load::read_schedule;
 use drm_schedule::Live;

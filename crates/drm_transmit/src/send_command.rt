@@ -8,7 +8,7 @@ ghost use Rattle.drm_load.specs.Schedule.{schedule_named};
 ghost use Rattle.drm_transmit.specs.Send.{SendRun};
 ghost use Rattle.drm_transmit.specs.OverLinks.{OverLinks};
 
-use drm_faults::Fault;
+use cmd_faults::Fault;
 use drm_links::{Addresses, Dock, Link, Shelf};
 use drm_load::read_schedule;
 use drm_server::{Server, first_ones_are_front, one_delivery, serve_links};

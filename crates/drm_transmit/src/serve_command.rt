@@ -3,7 +3,7 @@
 ghost use Rattle.std.specs.Prelude.{◌≡◌, ◌≤◌, IsErrOf};
 ghost use Rattle.drm_transmit.specs.Serve.{ServeRun};
 
-use drm_faults::Fault;
+use cmd_faults::Fault;
 use drm_links::{Shelf, Sink};
 use drm_load::read_schedule;
 use drm_server::{Server, serve_sink};

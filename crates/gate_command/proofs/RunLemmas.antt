@@ -19,11 +19,11 @@ use Rattle.recv_reading.specs.OneReading.{BreaksOff}
 use Rattle.several_links.specs.Reaching.{nothing, ReachesNone, ReachesFew, GoesOver, after_reaches}
 use Rattle.several_links.proofs.RunLemmas as several
 use Rattle.several_links.proofs.BindLemmas.{found_once, is_found}
-use Rattle.drm_faults.specs.Fault.{UnlessMemory}
-use Rattle.drm_faults.specs.Causes.{OpeningFailed}
-use Rattle.drm_faults.specs.declared.fault.Fault.{Fault}
-use Rattle.drm_faults.specs.declared.fault.Fault.TheVariants as faults
-use Rattle.drm_faults.proofs.CauseLemmas.{inner_fault}
+use Rattle.cmd_faults.specs.Fault.{UnlessMemory}
+use Rattle.cmd_faults.specs.Causes.{OpeningFailed}
+use Rattle.cmd_faults.specs.declared.fault.Fault.{Fault}
+use Rattle.cmd_faults.specs.declared.fault.Fault.TheVariants as faults
+use Rattle.cmd_faults.proofs.CauseLemmas.{inner_fault}
 use Rattle.drm_gate.specs.declared.tally.Tally.{Tally}
 use Rattle.drm_gate.specs.Passing.{Fate, sent_of}
 use Rattle.gate_command.specs.Line.{gate_line, is_clean}

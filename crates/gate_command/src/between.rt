@@ -2,7 +2,7 @@
 
 ghost use Rattle.std.specs.Prelude.{◌≡◌, IsErr, length, vec_len, vec_capacity};
 ghost use Rattle.drm_links.specs.Told.{Tells};
-ghost use Rattle.drm_faults.specs.Causes.{OpeningFailed};
+ghost use Rattle.cmd_faults.specs.Causes.{OpeningFailed};
 ghost use Rattle.gate_command.specs.Between.{IsSetUp, PassesTo, options_of, passed_of};
 ghost use Rattle.gate_command.specs.Run.{PassesOn};
 

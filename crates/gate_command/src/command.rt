@@ -9,7 +9,7 @@ use crate::between::pass_between;
 use crate::line::{is_clean, write_tally};
 use dcp_pft::Carry;
 use drm_bits::zeros;
-use drm_faults::Fault;
+use cmd_faults::Fault;
 use drm_gate::Gate;
 use drm_links::{Address, Addresses, Dock, LONGEST_DATAGRAM, Sink};
 use recv_reading::ReceiveOptions;

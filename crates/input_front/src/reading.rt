@@ -4,7 +4,7 @@ ghost use Rattle.std.specs.Prelude.{◌≡◌, ◌≤◌, IfOk, IfErr, OnErr, Er
 ghost use Rattle.drm_links.specs.Told.{HasCause};
 ghost use Rattle.input_front.specs.Input.{ReadsFront, FailsBehind};
 
-use drm_faults::Fault;
+use cmd_faults::Fault;
 use drm_links::{ReadOut, Source};
 
 /// Reads an input into the front of the room, until it ends or the room is full. Answers how many bytes came.

@@ -18,7 +18,7 @@ use Rattle.drm_schedule.specs.declared.plan.Plan.{Plan}
 use Rattle.drm_server.specs.Capture.{IsCapture, IsFrontOfCapture}
 use Rattle.drm_server.proofs.CaptureLemmas.{end_written}
 use Rattle.law_delivery.specs.Sent.{IsFollowed}
-use Rattle.drm_faults.specs.declared.fault.Fault.TheVariants as faults
+use Rattle.cmd_faults.specs.declared.fault.Fault.TheVariants as faults
 use Rattle.drm_convert.specs.Converting.{Part, text_of, lines_of}
 use Rattle.drm_convert.specs.Steps.{has_none}
 use Rattle.drm_convert.specs.Converted.{are_clean}

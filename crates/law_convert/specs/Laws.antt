@@ -17,8 +17,8 @@ use Rattle.drm_server.specs.Datagrams.{AreOfFrames}
 use Rattle.drm_server.specs.Capture.{IsCapture, IsFrontOfCapture}
 use Rattle.law_delivery.specs.Sent.{Arrival, pairs_in, IsFollowed, IsInTime}
 use Rattle.capture_reader.specs.Capture.{IsCaptureOf, End}
-use Rattle.drm_faults.specs.declared.fault.Fault.{Fault}
-use Rattle.drm_faults.specs.declared.fault.Fault.TheVariants as faults
+use Rattle.cmd_faults.specs.declared.fault.Fault.{Fault}
+use Rattle.cmd_faults.specs.declared.fault.Fault.TheVariants as faults
 use Rattle.drm_convert.specs.Converting.{Part, ConvertsAll, IsTooLarge, text_of, lines_of}
 use Rattle.recv_reading.specs.Packets.{ComesAt, HasEnough, Terms}
 use Rattle.recv_reading.specs.State.{is_full}

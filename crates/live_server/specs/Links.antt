@@ -5,7 +5,7 @@ use Rattle.drm_links.specs.Source.{Input}
 use Rattle.drm_links.specs.Link.{Traffic}
 use Rattle.several_links.specs.Reaching.{AreDown}
 use Rattle.several_links.specs.declared.member.Member.{Member}
-use Rattle.drm_faults.specs.declared.fault.Fault.{Fault}
+use Rattle.cmd_faults.specs.declared.fault.Fault.{Fault}
 use Rattle.drm_schedule.specs.declared.live.Live.{Live}
 use Rattle.drm_schedule.specs.declared.plan.Plan.{Plan}
 use Rattle.drm_timeline.specs.Numbers.{frame_count}

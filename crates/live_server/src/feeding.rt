@@ -8,7 +8,7 @@ ghost use Rattle.live_streams.specs.Live.{piece_at};
 ghost use Rattle.live_server.specs.Loading.{LoadsNext};
 
 use drm_bits::{NoMemory, zeros};
-use drm_faults::Fault;
+use cmd_faults::Fault;
 use drm_links::Source;
 use drm_schedule::Live;
 use drm_server::Server;

@@ -5,7 +5,7 @@ ghost use Rattle.drm_links.specs.Told.{HasCause};
 ghost use Rattle.live_server.specs.Capture.{WroteLive};
 
 use crate::feeding::load_next;
-use drm_faults::Fault;
+use cmd_faults::Fault;
 use drm_links::{Sink, Source};
 use drm_schedule::Live;
 use drm_server::{Server, write_frame};

@@ -7,7 +7,7 @@ ghost use Rattle.several_links.specs.declared.member.Member.{Member};
 ghost use Rattle.live_server.specs.Links.{ServedLive};
 
 use crate::feeding::load_next;
-use drm_faults::Fault;
+use cmd_faults::Fault;
 use drm_links::{Link, Source};
 use drm_schedule::Live;
 use drm_server::{Server, serve_each};

@@ -5,7 +5,7 @@ use Rattle.drm_links.specs.Link.{Answer, Traffic}
 use Rattle.drm_links.specs.Sink.{Output, Outputs, IsFront}
 use Rattle.drm_links.specs.Dock.{DockContents, Docked}
 use Rattle.drm_links.proofs.ToldLemmas.{counts_none, Tells-nothing, Tells-weaker}
-use Rattle.drm_faults.specs.Causes.{OpeningFailed}
+use Rattle.cmd_faults.specs.Causes.{OpeningFailed}
 use Rattle.report_text.specs.Reports.{Report}
 use Rattle.several_links.proofs.OpeningLemmas.{docked_both, docked_weaker}
 use Rattle.several_links.specs.Binding.{HearsEach, BindsFew}

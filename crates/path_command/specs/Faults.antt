@@ -1,7 +1,7 @@
 -- The faults of a run.
 use Rattle.std.specs.Prelude.{ℕ, ◌+◌, List, [], ◌∷◌, codes, decimal, Bool, Result, Ok, Err}
 use Rattle.std.specs.List.{concat}
-use Rattle.drm_faults.specs.Fault.{clean_status}
+use Rattle.cmd_faults.specs.Fault.{clean_status}
 use Rattle.path_command.specs.declared.fault.Fault.{Fault}
 use Rattle.path_command.specs.declared.fault.Fault.TheVariants.{NoMemory, Words, Write, Link, Differs}
 

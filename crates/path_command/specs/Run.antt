@@ -5,8 +5,8 @@ use Rattle.drm_links.specs.Link.{Answer}
 use Rattle.drm_links.specs.Sink.{Output, Outputs, IsFront}
 use Rattle.drm_links.specs.Dock.{DockContents, LinkStart, AreDifferent, Finds, FindsNone, Docked}
 use Rattle.drm_links.specs.declared.dock.Address.{Address}
-use Rattle.drm_faults.specs.Causes.{OpeningFailed}
-use Rattle.drm_faults.specs.Fault.{WritesLine}
+use Rattle.cmd_faults.specs.Causes.{OpeningFailed}
+use Rattle.cmd_faults.specs.Fault.{WritesLine}
 use Rattle.cli_paths.specs.declared.request.Request.{Request}
 use Rattle.cli_paths.specs.Line.{IsPathsLine}
 use Rattle.path_book.specs.declared.settings.Settings.{Settings}

@@ -7,7 +7,7 @@ ghost use Rattle.cli_paths.specs.declared.request.Request.{Request};
 ghost use Rattle.cli_paths.specs.Line.{IsPathsLine};
 ghost use Rattle.path_command.specs.declared.fault.Fault.{Fault};
 ghost use Rattle.path_command.specs.Faults.{status_of, fault_line};
-ghost use Rattle.drm_faults.specs.Fault.{WritesLine};
+ghost use Rattle.cmd_faults.specs.Fault.{WritesLine};
 ghost use Rattle.path_command.specs.Jobs.{HaveNewPaths};
 ghost use Rattle.path_command.specs.Links.{EndsLinks, ReadsAndCloses, RunsLinks, ending_of};
 ghost use Rattle.path_command.specs.Run.{IsInRange, settings_in, PathsRun, Runs, ReportsFault, AsksForNothing};

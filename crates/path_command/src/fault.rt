@@ -44,7 +44,7 @@ impl From<WriteFault> for Fault {
 }
 
 impl Fault {
-    ghost use Rattle.drm_faults.specs.Fault.{WritesLine};
+    ghost use Rattle.cmd_faults.specs.Fault.{WritesLine};
     ghost use Rattle.path_command.specs.Faults.{fault_status, fault_line};
 
     /// Writes the line of the fault, and answers its status. A failure of `err` changes nothing.

@@ -4,8 +4,8 @@ use Rattle.std.proofs.lemmas.Result.{err_from_is_err_and}
 use Rattle.drm_links.proofs.ToldLemmas.{counts_one, counts_none, counts_then, once_then, done_counts, failed_counts}
 use Rattle.drm_links.proofs.WritingLemmas.{Writes-done, Writes-front}
 use Rattle.capture_reader.proofs.FrontLaws.{packet_size}
-use Rattle.drm_faults.specs.declared.fault.Fault.TheVariants as faults
-use Rattle.drm_faults.specs.Captures.{stop_fault}
+use Rattle.cmd_faults.specs.declared.fault.Fault.TheVariants as faults
+use Rattle.cmd_faults.specs.Captures.{stop_fault}
 use Rattle.drm_inspect.proofs.ShowLemmas.{HasShown, shown_none, still_shown, shows_next, shown_more, stopped, cut, done, cut_end, show_run, memory_run, not_stopped, early, stop_early, stop_no_memory, stop_no_write, stopped_counts, found_counts, write_no_memory, write_no_read, was_shown, not_shown, failed}
 use Rattle.drm_inspect.proofs.show_command.show.Goals as goal
 

@@ -6,8 +6,8 @@ use Rattle.drm_links.specs.declared.dock.Address.{Address}
 use Rattle.drm_links.proofs.ToldLemmas.{counts_none, then_counts, Tells-nothing, Tells-weaker}
 use Rattle.drm_links.proofs.Places.{each_more}
 use Rattle.recv_report.specs.declared.job.Job.{Job}
-use Rattle.drm_faults.specs.declared.fault.Fault.{Fault}
-use Rattle.drm_faults.specs.declared.fault.Fault.TheVariants as faults
+use Rattle.cmd_faults.specs.declared.fault.Fault.{Fault}
+use Rattle.cmd_faults.specs.declared.fault.Fault.TheVariants as faults
 use Rattle.several_links.specs.Binding.{BindsFew, StopsBehind}
 use Rattle.drm_receive.specs.Opening.{StopsOpening}
 use Rattle.recv_report.specs.Jobs.{IsJob}

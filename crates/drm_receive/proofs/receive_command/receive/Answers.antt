@@ -9,8 +9,8 @@ use Rattle.std.proofs.lemmas.List.{get_or_default}
 use Rattle.drm_links.specs.Told.{WhileTold, Tells}
 use Rattle.drm_links.specs.Dock.{Closes}
 use Rattle.drm_links.proofs.ToldLemmas.{counts_as}
-use Rattle.drm_faults.specs.declared.fault.Fault.TheVariants as faults
-use Rattle.drm_faults.proofs.CauseLemmas.{inner_fault}
+use Rattle.cmd_faults.specs.declared.fault.Fault.TheVariants as faults
+use Rattle.cmd_faults.proofs.CauseLemmas.{inner_fault}
 use Rattle.several_links.proofs.BindLemmas.{docked_then, Closed}
 use Rattle.drm_receive.proofs.HearingLemmas.{link_in}
 use Rattle.drm_receive.proofs.ReceiveLemmas.{Ran, settled_hears, settled_run, opening_failed, written_back}

@@ -1,11 +1,11 @@
 use Rattle.std.proofs.Common.{◌∙◌, sym, ap, subst, Ok, Err}
-use Rattle.drm_faults.specs.declared.fault.Fault.{Fault}
-use Rattle.drm_faults.specs.declared.fault.Fault.TheVariants as faults
-use Rattle.drm_faults.specs.Fault.{clean_status, WritesLine}
+use Rattle.cmd_faults.specs.declared.fault.Fault.{Fault}
+use Rattle.cmd_faults.specs.declared.fault.Fault.TheVariants as faults
+use Rattle.cmd_faults.specs.Fault.{clean_status, WritesLine}
 use Rattle.drm_links.proofs.ToldLemmas.{counts_as}
-use Rattle.drm_faults.proofs.CauseLemmas.{one_failed_as, opening_as}
-use Rattle.drm_faults.proofs.StatusLemmas.{one_is_memory, two_is_words, four_is_read, five_is_write, six_is_link}
-use Rattle.drm_faults.specs.Lines.{fault_line}
+use Rattle.cmd_faults.proofs.CauseLemmas.{one_failed_as, opening_as}
+use Rattle.cmd_faults.proofs.StatusLemmas.{one_is_memory, two_is_words, four_is_read, five_is_write, six_is_link}
+use Rattle.cmd_faults.specs.Lines.{fault_line}
 use Rattle.drm_top.specs.Outside.{outside}
 use Rattle.drm_top.proofs.CommandLemmas.{done_told, fault_told, by_status, to_status}
 use Rattle.drm_top.proofs.HeadlineLemmas.{headline_of, not_a_fault}

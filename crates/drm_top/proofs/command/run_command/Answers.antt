@@ -3,10 +3,10 @@ use Rattle.drm_schedule.specs.Live.{is_any}
 use Rattle.drm_links.specs.Told.{WhileTold}
 use Rattle.several_links.specs.Reaching.{NothingSent}
 use Rattle.drm_links.proofs.ToldLemmas.{counts_none}
-use Rattle.drm_faults.specs.Fault.{whole_of}
-use Rattle.drm_faults.proofs.CauseLemmas.{one_alone, other_alone, none_failed, opening_as}
-use Rattle.drm_faults.specs.declared.fault.Fault.{Fault}
-use Rattle.drm_faults.specs.declared.fault.Fault.TheVariants as faults
+use Rattle.cmd_faults.specs.Fault.{whole_of}
+use Rattle.cmd_faults.proofs.CauseLemmas.{one_alone, other_alone, none_failed, opening_as}
+use Rattle.cmd_faults.specs.declared.fault.Fault.{Fault}
+use Rattle.cmd_faults.specs.declared.fault.Fault.TheVariants as faults
 use Rattle.drm_top.specs.Outside.{outside}
 use Rattle.drm_top.proofs.CommandLemmas.{fault_of_whole, whole_cause, whole_lacks_none, dock_still, not_else, not_convert, not_a_link, not_gate, no_gate}
 use Rattle.drm_top.proofs.ServeLemmas.{sends, opens_some}

@@ -7,7 +7,7 @@ use Rattle.several_links.specs.Reaching.{AreUp}
 use Rattle.drm_timeline.specs.Numbers.{frame_count}
 use Rattle.drm_server.specs.Serving.{Serving}
 use Rattle.drm_server.specs.Several.{Served}
-use Rattle.drm_faults.specs.declared.fault.Fault.TheVariants as faults
+use Rattle.cmd_faults.specs.declared.fault.Fault.TheVariants as faults
 use Rattle.drm_load.specs.declared.loading.ScheduleFault.TheVariants as schedule
 use Rattle.drm_load.proofs.ScheduleLemmas.{schedule_ran_out}
 use Rattle.drm_load.specs.Schedule.{schedule_named}

@@ -3,8 +3,8 @@ use Rattle.std.proofs.lemmas.Result.{err_from_is_err_and}
 use Rattle.dcp_pft.specs.declared.carry.Carry.{Carry}
 use Rattle.drm_links.specs.Told.{Tells}
 use Rattle.drm_links.proofs.ToldLemmas.{counts_one, counts_none}
-use Rattle.drm_faults.specs.declared.fault.Fault.TheVariants as faults
-use Rattle.drm_faults.proofs.CauseLemmas.{inner_fault}
+use Rattle.cmd_faults.specs.declared.fault.Fault.TheVariants as faults
+use Rattle.cmd_faults.proofs.CauseLemmas.{inner_fault}
 use Rattle.drm_gate.specs.Gateway.{Gateway}
 use Rattle.gate_command.specs.Run.{PassesOn}
 use Rattle.gate_command.proofs.RunLemmas.{no_run, links_run, no_fault}

@@ -4,7 +4,7 @@ use Rattle.path_command.specs.Faults.{fault_status}
 use Rattle.path_command.specs.declared.fault.Fault.TheVariants as faults
 use Rattle.path_command.proofs.StatusLemmas.{words_fault, write_fault}
 use Rattle.path_command.proofs.command.run_paths.Goals as goal
-use Rattle.drm_faults.proofs.CauseLemmas.{inner_fault}
+use Rattle.cmd_faults.proofs.CauseLemmas.{inner_fault}
 
 pub returns-in-Err-clause-words : goal.returns-in-Err-clause-words
 returns-in-Err-clause-words g c = λ is. c.in-Err.ensures.words (ap Err (words_fault c.in-Err.fault (sym c.report.ensures.status ∙ is)))

@@ -1,7 +1,7 @@
 //! The words for what is wrong with a capture.
 
 ghost use Rattle.std.specs.Prelude.{◌≡◌};
-ghost use Rattle.drm_faults.specs.Captures.{capture_line, field_word};
+ghost use Rattle.cmd_faults.specs.Captures.{capture_line, field_word};
 ghost use Rattle.text_output.specs.Text.{text_of};
 
 use capture_reader::{CaptureFault, CaptureField};

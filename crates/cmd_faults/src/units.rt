@@ -1,7 +1,7 @@
 //! What can be wrong with the units of an input, and the words for it.
 
 ghost use Rattle.std.specs.Prelude.{◌≡◌};
-ghost use Rattle.drm_faults.specs.Units.{units_line, units_word};
+ghost use Rattle.cmd_faults.specs.Units.{units_line, units_word};
 ghost use Rattle.text_output.specs.Text.{text_of};
 
 use text_output::Piece;

@@ -3,7 +3,7 @@
 ghost use Rattle.std.specs.Prelude.{◌≡◌};
 ghost use Rattle.drm_links.specs.Sink.{Writes};
 ghost use Rattle.text_output.specs.Text.{text_of};
-ghost use Rattle.drm_faults.specs.CrcLine.{crc_line};
+ghost use Rattle.cmd_faults.specs.CrcLine.{crc_line};
 
 use crate::capture::capture_pieces;
 use crate::reason::{schedule_pieces, script_pieces};
@@ -38,7 +38,7 @@ pub enum Fault {
 
 impl From<WriteFault> for Fault {
     ghost use Rattle.std.specs.Prelude.{◌≡◌};
-    ghost use Rattle.drm_faults.specs.declared.fault.Fault.TheVariants.{Write};
+    ghost use Rattle.cmd_faults.specs.declared.fault.Fault.TheVariants.{Write};
 
     ghost from_gives = { λ _ fault. fault ≡ Write };
 
@@ -49,7 +49,7 @@ impl From<WriteFault> for Fault {
 
 impl From<LinkFault> for Fault {
     ghost use Rattle.std.specs.Prelude.{◌≡◌};
-    ghost use Rattle.drm_faults.specs.declared.fault.Fault.TheVariants.{Link};
+    ghost use Rattle.cmd_faults.specs.declared.fault.Fault.TheVariants.{Link};
 
     ghost from_gives = { λ _ fault. fault ≡ Link };
 
@@ -60,7 +60,7 @@ impl From<LinkFault> for Fault {
 
 impl From<FacFault> for Fault {
     ghost use Rattle.std.specs.Prelude.{◌≡◌};
-    ghost use Rattle.drm_faults.specs.FacFaults.{fault_of};
+    ghost use Rattle.cmd_faults.specs.FacFaults.{fault_of};
 
     ghost from_gives = { λ refused fault. fault ≡ fault_of refused };
 
@@ -72,7 +72,7 @@ impl From<FacFault> for Fault {
 
 impl From<CaptureStop> for Fault {
     ghost use Rattle.std.specs.Prelude.{◌≡◌};
-    ghost use Rattle.drm_faults.specs.Captures.{stop_fault};
+    ghost use Rattle.cmd_faults.specs.Captures.{stop_fault};
 
     ghost from_gives = { λ stop fault. fault ≡ stop_fault stop };
 
@@ -87,7 +87,7 @@ impl From<CaptureStop> for Fault {
 
 impl From<NoMemory> for Fault {
     ghost use Rattle.std.specs.Prelude.{◌≡◌};
-    ghost use Rattle.drm_faults.specs.declared.fault.Fault.TheVariants as faults;
+    ghost use Rattle.cmd_faults.specs.declared.fault.Fault.TheVariants as faults;
 
     ghost from_gives = { λ _ fault. fault ≡ faults.NoMemory };
 
@@ -98,8 +98,8 @@ impl From<NoMemory> for Fault {
 
 impl Fault {
     ghost use Rattle.std.specs.Prelude.{true, false};
-    ghost use Rattle.drm_faults.specs.Lines.{fault_line};
-    ghost use Rattle.drm_faults.specs.Fault.{fault_status, WritesLine};
+    ghost use Rattle.cmd_faults.specs.Lines.{fault_line};
+    ghost use Rattle.cmd_faults.specs.Fault.{fault_status, WritesLine};
 
     /// Writes the line of the fault, and answers its status. A failure of `err` changes nothing.
     pub fn report<E: Sink>(self, err: &mut E) -> Status

@@ -1,7 +1,7 @@
 //! The words for what is wrong with a text.
 
 ghost use Rattle.std.specs.Prelude.{◌≡◌};
-ghost use Rattle.drm_faults.specs.Reasons.{reason_word, reason_line, schedule_line, script_line};
+ghost use Rattle.cmd_faults.specs.Reasons.{reason_word, reason_line, schedule_line, script_line};
 ghost use Rattle.text_output.specs.Text.{text_of};
 
 use drm_schedule::Reason;

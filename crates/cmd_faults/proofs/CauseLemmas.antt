@@ -1,7 +1,7 @@
 -- Which fault it is, and what failed of two objects by what failed of one.
 use Rattle.std.proofs.Common.{◌≡◌, inl, inr, Result, Err}
 use Rattle.drm_links.specs.Told.{Known, HasCause}
-use Rattle.drm_faults.specs.Causes.{OneFailed, OpeningFailed}
+use Rattle.cmd_faults.specs.Causes.{OneFailed, OpeningFailed}
 
 -- an answer has one fault
 pub inner_fault : {T E : Type 0} (fault other : E) → (let r : Result T E = Err fault in r ≡ Err other) → fault ≡ other

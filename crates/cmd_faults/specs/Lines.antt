@@ -1,12 +1,12 @@
 -- The lines that the program prints.
 use Rattle.std.specs.Prelude.{ℕ, List, [], ◌∷◌, codes, decimal}
 use Rattle.std.specs.List.{concat}
-use Rattle.drm_faults.specs.CrcLine.{crc_line}
-use Rattle.drm_faults.specs.Captures.{capture_line}
-use Rattle.drm_faults.specs.Units.{units_line}
-use Rattle.drm_faults.specs.Reasons.{reason_word, schedule_line, script_line}
-use Rattle.drm_faults.specs.declared.fault.Fault.{Fault}
-use Rattle.drm_faults.specs.declared.fault.Fault.TheVariants.{NoMemory, Words, FacLength, FacOver, FacCrc, Schedule, Script, Capture, CaptureTooLong, PacketSize, Units, Read, Write, Link}
+use Rattle.cmd_faults.specs.CrcLine.{crc_line}
+use Rattle.cmd_faults.specs.Captures.{capture_line}
+use Rattle.cmd_faults.specs.Units.{units_line}
+use Rattle.cmd_faults.specs.Reasons.{reason_word, schedule_line, script_line}
+use Rattle.cmd_faults.specs.declared.fault.Fault.{Fault}
+use Rattle.cmd_faults.specs.declared.fault.Fault.TheVariants.{NoMemory, Words, FacLength, FacOver, FacCrc, Schedule, Script, Capture, CaptureTooLong, PacketSize, Units, Read, Write, Link}
 
 -- the line of a fault
 abbrev pub fault_line : Fault → List ℕ

@@ -1,4 +1,4 @@
-use Rattle.drm_faults.proofs.fault.Fault.write.Goals as goal
+use Rattle.cmd_faults.proofs.fault.Fault.write.Goals as goal
 
 pub returns-in-NoMemory : goal.returns-in-NoMemory
 returns-in-NoMemory g c = rw c.in-NoMemory.is c.write_words.ensures

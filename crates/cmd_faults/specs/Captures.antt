@@ -7,8 +7,8 @@ use Rattle.capture_reader.specs.declared.fault.CaptureFault.{CaptureFault}
 use Rattle.capture_reader.specs.declared.packets.CaptureStop.{CaptureStop}
 use Rattle.capture_reader.specs.declared.packets.CaptureStop.TheVariants as stops
 use Rattle.capture_reader.specs.Capture as capture
-use Rattle.drm_faults.specs.declared.fault.Fault.{Fault}
-use Rattle.drm_faults.specs.declared.fault.Fault.TheVariants as faults
+use Rattle.cmd_faults.specs.declared.fault.Fault.{Fault}
+use Rattle.cmd_faults.specs.declared.fault.Fault.TheVariants as faults
 
 abbrev pub field_word : CaptureField → List ℕ
 field_word Sync = codes "sync"

@@ -1,9 +1,9 @@
 -- The line of what is wrong with the units of an input.
 use Rattle.std.specs.Prelude.{List, ℕ, [], ◌∷◌, codes, decimal}
 use Rattle.std.specs.List.{concat}
-use Rattle.drm_faults.specs.declared.units.UnitsReason.{UnitsReason}
-use Rattle.drm_faults.specs.declared.units.UnitsReason.TheVariants.{Empty, TooLong, Cut}
-use Rattle.drm_faults.specs.declared.units.UnitsFault.{UnitsFault}
+use Rattle.cmd_faults.specs.declared.units.UnitsReason.{UnitsReason}
+use Rattle.cmd_faults.specs.declared.units.UnitsReason.TheVariants.{Empty, TooLong, Cut}
+use Rattle.cmd_faults.specs.declared.units.UnitsFault.{UnitsFault}
 
 abbrev pub units_word : UnitsReason → List ℕ
 units_word Empty = codes "empty"

@@ -2,9 +2,9 @@
 use Rattle.std.proofs.Common.{ℕ, ◌≡◌, ◌⊎◌, inl, inr, Bool, Result, Ok, Err, refl, ap}
 use Rattle.capture_reader.specs.declared.fault.CaptureFault.{CaptureFault}
 use Rattle.capture_reader.specs.Capture as capture
-use Rattle.drm_faults.specs.declared.fault.Fault.{Fault}
-use Rattle.drm_faults.specs.declared.fault.Fault.TheVariants as faults
-use Rattle.drm_faults.specs.Captures.{EndsEarlyOr, EndsByIt}
+use Rattle.cmd_faults.specs.declared.fault.Fault.{Fault}
+use Rattle.cmd_faults.specs.declared.fault.Fault.TheVariants as faults
+use Rattle.cmd_faults.specs.Captures.{EndsEarlyOr, EndsByIt}
 
 -- What holds of each fault that can end it early holds of any that does.
 pub each_early : (S : Type 0) (P : Fault → Type 0) → P faults.NoMemory → ((fault : CaptureFault) → P (faults.Capture fault)) → P faults.CaptureTooLong → P faults.Read → P faults.Write
