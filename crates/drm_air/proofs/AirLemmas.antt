@@ -21,14 +21,14 @@ use Rattle.recv_report.specs.declared.job.Job.{Job}
 use Rattle.cmd_faults.specs.declared.fault.Fault.{Fault}
 use Rattle.cmd_faults.specs.declared.fault.Fault.TheVariants as faults
 use Rattle.cmd_faults.proofs.CauseLemmas.{inner_fault}
-use Rattle.drm_load.specs.declared.loading.ScheduleFault.{ScheduleFault}
-use Rattle.drm_load.specs.declared.loading.ScheduleFault.TheVariants as schedule
+use Rattle.cmd_load.specs.declared.loading.ScheduleFault.{ScheduleFault}
+use Rattle.cmd_load.specs.declared.loading.ScheduleFault.TheVariants as schedule
 use Rattle.recv_reading.specs.Ending.{IsSound}
 use Rattle.recv_reading.specs.Options.{AreInRange}
-use Rattle.drm_load.specs.Loading.{ReadBy}
-use Rattle.drm_load.specs.Schedule.{schedule_named}
-use Rattle.drm_load.specs.Scripts.{script_named}
-use Rattle.drm_load.specs.Faults.{fault_of_schedule, fault_of_script}
+use Rattle.cmd_load.specs.Loading.{ReadBy}
+use Rattle.cmd_load.specs.Schedule.{schedule_named}
+use Rattle.cmd_load.specs.Scripts.{script_named}
+use Rattle.cmd_load.specs.Faults.{fault_of_schedule, fault_of_script}
 use Rattle.recv_report.specs.Jobs.{IsDone, NoneFailed}
 use Rattle.recv_report.specs.Settling.{Settles}
 use Rattle.recv_report.specs.declared.stop.Stop.{Stop}
@@ -41,7 +41,7 @@ use Rattle.recv_report.specs.Ahead.{IsReportOf}
 use Rattle.drm_air.specs.Air.{air_rules, pairs_of, IsAired, AreFeeds, AreAired, ByScript, AirRun}
 use Rattle.recv_report.proofs.JobLemmas.{told_of, job_report, job_breaks, SomeFailed, some_failed}
 use Rattle.drm_receive.proofs.ReceiveLemmas.{Ran, reports_written, ending_kind}
-use Rattle.drm_load.proofs.ScriptLemmas.{read_schedule, read_script, write_schedule, write_script}
+use Rattle.cmd_load.proofs.ScriptLemmas.{read_schedule, read_script, write_schedule, write_script}
 use Rattle.recv_report.proofs.Composing.{DeliveryLaws}
 use Rattle.drm_air.proofs.AirStatus.{air_run}
 use Rattle.drm_air.proofs.FedLemmas as fed

@@ -6,16 +6,16 @@ use Rattle.drm_links.specs.Told.{HasFailed, HasCause, Known}
 use Rattle.drm_links.specs.Shelf.{Files, Supplies}
 use Rattle.drm_links.specs.Sink.{Output}
 use Rattle.drm_links.proofs.ToldLemmas.{Tells-then, Tells-weaker}
-use Rattle.drm_load.specs.declared.loading.ScheduleFault.{ScheduleFault}
-use Rattle.drm_load.specs.declared.loading.ScheduleFault.TheVariants as loads
+use Rattle.cmd_load.specs.declared.loading.ScheduleFault.{ScheduleFault}
+use Rattle.cmd_load.specs.declared.loading.ScheduleFault.TheVariants as loads
 use Rattle.cmd_faults.specs.declared.fault.Fault.{Fault}
 use Rattle.cmd_faults.specs.declared.fault.Fault.TheVariants as faults
 use Rattle.cmd_faults.specs.Fault.{UnlessMemory}
-use Rattle.drm_load.specs.Faults.{fault_of_schedule, fault_of_script}
-use Rattle.drm_load.specs.Loading.{Step, ReadBy}
-use Rattle.drm_load.specs.Schedule.{schedule_named}
-use Rattle.drm_load.specs.Scripts.{script_named}
-use Rattle.drm_load.proofs.LoadingLemmas.{Comes, came_by}
+use Rattle.cmd_load.specs.Faults.{fault_of_schedule, fault_of_script}
+use Rattle.cmd_load.specs.Loading.{Step, ReadBy}
+use Rattle.cmd_load.specs.Schedule.{schedule_named}
+use Rattle.cmd_load.specs.Scripts.{script_named}
+use Rattle.cmd_load.proofs.LoadingLemmas.{Comes, came_by}
 use Rattle.drm_receive.specs.Receive.{AreClean, WritesReports, WroteReports}
 use Rattle.report_text.specs.Reports.{Report}
 use Rattle.drm_air.specs.Air.{AreAired, ByScript, BySchedule, with_feeds, with_script, schedule_and_script, EndsByFiles, FeedsAreInTime, AirRun}

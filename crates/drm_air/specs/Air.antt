@@ -15,11 +15,11 @@ use Rattle.recv_report.specs.Headline.{Modulates, ModulatesAll}
 use Rattle.drm_receive.specs.Receive.{WritesReports, WroteReports}
 use Rattle.report_text.specs.Reports.{Report}
 use Rattle.recv_report.specs.Ahead.{IsReportOf}
-use Rattle.drm_load.specs.Loading.{Step, ReadBy}
-use Rattle.drm_load.specs.Schedule.{schedule_named}
-use Rattle.drm_load.specs.Scripts.{script_named}
-use Rattle.drm_load.specs.Faults.{fault_of_schedule, fault_of_script}
-use Rattle.drm_load.specs.declared.loading.ScheduleFault.{ScheduleFault}
+use Rattle.cmd_load.specs.Loading.{Step, ReadBy}
+use Rattle.cmd_load.specs.Schedule.{schedule_named}
+use Rattle.cmd_load.specs.Scripts.{script_named}
+use Rattle.cmd_load.specs.Faults.{fault_of_schedule, fault_of_script}
+use Rattle.cmd_load.specs.declared.loading.ScheduleFault.{ScheduleFault}
 use Rattle.cmd_faults.specs.Fault.{UnlessMemory}
 use Rattle.cmd_faults.specs.declared.fault.Fault.{Fault}
 use Rattle.cmd_faults.specs.declared.fault.Fault.TheVariants as faults

@@ -16,7 +16,7 @@ use law_collect::one_run;
 use drm_bits::NoMemory;
 use cmd_faults::Fault;
 use drm_links::{MemLink, Shelf, Sink};
-use drm_load::{read_schedule, read_script_named, script_fault};
+use cmd_load::{read_schedule, read_script_named, script_fault};
 use drm_receive::ending;
 use drm_schedule::Schedule;
 use drm_server::Server;

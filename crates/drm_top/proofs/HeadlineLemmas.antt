@@ -9,11 +9,11 @@ use Rattle.drm_links.specs.declared.dock.Address.{Address}
 use Rattle.drm_schedule.specs.declared.plan.Plan.{Plan}
 use Rattle.drm_schedule.specs.Valid.{IsSchedule}
 use Rattle.plan_script.specs.declared.delivery.Delivery.{Delivery}
-use Rattle.drm_load.specs.declared.loading.ScheduleFault.{ScheduleFault}
-use Rattle.drm_load.specs.Loading.{ReadBy}
-use Rattle.drm_load.specs.Faults.{fault_of_schedule, fault_of_script}
-use Rattle.drm_load.specs.Schedule.{schedule_named}
-use Rattle.drm_load.specs.Scripts.{script_named}
+use Rattle.cmd_load.specs.declared.loading.ScheduleFault.{ScheduleFault}
+use Rattle.cmd_load.specs.Loading.{ReadBy}
+use Rattle.cmd_load.specs.Faults.{fault_of_schedule, fault_of_script}
+use Rattle.cmd_load.specs.Schedule.{schedule_named}
+use Rattle.cmd_load.specs.Scripts.{script_named}
 use Rattle.recv_reading.specs.declared.options.ReceiveOptions.{ReceiveOptions}
 use Rattle.drm_receive.specs.Receive.{AreReports, WritesReports, WritesAll, ReceiveRun}
 use Rattle.drm_receive.proofs.ReceiveStatus.{all_reports}

@@ -9,7 +9,7 @@ use Rattle.drm_transmit.specs.Check.{CheckRun}
 use Rattle.drm_transmit.specs.Serve.{ServeRun}
 use Rattle.drm_transmit.specs.Send.{SendRun}
 use Rattle.drm_transmit.specs.Live.{LiveServeRun, LiveSendRun}
-use Rattle.drm_load.specs.Schedule.{schedule_named}
+use Rattle.cmd_load.specs.Schedule.{schedule_named}
 use Rattle.drm_schedule.specs.declared.live.Live.{Live}
 use Rattle.drm_schedule.specs.Live.{is_any}
 use Rattle.drm_receive.specs.Receive.{ReceiveRun}

@@ -8,9 +8,9 @@ use Rattle.drm_links.specs.Dock.{Docked}
 use Rattle.drm_schedule.specs.declared.plan.Plan.{Plan}
 use Rattle.drm_schedule.specs.Valid.{IsSchedule}
 use Rattle.plan_script.specs.declared.delivery.Delivery.{Delivery}
-use Rattle.drm_load.specs.Loading.{ReadBy}
-use Rattle.drm_load.specs.Schedule.{schedule_named}
-use Rattle.drm_load.specs.Scripts.{script_named}
+use Rattle.cmd_load.specs.Loading.{ReadBy}
+use Rattle.cmd_load.specs.Schedule.{schedule_named}
+use Rattle.cmd_load.specs.Scripts.{script_named}
 use Rattle.drm_receive.specs.Receive.{AreReports, WritesReports}
 use Rattle.drm_receive.specs.Capture.{WritesReport}
 use Rattle.drm_air.specs.Air.{AreAired}

@@ -10,7 +10,7 @@ use Rattle.several_links.specs.Reaching.{HaveGone, HaveLinks, AreUp, after_reach
 use Rattle.several_links.specs.declared.member.Member.{Member}
 use Rattle.several_links.proofs.RunLemmas.{over_each}
 use Rattle.drm_schedule.specs.declared.plan.Plan.{Plan}
-use Rattle.drm_load.specs.Loading.{Reading}
+use Rattle.cmd_load.specs.Loading.{Reading}
 use Rattle.cmd_faults.specs.declared.fault.Fault.{Fault}
 use Rattle.drm_transmit.specs.Send.{Go, LinksRun}
 use Rattle.drm_transmit.specs.OverLinks.{OverLinks}

@@ -7,11 +7,11 @@ use Rattle.drm_links.proofs.ToldLemmas.{Tells-weaker, Inputs-nothing}
 use Rattle.drm_schedule.specs.declared.live.Live.{Live}
 use Rattle.drm_schedule.specs.declared.plan.Plan.{Plan}
 use Rattle.drm_timeline.specs.Numbers.{frame_count}
-use Rattle.drm_load.specs.Loading.{Reading, ReadBy, given}
-use Rattle.drm_load.specs.Schedule.{schedule_named}
-use Rattle.drm_load.specs.declared.loading.ScheduleFault.{ScheduleFault}
-use Rattle.drm_load.proofs.LoadingLemmas.{given_only, ReadBy-then, ReadBy-stops, ReadBy-given}
-use Rattle.drm_load.proofs.ScheduleLemmas.{schedule_only}
+use Rattle.cmd_load.specs.Loading.{Reading, ReadBy, given}
+use Rattle.cmd_load.specs.Schedule.{schedule_named}
+use Rattle.cmd_load.specs.declared.loading.ScheduleFault.{ScheduleFault}
+use Rattle.cmd_load.proofs.LoadingLemmas.{given_only, ReadBy-then, ReadBy-stops, ReadBy-given}
+use Rattle.cmd_load.proofs.ScheduleLemmas.{schedule_only}
 use Rattle.cmd_faults.specs.declared.fault.Fault.{Fault}
 use Rattle.live_server.specs.Feeding.{fed, AreTaken, HasRead}
 use Rattle.drm_transmit.specs.Live.{live_named, FedRun}

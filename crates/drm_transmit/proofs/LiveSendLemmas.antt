@@ -17,7 +17,7 @@ use Rattle.several_links.specs.Reaching.{GoesOver, HaveGone, HaveLinks, AreUp, N
 use Rattle.several_links.specs.declared.member.Member.{Member}
 use Rattle.several_links.proofs.RunLemmas.{over_each}
 use Rattle.drm_server.specs.Laws.{HasOneDelivery, FirstOnesAreFront}
-use Rattle.drm_load.specs.Loading.{Reading}
+use Rattle.cmd_load.specs.Loading.{Reading}
 use Rattle.cmd_faults.specs.Fault.{done_of}
 use Rattle.cmd_faults.specs.Causes.{OneFailed, OpeningFailed}
 use Rattle.cmd_faults.proofs.CauseLemmas.{one_alone, other_alone}

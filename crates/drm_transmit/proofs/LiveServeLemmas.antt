@@ -9,11 +9,11 @@ use Rattle.drm_schedule.specs.declared.plan.Plan.{Plan}
 use Rattle.drm_schedule.specs.Valid.{IsSchedule}
 use Rattle.live_streams.specs.Laws.{InputMakesASchedule}
 use Rattle.drm_server.specs.Capture.{IsCapture, IsFrontOfCapture}
-use Rattle.drm_load.specs.Loading.{Reading, ReadBy}
-use Rattle.drm_load.specs.Schedule.{schedule_named}
-use Rattle.drm_load.specs.Faults.{fault_of_schedule}
-use Rattle.drm_load.specs.declared.loading.ScheduleFault.{ScheduleFault}
-use Rattle.drm_load.specs.declared.loading.ScheduleFault.TheVariants as schedule
+use Rattle.cmd_load.specs.Loading.{Reading, ReadBy}
+use Rattle.cmd_load.specs.Schedule.{schedule_named}
+use Rattle.cmd_load.specs.Faults.{fault_of_schedule}
+use Rattle.cmd_load.specs.declared.loading.ScheduleFault.{ScheduleFault}
+use Rattle.cmd_load.specs.declared.loading.ScheduleFault.TheVariants as schedule
 use Rattle.cmd_faults.specs.Fault.{done_of}
 use Rattle.cmd_faults.specs.Causes.{OneFailed}
 use Rattle.cmd_faults.proofs.CauseLemmas.{one_alone, other_alone}

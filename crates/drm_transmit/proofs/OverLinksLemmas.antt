@@ -19,10 +19,10 @@ use Rattle.drm_server.specs.Sending.{SendsPart}
 use Rattle.drm_server.specs.Several.{ServedBy, Served}
 use Rattle.cmd_faults.specs.declared.fault.Fault.{Fault}
 use Rattle.cmd_faults.specs.declared.fault.Fault.TheVariants.{Link, Read}
-use Rattle.drm_load.specs.declared.loading.ScheduleFault.{ScheduleFault}
-use Rattle.drm_load.specs.declared.loading.ScheduleFault.TheVariants as schedule
-use Rattle.drm_load.specs.Faults.{fault_of_schedule}
-use Rattle.drm_load.specs.Loading.{Reading, ReadBy}
+use Rattle.cmd_load.specs.declared.loading.ScheduleFault.{ScheduleFault}
+use Rattle.cmd_load.specs.declared.loading.ScheduleFault.TheVariants as schedule
+use Rattle.cmd_load.specs.Faults.{fault_of_schedule}
+use Rattle.cmd_load.specs.Loading.{Reading, ReadBy}
 use Rattle.drm_transmit.specs.ScheduleRun.{EndsBy}
 use Rattle.drm_transmit.specs.Send.{GoFrames}
 use Rattle.drm_transmit.specs.OverLinks.{OverLinks, GoesBy, GoOver, most_calls}

@@ -6,11 +6,11 @@ use Rattle.drm_links.specs.Sink.{Output, Outputs}
 use Rattle.drm_links.proofs.ToldLemmas.{Tells-weaker, counts_one, counts_none, counts_as}
 use Rattle.cmd_faults.specs.declared.fault.Fault.{Fault}
 use Rattle.cmd_faults.specs.declared.fault.Fault.TheVariants.{NoMemory, Words, FacLength, FacOver, FacCrc, Schedule, Script, Capture, CaptureTooLong, PacketSize, Units, Read, Write, Link}
-use Rattle.drm_load.specs.declared.loading.ScheduleFault.{ScheduleFault}
-use Rattle.drm_load.specs.declared.loading.ScheduleFault.TheVariants as schedule
-use Rattle.drm_load.specs.Faults.{fault_of_schedule}
-use Rattle.drm_load.specs.Loading.{Reading, Step, ReadBy}
-use Rattle.drm_load.proofs.LoadingLemmas.{Comes}
+use Rattle.cmd_load.specs.declared.loading.ScheduleFault.{ScheduleFault}
+use Rattle.cmd_load.specs.declared.loading.ScheduleFault.TheVariants as schedule
+use Rattle.cmd_load.specs.Faults.{fault_of_schedule}
+use Rattle.cmd_load.specs.Loading.{Reading, Step, ReadBy}
+use Rattle.cmd_load.proofs.LoadingLemmas.{Comes}
 use Rattle.drm_transmit.specs.ScheduleRun.{WritesCame, EndsBy, ScheduleRun}
 use Rattle.cmd_faults.specs.Fault.{UnlessMemory}
 

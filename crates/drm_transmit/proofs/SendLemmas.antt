@@ -13,12 +13,12 @@ use Rattle.several_links.proofs.OpeningLemmas.{docks_while}
 use Rattle.several_links.proofs.RunLemmas as several
 use Rattle.drm_server.specs.Datagrams.{AreDatagrams, AreBefore}
 use Rattle.drm_server.specs.Laws.{HasOneDelivery, FirstOnesAreFront}
-use Rattle.drm_load.specs.Loading.{Reading}
+use Rattle.cmd_load.specs.Loading.{Reading}
 use Rattle.cmd_faults.specs.declared.fault.Fault.{Fault}
 use Rattle.cmd_faults.specs.declared.fault.Fault.TheVariants as faults
 use Rattle.cmd_faults.proofs.CauseLemmas.{inner_fault}
-use Rattle.drm_load.specs.declared.loading.ScheduleFault.{ScheduleFault}
-use Rattle.drm_load.specs.declared.loading.ScheduleFault.TheVariants as schedule
+use Rattle.cmd_load.specs.declared.loading.ScheduleFault.{ScheduleFault}
+use Rattle.cmd_load.specs.declared.loading.ScheduleFault.TheVariants as schedule
 use Rattle.drm_transmit.specs.ScheduleRun.{EndsBy}
 use Rattle.drm_transmit.specs.Send.{Go, LacksSends, LacksSome, ClosedRun, LinksRun, UnopenedRun, SendRun}
 use Rattle.drm_transmit.proofs.ScheduleRunLemmas.{came_or_memory, ends_memory, ends_exactly}

@@ -6,7 +6,7 @@ use Rattle.drm_links.specs.Sink.{Output, IsFront}
 use Rattle.drm_schedule.specs.declared.plan.Plan.{Plan}
 use Rattle.drm_schedule.specs.Valid.{IsSchedule}
 use Rattle.plan_writer.specs.Canonical.{canonical}
-use Rattle.drm_load.specs.Schedule.{checked}
+use Rattle.cmd_load.specs.Schedule.{checked}
 use Rattle.drm_transmit.specs.ScheduleRun.{ScheduleRun}
 use Rattle.cmd_faults.specs.declared.fault.Fault.{Fault}
 

@@ -12,8 +12,8 @@ use Rattle.drm_schedule.specs.Valid.{IsSchedule}
 use Rattle.drm_timeline.specs.Numbers.{frame_count}
 use Rattle.several_links.specs.Reaching.{GoesOver}
 use Rattle.drm_server.specs.Capture.{IsCapture, IsFrontOfCapture}
-use Rattle.drm_load.specs.Loading.{Reading, ReadBy, given, ◌>>=◌}
-use Rattle.drm_load.specs.Schedule.{schedule_named}
+use Rattle.cmd_load.specs.Loading.{Reading, ReadBy, given, ◌>>=◌}
+use Rattle.cmd_load.specs.Schedule.{schedule_named}
 use Rattle.cmd_faults.specs.Fault.{done_of}
 use Rattle.cmd_faults.specs.declared.fault.Fault.{Fault}
 use Rattle.cmd_faults.specs.declared.fault.Fault.TheVariants as faults

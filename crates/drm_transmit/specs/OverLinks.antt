@@ -10,10 +10,10 @@ use Rattle.drm_schedule.specs.Valid.{IsSchedule}
 use Rattle.several_links.specs.Reaching.{AreUp}
 use Rattle.several_links.specs.declared.member.Member.{Member}
 use Rattle.drm_server.specs.Rests.{calls_of_frame}
-use Rattle.drm_load.specs.Loading.{Reading, ReadBy}
+use Rattle.cmd_load.specs.Loading.{Reading, ReadBy}
 use Rattle.drm_transmit.specs.ScheduleRun.{EndsBy}
 use Rattle.drm_transmit.specs.Send.{Go}
-use Rattle.drm_load.specs.declared.loading.ScheduleFault.{ScheduleFault}
+use Rattle.cmd_load.specs.declared.loading.ScheduleFault.{ScheduleFault}
 use Rattle.cmd_faults.specs.declared.fault.Fault.{Fault}
 use Rattle.cmd_faults.specs.declared.fault.Fault.TheVariants as faults
 

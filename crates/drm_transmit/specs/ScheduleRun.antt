@@ -3,9 +3,9 @@ use Rattle.std.specs.Prelude.{ℕ, ◌≡◌, ◌⊎◌, List, Result, Ok, Err, 
 use Rattle.drm_links.specs.Told.{HasFailed, Known, HasCause}
 use Rattle.drm_links.specs.Shelf.{Files, Supplies}
 use Rattle.drm_links.specs.Sink.{Output, Outputs}
-use Rattle.drm_load.specs.Loading.{Reading, ReadBy}
-use Rattle.drm_load.specs.Faults.{fault_of_schedule}
-use Rattle.drm_load.specs.declared.loading.ScheduleFault.{ScheduleFault}
+use Rattle.cmd_load.specs.Loading.{Reading, ReadBy}
+use Rattle.cmd_load.specs.Faults.{fault_of_schedule}
+use Rattle.cmd_load.specs.declared.loading.ScheduleFault.{ScheduleFault}
 use Rattle.cmd_faults.specs.Fault.{UnlessMemory}
 use Rattle.cmd_faults.specs.declared.fault.Fault.{Fault}
 use Rattle.cmd_faults.specs.declared.fault.Fault.TheVariants.{Read, Write}

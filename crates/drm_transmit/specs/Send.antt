@@ -12,11 +12,11 @@ use Rattle.several_links.specs.Reaching.{ReachesNone, ReachesFew, GoesOver}
 use Rattle.drm_timeline.specs.Numbers.{frame_count}
 use Rattle.drm_server.specs.Datagrams.{AreDatagrams, AreBefore, AreOfFrames}
 use Rattle.drm_server.specs.Rests.{ArePaced}
-use Rattle.drm_load.specs.Loading.{Reading, ReadBy}
+use Rattle.cmd_load.specs.Loading.{Reading, ReadBy}
 use Rattle.drm_transmit.specs.ScheduleRun.{EndsBy}
 use Rattle.cmd_faults.specs.Fault.{UnlessMemory}
 use Rattle.cmd_faults.specs.Causes.{OpeningFailed}
-use Rattle.drm_load.specs.declared.loading.ScheduleFault.{ScheduleFault}
+use Rattle.cmd_load.specs.declared.loading.ScheduleFault.{ScheduleFault}
 use Rattle.cmd_faults.specs.declared.fault.Fault.{Fault}
 use Rattle.cmd_faults.specs.declared.fault.Fault.TheVariants as faults
 

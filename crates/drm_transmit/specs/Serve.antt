@@ -6,7 +6,7 @@ use Rattle.drm_links.specs.Sink.{Output}
 use Rattle.drm_schedule.specs.declared.plan.Plan.{Plan}
 use Rattle.drm_schedule.specs.Valid.{IsSchedule}
 use Rattle.drm_server.specs.Capture.{IsCapture, IsFrontOfCapture}
-use Rattle.drm_load.specs.Schedule.{schedule_named}
+use Rattle.cmd_load.specs.Schedule.{schedule_named}
 use Rattle.drm_transmit.specs.ScheduleRun.{ScheduleRun}
 use Rattle.cmd_faults.specs.declared.fault.Fault.{Fault}
 

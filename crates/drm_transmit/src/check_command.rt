@@ -5,7 +5,7 @@ ghost use Rattle.drm_transmit.specs.Check.{CheckRun};
 
 use cmd_faults::Fault;
 use drm_links::{Shelf, Sink, write_all};
-use drm_load::read_schedule;
+use cmd_load::read_schedule;
 use drm_plan::write_plan;
 use std::alloc::Global;
 

@@ -10,7 +10,7 @@ ghost use Rattle.drm_transmit.specs.OverLiveLinks.{OverLiveLinks};
 
 use cmd_faults::Fault;
 use drm_links::{Addresses, Dock, Link, Shelf, Sink, Source};
-use drm_load::read_schedule;
+use cmd_load::read_schedule;
 use drm_schedule::Live;
 use drm_server::{Server, first_ones_are_front, one_delivery};
 use live_server::{piece_room, serve_live_links, serve_live_sink};

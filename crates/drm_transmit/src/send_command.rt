@@ -4,13 +4,13 @@ ghost use Rattle.std.specs.Prelude.{◌≤◌, length, IsErrOf};
 ghost use Rattle.drm_links.specs.Told.{WhileTold};
 ghost use Rattle.drm_links.specs.Dock.{AreDifferent};
 ghost use Rattle.several_links.specs.Reaching.{AreUp, NothingSent};
-ghost use Rattle.drm_load.specs.Schedule.{schedule_named};
+ghost use Rattle.cmd_load.specs.Schedule.{schedule_named};
 ghost use Rattle.drm_transmit.specs.Send.{SendRun};
 ghost use Rattle.drm_transmit.specs.OverLinks.{OverLinks};
 
 use cmd_faults::Fault;
 use drm_links::{Addresses, Dock, Link, Shelf};
-use drm_load::read_schedule;
+use cmd_load::read_schedule;
 use drm_server::{Server, first_ones_are_front, one_delivery, serve_links};
 use several_links::{Member, ReachFault, all_up, close_each, reach_each};
 use std::alloc::Global;

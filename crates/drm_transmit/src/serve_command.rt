@@ -5,7 +5,7 @@ ghost use Rattle.drm_transmit.specs.Serve.{ServeRun};
 
 use cmd_faults::Fault;
 use drm_links::{Shelf, Sink};
-use drm_load::read_schedule;
+use cmd_load::read_schedule;
 use drm_server::{Server, serve_sink};
 use std::alloc::Global;
 

@@ -20,11 +20,11 @@ use Rattle.plan_rules.specs.Rules.{Fault}
 use Rattle.drm_plan.specs.Text.{draft_of, IsText}
 use Rattle.law_plan.proofs.AttachLaw.{Fills, at_seam, files_come, files_came, fills_fit, fills_same, each_weaker}
 use Rattle.law_plan.proofs.WholeLaw.{came_of, given_by, canonical_is_text}
-use Rattle.drm_load.specs.declared.loading.ScheduleFault.{ScheduleFault}
+use Rattle.cmd_load.specs.declared.loading.ScheduleFault.{ScheduleFault}
 use Rattle.law_load.specs.Again.{HasFiles, HasText, HasAll, NoLoadFails}
-use Rattle.drm_load.specs.Loading.{Step, Reading, given, after, ◌>>=◌, bytes_or_fault, load_for}
-use Rattle.drm_load.specs.Schedule.{longest_text, longest_file, by_lines, by_validity, with_files, schedule_named, checked}
-use Rattle.drm_load.proofs.ScheduleLemmas.{from_draft, from_text}
+use Rattle.cmd_load.specs.Loading.{Step, Reading, given, after, ◌>>=◌, bytes_or_fault, load_for}
+use Rattle.cmd_load.specs.Schedule.{longest_text, longest_file, by_lines, by_validity, with_files, schedule_named, checked}
+use Rattle.cmd_load.proofs.ScheduleLemmas.{from_draft, from_text}
 
 -- ---- one load
 

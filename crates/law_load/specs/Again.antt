@@ -6,7 +6,7 @@ use Rattle.drm_schedule.specs.Valid.{IsSchedule}
 use Rattle.plan_writer.specs.Canonical.{canonical}
 use Rattle.drm_plan.specs.Text.{IsText}
 use Rattle.law_plan.specs.Texts.{EachFile}
-use Rattle.drm_load.specs.Schedule.{longest_text, longest_file, schedule_named, checked}
+use Rattle.cmd_load.specs.Schedule.{longest_text, longest_file, schedule_named, checked}
 
 -- each file of the schedule is on the shelf, under its name, and isn't too long to be loaded
 abbrev pub HasFiles : Files → Plan → Type 0

@@ -3,10 +3,10 @@ use Rattle.std.proofs.lemmas.Result.{err_from_is_err_and}
 use Rattle.plan_writer.specs.Canonical.{canonical}
 use Rattle.drm_links.specs.Sink.{Outputs, IsFront}
 use Rattle.drm_links.proofs.ToldLemmas.{counts_as, counts_none}
-use Rattle.drm_load.specs.Schedule.{checked}
-use Rattle.drm_load.specs.declared.loading.ScheduleFault.TheVariants as schedule
+use Rattle.cmd_load.specs.Schedule.{checked}
+use Rattle.cmd_load.specs.declared.loading.ScheduleFault.TheVariants as schedule
 use Rattle.drm_transmit.specs.Check.{IsCanonical}
-use Rattle.drm_load.proofs.ScheduleLemmas.{checked_fails, checked_unwritten, checked_comes}
+use Rattle.cmd_load.proofs.ScheduleLemmas.{checked_fails, checked_unwritten, checked_comes}
 use Rattle.drm_transmit.proofs.ScheduleRunLemmas.{refused_run, cut_run, whole_run}
 use Rattle.drm_transmit.proofs.check_command.check.Goals as goal
 

@@ -4,8 +4,8 @@ use Rattle.drm_links.proofs.ToldLemmas.{counts_as, counts_none}
 use Rattle.drm_schedule.specs.declared.plan.Plan.{Plan}
 use Rattle.drm_schedule.specs.Valid.{IsSchedule}
 use Rattle.drm_server.specs.Serving.{Serving}
-use Rattle.drm_load.specs.declared.loading.ScheduleFault.TheVariants as schedule
-use Rattle.drm_load.proofs.ScheduleLemmas.{schedule_ran_out}
+use Rattle.cmd_load.specs.declared.loading.ScheduleFault.TheVariants as schedule
+use Rattle.cmd_load.proofs.ScheduleLemmas.{schedule_ran_out}
 use Rattle.live_server.specs.Capture.{WroteLive}
 use Rattle.drm_transmit.proofs.LiveServeLemmas.{live_refused, live_served, served_read}
 use Rattle.drm_transmit.proofs.live_command.serve_live.Goals as goal

@@ -5,7 +5,7 @@ use Rattle.cmd_faults.specs.declared.fault.Fault.TheVariants as faults
 use Rattle.drm_links.specs.Dock.{Over}
 use Rattle.several_links.specs.Reaching.{HaveGone, after_closes}
 use Rattle.several_links.specs.declared.member.Member.{Member}
-use Rattle.drm_load.specs.Schedule.{schedule_named}
+use Rattle.cmd_load.specs.Schedule.{schedule_named}
 use Rattle.drm_transmit.specs.Send.{SendRun}
 use Rattle.drm_transmit.proofs.LinksLemmas.{links_run}
 use Rattle.drm_transmit.proofs.SendLemmas.{closed, unopened, over_links, nothing_sent}

@@ -8,9 +8,9 @@ use Rattle.drm_timeline.specs.Numbers.{frame_count}
 use Rattle.drm_server.specs.Serving.{Serving}
 use Rattle.drm_server.specs.Several.{Served}
 use Rattle.cmd_faults.specs.declared.fault.Fault.TheVariants as faults
-use Rattle.drm_load.specs.declared.loading.ScheduleFault.TheVariants as schedule
-use Rattle.drm_load.proofs.ScheduleLemmas.{schedule_ran_out}
-use Rattle.drm_load.specs.Schedule.{schedule_named}
+use Rattle.cmd_load.specs.declared.loading.ScheduleFault.TheVariants as schedule
+use Rattle.cmd_load.proofs.ScheduleLemmas.{schedule_ran_out}
+use Rattle.cmd_load.specs.Schedule.{schedule_named}
 use Rattle.drm_transmit.proofs.OverLinksLemmas.{unsent, sent_over}
 use Rattle.drm_transmit.proofs.send_command.send_over.Goals as goal
 

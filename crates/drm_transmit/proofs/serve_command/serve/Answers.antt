@@ -6,9 +6,9 @@ use Rattle.drm_schedule.specs.declared.plan.Plan.{Plan}
 use Rattle.drm_schedule.specs.Valid.{IsSchedule}
 use Rattle.drm_server.specs.Capture.{IsCapture, IsFrontOfCapture}
 use Rattle.drm_server.specs.Serving.{Serving}
-use Rattle.drm_load.specs.declared.loading.ScheduleFault.TheVariants as schedule
-use Rattle.drm_load.specs.Schedule.{schedule_named}
-use Rattle.drm_load.proofs.ScheduleLemmas.{schedule_ran_out}
+use Rattle.cmd_load.specs.declared.loading.ScheduleFault.TheVariants as schedule
+use Rattle.cmd_load.specs.Schedule.{schedule_named}
+use Rattle.cmd_load.proofs.ScheduleLemmas.{schedule_ran_out}
 use Rattle.drm_transmit.proofs.ScheduleRunLemmas.{refused_run, cut_run, whole_run}
 use Rattle.drm_transmit.proofs.serve_command.serve.Goals as goal
 

@@ -2,8 +2,8 @@
 
 ghost use Rattle.std.specs.Prelude.{◌≡◌, length};
 ghost use Rattle.drm_links.specs.Told.{HasCause};
-ghost use Rattle.drm_load.specs.Loading.{ReadBy, GivesUnlessMemory};
-ghost use Rattle.drm_load.specs.Schedule.{by_lines, with_files, by_validity, schedule_named};
+ghost use Rattle.cmd_load.specs.Loading.{ReadBy, GivesUnlessMemory};
+ghost use Rattle.cmd_load.specs.Schedule.{by_lines, with_files, by_validity, schedule_named};
 ghost use Rattle.drm_plan.specs.Draft.{valid_of};
 ghost use Rattle.drm_plan.specs.Text.{draft_of};
 
@@ -18,7 +18,7 @@ const LONGEST_FILE: usize = 4_194_304;
 
 impl From<PlanFault> for ScheduleFault {
     ghost use Rattle.std.specs.Prelude.{◌≡◌};
-    ghost use Rattle.drm_load.specs.PlanFaults.{schedule_fault_of};
+    ghost use Rattle.cmd_load.specs.PlanFaults.{schedule_fault_of};
 
     ghost from_gives = { λ refused fault. fault ≡ schedule_fault_of refused };
 

@@ -1,8 +1,8 @@
 -- The fault of a run that a fault of a schedule or of a script becomes.
 use Rattle.cmd_faults.specs.declared.fault.Fault.{Fault}
 use Rattle.cmd_faults.specs.declared.fault.Fault.TheVariants.{NoMemory, Schedule, Script, Read}
-use Rattle.drm_load.specs.declared.loading.ScheduleFault.{ScheduleFault}
-use Rattle.drm_load.specs.declared.loading.ScheduleFault.TheVariants as schedule
+use Rattle.cmd_load.specs.declared.loading.ScheduleFault.{ScheduleFault}
+use Rattle.cmd_load.specs.declared.loading.ScheduleFault.TheVariants as schedule
 
 abbrev pub fault_of_schedule : ScheduleFault → Fault
 fault_of_schedule schedule.NoMemory = NoMemory

@@ -12,12 +12,12 @@ use Rattle.drm_plan.specs.Draft.{name_at, line_at, attached, valid_of}
 use Rattle.drm_links.specs.Told.{Known}
 use Rattle.drm_links.specs.Shelf.{Files, Supplies}
 use Rattle.drm_links.proofs.ToldLemmas.{Tells-weaker}
-use Rattle.drm_load.specs.declared.loading.ScheduleFault.{ScheduleFault}
-use Rattle.drm_load.specs.declared.loading.ScheduleFault.TheVariants.{NoMemory}
-use Rattle.drm_load.specs.Loading.{Reading, given, ◌>>=◌, load_for, ReadBy, GivesUnlessMemory}
-use Rattle.drm_load.specs.PlanFaults.{schedule_fault_of}
-use Rattle.drm_load.specs.Schedule.{longest_text, longest_file, by_lines, by_validity, with_files, schedule_named, checked}
-use Rattle.drm_load.proofs.LoadingLemmas.{LoadsOnly, given_only, load_only, then_only, Reached, ReadBy-then, ReadBy-stops, ReadBy-rest, rest_after, nothing_left, ReadBy-gives, ReadBy-given, ran_out}
+use Rattle.cmd_load.specs.declared.loading.ScheduleFault.{ScheduleFault}
+use Rattle.cmd_load.specs.declared.loading.ScheduleFault.TheVariants.{NoMemory}
+use Rattle.cmd_load.specs.Loading.{Reading, given, ◌>>=◌, load_for, ReadBy, GivesUnlessMemory}
+use Rattle.cmd_load.specs.PlanFaults.{schedule_fault_of}
+use Rattle.cmd_load.specs.Schedule.{longest_text, longest_file, by_lines, by_validity, with_files, schedule_named, checked}
+use Rattle.cmd_load.proofs.LoadingLemmas.{LoadsOnly, given_only, load_only, then_only, Reached, ReadBy-then, ReadBy-stops, ReadBy-rest, rest_after, nothing_left, ReadBy-gives, ReadBy-given, ran_out}
 
 -- ---- what a text gives
 

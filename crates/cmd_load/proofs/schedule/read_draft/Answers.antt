@@ -1,8 +1,8 @@
 use Rattle.std.proofs.Common.{◌∙◌, ap, Ok, Err}
 use Rattle.std.proofs.lemmas.Result.{err_from_is_err_and}
 use Rattle.drm_plan.specs.Text.{draft_of}
-use Rattle.drm_load.proofs.ScheduleLemmas.{draft_given}
-use Rattle.drm_load.proofs.schedule.read_draft.Goals as goal
+use Rattle.cmd_load.proofs.ScheduleLemmas.{draft_given}
+use Rattle.cmd_load.proofs.schedule.read_draft.Goals as goal
 
 pub returns-in_err-read_plan-clause-gives : goal.returns-in_err-read_plan-clause-gives
 returns-in_err-read_plan-clause-gives c =

@@ -8,9 +8,9 @@ use Rattle.drm_plan.specs.Projection.{Drafted}
 use Rattle.drm_plan.specs.Text.{draft_of}
 use Rattle.plan_writer.specs.Canonical.{canonical}
 use Rattle.drm_plan.specs.Draft.{name_at, line_at, attached, valid_of}
-use Rattle.drm_load.specs.declared.loading.ScheduleFault.{ScheduleFault}
-use Rattle.drm_load.specs.declared.loading.ScheduleFault.TheVariants.{NoMemory, Line}
-use Rattle.drm_load.specs.Loading.{Reading, given, ◌>>=◌, load_for}
+use Rattle.cmd_load.specs.declared.loading.ScheduleFault.{ScheduleFault}
+use Rattle.cmd_load.specs.declared.loading.ScheduleFault.TheVariants.{NoMemory, Line}
+use Rattle.cmd_load.specs.Loading.{Reading, given, ◌>>=◌, load_for}
 
 -- the most bytes of a schedule's text, and of a file that it names
 abbrev pub longest_text : ℕ

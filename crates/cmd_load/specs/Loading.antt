@@ -5,8 +5,8 @@ use Rattle.drm_links.specs.Told.{Known}
 use Rattle.drm_links.specs.declared.shelf.Loaded.{Loaded}
 use Rattle.drm_links.specs.declared.shelf.Loaded.TheVariants as loads
 use Rattle.drm_links.specs.Shelf.{Files, Supplies, load_of, after_loads}
-use Rattle.drm_load.specs.declared.loading.ScheduleFault.{ScheduleFault}
-use Rattle.drm_load.specs.declared.loading.ScheduleFault.TheVariants.{NoMemory, Line, Read}
+use Rattle.cmd_load.specs.declared.loading.ScheduleFault.{ScheduleFault}
+use Rattle.cmd_load.specs.declared.loading.ScheduleFault.TheVariants.{NoMemory, Line, Read}
 
 -- what came of the loads, and what the shelf tells after them
 pub record Step (T : Type 0) : Type 0 where

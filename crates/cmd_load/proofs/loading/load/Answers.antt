@@ -1,6 +1,6 @@
 use Rattle.drm_links.specs.declared.shelf.Loaded.TheVariants as loads
-use Rattle.drm_load.proofs.LoadingLemmas.{ReadBy-load}
-use Rattle.drm_load.proofs.loading.load.Goals as goal
+use Rattle.cmd_load.proofs.LoadingLemmas.{ReadBy-load}
+use Rattle.cmd_load.proofs.loading.load.Goals as goal
 
 pub returns-in-Bytes-clause-reads : goal.returns-in-Bytes-clause-reads
 returns-in-Bytes-clause-reads g c =

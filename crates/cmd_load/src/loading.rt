@@ -2,7 +2,7 @@
 
 ghost use Rattle.std.specs.Prelude.{◌≡◌, ◌≤◌, IfOk, length};
 ghost use Rattle.drm_links.specs.Told.{HasCause};
-ghost use Rattle.drm_load.specs.Loading.{load_for, ReadBy};
+ghost use Rattle.cmd_load.specs.Loading.{load_for, ReadBy};
 
 use drm_bits::Octets;
 use cmd_faults::Fault;
@@ -22,7 +22,7 @@ pub enum ScheduleFault {
 
 impl From<ScheduleFault> for Fault {
     ghost use Rattle.std.specs.Prelude.{◌≡◌};
-    ghost use Rattle.drm_load.specs.Faults.{fault_of_schedule};
+    ghost use Rattle.cmd_load.specs.Faults.{fault_of_schedule};
 
     ghost from_gives = { λ refused fault. fault ≡ fault_of_schedule refused };
 

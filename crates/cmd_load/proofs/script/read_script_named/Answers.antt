@@ -1,7 +1,7 @@
 use Rattle.std.proofs.Common.{◌∙◌, ap, Ok, Err}
 use Rattle.std.proofs.lemmas.Result.{err_from_is_err_and}
-use Rattle.drm_load.proofs.ScriptLemmas.{script_comes}
-use Rattle.drm_load.proofs.script.read_script_named.Goals as goal
+use Rattle.cmd_load.proofs.ScriptLemmas.{script_comes}
+use Rattle.cmd_load.proofs.script.read_script_named.Goals as goal
 
 pub returns-in_err-read_script-clause-reads : goal.returns-in_err-read_script-clause-reads
 returns-in_err-read_script-clause-reads g c =

@@ -8,9 +8,9 @@ use Rattle.drm_links.specs.Told.{Known, WhileTold, CountsCall}
 use Rattle.drm_links.specs.Shelf.{Files, Supplies, Loads, KeepsFiles, load_of, file_at, within, names_after, after_load, after_loads}
 use Rattle.drm_links.proofs.ToldLemmas.{Tells-nothing, Tells-then, Tells-weaker, Supplies-load}
 use Rattle.drm_links.proofs.LoadLemmas.{Loads-is}
-use Rattle.drm_load.specs.declared.loading.ScheduleFault.{ScheduleFault}
-use Rattle.drm_load.specs.declared.loading.ScheduleFault.TheVariants.{NoMemory}
-use Rattle.drm_load.specs.Loading.{Step, Reading, given, after, ◌>>=◌, bytes_or_fault, load_for, MadeSome, ReadBy, GivesUnlessMemory}
+use Rattle.cmd_load.specs.declared.loading.ScheduleFault.{ScheduleFault}
+use Rattle.cmd_load.specs.declared.loading.ScheduleFault.TheVariants.{NoMemory}
+use Rattle.cmd_load.specs.Loading.{Step, Reading, given, after, ◌>>=◌, bytes_or_fault, load_for, MadeSome, ReadBy, GivesUnlessMemory}
 
 -- ---- a reading makes loads, and the shelf tells nothing else anew
 

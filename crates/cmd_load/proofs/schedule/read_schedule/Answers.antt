@@ -1,7 +1,7 @@
 use Rattle.std.proofs.Common.{◌∙◌, ap, Err}
 use Rattle.std.proofs.lemmas.Result.{err_from_is_err_and}
-use Rattle.drm_load.proofs.ScheduleLemmas.{text_fails, draft_fails, files_break}
-use Rattle.drm_load.proofs.schedule.read_schedule.Goals as goal
+use Rattle.cmd_load.proofs.ScheduleLemmas.{text_fails, draft_fails, files_break}
+use Rattle.cmd_load.proofs.schedule.read_schedule.Goals as goal
 
 pub returns-in_err-text-clause-reads : goal.returns-in_err-text-clause-reads
 returns-in_err-text-clause-reads g c =

@@ -1,8 +1,8 @@
 use Rattle.std.proofs.Common.{◌≡◌, ◌-◌, length}
 use Rattle.drm_links.specs.Shelf.{Supplies}
-use Rattle.drm_load.specs.Schedule.{with_files}
-use Rattle.drm_load.proofs.LoadingLemmas.{Reached}
-use Rattle.drm_load.proofs.schedule.read_files.Given as goal
+use Rattle.cmd_load.specs.Schedule.{with_files}
+use Rattle.cmd_load.proofs.LoadingLemmas.{Reached}
+use Rattle.cmd_load.proofs.schedule.read_files.Given as goal
 
 -- what comes from here on is what comes from the start
 abbrev pub invariant-loop-k : goal.invariant-loop-k

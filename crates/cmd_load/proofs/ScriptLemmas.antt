@@ -8,15 +8,15 @@ use Rattle.plan_script.specs.Script.{Fault, script_of_text}
 use Rattle.plan_script.specs.Steps.{Reads}
 use Rattle.drm_links.specs.Told.{Known}
 use Rattle.drm_links.specs.Shelf.{Files}
-use Rattle.drm_load.specs.declared.loading.ScheduleFault.{ScheduleFault}
-use Rattle.drm_load.specs.declared.loading.ScheduleFault.TheVariants.{NoMemory, Line, Read}
+use Rattle.cmd_load.specs.declared.loading.ScheduleFault.{ScheduleFault}
+use Rattle.cmd_load.specs.declared.loading.ScheduleFault.TheVariants.{NoMemory, Line, Read}
 use Rattle.cmd_faults.specs.declared.fault.Fault.TheVariants as faults
-use Rattle.drm_load.specs.Faults.{fault_of_schedule, fault_of_script}
-use Rattle.drm_load.specs.Loading.{given, load_for, ReadBy, GivesUnlessMemory}
-use Rattle.drm_load.specs.Schedule.{longest_text}
-use Rattle.drm_load.specs.ScriptFaults.{text_fault_of}
-use Rattle.drm_load.specs.Scripts.{by_script, script_in, script_named}
-use Rattle.drm_load.proofs.LoadingLemmas.{LoadsOnly, given_only, load_only, then_only, ReadBy-then, ReadBy-gives}
+use Rattle.cmd_load.specs.Faults.{fault_of_schedule, fault_of_script}
+use Rattle.cmd_load.specs.Loading.{given, load_for, ReadBy, GivesUnlessMemory}
+use Rattle.cmd_load.specs.Schedule.{longest_text}
+use Rattle.cmd_load.specs.ScriptFaults.{text_fault_of}
+use Rattle.cmd_load.specs.Scripts.{by_script, script_in, script_named}
+use Rattle.cmd_load.proofs.LoadingLemmas.{LoadsOnly, given_only, load_only, then_only, ReadBy-then, ReadBy-gives}
 
 abbrev pub lifted : {T : Type 0} → Result T ScriptFault → Result T ScheduleFault
 lifted (Ok x) = Ok x

@@ -3,10 +3,10 @@ use Rattle.std.specs.Prelude.{ℕ, List, Result, Ok, Err}
 use Rattle.drm_schedule.specs.declared.plan.Plan.{Plan}
 use Rattle.plan_script.specs.declared.delivery.Delivery.{Delivery}
 use Rattle.plan_script.specs.Script.{Fault, script_of_text}
-use Rattle.drm_load.specs.declared.loading.ScheduleFault.{ScheduleFault}
-use Rattle.drm_load.specs.declared.loading.ScheduleFault.TheVariants.{Line}
-use Rattle.drm_load.specs.Loading.{Reading, given, ◌>>=◌, load_for}
-use Rattle.drm_load.specs.Schedule.{longest_text}
+use Rattle.cmd_load.specs.declared.loading.ScheduleFault.{ScheduleFault}
+use Rattle.cmd_load.specs.declared.loading.ScheduleFault.TheVariants.{Line}
+use Rattle.cmd_load.specs.Loading.{Reading, given, ◌>>=◌, load_for}
+use Rattle.cmd_load.specs.Schedule.{longest_text}
 
 -- what a text gives, or the line that is wrong
 abbrev pub by_script : Result (List (List Delivery)) Fault → Result (List (List Delivery)) ScheduleFault

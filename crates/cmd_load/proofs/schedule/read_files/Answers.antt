@@ -1,8 +1,8 @@
 use Rattle.std.proofs.Common.{◌∙◌, ap, length, Err}
 use Rattle.std.proofs.lemmas.Result.{err_from_is_err_and}
-use Rattle.drm_load.specs.Schedule.{with_files}
-use Rattle.drm_load.proofs.ScheduleLemmas.{files_next, files_fail}
-use Rattle.drm_load.proofs.schedule.read_files.Goals as goal
+use Rattle.cmd_load.specs.Schedule.{with_files}
+use Rattle.cmd_load.proofs.ScheduleLemmas.{files_next, files_fail}
+use Rattle.cmd_load.proofs.schedule.read_files.Goals as goal
 
 pub returns-in_err-bytes-clause-reads : goal.returns-in_err-bytes-clause-reads
 returns-in_err-bytes-clause-reads g c =

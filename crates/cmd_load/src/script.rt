@@ -3,9 +3,9 @@
 ghost use Rattle.std.specs.Prelude.{◌≡◌, Err, IfOk};
 ghost use Rattle.drm_links.specs.Told.{HasCause};
 ghost use Rattle.plan_script.specs.Script.{IsScript};
-ghost use Rattle.drm_load.specs.Loading.{ReadBy};
-ghost use Rattle.drm_load.specs.Scripts.{script_named};
-ghost use Rattle.drm_load.specs.Faults.{fault_of_script};
+ghost use Rattle.cmd_load.specs.Loading.{ReadBy};
+ghost use Rattle.cmd_load.specs.Scripts.{script_named};
+ghost use Rattle.cmd_load.specs.Faults.{fault_of_script};
 
 use crate::loading::{ScheduleFault, load};
 use cmd_faults::Fault;
@@ -17,7 +17,7 @@ use text_lines::LONGEST_TEXT;
 
 impl From<ScriptFault> for ScheduleFault {
     ghost use Rattle.std.specs.Prelude.{◌≡◌};
-    ghost use Rattle.drm_load.specs.ScriptFaults.{text_fault_of};
+    ghost use Rattle.cmd_load.specs.ScriptFaults.{text_fault_of};
 
     ghost from_gives = { λ refused fault. fault ≡ text_fault_of refused };
 
