@@ -3,8 +3,8 @@ use Rattle.std.specs.Prelude.{ℕ, ◌≡◌, ◌⊎◌, Bool, true, false, IsTr
 use Rattle.drm_links.specs.Told.{Known}
 use Rattle.drm_links.specs.Sink.{Output}
 use Rattle.drm_links.specs.declared.dock.Address.{Address}
-use Rattle.drm_inspect.specs.Fac.{FacRun}
-use Rattle.drm_inspect.specs.Show.{ShowRun}
+use Rattle.cmd_show.specs.Fac.{FacRun}
+use Rattle.cmd_show.specs.Show.{ShowRun}
 use Rattle.drm_transmit.specs.Check.{CheckRun}
 use Rattle.drm_transmit.specs.Serve.{ServeRun}
 use Rattle.drm_transmit.specs.Send.{SendRun}

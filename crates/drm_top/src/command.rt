@@ -20,7 +20,7 @@ use drm_convert::convert;
 use drm_count::{count, count_capture};
 use drm_exercise::exercise;
 use cmd_faults::Fault;
-use drm_inspect::{fac, show};
+use cmd_show::{fac, show};
 use drm_links::{Dock, Link, Shelf, Sink, Source, Status};
 use drm_receive::{receive, receive_from_capture};
 use drm_transmit::{check, send, send_live, serve, serve_live};

@@ -1,7 +1,7 @@
 use Rattle.std.proofs.Common.{◌≡◌, ◌++◌, ◌≤◌, ◌-◌, length, take}
 use Rattle.drm_links.specs.Source.{Inputs}
-use Rattle.drm_inspect.specs.Input.{AsksAtMost}
-use Rattle.drm_inspect.proofs.head.read_head.Given as goal
+use Rattle.cmd_show.specs.Input.{AsksAtMost}
+use Rattle.cmd_show.proofs.head.read_head.Given as goal
 
 -- the bytes read so far stand in front of those left
 abbrev pub invariant-loop-len : goal.invariant-loop-len

@@ -1,7 +1,7 @@
 use Rattle.std.proofs.Common.{◌≡◌, ◌-◌, ◌≤◌}
 use Rattle.capture_reader.specs.Capture.{most_bytes}
-use Rattle.drm_inspect.proofs.ShowLemmas.{HasShown}
-use Rattle.drm_inspect.proofs.show_command.show.Given as goal
+use Rattle.cmd_show.proofs.ShowLemmas.{HasShown}
+use Rattle.cmd_show.proofs.show_command.show.Given as goal
 
 -- so many packets were read and shown
 abbrev pub invariant-loop-lines : goal.invariant-loop-lines

@@ -2,7 +2,7 @@
 
 ghost use Rattle.std.specs.Prelude.{ℕ, ◌≡◌, IfOk, OnErr, IsErr, length};
 ghost use Rattle.drm_links.specs.Told.{HasCause};
-ghost use Rattle.drm_inspect.specs.Input.{ReadsHead, FailsWithin};
+ghost use Rattle.cmd_show.specs.Input.{ReadsHead, FailsWithin};
 
 use cmd_faults::Fault;
 use drm_links::{ReadOut, Source};

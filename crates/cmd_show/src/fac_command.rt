@@ -3,7 +3,7 @@
 ghost use Rattle.std.specs.Prelude.{◌≡◌, IfOk, IsErrOf};
 ghost use Rattle.drm_links.specs.Told.{HasCause};
 ghost use Rattle.drm_fac.specs.Fac.{FacFits};
-ghost use Rattle.drm_inspect.specs.Fac.{Reads, FacRun};
+ghost use Rattle.cmd_show.specs.Fac.{Reads, FacRun};
 
 use crate::head::read_head;
 use drm_fac::{Fac, decode};

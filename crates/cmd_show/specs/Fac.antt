@@ -6,7 +6,7 @@ use Rattle.drm_fac.specs.Fault.{IsCrcFault}
 use Rattle.drm_links.specs.Told.{HasFailed, Known, HasCause}
 use Rattle.drm_links.specs.Source.{Input, Inputs}
 use Rattle.drm_links.specs.Sink.{Output, Outputs, IsFront}
-use Rattle.drm_inspect.specs.Input.{ReadsHead, FailsWithin}
+use Rattle.cmd_show.specs.Input.{ReadsHead, FailsWithin}
 use Rattle.report_text.specs.FacLine.{fac_line}
 use Rattle.cmd_faults.specs.Fault.{status_of}
 use Rattle.cmd_faults.specs.declared.fault.Fault.{Fault}

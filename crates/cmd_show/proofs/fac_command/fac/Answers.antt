@@ -1,7 +1,7 @@
 use Rattle.std.proofs.Common.{◌∙◌, ap, Err, refl}
 use Rattle.std.proofs.lemmas.Result.{err_from_is_err_and}
-use Rattle.drm_inspect.proofs.FacLemmas.{run_stopped, run_cut, run_done, run_ends}
-use Rattle.drm_inspect.proofs.fac_command.fac.Goals as goal
+use Rattle.cmd_show.proofs.FacLemmas.{run_stopped, run_cut, run_done, run_ends}
+use Rattle.cmd_show.proofs.fac_command.fac.Goals as goal
 
 pub returns-in_err-fac : goal.returns-in_err-fac
 returns-in_err-fac g c =

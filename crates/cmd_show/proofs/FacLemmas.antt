@@ -12,10 +12,10 @@ use Rattle.drm_links.specs.Sink.{Output, Outputs, IsFront}
 use Rattle.drm_links.proofs.ToldLemmas.{counts_as, counts_none, counts_one, Inputs-weaker}
 use Rattle.cmd_faults.specs.declared.fault.Fault.{Fault}
 use Rattle.cmd_faults.specs.declared.fault.Fault.TheVariants.{NoMemory, Words, FacLength, FacOver, FacCrc, Schedule, Script, Capture, CaptureTooLong, PacketSize, Units, Read, Write, Link}
-use Rattle.drm_inspect.specs.Input.{ReadsHead, FailsWithin}
+use Rattle.cmd_show.specs.Input.{ReadsHead, FailsWithin}
 use Rattle.report_text.specs.FacLine.{fac_line}
 use Rattle.cmd_faults.specs.Fault.{status_of}
-use Rattle.drm_inspect.specs.Fac.{ComesTo, Reads, WritesCame, FacRun}
+use Rattle.cmd_show.specs.Fac.{ComesTo, Reads, WritesCame, FacRun}
 
 -- bytes come to one FAC or one fault
 pub comes_once : (bytes : List ℕ) (v w : Result Fac Fault) → ComesTo bytes v → ComesTo bytes w → v ≡ w

@@ -27,7 +27,7 @@ use Rattle.cmd_faults.specs.declared.fault.Fault.{Fault}
 use Rattle.cmd_faults.specs.declared.fault.Fault.TheVariants as faults
 use Rattle.cmd_faults.specs.Captures.{EndsEarly, stop_fault}
 use Rattle.cmd_faults.proofs.CauseLemmas.{inner_fault}
-use Rattle.drm_inspect.specs.Show.{PacketText, AreTexts, all_texts, capture_text, are_clean, IsShown, Ends, IsWholeText, IsFrontOfText, IsSound, EndsByIt, ShowRun}
+use Rattle.cmd_show.specs.Show.{PacketText, AreTexts, all_texts, capture_text, are_clean, IsShown, Ends, IsWholeText, IsFrontOfText, IsSound, EndsByIt, ShowRun}
 
 -- ---- texts one after another
 

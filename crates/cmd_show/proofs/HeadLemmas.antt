@@ -8,7 +8,7 @@ use Rattle.drm_links.specs.declared.source.ReadOut.TheVariants.{Got, End}
 use Rattle.drm_links.specs.Told.{Known, WhileTold, CountsCall, CountsTold, ToldThrough}
 use Rattle.drm_links.specs.Source.{Input, Inputs, Takes}
 use Rattle.drm_links.proofs.ToldLemmas.{Inputs-then, Inputs-got, Inputs-end, Inputs-weaker, Tells-weaker}
-use Rattle.drm_inspect.specs.Input.{ReadsHead, AsksAtMost, AskedAtMost}
+use Rattle.cmd_show.specs.Input.{ReadsHead, AsksAtMost, AskedAtMost}
 
 -- the front of a buffer after one more read
 front_more : (len n room : ℕ) (bytes buf : List ℕ) → length bytes ≡ len + room → n ≤ length buf → take (len + n) (put_mid len room bytes buf) ≡ take len bytes ++ take n buf

@@ -2,7 +2,7 @@
 
 ghost use Rattle.report_dump.specs.Content.{Begins};
 ghost use Rattle.report_dump.specs.Shown.{Shows};
-ghost use Rattle.drm_inspect.specs.Show.{ShowRun};
+ghost use Rattle.cmd_show.specs.Show.{ShowRun};
 
 use capture_reader::{Packet, Packets, read_one_way};
 use cmd_faults::Fault;

@@ -2,9 +2,9 @@ use Rattle.std.proofs.Common.{◌≡◌, ◌≤◌, length, ◌+◌, ◌-◌, ta
 use Rattle.std.proofs.lemmas.Grind.{common_steps}
 use Rattle.std.proofs.lemmas.Slice.{take-put_mid_below}
 use borrow.Rule.Slice.PartMut.{put_mid}
-use Rattle.drm_inspect.proofs.HeadLemmas.{got_more, asks_more, head_full, head_end}
-use Rattle.drm_inspect.proofs.head.read_head.Goals as goal
-use Rattle.drm_inspect.proofs.head.read_head.Goals.{else-loop-len-test, then-loop-len-test+in-End}
+use Rattle.cmd_show.proofs.HeadLemmas.{got_more, asks_more, head_full, head_end}
+use Rattle.cmd_show.proofs.head.read_head.Goals as goal
+use Rattle.cmd_show.proofs.head.read_head.Goals.{else-loop-len-test, then-loop-len-test+in-End}
 
 pub loop-len-preserved : goal.loop-len-preserved
 loop-len-preserved g c =

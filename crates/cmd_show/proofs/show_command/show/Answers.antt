@@ -6,8 +6,8 @@ use Rattle.drm_links.proofs.WritingLemmas.{Writes-done, Writes-front}
 use Rattle.capture_reader.proofs.FrontLaws.{packet_size}
 use Rattle.cmd_faults.specs.declared.fault.Fault.TheVariants as faults
 use Rattle.cmd_faults.specs.Captures.{stop_fault}
-use Rattle.drm_inspect.proofs.ShowLemmas.{HasShown, shown_none, still_shown, shows_next, shown_more, stopped, cut, done, cut_end, show_run, memory_run, not_stopped, early, stop_early, stop_no_memory, stop_no_write, stopped_counts, found_counts, write_no_memory, write_no_read, was_shown, not_shown, failed}
-use Rattle.drm_inspect.proofs.show_command.show.Goals as goal
+use Rattle.cmd_show.proofs.ShowLemmas.{HasShown, shown_none, still_shown, shows_next, shown_more, stopped, cut, done, cut_end, show_run, memory_run, not_stopped, early, stop_early, stop_no_memory, stop_no_write, stopped_counts, found_counts, write_no_memory, write_no_read, was_shown, not_shown, failed}
+use Rattle.cmd_show.proofs.show_command.show.Goals as goal
 
 pub returns-in_err-packets : goal.returns-in_err-packets
 returns-in_err-packets g c =
