@@ -5,10 +5,10 @@ use Rattle.drm_links.specs.Sink.{Output}
 use Rattle.drm_links.specs.declared.dock.Address.{Address}
 use Rattle.cmd_show.specs.Fac.{FacRun}
 use Rattle.cmd_show.specs.Show.{ShowRun}
-use Rattle.drm_transmit.specs.Check.{CheckRun}
-use Rattle.drm_transmit.specs.Serve.{ServeRun}
-use Rattle.drm_transmit.specs.Send.{SendRun}
-use Rattle.drm_transmit.specs.Live.{LiveServeRun, LiveSendRun}
+use Rattle.cmd_serve.specs.Check.{CheckRun}
+use Rattle.cmd_serve.specs.Serve.{ServeRun}
+use Rattle.cmd_serve.specs.Send.{SendRun}
+use Rattle.cmd_serve.specs.Live.{LiveServeRun, LiveSendRun}
 use Rattle.cmd_load.specs.Schedule.{schedule_named}
 use Rattle.drm_schedule.specs.declared.live.Live.{Live}
 use Rattle.drm_schedule.specs.Live.{is_any}

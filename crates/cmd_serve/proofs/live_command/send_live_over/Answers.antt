@@ -1,0 +1,60 @@
+use Rattle.std.proofs.Common.{◌≡◌, ◌*◌, ◌∙◌, ap, subst, Err}
+use Rattle.std.proofs.lemmas.Result.{err_from_is_err_and}
+use Rattle.drm_links.proofs.ToldLemmas.{counts_as, counts_none}
+use Rattle.drm_schedule.specs.declared.plan.Plan.{Plan}
+use Rattle.drm_schedule.specs.Valid.{IsSchedule}
+use Rattle.drm_server.specs.Serving.{Serving}
+use Rattle.cmd_load.specs.declared.loading.ScheduleFault.TheVariants as schedule
+use Rattle.cmd_load.proofs.ScheduleLemmas.{schedule_ran_out}
+use Rattle.live_server.specs.Links.{ServedLive}
+use Rattle.cmd_serve.proofs.LiveOverLemmas.{live_unsent, live_up, live_down}
+use Rattle.cmd_serve.proofs.live_command.send_live_over.Goals as goal
+
+pub returns-in_err-schedule-clause-run : goal.returns-in_err-schedule-clause-run
+returns-in_err-schedule-clause-run g c =
+    let p = err_from_is_err_and c.from_residual.result c.from_residual.ensures.1 in
+    rw (p.1 ∙ ap Err p.2)
+    (live_unsent c.args.name.now c.args.pace c.args.from c.args.live.now g.S.Shelf.known c.args.shelf.now c.read_schedule.new.shelf g.L.Link.known c.args.members.now c.in_err-schedule.field-0.0 (g.I.Source.known c.args.input.now) c.requires.up
+    c.in_err-schedule.ensures.reads (counts_as (λ is. ap Err is) (λ is. cc) c.in_err-schedule.ensures.cause))
+
+pub returns-in_err-server-clause-run : goal.returns-in_err-server-clause-run
+returns-in_err-server-clause-run g c =
+    let p = err_from_is_err_and c.from_residual-in_err-server.result c.from_residual-in_err-server.ensures.1 in
+    rw (p.1 ∙ ap Err p.2)
+    (live_unsent c.args.name.now c.args.pace c.args.from c.args.live.now g.S.Shelf.known c.args.shelf.now c.read_schedule.new.shelf g.L.Link.known c.args.members.now schedule.NoMemory (g.I.Source.known c.args.input.now) c.requires.up
+    (schedule_ran_out c.args.name.now c.in_ok-schedule.schedule (g.S.Shelf.known c.args.shelf.now) (g.S.Shelf.known c.read_schedule.new.shelf) c.in_ok-schedule.ensures.reads) (counts_none (λ is. cc) (c.in_ok-schedule.ensures.cause.same (λ is. cc))))
+
+pub returns-in_err-room-clause-run : goal.returns-in_err-room-clause-run
+returns-in_err-room-clause-run g c =
+    let p = err_from_is_err_and c.from_residual-in_err-room.result c.from_residual-in_err-room.ensures.1 in
+    rw (p.1 ∙ ap Err p.2)
+    (live_unsent c.args.name.now c.args.pace c.args.from c.args.live.now g.S.Shelf.known c.args.shelf.now c.read_schedule.new.shelf g.L.Link.known c.args.members.now schedule.NoMemory (g.I.Source.known c.args.input.now) c.requires.up
+    (schedule_ran_out c.args.name.now c.in_ok-schedule.schedule (g.S.Shelf.known c.args.shelf.now) (g.S.Shelf.known c.read_schedule.new.shelf) c.in_ok-schedule.ensures.reads) (counts_none (λ is. cc) (c.in_ok-schedule.ensures.cause.same (λ is. cc))))
+
+pub returns-then-all_up-clause-run : goal.returns-then-all_up-clause-run
+returns-then-all_up-clause-run g c =
+    let plan : Plan = c.in_ok-schedule.schedule in
+    let same : c.in_ok-server.server.base ≡ plan = ap (λ (s : Serving). s.base) c.in_ok-server.ensures in
+    let valid : IsSchedule plan = rw (← c.schedule.view_is) c.schedule.invariant in
+    let members = c.args.members.now in
+    let after = c.serve_live_links-sent.new.members in
+    let a = g.I.Source.known c.args.input.now in
+    let b = g.I.Source.known c.serve_live_links-sent.new.input in
+    live_up c.args.name.now c.args.pace c.args.from c.args.live.now g.S.Shelf.known c.args.shelf.now c.read_schedule.new.shelf g.L.Link.known members c.input_makes_a_schedule.ensures plan valid
+    c.in_ok-schedule.ensures.reads (c.in_ok-schedule.ensures.cause.same (λ is. cc)) after c.serve_live_links-sent.ensures.many a b c.serve_live_links-sent.result c.requires.some (c.all_up.ensures.0 c.if-all_up.true)
+    c.serve_live_links-sent.ensures.fault c.serve_live_links-sent.ensures.cause
+    (subst (λ p. ServedLive c.args.live.now p (3 * c.args.from) c.args.pace c.serve_live_links-sent.result a b g.L.Link.known members after) same c.serve_live_links-sent.ensures.served)
+
+pub returns-clause-run : goal.returns-clause-run
+returns-clause-run g c =
+    let plan : Plan = c.in_ok-schedule.schedule in
+    let same : c.in_ok-server.server.base ≡ plan = ap (λ (s : Serving). s.base) c.in_ok-server.ensures in
+    let valid : IsSchedule plan = rw (← c.schedule.view_is) c.schedule.invariant in
+    let members = c.args.members.now in
+    let after = c.serve_live_links-sent.new.members in
+    let a = g.I.Source.known c.args.input.now in
+    let b = g.I.Source.known c.serve_live_links-sent.new.input in
+    live_down c.args.name.now c.args.pace c.args.from c.args.live.now g.S.Shelf.known c.args.shelf.now c.read_schedule.new.shelf g.L.Link.known members c.input_makes_a_schedule.ensures plan valid
+    c.in_ok-schedule.ensures.reads (c.in_ok-schedule.ensures.cause.same (λ is. cc)) after c.serve_live_links-sent.ensures.many a b c.serve_live_links-sent.result c.requires.some
+    (λ up. let yes = c.all_up.ensures.1 up in let no = c.if-all_up.false in absurd cc) c.serve_live_links-sent.ensures.cause
+    (subst (λ p. ServedLive c.args.live.now p (3 * c.args.from) c.args.pace c.serve_live_links-sent.result a b g.L.Link.known members after) same c.serve_live_links-sent.ensures.served)
