@@ -32,15 +32,15 @@ use Rattle.cmd_load.specs.Faults.{fault_of_schedule, fault_of_script}
 use Rattle.recv_report.specs.Jobs.{IsDone, NoneFailed}
 use Rattle.recv_report.specs.Settling.{Settles}
 use Rattle.recv_report.specs.declared.stop.Stop.{Stop}
-use Rattle.drm_receive.specs.Receive.{WritesReports}
-use Rattle.drm_receive.specs.Stopping.{ending_of}
+use Rattle.cmd_receive.specs.Receive.{WritesReports}
+use Rattle.cmd_receive.specs.Stopping.{ending_of}
 use Rattle.drm_air.specs.Feeds.{BringsFeed, BringFeeds}
 use Rattle.recv_report.specs.Following.{HeadlinesFollow, CompletesFollow}
 use Rattle.recv_reading.specs.OneReading.{BreaksOff}
 use Rattle.recv_report.specs.Ahead.{IsReportOf}
 use Rattle.drm_air.specs.Air.{air_rules, pairs_of, IsAired, AreFeeds, AreAired, ByScript, AirRun}
 use Rattle.recv_report.proofs.JobLemmas.{told_of, job_report, job_breaks, SomeFailed, some_failed}
-use Rattle.drm_receive.proofs.ReceiveLemmas.{Ran, reports_written, ending_kind}
+use Rattle.cmd_receive.proofs.ReceiveLemmas.{Ran, reports_written, ending_kind}
 use Rattle.cmd_load.proofs.ScriptLemmas.{read_schedule, read_script, write_schedule, write_script}
 use Rattle.recv_report.proofs.Composing.{DeliveryLaws}
 use Rattle.drm_air.proofs.AirStatus.{air_run}

@@ -16,10 +16,10 @@ use Rattle.cmd_load.specs.Loading.{Step, ReadBy}
 use Rattle.cmd_load.specs.Schedule.{schedule_named}
 use Rattle.cmd_load.specs.Scripts.{script_named}
 use Rattle.cmd_load.proofs.LoadingLemmas.{Comes, came_by}
-use Rattle.drm_receive.specs.Receive.{AreClean, WritesReports, WroteReports}
+use Rattle.cmd_receive.specs.Receive.{AreClean, WritesReports, WroteReports}
 use Rattle.report_text.specs.Reports.{Report}
 use Rattle.drm_air.specs.Air.{AreAired, ByScript, BySchedule, with_feeds, with_script, schedule_and_script, EndsByFiles, FeedsAreInTime, AirRun}
-use Rattle.drm_receive.proofs.ReceiveStatus.{is_true}
+use Rattle.cmd_receive.proofs.ReceiveStatus.{is_true}
 
 -- the schedule and the feeds, or their fault
 abbrev Both : Type 0

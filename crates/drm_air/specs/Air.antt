@@ -12,7 +12,7 @@ use Rattle.drm_timeline.specs.Numbers.{frame_count}
 use Rattle.law_delivery.specs.Sent.{AreSent, Arrival, OfSchedule, IsFollowed, IsInTime}
 use Rattle.recv_reading.specs.declared.options.ReceiveOptions.{ReceiveOptions}
 use Rattle.recv_report.specs.Headline.{Modulates, ModulatesAll}
-use Rattle.drm_receive.specs.Receive.{WritesReports, WroteReports}
+use Rattle.cmd_receive.specs.Receive.{WritesReports, WroteReports}
 use Rattle.report_text.specs.Reports.{Report}
 use Rattle.recv_report.specs.Ahead.{IsReportOf}
 use Rattle.cmd_load.specs.Loading.{Step, ReadBy}

@@ -10,14 +10,14 @@ ghost use Rattle.cmd_faults.specs.declared.fault.Fault.{Fault};
 ghost use Rattle.recv_report.specs.Jobs.{AreJobs};
 ghost use Rattle.drm_air.specs.Feeds.{BringsFeed, BringFeeds};
 ghost use Rattle.drm_air.specs.Air.{AirRun, AreFeeds, AreAired, air_rules};
-ghost use Rattle.drm_receive.specs.Receive.{WritesReports};
+ghost use Rattle.cmd_receive.specs.Receive.{WritesReports};
 
 use law_collect::one_run;
 use drm_bits::NoMemory;
 use cmd_faults::Fault;
 use drm_links::{MemLink, Shelf, Sink};
 use cmd_load::{read_schedule, read_script_named, script_fault};
-use drm_receive::ending;
+use cmd_receive::ending;
 use drm_schedule::Schedule;
 use drm_server::Server;
 use drm_timeline::frame_count;

@@ -31,14 +31,14 @@ use Rattle.recv_report.specs.declared.capture.Unfinished.TheVariants as unfinish
 use Rattle.cmd_faults.specs.declared.fault.Fault.TheVariants as faults
 use Rattle.cmd_faults.specs.Captures.{stop_fault}
 use Rattle.cmd_faults.proofs.CauseLemmas.{inner_fault}
-use Rattle.drm_receive.specs.Opening.{StopsOpening}
-use Rattle.drm_receive.specs.Stopping.{ending_live, ending_captured}
-use Rattle.drm_receive.specs.Receive.{ReceiveRun, OpensEach, ReadsLive, Alone}
-use Rattle.drm_receive.specs.Capture.{CaptureRun}
-use Rattle.drm_receive.proofs.LiveLemmas.{live_run, live_went, one_hears}
-use Rattle.drm_receive.proofs.ReceiveLemmas.{opening_failed}
-use Rattle.drm_receive.proofs.CaptureLemmas.{written, ended_as, ended_early, ended_memory, ended_read, ended_write}
-use Rattle.drm_receive.proofs.CaptureStatus.{capture_run}
+use Rattle.cmd_receive.specs.Opening.{StopsOpening}
+use Rattle.cmd_receive.specs.Stopping.{ending_live, ending_captured}
+use Rattle.cmd_receive.specs.Receive.{ReceiveRun, OpensEach, ReadsLive, Alone}
+use Rattle.cmd_receive.specs.Capture.{CaptureRun}
+use Rattle.cmd_receive.proofs.LiveLemmas.{live_run, live_went, one_hears}
+use Rattle.cmd_receive.proofs.ReceiveLemmas.{opening_failed}
+use Rattle.cmd_receive.proofs.CaptureLemmas.{written, ended_as, ended_early, ended_memory, ended_read, ended_write}
+use Rattle.cmd_receive.proofs.CaptureStatus.{capture_run}
 use Rattle.drm_count.specs.Totals.{is_clean}
 use Rattle.drm_count.specs.Run.{Counted, CountsLink, CountsCapture, IsReadFailed, unseen}
 use Rattle.drm_count.specs.declared.totals.Totals.{Totals}

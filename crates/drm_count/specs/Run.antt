@@ -16,8 +16,8 @@ use Rattle.recv_reading.specs.Ending.{datagrams, FewAtOnce, most_answers}
 use Rattle.recv_reading.specs.Source.{HeardOf, IsFailedCall}
 use Rattle.several_links.specs.Binding.{HearsEach}
 use Rattle.recv_report.specs.Received.{IsReport}
-use Rattle.drm_receive.specs.Receive.{ReceiveRun, Alone}
-use Rattle.drm_receive.specs.Capture.{CaptureRun}
+use Rattle.cmd_receive.specs.Receive.{ReceiveRun, Alone}
+use Rattle.cmd_receive.specs.Capture.{CaptureRun}
 use Rattle.cmd_faults.specs.declared.fault.Fault.{Fault}
 use Rattle.cmd_faults.specs.declared.fault.Fault.TheVariants as faults
 use Rattle.drm_count.specs.Totals.{totals_of, answered, one_more, is_clean, count_line}

@@ -15,8 +15,8 @@ use Rattle.cmd_load.specs.Faults.{fault_of_schedule, fault_of_script}
 use Rattle.cmd_load.specs.Schedule.{schedule_named}
 use Rattle.cmd_load.specs.Scripts.{script_named}
 use Rattle.recv_reading.specs.declared.options.ReceiveOptions.{ReceiveOptions}
-use Rattle.drm_receive.specs.Receive.{AreReports, WritesReports, WritesAll, ReceiveRun}
-use Rattle.drm_receive.proofs.ReceiveStatus.{all_reports}
+use Rattle.cmd_receive.specs.Receive.{AreReports, WritesReports, WritesAll, ReceiveRun}
+use Rattle.cmd_receive.proofs.ReceiveStatus.{all_reports}
 use Rattle.drm_air.specs.Air.{BySchedule, ByScript}
 use Rattle.cmd_faults.specs.declared.fault.Fault.{Fault}
 use Rattle.cmd_faults.specs.declared.fault.Fault.TheVariants as faults

@@ -12,8 +12,8 @@ use Rattle.cmd_serve.specs.Live.{LiveServeRun, LiveSendRun}
 use Rattle.cmd_load.specs.Schedule.{schedule_named}
 use Rattle.drm_schedule.specs.declared.live.Live.{Live}
 use Rattle.drm_schedule.specs.Live.{is_any}
-use Rattle.drm_receive.specs.Receive.{ReceiveRun}
-use Rattle.drm_receive.specs.Capture.{CaptureRun}
+use Rattle.cmd_receive.specs.Receive.{ReceiveRun}
+use Rattle.cmd_receive.specs.Capture.{CaptureRun}
 use Rattle.drm_count.specs.Run.{CountRun, CountCaptureRun}
 use Rattle.drm_air.specs.Air.{AirRun}
 use Rattle.drm_exercise.specs.Run.{ExerciseRun}

@@ -11,8 +11,8 @@ use Rattle.plan_script.specs.declared.delivery.Delivery.{Delivery}
 use Rattle.cmd_load.specs.Loading.{ReadBy}
 use Rattle.cmd_load.specs.Schedule.{schedule_named}
 use Rattle.cmd_load.specs.Scripts.{script_named}
-use Rattle.drm_receive.specs.Receive.{AreReports, WritesReports}
-use Rattle.drm_receive.specs.Capture.{WritesReport}
+use Rattle.cmd_receive.specs.Receive.{AreReports, WritesReports}
+use Rattle.cmd_receive.specs.Capture.{WritesReport}
 use Rattle.drm_air.specs.Air.{AreAired}
 use Rattle.drm_top.specs.Outside.{Outside}
 use Rattle.drm_top.specs.Words.{options_of}

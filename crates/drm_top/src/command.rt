@@ -22,7 +22,7 @@ use drm_exercise::exercise;
 use cmd_faults::Fault;
 use cmd_show::{fac, show};
 use drm_links::{Dock, Link, Shelf, Sink, Source, Status};
-use drm_receive::{receive, receive_from_capture};
+use cmd_receive::{receive, receive_from_capture};
 use cmd_serve::{check, send, send_live, serve, serve_live};
 use drm_words::{Request, WordsFault, read_words};
 use gate_command::gate;

@@ -7,8 +7,8 @@ use Rattle.recv_report.specs.Jobs.{HasEnded, IsReady}
 use Rattle.recv_report.specs.Settling.{Settles}
 use Rattle.drm_air.specs.Air.{air_rules}
 use Rattle.drm_links.proofs.ToldLemmas.{counts_as}
-use Rattle.drm_receive.specs.Stopping.{ending_of}
-use Rattle.drm_receive.proofs.ReceiveLemmas.{Ran, written_back, write_is}
+use Rattle.cmd_receive.specs.Stopping.{ending_of}
+use Rattle.cmd_receive.proofs.ReceiveLemmas.{Ran, written_back, write_is}
 use Rattle.recv_report.proofs.JobLemmas.{jobs_ready}
 use Rattle.recv_report.proofs.Composing.{DeliveryLaws}
 use Rattle.drm_air.proofs.AirLemmas.{air_in_range, aired, kind_by}

@@ -10,7 +10,7 @@ use Rattle.cmd_faults.specs.declared.fault.Fault.TheVariants as faults
 use Rattle.drm_top.specs.Outside.{outside}
 use Rattle.drm_top.proofs.CommandLemmas.{fault_of_whole, whole_cause, whole_lacks_none, dock_still, not_else, not_convert, not_a_link, not_gate, no_gate}
 use Rattle.drm_top.proofs.ServeLemmas.{sends, opens_some}
-use Rattle.drm_receive.proofs.OpeningLemmas.{opens_unsent}
+use Rattle.cmd_receive.proofs.OpeningLemmas.{opens_unsent}
 use Rattle.drm_count.specs.Run.{ended, unseen}
 use Rattle.drm_top.proofs.command.run_command.Goals as goal
 

@@ -2,8 +2,8 @@
 
 ghost use Rattle.std.specs.Prelude.{◌≡◌};
 ghost use Rattle.recv_reading.specs.Options.{AreInRange};
-ghost use Rattle.drm_receive.specs.Capture.{CaptureRun};
-ghost use Rattle.drm_receive.specs.Stopping.{ending_captured};
+ghost use Rattle.cmd_receive.specs.Capture.{CaptureRun};
+ghost use Rattle.cmd_receive.specs.Stopping.{ending_captured};
 
 use capture_reader::read_some_way;
 use cmd_faults::Fault;

@@ -1,9 +1,9 @@
 use Rattle.std.proofs.Common.{ap}
 use Rattle.drm_links.proofs.ToldLemmas.{counts_as}
-use Rattle.drm_receive.specs.Stopping.{ending_captured}
-use Rattle.drm_receive.proofs.CaptureLemmas.{written, ended_as, ended_early, ended_memory, ended_read, ended_write}
-use Rattle.drm_receive.proofs.CaptureStatus.{capture_run}
-use Rattle.drm_receive.proofs.capture_command.receive_from_capture.Goals as goal
+use Rattle.cmd_receive.specs.Stopping.{ending_captured}
+use Rattle.cmd_receive.proofs.CaptureLemmas.{written, ended_as, ended_early, ended_memory, ended_read, ended_write}
+use Rattle.cmd_receive.proofs.CaptureStatus.{capture_run}
+use Rattle.cmd_receive.proofs.capture_command.receive_from_capture.Goals as goal
 
 pub returns : goal.returns
 returns g c =

@@ -25,15 +25,15 @@ use Rattle.recv_report.proofs.JobLemmas.{rules_are, live_report, live_given, liv
 use Rattle.cmd_faults.specs.declared.fault.Fault.{Fault}
 use Rattle.cmd_faults.specs.declared.fault.Fault.TheVariants as faults
 use Rattle.cmd_faults.proofs.CauseLemmas.{inner_fault}
-use Rattle.drm_receive.specs.Stopping.{ending_live}
-use Rattle.drm_receive.specs.Opening.{HaveLinks}
+use Rattle.cmd_receive.specs.Stopping.{ending_live}
+use Rattle.cmd_receive.specs.Opening.{HaveLinks}
 use Rattle.several_links.specs.Binding.{Hears, HearsEach}
-use Rattle.drm_receive.specs.Receive.{FailsSome, OpensEach, ReadsLive, WritesLive, ReceiveRun}
+use Rattle.cmd_receive.specs.Receive.{FailsSome, OpensEach, ReadsLive, WritesLive, ReceiveRun}
 use Rattle.several_links.proofs.OpeningLemmas.{docked_weaker, docked_still, docks_more}
 use Rattle.several_links.proofs.BindLemmas.{WentOver, went_over}
-use Rattle.drm_receive.proofs.BreakingOff.{report_whole}
-use Rattle.drm_receive.proofs.ReceiveStatus.{receive_run}
-use Rattle.drm_receive.proofs.ReceiveLemmas.{no_fault}
+use Rattle.cmd_receive.proofs.BreakingOff.{report_whole}
+use Rattle.cmd_receive.proofs.ReceiveStatus.{receive_run}
+use Rattle.cmd_receive.proofs.ReceiveLemmas.{no_fault}
 
 -- the receiver ended by this
 ended_write : (ended : Ended) → ending_live ended ≡ Err faults.Write → ended ≡ WriteFailed

@@ -19,8 +19,8 @@ use Rattle.cmd_faults.specs.declared.fault.Fault.{Fault}
 use Rattle.cmd_faults.specs.declared.fault.Fault.TheVariants as faults
 use Rattle.cmd_faults.specs.Captures.{EndsEarly, EndsByIt}
 use Rattle.cmd_faults.proofs.CaptureLemmas.{each_early, none_by, fault_by, length_by, done_or}
-use Rattle.drm_receive.specs.Capture.{BreaksOffBy, Ends, WritesReport, WroteReport, CaptureRun}
-use Rattle.drm_receive.proofs.ReceiveStatus.{clean_in_time}
+use Rattle.cmd_receive.specs.Capture.{BreaksOffBy, Ends, WritesReport, WroteReport, CaptureRun}
+use Rattle.cmd_receive.proofs.ReceiveStatus.{clean_in_time}
 
 -- ---- bytes bring one thing
 

@@ -6,10 +6,10 @@ ghost use Rattle.drm_links.specs.Dock.{Opens, Over, Docked, after_openings};
 ghost use Rattle.recv_reading.specs.Options.{AreInRange};
 ghost use Rattle.several_links.specs.Listed.{AreListed};
 ghost use Rattle.several_links.specs.Reaching.{HaveGone, after_closes};
-ghost use Rattle.drm_receive.specs.Receive.{ReceiveRun};
+ghost use Rattle.cmd_receive.specs.Receive.{ReceiveRun};
 ghost use Rattle.recv_report.specs.Jobs.{IsJob, AreJobs};
-ghost use Rattle.drm_receive.specs.Opening.{HaveLinks, EndsOpening, StopsOpening, members_of};
-ghost use Rattle.drm_receive.specs.Stopping.{ending_of, ending_live};
+ghost use Rattle.cmd_receive.specs.Opening.{HaveLinks, EndsOpening, StopsOpening, members_of};
+ghost use Rattle.cmd_receive.specs.Stopping.{ending_of, ending_live};
 
 use cmd_faults::Fault;
 use drm_links::{Address, Addresses, Dock, Link, Opened, Sink};

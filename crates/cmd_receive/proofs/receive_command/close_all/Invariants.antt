@@ -3,8 +3,8 @@ use Rattle.std.specs.Vec.Iter.{into_iter_items}
 use Rattle.drm_links.specs.Told.{Tells}
 use Rattle.drm_links.specs.Dock.{Over}
 use Rattle.several_links.specs.Reaching.{HaveGone, after_closes}
-use Rattle.drm_receive.specs.Opening.{members_of}
-use Rattle.drm_receive.proofs.receive_command.close_all.Given as goal
+use Rattle.cmd_receive.specs.Opening.{members_of}
+use Rattle.cmd_receive.proofs.receive_command.close_all.Given as goal
 
 -- what the dock tells once the other links are closed, too
 abbrev pub invariant-loop-job : goal.invariant-loop-job

@@ -10,7 +10,7 @@ use Rattle.several_links.proofs.OpeningLemmas.{docks_while, openings_gone}
 use Rattle.cmd_faults.specs.declared.fault.Fault.{Fault}
 use Rattle.cmd_faults.proofs.CauseLemmas.{inner_fault}
 use Rattle.recv_reading.specs.declared.options.ReceiveOptions.{ReceiveOptions}
-use Rattle.drm_receive.specs.Receive.{OpensEach, ReadsBy}
+use Rattle.cmd_receive.specs.Receive.{OpensEach, ReadsBy}
 use Rattle.several_links.proofs.BindLemmas.{none_gone_few, hears_nothing_gone}
 
 -- ---- nothing is sent

@@ -5,7 +5,7 @@ use Rattle.drm_links.specs.Dock.{Docked, HasLink}
 use Rattle.recv_report.specs.Jobs.{IsJob}
 use Rattle.drm_links.specs.Told.{Tells}
 use Rattle.several_links.proofs.OpeningLemmas.{Opened}
-use Rattle.drm_receive.proofs.receive_command.open_all.Given as goal
+use Rattle.cmd_receive.proofs.receive_command.open_all.Given as goal
 
 -- each receiver so far has the link of its address
 abbrev pub invariant-loop-k : goal.invariant-loop-k

@@ -12,12 +12,12 @@ use Rattle.drm_links.proofs.ToldLemmas.{counts_as}
 use Rattle.cmd_faults.specs.declared.fault.Fault.TheVariants as faults
 use Rattle.cmd_faults.proofs.CauseLemmas.{inner_fault}
 use Rattle.several_links.proofs.BindLemmas.{docked_then, Closed}
-use Rattle.drm_receive.proofs.HearingLemmas.{link_in}
-use Rattle.drm_receive.proofs.ReceiveLemmas.{Ran, settled_hears, settled_run, opening_failed, written_back}
-use Rattle.drm_receive.proofs.LiveLemmas.{only_run}
-use Rattle.drm_receive.specs.Opening.{HaveLinks}
-use Rattle.drm_receive.specs.Receive.{IsLive}
-use Rattle.drm_receive.proofs.receive_command.receive.Goals as goal
+use Rattle.cmd_receive.proofs.HearingLemmas.{link_in}
+use Rattle.cmd_receive.proofs.ReceiveLemmas.{Ran, settled_hears, settled_run, opening_failed, written_back}
+use Rattle.cmd_receive.proofs.LiveLemmas.{only_run}
+use Rattle.cmd_receive.specs.Opening.{HaveLinks}
+use Rattle.cmd_receive.specs.Receive.{IsLive}
+use Rattle.cmd_receive.proofs.receive_command.receive.Goals as goal
 
 pub returns-in_err-jobs : goal.returns-in_err-jobs
 returns-in_err-jobs g c =

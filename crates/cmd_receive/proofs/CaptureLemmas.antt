@@ -28,11 +28,11 @@ use Rattle.cmd_faults.specs.declared.fault.Fault.{Fault}
 use Rattle.cmd_faults.specs.declared.fault.Fault.TheVariants as faults
 use Rattle.cmd_faults.specs.Captures.{EndsEarly}
 use Rattle.cmd_faults.proofs.CauseLemmas.{inner_fault}
-use Rattle.drm_receive.specs.Capture.{BreaksOffBy, Ends, WritesReport}
-use Rattle.drm_receive.specs.Stopping.{ending_captured}
+use Rattle.cmd_receive.specs.Capture.{BreaksOffBy, Ends, WritesReport}
+use Rattle.cmd_receive.specs.Stopping.{ending_captured}
 use Rattle.law_capture.proofs.CaptureFronts.{packets_front}
-use Rattle.drm_receive.proofs.CaptureStatus.{Says}
-use Rattle.drm_receive.proofs.ReceiveLemmas.{no_fault}
+use Rattle.cmd_receive.proofs.CaptureStatus.{Says}
+use Rattle.cmd_receive.proofs.ReceiveLemmas.{no_fault}
 
 -- ---- what was heard stood ahead
 

@@ -13,7 +13,7 @@ use Rattle.cmd_faults.specs.declared.fault.Fault.{Fault}
 use Rattle.cmd_faults.specs.declared.fault.Fault.TheVariants as faults
 use Rattle.cmd_faults.specs.Causes.{OpeningFailed}
 use Rattle.cmd_faults.specs.Fault.{UnlessMemory}
-use Rattle.drm_receive.specs.Receive.{AreReports, AreClean, all_texts, FailsSome, OpensEach, WritesReports, WritesAll, WritesSome, WroteReports, AreInTime, IsLive, ReceiveRun}
+use Rattle.cmd_receive.specs.Receive.{AreReports, AreClean, all_texts, FailsSome, OpensEach, WritesReports, WritesAll, WritesSome, WroteReports, AreInTime, IsLive, ReceiveRun}
 use Rattle.report_text.specs.Reports.{Report}
 use Rattle.recv_reading.specs.OneReading.{BreaksOff}
 use Rattle.recv_report.specs.Ahead.{IsInTimeAhead, IsReportOf}

@@ -6,8 +6,8 @@ use Rattle.several_links.specs.declared.member.Member.{Member}
 use Rattle.several_links.proofs.CloseLemmas.{next_left, close_more, closed_all}
 use Rattle.recv_report.specs.declared.job.Job.{Job}
 use Rattle.several_links.proofs.BindLemmas.{as_member, as_members, member_at, members_many}
-use Rattle.drm_receive.proofs.HearingLemmas.{link_in}
-use Rattle.drm_receive.proofs.receive_command.close_all.Goals as goal
+use Rattle.cmd_receive.proofs.HearingLemmas.{link_in}
+use Rattle.cmd_receive.proofs.receive_command.close_all.Goals as goal
 
 pub loop-job-preserved : goal.loop-job-preserved
 loop-job-preserved g c =
