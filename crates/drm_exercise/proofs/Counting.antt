@@ -13,7 +13,7 @@ use Rattle.drm_timeline.specs.Numbers.{packet_size}
 use Rattle.drm_timeline.specs.Standing.{has_started}
 use Rattle.plan_script.specs.declared.delivery.Delivery.{Delivery}
 use Rattle.plan_script.specs.Script.{delivery, fragment_count, IsDelivery}
-use Rattle.drm_air.specs.Air.{AreFeeds}
+use Rattle.cmd_air.specs.Air.{AreFeeds}
 use Rattle.drm_exercise.specs.Exercise.{config, plan, is_left_out, twice_unless, of_packet, deliveries}
 use Rattle.drm_exercise.proofs.Ranges.{forward_more, back_more}
 

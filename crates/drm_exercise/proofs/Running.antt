@@ -11,7 +11,7 @@ use Rattle.report_text.specs.Texts.{text_known}
 use Rattle.report_text.specs.declared.buffer.ReportBuffer.{ReportBuffer}
 use Rattle.recv_report.proofs.JobLemmas.{text_written}
 use Rattle.cmd_receive.specs.Receive.{all_texts, AreClean, WritesReports}
-use Rattle.drm_air.specs.Air.{IsAired, AreAired}
+use Rattle.cmd_air.specs.Air.{IsAired, AreAired}
 use Rattle.cmd_faults.specs.declared.fault.Fault.{Fault}
 use Rattle.cmd_faults.specs.declared.fault.Fault.TheVariants as faults
 use Rattle.drm_exercise.specs.Exercise.{plan, deliveries, line}

@@ -4,7 +4,7 @@ use Rattle.drm_bits.specs.Crc.{IsCheckOf}
 use Rattle.drm_links.specs.Told.{HasFailed, Known, HasCause}
 use Rattle.drm_links.specs.Sink.{Output, Outputs, IsFront}
 use Rattle.report_text.specs.Reports.{Report}
-use Rattle.drm_air.specs.Air.{IsAired}
+use Rattle.cmd_air.specs.Air.{IsAired}
 use Rattle.cmd_faults.specs.Fault.{UnlessMemory}
 use Rattle.cmd_faults.specs.declared.fault.Fault.{Fault}
 use Rattle.cmd_faults.specs.declared.fault.Fault.TheVariants as faults

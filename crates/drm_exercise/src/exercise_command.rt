@@ -6,7 +6,7 @@ ghost use Rattle.drm_exercise.specs.Run.{ExerciseRun};
 use crate::line::write_line;
 use crate::schedule::schedule_of;
 use crate::script::script_of;
-use drm_air::air_over;
+use cmd_air::air_over;
 use drm_bits::crc16;
 use cmd_faults::Fault;
 use drm_links::Sink;

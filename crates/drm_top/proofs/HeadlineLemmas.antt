@@ -17,7 +17,7 @@ use Rattle.cmd_load.specs.Scripts.{script_named}
 use Rattle.recv_reading.specs.declared.options.ReceiveOptions.{ReceiveOptions}
 use Rattle.cmd_receive.specs.Receive.{AreReports, WritesReports, WritesAll, ReceiveRun}
 use Rattle.cmd_receive.proofs.ReceiveStatus.{all_reports}
-use Rattle.drm_air.specs.Air.{BySchedule, ByScript}
+use Rattle.cmd_air.specs.Air.{BySchedule, ByScript}
 use Rattle.cmd_faults.specs.declared.fault.Fault.{Fault}
 use Rattle.cmd_faults.specs.declared.fault.Fault.TheVariants as faults
 use Rattle.cmd_faults.specs.Fault.{clean_status, fault_status}

@@ -15,7 +15,7 @@ use Rattle.drm_schedule.specs.Live.{is_any}
 use Rattle.cmd_receive.specs.Receive.{ReceiveRun}
 use Rattle.cmd_receive.specs.Capture.{CaptureRun}
 use Rattle.drm_count.specs.Run.{CountRun, CountCaptureRun}
-use Rattle.drm_air.specs.Air.{AirRun}
+use Rattle.cmd_air.specs.Air.{AirRun}
 use Rattle.drm_exercise.specs.Run.{ExerciseRun}
 use Rattle.drm_convert.specs.Run.{ConvertRun}
 use Rattle.gate_command.specs.Run.{GateCommandRun}

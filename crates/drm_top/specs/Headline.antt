@@ -13,7 +13,7 @@ use Rattle.cmd_load.specs.Schedule.{schedule_named}
 use Rattle.cmd_load.specs.Scripts.{script_named}
 use Rattle.cmd_receive.specs.Receive.{AreReports, WritesReports}
 use Rattle.cmd_receive.specs.Capture.{WritesReport}
-use Rattle.drm_air.specs.Air.{AreAired}
+use Rattle.cmd_air.specs.Air.{AreAired}
 use Rattle.drm_top.specs.Outside.{Outside}
 use Rattle.drm_top.specs.Words.{options_of}
 use Rattle.drm_words.specs.declared.request.Request.{Request}

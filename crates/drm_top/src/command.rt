@@ -15,7 +15,7 @@ ghost use Rattle.drm_words.specs.declared.request.Request.{Request};
 use crate::words::{options_of, text};
 use capture_data::{texts, unpack};
 use data_units::pack;
-use drm_air::air;
+use cmd_air::air;
 use drm_convert::convert;
 use drm_count::{count, count_capture};
 use drm_exercise::exercise;

@@ -6,7 +6,7 @@ use Rattle.drm_links.proofs.ToldLemmas.{done_counts, failed_counts}
 use Rattle.drm_links.proofs.WritingLemmas.{Writes-done, Writes-front}
 use Rattle.report_text.specs.Texts.{text_known}
 use Rattle.cmd_receive.specs.Receive.{WritesReports}
-use Rattle.drm_air.specs.Air.{AreAired, AreFeeds}
+use Rattle.cmd_air.specs.Air.{AreAired, AreFeeds}
 use Rattle.drm_exercise.specs.Exercise.{plan, deliveries}
 use Rattle.drm_exercise.proofs.Counting.{are_feeds}
 use Rattle.drm_exercise.proofs.Running.{HasReport, has_report, is_done, is_cut}

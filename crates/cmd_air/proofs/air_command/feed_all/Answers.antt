@@ -4,10 +4,10 @@ use Rattle.drm_links.specs.MemoryLink.{LinkState}
 use Rattle.drm_links.proofs.Places.{each_more}
 use Rattle.plan_script.specs.declared.delivery.Delivery.{Delivery}
 use Rattle.recv_report.specs.declared.job.Job.{Job}
-use Rattle.drm_air.specs.Air.{air_rules}
+use Rattle.cmd_air.specs.Air.{air_rules}
 use Rattle.recv_report.specs.Jobs.{IsJob}
-use Rattle.drm_air.specs.Feeds.{BringsFeed}
-use Rattle.drm_air.proofs.air_command.feed_all.Goals as goal
+use Rattle.cmd_air.specs.Feeds.{BringsFeed}
+use Rattle.cmd_air.proofs.air_command.feed_all.Goals as goal
 
 pub loop-k-preserved : goal.loop-k-preserved
 loop-k-preserved c =

@@ -21,7 +21,7 @@ use Rattle.recv_reading.specs.Ending.{datagrams, idles, Holds, IsOpen, IsSound, 
 use Rattle.report_text.specs.Reports.{refusals, report, Report}
 use Rattle.recv_report.specs.Headline.{strays_from, Modulates, ModulatesAll, untold, WouldBeRead}
 use Rattle.recv_report.specs.Ahead.{IsReportOf}
-use Rattle.drm_air.specs.Air.{air_rules}
+use Rattle.cmd_air.specs.Air.{air_rules}
 use Rattle.recv_report.proofs.Composing.{DeliveryLaws, tells_switches, gives_in_time, prints_frames, strays_noted}
 
 -- ---- the answers

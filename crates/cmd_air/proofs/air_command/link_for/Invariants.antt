@@ -1,8 +1,8 @@
 use Rattle.std.proofs.Common.{◌≡◌, ℕ, List, take}
 use Rattle.law_delivery.specs.Sent.{AreSent}
-use Rattle.drm_air.specs.Air.{pairs_of}
-use Rattle.drm_air.proofs.FeedLemmas.{link_of}
-use Rattle.drm_air.proofs.air_command.link_for.Given as goal
+use Rattle.cmd_air.specs.Air.{pairs_of}
+use Rattle.cmd_air.proofs.FeedLemmas.{link_of}
+use Rattle.cmd_air.proofs.air_command.link_for.Given as goal
 
 -- the datagrams of the deliveries before this one were brought
 abbrev pub invariant-loop-delivery : goal.invariant-loop-delivery

@@ -18,7 +18,7 @@ use Rattle.cmd_load.specs.Scripts.{script_named}
 use Rattle.cmd_load.proofs.LoadingLemmas.{Comes, came_by}
 use Rattle.cmd_receive.specs.Receive.{AreClean, WritesReports, WroteReports}
 use Rattle.report_text.specs.Reports.{Report}
-use Rattle.drm_air.specs.Air.{AreAired, ByScript, BySchedule, with_feeds, with_script, schedule_and_script, EndsByFiles, FeedsAreInTime, AirRun}
+use Rattle.cmd_air.specs.Air.{AreAired, ByScript, BySchedule, with_feeds, with_script, schedule_and_script, EndsByFiles, FeedsAreInTime, AirRun}
 use Rattle.cmd_receive.proofs.ReceiveStatus.{is_true}
 
 -- the schedule and the feeds, or their fault

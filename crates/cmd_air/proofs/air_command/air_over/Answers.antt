@@ -5,14 +5,14 @@ use Rattle.drm_schedule.specs.Valid.{IsSchedule}
 use Rattle.recv_report.specs.declared.job.Job.{Job}
 use Rattle.recv_report.specs.Jobs.{HasEnded, IsReady}
 use Rattle.recv_report.specs.Settling.{Settles}
-use Rattle.drm_air.specs.Air.{air_rules}
+use Rattle.cmd_air.specs.Air.{air_rules}
 use Rattle.drm_links.proofs.ToldLemmas.{counts_as}
 use Rattle.cmd_receive.specs.Stopping.{ending_of}
 use Rattle.cmd_receive.proofs.ReceiveLemmas.{Ran, written_back, write_is}
 use Rattle.recv_report.proofs.JobLemmas.{jobs_ready}
 use Rattle.recv_report.proofs.Composing.{DeliveryLaws}
-use Rattle.drm_air.proofs.AirLemmas.{air_in_range, aired, kind_by}
-use Rattle.drm_air.proofs.air_command.air_over.Goals as goal
+use Rattle.cmd_air.proofs.AirLemmas.{air_in_range, aired, kind_by}
+use Rattle.cmd_air.proofs.air_command.air_over.Goals as goal
 
 pub returns : goal.returns
 returns g c =

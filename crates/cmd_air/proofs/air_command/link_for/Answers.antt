@@ -1,8 +1,8 @@
 use Rattle.std.proofs.Common.{◌++◌, ◌∷◌, [], ◌∙◌, ap}
 use Rattle.drm_links.specs.MemoryLink.{LinkState}
 use Rattle.plan_script.specs.declared.delivery.Delivery.{Delivery}
-use Rattle.drm_air.proofs.FeedLemmas.{sent_more}
-use Rattle.drm_air.proofs.air_command.link_for.Goals as goal
+use Rattle.cmd_air.proofs.FeedLemmas.{sent_more}
+use Rattle.cmd_air.proofs.air_command.link_for.Goals as goal
 
 pub loop-delivery-preserved : goal.loop-delivery-preserved
 loop-delivery-preserved c =

@@ -34,17 +34,17 @@ use Rattle.recv_report.specs.Settling.{Settles}
 use Rattle.recv_report.specs.declared.stop.Stop.{Stop}
 use Rattle.cmd_receive.specs.Receive.{WritesReports}
 use Rattle.cmd_receive.specs.Stopping.{ending_of}
-use Rattle.drm_air.specs.Feeds.{BringsFeed, BringFeeds}
+use Rattle.cmd_air.specs.Feeds.{BringsFeed, BringFeeds}
 use Rattle.recv_report.specs.Following.{HeadlinesFollow, CompletesFollow}
 use Rattle.recv_reading.specs.OneReading.{BreaksOff}
 use Rattle.recv_report.specs.Ahead.{IsReportOf}
-use Rattle.drm_air.specs.Air.{air_rules, pairs_of, IsAired, AreFeeds, AreAired, ByScript, AirRun}
+use Rattle.cmd_air.specs.Air.{air_rules, pairs_of, IsAired, AreFeeds, AreAired, ByScript, AirRun}
 use Rattle.recv_report.proofs.JobLemmas.{told_of, job_report, job_breaks, SomeFailed, some_failed}
 use Rattle.cmd_receive.proofs.ReceiveLemmas.{Ran, reports_written, ending_kind}
 use Rattle.cmd_load.proofs.ScriptLemmas.{read_schedule, read_script, write_schedule, write_script}
 use Rattle.recv_report.proofs.Composing.{DeliveryLaws}
-use Rattle.drm_air.proofs.AirStatus.{air_run}
-use Rattle.drm_air.proofs.FedLemmas as fed
+use Rattle.cmd_air.proofs.AirStatus.{air_run}
+use Rattle.cmd_air.proofs.FedLemmas as fed
 
 -- the rules of a feed are in their range
 pub air_in_range : (plan : Plan) (window : ℕ) → IsSchedule plan → 1 ≤ window → window ≤ 64 → AreInRange (air_rules plan window)

@@ -5,7 +5,7 @@ use Rattle.drm_links.specs.MemoryLink.{LinkState}
 use Rattle.drm_schedule.specs.declared.plan.Plan.{Plan}
 use Rattle.plan_script.specs.declared.delivery.Delivery.{Delivery}
 use Rattle.law_delivery.specs.Sent.{IsSent, AreSent}
-use Rattle.drm_air.specs.Air.{pairs_of}
+use Rattle.cmd_air.specs.Air.{pairs_of}
 
 -- a new link to which these were brought
 abbrev pub link_of : List (List ℕ) → LinkState

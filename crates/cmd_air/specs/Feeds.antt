@@ -7,7 +7,7 @@ use Rattle.drm_links.specs.Dock.{first_traffic}
 use Rattle.drm_links.specs.MemoryLink.{LinkState, link_known}
 use Rattle.law_delivery.specs.Sent.{AreSent}
 use Rattle.recv_report.specs.declared.job.Job.{Job}
-use Rattle.drm_air.specs.Air.{pairs_of}
+use Rattle.cmd_air.specs.Air.{pairs_of}
 
 -- The link brings the datagrams of these deliveries, and is to fail nowhere.
 pub record BringsFeed (plan : Plan) (deliveries : List Delivery) (link : LinkState) : Type 0 where

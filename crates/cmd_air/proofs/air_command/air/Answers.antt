@@ -3,8 +3,8 @@ use Rattle.std.proofs.lemmas.Result.{err_from_is_err_and}
 use Rattle.drm_schedule.specs.Valid.{IsSchedule}
 use Rattle.drm_links.proofs.ToldLemmas.{counts_as}
 use Rattle.cmd_faults.proofs.CauseLemmas.{inner_fault}
-use Rattle.drm_air.proofs.AirLemmas.{no_schedule, no_script, ran_over, feeds_are}
-use Rattle.drm_air.proofs.air_command.air.Goals as goal
+use Rattle.cmd_air.proofs.AirLemmas.{no_schedule, no_script, ran_over, feeds_are}
+use Rattle.cmd_air.proofs.air_command.air.Goals as goal
 
 pub returns-in_err-plan : goal.returns-in_err-plan
 returns-in_err-plan g c =

@@ -2,10 +2,10 @@ use Rattle.std.proofs.Common.{◌≡◌, ℕ, ◌<◌, List, vec_len, slice_inde
 use Rattle.drm_links.specs.MemoryLink.{LinkState}
 use Rattle.plan_script.specs.declared.delivery.Delivery.{Delivery}
 use Rattle.recv_report.specs.declared.job.Job.{Job}
-use Rattle.drm_air.specs.Air.{air_rules}
+use Rattle.cmd_air.specs.Air.{air_rules}
 use Rattle.recv_report.specs.Jobs.{AreJobs}
-use Rattle.drm_air.specs.Feeds.{BringsFeed}
-use Rattle.drm_air.proofs.air_command.feed_all.Given as goal
+use Rattle.cmd_air.specs.Feeds.{BringsFeed}
+use Rattle.cmd_air.proofs.air_command.feed_all.Given as goal
 
 -- each receiver so far has a link that brings its feed
 abbrev pub invariant-loop-k : goal.invariant-loop-k

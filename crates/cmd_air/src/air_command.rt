@@ -8,8 +8,8 @@ ghost use Rattle.drm_timeline.specs.Numbers as numbers;
 ghost use Rattle.drm_server.specs.Datagrams.{HasDatagrams};
 ghost use Rattle.cmd_faults.specs.declared.fault.Fault.{Fault};
 ghost use Rattle.recv_report.specs.Jobs.{AreJobs};
-ghost use Rattle.drm_air.specs.Feeds.{BringsFeed, BringFeeds};
-ghost use Rattle.drm_air.specs.Air.{AirRun, AreFeeds, AreAired, air_rules};
+ghost use Rattle.cmd_air.specs.Feeds.{BringsFeed, BringFeeds};
+ghost use Rattle.cmd_air.specs.Air.{AirRun, AreFeeds, AreAired, air_rules};
 ghost use Rattle.cmd_receive.specs.Receive.{WritesReports};
 
 use law_collect::one_run;
