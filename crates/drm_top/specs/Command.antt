@@ -16,7 +16,7 @@ use Rattle.cmd_receive.specs.Receive.{ReceiveRun}
 use Rattle.cmd_receive.specs.Capture.{CaptureRun}
 use Rattle.drm_count.specs.Run.{CountRun, CountCaptureRun}
 use Rattle.cmd_air.specs.Air.{AirRun}
-use Rattle.drm_exercise.specs.Run.{ExerciseRun}
+use Rattle.cmd_exercise.specs.Run.{ExerciseRun}
 use Rattle.drm_convert.specs.Run.{ConvertRun}
 use Rattle.gate_command.specs.Run.{GateCommandRun}
 use Rattle.data_units.specs.Pack.{PackRun}

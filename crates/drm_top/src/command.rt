@@ -18,7 +18,7 @@ use data_units::pack;
 use cmd_air::air;
 use drm_convert::convert;
 use drm_count::{count, count_capture};
-use drm_exercise::exercise;
+use cmd_exercise::exercise;
 use cmd_faults::Fault;
 use cmd_show::{fac, show};
 use drm_links::{Dock, Link, Shelf, Sink, Source, Status};

@@ -1,0 +1,45 @@
+//! The command `exercise`.
+
+ghost use Rattle.std.specs.Prelude.{◌≡◌, ◌≤◌, Err};
+ghost use Rattle.cmd_exercise.specs.Run.{ExerciseRun};
+
+use crate::line::write_line;
+use crate::schedule::schedule_of;
+use crate::script::script_of;
+use cmd_air::air_over;
+use drm_bits::crc16;
+use cmd_faults::Fault;
+use drm_links::Sink;
+use report_text::ReportBuffer;
+use std::alloc::Global;
+use std::thread::Threads;
+
+/// In packets.
+const WINDOW: u8 = 8;
+
+/// Receives what is delivered of the generated schedule, and writes one line on the report. Answers whether no frame is
+/// missing or bad.
+pub fn exercise<R: Threads + Sync, O: Sink>(
+    rt: &R,
+    alloc: Global,
+    n: u32,
+    out: &mut O,
+) -> Result<bool, Fault>
+    requires some { 1 ≤ n }
+    requires few { n ≤ 1000 }
+    ensures run { ExerciseRun n result O.known out.old out.new }
+{
+    let plan = schedule_of(alloc, n)?;
+    let script = script_of(alloc, n, &plan)?;
+    let mut report = ReportBuffer::new(alloc);
+    // A text in memory fails for want of memory alone.
+    let Ok(clean) = air_over(rt, alloc, &plan, &script, WINDOW, &mut report) else {
+        return Err(Fault::NoMemory);
+    };
+    if !report.is_told() {
+        return Err(Fault::NoMemory);
+    }
+    let delivered = script.deliveries(0).len() as u64;
+    write_line(out, n, delivered, report.bytes(), crc16(report.bytes()))?;
+    Ok(clean)
+}
