@@ -12,7 +12,7 @@ use Rattle.cmd_faults.proofs.CauseLemmas.{inner_fault}
 use Rattle.dcp_pft.specs.declared.carry.Carry.{Carry}
 use Rattle.drm_links.specs.Source.{Input}
 use Rattle.drm_links.specs.Sink.{Output}
-use Rattle.drm_convert.specs.Run as convert
+use Rattle.cmd_convert.specs.Run as convert
 use Rattle.recv_reading.specs.Packets.{Terms}
 use Rattle.drm_links.specs.declared.dock.Address.{Address}
 use Rattle.drm_links.specs.declared.link.LinkFault.{LinkFault}

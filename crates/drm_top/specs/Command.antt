@@ -17,7 +17,7 @@ use Rattle.cmd_receive.specs.Capture.{CaptureRun}
 use Rattle.drm_count.specs.Run.{CountRun, CountCaptureRun}
 use Rattle.cmd_air.specs.Air.{AirRun}
 use Rattle.cmd_exercise.specs.Run.{ExerciseRun}
-use Rattle.drm_convert.specs.Run.{ConvertRun}
+use Rattle.cmd_convert.specs.Run.{ConvertRun}
 use Rattle.gate_command.specs.Run.{GateCommandRun}
 use Rattle.data_units.specs.Pack.{PackRun}
 use Rattle.capture_data.specs.Streams.{UnitsOf, TextsOf}

@@ -16,7 +16,7 @@ use crate::words::{options_of, text};
 use capture_data::{texts, unpack};
 use data_units::pack;
 use cmd_air::air;
-use drm_convert::convert;
+use cmd_convert::convert;
 use drm_count::{count, count_capture};
 use cmd_exercise::exercise;
 use cmd_faults::Fault;

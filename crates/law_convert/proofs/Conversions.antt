@@ -15,7 +15,7 @@ use Rattle.law_delivery.specs.Laws.{AllAtOnce}
 use Rattle.law_delivery.specs.Sent.{Arrival}
 use Rattle.recv_reading.specs.State.{is_full}
 use Rattle.recv_reading.specs.First.{first_of}
-use Rattle.drm_convert.specs.Converting.{Part, ConvertsAll, text_of, lines_of}
+use Rattle.cmd_convert.specs.Converting.{Part, ConvertsAll, text_of, lines_of}
 use Rattle.law_convert.specs.Laws.{under, IsFirstOf, AllInTime, MayBeTold, IsItsCapture, Converting, ConvertingEarly, KnowsFirst, ConversionsAreCaptures, IsOfFirstFrames, BrokenConversions}
 use Rattle.law_convert.proofs.Firsts.{knows_first, first_of_all}
 use Rattle.law_convert.proofs.Packets.{AreFrom, all_written}

@@ -25,7 +25,7 @@ use Rattle.law_delivery.proofs.Lengths.{packet_long}
 use Rattle.recv_reading.specs.Packets.{ComesAt, ComesTo, Terms}
 use Rattle.recv_reading.specs.State.{is_full}
 use Rattle.recv_reading.specs.First.{first_of}
-use Rattle.drm_convert.specs.Converting.{Part, ConvertsAll, text_of, lines_of}
+use Rattle.cmd_convert.specs.Converting.{Part, ConvertsAll, text_of, lines_of}
 use Rattle.recv_reading.proofs.Reaching.{one_way}
 use Rattle.recv_reading.proofs.Ways.{Starts, starts_more, starts_up_to, taken_starts, finished_starts, taken_first, all_before}
 use Rattle.recv_reading.proofs.First.{given_first}

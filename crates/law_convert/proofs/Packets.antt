@@ -11,7 +11,7 @@ use Rattle.drm_timeline.specs.Numbers.{frame_count, sequence_number}
 use Rattle.drm_server.specs.Frames.{IsPacketAt}
 use Rattle.drm_server.specs.Datagrams.{AreOfFrame, AreOfFrames}
 use Rattle.drm_server.proofs.DatagramLemmas.{next_frame}
-use Rattle.drm_convert.specs.Converting.{Part, Converts, ConvertsAll, text_of, lines_of}
+use Rattle.cmd_convert.specs.Converting.{Part, Converts, ConvertsAll, text_of, lines_of}
 use Rattle.law_convert.specs.Laws.{under, IsFirstOf}
 use Rattle.law_convert.proofs.Frames.{IsOfFrame, of_frame}
 

@@ -19,10 +19,10 @@ use Rattle.drm_server.specs.Capture.{IsCapture, IsFrontOfCapture}
 use Rattle.drm_server.proofs.CaptureLemmas.{end_written}
 use Rattle.law_delivery.specs.Sent.{IsFollowed}
 use Rattle.cmd_faults.specs.declared.fault.Fault.TheVariants as faults
-use Rattle.drm_convert.specs.Converting.{Part, text_of, lines_of}
-use Rattle.drm_convert.specs.Steps.{has_none}
-use Rattle.drm_convert.specs.Converted.{are_clean}
-use Rattle.drm_convert.proofs.PartLemmas.{front_of_all, no_lines_before}
+use Rattle.cmd_convert.specs.Converting.{Part, text_of, lines_of}
+use Rattle.cmd_convert.specs.Steps.{has_none}
+use Rattle.cmd_convert.specs.Converted.{are_clean}
+use Rattle.cmd_convert.proofs.PartLemmas.{front_of_all, no_lines_before}
 use Rattle.recv_reading.specs.Packets.{AreEnough, AreReadBy, HasEnough, Terms}
 use Rattle.law_convert.specs.Laws.{under, AllInTime, NoneIsTooLarge, ConversionsAreCaptures, IsOfFirstFrames, BrokenConversions, IsOfSomeFrames, HaltedConversions, CapturesAreConverted}
 

@@ -24,7 +24,7 @@ use Rattle.law_delivery.specs.Sent.{pairs_in}
 use Rattle.law_delivery.proofs.Lengths.{af_long, packet_long}
 use Rattle.law_delivery.proofs.Packets.{at_number, IsChosen, ArePackets, filler, filler_af, filler_is, chosen_at}
 use Rattle.dcp_sender.specs.Carried.{is_too_long}
-use Rattle.drm_convert.specs.Converting.{IsTooLarge}
+use Rattle.cmd_convert.specs.Converting.{IsTooLarge}
 use Rattle.recv_reading.specs.Packets.{ComesAt, ComesTo, Terms}
 use Rattle.recv_reading.proofs.Ways.{taken_starts, finished_starts}
 use Rattle.law_convert.specs.Laws.{FitsCarry, NoneIsTooLarge}

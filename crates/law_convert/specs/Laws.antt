@@ -19,10 +19,10 @@ use Rattle.law_delivery.specs.Sent.{Arrival, pairs_in, IsFollowed, IsInTime}
 use Rattle.capture_reader.specs.Capture.{IsCaptureOf, End}
 use Rattle.cmd_faults.specs.declared.fault.Fault.{Fault}
 use Rattle.cmd_faults.specs.declared.fault.Fault.TheVariants as faults
-use Rattle.drm_convert.specs.Converting.{Part, ConvertsAll, IsTooLarge, text_of, lines_of}
+use Rattle.cmd_convert.specs.Converting.{Part, ConvertsAll, IsTooLarge, text_of, lines_of}
 use Rattle.recv_reading.specs.Packets.{ComesAt, HasEnough, Terms}
 use Rattle.recv_reading.specs.State.{is_full}
-use Rattle.drm_convert.specs.Run.{IsConversion, IsBroken, Ends}
+use Rattle.cmd_convert.specs.Run.{IsConversion, IsBroken, Ends}
 use Rattle.recv_reading.specs.First.{first_of}
 
 -- the schedule with this carry in place of its own

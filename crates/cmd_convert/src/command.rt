@@ -1,0 +1,101 @@
+//! The command `convert`.
+
+ghost use Rattle.std.specs.Prelude.{◌≡◌, ◌≤◌, [], true, IfSome, IfOk};
+ghost use Rattle.dcp_collect.specs.State.{made};
+ghost use Rattle.capture_reader.specs.Walking.{new_walker};
+ghost use Rattle.dcp_pft.specs.Carrying.{CarryFits};
+ghost use Rattle.cmd_convert.specs.Reading.{ending_of};
+ghost use Rattle.cmd_convert.specs.Run.{ConvertRun};
+ghost use Rattle.recv_reading.specs.Packets.{Terms};
+
+use crate::item::Halt;
+use crate::naming::Progress;
+use crate::reading::{Unconverted, convert_packets};
+use law_capture::packets_in_front;
+use dcp_collect::Collector;
+use dcp_pft::Carry;
+use dcp_sender::PacketSender;
+use drm_bits::NoMemory;
+use capture_reader::{Packets, read_one_way, read_some_way};
+use cmd_faults::Fault;
+use drm_links::{Sink, Source};
+use report_text::LineWriter;
+use std::alloc::Global;
+
+/// Reads a capture from `input`, and writes its packets under a carry to `out`; each that is missing or bad is named on
+/// `err`. Answers whether there is none. A failure of `err` changes nothing, but then `told` doesn't hold afterwards.
+pub fn convert<I: Source, O: Sink, E: Sink>(
+    alloc: Global,
+    carry: Carry,
+    window: u8,
+    reach: u16,
+    first: Option<u16>,
+    frames: Option<u64>,
+    input: &mut I,
+    out: &mut O,
+    err: &mut E,
+    told: &mut bool,
+) -> Result<bool, Fault>
+    requires carry { CarryFits carry }
+    requires window { (1 ≤ window) × (window ≤ 64) }
+    requires frames { IfSome frames (λ n. (1 ≤ n) × (n ≤ 3000000)) }
+    requires told { told.old ≡ true }
+    ensures run { ConvertRun (record { window = window; reach = reach; first = first; told = frames }) carry result told.new
+        I.known input.old input.new O.known out.old out.new E.known err.old err.new }
+{
+    read_one_way();
+    read_some_way();
+    packets_in_front();
+    let (mut collector, mut cutter, mut packets, mut lines) = parts(
+        alloc, carry, window, reach, first,
+    )?;
+    let mut progress = Progress {
+        given: 0,
+        clean: true,
+        told: true,
+    };
+    let converted = convert_packets(
+        &mut collector,
+        &mut cutter,
+        &mut packets,
+        frames,
+        &mut progress,
+        &mut lines,
+        input,
+        out,
+        err,
+    );
+    *told = progress.told;
+    ending(converted, progress.clean)
+}
+
+// What a conversion works with. All memory is taken here.
+fn parts(
+    alloc: Global,
+    carry: Carry,
+    window: u8,
+    reach: u16,
+    first: Option<u16>,
+) -> Result<(Collector, PacketSender, Packets, LineWriter), NoMemory>
+    requires carry { CarryFits carry }
+    requires window { (1 ≤ window) × (window ≤ 64) }
+    ensures { IfOk result (λ parts. (parts.0 ≡ made window reach first) × (parts.1 ≡ carry) × (parts.2 ≡ new_walker) × (parts.3 ≡ [])) }
+{
+    let collector = Collector::make(alloc, window, reach, first)?;
+    let cutter = PacketSender::make(alloc, carry)?;
+    let packets = Packets::make(alloc)?;
+    let lines = LineWriter::make(alloc)?;
+    Ok((collector, cutter, packets, lines))
+}
+
+// How a run ends whose conversion ends so.
+fn ending(converted: Result<(), Unconverted>, clean: bool) -> Result<bool, Fault>
+    ensures { result ≡ ending_of converted clean }
+{
+    match converted {
+        Ok(()) => Ok(clean),
+        Err(Unconverted::Stopped(stop)) => Err(stop.into()),
+        Err(Unconverted::Halted(Halt::Write)) => Err(Fault::Write),
+        Err(Unconverted::Halted(Halt::PacketSize(number))) => Err(Fault::PacketSize(number)),
+    }
+}
