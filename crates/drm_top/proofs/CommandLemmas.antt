@@ -18,7 +18,7 @@ use Rattle.drm_links.specs.declared.dock.Address.{Address}
 use Rattle.drm_links.specs.declared.link.LinkFault.{LinkFault}
 use Rattle.recv_reading.specs.declared.options.ReceiveOptions.{ReceiveOptions}
 use Rattle.drm_gate.specs.declared.tally.Tally.{Tally}
-use Rattle.gate_command.specs.Run.{NoRun, LinksRun, WritesTally}
+use Rattle.cmd_gate.specs.Run.{NoRun, LinksRun, WritesTally}
 
 whole_fault : (done : Result (Unit {0}) Fault) (fault : Fault) → whole_of done ≡ Err fault → done ≡ Err fault
 whole_fault (Ok done) fault is = cc

@@ -18,7 +18,7 @@ use Rattle.drm_count.specs.Run.{CountRun, CountCaptureRun}
 use Rattle.cmd_air.specs.Air.{AirRun}
 use Rattle.cmd_exercise.specs.Run.{ExerciseRun}
 use Rattle.cmd_convert.specs.Run.{ConvertRun}
-use Rattle.gate_command.specs.Run.{GateCommandRun}
+use Rattle.cmd_gate.specs.Run.{GateCommandRun}
 use Rattle.data_units.specs.Pack.{PackRun}
 use Rattle.capture_data.specs.Streams.{UnitsOf, TextsOf}
 use Rattle.capture_data.specs.Run.{DataRun}

@@ -25,7 +25,7 @@ use drm_links::{Dock, Link, Shelf, Sink, Source, Status};
 use cmd_receive::{receive, receive_from_capture};
 use cmd_serve::{check, send, send_live, serve, serve_live};
 use drm_words::{Request, WordsFault, read_words};
-use gate_command::gate;
+use cmd_gate::gate;
 use std::alloc::Global;
 use std::thread::Threads;
 

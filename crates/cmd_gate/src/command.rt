@@ -3,7 +3,7 @@
 ghost use Rattle.dcp_pft.specs.Carrying.{CarryFits};
 ghost use Rattle.recv_reading.specs.Options.{AreInRange};
 ghost use Rattle.several_links.specs.Listed.{AreListed};
-ghost use Rattle.gate_command.specs.Run.{GateCommandRun};
+ghost use Rattle.cmd_gate.specs.Run.{GateCommandRun};
 
 use crate::between::pass_between;
 use crate::line::{is_clean, write_tally};

@@ -1,7 +1,7 @@
 use Rattle.std.proofs.Common.{inl, inr, refl, ◌∙◌}
 use Rattle.drm_links.proofs.ToldLemmas.{once_then}
-use Rattle.gate_command.proofs.PassingLemmas.{passes_on}
-use Rattle.gate_command.proofs.between.pass_between.Goals as goal
+use Rattle.cmd_gate.proofs.PassingLemmas.{passes_on}
+use Rattle.cmd_gate.proofs.between.pass_between.Goals as goal
 
 pub returns-in-Link-clause-told : goal.returns-in-Link-clause-told
 returns-in-Link-clause-told g c =

@@ -11,7 +11,7 @@ use Rattle.recv_reading.proofs.OneReading.{next_front, ends_hold, not_shorter, f
 use Rattle.drm_gate.specs.Passing.{Fate, sent_of}
 use Rattle.drm_gate.specs.Run.{IsOnward, IsFrontOf, IsFrontOfOnward}
 use Rattle.drm_gate.proofs.Fronts.{one_onward}
-use Rattle.gate_command.specs.Between.{AreAhead, IsPassedOn, IsBrokenOff}
+use Rattle.cmd_gate.specs.Between.{AreAhead, IsPassedOn, IsBrokenOff}
 
 module _ (rules : ReceiveOptions) (carry : Carry) (ahead : List Answer) where
   -- what is finished doesn't break off

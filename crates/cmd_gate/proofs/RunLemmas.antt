@@ -26,11 +26,11 @@ use Rattle.cmd_faults.specs.declared.fault.Fault.TheVariants as faults
 use Rattle.cmd_faults.proofs.CauseLemmas.{inner_fault}
 use Rattle.drm_gate.specs.declared.tally.Tally.{Tally}
 use Rattle.drm_gate.specs.Passing.{Fate, sent_of}
-use Rattle.gate_command.specs.Line.{gate_line, is_clean}
-use Rattle.gate_command.specs.Opening.{FailsOpening, after_source}
-use Rattle.gate_command.specs.Between.{AreAhead, AreRead, IsPassedOn, Goes, GoesPart, PassesAll, PassesPart, GoesOut}
-use Rattle.gate_command.specs.Run.{PassesOn, WritesTally, LacksSome, FailsGate, HasAll, PassedAll, GateCommandRun}
-use Rattle.gate_command.proofs.ReadingLemmas.{broken, whole, one_passed, front_of_all, takes_fewer, not_both}
+use Rattle.cmd_gate.specs.Line.{gate_line, is_clean}
+use Rattle.cmd_gate.specs.Opening.{FailsOpening, after_source}
+use Rattle.cmd_gate.specs.Between.{AreAhead, AreRead, IsPassedOn, Goes, GoesPart, PassesAll, PassesPart, GoesOut}
+use Rattle.cmd_gate.specs.Run.{PassesOn, WritesTally, LacksSome, FailsGate, HasAll, PassedAll, GateCommandRun}
+use Rattle.cmd_gate.proofs.ReadingLemmas.{broken, whole, one_passed, front_of_all, takes_fewer, not_both}
 
 pub no_fault : (clean : Bool) (fault : Fault) → Ok clean ≡ Err fault → ⊥
 no_fault clean fault is = cc

@@ -19,9 +19,9 @@ use Rattle.cmd_faults.specs.declared.fault.Fault.TheVariants as faults
 use Rattle.drm_gate.specs.declared.tally.Tally.{Tally}
 use Rattle.drm_gate.specs.Passing.{Fate, sent_of}
 use Rattle.drm_gate.specs.Tallies.{tally_of, over}
-use Rattle.gate_command.specs.Line.{gate_line, is_clean}
-use Rattle.gate_command.specs.Opening.{FailsOpening, after_source}
-use Rattle.gate_command.specs.Between.{AreAhead, AreRead, IsPassedOn, GoesOut}
+use Rattle.cmd_gate.specs.Line.{gate_line, is_clean}
+use Rattle.cmd_gate.specs.Opening.{FailsOpening, after_source}
+use Rattle.cmd_gate.specs.Between.{AreAhead, AreRead, IsPassedOn, GoesOut}
 
 -- ---- what goes out
 

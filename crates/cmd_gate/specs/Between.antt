@@ -22,7 +22,7 @@ use Rattle.drm_gate.specs.declared.gate.GateEnded.TheVariants as ended
 use Rattle.drm_gate.specs.Passing.{Fate, sent_of}
 use Rattle.drm_gate.specs.Tallies.{tally_of, over}
 use Rattle.drm_gate.specs.Run.{IsOnward, IsReady, StopsAt, IsFrontOf, IsFrontOfOnward}
-use Rattle.gate_command.specs.Opening.{no_rests}
+use Rattle.cmd_gate.specs.Opening.{no_rests}
 
 -- What a run between links stands on: a new gateway that goes by these rules, addresses that are listed, room for a link to each, in
 -- which none stands yet, and a buffer for a datagram.

@@ -2,7 +2,7 @@
 
 ghost use Rattle.std.specs.Prelude.{◌≡◌};
 ghost use Rattle.drm_links.specs.Sink.{Writes};
-ghost use Rattle.gate_command.specs.Line as line;
+ghost use Rattle.cmd_gate.specs.Line as line;
 
 use drm_gate::Tally;
 use drm_links::{Sink, WriteFault};

@@ -7,9 +7,9 @@ use Rattle.several_links.specs.Reaching.{AreUp, HaveGone, HaveLinks, after_close
 use Rattle.several_links.specs.declared.member.Member.{Member}
 use Rattle.drm_gate.specs.Run.{GateRun}
 use Rattle.dcp_sender.specs.Targets.{targets}
-use Rattle.gate_command.specs.Between.{passed_of}
-use Rattle.gate_command.proofs.PassingLemmas.{rules_same, only_of, goes_out, opened_out}
-use Rattle.gate_command.proofs.between.pass_to.Goals as goal
+use Rattle.cmd_gate.specs.Between.{passed_of}
+use Rattle.cmd_gate.proofs.PassingLemmas.{rules_same, only_of, goes_out, opened_out}
+use Rattle.cmd_gate.proofs.between.pass_to.Goals as goal
 
 pub returns-in-Ok-clause-told : goal.returns-in-Ok-clause-told
 returns-in-Ok-clause-told g c =

@@ -6,9 +6,9 @@ use Rattle.drm_links.proofs.ToldLemmas.{counts_one, counts_none}
 use Rattle.cmd_faults.specs.declared.fault.Fault.TheVariants as faults
 use Rattle.cmd_faults.proofs.CauseLemmas.{inner_fault}
 use Rattle.drm_gate.specs.Gateway.{Gateway}
-use Rattle.gate_command.specs.Run.{PassesOn}
-use Rattle.gate_command.proofs.RunLemmas.{no_run, links_run, no_fault}
-use Rattle.gate_command.proofs.command.gate.Goals as goal
+use Rattle.cmd_gate.specs.Run.{PassesOn}
+use Rattle.cmd_gate.proofs.RunLemmas.{no_run, links_run, no_fault}
+use Rattle.cmd_gate.proofs.command.gate.Goals as goal
 
 pub returns-in_err-room : goal.returns-in_err-room
 returns-in_err-room g c =

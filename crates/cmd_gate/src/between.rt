@@ -3,8 +3,8 @@
 ghost use Rattle.std.specs.Prelude.{◌≡◌, IsErr, length, vec_len, vec_capacity};
 ghost use Rattle.drm_links.specs.Told.{Tells};
 ghost use Rattle.cmd_faults.specs.Causes.{OpeningFailed};
-ghost use Rattle.gate_command.specs.Between.{IsSetUp, PassesTo, options_of, passed_of};
-ghost use Rattle.gate_command.specs.Run.{PassesOn};
+ghost use Rattle.cmd_gate.specs.Between.{IsSetUp, PassesTo, options_of, passed_of};
+ghost use Rattle.cmd_gate.specs.Run.{PassesOn};
 
 use drm_gate::{Gate, GateEnded, GateOptions, Tally, gate_one};
 use drm_links::{Address, Addresses, Dock, Link, LinkFault, Opened};

@@ -37,9 +37,9 @@ use Rattle.dcp_sender.specs.Targets.{Target, target, targets}
 use Rattle.drm_gate.specs.Targets.{Each, TakesMore, EachTakes, EachSends, AllUp}
 use Rattle.drm_gate.proofs.Stopping.{took_from}
 use Rattle.drm_gate.proofs.TargetLemmas.{at_place, as_many_targets, all_up}
-use Rattle.gate_command.specs.Opening.{no_rests, after_source}
-use Rattle.gate_command.specs.Between.{options_of, AreRead, Goes, GoesPart, GoesOut, passed_of, PassesTo}
-use Rattle.gate_command.specs.Run.{PassesOn}
+use Rattle.cmd_gate.specs.Opening.{no_rests, after_source}
+use Rattle.cmd_gate.specs.Between.{options_of, AreRead, Goes, GoesPart, GoesOut, passed_of, PassesTo}
+use Rattle.cmd_gate.specs.Run.{PassesOn}
 
 -- ---- by what it reads
 
