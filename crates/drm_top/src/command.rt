@@ -14,7 +14,7 @@ ghost use Rattle.drm_words.specs.declared.request.Request.{Request};
 
 use crate::words::{options_of, text};
 use capture_data::{texts, unpack};
-use data_units::pack;
+use cmd_pack::pack;
 use cmd_air::air;
 use cmd_convert::convert;
 use drm_count::{count, count_capture};

@@ -2,10 +2,10 @@ use Rattle.std.proofs.Common.{subst}
 use Rattle.std.proofs.lemmas.Result.{err_from_is_err_and}
 use Rattle.drm_links.proofs.ToldLemmas.{done_counts}
 use Rattle.drm_links.proofs.WritingLemmas.{Writes-done}
-use Rattle.data_units.specs.Units.{BeginsWith}
-use Rattle.data_units.proofs.Files.{none_begins, wrong_begin}
-use Rattle.data_units.proofs.Written.{packs_one, packs_broken, packs_all}
-use Rattle.data_units.proofs.packing.write_packets.Goals as goal
+use Rattle.cmd_pack.specs.Units.{BeginsWith}
+use Rattle.cmd_pack.proofs.Files.{none_begins, wrong_begin}
+use Rattle.cmd_pack.proofs.Written.{packs_one, packs_broken, packs_all}
+use Rattle.cmd_pack.proofs.packing.write_packets.Goals as goal
 
 pub returns-in_err-write_unit-in-Unit : goal.returns-in_err-write_unit-in-Unit
 returns-in_err-write_unit-in-Unit g c =

@@ -1,6 +1,6 @@
 use Rattle.std.proofs.Common.{length}
-use Rattle.data_units.proofs.Written.{Packs}
-use Rattle.data_units.proofs.packing.write_packets.Given as goal
+use Rattle.cmd_pack.proofs.Written.{Packs}
+use Rattle.cmd_pack.proofs.packing.write_packets.Given as goal
 
 -- the units before the rest were written
 abbrev pub invariant-units : goal.invariant-units

@@ -4,9 +4,9 @@ use Rattle.drm_data.specs.Units.{most_unit}
 use Rattle.cmd_faults.specs.declared.units.UnitsReason.TheVariants.{Empty, TooLong, Cut}
 use Rattle.cmd_faults.specs.declared.fault.Fault.{Fault}
 use Rattle.cmd_faults.specs.declared.fault.Fault.TheVariants.{Units}
-use Rattle.data_units.specs.declared.units.Front.{Front}
-use Rattle.data_units.specs.declared.units.Front.TheVariants.{End, Unit as OneUnit, Wrong}
-use Rattle.data_units.specs.Units.{BeginsWith, IsWrong, AreUnits, IsWrongAt}
+use Rattle.cmd_pack.specs.declared.units.Front.{Front}
+use Rattle.cmd_pack.specs.declared.units.Front.TheVariants.{End, Unit as OneUnit, Wrong}
+use Rattle.cmd_pack.specs.Units.{BeginsWith, IsWrong, AreUnits, IsWrongAt}
 
 -- what stands at the front of bytes
 abbrev pub IsFrontOf : List ℕ → Front → Type 0

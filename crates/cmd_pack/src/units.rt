@@ -1,6 +1,6 @@
 //! Units as they stand in a file.
 
-ghost use Rattle.data_units.specs.Front.{IsFrontOf, IsCutOf, FindsFault};
+ghost use Rattle.cmd_pack.specs.Front.{IsFrontOf, IsCutOf, FindsFault};
 
 use cmd_faults::{Fault, UnitsFault, UnitsReason};
 

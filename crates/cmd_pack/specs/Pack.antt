@@ -7,10 +7,10 @@ use Rattle.cmd_faults.specs.Fault.{UnlessMemory}
 use Rattle.cmd_faults.specs.declared.units.UnitsFault.{UnitsFault}
 use Rattle.cmd_faults.specs.declared.fault.Fault.{Fault}
 use Rattle.cmd_faults.specs.declared.fault.Fault.TheVariants as faults
-use Rattle.data_units.specs.Units.{ComesTo}
-use Rattle.data_units.specs.Input.{ReadsFile}
+use Rattle.cmd_pack.specs.Units.{ComesTo}
+use Rattle.cmd_pack.specs.Input.{ReadsFile}
 use Rattle.input_front.specs.Input.{FailsBehind}
-use Rattle.data_units.specs.Packed.{ArePacked}
+use Rattle.cmd_pack.specs.Packed.{ArePacked}
 
 -- what comes of the bytes that were read
 abbrev pub Judges : List ℕ → Result (Unit {0}) Fault → Type 0

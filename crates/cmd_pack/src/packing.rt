@@ -4,8 +4,8 @@ ghost use Rattle.std.specs.Prelude.{◌≡◌, ◌<◌, ◌≤◌, ℕ, List, []
 ghost use Rattle.drm_links.specs.Sink.{Writes};
 ghost use Rattle.drm_data.specs.Units.{unit_packets};
 ghost use Rattle.law_data.specs.Losses.{IsUnit};
-ghost use Rattle.data_units.specs.Units.{AreUnits};
-ghost use Rattle.data_units.specs.Packed.{AreWritten, ArePacked, after_unit};
+ghost use Rattle.cmd_pack.specs.Units.{AreUnits};
+ghost use Rattle.cmd_pack.specs.Packed.{AreWritten, ArePacked, after_unit};
 
 use crate::units::{Front, front_of};
 use drm_data::Packer;

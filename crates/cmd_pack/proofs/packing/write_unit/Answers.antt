@@ -5,8 +5,8 @@ use Rattle.drm_links.proofs.ToldLemmas.{done_counts}
 use Rattle.drm_links.proofs.WritingLemmas.{Writes-done}
 use Rattle.drm_data.specs.Units.{unit_packet}
 use Rattle.drm_data.specs.Writing.{IsWritten}
-use Rattle.data_units.proofs.Written.{wrote_none, wrote_one, wrote_broken, wrote_all, ceil_is, WritesUnit}
-use Rattle.data_units.proofs.packing.write_unit.Goals as goal
+use Rattle.cmd_pack.proofs.Written.{wrote_none, wrote_one, wrote_broken, wrote_all, ceil_is, WritesUnit}
+use Rattle.cmd_pack.proofs.packing.write_unit.Goals as goal
 
 pub loop-k-init : goal.loop-k-init
 loop-k-init g c =

@@ -2,7 +2,7 @@
 
 ghost use Rattle.std.specs.Prelude.{◌≡◌, ◌<◌, ◌≤◌, Err, IfOk, length};
 ghost use Rattle.drm_links.specs.Told.{HasCause};
-ghost use Rattle.data_units.specs.Pack.{Ends, PackRun, Judges};
+ghost use Rattle.cmd_pack.specs.Pack.{Ends, PackRun, Judges};
 
 use crate::packing::write_packets;
 use crate::units::judge;

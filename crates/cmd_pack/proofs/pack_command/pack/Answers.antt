@@ -1,5 +1,5 @@
-use Rattle.data_units.proofs.Runs.{pack_run}
-use Rattle.data_units.proofs.pack_command.pack.Goals as goal
+use Rattle.cmd_pack.proofs.Runs.{pack_run}
+use Rattle.cmd_pack.proofs.pack_command.pack.Goals as goal
 
 pub returns : goal.returns
 returns g c =

@@ -1,7 +1,7 @@
 use Rattle.std.proofs.Common.{◌≡◌, length}
 use Rattle.drm_data.specs.Units.{packet_count}
-use Rattle.data_units.proofs.Written.{Wrote}
-use Rattle.data_units.proofs.packing.write_unit.Given as goal
+use Rattle.cmd_pack.proofs.Written.{Wrote}
+use Rattle.cmd_pack.proofs.packing.write_unit.Given as goal
 
 -- the packets before this one were written
 abbrev pub invariant-loop-k : goal.invariant-loop-k

@@ -10,11 +10,11 @@ use Rattle.cmd_faults.specs.Fault.{UnlessMemory}
 use Rattle.cmd_faults.specs.declared.units.UnitsFault.{UnitsFault}
 use Rattle.cmd_faults.specs.declared.fault.Fault.{Fault}
 use Rattle.cmd_faults.specs.declared.fault.Fault.TheVariants as faults
-use Rattle.data_units.specs.Units.{ComesTo}
-use Rattle.data_units.specs.Input.{ReadsFile}
-use Rattle.data_units.specs.Packed.{ArePacked}
-use Rattle.data_units.specs.Pack.{Ends, CanEnd, PackRun}
-use Rattle.data_units.proofs.Files.{one_coming}
+use Rattle.cmd_pack.specs.Units.{ComesTo}
+use Rattle.cmd_pack.specs.Input.{ReadsFile}
+use Rattle.cmd_pack.specs.Packed.{ArePacked}
+use Rattle.cmd_pack.specs.Pack.{Ends, CanEnd, PackRun}
+use Rattle.cmd_pack.proofs.Files.{one_coming}
 
 -- ---- what was read, and what was left of the input
 

@@ -1,6 +1,6 @@
 use Rattle.std.proofs.Common.{ℕ, ◌≤◌, List, length}
-use Rattle.data_units.specs.Units.{AreUnits}
-use Rattle.data_units.proofs.units.judge.Given as goal
+use Rattle.cmd_pack.specs.Units.{AreUnits}
+use Rattle.cmd_pack.proofs.units.judge.Given as goal
 
 -- the bytes before the rest are units
 abbrev pub invariant-units : goal.invariant-units

@@ -6,7 +6,7 @@ use Rattle.std.proofs.lemmas.List.{take_at, drop_at}
 use Rattle.cmd_faults.specs.declared.units.UnitsReason.{UnitsReason}
 use Rattle.cmd_faults.specs.declared.units.UnitsReason.TheVariants.{Empty, TooLong, Cut}
 use Rattle.cmd_faults.specs.declared.units.UnitsFault.{UnitsFault}
-use Rattle.data_units.specs.Units.{BeginsWith, AreUnits, said_length, IsWrong, IsWrongAt, ComesTo}
+use Rattle.cmd_pack.specs.Units.{BeginsWith, AreUnits, said_length, IsWrong, IsWrongAt, ComesTo}
 
 -- one unit more
 pub units_more : (units : List (List ℕ)) (unit rest more bytes : List ℕ) → AreUnits units rest bytes → BeginsWith unit more rest → AreUnits (units ++ unit ∷ []) more bytes

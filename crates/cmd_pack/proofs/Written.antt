@@ -12,9 +12,9 @@ use Rattle.drm_data.specs.Packet.{Packet}
 use Rattle.drm_data.specs.Units.{unit_packet, packet_count, next_continuity, packets_from, unit_packets, packets_after, packets}
 use Rattle.drm_data.specs.Writing.{IsWritten, Packing, new_packer, after_packet}
 use Rattle.law_data.proofs.Totals.{some_written}
-use Rattle.data_units.specs.Units.{BeginsWith, AreUnits}
-use Rattle.data_units.specs.Packed.{AreWritten, after_unit}
-use Rattle.data_units.proofs.Files.{one_begin, begin_size}
+use Rattle.cmd_pack.specs.Units.{BeginsWith, AreUnits}
+use Rattle.cmd_pack.specs.Packed.{AreWritten, after_unit}
+use Rattle.cmd_pack.proofs.Files.{one_begin, begin_size}
 
 written_join : (d : ℕ) (ps qs : List Packet) (s t : List ℕ) → AreWritten d ps s → AreWritten d qs t → AreWritten d (ps ++ qs) (s ++ t)
 written_join d [] qs s t a b = subst (λ l. AreWritten d qs (l ++ t)) (sym a) b

@@ -1,6 +1,6 @@
 use Rattle.std.proofs.Common.{◌∷◌, [], ◌++◌, arith}
-use Rattle.data_units.proofs.Files.{units_more, begin_size}
-use Rattle.data_units.proofs.units.judge.Goals as goal
+use Rattle.cmd_pack.proofs.Files.{units_more, begin_size}
+use Rattle.cmd_pack.proofs.units.judge.Goals as goal
 
 pub units-preserved : goal.units-preserved
 units-preserved c =
