@@ -20,8 +20,8 @@ use Rattle.cmd_exercise.specs.Run.{ExerciseRun}
 use Rattle.cmd_convert.specs.Run.{ConvertRun}
 use Rattle.cmd_gate.specs.Run.{GateCommandRun}
 use Rattle.cmd_pack.specs.Pack.{PackRun}
-use Rattle.capture_data.specs.Streams.{UnitsOf, TextsOf}
-use Rattle.capture_data.specs.Run.{DataRun}
+use Rattle.cmd_unpack.specs.Streams.{UnitsOf, TextsOf}
+use Rattle.cmd_unpack.specs.Run.{DataRun}
 use Rattle.cmd_faults.specs.Fault.{done_of, whole_of, report_status, ReportsIf}
 use Rattle.cmd_faults.specs.declared.fault.Fault.{Fault}
 use Rattle.cmd_faults.specs.declared.fault.Fault.TheVariants.{NoMemory}

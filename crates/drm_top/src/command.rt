@@ -13,7 +13,7 @@ ghost use Rattle.drm_top.specs.Words.{AsksFor, AsksForNothing, IsInRange};
 ghost use Rattle.drm_words.specs.declared.request.Request.{Request};
 
 use crate::words::{options_of, text};
-use capture_data::{texts, unpack};
+use cmd_unpack::{texts, unpack};
 use cmd_pack::pack;
 use cmd_air::air;
 use cmd_convert::convert;

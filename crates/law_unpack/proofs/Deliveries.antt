@@ -19,7 +19,7 @@ use Rattle.drm_data.specs.Packet.{Packet}
 use Rattle.drm_data.specs.Joining.{Event, Gap, State, made, closed}
 use Rattle.law_data.specs.Runs.{answers, cuts_in}
 use Rattle.mod_feed.specs.Items.{Item}
-use Rattle.capture_data.specs.Streams.{What, UnitsOf, stream_of, pieces_of, entries_of, entries_at}
+use Rattle.cmd_unpack.specs.Streams.{What, UnitsOf, stream_of, pieces_of, entries_of, entries_at}
 use Rattle.law_unpack.specs.Frames.{Carried, came_of, packets_of, Brings, BringAll}
 use Rattle.law_unpack.specs.Delivered.{CarriesAt, CarryFrom, is_given, carried_from, carried_by, together, UnpacksDeliveries}
 use Rattle.law_unpack.proofs.LostFrames.{Same, same_one, same_front, none_said}

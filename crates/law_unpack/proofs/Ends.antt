@@ -10,9 +10,9 @@ use Rattle.drm_data.specs.Joining.{Event, Gap, State, Answer, Begun, made, close
 use Rattle.law_data.specs.Losses.{IsUnit}
 use Rattle.law_data.specs.Runs.{answers, after_all, unit_in, with_unit, units_in, cuts_in}
 use Rattle.mod_feed.specs.Items.{Item}
-use Rattle.capture_data.specs.Streams.{What, UnitsOf, reading, bad_in, missing_in}
-use Rattle.capture_data.specs.Lines.{cut_line, answer_text, answers_text, units_end, units_end_text, is_clean}
-use Rattle.capture_data.specs.Printed.{IsWholeText, unit_counts, refused_at, refused_in}
+use Rattle.cmd_unpack.specs.Streams.{What, UnitsOf, reading, bad_in, missing_in}
+use Rattle.cmd_unpack.specs.Lines.{cut_line, answer_text, answers_text, units_end, units_end_text, is_clean}
+use Rattle.cmd_unpack.specs.Printed.{IsWholeText, unit_counts, refused_at, refused_in}
 use Rattle.law_unpack.specs.Frames.{Carried, came_of, events_of, packets_of, BringAll}
 use Rattle.law_unpack.specs.Laws.{Unpacked, UnpacksWhatIsWhole}
 use Rattle.law_unpack.proofs.LostFrames.{Same, all_events, one_reading, gives_what_frames_bring}

@@ -10,8 +10,8 @@ use Rattle.law_data.specs.Readings.{AreEvents}
 use Rattle.law_data.specs.Runs.{answers, after_all, unit_in, tells_cut, with_unit, units_in, cuts_in}
 use Rattle.law_data.proofs.LostPackets.{gives_what_is_whole}
 use Rattle.mod_feed.specs.Items.{Item}
-use Rattle.capture_data.specs.Streams.{What, entries_at, reading}
-use Rattle.capture_data.proofs.Joining.{events_join}
+use Rattle.cmd_unpack.specs.Streams.{What, entries_at, reading}
+use Rattle.cmd_unpack.proofs.Joining.{events_join}
 use Rattle.law_unpack.specs.Frames.{Carried, came_of, events_of, packets_of, kept_of, ArePackets, Brings, BringAll}
 use Rattle.law_unpack.specs.Laws.{GivesWhatFramesBring}
 use Rattle.law_unpack.proofs.Alike.{Alike, same_cuts}

@@ -11,7 +11,7 @@ use Rattle.mod_feed.specs.Feeding.{FeedStep, Feeds, after_step}
 use Rattle.mod_feed.proofs.FeedingLemmas.{number_is, stepped_calls}
 use Rattle.drm_reconfiguration.specs.Tracker.{answered, stepped}
 use Rattle.drm_reconfiguration.specs.declared.seen.Seen.{Seen}
-use Rattle.capture_data.specs.Printed.{AreItems}
+use Rattle.cmd_unpack.specs.Printed.{AreItems}
 
 -- they have the numbers from n on
 abbrev pub AreFrom : ℕ → List Collected → Type 0

@@ -23,8 +23,8 @@ use Rattle.law_delivery.specs.Laws.{Delivering}
 use Rattle.law_delivery.specs.Sent.{Arrival, pairs_in, frame_at, frame_of_number, shape_at, IsFollowed}
 use Rattle.mod_feed.specs.Items.{Item, Missing}
 use Rattle.mod_feed.specs.Feeding.{FeedStep}
-use Rattle.capture_data.specs.Streams.{stream_of}
-use Rattle.capture_data.specs.Printed.{AreItems}
+use Rattle.cmd_unpack.specs.Streams.{stream_of}
+use Rattle.cmd_unpack.specs.Printed.{AreItems}
 use Rattle.law_unpack.specs.Delivered.{is_given, is_given_at}
 use Rattle.law_unpack.proofs.Numbered.{Fed, fed, run_from}
 

@@ -21,7 +21,7 @@ use Rattle.law_delivery.specs.Laws.{Delivering}
 use Rattle.law_delivery.specs.Sent.{pairs_in, frame_of_number, shape_at}
 use Rattle.law_delivery.proofs.Numbering.{frame_within}
 use Rattle.mod_feed.specs.Items.{Item, Frame, Missing, Bad}
-use Rattle.capture_data.specs.Streams.{TextsOf, stream_of, pieces_of, entries_of, entries_at, lacking, bad_at, missing_at, reading, bad_in, missing_in}
+use Rattle.cmd_unpack.specs.Streams.{TextsOf, stream_of, pieces_of, entries_of, entries_at, lacking, bad_at, missing_at, reading, bad_in, missing_in}
 use Rattle.law_unpack.specs.Delivered.{is_given}
 use Rattle.law_unpack.specs.Texts.{bytes_in, entries_where, entries_by, piece_count, TextsOfDeliveries}
 use Rattle.law_unpack.proofs.Places.{AreMissing, AreAt, first_at, next_at, kept_at, missing_by, place_next, none_before, all_behind, given_within, lost_past, lost_early, stream_served, placed}

@@ -17,8 +17,8 @@ use Rattle.drm_data.specs.Packet.{Packet}
 use Rattle.drm_data.specs.Units.{packets}
 use Rattle.law_data.specs.Losses.{IsUnit}
 use Rattle.mod_feed.specs.Items.{Item}
-use Rattle.capture_data.specs.Streams.{UnitsOf, pieces_in}
-use Rattle.capture_data.specs.Printed.{AreItems, IsWholeText}
+use Rattle.cmd_unpack.specs.Streams.{UnitsOf, pieces_in}
+use Rattle.cmd_unpack.specs.Printed.{AreItems, IsWholeText}
 use Rattle.law_unpack.specs.Frames.{Carried, ArePackets}
 use Rattle.law_unpack.specs.Laws.{Unpacked}
 

@@ -3,7 +3,7 @@ use Rattle.std.specs.Prelude.{ℕ, ◌≡◌, Bool, true, false, ◌||◌, List,
 use Rattle.drm_data.specs.Packet.{Packet, IsPacket}
 use Rattle.drm_data.specs.Joining.{Event, Came, Gap}
 use Rattle.mod_feed.specs.Items.{Item}
-use Rattle.capture_data.specs.Streams.{What, entries_at}
+use Rattle.cmd_unpack.specs.Streams.{What, entries_at}
 
 -- the packets in the stream of a frame, and whether the frame is given
 pub record Carried : Type 0 where

@@ -6,9 +6,9 @@ use Rattle.drm_data.specs.Joining.{Answer, made}
 use Rattle.law_data.specs.Losses.{IsUnit, whole_units, cut_count}
 use Rattle.law_data.specs.Runs.{answers, after_all, units_in, cuts_in}
 use Rattle.mod_feed.specs.Items.{Item}
-use Rattle.capture_data.specs.Streams.{UnitsOf}
-use Rattle.capture_data.specs.Lines.{answers_text, units_end, is_clean}
-use Rattle.capture_data.specs.Printed.{unit_counts, IsWholeText}
+use Rattle.cmd_unpack.specs.Streams.{UnitsOf}
+use Rattle.cmd_unpack.specs.Lines.{answers_text, units_end, is_clean}
+use Rattle.cmd_unpack.specs.Printed.{unit_counts, IsWholeText}
 use Rattle.law_unpack.specs.Frames.{Carried, events_of, packets_of, kept_of, BringAll}
 
 -- Of the packets of units in frames, some of which are lost, a joiner gives exactly the units for which each frame is given from that of the

@@ -14,9 +14,9 @@ use Rattle.law_collect.specs.Delivery.{newest_of}
 use Rattle.law_delivery.specs.Sent.{Arrival, pairs_in, IsFollowed}
 use Rattle.law_text.specs.Readings.{Reading, AreMessages}
 use Rattle.mod_feed.specs.Items.{Item}
-use Rattle.capture_data.specs.Streams.{TextsOf, pieces_of, entries_of, bad_in, missing_in}
-use Rattle.capture_data.specs.Lines.{text_line, texts_end_text}
-use Rattle.capture_data.specs.Printed.{AreItems, IsWholeText}
+use Rattle.cmd_unpack.specs.Streams.{TextsOf, pieces_of, entries_of, bad_in, missing_in}
+use Rattle.cmd_unpack.specs.Lines.{text_line, texts_end_text}
+use Rattle.cmd_unpack.specs.Printed.{AreItems, IsWholeText}
 use Rattle.law_unpack.specs.Delivered.{is_given}
 
 -- the bytes of stream k in frame t of the schedule, where it has that stream

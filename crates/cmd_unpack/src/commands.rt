@@ -1,0 +1,81 @@
+//! The commands `unpack` and `texts`.
+
+ghost use Rattle.std.specs.Prelude.{◌≡◌, ◌<◌, ◌≤◌, IfSome};
+ghost use Rattle.recv_reading.specs.Packets.{Terms};
+ghost use Rattle.cmd_unpack.specs.Streams.{UnitsOf, TextsOf};
+ghost use Rattle.cmd_unpack.specs.Run.{DataRun};
+
+use crate::counts::no_counts;
+use crate::messages::MessageTaker;
+use crate::reading::take_capture;
+use crate::taker::Taker;
+use crate::units::UnitTaker;
+use law_capture::packets_in_front;
+use capture_reader::read_one_way;
+use drm_data::Joiner;
+use cmd_faults::Fault;
+use drm_links::{Sink, Source};
+use drm_text::TextJoiner;
+use std::alloc::Global;
+
+/// Receives a capture from `input`, and writes the units in a stream of its frames, of this packet id and data length, each
+/// as it comes, and which were cut. Answers whether nothing is cut, bad or missing.
+pub fn unpack<I: Source, O: Sink>(
+    alloc: Global,
+    stream: u8,
+    id: u8,
+    length: u8,
+    window: u8,
+    reach: u16,
+    first: Option<u16>,
+    frames: Option<u64>,
+    input: &mut I,
+    out: &mut O,
+) -> Result<bool, Fault>
+    requires stream { stream < 4 }
+    requires id { id < 4 }
+    requires length { 1 ≤ length }
+    requires window { (1 ≤ window) × (window ≤ 64) }
+    requires frames { IfSome frames (λ n. (1 ≤ n) × (n ≤ 3000000)) }
+    ensures run { DataRun (record { window = window; reach = reach; first = first; told = frames }) (UnitsOf stream id length) result
+        I.known input.old input.new O.known out.old out.new }
+{
+    read_one_way();
+    packets_in_front();
+    let joiner = Joiner::make(alloc, id, length)?;
+    let mut taker = Taker::Units(UnitTaker {
+        stream,
+        length,
+        joiner,
+        counts: no_counts(),
+    });
+    take_capture(alloc, window, reach, first, frames, &mut taker, input, out)
+}
+
+/// Receives a capture from `input`, and writes the text messages in a stream of its frames, each as it comes. Answers whether
+/// nothing is bad or missing.
+pub fn texts<I: Source, O: Sink>(
+    alloc: Global,
+    stream: u8,
+    window: u8,
+    reach: u16,
+    first: Option<u16>,
+    frames: Option<u64>,
+    input: &mut I,
+    out: &mut O,
+) -> Result<bool, Fault>
+    requires stream { stream < 4 }
+    requires window { (1 ≤ window) × (window ≤ 64) }
+    requires frames { IfSome frames (λ n. (1 ≤ n) × (n ≤ 3000000)) }
+    ensures run { DataRun (record { window = window; reach = reach; first = first; told = frames }) (TextsOf stream) result
+        I.known input.old input.new O.known out.old out.new }
+{
+    read_one_way();
+    packets_in_front();
+    let mut taker = Taker::Messages(MessageTaker {
+        stream,
+        joiner: TextJoiner::new(),
+        counts: no_counts(),
+    });
+    take_capture(alloc, window, reach, first, frames, &mut taker, input, out)
+}
