@@ -3,7 +3,7 @@
 #![tactic(auto)]
 
 use drm_adapt::{StreamSink, UdpDock};
-use path_command::{no_memory, run_paths};
+use cmd_paths::{no_memory, run_paths};
 use cli_program::given_words;
 use std::env;
 use std::process::ExitCode;

@@ -2,7 +2,7 @@
 
 use drm_links::MemSink;
 use gated_links::{GatedDock, Share, reports, words_of};
-use path_command::run_paths;
+use cmd_paths::run_paths;
 use std::alloc::Global;
 use std::sync::Wait;
 use std::sync::atomic::AtomicU64;

@@ -5,7 +5,7 @@ use case_files::{Case, Sent};
 use drm_bits::NoMemory;
 use drm_links::{MemDock, MemLink};
 use drm_top::run;
-use path_command::run_paths;
+use cmd_paths::run_paths;
 use std::alloc::{AllocError, Global};
 use std::fmt::Display;
 use std::sync::Wait;

@@ -1,0 +1,198 @@
+//! The run of several paths.
+
+ghost use Rattle.std.specs.Prelude.{◌≡◌, ◌⊎◌, ◌<◌, ◌≤◌, All, map, length, string_bytes, vec_len, Bool, Result, Err};
+ghost use Rattle.drm_links.specs.Told.{HasCause};
+ghost use Rattle.drm_paths.specs.State.{settings_of};
+ghost use Rattle.cli_paths.specs.declared.request.Request.{Request};
+ghost use Rattle.cli_paths.specs.Line.{IsPathsLine};
+ghost use Rattle.cmd_paths.specs.declared.fault.Fault.{Fault};
+ghost use Rattle.cmd_paths.specs.Faults.{status_of, fault_line};
+ghost use Rattle.cmd_faults.specs.Fault.{WritesLine};
+ghost use Rattle.cmd_paths.specs.Jobs.{HaveNewPaths};
+ghost use Rattle.cmd_paths.specs.Links.{EndsLinks, ReadsAndCloses, RunsLinks, ending_of};
+ghost use Rattle.cmd_paths.specs.Run.{IsInRange, settings_in, PathsRun, Runs, ReportsFault, AsksForNothing};
+
+use crate::fault::Fault;
+use crate::job::{PathJob, run_all, seats_of, some_failed, some_ran_out};
+use crate::open::{close_links, open_links, room_for};
+use drm_links::{Dock, Link, Sink, Status};
+use drm_paths::{Closed, PathOptions, Road, Shared, close_paths, open_paths};
+use path_book::{Ending, Settings};
+use cli_paths::{Request, read_paths};
+use std::alloc::Global;
+use std::marker::Brand;
+use std::sync::Wait;
+use std::sync::ledger::Blank;
+use std::thread::Threads;
+use cli_syntax::WordsFault;
+
+/// Runs one command line: the words that stand behind the program's name.
+///
+/// A link is opened in `dock` at each address. Each is read by a path in a thread of its own, until it has read enough, and
+/// all hand what comes to one book. When all have ended the report of the book is written to `out`, as that of one feed. The
+/// statuses are 0 done, 1 no memory, 2 no command line, 5 a write to `out` failed, 6 a link couldn't be opened or failed, 7
+/// done, and a frame is missing or bad, 8 the book differs from what the paths took; each but 0 and 7 writes a line to `err`.
+pub fn run_paths<R: Threads + Wait + Sync, O: Sink, E: Sink, D: Dock>(
+    rt: &R,
+    alloc: Global,
+    words: &[String],
+    out: &mut O,
+    err: &mut E,
+    dock: &mut D,
+) -> Status
+where
+    D::L: Link + Send,
+    // Words that ask for a run are one, or memory ran out while they were read.
+    ensures runs { (request : Request) → IsPathsLine (map string_bytes words.now) request
+        → (ending : Result Bool Fault) × (result.code ≡ status_of ending) × ReportsFault ending E.known err.old err.new
+        × Runs request ending D.known dock.old dock.new O.known out.old out.new }
+    // Words that ask for none are refused, and nothing is touched.
+    ensures nothing { AsksForNothing (map string_bytes words.now)
+        → (ending : Result Bool Fault) × (result.code ≡ status_of ending) × ReportsFault ending E.known err.old err.new
+        × ((ending ≡ Err Fault.Words) ⊎ (ending ≡ Err Fault.NoMemory)) × (dock.new ≡ dock.old) × (out.new ≡ out.old) }
+    // 2: the words ask for nothing.
+    ensures words { result.code ≡ 2 → AsksForNothing (map string_bytes words.now) }
+    // 5: the count of faults of out rose, by one; else it stayed.
+    ensures write { HasCause (O.known out.old) (O.known out.new) (result.code ≡ 5) }
+    ensures known { result.code ≤ 8 }
+{
+    match execute(rt, alloc, words, out, dock) {
+        Ok(true) => Status { code: 0 },
+        Ok(false) => Status { code: 7 },
+        Err(fault) => fault.report(err),
+    }
+}
+
+/// Writes the line of want of memory, where there was none to make the words with, and answers its
+/// status.
+pub fn no_memory<E: Sink>(err: &mut E) -> Status
+    ensures status { result.code ≡ 1 }
+    ensures line { WritesLine (fault_line Fault.NoMemory) E.known err.old err.new }
+{
+    Fault::NoMemory.report(err)
+}
+
+fn execute<R: Threads + Wait + Sync, O: Sink, D: Dock>(
+    rt: &R,
+    alloc: Global,
+    words: &[String],
+    out: &mut O,
+    dock: &mut D,
+) -> Result<bool, Fault>
+where
+    D::L: Link + Send,
+    ensures runs { (request : Request) → IsPathsLine (map string_bytes words.now) request
+        → Runs request result D.known dock.old dock.new O.known out.old out.new }
+    ensures nothing { AsksForNothing (map string_bytes words.now)
+        → ((result ≡ Err Fault.Words) ⊎ (result ≡ Err Fault.NoMemory)) × (dock.new ≡ dock.old) × (out.new ≡ out.old) }
+    ensures words { result ≡ Err Fault.Words → AsksForNothing (map string_bytes words.now) }
+    ensures write { HasCause (O.known out.old) (O.known out.new) (result ≡ Err Fault.Write) }
+{
+    match read_paths(alloc, words) {
+        Ok(request) => run_request(rt, alloc, &request, out, dock),
+        Err(WordsFault::Words) => Err(Fault::Words),
+        Err(WordsFault::NoMemory) => Err(Fault::NoMemory),
+    }
+}
+
+fn run_request<R: Threads + Wait + Sync, O: Sink, D: Dock>(
+    rt: &R,
+    alloc: Global,
+    request: &Request,
+    out: &mut O,
+    dock: &mut D,
+) -> Result<bool, Fault>
+where
+    D::L: Link + Send,
+    requires { IsInRange request.now }
+    ensures { PathsRun request.now result D.known dock.old dock.new O.known out.old out.new }
+{
+    let blank = Blank::new(request.addresses.len() as u64);
+    let ending = run_links::<Brand, R, D>(rt, alloc, blank, request, dock)?;
+    Ok(ending.write(out)?)
+}
+
+// Takes all memory that reading wants, opens all links, reads and closes them, and ends their report.
+fn run_links<G: Road + Send + Sync, R: Threads + Wait + Sync, D: Dock>(
+    rt: &R,
+    alloc: Global,
+    blank: Blank,
+    request: &Request,
+    dock: &mut D,
+) -> Result<Ending, Fault>
+where
+    D::L: Link + Send,
+    requires blank { (blank.name ≡ G.name) × (blank.parts ≡ G.parts) × (G.parts ≡ length request.now.addresses) }
+    requires settings { settings_in request.now ≡ settings_of G.window G.reach G.first G.frames }
+    requires range { IsInRange request.now }
+    ensures { RunsLinks request.now D.L.known result (D.known dock.old) (D.known dock.new) }
+{
+    let settings = Settings {
+        window: request.window,
+        reach: request.reach,
+        first: request.first,
+        frames: request.frames,
+    };
+    let (shared, paths) = open_paths::<G>(alloc, blank, settings, request.addresses.len() as u8)?;
+    let seats = seats_of(alloc, paths)?;
+    let room = room_for(alloc, &request.addresses)?;
+    match open_links(alloc, room, seats, &request.addresses, dock) {
+        Ok(jobs) => read_links(rt, alloc, request, shared, dock, jobs),
+        Err(_) => Err(Fault::Link),
+    }
+}
+
+// Reads the links of these jobs, closes them, and ends their report. A link that failed goes before want of memory.
+fn read_links<G: Road + Send + Sync, R: Threads + Wait + Sync, D: Dock>(
+    rt: &R,
+    alloc: Global,
+    request: &Request,
+    shared: Shared<G>,
+    dock: &mut D,
+    mut jobs: Vec<PathJob<G, D::L>>,
+) -> Result<Ending, Fault>
+where
+    D::L: Link + Send,
+    requires settings { settings_in request.now ≡ settings_of G.window G.reach G.first G.frames }
+    requires range { IsInRange request.now }
+    requires new { HaveNewPaths jobs.items }
+    requires buffers { All (λ job. vec_len job.buffer ≡ 65536) jobs.items }
+    requires some { 0 < vec_len jobs }
+    requires parts { G.parts ≡ vec_len jobs }
+    requires many { vec_len jobs ≡ length request.now.addresses }
+    ensures ends { EndsLinks request.now D.L.known (map (λ job. job.link) jobs.items) result }
+    ensures closed { ReadsAndCloses request.now D.L.known (map (λ job. job.link) jobs.items) result
+        (D.known dock.old) (D.known dock.new) }
+    ensures cause { (D.known dock.new).faults ≡ (D.known dock.old).faults }
+{
+    let options = PathOptions {
+        idle: request.idle,
+        limit: request.limit,
+    };
+    run_all(rt, alloc, &shared, &options, jobs.as_mut_slice());
+    let failed = some_failed(jobs.as_slice());
+    let ran_out = some_ran_out(jobs.as_slice());
+    let handed = close_links(alloc, dock, &request.addresses, jobs);
+    if failed {
+        return Err(Fault::Link);
+    }
+    if ran_out {
+        return Err(Fault::NoMemory);
+    }
+    let paths = handed?;
+    closed(close_paths(alloc, shared, paths))
+}
+
+// How a run ends that is closed so.
+fn closed(closed: Closed) -> Result<Ending, Fault>
+    ensures { result ≡ ending_of closed }
+{
+    match closed {
+        Closed::Whole(ending) => Ok(ending),
+        Closed::Differ(difference) => Err(Fault::Differs {
+            path: difference.path,
+            at: difference.at,
+        }),
+        Closed::NoMemory => Err(Fault::NoMemory),
+    }
+}

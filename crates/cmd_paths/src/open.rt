@@ -1,0 +1,102 @@
+//! The links of a run.
+
+ghost use Rattle.std.specs.Prelude.{◌≡◌, ◌≤◌, ◌++◌, ◌∷◌, [], true, length, map, vec_len, vec_capacity, All, IsErr, IfOk, IfErr};
+ghost use Rattle.drm_links.specs.Told.{HasCause, Tells};
+ghost use Rattle.drm_links.specs.Dock.{AreDifferent, Docked, after_openings};
+ghost use Rattle.several_links.specs.Binding.{BindsFew};
+ghost use Rattle.cmd_paths.specs.Opening.{HaveLinks, IsClosed};
+
+use crate::job::{PathJob, Seat, job_for};
+use drm_bits::NoMemory;
+use drm_links::{Addresses, Dock, Link, LinkFault, Opened};
+use drm_paths::{Path, Paths, Road};
+use drm_lists::Items;
+use std::alloc::Global;
+
+/// Takes the memory for jobs at these addresses.
+pub(crate) fn room_for<G: Road, L: Link>(
+    alloc: Global,
+    addresses: &Addresses,
+) -> Result<Vec<PathJob<G, L>>, NoMemory>
+    ensures none { IfOk result (λ room. vec_len room ≡ 0) }
+    ensures all { IfOk result (λ room. length addresses.now ≤ vec_capacity room) }
+{
+    Ok(Vec::with_capacity(alloc, addresses.len())?)
+}
+
+/// Opens a link at each address, in their order, and gives them to these seats. Where an opening fails no further one is made, and the
+/// links that were opened are closed.
+pub(crate) fn open_links<G: Road, D: Dock>(
+    alloc: Global,
+    room: Vec<PathJob<G, D::L>>,
+    seats: Vec<Seat<G>>,
+    addresses: &Addresses,
+    dock: &mut D,
+) -> Result<Vec<PathJob<G, D::L>>, LinkFault>
+    requires different { AreDifferent addresses.now }
+    requires none { vec_len room ≡ 0 }
+    requires all { length addresses.now ≤ vec_capacity room }
+    requires many { vec_len seats ≡ length addresses.now }
+    requires buffers { All (λ seat. vec_len seat.buffer ≡ 65536) seats.items }
+    ensures many { IfOk result (λ jobs. vec_len jobs ≡ length addresses.now) }
+    ensures paths { IfOk result (λ jobs. map (λ job. job.path) jobs.items ≡ map (λ seat. seat.path) seats.items) }
+    ensures buffers { IfOk result (λ jobs. All (λ job. vec_len job.buffer ≡ 65536) jobs.items) }
+    ensures opened { IfOk result (λ _. Tells (D.known dock.old) (D.known dock.new)
+        (λ before after. after ≡ after_openings addresses.now before)) }
+    ensures links { IfOk result (λ jobs. Docked (D.known dock.old) (D.known dock.new) (λ told.
+        HaveLinks D.L.known told addresses.now (map (λ job. job.link) jobs.items))) }
+    ensures failed { IfErr result (λ _. Tells (D.known dock.old) (D.known dock.new) (BindsFew addresses.now)) }
+    ensures cause { HasCause (D.known dock.old) (D.known dock.new) (IsErr result) }
+{
+    let mut jobs = room;
+    let mut k = 0;
+    for seat in seats {
+        match dock.bind(*addresses.get(k)) {
+            Opened::Link(link) => jobs.push_reserved(job_for(seat, link)),
+            Opened::Failed => {
+                let _ = close_links(alloc, dock, addresses, jobs);
+                return Err(LinkFault);
+            }
+        }
+        k += 1;
+    }
+    Ok(jobs)
+}
+
+/// Closes the links of these jobs, in the order of the addresses, and hands on their paths, where there is memory for their list.
+pub(crate) fn close_links<G: Road, D: Dock>(
+    alloc: Global,
+    dock: &mut D,
+    addresses: &Addresses,
+    jobs: Vec<PathJob<G, D::L>>,
+) -> Result<Paths<G>, NoMemory>
+    requires { vec_len jobs ≤ length addresses.now }
+    ensures paths { IfOk result (λ paths. paths ≡ map (λ job. job.path) jobs.items) }
+    ensures closed { Tells (D.known dock.old) (D.known dock.new)
+        (IsClosed D.L.known addresses.now (map (λ job. job.link) jobs.items)) }
+    ensures cause { (D.known dock.new).faults ≡ (D.known dock.old).faults }
+{
+    let mut paths = Items::new(alloc);
+    let mut fits = true;
+    let mut k = 0;
+    for job in jobs {
+        let PathJob { path, link, .. } = job;
+        dock.close(*addresses.get(k), link);
+        fits = put(&mut paths, path, fits);
+        k += 1;
+    }
+    if fits {
+        return Ok(paths);
+    }
+    Err(NoMemory)
+}
+
+// Puts a path behind the others. Answers whether all so far found room.
+fn put<G: Road>(paths: &mut Paths<G>, path: Path<G>, fits: bool) -> bool
+    ensures { result ≡ true → (fits ≡ true) × (paths.new ≡ paths.old ++ path ∷ []) }
+{
+    match paths.push(path) {
+        Ok(()) => fits,
+        Err(_) => false,
+    }
+}
