@@ -14,7 +14,7 @@ use Rattle.drm_schedule.specs.declared.live.Live.{Live}
 use Rattle.drm_schedule.specs.Live.{is_any}
 use Rattle.cmd_receive.specs.Receive.{ReceiveRun}
 use Rattle.cmd_receive.specs.Capture.{CaptureRun}
-use Rattle.drm_count.specs.Run.{CountRun, CountCaptureRun}
+use Rattle.cmd_count.specs.Run.{CountRun, CountCaptureRun}
 use Rattle.cmd_air.specs.Air.{AirRun}
 use Rattle.cmd_exercise.specs.Run.{ExerciseRun}
 use Rattle.cmd_convert.specs.Run.{ConvertRun}

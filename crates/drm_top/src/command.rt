@@ -17,7 +17,7 @@ use cmd_unpack::{texts, unpack};
 use cmd_pack::pack;
 use cmd_air::air;
 use cmd_convert::convert;
-use drm_count::{count, count_capture};
+use cmd_count::{count, count_capture};
 use cmd_exercise::exercise;
 use cmd_faults::Fault;
 use cmd_show::{fac, show};

@@ -11,7 +11,7 @@ use Rattle.drm_top.specs.Outside.{outside}
 use Rattle.drm_top.proofs.CommandLemmas.{fault_of_whole, whole_cause, whole_lacks_none, dock_still, not_else, not_convert, not_a_link, not_gate, no_gate}
 use Rattle.drm_top.proofs.ServeLemmas.{sends, opens_some}
 use Rattle.cmd_receive.proofs.OpeningLemmas.{opens_unsent}
-use Rattle.drm_count.specs.Run.{ended, unseen}
+use Rattle.cmd_count.specs.Run.{ended, unseen}
 use Rattle.drm_top.proofs.command.run_command.Goals as goal
 
 pub returns-in-Fac : goal.returns-in-Fac

@@ -11,9 +11,9 @@ use Rattle.report_text.specs.declared.report.Sums.{Sums}
 use Rattle.report_text.specs.Reports.{refusals_from, refusals, sums_of, is_clean}
 use Rattle.report_text.specs.Tallies.{Tallied, one_more_item, noted, tally_of}
 use Rattle.report_text.proofs.CountLemmas.{steps_counted, answer_noted, clean_is}
-use Rattle.drm_count.specs.Totals as totals
-use Rattle.drm_count.specs.Totals.{is_kept, is_repeated, is_late, totals_of, answered, one_more}
-use Rattle.drm_count.specs.declared.totals.Totals.{Totals}
+use Rattle.cmd_count.specs.Totals as totals
+use Rattle.cmd_count.specs.Totals.{is_kept, is_repeated, is_late, totals_of, answered, one_more}
+use Rattle.cmd_count.specs.declared.totals.Totals.{Totals}
 
 -- ---- an item more
 

@@ -4,8 +4,8 @@ use Rattle.dcp_collect.specs.declared.taken.Taken.{Taken}
 use Rattle.recv_reading.specs.State.{new_reading}
 use Rattle.recv_reading.specs.Reached.{Reached, ReadsOn}
 use Rattle.recv_reading.proofs.Finishing.{IsOver, gives_so, gives_none, waits_now}
-use Rattle.drm_count.proofs.ReadingLemmas.{Counting, usable, none_answered, none_counted, one_counted, one_taken, none_taken, breaks_off, all_counted, few_answered}
-use Rattle.drm_count.proofs.counting.count_all.Goals as goal
+use Rattle.cmd_count.proofs.ReadingLemmas.{Counting, usable, none_answered, none_counted, one_counted, one_taken, none_taken, breaks_off, all_counted, few_answered}
+use Rattle.cmd_count.proofs.counting.count_all.Goals as goal
 
 pub answers-init : goal.answers-init
 answers-init g c = (

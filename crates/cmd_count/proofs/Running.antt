@@ -39,9 +39,9 @@ use Rattle.cmd_receive.proofs.LiveLemmas.{live_run, live_went, one_hears}
 use Rattle.cmd_receive.proofs.ReceiveLemmas.{opening_failed}
 use Rattle.cmd_receive.proofs.CaptureLemmas.{written, ended_as, ended_early, ended_memory, ended_read, ended_write}
 use Rattle.cmd_receive.proofs.CaptureStatus.{capture_run}
-use Rattle.drm_count.specs.Totals.{is_clean}
-use Rattle.drm_count.specs.Run.{Counted, CountsLink, CountsCapture, IsReadFailed, unseen}
-use Rattle.drm_count.specs.declared.totals.Totals.{Totals}
+use Rattle.cmd_count.specs.Totals.{is_clean}
+use Rattle.cmd_count.specs.Run.{Counted, CountsLink, CountsCapture, IsReadFailed, unseen}
+use Rattle.cmd_count.specs.declared.totals.Totals.{Totals}
 
 -- the report of what was counted, which goes nowhere
 pub reported : (options : ReceiveOptions) (hears : List Answer → Type 0) (totals : Totals) → Counted options hears totals → Reported options 1 hears (unseen tt) (unseen tt) (is_clean totals)

@@ -20,8 +20,8 @@ use Rattle.cmd_receive.specs.Receive.{ReceiveRun, Alone}
 use Rattle.cmd_receive.specs.Capture.{CaptureRun}
 use Rattle.cmd_faults.specs.declared.fault.Fault.{Fault}
 use Rattle.cmd_faults.specs.declared.fault.Fault.TheVariants as faults
-use Rattle.drm_count.specs.Totals.{totals_of, answered, one_more, is_clean, count_line}
-use Rattle.drm_count.specs.declared.totals.Totals.{Totals}
+use Rattle.cmd_count.specs.Totals.{totals_of, answered, one_more, is_clean, count_line}
+use Rattle.cmd_count.specs.declared.totals.Totals.{Totals}
 
 -- These are the totals of a whole reading of what was heard: the sums are those of the end line of its report, and each datagram is
 -- counted once by its answer.

@@ -7,7 +7,7 @@ use Rattle.mod_feed.specs.Items.{Item}
 use Rattle.mod_feed.specs.Feeding.{FeedStep}
 use Rattle.report_text.specs.Reports.{refusals, sums_of}
 use Rattle.report_text.specs.Tallies.{one_more_item}
-use Rattle.drm_count.specs.declared.totals.Totals.{Totals}
+use Rattle.cmd_count.specs.declared.totals.Totals.{Totals}
 
 -- what was answered to a datagram
 abbrev pub is_kept : Taken → Bool

@@ -4,9 +4,9 @@ use Rattle.drm_links.specs.Told.{HasCause}
 use Rattle.recv_reading.specs.Source.{StopsReading}
 use Rattle.recv_reading.proofs.Sources.{read_none}
 use Rattle.recv_report.specs.Received.{Broken}
-use Rattle.drm_count.specs.Run.{IsReadFailed, unseen}
-use Rattle.drm_count.proofs.Running.{not_read, packets_counted, packets_stopped}
-use Rattle.drm_count.proofs.command.count_packets.Goals as goal
+use Rattle.cmd_count.specs.Run.{IsReadFailed, unseen}
+use Rattle.cmd_count.proofs.Running.{not_read, packets_counted, packets_stopped}
+use Rattle.cmd_count.proofs.command.count_packets.Goals as goal
 
 pub returns-in_err-collector : goal.returns-in_err-collector
 returns-in_err-collector g c =

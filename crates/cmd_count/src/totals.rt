@@ -4,7 +4,7 @@ ghost use Rattle.std.specs.Prelude.{◌≡◌, ◌+◌, ◌<◌, ◌^◌, []};
 ghost use Rattle.drm_links.specs.Sink.{Writes};
 ghost use Rattle.mod_feed.specs.Items.{item_of};
 ghost use Rattle.report_text.specs.Tallies.{items_in};
-ghost use Rattle.drm_count.specs.Totals as totals;
+ghost use Rattle.cmd_count.specs.Totals as totals;
 
 use dcp_collect::Taken;
 use drm_links::{Sink, WriteFault};

@@ -3,7 +3,7 @@ use Rattle.std.proofs.lemmas.Result.{err_from_is_err_and}
 use Rattle.drm_links.proofs.ToldLemmas.{counts_one, counts_none}
 use Rattle.cmd_faults.specs.declared.fault.Fault.TheVariants as faults
 use Rattle.cmd_receive.proofs.ReceiveLemmas.{no_fault}
-use Rattle.drm_count.proofs.command.write_line.Goals as goal
+use Rattle.cmd_count.proofs.command.write_line.Goals as goal
 
 pub returns-in_err-write : goal.returns-in_err-write
 returns-in_err-write g c =

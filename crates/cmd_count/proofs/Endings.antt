@@ -5,8 +5,8 @@ use Rattle.drm_links.specs.Sink.{Output}
 use Rattle.drm_links.proofs.ToldLemmas.{counts_none}
 use Rattle.cmd_faults.specs.declared.fault.Fault.{Fault}
 use Rattle.cmd_faults.specs.declared.fault.Fault.TheVariants as faults
-use Rattle.drm_count.specs.Run.{ended, unseen, EndsCount}
-use Rattle.drm_count.specs.declared.totals.Totals.{Totals}
+use Rattle.cmd_count.specs.Run.{ended, unseen, EndsCount}
+use Rattle.cmd_count.specs.declared.totals.Totals.{Totals}
 
 -- no write failed where no write can be seen
 unfailed : {P : Type 0} → HasCause (unseen tt) (unseen tt) P → P → ⊥

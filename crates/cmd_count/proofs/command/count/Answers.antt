@@ -1,7 +1,7 @@
 use Rattle.std.proofs.Common.{◌∙◌, ap, Ok, Err}
 use Rattle.std.proofs.lemmas.Result.{err_from_is_err_and}
-use Rattle.drm_count.proofs.Endings.{nothing_written}
-use Rattle.drm_count.proofs.command.count.Goals as goal
+use Rattle.cmd_count.proofs.Endings.{nothing_written}
+use Rattle.cmd_count.proofs.command.count.Goals as goal
 
 pub returns-in_err-totals : goal.returns-in_err-totals
 returns-in_err-totals g c =

@@ -2,7 +2,7 @@
 
 ghost use Rattle.std.specs.Prelude.{Ok};
 ghost use Rattle.recv_reading.specs.Options.{AreInRange};
-ghost use Rattle.drm_count.specs.Run.{CountRun, CountCaptureRun, CountsLink, CountsCapture, EndsCount};
+ghost use Rattle.cmd_count.specs.Run.{CountRun, CountCaptureRun, CountsLink, CountsCapture, EndsCount};
 
 use crate::counting::count_all;
 use crate::totals::Totals;

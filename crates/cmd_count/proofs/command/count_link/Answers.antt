@@ -1,8 +1,8 @@
 use Rattle.std.proofs.Common.{◌∙◌, ap, Err}
 use Rattle.std.proofs.lemmas.Result.{err_from_is_err_and}
 use Rattle.drm_links.proofs.Hearing.{heard_none}
-use Rattle.drm_count.proofs.Running.{not_opened, none_opened, link_counted, link_failed}
-use Rattle.drm_count.proofs.command.count_link.Goals as goal
+use Rattle.cmd_count.proofs.Running.{not_opened, none_opened, link_counted, link_failed}
+use Rattle.cmd_count.proofs.command.count_link.Goals as goal
 
 pub returns-in_err-collector : goal.returns-in_err-collector
 returns-in_err-collector g c =

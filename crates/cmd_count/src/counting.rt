@@ -6,7 +6,7 @@ ghost use Rattle.dcp_collect.specs.State.{made, ready, after_item};
 ghost use Rattle.recv_reading.specs.Options.{AreInRange};
 ghost use Rattle.report_text.specs.Tallies.{items_in};
 ghost use Rattle.recv_report.specs.Received.{Broken};
-ghost use Rattle.drm_count.specs.Run.{Counted, CountsNext, IsReadFailed, unseen};
+ghost use Rattle.cmd_count.specs.Run.{Counted, CountsNext, IsReadFailed, unseen};
 
 use crate::totals::Totals;
 use dcp_collect::Collector;

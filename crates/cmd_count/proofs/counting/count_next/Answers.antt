@@ -2,7 +2,7 @@ use Rattle.std.proofs.Common.{◌∙◌, sym}
 use Rattle.dcp_collect.specs.View.{item_of}
 use Rattle.mod_feed.specs.Feeding.{step_of}
 use Rattle.mod_feed.proofs.FeedingLemmas.{number_is}
-use Rattle.drm_count.proofs.counting.count_next.Goals as goal
+use Rattle.cmd_count.proofs.counting.count_next.Goals as goal
 
 pub returns-clause-next : goal.returns-clause-next
 returns-clause-next c =

@@ -22,10 +22,10 @@ use Rattle.report_text.specs.Reports.{refusals, steps_text, report}
 use Rattle.report_text.specs.Tallies.{items_in}
 use Rattle.report_text.proofs.StepLemmas as lines
 use Rattle.recv_report.specs.Received.{Broken}
-use Rattle.drm_count.specs.Totals.{totals_of, answered, one_more, noted}
-use Rattle.drm_count.specs.Run.{Counted, CountsNext, unseen}
-use Rattle.drm_count.specs.declared.totals.Totals.{Totals}
-use Rattle.drm_count.proofs.TotalsLemmas.{item_more, answer_more, each_once, clean_as}
+use Rattle.cmd_count.specs.Totals.{totals_of, answered, one_more, noted}
+use Rattle.cmd_count.specs.Run.{Counted, CountsNext, unseen}
+use Rattle.cmd_count.specs.declared.totals.Totals.{Totals}
+use Rattle.cmd_count.proofs.TotalsLemmas.{item_more, answer_more, each_once, clean_as}
 
 -- what a command's options say can be gone by
 pub usable : (options : ReceiveOptions) → AreInRange options → AreUsable options

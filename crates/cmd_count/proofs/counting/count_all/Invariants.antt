@@ -1,7 +1,7 @@
 use Rattle.std.proofs.Common.{◌≡◌}
 use Rattle.recv_reading.specs.State.{ahead}
-use Rattle.drm_count.proofs.ReadingLemmas.{Counting}
-use Rattle.drm_count.proofs.counting.count_all.Given as goal
+use Rattle.cmd_count.proofs.ReadingLemmas.{Counting}
+use Rattle.cmd_count.proofs.counting.count_all.Given as goal
 
 -- so much was counted, and no call has failed
 abbrev pub invariant-answers : goal.invariant-answers
