@@ -1,7 +1,7 @@
 //! Paths work side by side: the first three of four links bring nothing before the fourth one was asked.
 
 use drm_links::MemSink;
-use gated_links::{GatedDock, Share, reports, words_of};
+use test_gated_links::{GatedDock, Share, reports, words_of};
 use cmd_paths::run_paths;
 use std::alloc::Global;
 use std::sync::Wait;

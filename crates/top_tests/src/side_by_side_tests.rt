@@ -1,7 +1,7 @@
 //! Receivers work side by side: the first fifteen of sixteen links bring nothing before the last one was asked.
 
 use crate::small::is_done;
-use gated_links::{GatedDock, Share, reports};
+use test_gated_links::{GatedDock, Share, reports};
 use std::alloc::Global;
 use std::sync::atomic::AtomicU64;
 use std::thread::Threads;

@@ -3,7 +3,7 @@
 use drm_bits::NoMemory;
 use drm_links::{Dock, Link, MemShelf, MemSink, MemSource};
 use drm_top::run;
-use gated_links::words_of;
+use test_gated_links::words_of;
 use std::alloc::Global;
 use std::thread::Threads;
 use trial_schedules::SMALL;

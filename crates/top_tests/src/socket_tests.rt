@@ -4,7 +4,7 @@ use crate::small::is_done;
 use drm_adapt::UdpDock;
 use drm_bits::zeros;
 use drm_links::{Address, Came, Dock, LONGEST_DATAGRAM, Link, Opened};
-use gated_links::reports;
+use test_gated_links::reports;
 use std::alloc::Global;
 use std::net::Net;
 use std::thread::{Threads, join, sleep};
