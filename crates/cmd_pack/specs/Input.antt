@@ -2,7 +2,7 @@
 use Rattle.std.specs.Prelude.{ℕ, List}
 use Rattle.drm_links.specs.Told.{Known}
 use Rattle.drm_links.specs.Source.{Input}
-use Rattle.input_front.specs.Input.{ReadsFront}
+use Rattle.cmd_input.specs.Input.{ReadsFront}
 
 -- The whole file is read, and of one that is too long one byte more than it may have.
 abbrev pub ReadsFile : List ℕ → Known Input → Known Input → Type 0

@@ -9,7 +9,7 @@ use Rattle.cmd_faults.specs.declared.fault.Fault.{Fault}
 use Rattle.cmd_faults.specs.declared.fault.Fault.TheVariants as faults
 use Rattle.cmd_pack.specs.Units.{ComesTo}
 use Rattle.cmd_pack.specs.Input.{ReadsFile}
-use Rattle.input_front.specs.Input.{FailsBehind}
+use Rattle.cmd_input.specs.Input.{FailsBehind}
 use Rattle.cmd_pack.specs.Packed.{ArePacked}
 
 -- what comes of the bytes that were read

@@ -9,7 +9,7 @@ use crate::units::judge;
 use drm_bits::{NoMemory, zeros};
 use cmd_faults::{Fault, UnitsFault, UnitsReason};
 use drm_links::{Sink, Source};
-use input_front::read_front;
+use cmd_input::read_front;
 use std::alloc::Global;
 
 /// The most bytes of an input.

@@ -2,7 +2,7 @@
 
 ghost use Rattle.std.specs.Prelude.{List, ℕ, false, ◌≡◌, ◌<◌, ◌≤◌, length, IfOk, IfErr, OnOk, OnErr, IsErr};
 ghost use Rattle.drm_links.specs.Told.{HasCause};
-ghost use Rattle.input_front.specs.Input.{FailsBehind};
+ghost use Rattle.cmd_input.specs.Input.{FailsBehind};
 ghost use Rattle.drm_timeline.specs.Numbers.{frame_count};
 ghost use Rattle.live_streams.specs.Live.{piece_at};
 ghost use Rattle.live_server.specs.Loading.{LoadsNext};
@@ -12,7 +12,7 @@ use cmd_faults::Fault;
 use drm_links::Source;
 use drm_schedule::Live;
 use drm_server::Server;
-use input_front::read_front;
+use cmd_input::read_front;
 use live_streams::{MOST_PIECE, piece_len};
 use std::alloc::Global;
 

@@ -5,7 +5,7 @@ use Rattle.drm_links.specs.Source.{Inputs}
 use Rattle.drm_links.proofs.ToldLemmas.{Inputs-nothing}
 use Rattle.drm_schedule.specs.declared.plan.Plan.{Plan}
 use Rattle.drm_schedule.specs.Valid.{IsSchedule}
-use Rattle.input_front.specs.Input.{FailsBehind}
+use Rattle.cmd_input.specs.Input.{FailsBehind}
 use Rattle.live_streams.specs.Live.{piece_at}
 use Rattle.live_server.specs.Feeding.{AreTaken}
 use Rattle.live_server.specs.Loading.{LoadsBehind}

@@ -1,6 +1,6 @@
 use Rattle.std.proofs.Common.{◌≡◌, ◌≤◌, ◌-◌, length}
-use Rattle.input_front.proofs.Filling.{IsFilled}
-use Rattle.input_front.proofs.reading.read_front.Given as goal
+use Rattle.cmd_input.proofs.Filling.{IsFilled}
+use Rattle.cmd_input.proofs.reading.read_front.Given as goal
 
 -- the bytes that were read stand in front
 abbrev pub invariant-loop-len : goal.invariant-loop-len

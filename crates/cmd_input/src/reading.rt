@@ -2,7 +2,7 @@
 
 ghost use Rattle.std.specs.Prelude.{◌≡◌, ◌≤◌, IfOk, IfErr, OnErr, Err, length, take};
 ghost use Rattle.drm_links.specs.Told.{HasCause};
-ghost use Rattle.input_front.specs.Input.{ReadsFront, FailsBehind};
+ghost use Rattle.cmd_input.specs.Input.{ReadsFront, FailsBehind};
 
 use cmd_faults::Fault;
 use drm_links::{ReadOut, Source};

@@ -1,8 +1,8 @@
 use Rattle.std.proofs.Common.{◌≡◌, ◌≤◌, length, ◌+◌, ◌-◌, take, drop, refl, subst, ◌∙◌, arith}
 use Rattle.std.proofs.lemmas.Grind.{common_steps}
-use Rattle.input_front.proofs.Filling.{filled_more, filled_failed}
-use Rattle.input_front.specs.Input.{FailsBehind}
-use Rattle.input_front.proofs.reading.read_front.Goals as goal
+use Rattle.cmd_input.proofs.Filling.{filled_more, filled_failed}
+use Rattle.cmd_input.specs.Input.{FailsBehind}
+use Rattle.cmd_input.proofs.reading.read_front.Goals as goal
 
 pub loop-len-preserved : goal.loop-len-preserved
 loop-len-preserved g c =

@@ -7,7 +7,7 @@ use Rattle.drm_links.specs.declared.source.ReadOut.TheVariants.{Got, End, Failed
 use Rattle.drm_links.specs.Told.{Known, WhileTold, CountsCall, one_more}
 use Rattle.drm_links.specs.Source.{Input, Inputs, Takes}
 use Rattle.drm_links.proofs.ToldLemmas.{Inputs-then, Inputs-got, Inputs-end, Inputs-failed}
-use Rattle.input_front.specs.Input.{ReadsFront, FailsBehind}
+use Rattle.cmd_input.specs.Input.{ReadsFront, FailsBehind}
 
 -- these bytes stand in front, and nothing else was read
 abbrev pub IsFilled : ℕ → List ℕ → Known Input → Known Input → Type 0
