@@ -18,9 +18,9 @@ use Rattle.recv_reading.specs.declared.source.SourceFault.TheVariants as source
 use Rattle.recv_reading.specs.Options.{AreInRange}
 use Rattle.recv_reading.specs.Source.{ReadSoFar, HeardOf, StopsReading, BreaksLink}
 use Rattle.recv_reading.proofs.Going.{few_answers}
-use Rattle.several_links.specs.Binding.{HearsEach}
-use Rattle.several_links.proofs.OpeningLemmas.{Opened, opened_now, opened_all, found_now, docked_still}
-use Rattle.several_links.proofs.BindLemmas.{Missed, missed_now, went_over}
+use Rattle.link_group.specs.Binding.{HearsEach}
+use Rattle.link_group.proofs.OpeningLemmas.{Opened, opened_now, opened_all, found_now, docked_still}
+use Rattle.link_group.proofs.BindLemmas.{Missed, missed_now, went_over}
 use Rattle.recv_report.specs.Following.{HeadlinesFollow, CompletesFollow, NoneBreaksOff}
 use Rattle.recv_report.specs.Received.{Reported, Broken, EndsAs}
 use Rattle.recv_report.specs.Captures.{EndsReceiving}

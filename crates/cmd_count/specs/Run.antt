@@ -14,7 +14,7 @@ use Rattle.recv_reading.specs.declared.options.ReceiveOptions.{ReceiveOptions}
 use Rattle.recv_reading.specs.declared.source.SourceFault.{SourceFault}
 use Rattle.recv_reading.specs.Ending.{datagrams, FewAtOnce, most_answers}
 use Rattle.recv_reading.specs.Source.{HeardOf, IsFailedCall}
-use Rattle.several_links.specs.Binding.{HearsEach}
+use Rattle.link_group.specs.Binding.{HearsEach}
 use Rattle.recv_report.specs.Received.{IsReport}
 use Rattle.cmd_receive.specs.Receive.{ReceiveRun, Alone}
 use Rattle.cmd_receive.specs.Capture.{CaptureRun}

@@ -17,10 +17,10 @@ use Rattle.drm_links.specs.Hearing.{Heard}
 use Rattle.recv_reading.specs.Options.{AreInRange}
 use Rattle.recv_reading.specs.Ending.{most_answers}
 use Rattle.recv_reading.proofs.Going.{few_answers}
-use Rattle.several_links.specs.Reaching.{HasGone, HaveGone, HaveLinks, AreUp, ReachesFew, GoesOver, after_reaches, after_closes}
-use Rattle.several_links.specs.Took.{TookBy}
-use Rattle.several_links.specs.declared.member.Member.{Member}
-use Rattle.several_links.proofs.RunLemmas.{over_each}
+use Rattle.link_group.specs.Reaching.{HasGone, HaveGone, HaveLinks, AreUp, ReachesFew, GoesOver, after_reaches, after_closes}
+use Rattle.link_group.specs.Took.{TookBy}
+use Rattle.link_group.specs.declared.member.Member.{Member}
+use Rattle.link_group.proofs.RunLemmas.{over_each}
 use Rattle.dcp_collect.specs.State.{State}
 use Rattle.drm_gate.specs.declared.tally.Tally.{Tally}
 use Rattle.drm_gate.specs.declared.gate.GateEnded.{GateEnded}
@@ -30,8 +30,8 @@ use Rattle.drm_gate.specs.Gateway.{rules_of}
 use Rattle.drm_gate.specs.Passing.{sent_of}
 use Rattle.drm_gate.specs.Tallies.{over}
 use Rattle.dcp_sender.specs.Resting.{HasNotRested, NeverRests, MakesSends}
-use Rattle.several_links.specs.Binding as hearing
-use Rattle.several_links.proofs.BindLemmas.{heard_told}
+use Rattle.link_group.specs.Binding as hearing
+use Rattle.link_group.proofs.BindLemmas.{heard_told}
 use Rattle.drm_gate.specs.Run.{GateRun, IsFrontOf, IsFrontOfOnward, StopsAt, StopsOver, StopsLast, most_sends}
 use Rattle.dcp_sender.specs.Targets.{Target, target, targets}
 use Rattle.drm_gate.specs.Targets.{Each, TakesMore, EachTakes, EachSends, AllUp}

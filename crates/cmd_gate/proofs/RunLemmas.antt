@@ -16,9 +16,9 @@ use Rattle.drm_links.specs.declared.link.LinkFault.{LinkFault}
 use Rattle.drm_links.proofs.ToldLemmas.{Tells-nothing, Tells-weaker, counts_none}
 use Rattle.recv_reading.specs.declared.options.ReceiveOptions.{ReceiveOptions}
 use Rattle.recv_reading.specs.OneReading.{BreaksOff}
-use Rattle.several_links.specs.Reaching.{nothing, ReachesNone, ReachesFew, GoesOver, after_reaches}
-use Rattle.several_links.proofs.RunLemmas as several
-use Rattle.several_links.proofs.BindLemmas.{found_once, is_found}
+use Rattle.link_group.specs.Reaching.{nothing, ReachesNone, ReachesFew, GoesOver, after_reaches}
+use Rattle.link_group.proofs.RunLemmas as several
+use Rattle.link_group.proofs.BindLemmas.{found_once, is_found}
 use Rattle.cmd_faults.specs.Fault.{UnlessMemory}
 use Rattle.cmd_faults.specs.Causes.{OpeningFailed}
 use Rattle.cmd_faults.specs.declared.fault.Fault.{Fault}

@@ -12,8 +12,8 @@ use Rattle.recv_reading.specs.declared.options.ReceiveOptions.{ReceiveOptions}
 use Rattle.drm_links.specs.Hearing.{AreNext, Heard}
 use Rattle.recv_reading.specs.Options.{AreInRange}
 use Rattle.recv_reading.specs.Ending.{datagrams, GoesOn, IsFinished, IsBroken, most_answers}
-use Rattle.several_links.specs.Reaching.{ReachesFew, GoesOver}
-use Rattle.several_links.specs.Listed.{AreListed}
+use Rattle.link_group.specs.Reaching.{ReachesFew, GoesOver}
+use Rattle.link_group.specs.Listed.{AreListed}
 use Rattle.drm_gate.specs.Gateway.{Gateway, IsNew}
 use Rattle.drm_gate.specs.declared.tally.Tally.{Tally}
 use Rattle.drm_gate.specs.declared.gate.GateEnded.{GateEnded}

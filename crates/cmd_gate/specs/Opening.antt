@@ -3,7 +3,7 @@ use Rattle.std.specs.Prelude.{ℕ, ◌⊎◌, List, [], ◌∷◌, ◌++◌, map
 use Rattle.drm_links.specs.Link.{Answer}
 use Rattle.drm_links.specs.Dock.{DockContents, LinkStart, after_opening, after_close, Finds, FindsNone}
 use Rattle.drm_links.specs.declared.dock.Address.{Address}
-use Rattle.several_links.specs.Reaching.{ReachesNone}
+use Rattle.link_group.specs.Reaching.{ReachesNone}
 
 -- an opening fails: that of the link that is read, or one of the others behind it
 abbrev pub FailsOpening : DockContents → Address → List Address → Type 0

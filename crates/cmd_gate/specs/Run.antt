@@ -11,7 +11,7 @@ use Rattle.drm_links.specs.declared.dock.Address.{Address}
 use Rattle.drm_links.specs.declared.link.LinkFault.{LinkFault}
 use Rattle.recv_reading.specs.declared.options.ReceiveOptions.{ReceiveOptions}
 use Rattle.recv_reading.specs.OneReading.{BreaksOff}
-use Rattle.several_links.specs.Reaching.{ReachesFew}
+use Rattle.link_group.specs.Reaching.{ReachesFew}
 use Rattle.cmd_faults.specs.Fault.{UnlessMemory}
 use Rattle.cmd_faults.specs.Causes.{OpeningFailed}
 use Rattle.cmd_faults.specs.declared.fault.Fault.{Fault}

@@ -9,7 +9,7 @@ ghost use Rattle.cmd_gate.specs.Run.{PassesOn};
 use drm_gate::{Gate, GateEnded, GateOptions, Tally, gate_one};
 use drm_links::{Address, Addresses, Dock, Link, LinkFault, Opened};
 use recv_reading::ReceiveOptions;
-use several_links::{Member, close_each, reach_in};
+use link_group::{Member, close_each, reach_in};
 
 // Opens a link that receives at the one address and links that send to the others, passes on what comes, and closes what was
 // opened. The gateway is new, and goes by these rules; there is room for the links.

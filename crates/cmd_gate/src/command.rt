@@ -2,7 +2,7 @@
 
 ghost use Rattle.dcp_pft.specs.Carrying.{CarryFits};
 ghost use Rattle.recv_reading.specs.Options.{AreInRange};
-ghost use Rattle.several_links.specs.Listed.{AreListed};
+ghost use Rattle.link_group.specs.Listed.{AreListed};
 ghost use Rattle.cmd_gate.specs.Run.{GateCommandRun};
 
 use crate::between::pass_between;
@@ -13,7 +13,7 @@ use cmd_faults::Fault;
 use drm_gate::Gate;
 use drm_links::{Address, Addresses, Dock, LONGEST_DATAGRAM, Sink};
 use recv_reading::ReceiveOptions;
-use several_links::room_for;
+use link_group::room_for;
 use std::alloc::Global;
 
 /// Opens a link that receives at `from` and links that send to the addresses in `to`, sends over these what comes over the first, each

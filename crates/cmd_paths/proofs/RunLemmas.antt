@@ -7,9 +7,9 @@ use Rattle.drm_links.specs.Dock.{DockContents, Docked}
 use Rattle.drm_links.proofs.ToldLemmas.{counts_none, Tells-nothing, Tells-weaker}
 use Rattle.cmd_faults.specs.Causes.{OpeningFailed}
 use Rattle.report_text.specs.Reports.{Report}
-use Rattle.several_links.proofs.OpeningLemmas.{docked_both, docked_weaker}
-use Rattle.several_links.specs.Binding.{HearsEach, BindsFew}
-use Rattle.several_links.proofs.BindLemmas.{docked_then, went_over, hears_each}
+use Rattle.link_group.proofs.OpeningLemmas.{docked_both, docked_weaker}
+use Rattle.link_group.specs.Binding.{HearsEach, BindsFew}
+use Rattle.link_group.proofs.BindLemmas.{docked_then, went_over, hears_each}
 use Rattle.cli_paths.specs.declared.request.Request.{Request}
 use Rattle.path_book.specs.Journal.{datagrams}
 use Rattle.path_book.specs.Report.{IsReportOf}

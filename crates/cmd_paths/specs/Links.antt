@@ -3,7 +3,7 @@ use Rattle.std.specs.Prelude.{ℕ, ◌≡◌, ◌<◌, ◌⊎◌, List, length, 
 use Rattle.drm_links.specs.Told.{Known, HasFailed, Tells}
 use Rattle.drm_links.specs.Link.{Traffic}
 use Rattle.drm_links.specs.Dock.{DockContents, Docked, after_openings}
-use Rattle.several_links.specs.Binding.{BindsFew}
+use Rattle.link_group.specs.Binding.{BindsFew}
 use Rattle.drm_links.specs.Hearing.{Heard}
 use Rattle.report_text.specs.Reports.{Report}
 use Rattle.cli_paths.specs.declared.request.Request.{Request}

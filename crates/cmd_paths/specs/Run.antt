@@ -20,7 +20,7 @@ use Rattle.drm_paths.specs.Reading.{AreReasonable, Ends}
 use Rattle.drm_paths.specs.Closing.{of_path, Closes}
 use Rattle.drm_paths.specs.declared.close.Difference.{Difference}
 use Rattle.drm_paths.specs.declared.close.Closed.TheVariants.{Differ}
-use Rattle.several_links.specs.Binding.{HearsEach, BindsFew}
+use Rattle.link_group.specs.Binding.{HearsEach, BindsFew}
 use Rattle.cmd_paths.specs.Ahead.{IsAllOf, BreaksOff}
 use Rattle.cmd_paths.specs.Faults.{fault_line}
 use Rattle.cmd_paths.specs.declared.fault.Fault.{Fault}

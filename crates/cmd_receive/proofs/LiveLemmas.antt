@@ -27,10 +27,10 @@ use Rattle.cmd_faults.specs.declared.fault.Fault.TheVariants as faults
 use Rattle.cmd_faults.proofs.CauseLemmas.{inner_fault}
 use Rattle.cmd_receive.specs.Stopping.{ending_live}
 use Rattle.cmd_receive.specs.Opening.{HaveLinks}
-use Rattle.several_links.specs.Binding.{Hears, HearsEach}
+use Rattle.link_group.specs.Binding.{Hears, HearsEach}
 use Rattle.cmd_receive.specs.Receive.{FailsSome, OpensEach, ReadsLive, WritesLive, ReceiveRun}
-use Rattle.several_links.proofs.OpeningLemmas.{docked_weaker, docked_still, docks_more}
-use Rattle.several_links.proofs.BindLemmas.{WentOver, went_over}
+use Rattle.link_group.proofs.OpeningLemmas.{docked_weaker, docked_still, docks_more}
+use Rattle.link_group.proofs.BindLemmas.{WentOver, went_over}
 use Rattle.cmd_receive.proofs.BreakingOff.{report_whole}
 use Rattle.cmd_receive.proofs.ReceiveStatus.{receive_run}
 use Rattle.cmd_receive.proofs.ReceiveLemmas.{no_fault}

@@ -22,7 +22,7 @@ use Rattle.recv_report.specs.declared.receiver.Ended.{Ended}
 use Rattle.recv_report.specs.declared.receiver.Ended.TheVariants.{Done, LinkFailed, WriteFailed, NoMemory}
 use Rattle.recv_report.specs.Jobs.{HasEnded, IsDone, AreJobs, NoneFailed, clean_of, is_failed}
 use Rattle.cmd_receive.specs.Opening.{HaveLinks, EndsOpening, StopsOpening, members_of}
-use Rattle.several_links.specs.Reaching.{HaveGone, after_closes}
+use Rattle.link_group.specs.Reaching.{HaveGone, after_closes}
 use Rattle.recv_report.specs.Settling.{job_texts, Settles}
 use Rattle.recv_report.specs.declared.stop.Stop.{Stop}
 use Rattle.recv_report.specs.declared.stop.Stop.TheVariants as stops
@@ -30,14 +30,14 @@ use Rattle.cmd_receive.specs.Stopping.{ending_of}
 use Rattle.recv_report.specs.Following.{HeadlinesFollow, CompletesFollow, NoneBreaksOff}
 use Rattle.cmd_faults.specs.Fault.{UnlessMemory}
 use Rattle.cmd_faults.proofs.CauseLemmas.{inner_fault}
-use Rattle.several_links.specs.Binding.{BindsFew, HearsEach}
+use Rattle.link_group.specs.Binding.{BindsFew, HearsEach}
 use Rattle.cmd_receive.specs.Receive.{AreReports, AreAll, AreBroken, ReadsOne, ReadsBy, all_texts, FailsSome, OpensEach, WritesReports, WritesAll, AreSomeReports, WritesSome, IsLive, ReceiveRun}
-use Rattle.several_links.proofs.BindLemmas.{went_weaker, hears_each}
+use Rattle.link_group.proofs.BindLemmas.{went_weaker, hears_each}
 use Rattle.cmd_receive.proofs.HearingLemmas.{ReadAs, has_read, link_in}
 use Rattle.cmd_receive.proofs.ReceiveStatus.{receive_run}
 use Rattle.report_text.specs.Reports.{Report}
 use Rattle.recv_report.specs.Ahead.{IsReportOf}
-use Rattle.several_links.proofs.OpeningLemmas.{docked_weaker}
+use Rattle.link_group.proofs.OpeningLemmas.{docked_weaker}
 use Rattle.cmd_receive.proofs.BreakingOff.{report_whole}
 use Rattle.recv_report.proofs.JobLemmas.{told_of, job_report, job_heard, job_breaks, all_told, SomeFailed, some_failed}
 

@@ -4,8 +4,8 @@ ghost use Rattle.std.specs.Prelude.{◌≡◌, ◌≤◌, List, length, vec_len,
 ghost use Rattle.drm_links.specs.Told.{HasCause, CountsCall, Tells, WhileTold};
 ghost use Rattle.drm_links.specs.Dock.{Opens, Over, Docked, after_openings};
 ghost use Rattle.recv_reading.specs.Options.{AreInRange};
-ghost use Rattle.several_links.specs.Listed.{AreListed};
-ghost use Rattle.several_links.specs.Reaching.{HaveGone, after_closes};
+ghost use Rattle.link_group.specs.Listed.{AreListed};
+ghost use Rattle.link_group.specs.Reaching.{HaveGone, after_closes};
 ghost use Rattle.cmd_receive.specs.Receive.{ReceiveRun};
 ghost use Rattle.recv_report.specs.Jobs.{IsJob, AreJobs};
 ghost use Rattle.cmd_receive.specs.Opening.{HaveLinks, EndsOpening, StopsOpening, members_of};

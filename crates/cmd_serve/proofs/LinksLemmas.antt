@@ -6,9 +6,9 @@ use Rattle.drm_links.specs.Shelf.{Files}
 use Rattle.drm_links.specs.Dock.{DockContents, Over, Docked}
 use Rattle.drm_links.specs.declared.dock.Address.{Address}
 use Rattle.drm_links.proofs.Places.{index_of}
-use Rattle.several_links.specs.Reaching.{HaveGone, HaveLinks, AreUp, after_reaches, after_closes}
-use Rattle.several_links.specs.declared.member.Member.{Member}
-use Rattle.several_links.proofs.RunLemmas.{over_each}
+use Rattle.link_group.specs.Reaching.{HaveGone, HaveLinks, AreUp, after_reaches, after_closes}
+use Rattle.link_group.specs.declared.member.Member.{Member}
+use Rattle.link_group.proofs.RunLemmas.{over_each}
 use Rattle.drm_schedule.specs.declared.plan.Plan.{Plan}
 use Rattle.cmd_load.specs.Loading.{Reading}
 use Rattle.cmd_faults.specs.declared.fault.Fault.{Fault}

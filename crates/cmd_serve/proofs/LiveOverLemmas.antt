@@ -11,8 +11,8 @@ use Rattle.drm_timeline.specs.Numbers.{frame_count}
 use Rattle.live_streams.specs.Input.{pieces_of}
 use Rattle.live_streams.specs.Laws.{InputMakesASchedule}
 use Rattle.live_streams.proofs.FrameLemmas.{same_frame_count}
-use Rattle.several_links.specs.Reaching.{AreUp, AreDown}
-use Rattle.several_links.specs.declared.member.Member.{Member}
+use Rattle.link_group.specs.Reaching.{AreUp, AreDown}
+use Rattle.link_group.specs.declared.member.Member.{Member}
 use Rattle.cmd_load.specs.Loading.{ReadBy}
 use Rattle.cmd_load.specs.Schedule.{schedule_named}
 use Rattle.cmd_load.specs.Faults.{fault_of_schedule}

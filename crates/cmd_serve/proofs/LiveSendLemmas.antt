@@ -13,9 +13,9 @@ use Rattle.drm_timeline.specs.Numbers.{frame_count}
 use Rattle.live_streams.specs.Input.{pieces_of}
 use Rattle.live_streams.specs.Laws.{InputMakesASchedule}
 use Rattle.live_streams.proofs.FrameLemmas.{same_frame_count}
-use Rattle.several_links.specs.Reaching.{GoesOver, HaveGone, HaveLinks, AreUp, NothingSent, after_reaches, after_closes}
-use Rattle.several_links.specs.declared.member.Member.{Member}
-use Rattle.several_links.proofs.RunLemmas.{over_each}
+use Rattle.link_group.specs.Reaching.{GoesOver, HaveGone, HaveLinks, AreUp, NothingSent, after_reaches, after_closes}
+use Rattle.link_group.specs.declared.member.Member.{Member}
+use Rattle.link_group.proofs.RunLemmas.{over_each}
 use Rattle.drm_server.specs.Laws.{HasOneDelivery, FirstOnesAreFront}
 use Rattle.cmd_load.specs.Loading.{Reading}
 use Rattle.cmd_faults.specs.Fault.{done_of}

@@ -13,8 +13,8 @@ use Rattle.drm_links.proofs.ManyCallsLemmas.{no_calls, at_most}
 use Rattle.drm_schedule.specs.declared.plan.Plan.{Plan}
 use Rattle.drm_schedule.specs.Valid.{IsSchedule}
 use Rattle.drm_timeline.specs.Numbers.{frame_count}
-use Rattle.several_links.specs.Reaching.{HasGone, AreUp}
-use Rattle.several_links.specs.declared.member.Member.{Member}
+use Rattle.link_group.specs.Reaching.{HasGone, AreUp}
+use Rattle.link_group.specs.declared.member.Member.{Member}
 use Rattle.drm_server.specs.Sending.{SendsPart}
 use Rattle.drm_server.specs.Several.{ServedBy, Served}
 use Rattle.cmd_faults.specs.declared.fault.Fault.{Fault}

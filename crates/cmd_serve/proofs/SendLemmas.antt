@@ -8,9 +8,9 @@ use Rattle.drm_links.specs.Transmission.{TakesSends, TakesFewer}
 use Rattle.drm_links.specs.declared.dock.Address.{Address}
 use Rattle.drm_links.proofs.ToldLemmas.{Tells-weaker, Tells-nothing, counts_none}
 use Rattle.drm_schedule.specs.declared.plan.Plan.{Plan}
-use Rattle.several_links.specs.Reaching.{nothing, ReachesNone, ReachesFew, GoesOver, NothingSent, after_reaches}
-use Rattle.several_links.proofs.OpeningLemmas.{docks_while}
-use Rattle.several_links.proofs.RunLemmas as several
+use Rattle.link_group.specs.Reaching.{nothing, ReachesNone, ReachesFew, GoesOver, NothingSent, after_reaches}
+use Rattle.link_group.proofs.OpeningLemmas.{docks_while}
+use Rattle.link_group.proofs.RunLemmas as several
 use Rattle.drm_server.specs.Datagrams.{AreDatagrams, AreBefore}
 use Rattle.drm_server.specs.Laws.{HasOneDelivery, FirstOnesAreFront}
 use Rattle.cmd_load.specs.Loading.{Reading}

@@ -10,7 +10,7 @@ use Rattle.drm_schedule.specs.declared.live.Live.{Live}
 use Rattle.drm_schedule.specs.declared.plan.Plan.{Plan}
 use Rattle.drm_schedule.specs.Valid.{IsSchedule}
 use Rattle.drm_timeline.specs.Numbers.{frame_count}
-use Rattle.several_links.specs.Reaching.{GoesOver}
+use Rattle.link_group.specs.Reaching.{GoesOver}
 use Rattle.drm_server.specs.Capture.{IsCapture, IsFrontOfCapture}
 use Rattle.cmd_load.specs.Loading.{Reading, ReadBy, given, ◌>>=◌}
 use Rattle.cmd_load.specs.Schedule.{schedule_named}

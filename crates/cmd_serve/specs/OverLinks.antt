@@ -7,8 +7,8 @@ use Rattle.drm_links.specs.ManyCalls.{MakesCalls}
 use Rattle.drm_links.specs.Transmission.{Transmits, since}
 use Rattle.drm_schedule.specs.declared.plan.Plan.{Plan}
 use Rattle.drm_schedule.specs.Valid.{IsSchedule}
-use Rattle.several_links.specs.Reaching.{AreUp}
-use Rattle.several_links.specs.declared.member.Member.{Member}
+use Rattle.link_group.specs.Reaching.{AreUp}
+use Rattle.link_group.specs.declared.member.Member.{Member}
 use Rattle.drm_server.specs.Rests.{calls_of_frame}
 use Rattle.cmd_load.specs.Loading.{Reading, ReadBy}
 use Rattle.cmd_serve.specs.ScheduleRun.{EndsBy}

@@ -5,8 +5,8 @@ use Rattle.drm_links.specs.Shelf.{Files}
 use Rattle.drm_links.specs.Source.{Input}
 use Rattle.drm_links.specs.Link.{Traffic}
 use Rattle.drm_schedule.specs.declared.live.Live.{Live}
-use Rattle.several_links.specs.Reaching.{AreUp}
-use Rattle.several_links.specs.declared.member.Member.{Member}
+use Rattle.link_group.specs.Reaching.{AreUp}
+use Rattle.link_group.specs.declared.member.Member.{Member}
 use Rattle.cmd_faults.specs.Fault.{done_of}
 use Rattle.cmd_faults.specs.declared.fault.Fault.{Fault}
 use Rattle.cmd_faults.specs.declared.fault.Fault.TheVariants as faults

@@ -8,7 +8,7 @@ use Rattle.drm_links.specs.Transmission.{TakesSends, TakesFewer}
 use Rattle.drm_links.specs.declared.dock.Address.{Address}
 use Rattle.drm_schedule.specs.declared.plan.Plan.{Plan}
 use Rattle.drm_schedule.specs.Valid.{IsSchedule}
-use Rattle.several_links.specs.Reaching.{ReachesNone, ReachesFew, GoesOver}
+use Rattle.link_group.specs.Reaching.{ReachesNone, ReachesFew, GoesOver}
 use Rattle.drm_timeline.specs.Numbers.{frame_count}
 use Rattle.drm_server.specs.Datagrams.{AreDatagrams, AreBefore, AreOfFrames}
 use Rattle.drm_server.specs.Rests.{ArePaced}

@@ -3,7 +3,7 @@
 ghost use Rattle.std.specs.Prelude.{◌≡◌, ◌≤◌, length, IsErrOf};
 ghost use Rattle.drm_links.specs.Told.{HasCause, WhileTold};
 ghost use Rattle.drm_links.specs.Dock.{AreDifferent};
-ghost use Rattle.several_links.specs.Reaching.{AreUp, NothingSent};
+ghost use Rattle.link_group.specs.Reaching.{AreUp, NothingSent};
 ghost use Rattle.cmd_faults.specs.Causes.{OneFailed, OpeningFailed};
 ghost use Rattle.cmd_serve.specs.Live.{LiveServeRun, LiveSendRun};
 ghost use Rattle.cmd_serve.specs.OverLiveLinks.{OverLiveLinks};
@@ -15,7 +15,7 @@ use drm_schedule::Live;
 use drm_server::{Server, first_ones_are_front, one_delivery};
 use live_server::{piece_room, serve_live_links, serve_live_sink};
 use live_streams::input_makes_a_schedule;
-use several_links::{Member, ReachFault, all_up, close_each, reach_each};
+use link_group::{Member, ReachFault, all_up, close_each, reach_each};
 use std::alloc::Global;
 
 /// Reads a schedule, and writes its datagrams from super frame `from` on as a capture, where the live streams take their bytes from

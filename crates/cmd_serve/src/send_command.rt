@@ -3,7 +3,7 @@
 ghost use Rattle.std.specs.Prelude.{◌≤◌, length, IsErrOf};
 ghost use Rattle.drm_links.specs.Told.{WhileTold};
 ghost use Rattle.drm_links.specs.Dock.{AreDifferent};
-ghost use Rattle.several_links.specs.Reaching.{AreUp, NothingSent};
+ghost use Rattle.link_group.specs.Reaching.{AreUp, NothingSent};
 ghost use Rattle.cmd_load.specs.Schedule.{schedule_named};
 ghost use Rattle.cmd_serve.specs.Send.{SendRun};
 ghost use Rattle.cmd_serve.specs.OverLinks.{OverLinks};
@@ -12,7 +12,7 @@ use cmd_faults::Fault;
 use drm_links::{Addresses, Dock, Link, Shelf};
 use cmd_load::read_schedule;
 use drm_server::{Server, first_ones_are_front, one_delivery, serve_links};
-use several_links::{Member, ReachFault, all_up, close_each, reach_each};
+use link_group::{Member, ReachFault, all_up, close_each, reach_each};
 use std::alloc::Global;
 
 /// Opens a link to each address, reads a schedule, sends its datagrams from super frame `from` on over each of the links, and closes

@@ -2,7 +2,7 @@
 use Rattle.std.specs.Prelude.{Bool, List, map}
 use Rattle.drm_links.specs.Told.{Known}
 use Rattle.drm_links.specs.Link.{Traffic}
-use Rattle.several_links.specs.declared.member.Member.{Member}
+use Rattle.link_group.specs.declared.member.Member.{Member}
 
 -- what is known of a link, and whether it hasn't failed
 pub record Target : Type 0 where

@@ -22,7 +22,7 @@ use dcp_pft::{
 };
 use drm_bits::{NoMemory, zeros};
 use drm_links::{Link, Sink, WriteFault, write_all};
-use several_links::Member;
+use link_group::Member;
 use std::alloc::Global;
 use std::marker::Model;
 

@@ -3,8 +3,8 @@ use Rattle.std.proofs.Common.{◌≡◌, None, ℕ, ◌*◌, ◌<◌, ◌≤◌,
 use Rattle.dcp_pft.specs.declared.carry.Carry.{Carry}
 use Rattle.dcp_pft.specs.Limits.{most_fragments}
 use Rattle.dcp_collect.specs.Runs.{Item, Packet}
-use Rattle.several_links.specs.Took.{TookBy}
-use Rattle.several_links.proofs.TookLemmas.{took_more, took_part, still_some}
+use Rattle.link_group.specs.Took.{TookBy}
+use Rattle.link_group.proofs.TookLemmas.{took_more, took_part, still_some}
 use Rattle.dcp_sender.specs.Carried.{AreOf}
 use Rattle.dcp_sender.specs.Packets.{IsAny, sequence_of}
 use Rattle.drm_gate.specs.declared.tally.Tally.{Tally}

@@ -5,8 +5,8 @@ use Rattle.recv_reading.specs.declared.options.ReceiveOptions.{ReceiveOptions}
 use Rattle.drm_links.specs.Told.{HasFailed}
 use Rattle.drm_links.specs.Transmission.{Transmits, SendsNoMore}
 use Rattle.drm_links.proofs.ToldLemmas.{once_then}
-use Rattle.several_links.specs.Took.{TookBy}
-use Rattle.several_links.proofs.TookLemmas.{took_none}
+use Rattle.link_group.specs.Took.{TookBy}
+use Rattle.link_group.proofs.TookLemmas.{took_none}
 use Rattle.dcp_pft.specs.declared.carry.Carry.{Carry}
 use Rattle.dcp_sender.specs.Targets.{Target}
 use Rattle.drm_gate.specs.Targets.{TakesMore, TakesNoMore}

@@ -3,9 +3,9 @@ use Rattle.std.proofs.Common.{◌≡◌, ◌+◌, ◌<◌, ◌≤◌, ℕ, zero,
 use Rattle.std.proofs.lemmas.List.{append-nil}
 use Rattle.drm_links.specs.Told.{Known}
 use Rattle.drm_links.specs.Link.{Traffic}
-use Rattle.several_links.specs.declared.member.Member.{Member}
-use Rattle.several_links.specs.Took.{TookBy}
-use Rattle.several_links.specs.Reaching.{AreUp, AreDown}
+use Rattle.link_group.specs.declared.member.Member.{Member}
+use Rattle.link_group.specs.Took.{TookBy}
+use Rattle.link_group.specs.Reaching.{AreUp, AreDown}
 use Rattle.dcp_sender.specs.Targets.{Target, target, targets}
 use Rattle.drm_gate.specs.Targets.{Each, TakesNoMore, EachTakes, EachSends, NoneTakes, AllUp, SomeUp}
 use Rattle.dcp_sender.proofs.RestingLemmas.{no_sends, more_sends, few_sends}

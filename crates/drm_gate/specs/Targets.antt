@@ -3,7 +3,7 @@ use Rattle.std.specs.Prelude.{ℕ, ◌≡◌, ◌<◌, Bool, true, false, List, 
 use Rattle.drm_links.specs.Told.{Known, HasFailed}
 use Rattle.drm_links.specs.Link.{Traffic}
 use Rattle.drm_links.specs.Transmission.{Transmits, SendsNoMore}
-use Rattle.several_links.specs.Took.{TookBy}
+use Rattle.link_group.specs.Took.{TookBy}
 use Rattle.dcp_sender.specs.Resting.{MakesSends}
 use Rattle.dcp_sender.specs.Targets.{Target}
 

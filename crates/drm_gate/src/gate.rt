@@ -9,7 +9,7 @@ ghost use Rattle.drm_gate.specs.Gateway.{IsNew, IsReasonable, rules_of};
 ghost use Rattle.drm_gate.specs.Reading.{most_taken};
 ghost use Rattle.drm_gate.specs.Run.{GateRun, CountsOver};
 ghost use Rattle.dcp_sender.specs.Targets.{targets};
-ghost use Rattle.several_links.specs.Reaching.{AreUp};
+ghost use Rattle.link_group.specs.Reaching.{AreUp};
 
 use crate::Tally;
 use crate::reading::{Stop, pass_on};
@@ -18,7 +18,7 @@ use dcp_pft::Carry;
 use dcp_sender::PacketSender;
 use drm_bits::NoMemory;
 use drm_links::Link;
-use several_links::{Member, all_up};
+use link_group::{Member, all_up};
 use std::alloc::Global;
 use std::marker::Model;
 

@@ -17,7 +17,7 @@ use dcp_af::read_af;
 use dcp_collect::{Collector, Out};
 use dcp_sender::{PacketSender, sequence};
 use drm_links::{Link, LinkFault};
-use several_links::{Member, none_up};
+use link_group::{Member, none_up};
 
 /// Sends a packet over each link that hasn't failed, and counts it, or counts what is said in its place. It fails where no link is left.
 /// The packet with number 0 has the first sequence number.

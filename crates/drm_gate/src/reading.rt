@@ -18,7 +18,7 @@ use dcp_collect::Collector;
 use dcp_sender::PacketSender;
 use drm_links::{Link, LinkFault};
 use recv_reading::{Bounds, Reading, Room, SourceFault};
-use several_links::Member;
+use link_group::Member;
 
 /// Whether the link that is read failed, or all those behind the gateway.
 #[derive(Clone, Copy, Debug, PartialEq, Eq)]

@@ -11,7 +11,7 @@ use Rattle.drm_links.proofs.TransmissionLemmas.{Transmits-nothing, Transmits-no_
 use Rattle.drm_links.proofs.ManyCallsLemmas.{no_calls, more_calls, at_most}
 use Rattle.dcp_sender.specs.Sending.{MadeCalls}
 use Rattle.dcp_sender.proofs.Links.{then_sent, made_none, made_then}
-use Rattle.several_links.specs.declared.member.Member.{Member}
+use Rattle.link_group.specs.declared.member.Member.{Member}
 use Rattle.drm_timeline.specs.Numbers.{frame_count}
 use Rattle.drm_server.specs.Datagrams.{AreFirst}
 use Rattle.drm_server.specs.OneFrame.{SentFrame, SendsPartOfFrame}

@@ -6,7 +6,7 @@ use Rattle.drm_links.specs.Link.{Traffic}
 use Rattle.drm_links.specs.ManyCalls.{MakesCalls}
 use Rattle.drm_links.specs.Transmission.{Transmits, SendsAll, Waits}
 use Rattle.dcp_sender.specs.Sending.{MadeCalls}
-use Rattle.several_links.specs.declared.member.Member.{Member}
+use Rattle.link_group.specs.declared.member.Member.{Member}
 use Rattle.drm_timeline.specs.Numbers.{frame_count}
 use Rattle.drm_server.specs.Datagrams.{AreOfFrames}
 use Rattle.drm_server.specs.Rests.{ArePaced, calls_of_frame, rests_between}

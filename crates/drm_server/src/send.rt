@@ -5,8 +5,8 @@ ghost use Rattle.drm_links.specs.Told.{Known, HasCause};
 ghost use Rattle.drm_links.specs.Link.{Traffic};
 ghost use Rattle.drm_links.specs.ManyCalls.{MakesCalls};
 ghost use Rattle.drm_links.specs.Transmission.{Transmits, SendsAll, Waits};
-ghost use Rattle.several_links.specs.Reaching.{AreUp};
-ghost use Rattle.several_links.specs.declared.member.Member.{Member};
+ghost use Rattle.link_group.specs.Reaching.{AreUp};
+ghost use Rattle.link_group.specs.declared.member.Member.{Member};
 ghost use Rattle.drm_schedule.specs.declared.plan.Plan.{Plan};
 ghost use Rattle.drm_timeline.specs.Numbers.{frame_count};
 ghost use Rattle.dcp_sender.specs.Sending.{MadeCalls};
@@ -18,7 +18,7 @@ ghost use Rattle.drm_server.specs.Several.{Served};
 
 use crate::Server;
 use drm_links::{Link, LinkFault};
-use several_links::{Member, none_up};
+use link_group::{Member, none_up};
 
 /// Sends the datagrams of the frames from frame `first` on over each of the links, frame by frame, and over each as over it alone:
 /// between the datagrams of two frames it rests for `pace` milliseconds, and nowhere else. A link that fails is asked for nothing

@@ -11,7 +11,7 @@ use Rattle.dcp_pft.specs.declared.carry.Carry.TheVariants.{Plain, Pft}
 use Rattle.dcp_pft.specs.Carrying.{CarryFits}
 use Rattle.cli_syntax.specs.Carries.{IsCarry}
 use Rattle.drm_links.specs.Dock.{AreDifferent}
-use Rattle.several_links.specs.Listed.{AreListed}
+use Rattle.link_group.specs.Listed.{AreListed}
 use Rattle.recv_reading.specs.Options.{AreInRange}
 use Rattle.drm_top.specs.Words.{options_of, IsInRange, IsInStretch}
 

@@ -5,7 +5,7 @@ use Rattle.drm_words.specs.Line.{IsLine}
 use Rattle.drm_words.specs.declared.request.Request.{Request}
 use Rattle.drm_words.specs.declared.request.Request.TheVariants.{Check, Serve, Receive, Count, Air, Exercise, Convert, Gate, Pack, Unpack, Texts}
 use Rattle.drm_links.specs.Dock.{AreDifferent}
-use Rattle.several_links.specs.Listed.{AreListed}
+use Rattle.link_group.specs.Listed.{AreListed}
 use Rattle.recv_reading.specs.Options.{AreInRange}
 use Rattle.recv_reading.specs.declared.options.ReceiveOptions.{ReceiveOptions}
 

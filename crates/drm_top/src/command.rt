@@ -5,7 +5,7 @@ ghost use Rattle.drm_links.specs.Told.{HasCause, WhileTold};
 ghost use Rattle.cmd_faults.specs.Causes.{OneFailed, OpeningFailed};
 ghost use Rattle.cmd_faults.specs.Lines.{fault_line};
 ghost use Rattle.cmd_faults.specs.Fault.{WritesLine, whole_of, clean_status};
-ghost use Rattle.several_links.specs.Reaching.{NothingSent};
+ghost use Rattle.link_group.specs.Reaching.{NothingSent};
 ghost use Rattle.drm_top.specs.Command.{CommandRun, Runs, Ends, IsQuiet, IsUntouched, OpensALink, WritesReport};
 ghost use Rattle.drm_top.specs.Headline.{HeadlineOfRun};
 ghost use Rattle.drm_top.specs.Outside.{outside};

@@ -5,7 +5,7 @@ use Rattle.drm_links.specs.Told.{Known}
 use Rattle.drm_links.specs.Source.{Input}
 use Rattle.drm_links.specs.Sink.{Output}
 use Rattle.drm_links.specs.Link.{Traffic}
-use Rattle.several_links.specs.declared.member.Member.{Member}
+use Rattle.link_group.specs.declared.member.Member.{Member}
 use Rattle.drm_schedule.specs.declared.live.Live.{Live}
 use Rattle.drm_schedule.specs.declared.plan.Plan.{Plan}
 use Rattle.drm_server.specs.Datagrams.{AreOfFrames}

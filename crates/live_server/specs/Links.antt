@@ -3,8 +3,8 @@ use Rattle.std.specs.Prelude.{ℕ, ◌≡◌, ◌+◌, ◌-◌, ◌<◌, ◌⊎�
 use Rattle.drm_links.specs.Told.{Known}
 use Rattle.drm_links.specs.Source.{Input}
 use Rattle.drm_links.specs.Link.{Traffic}
-use Rattle.several_links.specs.Reaching.{AreDown}
-use Rattle.several_links.specs.declared.member.Member.{Member}
+use Rattle.link_group.specs.Reaching.{AreDown}
+use Rattle.link_group.specs.declared.member.Member.{Member}
 use Rattle.cmd_faults.specs.declared.fault.Fault.{Fault}
 use Rattle.drm_schedule.specs.declared.live.Live.{Live}
 use Rattle.drm_schedule.specs.declared.plan.Plan.{Plan}

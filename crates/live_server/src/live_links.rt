@@ -2,8 +2,8 @@
 
 ghost use Rattle.std.specs.Prelude.{ℕ, ◌≡◌, ◌<◌, ◌≤◌, length, slice_index_or, IfErr, IsErr};
 ghost use Rattle.drm_links.specs.Told.{HasCause};
-ghost use Rattle.several_links.specs.Reaching.{AreUp};
-ghost use Rattle.several_links.specs.declared.member.Member.{Member};
+ghost use Rattle.link_group.specs.Reaching.{AreUp};
+ghost use Rattle.link_group.specs.declared.member.Member.{Member};
 ghost use Rattle.live_server.specs.Links.{ServedLive};
 
 use crate::feeding::load_next;
@@ -11,7 +11,7 @@ use cmd_faults::Fault;
 use drm_links::{Link, Source};
 use drm_schedule::Live;
 use drm_server::{Server, serve_each};
-use several_links::{Member, none_up};
+use link_group::{Member, none_up};
 
 /// Sends the datagrams of the frames from frame `first` on over each of the links, as `serve_links` does, where the live streams take
 /// their bytes from input by way of this room: before a frame is sent its piece is read, and no more. Once input has ended the frames

@@ -3,8 +3,8 @@ use Rattle.std.proofs.lemmas.List.{take_at}
 use Rattle.drm_links.specs.Told.{Tells}
 use Rattle.recv_reading.specs.declared.options.ReceiveOptions.{ReceiveOptions}
 use Rattle.drm_links.specs.Dock.{Docked, Over}
-use Rattle.several_links.specs.Reaching.{AreUp, HaveGone, HaveLinks, after_closes}
-use Rattle.several_links.specs.declared.member.Member.{Member}
+use Rattle.link_group.specs.Reaching.{AreUp, HaveGone, HaveLinks, after_closes}
+use Rattle.link_group.specs.declared.member.Member.{Member}
 use Rattle.drm_gate.specs.Run.{GateRun}
 use Rattle.dcp_sender.specs.Targets.{targets}
 use Rattle.cmd_gate.specs.Between.{passed_of}

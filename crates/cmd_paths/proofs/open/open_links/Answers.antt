@@ -7,8 +7,8 @@ use Rattle.drm_links.specs.declared.dock.Address.{Address}
 use Rattle.drm_links.proofs.ToldLemmas.{counts_one, once_then, Tells-weaker}
 use Rattle.drm_links.proofs.Places.{each_more}
 use Rattle.drm_links.specs.Dock.{Docked, HasLink}
-use Rattle.several_links.proofs.OpeningLemmas.{found_now, opened_now, opened_all, docked_any, docked_still}
-use Rattle.several_links.proofs.BindLemmas.{HaveFirst, missed_now, failed_few, all_links}
+use Rattle.link_group.proofs.OpeningLemmas.{found_now, opened_now, opened_all, docked_any, docked_still}
+use Rattle.link_group.proofs.BindLemmas.{HaveFirst, missed_now, failed_few, all_links}
 use Rattle.cmd_paths.specs.declared.job.Seat.{Seat}
 use Rattle.cmd_paths.specs.declared.job.PathJob.{PathJob}
 use Rattle.cmd_paths.proofs.Opening.{itself}

@@ -4,7 +4,7 @@ use Rattle.recv_report.specs.declared.job.Job.{Job}
 use Rattle.drm_links.specs.Dock.{Docked, HasLink}
 use Rattle.recv_report.specs.Jobs.{IsJob}
 use Rattle.drm_links.specs.Told.{Tells}
-use Rattle.several_links.proofs.OpeningLemmas.{Opened}
+use Rattle.link_group.proofs.OpeningLemmas.{Opened}
 use Rattle.cmd_receive.proofs.receive_command.open_all.Given as goal
 
 -- each receiver so far has the link of its address

@@ -4,8 +4,8 @@ use Rattle.drm_links.specs.Told.{Tells}
 use Rattle.cmd_faults.proofs.CauseLemmas.{none_failed}
 use Rattle.cmd_faults.specs.declared.fault.Fault.TheVariants as faults
 use Rattle.drm_links.specs.Dock.{Docked, Over}
-use Rattle.several_links.specs.Reaching.{HaveGone, HaveLinks, after_closes}
-use Rattle.several_links.specs.declared.member.Member.{Member}
+use Rattle.link_group.specs.Reaching.{HaveGone, HaveLinks, after_closes}
+use Rattle.link_group.specs.declared.member.Member.{Member}
 use Rattle.cmd_serve.specs.Live.{LiveSendRun}
 use Rattle.cmd_serve.proofs.LiveSendLemmas.{live_closed, live_unopened, live_over, live_nothing_sent, sent_read, sent_dock}
 use Rattle.cmd_serve.proofs.live_command.send_live.Goals as goal

@@ -3,8 +3,8 @@ use Rattle.std.proofs.lemmas.List.{take_at}
 use Rattle.drm_links.specs.Told.{Tells}
 use Rattle.cmd_faults.specs.declared.fault.Fault.TheVariants as faults
 use Rattle.drm_links.specs.Dock.{Over}
-use Rattle.several_links.specs.Reaching.{HaveGone, after_closes}
-use Rattle.several_links.specs.declared.member.Member.{Member}
+use Rattle.link_group.specs.Reaching.{HaveGone, after_closes}
+use Rattle.link_group.specs.declared.member.Member.{Member}
 use Rattle.cmd_load.specs.Schedule.{schedule_named}
 use Rattle.cmd_serve.specs.Send.{SendRun}
 use Rattle.cmd_serve.proofs.LinksLemmas.{links_run}
@@ -33,7 +33,7 @@ returns-in-Ok g c =
     over_links c.one_delivery.ensures c.first_ones_are_front.ensures (schedule_named c.args.name.now) to c.args.pace c.args.from c.send_over-sent.result g.S.Shelf.known c.args.shelf.now c.send_over-sent.new.shelf g.D.Dock.known c.args.dock.now c.close_each.new.dock
     c.requires.different
     (links_run (schedule_named c.args.name.now) to c.args.pace c.args.from c.send_over-sent.result g.S.Shelf.known c.args.shelf.now c.send_over-sent.new.shelf g.D.Dock.known c.args.dock.now c.close_each.new.dock b known before after many run c.in-Ok.ensures.opened
-    (subst (λ ms. Rattle.drm_links.specs.Dock.Docked a b (λ told. Rattle.several_links.specs.Reaching.HaveLinks known told to ms)) (sym value) c.in-Ok.ensures.links) shut same) in
+    (subst (λ ms. Rattle.drm_links.specs.Dock.Docked a b (λ told. Rattle.link_group.specs.Reaching.HaveLinks known told to ms)) (sym value) c.in-Ok.ensures.links) shut same) in
     record {
       run = sent;
       unsent = λ e. nothing_sent c.one_delivery.ensures c.first_ones_are_front.ensures (schedule_named c.args.name.now) to c.args.pace c.args.from c.send_over-sent.result g.S.Shelf.known c.args.shelf.now c.send_over-sent.new.shelf g.D.Dock.known c.args.dock.now c.close_each.new.dock c.requires.different sent e;

@@ -1,7 +1,7 @@
 use Rattle.std.proofs.Common.{◌≡◌, ◌∙◌, inl, true, false, [], ◌∷◌, Err, refl, sym, ap, subst}
 use Rattle.drm_schedule.specs.Live.{is_any}
 use Rattle.drm_links.specs.Told.{WhileTold}
-use Rattle.several_links.specs.Reaching.{NothingSent}
+use Rattle.link_group.specs.Reaching.{NothingSent}
 use Rattle.drm_links.proofs.ToldLemmas.{counts_none}
 use Rattle.cmd_faults.specs.Fault.{whole_of}
 use Rattle.cmd_faults.proofs.CauseLemmas.{one_alone, other_alone, none_failed, opening_as}

@@ -1,7 +1,7 @@
 //! One of several links.
 
 ghost use Rattle.std.specs.Prelude.{◌↔◌, IsTrue};
-ghost use Rattle.several_links.specs.Reaching.{AreUp, AreDown};
+ghost use Rattle.link_group.specs.Reaching.{AreUp, AreDown};
 
 use drm_links::Link;
 

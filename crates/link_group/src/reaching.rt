@@ -3,7 +3,7 @@
 ghost use Rattle.std.specs.Prelude.{◌≡◌, ◌≤◌, Err, IsErr, length, vec_len, vec_capacity, IfOk, IfErr};
 ghost use Rattle.drm_links.specs.Told.{HasCause, Tells};
 ghost use Rattle.drm_links.specs.Dock.{AreDifferent, Docked};
-ghost use Rattle.several_links.specs.Reaching.{HaveLinks, AreUp, ReachesFew, after_reaches};
+ghost use Rattle.link_group.specs.Reaching.{HaveLinks, AreUp, ReachesFew, after_reaches};
 
 use crate::{Member, close_each};
 use drm_bits::NoMemory;
@@ -20,7 +20,7 @@ pub enum ReachFault {
 
 impl From<NoMemory> for ReachFault {
     ghost use Rattle.std.specs.Prelude.{◌≡◌};
-    ghost use Rattle.several_links.specs.declared.reaching.ReachFault.TheVariants as faults;
+    ghost use Rattle.link_group.specs.declared.reaching.ReachFault.TheVariants as faults;
 
     ghost from_gives = { λ _ fault. fault ≡ faults.NoMemory };
 

@@ -3,7 +3,7 @@
 ghost use Rattle.std.specs.Prelude.{◌≡◌, ◌≤◌, List, length, vec_len};
 ghost use Rattle.drm_links.specs.Told.{Tells};
 ghost use Rattle.drm_links.specs.Dock.{Over};
-ghost use Rattle.several_links.specs.Reaching.{HaveGone, after_closes};
+ghost use Rattle.link_group.specs.Reaching.{HaveGone, after_closes};
 
 use crate::Member;
 use drm_links::{Addresses, Dock};

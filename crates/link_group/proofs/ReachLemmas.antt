@@ -7,9 +7,9 @@ use Rattle.drm_links.specs.Dock.{DockContents, Over, over_of, Reaches, with_reac
 use Rattle.drm_links.specs.declared.dock.Address.{Address}
 use Rattle.drm_links.specs.declared.dock.Opened.TheVariants as opened
 use Rattle.drm_links.proofs.ToldLemmas.{Tells-then, Tells-both, Tells-weaker}
-use Rattle.several_links.specs.Reaching.{HaveGone, ReachesFew, with_reaches, after_reaches, after_closes, nothing}
-use Rattle.several_links.specs.declared.member.Member.{Member}
-use Rattle.several_links.proofs.OpeningLemmas.{Opened, docks_more, found, next, not_found_at}
+use Rattle.link_group.specs.Reaching.{HaveGone, ReachesFew, with_reaches, after_reaches, after_closes, nothing}
+use Rattle.link_group.specs.declared.member.Member.{Member}
+use Rattle.link_group.proofs.OpeningLemmas.{Opened, docks_more, found, next, not_found_at}
 
 -- ---- the count of openings by `reach`
 

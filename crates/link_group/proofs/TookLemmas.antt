@@ -5,7 +5,7 @@ use Rattle.drm_links.specs.Transmission.{Transmits, SendsAll, SendsNoMore}
 use Rattle.drm_links.proofs.ToldLemmas.{once_then}
 use Rattle.drm_links.specs.Link.{Traffic}
 use Rattle.drm_links.proofs.TransmissionLemmas.{Transmits-nothing, Transmits-then, SendsAll-then, SendsAll-no_more}
-use Rattle.several_links.specs.Took.{TookAll, TookSome}
+use Rattle.link_group.specs.Took.{TookAll, TookSome}
 
 -- none yet
 pub took_none : (start : Known Traffic) → TookAll [] start start

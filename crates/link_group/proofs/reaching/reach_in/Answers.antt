@@ -4,10 +4,10 @@ use Rattle.drm_links.specs.declared.dock.Address.{Address}
 use Rattle.drm_links.proofs.ToldLemmas.{Tells-weaker, counts_one, once_then}
 use Rattle.drm_links.proofs.Places.{each_more}
 use Rattle.drm_links.specs.Dock.{Docked, HasLink}
-use Rattle.several_links.specs.declared.member.Member.{Member}
-use Rattle.several_links.proofs.OpeningLemmas.{docked_still}
-use Rattle.several_links.proofs.ReachLemmas.{Reached, HaveFirst, found_reach, reached_now, missed_now, first_links, few_reached}
-use Rattle.several_links.proofs.reaching.reach_in.Goals as goal
+use Rattle.link_group.specs.declared.member.Member.{Member}
+use Rattle.link_group.proofs.OpeningLemmas.{docked_still}
+use Rattle.link_group.proofs.ReachLemmas.{Reached, HaveFirst, found_reach, reached_now, missed_now, first_links, few_reached}
+use Rattle.link_group.proofs.reaching.reach_in.Goals as goal
 
 pub returns-in-Failed-clause-failed : goal.returns-in-Failed-clause-failed
 returns-in-Failed-clause-failed g c =

@@ -6,9 +6,9 @@ use Rattle.drm_links.specs.Link.{Traffic}
 use Rattle.drm_links.specs.Dock.{DockContents, Over, Closes, over_of, after_close}
 use Rattle.drm_links.specs.declared.dock.Address.{Address}
 use Rattle.drm_links.proofs.ToldLemmas.{Tells-nothing, Tells-weaker}
-use Rattle.several_links.specs.Reaching.{HaveGone, after_closes, nothing}
-use Rattle.several_links.specs.declared.member.Member.{Member}
-use Rattle.several_links.proofs.OpeningLemmas.{docks_more}
+use Rattle.link_group.specs.Reaching.{HaveGone, after_closes, nothing}
+use Rattle.link_group.specs.declared.member.Member.{Member}
+use Rattle.link_group.proofs.OpeningLemmas.{docks_more}
 
 -- what is left of a list begins with the element at that place
 pub next_left : {X : Type 0} (xs more : List X) (k : ℕ) (x : X) → x ∷ more ≡ drop k xs

@@ -3,7 +3,7 @@ use Rattle.std.specs.Prelude.{ℕ, ◌≡◌, ◌<◌, ◌≤◌, List, [], ◌�
 use Rattle.drm_links.specs.Link.{Answer}
 use Rattle.drm_links.specs.Dock.{DockContents, LinkStart, Over, after_failure, Finds, FindsNone, after_openings}
 use Rattle.drm_links.specs.declared.dock.Address.{Address}
-use Rattle.several_links.specs.Reaching.{after_closes, nothing}
+use Rattle.link_group.specs.Reaching.{after_closes, nothing}
 use Rattle.drm_links.specs.Hearing.{AreNext}
 
 -- what went over a link that gave these answers, over which nothing was sent, and which never rested

@@ -7,7 +7,7 @@ use Rattle.drm_links.specs.Told.{Known}
 use Rattle.drm_links.specs.Link.{Traffic}
 use Rattle.drm_links.specs.Dock.{DockContents, LinkStart, Over, over_of, address_key, after_failure, after_close, Finds, FindsNone, HasLink, after_openings}
 use Rattle.drm_links.specs.declared.dock.Address.{Address}
-use Rattle.several_links.specs.declared.member.Member.{Member}
+use Rattle.link_group.specs.declared.member.Member.{Member}
 
 -- ---- openings
 

@@ -9,12 +9,12 @@ use Rattle.drm_links.specs.declared.dock.Address.{Address}
 use Rattle.drm_links.specs.declared.dock.Opened.TheVariants as opened
 use Rattle.drm_links.proofs.ToldLemmas.{Tells-then, Tells-both}
 use Rattle.drm_links.proofs.Places.{index_of}
-use Rattle.several_links.specs.Reaching.{HasGone, HaveGone, after_closes, nothing, with_none}
-use Rattle.several_links.specs.Binding.{Hears, HearsEach, BindsFew, StopsBehind, heard}
-use Rattle.several_links.specs.declared.member.Member.{Member}
-use Rattle.several_links.proofs.OpeningLemmas.{Opened as AreOpen, docks_more, not_found_at, openings_gone}
-use Rattle.several_links.proofs.ReachLemmas.{nothing_gone}
-use Rattle.several_links.proofs.RunLemmas.{choose, none_gone}
+use Rattle.link_group.specs.Reaching.{HasGone, HaveGone, after_closes, nothing, with_none}
+use Rattle.link_group.specs.Binding.{Hears, HearsEach, BindsFew, StopsBehind, heard}
+use Rattle.link_group.specs.declared.member.Member.{Member}
+use Rattle.link_group.proofs.OpeningLemmas.{Opened as AreOpen, docks_more, not_found_at, openings_gone}
+use Rattle.link_group.proofs.ReachLemmas.{nothing_gone}
+use Rattle.link_group.proofs.RunLemmas.{choose, none_gone}
 
 -- ---- one link
 

@@ -13,9 +13,9 @@ use Rattle.drm_links.specs.Dock.{DockContents, LinkStart, Over, address_key, fir
 use Rattle.drm_links.specs.declared.dock.Address.{Address}
 use Rattle.drm_links.proofs.ToldLemmas.{Tells-then, Tells-both}
 use Rattle.drm_links.proofs.Places.{index_of}
-use Rattle.several_links.specs.Reaching.{HasGone, HaveGone, HaveLinks, GoesOver, NothingSent, after_reaches, after_closes, with_none, with_reaches}
-use Rattle.several_links.specs.declared.member.Member.{Member}
-use Rattle.several_links.proofs.OpeningLemmas.{one_address, other_key, openings_gone}
+use Rattle.link_group.specs.Reaching.{HasGone, HaveGone, HaveLinks, GoesOver, NothingSent, after_reaches, after_closes, with_none, with_reaches}
+use Rattle.link_group.specs.declared.member.Member.{Member}
+use Rattle.link_group.proofs.OpeningLemmas.{one_address, other_key, openings_gone}
 
 -- ---- what goes over each link
 

@@ -2,9 +2,9 @@ use Rattle.std.proofs.Common.{rules, ◌≡◌, ℕ, ◌<◌, [], ◌∷◌, Lis
 use Rattle.std.specs.Vec.Iter.{into_iter_items}
 use Rattle.std.proofs.lemmas.List.{length-drop}
 use Rattle.std.proofs.lemmas.Grind.{common_steps}
-use Rattle.several_links.specs.declared.member.Member.{Member}
-use Rattle.several_links.proofs.CloseLemmas.{next_left, close_more, closed_all}
-use Rattle.several_links.proofs.closing.close_each.Goals as goal
+use Rattle.link_group.specs.declared.member.Member.{Member}
+use Rattle.link_group.proofs.CloseLemmas.{next_left, close_more, closed_all}
+use Rattle.link_group.proofs.closing.close_each.Goals as goal
 
 pub loop-member-preserved : goal.loop-member-preserved
 loop-member-preserved g c =

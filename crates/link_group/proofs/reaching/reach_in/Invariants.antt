@@ -2,10 +2,10 @@ use Rattle.std.proofs.Common.{◌≡◌, ℕ, ◌<◌, ◌≤◌, vec_len, vec_c
 use Rattle.drm_links.specs.Told.{Tells}
 use Rattle.drm_links.specs.declared.dock.Address.{Address}
 use Rattle.drm_links.specs.Dock.{Docked, HasLink}
-use Rattle.several_links.specs.Reaching.{AreUp}
-use Rattle.several_links.specs.declared.member.Member.{Member}
-use Rattle.several_links.proofs.ReachLemmas.{Reached}
-use Rattle.several_links.proofs.reaching.reach_in.Given as goal
+use Rattle.link_group.specs.Reaching.{AreUp}
+use Rattle.link_group.specs.declared.member.Member.{Member}
+use Rattle.link_group.proofs.ReachLemmas.{Reached}
+use Rattle.link_group.proofs.reaching.reach_in.Given as goal
 
 -- each link so far is that of its address
 abbrev pub invariant-loop-k : goal.invariant-loop-k

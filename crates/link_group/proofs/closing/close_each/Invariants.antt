@@ -2,8 +2,8 @@ use Rattle.std.proofs.Common.{◌≡◌, ◌≤◌, List, length, drop}
 use Rattle.std.specs.Vec.Iter.{into_iter_items}
 use Rattle.drm_links.specs.Told.{Tells}
 use Rattle.drm_links.specs.Dock.{Over}
-use Rattle.several_links.specs.Reaching.{HaveGone, after_closes}
-use Rattle.several_links.proofs.closing.close_each.Given as goal
+use Rattle.link_group.specs.Reaching.{HaveGone, after_closes}
+use Rattle.link_group.proofs.closing.close_each.Given as goal
 
 -- what the dock tells once the other links are closed, too
 abbrev pub invariant-loop-member : goal.invariant-loop-member
