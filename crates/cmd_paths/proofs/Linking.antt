@@ -16,7 +16,7 @@ use Rattle.drm_paths.specs.declared.close.Closed.{Closed}
 use Rattle.drm_paths.specs.declared.close.Closed.TheVariants as closed
 use Rattle.drm_paths.specs.State.{PathState, new_path}
 use Rattle.drm_paths.specs.Closing.{Closes}
-use Rattle.path_book.specs.Journal.{JournalState}
+use Rattle.report_journal.specs.Journal.{JournalState}
 use Rattle.cmd_paths.specs.declared.job.PathJob.{PathJob}
 use Rattle.cmd_paths.specs.Jobs.{IsReady, HaveNewPaths, EndedAs, HasEnded, has_failed, has_run_out}
 use Rattle.cmd_paths.specs.Run.{settings_in, options_in}

@@ -11,8 +11,8 @@ use Rattle.link_group.proofs.OpeningLemmas.{docked_both, docked_weaker}
 use Rattle.link_group.specs.Binding.{HearsEach, BindsFew}
 use Rattle.link_group.proofs.BindLemmas.{docked_then, went_over, hears_each}
 use Rattle.cli_paths.specs.declared.request.Request.{Request}
-use Rattle.path_book.specs.Journal.{datagrams}
-use Rattle.path_book.specs.Report.{IsReportOf}
+use Rattle.report_journal.specs.Journal.{datagrams}
+use Rattle.report_journal.specs.Report.{IsReportOf}
 use Rattle.drm_paths.specs.declared.run.PathOptions.{PathOptions}
 use Rattle.drm_paths.specs.declared.run.PathEnded.{PathEnded}
 use Rattle.drm_paths.specs.declared.run.PathEnded.TheVariants as ended

@@ -7,7 +7,7 @@ use Rattle.link_group.specs.Binding.{BindsFew}
 use Rattle.drm_links.specs.Hearing.{Heard}
 use Rattle.report_text.specs.Reports.{Report}
 use Rattle.cli_paths.specs.declared.request.Request.{Request}
-use Rattle.path_book.specs.Journal.{JournalState}
+use Rattle.report_journal.specs.Journal.{JournalState}
 use Rattle.drm_paths.specs.declared.run.PathOptions.{PathOptions}
 use Rattle.drm_paths.specs.declared.run.PathEnded.{PathEnded}
 use Rattle.drm_paths.specs.declared.run.PathEnded.TheVariants.{Idle, Limit, LinkFailed, NoMemory}

@@ -9,9 +9,9 @@ use Rattle.cmd_faults.specs.Causes.{OpeningFailed}
 use Rattle.cmd_faults.specs.Fault.{WritesLine}
 use Rattle.cli_paths.specs.declared.request.Request.{Request}
 use Rattle.cli_paths.specs.Line.{IsPathsLine}
-use Rattle.path_book.specs.declared.settings.Settings.{Settings}
-use Rattle.path_book.specs.Journal.{JournalState, AreInRange, datagrams}
-use Rattle.path_book.specs.Report.{IsReportOf}
+use Rattle.report_journal.specs.declared.settings.Settings.{Settings}
+use Rattle.report_journal.specs.Journal.{JournalState, AreInRange, datagrams}
+use Rattle.report_journal.specs.Report.{IsReportOf}
 use Rattle.report_text.specs.Reports.{Report}
 use Rattle.drm_paths.specs.declared.run.PathOptions.{PathOptions}
 use Rattle.drm_paths.specs.State.{PathState, settings_of}

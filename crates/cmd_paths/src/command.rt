@@ -17,7 +17,7 @@ use crate::job::{PathJob, run_all, seats_of, some_failed, some_ran_out};
 use crate::open::{close_links, open_links, room_for};
 use drm_links::{Dock, Link, Sink, Status};
 use drm_paths::{Closed, PathOptions, Road, Shared, close_paths, open_paths};
-use path_book::{Ending, Settings};
+use report_journal::{Ending, Settings};
 use cli_paths::{Request, read_paths};
 use std::alloc::Global;
 use std::marker::Brand;

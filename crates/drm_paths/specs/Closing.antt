@@ -1,8 +1,8 @@
 -- What a journal has of its paths.
 use Rattle.std.specs.Prelude.{ℕ, ◌≡◌, ◌≢◌, ◌<◌, ◌==◌, if◌then◌else◌, false, List, [], ◌∷◌, length, take, slice_get, slice_index_or, Option, sum_by}
-use Rattle.path_book.specs.declared.settings.Settings.{Settings}
-use Rattle.path_book.specs.Journal.{JournalState, datagrams}
-use Rattle.path_book.specs.Report.{IsReportOf}
+use Rattle.report_journal.specs.declared.settings.Settings.{Settings}
+use Rattle.report_journal.specs.Journal.{JournalState, datagrams}
+use Rattle.report_journal.specs.Report.{IsReportOf}
 use Rattle.drm_paths.specs.State.{PathState, AreNumbered}
 use Rattle.drm_paths.specs.declared.close.Difference.{Difference}
 use Rattle.drm_paths.specs.declared.close.Closed.{Closed}

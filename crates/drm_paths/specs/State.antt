@@ -1,8 +1,8 @@
 -- What is seen of a path and of a book.
 use Rattle.std.specs.Prelude.{ℕ, ◌≡◌, ◌+◌, ◌<◌, All, List, [], ◌∷◌, ◌++◌, length, Option}
 use Rattle.dcp_collect.specs.declared.taken.Taken.{Taken}
-use Rattle.path_book.specs.declared.settings.Settings.{Settings}
-use Rattle.path_book.specs.Journal.{JournalState, Enters}
+use Rattle.report_journal.specs.declared.settings.Settings.{Settings}
+use Rattle.report_journal.specs.Journal.{JournalState, Enters}
 
 -- the most bytes that a path takes
 abbrev pub most_bytes : ℕ

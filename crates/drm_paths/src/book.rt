@@ -1,15 +1,15 @@
 //! The book of a run, which stands under the lock.
 
 ghost use Rattle.std.specs.Prelude.{◌≡◌, ◌+◌, ◌≤◌, length, map, IfOk};
-ghost use Rattle.path_book.specs.Took.{IfTook};
-ghost use Rattle.path_book.specs.Journal.{IsKept, entry_of, datagrams};
-ghost use Rattle.path_book.specs.Report.{IsReportOf};
-ghost use Rattle.path_book.specs.declared.event.Event.{Event};
+ghost use Rattle.report_journal.specs.Took.{IfTook};
+ghost use Rattle.report_journal.specs.Journal.{IsKept, entry_of, datagrams};
+ghost use Rattle.report_journal.specs.Report.{IsReportOf};
+ghost use Rattle.report_journal.specs.declared.event.Event.{Event};
 ghost use Rattle.drm_paths.specs.State.{bytes_in, most_bytes, settings_of, AreNumbered, IsEvent};
 
 use crate::{Path, Road};
 use drm_bits::NoMemory;
-use path_book::{Ending, Entry, Event, Journal};
+use report_journal::{Ending, Entry, Event, Journal};
 use std::alloc::Global;
 use std::marker::Model;
 use std::sync::ledger::{Book as Total, Share};

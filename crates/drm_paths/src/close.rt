@@ -1,14 +1,14 @@
 //! Closing a book: what its journal has of each path is compared with what the path took.
 
 ghost use Rattle.std.specs.Prelude.{◌≡◌, ◌<◌, ◌↔◌, IsTrue, Some, length, vec_len, map, slice_get, IfOk, IfSome, IfNone, sum_by, option_map};
-ghost use Rattle.path_book.specs.Journal.{JournalState, entry_of};
+ghost use Rattle.report_journal.specs.Journal.{JournalState, entry_of};
 ghost use Rattle.drm_paths.specs.State.{settings_of};
 ghost use Rattle.drm_paths.specs.Closing.{of_path, IsDifference, Agrees, AllAgree, IsDifferenceOf, Differs, Closes};
 
 use crate::shared::{Paths, Shared};
 use crate::{Book, Path, Road};
 use drm_bits::{NoMemory, Octets};
-use path_book::{Ending, Entry};
+use report_journal::{Ending, Entry};
 use std::alloc::Global;
 use std::sync::ledger::Share;
 

@@ -1,14 +1,14 @@
 //! The book that paths share, and the lock on it.
 
 ghost use Rattle.std.specs.Prelude.{ℕ, ◌≡◌, ◌+◌, ◌≤◌, ◌<◌, length, slice_index_or, IfOk};
-ghost use Rattle.path_book.specs.Journal.{AreInRange};
+ghost use Rattle.report_journal.specs.Journal.{AreInRange};
 ghost use Rattle.drm_paths.specs.State.{bytes_in, most_bytes, settings_of, new_path, with_datagram};
 ghost use Rattle.drm_paths.specs.declared.shared.Given.{Given};
 
 use crate::{Book, Path, Road};
 use drm_bits::NoMemory;
 use drm_lists::Items;
-use path_book::{Event, Journal, Settings};
+use report_journal::{Event, Journal, Settings};
 use std::alloc::Global;
 use std::sync::ledger::Blank;
 use std::sync::{Mutex, Wait};

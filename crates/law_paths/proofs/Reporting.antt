@@ -8,7 +8,7 @@ use Rattle.law_delivery.specs.Given.{AreAllServed}
 use Rattle.law_delivery.specs.Laws.{Delivering, AllFrames}
 use Rattle.report_text.specs.Reports.{is_given, is_clean, report}
 use Rattle.recv_report.proofs.Composing.{ItemLaws, strays_noted, tells_switches, prints_frames, gives_in_time}
-use Rattle.path_book.specs.Report.{word_for}
+use Rattle.report_journal.specs.Report.{word_for}
 use Rattle.law_paths.specs.Laws.{ReportsDeliveries, ReportsAll}
 
 pub reports_deliveries : Delivering → ItemLaws → ReportsDeliveries

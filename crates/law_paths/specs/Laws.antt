@@ -12,9 +12,9 @@ use Rattle.law_delivery.specs.Sent.{Arrival, IsArrival, AreFar, pairs_in, IsFoll
 use Rattle.law_delivery.specs.Given.{AreGiven, AreAllServed}
 use Rattle.recv_report.specs.Headline.{GivesInTime, PrintsFrames, TellsSwitches, strays}
 use Rattle.report_text.specs.Reports.{report, is_clean}
-use Rattle.path_book.specs.declared.settings.Settings.{Settings}
-use Rattle.path_book.specs.Journal.{AreInRange, datagrams}
-use Rattle.path_book.specs.Report.{word_for, IsReportOf}
+use Rattle.report_journal.specs.declared.settings.Settings.{Settings}
+use Rattle.report_journal.specs.Journal.{AreInRange, datagrams}
+use Rattle.report_journal.specs.Report.{word_for, IsReportOf}
 use Rattle.drm_paths.specs.State.{AreNumbered}
 use Rattle.drm_paths.specs.Closing.{of_path}
 

@@ -4,7 +4,7 @@ ghost use Rattle.std.specs.Prelude.{◌≡◌, Some};
 
 use dcp_collect::Taken;
 use drm_paths::{Given, Road, open_paths};
-use path_book::{Event, Journal, Settings};
+use report_journal::{Event, Journal, Settings};
 use std::alloc::Global;
 use std::marker::Brand;
 use std::sync::Wait;

@@ -1,5 +1,5 @@
 use Rattle.std.proofs.Common.{ℕ, ◌<◌, map, slice_index_or}
-use Rattle.path_book.specs.Journal.{entry_of}
+use Rattle.report_journal.specs.Journal.{entry_of}
 use Rattle.drm_paths.specs.State.{PathState}
 use Rattle.drm_paths.specs.Closing.{Agrees}
 use Rattle.drm_paths.proofs.close.compare.Given as goal

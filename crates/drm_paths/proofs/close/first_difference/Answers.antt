@@ -1,6 +1,6 @@
 use Rattle.std.proofs.Common.{◌≡◌, ◌≤◌, ℕ, ◌+◌, ◌∷◌, List, map, drop, length, Some, refl, sym, ◌∙◌, ap, subst, arith}
 use Rattle.std.proofs.lemmas.List.{length-map, drop_all}
-use Rattle.path_book.specs.Journal.{entry_of}
+use Rattle.report_journal.specs.Journal.{entry_of}
 use Rattle.drm_paths.specs.Closing.{of_path, IsDifference}
 use Rattle.drm_paths.proofs.Comparing.{next_entry, not_false, test_true, test_false, passes, agrees, differs, ends_before, same_list}
 use Rattle.drm_paths.proofs.close.first_difference.Goals as goal

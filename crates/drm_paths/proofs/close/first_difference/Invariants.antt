@@ -1,5 +1,5 @@
 use Rattle.std.proofs.Common.{◌≤◌, map}
-use Rattle.path_book.specs.Journal.{entry_of}
+use Rattle.report_journal.specs.Journal.{entry_of}
 use Rattle.drm_paths.proofs.Comparing.{SoFar}
 use Rattle.drm_paths.proofs.close.first_difference.Given as goal
 

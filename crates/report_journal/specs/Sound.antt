@@ -1,0 +1,28 @@
+-- What a journal's fields stand for, and what holds of them.
+use Rattle.std.specs.Prelude.{◌≡◌, map, false, None}
+use Rattle.dcp_collect.specs.State.{ready}
+use Rattle.law_collect.specs.Laws.{IsFit}
+use Rattle.report_journal.specs.declared.journal.Journal.TheInside.{Inside}
+use Rattle.report_journal.specs.Journal.{JournalState, AreInRange, entry_of, IsKept}
+
+abbrev pub state : Inside → JournalState
+state j = record {
+  entries = map entry_of j.entries.items;
+  settings = j.settings;
+  collector = j.collector;
+  feed = j.feed;
+  tally = j.counts;
+  text = j.text.items;
+  stopped = j.stopped;
+}
+
+-- more datagrams can be taken
+pub record IsOpen (s : JournalState) : Type 0 where
+  pub fit : IsFit s.collector
+  pub unfinished : s.collector.end ≡ None
+  pub quiet : ready s.collector ≡ false
+
+pub record IsSound (j : Inside) : Type 0 where
+  pub range : AreInRange j.settings
+  pub kept : IsKept (state j)
+  pub goes_on : j.stopped ≡ false → IsOpen (state j)

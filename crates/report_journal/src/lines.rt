@@ -1,0 +1,122 @@
+//! The lines of the items that are ready.
+
+ghost use Rattle.std.specs.Prelude.{◌≡◌, ◌≤◌, ◌<◌, ◌^◌, ◌⊎◌, true, false, OnOk, OnErr, IsErr, IfSome};
+ghost use Rattle.dcp_collect.specs.State.{ready, after_item};
+ghost use Rattle.report_text.specs.Tallies.{items_in};
+ghost use Rattle.recv_reading.specs.State.{is_full};
+ghost use Rattle.report_journal.specs.Lines.{HasFed, PrintsNext, Prints, PrintsAll, WritesAll, CountsFirst, GivesRest};
+
+use dcp_collect::Collector;
+use drm_bits::NoMemory;
+use drm_links::{Sink, WriteFault};
+use mod_feed::Feed;
+use report_text::{ReportBuffer, ReportCounts, write_step};
+use std::alloc::Global;
+
+/// Whether the told number of items was given.
+pub(crate) fn is_full(counts: &ReportCounts, told: Option<u64>) -> bool
+    requires { IfSome told (λ _. items_in counts.now.sums < 2 ^ 63) }
+    ensures { result ≡ is_full told (items_in counts.now.sums) }
+{
+    match told {
+        Some(told) => told <= counts.items(),
+        None => false,
+    }
+}
+
+// Gives the next item to the feed, counts it, and writes its lines.
+fn print_next<O: Sink>(
+    collector: &mut Collector,
+    feed: &mut Feed,
+    counts: &mut ReportCounts,
+    out: &mut O,
+) -> Result<(), WriteFault>
+    requires is_ready { ready collector.old ≡ true }
+    requires in_order { feed.old.calls ≡ collector.old.next }
+    requires counted { items_in counts.old.sums ≡ collector.old.next }
+    ensures collector { collector.new ≡ after_item collector.old }
+    ensures next { PrintsNext result collector.old feed.old feed.new counts.old counts.new (O.known out.old) (O.known out.new) }
+{
+    let Some(given) = collector.next() else {
+        unreachable!()
+    };
+    let step = feed.step(given);
+    counts.count(&step.item);
+    write_step(out, &step)
+}
+
+// Prints the items that are ready, up to the told number.
+fn print_ready<O: Sink>(
+    collector: &mut Collector,
+    feed: &mut Feed,
+    counts: &mut ReportCounts,
+    told: Option<u64>,
+    out: &mut O,
+) -> Result<(), WriteFault>
+    requires few { IfSome told (λ n. n ≤ 3000000) }
+    requires fed { HasFed told collector.old.next feed.old counts.old }
+    ensures prints { OnOk result (Prints collector.old collector.new feed.old feed.new counts.old counts.new (O.known out.old) (O.known out.new)) }
+    ensures fed { OnOk result (HasFed told collector.new.next feed.new counts.new) }
+    ensures over { OnOk result ((is_full told (items_in counts.new.sums) ≡ true) ⊎ (ready collector.new ≡ false)) }
+    ensures first { OnErr result (CountsFirst told collector.old collector.new feed.old feed.new counts.old counts.new) }
+{
+    'items: loop {
+        if is_full(counts, told) || !collector.ready() {
+            return Ok(());
+        }
+        print_next(collector, feed, counts, out)?;
+    }
+}
+
+// Gives all that is ready.
+fn skip_ready(collector: &mut Collector)
+    ensures { GivesRest collector.old collector.new }
+{
+    'past: while let Some(_given) = collector.next() {}
+}
+
+// Gives all that is ready, and prints the items up to the told number.
+fn give_ready<O: Sink>(
+    collector: &mut Collector,
+    feed: &mut Feed,
+    counts: &mut ReportCounts,
+    told: Option<u64>,
+    out: &mut O,
+) -> Result<(), WriteFault>
+    requires few { IfSome told (λ n. n ≤ 3000000) }
+    requires fed { HasFed told collector.old.next feed.old counts.old }
+    ensures all { OnOk result (PrintsAll told collector.old collector.new feed.old feed.new counts.old counts.new (O.known out.old) (O.known out.new)) }
+    ensures first { OnErr result (CountsFirst told collector.old collector.new feed.old feed.new counts.old counts.new) }
+{
+    print_ready(collector, feed, counts, told, out)?;
+    skip_ready(collector);
+    Ok(())
+}
+
+/// Gives all that is ready, and puts the lines of the items up to the told number behind the text. Where they find no room
+/// there, the text stays as it was.
+pub(crate) fn write_ready(
+    alloc: Global,
+    collector: &mut Collector,
+    feed: &mut Feed,
+    counts: &mut ReportCounts,
+    told: Option<u64>,
+    text: &mut Vec<u8>,
+) -> Result<(), NoMemory>
+    requires few { IfSome told (λ n. n ≤ 3000000) }
+    requires fed { HasFed told collector.old.next feed.old counts.old }
+    ensures written { OnOk result (WritesAll told collector.old collector.new feed.old feed.new
+        counts.old counts.new text.old.items text.new.items) }
+    ensures none { OnErr result (text.new.items ≡ text.old.items) }
+    ensures first { OnErr result (CountsFirst told collector.old collector.new feed.old feed.new counts.old counts.new) }
+{
+    let mut lines = ReportBuffer::new(alloc);
+    let Ok(()) = give_ready(collector, feed, counts, told, &mut lines) else {
+        return Err(NoMemory);
+    };
+    if !lines.is_told() {
+        return Err(NoMemory);
+    }
+    text.extend_from_slice(lines.bytes())?;
+    Ok(())
+}
