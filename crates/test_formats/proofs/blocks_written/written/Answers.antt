@@ -1,6 +1,6 @@
 use Rattle.std.proofs.Common.{arith}
 use Rattle.drm_sdc.proofs.WrittenField.{field_fits, field_size}
-use Rattle.format_tests.proofs.blocks_written.written.Goals as goal
+use Rattle.test_formats.proofs.blocks_written.written.Goals as goal
 
 pub write_block-requires-clause-fit : goal.write_block-requires-clause-fit
 write_block-requires-clause-fit c = field_fits _ _ _ c.in-Ok.ensures.read

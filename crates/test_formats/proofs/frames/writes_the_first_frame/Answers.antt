@@ -1,6 +1,6 @@
 use Rattle.std.proofs.Common.{refl}
 use Rattle.drm_bits.specs.Bits.{digits}
-use Rattle.format_tests.proofs.frames.writes_the_first_frame.Goals as goal
+use Rattle.test_formats.proofs.frames.writes_the_first_frame.Goals as goal
 
 pub block-requires-clause-padding : goal.block-requires-clause-padding
 unfolding digits
