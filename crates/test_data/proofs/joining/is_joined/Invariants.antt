@@ -1,5 +1,5 @@
 use Rattle.std.proofs.Common.{◌≡◌}
-use Rattle.data_tests.proofs.joining.is_joined.Given as goal
+use Rattle.test_data.proofs.joining.is_joined.Given as goal
 
 -- the packets stay as long as they were
 abbrev pub invariant-loop-k : goal.invariant-loop-k
