@@ -1,5 +1,5 @@
 use Rattle.std.proofs.Common.{◌≡◌}
-use Rattle.schedule_tests.proofs.switches.follow.Given as goal
+use Rattle.test_schedule.proofs.switches.follow.Given as goal
 
 abbrev pub invariant-loop-k : goal.invariant-loop-k
 invariant-loop-k g l = l.tracker.calls ≡ l.k-counter
