@@ -1,5 +1,5 @@
 use Rattle.std.proofs.Common.{Some}
-use Rattle.path_tests.proofs.event_tests.each_path_has_its_own.Given as goal
+use Rattle.test_paths.proofs.event_tests.each_path_has_its_own.Given as goal
 
 abbrev pub ghosts-both_take_it-G-Ledger : goal.ghosts-both_take_it-G-Ledger
 ghosts-both_take_it-G-Ledger g a = record { name = a.blank.name; parts = a.blank.parts }
