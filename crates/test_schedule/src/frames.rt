@@ -7,7 +7,7 @@ use drm_fac::encode;
 use drm_schedule::Schedule;
 use drm_timeline::{block_into, config_at, fac_at, index_at, packet_len};
 use std::alloc::Global;
-use trial_schedules::{Edit, SWITCHING, schedule};
+use test_support::{Edit, SWITCHING, schedule};
 
 // Nine bytes are free in each super frame: the description of the streams and the channel parameters fill the first
 // one, and the audio entity goes into the second.

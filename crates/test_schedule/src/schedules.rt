@@ -8,7 +8,7 @@ use drm_schedule::{
     Carry, Content, Schedule, Spot, Stream, Streams, can_be_packed, entities_can_be_written,
 };
 use std::alloc::Global;
-use trial_schedules::{SWITCHING, schedule};
+use test_support::{SWITCHING, schedule};
 
 fn begins_so(plan: &Schedule) -> bool {
     plan.carry() == Carry::Pft { m: 5, mtu: 1400 }

@@ -4,7 +4,7 @@
 use drm_schedule::Schedule;
 use plan_script::{Delivery, read_script};
 use std::alloc::Global;
-use trial_schedules::{Edit, SMALL, schedule};
+use test_support::{Edit, SMALL, schedule};
 
 // The deliveries of one feed.
 type Feed<'a> = &'a [(u32, u32)];

@@ -2,7 +2,7 @@
 
 use drm_server::Server;
 use std::alloc::Global;
-use trial_schedules::{SMALL, schedule};
+use test_support::{SMALL, schedule};
 
 // The frame, the bytes of its packet, its fragments, and the ends of its first one's header.
 type Load = (u32, usize, u32, [u8; 5]);

@@ -6,7 +6,7 @@ use drm_top::run;
 use test_gated_links::words_of;
 use std::alloc::Global;
 use std::thread::Threads;
-use trial_schedules::SMALL;
+use test_support::SMALL;
 
 /// What a command line reads and writes: the schedule on the shelf, and an empty input.
 #[derive(Drop)]
