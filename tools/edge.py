@@ -1,7 +1,7 @@
 #!/usr/bin/env python3
 """Runs a built program over cases, as a process: words, files, standard input, and links over real sockets.
 
-PROGRAM is crates/drmcast/out/drmcast, or drmpaths for its cases, and CASES are files of crates/trials/data (docs/CASES.md). A case
+PROGRAM is crates/drmcast/out/drmcast, or drmpaths for its cases, and CASES are files of crates/test_cases/data (docs/CASES.md). A case
 is run where a process can do what it says: nothing of the outside fails, and no link is idle at a certain answer. Its addresses
 become ports of 127.1.2.3, whose four numbers differ. Where silence ends a run, it is a second of it, and a file has no folder in
 its name.

@@ -1,8 +1,8 @@
 use Rattle.std.proofs.Common.{◌∙◌, sym, subst, [], ◌∷◌, ◌++◌}
 use Rattle.drm_links.specs.MemoryLink.{IsUntouched}
-use Rattle.trials.proofs.Untouched.{brought_untouched}
-use Rattle.trials.proofs.forms.link_of.Goals as goal
-use Rattle.trials.proofs.forms.link_of.Goals.{then-len-le-LONGEST_DATAGRAM+in_ok-bring, else-len-le-LONGEST_DATAGRAM}
+use Rattle.test_cases.proofs.Untouched.{brought_untouched}
+use Rattle.test_cases.proofs.forms.link_of.Goals as goal
+use Rattle.test_cases.proofs.forms.link_of.Goals.{then-len-le-LONGEST_DATAGRAM+in_ok-bring, else-len-le-LONGEST_DATAGRAM}
 
 pub loop-datagram-preserved : goal.loop-datagram-preserved
 loop-datagram-preserved c = elim c.if-len-le-LONGEST_DATAGRAM.branch [
