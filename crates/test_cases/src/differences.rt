@@ -1,7 +1,7 @@
 //! Runs a case, and compares.
 
 use crate::forms::Outside;
-use case_files::{Case, Sent};
+use test_case_files::{Case, Sent};
 use drm_bits::NoMemory;
 use drm_links::{MemDock, MemLink};
 use drm_top::run;

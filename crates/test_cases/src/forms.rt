@@ -3,7 +3,7 @@
 ghost use Rattle.std.specs.Prelude.{IfOk};
 ghost use Rattle.drm_links.specs.MemoryLink.{IsUntouched};
 
-use case_files::{Case, LinkCase, Output};
+use test_case_files::{Case, LinkCase, Output};
 use drm_bits::NoMemory;
 use drm_links::{LONGEST_DATAGRAM, MemDock, MemLink, MemShelf, MemSink, MemSource};
 use std::alloc::Global;

@@ -6,7 +6,7 @@ mod differences;
 mod forms;
 
 use anyhow::{Context, Result, bail};
-use case_files::{Case, Reader};
+use test_case_files::{Case, Reader};
 use differences::{Program, differences};
 use std::process::ExitCode;
 use std::rt::Files;
